@@ -1,0 +1,13 @@
+use Rattle.std.proofs.Common.{length, ◌-◌, ◌≡◌, ◌≤◌, take}
+use Rattle.std.specs.Io.KnownBytes.{Appends}
+use Rattle.dvg_cert.proofs.writer.write_bytes.Given as goal
+
+abbrev pub invariant-sending : goal.invariant-sending
+invariant-sending g l = record {
+  within : l.sent ≤ length l.bytes;
+  bytes : Appends (g.W.Write.contents l.initial.out) (g.W.Write.contents l.out) (take l.sent l.bytes);
+  counts : g.W.CountedWrite.failures l.out ≡ g.W.CountedWrite.failures l.initial.out;
+}
+
+abbrev pub decreases-sending : goal.decreases-sending
+decreases-sending g l = length l.bytes - l.sent

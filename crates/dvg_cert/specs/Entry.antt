@@ -1,0 +1,43 @@
+-- What an entry of a certificate may say.
+use Rattle.std.specs.Prelude.{ℕ, ◌≤◌, ℤ, pos, neg_ℤ, ◌≤ℤ◌}
+pub use Rattle.dvg_cert.specs.declared.entry.Key.{Key}
+pub use Rattle.dvg_cert.specs.declared.entry.Key.TheVariants.{At, Any}
+pub use Rattle.dvg_cert.specs.declared.entry.End.{End}
+pub use Rattle.dvg_cert.specs.declared.entry.End.TheVariants.{Rel, Abs, Lost}
+pub use Rattle.dvg_cert.specs.declared.entry.LitBox.{LitBox}
+pub use Rattle.dvg_cert.specs.declared.entry.LitBox.TheVariants.{Empty, Span}
+pub use Rattle.dvg_cert.specs.declared.entry.Entry.{Entry}
+
+-- the numbers of ends and boxes, in units of 1/1024 of a screen place (profile)
+abbrev pub IsNumber : ℤ → Type 0
+IsNumber z = (neg_ℤ (pos 2000000000000) ≤ℤ z) × (z ≤ℤ pos 2000000000000)
+
+-- a global scale has four bits (DVG documentation)
+abbrev pub IsKey : Key → Type 0
+IsKey (At n) = n ≤ 15
+IsKey Any = Unit {0}
+
+abbrev pub IsEnd : End → Type 0
+IsEnd (Rel x y) = IsNumber x × IsNumber y
+IsEnd (Abs x y) = IsNumber x × IsNumber y
+IsEnd Lost = Unit {0}
+
+-- a least and a greatest coordinate
+abbrev pub IsRange : ℤ → ℤ → Type 0
+IsRange low high = IsNumber low × IsNumber high × (low ≤ℤ high)
+
+abbrev pub IsBox : LitBox → Type 0
+IsBox Empty = Unit {0}
+IsBox (Span x_min x_max y_min y_max) = IsRange x_min x_max × IsRange y_min y_max
+
+-- an entry for a ROM from word address `first` to `last` (profile)
+pub record IsEntry (first last : ℕ) (e : Entry) : Type 0 where
+  pub addr_low : first ≤ e.addr
+  pub addr_high : e.addr ≤ last
+  pub key : IsKey e.key
+  pub stop : IsEnd e.stop
+  pub lit : IsBox e.lit
+  pub depth : e.depth ≤ 3
+  pub words_low : 1 ≤ e.words
+  pub words_high : e.words ≤ 1000000
+  pub scale : IsKey e.scale

@@ -1,0 +1,4 @@
+pub mod Entry
+pub mod Order
+pub mod Lookup
+pub mod Devices

@@ -1,0 +1,24 @@
+-- The entry of a list at an address and a key, and the entry that a call names.
+use Rattle.std.specs.Prelude.{ℕ, ◌==◌, ◌&&◌, Bool, true, false, List, Option, Some, None, find}
+use Rattle.dvg_cert.specs.Entry.{Entry, Key, At, Any}
+
+abbrev pub same_key : Key → Key → Bool
+same_key (At m) (At n) = m == n
+same_key (At m) Any = false
+same_key Any (At n) = false
+same_key Any Any = true
+
+abbrev pub is_at : ℕ → Key → Entry → Bool
+is_at addr key e = (addr == e.addr) && same_key key e.key
+
+-- the first entry at this address and key; in a rising list the only one
+abbrev pub entry_at : List Entry → ℕ → Key → Option Entry
+entry_at list addr key = find (is_at addr key) list
+
+abbrev pub or_else : Option Entry → Option Entry → Option Entry
+or_else (Some e) other = Some e
+or_else None other = other
+
+-- the entry named by an address and a known scale, where `Any` is an unknown one: that at the scale, else that at any scale (profile)
+abbrev pub named_entry : List Entry → ℕ → Key → Option Entry
+named_entry list addr scale = or_else (entry_at list addr scale) (entry_at list addr Any)

@@ -1,0 +1,25 @@
+-- The order of a certificate's entries, and which lists are a certificate's.
+use Rattle.std.specs.Prelude.{◌≡◌, ℕ, ◌<◌, ◌≤◌, ◌⊎◌, List, [], ◌∷◌, length}
+use Rattle.std.specs.List.{AllByRecursion}
+use Rattle.dvg_cert.specs.Entry.{Entry, Key, At, Any, IsEntry}
+
+-- any stands after 15 (profile)
+abbrev pub KeyBefore : Key → Key → Type 0
+KeyBefore (At m) (At n) = m < n
+KeyBefore (At m) Any = Unit {0}
+KeyBefore Any key = ⊥
+
+-- by address, then by key (profile)
+abbrev pub Before : Entry → Entry → Type 0
+Before e f = (e.addr < f.addr) ⊎ ((e.addr ≡ f.addr) × KeyBefore e.key f.key)
+
+abbrev pub IsRising : List Entry → Type 0
+IsRising [] = Unit {0}
+IsRising (e ∷ []) = Unit {0}
+IsRising (e ∷ f ∷ es) = Before e f × IsRising (f ∷ es)
+
+-- the list of a certificate for a ROM from word address `first` to `last` (profile)
+pub record IsCertificate (first last : ℕ) (es : List Entry) : Type 0 where
+  pub each : AllByRecursion (IsEntry first last) es
+  pub rising : IsRising es
+  pub few : length es ≤ 4096

@@ -1,0 +1,129 @@
+//! Readers and writers that count their failures, so that a caller can tell that one failed.
+
+ghost use Rattle.std.specs.Prelude.{◌≡◌, ℕ, true, is_err};
+ghost use Rattle.std.specs.Io.{ReadsAtMost, WritesAtMost};
+ghost use Rattle.std.specs.Io.KnownBytes.{ReadConsumes, WriteAppends};
+ghost use Rattle.dvg_cert.specs.Devices.{count_after, write_failed};
+
+use std::io;
+use std::io::{Read, Write};
+use std::marker::Model;
+
+/// A reader that counts its failed reads, up to `u32::MAX`.
+pub trait CountedRead: Read {
+    /// How many reads failed so far.
+    ghost failures: { Self → ℕ };
+
+    /// How many reads failed so far.
+    fn failures(&self) -> u32
+        ensures { result ≡ failures self.now };
+
+    /// One `read`, counted where it fails.
+    fn read_counted(&mut self, buf: &mut [u8]) -> io::Result<usize>
+        ensures bound { ReadsAtMost result buf.new }
+        ensures bytes { ReadConsumes (Self.remaining self.old) (Self.remaining self.new) result buf.new }
+        ensures count { failures self.new ≡ count_after (is_err result) (failures self.old) };
+}
+
+/// A writer that counts its failed writes, up to `u32::MAX`. A write fails that answers an error, or takes no byte of a
+/// piece that has some.
+pub trait CountedWrite: Write {
+    /// How many writes failed so far.
+    ghost failures: { Self → ℕ };
+
+    /// How many writes failed so far.
+    fn failures(&self) -> u32
+        ensures { result ≡ failures self.now };
+
+    /// One `write`, counted where it fails.
+    fn write_counted(&mut self, buf: &[u8]) -> io::Result<usize>
+        ensures bound { WritesAtMost result buf.now }
+        ensures bytes { WriteAppends (Self.contents self.old) (Self.contents self.new) result buf.now }
+        ensures count { failures self.new ≡ count_after (write_failed result buf.now) (failures self.old) };
+}
+
+/// A reader or a writer, and the count of its failures.
+#[derive(Drop)]
+pub struct Counted<T> {
+    device: T,
+    count: u32,
+}
+
+impl<T> Model for Counted<T> {
+    ghost use Rattle.dvg_cert.specs.Devices.{CountedDevice};
+
+    ghost Value = { CountedDevice T };
+
+    ghost view = { λ c. record { device = c.device; failures = c.count } };
+}
+
+impl<T> Counted<T> {
+    /// This device, with no failure so far.
+    pub fn new(device: T) -> Counted<T>
+        ensures { result ≡ record { device = device; failures = 0 } }
+    {
+        Counted { device, count: 0 }
+    }
+
+    fn count_failure(&mut self)
+        ensures { self.new ≡ record self.old { failures = count_after true self.old.failures } }
+    {
+        self.count = self.count.saturating_add(1);
+    }
+}
+
+impl<T: Read> Read for Counted<T> {
+    ghost remaining = { λ c. T.remaining c.device };
+
+    fn read(&mut self, buf: &mut [u8]) -> io::Result<usize> {
+        self.device.read(buf)
+    }
+}
+
+impl<T: Read> CountedRead for Counted<T> {
+    ghost failures = { λ c. c.failures };
+
+    fn failures(&self) -> u32 {
+        self.count
+    }
+
+    fn read_counted(&mut self, buf: &mut [u8]) -> io::Result<usize> {
+        let result = self.device.read(buf);
+        if result.is_err() {
+            self.count_failure();
+        }
+        result
+    }
+}
+
+impl<T: Write> Write for Counted<T> {
+    ghost contents = { λ c. T.contents c.device };
+
+    fn write(&mut self, buf: &[u8]) -> io::Result<usize> {
+        self.device.write(buf)
+    }
+
+    fn flush(&mut self) -> io::Result<()> {
+        self.device.flush()
+    }
+}
+
+impl<T: Write> CountedWrite for Counted<T> {
+    ghost failures = { λ c. c.failures };
+
+    fn failures(&self) -> u32 {
+        self.count
+    }
+
+    fn write_counted(&mut self, buf: &[u8]) -> io::Result<usize> {
+        let result = self.device.write(buf);
+        let failed = match &result {
+            Ok(taken) => *taken == 0 && !buf.is_empty(),
+            Err(_) => true,
+        };
+        if failed {
+            self.count_failure();
+        }
+        result
+    }
+}

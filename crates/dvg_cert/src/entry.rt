@@ -1,0 +1,57 @@
+//! What a certificate claims of a shape.
+
+/// A global scale, or any.
+///
+/// As a key it is the scale at which a shape is called, and `Any` stands for every scale. As the scale that is left
+/// behind, `Any` claims nothing. The numbers are 0 to 15. `Any` stands after them in the order of keys.
+#[derive(Clone, Copy, Debug, PartialEq, Eq, PartialOrd, Ord, Hash)]
+pub enum Key {
+    At(u8),
+    Any,
+}
+
+/// Where the beam is at a shape's return, in units of 1/1024 of a screen place.
+///
+/// The numbers of a certificate are -2,000,000,000,000 to 2,000,000,000,000.
+#[derive(Clone, Copy, Debug, PartialEq, Eq)]
+pub enum End {
+    /// Moved by that much since the call.
+    Rel { x: i64, y: i64 },
+    /// At that place.
+    Abs { x: i64, y: i64 },
+    /// Anywhere: nothing is claimed.
+    Lost,
+}
+
+/// What a shape lights before it sets its place, relative to the beam at the call, in units of 1/1024 of a screen place.
+#[derive(Clone, Copy, Debug, PartialEq, Eq)]
+pub enum LitBox {
+    /// Nothing.
+    Empty,
+    /// All of it between these coordinates, ends included.
+    Span {
+        x_min: i64,
+        x_max: i64,
+        y_min: i64,
+        y_max: i64,
+    },
+}
+
+/// What a certificate claims of the shape at a word address, called at a global scale.
+#[derive(Clone, Copy, Debug, PartialEq, Eq)]
+pub struct Entry {
+    /// The word address of the shape's first word.
+    pub addr: u16,
+    /// The global scale at which it is called.
+    pub key: Key,
+    /// Where the beam is at its return.
+    pub stop: End,
+    /// What it lights, relative to the beam at the call.
+    pub lit: LitBox,
+    /// How many calls stand below it at the most, 0 to 3.
+    pub depth: u8,
+    /// How many words are fetched at the most from its first word through its return, 1 to 1,000,000.
+    pub words: u32,
+    /// The global scale that it leaves behind.
+    pub scale: Key,
+}

@@ -1,0 +1,27 @@
+-- The words of a list of bytes, by their places.
+use Rattle.std.proofs.Common.{◌≡◌, ℕ, ◌+◌, ◌*◌, ◌/◌, ◌≤◌, ◌<◌, zero, suc, List, [], ◌∷◌, length, get_or, slice_get, Some, None, refl, ap, arith, rules, ◌∙◌, sym}
+use Rattle.dvg_words.specs.Memory.{words_of, rom_of, IsRom}
+
+-- two bytes to a word
+pub length-words_of : (bs : List ℕ) → length (words_of bs) ≡ length bs / 2
+length-words_of [] = refl
+length-words_of (low ∷ []) = refl
+length-words_of (low ∷ high ∷ bs) = omega (arith, length-words_of bs)
+
+-- the word at a place is made of its two bytes
+pub word_at_place : (bs : List ℕ) (i : ℕ) → 2 * i + 2 ≤ length bs → slice_get (words_of bs) i ≡ Some (get_or bs (2 * i) 0 + 256 * get_or bs (2 * i + 1) 0)
+word_at_place [] i h = absurd (omega arith)
+word_at_place (low ∷ []) i h = absurd (omega arith)
+word_at_place (low ∷ high ∷ bs) zero h = refl
+word_at_place (low ∷ high ∷ bs) (suc i) h =
+    let e : 2 * suc i ≡ suc (suc (2 * i)) = omega arith in
+    let e1 : 2 * suc i + 1 ≡ suc (suc (2 * i + 1)) = omega arith in
+    rw (e1, e) (word_at_place bs i (omega arith))
+
+-- 2048 bytes fill the ROM of Asteroids
+pub rom_of_is_rom : (bytes : List ℕ) → length bytes ≡ 2048 → IsRom (rom_of bytes)
+rom_of_is_rom bytes long =
+    record {
+      map = record { past_frames = omega arith; ordered = omega arith; inside = omega arith };
+      filled = omega (arith, length-words_of bytes, long);
+    }

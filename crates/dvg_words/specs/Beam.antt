@@ -1,0 +1,38 @@
+-- Where draws move the beam. Places are whole numbers in units of 1/1024 of a screen place (profile).
+use Rattle.std.specs.Prelude.{ℕ, pos, ◌+◌, ◌*◌, ◌%◌, ◌^◌, ◌+ℤ◌, ◌≤ℤ◌, ◌*ℤ◌, ℤ, nat_le, if◌then◌else◌}
+use Rattle.dvg_words.specs.Values.{DrawFields, Window}
+pub use Rattle.dvg_words.specs.declared.beam.Point.{Point}
+
+-- the effective scale (profile)
+abbrev pub effective_scale : ℕ → ℕ → ℕ
+effective_scale local global = (local + global) % 16
+
+-- what a size is multiplied by (profile)
+abbrev pub factor : ℕ → ℕ → ℕ
+factor local global = if nat_le (effective_scale local global) 9 then 2 ^ (effective_scale local global + 1) else 1
+
+abbrev pub origin : Point
+origin = record { x = pos 0; y = pos 0 }
+
+-- a place, moved
+abbrev pub shift : Point → Point → Point
+shift p d = record { x = p.x +ℤ d.x; y = p.y +ℤ d.y }
+
+-- how far a draw moves the beam: size times factor on each axis (profile)
+unfoldable pub displacement : DrawFields → ℕ → Point
+displacement d global = record { x = d.dx *ℤ pos (factor d.lscale global); y = d.dy *ℤ pos (factor d.lscale global) }
+
+-- where a LABS sets the beam: its fields are screen places (DVG documentation)
+abbrev pub labs_place : ℕ → ℕ → Point
+labs_place x y = record { x = pos (1024 * x); y = pos (1024 * y) }
+
+-- the place is within the window
+pub record InWindow (w : Window) (p : Point) : Type 0 where
+  pub left : pos (1024 * w.x_min) ≤ℤ p.x
+  pub right : p.x ≤ℤ pos (1024 * w.x_max)
+  pub bottom : pos (1024 * w.y_min) ≤ℤ p.y
+  pub top : p.y ≤ℤ pos (1024 * w.y_max)
+
+-- the whole screen
+abbrev pub screen : Window
+screen = record { x_min = 0; x_max = 1023; y_min = 0; y_max = 1023 }

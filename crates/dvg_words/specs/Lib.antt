@@ -1,0 +1,6 @@
+pub mod Values
+pub mod Decoding
+pub mod Memory
+pub mod Beam
+pub mod Generator
+pub mod Laws

@@ -1,0 +1,62 @@
+-- The words of byte lists, and which word the generator fetches at a word address.
+use Rattle.std.specs.Prelude.{◌≡◌, ◌≤◌, ◌<◌, ℕ, ◌+◌, ◌-◌, ◌*◌, ◌%◌, nat_le, nat_lt, ◌&&◌, List, [], ◌∷◌, length, slice_get, Option, None, if◌then◌else◌}
+use Rattle.dvg_words.specs.Values.{MemoryMap, asteroids, IsMap}
+
+-- two bytes to a word, the low byte at the even address (Asteroids schematics)
+abbrev pub words_of : List ℕ → List ℕ
+words_of [] = []
+words_of (low ∷ []) = []
+words_of (low ∷ high ∷ bytes) = (low + 256 * high) ∷ words_of bytes
+
+-- the lengths in bytes that a frame may have (profile)
+pub record IsFrameLength (n : ℕ) : Type 0 where
+  pub some : 2 ≤ n
+  pub few : n ≤ 2048
+  pub even : n % 2 ≡ 0
+
+-- a frame has 1 to 1024 words, the words 000 to 3FF of vector RAM (Asteroids schematics)
+pub record IsFrame (frame : List ℕ) : Type 0 where
+  pub some : 1 ≤ length frame
+  pub few : length frame ≤ 1024
+
+-- a vector ROM: where it lies, and its words
+pub record Rom : Type 0 where
+  pub map : MemoryMap
+  pub words : List ℕ
+
+-- a ROM has a word for each of its addresses
+pub record IsRom (rom : Rom) : Type 0 where
+  pub map : IsMap rom.map
+  pub filled : rom.map.rom_first + length rom.words ≡ rom.map.rom_last + 1
+
+-- the ROM of these bytes, in the map of Asteroids
+abbrev pub rom_of : List ℕ → Rom
+rom_of bytes = record { map = asteroids; words = words_of bytes }
+
+-- all that the generator can fetch
+pub record Memory : Type 0 where
+  pub frame : List ℕ
+  pub rom : Rom
+
+pub record IsMemory (m : Memory) : Type 0 where
+  pub frame : IsFrame m.frame
+  pub rom : IsRom m.rom
+
+-- an address of the frame's words, or of the ROM's
+abbrev pub InFrame : List ℕ → ℕ → Type 0
+InFrame frame p = p < length frame
+
+abbrev pub InRom : MemoryMap → ℕ → Type 0
+InRom map p = (map.rom_first ≤ p) × (p ≤ map.rom_last)
+
+-- the frame's word at an address
+abbrev pub frame_word : List ℕ → ℕ → Option ℕ
+frame_word frame p = slice_get frame p
+
+-- the ROM's word at an address
+abbrev pub rom_word : Rom → ℕ → Option ℕ
+rom_word rom p = if nat_le rom.map.rom_first p && nat_le p rom.map.rom_last then slice_get rom.words (p - rom.map.rom_first) else None
+
+-- the word that is fetched at an address: the frame's, else the ROM's, else none (Asteroids schematics)
+abbrev pub word_at : Memory → ℕ → Option ℕ
+word_at m p = if nat_lt p (length m.frame) then frame_word m.frame p else rom_word m.rom p

@@ -1,0 +1,56 @@
+//! Where the beam goes. Places are in units of 1/1024 of a screen place, and y grows upwards (profile).
+
+ghost use Rattle.std.specs.Prelude.{◌≡◌, ◌≤◌, ◌↔◌, IsTrue, pos, negsuc, ◌≤ℤ◌, ◌*ℤ◌};
+ghost use Rattle.dvg_words.specs.Beam.{factor, displacement, InWindow, screen};
+
+use crate::instruction::Draw;
+
+/// A place of the beam, or a move, in units of 1/1024 of a screen place.
+#[derive(Clone, Copy, Debug, PartialEq, Eq)]
+pub struct Point {
+    pub x: i64,
+    pub y: i64,
+}
+
+/// What a size is multiplied by.
+fn factor(local: u8, global: u8) -> i32
+    requires local { local ≤ 9 }
+    requires global { global ≤ 15 }
+    ensures value { result ≡ pos (factor local global) }
+    ensures small { result ≤ℤ pos 1024 }
+{
+    match (local + global) % 16 {
+        scale @ 0..=9 => 2 << scale,
+        _ => 1,
+    }
+}
+
+/// A size of a draw, multiplied by a factor.
+fn scaled(size: i16, factor: i32) -> i32
+    requires size_low { negsuc 1022 ≤ℤ size }
+    requires size_high { size ≤ℤ pos 1023 }
+    requires factor_low { pos 0 ≤ℤ factor }
+    requires factor_high { factor ≤ℤ pos 1024 }
+    ensures { result ≡ size *ℤ factor }
+{
+    i32::from(size) * factor
+}
+
+#[tactic(auto, unfolding(crate::specs::Beam::displacement))]
+/// How far a draw moves the beam at a global scale of 0 to 15, as (x, y) in units of 1/1024 of a screen place.
+pub fn displacement(draw: &Draw, gscale: u8) -> (i32, i32)
+    requires { gscale ≤ 15 }
+    ensures x { result.0 ≡ (displacement draw.now gscale).x }
+    ensures y { result.1 ≡ (displacement draw.now gscale).y }
+{
+    let factor = factor(draw.lscale, gscale);
+    (scaled(draw.dx, factor), scaled(draw.dy, factor))
+}
+
+/// Whether a place, in units of 1/1024 of a screen place, is on the screen: 0 to 1023 on both axes.
+pub fn on_screen(x: i64, y: i64) -> bool
+    ensures { IsTrue result ↔ InWindow screen (record { x = x; y = y }) }
+{
+    const FAR: i64 = 1023 * 1024;
+    0 <= x && x <= FAR && 0 <= y && y <= FAR
+}

@@ -1,0 +1,136 @@
+//! The bytes of a vector ROM and of a frame, read as words.
+
+ghost use Rattle.std.specs.Prelude.{◌≡◌, ◌≢◌, ◌+◌, ◌*◌, ◌<◌, ◌≤◌, Some, IfSome, MatchResult, length, slice_get};
+ghost use Rattle.dvg_words.specs.Memory.{words_of, rom_of, rom_word, frame_word, IsRom, IsFrame, IsFrameLength};
+
+use crate::decoding::Fetch;
+use byteorder::{ByteOrder, LittleEndian};
+use std::marker::Model;
+
+/// Why bytes are no image.
+#[derive(Clone, Copy, Debug, PartialEq, Eq)]
+pub enum ImageFault {
+    /// Refusal 1: a ROM has exactly 2048 bytes.
+    RomLength,
+    /// Refusal 2: a frame has 2 to 2048 bytes, an even number.
+    FrameLength,
+}
+
+/// The word of this number among the bytes, the low byte first (Asteroids schematics).
+fn word_at(bytes: &[u8], index: u16) -> u16
+    requires { 2 * index + 2 ≤ length bytes.now }
+    ensures { slice_get (words_of bytes.now) index ≡ Some result }
+{
+    LittleEndian::read_u16(&bytes[2 * index as usize..])
+}
+
+/// A vector ROM, at word addresses 800 to BFF (hexadecimal).
+#[derive(Drop)]
+pub struct RomImage<'a> {
+    bytes: &'a [u8],
+}
+
+impl<'a> Model for RomImage<'a> {
+    ghost use Rattle.std.specs.Prelude.{◌≡◌, length};
+    ghost use Rattle.dvg_words.specs.Memory.{Rom, rom_of};
+
+    ghost Value = { Rom };
+
+    ghost view = { λ r. rom_of r.bytes.now };
+
+    ghost invariant = { λ r. length r.bytes.now ≡ 2048 };
+}
+
+impl<'a> RomImage<'a> {
+    /// The image of these bytes, which it borrows. Refuses 1 where they are not exactly 2048.
+    pub fn from_bytes(bytes: &'a [u8]) -> Result<RomImage<'a>, ImageFault>
+        ensures { MatchResult result
+            (λ rom. (length bytes.now ≡ 2048) × (rom ≡ rom_of bytes.now))
+            (λ fault. (length bytes.now ≢ 2048) × (fault ≡ ImageFault.RomLength)) }
+    {
+        if bytes.len() != 2048 {
+            return Err(ImageFault::RomLength);
+        }
+        Ok(RomImage { bytes })
+    }
+
+    /// The word at a word address, `None` outside the ROM.
+    pub fn word(&self, addr: u16) -> Option<u16>
+        ensures word { result ≡ rom_word self.now addr }
+        ensures near { IfSome result (λ _. addr < 4096) }
+        ensures rom { IsRom self.now }
+    {
+        let bytes = self.bytes;
+        if addr < 0x800 || addr > 0xBFF {
+            return None;
+        }
+        Some(word_at(bytes, addr - 0x800))
+    }
+}
+
+impl<'a> Fetch for RomImage<'a> {
+    ghost words = { λ s. rom_word s };
+
+    fn fetch(&self, addr: u16) -> Option<u16> {
+        self.word(addr)
+    }
+}
+
+/// A frame in vector RAM, from word address 000 on.
+#[derive(Drop)]
+pub struct FrameImage<'a> {
+    bytes: &'a [u8],
+}
+
+impl<'a> Model for FrameImage<'a> {
+    ghost use Rattle.std.specs.Prelude.{ℕ, List, length};
+    ghost use Rattle.dvg_words.specs.Memory.{words_of, IsFrameLength};
+
+    ghost Value = { List ℕ };
+
+    ghost view = { λ f. words_of f.bytes.now };
+
+    ghost invariant = { λ f. IsFrameLength (length f.bytes.now) };
+}
+
+impl<'a> FrameImage<'a> {
+    /// The image of these bytes, which it borrows. Refuses 2 where they are not 2 to 2048, or an odd number.
+    pub fn from_bytes(bytes: &'a [u8]) -> Result<FrameImage<'a>, ImageFault>
+        ensures { MatchResult result
+            (λ frame. IsFrameLength (length bytes.now) × (frame ≡ words_of bytes.now))
+            (λ fault. (IsFrameLength (length bytes.now) → ⊥) × (fault ≡ ImageFault.FrameLength)) }
+    {
+        if bytes.len() < 2 || bytes.len() > 2048 || bytes.len() % 2 != 0 {
+            return Err(ImageFault::FrameLength);
+        }
+        Ok(FrameImage { bytes })
+    }
+
+    /// The number of words, 1 to 1024.
+    pub fn words(&self) -> u16
+        ensures count { result ≡ length self.now }
+        ensures frame { IsFrame self.now }
+    {
+        (self.bytes.len() / 2) as u16
+    }
+
+    /// The word at a word address, `None` past the last word.
+    pub fn word(&self, addr: u16) -> Option<u16>
+        ensures word { result ≡ frame_word self.now addr }
+        ensures near { IfSome result (λ _. addr < 4096) }
+        ensures frame { IsFrame self.now }
+    {
+        if addr >= self.words() {
+            return None;
+        }
+        Some(word_at(self.bytes, addr))
+    }
+}
+
+impl<'a> Fetch for FrameImage<'a> {
+    ghost words = { λ s. frame_word s };
+
+    fn fetch(&self, addr: u16) -> Option<u16> {
+        self.word(addr)
+    }
+}

@@ -1,0 +1,18 @@
+//! Laws over the definitions alone, each proved as the contract of a function with an empty body.
+
+ghost use Rattle.dvg_words.specs.Laws.{OneStep, NoStepAfterHalt, NoStepAfterFault};
+
+/// Every running state has exactly one step.
+pub fn one_step()
+    ensures { OneStep }
+{}
+
+/// A halted state has none.
+pub fn no_step_after_halt()
+    ensures { NoStepAfterHalt }
+{}
+
+/// A faulted state has none.
+pub fn no_step_after_fault()
+    ensures { NoStepAfterFault }
+{}
