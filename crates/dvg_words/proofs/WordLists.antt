@@ -1,6 +1,6 @@
 -- The words of a list of bytes, by their places.
 use Rattle.std.proofs.Common.{◌≡◌, ℕ, ◌+◌, ◌*◌, ◌/◌, ◌≤◌, ◌<◌, zero, suc, List, [], ◌∷◌, length, get_or, slice_get, Some, None, refl, ap, arith, rules, ◌∙◌, sym}
-use Rattle.dvg_words.specs.Memory.{words_of, rom_of, IsRom}
+use Rattle.dvg_words.specs.Memory.{words_of, rom_of, IsRom, IsFrame, IsFrameLength}
 
 -- two bytes to a word
 pub length-words_of : (bs : List ℕ) → length (words_of bs) ≡ length bs / 2
@@ -24,4 +24,12 @@ rom_of_is_rom bytes long =
     record {
       map = record { past_frames = omega arith; ordered = omega arith; inside = omega arith };
       filled = omega (arith, length-words_of bytes, long);
+    }
+
+-- 2 to 2048 bytes, an even number of them, are a frame
+pub words_of_is_frame : (bytes : List ℕ) → IsFrameLength (length bytes) → IsFrame (words_of bytes)
+words_of_is_frame bytes long =
+    record {
+      some = omega (arith, length-words_of bytes, long.some);
+      few = omega (arith, length-words_of bytes, long.few);
     }

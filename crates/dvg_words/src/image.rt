@@ -1,6 +1,6 @@
 //! The bytes of a vector ROM and of a frame, read as words.
 
-ghost use Rattle.std.specs.Prelude.{◌≡◌, ◌≢◌, ◌+◌, ◌*◌, ◌<◌, ◌≤◌, Some, IfSome, MatchResult, length, slice_get};
+ghost use Rattle.std.specs.Prelude.{◌≡◌, ◌≢◌, ◌+◌, ◌*◌, ◌<◌, ◌≤◌, Some, IfSome, IfOk, MatchResult, length, slice_get};
 ghost use Rattle.dvg_words.specs.Memory.{words_of, rom_of, rom_word, frame_word, IsRom, IsFrame, IsFrameLength};
 
 use crate::decoding::Fetch;
@@ -44,9 +44,10 @@ impl<'a> Model for RomImage<'a> {
 impl<'a> RomImage<'a> {
     /// The image of these bytes, which it borrows. Refuses 1 where they are not exactly 2048.
     pub fn from_bytes(bytes: &'a [u8]) -> Result<RomImage<'a>, ImageFault>
-        ensures { MatchResult result
+        ensures image { MatchResult result
             (λ rom. (length bytes.now ≡ 2048) × (rom ≡ rom_of bytes.now))
             (λ fault. (length bytes.now ≢ 2048) × (fault ≡ ImageFault.RomLength)) }
+        ensures whole { IfOk result IsRom }
     {
         if bytes.len() != 2048 {
             return Err(ImageFault::RomLength);
@@ -58,7 +59,6 @@ impl<'a> RomImage<'a> {
     pub fn word(&self, addr: u16) -> Option<u16>
         ensures word { result ≡ rom_word self.now addr }
         ensures near { IfSome result (λ _. addr < 4096) }
-        ensures rom { IsRom self.now }
     {
         let bytes = self.bytes;
         if addr < 0x800 || addr > 0xBFF {
@@ -96,9 +96,10 @@ impl<'a> Model for FrameImage<'a> {
 impl<'a> FrameImage<'a> {
     /// The image of these bytes, which it borrows. Refuses 2 where they are not 2 to 2048, or an odd number.
     pub fn from_bytes(bytes: &'a [u8]) -> Result<FrameImage<'a>, ImageFault>
-        ensures { MatchResult result
+        ensures image { MatchResult result
             (λ frame. IsFrameLength (length bytes.now) × (frame ≡ words_of bytes.now))
             (λ fault. (IsFrameLength (length bytes.now) → ⊥) × (fault ≡ ImageFault.FrameLength)) }
+        ensures whole { IfOk result IsFrame }
     {
         if bytes.len() < 2 || bytes.len() > 2048 || bytes.len() % 2 != 0 {
             return Err(ImageFault::FrameLength);
@@ -118,7 +119,6 @@ impl<'a> FrameImage<'a> {
     pub fn word(&self, addr: u16) -> Option<u16>
         ensures word { result ≡ frame_word self.now addr }
         ensures near { IfSome result (λ _. addr < 4096) }
-        ensures frame { IsFrame self.now }
     {
         if addr >= self.words() {
             return None;

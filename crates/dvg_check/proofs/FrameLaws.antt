@@ -1,0 +1,200 @@
+-- A frame from any start to its halt.
+use Rattle.std.proofs.Common.{List, Option, Some, None, arith, refl, length, inl, inr, max, Ok, ap, length-append, sym, subst, zero, suc, ◌≡◌, ◌+◌, ◌≤◌, ◌⊎◌, ◌∷◌, ◌++◌, ◌∙◌, ℕ, []}
+use Rattle.std.specs.List.{AllByRecursion}
+use Rattle.std.specs.Prelude.{Contains}
+use Rattle.dvg_words.specs.Beam.{InWindow, origin}
+use Rattle.dvg_words.specs.Decoding.{word_count, cell_at}
+use Rattle.dvg_words.specs.Generator.{State, Reached, Running, Halted, Stroke, places, start, next_status, Status, Fault}
+use Rattle.dvg_words.specs.Memory.{Memory, InFrame, InRom, word_at, IsMemory, frame_word}
+use Rattle.dvg_words.specs.Values.{Window}
+use Rattle.dvg_words.specs.declared.beam.Point.{Point}
+use Rattle.dvg_words.specs.declared.instruction.Cell.TheVariants.{Holds}
+use Rattle.dvg_words.specs.declared.instruction.Format.{Format}
+use Rattle.dvg_words.specs.declared.instruction.Format.TheVariants.{Long, Short}
+use Rattle.dvg_words.specs.declared.instruction.Instr.{Instr}
+use Rattle.dvg_words.specs.declared.instruction.Instr.TheVariants.{Draw as Draws, Labs, Halt, Rtsl, Jsrl, Jmpl}
+use Rattle.dvg_cert.specs.declared.entry.End.{End}
+use Rattle.dvg_cert.specs.declared.entry.End.TheVariants.{Rel, Abs, Lost}
+use Rattle.dvg_cert.specs.declared.entry.Entry.{Entry}
+use Rattle.dvg_cert.specs.declared.entry.LitBox.{LitBox}
+use Rattle.dvg_cert.specs.declared.entry.LitBox.TheVariants.{Empty}
+use Rattle.dvg_check.specs.Behaving.{Counts, Ends, LitFits, Comes}
+use Rattle.dvg_check.specs.Items.{LeadsTo}
+use Rattle.dvg_check.specs.Known.{fixed_place, place_moved_by, place_before, frame_context, effects, total_move, depth_under, depth_before, callee, words_before}
+use Rattle.dvg_check.specs.Laws.{GoodIsSafe, ExactIsExact}
+use Rattle.dvg_check.specs.Lit.{LitInBox, extent}
+use Rattle.dvg_check.specs.Rules.{Good, AllKeep, FramePlaceKeeps, FrameKeeps, seen, CellKeeps, GoodFrame}
+use Rattle.dvg_check.specs.Safety.{FineStatus, IsFine}
+use Rattle.dvg_check.specs.declared.fault.FrameWhy.{FrameWhy}
+use Rattle.dvg_check.specs.declared.fault.FrameWhy.TheVariants as frame
+use Rattle.dvg_check.specs.declared.fault.Mode.{Mode}
+use Rattle.dvg_check.specs.declared.fault.Mode.TheVariants.{Bounds, Exactly}
+use Rattle.dvg_check.specs.declared.item.Item.{Item}
+use Rattle.dvg_check.specs.declared.item.Kind.TheVariants.{Frame}
+use Rattle.dvg_check.specs.declared.known.Effect.{Effect}
+use Rattle.dvg_check.specs.declared.known.Effect.TheVariants.{Sets, Loses, Moves}
+use Rattle.dvg_check.specs.declared.known.LitExtent.{LitExtent}
+use Rattle.dvg_check.specs.declared.known.LitExtent.TheVariants.{Nothing, Anywhere, Between}
+use Rattle.dvg_check.proofs.Onward.{Stands}
+use Rattle.dvg_check.proofs.Runs.{reached_on, counts_sum, counts_same, AllByRecursion-append, AllByRecursion-map, rest_of, Grows, AllByRecursion-back, grows, comes_as}
+use Rattle.dvg_check.proofs.ShapeLaws.{named_listed, word_count-some, Facts, all_shapes, arrive}
+use Rattle.dvg_check.proofs.Steps.{next_there, own, stands}
+
+-- ---- a frame's known place is never relative
+
+abbrev NotRelative : End → Type 0
+NotRelative (Rel x y) = ⊥
+NotRelative (Abs x y) = Unit {0}
+NotRelative Lost = Unit {0}
+
+by_effects : (es : List Effect) → NotRelative (fixed_place Lost es)
+by_effects [] = tt
+by_effects (Sets p ∷ es) = tt
+by_effects (Loses ∷ es) = tt
+by_effects (Moves d ∷ es) = by_effects es
+
+by_move : (k : End) (d : Point) → NotRelative k → NotRelative (place_moved_by k d)
+by_move (Rel x y) d h = h
+by_move (Abs x y) d h = tt
+by_move Lost d h = tt
+
+frame_place : (list : List Entry) (items : List Item) → NotRelative (place_before (frame_context list) items)
+frame_place list items = by_move (fixed_place Lost (effects (frame_context list) items)) (total_move (effects (frame_context list) items)) (by_effects (effects (frame_context list) items))
+
+no_box : (box : LitBox) (l : LitExtent) (k : End) → NotRelative k → LitInBox box l k
+no_box box Nothing k h = tt
+no_box box Anywhere k h = tt
+no_box box (Between a b) (Rel x y) h = absurd h
+no_box box (Between a b) (Abs x y) h = tt
+no_box box (Between a b) Lost h = tt
+
+-- ---- depth
+
+depth_under-four : (instr : Instr) (o : Option Entry) → ((f : Entry) → o ≡ Some f → f.depth ≤ 3) → depth_under instr o ≤ 4
+depth_under-four instr None h = omega arith
+depth_under-four (Draws d) (Some f) h = omega arith
+depth_under-four (Labs x y g) (Some f) h = omega arith
+depth_under-four Halt (Some f) h = omega arith
+depth_under-four Rtsl (Some f) h = omega arith
+depth_under-four (Jsrl to) (Some f) h = omega (arith, h f refl)
+depth_under-four (Jmpl to) (Some f) h = omega (arith, h f refl)
+
+depth_before-four : (list : List Entry) → ((e : Entry) → Contains list e → e.depth ≤ 3) → (items : List Item) → depth_before (frame_context list) items ≤ 4
+depth_before-four list three [] = omega arith
+depth_before-four list three (i ∷ earlier) =
+    let here = depth_under-four i.instr (callee (frame_context list) earlier i.instr) (λ f n. three f (named_listed list _ _ f n)) in
+    omega (arith, here, depth_before-four list three earlier)
+
+-- ---- the halt
+
+-- a whole run, from a start to a halt
+record Halts (mode : Mode) (m : Memory) (w : Window) (words depth : ℕ) (s : State) : Type 0 where
+  n : ℕ
+  h : State
+  within : n ≤ words
+  reached : Reached m n (Running s) (Halted h)
+  few : Counts mode (length h.fetched) words
+  mapped : AllByRecursion (λ p. InFrame m.frame p ⊎ InRom m.rom.map p) h.fetched
+  stored : Counts mode h.max_stack depth
+  lit : AllByRecursion (Ends (InWindow w)) h.strokes
+
+on_screen : (w : Window) (base : Point) (k : Stroke) → LitFits w Empty base k → Ends (InWindow w) k
+on_screen w base k (inl on) = on
+on_screen w base k (inr on) = absurd on.0
+
+length-places : (format : Format) (p : ℕ) → length (places format p) ≡ word_count format
+length-places Long p = refl
+length-places Short p = refl
+
+stored_all : (mode : Mode) (x d : ℕ) → Counts mode x (max 0 d) → Counts mode x d
+stored_all Bounds x d h = omega (arith, h)
+stored_all Exactly x d h = omega (arith, h)
+
+halt : (mode : Mode) (m : Memory) (w : Window) (most words depth at : ℕ) (format : Format) (base p : Point) (scale : ℕ) (t : State) → cell_at (word_at m) at ≡ Holds format Halt → AllByRecursion (λ q. InFrame m.frame q ⊎ InRom m.rom.map q) (places format at) → t.pc ≡ at → words ≡ most + word_count format → Comes mode m (λ q. InFrame m.frame q ⊎ InRom m.rom.map q) (LitFits w Empty base) most depth (start p scale) t → Halts mode m w words depth (start p scale)
+halt mode m w most words depth at format base p scale t is mine pc sum c =
+    let Ok : ℕ → Type 0 = λ q. InFrame m.frame q ⊎ InRom m.rom.map q in
+    let h : State = record t { fetched = places format t.pc ++ t.fetched } in
+    let step : next_status m t ≡ Halted h = next_there m t format Halt (ap (cell_at (word_at m)) pc ∙ is) in
+    record {
+      n = c.steps + 1;
+      h = h;
+      within = omega (arith, c.within, word_count-some format);
+      reached = reached_on m c.steps 1 (Running (start p scale)) (Running t) (Halted h) c.reached (Halted h, step, refl);
+      few = counts_sum mode (length c.words) (word_count format) (length h.fetched) most (word_count format) words (omega (arith, length-append (places format t.pc) t.fetched, ap length c.fetched, length-append c.words [], length-places format t.pc)) c.few (counts_same mode _ _ refl) (counts_same mode _ _ (sym sum));
+      mapped = AllByRecursion-append Ok (places format t.pc) t.fetched (subst (λ q. AllByRecursion Ok (places format q)) (sym pc) mine) (subst (AllByRecursion Ok) (sym c.fetched) (AllByRecursion-append Ok c.words [] c.mapped tt));
+      stored = stored_all mode t.max_stack depth c.stored;
+      lit = subst (AllByRecursion (Ends (InWindow w))) (sym c.drew) (AllByRecursion-append (Ends (InWindow w)) c.strokes [] (AllByRecursion-map (LitFits w Empty base) (Ends (InWindow w)) c.strokes (on_screen w base) c.lit) tt);
+    }
+
+fine : (m : Memory) (w : Window) (words depth n : ℕ) (s : State) (a : Status) (r : Halts Bounds m w words depth s) → Reached m n (Running s) a → FineStatus m w words depth n a
+fine m w words depth n s a r reached =
+    let on = rest_of m n r.n (Running s) a r.h reached r.reached in
+    by_status a on.0 (omega (arith, on.1, r.within)) on.2
+  where
+    as_fine : (b : State) → n ≤ words → Grows b r.h → IsFine m w words depth n b
+    as_fine b le g =
+        record {
+          within = le;
+          few = omega (arith, ap length g.fetched, length-append g.words b.fetched, r.few);
+          mapped = AllByRecursion-back (λ p. InFrame m.frame p ⊎ InRom m.rom.map p) g.words b.fetched (subst (AllByRecursion (λ p. InFrame m.frame p ⊎ InRom m.rom.map p)) g.fetched r.mapped);
+          stored = omega (arith, g.stored, r.stored);
+          lit = AllByRecursion-back (Ends (InWindow w)) g.strokes b.strokes (subst (AllByRecursion (Ends (InWindow w))) g.drew r.lit);
+        }
+
+    by_status : (b : Status) (j : ℕ) → n ≤ words → Reached m j b (Halted r.h) → FineStatus m w words depth n b
+    by_status (Running b) j le q = as_fine b le (grows m j (Running b) (Halted r.h) q)
+    by_status (Halted b) j le q = as_fine b le (grows m j (Halted b) (Halted r.h) q)
+    by_status (Fault b) zero le q = cc
+    by_status (Fault b) (suc j) le q = q.1
+
+-- ---- the whole
+
+module _ (mode : Mode) (m : Memory) (w : Window) (list : List Entry) (budget : ℕ) (mem : IsMemory m) (good : Good mode w m.rom list) (keep : AllKeep Frame (frame_word m.frame) 0 (FramePlaceKeeps w m.frame list budget)) where
+  frame_rule : (earlier : List Item) (i : Item) → LeadsTo Frame (frame_word m.frame) 0 earlier i.at → cell_at (frame_word m.frame) i.at ≡ Holds i.format i.instr → (why : FrameWhy) → FrameKeeps w budget (seen (frame_context list) earlier i) why
+  frame_rule earlier i lead is why = subst (λ c. CellKeeps frame.Unmapped frame.Odd (λ j. FrameKeeps w budget (seen (frame_context list) earlier j)) i.at c why) is (keep earlier i.at lead why)
+
+  frame_facts : (earlier : List Item) (i : Item) → LeadsTo Frame (frame_word m.frame) 0 earlier i.at → cell_at (frame_word m.frame) i.at ≡ Holds i.format i.instr → Facts mode m w (frame_context list) Empty (λ q. InFrame m.frame q ⊎ InRom m.rom.map q) earlier i
+  frame_facts earlier i lead is =
+      let c = frame_context list in
+      record {
+        own = AllByRecursion-map (InFrame m.frame) (λ q. InFrame m.frame q ⊎ InRom m.rom.map q) (places i.format i.at) (λ q h. inl h) (own Frame m i.at i.format i.instr mem is);
+        fits =
+            record {
+              known = frame_rule earlier i lead is frame.BeamUnknown;
+              scale_known = frame_rule earlier i lead is frame.ScaleUnknown;
+              shown = frame_rule earlier i lead is frame.OffScreen;
+              boxed = no_box Empty (extent c earlier i.instr) (place_before c earlier) (frame_place list earlier);
+              named = frame_rule earlier i lead is frame.NoEntry;
+            };
+        calls = λ f n. all_shapes mode m w list mem good f (named_listed list _ _ f n);
+      }
+
+run : (mode : Mode) (m : Memory) (w : Window) (list : List Entry) (budget words depth : ℕ) → IsMemory m → ((e : Entry) → Contains list e → e.depth ≤ 3) → Good mode w m.rom list → GoodFrame w m.frame list budget words depth → (p : Point) (scale : ℕ) → Halts mode m w words depth (start p scale)
+run mode m w list budget words depth mem three good gf p scale =
+    let c = frame_context list in
+    let Ok : ℕ → Type 0 = λ q. InFrame m.frame q ⊎ InRom m.rom.map q in
+    let st : Stands c origin [] [] 0 (start p scale) = record { pc = refl; return_stack = refl; room = omega arith; place = tt; scale = tt } in
+    let a = arrive mode m w c Empty origin Ok 0 [] (start p scale) mem (λ q h. inr h) (frame_facts mode m w list budget mem good gf.keeps) st gf.items gf.at gf.leads (omega (arith, depth_before-four list three gf.items)) in
+    let mine = AllByRecursion-map (InFrame m.frame) Ok (places gf.format gf.at) (λ q h. inl h) (own Frame m gf.at gf.format Halt mem gf.halts) in
+    let come = comes_as mode m Ok (LitFits w Empty origin) (words_before c gf.items) (words_before c gf.items) _ depth (start p scale) a.0 refl (omega (arith, gf.depth_is)) a.1 in
+    halt mode m w (words_before c gf.items) words depth gf.at gf.format origin p scale a.0 (stands Frame m gf.at gf.format Halt mem gf.halts) mine a.2.pc gf.count_is come
+
+pub good_is_safe : GoodIsSafe
+good_is_safe m w list budget words depth mem three good gf =
+    record {
+      four = omega (arith, gf.depth_is, depth_before-four list three gf.items);
+      halts = λ p scale g. let r = run Bounds m w list budget words depth mem three good gf p scale in (r.n, r.h, r.within, r.reached);
+      fine = λ p scale g n s reached. fine m w words depth n (start p scale) s (run Bounds m w list budget words depth mem three good gf p scale) reached;
+    }
+
+-- two halts of one run are the same
+halts_at : (m : Memory) (j : ℕ) (a b : State) → Reached m j (Halted a) (Halted b) → a ≡ b
+halts_at m zero a b q = cc
+halts_at m (suc j) a b q = absurd q.1
+
+pub exact_is_exact : ExactIsExact
+exact_is_exact m w list budget words depth mem three good gf p scale n h g reached =
+    let r = run Exactly m w list budget words depth mem three good gf p scale in
+    let on = rest_of m n r.n (Running (start p scale)) (Halted h) r.h reached r.reached in
+    let same = halts_at m on.0 h r.h on.2 in
+    (ap (λ (s : State). length s.fetched) same ∙ r.few, ap (λ (s : State). s.max_stack) same ∙ r.stored)

@@ -1,0 +1,10 @@
+pub mod Runs
+pub mod Steps
+pub mod Onward
+pub mod ShapeLaws
+pub mod FrameLaws
+pub mod Faults
+pub mod Bounds
+pub mod Loop
+pub mod FrameWalk
+pub mod Accepting

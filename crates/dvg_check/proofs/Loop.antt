@@ -1,0 +1,162 @@
+-- What the loop over items keeps, and what follows where it stops.
+use Rattle.std.proofs.Common.{arith, Some, nat_lt, refl, Bool, None, true, false, Option, List, subst, sym, ap, ◌≡◌, ◌+◌, ◌<◌, ◌≤◌, ◌∷◌, ◌∙◌, ℕ, []}
+use Rattle.std.proofs.lemmas.Bool.Decides.{nat_tests}
+use Rattle.std.specs.Prelude.{if◌then◌else◌}
+use Rattle.dvg_words.specs.Decoding.{word_count, InstrFits, cell_at}
+use Rattle.dvg_words.specs.declared.instruction.Cell.{Cell}
+use Rattle.dvg_words.specs.declared.instruction.Cell.TheVariants.{Missing, Odd, Holds}
+use Rattle.dvg_words.specs.declared.instruction.Format.{Format}
+use Rattle.dvg_words.specs.declared.instruction.Format.TheVariants.{Short, Long}
+use Rattle.dvg_words.specs.declared.instruction.Instr.{Instr}
+use Rattle.dvg_words.specs.declared.instruction.Instr.TheVariants.{Draw as Draws, Labs, Halt, Jsrl, Rtsl, Jmpl}
+use Rattle.dvg_cert.specs.Entry.{IsKey}
+use Rattle.dvg_cert.specs.declared.entry.Key.{Key}
+use Rattle.dvg_check.specs.FirstFault.{AllBefore, FaultAt}
+use Rattle.dvg_check.specs.Items.{place_after, next_place, LeadsTo}
+use Rattle.dvg_check.specs.Known.{Context, known_before}
+use Rattle.dvg_check.specs.Rules.{PlaceKeeps, CellKeeps, seen}
+use Rattle.dvg_check.specs.Running.{IsSound, seen_with, IsNearPlace, WalksTo}
+use Rattle.dvg_check.specs.declared.item.Item.{Item}
+use Rattle.dvg_check.specs.declared.item.Kind.{Kind}
+use Rattle.dvg_check.specs.declared.item.Kind.TheVariants.{Shape, Frame}
+use Rattle.dvg_check.specs.declared.known.Known.{Known}
+use Rattle.dvg_check.specs.declared.known.Seen.{Seen}
+use Rattle.dvg_check.proofs.Bounds.{IsNearPlace-more, seen_without_entries}
+use Rattle.dvg_check.proofs.Faults.{all_kept}
+use Rattle.dvg_check.proofs.ShapeLaws.{word_count-some}
+use Rattle.dvg_check.proofs.Steps.{stands}
+
+-- ---- one place on
+
+word_count-few : (format : Format) → word_count format ≤ 2
+word_count-few Short = omega arith
+word_count-few Long = omega arith
+
+further : (kind : Kind) (at : ℕ) (format : Format) (instr : Instr) (p : ℕ) → place_after kind at format instr ≡ Some p → at + 1 ≤ p
+further kind at format (Draws d) p e = let q : at + word_count format ≡ p = cc in omega (arith, q, word_count-some format)
+further kind at format (Labs x y g) p e = let q : at + word_count format ≡ p = cc in omega (arith, q, word_count-some format)
+further kind at format Halt p e = cc
+further kind at format (Jsrl to) p e = let q : at + word_count format ≡ p = cc in omega (arith, q, word_count-some format)
+further kind at format Rtsl p e = cc
+further Shape at format (Jmpl to) p e = cc
+further Frame at format (Jmpl to) p e = by_test (nat_lt at to) refl e
+  where
+    by_test : (b : Bool) → nat_lt at to ≡ b → (if b then Some to else None) ≡ Some p → at + 1 ≤ p
+    by_test true t f = let lt : at < to = grind (arith, nat_tests) in let q : to ≡ p = cc in omega (arith, lt, q)
+    by_test false t f = cc
+
+pub next_further : (kind : Kind) (i : Item) (p : ℕ) → next_place kind i ≡ Some p → i.at + 1 ≤ p
+next_further kind i p e = further kind i.at i.format i.instr p e
+
+near : (kind : Kind) (at : ℕ) (format : Format) (instr : Instr) (p : ℕ) → at < 4096 → InstrFits instr → place_after kind at format instr ≡ Some p → p ≤ 4098
+near kind at format (Draws d) p lt h e = let q : at + word_count format ≡ p = cc in omega (arith, q, lt, word_count-few format)
+near kind at format (Labs x y g) p lt h e = let q : at + word_count format ≡ p = cc in omega (arith, q, lt, word_count-few format)
+near kind at format Halt p lt h e = cc
+near kind at format (Jsrl to) p lt h e = let q : at + word_count format ≡ p = cc in omega (arith, q, lt, word_count-few format)
+near kind at format Rtsl p lt h e = cc
+near Shape at format (Jmpl to) p lt h e = cc
+near Frame at format (Jmpl to) p lt h e = by_test (nat_lt at to) e
+  where
+    by_test : (b : Bool) → (if b then Some to else None) ≡ Some p → p ≤ 4098
+    by_test true f = let q : to ≡ p = cc in omega (arith, q, h)
+    by_test false f = cc
+
+-- ---- the loop
+
+-- the items so far: they lead to the place, their places keep all rules, and what is known is known of them
+pub record Walked {Why : Type 0} (c : Context) (word : ℕ → Option ℕ) (first : ℕ) (keeps : List Item → ℕ → Why → Type 0) (at : ℕ) (known : Known) : Type 0 where
+  pub items : List Item
+  pub leads : LeadsTo c.kind word first items at
+  pub kept : AllBefore keeps items
+  pub knows : known ≡ known_before c items
+  pub sound : IsSound at known
+  pub close : at ≤ 4098
+
+module _ (Why : Type 0) (order : Why → ℕ) (missing odd : Why) (Keeps : Seen → Why → Type 0) (kind : Kind) (scale : Key) (word : ℕ → Option ℕ) (first : ℕ) where
+  abbrev context : Context
+  context = record { kind = kind; list = []; scale = scale }
+
+  abbrev keeps : List Item → ℕ → Why → Type 0
+  keeps = PlaceKeeps missing odd Keeps context word
+
+  -- what a cell keeps
+  abbrev CellKept : List Item → ℕ → Why → Cell → Type 0
+  CellKept items at why cell = CellKeeps missing odd (λ i. Keeps (seen context items i)) at cell why
+
+  pub begin : (known : Known) → known ≡ known_before context [] → IsSound 0 known → first < 4096 → Walked context word first keeps first known
+  begin known is sound lt =
+      record {
+        items = [];
+        leads = refl;
+        kept = tt;
+        knows = is;
+        sound = record { place = IsNearPlace-more 0 first known.place (omega arith) sound.place; scale = sound.scale; words = sound.words; depth = sound.depth };
+        close = omega (arith, lt);
+      }
+
+  pub at_missing : (at : ℕ) (known : Known) → Walked context word first keeps at known → cell_at word at ≡ Missing → FaultAt order kind word first keeps at missing
+  at_missing at known k is =
+      record {
+        items = k.items;
+        leads = k.leads;
+        before = k.kept;
+        breaks = λ h. subst (CellKept k.items at missing) is h refl;
+        lowest = λ other lt. subst (CellKept k.items at other) (sym is) (λ e. let o : order other ≡ order missing = ap order e in omega (arith, o, lt));
+      }
+
+  pub at_odd : (at : ℕ) (known : Known) → Walked context word first keeps at known → cell_at word at ≡ Odd → FaultAt order kind word first keeps at odd
+  at_odd at known k is =
+      record {
+        items = k.items;
+        leads = k.leads;
+        before = k.kept;
+        breaks = λ h. subst (CellKept k.items at odd) is h refl;
+        lowest = λ other lt. subst (CellKept k.items at other) (sym is) (λ e. let o : order other ≡ order odd = ap order e in omega (arith, o, lt));
+      }
+
+  -- an item, as the code sees it and as the rules do
+  module _ (at : ℕ) (known : Known) (format : Format) (instr : Instr) (v : Seen) (k : Walked context word first keeps at known) (is : cell_at word at ≡ Holds format instr) (v_is : v ≡ seen_with None known (record { at = at; format = format; instr = instr })) where
+    abbrev item : Item
+    item = record { at = at; format = format; instr = instr }
+
+    same : seen context k.items item ≡ v
+    same = seen_without_entries kind scale k.items item known k.knows ∙ sym v_is
+
+    kept_here : (why : Why) → Keeps v why → keeps k.items at why
+    kept_here why h = subst (CellKept k.items at why) (sym is) (subst (λ x. Keeps x why) (sym same) h)
+
+    pub broken : (why : Why) → (Keeps v why → ⊥) → ((other : Why) → order other < order why → Keeps v other) → FaultAt order kind word first keeps at why
+    broken why breaks lowest =
+        record {
+          items = k.items;
+          leads = k.leads;
+          before = k.kept;
+          breaks = λ h. breaks (subst (λ x. Keeps x why) same (subst (CellKept k.items at why) is h));
+          lowest = λ other lt. kept_here other (lowest other lt);
+        }
+
+    known_on : v.after ≡ known_before context (item ∷ k.items)
+    known_on = ap (λ (x : Seen). x.after) (sym same)
+
+    pub onward : (p : ℕ) → at < 4096 → InstrFits instr → ((why : Why) → Keeps v why) → next_place kind item ≡ Some p → v.after.words ≤ 1000000 → IsNearPlace (at + 1) v.after.place → IsKey v.after.scale → v.after.depth ≤ 4 → Walked context word first keeps p v.after
+    onward p lt fits kept goes few place scale_is depth =
+        record {
+          items = item ∷ k.items;
+          leads = (k.leads, is, goes);
+          kept = (k.kept, λ why. kept_here why (kept why));
+          knows = known_on;
+          sound = record { place = IsNearPlace-more (at + 1) p v.after.place (next_further kind item p goes) place; scale = scale_is; words = few; depth = depth };
+          close = near kind at format instr p lt fits goes;
+        }
+
+    pub done : ((why : Why) → Keeps v why) → next_place kind item ≡ None → WalksTo context word first keeps v.after
+    done kept ends =
+        record {
+          keeps_all = all_kept kind word first Why keeps k.items item k.leads is ends (k.kept, λ why. kept_here why (kept why));
+          items = k.items;
+          last = item;
+          leads = k.leads;
+          stands = is;
+          ends = ends;
+          knows = known_on;
+        }

@@ -1,0 +1,375 @@
+-- From one item to the next, over calls too.
+use Rattle.std.proofs.Common.{Option, None, Some, Bool, false, true, refl, nat_le, arith, subst, inl, sym, ap, inr, zero, suc, List, max, length, nat_lt, unwrap_or, ◌≡◌, ◌+◌, ◌/◌, ◌<◌, ◌≤◌, ◌⊎◌, ◌∷◌, ◌++◌, ◌∙◌, ℕ, ⊎_elim, []}
+use Rattle.std.proofs.lemmas.Bool.Decides.{nat_tests}
+use Rattle.std.proofs.lemmas.Int.{ints}
+use Rattle.std.specs.List.{AllByRecursion}
+use Rattle.std.specs.Prelude.{Contains, ◌≢◌, ◌&&◌, ◌==◌, ℤ, if◌then◌else◌}
+use Rattle.dvg_words.specs.Beam.{shift, InWindow, displacement, origin}
+use Rattle.dvg_words.specs.Decoding.{instruction_of, cell_holding, long_cell, cell_of_words, cell_of_format, cell_at, word_count}
+use Rattle.dvg_words.specs.Generator.{Stroke, lit_by, State, next_status, Running, places, after_call}
+use Rattle.dvg_words.specs.Memory.{Memory, InRom, word_at, IsMemory}
+use Rattle.dvg_words.specs.Values.{DrawFields, Window}
+use Rattle.dvg_words.specs.declared.beam.Point.{Point}
+use Rattle.dvg_words.specs.declared.instruction.Cell.TheVariants.{Holds}
+use Rattle.dvg_words.specs.declared.instruction.Format.{Format}
+use Rattle.dvg_words.specs.declared.instruction.Format.TheVariants.{Long, Short}
+use Rattle.dvg_words.specs.declared.instruction.Instr.{Instr}
+use Rattle.dvg_words.specs.declared.instruction.Instr.TheVariants.{Draw as Draws, Labs, Halt, Jsrl, Rtsl, Jmpl}
+use Rattle.dvg_cert.specs.Lookup.{same_key, entry_at, or_else, named_entry}
+use Rattle.dvg_cert.specs.declared.entry.End.{End}
+use Rattle.dvg_cert.specs.declared.entry.End.TheVariants.{Lost, Abs, Rel}
+use Rattle.dvg_cert.specs.declared.entry.Entry.{Entry}
+use Rattle.dvg_cert.specs.declared.entry.Key.{Key}
+use Rattle.dvg_cert.specs.declared.entry.Key.TheVariants.{Any, At}
+use Rattle.dvg_cert.specs.declared.entry.LitBox.{LitBox}
+use Rattle.dvg_cert.specs.declared.entry.LitBox.TheVariants.{Empty, Span}
+use Rattle.dvg_check.specs.Behaving.{box_at, PlaceFits, LitFits, ScaleFits, Comes, Returned, Behaves}
+use Rattle.dvg_check.specs.Items.{place_after, LeadsTo}
+use Rattle.dvg_check.specs.Known.{place_moved_by, draw_effect, Context, place_before, scale_before, target, callee, stop_effect, effect, callee_effect, callee_words, depth_under, scale_set, callee_at}
+use Rattle.dvg_check.specs.Laws.{IsDrawOrLabs, lit_on, word_of}
+use Rattle.dvg_check.specs.Lit.{InBox, LitInWindow, LitInBox, PlaceKnown, box_extent, draw_extent, ScaleKnown, extent, callee_extent}
+use Rattle.dvg_check.specs.Rules.{HasCallee}
+use Rattle.dvg_check.specs.Running.{place_past}
+use Rattle.dvg_check.specs.declared.fault.Mode.{Mode}
+use Rattle.dvg_check.specs.declared.item.Item.{Item}
+use Rattle.dvg_check.specs.declared.item.Kind.{Kind}
+use Rattle.dvg_check.specs.declared.item.Kind.TheVariants.{Frame, Shape}
+use Rattle.dvg_check.specs.declared.known.LitExtent.TheVariants.{Between}
+use Rattle.dvg_check.proofs.Runs.{counts_same, comes_less, comes_on, comes_as, deeper}
+use Rattle.dvg_check.proofs.Steps.{shift_shift, shift_origin, fits_moved, place_before-cons, own, next_there, one_item, stands}
+
+-- ---- a long instruction is a draw or a LABS
+
+abbrev IfThere : Option Instr → Type 0
+IfThere None = Unit {0}
+IfThere (Some i) = IsDrawOrLabs i
+
+long_tests : (a b z : Bool) (d : DrawFields) (x y g : ℕ) (rest : Option Instr) → (a ≡ false → b ≡ false → ⊥) → IfThere (if a then Some (Draws d) else if b then (if z then Some (Labs x y g) else None) else rest)
+long_tests true b z d x y g rest h = tt
+long_tests false true true d x y g rest h = tt
+long_tests false true false d x y g rest h = tt
+long_tests false false z d x y g rest h = absurd (h refl refl)
+
+long_by : (first second : ℕ) (i : Instr) → nat_le (first / 4096) 10 ≡ true → instruction_of first second ≡ Some i → IsDrawOrLabs i
+unfolding instruction_of
+long_by first second i l e =
+    let not_both : nat_le (first / 4096) 9 ≡ false → (first / 4096 == 10) ≡ false → ⊥ = λ p q. grind (arith, nat_tests) in
+    subst IfThere e (long_tests (nat_le (first / 4096) 9) (first / 4096 == 10) _ _ _ _ _ _ not_both)
+
+held_instruction : (format : Format) (o : Option Instr) (i : Instr) → cell_holding format o ≡ Holds format i → o ≡ Some i
+held_instruction format None i e = cc
+held_instruction format (Some j) i e = cc
+
+long_two : (first : ℕ) (o : Option ℕ) (i : Instr) → nat_le (first / 4096) 10 ≡ true → long_cell first o ≡ Holds Long i → IsDrawOrLabs i
+long_two first None i l e = cc
+long_two first (Some second) i l e = long_by first second i l (held_instruction Long _ i e)
+
+no_long : (o : Option Instr) (i : Instr) → cell_holding Short o ≡ Holds Long i → ⊥
+no_long None i e = cc
+no_long (Some j) i e = cc
+
+long_first : (a b : Option ℕ) (i : Instr) → cell_of_words a b ≡ Holds Long i → IsDrawOrLabs i
+long_first None b i e = cc
+long_first (Some first) b i e = by_test (nat_le (first / 4096) 10) refl e
+  where
+    by_test : (l : Bool) → nat_le (first / 4096) 10 ≡ l → cell_of_format (if l then Long else Short) first b ≡ Holds Long i → IsDrawOrLabs i
+    by_test true p f = long_two first b i p f
+    by_test false p f = absurd (no_long (instruction_of first 0) i f)
+
+pub long_there : (get : ℕ → Option ℕ) (p : ℕ) (i : Instr) → cell_at get p ≡ Holds Long i → IsDrawOrLabs i
+unfolding cell_at
+long_there get p i e = long_first (get p) (get (p + 1)) i e
+
+-- ---- boxes
+
+in_box_at : (box : LitBox) (base d : Point) → InBox box d → InBox (box_at box base) (shift base d)
+in_box_at Empty base d h = h
+in_box_at (Span x0 x1 y0 y1) base d h = record { left = omega (arith, ints, h.left); right = omega (arith, ints, h.right); bottom = omega (arith, ints, h.bottom); top = omega (arith, ints, h.top) }
+
+-- two points that an item extent, seen from where the beam is
+abbrev Both : (Point → Type 0) → Point → Point → Type 0
+Both P a b = P a × P b
+
+lit_points : (w : Window) (box : LitBox) (base p a b : Point) (k : End) → PlaceFits k base p → k ≢ Lost → LitInWindow w (Between a b) k → LitInBox box (Between a b) k → Both (InWindow w) (shift p a) (shift p b) ⊎ Both (InBox (box_at box base)) (shift p a) (shift p b)
+lit_points w box base p a b (Abs x y) h n shown boxed = inl (subst (λ r. Both (InWindow w) (shift r a) (shift r b)) (sym h) shown)
+lit_points w box base p a b (Rel x y) h n shown boxed =
+    let d : Point = record { x = x; y = y } in
+    let at : (c : Point) → InBox box (shift d c) → InBox (box_at box base) (shift p c) =
+    λ c i. subst (InBox (box_at box base)) (sym (ap (λ r. shift r c) h ∙ shift_shift base d c)) (in_box_at box base (shift d c) i)
+    in
+    inr (at a boxed.0, at b boxed.1)
+lit_points w box base p a b Lost h n shown boxed = absurd (n refl)
+
+-- a point in a box is where both corners are
+window_of_corners : (w : Window) (p v : Point) (x0 x1 y0 y1 : ℤ) → Both (InWindow w) (shift p (record { x = x0; y = y0 })) (shift p (record { x = x1; y = y1 })) → InBox (box_at (Span x0 x1 y0 y1) p) v → InWindow w v
+window_of_corners w p v x0 x1 y0 y1 c h =
+    record {
+      left = omega (arith, ints, c.0.left, h.left);
+      right = omega (arith, ints, c.1.right, h.right);
+      bottom = omega (arith, ints, c.0.bottom, h.bottom);
+      top = omega (arith, ints, c.1.top, h.top);
+    }
+
+box_of_corners : (box : LitBox) (p v : Point) (x0 x1 y0 y1 : ℤ) → Both (InBox box) (shift p (record { x = x0; y = y0 })) (shift p (record { x = x1; y = y1 })) → InBox (box_at (Span x0 x1 y0 y1) p) v → InBox box v
+box_of_corners Empty p v x0 x1 y0 y1 c h = c.0
+box_of_corners (Span a b d e) p v x0 x1 y0 y1 c h =
+    record { left = omega (arith, ints, c.0.left, h.left); right = omega (arith, ints, c.1.right, h.right); bottom = omega (arith, ints, c.0.bottom, h.bottom); top = omega (arith, ints, c.1.top, h.top) }
+
+-- what a after_call shape may light, the caller may
+allowed_up : (w : Window) (inner box : LitBox) (base p : Point) (k : End) → PlaceFits k base p → PlaceKnown (box_extent inner) k → LitInWindow w (box_extent inner) k → LitInBox box (box_extent inner) k → (stroke : Stroke) → LitFits w inner p stroke → LitFits w box base stroke
+allowed_up w inner box base p k h known shown boxed stroke (inl on) = inl on
+allowed_up w Empty box base p k h known shown boxed stroke (inr on) = absurd on.0
+allowed_up w (Span x0 x1 y0 y1) box base p k h known shown boxed stroke (inr on) =
+    ⊎_elim
+    (λ c. inl (window_of_corners w p stroke.from x0 x1 y0 y1 c on.0, window_of_corners w p stroke.to x0 x1 y0 y1 c on.1))
+    (λ c. inr (box_of_corners (box_at box base) p stroke.from x0 x1 y0 y1 c on.0, box_of_corners (box_at box base) p stroke.to x0 x1 y0 y1 c on.1))
+    (lit_points w box base p _ _ k h known shown boxed)
+
+-- what a draw extent
+fits_apart : (base p q d : Point) (k : End) → k ≢ Lost → PlaceFits k base p → PlaceFits (place_moved_by k d) base q → q ≡ shift p d
+fits_apart base p q d (Rel x y) n h g = g ∙ sym (shift_shift base (record { x = x; y = y }) d) ∙ ap (λ v. shift v d) (sym h)
+fits_apart base p q d (Abs x y) n h g = g ∙ ap (λ v. shift v d) (sym h)
+fits_apart base p q d Lost n h g = absurd (n refl)
+
+lit_draw : (w : Window) (box : LitBox) (base p q : Point) (bright : ℕ) (d : DrawFields) (k : End) (sc : Key) → PlaceFits k base p → PlaceFits (place_past (draw_effect d sc) k) base q → PlaceKnown (draw_extent bright d sc) k → ScaleKnown (draw_extent bright d sc) → LitInWindow w (draw_extent bright d sc) k → LitInBox box (draw_extent bright d sc) k → AllByRecursion (LitFits w box base) (lit_by bright (record { from = p; to = q }))
+lit_draw w box base p q zero d k sc h g known scale shown boxed = tt
+lit_draw w box base p q (suc bright) d k Any h g known scale shown boxed = absurd scale
+lit_draw w box base p q (suc bright) d k (At x) h g known scale shown boxed =
+    let there = fits_apart base p q (displacement d x) k known h g in
+    let here = shift_origin p in (
+      ⊎_elim
+          (λ c. inl (subst (InWindow w) here c.0, subst (InWindow w) (sym there) c.1))
+          (λ c. inr (subst (InBox (box_at box base)) here c.0, subst (InBox (box_at box base)) (sym there) c.1))
+          (lit_points w box base p origin (displacement d x) k h known shown boxed),
+      tt,
+    )
+
+-- ---- the entry that is named
+
+pub record Named (list : List Entry) (to : ℕ) (scale : Key) (f : Entry) : Type 0 where
+  pub listed : Contains list f
+  pub addr : f.addr ≡ to
+  pub key : (g : ℕ) → ScaleFits scale g → ScaleFits f.key g
+
+same_key_is : (a b : Key) → same_key a b ≡ true → a ≡ b
+same_key_is (At a) (At b) e = let n : a ≡ b = grind (arith, nat_tests) in ap At n
+same_key_is (At a) Any e = cc
+same_key_is Any (At b) e = cc
+same_key_is Any Any e = refl
+
+record Listed (list : List Entry) (addr : ℕ) (key : Key) (f : Entry) : Type 0 where
+  listed : Contains list f
+  addr_is : f.addr ≡ addr
+  key_is : f.key ≡ key
+
+find_is : (list : List Entry) (addr : ℕ) (key : Key) (f : Entry) → entry_at list addr key ≡ Some f → Listed list addr key f
+find_is [] addr key f e = cc
+find_is (x ∷ list) addr key f e = by_tests (addr == x.addr) (same_key key x.key) refl refl e (λ g. find_is list addr key f g)
+  where
+    later : Listed list addr key f → Listed (x ∷ list) addr key f
+    later l = record { listed = (suc l.listed.0, omega (arith, l.listed.1), l.listed.2); addr_is = l.addr_is; key_is = l.key_is }
+
+    by_tests : (a b : Bool) → (addr == x.addr) ≡ a → same_key key x.key ≡ b → (if a && b then Some x else entry_at list addr key) ≡ Some f → (entry_at list addr key ≡ Some f → Listed list addr key f) → Listed (x ∷ list) addr key f
+    by_tests true true p q g more =
+        let same : x ≡ f = cc in
+        let at : x.addr ≡ addr = grind (arith, nat_tests) in
+        record { listed = (0, omega arith, same); addr_is = ap (λ (y : Entry). y.addr) (sym same) ∙ at; key_is = ap (λ (y : Entry). y.key) (sym same) ∙ sym (same_key_is key x.key q) }
+    by_tests true false p q g more = later (more g)
+    by_tests false b p q g more = later (more g)
+
+any_fits : (list : List Entry) (to : ℕ) (scale : Key) (f : Entry) → entry_at list to Any ≡ Some f → Named list to scale f
+any_fits list to scale f e =
+    let l = find_is list to Any f e in
+    record { listed = l.listed; addr = l.addr_is; key = λ g a. subst (λ k. ScaleFits k g) (sym l.key_is) tt }
+
+first_fits : (list : List Entry) (to : ℕ) (scale : Key) (o : Option Entry) (f : Entry) → entry_at list to scale ≡ o → or_else o (entry_at list to Any) ≡ Some f → Named list to scale f
+first_fits list to scale None f e h = any_fits list to scale f h
+first_fits list to scale (Some x) f e h =
+    let l = find_is list to scale f (e ∙ h) in
+    record { listed = l.listed; addr = l.addr_is; key = λ s a. subst (λ k. ScaleFits k s) (sym l.key_is) a }
+
+pub named_is : (list : List Entry) (to : ℕ) (scale : Key) (f : Entry) → named_entry list to scale ≡ Some f → Named list to scale f
+named_is list to scale f e = first_fits list to scale (entry_at list to scale) f refl e
+
+-- ---- one step as a stretch of a run
+
+pub one_step : (mode : Mode) (m : Memory) (F : ℕ → Type 0) (P : Stroke → Type 0) (deep : ℕ) (format : Format) (p : ℕ) (s t : State) (new : List Stroke) → next_status m s ≡ Running t → t.fetched ≡ places format p ++ s.fetched → AllByRecursion F (places format p) → t.strokes ≡ new ++ s.strokes → AllByRecursion P new → t.max_stack ≡ max s.max_stack deep → Comes mode m F P (word_count format) deep s t
+one_step mode m F P deep Long p s t new step fetched mapped drew lit stored =
+    record { steps = 1; reached = (Running t, step, refl); within = omega arith; words = places Long p; fetched = fetched; few = counts_same mode 2 2 refl; mapped = mapped; strokes = new; drew = drew; lit = lit; stored = counts_same mode t.max_stack (max s.max_stack deep) stored }
+one_step mode m F P deep Short p s t new step fetched mapped drew lit stored =
+    record { steps = 1; reached = (Running t, step, refl); within = omega arith; words = places Short p; fetched = fetched; few = counts_same mode 1 1 refl; mapped = mapped; strokes = new; drew = drew; lit = lit; stored = counts_same mode t.max_stack (max s.max_stack deep) stored }
+
+-- ---- where a walk stands
+
+-- a state at a place, which agrees with what is known before it
+pub record Stands (c : Context) (base : Point) (rs : List ℕ) (earlier : List Item) (p : ℕ) (s : State) : Type 0 where
+  pub pc : s.pc ≡ p
+  pub return_stack : s.return_stack ≡ rs
+  pub room : length rs ≤ s.max_stack
+  pub place : PlaceFits (place_before c earlier) base s.place
+  pub scale : ScaleFits (scale_before c earlier) s.scale
+
+-- what the rules say of an item that is there
+pub record Fits (w : Window) (c : Context) (box : LitBox) (earlier : List Item) (instr : Instr) : Type 0 where
+  pub known : PlaceKnown (extent c earlier instr) (place_before c earlier)
+  pub scale_known : ScaleKnown (extent c earlier instr)
+  pub shown : LitInWindow w (extent c earlier instr) (place_before c earlier)
+  pub boxed : LitInBox box (extent c earlier instr) (place_before c earlier)
+  pub named : HasCallee (target c.kind instr) (callee c earlier instr)
+
+-- what a call or tail jump leaves
+place_returned : (base p q : Point) (k : End) (stop : End) → PlaceFits k base p → PlaceFits stop p q → PlaceFits (place_past (stop_effect stop) k) base q
+place_returned base p q k (Rel x y) h f = subst (PlaceFits (place_moved_by k (record { x = x; y = y })) base) (sym f) (fits_moved base p (record { x = x; y = y }) k h)
+place_returned base p q k (Abs x y) h f = f
+place_returned base p q k Lost h f = tt
+
+-- a state before a call of f, or a tail jump to it
+pub record Called (w : Window) (box : LitBox) (base : Point) (k : End) (f : Entry) (p : Point) : Type 0 where
+  pub agrees : PlaceFits k base p
+  pub known : PlaceKnown (box_extent f.lit) k
+  pub shown : LitInWindow w (box_extent f.lit) k
+  pub boxed : LitInBox box (box_extent f.lit) k
+
+-- there is room for one more return place
+room : (n : ℕ) → n < 4 → (to : ℕ) (s : State) → after_call (nat_lt n 4) to s ≡ Running (record s { pc = to; return_stack = (s.pc + 1) ∷ s.return_stack; max_stack = max s.max_stack (length s.return_stack + 1) })
+room n lt to s = let t : nat_lt n 4 ≡ true = grind (arith, nat_tests) in ap (λ b. after_call b to s) t
+
+lit_item : (w : Window) (c : Context) (box : LitBox) (earlier : List Item) (instr : Instr) (base p q : Point) → IsDrawOrLabs instr → Fits w c box earlier instr → PlaceFits (place_before c earlier) base p → PlaceFits (place_past (effect c earlier instr) (place_before c earlier)) base q → AllByRecursion (LitFits w box base) (lit_on instr p q)
+lit_item w c box earlier (Draws d) base p q kind f h g = lit_draw w box base p q d.bright d (place_before c earlier) (scale_before c earlier) h g f.known f.scale_known f.shown f.boxed
+lit_item w c box earlier (Labs x y g) base p q kind f h g' = tt
+lit_item w c box earlier Halt base p q kind f h g = tt
+lit_item w c box earlier (Jsrl to) base p q kind f h g = tt
+lit_item w c box earlier Rtsl base p q kind f h g = tt
+lit_item w c box earlier (Jmpl to) base p q kind f h g = tt
+
+stands_at : (c : Context) (base : Point) (rs : List ℕ) (earlier : List Item) (p q : ℕ) (s : State) → p ≡ q → Stands c base rs earlier p s → Stands c base rs earlier q s
+stands_at c base rs earlier p q s e st = record { pc = st.pc ∙ e; return_stack = st.return_stack; room = st.room; place = st.place; scale = st.scale }
+
+-- where an item callee an entry
+pub called_by : (w : Window) (c : Context) (box : LitBox) (base : Point) (earlier : List Item) (instr : Instr) (f : Entry) (p : Point) → callee c earlier instr ≡ Some f → extent c earlier instr ≡ callee_extent (callee c earlier instr) → Fits w c box earlier instr → PlaceFits (place_before c earlier) base p → Called w box base (place_before c earlier) f p
+called_by w c box base earlier instr f p is same fits agrees =
+    let l : extent c earlier instr ≡ box_extent f.lit = same ∙ ap callee_extent is in
+    record {
+      agrees = agrees;
+      known = subst (λ x. PlaceKnown x (place_before c earlier)) l fits.known;
+      shown = subst (λ x. LitInWindow w x (place_before c earlier)) l fits.shown;
+      boxed = subst (λ x. LitInBox box x (place_before c earlier)) l fits.boxed;
+    }
+
+-- what is known after an item that callee an entry
+pub after_entry : (c : Context) (base : Point) (earlier : List Item) (i : Item) (o : Option Entry) (f : Entry) (p q : Point) (scale : ℕ) → o ≡ Some f → effect c earlier i.instr ≡ callee_effect o → PlaceFits (place_before c earlier) base p → PlaceFits f.stop p q → PlaceFits (place_before c (i ∷ earlier)) base q
+after_entry c base earlier i o f p q scale is same agrees fits =
+    let e : place_before c (i ∷ earlier) ≡ place_past (stop_effect f.stop) (place_before c earlier) = place_before-cons c earlier i ∙ ap (λ x. place_past x (place_before c earlier)) (same ∙ ap callee_effect is) in
+    subst (λ k. PlaceFits k base q) (sym e) (place_returned base p q (place_before c earlier) f.stop agrees fits)
+
+record Jumps (kind : Kind) (to p : ℕ) : Type 0 where
+  frame : kind ≡ Frame
+  there : to ≡ p
+
+jumps : (kind : Kind) (at : ℕ) (format : Format) (to p : ℕ) → place_after kind at format (Jmpl to) ≡ Some p → Jumps kind to p
+jumps Shape at format to p e = cc
+jumps Frame at format to p e = by_test (nat_lt at to) e
+  where
+    by_test : (b : Bool) → (if b then Some to else None) ≡ Some p → Jumps Frame to p
+    by_test true f = record { frame = refl; there = cc }
+    by_test false f = cc
+
+pub fits_still : (base p : Point) (k : End) → PlaceFits k base p → PlaceFits (place_moved_by k origin) base p
+fits_still base p k h = subst (PlaceFits (place_moved_by k origin) base) (shift_origin p) (fits_moved base p origin k h)
+
+module _ (mode : Mode) (m : Memory) (w : Window) (box : LitBox) (base : Point) (Ok : ℕ → Type 0) (rom_ok : (p : ℕ) → InRom m.rom.map p → Ok p) where
+  abbrev pub Lit : Stroke → Type 0
+  Lit = LitFits w box base
+
+  -- what the called shape does, as a stretch of the caller's run
+  pub within_caller : (k : End) (f : Entry) (back : ℕ) (rest : List ℕ) (s t : State) → Called w box base k f s.place → Returned mode m w f back rest s t → Comes mode m Ok Lit f.words (length s.return_stack + f.depth) s t
+  within_caller k f back rest s t c r =
+      comes_less mode m (InRom m.rom.map) Ok (LitFits w f.lit s.place) Lit f.words (length s.return_stack + f.depth) s t rom_ok (allowed_up w f.lit box base s.place k c.agrees c.known c.shown c.boxed) r.comes
+
+  -- a call and the shape that it calls
+  pub over_call : (k : End) (f : Entry) (at to : ℕ) (s : State) → cell_at (word_at m) at ≡ Holds Short (Jsrl to) → s.pc ≡ at → AllByRecursion Ok (places Short at) → Called w box base k f s.place → f.addr ≡ to → ScaleFits f.key s.scale → length s.return_stack ≤ s.max_stack → length s.return_stack + (1 + f.depth) ≤ 4 → Behaves mode m w f
+      → (t : State) × Comes mode m Ok Lit (1 + f.words) (length s.return_stack + (1 + f.depth)) s t × (t.pc ≡ at + 1) × (t.return_stack ≡ s.return_stack) × PlaceFits f.stop s.place t.place × ScaleFits f.scale t.scale
+  over_call k f at to s e pc own c addr key held fits behaves =
+      let s1 : State = record s { fetched = places Short s.pc ++ s.fetched } in
+      let s2 : State = record s1 { pc = to; return_stack = (s.pc + 1) ∷ s.return_stack; max_stack = max s.max_stack (length s.return_stack + 1) } in
+      let step : next_status m s ≡ Running s2 = next_there m s Short (Jsrl to) (ap (cell_at (word_at m)) pc ∙ e) ∙ room (length s.return_stack) (omega arith) to s1 in
+      let one : Comes mode m Ok Lit (word_count Short) (length s.return_stack + 1) s s2 = one_step mode m Ok Lit (length s.return_stack + 1) Short at s s2 [] step (ap (λ p. places Short p ++ s.fetched) pc) own refl tt refl in
+      let r = behaves s2 (s.pc + 1) s.return_stack (omega arith) (sym addr) key refl (omega arith) in
+      let rest : Comes mode m Ok Lit f.words (length s2.return_stack + f.depth) s2 r.0 = within_caller k f (s.pc + 1) s.return_stack s2 r.0 c r.1 in
+      (r.0, comes_on mode m Ok Lit (word_count Short) f.words (1 + f.words) (length s.return_stack + 1) (length s2.return_stack + f.depth) _ s s2 r.0 (counts_same mode _ _ refl) (counts_same mode _ _ (omega arith)) one rest, r.1.pc ∙ ap (λ p. p + 1) pc, r.1.return_stack, r.1.place, r.1.scale)
+
+  -- a draw or a LABS
+  over_plain : (c : Context) (first : ℕ) (earlier : List Item) (i : Item) (rs : List ℕ) (s : State) → IsMemory m → AllByRecursion Ok (places i.format i.at) → LeadsTo c.kind (word_of c.kind m) first earlier i.at → cell_at (word_of c.kind m) i.at ≡ Holds i.format i.instr → IsDrawOrLabs i.instr → Fits w c box earlier i.instr → Stands c base rs earlier i.at s
+      → (t : State) × Comes mode m Ok Lit (word_count i.format) (length rs) s t × Stands c base rs (i ∷ earlier) (i.at + word_count i.format) t
+  over_plain c first earlier i rs s mem own lead e kind fits st =
+      let r = one_item m c first earlier i base s mem lead e kind st.pc st.place st.scale in
+      let q = r.1 in (
+        r.0,
+        one_step mode m Ok Lit (length rs) i.format i.at s r.0 (lit_on i.instr s.place r.0.place) q.step q.fetched own q.strokes (lit_item w c box earlier i.instr base s.place r.0.place kind fits st.place (subst (λ k. PlaceFits k base r.0.place) (place_before-cons c earlier i) q.place)) (omega (arith, q.max_stack, st.room)),
+        record { pc = q.pc; return_stack = q.return_stack ∙ st.return_stack; room = omega (arith, q.max_stack, st.room); place = q.place; scale = q.scale_is },
+      )
+
+  -- the result for any item but the last
+  abbrev pub Onward : Context → List Item → Item → ℕ → List ℕ → State → Type 0
+  Onward c earlier i p rs s =
+      (t : State) × Comes mode m Ok Lit (word_count i.format + callee_words (callee c earlier i.instr)) (length rs + depth_under i.instr (callee c earlier i.instr)) s t × Stands c base rs (i ∷ earlier) p t
+
+  plain_onward : (c : Context) (first : ℕ) (earlier : List Item) (i : Item) (p : ℕ) (rs : List ℕ) (s : State) → callee c earlier i.instr ≡ None → IsMemory m → AllByRecursion Ok (places i.format i.at) → LeadsTo c.kind (word_of c.kind m) first earlier i.at → cell_at (word_of c.kind m) i.at ≡ Holds i.format i.instr → IsDrawOrLabs i.instr → Fits w c box earlier i.instr → i.at + word_count i.format ≡ p → Stands c base rs earlier i.at s → Onward c earlier i p rs s
+  plain_onward c first earlier i p rs s none mem own lead e kind fits goes st =
+      let r = over_plain c first earlier i rs s mem own lead e kind fits st in
+      let no_words : callee_words (callee c earlier i.instr) ≡ 0 = ap callee_words none in
+      let no_need : depth_under i.instr (callee c earlier i.instr) ≡ 0 = ap (depth_under i.instr) none in
+      (r.0, comes_as mode m Ok Lit (word_count i.format) _ (length rs) _ s r.0 (omega arith) (omega arith) r.1, stands_at c base rs (i ∷ earlier) (i.at + word_count i.format) p r.0 goes r.2)
+
+  call_onward : (c : Context) (earlier : List Item) (at to p : ℕ) (f : Entry) (rs : List ℕ) (s : State) → callee c earlier (Jsrl to) ≡ Some f → cell_at (word_at m) at ≡ Holds Short (Jsrl to) → at + 1 ≡ p → AllByRecursion Ok (places Short at) → Fits w c box earlier (Jsrl to) → length rs + depth_under (Jsrl to) (callee c earlier (Jsrl to)) ≤ 4 → Behaves mode m w f → Stands c base rs earlier at s → Onward c earlier (record { at = at; format = Short; instr = Jsrl to }) p rs s
+  call_onward c earlier at to p f rs s is e goes own fits le behaves st =
+      let n = named_is c.list to (scale_before c earlier) f is in
+      let need : depth_under (Jsrl to) (callee c earlier (Jsrl to)) ≡ 1 + f.depth = ap (depth_under (Jsrl to)) is in
+      let same : length s.return_stack ≡ length rs = ap length st.return_stack in
+      let call = called_by w c box base earlier (Jsrl to) f s.place is refl fits st.place in
+      let r = over_call (place_before c earlier) f at to s e st.pc own call n.addr (n.key s.scale st.scale) (omega (arith, st.room)) (omega arith) behaves in
+      let i : Item = record { at = at; format = Short; instr = Jsrl to } in (
+        r.0,
+        comes_as mode m Ok Lit (1 + f.words) _ (length s.return_stack + (1 + f.depth)) _ s r.0 (omega (arith, ap callee_words is)) (omega arith) r.1,
+        record {
+          pc = r.2 ∙ goes;
+          return_stack = r.3 ∙ st.return_stack;
+          room = omega (arith, st.room, deeper mode m Ok Lit _ _ s r.0 r.1);
+          place = after_entry c base earlier i (callee c earlier (Jsrl to)) f s.place r.0.place r.0.scale is refl st.place r.4;
+          scale = subst (λ o. ScaleFits (unwrap_or (scale_set (Jsrl to) o) (scale_before c earlier)) r.0.scale) (sym is) r.5;
+        },
+      )
+
+  jump_onward : (c : Context) (earlier : List Item) (at to p : ℕ) (format : Format) (rs : List ℕ) (s : State) → callee c earlier (Jmpl to) ≡ None → cell_at (word_at m) at ≡ Holds format (Jmpl to) → to ≡ p → AllByRecursion Ok (places format at) → Stands c base rs earlier at s → Onward c earlier (record { at = at; format = format; instr = Jmpl to }) p rs s
+  jump_onward c earlier at to p format rs s is e goes own st =
+      let t : State = record s { pc = to; fetched = places format s.pc ++ s.fetched } in
+      let step : next_status m s ≡ Running t = next_there m s format (Jmpl to) (ap (cell_at (word_at m)) st.pc ∙ e) in
+      let one = one_step mode m Ok Lit (length rs) format at s t [] step (ap (λ q. places format q ++ s.fetched) st.pc) own refl tt (omega (arith, st.room)) in
+      let i : Item = record { at = at; format = format; instr = Jmpl to } in
+      let known : place_before c (i ∷ earlier) ≡ place_moved_by (place_before c earlier) origin = place_before-cons c earlier i ∙ ap (λ o. place_past (callee_effect o) (place_before c earlier)) is in (
+        t,
+        comes_as mode m Ok Lit (word_count format) _ (length rs) _ s t (omega (arith, ap callee_words is)) (omega (arith, ap (depth_under (Jmpl to)) is)) one,
+        record {
+          pc = goes;
+          return_stack = st.return_stack;
+          room = st.room;
+          place = subst (λ k. PlaceFits k base s.place) (sym known) (fits_still base s.place (place_before c earlier) st.place);
+          scale = subst (λ o. ScaleFits (unwrap_or (scale_set (Jmpl to) o) (scale_before c earlier)) s.scale) (sym is) st.scale;
+        },
+      )
+
+  -- any item but the last
+  pub over_item : (c : Context) (first : ℕ) (earlier : List Item) (at : ℕ) (format : Format) (instr : Instr) (p : ℕ) (rs : List ℕ) (s : State) → IsMemory m → AllByRecursion Ok (places format at) → LeadsTo c.kind (word_of c.kind m) first earlier at → cell_at (word_of c.kind m) at ≡ Holds format instr → place_after c.kind at format instr ≡ Some p → Fits w c box earlier instr → length rs + depth_under instr (callee c earlier instr) ≤ 4 → ((f : Entry) → callee c earlier instr ≡ Some f → Behaves mode m w f) → Stands c base rs earlier at s → Onward c earlier (record { at = at; format = format; instr = instr }) p rs s
+  over_item c first earlier at format (Draws d) p rs s mem own lead e goes fits le calls st = plain_onward c first earlier (record { at = at; format = format; instr = Draws d }) p rs s refl mem own lead e tt fits (cc) st
+  over_item c first earlier at format (Labs x y g) p rs s mem own lead e goes fits le calls st = plain_onward c first earlier (record { at = at; format = format; instr = Labs x y g }) p rs s refl mem own lead e tt fits (cc) st
+  over_item c first earlier at format Halt p rs s mem own lead e goes fits le calls st = cc
+  over_item c first earlier at Long (Jsrl to) p rs s mem own lead e goes fits le calls st = absurd (long_there (word_of c.kind m) at (Jsrl to) e)
+  over_item c first earlier at Short (Jsrl to) p rs s mem own lead e goes fits le calls st = by_name (callee c earlier (Jsrl to)) refl
+    where
+      by_name : (o : Option Entry) → callee c earlier (Jsrl to) ≡ o → Onward c earlier (record { at = at; format = Short; instr = Jsrl to }) p rs s
+      by_name None is = absurd (subst (HasCallee (Some to)) is fits.named)
+      by_name (Some f) is = call_onward c earlier at to p f rs s is (stands c.kind m at Short (Jsrl to) mem e) (cc) own fits le (calls f is) st
+  over_item c first earlier at format Rtsl p rs s mem own lead e goes fits le calls st = cc
+  over_item c first earlier at format (Jmpl to) p rs s mem own lead e goes fits le calls st =
+      let j = jumps c.kind at format to p goes in
+      jump_onward c earlier at to p format rs s (ap (λ x. callee_at c.list (target x (Jmpl to)) (scale_before c earlier)) j.frame) (stands c.kind m at format (Jmpl to) mem e) j.there own st

@@ -1,0 +1,178 @@
+-- Runs: they go on, they are determined, and what is recorded only grows.
+use Rattle.std.proofs.Common.{List, zero, arith, subst, sym, suc, ap, append_assoc, refl, Bool, true, false, nat_lt, length, max, length-append, ◌≡◌, ◌+◌, ◌≤◌, ◌∷◌, ◌++◌, ◌∙◌, ℕ, []}
+use Rattle.std.specs.List.{AllByRecursion}
+use Rattle.dvg_words.specs.Decoding.{cell_at}
+use Rattle.dvg_words.specs.Generator.{Status, Reached, Step, Running, Halted, Fault, State, Stroke, after_call, after_return, after_instruction, lit_by, after_cell, next_status, after_fetch, fetches}
+use Rattle.dvg_words.specs.Memory.{Memory, word_at}
+use Rattle.dvg_words.specs.declared.instruction.Cell.{Cell}
+use Rattle.dvg_words.specs.declared.instruction.Cell.TheVariants.{Missing, Odd, Holds}
+use Rattle.dvg_words.specs.declared.instruction.Format.{Format}
+use Rattle.dvg_words.specs.declared.instruction.Instr.{Instr}
+use Rattle.dvg_words.specs.declared.instruction.Instr.TheVariants.{Draw as Draws, Labs, Halt, Jsrl, Rtsl, Jmpl}
+use Rattle.dvg_check.specs.Behaving.{Counts, Comes}
+use Rattle.dvg_check.specs.declared.fault.Mode.{Mode}
+use Rattle.dvg_check.specs.declared.fault.Mode.TheVariants.{Bounds, Exactly}
+
+-- ---- lists
+
+pub AllByRecursion-append : {A : Type 0} (P : A → Type 0) (xs ys : List A) → AllByRecursion P xs → AllByRecursion P ys → AllByRecursion P (xs ++ ys)
+AllByRecursion-append P [] ys a b = b
+AllByRecursion-append P (x ∷ xs) ys a b = (a.0, AllByRecursion-append P xs ys a.1 b)
+
+pub AllByRecursion-back : {A : Type 0} (P : A → Type 0) (xs ys : List A) → AllByRecursion P (xs ++ ys) → AllByRecursion P ys
+AllByRecursion-back P [] ys a = a
+AllByRecursion-back P (x ∷ xs) ys a = AllByRecursion-back P xs ys a.1
+
+pub AllByRecursion-map : {A : Type 0} (P Q : A → Type 0) (xs : List A) → ((x : A) → P x → Q x) → AllByRecursion P xs → AllByRecursion Q xs
+AllByRecursion-map P Q [] h a = tt
+AllByRecursion-map P Q (x ∷ xs) h a = (h x a.0, AllByRecursion-map P Q xs h a.1)
+
+-- ---- runs
+
+pub reached_on : (m : Memory) (i j : ℕ) (a b c : Status) → Reached m i a b → Reached m j b c → Reached m (i + j) a c
+reached_on m zero j a b c r q =
+    let e : j ≡ 0 + j = omega arith in
+    subst (λ n. Reached m n a c) e (subst (λ x. Reached m j x c) (sym r) q)
+reached_on m (suc i) j a b c r q =
+    let e : suc (i + j) ≡ suc i + j = omega arith in
+    let on : Reached m (suc (i + j)) a c = (r.0, r.1, reached_on m i j r.0 b c r.2 q) in
+    subst (λ n. Reached m n a c) e on
+
+same_step : (m : Memory) (a b c : Status) → Step m a b → Step m a c → b ≡ c
+same_step m (Running s) b c p q = sym p ∙ q
+same_step m (Halted s) b c p q = absurd p
+same_step m (Fault s) b c p q = absurd p
+
+-- a state that a run to a halt passes leads to that halt
+pub rest_of : (m : Memory) (i k : ℕ) (a b : Status) (h : State) → Reached m i a b → Reached m k a (Halted h) → (j : ℕ) × (i + j ≡ k) × Reached m j b (Halted h)
+rest_of m zero k a b h r q = let e : 0 + k ≡ k = omega arith in (k, e, subst (λ x. Reached m k x (Halted h)) r q)
+rest_of m (suc i) zero a b h r q = absurd (subst (λ x. Step m x r.0) q r.1)
+rest_of m (suc i) (suc k) a b h r q =
+    let same = same_step m a q.0 r.0 q.1 r.1 in
+    let on = rest_of m i k r.0 b h r.2 (subst (λ x. Reached m k x (Halted h)) same q.2) in
+    (on.0, omega (arith, on.1), on.2)
+
+-- ---- what is recorded
+
+abbrev pub state_of : Status → State
+state_of (Running s) = s
+state_of (Halted s) = s
+state_of (Fault s) = s
+
+pub record Grows (s t : State) : Type 0 where
+  pub words : List ℕ
+  pub fetched : t.fetched ≡ words ++ s.fetched
+  pub strokes : List Stroke
+  pub drew : t.strokes ≡ strokes ++ s.strokes
+  pub stored : s.max_stack ≤ t.max_stack
+
+grows_on : (s t u : State) → Grows s t → Grows t u → Grows s u
+grows_on s t u a b =
+    record {
+      words = b.words ++ a.words;
+      fetched = b.fetched ∙ ap (λ l. b.words ++ l) a.fetched ∙ sym (append_assoc b.words a.words s.fetched);
+      strokes = b.strokes ++ a.strokes;
+      drew = b.drew ∙ ap (λ l. b.strokes ++ l) a.drew ∙ sym (append_assoc b.strokes a.strokes s.strokes);
+      stored = omega (arith, a.stored, b.stored);
+    }
+
+stays : (s : State) → Grows s s
+stays s = record { words = []; fetched = refl; strokes = []; drew = refl; stored = omega arith }
+
+grows_call : (room : Bool) (to : ℕ) (s : State) → Grows s (state_of (after_call room to s))
+grows_call true to s = record { words = []; fetched = refl; strokes = []; drew = refl; stored = omega arith }
+grows_call false to s = stays s
+
+grows_back : (rs : List ℕ) (s : State) → Grows s (state_of (after_return rs s))
+grows_back [] s = stays s
+grows_back (r ∷ rs) s = record { words = []; fetched = refl; strokes = []; drew = refl; stored = omega arith }
+
+grows_perform : (i : Instr) (format : Format) (s : State) → Grows s (state_of (after_instruction i format s))
+grows_perform (Draws d) format s = record { words = []; fetched = refl; strokes = lit_by d.bright _; drew = refl; stored = omega arith }
+grows_perform (Labs x y g) format s = record { words = []; fetched = refl; strokes = []; drew = refl; stored = omega arith }
+grows_perform Halt format s = stays s
+grows_perform (Jsrl to) format s = grows_call (nat_lt (length s.return_stack) 4) to s
+grows_perform Rtsl format s = grows_back s.return_stack s
+grows_perform (Jmpl to) format s = record { words = []; fetched = refl; strokes = []; drew = refl; stored = omega arith }
+
+grows_act : (f : Cell) (s : State) → Grows s (state_of (after_cell f s))
+grows_act Missing s = stays s
+grows_act Odd s = stays s
+grows_act (Holds format i) s = grows_perform i format s
+
+grows_next : (m : Memory) (s : State) → Grows s (state_of (next_status m s))
+unfolding next_status
+grows_next m s =
+    let f : Grows s (after_fetch m s) = record { words = fetches (word_at m s.pc) s.pc; fetched = refl; strokes = []; drew = refl; stored = omega arith } in
+    grows_on s (after_fetch m s) _ f (grows_act (cell_at (word_at m) s.pc) (after_fetch m s))
+
+grows_step : (m : Memory) (a b : Status) → Step m a b → Grows (state_of a) (state_of b)
+grows_step m (Running s) b p = subst (λ x. Grows s (state_of x)) p (grows_next m s)
+grows_step m (Halted s) b p = absurd p
+grows_step m (Fault s) b p = absurd p
+
+pub grows : (m : Memory) (n : ℕ) (a b : Status) → Reached m n a b → Grows (state_of a) (state_of b)
+grows m zero a b r = subst (λ x. Grows (state_of a) (state_of x)) r (stays (state_of a))
+grows m (suc n) a b r = grows_on (state_of a) (state_of r.0) (state_of b) (grows_step m a r.0 r.1) (grows m n r.0 b r.2)
+
+-- ---- stretches of a run
+
+pub counts_same : (mode : Mode) (a b : ℕ) → a ≡ b → Counts mode a b
+counts_same Bounds a b e = omega (arith, e)
+counts_same Exactly a b e = e
+
+pub counts_le : (mode : Mode) (a b : ℕ) → Counts mode a b → a ≤ b
+counts_le Bounds a b h = h
+counts_le Exactly a b h = omega (arith, h)
+
+pub counts_sum : (mode : Mode) (x y z a b c : ℕ) → x + y ≡ z → Counts mode x a → Counts mode y b → Counts mode (a + b) c → Counts mode z c
+counts_sum Bounds x y z a b c e h k l = omega (arith, e, h, k, l)
+counts_sum Exactly x y z a b c e h k l = omega (arith, e, h, k, l)
+
+pub counts_max : (mode : Mode) (s t u a b c : ℕ) → Counts mode t (max s a) → Counts mode u (max t b) → Counts mode (max a b) c → Counts mode u (max s c)
+counts_max Bounds s t u a b c h k l = omega (arith, h, k, l)
+counts_max Exactly s t u a b c h k l = omega (arith, h, k, l)
+
+pub comes_on : (mode : Mode) (m : Memory) (F : ℕ → Type 0) (P : Stroke → Type 0) (a b c d1 d2 d : ℕ) (s t u : State) → Counts mode (a + b) c → Counts mode (max d1 d2) d → Comes mode m F P a d1 s t → Comes mode m F P b d2 t u → Comes mode m F P c d s u
+comes_on mode m F P a b c d1 d2 d s t u le deep p q =
+    record {
+      steps = p.steps + q.steps;
+      reached = reached_on m p.steps q.steps (Running s) (Running t) (Running u) p.reached q.reached;
+      within = omega (arith, p.within, q.within, counts_le mode (a + b) c le);
+      words = q.words ++ p.words;
+      fetched = q.fetched ∙ ap (λ l. q.words ++ l) p.fetched ∙ sym (append_assoc q.words p.words s.fetched);
+      few = counts_sum mode (length p.words) (length q.words) (length (q.words ++ p.words)) a b c (omega (arith, length-append q.words p.words)) p.few q.few le;
+      mapped = AllByRecursion-append F q.words p.words q.mapped p.mapped;
+      strokes = q.strokes ++ p.strokes;
+      drew = q.drew ∙ ap (λ l. q.strokes ++ l) p.drew ∙ sym (append_assoc q.strokes p.strokes s.strokes);
+      lit = AllByRecursion-append P q.strokes p.strokes q.lit p.lit;
+      stored = counts_max mode s.max_stack t.max_stack u.max_stack d1 d2 d p.stored q.stored deep;
+    }
+
+-- what is claimed of words and strokes may be less
+pub comes_less : (mode : Mode) (m : Memory) (F G : ℕ → Type 0) (P Q : Stroke → Type 0) (most deep : ℕ) (s t : State) → ((p : ℕ) → F p → G p) → ((k : Stroke) → P k → Q k) → Comes mode m F P most deep s t → Comes mode m G Q most deep s t
+comes_less mode m F G P Q most deep s t f g c =
+    record {
+      steps = c.steps;
+      reached = c.reached;
+      within = c.within;
+      words = c.words;
+      fetched = c.fetched;
+      few = c.few;
+      mapped = AllByRecursion-map F G c.words f c.mapped;
+      strokes = c.strokes;
+      drew = c.drew;
+      lit = AllByRecursion-map P Q c.strokes g c.lit;
+      stored = c.stored;
+    }
+
+-- other counts, which are as many
+pub comes_as : (mode : Mode) (m : Memory) (F : ℕ → Type 0) (P : Stroke → Type 0) (most more deep deeper : ℕ) (s t : State) → most ≡ more → deep ≡ deeper → Comes mode m F P most deep s t → Comes mode m F P more deeper s t
+comes_as mode m F P most more deep deeper s t a b c = subst (λ d. Comes mode m F P more d s t) b (subst (λ k. Comes mode m F P k deep s t) a c)
+
+-- no step at all
+pub comes_here : (mode : Mode) (m : Memory) (F : ℕ → Type 0) (P : Stroke → Type 0) (deep : ℕ) (s : State) → deep ≤ s.max_stack → Comes mode m F P 0 deep s s
+comes_here mode m F P deep s le = record { steps = 0; reached = refl; within = omega arith; words = []; fetched = refl; few = counts_same mode 0 0 refl; mapped = tt; strokes = []; drew = refl; lit = tt; stored = counts_same mode s.max_stack (max s.max_stack deep) (omega arith) }
+
+pub deeper : (mode : Mode) (m : Memory) (F : ℕ → Type 0) (P : Stroke → Type 0) (most deep : ℕ) (s t : State) → Comes mode m F P most deep s t → s.max_stack ≤ t.max_stack
+deeper mode m F P most deep s t c = (grows m c.steps (Running s) (Running t) c.reached).stored

@@ -1,0 +1,230 @@
+-- One item: what stands at a place, and what a draw or a LABS does.
+use Rattle.std.proofs.Common.{arith, Option, None, Some, ap, subst, sym, refl, List, slice_get, length, nat_le, Bool, true, false, nat_lt, pos, ◌≡◌, ◌+◌, ◌-◌, ◌<◌, ◌≤◌, ◌∷◌, ◌++◌, ◌∙◌, ℕ, ⊎_elim}
+use Rattle.std.proofs.lemmas.Bool.{cases_lt}
+use Rattle.std.proofs.lemmas.Bool.Decides.{nat_tests}
+use Rattle.std.proofs.lemmas.Int.{ints}
+use Rattle.std.proofs.lemmas.Option.{slice_get_past}
+use Rattle.std.specs.List.{AllByRecursion}
+use Rattle.std.specs.Prelude.{◌+ℤ◌, ◌&&◌, ℤ, if◌then◌else◌}
+use Rattle.dvg_words.specs.Beam.{shift, origin, displacement, labs_place}
+use Rattle.dvg_words.specs.Decoding.{cell_holding, long_cell, cell_of_format, cell_of_words, format_of, cell_at, word_count}
+use Rattle.dvg_words.specs.Generator.{fetches, places, State, next_status, after_instruction, after_cell, after_fetch, after_draw}
+use Rattle.dvg_words.specs.Memory.{Memory, InRom, InFrame, rom_word, IsMemory, word_at, frame_word}
+use Rattle.dvg_words.specs.Values.{DrawFields}
+use Rattle.dvg_words.specs.declared.beam.Point.{Point}
+use Rattle.dvg_words.specs.declared.instruction.Cell.TheVariants.{Holds}
+use Rattle.dvg_words.specs.declared.instruction.Format.{Format}
+use Rattle.dvg_words.specs.declared.instruction.Format.TheVariants.{Long, Short}
+use Rattle.dvg_words.specs.declared.instruction.Instr.{Instr}
+use Rattle.dvg_words.specs.declared.instruction.Instr.TheVariants.{Draw as Draws, Labs, Halt, Jsrl, Rtsl, Jmpl}
+use Rattle.dvg_cert.specs.declared.entry.End.{End}
+use Rattle.dvg_cert.specs.declared.entry.End.TheVariants.{Rel, Abs, Lost}
+use Rattle.dvg_cert.specs.declared.entry.Key.{Key}
+use Rattle.dvg_cert.specs.declared.entry.Key.TheVariants.{Any, At}
+use Rattle.dvg_check.specs.Behaving.{PlaceFits, ScaleFits}
+use Rattle.dvg_check.specs.Known.{place_moved_by, fixed_place, total_move, Context, place_before, effect, first_place, effects, draw_effect, scale_before}
+use Rattle.dvg_check.specs.Laws.{word_of, IsDrawOrLabs, Past, OneItem}
+use Rattle.dvg_check.specs.Running.{place_past}
+use Rattle.dvg_check.specs.declared.item.Item.{Item}
+use Rattle.dvg_check.specs.declared.item.Kind.{Kind}
+use Rattle.dvg_check.specs.declared.item.Kind.TheVariants.{Shape, Frame}
+use Rattle.dvg_check.specs.declared.known.Effect.{Effect}
+use Rattle.dvg_check.specs.declared.known.Effect.TheVariants.{Sets, Loses, Moves}
+
+-- ---- points
+
+pub point_is : (p q : Point) → p.x ≡ q.x → p.y ≡ q.y → p ≡ q
+point_is p q a b = λ i. record { x = a i; y = b i }
+
+pub shift_origin : (p : Point) → shift p origin ≡ p
+shift_origin p = point_is _ _ (omega (arith, ints)) (omega (arith, ints))
+
+pub origin_shift : (p : Point) → shift origin p ≡ p
+origin_shift p = point_is _ _ (omega (arith, ints)) (omega (arith, ints))
+
+pub shift_shift : (p d e : Point) → shift (shift p d) e ≡ shift p (shift d e)
+shift_shift p d e = point_is _ _ (omega (arith, ints)) (omega (arith, ints))
+
+-- ---- what stands at a place
+
+format_holding : (one format : Format) (o : Option Instr) (i : Instr) → cell_holding one o ≡ Holds format i → one ≡ format
+format_holding one format None i e = cc
+format_holding one format (Some j) i e = cc
+
+format_of_long : (first : ℕ) (o : Option ℕ) (format : Format) (i : Instr) → long_cell first o ≡ Holds format i → Long ≡ format
+format_of_long first None format i e = cc
+format_of_long first (Some second) format i e = format_holding Long format _ i e
+
+format_at : (a : Format) (first : ℕ) (o : Option ℕ) (format : Format) (i : Instr) → cell_of_format a first o ≡ Holds format i → a ≡ format
+format_at Long first o format i e = format_of_long first o format i e
+format_at Short first o format i e = format_holding Short format _ i e
+
+fetches_of : (a b : Option ℕ) (format : Format) (i : Instr) (p : ℕ) → cell_of_words a b ≡ Holds format i → fetches a p ≡ places format p
+fetches_of None b format i p e = cc
+fetches_of (Some first) b format i p e = ap (λ l. places l p) (format_at (format_of first) first b format i e)
+
+pub fetches_there : (get : ℕ → Option ℕ) (p : ℕ) (format : Format) (i : Instr) → cell_at get p ≡ Holds format i → fetches (get p) p ≡ places format p
+unfolding cell_at
+fetches_there get p format i e = fetches_of (get p) (get (p + 1)) format i p e
+
+-- a memory that has all words of another has its instructions
+record Within (get all : ℕ → Option ℕ) (Ok : ℕ → Type 0) : Type 0 where
+  same : (p x : ℕ) → get p ≡ Some x → all p ≡ Some x
+  ok : (p x : ℕ) → get p ≡ Some x → Ok p
+
+long_up : (first : ℕ) (a b : Option ℕ) (format : Format) (i : Instr) → ((x : ℕ) → a ≡ Some x → b ≡ Some x) → long_cell first a ≡ Holds format i → long_cell first b ≡ Holds format i
+long_up first None b format i h e = cc
+long_up first (Some x) b format i h e = subst (λ o. long_cell first o ≡ Holds format i) (sym (h x refl)) e
+
+format_up : (l : Format) (first : ℕ) (a b : Option ℕ) (format : Format) (i : Instr) → ((x : ℕ) → a ≡ Some x → b ≡ Some x) → cell_of_format l first a ≡ Holds format i → cell_of_format l first b ≡ Holds format i
+format_up Long first a b format i h e = long_up first a b format i h e
+format_up Short first a b format i h e = e
+
+words_up : (a b c d : Option ℕ) (format : Format) (i : Instr) → ((x : ℕ) → a ≡ Some x → c ≡ Some x) → ((x : ℕ) → b ≡ Some x → d ≡ Some x) → cell_of_words a b ≡ Holds format i → cell_of_words c d ≡ Holds format i
+words_up None b c d format i h k e = cc
+words_up (Some x) b c d format i h k e = subst (λ o. cell_of_words o d ≡ Holds format i) (sym (h x refl)) (format_up (format_of x) x b d format i k e)
+
+cell_up : (get all : ℕ → Option ℕ) (Ok : ℕ → Type 0) (p : ℕ) (format : Format) (i : Instr) → Within get all Ok → cell_at get p ≡ Holds format i → cell_at all p ≡ Holds format i
+unfolding cell_at
+cell_up get all Ok p format i h e = words_up (get p) (get (p + 1)) (all p) (all (p + 1)) format i (h.same p) (h.same (p + 1)) e
+
+long_ok : (first : ℕ) (b : Option ℕ) (format : Format) (i : Instr) (P Q : Type 0) (p : ℕ) (Ok : ℕ → Type 0) → Ok p → ((x : ℕ) → b ≡ Some x → Ok (p + 1)) → long_cell first b ≡ Holds format i → AllByRecursion Ok (places Long p)
+long_ok first None format i P Q p Ok h k e = cc
+long_ok first (Some x) format i P Q p Ok h k e = (k x refl, (h, tt))
+
+words_ok : (a b : Option ℕ) (format : Format) (i : Instr) (p : ℕ) (Ok : ℕ → Type 0) → ((x : ℕ) → a ≡ Some x → Ok p) → ((x : ℕ) → b ≡ Some x → Ok (p + 1)) → cell_of_words a b ≡ Holds format i → AllByRecursion Ok (fetches a p)
+words_ok None b format i p Ok h k e = cc
+words_ok (Some x) b format i p Ok h k e = by_format (format_of x) e
+  where
+    by_format : (l : Format) → cell_of_format l x b ≡ Holds format i → AllByRecursion Ok (places l p)
+    by_format Long f = long_ok x b format i (Unit {0}) (Unit {0}) p Ok (h x refl) k f
+    by_format Short f = (h x refl, tt)
+
+cell_ok : (get all : ℕ → Option ℕ) (Ok : ℕ → Type 0) (p : ℕ) (format : Format) (i : Instr) → Within get all Ok → cell_at get p ≡ Holds format i → AllByRecursion Ok (places format p)
+unfolding cell_at
+cell_ok get all Ok p format i h e =
+    subst (λ l. AllByRecursion Ok l) (fetches_there get p format i e) (words_ok (get p) (get (p + 1)) format i p Ok (h.ok p) (h.ok (p + 1)) e)
+
+-- ---- the two parts of the memory
+
+abbrev pub IsOwn : Kind → Memory → ℕ → Type 0
+IsOwn Shape m p = InRom m.rom.map p
+IsOwn Frame m p = InFrame m.frame p
+
+within_slice : (l : List ℕ) (k x : ℕ) → slice_get l k ≡ Some x → k < length l
+within_slice l k x e = ⊎_elim (λ lt. lt) (λ le. let n = slice_get_past l k le in cc) (cases_lt k (length l))
+
+rom_bounds : (m : Memory) (p x : ℕ) → rom_word m.rom p ≡ Some x → InRom m.rom.map p
+rom_bounds m p x e = by_tests (nat_le m.rom.map.rom_first p) (nat_le p m.rom.map.rom_last) refl refl e
+  where
+    by_tests : (b d : Bool) → nat_le m.rom.map.rom_first p ≡ b → nat_le p m.rom.map.rom_last ≡ d → (if b && d then slice_get m.rom.words (p - m.rom.map.rom_first) else None) ≡ Some x → InRom m.rom.map p
+    by_tests true true t u f =
+        let above : m.rom.map.rom_first ≤ p = grind (arith, nat_tests) in
+        let below : p ≤ m.rom.map.rom_last = grind (arith, nat_tests) in
+        (above, below)
+    by_tests true false t u f = cc
+    by_tests false d t u f = cc
+
+rom_in_memory : (m : Memory) (p x : ℕ) → IsMemory m → rom_word m.rom p ≡ Some x → word_at m p ≡ Some x
+rom_in_memory m p x mem e =
+    let r = rom_bounds m p x e in
+    let above : nat_lt p (length m.frame) ≡ false = grind (arith, nat_tests, r.0, mem.frame.few, mem.rom.map.past_frames) in
+    ap (λ b. if b then frame_word m.frame p else rom_word m.rom p) above ∙ e
+
+frame_in_memory : (m : Memory) (p x : ℕ) → frame_word m.frame p ≡ Some x → word_at m p ≡ Some x
+frame_in_memory m p x e =
+    let r = within_slice m.frame p x e in
+    let below : nat_lt p (length m.frame) ≡ true = grind (arith, nat_tests, r) in
+    ap (λ b. if b then frame_word m.frame p else rom_word m.rom p) below ∙ e
+
+within : (kind : Kind) (m : Memory) → IsMemory m → Within (word_of kind m) (word_at m) (IsOwn kind m)
+within Shape m mem = record { same = λ p x. rom_in_memory m p x mem; ok = λ p x. rom_bounds m p x }
+within Frame m mem = record { same = frame_in_memory m; ok = λ p x. within_slice m.frame p x }
+
+pub stands : (kind : Kind) (m : Memory) (p : ℕ) (format : Format) (i : Instr) → IsMemory m → cell_at (word_of kind m) p ≡ Holds format i → cell_at (word_at m) p ≡ Holds format i
+stands kind m p format i mem e = cell_up (word_of kind m) (word_at m) (IsOwn kind m) p format i (within kind m mem) e
+
+pub own : (kind : Kind) (m : Memory) (p : ℕ) (format : Format) (i : Instr) → IsMemory m → cell_at (word_of kind m) p ≡ Holds format i → AllByRecursion (IsOwn kind m) (places format p)
+own kind m p format i mem e = cell_ok (word_of kind m) (word_at m) (IsOwn kind m) p format i (within kind m mem) e
+
+-- ---- the step
+
+pub next_there : (m : Memory) (s : State) (format : Format) (i : Instr) → cell_at (word_at m) s.pc ≡ Holds format i → next_status m s ≡ after_instruction i format (record s { fetched = places format s.pc ++ s.fetched })
+unfolding next_status
+next_there m s format i e =
+    ap (λ f. after_cell f (after_fetch m s)) e ∙ ap (λ l. after_instruction i format (record s { fetched = l ++ s.fetched })) (fetches_there (word_at m) s.pc format i e)
+
+-- ---- what is known after an item
+
+moves_on : (k : End) (d e : Point) → place_moved_by k (shift d e) ≡ place_moved_by (place_moved_by k d) e
+moves_on (Rel x y) d e =
+    let a : x +ℤ (d.x +ℤ e.x) ≡ (x +ℤ d.x) +ℤ e.x = omega (arith, ints) in
+    let b : y +ℤ (d.y +ℤ e.y) ≡ (y +ℤ d.y) +ℤ e.y = omega (arith, ints) in
+    λ i. Rel (a i) (b i)
+moves_on (Abs x y) d e =
+    let a : x +ℤ (d.x +ℤ e.x) ≡ (x +ℤ d.x) +ℤ e.x = omega (arith, ints) in
+    let b : y +ℤ (d.y +ℤ e.y) ≡ (y +ℤ d.y) +ℤ e.y = omega (arith, ints) in
+    λ i. Abs (a i) (b i)
+moves_on Lost d e = refl
+
+by_effect : (first : End) (f : Effect) (es : List Effect) → place_moved_by (fixed_place first (f ∷ es)) (total_move (f ∷ es)) ≡ place_past f (place_moved_by (fixed_place first es) (total_move es))
+by_effect first (Sets p) es =
+    let a : p.x +ℤ pos 0 ≡ p.x = omega (arith, ints) in
+    let b : p.y +ℤ pos 0 ≡ p.y = omega (arith, ints) in
+    λ i. Abs (a i) (b i)
+by_effect first Loses es = refl
+by_effect first (Moves d) es = moves_on (fixed_place first es) (total_move es) d
+
+-- the place follows the items one by one
+pub place_before-cons : (c : Context) (earlier : List Item) (i : Item) → place_before c (i ∷ earlier) ≡ place_past (effect c earlier i.instr) (place_before c earlier)
+place_before-cons c earlier i = by_effect (first_place c.kind) (effect c earlier i.instr) (effects c earlier)
+
+pub fits_moved : (base p d : Point) (k : End) → PlaceFits k base p → PlaceFits (place_moved_by k d) base (shift p d)
+fits_moved base p d (Rel x y) h = ap (λ r. shift r d) h ∙ shift_shift base (record { x = x; y = y }) d
+fits_moved base p d (Abs x y) h = ap (λ r. shift r d) h
+fits_moved base p d Lost h = tt
+
+fits_drawn : (base p : Point) (d : DrawFields) (k : End) (sc : Key) (scale : ℕ) → PlaceFits k base p → ScaleFits sc scale → PlaceFits (place_past (draw_effect d sc) k) base (shift p (displacement d scale))
+fits_drawn base p d k Any scale h g = tt
+fits_drawn base p d k (At x) scale h g =
+    subst (λ y. PlaceFits (place_moved_by k (displacement d y)) base (shift p (displacement d scale))) g (fits_moved base p (displacement d scale) k h)
+
+-- ---- the law on one item
+
+item_step : (m : Memory) (c : Context) (earlier : List Item) (at : ℕ) (format : Format) (instr : Instr) (base : Point) (s : State) → cell_at (word_at m) at ≡ Holds format instr → IsDrawOrLabs instr → s.pc ≡ at → PlaceFits (place_before c earlier) base s.place → ScaleFits (scale_before c earlier) s.scale → (t : State) × Past m base (record { at = at; format = format; instr = instr }) (place_before c (record { at = at; format = format; instr = instr } ∷ earlier)) (scale_before c (record { at = at; format = format; instr = instr } ∷ earlier)) s t
+item_step m c earlier at format (Draws d) base s e k pc place scale =
+    let i : Item = record { at = at; format = format; instr = Draws d } in (
+      after_draw d format (record s { fetched = places format s.pc ++ s.fetched }),
+      record {
+        step = next_there m s format (Draws d) (ap (cell_at (word_at m)) pc ∙ e);
+        pc = ap (λ p. p + word_count format) pc;
+        place = subst (λ known. PlaceFits known base (shift s.place (displacement d s.scale))) (sym (place_before-cons c earlier i)) (fits_drawn base s.place d (place_before c earlier) (scale_before c earlier) s.scale place scale);
+        scale_is = scale;
+        fetched = ap (λ p. places format p ++ s.fetched) pc;
+        strokes = refl;
+        return_stack = refl;
+        max_stack = refl;
+      },
+    )
+item_step m c earlier at format (Labs x y g) base s e k pc place scale =
+    let i : Item = record { at = at; format = format; instr = Labs x y g } in (
+      record s { pc = s.pc + word_count format; place = labs_place x y; scale = g; fetched = places format s.pc ++ s.fetched },
+      record {
+        step = next_there m s format (Labs x y g) (ap (cell_at (word_at m)) pc ∙ e);
+        pc = ap (λ p. p + word_count format) pc;
+        place = subst (λ known. PlaceFits known base (labs_place x y)) (sym (place_before-cons c earlier i)) refl;
+        scale_is = refl;
+        fetched = ap (λ p. places format p ++ s.fetched) pc;
+        strokes = refl;
+        return_stack = refl;
+        max_stack = refl;
+      },
+    )
+item_step m c earlier at format Halt base s e k pc place scale = absurd k
+item_step m c earlier at format (Jsrl to) base s e k pc place scale = absurd k
+item_step m c earlier at format Rtsl base s e k pc place scale = absurd k
+item_step m c earlier at format (Jmpl to) base s e k pc place scale = absurd k
+
+pub one_item : OneItem
+one_item m c first earlier i base s mem lead e kind pc place scale =
+    item_step m c earlier i.at i.format i.instr base s (stands c.kind m i.at i.format i.instr mem e) kind pc place scale

@@ -1,0 +1,5 @@
+use Rattle.dvg_check.proofs.Accepting.{one_verdict as law}
+use Rattle.dvg_check.proofs.laws.one_verdict.Goals as goal
+
+pub returns : goal.returns
+returns c = law

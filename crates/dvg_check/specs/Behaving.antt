@@ -1,0 +1,80 @@
+-- What a called shape does, as a stretch of a run.
+use Rattle.std.specs.Prelude.{◌≡◌, ℕ, ◌+◌, ◌≤◌, ◌⊎◌, max, List, ◌∷◌, ◌++◌, length, ◌+ℤ◌}
+use Rattle.std.specs.List.{AllByRecursion}
+use Rattle.dvg_words.specs.Values.{Window}
+use Rattle.dvg_words.specs.Memory.{Memory, InRom}
+use Rattle.dvg_words.specs.declared.beam.Point.{Point}
+use Rattle.dvg_words.specs.Beam.{shift, InWindow}
+use Rattle.dvg_words.specs.Generator.{Stroke, State, Running, Reached}
+use Rattle.dvg_cert.specs.declared.entry.Key.{Key}
+use Rattle.dvg_cert.specs.declared.entry.Key.TheVariants.{At, Any}
+use Rattle.dvg_cert.specs.declared.entry.End.{End}
+use Rattle.dvg_cert.specs.declared.entry.End.TheVariants.{Rel, Abs, Lost}
+use Rattle.dvg_cert.specs.declared.entry.LitBox.{LitBox}
+use Rattle.dvg_cert.specs.declared.entry.LitBox.TheVariants.{Empty, Span}
+use Rattle.dvg_cert.specs.declared.entry.Entry.{Entry}
+use Rattle.dvg_check.specs.Lit.{InBox}
+use Rattle.dvg_check.specs.Rules.{Mode, Bounds, Exactly}
+
+-- a count, and what bounds it or is it
+abbrev pub Counts : Mode → ℕ → ℕ → Type 0
+Counts Bounds n claimed = n ≤ claimed
+Counts Exactly n claimed = n ≡ claimed
+
+-- both ends of a stroke
+abbrev pub Ends : (Point → Type 0) → Stroke → Type 0
+Ends P stroke = P stroke.from × P stroke.to
+
+-- From one running state to another, within so many steps and by so many further words. A halt or a fault has no step,
+-- so there is none on the way.
+pub record Comes (mode : Mode) (m : Memory) (Fetched : ℕ → Type 0) (Lit : Stroke → Type 0) (most deep : ℕ) (from to : State) : Type 0 where
+  pub steps : ℕ
+  pub reached : Reached m steps (Running from) (Running to)
+  pub within : steps ≤ most
+  pub words : List ℕ
+  pub fetched : to.fetched ≡ words ++ from.fetched
+  pub few : Counts mode (length words) most
+  pub mapped : AllByRecursion Fetched words
+  pub strokes : List Stroke
+  pub drew : to.strokes ≡ strokes ++ from.strokes
+  pub lit : AllByRecursion Lit strokes
+  pub stored : Counts mode to.max_stack (max from.max_stack deep)
+
+-- a scale that agrees with what is known of it
+abbrev pub ScaleFits : Key → ℕ → Type 0
+ScaleFits (At known) scale = scale ≡ known
+ScaleFits Any scale = Unit {0}
+
+-- a place at the return that agrees with what is claimed, of a call at this place
+abbrev pub PlaceFits : End → Point → Point → Type 0
+PlaceFits (Rel x y) from to = to ≡ shift from (record { x = x; y = y })
+PlaceFits (Abs x y) from to = to ≡ record { x = x; y = y }
+PlaceFits Lost from to = Unit {0}
+
+abbrev pub box_at : LitBox → Point → LitBox
+box_at Empty p = Empty
+box_at (Span x_min x_max y_min y_max) p = Span (p.x +ℤ x_min) (p.x +ℤ x_max) (p.y +ℤ y_min) (p.y +ℤ y_max)
+
+-- both ends in the window, or both in the box
+abbrev pub LitFits : Window → LitBox → Point → Stroke → Type 0
+LitFits w box base stroke = Ends (InWindow w) stroke ⊎ Ends (InBox (box_at box base)) stroke
+
+-- the state in which a shape that was called in another has returned
+pub record Returned (mode : Mode) (m : Memory) (w : Window) (e : Entry) (back : ℕ) (rest : List ℕ) (from to : State) : Type 0 where
+  pub comes : Comes mode m (InRom m.rom.map) (LitFits w e.lit from.place) e.words (length from.return_stack + e.depth) from to
+  pub some : 1 ≤ comes.steps
+  pub pc : to.pc ≡ back
+  pub return_stack : to.return_stack ≡ rest
+  pub place : PlaceFits e.stop from.place to.place
+  pub scale : ScaleFits e.scale to.scale
+
+-- each call that an entry allows returns as the entry claims
+abbrev pub Behaves : Mode → Memory → Window → Entry → Type 0
+Behaves mode m w e =
+    (s : State) (back : ℕ) (rest : List ℕ)
+    → length s.return_stack ≤ s.max_stack
+    → s.pc ≡ e.addr
+    → ScaleFits e.key s.scale
+    → s.return_stack ≡ back ∷ rest
+    → length s.return_stack + e.depth ≤ 4
+    → (t : State) × Returned mode m w e back rest s t

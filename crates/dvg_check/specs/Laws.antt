@@ -1,0 +1,139 @@
+-- The laws, over the definitions alone, for every map, window and mode.
+use Rattle.std.specs.Prelude.{◌≡◌, ℕ, ℤ, ◌+◌, ◌<◌, ◌≤◌, ◌⊎◌, ◌≤ℤ◌, List, [], ◌∷◌, ◌++◌, Option, Contains, Result}
+use Rattle.dvg_words.specs.Values.{Window}
+use Rattle.dvg_words.specs.declared.instruction.Instr.TheVariants.{Draw as Draws, Labs, Halt, Jsrl, Rtsl, Jmpl}
+use Rattle.dvg_words.specs.declared.instruction.Instr.{Instr}
+use Rattle.dvg_words.specs.declared.instruction.Cell.TheVariants.{Holds}
+use Rattle.dvg_words.specs.Decoding.{word_count, cell_at}
+use Rattle.dvg_words.specs.Memory.{Memory, IsMemory, rom_word, frame_word}
+use Rattle.dvg_words.specs.declared.beam.Point.{Point}
+use Rattle.dvg_words.specs.Beam.{shift, InWindow}
+use Rattle.dvg_words.specs.Generator.{Stroke, State, Running, places, lit_by, next_status}
+use Rattle.dvg_cert.specs.declared.entry.Key.{Key}
+use Rattle.dvg_cert.specs.declared.entry.End.{End}
+use Rattle.dvg_cert.specs.declared.entry.End.TheVariants.{Rel, Abs, Lost}
+use Rattle.dvg_cert.specs.declared.entry.Entry.{Entry}
+use Rattle.dvg_check.specs.Items.{Kind, Shape, Frame, Item, LeadsTo}
+use Rattle.dvg_check.specs.Known.{Context, scale_before, place_before}
+use Rattle.dvg_check.specs.Rules.{Mode, Bounds, Exactly, Good, GoodFrame}
+use Rattle.dvg_check.specs.FirstFault.{FrameFault, FirstFrameFault}
+use Rattle.dvg_check.specs.Verdict.{Yes, Refusal, Verdict}
+use Rattle.dvg_check.specs.Behaving.{ScaleFits, PlaceFits, Behaves}
+use Rattle.dvg_check.specs.Safety.{Safe, HaltsWith}
+
+-- ---- one item
+
+-- what a draw or a LABS lights, on the way from one place to another
+abbrev pub lit_on : Instr → Point → Point → List Stroke
+lit_on (Draws d) from to = lit_by d.bright (record { from = from; to = to })
+lit_on i from to = []
+
+abbrev pub IsDrawOrLabs : Instr → Type 0
+IsDrawOrLabs (Draws d) = Unit {0}
+IsDrawOrLabs (Labs x y gscale) = Unit {0}
+IsDrawOrLabs i = ⊥
+
+-- the state just past an item, after one step
+pub record Past (m : Memory) (base : Point) (i : Item) (known : End) (scale : Key) (s t : State) : Type 0 where
+  pub step : next_status m s ≡ Running t
+  pub pc : t.pc ≡ i.at + word_count i.format
+  pub place : PlaceFits known base t.place
+  pub scale_is : ScaleFits scale t.scale
+  pub fetched : t.fetched ≡ places i.format i.at ++ s.fetched
+  pub strokes : t.strokes ≡ lit_on i.instr s.place t.place ++ s.strokes
+  pub return_stack : t.return_stack ≡ s.return_stack
+  pub max_stack : t.max_stack ≡ s.max_stack
+
+-- the words that the items of a shape or of a frame stand in
+abbrev pub word_of : Kind → Memory → ℕ → Option ℕ
+word_of Shape m = rom_word m.rom
+word_of Frame m = frame_word m.frame
+
+-- a draw or a LABS leads from a state that agrees with what is known before it to one that agrees with what is known after it
+abbrev pub OneItem : Type 0
+OneItem =
+    (m : Memory) (c : Context) (first : ℕ) (earlier : List Item) (i : Item) (base : Point) (s : State)
+    → IsMemory m
+    → LeadsTo c.kind (word_of c.kind m) first earlier i.at
+    → cell_at (word_of c.kind m) i.at ≡ Holds i.format i.instr
+    → IsDrawOrLabs i.instr
+    → s.pc ≡ i.at
+    → PlaceFits (place_before c earlier) base s.place
+    → ScaleFits (scale_before c earlier) s.scale
+    → (t : State) × Past m base i (place_before c (i ∷ earlier)) (scale_before c (i ∷ earlier)) s t
+
+-- ---- shapes
+
+-- a good shape behaves where each with fewer words does
+abbrev pub OneShape : Mode → Type 0
+OneShape mode =
+    (m : Memory) (w : Window) (list : List Entry) (e : Entry)
+    → IsMemory m
+    → Good mode w m.rom list
+    → Contains list e
+    → ((f : Entry) → Contains list f → f.words < e.words → Behaves mode m w f)
+    → Behaves mode m w e
+
+-- all good shapes behave
+abbrev pub AllShapes : Mode → Type 0
+AllShapes mode = (m : Memory) (w : Window) (list : List Entry) → IsMemory m → Good mode w m.rom list → (e : Entry) → Contains list e → Behaves mode m w e
+
+-- ---- frames
+
+-- what is good is safe
+abbrev pub GoodIsSafe : Type 0
+GoodIsSafe =
+    (m : Memory) (w : Window) (list : List Entry) (budget words depth : ℕ)
+    → IsMemory m
+    → ((e : Entry) → Contains list e → e.depth ≤ 3)
+    → Good Bounds w m.rom list
+    → GoodFrame w m.frame list budget words depth
+    → Safe m w words depth
+
+-- where the counts of the shapes are exact, so are those of the frame
+abbrev pub ExactIsExact : Type 0
+ExactIsExact =
+    (m : Memory) (w : Window) (list : List Entry) (budget words depth : ℕ)
+    → IsMemory m
+    → ((e : Entry) → Contains list e → e.depth ≤ 3)
+    → Good Exactly w m.rom list
+    → GoodFrame w m.frame list budget words depth
+    → HaltsWith m words depth
+
+-- a frame has one first fault at the most
+abbrev pub OneFault : Type 0
+OneFault =
+    (w : Window) (words : List ℕ) (list : List Entry) (budget : ℕ) (f g : FrameFault)
+    → FirstFrameFault w words list budget f → FirstFrameFault w words list budget g → f ≡ g
+
+-- and none where it is good
+abbrev pub NoFault : Type 0
+NoFault =
+    (w : Window) (words : List ℕ) (list : List Entry) (budget count depth : ℕ) (f : FrameFault)
+    → GoodFrame w words list budget count depth → FirstFrameFault w words list budget f → ⊥
+
+-- and one count and one depth where it is good
+pub record SameCounts (count depth count' depth' : ℕ) : Type 0 where
+  pub count_is : count ≡ count'
+  pub depth_is : depth ≡ depth'
+
+abbrev pub OneCount : Type 0
+OneCount =
+    (w : Window) (words : List ℕ) (list : List Entry) (budget count depth count' depth' : ℕ)
+    → GoodFrame w words list budget count depth → GoodFrame w words list budget count' depth' → SameCounts count depth count' depth'
+
+-- there is one verdict at the most
+abbrev pub OneVerdict : Type 0
+OneVerdict =
+    (w : Window) (rom cert words : List ℕ) (budget : ℕ) (a b : Result Yes Refusal)
+    → Verdict w rom cert words budget a → Verdict w rom cert words budget b → a ≡ b
+
+-- ---- strokes
+
+-- a coordinate between two others
+abbrev pub IsBetween : ℤ → ℤ → ℤ → Type 0
+IsBetween a b v = ((a ≤ℤ v) × (v ≤ℤ b)) ⊎ ((b ≤ℤ v) × (v ≤ℤ a))
+
+-- a straight stroke lies between its ends on each axis, so it lies in the window where both ends do
+abbrev pub StrokeInWindow : Type 0
+StrokeInWindow = (w : Window) (a b p : Point) → InWindow w a → InWindow w b → IsBetween a.x b.x p.x → IsBetween a.y b.y p.y → InWindow w p

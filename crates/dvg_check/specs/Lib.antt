@@ -1,0 +1,10 @@
+pub mod Items
+pub mod Known
+pub mod Lit
+pub mod Rules
+pub mod FirstFault
+pub mod Verdict
+pub mod Behaving
+pub mod Safety
+pub mod Laws
+pub mod Running

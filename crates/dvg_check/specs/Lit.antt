@@ -1,0 +1,85 @@
+-- What an item lights, and where that may be. All of it is profile.
+use Rattle.std.specs.Prelude.{◌≢◌, ℕ, zero, suc, ℤ, ◌≤ℤ◌, List, Option, Some, None}
+use Rattle.dvg_words.specs.Values.{DrawFields, Window}
+use Rattle.dvg_words.specs.declared.instruction.Instr.TheVariants.{Draw as Draws, Labs, Halt, Jsrl, Rtsl, Jmpl}
+use Rattle.dvg_words.specs.declared.instruction.Instr.{Instr}
+use Rattle.dvg_words.specs.declared.beam.Point.{Point}
+use Rattle.dvg_words.specs.Beam.{origin, shift, displacement, InWindow}
+use Rattle.dvg_cert.specs.declared.entry.Key.{Key}
+use Rattle.dvg_cert.specs.declared.entry.Key.TheVariants.{At, Any}
+use Rattle.dvg_cert.specs.declared.entry.End.{End}
+use Rattle.dvg_cert.specs.declared.entry.End.TheVariants.{Rel, Abs, Lost}
+use Rattle.dvg_cert.specs.declared.entry.LitBox.{LitBox}
+use Rattle.dvg_cert.specs.declared.entry.LitBox.TheVariants.{Empty, Span}
+use Rattle.dvg_cert.specs.declared.entry.Entry.{Entry}
+use Rattle.dvg_check.specs.Items.{Item}
+use Rattle.dvg_check.specs.Known.{Context, callee, scale_before}
+pub use Rattle.dvg_check.specs.declared.known.LitExtent.{LitExtent}
+pub use Rattle.dvg_check.specs.declared.known.LitExtent.TheVariants.{Nothing, Between, Anywhere}
+
+-- seen from the place before it, a lit draw lights what lies between its ends; intensity 0 is dark
+abbrev pub draw_extent : ℕ → DrawFields → Key → LitExtent
+draw_extent zero d scale = Nothing
+draw_extent (suc n) d (At gscale) = Between origin (displacement d gscale)
+draw_extent (suc n) d Any = Anywhere
+
+-- a called shape lights what lies between the corners of its box
+abbrev pub box_extent : LitBox → LitExtent
+box_extent Empty = Nothing
+box_extent (Span x_min x_max y_min y_max) = Between (record { x = x_min; y = y_min }) (record { x = x_max; y = y_max })
+
+abbrev pub callee_extent : Option Entry → LitExtent
+callee_extent None = Nothing
+callee_extent (Some e) = box_extent e.lit
+
+abbrev pub extent_of : Instr → Key → Option Entry → LitExtent
+extent_of (Draws d) scale named = draw_extent d.bright d scale
+extent_of (Labs x y gscale) scale named = Nothing
+extent_of Halt scale named = Nothing
+extent_of Rtsl scale named = Nothing
+extent_of (Jsrl to) scale named = callee_extent named
+extent_of (Jmpl to) scale named = callee_extent named
+
+abbrev pub extent : Context → List Item → Instr → LitExtent
+extent c earlier i = extent_of i (scale_before c earlier) (callee c earlier i)
+
+-- ---- what a place and a box allow
+
+-- what is lit is lit at a known place
+abbrev pub PlaceKnown : LitExtent → End → Type 0
+PlaceKnown Nothing place = Unit {0}
+PlaceKnown (Between a b) place = place ≢ Lost
+PlaceKnown Anywhere place = place ≢ Lost
+
+-- what is lit is lit at a known scale
+abbrev pub ScaleKnown : LitExtent → Type 0
+ScaleKnown Nothing = Unit {0}
+ScaleKnown (Between a b) = Unit {0}
+ScaleKnown Anywhere = ⊥
+
+-- what is lit at an absolute place lies in the window
+abbrev pub LitInWindow : Window → LitExtent → End → Type 0
+LitInWindow w (Between a b) (Abs x y) = InWindow w (shift (record { x = x; y = y }) a) × InWindow w (shift (record { x = x; y = y }) b)
+LitInWindow w (Between a b) (Rel x y) = Unit {0}
+LitInWindow w (Between a b) Lost = Unit {0}
+LitInWindow w Nothing place = Unit {0}
+LitInWindow w Anywhere place = Unit {0}
+
+pub record InSpan (x_min x_max y_min y_max : ℤ) (p : Point) : Type 0 where
+  pub left : x_min ≤ℤ p.x
+  pub right : p.x ≤ℤ x_max
+  pub bottom : y_min ≤ℤ p.y
+  pub top : p.y ≤ℤ y_max
+
+-- nothing is in the empty box
+abbrev pub InBox : LitBox → Point → Type 0
+InBox Empty p = ⊥
+InBox (Span x_min x_max y_min y_max) p = InSpan x_min x_max y_min y_max p
+
+-- what is lit at a relative place lies in the box
+abbrev pub LitInBox : LitBox → LitExtent → End → Type 0
+LitInBox box (Between a b) (Rel x y) = InBox box (shift (record { x = x; y = y }) a) × InBox box (shift (record { x = x; y = y }) b)
+LitInBox box (Between a b) (Abs x y) = Unit {0}
+LitInBox box (Between a b) Lost = Unit {0}
+LitInBox box Nothing place = Unit {0}
+LitInBox box Anywhere place = Unit {0}

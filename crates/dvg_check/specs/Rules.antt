@@ -1,0 +1,125 @@
+-- The rules on one item, number by number, said as what an item keeps. All of it is profile.
+use Rattle.std.specs.Prelude.{◌≡◌, ◌≢◌, ℕ, ◌+◌, ◌≤◌, ◌<◌, List, ◌∷◌, Option, Some, None, Contains}
+use Rattle.dvg_words.specs.Values.{Window}
+use Rattle.dvg_words.specs.declared.instruction.Instr.TheVariants.{Draw as Draws, Labs, Halt, Jsrl, Rtsl, Jmpl}
+use Rattle.dvg_words.specs.declared.instruction.Instr.{Instr}
+use Rattle.dvg_words.specs.declared.instruction.Cell.{Cell}
+use Rattle.dvg_words.specs.declared.instruction.Cell.TheVariants.{Missing, Odd, Holds}
+use Rattle.dvg_words.specs.declared.instruction.Format.{Format}
+use Rattle.dvg_words.specs.Decoding.{word_count, cell_at}
+use Rattle.dvg_words.specs.Memory.{Rom, rom_word, frame_word}
+use Rattle.dvg_cert.specs.declared.entry.Entry.{Entry}
+use Rattle.dvg_check.specs.Items.{Kind, Shape, Frame, Item, next_place, LeadsTo}
+use Rattle.dvg_check.specs.Known.{Context, shape_context, frame_context, target, callee, place_before, words_before, depth_under, depth_before, known_before}
+use Rattle.dvg_check.specs.Lit.{extent, PlaceKnown, ScaleKnown, LitInWindow, LitInBox}
+pub use Rattle.dvg_check.specs.declared.known.Seen.{Seen}
+pub use Rattle.dvg_check.specs.declared.fault.Mode.{Mode}
+pub use Rattle.dvg_check.specs.declared.fault.Mode.TheVariants.{Bounds, Exactly}
+pub use Rattle.dvg_check.specs.declared.fault.ShapeWhy.{ShapeWhy}
+pub use Rattle.dvg_check.specs.declared.fault.ShapeWhy.TheVariants as shape
+pub use Rattle.dvg_check.specs.declared.fault.FrameWhy.{FrameWhy}
+pub use Rattle.dvg_check.specs.declared.fault.FrameWhy.TheVariants as frame
+
+-- an item, what is known before it, what it lights, the entry that it calls, and what is known after it
+abbrev pub seen : Context → List Item → Item → Seen
+seen c earlier i =
+    record {
+      item = i;
+      place = place_before c earlier;
+      extent = extent c earlier i.instr;
+      callee = callee c earlier i.instr;
+      after = known_before c (i ∷ earlier);
+    }
+
+-- what a target needs
+abbrev pub HasCallee : Option ℕ → Option Entry → Type 0
+HasCallee None named = Unit {0}
+HasCallee (Some to) None = ⊥
+HasCallee (Some to) (Some e) = Unit {0}
+
+-- what the last item keeps
+abbrev pub AtLast : Option ℕ → Type 0 → Type 0
+AtLast None P = P
+AtLast (Some next) P = Unit {0}
+
+-- what exact counts keep
+abbrev pub AsClaimed : Mode → ℕ → ℕ → Type 0
+AsClaimed Bounds n claimed = Unit {0}
+AsClaimed Exactly n claimed = n ≡ claimed
+
+-- a jump at this place leads to a higher one
+abbrev pub IsForward : ℕ → Instr → Type 0
+IsForward at (Jmpl to) = at < to
+IsForward at i = Unit {0}
+
+-- until calls are checked
+abbrev pub CallsNothing : Instr → Type 0
+CallsNothing (Jsrl to) = ⊥
+CallsNothing i = Unit {0}
+
+-- what an item of an entry's shape keeps
+abbrev pub ShapeKeeps : Mode → Window → Entry → Seen → ShapeWhy → Type 0
+ShapeKeeps mode w e v shape.HaltInShape = v.item.instr ≢ Halt
+ShapeKeeps mode w e v shape.BeamUnknown = PlaceKnown v.extent v.place
+ShapeKeeps mode w e v shape.ScaleUnknown = ScaleKnown v.extent
+ShapeKeeps mode w e v shape.OffScreen = LitInWindow w v.extent v.place
+ShapeKeeps mode w e v shape.NoEntry = HasCallee (target Shape v.item.instr) v.callee
+ShapeKeeps mode w e v shape.TooDeep = depth_under v.item.instr v.callee ≤ e.depth
+ShapeKeeps mode w e v shape.TooManyWords = v.after.words ≤ e.words
+ShapeKeeps mode w e v shape.EndDiffers = AtLast (next_place Shape v.item) (v.after.place ≡ e.stop)
+ShapeKeeps mode w e v shape.ScaleDiffers = AtLast (next_place Shape v.item) (v.after.scale ≡ e.scale)
+ShapeKeeps mode w e v shape.BoxTooSmall = LitInBox e.lit v.extent v.place
+ShapeKeeps mode w e v shape.WordsDiffer = AtLast (next_place Shape v.item) (AsClaimed mode v.after.words e.words)
+ShapeKeeps mode w e v shape.DepthDiffers = AtLast (next_place Shape v.item) (AsClaimed mode v.after.depth e.depth)
+ShapeKeeps mode w e v why = Unit {0}
+
+-- what an item of a frame keeps
+abbrev pub FrameKeeps : Window → ℕ → Seen → FrameWhy → Type 0
+FrameKeeps w budget v frame.NotYet = CallsNothing v.item.instr
+FrameKeeps w budget v frame.ReturnInFrame = v.item.instr ≢ Rtsl
+FrameKeeps w budget v frame.BackJump = IsForward v.item.at v.item.instr
+FrameKeeps w budget v frame.BeamUnknown = PlaceKnown v.extent v.place
+FrameKeeps w budget v frame.ScaleUnknown = ScaleKnown v.extent
+FrameKeeps w budget v frame.OffScreen = LitInWindow w v.extent v.place
+FrameKeeps w budget v frame.NoEntry = HasCallee (target Frame v.item.instr) v.callee
+FrameKeeps w budget v frame.Budget = v.after.words ≤ budget
+FrameKeeps w budget v why = Unit {0}
+
+-- what stands at a place keeps: that it is there, that it is not odd, and else what the item keeps
+abbrev pub CellKeeps : {Why : Type 0} → Why → Why → (Item → Why → Type 0) → ℕ → Cell → Why → Type 0
+CellKeeps missing odd keeps at Missing why = why ≢ missing
+CellKeeps missing odd keeps at Odd why = why ≢ odd
+CellKeeps missing odd keeps at (Holds format i) why = keeps (record { at = at; format = format; instr = i }) why
+
+-- what stands at a place keeps, after these items
+abbrev pub PlaceKeeps : {Why : Type 0} → Why → Why → (Seen → Why → Type 0) → Context → (ℕ → Option ℕ) → List Item → ℕ → Why → Type 0
+PlaceKeeps missing odd keeps c word earlier p why = CellKeeps missing odd (λ i. keeps (seen c earlier i)) p (cell_at word p) why
+
+abbrev pub ShapePlaceKeeps : Mode → Window → Rom → List Entry → Entry → List Item → ℕ → ShapeWhy → Type 0
+ShapePlaceKeeps mode w rom list e = PlaceKeeps shape.Unmapped shape.Odd (ShapeKeeps mode w e) (shape_context list e) (rom_word rom)
+
+abbrev pub FramePlaceKeeps : Window → List ℕ → List Entry → ℕ → List Item → ℕ → FrameWhy → Type 0
+FramePlaceKeeps w words list budget = PlaceKeeps frame.Unmapped frame.Odd (FrameKeeps w budget) (frame_context list) (frame_word words)
+
+-- every place that items lead to keeps every rule
+abbrev pub AllKeep : {Why : Type 0} → Kind → (ℕ → Option ℕ) → ℕ → (List Item → ℕ → Why → Type 0) → Type 0
+AllKeep {Why} kind word first keeps = (earlier : List Item) (p : ℕ) → LeadsTo kind word first earlier p → (why : Why) → keeps earlier p why
+
+-- an entry's shape keeps all rules
+abbrev pub GoodShape : Mode → Window → Rom → List Entry → Entry → Type 0
+GoodShape mode w rom list e = AllKeep Shape (rom_word rom) e.addr (ShapePlaceKeeps mode w rom list e)
+
+-- all shapes of a certificate do
+abbrev pub Good : Mode → Window → Rom → List Entry → Type 0
+Good mode w rom list = (e : Entry) → Contains list e → GoodShape mode w rom list e
+
+-- a frame keeps all rules, and this is what it comes to at its HALT
+pub record GoodFrame (w : Window) (words : List ℕ) (list : List Entry) (budget count depth : ℕ) : Type 0 where
+  pub keeps : AllKeep Frame (frame_word words) 0 (FramePlaceKeeps w words list budget)
+  pub items : List Item
+  pub at : ℕ
+  pub format : Format
+  pub leads : LeadsTo Frame (frame_word words) 0 items at
+  pub halts : cell_at (frame_word words) at ≡ Holds format Halt
+  pub count_is : count ≡ words_before (frame_context list) items + word_count format
+  pub depth_is : depth ≡ depth_before (frame_context list) items

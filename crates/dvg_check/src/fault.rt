@@ -1,0 +1,115 @@
+//! Which rule is broken, and where.
+
+ghost use Rattle.std.specs.Prelude.{◌≡◌};
+ghost use Rattle.dvg_check.specs.FirstFault.{frame_number};
+
+use dvg_cert::Key;
+
+/// Whether the words and the depth that a certificate claims are bounds, or exact.
+#[derive(Clone, Copy, Debug, PartialEq, Eq)]
+pub enum Mode {
+    Bounds,
+    Exactly,
+}
+
+/// The rules that an item of a shape may break, 20 to 33.
+#[derive(Clone, Copy, Debug, PartialEq, Eq)]
+pub enum ShapeWhy {
+    /// 20: a word of the item is outside the ROM.
+    Unmapped,
+    /// 21: the item is an odd LABS.
+    Odd,
+    /// 22: the item is HALT.
+    HaltInShape,
+    /// 23: it lights at a lost place.
+    BeamUnknown,
+    /// 24: it lights at unknown scale.
+    ScaleUnknown,
+    /// 25: it lights off screen.
+    OffScreen,
+    /// 26: no entry is named by a call or tail jump.
+    NoEntry,
+    /// 27: more return places are needed than claimed.
+    TooDeep,
+    /// 28: more words are needed than claimed.
+    TooManyWords,
+    /// 29: the place at the end is not the claimed one.
+    EndDiffers,
+    /// 30: the scale at the end is not the claimed one.
+    ScaleDiffers,
+    /// 31: it lights outside the claimed box.
+    BoxTooSmall,
+    /// 32: the words are fewer than claimed, where claims are exact.
+    WordsDiffer,
+    /// 33: the depth is less than claimed, where claims are exact.
+    DepthDiffers,
+}
+
+/// The rules that an item of a frame may break, 40 to 48, and 90.
+#[derive(Clone, Copy, Debug, PartialEq, Eq)]
+pub enum FrameWhy {
+    /// 90: the item is a call, which is not checked yet.
+    NotYet,
+    /// 40: a word of the item is outside the frame.
+    Unmapped,
+    /// 41: the item is an odd LABS.
+    Odd,
+    /// 42: the item is RTSL.
+    ReturnInFrame,
+    /// 43: the item is a jump to its own address or a lower one.
+    BackJump,
+    /// 44: it lights at a lost place.
+    BeamUnknown,
+    /// 45: it lights at unknown scale.
+    ScaleUnknown,
+    /// 46: it lights off screen.
+    OffScreen,
+    /// 47: no entry is named by a call.
+    NoEntry,
+    /// 48: the words so far are over the budget.
+    Budget,
+}
+
+impl FrameWhy {
+    /// The number of the rule, as a report has it.
+    pub fn number(self) -> u8
+        ensures { result ≡ frame_number self }
+    {
+        match self {
+            FrameWhy::NotYet => 90,
+            FrameWhy::Unmapped => 40,
+            FrameWhy::Odd => 41,
+            FrameWhy::ReturnInFrame => 42,
+            FrameWhy::BackJump => 43,
+            FrameWhy::BeamUnknown => 44,
+            FrameWhy::ScaleUnknown => 45,
+            FrameWhy::OffScreen => 46,
+            FrameWhy::NoEntry => 47,
+            FrameWhy::Budget => 48,
+        }
+    }
+}
+
+/// The first place that breaks a rule, and the first rule that it breaks.
+#[derive(Clone, Copy, Debug, PartialEq, Eq)]
+pub struct Fault<Why> {
+    pub at: u16,
+    pub why: Why,
+}
+
+/// The first faulty entry of a certificate, the word address of the first item of its shape that breaks a rule, and the
+/// lowest rule that this item breaks.
+#[derive(Clone, Copy, Debug, PartialEq, Eq)]
+pub struct ShapeFault {
+    pub addr: u16,
+    pub key: Key,
+    pub word: u16,
+    pub why: ShapeWhy,
+}
+
+/// The word address of the first item of a frame that breaks a rule, and the lowest rule that this item breaks.
+#[derive(Clone, Copy, Debug, PartialEq, Eq)]
+pub struct FrameFault {
+    pub word: u16,
+    pub why: FrameWhy,
+}

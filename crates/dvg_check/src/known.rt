@@ -1,0 +1,196 @@
+//! What is known before an item, and what the rules see of it.
+
+ghost use Rattle.std.specs.Prelude.{◌≡◌, ◌≤◌, ◌<◌, ◌+◌, None, unwrap_or};
+ghost use Rattle.dvg_words.specs.Decoding.{InstrFits};
+ghost use Rattle.dvg_words.specs.Beam.{shift, displacement, labs_place};
+ghost use Rattle.dvg_cert.specs.Entry.{IsKey};
+ghost use Rattle.dvg_check.specs.Known.{scale_set, draw_effect, effect_of};
+ghost use Rattle.dvg_check.specs.Lit.{draw_extent, extent_of};
+ghost use Rattle.dvg_check.specs.Running.{place_past, known_past, seen_with, IsNear, IsNearPlace, IsNearEffect, IsNearExtent, IsSound};
+
+use crate::item::{Item, word_count};
+use dvg_cert::{End, Entry, Key};
+use dvg_words::{Draw, Instr, Point, displacement};
+
+/// What an item does to the place.
+#[derive(Clone, Copy, Debug, PartialEq, Eq)]
+pub enum Effect {
+    Sets(Point),
+    Loses,
+    Moves(Point),
+}
+
+/// What an item lights, seen from the place before it.
+#[derive(Clone, Copy, Debug, PartialEq, Eq)]
+pub enum LitExtent {
+    Nothing,
+    /// All of it between two corners.
+    Between { from: Point, to: Point },
+    Anywhere,
+}
+
+/// What is known before an item: the place, the scale (`Any` is unknown), the words so far, and how many return places
+/// were stored at once.
+#[derive(Clone, Copy, Debug, PartialEq, Eq)]
+pub struct Known {
+    pub place: End,
+    pub scale: Key,
+    pub words: u32,
+    pub depth: u8,
+}
+
+/// What the rules see of an item: the item, the place before it, what it lights, the entry that it calls, and what is
+/// known after it.
+#[derive(Clone, Copy, Debug, PartialEq, Eq)]
+pub struct Seen {
+    pub item: Item,
+    pub place: End,
+    pub extent: LitExtent,
+    pub callee: Option<Entry>,
+    pub after: Known,
+}
+
+const ORIGIN: Point = Point { x: 0, y: 0 };
+
+/// A place, moved.
+pub fn shifted(p: &Point, d: &Point) -> Point
+    requires p { IsNear 4100 p.now }
+    requires d { IsNear 1 d.now }
+    ensures { result ≡ shift p.now d.now }
+{
+    Point {
+        x: p.x + d.x,
+        y: p.y + d.y,
+    }
+}
+
+/// How far a draw moves the beam.
+fn draw_move(draw: &Draw, gscale: u8) -> Point
+    requires { gscale ≤ 15 }
+    ensures value { result ≡ displacement draw.now gscale }
+    ensures near { IsNear 1 result }
+{
+    let (dx, dy) = displacement(draw, gscale);
+    Point {
+        x: i64::from(dx),
+        y: i64::from(dy),
+    }
+}
+
+/// Where a LABS sets the beam.
+fn labs_place(x: u16, y: u16) -> Point
+    ensures value { result ≡ labs_place x y }
+    ensures near { IsNear 1 result }
+{
+    Point {
+        x: 1024 * i64::from(x),
+        y: 1024 * i64::from(y),
+    }
+}
+
+/// What a draw does to the place, and what it lights.
+fn draw_deed(draw: &Draw, scale: Key) -> (Effect, LitExtent)
+    requires { IsKey scale }
+    ensures effect { result.0 ≡ draw_effect draw.now scale }
+    ensures extent { result.1 ≡ draw_extent draw.now.bright draw.now scale }
+    ensures near_effect { IsNearEffect result.0 }
+    ensures near_extent { IsNearExtent result.1 }
+{
+    let dark = draw.bright == 0;
+    match scale {
+        Key::At(gscale) => {
+            let to = draw_move(draw, gscale);
+            let extent = if dark {
+                LitExtent::Nothing
+            } else {
+                LitExtent::Between { from: ORIGIN, to }
+            };
+            (Effect::Moves(to), extent)
+        }
+        Key::Any => {
+            let extent = if dark {
+                LitExtent::Nothing
+            } else {
+                LitExtent::Anywhere
+            };
+            (Effect::Loses, extent)
+        }
+    }
+}
+
+/// What an instruction that calls nothing does to the place, and what it lights.
+fn deed(instr: &Instr, scale: Key) -> (Effect, LitExtent)
+    requires { IsKey scale }
+    ensures effect { result.0 ≡ effect_of instr.now scale None }
+    ensures extent { result.1 ≡ extent_of instr.now scale None }
+    ensures near_effect { IsNearEffect result.0 }
+    ensures near_extent { IsNearExtent result.1 }
+{
+    match instr {
+        Instr::Draw(draw) => draw_deed(draw, scale),
+        Instr::Labs { x, y, .. } => (Effect::Sets(labs_place(*x, *y)), LitExtent::Nothing),
+        _ => (Effect::Moves(ORIGIN), LitExtent::Nothing),
+    }
+}
+
+/// The place past an effect.
+fn place_past(effect: &Effect, place: &End, at: u16) -> End
+    requires at { at ≤ 4100 }
+    requires place { IsNearPlace at place.now }
+    requires effect { IsNearEffect effect.now }
+    ensures value { result ≡ place_past effect.now place.now }
+    ensures near { IsNearPlace (at + 1) result }
+{
+    match (effect, place) {
+        (Effect::Sets(p), _) => End::Abs { x: p.x, y: p.y },
+        (Effect::Loses, _) | (_, End::Lost) => End::Lost,
+        (Effect::Moves(d), End::Rel { x, y }) => {
+            let p = shifted(&Point { x: *x, y: *y }, d);
+            End::Rel { x: p.x, y: p.y }
+        }
+        (Effect::Moves(d), End::Abs { x, y }) => {
+            let p = shifted(&Point { x: *x, y: *y }, d);
+            End::Abs { x: p.x, y: p.y }
+        }
+    }
+}
+
+/// The scale past an instruction that calls nothing.
+fn scale_past(instr: &Instr, scale: Key) -> Key
+    requires scale { IsKey scale }
+    requires instr { InstrFits instr.now }
+    ensures value { result ≡ unwrap_or (scale_set instr.now None) scale }
+    ensures key { IsKey result }
+{
+    match instr {
+        Instr::Labs { gscale, .. } => Key::At(*gscale),
+        _ => scale,
+    }
+}
+
+/// What the rules see of an item that calls nothing.
+pub fn see(before: &Known, item: &Item) -> Seen
+    requires before { IsSound item.now.at before.now }
+    requires near { item.now.at < 4096 }
+    requires fields { InstrFits item.now.instr }
+    ensures value { result ≡ seen_with None before.now item.now }
+    ensures place { IsNearPlace item.now.at result.place }
+    ensures extent { IsNearExtent result.extent }
+    ensures place_after { IsNearPlace (item.now.at + 1) result.after.place }
+    ensures scale_after { IsKey result.after.scale }
+    ensures depth_after { result.after.depth ≤ 4 }
+{
+    let (effect, extent) = deed(&item.instr, before.scale);
+    Seen {
+        item: *item,
+        place: before.place,
+        extent,
+        callee: None,
+        after: Known {
+            place: place_past(&effect, &before.place, item.at),
+            scale: scale_past(&item.instr, before.scale),
+            words: u32::from(word_count(item.format)) + before.words,
+            depth: before.depth,
+        },
+    }
+}

@@ -1,0 +1,61 @@
+//! Laws over the definitions alone, for every map, window and mode. Each is the contract of a function with an empty
+//! body.
+
+ghost use Rattle.dvg_check.specs.Rules.{Bounds, Exactly};
+ghost use Rattle.dvg_check.specs.Laws.{OneItem, OneShape, AllShapes, GoodIsSafe, ExactIsExact, OneFault, NoFault, OneCount, OneVerdict, StrokeInWindow};
+
+/// A draw or a LABS leads from a state that agrees with what is known before it to one that agrees with what is known
+/// after it.
+pub fn one_item()
+    ensures { OneItem }
+{}
+
+/// A good shape behaves where each with fewer words does.
+pub fn one_shape()
+    ensures { OneShape Bounds }
+{}
+
+/// All good shapes behave.
+pub fn all_shapes()
+    ensures { AllShapes Bounds }
+{}
+
+/// All good shapes behave with exactly their counts, where these are exact.
+pub fn all_shapes_exactly()
+    ensures { AllShapes Exactly }
+{}
+
+/// Where a frame is good, it is safe.
+pub fn good_is_safe()
+    ensures { GoodIsSafe }
+{}
+
+/// Where the counts of the shapes are exact, so are those of a good frame.
+pub fn exact_is_exact()
+    ensures { ExactIsExact }
+{}
+
+/// A frame has one first fault at the most.
+pub fn one_fault()
+    ensures { OneFault }
+{}
+
+/// A good frame has none.
+pub fn no_fault()
+    ensures { NoFault }
+{}
+
+/// A good frame has one count of words and one depth.
+pub fn one_count()
+    ensures { OneCount }
+{}
+
+/// There is one verdict at the most.
+pub fn one_verdict()
+    ensures { OneVerdict }
+{}
+
+/// A straight stroke lies in the window where both its ends do.
+pub fn stroke_in_window()
+    ensures { StrokeInWindow }
+{}

@@ -1,0 +1,16 @@
+//! The checker: it decides whether a frame keeps the rules, and a yes means that every run of the generator is safe.
+//!
+//! [`check`] takes bytes, and its contract has both halves: the exact verdict, and the safety of every run.
+#![tactic(auto)]
+
+mod fault;
+mod frames;
+mod item;
+mod known;
+pub mod laws;
+mod rules;
+mod verdict;
+mod walk;
+
+pub use fault::{FrameFault, FrameWhy};
+pub use verdict::{Refusal, Yes, check};
