@@ -11,6 +11,8 @@ mod decoding;
 mod image;
 mod instruction;
 pub mod laws;
+#[cfg(test)]
+mod tests;
 
 pub use beam::{Point, displacement, on_screen};
 pub use decoding::{Fetch, decode, is_long, read_cell};

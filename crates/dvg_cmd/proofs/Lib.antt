@@ -1,0 +1,4 @@
+pub mod Pieces
+pub mod Limits
+pub mod Whole
+pub mod Reporting

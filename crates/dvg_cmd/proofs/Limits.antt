@@ -1,0 +1,23 @@
+-- What was read of an input, over plain values.
+use Rattle.std.proofs.Common.{◌≡◌, ℕ, ◌+◌, ◌≤◌, List, Option, None, Some, IfSome, length, take, ap, sym, ◌∙◌, arith}
+use Rattle.std.proofs.lemmas.Grind.{common_steps}
+use Rattle.dvg_cmd.specs.Runs.{limited}
+
+limited_is : (m n : ℕ) (held : List ℕ) → m ≡ n → take m held ≡ limited n held
+unfolding limited
+limited_is m n held e = ap (λ k. take k held) e
+
+-- a whole buffer was filled from the front
+pub filled : (remaining : Option (List ℕ)) (bytes : List ℕ) (m n : ℕ) → m ≡ n → IfSome remaining (λ held. bytes ≡ take m held) → IfSome remaining (λ held. bytes ≡ limited n held)
+filled None bytes m n e h = tt
+filled (Some held) bytes m n e h = h ∙ limited_is m n held e
+
+-- bytes within the limit are all of them
+pub limited-short : (n : ℕ) (held : List ℕ) → length (limited n held) + 1 ≤ n → limited n held ≡ held
+unfolding limited
+limited-short n held short = let all : length held ≤ n = grind (arith, common_steps) in grind (arith, common_steps)
+
+-- and none of more are
+pub limited-long : (n : ℕ) (held : List ℕ) → length held + 1 ≤ n → limited n held ≡ held
+unfolding limited
+limited-long n held short = grind (arith, common_steps)

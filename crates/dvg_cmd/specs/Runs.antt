@@ -1,0 +1,80 @@
+-- What a run says of the bytes that its readers held, and what it writes. All of it is profile.
+use Rattle.std.specs.Prelude.{◌≡◌, ℕ, Bool, true, false, List, take, Option, IfSome, Result, Ok, Err}
+use Rattle.std.specs.Io.KnownBytes.{Appends}
+use Rattle.dvg_words.specs.Beam.{screen}
+use Rattle.dvg_words.specs.Memory.{words_of, rom_of}
+use Rattle.dvg_cert.specs.Devices.{AppendsFront}
+use Rattle.dvg_check.specs.declared.verdict.Yes.{Yes}
+use Rattle.dvg_check.specs.declared.verdict.Refusal.{Refusal}
+use Rattle.dvg_check.specs.Verdict.{Verdict}
+use Rattle.dvg_check.specs.Safety.{Safe}
+use Rattle.dvg_cmd.specs.Report.{report_text}
+use Rattle.dvg_cmd.specs.declared.reading.TextFault.{TextFault}
+use Rattle.dvg_cmd.specs.declared.reading.TextFault.TheVariants as text
+pub use Rattle.dvg_cmd.specs.declared.running.Outcome.{Outcome}
+pub use Rattle.dvg_cmd.specs.declared.running.Outcome.TheVariants.{Accepted, Refused}
+pub use Rattle.dvg_cmd.specs.declared.running.RunFault.{RunFault}
+use Rattle.dvg_cmd.specs.declared.running.RunFault.TheVariants as fault
+
+-- the first of the bytes, up to a limit
+unfoldable pub limited : ℕ → List ℕ → List ℕ
+limited most bytes = take most bytes
+
+abbrev pub is_failed_read : {A : Type 0} → Result A TextFault → Bool
+is_failed_read (Ok bytes) = false
+is_failed_read (Err text.Read) = true
+is_failed_read (Err text.Memory) = false
+
+-- ---- which device an answer blames
+
+abbrev pub blames_rom : Result Outcome RunFault → Bool
+blames_rom (Err fault.ReadRom) = true
+blames_rom answer = false
+
+abbrev pub blames_frame : Result Outcome RunFault → Bool
+blames_frame (Err fault.ReadFrame) = true
+blames_frame answer = false
+
+abbrev pub blames_certificate : Result Outcome RunFault → Bool
+blames_certificate (Err fault.ReadCert) = true
+blames_certificate answer = false
+
+abbrev pub blames_writer : Result Outcome RunFault → Bool
+blames_writer (Err fault.Write) = true
+blames_writer answer = false
+
+-- ---- what is written
+
+-- the outcome of an accepted line, and of a refusal
+abbrev pub outcome_of : Result Yes Refusal → Outcome
+outcome_of (Ok y) = Accepted
+outcome_of (Err r) = Refused
+
+-- the verdict on all bytes that three readers held; a reader that does not tell its bytes held some
+pub record Judges (rom cert frame : Option (List ℕ)) (budget : ℕ) (verdict : Result Yes Refusal) : Type 0 where
+  pub rom_bytes : List ℕ
+  pub cert_bytes : List ℕ
+  pub frame_bytes : List ℕ
+  pub rom_held : IfSome rom (λ held. rom_bytes ≡ held)
+  pub cert_held : IfSome cert (λ held. cert_bytes ≡ held)
+  pub frame_held : IfSome frame (λ held. frame_bytes ≡ held)
+  pub is : Verdict screen rom_bytes cert_bytes frame_bytes budget verdict
+
+-- the report of this verdict was written, and nothing else
+pub record Reports (rom cert frame : Option (List ℕ)) (budget : ℕ) (old new : Option (List ℕ)) (outcome : Outcome) : Type 0 where
+  pub verdict : Result Yes Refusal
+  pub judges : Judges rom cert frame budget verdict
+  pub written : Appends old new (report_text verdict)
+  pub outcome_is : outcome ≡ outcome_of verdict
+
+-- a front of the report was written, and nothing else
+pub record ReportsFront (rom cert frame : Option (List ℕ)) (budget : ℕ) (old new : Option (List ℕ)) : Type 0 where
+  pub verdict : Result Yes Refusal
+  pub judges : Judges rom cert frame budget verdict
+  pub written : AppendsFront old new (report_text verdict)
+
+-- an accepted line was written, and every run over these bytes is safe with its counts
+pub record ReportsSafe (rom frame : Option (List ℕ)) (old new : Option (List ℕ)) : Type 0 where
+  pub yes : Yes
+  pub written : Appends old new (report_text (Ok yes))
+  pub safe : IfSome rom (λ r. IfSome frame (λ f. Safe (record { frame = words_of f; rom = rom_of r }) screen yes.words yes.depth))

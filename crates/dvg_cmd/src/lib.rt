@@ -1,0 +1,18 @@
+//! Runs of the checker over readers and writers, and the report that they write.
+//!
+//! [`run_check`] reads a ROM, a certificate and a frame, judges them by [`check`] and writes one line, the report of
+//! the verdict.
+#![tactic(auto)]
+
+mod reading;
+mod report;
+mod running;
+mod status;
+#[cfg(test)]
+mod tests;
+
+pub use dvg_cert::{Counted, CountedRead, CountedWrite, WriteFault, write_bytes};
+pub use dvg_check::{FrameFault, FrameWhy, Refusal, Yes, check};
+pub use report::{Report, report_of};
+pub use running::{Outcome, RunFault, run_check};
+pub use status::{message_of, status_of};

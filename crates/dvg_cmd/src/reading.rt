@@ -1,0 +1,120 @@
+//! Reading inputs to their limits.
+
+ghost use Rattle.std.specs.Prelude.{◌≡◌, ◌≤◌, ◌<◌, [], length, take, IfOk, IfSome, is_err};
+ghost use Rattle.std.specs.Io.KnownBytes.{Consumes, IsAtEnd};
+ghost use Rattle.dvg_cert.specs.Devices.{count_after};
+ghost use Rattle.dvg_cmd.specs.Runs.{limited, is_failed_read};
+
+use dvg_cert::CountedRead;
+use std::alloc::Global;
+use std::io;
+use std::marker::Model;
+
+/// Fills the buffer, or less of it where the reader ends before.
+fn fill<R: CountedRead>(reader: &mut R, buf: &mut [u8]) -> io::Result<usize>
+    ensures within { IfOk result (λ n. n ≤ length buf.new) }
+    ensures bytes { IfOk result (λ n. Consumes (R.remaining reader.old) (R.remaining reader.new) (take n buf.new)) }
+    ensures end { IfOk result (λ n. n < length buf.new → IsAtEnd (R.remaining reader.new)) }
+    ensures count { R.failures reader.new ≡ count_after (is_err result) (R.failures reader.old) }
+{
+    let mut filled = 0;
+    'filling: while filled < buf.len() {
+        let n = reader.read_counted(&mut buf[filled..])?;
+        if n == 0 {
+            return Ok(filled);
+        }
+        filled += n;
+    }
+    Ok(filled)
+}
+
+/// Fills the buffer, or less of it where the reader ends before, with the first of the bytes that the reader holds.
+fn read_front<R: CountedRead>(reader: &mut R, buf: &mut [u8]) -> io::Result<usize>
+    ensures within { IfOk result (λ n. n ≤ length buf.new) }
+    ensures front { IfOk result (λ n. IfSome (R.remaining reader.old) (λ held. take n buf.new ≡ take (length buf.old) held)) }
+    ensures count { R.failures reader.new ≡ count_after (is_err result) (R.failures reader.old) }
+{
+    fill(reader, buf)
+}
+
+/// The bytes of a ROM or of a frame, up to one past the limit of both, which is 2048.
+#[derive(Drop)]
+pub struct ImageBytes {
+    bytes: [u8; 2049],
+    len: usize,
+}
+
+impl Model for ImageBytes {
+    ghost use Rattle.std.specs.Prelude.{ℕ, ◌≤◌, List, take};
+
+    ghost Value = { List ℕ };
+
+    ghost view = { λ image. take image.len image.bytes };
+
+    ghost invariant = { λ image. image.len ≤ 2049 };
+}
+
+impl ImageBytes {
+    fn new() -> ImageBytes
+        ensures { result ≡ [] }
+    {
+        ImageBytes {
+            bytes: [0; 2049],
+            len: 0,
+        }
+    }
+
+    /// The bytes.
+    pub fn as_bytes(&self) -> &[u8]
+        ensures { result.now ≡ self.now }
+    {
+        &self.bytes[..self.len]
+    }
+
+    /// Reads from the start of what the reader holds.
+    #[tactic(auto, unfolding(crate::specs::Runs::limited))]
+    fn read_from<R: CountedRead>(&mut self, reader: &mut R) -> io::Result<()>
+        ensures bytes { IfOk result (λ _. IfSome (R.remaining reader.old) (λ held. self.new ≡ limited 2049 held)) }
+        ensures count { R.failures reader.new ≡ count_after (is_err result) (R.failures reader.old) }
+    {
+        self.len = read_front(reader, &mut self.bytes)?;
+        Ok(())
+    }
+}
+
+/// The bytes of a ROM or of a frame, up to one past the limit. Takes no memory.
+pub fn read_image<R: CountedRead>(reader: &mut R) -> io::Result<ImageBytes>
+    ensures bytes { IfOk result (λ image. IfSome (R.remaining reader.old) (λ held. image ≡ limited 2049 held)) }
+    ensures count { R.failures reader.new ≡ count_after (is_err result) (R.failures reader.old) }
+{
+    let mut image = ImageBytes::new();
+    image.read_from(reader)?;
+    Ok(image)
+}
+
+/// Why a text was not read.
+#[derive(Clone, Copy, Debug, PartialEq, Eq)]
+pub enum TextFault {
+    Read,
+    Memory,
+}
+
+/// The bytes of a text, up to so many.
+#[tactic(auto, unfolding(crate::specs::Runs::limited))]
+pub fn read_text<R: CountedRead>(
+    alloc: Global,
+    reader: &mut R,
+    most: usize,
+) -> Result<Vec<u8>, TextFault>
+    ensures bytes { IfOk result (λ text. IfSome (R.remaining reader.old) (λ held. text.items ≡ limited most held)) }
+    ensures count { R.failures reader.new ≡ count_after (is_failed_read result) (R.failures reader.old) }
+{
+    let Ok(mut bytes) = vec![in alloc; 0u8; most] else {
+        return Err(TextFault::Memory);
+    };
+    let Ok(len) = read_front(reader, &mut bytes) else {
+        return Err(TextFault::Read);
+    };
+    bytes.truncate(len);
+    Ok(bytes)
+}

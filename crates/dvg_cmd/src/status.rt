@@ -1,0 +1,24 @@
+//! Exit statuses, and what is said on standard error.
+
+use crate::running::{Outcome, RunFault};
+
+/// The exit status of a run: 0 accepted, 1 refused, 3 a failed read or write, 4 want of memory.
+pub fn status_of(end: &Result<Outcome, RunFault>) -> u8 {
+    match end {
+        Ok(Outcome::Accepted) => 0,
+        Ok(Outcome::Refused) => 1,
+        Ok(Outcome::NoMemory) | Err(RunFault::Memory) => 4,
+        Err(_) => 3,
+    }
+}
+
+/// The line on standard error for a fault, without its LF.
+pub fn message_of(fault: &RunFault) -> &'static str {
+    match fault {
+        RunFault::ReadRom => "dvgcheck: cannot read the ROM",
+        RunFault::ReadFrame => "dvgcheck: cannot read the frame",
+        RunFault::ReadCert => "dvgcheck: cannot read the certificate",
+        RunFault::Write => "dvgcheck: cannot write",
+        RunFault::Memory => "dvgcheck: out of memory",
+    }
+}

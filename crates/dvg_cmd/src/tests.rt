@@ -1,0 +1,364 @@
+//! Rows: frames and what is reported of them, and what a failing device leaves.
+
+mod devices;
+
+use crate::{
+    Counted, CountedRead, CountedWrite, Outcome, RunFault, message_of, run_check, status_of,
+};
+use devices::{SlowReader, SlowWriter};
+use std::alloc::{AllocError, Global};
+
+const EMPTY: &[u8] = b"dvgcert 1\ndone 0\n";
+
+const ROM: &[u8] = &[0; 2048];
+
+/// A frame that draws from 1,1 to 0,0.
+const FIRST: &[u8] = &[0x01, 0xA0, 0x01, 0x00, 0x01, 0x94, 0x01, 0x74, 0x00, 0xB0];
+
+/// What a run over memory answers, and its line.
+fn run(
+    alloc: Global,
+    rom: &[u8],
+    cert: &[u8],
+    frame: &[u8],
+    budget: u32,
+) -> (Result<Outcome, RunFault>, Vec<u8>) {
+    let mut line = Vec::new(alloc);
+    let end = run_check(
+        alloc,
+        &mut Counted::new(rom),
+        &mut Counted::new(cert),
+        &mut Counted::new(frame),
+        budget,
+        &mut Counted::new(&mut line),
+    );
+    (end, line)
+}
+
+/// Words as bytes, the low byte first.
+fn bytes_of(alloc: Global, words: &[u16]) -> Result<Vec<u8>, AllocError> {
+    let mut bytes = Vec::new(alloc);
+    for word in words {
+        bytes.extend_from_slice(&word.to_le_bytes())?;
+    }
+    Ok(bytes)
+}
+
+/// Frames over the empty certificate, budgets and reports.
+const ROWS: &[(&[u16], u32, &str)] = &[
+    (&[0xB000], 20000, "accepted shapes=0 words=1 depth=0\n"),
+    (&[0xB0B0], 1, "accepted shapes=0 words=1 depth=0\n"),
+    (
+        &[0x7000, 0x7000, 0xB000],
+        20000,
+        "refused 44 frame at 000\n",
+    ),
+    (
+        &[0xA001, 0x0001, 0x9401, 0x7401, 0xB000],
+        20000,
+        "accepted shapes=0 words=5 depth=0\n",
+    ),
+    (
+        &[0xA001, 0x0001, 0x9401, 0x7401, 0xB000],
+        5,
+        "accepted shapes=0 words=5 depth=0\n",
+    ),
+    (
+        &[0xA001, 0x0001, 0x9401, 0x7401, 0xB000],
+        4,
+        "refused 48 frame at 004\n",
+    ),
+    (
+        &[0xA001, 0x0001, 0x9401, 0x7401, 0xB000],
+        3,
+        "refused 48 frame at 002\n",
+    ),
+    (&[0xA001, 0x0001, 0x9401, 0x7401, 0xB000], 0, "refused 49\n"),
+    (
+        &[0xA001, 0x0001, 0x9401, 0x7401, 0xB000],
+        1_000_000,
+        "accepted shapes=0 words=5 depth=0\n",
+    ),
+    (
+        &[0xA001, 0x0001, 0x9401, 0x7401, 0xB000],
+        1_000_001,
+        "refused 49\n",
+    ),
+    (
+        &[0xA001, 0x0000, 0x9401, 0x7401, 0xB000],
+        20000,
+        "refused 46 frame at 002\n",
+    ),
+    (
+        &[0xA480, 0x0000, 0xB000],
+        20000,
+        "refused 41 frame at 000\n",
+    ),
+    (&[0xA080, 0x0000], 20000, "refused 40 frame at 002\n"),
+    (
+        &[0xA000, 0xF000, 0x0001, 0x1000, 0xB000],
+        20000,
+        "accepted shapes=0 words=5 depth=0\n",
+    ),
+    (
+        &[0xA3FF, 0xF000, 0x0001, 0x1000, 0xB000],
+        20000,
+        "refused 46 frame at 002\n",
+    ),
+    (
+        &[0xE001, 0xB000],
+        20000,
+        "accepted shapes=0 words=2 depth=0\n",
+    ),
+    (&[0xE000], 20000, "refused 43 frame at 000\n"),
+    (&[0xE800, 0xB000], 20000, "refused 40 frame at 800\n"),
+    (&[0xEFFF, 0xB000], 20000, "refused 40 frame at FFF\n"),
+    (&[0xD000], 20000, "refused 42 frame at 000\n"),
+    (
+        &[0xA000, 0x0000, 0xFA70, 0xB000],
+        20000,
+        "accepted shapes=0 words=4 depth=0\n",
+    ),
+    (
+        &[0xA000, 0x0000, 0xF672, 0xB000],
+        20000,
+        "refused 46 frame at 002\n",
+    ),
+    (
+        &[0xA000, 0x0000, 0xE005, 0x7000, 0x7000, 0xB000],
+        20000,
+        "accepted shapes=0 words=4 depth=0\n",
+    ),
+    (
+        &[0xA000, 0x0000, 0xE001],
+        20000,
+        "refused 43 frame at 002\n",
+    ),
+    (&[0xC800, 0xB000], 20000, "refused 90\n"),
+    // A fault of an item before the call comes first, and so does the call before a later fault.
+    (
+        &[0x7000, 0x7000, 0xC800],
+        20000,
+        "refused 44 frame at 000\n",
+    ),
+    (&[0xC800, 0xD000], 20000, "refused 90\n"),
+    // A dark stroke may leave the screen.
+    (
+        &[0xA3FF, 0x0000, 0x9001, 0x0000, 0xB000],
+        20000,
+        "accepted shapes=0 words=5 depth=0\n",
+    ),
+    (
+        &[0xA3FF, 0x0000, 0x9001, 0x1000, 0xB000],
+        20000,
+        "refused 46 frame at 002\n",
+    ),
+    // A LABS without its second word is missing, be its first word odd or not.
+    (&[0xA400], 20000, "refused 40 frame at 000\n"),
+    // The budget is asked at the jump, before what stands at its target.
+    (&[0xA000, 0x0000, 0xE800], 2, "refused 48 frame at 002\n"),
+    // A jump may lead into the second word of a long instruction.
+    (
+        &[0xE002, 0x7000, 0xB000],
+        20000,
+        "accepted shapes=0 words=2 depth=0\n",
+    ),
+];
+
+#[test]
+fn reports_rows(rt: HostRuntime) -> Result<(), AllocError> {
+    for (words, budget, report) in ROWS {
+        let frame = bytes_of(rt.alloc(), words)?;
+        let (end, line) = run(rt.alloc(), ROM, EMPTY, &frame, *budget);
+        let outcome = if report.starts_with("accepted") {
+            Outcome::Accepted
+        } else {
+            Outcome::Refused
+        };
+        assert_eq!(rt; line.as_slice(), report.as_bytes(), "for {report}");
+        assert_eq!(rt; end, Ok(outcome), "for {report}");
+    }
+    Ok(())
+}
+
+#[test]
+fn follows_a_far_jump(rt: HostRuntime) -> Result<(), AllocError> {
+    let mut words = [0u16; 514];
+    words[0] = 0xE201;
+    words[0x201] = 0xB000;
+    let frame = bytes_of(rt.alloc(), &words)?;
+    let (end, line) = run(rt.alloc(), ROM, EMPTY, &frame, 20000);
+    assert_eq!(rt;
+        (end, line.as_slice()),
+        (
+            Ok(Outcome::Accepted),
+            b"accepted shapes=0 words=2 depth=0\n".as_slice()
+        )
+    );
+    Ok(())
+}
+
+/// ROMs, certificates and frames of wrong lengths or other texts, and their reports.
+const LENGTHS: &[(usize, &[u8], usize, &str)] = &[
+    (2047, EMPTY, 2, "refused 1\n"),
+    (2049, EMPTY, 2, "refused 1\n"),
+    (2060, b"", 3, "refused 1\n"),
+    (0, EMPTY, 2, "refused 1\n"),
+    (2048, EMPTY, 0, "refused 2\n"),
+    (2048, b"", 3, "refused 2\n"),
+    (2048, EMPTY, 2050, "refused 2\n"),
+    (2048, b"", 2, "refused 90\n"),
+    (2048, b"dvgcert 1\ndone 0\nx", 2, "refused 90\n"),
+    (
+        2048,
+        b"dvgcert 1\nshape 800 0 end rel 1047552 785408 box 0 1047552 0 785408 depth 0 words 3 scale 0\ndone 1\n",
+        2,
+        "refused 90\n",
+    ),
+];
+
+#[test]
+fn refuses_lengths_and_certificates(rt: HostRuntime) {
+    let rom = [0u8; 2060];
+    let mut frame = [0u8; 2050];
+    frame[1] = 0xB0;
+    for (rom_length, cert, frame_length, report) in LENGTHS {
+        let front = frame.get(..*frame_length).unwrap_or(&[]);
+        let (end, line) = run(
+            rt.alloc(),
+            rom.get(..*rom_length).unwrap_or(&[]),
+            cert,
+            front,
+            20000,
+        );
+        assert_eq!(rt;
+            line.as_slice(),
+            report.as_bytes(),
+            "for {rom_length} {frame_length}"
+        );
+        assert_eq!(rt;
+            end,
+            Ok(Outcome::Refused),
+            "for {rom_length} {frame_length}"
+        );
+    }
+}
+
+/// What a run answers where each reader and the writer are slow, and fail after so many calls.
+fn run_slow<W: CountedWrite>(
+    alloc: Global,
+    most: usize,
+    reads: [u32; 3],
+    out: &mut W,
+) -> (Result<Outcome, RunFault>, [u32; 3]) {
+    let reader = |rest, reads_left| Counted::new(SlowReader {
+        rest,
+        most,
+        reads_left,
+    });
+    let mut rom = reader(ROM, reads[0]);
+    let mut frame = reader(FIRST, reads[1]);
+    let mut cert = reader(EMPTY, reads[2]);
+    let end = run_check(alloc, &mut rom, &mut cert, &mut frame, 20000, out);
+    (
+        end,
+        [
+            CountedRead::failures(&rom),
+            CountedRead::failures(&frame),
+            CountedRead::failures(&cert),
+        ],
+    )
+}
+
+const ACCEPTED: &[u8] = b"accepted shapes=0 words=5 depth=0\n";
+
+const MANY: u32 = 3000;
+
+#[test]
+fn reads_byte_by_byte(rt: HostRuntime) {
+    let mut out = Counted::new(SlowWriter::new(1, MANY));
+    let (end, failures) = run_slow(rt.alloc(), 1, [MANY; 3], &mut out);
+    assert_eq!(rt; (end, failures), (Ok(Outcome::Accepted), [0; 3]));
+    assert_eq!(rt; CountedWrite::failures(&out), 0);
+}
+
+#[test]
+fn ends_at_a_failed_read(rt: HostRuntime) {
+    for (reads, fault, failures) in [
+        ([0, MANY, MANY], RunFault::ReadRom, [1, 0, 0]),
+        ([4, MANY, MANY], RunFault::ReadRom, [1, 0, 0]),
+        ([0, 0, 0], RunFault::ReadRom, [1, 0, 0]),
+        ([MANY, 0, MANY], RunFault::ReadFrame, [0, 1, 0]),
+        ([MANY, 1, 0], RunFault::ReadFrame, [0, 1, 0]),
+        ([MANY, MANY, 0], RunFault::ReadCert, [0, 0, 1]),
+        ([MANY, MANY, 1], RunFault::ReadCert, [0, 0, 1]),
+    ] {
+        let mut told = SlowWriter::new(64, MANY);
+        let mut out = Counted::new(&mut told);
+        let answer = run_slow(rt.alloc(), 512, reads, &mut out);
+        assert_eq!(rt; answer, (Err(fault), failures), "at {reads:?}");
+        assert_eq!(rt; CountedWrite::failures(&out), 0, "at {reads:?}");
+        assert_eq!(rt; told.told(), b"".as_slice(), "at {reads:?}");
+    }
+}
+
+#[test]
+fn ends_at_a_failed_write(rt: HostRuntime) {
+    for (most, writes, told_len) in [
+        (1, MANY, 34),
+        (7, MANY, 34),
+        (64, 1, 34),
+        (1, 33, 33),
+        (7, 0, 0),
+        (7, 4, 28),
+        (0, MANY, 0),
+    ] {
+        let mut told = SlowWriter::new(most, writes);
+        let mut out = Counted::new(&mut told);
+        let (end, _) = run_slow(rt.alloc(), 512, [MANY; 3], &mut out);
+        let failures = CountedWrite::failures(&out);
+        assert_eq!(rt;
+            told.told(),
+            ACCEPTED.get(..told_len).unwrap_or(&[]),
+            "at {most} {writes}"
+        );
+        if told_len == 34 {
+            assert_eq!(rt;
+                (end, failures),
+                (Ok(Outcome::Accepted), 0),
+                "at {most} {writes}"
+            );
+        } else {
+            assert_eq!(rt;
+                (end, failures),
+                (Err(RunFault::Write), 1),
+                "at {most} {writes}"
+            );
+        }
+    }
+}
+
+#[test]
+fn says_how_it_ended(rt: HostRuntime) {
+    for (end, status) in [
+        (Ok(Outcome::Accepted), 0),
+        (Ok(Outcome::Refused), 1),
+        (Ok(Outcome::NoMemory), 4),
+        (Err(RunFault::ReadRom), 3),
+        (Err(RunFault::ReadFrame), 3),
+        (Err(RunFault::ReadCert), 3),
+        (Err(RunFault::Write), 3),
+        (Err(RunFault::Memory), 4),
+    ] {
+        assert_eq!(rt; status_of(&end), status, "at {end:?}");
+    }
+    for (fault, message) in [
+        (RunFault::ReadRom, "dvgcheck: cannot read the ROM"),
+        (RunFault::ReadFrame, "dvgcheck: cannot read the frame"),
+        (RunFault::ReadCert, "dvgcheck: cannot read the certificate"),
+        (RunFault::Write, "dvgcheck: cannot write"),
+        (RunFault::Memory, "dvgcheck: out of memory"),
+    ] {
+        assert_eq!(rt; message_of(&fault), message);
+    }
+}

@@ -1,0 +1,74 @@
+//! Readers and writers that are slow, or fail at a chosen call.
+
+use std::io;
+use std::io::{Read, Write};
+
+/// A reader that gives so many bytes a read, and fails after so many reads.
+#[derive(Drop)]
+pub struct SlowReader<'a> {
+    pub rest: &'a [u8],
+    pub most: usize,
+    pub reads_left: u32,
+}
+
+impl Read for SlowReader<'_> {
+    fn read(&mut self, buf: &mut [u8]) -> io::Result<usize> {
+        if self.reads_left == 0 {
+            return Err(io::Error::from(io::ErrorKind::Other));
+        }
+        self.reads_left -= 1;
+        let count = self.rest.len().min(self.most).min(buf.len());
+        let (front, rest) = self.rest.split_at(count);
+        buf[..count].copy_from_slice(front);
+        self.rest = rest;
+        Ok(count)
+    }
+}
+
+/// A writer that takes so many bytes a write, and fails after so many writes.
+#[derive(Drop)]
+pub struct SlowWriter {
+    pub told: [u8; 64],
+    pub len: usize,
+    pub most: usize,
+    pub writes_left: u32,
+}
+
+impl SlowWriter {
+    pub fn new(most: usize, writes_left: u32) -> SlowWriter {
+        SlowWriter {
+            told: [0; 64],
+            len: 0,
+            most,
+            writes_left,
+        }
+    }
+
+    /// What was taken so far.
+    pub fn told(&self) -> &[u8] {
+        self.told.get(..self.len).unwrap_or(&[])
+    }
+}
+
+impl Write for SlowWriter {
+    fn write(&mut self, buf: &[u8]) -> io::Result<usize> {
+        if self.writes_left == 0 {
+            return Err(io::Error::from(io::ErrorKind::Other));
+        }
+        self.writes_left -= 1;
+        let mut taken = 0;
+        for byte in buf {
+            if taken == self.most || self.len >= self.told.len() {
+                break;
+            }
+            self.told[self.len] = *byte;
+            self.len += 1;
+            taken += 1;
+        }
+        Ok(taken)
+    }
+
+    fn flush(&mut self) -> io::Result<()> {
+        Ok(())
+    }
+}

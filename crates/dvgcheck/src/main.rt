@@ -1,0 +1,75 @@
+//! `dvgcheck`: checks frames and vector ROMs of Atari's Digital Vector Generator, and prints the report.
+//!
+//! Thin over `dvg_cmd`: it reads the command line, opens the files and says how it went.
+#![tactic(auto)]
+
+mod command;
+
+use command::{CheckWords, Usage, read_words};
+use dvg_cmd::{Counted, Outcome, RunFault, message_of, run_check, status_of};
+use std::fs::File;
+use std::process::ExitCode;
+use std::{fs, io};
+
+/// Opens the files in the order ROM, frame, certificate, before any is read, and runs the check.
+fn check(rt: &HostRuntime, words: &CheckWords) -> Result<Outcome, RunFault> {
+    let rom = open(rt, words.rom, RunFault::ReadRom)?;
+    let frame = open(rt, words.frame, RunFault::ReadFrame)?;
+    let cert = open(rt, words.cert, RunFault::ReadCert)?;
+    run_check(
+        rt.alloc(),
+        &mut Counted::new(rom),
+        &mut Counted::new(cert),
+        &mut Counted::new(frame),
+        words.budget,
+        &mut Counted::new(io::writer(rt)),
+    )
+}
+
+fn open(rt: &HostRuntime, path: &str, fault: RunFault) -> Result<File, RunFault> {
+    fs::open(rt, path).map_err(|_| fault)
+}
+
+/// Says a fault on standard error. Where that can't be written either, the exit status alone tells.
+fn say(rt: &HostRuntime, message: &str) {
+    let _ = eprintln!(rt; "{message}");
+}
+
+fn say_usage(rt: &HostRuntime, usage: &Usage) -> u8 {
+    match usage {
+        Usage::Unreadable => {
+            say(rt, "dvgcheck: cannot read the command line");
+            2
+        }
+        Usage::OutOfMemory => {
+            say(rt, message_of(&RunFault::Memory));
+            status_of(&Err(RunFault::Memory))
+        }
+        Usage::Clap(error) => {
+            if error.print(rt).is_err() && !error.use_stderr() {
+                say(rt, message_of(&RunFault::Write));
+                return status_of(&Err(RunFault::Write));
+            }
+            if error.use_stderr() { 2 } else { 0 }
+        }
+    }
+}
+
+fn run(rt: &HostRuntime) -> u8 {
+    let words = match command::words(rt) {
+        Ok(words) => words,
+        Err(usage) => return say_usage(rt, &usage),
+    };
+    let end = match read_words(rt.alloc(), &words) {
+        Ok(words) => check(rt, &words),
+        Err(usage) => return say_usage(rt, &usage),
+    };
+    if let Err(fault) = &end {
+        say(rt, message_of(fault));
+    }
+    status_of(&end)
+}
+
+fn main(rt: HostRuntime) -> ExitCode {
+    ExitCode::from(run(&rt))
+}
