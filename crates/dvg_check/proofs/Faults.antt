@@ -1,4 +1,4 @@
--- The items of a shape or of a frame are determined: so a walk to the last one has seen them all, and there is one first
+-- The items of a shape or of a frame are determined: so a walk to the last one has sight them all, and there is one first
 -- fault at the most.
 use Rattle.std.proofs.Common.{List, Option, length, refl, sym, arith, ap, Some, None, subst, ◌≡◌, ◌+◌, ◌<◌, ◌∷◌, ◌∙◌, ℕ, ⊎_elim, []}
 use Rattle.std.proofs.lemmas.Bool.{cases_lt}
@@ -9,7 +9,7 @@ use Rattle.dvg_words.specs.Values.{Window}
 use Rattle.dvg_words.specs.declared.instruction.Cell.TheVariants.{Holds}
 use Rattle.dvg_words.specs.declared.instruction.Instr.TheVariants.{Halt}
 use Rattle.dvg_cert.specs.declared.entry.Entry.{Entry}
-use Rattle.dvg_check.specs.FirstFault.{AllBefore, FaultAt, frame_order}
+use Rattle.dvg_check.specs.FirstFault.{AllBefore, FaultAt, frame_number}
 use Rattle.dvg_check.specs.Items.{LeadsTo, next_place}
 use Rattle.dvg_check.specs.Known.{words_before, frame_context, depth_before}
 use Rattle.dvg_check.specs.Laws.{OneFault, NoFault, OneCount}
@@ -68,7 +68,7 @@ module _ (kind : Kind) (word : ℕ → Option ℕ) (first : ℕ) where
         (λ le. here_same earlier items q i.at (same_lead earlier items q i.at h lead.0 (omega arith)) kept.1)
         (cases_lt (length earlier) (length items))
 
-    -- what a walk to the last item has seen
+    -- what a walk to the last item has sight
     pub all_kept : (items : List Item) (i : Item) → LeadsTo kind word first items i.at → cell_at word i.at ≡ Holds i.format i.instr → next_place kind i ≡ None → AllBefore keeps (i ∷ items) → AllKeep kind word first keeps
     all_kept items i lead is last kept earlier q h =
         ⊎_elim
@@ -84,7 +84,7 @@ module _ (kind : Kind) (word : ℕ → Option ℕ) (first : ℕ) where
       pub fault_or_none : (at : ℕ) (why : Why) → FaultAt order kind word first keeps at why → AllKeep kind word first keeps → ⊥
       fault_or_none at why f all = f.breaks (all f.items at f.leads why)
 
-      -- the fault of fewer items comes first
+      -- the fault of fewer items stretch first
       not_before : (p q : ℕ) (u v : Why) → (f : FaultAt order kind word first keeps p u) → (g : FaultAt order kind word first keeps q v) → length f.items < length g.items → ⊥
       not_before p q u v f g less = f.breaks (shorter g.items q g.leads g.before f.items p f.leads less u)
 
@@ -119,30 +119,29 @@ module _ (kind : Kind) (word : ℕ → Option ℕ) (first : ℕ) where
 -- the rule of an order
 abbrev rule_of : ℕ → FrameWhy
 rule_of n =
-    if n == 0 then frame.NotYet else if n == 40 then frame.Unmapped else if n == 41 then frame.Odd else if n == 42 then frame.ReturnInFrame else if n == 43 then frame.BackJump else if n == 44 then frame.BeamUnknown else if n == 45 then frame.ScaleUnknown else if n == 46 then frame.OffScreen else if n == 47 then frame.NoEntry else frame.Budget
+    if n == 40 then frame.Unmapped else if n == 41 then frame.Odd else if n == 42 then frame.ReturnInFrame else if n == 43 then frame.BackJump else if n == 44 then frame.BeamUnknown else if n == 45 then frame.ScaleUnknown else if n == 46 then frame.OffScreen else if n == 47 then frame.NoEntry else frame.Budget
 
-rule_of-order : (why : FrameWhy) → rule_of (frame_order why) ≡ why
-rule_of-order frame.NotYet = refl
-rule_of-order frame.Unmapped = refl
-rule_of-order frame.Odd = refl
-rule_of-order frame.ReturnInFrame = refl
-rule_of-order frame.BackJump = refl
-rule_of-order frame.BeamUnknown = refl
-rule_of-order frame.ScaleUnknown = refl
-rule_of-order frame.OffScreen = refl
-rule_of-order frame.NoEntry = refl
-rule_of-order frame.Budget = refl
+rule_of-number : (why : FrameWhy) → rule_of (frame_number why) ≡ why
+rule_of-number frame.Unmapped = refl
+rule_of-number frame.Odd = refl
+rule_of-number frame.ReturnInFrame = refl
+rule_of-number frame.BackJump = refl
+rule_of-number frame.BeamUnknown = refl
+rule_of-number frame.ScaleUnknown = refl
+rule_of-number frame.OffScreen = refl
+rule_of-number frame.NoEntry = refl
+rule_of-number frame.Budget = refl
 
 pub one_fault : OneFault
 one_fault w words list budget f g a b =
     let keeps = FramePlaceKeeps w words list budget in
-    let s = same_items Frame (frame_word words) 0 FrameWhy keeps frame_order f.word g.word f.why g.why a b in
-    let o = same_order Frame (frame_word words) 0 FrameWhy keeps frame_order f.word g.word f.why g.why a b in
-    let why : f.why ≡ g.why = sym (rule_of-order f.why) ∙ ap rule_of o ∙ rule_of-order g.why in
+    let s = same_items Frame (frame_word words) 0 FrameWhy keeps frame_number f.word g.word f.why g.why a b in
+    let o = same_order Frame (frame_word words) 0 FrameWhy keeps frame_number f.word g.word f.why g.why a b in
+    let why : f.why ≡ g.why = sym (rule_of-number f.why) ∙ ap rule_of o ∙ rule_of-number g.why in
     λ x. record { word = s.place x; why = why x }
 
 pub no_fault : NoFault
-no_fault w words list budget count depth f good fault = fault_or_none Frame (frame_word words) 0 FrameWhy (FramePlaceKeeps w words list budget) frame_order f.word f.why fault good.keeps
+no_fault w words list budget count depth f good fault = fault_or_none Frame (frame_word words) 0 FrameWhy (FramePlaceKeeps w words list budget) frame_number f.word f.why fault good.keeps
 
 -- the last items of two walks are one
 last_same : (w : Window) (words : List ℕ) (list : List Entry) (budget count depth count' depth' : ℕ) (a : GoodFrame w words list budget count depth) (b : GoodFrame w words list budget count' depth') → Same a.items b.items a.at b.at

@@ -18,17 +18,17 @@ use Rattle.dvg_cert.specs.declared.entry.End.TheVariants.{Rel, Abs, Lost}
 use Rattle.dvg_cert.specs.declared.entry.Entry.{Entry}
 use Rattle.dvg_cert.specs.declared.entry.LitBox.{LitBox}
 use Rattle.dvg_cert.specs.declared.entry.LitBox.TheVariants.{Empty}
-use Rattle.dvg_check.specs.Behaving.{Counts, Ends, LitFits, Comes}
+use Rattle.dvg_check.specs.Behaving.{Counts, Ends, LitFits, Stretch}
 use Rattle.dvg_check.specs.Items.{LeadsTo}
 use Rattle.dvg_check.specs.Known.{fixed_place, place_moved_by, place_before, frame_context, effects, total_move, depth_under, depth_before, callee, words_before}
 use Rattle.dvg_check.specs.Laws.{GoodIsSafe, ExactIsExact}
 use Rattle.dvg_check.specs.Lit.{LitInBox, extent}
-use Rattle.dvg_check.specs.Rules.{Good, AllKeep, FramePlaceKeeps, FrameKeeps, seen, CellKeeps, GoodFrame}
-use Rattle.dvg_check.specs.Safety.{FineStatus, IsFine}
+use Rattle.dvg_check.specs.Rules.{Good, AllKeep, FramePlaceKeeps, FrameKeeps, sight, CellKeeps, GoodFrame}
+use Rattle.dvg_check.specs.Safety.{IsSafeStatus, IsSafeState}
 use Rattle.dvg_check.specs.declared.fault.FrameWhy.{FrameWhy}
 use Rattle.dvg_check.specs.declared.fault.FrameWhy.TheVariants as frame
 use Rattle.dvg_check.specs.declared.fault.Mode.{Mode}
-use Rattle.dvg_check.specs.declared.fault.Mode.TheVariants.{Bounds, Exactly}
+use Rattle.dvg_check.specs.declared.fault.Mode.TheVariants.{Bound, Exact}
 use Rattle.dvg_check.specs.declared.item.Item.{Item}
 use Rattle.dvg_check.specs.declared.item.Kind.TheVariants.{Frame}
 use Rattle.dvg_check.specs.declared.known.Effect.{Effect}
@@ -36,7 +36,7 @@ use Rattle.dvg_check.specs.declared.known.Effect.TheVariants.{Sets, Loses, Moves
 use Rattle.dvg_check.specs.declared.known.LitExtent.{LitExtent}
 use Rattle.dvg_check.specs.declared.known.LitExtent.TheVariants.{Nothing, Anywhere, Between}
 use Rattle.dvg_check.proofs.Onward.{Stands}
-use Rattle.dvg_check.proofs.Runs.{reached_on, counts_sum, counts_same, AllByRecursion-append, AllByRecursion-map, rest_of, Grows, AllByRecursion-back, grows, comes_as}
+use Rattle.dvg_check.proofs.Runs.{reached_on, counts_sum, counts_same, AllByRecursion-append, AllByRecursion-map, rest_of, Grows, AllByRecursion-back, grows, stretch_as}
 use Rattle.dvg_check.proofs.ShapeLaws.{named_listed, word_count-some, Facts, all_shapes, arrive}
 use Rattle.dvg_check.proofs.Steps.{next_there, own, stands}
 
@@ -107,10 +107,10 @@ length-places Long p = refl
 length-places Short p = refl
 
 stored_all : (mode : Mode) (x d : ℕ) → Counts mode x (max 0 d) → Counts mode x d
-stored_all Bounds x d h = omega (arith, h)
-stored_all Exactly x d h = omega (arith, h)
+stored_all Bound x d h = omega (arith, h)
+stored_all Exact x d h = omega (arith, h)
 
-halt : (mode : Mode) (m : Memory) (w : Window) (most words depth at : ℕ) (format : Format) (base p : Point) (scale : ℕ) (t : State) → cell_at (word_at m) at ≡ Holds format Halt → AllByRecursion (λ q. InFrame m.frame q ⊎ InRom m.rom.map q) (places format at) → t.pc ≡ at → words ≡ most + word_count format → Comes mode m (λ q. InFrame m.frame q ⊎ InRom m.rom.map q) (LitFits w Empty base) most depth (start p scale) t → Halts mode m w words depth (start p scale)
+halt : (mode : Mode) (m : Memory) (w : Window) (most words depth at : ℕ) (format : Format) (base p : Point) (scale : ℕ) (t : State) → cell_at (word_at m) at ≡ Holds format Halt → AllByRecursion (λ q. InFrame m.frame q ⊎ InRom m.rom.map q) (places format at) → t.pc ≡ at → words ≡ most + word_count format → Stretch mode m (λ q. InFrame m.frame q ⊎ InRom m.rom.map q) (LitFits w Empty base) most depth (start p scale) t → Halts mode m w words depth (start p scale)
 halt mode m w most words depth at format base p scale t is mine pc sum c =
     let Ok : ℕ → Type 0 = λ q. InFrame m.frame q ⊎ InRom m.rom.map q in
     let h : State = record t { fetched = places format t.pc ++ t.fetched } in
@@ -126,13 +126,13 @@ halt mode m w most words depth at format base p scale t is mine pc sum c =
       lit = subst (AllByRecursion (Ends (InWindow w))) (sym c.drew) (AllByRecursion-append (Ends (InWindow w)) c.strokes [] (AllByRecursion-map (LitFits w Empty base) (Ends (InWindow w)) c.strokes (on_screen w base) c.lit) tt);
     }
 
-fine : (m : Memory) (w : Window) (words depth n : ℕ) (s : State) (a : Status) (r : Halts Bounds m w words depth s) → Reached m n (Running s) a → FineStatus m w words depth n a
-fine m w words depth n s a r reached =
+safe_status : (m : Memory) (w : Window) (words depth n : ℕ) (s : State) (a : Status) (r : Halts Bound m w words depth s) → Reached m n (Running s) a → IsSafeStatus m w words depth n a
+safe_status m w words depth n s a r reached =
     let on = rest_of m n r.n (Running s) a r.h reached r.reached in
     by_status a on.0 (omega (arith, on.1, r.within)) on.2
   where
-    as_fine : (b : State) → n ≤ words → Grows b r.h → IsFine m w words depth n b
-    as_fine b le g =
+    as_safe : (b : State) → n ≤ words → Grows b r.h → IsSafeState m w words depth n b
+    as_safe b le g =
         record {
           within = le;
           few = omega (arith, ap length g.fetched, length-append g.words b.fetched, r.few);
@@ -141,17 +141,17 @@ fine m w words depth n s a r reached =
           lit = AllByRecursion-back (Ends (InWindow w)) g.strokes b.strokes (subst (AllByRecursion (Ends (InWindow w))) g.drew r.lit);
         }
 
-    by_status : (b : Status) (j : ℕ) → n ≤ words → Reached m j b (Halted r.h) → FineStatus m w words depth n b
-    by_status (Running b) j le q = as_fine b le (grows m j (Running b) (Halted r.h) q)
-    by_status (Halted b) j le q = as_fine b le (grows m j (Halted b) (Halted r.h) q)
+    by_status : (b : Status) (j : ℕ) → n ≤ words → Reached m j b (Halted r.h) → IsSafeStatus m w words depth n b
+    by_status (Running b) j le q = as_safe b le (grows m j (Running b) (Halted r.h) q)
+    by_status (Halted b) j le q = as_safe b le (grows m j (Halted b) (Halted r.h) q)
     by_status (Fault b) zero le q = cc
     by_status (Fault b) (suc j) le q = q.1
 
 -- ---- the whole
 
 module _ (mode : Mode) (m : Memory) (w : Window) (list : List Entry) (budget : ℕ) (mem : IsMemory m) (good : Good mode w m.rom list) (keep : AllKeep Frame (frame_word m.frame) 0 (FramePlaceKeeps w m.frame list budget)) where
-  frame_rule : (earlier : List Item) (i : Item) → LeadsTo Frame (frame_word m.frame) 0 earlier i.at → cell_at (frame_word m.frame) i.at ≡ Holds i.format i.instr → (why : FrameWhy) → FrameKeeps w budget (seen (frame_context list) earlier i) why
-  frame_rule earlier i lead is why = subst (λ c. CellKeeps frame.Unmapped frame.Odd (λ j. FrameKeeps w budget (seen (frame_context list) earlier j)) i.at c why) is (keep earlier i.at lead why)
+  frame_rule : (earlier : List Item) (i : Item) → LeadsTo Frame (frame_word m.frame) 0 earlier i.at → cell_at (frame_word m.frame) i.at ≡ Holds i.format i.instr → (why : FrameWhy) → FrameKeeps w budget (sight (frame_context list) earlier i) why
+  frame_rule earlier i lead is why = subst (λ c. CellKeeps frame.Unmapped frame.Odd (λ j. FrameKeeps w budget (sight (frame_context list) earlier j)) i.at c why) is (keep earlier i.at lead why)
 
   frame_facts : (earlier : List Item) (i : Item) → LeadsTo Frame (frame_word m.frame) 0 earlier i.at → cell_at (frame_word m.frame) i.at ≡ Holds i.format i.instr → Facts mode m w (frame_context list) Empty (λ q. InFrame m.frame q ⊎ InRom m.rom.map q) earlier i
   frame_facts earlier i lead is =
@@ -176,15 +176,15 @@ run mode m w list budget words depth mem three good gf p scale =
     let st : Stands c origin [] [] 0 (start p scale) = record { pc = refl; return_stack = refl; room = omega arith; place = tt; scale = tt } in
     let a = arrive mode m w c Empty origin Ok 0 [] (start p scale) mem (λ q h. inr h) (frame_facts mode m w list budget mem good gf.keeps) st gf.items gf.at gf.leads (omega (arith, depth_before-four list three gf.items)) in
     let mine = AllByRecursion-map (InFrame m.frame) Ok (places gf.format gf.at) (λ q h. inl h) (own Frame m gf.at gf.format Halt mem gf.halts) in
-    let come = comes_as mode m Ok (LitFits w Empty origin) (words_before c gf.items) (words_before c gf.items) _ depth (start p scale) a.0 refl (omega (arith, gf.depth_is)) a.1 in
+    let come = stretch_as mode m Ok (LitFits w Empty origin) (words_before c gf.items) (words_before c gf.items) _ depth (start p scale) a.0 refl (omega (arith, gf.depth_is)) a.1 in
     halt mode m w (words_before c gf.items) words depth gf.at gf.format origin p scale a.0 (stands Frame m gf.at gf.format Halt mem gf.halts) mine a.2.pc gf.count_is come
 
 pub good_is_safe : GoodIsSafe
 good_is_safe m w list budget words depth mem three good gf =
     record {
       four = omega (arith, gf.depth_is, depth_before-four list three gf.items);
-      halts = λ p scale g. let r = run Bounds m w list budget words depth mem three good gf p scale in (r.n, r.h, r.within, r.reached);
-      fine = λ p scale g n s reached. fine m w words depth n (start p scale) s (run Bounds m w list budget words depth mem three good gf p scale) reached;
+      halts = λ p scale g. let r = run Bound m w list budget words depth mem three good gf p scale in (r.n, r.h, r.within, r.reached);
+      each = λ p scale g n s reached. safe_status m w words depth n (start p scale) s (run Bound m w list budget words depth mem three good gf p scale) reached;
     }
 
 -- two halts of one run are the same
@@ -194,7 +194,7 @@ halts_at m (suc j) a b q = absurd q.1
 
 pub exact_is_exact : ExactIsExact
 exact_is_exact m w list budget words depth mem three good gf p scale n h g reached =
-    let r = run Exactly m w list budget words depth mem three good gf p scale in
+    let r = run Exact m w list budget words depth mem three good gf p scale in
     let on = rest_of m n r.n (Running (start p scale)) (Halted h) r.h reached r.reached in
     let same = halts_at m on.0 h r.h on.2 in
     (ap (λ (s : State). length s.fetched) same ∙ r.few, ap (λ (s : State). s.max_stack) same ∙ r.stored)

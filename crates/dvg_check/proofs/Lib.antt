@@ -4,7 +4,7 @@ pub mod Onward
 pub mod ShapeLaws
 pub mod FrameLaws
 pub mod Faults
-pub mod Bounds
+pub mod Near
 pub mod Loop
 pub mod FrameWalk
 pub mod Accepting

@@ -14,14 +14,14 @@ use Rattle.dvg_cert.specs.declared.entry.Key.{Key}
 use Rattle.dvg_check.specs.FirstFault.{AllBefore, FaultAt}
 use Rattle.dvg_check.specs.Items.{place_after, next_place, LeadsTo}
 use Rattle.dvg_check.specs.Known.{Context, known_before}
-use Rattle.dvg_check.specs.Rules.{PlaceKeeps, CellKeeps, seen}
-use Rattle.dvg_check.specs.Running.{IsSound, seen_with, IsNearPlace, WalksTo}
+use Rattle.dvg_check.specs.Rules.{PlaceKeeps, CellKeeps, sight}
+use Rattle.dvg_check.specs.Private.Running.{IsSound, sight_with, IsNearPlace, WalksTo}
 use Rattle.dvg_check.specs.declared.item.Item.{Item}
 use Rattle.dvg_check.specs.declared.item.Kind.{Kind}
 use Rattle.dvg_check.specs.declared.item.Kind.TheVariants.{Shape, Frame}
 use Rattle.dvg_check.specs.declared.known.Known.{Known}
 use Rattle.dvg_check.specs.declared.known.Seen.{Seen}
-use Rattle.dvg_check.proofs.Bounds.{IsNearPlace-more, seen_without_entries}
+use Rattle.dvg_check.proofs.Near.{IsNearPlace-more, sight_without_entries}
 use Rattle.dvg_check.proofs.Faults.{all_kept}
 use Rattle.dvg_check.proofs.ShapeLaws.{word_count-some}
 use Rattle.dvg_check.proofs.Steps.{stands}
@@ -81,7 +81,7 @@ module _ (Why : Type 0) (order : Why → ℕ) (missing odd : Why) (Keeps : Seen 
 
   -- what a cell keeps
   abbrev CellKept : List Item → ℕ → Why → Cell → Type 0
-  CellKept items at why cell = CellKeeps missing odd (λ i. Keeps (seen context items i)) at cell why
+  CellKept items at why cell = CellKeeps missing odd (λ i. Keeps (sight context items i)) at cell why
 
   pub begin : (known : Known) → known ≡ known_before context [] → IsSound 0 known → first < 4096 → Walked context word first keeps first known
   begin known is sound lt =
@@ -115,12 +115,12 @@ module _ (Why : Type 0) (order : Why → ℕ) (missing odd : Why) (Keeps : Seen 
       }
 
   -- an item, as the code sees it and as the rules do
-  module _ (at : ℕ) (known : Known) (format : Format) (instr : Instr) (v : Seen) (k : Walked context word first keeps at known) (is : cell_at word at ≡ Holds format instr) (v_is : v ≡ seen_with None known (record { at = at; format = format; instr = instr })) where
+  module _ (at : ℕ) (known : Known) (format : Format) (instr : Instr) (v : Seen) (k : Walked context word first keeps at known) (is : cell_at word at ≡ Holds format instr) (v_is : v ≡ sight_with None known (record { at = at; format = format; instr = instr })) where
     abbrev item : Item
     item = record { at = at; format = format; instr = instr }
 
-    same : seen context k.items item ≡ v
-    same = seen_without_entries kind scale k.items item known k.knows ∙ sym v_is
+    same : sight context k.items item ≡ v
+    same = sight_without_entries kind scale k.items item known k.knows ∙ sym v_is
 
     kept_here : (why : Why) → Keeps v why → keeps k.items at why
     kept_here why h = subst (CellKept k.items at why) (sym is) (subst (λ x. Keeps x why) (sym same) h)

@@ -23,19 +23,19 @@ use Rattle.dvg_cert.specs.declared.entry.Key.{Key}
 use Rattle.dvg_cert.specs.declared.entry.Key.TheVariants.{Any, At}
 use Rattle.dvg_cert.specs.declared.entry.LitBox.{LitBox}
 use Rattle.dvg_cert.specs.declared.entry.LitBox.TheVariants.{Empty, Span}
-use Rattle.dvg_check.specs.Behaving.{box_at, PlaceFits, LitFits, ScaleFits, Comes, Returned, Behaves}
+use Rattle.dvg_check.specs.Behaving.{box_at, PlaceFits, LitFits, ScaleFits, Stretch, Returned, Behaves}
 use Rattle.dvg_check.specs.Items.{place_after, LeadsTo}
 use Rattle.dvg_check.specs.Known.{place_moved_by, draw_effect, Context, place_before, scale_before, target, callee, stop_effect, effect, callee_effect, callee_words, depth_under, scale_set, callee_at}
 use Rattle.dvg_check.specs.Laws.{IsDrawOrLabs, lit_on, word_of}
 use Rattle.dvg_check.specs.Lit.{InBox, LitInWindow, LitInBox, PlaceKnown, box_extent, draw_extent, ScaleKnown, extent, callee_extent}
 use Rattle.dvg_check.specs.Rules.{HasCallee}
-use Rattle.dvg_check.specs.Running.{place_past}
+use Rattle.dvg_check.specs.Private.Running.{place_past}
 use Rattle.dvg_check.specs.declared.fault.Mode.{Mode}
 use Rattle.dvg_check.specs.declared.item.Item.{Item}
 use Rattle.dvg_check.specs.declared.item.Kind.{Kind}
 use Rattle.dvg_check.specs.declared.item.Kind.TheVariants.{Frame, Shape}
 use Rattle.dvg_check.specs.declared.known.LitExtent.TheVariants.{Between}
-use Rattle.dvg_check.proofs.Runs.{counts_same, comes_less, comes_on, comes_as, deeper}
+use Rattle.dvg_check.proofs.Runs.{counts_same, stretch_less, stretch_on, stretch_as, deeper}
 use Rattle.dvg_check.proofs.Steps.{shift_shift, shift_origin, fits_moved, place_before-cons, own, next_there, one_item, stands}
 
 -- ---- a long instruction is a draw or a LABS
@@ -86,7 +86,7 @@ in_box_at : (box : LitBox) (base d : Point) → InBox box d → InBox (box_at bo
 in_box_at Empty base d h = h
 in_box_at (Span x0 x1 y0 y1) base d h = record { left = omega (arith, ints, h.left); right = omega (arith, ints, h.right); bottom = omega (arith, ints, h.bottom); top = omega (arith, ints, h.top) }
 
--- two points that an item extent, seen from where the beam is
+-- two points that an item extent, sight from where the beam is
 abbrev Both : (Point → Type 0) → Point → Point → Type 0
 Both P a b = P a × P b
 
@@ -193,7 +193,7 @@ named_is list to scale f e = first_fits list to scale (entry_at list to scale) f
 
 -- ---- one step as a stretch of a run
 
-pub one_step : (mode : Mode) (m : Memory) (F : ℕ → Type 0) (P : Stroke → Type 0) (deep : ℕ) (format : Format) (p : ℕ) (s t : State) (new : List Stroke) → next_status m s ≡ Running t → t.fetched ≡ places format p ++ s.fetched → AllByRecursion F (places format p) → t.strokes ≡ new ++ s.strokes → AllByRecursion P new → t.max_stack ≡ max s.max_stack deep → Comes mode m F P (word_count format) deep s t
+pub one_step : (mode : Mode) (m : Memory) (F : ℕ → Type 0) (P : Stroke → Type 0) (deep : ℕ) (format : Format) (p : ℕ) (s t : State) (new : List Stroke) → next_status m s ≡ Running t → t.fetched ≡ places format p ++ s.fetched → AllByRecursion F (places format p) → t.strokes ≡ new ++ s.strokes → AllByRecursion P new → t.max_stack ≡ max s.max_stack deep → Stretch mode m F P (word_count format) deep s t
 one_step mode m F P deep Long p s t new step fetched mapped drew lit stored =
     record { steps = 1; reached = (Running t, step, refl); within = omega arith; words = places Long p; fetched = fetched; few = counts_same mode 2 2 refl; mapped = mapped; strokes = new; drew = drew; lit = lit; stored = counts_same mode t.max_stack (max s.max_stack deep) stored }
 one_step mode m F P deep Short p s t new step fetched mapped drew lit stored =
@@ -282,25 +282,25 @@ module _ (mode : Mode) (m : Memory) (w : Window) (box : LitBox) (base : Point) (
   Lit = LitFits w box base
 
   -- what the called shape does, as a stretch of the caller's run
-  pub within_caller : (k : End) (f : Entry) (back : ℕ) (rest : List ℕ) (s t : State) → Called w box base k f s.place → Returned mode m w f back rest s t → Comes mode m Ok Lit f.words (length s.return_stack + f.depth) s t
+  pub within_caller : (k : End) (f : Entry) (back : ℕ) (rest : List ℕ) (s t : State) → Called w box base k f s.place → Returned mode m w f back rest s t → Stretch mode m Ok Lit f.words (length s.return_stack + f.depth) s t
   within_caller k f back rest s t c r =
-      comes_less mode m (InRom m.rom.map) Ok (LitFits w f.lit s.place) Lit f.words (length s.return_stack + f.depth) s t rom_ok (allowed_up w f.lit box base s.place k c.agrees c.known c.shown c.boxed) r.comes
+      stretch_less mode m (InRom m.rom.map) Ok (LitFits w f.lit s.place) Lit f.words (length s.return_stack + f.depth) s t rom_ok (allowed_up w f.lit box base s.place k c.agrees c.known c.shown c.boxed) r.stretch
 
   -- a call and the shape that it calls
   pub over_call : (k : End) (f : Entry) (at to : ℕ) (s : State) → cell_at (word_at m) at ≡ Holds Short (Jsrl to) → s.pc ≡ at → AllByRecursion Ok (places Short at) → Called w box base k f s.place → f.addr ≡ to → ScaleFits f.key s.scale → length s.return_stack ≤ s.max_stack → length s.return_stack + (1 + f.depth) ≤ 4 → Behaves mode m w f
-      → (t : State) × Comes mode m Ok Lit (1 + f.words) (length s.return_stack + (1 + f.depth)) s t × (t.pc ≡ at + 1) × (t.return_stack ≡ s.return_stack) × PlaceFits f.stop s.place t.place × ScaleFits f.scale t.scale
+      → (t : State) × Stretch mode m Ok Lit (1 + f.words) (length s.return_stack + (1 + f.depth)) s t × (t.pc ≡ at + 1) × (t.return_stack ≡ s.return_stack) × PlaceFits f.stop s.place t.place × ScaleFits f.scale t.scale
   over_call k f at to s e pc own c addr key held fits behaves =
       let s1 : State = record s { fetched = places Short s.pc ++ s.fetched } in
       let s2 : State = record s1 { pc = to; return_stack = (s.pc + 1) ∷ s.return_stack; max_stack = max s.max_stack (length s.return_stack + 1) } in
       let step : next_status m s ≡ Running s2 = next_there m s Short (Jsrl to) (ap (cell_at (word_at m)) pc ∙ e) ∙ room (length s.return_stack) (omega arith) to s1 in
-      let one : Comes mode m Ok Lit (word_count Short) (length s.return_stack + 1) s s2 = one_step mode m Ok Lit (length s.return_stack + 1) Short at s s2 [] step (ap (λ p. places Short p ++ s.fetched) pc) own refl tt refl in
+      let one : Stretch mode m Ok Lit (word_count Short) (length s.return_stack + 1) s s2 = one_step mode m Ok Lit (length s.return_stack + 1) Short at s s2 [] step (ap (λ p. places Short p ++ s.fetched) pc) own refl tt refl in
       let r = behaves s2 (s.pc + 1) s.return_stack (omega arith) (sym addr) key refl (omega arith) in
-      let rest : Comes mode m Ok Lit f.words (length s2.return_stack + f.depth) s2 r.0 = within_caller k f (s.pc + 1) s.return_stack s2 r.0 c r.1 in
-      (r.0, comes_on mode m Ok Lit (word_count Short) f.words (1 + f.words) (length s.return_stack + 1) (length s2.return_stack + f.depth) _ s s2 r.0 (counts_same mode _ _ refl) (counts_same mode _ _ (omega arith)) one rest, r.1.pc ∙ ap (λ p. p + 1) pc, r.1.return_stack, r.1.place, r.1.scale)
+      let rest : Stretch mode m Ok Lit f.words (length s2.return_stack + f.depth) s2 r.0 = within_caller k f (s.pc + 1) s.return_stack s2 r.0 c r.1 in
+      (r.0, stretch_on mode m Ok Lit (word_count Short) f.words (1 + f.words) (length s.return_stack + 1) (length s2.return_stack + f.depth) _ s s2 r.0 (counts_same mode _ _ refl) (counts_same mode _ _ (omega arith)) one rest, r.1.pc ∙ ap (λ p. p + 1) pc, r.1.return_stack, r.1.place, r.1.scale)
 
   -- a draw or a LABS
   over_plain : (c : Context) (first : ℕ) (earlier : List Item) (i : Item) (rs : List ℕ) (s : State) → IsMemory m → AllByRecursion Ok (places i.format i.at) → LeadsTo c.kind (word_of c.kind m) first earlier i.at → cell_at (word_of c.kind m) i.at ≡ Holds i.format i.instr → IsDrawOrLabs i.instr → Fits w c box earlier i.instr → Stands c base rs earlier i.at s
-      → (t : State) × Comes mode m Ok Lit (word_count i.format) (length rs) s t × Stands c base rs (i ∷ earlier) (i.at + word_count i.format) t
+      → (t : State) × Stretch mode m Ok Lit (word_count i.format) (length rs) s t × Stands c base rs (i ∷ earlier) (i.at + word_count i.format) t
   over_plain c first earlier i rs s mem own lead e kind fits st =
       let r = one_item m c first earlier i base s mem lead e kind st.pc st.place st.scale in
       let q = r.1 in (
@@ -312,14 +312,14 @@ module _ (mode : Mode) (m : Memory) (w : Window) (box : LitBox) (base : Point) (
   -- the result for any item but the last
   abbrev pub Onward : Context → List Item → Item → ℕ → List ℕ → State → Type 0
   Onward c earlier i p rs s =
-      (t : State) × Comes mode m Ok Lit (word_count i.format + callee_words (callee c earlier i.instr)) (length rs + depth_under i.instr (callee c earlier i.instr)) s t × Stands c base rs (i ∷ earlier) p t
+      (t : State) × Stretch mode m Ok Lit (word_count i.format + callee_words (callee c earlier i.instr)) (length rs + depth_under i.instr (callee c earlier i.instr)) s t × Stands c base rs (i ∷ earlier) p t
 
   plain_onward : (c : Context) (first : ℕ) (earlier : List Item) (i : Item) (p : ℕ) (rs : List ℕ) (s : State) → callee c earlier i.instr ≡ None → IsMemory m → AllByRecursion Ok (places i.format i.at) → LeadsTo c.kind (word_of c.kind m) first earlier i.at → cell_at (word_of c.kind m) i.at ≡ Holds i.format i.instr → IsDrawOrLabs i.instr → Fits w c box earlier i.instr → i.at + word_count i.format ≡ p → Stands c base rs earlier i.at s → Onward c earlier i p rs s
   plain_onward c first earlier i p rs s none mem own lead e kind fits goes st =
       let r = over_plain c first earlier i rs s mem own lead e kind fits st in
       let no_words : callee_words (callee c earlier i.instr) ≡ 0 = ap callee_words none in
       let no_need : depth_under i.instr (callee c earlier i.instr) ≡ 0 = ap (depth_under i.instr) none in
-      (r.0, comes_as mode m Ok Lit (word_count i.format) _ (length rs) _ s r.0 (omega arith) (omega arith) r.1, stands_at c base rs (i ∷ earlier) (i.at + word_count i.format) p r.0 goes r.2)
+      (r.0, stretch_as mode m Ok Lit (word_count i.format) _ (length rs) _ s r.0 (omega arith) (omega arith) r.1, stands_at c base rs (i ∷ earlier) (i.at + word_count i.format) p r.0 goes r.2)
 
   call_onward : (c : Context) (earlier : List Item) (at to p : ℕ) (f : Entry) (rs : List ℕ) (s : State) → callee c earlier (Jsrl to) ≡ Some f → cell_at (word_at m) at ≡ Holds Short (Jsrl to) → at + 1 ≡ p → AllByRecursion Ok (places Short at) → Fits w c box earlier (Jsrl to) → length rs + depth_under (Jsrl to) (callee c earlier (Jsrl to)) ≤ 4 → Behaves mode m w f → Stands c base rs earlier at s → Onward c earlier (record { at = at; format = Short; instr = Jsrl to }) p rs s
   call_onward c earlier at to p f rs s is e goes own fits le behaves st =
@@ -330,7 +330,7 @@ module _ (mode : Mode) (m : Memory) (w : Window) (box : LitBox) (base : Point) (
       let r = over_call (place_before c earlier) f at to s e st.pc own call n.addr (n.key s.scale st.scale) (omega (arith, st.room)) (omega arith) behaves in
       let i : Item = record { at = at; format = Short; instr = Jsrl to } in (
         r.0,
-        comes_as mode m Ok Lit (1 + f.words) _ (length s.return_stack + (1 + f.depth)) _ s r.0 (omega (arith, ap callee_words is)) (omega arith) r.1,
+        stretch_as mode m Ok Lit (1 + f.words) _ (length s.return_stack + (1 + f.depth)) _ s r.0 (omega (arith, ap callee_words is)) (omega arith) r.1,
         record {
           pc = r.2 ∙ goes;
           return_stack = r.3 ∙ st.return_stack;
@@ -348,7 +348,7 @@ module _ (mode : Mode) (m : Memory) (w : Window) (box : LitBox) (base : Point) (
       let i : Item = record { at = at; format = format; instr = Jmpl to } in
       let known : place_before c (i ∷ earlier) ≡ place_moved_by (place_before c earlier) origin = place_before-cons c earlier i ∙ ap (λ o. place_past (callee_effect o) (place_before c earlier)) is in (
         t,
-        comes_as mode m Ok Lit (word_count format) _ (length rs) _ s t (omega (arith, ap callee_words is)) (omega (arith, ap (depth_under (Jmpl to)) is)) one,
+        stretch_as mode m Ok Lit (word_count format) _ (length rs) _ s t (omega (arith, ap callee_words is)) (omega (arith, ap (depth_under (Jmpl to)) is)) one,
         record {
           pc = goes;
           return_stack = st.return_stack;

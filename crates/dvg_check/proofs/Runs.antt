@@ -9,9 +9,9 @@ use Rattle.dvg_words.specs.declared.instruction.Cell.TheVariants.{Missing, Odd, 
 use Rattle.dvg_words.specs.declared.instruction.Format.{Format}
 use Rattle.dvg_words.specs.declared.instruction.Instr.{Instr}
 use Rattle.dvg_words.specs.declared.instruction.Instr.TheVariants.{Draw as Draws, Labs, Halt, Jsrl, Rtsl, Jmpl}
-use Rattle.dvg_check.specs.Behaving.{Counts, Comes}
+use Rattle.dvg_check.specs.Behaving.{Counts, Stretch}
 use Rattle.dvg_check.specs.declared.fault.Mode.{Mode}
-use Rattle.dvg_check.specs.declared.fault.Mode.TheVariants.{Bounds, Exactly}
+use Rattle.dvg_check.specs.declared.fault.Mode.TheVariants.{Bound, Exact}
 
 -- ---- lists
 
@@ -118,23 +118,23 @@ grows m (suc n) a b r = grows_on (state_of a) (state_of r.0) (state_of b) (grows
 -- ---- stretches of a run
 
 pub counts_same : (mode : Mode) (a b : ℕ) → a ≡ b → Counts mode a b
-counts_same Bounds a b e = omega (arith, e)
-counts_same Exactly a b e = e
+counts_same Bound a b e = omega (arith, e)
+counts_same Exact a b e = e
 
 pub counts_le : (mode : Mode) (a b : ℕ) → Counts mode a b → a ≤ b
-counts_le Bounds a b h = h
-counts_le Exactly a b h = omega (arith, h)
+counts_le Bound a b h = h
+counts_le Exact a b h = omega (arith, h)
 
 pub counts_sum : (mode : Mode) (x y z a b c : ℕ) → x + y ≡ z → Counts mode x a → Counts mode y b → Counts mode (a + b) c → Counts mode z c
-counts_sum Bounds x y z a b c e h k l = omega (arith, e, h, k, l)
-counts_sum Exactly x y z a b c e h k l = omega (arith, e, h, k, l)
+counts_sum Bound x y z a b c e h k l = omega (arith, e, h, k, l)
+counts_sum Exact x y z a b c e h k l = omega (arith, e, h, k, l)
 
 pub counts_max : (mode : Mode) (s t u a b c : ℕ) → Counts mode t (max s a) → Counts mode u (max t b) → Counts mode (max a b) c → Counts mode u (max s c)
-counts_max Bounds s t u a b c h k l = omega (arith, h, k, l)
-counts_max Exactly s t u a b c h k l = omega (arith, h, k, l)
+counts_max Bound s t u a b c h k l = omega (arith, h, k, l)
+counts_max Exact s t u a b c h k l = omega (arith, h, k, l)
 
-pub comes_on : (mode : Mode) (m : Memory) (F : ℕ → Type 0) (P : Stroke → Type 0) (a b c d1 d2 d : ℕ) (s t u : State) → Counts mode (a + b) c → Counts mode (max d1 d2) d → Comes mode m F P a d1 s t → Comes mode m F P b d2 t u → Comes mode m F P c d s u
-comes_on mode m F P a b c d1 d2 d s t u le deep p q =
+pub stretch_on : (mode : Mode) (m : Memory) (F : ℕ → Type 0) (P : Stroke → Type 0) (a b c d1 d2 d : ℕ) (s t u : State) → Counts mode (a + b) c → Counts mode (max d1 d2) d → Stretch mode m F P a d1 s t → Stretch mode m F P b d2 t u → Stretch mode m F P c d s u
+stretch_on mode m F P a b c d1 d2 d s t u le deep p q =
     record {
       steps = p.steps + q.steps;
       reached = reached_on m p.steps q.steps (Running s) (Running t) (Running u) p.reached q.reached;
@@ -150,8 +150,8 @@ comes_on mode m F P a b c d1 d2 d s t u le deep p q =
     }
 
 -- what is claimed of words and strokes may be less
-pub comes_less : (mode : Mode) (m : Memory) (F G : ℕ → Type 0) (P Q : Stroke → Type 0) (most deep : ℕ) (s t : State) → ((p : ℕ) → F p → G p) → ((k : Stroke) → P k → Q k) → Comes mode m F P most deep s t → Comes mode m G Q most deep s t
-comes_less mode m F G P Q most deep s t f g c =
+pub stretch_less : (mode : Mode) (m : Memory) (F G : ℕ → Type 0) (P Q : Stroke → Type 0) (most deep : ℕ) (s t : State) → ((p : ℕ) → F p → G p) → ((k : Stroke) → P k → Q k) → Stretch mode m F P most deep s t → Stretch mode m G Q most deep s t
+stretch_less mode m F G P Q most deep s t f g c =
     record {
       steps = c.steps;
       reached = c.reached;
@@ -167,12 +167,12 @@ comes_less mode m F G P Q most deep s t f g c =
     }
 
 -- other counts, which are as many
-pub comes_as : (mode : Mode) (m : Memory) (F : ℕ → Type 0) (P : Stroke → Type 0) (most more deep deeper : ℕ) (s t : State) → most ≡ more → deep ≡ deeper → Comes mode m F P most deep s t → Comes mode m F P more deeper s t
-comes_as mode m F P most more deep deeper s t a b c = subst (λ d. Comes mode m F P more d s t) b (subst (λ k. Comes mode m F P k deep s t) a c)
+pub stretch_as : (mode : Mode) (m : Memory) (F : ℕ → Type 0) (P : Stroke → Type 0) (most more deep deeper : ℕ) (s t : State) → most ≡ more → deep ≡ deeper → Stretch mode m F P most deep s t → Stretch mode m F P more deeper s t
+stretch_as mode m F P most more deep deeper s t a b c = subst (λ d. Stretch mode m F P more d s t) b (subst (λ k. Stretch mode m F P k deep s t) a c)
 
 -- no step at all
-pub comes_here : (mode : Mode) (m : Memory) (F : ℕ → Type 0) (P : Stroke → Type 0) (deep : ℕ) (s : State) → deep ≤ s.max_stack → Comes mode m F P 0 deep s s
-comes_here mode m F P deep s le = record { steps = 0; reached = refl; within = omega arith; words = []; fetched = refl; few = counts_same mode 0 0 refl; mapped = tt; strokes = []; drew = refl; lit = tt; stored = counts_same mode s.max_stack (max s.max_stack deep) (omega arith) }
+pub stretch_here : (mode : Mode) (m : Memory) (F : ℕ → Type 0) (P : Stroke → Type 0) (deep : ℕ) (s : State) → deep ≤ s.max_stack → Stretch mode m F P 0 deep s s
+stretch_here mode m F P deep s le = record { steps = 0; reached = refl; within = omega arith; words = []; fetched = refl; few = counts_same mode 0 0 refl; mapped = tt; strokes = []; drew = refl; lit = tt; stored = counts_same mode s.max_stack (max s.max_stack deep) (omega arith) }
 
-pub deeper : (mode : Mode) (m : Memory) (F : ℕ → Type 0) (P : Stroke → Type 0) (most deep : ℕ) (s t : State) → Comes mode m F P most deep s t → s.max_stack ≤ t.max_stack
+pub deeper : (mode : Mode) (m : Memory) (F : ℕ → Type 0) (P : Stroke → Type 0) (most deep : ℕ) (s t : State) → Stretch mode m F P most deep s t → s.max_stack ≤ t.max_stack
 deeper mode m F P most deep s t c = (grows m c.steps (Running s) (Running t) c.reached).stored

@@ -17,19 +17,19 @@ use Rattle.dvg_words.specs.declared.instruction.Instr.TheVariants.{Rtsl, Jmpl, D
 use Rattle.dvg_cert.specs.declared.entry.Entry.{Entry}
 use Rattle.dvg_cert.specs.declared.entry.Key.{Key}
 use Rattle.dvg_cert.specs.declared.entry.LitBox.{LitBox}
-use Rattle.dvg_check.specs.Behaving.{Behaves, Comes, LitFits, Counts, PlaceFits, ScaleFits, Returned}
+use Rattle.dvg_check.specs.Behaving.{Behaves, Stretch, LitFits, Counts, PlaceFits, ScaleFits, Returned}
 use Rattle.dvg_check.specs.Items.{LeadsTo, place_after, next_place}
 use Rattle.dvg_check.specs.Known.{Context, callee, depth_before, words_before, callee_at, shape_context, target, scale_before, callee_words, depth_under, place_before, scale_set}
 use Rattle.dvg_check.specs.Laws.{word_of, OneShape, AllShapes}
-use Rattle.dvg_check.specs.Rules.{GoodShape, CellKeeps, ShapeKeeps, seen, AtLast, HasCallee, Good}
+use Rattle.dvg_check.specs.Rules.{GoodShape, CellKeeps, ShapeKeeps, sight, AtLast, HasCallee, Good}
 use Rattle.dvg_check.specs.declared.fault.Mode.{Mode}
-use Rattle.dvg_check.specs.declared.fault.Mode.TheVariants.{Bounds, Exactly}
+use Rattle.dvg_check.specs.declared.fault.Mode.TheVariants.{Bound, Exact}
 use Rattle.dvg_check.specs.declared.fault.ShapeWhy.{ShapeWhy}
 use Rattle.dvg_check.specs.declared.fault.ShapeWhy.TheVariants as shape
 use Rattle.dvg_check.specs.declared.item.Item.{Item}
 use Rattle.dvg_check.specs.declared.item.Kind.TheVariants.{Shape}
 use Rattle.dvg_check.proofs.Onward.{Fits, Stands, over_item, named_is, one_step, fits_still, called_by, within_caller, after_entry}
-use Rattle.dvg_check.proofs.Runs.{comes_here, comes_on, counts_same, comes_as}
+use Rattle.dvg_check.proofs.Runs.{stretch_here, stretch_on, counts_same, stretch_as}
 use Rattle.dvg_check.proofs.Steps.{own, next_there, stands, place_before-cons, shift_origin}
 
 -- ---- any kind: along the items that lead to a place
@@ -41,14 +41,14 @@ pub record Facts (mode : Mode) (m : Memory) (w : Window) (c : Context) (box : Li
 
 pub arrive : (mode : Mode) (m : Memory) (w : Window) (c : Context) (box : LitBox) (base : Point) (Ok : ℕ → Type 0) (first : ℕ) (rs : List ℕ) (s : State) → IsMemory m → ((p : ℕ) → InRom m.rom.map p → Ok p) → ((earlier : List Item) (i : Item) → LeadsTo c.kind (word_of c.kind m) first earlier i.at → cell_at (word_of c.kind m) i.at ≡ Holds i.format i.instr → Facts mode m w c box Ok earlier i) → Stands c base rs [] first s
     → (items : List Item) (p : ℕ) → LeadsTo c.kind (word_of c.kind m) first items p → length rs + depth_before c items ≤ 4
-    → (t : State) × Comes mode m Ok (LitFits w box base) (words_before c items) (length rs + depth_before c items) s t × Stands c base rs items p t
+    → (t : State) × Stretch mode m Ok (LitFits w box base) (words_before c items) (length rs + depth_before c items) s t × Stands c base rs items p t
 arrive mode m w c box base Ok first rs s mem rom facts st [] p lead le =
-    (s, comes_here mode m Ok (LitFits w box base) (length rs + 0) s (omega (arith, st.room)), record { pc = st.pc ∙ sym lead; return_stack = st.return_stack; room = st.room; place = st.place; scale = st.scale })
+    (s, stretch_here mode m Ok (LitFits w box base) (length rs + 0) s (omega (arith, st.room)), record { pc = st.pc ∙ sym lead; return_stack = st.return_stack; room = st.room; place = st.place; scale = st.scale })
 arrive mode m w c box base Ok first rs s mem rom facts st (i ∷ earlier) p lead le =
     let a = arrive mode m w c box base Ok first rs s mem rom facts st earlier i.at lead.0 (omega arith) in
     let f = facts earlier i lead.0 lead.1 in
     let b = over_item mode m w box base Ok rom c first earlier i.at i.format i.instr p rs a.0 mem f.own lead.0 lead.1 lead.2 f.fits (omega arith) f.calls a.2 in
-    (b.0, comes_on mode m Ok (LitFits w box base) (words_before c earlier) _ _ (length rs + depth_before c earlier) _ _ s a.0 b.0 (counts_same mode _ _ (omega arith)) (counts_same mode _ _ (omega arith)) a.1 b.1, b.2)
+    (b.0, stretch_on mode m Ok (LitFits w box base) (words_before c earlier) _ _ (length rs + depth_before c earlier) _ _ s a.0 b.0 (counts_same mode _ _ (omega arith)) (counts_same mode _ _ (omega arith)) a.1 b.1, b.2)
 
 pub named_listed : (list : List Entry) (o : Option ℕ) (scale : Key) (f : Entry) → callee_at list o scale ≡ Some f → Contains list f
 named_listed list None scale f e = cc
@@ -64,13 +64,13 @@ some_step m zero s t back rest r rs e =
 some_step m (suc n) s t back rest r rs e = omega arith
 
 counts_swap : (mode : Mode) (x y c : ℕ) → Counts mode (x + y) c → Counts mode (y + x) c
-counts_swap Bounds x y c h = omega (arith, h)
-counts_swap Exactly x y c h = omega (arith, h)
+counts_swap Bound x y c h = omega (arith, h)
+counts_swap Exact x y c h = omega (arith, h)
 
 -- the depth below this many return places
 counts_deep : (mode : Mode) (l a b d : ℕ) → Counts mode (max b a) d → Counts mode (max (l + a) (l + b)) (l + d)
-counts_deep Bounds l a b d h = omega (arith, h)
-counts_deep Exactly l a b d h = omega (arith, h)
+counts_deep Bound l a b d h = omega (arith, h)
+counts_deep Exact l a b d h = omega (arith, h)
 
 -- ---- what the rules say in a shape
 
@@ -84,9 +84,9 @@ module _ (mode : Mode) (m : Memory) (w : Window) (list : List Entry) (e : Entry)
 
   -- what stands at a place keeps
   abbrev Kept : List Item → ℕ → Cell → ShapeWhy → Type 0
-  Kept earlier p cell why = CellKeeps shape.Unmapped shape.Odd (λ j. ShapeKeeps mode w e (seen context earlier j)) p cell why
+  Kept earlier p cell why = CellKeeps shape.Unmapped shape.Odd (λ j. ShapeKeeps mode w e (sight context earlier j)) p cell why
 
-  rule : (earlier : List Item) (i : Item) → LeadsTo Shape (rom_word m.rom) e.addr earlier i.at → cell_at (rom_word m.rom) i.at ≡ Holds i.format i.instr → (why : ShapeWhy) → ShapeKeeps mode w e (seen context earlier i) why
+  rule : (earlier : List Item) (i : Item) → LeadsTo Shape (rom_word m.rom) e.addr earlier i.at → cell_at (rom_word m.rom) i.at ≡ Holds i.format i.instr → (why : ShapeWhy) → ShapeKeeps mode w e (sight context earlier i) why
   rule earlier i lead is why = subst (λ c. Kept earlier i.at c why) is (keep earlier i.at lead why)
 
   item_fits : (earlier : List Item) (i : Item) → LeadsTo Shape (rom_word m.rom) e.addr earlier i.at → cell_at (rom_word m.rom) i.at ≡ Holds i.format i.instr → Fits w context e.lit earlier i.instr
@@ -158,7 +158,7 @@ module _ (mode : Mode) (m : Memory) (w : Window) (list : List Entry) (e : Entry)
 
   -- ---- the return and the tail jump
   record Finished (s0 : State) (back : ℕ) (rest : List ℕ) (i : Item) (earlier : List Item) (s t : State) : Type 0 where
-    comes : Comes mode m (InRom m.rom.map) (LitFits w e.lit s0.place) (word_count i.format + callee_words (callee context earlier i.instr)) (length s0.return_stack + depth_under i.instr (callee context earlier i.instr)) s t
+    stretch : Stretch mode m (InRom m.rom.map) (LitFits w e.lit s0.place) (word_count i.format + callee_words (callee context earlier i.instr)) (length s0.return_stack + depth_under i.instr (callee context earlier i.instr)) s t
     pc : t.pc ≡ back
     return_stack : t.return_stack ≡ rest
     place : PlaceFits (place_before context (i ∷ earlier)) s0.place t.place
@@ -169,13 +169,13 @@ module _ (mode : Mode) (m : Memory) (w : Window) (list : List Entry) (e : Entry)
     words : Counts mode (words_before context (i ∷ earlier)) e.words
     depth : Counts mode (depth_before context (i ∷ earlier)) e.depth
 
-  finished : (s0 : State) (back : ℕ) (rest : List ℕ) (i : Item) (earlier : List Item) (s t : State) → LeadsTo Shape (rom_word m.rom) e.addr earlier i.at → cell_at (rom_word m.rom) i.at ≡ Holds i.format i.instr → next_place Shape i ≡ None → Totals i earlier → s0.return_stack ≡ back ∷ rest → Comes mode m (InRom m.rom.map) (LitFits w e.lit s0.place) (words_before context earlier) (length s0.return_stack + depth_before context earlier) s0 s → Finished s0 back rest i earlier s t → Returned mode m w e back rest s0 t
-  finished s0 back rest i earlier s t lead is last totals rs comes f =
-      let whole = comes_on mode m (InRom m.rom.map) (LitFits w e.lit s0.place) (words_before context earlier) _ e.words (length s0.return_stack + depth_before context earlier) _ (length s0.return_stack + e.depth) s0 s t (counts_swap mode _ _ _ totals.words) (counts_deep mode (length s0.return_stack) _ _ _ totals.depth) comes f.comes in
+  finished : (s0 : State) (back : ℕ) (rest : List ℕ) (i : Item) (earlier : List Item) (s t : State) → LeadsTo Shape (rom_word m.rom) e.addr earlier i.at → cell_at (rom_word m.rom) i.at ≡ Holds i.format i.instr → next_place Shape i ≡ None → Totals i earlier → s0.return_stack ≡ back ∷ rest → Stretch mode m (InRom m.rom.map) (LitFits w e.lit s0.place) (words_before context earlier) (length s0.return_stack + depth_before context earlier) s0 s → Finished s0 back rest i earlier s t → Returned mode m w e back rest s0 t
+  finished s0 back rest i earlier s t lead is last totals rs stretch f =
+      let whole = stretch_on mode m (InRom m.rom.map) (LitFits w e.lit s0.place) (words_before context earlier) _ e.words (length s0.return_stack + depth_before context earlier) _ (length s0.return_stack + e.depth) s0 s t (counts_swap mode _ _ _ totals.words) (counts_deep mode (length s0.return_stack) _ _ _ totals.depth) stretch f.stretch in
       let stop : place_before context (i ∷ earlier) ≡ e.stop = subst (λ o. AtLast o (place_before context (i ∷ earlier) ≡ e.stop)) last (rule earlier i lead is shape.EndDiffers) in
       let left : scale_before context (i ∷ earlier) ≡ e.scale = subst (λ o. AtLast o (scale_before context (i ∷ earlier) ≡ e.scale)) last (rule earlier i lead is shape.ScaleDiffers) in
       record {
-        comes = whole;
+        stretch = whole;
         some = some_step m whole.steps s0 t back rest whole.reached rs f.return_stack;
         pc = f.pc;
         return_stack = f.return_stack;
@@ -193,7 +193,7 @@ module _ (mode : Mode) (m : Memory) (w : Window) (list : List Entry) (e : Entry)
       let one = one_step mode m (InRom m.rom.map) (LitFits w e.lit s0.place) (length s0.return_stack) format at s t [] step (ap (λ q. places format q ++ s.fetched) st.pc) (own Shape m at format Rtsl mem is) refl tt (omega (arith, st.room)) in (
         t,
         record {
-          comes = comes_as mode m (InRom m.rom.map) (LitFits w e.lit s0.place) (word_count format) _ (length s0.return_stack) _ s t (omega arith) (omega arith) one;
+          stretch = stretch_as mode m (InRom m.rom.map) (LitFits w e.lit s0.place) (word_count format) _ (length s0.return_stack) _ s t (omega arith) (omega arith) one;
           pc = refl;
           return_stack = refl;
           place = subst (λ k. PlaceFits k s0.place s.place) (sym (place_before-cons context earlier i)) (fits_still s0.place s.place (place_before context earlier) st.place);
@@ -214,7 +214,7 @@ module _ (mode : Mode) (m : Memory) (w : Window) (list : List Entry) (e : Entry)
       let two = within_caller mode m w e.lit s0.place (InRom m.rom.map) (λ p h. h) (place_before context earlier) f back rest t r.0 call r.1 in (
         r.0,
         record {
-          comes = comes_on mode m (InRom m.rom.map) (LitFits w e.lit s0.place) (word_count format) f.words _ (length s0.return_stack) (length t.return_stack + f.depth) _ s t r.0 (counts_same mode _ _ (omega (arith, ap callee_words n))) (counts_same mode _ _ (omega (arith, ap (depth_under (Jmpl to)) n, same))) one two;
+          stretch = stretch_on mode m (InRom m.rom.map) (LitFits w e.lit s0.place) (word_count format) f.words _ (length s0.return_stack) (length t.return_stack + f.depth) _ s t r.0 (counts_same mode _ _ (omega (arith, ap callee_words n))) (counts_same mode _ _ (omega (arith, ap (depth_under (Jmpl to)) n, same))) one two;
           pc = r.1.pc;
           return_stack = r.1.return_stack;
           place = after_entry context s0.place earlier i (callee context earlier (Jmpl to)) f s.place r.0.place r.0.scale n refl st.place r.1.place;
@@ -222,15 +222,15 @@ module _ (mode : Mode) (m : Memory) (w : Window) (list : List Entry) (e : Entry)
         },
       )
 
-  finish : (s0 : State) (back : ℕ) (rest : List ℕ) (s : State) (items : List Item) (at : ℕ) (format : Format) (instr : Instr) → LeadsTo Shape (rom_word m.rom) e.addr items at → cell_at (rom_word m.rom) at ≡ Holds format instr → place_after Shape at format instr ≡ None → s0.return_stack ≡ back ∷ rest → length s0.return_stack + e.depth ≤ 4 → ((f : Entry) → Contains list f → f.words < e.words → Behaves mode m w f) → Comes mode m (InRom m.rom.map) (LitFits w e.lit s0.place) (words_before context items) (length s0.return_stack + depth_before context items) s0 s → Stands context s0.place (back ∷ rest) items at s → Totals (record { at = at; format = format; instr = instr }) items → (t : State) × Returned mode m w e back rest s0 t
-  finish s0 back rest s items at format (Draws d) lead is last rs four smaller comes st totals = cc
-  finish s0 back rest s items at format (Labs x y g) lead is last rs four smaller comes st totals = cc
-  finish s0 back rest s items at format Halt lead is last rs four smaller comes st totals = absurd (rule items (record { at = at; format = format; instr = Halt }) lead is shape.HaltInShape refl)
-  finish s0 back rest s items at format (Jsrl to) lead is last rs four smaller comes st totals = cc
-  finish s0 back rest s items at format Rtsl lead is last rs four smaller comes st totals =
+  finish : (s0 : State) (back : ℕ) (rest : List ℕ) (s : State) (items : List Item) (at : ℕ) (format : Format) (instr : Instr) → LeadsTo Shape (rom_word m.rom) e.addr items at → cell_at (rom_word m.rom) at ≡ Holds format instr → place_after Shape at format instr ≡ None → s0.return_stack ≡ back ∷ rest → length s0.return_stack + e.depth ≤ 4 → ((f : Entry) → Contains list f → f.words < e.words → Behaves mode m w f) → Stretch mode m (InRom m.rom.map) (LitFits w e.lit s0.place) (words_before context items) (length s0.return_stack + depth_before context items) s0 s → Stands context s0.place (back ∷ rest) items at s → Totals (record { at = at; format = format; instr = instr }) items → (t : State) × Returned mode m w e back rest s0 t
+  finish s0 back rest s items at format (Draws d) lead is last rs four smaller stretch st totals = cc
+  finish s0 back rest s items at format (Labs x y g) lead is last rs four smaller stretch st totals = cc
+  finish s0 back rest s items at format Halt lead is last rs four smaller stretch st totals = absurd (rule items (record { at = at; format = format; instr = Halt }) lead is shape.HaltInShape refl)
+  finish s0 back rest s items at format (Jsrl to) lead is last rs four smaller stretch st totals = cc
+  finish s0 back rest s items at format Rtsl lead is last rs four smaller stretch st totals =
       let r = finish_return s0 back rest at format items s rs is st in
-      (r.0, finished s0 back rest (record { at = at; format = format; instr = Rtsl }) items s r.0 lead is last totals rs comes r.1)
-  finish s0 back rest s items at format (Jmpl to) lead is last rs four smaller comes st totals = by_name (callee context items (Jmpl to)) refl
+      (r.0, finished s0 back rest (record { at = at; format = format; instr = Rtsl }) items s r.0 lead is last totals rs stretch r.1)
+  finish s0 back rest s items at format (Jmpl to) lead is last rs four smaller stretch st totals = by_name (callee context items (Jmpl to)) refl
     where
       i : Item
       i = record { at = at; format = format; instr = Jmpl to }
@@ -241,22 +241,22 @@ module _ (mode : Mode) (m : Memory) (w : Window) (list : List Entry) (e : Entry)
           let deep : depth_under (Jmpl to) (Some f) ≤ e.depth = subst (λ o. depth_under (Jmpl to) o ≤ e.depth) n (rule items i lead is shape.TooDeep) in
           let facts = item_facts smaller items i lead is in
           let r = finish_tail s0 back rest at to format items s f rs (omega (arith, deep)) n facts.fits (facts.calls f n) is st in
-          (r.0, finished s0 back rest i items s r.0 lead is last totals rs comes r.1)
+          (r.0, finished s0 back rest i items s r.0 lead is last totals rs stretch r.1)
 
 totals : (mode : Mode) (m : Memory) (w : Window) (list : List Entry) (e : Entry) (mem : IsMemory m) (good : GoodShape mode w m.rom list e) (l : Last mode m w list e mem good) → Totals mode m w list e mem good (record { at = l.at; format = l.format; instr = l.instr }) l.items
-totals Bounds m w list e mem good l =
+totals Bound m w list e mem good l =
     let i : Item = record { at = l.at; format = l.format; instr = l.instr } in
-    let need : depth_under l.instr (callee (shape_context list e) l.items l.instr) ≤ e.depth = rule Bounds m w list e mem good l.items i l.lead l.is shape.TooDeep in
+    let need : depth_under l.instr (callee (shape_context list e) l.items l.instr) ≤ e.depth = rule Bound m w list e mem good l.items i l.lead l.is shape.TooDeep in
     record {
-      words = rule Bounds m w list e mem good l.items i l.lead l.is shape.TooManyWords;
-      depth = omega (arith, need, depth_fits Bounds m w list e mem good l.items l.at l.lead);
+      words = rule Bound m w list e mem good l.items i l.lead l.is shape.TooManyWords;
+      depth = omega (arith, need, depth_fits Bound m w list e mem good l.items l.at l.lead);
     }
-totals Exactly m w list e mem good l =
+totals Exact m w list e mem good l =
     let i : Item = record { at = l.at; format = l.format; instr = l.instr } in
     let c = shape_context list e in
     record {
-      words = subst (λ o. AtLast o (words_before c (i ∷ l.items) ≡ e.words)) l.last (rule Exactly m w list e mem good l.items i l.lead l.is shape.WordsDiffer);
-      depth = subst (λ o. AtLast o (depth_before c (i ∷ l.items) ≡ e.depth)) l.last (rule Exactly m w list e mem good l.items i l.lead l.is shape.DepthDiffers);
+      words = subst (λ o. AtLast o (words_before c (i ∷ l.items) ≡ e.words)) l.last (rule Exact m w list e mem good l.items i l.lead l.is shape.WordsDiffer);
+      depth = subst (λ o. AtLast o (depth_before c (i ∷ l.items) ≡ e.depth)) l.last (rule Exact m w list e mem good l.items i l.lead l.is shape.DepthDiffers);
     }
 
 pub one_shape : (mode : Mode) → OneShape mode
@@ -267,7 +267,7 @@ one_shape mode m w list e mem good listed smaller s back rest room pc scale rs f
     let st : Stands c s.place (back ∷ rest) [] e.addr s = record { pc = pc; return_stack = rs; room = omega (arith, room, ap length rs); place = sym (shift_origin s.place) ∙ ap (shift s.place) (sym (shift_origin origin)); scale = scale } in
     let same : length s.return_stack ≡ length (back ∷ rest) = ap length rs in
     let a = arrive mode m w c e.lit s.place (InRom m.rom.map) e.addr (back ∷ rest) s mem (λ p h. h) (item_facts mode m w list e mem keep smaller) st l.items l.at l.lead (omega (arith, same, depth_fits mode m w list e mem keep l.items l.at l.lead)) in
-    let come = comes_as mode m (InRom m.rom.map) (LitFits w e.lit s.place) _ _ (length (back ∷ rest) + depth_before c l.items) (length s.return_stack + depth_before c l.items) s a.0 refl (omega arith) a.1 in
+    let come = stretch_as mode m (InRom m.rom.map) (LitFits w e.lit s.place) _ _ (length (back ∷ rest) + depth_before c l.items) (length s.return_stack + depth_before c l.items) s a.0 refl (omega arith) a.1 in
     finish mode m w list e mem keep s back rest a.0 l.items l.at l.format l.instr l.lead l.is l.last rs four smaller come a.2 (totals mode m w list e mem keep l)
 
 shapes_up_to : (mode : Mode) (m : Memory) (w : Window) (list : List Entry) → IsMemory m → Good mode w m.rom list → (n : ℕ) (e : Entry) → Contains list e → e.words ≤ n → Behaves mode m w e

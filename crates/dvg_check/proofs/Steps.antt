@@ -24,7 +24,7 @@ use Rattle.dvg_cert.specs.declared.entry.Key.TheVariants.{Any, At}
 use Rattle.dvg_check.specs.Behaving.{PlaceFits, ScaleFits}
 use Rattle.dvg_check.specs.Known.{place_moved_by, fixed_place, total_move, Context, place_before, effect, first_place, effects, draw_effect, scale_before}
 use Rattle.dvg_check.specs.Laws.{word_of, IsDrawOrLabs, Past, OneItem}
-use Rattle.dvg_check.specs.Running.{place_past}
+use Rattle.dvg_check.specs.Private.Running.{place_past}
 use Rattle.dvg_check.specs.declared.item.Item.{Item}
 use Rattle.dvg_check.specs.declared.item.Kind.{Kind}
 use Rattle.dvg_check.specs.declared.item.Kind.TheVariants.{Shape, Frame}

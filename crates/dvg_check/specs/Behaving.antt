@@ -14,12 +14,12 @@ use Rattle.dvg_cert.specs.declared.entry.LitBox.{LitBox}
 use Rattle.dvg_cert.specs.declared.entry.LitBox.TheVariants.{Empty, Span}
 use Rattle.dvg_cert.specs.declared.entry.Entry.{Entry}
 use Rattle.dvg_check.specs.Lit.{InBox}
-use Rattle.dvg_check.specs.Rules.{Mode, Bounds, Exactly}
+use Rattle.dvg_check.specs.Rules.{Mode, Bound, Exact}
 
 -- a count, and what bounds it or is it
 abbrev pub Counts : Mode → ℕ → ℕ → Type 0
-Counts Bounds n claimed = n ≤ claimed
-Counts Exactly n claimed = n ≡ claimed
+Counts Bound n claimed = n ≤ claimed
+Counts Exact n claimed = n ≡ claimed
 
 -- both ends of a stroke
 abbrev pub Ends : (Point → Type 0) → Stroke → Type 0
@@ -27,7 +27,7 @@ Ends P stroke = P stroke.from × P stroke.to
 
 -- From one running state to another, within so many steps and by so many further words. A halt or a fault has no step,
 -- so there is none on the way.
-pub record Comes (mode : Mode) (m : Memory) (Fetched : ℕ → Type 0) (Lit : Stroke → Type 0) (most deep : ℕ) (from to : State) : Type 0 where
+pub record Stretch (mode : Mode) (m : Memory) (Fetched : ℕ → Type 0) (Lit : Stroke → Type 0) (most deep : ℕ) (from to : State) : Type 0 where
   pub steps : ℕ
   pub reached : Reached m steps (Running from) (Running to)
   pub within : steps ≤ most
@@ -59,10 +59,10 @@ box_at (Span x_min x_max y_min y_max) p = Span (p.x +ℤ x_min) (p.x +ℤ x_max)
 abbrev pub LitFits : Window → LitBox → Point → Stroke → Type 0
 LitFits w box base stroke = Ends (InWindow w) stroke ⊎ Ends (InBox (box_at box base)) stroke
 
--- the state in which a shape that was called in another has returned
+-- from a state at a shape's first word to the state just past its return
 pub record Returned (mode : Mode) (m : Memory) (w : Window) (e : Entry) (back : ℕ) (rest : List ℕ) (from to : State) : Type 0 where
-  pub comes : Comes mode m (InRom m.rom.map) (LitFits w e.lit from.place) e.words (length from.return_stack + e.depth) from to
-  pub some : 1 ≤ comes.steps
+  pub stretch : Stretch mode m (InRom m.rom.map) (LitFits w e.lit from.place) e.words (length from.return_stack + e.depth) from to
+  pub some : 1 ≤ stretch.steps
   pub pc : to.pc ≡ back
   pub return_stack : to.return_stack ≡ rest
   pub place : PlaceFits e.stop from.place to.place

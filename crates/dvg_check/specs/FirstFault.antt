@@ -28,7 +28,6 @@ shape_number shape.WordsDiffer = 32
 shape_number shape.DepthDiffers = 33
 
 abbrev pub frame_number : FrameWhy → ℕ
-frame_number frame.NotYet = 90
 frame_number frame.Unmapped = 40
 frame_number frame.Odd = 41
 frame_number frame.ReturnInFrame = 42
@@ -38,11 +37,6 @@ frame_number frame.ScaleUnknown = 45
 frame_number frame.OffScreen = 46
 frame_number frame.NoEntry = 47
 frame_number frame.Budget = 48
-
--- until calls are checked, 90 stands in the place of all other numbers of a call
-abbrev pub frame_order : FrameWhy → ℕ
-frame_order frame.NotYet = 0
-frame_order why = frame_number why
 
 -- every place of these items keeps every rule
 abbrev pub AllBefore : {Why : Type 0} → (List Item → ℕ → Why → Type 0) → List Item → Type 0
@@ -74,4 +68,4 @@ pub record FirstShapeFault (mode : Mode) (w : Window) (rom : Rom) (list : List E
 
 -- the first fault of a frame
 abbrev pub FirstFrameFault : Window → List ℕ → List Entry → ℕ → FrameFault → Type 0
-FirstFrameFault w words list budget f = FaultAt frame_order Frame (frame_word words) 0 (FramePlaceKeeps w words list budget) f.word f.why
+FirstFrameFault w words list budget f = FaultAt frame_number Frame (frame_word words) 0 (FramePlaceKeeps w words list budget) f.word f.why

@@ -1,6 +1,6 @@
 -- The laws, over the definitions alone, for every map, window and mode.
 use Rattle.std.specs.Prelude.{◌≡◌, ℕ, ℤ, ◌+◌, ◌<◌, ◌≤◌, ◌⊎◌, ◌≤ℤ◌, List, [], ◌∷◌, ◌++◌, Option, Contains, Result}
-use Rattle.dvg_words.specs.Values.{Window}
+use Rattle.dvg_words.specs.Values.{MemoryMap, Window}
 use Rattle.dvg_words.specs.declared.instruction.Instr.TheVariants.{Draw as Draws, Labs, Halt, Jsrl, Rtsl, Jmpl}
 use Rattle.dvg_words.specs.declared.instruction.Instr.{Instr}
 use Rattle.dvg_words.specs.declared.instruction.Cell.TheVariants.{Holds}
@@ -15,7 +15,7 @@ use Rattle.dvg_cert.specs.declared.entry.End.TheVariants.{Rel, Abs, Lost}
 use Rattle.dvg_cert.specs.declared.entry.Entry.{Entry}
 use Rattle.dvg_check.specs.Items.{Kind, Shape, Frame, Item, LeadsTo}
 use Rattle.dvg_check.specs.Known.{Context, scale_before, place_before}
-use Rattle.dvg_check.specs.Rules.{Mode, Bounds, Exactly, Good, GoodFrame}
+use Rattle.dvg_check.specs.Rules.{Mode, Bound, Exact, Good, GoodFrame}
 use Rattle.dvg_check.specs.FirstFault.{FrameFault, FirstFrameFault}
 use Rattle.dvg_check.specs.Verdict.{Yes, Refusal, Verdict}
 use Rattle.dvg_check.specs.Behaving.{ScaleFits, PlaceFits, Behaves}
@@ -86,7 +86,7 @@ GoodIsSafe =
     (m : Memory) (w : Window) (list : List Entry) (budget words depth : ℕ)
     → IsMemory m
     → ((e : Entry) → Contains list e → e.depth ≤ 3)
-    → Good Bounds w m.rom list
+    → Good Bound w m.rom list
     → GoodFrame w m.frame list budget words depth
     → Safe m w words depth
 
@@ -96,7 +96,7 @@ ExactIsExact =
     (m : Memory) (w : Window) (list : List Entry) (budget words depth : ℕ)
     → IsMemory m
     → ((e : Entry) → Contains list e → e.depth ≤ 3)
-    → Good Exactly w m.rom list
+    → Good Exact w m.rom list
     → GoodFrame w m.frame list budget words depth
     → HaltsWith m words depth
 
@@ -125,8 +125,8 @@ OneCount =
 -- there is one verdict at the most
 abbrev pub OneVerdict : Type 0
 OneVerdict =
-    (w : Window) (rom cert words : List ℕ) (budget : ℕ) (a b : Result Yes Refusal)
-    → Verdict w rom cert words budget a → Verdict w rom cert words budget b → a ≡ b
+    (mode : Mode) (map : MemoryMap) (w : Window) (rom cert words : List ℕ) (budget : ℕ) (a b : Result Yes Refusal)
+    → Verdict mode map w rom cert words budget a → Verdict mode map w rom cert words budget b → a ≡ b
 
 -- ---- strokes
 

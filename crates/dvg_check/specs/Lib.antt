@@ -7,4 +7,4 @@ pub mod Verdict
 pub mod Behaving
 pub mod Safety
 pub mod Laws
-pub mod Running
+pub mod Private

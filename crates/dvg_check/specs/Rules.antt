@@ -14,15 +14,15 @@ use Rattle.dvg_check.specs.Known.{Context, shape_context, frame_context, target,
 use Rattle.dvg_check.specs.Lit.{extent, PlaceKnown, ScaleKnown, LitInWindow, LitInBox}
 pub use Rattle.dvg_check.specs.declared.known.Seen.{Seen}
 pub use Rattle.dvg_check.specs.declared.fault.Mode.{Mode}
-pub use Rattle.dvg_check.specs.declared.fault.Mode.TheVariants.{Bounds, Exactly}
+pub use Rattle.dvg_check.specs.declared.fault.Mode.TheVariants.{Bound, Exact}
 pub use Rattle.dvg_check.specs.declared.fault.ShapeWhy.{ShapeWhy}
 pub use Rattle.dvg_check.specs.declared.fault.ShapeWhy.TheVariants as shape
 pub use Rattle.dvg_check.specs.declared.fault.FrameWhy.{FrameWhy}
 pub use Rattle.dvg_check.specs.declared.fault.FrameWhy.TheVariants as frame
 
--- an item, what is known before it, what it lights, the entry that it calls, and what is known after it
-abbrev pub seen : Context → List Item → Item → Seen
-seen c earlier i =
+-- an item, the place before it, what it lights, the entry that it calls, and what is known after it
+abbrev pub sight : Context → List Item → Item → Seen
+sight c earlier i =
     record {
       item = i;
       place = place_before c earlier;
@@ -44,21 +44,18 @@ AtLast (Some next) P = Unit {0}
 
 -- what exact counts keep
 abbrev pub AsClaimed : Mode → ℕ → ℕ → Type 0
-AsClaimed Bounds n claimed = Unit {0}
-AsClaimed Exactly n claimed = n ≡ claimed
+AsClaimed Bound n claimed = Unit {0}
+AsClaimed Exact n claimed = n ≡ claimed
 
 -- a jump at this place leads to a higher one
 abbrev pub IsForward : ℕ → Instr → Type 0
 IsForward at (Jmpl to) = at < to
 IsForward at i = Unit {0}
 
--- until calls are checked
-abbrev pub CallsNothing : Instr → Type 0
-CallsNothing (Jsrl to) = ⊥
-CallsNothing i = Unit {0}
-
--- what an item of an entry's shape keeps
+-- what an item of an entry's shape keeps; whether it is there, and not odd, is asked below
 abbrev pub ShapeKeeps : Mode → Window → Entry → Seen → ShapeWhy → Type 0
+ShapeKeeps mode w e v shape.Unmapped = Unit {0}
+ShapeKeeps mode w e v shape.Odd = Unit {0}
 ShapeKeeps mode w e v shape.HaltInShape = v.item.instr ≢ Halt
 ShapeKeeps mode w e v shape.BeamUnknown = PlaceKnown v.extent v.place
 ShapeKeeps mode w e v shape.ScaleUnknown = ScaleKnown v.extent
@@ -71,11 +68,11 @@ ShapeKeeps mode w e v shape.ScaleDiffers = AtLast (next_place Shape v.item) (v.a
 ShapeKeeps mode w e v shape.BoxTooSmall = LitInBox e.lit v.extent v.place
 ShapeKeeps mode w e v shape.WordsDiffer = AtLast (next_place Shape v.item) (AsClaimed mode v.after.words e.words)
 ShapeKeeps mode w e v shape.DepthDiffers = AtLast (next_place Shape v.item) (AsClaimed mode v.after.depth e.depth)
-ShapeKeeps mode w e v why = Unit {0}
 
 -- what an item of a frame keeps
 abbrev pub FrameKeeps : Window → ℕ → Seen → FrameWhy → Type 0
-FrameKeeps w budget v frame.NotYet = CallsNothing v.item.instr
+FrameKeeps w budget v frame.Unmapped = Unit {0}
+FrameKeeps w budget v frame.Odd = Unit {0}
 FrameKeeps w budget v frame.ReturnInFrame = v.item.instr ≢ Rtsl
 FrameKeeps w budget v frame.BackJump = IsForward v.item.at v.item.instr
 FrameKeeps w budget v frame.BeamUnknown = PlaceKnown v.extent v.place
@@ -83,7 +80,6 @@ FrameKeeps w budget v frame.ScaleUnknown = ScaleKnown v.extent
 FrameKeeps w budget v frame.OffScreen = LitInWindow w v.extent v.place
 FrameKeeps w budget v frame.NoEntry = HasCallee (target Frame v.item.instr) v.callee
 FrameKeeps w budget v frame.Budget = v.after.words ≤ budget
-FrameKeeps w budget v why = Unit {0}
 
 -- what stands at a place keeps: that it is there, that it is not odd, and else what the item keeps
 abbrev pub CellKeeps : {Why : Type 0} → Why → Why → (Item → Why → Type 0) → ℕ → Cell → Why → Type 0
@@ -93,7 +89,7 @@ CellKeeps missing odd keeps at (Holds format i) why = keeps (record { at = at; f
 
 -- what stands at a place keeps, after these items
 abbrev pub PlaceKeeps : {Why : Type 0} → Why → Why → (Seen → Why → Type 0) → Context → (ℕ → Option ℕ) → List Item → ℕ → Why → Type 0
-PlaceKeeps missing odd keeps c word earlier p why = CellKeeps missing odd (λ i. keeps (seen c earlier i)) p (cell_at word p) why
+PlaceKeeps missing odd keeps c word earlier p why = CellKeeps missing odd (λ i. keeps (sight c earlier i)) p (cell_at word p) why
 
 abbrev pub ShapePlaceKeeps : Mode → Window → Rom → List Entry → Entry → List Item → ℕ → ShapeWhy → Type 0
 ShapePlaceKeeps mode w rom list e = PlaceKeeps shape.Unmapped shape.Odd (ShapeKeeps mode w e) (shape_context list e) (rom_word rom)
@@ -113,7 +109,7 @@ GoodShape mode w rom list e = AllKeep Shape (rom_word rom) e.addr (ShapePlaceKee
 abbrev pub Good : Mode → Window → Rom → List Entry → Type 0
 Good mode w rom list = (e : Entry) → Contains list e → GoodShape mode w rom list e
 
--- a frame keeps all rules, and this is what it comes to at its HALT
+-- a frame keeps all rules, and this is what it stretch to at its HALT
 pub record GoodFrame (w : Window) (words : List ℕ) (list : List Entry) (budget count depth : ℕ) : Type 0 where
   pub keeps : AllKeep Frame (frame_word words) 0 (FramePlaceKeeps w words list budget)
   pub items : List Item

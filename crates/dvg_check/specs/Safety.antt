@@ -13,7 +13,7 @@ abbrev pub IsMapped : Memory → ℕ → Type 0
 IsMapped m p = InFrame m.frame p ⊎ InRom m.rom.map p
 
 -- what holds of a state that a run has reached by so many steps
-pub record IsFine (m : Memory) (w : Window) (words depth steps : ℕ) (s : State) : Type 0 where
+pub record IsSafeState (m : Memory) (w : Window) (words depth steps : ℕ) (s : State) : Type 0 where
   pub within : steps ≤ words
   -- fetches at most so many words, and words of the frame and the ROM alone
   pub few : length s.fetched ≤ words
@@ -23,17 +23,17 @@ pub record IsFine (m : Memory) (w : Window) (words depth steps : ℕ) (s : State
   -- has lit strokes in the window alone
   pub lit : AllByRecursion (Ends (InWindow w)) s.strokes
 
-abbrev pub FineStatus : Memory → Window → ℕ → ℕ → ℕ → Status → Type 0
-FineStatus m w words depth steps (Running s) = IsFine m w words depth steps s
-FineStatus m w words depth steps (Halted s) = IsFine m w words depth steps s
-FineStatus m w words depth steps (Fault s) = ⊥
+abbrev pub IsSafeStatus : Memory → Window → ℕ → ℕ → ℕ → Status → Type 0
+IsSafeStatus m w words depth steps (Running s) = IsSafeState m w words depth steps s
+IsSafeStatus m w words depth steps (Halted s) = IsSafeState m w words depth steps s
+IsSafeStatus m w words depth steps (Fault s) = ⊥
 
 -- From the frame's first word, at any beam place and any global scale, every run reaches HALT within so many steps, and
 -- all is fine on the way.
 pub record Safe (m : Memory) (w : Window) (words depth : ℕ) : Type 0 where
   pub four : depth ≤ 4
   pub halts : (place : Point) (scale : ℕ) → scale ≤ 15 → (steps : ℕ) × (h : State) × (steps ≤ words) × Reached m steps (Running (start place scale)) (Halted h)
-  pub fine : (place : Point) (scale : ℕ) → scale ≤ 15 → (steps : ℕ) (s : Status) → Reached m steps (Running (start place scale)) s → FineStatus m w words depth steps s
+  pub each : (place : Point) (scale : ℕ) → scale ≤ 15 → (steps : ℕ) (s : Status) → Reached m steps (Running (start place scale)) s → IsSafeStatus m w words depth steps s
 
 -- at each halt so many words were fetched, and so many return places were stored at once
 abbrev pub HaltsWith : Memory → ℕ → ℕ → Type 0

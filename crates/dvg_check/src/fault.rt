@@ -8,8 +8,8 @@ use dvg_cert::Key;
 /// Whether the words and the depth that a certificate claims are bounds, or exact.
 #[derive(Clone, Copy, Debug, PartialEq, Eq)]
 pub enum Mode {
-    Bounds,
-    Exactly,
+    Bound,
+    Exact,
 }
 
 /// The rules that an item of a shape may break, 20 to 33.
@@ -45,11 +45,9 @@ pub enum ShapeWhy {
     DepthDiffers,
 }
 
-/// The rules that an item of a frame may break, 40 to 48, and 90.
+/// The rules that an item of a frame may break, 40 to 48.
 #[derive(Clone, Copy, Debug, PartialEq, Eq)]
 pub enum FrameWhy {
-    /// 90: the item is a call, which is not checked yet.
-    NotYet,
     /// 40: a word of the item is outside the frame.
     Unmapped,
     /// 41: the item is an odd LABS.
@@ -76,7 +74,6 @@ impl FrameWhy {
         ensures { result ≡ frame_number self }
     {
         match self {
-            FrameWhy::NotYet => 90,
             FrameWhy::Unmapped => 40,
             FrameWhy::Odd => 41,
             FrameWhy::ReturnInFrame => 42,

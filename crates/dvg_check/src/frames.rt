@@ -6,13 +6,13 @@ ghost use Rattle.dvg_cert.specs.declared.entry.Key.TheVariants.{Any};
 ghost use Rattle.dvg_check.specs.Items.{Frame};
 ghost use Rattle.dvg_check.specs.Rules.{FrameWhy, FrameKeeps, IsForward, GoodFrame};
 ghost use Rattle.dvg_check.specs.declared.fault.FrameWhy.TheVariants as frame;
-ghost use Rattle.dvg_check.specs.FirstFault.{FrameFault, frame_order, FirstFrameFault};
-ghost use Rattle.dvg_check.specs.Running.{IsNearPlace, IsNearExtent, EachKept, frame_rules, BrokenFirst};
+ghost use Rattle.dvg_check.specs.FirstFault.{FrameFault, frame_number, FirstFrameFault};
+ghost use Rattle.dvg_check.specs.Private.Running.{IsNearPlace, IsNearExtent, EachKept, frame_rules, BrokenFirst};
 
 use crate::fault::{FrameFault, FrameWhy};
 use crate::item::{Item, Kind};
-use crate::known::Seen;
-use crate::rules::{Rules, lit_on_screen, place_known, scale_known};
+use crate::known::{Seen, target};
+use crate::rules::{Rules, has_callee, lit_on_screen, place_known, scale_known};
 use crate::walk::walk;
 use dvg_cert::Key;
 use dvg_words::{FrameImage, Instr};
@@ -40,9 +40,6 @@ fn first_broken(budget: u32, seen: &Seen) -> Option<FrameWhy>
     ensures kept { IfNone result (EachKept (FrameKeeps screen budget seen.now) frame_rules) }
     ensures broken { IfSome result (BrokenFirst (FrameKeeps screen budget seen.now)) }
 {
-    if matches!(seen.item.instr, Instr::Jsrl { .. }) {
-        return Some(FrameWhy::NotYet);
-    }
     if matches!(seen.item.instr, Instr::Rtsl) {
         return Some(FrameWhy::ReturnInFrame);
     }
@@ -58,6 +55,9 @@ fn first_broken(budget: u32, seen: &Seen) -> Option<FrameWhy>
     if !lit_on_screen(&seen.extent, &seen.place) {
         return Some(FrameWhy::OffScreen);
     }
+    if !has_callee(target(Kind::Frame, &seen.item.instr), &seen.callee) {
+        return Some(FrameWhy::NoEntry);
+    }
     if seen.after.words > budget {
         return Some(FrameWhy::Budget);
     }
@@ -67,7 +67,7 @@ fn first_broken(budget: u32, seen: &Seen) -> Option<FrameWhy>
 impl Rules for FrameRules {
     type Why = FrameWhy;
 
-    ghost order = { frame_order };
+    ghost order = { frame_number };
 
     ghost unmapped = { frame.Unmapped };
 
@@ -107,7 +107,7 @@ pub struct Accepted {
     pub depth: u8,
 }
 
-/// Checks a frame that calls nothing.
+/// Checks a frame over the empty certificate, where a call names no entry.
 pub fn check_frame(image: &FrameImage, budget: u32) -> Result<Accepted, FrameFault>
     requires { budget ≤ 1000000 }
     ensures ok { IfOk result (λ yes. GoodFrame screen image.now [] budget yes.words yes.depth) }

@@ -4,11 +4,11 @@ ghost use Rattle.std.specs.Prelude.{◌≡◌, ◌≤◌, ◌<◌, ◌+◌, None
 ghost use Rattle.dvg_words.specs.Decoding.{InstrFits};
 ghost use Rattle.dvg_words.specs.Beam.{shift, displacement, labs_place};
 ghost use Rattle.dvg_cert.specs.Entry.{IsKey};
-ghost use Rattle.dvg_check.specs.Known.{scale_set, draw_effect, effect_of};
+ghost use Rattle.dvg_check.specs.Known.{target, scale_set, draw_effect, effect_of};
 ghost use Rattle.dvg_check.specs.Lit.{draw_extent, extent_of};
-ghost use Rattle.dvg_check.specs.Running.{place_past, known_past, seen_with, IsNear, IsNearPlace, IsNearEffect, IsNearExtent, IsSound};
+ghost use Rattle.dvg_check.specs.Private.Running.{place_past, known_past, sight_with, IsNear, IsNearPlace, IsNearEffect, IsNearExtent, IsSound};
 
-use crate::item::{Item, word_count};
+use crate::item::{Item, Kind, word_count};
 use dvg_cert::{End, Entry, Key};
 use dvg_words::{Draw, Instr, Point, displacement};
 
@@ -26,6 +26,7 @@ pub enum LitExtent {
     Nothing,
     /// All of it between two corners.
     Between { from: Point, to: Point },
+    /// Wherever: a lit draw at unknown scale.
     Anywhere,
 }
 
@@ -53,7 +54,7 @@ pub struct Seen {
 const ORIGIN: Point = Point { x: 0, y: 0 };
 
 /// A place, moved.
-pub fn shifted(p: &Point, d: &Point) -> Point
+pub fn shift(p: &Point, d: &Point) -> Point
     requires p { IsNear 4100 p.now }
     requires d { IsNear 1 d.now }
     ensures { result ≡ shift p.now d.now }
@@ -89,7 +90,7 @@ fn labs_place(x: u16, y: u16) -> Point
 }
 
 /// What a draw does to the place, and what it lights.
-fn draw_deed(draw: &Draw, scale: Key) -> (Effect, LitExtent)
+fn draw_effect_and_extent(draw: &Draw, scale: Key) -> (Effect, LitExtent)
     requires { IsKey scale }
     ensures effect { result.0 ≡ draw_effect draw.now scale }
     ensures extent { result.1 ≡ draw_extent draw.now.bright draw.now scale }
@@ -118,8 +119,8 @@ fn draw_deed(draw: &Draw, scale: Key) -> (Effect, LitExtent)
     }
 }
 
-/// What an instruction that calls nothing does to the place, and what it lights.
-fn deed(instr: &Instr, scale: Key) -> (Effect, LitExtent)
+/// What an instruction that names no entry does to the place, and what it lights.
+fn effect_and_extent(instr: &Instr, scale: Key) -> (Effect, LitExtent)
     requires { IsKey scale }
     ensures effect { result.0 ≡ effect_of instr.now scale None }
     ensures extent { result.1 ≡ extent_of instr.now scale None }
@@ -127,9 +128,19 @@ fn deed(instr: &Instr, scale: Key) -> (Effect, LitExtent)
     ensures near_extent { IsNearExtent result.1 }
 {
     match instr {
-        Instr::Draw(draw) => draw_deed(draw, scale),
+        Instr::Draw(draw) => draw_effect_and_extent(draw, scale),
         Instr::Labs { x, y, .. } => (Effect::Sets(labs_place(*x, *y)), LitExtent::Nothing),
         _ => (Effect::Moves(ORIGIN), LitExtent::Nothing),
+    }
+}
+
+/// Where a call leads, or a shape's tail jump.
+pub fn target(kind: Kind, instr: &Instr) -> Option<u16>
+    ensures { result ≡ target kind instr.now }
+{
+    match (kind, instr) {
+        (_, Instr::Jsrl { to }) | (Kind::Shape, Instr::Jmpl { to }) => Some(*to),
+        _ => None,
     }
 }
 
@@ -145,17 +156,17 @@ fn place_past(effect: &Effect, place: &End, at: u16) -> End
         (Effect::Sets(p), _) => End::Abs { x: p.x, y: p.y },
         (Effect::Loses, _) | (_, End::Lost) => End::Lost,
         (Effect::Moves(d), End::Rel { x, y }) => {
-            let p = shifted(&Point { x: *x, y: *y }, d);
+            let p = shift(&Point { x: *x, y: *y }, d);
             End::Rel { x: p.x, y: p.y }
         }
         (Effect::Moves(d), End::Abs { x, y }) => {
-            let p = shifted(&Point { x: *x, y: *y }, d);
+            let p = shift(&Point { x: *x, y: *y }, d);
             End::Abs { x: p.x, y: p.y }
         }
     }
 }
 
-/// The scale past an instruction that calls nothing.
+/// The scale past an instruction that names no entry.
 fn scale_past(instr: &Instr, scale: Key) -> Key
     requires scale { IsKey scale }
     requires instr { InstrFits instr.now }
@@ -168,19 +179,19 @@ fn scale_past(instr: &Instr, scale: Key) -> Key
     }
 }
 
-/// What the rules see of an item that calls nothing.
+/// What the rules see of an item that names no entry.
 pub fn see(before: &Known, item: &Item) -> Seen
     requires before { IsSound item.now.at before.now }
     requires near { item.now.at < 4096 }
     requires fields { InstrFits item.now.instr }
-    ensures value { result ≡ seen_with None before.now item.now }
+    ensures value { result ≡ sight_with None before.now item.now }
     ensures place { IsNearPlace item.now.at result.place }
     ensures extent { IsNearExtent result.extent }
     ensures place_after { IsNearPlace (item.now.at + 1) result.after.place }
     ensures scale_after { IsKey result.after.scale }
     ensures depth_after { result.after.depth ≤ 4 }
 {
-    let (effect, extent) = deed(&item.instr, before.scale);
+    let (effect, extent) = effect_and_extent(&item.instr, before.scale);
     Seen {
         item: *item,
         place: before.place,

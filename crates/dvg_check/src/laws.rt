@@ -1,7 +1,7 @@
 //! Laws over the definitions alone, for every map, window and mode. Each is the contract of a function with an empty
 //! body.
 
-ghost use Rattle.dvg_check.specs.Rules.{Bounds, Exactly};
+ghost use Rattle.dvg_check.specs.Rules.{Bound, Exact};
 ghost use Rattle.dvg_check.specs.Laws.{OneItem, OneShape, AllShapes, GoodIsSafe, ExactIsExact, OneFault, NoFault, OneCount, OneVerdict, StrokeInWindow};
 
 /// A draw or a LABS leads from a state that agrees with what is known before it to one that agrees with what is known
@@ -12,20 +12,20 @@ pub fn one_item()
 
 /// A good shape behaves where each with fewer words does.
 pub fn one_shape()
-    ensures { OneShape Bounds }
+    ensures { OneShape Bound }
 {}
 
 /// All good shapes behave.
 pub fn all_shapes()
-    ensures { AllShapes Bounds }
+    ensures { AllShapes Bound }
 {}
 
 /// All good shapes behave with exactly their counts, where these are exact.
-pub fn all_shapes_exactly()
-    ensures { AllShapes Exactly }
+pub fn all_shapes_exact()
+    ensures { AllShapes Exact }
 {}
 
-/// Where a frame is good, it is safe.
+/// Where the shapes and a frame are good, the frame is safe.
 pub fn good_is_safe()
     ensures { GoodIsSafe }
 {}

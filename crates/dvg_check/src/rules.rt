@@ -6,12 +6,12 @@ ghost use Rattle.dvg_cert.specs.declared.entry.Key.{Key};
 ghost use Rattle.dvg_cert.specs.Entry.{IsKey};
 ghost use Rattle.dvg_check.specs.Items.{Kind};
 ghost use Rattle.dvg_check.specs.Lit.{PlaceKnown, ScaleKnown, LitInWindow};
-ghost use Rattle.dvg_check.specs.Rules.{Seen};
-ghost use Rattle.dvg_check.specs.Running.{IsNear, IsNearPlace, IsNearExtent};
+ghost use Rattle.dvg_check.specs.Rules.{Seen, HasCallee};
+ghost use Rattle.dvg_check.specs.Private.Running.{IsNear, IsNearPlace, IsNearExtent};
 
 use crate::item::Kind;
-use crate::known::{LitExtent, Seen, shifted};
-use dvg_cert::{End, Key};
+use crate::known::{LitExtent, Seen, shift};
+use dvg_cert::{End, Entry, Key};
 use dvg_words::{Point, on_screen};
 
 /// What is asked of the items of a shape or of a frame.
@@ -77,6 +77,13 @@ pub fn scale_known(extent: &LitExtent) -> bool
     !matches!(extent, LitExtent::Anywhere)
 }
 
+/// A call or tail jump names an entry.
+pub fn has_callee(target: Option<u16>, callee: &Option<Entry>) -> bool
+    ensures { IsTrue result ↔ HasCallee target callee.now }
+{
+    target.is_none() || callee.is_some()
+}
+
 fn is_on_screen(p: &Point) -> bool
     ensures { IsTrue result ↔ InWindow screen p.now }
 {
@@ -92,7 +99,7 @@ pub fn lit_on_screen(extent: &LitExtent, place: &End) -> bool
     match (extent, place) {
         (LitExtent::Between { from, to }, End::Abs { x, y }) => {
             let here = Point { x: *x, y: *y };
-            is_on_screen(&shifted(&here, from)) && is_on_screen(&shifted(&here, to))
+            is_on_screen(&shift(&here, from)) && is_on_screen(&shift(&here, to))
         }
         _ => true,
     }

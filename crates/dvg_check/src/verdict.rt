@@ -1,8 +1,10 @@
 //! The verdict on bytes.
 
 ghost use Rattle.std.specs.Prelude.{◌≡◌, IfOk};
+ghost use Rattle.dvg_words.specs.Values.{asteroids};
 ghost use Rattle.dvg_words.specs.Memory.{words_of, rom_of};
 ghost use Rattle.dvg_words.specs.Beam.{screen};
+ghost use Rattle.dvg_check.specs.Rules.{Bound};
 ghost use Rattle.dvg_check.specs.Verdict.{Verdict};
 ghost use Rattle.dvg_check.specs.Safety.{Safe};
 ghost use Rattle.dvg_check.specs.declared.verdict.Refusal.TheVariants as refusals;
@@ -28,7 +30,7 @@ pub enum Refusal {
     Image(ImageFault),
     /// 49: the budget is not 1 to 1,000,000.
     BudgetRange,
-    /// 90: the certificate has entries, or the frame calls a shape, which are not checked yet.
+    /// 90: the certificate is not the empty one, or the frame calls a shape, which are not checked yet.
     NotYet,
     /// 40 to 48: the frame breaks a rule.
     Frame(FrameFault),
@@ -45,10 +47,11 @@ impl From<ImageFault> for Refusal {
 /// The certificate without entries.
 const EMPTY_CERTIFICATE: &[u8] = b"dvgcert 1\ndone 0\n";
 
-/// Whether every run of the generator from the first word of this frame is safe, over this vector ROM.
+/// Judges a frame over a vector ROM: a yes means that every run of the generator from the frame's first word is safe.
 ///
-/// `budget` is how many words the frame may take at the most, 1 to 1,000,000. The verdict is exact: a refusal is the
-/// first that applies of 1, 2, 49, 90 and the frame's first fault. Where it accepts, every run from the frame's first
+/// `budget` is how many words the frame may take at the most, 1 to 1,000,000. The verdict is exact: the first that
+/// applies of 1, 2, 49, 90 for any certificate but the empty one, the frame's first fault (90 for a call), and the yes.
+/// Where it accepts, every run from the frame's first
 /// word, at any beam place and any global scale, reaches HALT within the answered count of words, stores at most four
 /// return places at once, fetches only words of the ROM and the frame, and draws no lit stroke that leaves 0 to 1023 on
 /// either axis. Takes no memory so far.
@@ -59,8 +62,8 @@ pub fn check(
     frame: &[u8],
     budget: u32,
 ) -> Result<Yes, Refusal>
-    ensures verdict { Verdict screen rom.now cert.now frame.now budget result }
-    ensures safe { IfOk result (λ yes. Safe (record { frame = words_of frame.now; rom = rom_of rom.now }) screen yes.words yes.depth) }
+    ensures verdict { Verdict Bound asteroids screen rom.now cert.now frame.now budget result }
+    ensures safe { IfOk result (λ yes. Safe (record { frame = words_of frame.now; rom = rom_of asteroids rom.now }) screen yes.words yes.depth) }
 {
     let _rom = RomImage::from_bytes(rom)?;
     let frame = FrameImage::from_bytes(frame)?;
@@ -76,12 +79,7 @@ pub fn check(
             words: accepted.words,
             depth: accepted.depth,
         }),
-        Err(
-            FrameFault {
-                why: FrameWhy::NotYet,
-                ..
-            },
-        ) => Err(Refusal::NotYet),
+        Err(fault) if fault.why == FrameWhy::NoEntry => Err(Refusal::NotYet),
         Err(fault) => Err(Refusal::Frame(fault)),
     }
 }

@@ -5,7 +5,7 @@ ghost use Rattle.dvg_cert.specs.Entry.{IsKey};
 ghost use Rattle.dvg_check.specs.Rules.{PlaceKeeps};
 ghost use Rattle.dvg_check.specs.FirstFault.{FaultAt};
 ghost use Rattle.dvg_check.specs.Known.{known_before};
-ghost use Rattle.dvg_check.specs.Running.{WalksTo, IsSound};
+ghost use Rattle.dvg_check.specs.Private.Running.{WalksTo, IsSound};
 
 use crate::fault::Fault;
 use crate::item::{Item, Kind, next_place};

@@ -3,10 +3,12 @@ use Rattle.std.proofs.Common.{Option, List, length, None, Some, arith, subst, �
 use Rattle.std.specs.Io.KnownBytes.{Appends}
 use Rattle.std.specs.Prelude.{IfSome, Result, OnOk, IfOk, Ok, Err, OnErr}
 use Rattle.dvg_words.specs.Beam.{screen}
-use Rattle.dvg_words.specs.Memory.{IsFrameLength, words_of, rom_of}
+use Rattle.dvg_words.specs.Memory.{IsRomLength, IsFrameLength, words_of, rom_of}
+use Rattle.dvg_words.specs.Values.{asteroids}
 use Rattle.dvg_cert.specs.Devices.{AppendsFront}
 use Rattle.dvg_check.specs.Safety.{Safe}
-use Rattle.dvg_check.specs.Verdict.{Verdict, IsRomLength}
+use Rattle.dvg_check.specs.Verdict.{Verdict}
+use Rattle.dvg_check.specs.declared.fault.Mode.TheVariants.{Bound}
 use Rattle.dvg_check.specs.declared.verdict.Refusal.{Refusal}
 use Rattle.dvg_check.specs.declared.verdict.Yes.{Yes}
 use Rattle.dvg_cmd.specs.Report.{report_text}
@@ -17,7 +19,7 @@ use Rattle.dvg_cmd.specs.declared.running.RunFault.{RunFault}
 use Rattle.dvg_cmd.specs.declared.running.RunFault.TheVariants as fault
 use Rattle.dvg_cmd.proofs.Whole.{held_bytes, held_told, verdict_whole, front_of_held}
 
-module _ (n m : ℕ) (n_past : 2049 ≤ n) (m_past : 18 ≤ m) (rom cert frame_held : Option (List ℕ)) (budget : ℕ) (rb cb fb : List ℕ) (rom_read : IfSome rom (λ held. rb ≡ limited n held)) (cert_read : IfSome cert (λ held. cb ≡ limited m held)) (frame_read : IfSome frame_held (λ held. fb ≡ limited n held)) (v : Result Yes Refusal) (is : Verdict screen rb cb fb budget v) (old new : Option (List ℕ)) where
+module _ (n m : ℕ) (n_past : 2049 ≤ n) (m_past : 18 ≤ m) (rom cert frame_held : Option (List ℕ)) (budget : ℕ) (rb cb fb : List ℕ) (rom_read : IfSome rom (λ held. rb ≡ limited n held)) (cert_read : IfSome cert (λ held. cb ≡ limited m held)) (frame_read : IfSome frame_held (λ held. fb ≡ limited n held)) (v : Result Yes Refusal) (is : Verdict Bound asteroids screen rb cb fb budget v) (old new : Option (List ℕ)) where
   judges : Judges rom cert frame_held budget v
   judges =
       record {
@@ -38,15 +40,15 @@ module _ (n m : ℕ) (n_past : 2049 ≤ n) (m_past : 18 ≤ m) (rom cert frame_h
   reports_front (Ok outcome) written e = cc
   reports_front (Err why) written e = record { verdict = v; judges = judges; written = written }
 
-safe_held : (n : ℕ) → 2049 ≤ n → (rom frame_held : Option (List ℕ)) (rb fb : List ℕ) → IfSome rom (λ held. rb ≡ limited n held) → IfSome frame_held (λ held. fb ≡ limited n held) → IsRomLength (length rb) → IsFrameLength (length fb) → (words depth : ℕ) → Safe (record { frame = words_of fb; rom = rom_of rb }) screen words depth → IfSome rom (λ r. IfSome frame_held (λ f. Safe (record { frame = words_of f; rom = rom_of r }) screen words depth))
+safe_held : (n : ℕ) → 2049 ≤ n → (rom frame_held : Option (List ℕ)) (rb fb : List ℕ) → IfSome rom (λ held. rb ≡ limited n held) → IfSome frame_held (λ held. fb ≡ limited n held) → IsRomLength asteroids (length rb) → IsFrameLength (length fb) → (words depth : ℕ) → Safe (record { frame = words_of fb; rom = rom_of asteroids rb }) screen words depth → IfSome rom (λ r. IfSome frame_held (λ f. Safe (record { frame = words_of f; rom = rom_of asteroids r }) screen words depth))
 safe_held n past None frame_held rb fb rom_read frame_read rom_long frame_long words depth safe = tt
 safe_held n past (Some r) None rb fb rom_read frame_read rom_long frame_long words depth safe = tt
 safe_held n past (Some r) (Some f) rb fb rom_read frame_read rom_long frame_long words depth safe =
     let same_rom : rb ≡ r = (front_of_held n (Some r) rb rom_read).short (omega (arith, rom_long, past)) in
     let same_frame : fb ≡ f = (front_of_held n (Some f) fb frame_read).short (omega (arith, frame_long.few, past)) in
-    subst (λ (x : List ℕ). Safe (record { frame = words_of f; rom = rom_of x }) screen words depth) same_rom (subst (λ (x : List ℕ). Safe (record { frame = words_of x; rom = rom_of rb }) screen words depth) same_frame safe)
+    subst (λ (x : List ℕ). Safe (record { frame = words_of f; rom = rom_of asteroids x }) screen words depth) same_rom (subst (λ (x : List ℕ). Safe (record { frame = words_of x; rom = rom_of asteroids rb }) screen words depth) same_frame safe)
 
-pub reports_safe : (n : ℕ) → 2049 ≤ n → (rom frame_held : Option (List ℕ)) (budget : ℕ) (rb cb fb : List ℕ) → IfSome rom (λ held. rb ≡ limited n held) → IfSome frame_held (λ held. fb ≡ limited n held) → (v : Result Yes Refusal) → Verdict screen rb cb fb budget v → IfOk v (λ yes. Safe (record { frame = words_of fb; rom = rom_of rb }) screen yes.words yes.depth) → (old new : Option (List ℕ)) (answer : Result Outcome RunFault) → OnOk answer (Appends old new (report_text v)) → IfOk answer (λ outcome. outcome ≡ outcome_of v) → answer ≡ Ok Accepted → ReportsSafe rom frame_held old new
+pub reports_safe : (n : ℕ) → 2049 ≤ n → (rom frame_held : Option (List ℕ)) (budget : ℕ) (rb cb fb : List ℕ) → IfSome rom (λ held. rb ≡ limited n held) → IfSome frame_held (λ held. fb ≡ limited n held) → (v : Result Yes Refusal) → Verdict Bound asteroids screen rb cb fb budget v → IfOk v (λ yes. Safe (record { frame = words_of fb; rom = rom_of asteroids rb }) screen yes.words yes.depth) → (old new : Option (List ℕ)) (answer : Result Outcome RunFault) → OnOk answer (Appends old new (report_text v)) → IfOk answer (λ outcome. outcome ≡ outcome_of v) → answer ≡ Ok Accepted → ReportsSafe rom frame_held old new
 reports_safe n past rom frame_held budget rb cb fb rom_read frame_read (Ok y) is safe old new (Ok outcome) written outcome_is e =
     record { yes = y; written = written; safe = safe_held n past rom frame_held rb fb rom_read frame_read is.0.rom_length is.0.frame_length y.words y.depth safe }
 reports_safe n past rom frame_held budget rb cb fb rom_read frame_read (Err r) is safe old new (Ok outcome) written outcome_is e = cc

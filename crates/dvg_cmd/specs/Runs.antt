@@ -1,11 +1,13 @@
 -- What a run says of the bytes that its readers held, and what it writes. All of it is profile.
 use Rattle.std.specs.Prelude.{◌≡◌, ℕ, Bool, true, false, List, take, Option, IfSome, Result, Ok, Err}
 use Rattle.std.specs.Io.KnownBytes.{Appends}
+use Rattle.dvg_words.specs.Values.{asteroids}
 use Rattle.dvg_words.specs.Beam.{screen}
 use Rattle.dvg_words.specs.Memory.{words_of, rom_of}
 use Rattle.dvg_cert.specs.Devices.{AppendsFront}
 use Rattle.dvg_check.specs.declared.verdict.Yes.{Yes}
 use Rattle.dvg_check.specs.declared.verdict.Refusal.{Refusal}
+use Rattle.dvg_check.specs.declared.fault.Mode.TheVariants.{Bound}
 use Rattle.dvg_check.specs.Verdict.{Verdict}
 use Rattle.dvg_check.specs.Safety.{Safe}
 use Rattle.dvg_cmd.specs.Report.{report_text}
@@ -58,7 +60,7 @@ pub record Judges (rom cert frame : Option (List ℕ)) (budget : ℕ) (verdict :
   pub rom_held : IfSome rom (λ held. rom_bytes ≡ held)
   pub cert_held : IfSome cert (λ held. cert_bytes ≡ held)
   pub frame_held : IfSome frame (λ held. frame_bytes ≡ held)
-  pub is : Verdict screen rom_bytes cert_bytes frame_bytes budget verdict
+  pub is : Verdict Bound asteroids screen rom_bytes cert_bytes frame_bytes budget verdict
 
 -- the report of this verdict was written, and nothing else
 pub record Reports (rom cert frame : Option (List ℕ)) (budget : ℕ) (old new : Option (List ℕ)) (outcome : Outcome) : Type 0 where
@@ -77,4 +79,4 @@ pub record ReportsFront (rom cert frame : Option (List ℕ)) (budget : ℕ) (old
 pub record ReportsSafe (rom frame : Option (List ℕ)) (old new : Option (List ℕ)) : Type 0 where
   pub yes : Yes
   pub written : Appends old new (report_text (Ok yes))
-  pub safe : IfSome rom (λ r. IfSome frame (λ f. Safe (record { frame = words_of f; rom = rom_of r }) screen yes.words yes.depth))
+  pub safe : IfSome rom (λ r. IfSome frame (λ f. Safe (record { frame = words_of f; rom = rom_of asteroids r }) screen yes.words yes.depth))

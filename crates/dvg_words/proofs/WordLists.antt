@@ -1,6 +1,7 @@
 -- The words of a list of bytes, by their places.
 use Rattle.std.proofs.Common.{◌≡◌, ℕ, ◌+◌, ◌*◌, ◌/◌, ◌≤◌, ◌<◌, zero, suc, List, [], ◌∷◌, length, get_or, slice_get, Some, None, refl, ap, arith, rules, ◌∙◌, sym}
-use Rattle.dvg_words.specs.Memory.{words_of, rom_of, IsRom, IsFrame, IsFrameLength}
+use Rattle.dvg_words.specs.Values.{asteroids}
+use Rattle.dvg_words.specs.Memory.{words_of, rom_of, IsRom, IsRomLength, IsFrame, IsFrameLength}
 
 -- two bytes to a word
 pub length-words_of : (bs : List ℕ) → length (words_of bs) ≡ length bs / 2
@@ -18,8 +19,8 @@ word_at_place (low ∷ high ∷ bs) (suc i) h =
     let e1 : 2 * suc i + 1 ≡ suc (suc (2 * i + 1)) = omega arith in
     rw (e1, e) (word_at_place bs i (omega arith))
 
--- 2048 bytes fill the ROM of Asteroids
-pub rom_of_is_rom : (bytes : List ℕ) → length bytes ≡ 2048 → IsRom (rom_of bytes)
+-- bytes of the ROM's length fill the ROM of Asteroids
+pub rom_of_is_rom : (bytes : List ℕ) → IsRomLength asteroids (length bytes) → IsRom (rom_of asteroids bytes)
 rom_of_is_rom bytes long =
     record {
       map = record { past_frames = omega arith; ordered = omega arith; inside = omega arith };

@@ -26,13 +26,13 @@ displacement d global = record { x = d.dx *ℤ pos (factor d.lscale global); y =
 abbrev pub labs_place : ℕ → ℕ → Point
 labs_place x y = record { x = pos (1024 * x); y = pos (1024 * y) }
 
--- the place is within the window
+-- the place is within the window (profile)
 pub record InWindow (w : Window) (p : Point) : Type 0 where
   pub left : pos (1024 * w.x_min) ≤ℤ p.x
   pub right : p.x ≤ℤ pos (1024 * w.x_max)
   pub bottom : pos (1024 * w.y_min) ≤ℤ p.y
   pub top : p.y ≤ℤ pos (1024 * w.y_max)
 
--- the whole screen
+-- the whole screen (profile)
 abbrev pub screen : Window
 screen = record { x_min = 0; x_max = 1023; y_min = 0; y_max = 1023 }

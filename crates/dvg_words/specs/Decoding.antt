@@ -46,7 +46,8 @@ svec_draw word = record {
 abbrev pub is_plain_labs : ℕ → ℕ → Bool
 is_plain_labs first second = (first / 1024 % 4 == 0) && (second / 1024 % 4 == 0)
 
--- the instruction of two words, by the opcode; none exactly for an odd LABS (DVG documentation)
+-- the instruction of two words, by the opcode (DVG documentation); none exactly for an odd LABS (profile). The low twelve bits
+-- of HALT and RTSL are ignored (profile)
 unfoldable pub instruction_of : ℕ → ℕ → Option Instr
 instruction_of first second =
     if nat_le (opcode first) 9 then Some (Draw (vctr_draw first second))

@@ -58,12 +58,12 @@ after_draw d format s =
       strokes = lit_by d.bright (record { from = s.place; to = to }) ++ s.strokes;
     }
 
--- a call stores the next address and jumps; there are four return places (DVG documentation)
+-- a call stores the next address and jumps; there are four return places (DVG documentation), and a fifth store is a fault (profile)
 abbrev pub after_call : Bool → ℕ → State → Status
 after_call true to s = Running (record s { pc = to; return_stack = (s.pc + 1) ∷ s.return_stack; max_stack = max s.max_stack (length s.return_stack + 1) })
 after_call false to s = Fault s
 
--- a return takes the last stored address; there is none at the start (profile)
+-- a return takes the last stored address (DVG documentation); with none stored it is a fault (profile)
 abbrev pub after_return : List ℕ → State → Status
 after_return [] s = Fault s
 after_return (back ∷ rest) s = Running (record s { pc = back; return_stack = rest })

@@ -1,12 +1,16 @@
 -- The words of byte lists, and which word the generator fetches at a word address.
 use Rattle.std.specs.Prelude.{◌≡◌, ◌≤◌, ◌<◌, ℕ, ◌+◌, ◌-◌, ◌*◌, ◌%◌, nat_le, nat_lt, ◌&&◌, List, [], ◌∷◌, length, slice_get, Option, None, if◌then◌else◌}
-use Rattle.dvg_words.specs.Values.{MemoryMap, asteroids, IsMap}
+use Rattle.dvg_words.specs.Values.{MemoryMap, IsMap}
 
--- two bytes to a word, the low byte at the even address (Asteroids schematics)
+-- two bytes to a word, the low byte at the even address (Asteroids schematics); a last byte alone is no word
 abbrev pub words_of : List ℕ → List ℕ
 words_of [] = []
 words_of (low ∷ []) = []
 words_of (low ∷ high ∷ bytes) = (low + 256 * high) ∷ words_of bytes
+
+-- the length in bytes of a ROM: two for each of its addresses (profile)
+abbrev pub IsRomLength : MemoryMap → ℕ → Type 0
+IsRomLength map n = n + 2 * map.rom_first ≡ 2 * (map.rom_last + 1)
 
 -- the lengths in bytes that a frame may have (profile)
 pub record IsFrameLength (n : ℕ) : Type 0 where
@@ -29,9 +33,9 @@ pub record IsRom (rom : Rom) : Type 0 where
   pub map : IsMap rom.map
   pub filled : rom.map.rom_first + length rom.words ≡ rom.map.rom_last + 1
 
--- the ROM of these bytes, in the map of Asteroids
-abbrev pub rom_of : List ℕ → Rom
-rom_of bytes = record { map = asteroids; words = words_of bytes }
+-- the ROM of these bytes
+abbrev pub rom_of : MemoryMap → List ℕ → Rom
+rom_of map bytes = record { map = map; words = words_of bytes }
 
 -- all that the generator can fetch
 pub record Memory : Type 0 where

@@ -85,7 +85,7 @@ pub trait Fetch {
         ensures near { IfSome result (λ _. addr < 4096) };
 }
 
-fn held(format: Format, instr: Option<Instr>) -> Cell
+fn cell_of(format: Format, instr: Option<Instr>) -> Cell
     requires { IfSome instr InstrFits }
     ensures value { result ≡ cell_holding format instr }
     ensures fields { CellFits result }
@@ -108,10 +108,10 @@ pub fn read_cell<F: Fetch>(words: &F, addr: u16) -> Cell
         return Cell::Missing;
     };
     if !is_long(first) {
-        return held(Format::Short, decode(first, 0));
+        return cell_of(Format::Short, decode(first, 0));
     }
     let Some(second) = words.fetch(addr + 1) else {
         return Cell::Missing;
     };
-    held(Format::Long, decode(first, second))
+    cell_of(Format::Long, decode(first, second))
 }

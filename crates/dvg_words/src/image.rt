@@ -1,7 +1,8 @@
 //! The bytes of a vector ROM and of a frame, read as words.
 
 ghost use Rattle.std.specs.Prelude.{◌≡◌, ◌≢◌, ◌+◌, ◌*◌, ◌<◌, ◌≤◌, Some, IfSome, IfOk, MatchResult, length, slice_get};
-ghost use Rattle.dvg_words.specs.Memory.{words_of, rom_of, rom_word, frame_word, IsRom, IsFrame, IsFrameLength};
+ghost use Rattle.dvg_words.specs.Values.{asteroids};
+ghost use Rattle.dvg_words.specs.Memory.{words_of, rom_of, rom_word, frame_word, IsRom, IsRomLength, IsFrame, IsFrameLength};
 
 use crate::decoding::Fetch;
 use byteorder::{ByteOrder, LittleEndian};
@@ -31,22 +32,23 @@ pub struct RomImage<'a> {
 }
 
 impl<'a> Model for RomImage<'a> {
-    ghost use Rattle.std.specs.Prelude.{◌≡◌, length};
-    ghost use Rattle.dvg_words.specs.Memory.{Rom, rom_of};
+    ghost use Rattle.std.specs.Prelude.{length};
+    ghost use Rattle.dvg_words.specs.Values.{asteroids};
+    ghost use Rattle.dvg_words.specs.Memory.{Rom, rom_of, IsRomLength};
 
     ghost Value = { Rom };
 
-    ghost view = { λ r. rom_of r.bytes.now };
+    ghost view = { λ r. rom_of asteroids r.bytes.now };
 
-    ghost invariant = { λ r. length r.bytes.now ≡ 2048 };
+    ghost invariant = { λ r. IsRomLength asteroids (length r.bytes.now) };
 }
 
 impl<'a> RomImage<'a> {
     /// The image of these bytes, which it borrows. Refuses 1 where they are not exactly 2048.
     pub fn from_bytes(bytes: &'a [u8]) -> Result<RomImage<'a>, ImageFault>
         ensures image { MatchResult result
-            (λ rom. (length bytes.now ≡ 2048) × (rom ≡ rom_of bytes.now))
-            (λ fault. (length bytes.now ≢ 2048) × (fault ≡ ImageFault.RomLength)) }
+            (λ rom. IsRomLength asteroids (length bytes.now) × (rom ≡ rom_of asteroids bytes.now))
+            (λ fault. (IsRomLength asteroids (length bytes.now) → ⊥) × (fault ≡ ImageFault.RomLength)) }
         ensures whole { IfOk result IsRom }
     {
         if bytes.len() != 2048 {
@@ -59,6 +61,7 @@ impl<'a> RomImage<'a> {
     pub fn word(&self, addr: u16) -> Option<u16>
         ensures word { result ≡ rom_word self.now addr }
         ensures near { IfSome result (λ _. addr < 4096) }
+        ensures rom { IsRom self.now }
     {
         let bytes = self.bytes;
         if addr < 0x800 || addr > 0xBFF {

@@ -1,5 +1,7 @@
 //! Readers and writers that are slow, or fail at a chosen call.
 
+ghost use Rattle.std.specs.Prelude.{◌≤◌};
+
 use std::io;
 use std::io::{Read, Write};
 
@@ -28,10 +30,11 @@ impl Read for SlowReader<'_> {
 /// A writer that takes so many bytes a write, and fails after so many writes.
 #[derive(Drop)]
 pub struct SlowWriter {
-    pub told: [u8; 64],
-    pub len: usize,
-    pub most: usize,
-    pub writes_left: u32,
+    told: [u8; 64],
+    len: usize,
+    most: usize,
+    writes_left: u32,
+    ghost fits: { len ≤ 64 },
 }
 
 impl SlowWriter {
@@ -46,7 +49,7 @@ impl SlowWriter {
 
     /// What was taken so far.
     pub fn told(&self) -> &[u8] {
-        self.told.get(..self.len).unwrap_or(&[])
+        &self.told[..self.len]
     }
 }
 
@@ -56,16 +59,11 @@ impl Write for SlowWriter {
             return Err(io::Error::from(io::ErrorKind::Other));
         }
         self.writes_left -= 1;
-        let mut taken = 0;
-        for byte in buf {
-            if taken == self.most || self.len >= self.told.len() {
-                break;
-            }
-            self.told[self.len] = *byte;
-            self.len += 1;
-            taken += 1;
-        }
-        Ok(taken)
+        let count = buf.len().min(self.most).min(64 - self.len);
+        let end = self.len + count;
+        self.told[self.len..end].copy_from_slice(&buf[..count]);
+        self.len = end;
+        Ok(count)
     }
 
     fn flush(&mut self) -> io::Result<()> {

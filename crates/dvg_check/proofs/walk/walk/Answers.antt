@@ -4,7 +4,7 @@ use Rattle.dvg_check.specs.Items.{next_place}
 use Rattle.dvg_check.specs.Known.{Context, Known, known_before}
 use Rattle.dvg_check.specs.declared.item.Item.{Item}
 use Rattle.dvg_check.specs.declared.item.Kind.{Kind}
-use Rattle.dvg_check.proofs.Bounds.{IsNearPlace-more}
+use Rattle.dvg_check.proofs.Near.{IsNearPlace-more}
 use Rattle.dvg_check.proofs.Loop.{begin, broken, onward, done}
 use Rattle.dvg_check.proofs.walk.walk.Goals as goal
 

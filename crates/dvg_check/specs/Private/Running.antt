@@ -29,8 +29,8 @@ known_past i callee before =
       depth = max (depth_under i.instr callee) before.depth;
     }
 
-abbrev pub seen_with : Option Entry → Known → Item → Seen
-seen_with callee before i =
+abbrev pub sight_with : Option Entry → Known → Item → Seen
+sight_with callee before i =
     record {
       item = i;
       place = before.place;
@@ -39,8 +39,8 @@ seen_with callee before i =
       after = known_past i callee before;
     }
 
-abbrev pub seen_by : List Entry → Kind → Known → Item → Seen
-seen_by list kind before i = seen_with (callee_at list (target kind i.instr) before.scale) before i
+abbrev pub sight_by : List Entry → Kind → Known → Item → Seen
+sight_by list kind before i = sight_with (callee_at list (target kind i.instr) before.scale) before i
 
 -- ---- bounds: an item moves the place by 2^41 at the most, and stands one place further on at the least
 
@@ -79,20 +79,19 @@ EachKept K [] = Unit {0}
 EachKept K (why ∷ rest) = K why × EachKept K rest
 
 abbrev pub frame_rules : List FrameWhy
-frame_rules = frame.NotYet ∷ frame.Unmapped ∷ frame.Odd ∷ frame.ReturnInFrame ∷ frame.BackJump ∷ frame.BeamUnknown ∷ frame.ScaleUnknown ∷ frame.OffScreen ∷ frame.NoEntry ∷ frame.Budget ∷ []
+frame_rules = frame.Unmapped ∷ frame.Odd ∷ frame.ReturnInFrame ∷ frame.BackJump ∷ frame.BeamUnknown ∷ frame.ScaleUnknown ∷ frame.OffScreen ∷ frame.NoEntry ∷ frame.Budget ∷ []
 
 -- where a rule stands among them
 abbrev pub frame_index : FrameWhy → ℕ
-frame_index frame.NotYet = 0
-frame_index frame.Unmapped = 1
-frame_index frame.Odd = 2
-frame_index frame.ReturnInFrame = 3
-frame_index frame.BackJump = 4
-frame_index frame.BeamUnknown = 5
-frame_index frame.ScaleUnknown = 6
-frame_index frame.OffScreen = 7
-frame_index frame.NoEntry = 8
-frame_index frame.Budget = 9
+frame_index frame.Unmapped = 0
+frame_index frame.Odd = 1
+frame_index frame.ReturnInFrame = 2
+frame_index frame.BackJump = 3
+frame_index frame.BeamUnknown = 4
+frame_index frame.ScaleUnknown = 5
+frame_index frame.OffScreen = 6
+frame_index frame.NoEntry = 7
+frame_index frame.Budget = 8
 
 -- this rule is broken, and all that are tested before it are kept
 abbrev pub BrokenFirst : (FrameWhy → Type 0) → FrameWhy → Type 0

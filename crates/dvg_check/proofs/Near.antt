@@ -8,8 +8,8 @@ use Rattle.dvg_cert.specs.declared.entry.End.TheVariants.{Rel, Abs, Lost}
 use Rattle.dvg_cert.specs.declared.entry.Entry.{Entry}
 use Rattle.dvg_cert.specs.declared.entry.Key.{Key}
 use Rattle.dvg_check.specs.Known.{Context, known_before, target, callee_at, callee, scale_before}
-use Rattle.dvg_check.specs.Rules.{seen}
-use Rattle.dvg_check.specs.Running.{IsNear, IsNearPlace, seen_by, seen_with}
+use Rattle.dvg_check.specs.Rules.{sight}
+use Rattle.dvg_check.specs.Private.Running.{IsNear, IsNearPlace, sight_by, sight_with}
 use Rattle.dvg_check.specs.declared.item.Item.{Item}
 use Rattle.dvg_check.specs.declared.item.Kind.{Kind}
 use Rattle.dvg_check.specs.declared.known.Known.{Known}
@@ -30,9 +30,9 @@ IsNearPlace-more m n (Abs x y) le h = IsNear-more m n (record { x = x; y = y }) 
 IsNearPlace-more m n Lost le h = tt
 
 -- what the code sees of an item is what the rules speak of
-pub seen_is : (c : Context) (earlier : List Item) (i : Item) → seen c earlier i ≡ seen_by c.list c.kind (known_before c earlier) i
-seen_is c earlier i =
-    let v : Seen = seen_by c.list c.kind (known_before c earlier) i in
+pub sight_is : (c : Context) (earlier : List Item) (i : Item) → sight c earlier i ≡ sight_by c.list c.kind (known_before c earlier) i
+sight_is c earlier i =
+    let v : Seen = sight_by c.list c.kind (known_before c earlier) i in
     ap (λ (place : End). record v { after = record v.after { place = place } }) (place_before-cons c earlier i)
 
 -- an empty list names no entry
@@ -40,9 +40,9 @@ none_named : (target : Option ℕ) (scale : Key) → callee_at [] target scale �
 none_named None scale = refl
 none_named (Some to) scale = refl
 
-pub seen_without_entries : (kind : Kind) (scale : Key) (earlier : List Item) (i : Item) (known : Known) → known ≡ known_before (record { kind = kind; list = []; scale = scale }) earlier → seen (record { kind = kind; list = []; scale = scale }) earlier i ≡ seen_with None known i
-seen_without_entries kind scale earlier i known is =
+pub sight_without_entries : (kind : Kind) (scale : Key) (earlier : List Item) (i : Item) (known : Known) → known ≡ known_before (record { kind = kind; list = []; scale = scale }) earlier → sight (record { kind = kind; list = []; scale = scale }) earlier i ≡ sight_with None known i
+sight_without_entries kind scale earlier i known is =
     let c : Context = record { kind = kind; list = []; scale = scale } in
-    seen_is c earlier i
-    ∙ ap (λ (callee : Option Entry). seen_with callee (known_before c earlier) i) (none_named (target kind i.instr) (scale_before c earlier))
-    ∙ ap (λ (k : Known). seen_with None k i) (sym is)
+    sight_is c earlier i
+    ∙ ap (λ (callee : Option Entry). sight_with callee (known_before c earlier) i) (none_named (target kind i.instr) (scale_before c earlier))
+    ∙ ap (λ (k : Known). sight_with None k i) (sym is)

@@ -1,0 +1,2 @@
+-- Words of the code's own, which no rule stands on.
+pub mod Running
