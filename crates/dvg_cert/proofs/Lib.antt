@@ -1,1 +1,17 @@
 pub mod KnownPieces
+pub mod NaturalNumbers
+pub mod Cutting
+pub mod Digits
+pub mod Fields
+pub mod EntryTokens
+pub mod LineTokens
+pub mod Rising
+pub mod Refusals
+pub mod LinesOfTexts
+pub mod Lengths
+pub mod OneAnswerLemmas
+pub mod ListParts
+pub mod Spelled
+pub mod AnyText
+pub mod TextLaws
+pub mod Pieces

@@ -1,4 +1,11 @@
 pub mod Entry
 pub mod Order
+pub mod Grammar
+pub mod Reading
+pub mod Stream
+pub mod Laws
 pub mod Lookup
 pub mod Devices
+pub mod Tokens
+pub mod Progress
+pub mod Writing

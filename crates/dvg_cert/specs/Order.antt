@@ -18,6 +18,12 @@ IsRising [] = Unit {0}
 IsRising (e ∷ []) = Unit {0}
 IsRising (e ∷ f ∷ es) = Before e f × IsRising (f ∷ es)
 
+-- the entry comes after the last of these (profile)
+abbrev pub StandsAfter : List Entry → Entry → Type 0
+StandsAfter [] e = Unit {0}
+StandsAfter (f ∷ []) e = Before f e
+StandsAfter (f ∷ g ∷ es) e = StandsAfter (g ∷ es) e
+
 -- the list of a certificate for a ROM from word address `first` to `last` (profile)
 pub record IsCertificate (first last : ℕ) (es : List Entry) : Type 0 where
   pub each : AllByRecursion (IsEntry first last) es

@@ -9,12 +9,12 @@ use std::io;
 use std::io::{Read, Write};
 use std::marker::Model;
 
-/// A reader that counts its failed reads, up to `u32::MAX`.
+/// A reader that counts the failed calls of `read_counted`, up to `u32::MAX`. A plain `read` isn't counted.
 pub trait CountedRead: Read {
-    /// How many reads failed so far.
+    /// How many calls of `read_counted` failed so far.
     ghost failures: { Self → ℕ };
 
-    /// How many reads failed so far.
+    /// How many calls of `read_counted` failed so far.
     fn failures(&self) -> u32
         ensures { result ≡ failures self.now };
 
@@ -25,13 +25,13 @@ pub trait CountedRead: Read {
         ensures count { failures self.new ≡ count_after (is_err result) (failures self.old) };
 }
 
-/// A writer that counts its failed writes, up to `u32::MAX`. A write fails that answers an error, or takes no byte of a
-/// piece that has some.
+/// A writer that counts the failed calls of `write_counted`, up to `u32::MAX`. A call fails that answers an error, or takes
+/// no byte of a piece that has some. A plain `write` isn't counted.
 pub trait CountedWrite: Write {
-    /// How many writes failed so far.
+    /// How many calls of `write_counted` failed so far.
     ghost failures: { Self → ℕ };
 
-    /// How many writes failed so far.
+    /// How many calls of `write_counted` failed so far.
     fn failures(&self) -> u32
         ensures { result ≡ failures self.now };
 
@@ -63,6 +63,13 @@ impl<T> Counted<T> {
         ensures { result ≡ record { device = device; failures = 0 } }
     {
         Counted { device, count: 0 }
+    }
+
+    /// The device.
+    pub fn into_inner(self) -> T
+        ensures { result ≡ self.device }
+    {
+        self.device
     }
 
     fn count_failure(&mut self)

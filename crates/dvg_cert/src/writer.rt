@@ -1,19 +1,19 @@
-//! Writing.
+//! Writing a certificate, and bytes. No memory is taken.
 
-ghost use Rattle.std.specs.Prelude.{◌≡◌, OnOk, OnErr, is_err};
+ghost use Rattle.std.specs.Prelude.{◌≡◌, ◌<◌, ◌≤◌, ◌+◌, ◌∷◌, ◌++◌, length, true, decimal, OnOk, OnErr, is_err};
+ghost use Rattle.std.specs.Fmt.{signed_decimal, digit_glyph};
 ghost use Rattle.std.specs.Io.KnownBytes.{Appends};
 ghost use Rattle.dvg_cert.specs.Devices.{count_after, AppendsFront};
+ghost use Rattle.dvg_cert.specs.Entry.{IsNumber, IsKey, IsEnd, IsBox, IsEntry};
+ghost use Rattle.dvg_cert.specs.Grammar.{address_token, key_token, end_tokens, box_tokens, entry_line, done_line, ended, text_of};
+ghost use Rattle.dvg_cert.specs.Writing.{spaced};
 
+use crate::certificate::Cert;
 use crate::counted::CountedWrite;
-use thiserror::Error;
-
-/// Why a text was not written.
-#[derive(Clone, Copy, Debug, PartialEq, Eq, Error)]
-pub enum WriteFault {
-    /// Refusal 17: the writer failed, or took no byte.
-    #[error("the writer failed")]
-    Device,
-}
+use crate::entry::{End, Entry, Key, LitBox};
+use crate::fault::WriteFault;
+use crate::line_buffer::LineBuffer;
+use itoa::Buffer;
 
 /// Writes all of the bytes, by as many writes as it takes, and nothing else. Takes no memory.
 ///
@@ -36,4 +36,157 @@ pub fn write_bytes<W: CountedWrite>(bytes: &[u8], out: &mut W) -> Result<(), Wri
         sent += taken;
     }
     Ok(())
+}
+
+/// Writes the text of a certificate, and nothing else. Takes no memory.
+///
+/// At the first write that fails it ends with `Device`, and a front of the text was written: nothing is sent again.
+pub fn write_cert<W: CountedWrite>(cert: &Cert, out: &mut W) -> Result<(), WriteFault>
+    ensures ok { OnOk result (Appends (W.contents out.old) (W.contents out.new) (text_of cert.now)) }
+    ensures front { OnErr result (AppendsFront (W.contents out.old) (W.contents out.new) (text_of cert.now)) }
+
+    // An error comes exactly where a write failed in this call.
+    ensures count { W.failures out.new ≡ count_after (is_err result) (W.failures out.old) }
+{
+    write_bytes(b"dvgcert 1\n", out)?;
+    let mut line = LineBuffer::new();
+    let entries = cert.entries();
+    for i in 0..entries.len() {
+        spell_entry(&mut line, &entries[i]);
+        write_bytes(line.as_bytes(), out)?;
+    }
+    spell_done(&mut line, entries.len() as u32);
+    write_bytes(line.as_bytes(), out)
+}
+
+fn spell_entry(line: &mut LineBuffer, entry: &Entry)
+    requires { IsEntry 2048 3071 entry.now }
+    ensures { line.new ≡ ended (entry_line entry.now) }
+{
+    line.clear();
+    line.push(b"shape");
+    push_address(line, entry.addr);
+    push_key(line, entry.key);
+    line.push_token(b"end");
+    push_end(line, entry.stop);
+    line.push_token(b"box");
+    push_box(line, &entry.lit);
+    line.push_token(b"depth");
+    push_natural(line, entry.depth as u32);
+    line.push_token(b"words");
+    push_natural(line, entry.words);
+    line.push_token(b"scale");
+    push_key(line, entry.scale);
+    line.push(b"\n");
+}
+
+fn spell_done(line: &mut LineBuffer, count: u32)
+    requires { count ≤ 4096 }
+    ensures { line.new ≡ ended (done_line count) }
+{
+    line.clear();
+    line.push(b"done");
+    push_natural(line, count);
+    line.push(b"\n");
+}
+
+fn push_natural(line: &mut LineBuffer, number: u32)
+    requires number { number ≤ 1000000 }
+    requires room { length line.old ≤ 190 }
+    ensures value { line.new ≡ line.old ++ 32 ∷ decimal number }
+    ensures len { length line.new ≤ length line.old + 8 }
+{
+    let mut buffer = Buffer::new();
+    line.push_token(buffer.format(number).as_bytes());
+}
+
+fn push_number(line: &mut LineBuffer, number: &i64)
+    requires number { IsNumber number.now }
+    requires room { length line.old ≤ 180 }
+    ensures value { line.new ≡ line.old ++ 32 ∷ signed_decimal number.now }
+    ensures len { length line.new ≤ length line.old + 15 }
+{
+    let number = *number;
+    let mut buffer = Buffer::new();
+    line.push_token(buffer.format(number).as_bytes());
+}
+
+fn push_key(line: &mut LineBuffer, key: Key)
+    requires key { IsKey key }
+    requires room { length line.old ≤ 190 }
+    ensures value { line.new ≡ line.old ++ 32 ∷ key_token key }
+    ensures len { length line.new ≤ length line.old + 8 }
+{
+    match key {
+        Key::At(n) => push_natural(line, n as u32),
+        Key::Any => line.push_token(b"any"),
+    }
+}
+
+fn push_end(line: &mut LineBuffer, end: End)
+    requires end { IsEnd end }
+    requires room { length line.old ≤ 150 }
+    ensures value { line.new ≡ line.old ++ spaced (end_tokens end) }
+    ensures len { length line.new ≤ length line.old + 34 }
+{
+    match &end {
+        End::Rel { x, y } => {
+            line.push_token(b"rel");
+            push_number(line, x);
+            push_number(line, y);
+        }
+        End::Abs { x, y } => {
+            line.push_token(b"abs");
+            push_number(line, x);
+            push_number(line, y);
+        }
+        End::Lost => line.push_token(b"lost"),
+    }
+}
+
+fn push_box(line: &mut LineBuffer, lit: &LitBox)
+    requires lit { IsBox lit.now }
+    requires room { length line.old ≤ 130 }
+    ensures value { line.new ≡ line.old ++ spaced (box_tokens lit.now) }
+    ensures len { length line.new ≤ length line.old + 60 }
+{
+    match lit {
+        LitBox::Empty => line.push_token(b"none"),
+        LitBox::Span {
+            x_min,
+            x_max,
+            y_min,
+            y_max,
+        } => {
+            push_number(line, x_min);
+            push_number(line, x_max);
+            push_number(line, y_min);
+            push_number(line, y_max);
+        }
+    }
+}
+
+fn push_address(line: &mut LineBuffer, addr: u16)
+    requires addr { addr < 4096 }
+    requires room { length line.old ≤ 190 }
+    ensures value { line.new ≡ line.old ++ 32 ∷ address_token addr }
+    ensures len { length line.new ≡ length line.old + 4 }
+{
+    let token = [
+        hex_digit((addr / 256) as u8),
+        hex_digit((addr / 16 % 16) as u8),
+        hex_digit((addr % 16) as u8),
+    ];
+    line.push_token(&token);
+}
+
+fn hex_digit(value: u8) -> u8
+    requires { value < 16 }
+    ensures { result ≡ digit_glyph true value }
+{
+    if value < 10 {
+        b'0' + value
+    } else {
+        b'A' + (value - 10)
+    }
 }

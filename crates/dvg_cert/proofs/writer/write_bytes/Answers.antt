@@ -1,4 +1,4 @@
-use Rattle.std.proofs.Common.{◌≡◌, ℕ, ◌+◌, ◌-◌, ◌≤◌, length, take, drop, ◌++◌, arith, sym, ap, ◌∙◌, subst, refl, List, rules}
+use Rattle.std.proofs.Common.{◌≡◌, ◌-◌, length, take, drop, ◌++◌, arith, sym, subst, rules}
 use Rattle.std.proofs.lemmas.Grind.{common_steps}
 use Rattle.std.proofs.Math.Seq.{take-add}
 use Rattle.std.specs.Io.KnownBytes.{Appends}

@@ -1,0 +1,65 @@
+-- How long a line is.
+use Rattle.std.proofs.Common.{◌≡◌, ℕ, suc, ◌+◌, ◌≤◌, List, [], ◌∷◌, ◌++◌, length, arith, w64}
+use mir.Val.{SFits}
+use Rattle.std.specs.Prelude.{codes, decimal, ℤ, pos, negsuc}
+use Rattle.std.specs.Fmt.{signed_decimal}
+use Rattle.std.specs.List.{join_with_byte}
+use Rattle.std.proofs.lemmas.List.{length-append}
+use Rattle.std.proofs.lemmas.Fmt.{length-decimal-le}
+use Rattle.std.proofs.lemmas.Int.{ints}
+use Rattle.dvg_cert.specs.Entry.{Key, At, Any, End, Rel, Abs, Lost, LitBox, Empty, Span, Entry, IsNumber, IsKey, IsEnd, IsBox, IsEntry}
+use Rattle.dvg_cert.specs.Grammar.{key_token, end_tokens, box_tokens, entry_tokens, entry_line, done_line}
+
+-- the bytes of tokens, each with one more
+abbrev pub weight : List (List ℕ) → ℕ
+weight [] = 0
+weight (w ∷ ws) = length w + 1 + weight ws
+
+join_le : (ws : List (List ℕ)) → length (join_with_byte 32 ws) ≤ weight ws
+join_le [] = omega arith
+join_le (w ∷ []) = omega arith
+join_le (w ∷ v ∷ vs) = omega (arith, join_le (v ∷ vs), length-append w (32 ∷ join_with_byte 32 (v ∷ vs)))
+
+weight-append : (ws vs : List (List ℕ)) → weight (ws ++ vs) ≡ weight ws + weight vs
+weight-append [] vs = omega arith
+weight-append (w ∷ ws) vs = omega (arith, weight-append ws vs)
+
+pub number_le : (z : ℤ) → IsNumber z → length (signed_decimal z) ≤ 14
+number_le (pos n) h = omega (arith, length-decimal-le 13 n (omega arith) (omega (arith, ints)) (omega (arith, ints)))
+number_le (negsuc n) h = omega (arith, length-decimal-le 13 (suc n) (omega arith) (omega (arith, ints)) (omega (arith, ints)))
+
+pub number_fits : (z : ℤ) → IsNumber z → SFits w64 z
+number_fits (pos n) h = omega (arith, ints)
+number_fits (negsuc n) h = omega (arith, ints)
+
+key_le : (k : Key) → IsKey k → length (key_token k) ≤ 3
+key_le (At n) h = omega (arith, length-decimal-le 2 n (omega arith) (omega arith) (omega arith))
+key_le Any h = omega arith
+
+end_le : (e : End) → IsEnd e → weight (end_tokens e) ≤ 34
+end_le (Rel x y) h = omega (arith, number_le x h.0, number_le y h.1)
+end_le (Abs x y) h = omega (arith, number_le x h.0, number_le y h.1)
+end_le Lost h = omega arith
+
+box_le : (b : LitBox) → IsBox b → weight (box_tokens b) ≤ 60
+box_le Empty h = omega arith
+box_le (Span x0 x1 y0 y1) h = omega (arith, number_le x0 h.0.0, number_le x1 h.0.1, number_le y0 h.1.0, number_le y1 h.1.1)
+
+pub length_entry : (first last : ℕ) (e : Entry) → IsEntry first last e → length (entry_line e) ≤ 148
+length_entry first last e h =
+    let back : List (List ℕ) = codes "depth" ∷ decimal e.depth ∷ codes "words" ∷ decimal e.words ∷ codes "scale" ∷ key_token e.scale ∷ [] in
+    let k = key_le e.key h.key in
+    let s = key_le e.scale h.scale in
+    let d = length-decimal-le 1 e.depth (omega arith) (omega (arith, h.depth)) (omega (arith, h.depth)) in
+    let w = length-decimal-le 7 e.words (omega arith) (omega (arith, h.words_high)) (omega (arith, h.words_high)) in
+    let b : weight back ≤ 37 = omega arith in
+    let m : weight (end_tokens e.stop ++ codes "box" ∷ box_tokens e.lit) ≤ 98 = omega (arith, weight-append (end_tokens e.stop) (codes "box" ∷ box_tokens e.lit), end_le e.stop h.stop, box_le e.lit h.lit) in
+    let all = weight-append (end_tokens e.stop ++ codes "box" ∷ box_tokens e.lit) back in
+    let t : weight (entry_tokens e) ≤ 148 = omega arith in
+    at_most (length (entry_line e)) (weight (entry_tokens e)) (join_le (entry_tokens e)) t
+  where
+    at_most : (a b : ℕ) → a ≤ b → b ≤ 148 → a ≤ 148
+    at_most a b h k = omega arith
+
+pub length_done : (n : ℕ) → n ≤ 4096 → length (done_line n) ≤ 10
+length_done n h = omega (arith, length-decimal-le 4 n (omega arith) (omega arith) (omega arith), join_le (codes "done" ∷ decimal n ∷ []))

@@ -1,0 +1,261 @@
+-- A text is cut into lines in one way, and says one thing.
+use Rattle.std.proofs.Common.{◌≡◌, ℕ, ◌<◌, ◌≤◌, List, [], ◌∷◌, ◌++◌, length, Some, refl, sym, ap, subst, ◌∙◌, append_assoc, arith, inl, inr, ◌⊎◌}
+use Rattle.std.specs.List.{AllByRecursion}
+use Rattle.std.proofs.lemmas.List.{append-nil, length-append}
+use Rattle.std.proofs.lemmas.Bool.Decides.{nat_tests}
+use Rattle.dvg_cert.specs.Entry.{Entry, IsEntry}
+use Rattle.dvg_cert.specs.Order.{IsCertificate, StandsAfter, IsRising}
+use Rattle.dvg_cert.specs.Grammar.{entry_line, first_line, done_line}
+use Rattle.dvg_cert.specs.Reading.{IsWrong, IsLine, Nothing, Begun, Whole, Taken, Without, IsTaken}
+use Rattle.dvg_cert.specs.declared.line.Line.{Line}
+use Rattle.dvg_cert.specs.declared.line.Line.TheVariants as lines
+use Rattle.dvg_cert.specs.declared.fault.CertWhy.{CertWhy}
+use Rattle.dvg_cert.specs.declared.fault.CertWhy.TheVariants.{Form, Order, Count, Unended, After, TooLong, Memory}
+use Rattle.dvg_cert.proofs.Rising.{same_rom}
+use Rattle.dvg_cert.proofs.LineTokens.{line_again}
+
+Text : Type 0
+Text = List ℕ
+
+-- cutting at the first line end
+pub cut_once : (a b c d : List ℕ) → Without 10 a → Without 10 c → a ++ 10 ∷ b ≡ c ++ 10 ∷ d → (a ≡ c) × (b ≡ d)
+cut_once [] b [] d h k e = (refl, cc)
+cut_once [] b (y ∷ c) d h k e = let n : 10 ≡ y = cc in absurd (grind (arith, nat_tests))
+cut_once (x ∷ a) b [] d h k e = let n : x ≡ 10 = cc in absurd (grind (arith, nat_tests))
+cut_once (x ∷ a) b (y ∷ c) d h k e =
+    let head : x ≡ y = cc in
+    let r = cut_once a b c d h.1 k.1 (cc) in
+    (cc (head, r.0), r.1)
+
+pub no_cut : (a b c : List ℕ) → Without 10 c → a ++ 10 ∷ b ≡ c → ⊥
+no_cut [] b [] k e = cc
+no_cut [] b (y ∷ c) k e = let n : 10 ≡ y = cc in absurd (grind (arith, nat_tests))
+no_cut (x ∷ a) b [] k e = cc
+no_cut (x ∷ a) b (y ∷ c) k e = no_cut a b c k.1 (cc)
+
+-- lines with their ends
+abbrev pub lines_text : List (List ℕ) → List ℕ
+lines_text [] = []
+lines_text (l ∷ ls) = l ++ 10 ∷ lines_text ls
+
+abbrev pub Frees : List (List ℕ) → Type 0
+Frees [] = Unit {0}
+Frees (l ∷ ls) = Without 10 l × Frees ls
+
+-- lines and a tail are other lines and a rest: then they are the first of those lines
+pub lines_front : (ls ms : List (List ℕ)) (tail rest : List ℕ) → Frees ls → Frees ms → Without 10 rest → lines_text ls ++ tail ≡ lines_text ms ++ rest → (more : List (List ℕ)) × (ms ≡ ls ++ more) × (tail ≡ lines_text more ++ rest)
+lines_front [] ms tail rest h k free e = (ms, refl, e)
+lines_front (l ∷ ls) [] tail rest h k free e = absurd (no_cut l (lines_text ls ++ tail) rest free (sym (append_assoc l (10 ∷ lines_text ls) tail) ∙ e))
+lines_front (l ∷ ls) (m ∷ ms) tail rest h k free e =
+    let c = cut_once l (lines_text ls ++ tail) m (lines_text ms ++ rest) h.0 k.0 (sym (append_assoc l (10 ∷ lines_text ls) tail) ∙ e ∙ append_assoc m (10 ∷ lines_text ms) rest) in
+    let r = lines_front ls ms tail rest h.1 k.1 free c.1 in
+    (r.0, cc (c.0, r.1), r.2)
+
+-- a line says one thing
+pub one_line : (first last : ℕ) (bytes : List ℕ) (l m : Line) → last < 4096 → IsLine first last l bytes → IsLine first last m bytes → l ≡ m
+one_line first last bytes l m small h k =
+    let e : Some l ≡ Some m = sym (line_again first last bytes l small h) ∙ line_again first last bytes m small k in
+    cc
+
+pub one_entry : (first last : ℕ) (x y : Entry) → last < 4096 → IsEntry first last x → IsEntry first last y → entry_line x ≡ entry_line y → x ≡ y
+one_entry first last x y small h k e =
+    let s : lines.Entry x ≡ lines.Entry y = one_line first last (entry_line x) (lines.Entry x) (lines.Entry y) small (h, refl) (k, e) in
+    cc
+
+pub entry_not_done : (first last : ℕ) (x : Entry) (n : ℕ) → last < 4096 → IsEntry first last x → n ≤ 4096 → entry_line x ≡ done_line n → ⊥
+entry_not_done first last x n small h k e =
+    let s : lines.Entry x ≡ lines.Done n = one_line first last (entry_line x) (lines.Entry x) (lines.Done n) small (h, refl) (k, e) in
+    absurd cc
+
+pub one_done : (first last m n : ℕ) → last < 4096 → m ≤ 4096 → n ≤ 4096 → done_line m ≡ done_line n → m ≡ n
+one_done first last m n small h k e =
+    let s : lines.Done m ≡ lines.Done n = one_line first last (done_line m) (lines.Done m) (lines.Done n) small (h, refl) (k, e) in
+    cc
+
+-- the lines of entries
+abbrev pub entry_lines : List Entry → List (List ℕ)
+entry_lines [] = []
+entry_lines (e ∷ es) = entry_line e ∷ entry_lines es
+
+abbrev pub lines_of : Taken → List (List ℕ)
+lines_of Nothing = []
+lines_of (Begun from to es) = first_line ∷ entry_lines es
+lines_of (Whole from to es) = first_line ∷ (entry_lines es ++ done_line (length es) ∷ [])
+
+-- what follows is no entry line
+abbrev pub NoEntry : ℕ → ℕ → List (List ℕ) → Type 0
+NoEntry first last end = (x : Entry) (ls : List (List ℕ)) → IsEntry first last x → end ≡ entry_line x ∷ ls → ⊥
+
+-- one list goes on where the other has a line
+pub next_of : (first last : ℕ) (es fs : List Entry) (end ms : List (List ℕ)) (line : List ℕ) → last < 4096 → AllByRecursion (IsEntry first last) es → AllByRecursion (IsEntry first last) fs → NoEntry first last end
+    → entry_lines fs ++ end ≡ entry_lines es ++ line ∷ ms → ((e : Entry) × (gs : List Entry) × (fs ≡ es ++ e ∷ gs) × (line ≡ entry_line e)) ⊎ ((fs ≡ es) × (end ≡ line ∷ ms))
+next_of first last [] [] end ms line small h k never e = inr (refl, e)
+next_of first last [] (f ∷ fs) end ms line small h k never e = inl (f, fs, refl, sym (cc))
+next_of first last (x ∷ es) [] end ms line small h k never e = absurd (never x (entry_lines es ++ line ∷ ms) h.0 e)
+next_of first last (x ∷ es) (f ∷ fs) end ms line small h k never e =
+    let head : entry_line f ≡ entry_line x = cc in
+    let tail : entry_lines fs ++ end ≡ entry_lines es ++ line ∷ ms = cc in
+    let same = one_entry first last f x small k.0 h.0 head in
+    elim (next_of first last es fs end ms line small h.1 k.1 never tail) [
+      | inl r ↦ inl (r.0, r.1, cc (same, r.2), r.3)
+      | inr r ↦ inr (cc (same, r.0), r.1)
+    ]
+
+-- two lists that end alike
+pub ends_once : (first last : ℕ) (es fs : List Entry) (end end' : List (List ℕ)) → last < 4096 → AllByRecursion (IsEntry first last) es → AllByRecursion (IsEntry first last) fs → NoEntry first last end → NoEntry first last end'
+    → entry_lines es ++ end ≡ entry_lines fs ++ end' → (es ≡ fs) × (end ≡ end')
+ends_once first last [] [] end end' small h k never never' e = (refl, e)
+ends_once first last [] (f ∷ fs) end end' small h k never never' e = absurd (never f (entry_lines fs ++ end') k.0 e)
+ends_once first last (x ∷ es) [] end end' small h k never never' e = absurd (never' x (entry_lines es ++ end) h.0 (sym e))
+ends_once first last (x ∷ es) (f ∷ fs) end end' small h k never never' e =
+    let head : entry_line x ≡ entry_line f = cc in
+    let tail : entry_lines es ++ end ≡ entry_lines fs ++ end' = cc in
+    let same = one_entry first last x f small h.0 k.0 head in
+    let r = ends_once first last es fs end end' small h.1 k.1 never never' tail in
+    (cc (same, r.0), r.1)
+
+no_entry_nil : (first last : ℕ) → NoEntry first last []
+no_entry_nil first last = λ x ls h e. absurd cc
+
+no_entry_done : (first last n : ℕ) → last < 4096 → n ≤ 4096 → NoEntry first last (done_line n ∷ [])
+no_entry_done first last n small few = λ x ls h e. let head : done_line n ≡ entry_line x = cc in entry_not_done first last x n small h few (sym head)
+
+same_begun : (from to from' to' : ℕ) (es fs : List Entry) → from ≡ from' → to ≡ to' → es ≡ fs → Begun from to es ≡ Begun from' to' fs
+same_begun from to from' to' es fs p q r = cc
+
+same_whole : (from to from' to' : ℕ) (es fs : List Entry) → from ≡ from' → to ≡ to' → es ≡ fs → Whole from to es ≡ Whole from' to' fs
+same_whole from to from' to' es fs p q r = cc
+
+pub lines_once : (first last : ℕ) (t u : Taken) → last < 4096 → IsTaken first last t → IsTaken first last u → lines_of t ≡ lines_of u → t ≡ u
+lines_once first last Nothing Nothing small h k e = refl
+lines_once first last Nothing (Begun from' to' fs) small h k e = absurd cc
+lines_once first last Nothing (Whole from' to' fs) small h k e = absurd cc
+lines_once first last (Begun from to es) Nothing small h k e = absurd cc
+lines_once first last (Whole from to es) Nothing small h k e = absurd cc
+lines_once first last (Begun from to es) (Begun from' to' fs) small h k e =
+    let x = same_rom first last from to es h.0 h.1 h.2 in
+    let y = same_rom first last from' to' fs k.0 k.1 k.2 in
+    let tail : entry_lines es ≡ entry_lines fs = cc in
+    same_begun from to from' to' es fs (h.0 ∙ sym k.0) (h.1 ∙ sym k.1) (ends_once first last es fs [] [] small x.each y.each (no_entry_nil first last) (no_entry_nil first last) (append-nil (entry_lines es) ∙ tail ∙ sym (append-nil (entry_lines fs)))).0
+lines_once first last (Begun from to es) (Whole from' to' fs) small h k e =
+    let x = same_rom first last from to es h.0 h.1 h.2 in
+    let y = same_rom first last from' to' fs k.0 k.1 k.2 in
+    let tail : entry_lines es ≡ entry_lines fs ++ done_line (length fs) ∷ [] = cc in
+    let r = ends_once first last es fs [] (done_line (length fs) ∷ []) small x.each y.each (no_entry_nil first last) (no_entry_done first last (length fs) small y.few) (append-nil (entry_lines es) ∙ tail) in
+    absurd (cc (r.1))
+lines_once first last (Whole from to es) (Begun from' to' fs) small h k e =
+    let x = same_rom first last from to es h.0 h.1 h.2 in
+    let y = same_rom first last from' to' fs k.0 k.1 k.2 in
+    let tail : entry_lines es ++ done_line (length es) ∷ [] ≡ entry_lines fs = cc in
+    let r = ends_once first last es fs (done_line (length es) ∷ []) [] small x.each y.each (no_entry_done first last (length es) small x.few) (no_entry_nil first last) (tail ∙ sym (append-nil (entry_lines fs))) in
+    absurd (cc (r.1))
+lines_once first last (Whole from to es) (Whole from' to' fs) small h k e =
+    let x = same_rom first last from to es h.0 h.1 h.2 in
+    let y = same_rom first last from' to' fs k.0 k.1 k.2 in
+    let tail : entry_lines es ++ done_line (length es) ∷ [] ≡ entry_lines fs ++ done_line (length fs) ∷ [] = cc in
+    same_whole from to from' to' es fs (h.0 ∙ sym k.0) (h.1 ∙ sym k.1) (ends_once first last es fs (done_line (length es) ∷ []) (done_line (length fs) ∷ []) small x.each y.each (no_entry_done first last (length es) small x.few) (no_entry_done first last (length fs) small y.few) tail).0
+
+-- a list within a list
+pub each_mid : (first last : ℕ) (es : List Entry) (e : Entry) (gs : List Entry) → AllByRecursion (IsEntry first last) (es ++ e ∷ gs) → IsEntry first last e
+each_mid first last [] e gs h = h.0
+each_mid first last (x ∷ es) e gs h = each_mid first last es e gs h.1
+
+pub rising_mid : (es : List Entry) (e : Entry) (gs : List Entry) → IsRising (es ++ e ∷ gs) → StandsAfter es e
+rising_mid [] e gs h = tt
+rising_mid (x ∷ []) e [] h = h.0
+rising_mid (x ∷ []) e (g ∷ gs) h = h.0
+rising_mid (x ∷ y ∷ es) e gs h = rising_mid (y ∷ es) e gs h.1
+
+-- the line may stand after these
+abbrev pub GoesOn : Taken → List ℕ → Type 0
+GoesOn Nothing line = line ≡ first_line
+GoesOn (Begun from to es) line = ((e : Entry) × IsLine from to (lines.Entry e) line × StandsAfter es e × (length es < 4096)) ⊎ IsLine from to (lines.Done (length es)) line
+GoesOn (Whole from to es) line = ⊥
+
+-- the addresses of these lines are three digits
+abbrev pub Small : Taken → Type 0
+Small Nothing = Unit {0}
+Small (Begun from to es) = to < 4096
+Small (Whole from to es) = to < 4096
+
+pub small_taken : (first last : ℕ) (t : Taken) → last < 4096 → IsTaken first last t → Small t
+small_taken first last Nothing small h = tt
+small_taken first last (Begun from to es) small h = omega (arith, h.1)
+small_taken first last (Whole from to es) small h = omega (arith, h.1)
+
+goes_entry : (first last : ℕ) (es fs : List Entry) (line : List ℕ) → IsCertificate first last fs → ((e : Entry) × (gs : List Entry) × (fs ≡ es ++ e ∷ gs) × (line ≡ entry_line e)) → (e : Entry) × IsLine first last (lines.Entry e) line × StandsAfter es e × (length es < 4096)
+goes_entry first last es fs line h r =
+    let each : AllByRecursion (IsEntry first last) (es ++ r.0 ∷ r.1) = subst (λ (xs : List Entry). AllByRecursion (IsEntry first last) xs) r.2 h.each in
+    let rising : IsRising (es ++ r.0 ∷ r.1) = subst (λ (xs : List Entry). IsRising xs) r.2 h.rising in
+    let few : length (es ++ r.0 ∷ r.1) ≤ 4096 = subst (λ (xs : List Entry). length xs ≤ 4096) r.2 h.few in
+    (r.0, (each_mid first last es r.0 r.1 each, r.3), rising_mid es r.0 r.1 rising, omega (arith, length-append es (r.0 ∷ r.1)))
+
+pub goes_on : (first last : ℕ) (t u : Taken) (line : List ℕ) (ms : List (List ℕ)) → last < 4096 → IsTaken first last t → IsTaken first last u → lines_of u ≡ lines_of t ++ line ∷ ms → GoesOn t line
+goes_on first last Nothing Nothing line ms small h k e = absurd cc
+goes_on first last Nothing (Begun from' to' fs) line ms small h k e = cc
+goes_on first last Nothing (Whole from' to' fs) line ms small h k e = cc
+goes_on first last (Begun from to es) Nothing line ms small h k e = absurd cc
+goes_on first last (Begun from to es) (Begun from' to' fs) line ms small h k e =
+    let less : to < 4096 = omega (arith, h.1, small) in
+    let y = same_rom from to from' to' fs (k.0 ∙ sym h.0) (k.1 ∙ sym h.1) k.2 in
+    let tail : entry_lines fs ≡ entry_lines es ++ line ∷ ms = cc in
+    elim (next_of from to es fs [] ms line less h.2.each y.each (no_entry_nil from to) (append-nil (entry_lines fs) ∙ tail)) [
+      | inl r ↦ inl (goes_entry from to es fs line y r)
+      | inr r ↦ absurd (cc (r.1))
+    ]
+goes_on first last (Begun from to es) (Whole from' to' fs) line ms small h k e =
+    let less : to < 4096 = omega (arith, h.1, small) in
+    let y = same_rom from to from' to' fs (k.0 ∙ sym h.0) (k.1 ∙ sym h.1) k.2 in
+    let tail : entry_lines fs ++ done_line (length fs) ∷ [] ≡ entry_lines es ++ line ∷ ms = cc in
+    elim (next_of from to es fs (done_line (length fs) ∷ []) ms line less h.2.each y.each (no_entry_done from to (length fs) less y.few) tail) [
+      | inl r ↦ inl (goes_entry from to es fs line y r)
+      | inr r ↦ let l : done_line (length fs) ≡ line = cc (r.1) in inr (h.2.few, sym l ∙ ap (λ (xs : List Entry). done_line (length xs)) r.0)
+    ]
+goes_on first last (Whole from to es) Nothing line ms small h k e = absurd cc
+goes_on first last (Whole from to es) (Begun from' to' fs) line ms small h k e =
+    let less : to < 4096 = omega (arith, h.1, small) in
+    let y = same_rom from to from' to' fs (k.0 ∙ sym h.0) (k.1 ∙ sym h.1) k.2 in
+    let tail : entry_lines fs ≡ (entry_lines es ++ done_line (length es) ∷ []) ++ line ∷ ms = cc in
+    elim (next_of from to es fs [] (line ∷ ms) (done_line (length es)) less h.2.each y.each (no_entry_nil from to) (append-nil (entry_lines fs) ∙ tail ∙ append_assoc (entry_lines es) (done_line (length es) ∷ []) (line ∷ ms))) [
+      | inl r ↦ let g = goes_entry from to es fs (done_line (length es)) y r in absurd (entry_not_done from to g.0 (length es) less g.1.0 h.2.few (sym g.1.1))
+      | inr r ↦ absurd (cc (r.1))
+    ]
+goes_on first last (Whole from to es) (Whole from' to' fs) line ms small h k e =
+    let less : to < 4096 = omega (arith, h.1, small) in
+    let y = same_rom from to from' to' fs (k.0 ∙ sym h.0) (k.1 ∙ sym h.1) k.2 in
+    let tail : entry_lines fs ++ done_line (length fs) ∷ [] ≡ (entry_lines es ++ done_line (length es) ∷ []) ++ line ∷ ms = cc in
+    elim (next_of from to es fs (done_line (length fs) ∷ []) (line ∷ ms) (done_line (length es)) less h.2.each y.each (no_entry_done from to (length fs) less y.few) (tail ∙ append_assoc (entry_lines es) (done_line (length es) ∷ []) (line ∷ ms))) [
+      | inl r ↦ let g = goes_entry from to es fs (done_line (length es)) y r in absurd (entry_not_done from to g.0 (length es) less g.1.0 h.2.few (sym g.1.1))
+      | inr r ↦ absurd (cc (r.1))
+    ]
+
+pub not_both : (first last : ℕ) (e : Entry) (n : ℕ) (line : List ℕ) → last < 4096 → IsLine first last (lines.Entry e) line → IsLine first last (lines.Done n) line → ⊥
+not_both first last e n line small h k = let s = one_line first last line (lines.Entry e) (lines.Done n) small h k in absurd cc
+
+pub same_entry : (first last : ℕ) (e f : Entry) (line : List ℕ) → last < 4096 → IsLine first last (lines.Entry e) line → IsLine first last (lines.Entry f) line → e ≡ f
+same_entry first last e f line small h k = let s = one_line first last line (lines.Entry e) (lines.Entry f) small h k in cc
+
+pub same_count : (first last m n : ℕ) (line : List ℕ) → last < 4096 → IsLine first last (lines.Done m) line → IsLine first last (lines.Done n) line → m ≡ n
+same_count first last m n line small h k = let s = one_line first last line (lines.Done m) (lines.Done n) small h k in cc
+
+-- what is wrong may not stand
+pub wrong_goes : (why : CertWhy) (t : Taken) (line : List ℕ) → Small t → IsWrong t line why → GoesOn t line → ⊥
+wrong_goes why (Whole from to es) line small w g = g
+wrong_goes Form Nothing line small w g = w g
+wrong_goes Order Nothing line small w g = w
+wrong_goes Count Nothing line small w g = w
+wrong_goes Unended Nothing line small w g = w
+wrong_goes After Nothing line small w g = w
+wrong_goes TooLong Nothing line small w g = w
+wrong_goes Memory Nothing line small w g = w
+wrong_goes Form (Begun from to es) line small w (inl g) = w (lines.Entry g.0) g.1
+wrong_goes Form (Begun from to es) line small w (inr g) = w (lines.Done (length es)) g
+wrong_goes Order (Begun from to es) line small w (inl g) = w.2 (subst (λ (x : Entry). StandsAfter es x) (same_entry from to g.0 w.0 line small g.1 w.1) g.2)
+wrong_goes Order (Begun from to es) line small w (inr g) = not_both from to w.0 (length es) line small w.1 g
+wrong_goes TooLong (Begun from to es) line small w (inl g) = absurd (omega (arith, g.3, w.3))
+wrong_goes TooLong (Begun from to es) line small w (inr g) = not_both from to w.0 (length es) line small w.1 g
+wrong_goes Count (Begun from to es) line small w (inl g) = not_both from to g.0 w.0 line small g.1 w.1
+wrong_goes Count (Begun from to es) line small w (inr g) = w.2 (same_count from to w.0 (length es) line small w.1 g)
+wrong_goes Unended (Begun from to es) line small w g = w
+wrong_goes After (Begun from to es) line small w g = w
+wrong_goes Memory (Begun from to es) line small w g = w

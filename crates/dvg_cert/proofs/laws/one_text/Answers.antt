@@ -1,0 +1,6 @@
+use Rattle.std.proofs.Common.{refl}
+use Rattle.dvg_cert.specs.Grammar.{text_of}
+use Rattle.dvg_cert.proofs.laws.one_text.Goals as goal
+
+pub returns : goal.returns
+returns c = λ first last es h. (text_of es, (h, refl), λ other k. k.1)

@@ -1,0 +1,57 @@
+-- How a certificate is spelled: a line is its tokens with one space between, and each line ends with LF.
+use Rattle.std.specs.Prelude.{◌≡◌, ℕ, ◌/◌, ◌%◌, List, [], ◌∷◌, ◌++◌, length, codes, decimal, true}
+use Rattle.std.specs.Fmt.{signed_decimal, digit_glyph}
+use Rattle.std.specs.List.{join_with_byte, flat_map}
+use Rattle.dvg_cert.specs.Entry.{Key, At, Any, End, Rel, Abs, Lost, LitBox, Empty, Span, Entry}
+use Rattle.dvg_cert.specs.Order.{IsCertificate}
+
+-- a word address: three hexadecimal digits in capitals (profile)
+abbrev pub address_token : ℕ → List ℕ
+address_token a = digit_glyph true (a / 256) ∷ digit_glyph true (a / 16 % 16) ∷ digit_glyph true (a % 16) ∷ []
+
+-- a scale: its decimal, or any (profile)
+abbrev pub key_token : Key → List ℕ
+key_token (At n) = decimal n
+key_token Any = codes "any"
+
+-- X, then Y (profile)
+abbrev pub end_tokens : End → List (List ℕ)
+end_tokens (Rel x y) = codes "rel" ∷ signed_decimal x ∷ signed_decimal y ∷ []
+end_tokens (Abs x y) = codes "abs" ∷ signed_decimal x ∷ signed_decimal y ∷ []
+end_tokens Lost = codes "lost" ∷ []
+
+-- XMIN, XMAX, YMIN, YMAX (profile)
+abbrev pub box_tokens : LitBox → List (List ℕ)
+box_tokens Empty = codes "none" ∷ []
+box_tokens (Span x_min x_max y_min y_max) = signed_decimal x_min ∷ signed_decimal x_max ∷ signed_decimal y_min ∷ signed_decimal y_max ∷ []
+
+-- an entry (profile)
+abbrev pub entry_tokens : Entry → List (List ℕ)
+entry_tokens e = codes "shape" ∷ address_token e.addr ∷ key_token e.key ∷ codes "end" ∷ end_tokens e.stop ++ codes "box" ∷ box_tokens e.lit
+    ++ codes "depth" ∷ decimal e.depth ∷ codes "words" ∷ decimal e.words ∷ codes "scale" ∷ key_token e.scale ∷ []
+
+-- the lines of a certificate, without their ends (profile)
+abbrev pub first_line : List ℕ
+first_line = codes "dvgcert 1"
+
+abbrev pub entry_line : Entry → List ℕ
+entry_line e = join_with_byte 32 (entry_tokens e)
+
+abbrev pub done_line : ℕ → List ℕ
+done_line n = join_with_byte 32 (codes "done" ∷ decimal n ∷ [])
+
+-- a line with its end (profile)
+abbrev pub ended : List ℕ → List ℕ
+ended line = line ++ 10 ∷ []
+
+-- the first line, and a line for each entry (profile)
+unfoldable pub begun_with : List Entry → List ℕ
+begun_with es = ended first_line ++ flat_map (λ e. ended (entry_line e)) es
+
+-- the one spelling of a list: these lines, and a last one with the number of entries (profile)
+abbrev pub text_of : List Entry → List ℕ
+text_of es = begun_with es ++ ended (done_line (length es))
+
+-- the text spells the list of a certificate for a ROM from word address `first` to `last` (profile)
+abbrev pub Spells : ℕ → ℕ → List Entry → List ℕ → Type 0
+Spells first last es text = IsCertificate first last es × (text ≡ text_of es)

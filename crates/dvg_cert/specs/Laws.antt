@@ -1,0 +1,38 @@
+-- The laws of texts, for a ROM at any word addresses of three hexadecimal digits.
+use Rattle.std.specs.Prelude.{◌≡◌, ◌≢◌, ℕ, ◌+◌, ◌<◌, ◌==◌, List, ◌++◌, Result, Ok, Err, count_by}
+use Rattle.dvg_cert.specs.declared.fault.CertWhy.TheVariants.{Unended, Memory}
+use Rattle.dvg_cert.specs.declared.fault.CertFault.{CertFault}
+use Rattle.dvg_cert.specs.Entry.{Entry}
+use Rattle.dvg_cert.specs.Order.{IsCertificate}
+use Rattle.dvg_cert.specs.Grammar.{Spells}
+use Rattle.dvg_cert.specs.Reading.{Taken, Holds, MayStand, line_number, ReadAnswer}
+
+-- each list of a certificate has exactly one text
+abbrev pub OneText : Type 0
+OneText = (first last : ℕ) (es : List Entry) → IsCertificate first last es → (text : List ℕ) × Spells first last es text × ((other : List ℕ) → Spells first last es other → other ≡ text)
+
+-- each text spells at most one list
+abbrev pub OneList : Type 0
+OneList = (first last : ℕ) (es fs : List Entry) (text : List ℕ) → last < 4096 → Spells first last es text → Spells first last fs text → es ≡ fs
+
+-- the answer is not that memory was short
+abbrev pub NotMemory : Result (List Entry) CertFault → Type 0
+NotMemory (Ok es) = Unit {0}
+NotMemory (Err f) = f.why ≢ Memory
+
+-- each text has exactly one answer that is not want of memory
+abbrev pub OneAnswer : Type 0
+OneAnswer = (first last : ℕ) (text : List ℕ) → last < 4096 → (answer : Result (List Entry) CertFault) × ReadAnswer first last text answer × NotMemory answer
+    × ((other : Result (List Entry) CertFault) → ReadAnswer first last text other → NotMemory other → other ≡ answer)
+
+-- a text that may stand is refused for its end alone, want of memory aside
+abbrev pub OpenAnswer : Type 0
+OpenAnswer = (first last : ℕ) (text : List ℕ) (f : CertFault) → last < 4096 → MayStand first last text → ReadAnswer first last text (Err f) → f.why ≢ Memory → f.why ≡ Unended
+
+-- a front of a text that may stand may stand
+abbrev pub OpenFront : Type 0
+OpenFront = (first last : ℕ) (front after : List ℕ) → last < 4096 → MayStand first last (front ++ after) → MayStand first last front
+
+-- the number of the line that a text has come to is one plus the number of its LFs
+abbrev pub LineNumber : Type 0
+LineNumber = (first last : ℕ) (text : List ℕ) (taken : Taken) (rest : List ℕ) → last < 4096 → Holds first last text taken rest → line_number taken ≡ count_by (λ b. b == 10) text + 1

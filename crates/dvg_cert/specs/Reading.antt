@@ -1,0 +1,93 @@
+-- The reader's answer, by what a front of the text is. The first and the last word address are those of the ROM that a
+-- text of this version speaks of; the lines that were taken keep them.
+use Rattle.std.specs.Prelude.{◌≡◌, ◌≢◌, ℕ, ◌+◌, ◌<◌, ◌≤◌, ◌⊎◌, List, [], ◌∷◌, ◌++◌, length, false, ◌==◌, Result, Ok, Err}
+use Rattle.dvg_cert.specs.declared.line.Line.{Line}
+use Rattle.dvg_cert.specs.declared.line.Line.TheVariants as lines
+use Rattle.dvg_cert.specs.declared.fault.CertWhy.{CertWhy}
+use Rattle.dvg_cert.specs.declared.fault.CertWhy.TheVariants.{Form, Order, Count, Unended, After, TooLong, Memory}
+use Rattle.dvg_cert.specs.declared.fault.CertFault.{CertFault}
+use Rattle.dvg_cert.specs.Entry.{Entry, IsEntry}
+use Rattle.dvg_cert.specs.Order.{IsCertificate, StandsAfter}
+use Rattle.dvg_cert.specs.Grammar.{first_line, entry_line, done_line, begun_with, text_of, Spells}
+
+-- the bytes are a line after the first, without its end (profile)
+abbrev pub IsLine : ℕ → ℕ → Line → List ℕ → Type 0
+IsLine first last (lines.Entry e) bytes = IsEntry first last e × (bytes ≡ entry_line e)
+IsLine first last (lines.Done n) bytes = (n ≤ 4096) × (bytes ≡ done_line n)
+
+-- the lines of a front: none, those to an entry of a ROM from one address to another, or all (profile)
+pub data Taken : Type 0 where
+  Nothing : Taken
+  Begun : ℕ → ℕ → List Entry → Taken
+  Whole : ℕ → ℕ → List Entry → Taken
+
+abbrev pub text_taken : Taken → List ℕ
+text_taken Nothing = []
+text_taken (Begun from to es) = begun_with es
+text_taken (Whole from to es) = text_of es
+
+-- the line after them, counted from 1 (profile)
+abbrev pub line_number : Taken → ℕ
+line_number Nothing = 1
+line_number (Begun from to es) = length es + 2
+line_number (Whole from to es) = length es + 3
+
+abbrev pub IsTaken : ℕ → ℕ → Taken → Type 0
+IsTaken first last Nothing = Unit {0}
+IsTaken first last (Begun from to es) = (from ≡ first) × (to ≡ last) × IsCertificate from to es
+IsTaken first last (Whole from to es) = (from ≡ first) × (to ≡ last) × IsCertificate from to es
+
+-- the byte stands nowhere in these
+abbrev pub Without : ℕ → List ℕ → Type 0
+Without c [] = Unit {0}
+Without c (b ∷ bs) = ((b == c) ≡ false) × Without c bs
+
+-- what may follow these lines: a line begun, of fewer than 200 bytes, or nothing after all lines (profile)
+abbrev pub IsRest : Taken → List ℕ → Type 0
+IsRest (Whole from to es) rest = rest ≡ []
+IsRest taken rest = Without 10 rest × (length rest < 200)
+
+-- a text of these lines and this rest is a certificate's, or may become one (profile)
+pub record Holds (first last : ℕ) (text : List ℕ) (taken : Taken) (rest : List ℕ) : Type 0 where
+  pub parts : text ≡ text_taken taken ++ rest
+  pub lines : IsTaken first last taken
+  pub begun : IsRest taken rest
+
+-- the text is open, or spells a certificate (profile)
+abbrev pub MayStand : ℕ → ℕ → List ℕ → Type 0
+MayStand first last text = (taken : Taken) × (rest : List ℕ) × Holds first last text taken rest
+
+-- no last line was taken
+abbrev pub IsUnended : Taken → Type 0
+IsUnended (Whole from to es) = ⊥
+IsUnended taken = Unit {0}
+
+-- what is wrong with a line after these, once its LF has come (profile)
+abbrev pub IsWrong : Taken → List ℕ → CertWhy → Type 0
+IsWrong Nothing line Form = line ≢ first_line
+IsWrong (Begun from to es) line Form = (l : Line) → IsLine from to l line → ⊥
+IsWrong (Begun from to es) line Order = (e : Entry) × IsLine from to (lines.Entry e) line × (StandsAfter es e → ⊥)
+IsWrong (Begun from to es) line TooLong = (e : Entry) × IsLine from to (lines.Entry e) line × StandsAfter es e × (length es ≡ 4096)
+IsWrong (Begun from to es) line Count = (n : ℕ) × IsLine from to (lines.Done n) line × (n ≢ length es)
+IsWrong taken line why = ⊥
+
+-- why a byte cannot come after these lines and this rest: after all lines, as the 200th of a line, or as its LF (profile)
+abbrev pub Meets : Taken → List ℕ → ℕ → CertWhy → Type 0
+Meets (Whole from to es) rest b why = why ≡ After
+Meets taken rest b why = ((b ≢ 10) × (length rest ≡ 199) × (why ≡ TooLong)) ⊎ ((b ≡ 10) × IsWrong taken rest why)
+
+-- the line is that of an entry which could still be taken (profile)
+abbrev pub HasEntryAt : ℕ → ℕ → List ℕ → ℕ → Type 0
+HasEntryAt first last text line = (es : List Entry) × (after : List ℕ) × IsCertificate first last es × (0 < length es) × (text ≡ begun_with es ++ after) × (line ≡ length es + 1)
+
+-- a line and a reason to refuse the text: want of memory at an entry's line, the end of an open text, or the first byte
+-- that cannot come (profile)
+abbrev pub IsRefusal : ℕ → ℕ → List ℕ → ℕ → CertWhy → Type 0
+IsRefusal first last text line Memory = HasEntryAt first last text line
+IsRefusal first last text line Unended = (taken : Taken) × (rest : List ℕ) × Holds first last text taken rest × IsUnended taken × (line ≡ line_number taken)
+IsRefusal first last text line why = (front : List ℕ) × (b : ℕ) × (after : List ℕ) × (taken : Taken) × (rest : List ℕ) × (text ≡ front ++ b ∷ after) × Holds first last front taken rest × Meets taken rest b why × (line ≡ line_number taken)
+
+-- the reader's answer: the list that is spelled, or a refusal (profile)
+abbrev pub ReadAnswer : ℕ → ℕ → List ℕ → Result (List Entry) CertFault → Type 0
+ReadAnswer first last text (Ok es) = Spells first last es text
+ReadAnswer first last text (Err f) = IsRefusal first last text f.line f.why

@@ -1,0 +1,33 @@
+//! The laws of texts, proved over the definitions alone.
+
+ghost use Rattle.dvg_cert.specs.Laws.{OneText, OneList, OneAnswer, OpenAnswer, OpenFront, LineNumber};
+
+/// Each list of a certificate has exactly one text.
+pub fn one_text()
+    ensures { OneText }
+{}
+
+/// Each text spells at most one list.
+pub fn one_list()
+    ensures { OneList }
+{}
+
+/// Each text has exactly one answer of the reader, want of memory aside.
+pub fn one_answer()
+    ensures { OneAnswer }
+{}
+
+/// A text that may become a certificate's is refused for its end alone, want of memory aside.
+pub fn open_answer()
+    ensures { OpenAnswer }
+{}
+
+/// A front of a text that may become a certificate's may become one's.
+pub fn open_front()
+    ensures { OpenFront }
+{}
+
+/// The line that a text has come to is one plus the number of its line ends.
+pub fn line_number()
+    ensures { LineNumber }
+{}

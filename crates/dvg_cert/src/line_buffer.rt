@@ -1,0 +1,72 @@
+//! A line of at most 200 bytes, in place.
+
+ghost use Rattle.std.specs.Prelude.{◌≡◌, ◌≤◌, ◌<◌, ◌+◌, [], ◌∷◌, ◌++◌, length};
+
+use std::marker::Model;
+
+/// The bytes of a line so far.
+#[derive(Drop)]
+pub struct LineBuffer {
+    bytes: [u8; 200],
+    len: usize,
+}
+
+impl Model for LineBuffer {
+    ghost use Rattle.std.specs.Prelude.{ℕ, List, take, ◌≤◌};
+
+    ghost Value = { List ℕ };
+
+    ghost view = { λ s. take s.len s.bytes };
+
+    ghost invariant = { λ s. s.len ≤ 200 };
+}
+
+impl LineBuffer {
+    pub fn new() -> Self
+        ensures { result ≡ [] }
+    {
+        LineBuffer {
+            bytes: [0; 200],
+            len: 0,
+        }
+    }
+
+    pub fn len(&self) -> usize
+        ensures value { result ≡ length self.now }
+        ensures within { result ≤ 200 }
+    {
+        self.len
+    }
+
+    pub fn clear(&mut self)
+        ensures { self.new ≡ [] }
+    {
+        self.len = 0;
+    }
+
+    pub fn as_bytes(&self) -> &[u8]
+        ensures { result.now ≡ self.now }
+    {
+        &self.bytes[..self.len]
+    }
+
+    /// Puts the bytes at the end.
+    pub fn push(&mut self, more: &[u8])
+        requires { length self.old + length more.now ≤ 200 }
+        ensures { self.new ≡ self.old ++ more.now }
+    {
+        let end = self.len + more.len();
+        self.bytes[self.len..end].copy_from_slice(more);
+        self.len = end;
+    }
+
+    /// Puts a space and a token at the end.
+    pub fn push_token(&mut self, token: &[u8])
+        requires { length self.old + length token.now < 200 }
+        ensures value { self.new ≡ self.old ++ 32 ∷ token.now }
+        ensures len { length self.new ≡ length self.old + 1 + length token.now }
+    {
+        self.push(b" ");
+        self.push(token);
+    }
+}

@@ -1,0 +1,183 @@
+//! Reading a certificate, whole or in pieces.
+
+ghost use Rattle.std.specs.Prelude.{◌≡◌, ◌+◌, ◌<◌, ◌==◌, [], ◌++◌, length, position, OnOk, IfNone, IfSome};
+ghost use Rattle.dvg_cert.specs.declared.fault.CertWhy.TheVariants.{After};
+ghost use Rattle.dvg_cert.specs.Reading.{IsTaken, IsRest, IsUnended, ReadAnswer};
+ghost use Rattle.dvg_cert.specs.Stream.{Open, FeedsTo, FinishesTo};
+ghost use Rattle.dvg_cert.specs.Progress.{EndsLine, TakesLine, TakesNext, TakesPiece};
+
+use crate::certificate::Cert;
+use crate::fault::{CertFault, CertWhy};
+use crate::line_buffer::LineBuffer;
+use crate::taken::TakenLines;
+use memchr::memchr;
+use std::alloc::Global;
+use std::marker::Model;
+
+/// The most bytes of a line, its end among them.
+const LONGEST_LINE: usize = 200;
+
+/// Reads a certificate in pieces. It keeps the entries and the one line that is begun.
+///
+/// Contracts see the bytes so far, or the refusal of an earlier call, which every later call answers.
+#[derive(Drop)]
+pub struct CertReader {
+    lines: TakenLines,
+    begun: LineBuffer,
+    refused: Option<CertFault>,
+}
+
+impl Model for CertReader {
+    ghost use Rattle.dvg_cert.specs.Stream.{Stream};
+
+    ghost Value = { Stream };
+
+    ghost use Rattle.dvg_cert.specs.Progress.{stream_of, IsProgress};
+
+    ghost view = { λ s. stream_of s.refused s.lines s.begun };
+
+    ghost invariant = { λ s. IsProgress 2048 3071 s.refused s.lines s.begun };
+}
+
+impl CertReader {
+    /// A reader of no byte so far. Takes no memory.
+    pub fn new(alloc: Global) -> CertReader
+        ensures { result ≡ Open [] }
+    {
+        CertReader {
+            lines: TakenLines::new(alloc),
+            begun: LineBuffer::new(),
+            refused: None,
+        }
+    }
+
+    /// Takes a piece, wherever the text was cut.
+    pub fn feed(&mut self, piece: &[u8]) -> Result<(), CertFault>
+        ensures { FeedsTo 2048 3071 self.old piece.now self.new result }
+    {
+        if let Some(fault) = self.refused {
+            return Err(fault);
+        }
+        match take_piece(&mut self.lines, &mut self.begun, piece) {
+            Ok(()) => Ok(()),
+            Err(fault) => {
+                self.refused = Some(fault);
+                Err(fault)
+            }
+        }
+    }
+
+    /// The answer to all pieces together.
+    pub fn finish(self) -> Result<Cert, CertFault>
+        ensures { FinishesTo 2048 3071 self result }
+    {
+        if let Some(fault) = self.refused {
+            return Err(fault);
+        }
+        self.lines.finish()
+    }
+}
+
+/// The certificate that a text spells, or why it is refused.
+pub fn read_cert(alloc: Global, text: &[u8]) -> Result<Cert, CertFault>
+    ensures { ReadAnswer 2048 3071 text.now result }
+{
+    let mut reader = CertReader::new(alloc);
+    reader.feed(text)?;
+    reader.finish()
+}
+
+/// Takes the lines of a piece where they lie, and keeps what is left of it.
+fn take_piece(lines: &mut TakenLines, begun: &mut LineBuffer, piece: &[u8]) -> Result<(), CertFault>
+    requires taken { IsTaken 2048 3071 lines.old }
+    requires begun { IsRest lines.old begun.old }
+    ensures { TakesPiece 2048 3071 lines.old begun.old piece.now lines.new begun.new result }
+{
+    let mut rest = piece;
+    while let Some(after) = take_next(lines, begun, rest)? {
+        rest = after;
+    }
+    Ok(())
+}
+
+/// Takes the next line of a piece and gives what follows it, or keeps all of the piece where no line ends in it.
+fn take_next<'a>(
+    lines: &mut TakenLines,
+    begun: &mut LineBuffer,
+    rest: &'a [u8],
+) -> Result<Option<&'a [u8]>, CertFault>
+    requires taken { IsTaken 2048 3071 lines.old }
+    requires begun { IsRest lines.old begun.old }
+    ensures { TakesNext (λ x. x.now) 2048 3071 lines.old begun.old rest.now lines.new begun.new result }
+{
+    let line = lines.line_number();
+    if lines.is_whole() {
+        return match fault_after(line, rest) {
+            Some(fault) => Err(fault),
+            None => Ok(None),
+        };
+    }
+    let at = match line_end(rest, LONGEST_LINE - begun.len()) {
+        Ok(Some(at)) => at,
+        Ok(None) => {
+            begun.push(rest);
+            return Ok(None);
+        }
+        Err(why) => return Err(CertFault { line, why }),
+    };
+    match take_begun(lines, begun, &rest[..at]) {
+        Ok(()) => Ok(Some(&rest[at + 1..])),
+        Err(why) => Err(CertFault { line, why }),
+    }
+}
+
+/// The refusal of bytes after the last line, where there are some.
+fn fault_after(line: u32, rest: &[u8]) -> Option<CertFault>
+    ensures none { IfNone result (rest.now ≡ []) }
+    ensures some { IfSome result (λ f. (0 < length rest.now) × (f ≡ record { line = line; why = After })) }
+{
+    if rest.is_empty() {
+        return None;
+    }
+    Some(CertFault {
+        line,
+        why: CertWhy::After,
+    })
+}
+
+/// Takes the line of what was begun and of these bytes. A whole line of the piece is read where it lies.
+fn take_begun(lines: &mut TakenLines, begun: &mut LineBuffer, front: &[u8]) -> Result<(), CertWhy>
+    requires open { IsUnended lines.old }
+    requires short { length begun.old + length front.now < 200 }
+    ensures line { TakesLine 2048 3071 lines.old (begun.old ++ front.now) lines.new result }
+    ensures empty { OnOk result (begun.new ≡ []) }
+{
+    if begun.len() == 0 {
+        return lines.take_line(front);
+    }
+    begun.push(front);
+    lines.take_line(begun.as_bytes())?;
+    begun.clear();
+    Ok(())
+}
+
+/// The place of the end of the next line, which may have fewer than `room` bytes.
+fn line_end(rest: &[u8], room: usize) -> Result<Option<usize>, CertWhy>
+    ensures { EndsLine room rest.now result }
+{
+    if rest.len() < room {
+        Ok(line_feed_at(rest))
+    } else {
+        match line_feed_at(&rest[..room]) {
+            Some(at) => Ok(Some(at)),
+            None => Err(CertWhy::TooLong),
+        }
+    }
+}
+
+/// The place of the first LF.
+fn line_feed_at(bytes: &[u8]) -> Option<usize>
+    ensures { result ≡ position (λ b. b == 10) bytes.now }
+{
+    memchr(b'\n', bytes)
+}

@@ -1,0 +1,149 @@
+//! The lines of a certificate that were taken: their order, their count and the limits.
+
+ghost use Rattle.std.specs.Prelude.{◌≡◌, ◌↔◌, IsTrue, IfOk, IfErr, Ok, Err};
+ghost use Rattle.dvg_cert.specs.declared.fault.CertWhy.TheVariants.{Unended};
+ghost use Rattle.dvg_cert.specs.Entry.{IsEntry};
+ghost use Rattle.dvg_cert.specs.Order.{IsCertificate};
+ghost use Rattle.dvg_cert.specs.Reading.{Nothing, Whole, IsUnended, IsTaken, line_number};
+ghost use Rattle.dvg_cert.specs.Progress.{TakesEntry, TakesLine, TakesLater};
+
+use crate::certificate::{Cert, MOST_ENTRIES, ROM_FIRST, ROM_LAST, certificate_of, stands_after};
+use crate::entry::Entry;
+use crate::fault::{CertFault, CertWhy};
+use crate::line::{Line, line_of};
+use std::alloc::Global;
+use std::marker::Model;
+
+/// Which line comes next: the first, a later one, or none.
+#[derive(Clone, Copy, Debug, PartialEq, Eq)]
+pub enum Stage {
+    First,
+    Later,
+    Ended,
+}
+
+/// The lines that were taken.
+#[derive(Drop)]
+pub struct TakenLines {
+    stage: Stage,
+    entries: Vec<Entry>,
+}
+
+impl Model for TakenLines {
+    ghost use Rattle.dvg_cert.specs.Reading.{Taken};
+
+    ghost Value = { Taken };
+
+    ghost use Rattle.dvg_cert.specs.Progress.{taken_of, IsStaged};
+
+    ghost view = { λ s. taken_of 2048 3071 s.stage s.entries.items };
+
+    ghost invariant = { λ s. IsStaged 2048 3071 s.stage s.entries.items };
+}
+
+impl TakenLines {
+    pub fn new(alloc: Global) -> TakenLines
+        ensures { result ≡ Nothing }
+    {
+        TakenLines {
+            stage: Stage::First,
+            entries: Vec::new(alloc),
+        }
+    }
+
+    /// Whether the last line was taken.
+    pub fn is_whole(&self) -> bool
+        ensures { IsTrue result ↔ (IsUnended self.now → ⊥) }
+    {
+        match self.stage {
+            Stage::First => false,
+            Stage::Later => false,
+            Stage::Ended => true,
+        }
+    }
+
+    /// The number of the next line.
+    pub fn line_number(&self) -> u32
+        ensures { result ≡ line_number self.now }
+    {
+        match self.stage {
+            Stage::First => 1,
+            Stage::Later => self.entries.len() as u32 + 2,
+            Stage::Ended => self.entries.len() as u32 + 3,
+        }
+    }
+
+    /// Takes a line, which comes without its end.
+    pub fn take_line(&mut self, line: &[u8]) -> Result<(), CertWhy>
+        requires { IsUnended self.old }
+        ensures { TakesLine 2048 3071 self.old line.now self.new result }
+    {
+        match self.stage {
+            Stage::First => {
+                if line != b"dvgcert 1".as_slice() {
+                    return Err(CertWhy::Form);
+                }
+                self.stage = Stage::Later;
+                Ok(())
+            }
+            Stage::Later => {
+                self.stage = take_later(&mut self.entries, line)?;
+                Ok(())
+            }
+            Stage::Ended => Err(CertWhy::After),
+        }
+    }
+
+    /// The certificate, where the last line was taken.
+    pub fn finish(self) -> Result<Cert, CertFault>
+        ensures whole { IfOk result (λ cert. (self ≡ Whole 2048 3071 cert) × IsCertificate 2048 3071 cert) }
+        ensures unended { IfErr result (λ f. IsUnended self × (f.line ≡ line_number self) × (f.why ≡ Unended)) }
+    {
+        let line = self.line_number();
+        match self.stage {
+            Stage::Ended => Ok(certificate_of(self.entries)),
+            _ => Err(CertFault {
+                line,
+                why: CertWhy::Unended,
+            }),
+        }
+    }
+}
+
+/// Takes a line after the first, and answers which line comes next.
+fn take_later(entries: &mut Vec<Entry>, line: &[u8]) -> Result<Stage, CertWhy>
+    requires { IsCertificate 2048 3071 entries.old.items }
+    ensures { TakesLater 2048 3071 entries.old.items line.now entries.new.items result }
+{
+    match line_of(line, ROM_FIRST, ROM_LAST) {
+        None => Err(CertWhy::Form),
+        Some(Line::Entry(entry)) => match take_entry(entries, entry) {
+            Ok(()) => Ok(Stage::Later),
+            Err(why) => Err(why),
+        },
+        Some(Line::Done(count)) => {
+            if count as usize != entries.len() {
+                return Err(CertWhy::Count);
+            }
+            Ok(Stage::Ended)
+        }
+    }
+}
+
+/// Takes an entry that stands after the last one. An `Err` changes nothing.
+fn take_entry(entries: &mut Vec<Entry>, entry: Entry) -> Result<(), CertWhy>
+    requires taken { IsCertificate 2048 3071 entries.old.items }
+    requires entry { IsEntry 2048 3071 entry }
+    ensures { TakesEntry 2048 3071 entries.old.items entry entries.new.items result }
+{
+    if !stands_after(entries, &entry) {
+        return Err(CertWhy::Order);
+    }
+    if entries.len() >= MOST_ENTRIES {
+        return Err(CertWhy::TooLong);
+    }
+    match entries.push(entry) {
+        Ok(()) => Ok(()),
+        Err(_) => Err(CertWhy::Memory),
+    }
+}

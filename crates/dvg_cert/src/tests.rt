@@ -1,0 +1,338 @@
+use crate::*;
+use std::alloc::Global;
+use std::io;
+use std::io::Write;
+use std::process::Abort;
+use std::test::Fail;
+
+/// What a reader answers: how many entries, or the refusal.
+type Answer = Result<usize, CertFault>;
+
+const ONE_ENTRY: &[u8] =
+    b"dvgcert 1\nshape 800 0 end rel 1047552 785408 box 0 1047552 0 785408 depth 0 words 3 scale 0\ndone 1\n";
+
+const TWICE: &[u8] =
+    b"dvgcert 1\nshape 800 0 end rel 1047552 785408 box 0 1047552 0 785408 depth 0 words 3 scale 0\nshape 800 0 end rel 1047552 785408 box 0 1047552 0 785408 depth 0 words 3 scale 0\ndone 2\n";
+
+const KEYS_FALL: &[u8] =
+    b"dvgcert 1\nshape 800 any end lost box none depth 0 words 1 scale 0\nshape 800 15 end lost box none depth 0 words 1 scale 0\ndone 2\n";
+
+const LONGEST: &[u8] =
+    b"dvgcert 1\nshape BFF any end rel -2000000000000 -2000000000000 box -2000000000000 -2000000000000 -2000000000000 -2000000000000 depth 3 words 1000000 scale any\ndone 1\n";
+
+fn refused(line: u32, why: CertWhy) -> Answer {
+    Err(CertFault { line, why })
+}
+
+fn answer_of(read: Result<Cert, CertFault>) -> Answer {
+    match read {
+        Ok(cert) => Ok(cert.entries().len()),
+        Err(fault) => Err(fault),
+    }
+}
+
+/// Feeds pieces of one size after a first one. A refusal must stay, whatever comes.
+fn fed(rt: &impl Abort, alloc: Global, text: &[u8], first: usize, size: usize) -> Answer {
+    let mut reader = CertReader::new(alloc);
+    let mut rest = text;
+    let mut most = first;
+    for _ in 0..=text.len() {
+        let (piece, after) = rest.split_at(most.min(rest.len()));
+        if let Err(fault) = reader.feed(piece) {
+            assert_eq!(rt; reader.feed(b"done 0\n"), Err(fault));
+            assert_eq!(rt; answer_of(reader.finish()), Err(fault));
+            return Err(fault);
+        }
+        rest = after;
+        most = size;
+    }
+    answer_of(reader.finish())
+}
+
+/// The answers to a text, cut everywhere, and its bytes again where it is taken.
+fn check_row(rt: &impl Abort, alloc: Global, text: &[u8], want: Answer) -> Result<(), Fail> {
+    assert_eq!(rt; answer_of(read_cert(alloc, text)), want);
+    assert_eq!(rt; fed(rt, alloc, text, 1, 1), want);
+    for at in 0..=text.len() {
+        assert_eq!(rt; fed(rt, alloc, text, at, text.len()), want, "cut at {at}");
+    }
+    if let Ok(cert) = read_cert(alloc, text) {
+        let mut out = Counted::new(Vec::new(alloc));
+        write_cert(&cert, &mut out)?;
+        assert_eq!(rt; out.into_inner().as_slice(), text);
+    }
+    Ok(())
+}
+
+#[test]
+fn whole_texts(rt: HostRuntime) -> Result<(), Fail> {
+    let rows: [(&[u8], Answer); 15] = [
+        (b"dvgcert 1\ndone 0\n", Ok(0)),
+        (ONE_ENTRY, Ok(1)),
+        (LONGEST, Ok(1)),
+        (b"", refused(1, CertWhy::Unended)),
+        (b"dvgcert 1", refused(1, CertWhy::Unended)),
+        (b"dvgcert 1\n", refused(2, CertWhy::Unended)),
+        (b"dvgcert 2\ndone 0\n", refused(1, CertWhy::Form)),
+        (b"dvgcert 1\ndone 0", refused(2, CertWhy::Unended)),
+        (b"dvgcert 1\ndone 00\n", refused(2, CertWhy::Form)),
+        (b"dvgcert 1\ndone 1\n", refused(2, CertWhy::Count)),
+        (b"dvgcert 1\ndone 4097\n", refused(2, CertWhy::Form)),
+        (TWICE, refused(3, CertWhy::Order)),
+        (KEYS_FALL, refused(3, CertWhy::Order)),
+        (b"dvgcert 1\ndone 0\n\n", refused(3, CertWhy::After)),
+        (b"dvgcert 1\r\ndone 0\r\n", refused(1, CertWhy::Form)),
+    ];
+    for (text, want) in rows {
+        check_row(&rt, rt.alloc(), text, want)?;
+    }
+    let mut line = [b'a'; 200];
+    check_row(&rt, rt.alloc(), &line, refused(1, CertWhy::TooLong))?;
+    check_row(&rt, rt.alloc(), &line[..199], refused(1, CertWhy::Unended))?;
+    line[199] = b'\n';
+    check_row(&rt, rt.alloc(), &line, refused(1, CertWhy::Form))?;
+    for at in 0..ONE_ENTRY.len() - 7 {
+        assert_eq!(rt;
+            fed(&rt, rt.alloc(), &ONE_ENTRY[..at], 7, 7).is_err(),
+            true,
+            "{at} bytes"
+        );
+    }
+    Ok(())
+}
+
+#[test]
+fn lines(rt: HostRuntime) -> Result<(), Fail> {
+    let form = refused(2, CertWhy::Form);
+    let open = refused(3, CertWhy::Unended);
+    let rows: [(&[u8], Answer); 20] = [
+        (
+            b"shape 800 0 end lost box none depth 3 words 1 scale any",
+            open,
+        ),
+        (
+            b"shape 800 15 end abs 2000000000000 0 box 0 0 -1 -1 depth 0 words 1000000 scale 15",
+            open,
+        ),
+        (
+            b"shape 800 0 end lost box none depth 4 words 1 scale 0",
+            form,
+        ),
+        (
+            b"shape 800 0 end lost box 1 0 0 0 depth 0 words 1 scale 0",
+            form,
+        ),
+        (
+            b"shape 800 0 end lost box 0 0 1 0 depth 0 words 1 scale 0",
+            form,
+        ),
+        (
+            b"shape 800 0 end lost box none depth 0 words 0 scale 0",
+            form,
+        ),
+        (
+            b"shape 800 0 end lost box none depth 0 words 1000001 scale 0",
+            form,
+        ),
+        (
+            b"shape 80a 0 end lost box none depth 0 words 1 scale 0",
+            form,
+        ),
+        (
+            b"shape 7FF 0 end lost box none depth 0 words 1 scale 0",
+            form,
+        ),
+        (
+            b"shape C00 0 end lost box none depth 0 words 1 scale 0",
+            form,
+        ),
+        (
+            b"shape 800 16 end lost box none depth 0 words 1 scale 0",
+            form,
+        ),
+        (
+            b"shape 800 00 end lost box none depth 0 words 1 scale 0",
+            form,
+        ),
+        (
+            b"shape 800 0 end rel -0 0 box none depth 0 words 1 scale 0",
+            form,
+        ),
+        (
+            b"shape 800 0 end rel +1 0 box none depth 0 words 1 scale 0",
+            form,
+        ),
+        (
+            b"shape 800 0 end rel 01 0 box none depth 0 words 1 scale 0",
+            form,
+        ),
+        (
+            b"shape 800 0 end rel 2000000000001 0 box none depth 0 words 1 scale 0",
+            form,
+        ),
+        (
+            b"shape 800 0 end rel 0 -2000000000001 box none depth 0 words 1 scale 0",
+            form,
+        ),
+        (
+            b"shape 800 0 end lost box none depth 0 words 1 scale 0\r",
+            form,
+        ),
+        (
+            b"shape 800 0  end lost box none depth 0 words 1 scale 0",
+            form,
+        ),
+        (
+            b"shape 800 0 end lost box none depth 0 words 1 scale 0 ",
+            form,
+        ),
+    ];
+    for (line, want) in rows {
+        let mut text = Vec::from_slice(rt.alloc(), b"dvgcert 1\n")?;
+        text.extend_from_slice(line)?;
+        text.push(b'\n')?;
+        check_row(&rt, rt.alloc(), &text, want)?;
+    }
+    Ok(())
+}
+
+#[test]
+fn most_entries(rt: HostRuntime) -> Result<(), Fail> {
+    let mut text = Vec::from_slice(rt.alloc(), b"dvgcert 1\n")?;
+    for addr in 0x800..0xC00 {
+        for key in ["0", "8", "9", "15"] {
+            let line = format!(in rt.alloc();
+                "shape {addr:X} {key} end lost box none depth 0 words 1 scale any\n"
+            )?;
+            text.extend_from_slice(line.as_bytes())?;
+        }
+    }
+    let rows: [(&[u8], Answer); 7] = [
+        (b"done 4096\n", Ok(4096)),
+        (b"done 4095\n", refused(4098, CertWhy::Count)),
+        (b"done 4097\n", refused(4098, CertWhy::Form)),
+        (
+            b"shape BFF 16 end lost box none depth 0 words 1 scale 0\n",
+            refused(4098, CertWhy::Form),
+        ),
+        (
+            b"shape BFF 14 end lost box none depth 0 words 1 scale 0\n",
+            refused(4098, CertWhy::Order),
+        ),
+        (
+            b"shape BFF any end lost box none depth 0 words 1 scale 0\n",
+            refused(4098, CertWhy::TooLong),
+        ),
+        (b"", refused(4098, CertWhy::Unended)),
+    ];
+    for (end, want) in rows {
+        let mut whole = Vec::from_slice(rt.alloc(), &text)?;
+        whole.extend_from_slice(end)?;
+        assert_eq!(rt; answer_of(read_cert(rt.alloc(), &whole)), want);
+    }
+    Ok(())
+}
+
+#[test]
+fn from_entries(rt: HostRuntime) -> Result<(), Fail> {
+    let cert = read_cert(rt.alloc(), ONE_ENTRY)?;
+    let mut entries = Vec::from_slice(rt.alloc(), cert.entries())?;
+    assert_eq!(rt; entries.len(), 1);
+    let entry = entries[0];
+    entries.push(entry)?;
+    let Err(mut same) = Cert::from_entries(entries) else {
+        return Err(Fail::new("an entry was taken twice"));
+    };
+    assert_eq!(rt; same.as_slice(), [entry, entry].as_slice());
+    same.pop();
+    let Ok(cert) = Cert::from_entries(same) else {
+        return Err(Fail::new("one entry was refused"));
+    };
+    assert_eq!(rt; cert.entries(), [entry].as_slice());
+    Ok(())
+}
+
+/// A device that takes a few bytes at a time, and fails from some call on: it takes nothing, or answers an error.
+#[derive(Drop)]
+struct Weak {
+    taken: Vec<u8>,
+    most: usize,
+    calls: u32,
+    answers_error: bool,
+}
+
+impl Write for Weak {
+    fn write(&mut self, buf: &[u8]) -> io::Result<usize> {
+        if self.calls == 0 {
+            return if self.answers_error {
+                Err(io::ErrorKind::BrokenPipe.into())
+            } else {
+                Ok(0)
+            };
+        }
+        self.calls -= 1;
+        let n = self.most.min(buf.len());
+        self.taken.extend_from_slice(&buf[..n])?;
+        Ok(n)
+    }
+
+    fn flush(&mut self) -> io::Result<()> {
+        Ok(())
+    }
+}
+
+/// Writes by a device that fails after these calls, and gives its count of failures and the bytes that it took.
+fn written(
+    alloc: Global,
+    cert: &Cert,
+    most: usize,
+    calls: u32,
+    answers_error: bool,
+) -> (bool, u32, Vec<u8>) {
+    let taken = Vec::new(alloc);
+    let mut out = Counted::new(Weak {
+        taken,
+        most,
+        calls,
+        answers_error,
+    });
+    let is_written = write_cert(cert, &mut out).is_ok();
+    let failures = out.failures();
+    (is_written, failures, out.into_inner().taken)
+}
+
+#[test]
+fn weak_devices(rt: HostRuntime) -> Result<(), Fail> {
+    let cert = read_cert(rt.alloc(), ONE_ENTRY)?;
+    for most in [1, 7, 200] {
+        let (is_written, failures, taken) = written(rt.alloc(), &cert, most, 1000, true);
+        assert_eq!(rt; (is_written, failures), (true, 0));
+        assert_eq!(rt; taken.as_slice(), ONE_ENTRY);
+        for calls in 0..3 {
+            for answers_error in [false, true] {
+                let (is_written, failures, taken) = written(
+                    rt.alloc(),
+                    &cert,
+                    most,
+                    calls,
+                    answers_error,
+                );
+                assert_eq!(rt; (is_written, failures), (false, 1));
+                assert!(rt; ONE_ENTRY.starts_with(&taken) && taken.len() < ONE_ENTRY.len());
+            }
+        }
+    }
+    Ok(())
+}
+
+/// With every allocation there is, the list; where one is refused, as `rt try --test --fail-alloc 1` does, 16 at an entry's
+/// line. A text without entries takes no memory.
+#[test]
+fn refused_memory(rt: HostRuntime) {
+    let answer = answer_of(read_cert(rt.alloc(), LONGEST));
+    assert!(rt; answer == Ok(1) || answer == refused(2, CertWhy::Memory));
+    assert_eq!(rt;
+        answer_of(read_cert(rt.alloc(), b"dvgcert 1\ndone 0\n")),
+        Ok(0)
+    );
+}
