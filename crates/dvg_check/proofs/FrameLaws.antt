@@ -1,5 +1,5 @@
 -- A frame from any start to its halt.
-use Rattle.std.proofs.Common.{List, Option, Some, None, arith, refl, length, inl, inr, max, Ok, ap, length-append, sym, subst, zero, suc, ◌≡◌, ◌+◌, ◌≤◌, ◌⊎◌, ◌∷◌, ◌++◌, ◌∙◌, ℕ, []}
+use Rattle.std.proofs.Common.{List, Option, Some, None, arith, refl, length, inl, inr, max, ap, length-append, sym, subst, zero, suc, ◌≡◌, ◌+◌, ◌≤◌, ◌⊎◌, ◌∷◌, ◌++◌, ◌∙◌, ℕ, []}
 use Rattle.std.specs.List.{AllByRecursion}
 use Rattle.std.specs.Prelude.{Contains}
 use Rattle.dvg_words.specs.Beam.{InWindow, origin}

@@ -24,7 +24,6 @@ use Rattle.dvg_check.specs.declared.known.Seen.{Seen}
 use Rattle.dvg_check.proofs.Near.{IsNearPlace-more, sight_without_entries}
 use Rattle.dvg_check.proofs.Faults.{all_kept}
 use Rattle.dvg_check.proofs.ShapeLaws.{word_count-some}
-use Rattle.dvg_check.proofs.Steps.{stands}
 
 -- ---- one place on
 

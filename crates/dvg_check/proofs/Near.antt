@@ -7,7 +7,7 @@ use Rattle.dvg_cert.specs.declared.entry.End.{End}
 use Rattle.dvg_cert.specs.declared.entry.End.TheVariants.{Rel, Abs, Lost}
 use Rattle.dvg_cert.specs.declared.entry.Entry.{Entry}
 use Rattle.dvg_cert.specs.declared.entry.Key.{Key}
-use Rattle.dvg_check.specs.Known.{Context, known_before, target, callee_at, callee, scale_before}
+use Rattle.dvg_check.specs.Known.{Context, known_before, target, callee_at, scale_before}
 use Rattle.dvg_check.specs.Rules.{sight}
 use Rattle.dvg_check.specs.Private.Running.{IsNear, IsNearPlace, sight_by, sight_with}
 use Rattle.dvg_check.specs.declared.item.Item.{Item}

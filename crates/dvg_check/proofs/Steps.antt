@@ -5,7 +5,7 @@ use Rattle.std.proofs.lemmas.Bool.Decides.{nat_tests}
 use Rattle.std.proofs.lemmas.Int.{ints}
 use Rattle.std.proofs.lemmas.Option.{slice_get_past}
 use Rattle.std.specs.List.{AllByRecursion}
-use Rattle.std.specs.Prelude.{◌+ℤ◌, ◌&&◌, ℤ, if◌then◌else◌}
+use Rattle.std.specs.Prelude.{◌+ℤ◌, ◌&&◌, if◌then◌else◌}
 use Rattle.dvg_words.specs.Beam.{shift, origin, displacement, labs_place}
 use Rattle.dvg_words.specs.Decoding.{cell_holding, long_cell, cell_of_format, cell_of_words, format_of, cell_at, word_count}
 use Rattle.dvg_words.specs.Generator.{fetches, places, State, next_status, after_instruction, after_cell, after_fetch, after_draw}

@@ -1,17 +1,16 @@
 -- The laws, over the definitions alone, for every map, window and mode.
 use Rattle.std.specs.Prelude.{◌≡◌, ℕ, ℤ, ◌+◌, ◌<◌, ◌≤◌, ◌⊎◌, ◌≤ℤ◌, List, [], ◌∷◌, ◌++◌, Option, Contains, Result}
 use Rattle.dvg_words.specs.Values.{MemoryMap, Window}
-use Rattle.dvg_words.specs.declared.instruction.Instr.TheVariants.{Draw as Draws, Labs, Halt, Jsrl, Rtsl, Jmpl}
+use Rattle.dvg_words.specs.declared.instruction.Instr.TheVariants.{Draw as Draws, Labs}
 use Rattle.dvg_words.specs.declared.instruction.Instr.{Instr}
 use Rattle.dvg_words.specs.declared.instruction.Cell.TheVariants.{Holds}
 use Rattle.dvg_words.specs.Decoding.{word_count, cell_at}
 use Rattle.dvg_words.specs.Memory.{Memory, IsMemory, rom_word, frame_word}
 use Rattle.dvg_words.specs.declared.beam.Point.{Point}
-use Rattle.dvg_words.specs.Beam.{shift, InWindow}
+use Rattle.dvg_words.specs.Beam.{InWindow}
 use Rattle.dvg_words.specs.Generator.{Stroke, State, Running, places, lit_by, next_status}
 use Rattle.dvg_cert.specs.declared.entry.Key.{Key}
 use Rattle.dvg_cert.specs.declared.entry.End.{End}
-use Rattle.dvg_cert.specs.declared.entry.End.TheVariants.{Rel, Abs, Lost}
 use Rattle.dvg_cert.specs.declared.entry.Entry.{Entry}
 use Rattle.dvg_check.specs.Items.{Kind, Shape, Frame, Item, LeadsTo}
 use Rattle.dvg_check.specs.Known.{Context, scale_before, place_before}

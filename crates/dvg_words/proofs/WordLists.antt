@@ -1,5 +1,5 @@
 -- The words of a list of bytes, by their places.
-use Rattle.std.proofs.Common.{◌≡◌, ℕ, ◌+◌, ◌*◌, ◌/◌, ◌≤◌, ◌<◌, zero, suc, List, [], ◌∷◌, length, get_or, slice_get, Some, None, refl, ap, arith, rules, ◌∙◌, sym}
+use Rattle.std.proofs.Common.{◌≡◌, ℕ, ◌+◌, ◌*◌, ◌/◌, ◌≤◌, zero, suc, List, [], ◌∷◌, length, get_or, slice_get, Some, refl, arith}
 use Rattle.dvg_words.specs.Values.{asteroids}
 use Rattle.dvg_words.specs.Memory.{words_of, rom_of, IsRom, IsRomLength, IsFrame, IsFrameLength}
 

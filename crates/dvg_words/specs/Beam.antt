@@ -1,5 +1,5 @@
 -- Where draws move the beam. Places are whole numbers in units of 1/1024 of a screen place (profile).
-use Rattle.std.specs.Prelude.{ℕ, pos, ◌+◌, ◌*◌, ◌%◌, ◌^◌, ◌+ℤ◌, ◌≤ℤ◌, ◌*ℤ◌, ℤ, nat_le, if◌then◌else◌}
+use Rattle.std.specs.Prelude.{ℕ, pos, ◌+◌, ◌*◌, ◌%◌, ◌^◌, ◌+ℤ◌, ◌≤ℤ◌, ◌*ℤ◌, nat_le, if◌then◌else◌}
 use Rattle.dvg_words.specs.Values.{DrawFields, Window}
 pub use Rattle.dvg_words.specs.declared.beam.Point.{Point}
 

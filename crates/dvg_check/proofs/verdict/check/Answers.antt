@@ -1,6 +1,4 @@
-use Rattle.std.proofs.Common.{subst}
 use Rattle.dvg_words.specs.Beam.{screen}
-use Rattle.dvg_words.specs.Memory.{Rom, Memory, words_of, rom_of}
 use Rattle.dvg_check.specs.Safety.{Safe}
 use Rattle.dvg_check.proofs.Accepting.{safe_without_entries}
 use Rattle.dvg_check.proofs.verdict.check.Goals as goal

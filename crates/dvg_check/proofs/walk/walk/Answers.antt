@@ -1,7 +1,7 @@
-use Rattle.std.proofs.Common.{arith, sym, ap, subst, [], ◌∙◌, ◌≡◌}
+use Rattle.std.proofs.Common.{arith, sym, ap, [], ◌∙◌, ◌≡◌}
 use Rattle.dvg_cert.specs.declared.entry.Key.{Key}
 use Rattle.dvg_check.specs.Items.{next_place}
-use Rattle.dvg_check.specs.Known.{Context, Known, known_before}
+use Rattle.dvg_check.specs.Known.{Known, known_before}
 use Rattle.dvg_check.specs.declared.item.Item.{Item}
 use Rattle.dvg_check.specs.declared.item.Kind.{Kind}
 use Rattle.dvg_check.proofs.Near.{IsNearPlace-more}

@@ -1,4 +1,4 @@
-use Rattle.std.proofs.Common.{◌≡◌, arith, rules, take, length}
+use Rattle.std.proofs.Common.{◌≡◌, rules, take, length}
 use Rattle.dvg_cmd.proofs.Limits.{filled}
 use Rattle.dvg_cmd.proofs.reading.ImageBytes.read_from.Goals as goal
 
