@@ -25,11 +25,11 @@ abbrev pub OneAnswer : Type 0
 OneAnswer = (first last : ℕ) (text : List ℕ) → last < 4096 → (answer : Result (List Entry) CertFault) × ReadAnswer first last text answer × NotMemory answer
     × ((other : Result (List Entry) CertFault) → ReadAnswer first last text other → NotMemory other → other ≡ answer)
 
--- a text that may stand is refused for its end alone, want of memory aside
+-- a text whose whole lines were all taken is refused for its end alone, want of memory aside
 abbrev pub OpenAnswer : Type 0
 OpenAnswer = (first last : ℕ) (text : List ℕ) (f : CertFault) → last < 4096 → MayStand first last text → ReadAnswer first last text (Err f) → f.why ≢ Memory → f.why ≡ Unended
 
--- a front of a text that may stand may stand
+-- a front of a text whose whole lines were all taken is such a text
 abbrev pub OpenFront : Type 0
 OpenFront = (first last : ℕ) (front after : List ℕ) → last < 4096 → MayStand first last (front ++ after) → MayStand first last front
 

@@ -47,13 +47,13 @@ abbrev pub IsRest : Taken → List ℕ → Type 0
 IsRest (Whole from to es) rest = rest ≡ []
 IsRest taken rest = Without 10 rest × (length rest < 200)
 
--- a text of these lines and this rest is a certificate's, or may become one (profile)
+-- the whole lines of the text are these, all taken, and the line begun after them is short enough (profile)
 pub record Holds (first last : ℕ) (text : List ℕ) (taken : Taken) (rest : List ℕ) : Type 0 where
   pub parts : text ≡ text_taken taken ++ rest
   pub lines : IsTaken first last taken
   pub begun : IsRest taken rest
 
--- the text is open, or spells a certificate (profile)
+-- all whole lines of the text can be taken, and the line begun is short enough (profile)
 abbrev pub MayStand : ℕ → ℕ → List ℕ → Type 0
 MayStand first last text = (taken : Taken) × (rest : List ℕ) × Holds first last text taken rest
 

@@ -1,4 +1,4 @@
-//! Certificates, and which entries are one's.
+//! Certificates, and which lists of entries are a certificate's.
 
 ghost use Rattle.std.specs.Prelude.{◌≡◌, ◌↔◌, ◌≤◌, length, take, IsTrue, IfOk, IfErr, ◌≤ℤ◌};
 ghost use Rattle.dvg_cert.specs.Entry.{IsNumber, IsRange, IsKey, IsEnd, IsBox, IsEntry};
@@ -7,9 +7,10 @@ ghost use Rattle.dvg_cert.specs.Order.{IsCertificate, StandsAfter, Before, KeyBe
 use crate::entry::{End, Entry, Key, LitBox};
 use std::marker::Model;
 
-/// The first and the last word address of the ROM.
+/// The first word address of the ROM.
 pub const ROM_FIRST: u16 = 0x800;
 
+/// The last word address of the ROM.
 pub const ROM_LAST: u16 = 0xBFF;
 
 /// The most entries of a certificate.
@@ -55,7 +56,7 @@ impl Cert {
     }
 }
 
-/// The certificate with these entries, which are known to be one's.
+/// The certificate with these entries, which are known to be a certificate's.
 pub fn certificate_of(entries: Vec<Entry>) -> Cert
     requires { IsCertificate 2048 3071 entries.items }
     ensures { result ≡ entries.items }
@@ -111,7 +112,7 @@ fn is_key_before(a: Key, b: Key) -> bool
     }
 }
 
-/// Whether an entry has a spelling.
+/// Whether an entry is within the limits of a certificate.
 fn is_entry(entry: &Entry) -> bool
     ensures { IsTrue result ↔ IsEntry 2048 3071 entry.now }
 {

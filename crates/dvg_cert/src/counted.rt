@@ -9,7 +9,7 @@ use std::io;
 use std::io::{Read, Write};
 use std::marker::Model;
 
-/// A reader that counts the failed calls of `read_counted`, up to `u32::MAX`. A plain `read` isn't counted.
+/// A reader that counts the failed calls of `read_counted`, up to `u32::MAX`. `Counted` doesn't count a plain `read`.
 pub trait CountedRead: Read {
     /// How many calls of `read_counted` failed so far.
     ghost failures: { Self → ℕ };
@@ -26,7 +26,7 @@ pub trait CountedRead: Read {
 }
 
 /// A writer that counts the failed calls of `write_counted`, up to `u32::MAX`. A call fails that answers an error, or takes
-/// no byte of a piece that has some. A plain `write` isn't counted.
+/// no byte of a piece that has some. `Counted` doesn't count a plain `write`.
 pub trait CountedWrite: Write {
     /// How many calls of `write_counted` failed so far.
     ghost failures: { Self → ℕ };

@@ -42,7 +42,7 @@ pub enum LitBox {
 pub struct Entry {
     /// The word address of the shape's first word.
     pub addr: u16,
-    /// The global scale at which it is called.
+    /// The global scale at which it is called, or any.
     pub key: Key,
     /// Where the beam is at its return.
     pub stop: End,
@@ -50,7 +50,8 @@ pub struct Entry {
     pub lit: LitBox,
     /// How many calls stand below it at the most, 0 to 3.
     pub depth: u8,
-    /// How many words are fetched at the most from its first word through its return, 1 to 1,000,000.
+    /// How many words are fetched at the most from its first word through its return, those of the shapes that it
+    /// calls among them: 1 to 1,000,000.
     pub words: u32,
     /// The global scale that it leaves behind.
     pub scale: Key,

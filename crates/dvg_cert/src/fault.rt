@@ -5,8 +5,8 @@ use thiserror::Error;
 /// Why a certificate is refused. The numbers are 10 to 16, in this order.
 #[derive(Clone, Copy, Debug, PartialEq, Eq, Error)]
 pub enum CertWhy {
-    /// 10: the line is none of the form.
-    #[error("the line has not the form of a certificate's")]
+    /// 10: the line is not one of the format.
+    #[error("the line is not one of the format")]
     Form,
     /// 11: the entry does not stand after the entry before it.
     #[error("the entry does not stand after the entry before it")]
@@ -14,13 +14,13 @@ pub enum CertWhy {
     /// 12: the last line's number is not the number of entries.
     #[error("the number of entries is not that of the last line")]
     Count,
-    /// 13: the text ends before its last line.
-    #[error("the text ends before its last line")]
+    /// 13: the text ends before the end of its last line.
+    #[error("the text ends before the end of its last line")]
     Unended,
     /// 14: something comes after the last line.
     #[error("something comes after the last line")]
     After,
-    /// 15: the line has over 200 bytes, or is that of an entry past the 4096th.
+    /// 15: the 200th byte of the line is not LF, or the line is that of an entry past the 4096th.
     #[error("the line or the list is too long")]
     TooLong,
     /// 16: there was no memory for an entry that could be taken.

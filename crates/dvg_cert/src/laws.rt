@@ -17,12 +17,12 @@ pub fn one_answer()
     ensures { OneAnswer }
 {}
 
-/// A text that may become a certificate's is refused for its end alone, want of memory aside.
+/// A text whose whole lines were all taken is refused for its end alone, want of memory aside.
 pub fn open_answer()
     ensures { OpenAnswer }
 {}
 
-/// A front of a text that may become a certificate's may become one's.
+/// A front of a text whose whole lines were all taken is such a text.
 pub fn open_front()
     ensures { OpenFront }
 {}

@@ -1,5 +1,5 @@
-//! Certificates of vector ROM shapes: their values, their text, its reader and writer, and the devices that they are read
-//! from and written to.
+//! Certificates of vector ROM shapes: their values, their text, its reader and writer; and devices that count their
+//! failures.
 #![tactic(auto)]
 
 mod certificate;
@@ -9,6 +9,7 @@ mod fault;
 pub mod laws;
 mod line;
 mod line_buffer;
+mod lookup;
 mod numerals;
 mod reader;
 mod taken;
@@ -19,6 +20,7 @@ pub use certificate::Cert;
 pub use counted::{Counted, CountedRead, CountedWrite};
 pub use entry::{End, Entry, Key, LitBox};
 pub use fault::{CertFault, CertWhy, WriteFault};
+pub use lookup::{Entries, ListIndex};
 pub use reader::{CertReader, read_cert};
 pub use writer::{write_bytes, write_cert};
 

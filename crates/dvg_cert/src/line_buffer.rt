@@ -22,6 +22,7 @@ impl Model for LineBuffer {
 }
 
 impl LineBuffer {
+    /// No byte so far.
     pub fn new() -> Self
         ensures { result ≡ [] }
     {
@@ -31,6 +32,7 @@ impl LineBuffer {
         }
     }
 
+    /// How many bytes.
     pub fn len(&self) -> usize
         ensures value { result ≡ length self.now }
         ensures within { result ≤ 200 }
@@ -38,12 +40,14 @@ impl LineBuffer {
         self.len
     }
 
+    /// Drops all bytes.
     pub fn clear(&mut self)
         ensures { self.new ≡ [] }
     {
         self.len = 0;
     }
 
+    /// The bytes.
     pub fn as_bytes(&self) -> &[u8]
         ensures { result.now ≡ self.now }
     {

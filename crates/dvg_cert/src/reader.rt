@@ -51,7 +51,7 @@ impl CertReader {
         }
     }
 
-    /// Takes a piece, wherever the text was cut.
+    /// Takes a piece, wherever the text was cut. After a refusal every call answers the same one.
     pub fn feed(&mut self, piece: &[u8]) -> Result<(), CertFault>
         ensures { FeedsTo 2048 3071 self.old piece.now self.new result }
     {

@@ -42,6 +42,7 @@ impl Model for TakenLines {
 }
 
 impl TakenLines {
+    /// No line so far.
     pub fn new(alloc: Global) -> TakenLines
         ensures { result ≡ Nothing }
     {
@@ -130,7 +131,7 @@ fn take_later(entries: &mut Vec<Entry>, line: &[u8]) -> Result<Stage, CertWhy>
     }
 }
 
-/// Takes an entry that stands after the last one. An `Err` changes nothing.
+/// Takes an entry where it stands after the last one and there is room. An `Err` changes nothing.
 fn take_entry(entries: &mut Vec<Entry>, entry: Entry) -> Result<(), CertWhy>
     requires taken { IsCertificate 2048 3071 entries.old.items }
     requires entry { IsEntry 2048 3071 entry }

@@ -101,97 +101,49 @@ fn whole_texts(rt: HostRuntime) -> Result<(), Fail> {
     Ok(())
 }
 
+/// Lines of entries that are taken.
+const TAKEN_LINES: &[&[u8]] = &[
+    b"shape 800 0 end lost box none depth 3 words 1 scale any",
+    b"shape 800 15 end abs 2000000000000 0 box 0 0 -1 -1 depth 0 words 1000000 scale 15",
+];
+
+/// Lines that are not of the format.
+const WRONG_LINES: &[&[u8]] = &[
+    b"shape 800 0 end lost box none depth 4 words 1 scale 0",
+    b"shape 800 0 end lost box 1 0 0 0 depth 0 words 1 scale 0",
+    b"shape 800 0 end lost box 0 0 1 0 depth 0 words 1 scale 0",
+    b"shape 800 0 end lost box none depth 0 words 0 scale 0",
+    b"shape 800 0 end lost box none depth 0 words 1000001 scale 0",
+    b"shape 80a 0 end lost box none depth 0 words 1 scale 0",
+    b"shape 7FF 0 end lost box none depth 0 words 1 scale 0",
+    b"shape C00 0 end lost box none depth 0 words 1 scale 0",
+    b"shape 800 16 end lost box none depth 0 words 1 scale 0",
+    b"shape 800 00 end lost box none depth 0 words 1 scale 0",
+    b"shape 800 0 end rel -0 0 box none depth 0 words 1 scale 0",
+    b"shape 800 0 end rel +1 0 box none depth 0 words 1 scale 0",
+    b"shape 800 0 end rel 01 0 box none depth 0 words 1 scale 0",
+    b"shape 800 0 end rel 2000000000001 0 box none depth 0 words 1 scale 0",
+    b"shape 800 0 end rel 0 -2000000000001 box none depth 0 words 1 scale 0",
+    b"shape 800 0 end lost box none depth 0 words 1 scale 0\r",
+    b"shape 800 0  end lost box none depth 0 words 1 scale 0",
+    b"shape 800 0 end lost box none depth 0 words 1 scale 0 ",
+];
+
+/// The answer to a text with this second line.
+fn check_line(rt: &impl Abort, alloc: Global, line: &[u8], want: Answer) -> Result<(), Fail> {
+    let mut text = Vec::from_slice(alloc, b"dvgcert 1\n")?;
+    text.extend_from_slice(line)?;
+    text.push(b'\n')?;
+    check_row(rt, alloc, &text, want)
+}
+
 #[test]
 fn lines(rt: HostRuntime) -> Result<(), Fail> {
-    let form = refused(2, CertWhy::Form);
-    let open = refused(3, CertWhy::Unended);
-    let rows: [(&[u8], Answer); 20] = [
-        (
-            b"shape 800 0 end lost box none depth 3 words 1 scale any",
-            open,
-        ),
-        (
-            b"shape 800 15 end abs 2000000000000 0 box 0 0 -1 -1 depth 0 words 1000000 scale 15",
-            open,
-        ),
-        (
-            b"shape 800 0 end lost box none depth 4 words 1 scale 0",
-            form,
-        ),
-        (
-            b"shape 800 0 end lost box 1 0 0 0 depth 0 words 1 scale 0",
-            form,
-        ),
-        (
-            b"shape 800 0 end lost box 0 0 1 0 depth 0 words 1 scale 0",
-            form,
-        ),
-        (
-            b"shape 800 0 end lost box none depth 0 words 0 scale 0",
-            form,
-        ),
-        (
-            b"shape 800 0 end lost box none depth 0 words 1000001 scale 0",
-            form,
-        ),
-        (
-            b"shape 80a 0 end lost box none depth 0 words 1 scale 0",
-            form,
-        ),
-        (
-            b"shape 7FF 0 end lost box none depth 0 words 1 scale 0",
-            form,
-        ),
-        (
-            b"shape C00 0 end lost box none depth 0 words 1 scale 0",
-            form,
-        ),
-        (
-            b"shape 800 16 end lost box none depth 0 words 1 scale 0",
-            form,
-        ),
-        (
-            b"shape 800 00 end lost box none depth 0 words 1 scale 0",
-            form,
-        ),
-        (
-            b"shape 800 0 end rel -0 0 box none depth 0 words 1 scale 0",
-            form,
-        ),
-        (
-            b"shape 800 0 end rel +1 0 box none depth 0 words 1 scale 0",
-            form,
-        ),
-        (
-            b"shape 800 0 end rel 01 0 box none depth 0 words 1 scale 0",
-            form,
-        ),
-        (
-            b"shape 800 0 end rel 2000000000001 0 box none depth 0 words 1 scale 0",
-            form,
-        ),
-        (
-            b"shape 800 0 end rel 0 -2000000000001 box none depth 0 words 1 scale 0",
-            form,
-        ),
-        (
-            b"shape 800 0 end lost box none depth 0 words 1 scale 0\r",
-            form,
-        ),
-        (
-            b"shape 800 0  end lost box none depth 0 words 1 scale 0",
-            form,
-        ),
-        (
-            b"shape 800 0 end lost box none depth 0 words 1 scale 0 ",
-            form,
-        ),
-    ];
-    for (line, want) in rows {
-        let mut text = Vec::from_slice(rt.alloc(), b"dvgcert 1\n")?;
-        text.extend_from_slice(line)?;
-        text.push(b'\n')?;
-        check_row(&rt, rt.alloc(), &text, want)?;
+    for line in TAKEN_LINES {
+        check_line(&rt, rt.alloc(), line, refused(3, CertWhy::Unended))?;
+    }
+    for line in WRONG_LINES {
+        check_line(&rt, rt.alloc(), line, refused(2, CertWhy::Form))?;
     }
     Ok(())
 }

@@ -8,7 +8,7 @@ use crate::entry::{End, Entry, Key, LitBox};
 use crate::numerals::{address, natural, number};
 use std::marker::Model;
 
-/// The tokens of a line that are left: the bytes after the last space, where one came.
+/// The tokens of a line that are left: the bytes after the space that ended the last token taken.
 #[derive(Drop)]
 pub struct Tokens<'a> {
     rest: Option<&'a [u8]>,

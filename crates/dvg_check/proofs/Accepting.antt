@@ -5,6 +5,7 @@ use Rattle.dvg_words.specs.Memory.{Rom, IsFrame, IsRom, words_of}
 use Rattle.dvg_words.specs.Values.{Window}
 use Rattle.dvg_words.specs.declared.image.ImageFault.TheVariants.{RomLength, FrameLength}
 use Rattle.dvg_check.specs.FirstFault.{FirstFrameFault}
+use Rattle.dvg_check.specs.Private.Running.{IsSomeCertificate}
 use Rattle.dvg_check.specs.Laws.{OneVerdict}
 use Rattle.dvg_check.specs.Rules.{Good, GoodFrame}
 use Rattle.dvg_check.specs.Safety.{Safe}
@@ -16,6 +17,9 @@ use Rattle.dvg_check.specs.declared.verdict.Refusal.TheVariants as refusal
 use Rattle.dvg_check.specs.declared.verdict.Yes.{Yes}
 use Rattle.dvg_check.proofs.Faults.{one_count, one_fault, no_fault}
 use Rattle.dvg_check.proofs.FrameLaws.{good_is_safe}
+
+pub no_entries : IsSomeCertificate []
+no_entries = (2048, 3071, omega arith, record { each = tt; rising = tt; few = omega arith })
 
 -- an empty certificate has no faulty shape
 pub good_without_entries : (mode : Mode) (w : Window) (rom : Rom) → Good mode w rom []

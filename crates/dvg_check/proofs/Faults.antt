@@ -1,24 +1,27 @@
 -- The items of a shape or of a frame are determined: so a walk to the last one has sight them all, and there is one first
 -- fault at the most.
-use Rattle.std.proofs.Common.{List, Option, length, refl, sym, arith, ap, Some, None, subst, ◌≡◌, ◌+◌, ◌<◌, ◌∷◌, ◌∙◌, ℕ, ⊎_elim, []}
+use Rattle.std.proofs.Common.{List, Option, length, refl, sym, arith, ap, Some, None, subst, suc, ◌≡◌, ◌+◌, ◌<◌, ◌∷◌, ◌++◌, ◌∙◌, ℕ, ⊎_elim, []}
 use Rattle.std.proofs.lemmas.Bool.{cases_lt}
-use Rattle.std.specs.Prelude.{◌==◌, if◌then◌else◌}
+use Rattle.std.specs.List.{AllByRecursion}
+use Rattle.std.specs.Prelude.{Contains, ◌==◌, if◌then◌else◌}
 use Rattle.dvg_words.specs.Decoding.{cell_at, word_count}
-use Rattle.dvg_words.specs.Memory.{frame_word}
+use Rattle.dvg_words.specs.Memory.{frame_word, rom_word}
 use Rattle.dvg_words.specs.Values.{Window}
 use Rattle.dvg_words.specs.declared.instruction.Cell.TheVariants.{Holds}
 use Rattle.dvg_words.specs.declared.instruction.Instr.TheVariants.{Halt}
 use Rattle.dvg_cert.specs.declared.entry.Entry.{Entry}
-use Rattle.dvg_check.specs.FirstFault.{AllBefore, FaultAt, frame_number}
+use Rattle.dvg_check.specs.FirstFault.{AllBefore, FaultAt, frame_number, shape_number, ShapeFaultAt}
 use Rattle.dvg_check.specs.Items.{LeadsTo, next_place}
 use Rattle.dvg_check.specs.Known.{words_before, frame_context, depth_before}
-use Rattle.dvg_check.specs.Laws.{OneFault, NoFault, OneCount}
-use Rattle.dvg_check.specs.Rules.{AllKeep, FramePlaceKeeps, GoodFrame}
+use Rattle.dvg_check.specs.Laws.{OneFault, NoFault, OneCount, NoShapeFault, OneShapeFault}
+use Rattle.dvg_check.specs.Rules.{AllKeep, FramePlaceKeeps, GoodFrame, ShapePlaceKeeps, GoodShape}
 use Rattle.dvg_check.specs.declared.fault.FrameWhy.{FrameWhy}
 use Rattle.dvg_check.specs.declared.fault.FrameWhy.TheVariants as frame
+use Rattle.dvg_check.specs.declared.fault.ShapeWhy.{ShapeWhy}
+use Rattle.dvg_check.specs.declared.fault.ShapeWhy.TheVariants as shape
 use Rattle.dvg_check.specs.declared.item.Item.{Item}
 use Rattle.dvg_check.specs.declared.item.Kind.{Kind}
-use Rattle.dvg_check.specs.declared.item.Kind.TheVariants.{Frame}
+use Rattle.dvg_check.specs.declared.item.Kind.TheVariants.{Frame, Shape}
 
 pub record Same (a b : List Item) (p q : ℕ) : Type 0 where
   pub items : a ≡ b
@@ -166,3 +169,72 @@ one_count w words list budget count depth count' depth' a b =
       count_is = a.count_is ∙ ap (λ n. n + word_count a.format) before ∙ ap (λ x. words_before (frame_context list) b.items + word_count x) format ∙ sym b.count_is;
       depth_is = a.depth_is ∙ ap (depth_before (frame_context list)) s.items ∙ sym b.depth_is;
     }
+
+-- ---- shapes
+
+-- the rule of a number
+abbrev shape_rule_of : ℕ → ShapeWhy
+shape_rule_of n =
+    if n == 20 then shape.Unmapped else if n == 21 then shape.Odd else if n == 22 then shape.HaltInShape else if n == 23 then shape.BeamUnknown else if n == 24 then shape.ScaleUnknown else if n == 25 then shape.OffScreen else if n == 26 then shape.NoEntry else if n == 27 then shape.TooDeep else if n == 28 then shape.TooManyWords else if n == 29 then shape.EndDiffers else if n == 30 then shape.ScaleDiffers else if n == 31 then shape.BoxTooSmall else if n == 32 then shape.WordsDiffer else shape.DepthDiffers
+
+shape_rule_of-number : (why : ShapeWhy) → shape_rule_of (shape_number why) ≡ why
+shape_rule_of-number shape.Unmapped = refl
+shape_rule_of-number shape.Odd = refl
+shape_rule_of-number shape.HaltInShape = refl
+shape_rule_of-number shape.BeamUnknown = refl
+shape_rule_of-number shape.ScaleUnknown = refl
+shape_rule_of-number shape.OffScreen = refl
+shape_rule_of-number shape.NoEntry = refl
+shape_rule_of-number shape.TooDeep = refl
+shape_rule_of-number shape.TooManyWords = refl
+shape_rule_of-number shape.EndDiffers = refl
+shape_rule_of-number shape.ScaleDiffers = refl
+shape_rule_of-number shape.BoxTooSmall = refl
+shape_rule_of-number shape.WordsDiffer = refl
+shape_rule_of-number shape.DepthDiffers = refl
+
+contains_at : (before after : List Entry) (e : Entry) → Contains (before ++ e ∷ after) e
+contains_at [] after e = (0, omega arith, refl)
+contains_at (x ∷ before) after e =
+    let h = contains_at before after e in
+    (suc h.0, omega (arith, h.1), h.2)
+
+pub no_shape_fault : NoShapeFault
+no_shape_fault mode w rom list f good s =
+    fault_or_none Shape (rom_word rom) s.entry.addr ShapeWhy (ShapePlaceKeeps mode w rom list s.entry) shape_number f.word f.why s.fault (good s.entry (subst (λ (l : List Entry). Contains l s.entry) (sym s.order_is) (contains_at s.before s.after s.entry)))
+
+-- of two ways to cut a list at an entry, one cuts earlier, or both are the same
+data Cuts (P : Entry → Type 0) (e f : Entry) : Type 0 where
+  Earlier : P e → Cuts P e f
+  Later : P f → Cuts P e f
+  Together : e ≡ f → Cuts P e f
+
+cuts : (P : Entry → Type 0) (a b c d : List Entry) (e f : Entry) → a ++ e ∷ b ≡ c ++ f ∷ d → AllByRecursion P a → AllByRecursion P c → Cuts P e f
+cuts P [] b [] d e f is p q = Together (cc)
+cuts P [] b (x ∷ c) d e f is p q = let same : x ≡ e = cc in Earlier (subst P same q.0)
+cuts P (x ∷ a) b [] d e f is p q = let same : x ≡ f = cc in Later (subst P same p.0)
+cuts P (x ∷ a) b (y ∷ c) d e f is p q = let rest : a ++ e ∷ b ≡ c ++ f ∷ d = cc in cuts P a b c d e f rest p.1 q.1
+
+pub one_shape_fault : OneShapeFault
+one_shape_fault mode w rom list f g s t = by_cuts (cuts (GoodShape mode w rom list) s.before s.after t.before t.after s.entry t.entry (sym s.order_is ∙ t.order_is) s.good t.good)
+  where
+    no_good : (e : Entry) (at : ℕ) (why : ShapeWhy) → ShapeFaultAt mode w rom list e at why → GoodShape mode w rom list e → ⊥
+    no_good e at why fault good = fault_or_none Shape (rom_word rom) e.addr ShapeWhy (ShapePlaceKeeps mode w rom list e) shape_number at why fault good
+
+    together : ShapeFaultAt mode w rom list s.entry g.word g.why → g.addr ≡ s.entry.addr → g.key ≡ s.entry.key → f ≡ g
+    together fault addr key =
+        let same = same_items Shape (rom_word rom) s.entry.addr ShapeWhy (ShapePlaceKeeps mode w rom list s.entry) shape_number f.word g.word f.why g.why s.fault fault in
+        let o = same_order Shape (rom_word rom) s.entry.addr ShapeWhy (ShapePlaceKeeps mode w rom list s.entry) shape_number f.word g.word f.why g.why s.fault fault in
+        let why : f.why ≡ g.why = sym (shape_rule_of-number f.why) ∙ ap shape_rule_of o ∙ shape_rule_of-number g.why in
+        let addr_is : f.addr ≡ g.addr = s.addr ∙ sym addr in
+        let key_is : f.key ≡ g.key = s.key ∙ sym key in
+        λ x. record { addr = addr_is x; key = key_is x; word = same.place x; why = why x }
+
+    by_cuts : Cuts (GoodShape mode w rom list) s.entry t.entry → f ≡ g
+    by_cuts (Earlier good) = absurd (no_good s.entry f.word f.why s.fault good)
+    by_cuts (Later good) = absurd (no_good t.entry g.word g.why t.fault good)
+    by_cuts (Together same) =
+        together
+        (subst (λ (e : Entry). ShapeFaultAt mode w rom list e g.word g.why) (sym same) t.fault)
+        (t.addr ∙ ap (λ (e : Entry). e.addr) (sym same))
+        (t.key ∙ ap (λ (e : Entry). e.key) (sym same))

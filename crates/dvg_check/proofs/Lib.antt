@@ -8,3 +8,4 @@ pub mod Near
 pub mod Loop
 pub mod FrameWalk
 pub mod Accepting
+pub mod Listed

@@ -10,19 +10,20 @@ use Rattle.dvg_words.specs.declared.instruction.Format.TheVariants.{Short, Long}
 use Rattle.dvg_words.specs.declared.instruction.Instr.{Instr}
 use Rattle.dvg_words.specs.declared.instruction.Instr.TheVariants.{Draw as Draws, Labs, Halt, Jsrl, Rtsl, Jmpl}
 use Rattle.dvg_cert.specs.Entry.{IsKey}
+use Rattle.dvg_cert.specs.declared.entry.Entry.{Entry}
 use Rattle.dvg_cert.specs.declared.entry.Key.{Key}
 use Rattle.dvg_check.specs.FirstFault.{AllBefore, FaultAt}
 use Rattle.dvg_check.specs.Items.{place_after, next_place, LeadsTo}
 use Rattle.dvg_check.specs.Known.{Context, known_before}
+use Rattle.dvg_check.specs.Private.Running.{IsSound, sight_by, IsNearPlace, WalksTo}
 use Rattle.dvg_check.specs.Rules.{PlaceKeeps, CellKeeps, sight}
-use Rattle.dvg_check.specs.Private.Running.{IsSound, sight_with, IsNearPlace, WalksTo}
 use Rattle.dvg_check.specs.declared.item.Item.{Item}
 use Rattle.dvg_check.specs.declared.item.Kind.{Kind}
 use Rattle.dvg_check.specs.declared.item.Kind.TheVariants.{Shape, Frame}
 use Rattle.dvg_check.specs.declared.known.Known.{Known}
 use Rattle.dvg_check.specs.declared.known.Seen.{Seen}
-use Rattle.dvg_check.proofs.Near.{IsNearPlace-more, sight_without_entries}
 use Rattle.dvg_check.proofs.Faults.{all_kept}
+use Rattle.dvg_check.proofs.Near.{IsNearPlace-more, sight_known}
 use Rattle.dvg_check.proofs.ShapeLaws.{word_count-some}
 
 -- ---- one place on
@@ -71,9 +72,9 @@ pub record Walked {Why : Type 0} (c : Context) (word : ℕ → Option ℕ) (firs
   pub sound : IsSound at known
   pub close : at ≤ 4098
 
-module _ (Why : Type 0) (order : Why → ℕ) (missing odd : Why) (Keeps : Seen → Why → Type 0) (kind : Kind) (scale : Key) (word : ℕ → Option ℕ) (first : ℕ) where
+module _ (Why : Type 0) (order : Why → ℕ) (missing odd : Why) (Keeps : Seen → Why → Type 0) (kind : Kind) (list : List Entry) (scale : Key) (word : ℕ → Option ℕ) (first : ℕ) where
   abbrev context : Context
-  context = record { kind = kind; list = []; scale = scale }
+  context = record { kind = kind; list = list; scale = scale }
 
   abbrev keeps : List Item → ℕ → Why → Type 0
   keeps = PlaceKeeps missing odd Keeps context word
@@ -114,12 +115,12 @@ module _ (Why : Type 0) (order : Why → ℕ) (missing odd : Why) (Keeps : Seen 
       }
 
   -- an item, as the code sees it and as the rules do
-  module _ (at : ℕ) (known : Known) (format : Format) (instr : Instr) (v : Seen) (k : Walked context word first keeps at known) (is : cell_at word at ≡ Holds format instr) (v_is : v ≡ sight_with None known (record { at = at; format = format; instr = instr })) where
+  module _ (at : ℕ) (known : Known) (format : Format) (instr : Instr) (v : Seen) (k : Walked context word first keeps at known) (is : cell_at word at ≡ Holds format instr) (v_is : v ≡ sight_by list kind known (record { at = at; format = format; instr = instr })) where
     abbrev item : Item
     item = record { at = at; format = format; instr = instr }
 
     same : sight context k.items item ≡ v
-    same = sight_without_entries kind scale k.items item known k.knows ∙ sym v_is
+    same = sight_known kind list scale k.items item known k.knows ∙ sym v_is
 
     kept_here : (why : Why) → Keeps v why → keeps k.items at why
     kept_here why h = subst (CellKept k.items at why) (sym is) (subst (λ x. Keeps x why) (sym same) h)

@@ -1,11 +1,11 @@
--- The laws, over the definitions alone, for every map, window and mode.
+-- The laws, over the definitions alone, for every map and window; each says for which mode.
 use Rattle.std.specs.Prelude.{◌≡◌, ℕ, ℤ, ◌+◌, ◌<◌, ◌≤◌, ◌⊎◌, ◌≤ℤ◌, List, [], ◌∷◌, ◌++◌, Option, Contains, Result}
 use Rattle.dvg_words.specs.Values.{MemoryMap, Window}
 use Rattle.dvg_words.specs.declared.instruction.Instr.TheVariants.{Draw as Draws, Labs}
 use Rattle.dvg_words.specs.declared.instruction.Instr.{Instr}
 use Rattle.dvg_words.specs.declared.instruction.Cell.TheVariants.{Holds}
 use Rattle.dvg_words.specs.Decoding.{word_count, cell_at}
-use Rattle.dvg_words.specs.Memory.{Memory, IsMemory, rom_word, frame_word}
+use Rattle.dvg_words.specs.Memory.{Memory, Rom, IsMemory, rom_word, frame_word}
 use Rattle.dvg_words.specs.declared.beam.Point.{Point}
 use Rattle.dvg_words.specs.Beam.{InWindow}
 use Rattle.dvg_words.specs.Generator.{Stroke, State, Running, places, lit_by, next_status}
@@ -15,7 +15,7 @@ use Rattle.dvg_cert.specs.declared.entry.Entry.{Entry}
 use Rattle.dvg_check.specs.Items.{Kind, Shape, Frame, Item, LeadsTo}
 use Rattle.dvg_check.specs.Known.{Context, scale_before, place_before}
 use Rattle.dvg_check.specs.Rules.{Mode, Bound, Exact, Good, GoodFrame}
-use Rattle.dvg_check.specs.FirstFault.{FrameFault, FirstFrameFault}
+use Rattle.dvg_check.specs.FirstFault.{ShapeFault, FirstShapeFault, FrameFault, FirstFrameFault}
 use Rattle.dvg_check.specs.Verdict.{Yes, Refusal, Verdict}
 use Rattle.dvg_check.specs.Behaving.{ScaleFits, PlaceFits, Behaves}
 use Rattle.dvg_check.specs.Safety.{Safe, HaltsWith}
@@ -111,7 +111,19 @@ NoFault =
     (w : Window) (words : List ℕ) (list : List Entry) (budget count depth : ℕ) (f : FrameFault)
     → GoodFrame w words list budget count depth → FirstFrameFault w words list budget f → ⊥
 
--- and one count and one depth where it is good
+-- a certificate has one first faulty shape at the most
+abbrev pub OneShapeFault : Type 0
+OneShapeFault =
+    (mode : Mode) (w : Window) (rom : Rom) (list : List Entry) (f g : ShapeFault)
+    → FirstShapeFault mode w rom list f → FirstShapeFault mode w rom list g → f ≡ g
+
+-- and none where all are good
+abbrev pub NoShapeFault : Type 0
+NoShapeFault =
+    (mode : Mode) (w : Window) (rom : Rom) (list : List Entry) (f : ShapeFault)
+    → Good mode w rom list → FirstShapeFault mode w rom list f → ⊥
+
+-- a good frame has one count and one depth
 pub record SameCounts (count depth count' depth' : ℕ) : Type 0 where
   pub count_is : count ≡ count'
   pub depth_is : depth ≡ depth'

@@ -109,7 +109,7 @@ GoodShape mode w rom list e = AllKeep Shape (rom_word rom) e.addr (ShapePlaceKee
 abbrev pub Good : Mode → Window → Rom → List Entry → Type 0
 Good mode w rom list = (e : Entry) → Contains list e → GoodShape mode w rom list e
 
--- a frame keeps all rules, and this is what it stretch to at its HALT
+-- a frame keeps all rules, and these are its count and its depth at its HALT
 pub record GoodFrame (w : Window) (words : List ℕ) (list : List Entry) (budget count depth : ℕ) : Type 0 where
   pub keeps : AllKeep Frame (frame_word words) 0 (FramePlaceKeeps w words list budget)
   pub items : List Item

@@ -7,21 +7,20 @@ ghost use Rattle.dvg_check.specs.Items.{Frame};
 ghost use Rattle.dvg_check.specs.Rules.{FrameWhy, FrameKeeps, IsForward, GoodFrame};
 ghost use Rattle.dvg_check.specs.declared.fault.FrameWhy.TheVariants as frame;
 ghost use Rattle.dvg_check.specs.FirstFault.{FrameFault, frame_number, FirstFrameFault};
-ghost use Rattle.dvg_check.specs.Private.Running.{IsNearPlace, IsNearExtent, EachKept, frame_rules, BrokenFirst};
+ghost use Rattle.dvg_check.specs.Private.Running.{IsNearPlace, IsNearExtent, IsSomeCertificate, EachKept, frame_rules, FrameBrokenFirst};
 
 use crate::fault::{FrameFault, FrameWhy};
 use crate::item::{Item, Kind};
 use crate::known::{Seen, target};
 use crate::rules::{Rules, has_callee, lit_on_screen, place_known, scale_known};
 use crate::walk::walk;
-use dvg_cert::Key;
-use dvg_words::{FrameImage, Instr};
+use dvg_cert::{Cert, Entries, Key};
+use dvg_words::{FrameImage, Instr, RomImage};
 
-/// What is asked of a frame: at most a million words.
+/// What is asked of a frame: how many words it may take at the most.
 #[derive(Drop)]
 pub struct FrameRules {
     pub budget: u32,
-    ghost few: { budget ≤ 1000000 },
 }
 
 fn is_forward(item: &Item) -> bool
@@ -38,7 +37,7 @@ fn first_broken(budget: u32, seen: &Seen) -> Option<FrameWhy>
     requires place { IsNearPlace 4100 seen.now.place }
     requires extent { IsNearExtent seen.now.extent }
     ensures kept { IfNone result (EachKept (FrameKeeps screen budget seen.now) frame_rules) }
-    ensures broken { IfSome result (BrokenFirst (FrameKeeps screen budget seen.now)) }
+    ensures broken { IfSome result (FrameBrokenFirst (FrameKeeps screen budget seen.now)) }
 {
     if matches!(seen.item.instr, Instr::Rtsl) {
         return Some(FrameWhy::ReturnInFrame);
@@ -75,6 +74,8 @@ impl Rules for FrameRules {
 
     ghost kind = { Frame };
 
+    ghost valid = { λ r. r.budget ≤ 1000000 };
+
     ghost scale = { λ _. Any };
 
     ghost keeps = { λ r. FrameKeeps screen r.budget };
@@ -107,13 +108,18 @@ pub struct Accepted {
     pub depth: u8,
 }
 
-/// Checks a frame over the empty certificate, where a call names no entry.
-pub fn check_frame(image: &FrameImage, budget: u32) -> Result<Accepted, FrameFault>
-    requires { budget ≤ 1000000 }
-    ensures ok { IfOk result (λ yes. GoodFrame screen image.now [] budget yes.words yes.depth) }
-    ensures err { IfErr result (FirstFrameFault screen image.now [] budget) }
+/// Judges a frame by entries: its words and its depth where it keeps all rules, else its first fault.
+pub fn judge_frame<E: Entries>(
+    frame: &FrameImage,
+    entries: &E,
+    budget: u32,
+) -> Result<Accepted, FrameFault>
+    requires entries { IsSomeCertificate (E.list entries.now) }
+    requires budget { budget ≤ 1000000 }
+    ensures ok { IfOk result (λ yes. GoodFrame screen frame.now (E.list entries.now) budget yes.words yes.depth) }
+    ensures err { IfErr result (FirstFrameFault screen frame.now (E.list entries.now) budget) }
 {
-    match walk(image, &FrameRules { budget }, 0) {
+    match walk(frame, entries, &FrameRules { budget }, 0) {
         Ok(end) => Ok(Accepted {
             words: end.words,
             depth: end.depth,
@@ -123,4 +129,26 @@ pub fn check_frame(image: &FrameImage, budget: u32) -> Result<Accepted, FrameFau
             why: fault.why,
         }),
     }
+}
+
+/// Judges a frame by the entries of a certificate: its words and its depth where it keeps all rules, else its first fault.
+///
+/// `entries` are those of the certificate. `budget` is how many words the frame may take at the most, up to 1,000,000. The
+/// ROM is the one over which the shapes were accepted; no rule of a frame looks into it. The rules are 40 to 48 (profile).
+/// Takes no memory.
+pub fn check_frame<E: Entries>(
+    _rom: &RomImage,
+    frame: &FrameImage,
+    cert: &Cert,
+    entries: &E,
+    budget: u32,
+) -> Result<Accepted, FrameFault>
+    requires entries { E.list entries.now ≡ cert.now }
+    requires budget { budget ≤ 1000000 }
+    ensures ok { IfOk result (λ yes. GoodFrame screen frame.now cert.now budget yes.words yes.depth) }
+    ensures err { IfErr result (FirstFrameFault screen frame.now cert.now budget) }
+{
+    // Its clause says that the list is that of a certificate.
+    let _entries = cert.entries();
+    judge_frame(frame, entries, budget)
 }

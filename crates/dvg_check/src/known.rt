@@ -1,15 +1,15 @@
 //! What is known before an item, and what the rules see of it.
 
-ghost use Rattle.std.specs.Prelude.{◌≡◌, ◌≤◌, ◌<◌, ◌+◌, None, unwrap_or};
+ghost use Rattle.std.specs.Prelude.{◌≡◌, ◌≤◌, ◌<◌, ◌+◌, IfSome, unwrap_or};
 ghost use Rattle.dvg_words.specs.Decoding.{InstrFits};
 ghost use Rattle.dvg_words.specs.Beam.{shift, displacement, labs_place};
-ghost use Rattle.dvg_cert.specs.Entry.{IsKey};
-ghost use Rattle.dvg_check.specs.Known.{target, scale_set, draw_effect, effect_of};
-ghost use Rattle.dvg_check.specs.Lit.{draw_extent, extent_of};
-ghost use Rattle.dvg_check.specs.Private.Running.{place_past, known_past, sight_with, IsNear, IsNearPlace, IsNearEffect, IsNearExtent, IsSound};
+ghost use Rattle.dvg_cert.specs.Entry.{IsKey, IsEnd, IsBox};
+ghost use Rattle.dvg_check.specs.Known.{target, callee_at, scale_set, draw_effect, stop_effect, callee_effect, effect_of, callee_words, depth_under};
+ghost use Rattle.dvg_check.specs.Lit.{draw_extent, box_extent, callee_extent, extent_of};
+ghost use Rattle.dvg_check.specs.Private.Running.{place_past, known_past, sight_by, IsNear, IsNearPlace, IsNearEffect, IsNearExtent, IsSound, IsClaim, IsSomeCertificate};
 
 use crate::item::{Item, Kind, word_count};
-use dvg_cert::{End, Entry, Key};
+use dvg_cert::{End, Entries, Entry, Key, LitBox};
 use dvg_words::{Draw, Instr, Point, displacement};
 
 /// What an item does to the place.
@@ -119,18 +119,67 @@ fn draw_effect_and_extent(draw: &Draw, scale: Key) -> (Effect, LitExtent)
     }
 }
 
-/// What an instruction that names no entry does to the place, and what it lights.
-fn effect_and_extent(instr: &Instr, scale: Key) -> (Effect, LitExtent)
-    requires { IsKey scale }
-    ensures effect { result.0 ≡ effect_of instr.now scale None }
-    ensures extent { result.1 ≡ extent_of instr.now scale None }
+/// What a called shape does to the place.
+fn stop_effect(stop: End) -> Effect
+    requires { IsEnd stop }
+    ensures effect { result ≡ stop_effect stop }
+    ensures near { IsNearEffect result }
+{
+    match stop {
+        End::Rel { x, y } => Effect::Moves(Point { x, y }),
+        End::Abs { x, y } => Effect::Sets(Point { x, y }),
+        End::Lost => Effect::Loses,
+    }
+}
+
+/// What a called shape may light.
+fn box_extent(lit: LitBox) -> LitExtent
+    requires { IsBox lit }
+    ensures extent { result ≡ box_extent lit }
+    ensures near { IsNearExtent result }
+{
+    match lit {
+        LitBox::Empty => LitExtent::Nothing,
+        LitBox::Span {
+            x_min,
+            x_max,
+            y_min,
+            y_max,
+        } => LitExtent::Between {
+            from: Point { x: x_min, y: y_min },
+            to: Point { x: x_max, y: y_max },
+        },
+    }
+}
+
+/// What the entry that is called does to the place, and what it may light.
+fn callee_effect_and_extent(callee: &Option<Entry>) -> (Effect, LitExtent)
+    requires { IfSome callee.now IsClaim }
+    ensures effect { result.0 ≡ callee_effect callee.now }
+    ensures extent { result.1 ≡ callee_extent callee.now }
+    ensures near_effect { IsNearEffect result.0 }
+    ensures near_extent { IsNearExtent result.1 }
+{
+    match callee {
+        None => (Effect::Moves(ORIGIN), LitExtent::Nothing),
+        Some(e) => (stop_effect(e.stop), box_extent(e.lit)),
+    }
+}
+
+/// What an instruction does to the place, and what it lights.
+fn effect_and_extent(instr: &Instr, scale: Key, callee: &Option<Entry>) -> (Effect, LitExtent)
+    requires scale { IsKey scale }
+    requires callee { IfSome callee.now IsClaim }
+    ensures effect { result.0 ≡ effect_of instr.now scale callee.now }
+    ensures extent { result.1 ≡ extent_of instr.now scale callee.now }
     ensures near_effect { IsNearEffect result.0 }
     ensures near_extent { IsNearExtent result.1 }
 {
     match instr {
         Instr::Draw(draw) => draw_effect_and_extent(draw, scale),
         Instr::Labs { x, y, .. } => (Effect::Sets(labs_place(*x, *y)), LitExtent::Nothing),
-        _ => (Effect::Moves(ORIGIN), LitExtent::Nothing),
+        Instr::Halt | Instr::Rtsl => (Effect::Moves(ORIGIN), LitExtent::Nothing),
+        Instr::Jsrl { .. } | Instr::Jmpl { .. } => callee_effect_and_extent(callee),
     }
 }
 
@@ -166,42 +215,84 @@ fn place_past(effect: &Effect, place: &End, at: u16) -> End
     }
 }
 
-/// The scale past an instruction that names no entry.
-fn scale_past(instr: &Instr, scale: Key) -> Key
+/// The scale past an instruction.
+fn scale_past(instr: &Instr, scale: Key, callee: &Option<Entry>) -> Key
     requires scale { IsKey scale }
     requires instr { InstrFits instr.now }
-    ensures value { result ≡ unwrap_or (scale_set instr.now None) scale }
+    requires callee { IfSome callee.now IsClaim }
+    ensures value { result ≡ unwrap_or (scale_set instr.now callee.now) scale }
     ensures key { IsKey result }
 {
-    match instr {
-        Instr::Labs { gscale, .. } => Key::At(*gscale),
+    match (instr, callee) {
+        (Instr::Labs { gscale, .. }, _) => Key::At(*gscale),
+        (Instr::Jsrl { .. } | Instr::Jmpl { .. }, Some(e)) => e.scale,
         _ => scale,
     }
 }
 
-/// What the rules see of an item that names no entry.
-pub fn see(before: &Known, item: &Item) -> Seen
+/// How many return places are stored at once under an instruction.
+pub fn depth_under(instr: &Instr, callee: &Option<Entry>) -> u8
+    requires { IfSome callee.now IsClaim }
+    ensures value { result ≡ depth_under instr.now callee.now }
+    ensures few { result ≤ 4 }
+{
+    match (instr, callee) {
+        (Instr::Jsrl { .. }, Some(e)) => 1 + e.depth,
+        (Instr::Jmpl { .. }, Some(e)) => e.depth,
+        _ => 0,
+    }
+}
+
+/// The words of the entry that is called.
+fn callee_words(callee: &Option<Entry>) -> u32
+    requires { IfSome callee.now IsClaim }
+    ensures value { result ≡ callee_words callee.now }
+    ensures few { result ≤ 1000000 }
+{
+    match callee {
+        None => 0,
+        Some(e) => e.words,
+    }
+}
+
+/// The entry that is named by a target.
+fn callee<E: Entries>(entries: &E, target: Option<u16>, scale: Key) -> Option<Entry>
+    requires { IsSomeCertificate (E.list entries.now) }
+    ensures value { result ≡ callee_at (E.list entries.now) target scale }
+    ensures claim { IfSome result IsClaim }
+{
+    match target {
+        None => None,
+        Some(to) => entries.named(to, scale),
+    }
+}
+
+/// What the rules see of an item.
+pub fn see<E: Entries>(entries: &E, kind: Kind, before: &Known, item: &Item) -> Seen
+    requires entries { IsSomeCertificate (E.list entries.now) }
     requires before { IsSound item.now.at before.now }
     requires near { item.now.at < 4096 }
     requires fields { InstrFits item.now.instr }
-    ensures value { result ≡ sight_with None before.now item.now }
+    ensures value { result ≡ sight_by (E.list entries.now) kind before.now item.now }
     ensures place { IsNearPlace item.now.at result.place }
     ensures extent { IsNearExtent result.extent }
+    ensures callee { IfSome result.callee IsClaim }
     ensures place_after { IsNearPlace (item.now.at + 1) result.after.place }
     ensures scale_after { IsKey result.after.scale }
     ensures depth_after { result.after.depth ≤ 4 }
 {
-    let (effect, extent) = effect_and_extent(&item.instr, before.scale);
+    let callee = callee(entries, target(kind, &item.instr), before.scale);
+    let (effect, extent) = effect_and_extent(&item.instr, before.scale, &callee);
     Seen {
         item: *item,
         place: before.place,
         extent,
-        callee: None,
+        callee,
         after: Known {
             place: place_past(&effect, &before.place, item.at),
-            scale: scale_past(&item.instr, before.scale),
-            words: u32::from(word_count(item.format)) + before.words,
-            depth: before.depth,
+            scale: scale_past(&item.instr, before.scale, &callee),
+            words: u32::from(word_count(item.format)) + callee_words(&callee) + before.words,
+            depth: depth_under(&item.instr, &callee).max(before.depth),
         },
     }
 }

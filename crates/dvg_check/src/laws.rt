@@ -1,8 +1,8 @@
-//! Laws over the definitions alone, for every map, window and mode. Each is the contract of a function with an empty
-//! body.
+//! Laws over the definitions alone, for every map and window; each says for which mode. Each is the contract of a function
+//! with an empty body.
 
 ghost use Rattle.dvg_check.specs.Rules.{Bound, Exact};
-ghost use Rattle.dvg_check.specs.Laws.{OneItem, OneShape, AllShapes, GoodIsSafe, ExactIsExact, OneFault, NoFault, OneCount, OneVerdict, StrokeInWindow};
+ghost use Rattle.dvg_check.specs.Laws.{OneItem, OneShape, AllShapes, GoodIsSafe, ExactIsExact, OneFault, NoFault, OneShapeFault, NoShapeFault, OneCount, OneVerdict, StrokeInWindow};
 
 /// A draw or a LABS leads from a state that agrees with what is known before it to one that agrees with what is known
 /// after it.
@@ -43,6 +43,16 @@ pub fn one_fault()
 /// A good frame has none.
 pub fn no_fault()
     ensures { NoFault }
+{}
+
+/// A certificate has one first faulty shape at the most.
+pub fn one_shape_fault()
+    ensures { OneShapeFault }
+{}
+
+/// A certificate of good shapes has none.
+pub fn no_shape_fault()
+    ensures { NoShapeFault }
 {}
 
 /// A good frame has one count of words and one depth.

@@ -9,8 +9,14 @@ mod item;
 mod known;
 pub mod laws;
 mod rules;
+mod shapes;
 mod verdict;
 mod walk;
 
-pub use fault::{FrameFault, FrameWhy};
+pub use fault::{FrameFault, FrameWhy, ShapeFault, ShapeWhy};
+pub use frames::{Accepted, check_frame};
+pub use shapes::check_shapes;
 pub use verdict::{Refusal, Yes, check};
+
+#[cfg(test)]
+mod tests;

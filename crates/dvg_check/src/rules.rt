@@ -7,7 +7,7 @@ ghost use Rattle.dvg_cert.specs.Entry.{IsKey};
 ghost use Rattle.dvg_check.specs.Items.{Kind};
 ghost use Rattle.dvg_check.specs.Lit.{PlaceKnown, ScaleKnown, LitInWindow};
 ghost use Rattle.dvg_check.specs.Rules.{Seen, HasCallee};
-ghost use Rattle.dvg_check.specs.Private.Running.{IsNear, IsNearPlace, IsNearExtent};
+ghost use Rattle.dvg_check.specs.Private.Running.{IsNearPlace, IsNearExtent, IsClaim};
 
 use crate::item::Kind;
 use crate::known::{LitExtent, Seen, shift};
@@ -27,6 +27,9 @@ pub trait Rules {
 
     ghost kind: { Kind };
 
+    /// What holds of what is asked.
+    ghost valid: { Self → Type 0 };
+
     ghost scale: { Self → Key };
 
     /// What an item keeps.
@@ -38,6 +41,7 @@ pub trait Rules {
 
     /// The known scale at the start, `Any` where it is unknown.
     fn scale(&self) -> Key
+        requires { valid self.now }
         ensures value { result ≡ scale self.now }
         ensures key { IsKey result };
 
@@ -51,6 +55,9 @@ pub trait Rules {
 
     /// The first rule that an item breaks. Where it breaks none, the words so far are a million at the most.
     fn first_broken(&self, seen: &Seen) -> Option<Self::Why>
+        requires valid { valid self.now }
+        requires near { seen.now.item.at < 4096 }
+        requires callee { IfSome seen.now.callee IsClaim }
         requires place { IsNearPlace 4100 seen.now.place }
         requires extent { IsNearExtent seen.now.extent }
         ensures kept { IfNone result ((why : Self.Why) → keeps self.now seen.now why) }

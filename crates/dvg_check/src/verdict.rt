@@ -1,6 +1,6 @@
 //! The verdict on bytes.
 
-ghost use Rattle.std.specs.Prelude.{◌≡◌, IfOk};
+ghost use Rattle.std.specs.Prelude.{◌≡◌, [], IfOk};
 ghost use Rattle.dvg_words.specs.Values.{asteroids};
 ghost use Rattle.dvg_words.specs.Memory.{words_of, rom_of};
 ghost use Rattle.dvg_words.specs.Beam.{screen};
@@ -10,7 +10,8 @@ ghost use Rattle.dvg_check.specs.Safety.{Safe};
 ghost use Rattle.dvg_check.specs.declared.verdict.Refusal.TheVariants as refusals;
 
 use crate::fault::{FrameFault, FrameWhy};
-use crate::frames::check_frame;
+use crate::frames::judge_frame;
+use dvg_cert::{Entries, Entry, Key};
 use dvg_words::{FrameImage, ImageFault, RomImage};
 use std::alloc::Global;
 
@@ -47,6 +48,17 @@ impl From<ImageFault> for Refusal {
 /// The certificate without entries.
 const EMPTY_CERTIFICATE: &[u8] = b"dvgcert 1\ndone 0\n";
 
+/// The entries of the certificate without entries.
+struct NoEntries;
+
+impl Entries for NoEntries {
+    ghost list = { λ _. [] };
+
+    fn find(&self, _addr: u16, _key: Key) -> Option<Entry> {
+        None
+    }
+}
+
 /// Judges a frame over a vector ROM: a yes means that every run of the generator from the frame's first word is safe.
 ///
 /// `budget` is how many words the frame may take at the most, 1 to 1,000,000. The verdict is exact: the first that
@@ -73,7 +85,7 @@ pub fn check(
     if cert != EMPTY_CERTIFICATE {
         return Err(Refusal::NotYet);
     }
-    match check_frame(&frame, budget) {
+    match judge_frame(&frame, &NoEntries, budget) {
         Ok(accepted) => Ok(Yes {
             shapes: 0,
             words: accepted.words,

@@ -44,7 +44,7 @@ pub enum RunFault {
     Memory,
 }
 
-/// One byte more than are read of a certificate.
+/// How many bytes of a certificate are read at the most: one past its limit.
 const CERTIFICATE_LIMIT: usize = 1_048_577;
 
 /// What was reported by the line of a verdict.

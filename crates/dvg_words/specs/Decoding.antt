@@ -20,7 +20,7 @@ target_of word = word % 4096
 abbrev pub is_long_opcode : ℕ → Bool
 is_long_opcode op = nat_le op 10
 
--- sign and magnitude: a set sign is minus, and minus 0 is 0 (DVG documentation)
+-- sign and magnitude: a set sign is minus, and minus 0 is 0 (profile)
 abbrev pub magnitude_and_sign : ℕ → ℕ → ℤ
 magnitude_and_sign sign magnitude = if sign == 1 then neg_ℤ (pos magnitude) else pos magnitude
 

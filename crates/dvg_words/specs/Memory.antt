@@ -18,7 +18,7 @@ pub record IsFrameLength (n : ℕ) : Type 0 where
   pub few : n ≤ 2048
   pub even : n % 2 ≡ 0
 
--- a frame has 1 to 1024 words, the words 000 to 3FF of vector RAM (Asteroids schematics)
+-- a frame has 1 to 1024 words (profile), which are words of vector RAM, 000 to 3FF (Asteroids schematics)
 pub record IsFrame (frame : List ℕ) : Type 0 where
   pub some : 1 ≤ length frame
   pub few : length frame ≤ 1024
@@ -61,6 +61,6 @@ frame_word frame p = slice_get frame p
 abbrev pub rom_word : Rom → ℕ → Option ℕ
 rom_word rom p = if nat_le rom.map.rom_first p && nat_le p rom.map.rom_last then slice_get rom.words (p - rom.map.rom_first) else None
 
--- the word that is fetched at an address: the frame's, else the ROM's, else none (Asteroids schematics)
+-- the word that is fetched at an address: the frame's, else the ROM's (Asteroids schematics), else none (profile)
 abbrev pub word_at : Memory → ℕ → Option ℕ
 word_at m p = if nat_lt p (length m.frame) then frame_word m.frame p else rom_word m.rom p

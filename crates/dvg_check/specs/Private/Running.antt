@@ -1,17 +1,19 @@
 -- What the code keeps while it goes over items: no rule stands here. What is known after an item, by what is known before
 -- it; what stands below all sums, so that none leaves 64 bits; and the order in which the code tests rules.
-use Rattle.std.specs.Prelude.{◌≡◌, ℕ, ◌+◌, ◌*◌, ◌≤◌, max, List, [], ◌∷◌, take, Option, None, unwrap_or, pos, neg_ℤ, ◌≤ℤ◌}
+use Rattle.std.specs.Prelude.{◌≡◌, ℕ, ◌+◌, ◌*◌, ◌<◌, ◌≤◌, max, List, [], ◌∷◌, take, Option, None, unwrap_or, pos, neg_ℤ, ◌≤ℤ◌}
 use Rattle.dvg_words.specs.declared.instruction.Cell.TheVariants.{Holds}
 use Rattle.dvg_words.specs.Decoding.{word_count, cell_at}
 use Rattle.dvg_words.specs.declared.beam.Point.{Point}
-use Rattle.dvg_cert.specs.Entry.{IsKey}
+use Rattle.dvg_cert.specs.Entry.{IsKey, IsEnd, IsBox}
+use Rattle.dvg_cert.specs.Order.{IsCertificate}
 use Rattle.dvg_cert.specs.declared.entry.End.{End}
 use Rattle.dvg_cert.specs.declared.entry.End.TheVariants.{Rel, Abs, Lost}
 use Rattle.dvg_cert.specs.declared.entry.Entry.{Entry}
 use Rattle.dvg_check.specs.Items.{Kind, Item, next_place, LeadsTo}
 use Rattle.dvg_check.specs.Known.{Context, target, callee_at, scale_set, Effect, Sets, Loses, Moves, effect_of, place_moved_by, callee_words, depth_under, Known, known_before}
 use Rattle.dvg_check.specs.Lit.{LitExtent, Nothing, Between, Anywhere, extent_of}
-use Rattle.dvg_check.specs.Rules.{Seen, FrameWhy, AllKeep}
+use Rattle.dvg_check.specs.Rules.{Seen, ShapeWhy, FrameWhy, AllKeep}
+use Rattle.dvg_check.specs.declared.fault.ShapeWhy.TheVariants as shape
 use Rattle.dvg_check.specs.declared.fault.FrameWhy.TheVariants as frame
 
 abbrev pub place_past : Effect → End → End
@@ -40,6 +42,22 @@ sight_with callee before i =
 
 abbrev pub sight_by : List Entry → Kind → Known → Item → Seen
 sight_by list kind before i = sight_with (callee_at list (target kind i.instr) before.scale) before i
+
+-- ---- entries
+
+-- what an entry claims is within the limits
+pub record IsClaim (e : Entry) : Type 0 where
+  pub key : IsKey e.key
+  pub stop : IsEnd e.stop
+  pub lit : IsBox e.lit
+  pub depth : e.depth ≤ 3
+  pub words : e.words ≤ 1000000
+  pub scale : IsKey e.scale
+  pub addr : e.addr < 4096
+
+-- the list is a certificate's, for some ROM below word 1000
+abbrev pub IsSomeCertificate : List Entry → Type 0
+IsSomeCertificate list = (first : ℕ) × (last : ℕ) × (last < 4096) × IsCertificate first last list
 
 -- ---- bounds: an item moves the place by 2^41 at the most, and stands one place further on at the least
 
@@ -92,9 +110,31 @@ frame_index frame.OffScreen = 6
 frame_index frame.NoEntry = 7
 frame_index frame.Budget = 8
 
+abbrev pub shape_rules : List ShapeWhy
+shape_rules = shape.Unmapped ∷ shape.Odd ∷ shape.HaltInShape ∷ shape.BeamUnknown ∷ shape.ScaleUnknown ∷ shape.OffScreen ∷ shape.NoEntry ∷ shape.TooDeep ∷ shape.TooManyWords ∷ shape.EndDiffers ∷ shape.ScaleDiffers ∷ shape.BoxTooSmall ∷ shape.WordsDiffer ∷ shape.DepthDiffers ∷ []
+
+abbrev pub shape_index : ShapeWhy → ℕ
+shape_index shape.Unmapped = 0
+shape_index shape.Odd = 1
+shape_index shape.HaltInShape = 2
+shape_index shape.BeamUnknown = 3
+shape_index shape.ScaleUnknown = 4
+shape_index shape.OffScreen = 5
+shape_index shape.NoEntry = 6
+shape_index shape.TooDeep = 7
+shape_index shape.TooManyWords = 8
+shape_index shape.EndDiffers = 9
+shape_index shape.ScaleDiffers = 10
+shape_index shape.BoxTooSmall = 11
+shape_index shape.WordsDiffer = 12
+shape_index shape.DepthDiffers = 13
+
 -- this rule is broken, and all that are tested before it are kept
-abbrev pub BrokenFirst : (FrameWhy → Type 0) → FrameWhy → Type 0
-BrokenFirst K why = EachKept K (take (frame_index why) frame_rules) × (K why → ⊥)
+abbrev pub FrameBrokenFirst : (FrameWhy → Type 0) → FrameWhy → Type 0
+FrameBrokenFirst K why = EachKept K (take (frame_index why) frame_rules) × (K why → ⊥)
+
+abbrev pub ShapeBrokenFirst : (ShapeWhy → Type 0) → ShapeWhy → Type 0
+ShapeBrokenFirst K why = EachKept K (take (shape_index why) shape_rules) × (K why → ⊥)
 
 -- ---- a walk over all items
 

@@ -1,4 +1,4 @@
-use Rattle.std.proofs.Common.{◌-◌, []}
+use Rattle.std.proofs.Common.{◌-◌}
 use Rattle.dvg_check.specs.Known.{Context}
 use Rattle.dvg_check.specs.Rules.{PlaceKeeps}
 use Rattle.dvg_check.proofs.Loop.{Walked}
@@ -6,7 +6,7 @@ use Rattle.dvg_check.proofs.walk.walk.Given as goal
 
 abbrev pub invariant-items : goal.invariant-items
 invariant-items g l =
-    let c : Context = record { kind = g.R.Rules.kind; list = []; scale = g.R.Rules.scale l.rules } in
+    let c : Context = record { kind = g.R.Rules.kind; list = g.E.Entries.list l.entries; scale = g.R.Rules.scale l.rules } in
     Walked c (g.W.Fetch.words l.words) l.first (PlaceKeeps g.R.Rules.unmapped g.R.Rules.odd (g.R.Rules.keeps l.rules) c (g.W.Fetch.words l.words)) l.at l.known
 
 abbrev pub decreases-items : goal.decreases-items

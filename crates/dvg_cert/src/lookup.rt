@@ -1,0 +1,72 @@
+//! Finding the entries of a certificate.
+
+ghost use Rattle.std.specs.Prelude.{◌≡◌, List};
+ghost use Rattle.dvg_cert.specs.declared.entry.Entry.{Entry};
+ghost use Rattle.dvg_cert.specs.Lookup.{entry_at, named_entry};
+
+use crate::certificate::Cert;
+use crate::entry::{Entry, Key};
+use std::marker::Model;
+
+/// The entries of a certificate, by address and key.
+pub trait Entries {
+    /// The list of the certificate.
+    ghost list: { Self → List Entry };
+
+    /// The entry at this word address with exactly this key.
+    fn find(&self, addr: u16, key: Key) -> Option<Entry>
+        ensures { result ≡ entry_at (list self.now) addr key };
+
+    /// The entry that a call of this word address names at this known scale, `Any` where it is unknown: that at the
+    /// scale, else that for any scale.
+    fn named(&self, to: u16, scale: Key) -> Option<Entry>
+        ensures { result ≡ named_entry (list self.now) to scale }
+    {
+        match self.find(to, scale) {
+            Some(entry) => Some(entry),
+            None => self.find(to, Key::Any),
+        }
+    }
+}
+
+/// An index that goes over the entries one by one. Takes no memory.
+#[derive(Drop)]
+pub struct ListIndex<'a> {
+    cert: &'a Cert,
+}
+
+impl<'a> Model for ListIndex<'a> {
+    ghost use Rattle.std.specs.Prelude.{List};
+    ghost use Rattle.dvg_cert.specs.declared.entry.Entry.{Entry};
+
+    ghost Value = { List Entry };
+
+    ghost view = { λ index. index.cert.now };
+}
+
+impl<'a> ListIndex<'a> {
+    /// The index of a certificate.
+    pub fn new(cert: &'a Cert) -> ListIndex<'a>
+        ensures { result ≡ cert.now }
+    {
+        ListIndex { cert }
+    }
+}
+
+impl<'a> Entries for ListIndex<'a> {
+    ghost list = { λ index. index };
+
+    fn find(&self, addr: u16, key: Key) -> Option<Entry> {
+        find_in(self.cert.entries(), addr, key)
+    }
+}
+
+/// The first of these entries at an address with a key.
+fn find_in(entries: &[Entry], addr: u16, key: Key) -> Option<Entry>
+    ensures { result ≡ entry_at entries.now addr key }
+{
+    entries
+        .iter()
+        .copied()
+        .find(|entry| addr == entry.addr && key == entry.key)
+}

@@ -1,0 +1,43 @@
+-- The first faulty entry of a list.
+use Rattle.std.proofs.Common.{List, length, take, get_or, drop, suc, arith, zero, refl, ap, slice_index_or, subst, sym, ◌≡◌, ◌<◌, ◌∷◌, ◌++◌, ℕ, []}
+use Rattle.std.specs.List.{AllByRecursion}
+use Rattle.dvg_words.specs.Memory.{Rom}
+use Rattle.dvg_words.specs.Values.{Window}
+use Rattle.dvg_cert.specs.declared.entry.Entry.{Entry}
+use Rattle.dvg_check.specs.FirstFault.{ShapeFaultAt, FirstShapeFault}
+use Rattle.dvg_check.specs.Rules.{GoodShape}
+use Rattle.dvg_check.specs.declared.fault.Mode.{Mode}
+use Rattle.dvg_check.specs.declared.fault.ShapeFault.{ShapeFault}
+
+split_at : (l : List Entry) (i : ℕ) (d : Entry) → i < length l → l ≡ take i l ++ get_or l i d ∷ drop (suc i) l
+split_at [] i d lt = absurd (omega arith)
+split_at (x ∷ l) zero d lt = refl
+split_at (x ∷ l) (suc i) d lt = ap (λ r. x ∷ r) (split_at l i d (omega arith))
+
+pub faulty : (mode : Mode) (w : Window) (rom : Rom) (list items other : List Entry) (i : ℕ) (d : Entry) (f : ShapeFault) → items ≡ list → other ≡ list → i < length items → AllByRecursion (GoodShape mode w rom list) (take i list)
+    → ShapeFaultAt mode w rom other (slice_index_or items i d) f.word f.why
+    → f.addr ≡ (slice_index_or items i d).addr → f.key ≡ (slice_index_or items i d).key
+    → FirstShapeFault mode w rom list f
+faulty mode w rom list items other i d f same also lt good fault addr key =
+    record {
+      before = take i list;
+      entry = slice_index_or items i d;
+      after = drop (suc i) list;
+      order_is = subst (λ (l : List Entry). l ≡ take i l ++ slice_index_or items i d ∷ drop (suc i) l) same (split_at items i d lt);
+      good = good;
+      addr = addr;
+      key = key;
+      fault = subst (λ (l : List Entry). ShapeFaultAt mode w rom l (slice_index_or items i d) f.word f.why) also fault;
+    }
+
+-- one good entry more
+take_good : (P : Entry → Type 0) (l : List Entry) (i : ℕ) (d : Entry) → i < length l → AllByRecursion P (take i l) → P (get_or l i d) → AllByRecursion P (take (suc i) l)
+take_good P [] i d lt all h = absurd (omega arith)
+take_good P (x ∷ l) zero d lt all h = (h, tt)
+take_good P (x ∷ l) (suc i) d lt all h = (all.0, take_good P l i d (omega arith) all.1 h)
+
+pub good_more : (mode : Mode) (w : Window) (rom : Rom) (list items other : List Entry) (i j : ℕ) (d : Entry) → items ≡ list → other ≡ list → j ≡ suc i → i < length items → AllByRecursion (GoodShape mode w rom list) (take i list) → GoodShape mode w rom other (slice_index_or items i d) → AllByRecursion (GoodShape mode w rom list) (take j list)
+good_more mode w rom list items other i j d same also next lt all good =
+    subst (λ n. AllByRecursion (GoodShape mode w rom list) (take n list)) (sym next)
+    (take_good (GoodShape mode w rom list) list i d (omega (arith, ap length same, lt)) all
+    (subst (λ (l : List Entry). GoodShape mode w rom list (get_or l i d)) same (subst (λ (l : List Entry). GoodShape mode w rom l (slice_index_or items i d)) also good)))

@@ -1,0 +1,244 @@
+//! The rules of shapes, and the check of all shapes of a certificate.
+
+ghost use Rattle.std.specs.Prelude.{◌≡◌, ◌<◌, ◌≤ℤ◌, ◌↔◌, IsTrue, OnOk, IfErr, IfNone, IfSome};
+ghost use Rattle.dvg_words.specs.Beam.{screen};
+ghost use Rattle.dvg_cert.specs.declared.entry.LitBox.TheVariants.{Span};
+ghost use Rattle.dvg_check.specs.Items.{Shape, next_place};
+ghost use Rattle.dvg_check.specs.Lit.{InBox, LitInBox};
+ghost use Rattle.dvg_check.specs.declared.fault.Mode.TheVariants.{Bound};
+ghost use Rattle.dvg_check.specs.declared.fault.ShapeWhy.TheVariants as shape;
+ghost use Rattle.dvg_check.specs.Rules.{AtLast, AsClaimed, ShapeKeeps, GoodShape, Good};
+ghost use Rattle.dvg_check.specs.FirstFault.{shape_number, ShapeFaultAt, FirstShapeFault};
+ghost use Rattle.dvg_check.specs.Private.Running.{IsNearPlace, IsNearExtent, IsClaim, IsSomeCertificate, EachKept, shape_rules, ShapeBrokenFirst};
+
+use crate::fault::{Mode, ShapeFault, ShapeWhy};
+use crate::item::{Item, Kind, next_place};
+use crate::known::{LitExtent, Seen, depth_under, shift, target};
+use crate::rules::{Rules, has_callee, lit_on_screen, place_known, scale_known};
+use crate::walk::walk;
+use dvg_cert::{Cert, End, Entries, Entry, Key, LitBox};
+use dvg_words::{Instr, Point, RomImage};
+
+/// What is asked of a shape: what its entry claims, and whether the claimed counts are bounds or exact.
+#[derive(Drop)]
+pub struct ShapeRules {
+    pub entry: Entry,
+    pub mode: Mode,
+}
+
+fn is_between(low: &i64, value: i64, high: &i64) -> bool
+    ensures { IsTrue result ↔ (low.now ≤ℤ value) × (value ≤ℤ high.now) }
+{
+    *low <= value && value <= *high
+}
+
+/// Whether a point is in a box, ends included.
+fn is_in_box(lit: &LitBox, p: &Point) -> bool
+    ensures { IsTrue result ↔ InBox lit.now p.now }
+{
+    match lit {
+        LitBox::Empty => false,
+        LitBox::Span {
+            x_min,
+            x_max,
+            y_min,
+            y_max,
+        } => is_between(x_min, p.x, x_max) && is_between(y_min, p.y, y_max),
+    }
+}
+
+/// What is lit at a relative place is in the box, both ends of it.
+fn lit_in_box(lit: &LitBox, extent: &LitExtent, place: &End) -> bool
+    requires place { IsNearPlace 4100 place.now }
+    requires extent { IsNearExtent extent.now }
+    ensures { IsTrue result ↔ LitInBox lit.now extent.now place.now }
+{
+    match (extent, place) {
+        (LitExtent::Between { from, to }, End::Rel { x, y }) => {
+            let here = Point { x: *x, y: *y };
+            is_in_box(lit, &shift(&here, from)) && is_in_box(lit, &shift(&here, to))
+        }
+        _ => true,
+    }
+}
+
+/// At the last item, the place after it is the claimed one.
+fn ends_there(entry: &Entry, seen: &Seen) -> bool
+    requires { seen.now.item.at < 4096 }
+    ensures { IsTrue result ↔ AtLast (next_place Shape seen.now.item) (seen.now.after.place ≡ entry.now.stop) }
+{
+    next_place(Kind::Shape, &seen.item).is_some() || seen.after.place == entry.stop
+}
+
+/// At the last item, the scale after it is the claimed one.
+fn leaves_scale(entry: &Entry, seen: &Seen) -> bool
+    requires { seen.now.item.at < 4096 }
+    ensures { IsTrue result ↔ AtLast (next_place Shape seen.now.item) (seen.now.after.scale ≡ entry.now.scale) }
+{
+    next_place(Kind::Shape, &seen.item).is_some() || seen.after.scale == entry.scale
+}
+
+/// At the last item, the words are as many as claimed, where claims are exact.
+fn words_as_claimed(mode: Mode, entry: &Entry, seen: &Seen) -> bool
+    requires { seen.now.item.at < 4096 }
+    ensures { IsTrue result ↔ AtLast (next_place Shape seen.now.item) (AsClaimed mode seen.now.after.words entry.now.words) }
+{
+    mode == Mode::Bound
+        || next_place(Kind::Shape, &seen.item).is_some()
+        || seen.after.words == entry.words
+}
+
+/// At the last item, the depth is as claimed, where claims are exact.
+fn depth_as_claimed(mode: Mode, entry: &Entry, seen: &Seen) -> bool
+    requires { seen.now.item.at < 4096 }
+    ensures { IsTrue result ↔ AtLast (next_place Shape seen.now.item) (AsClaimed mode seen.now.after.depth entry.now.depth) }
+{
+    mode == Mode::Bound
+        || next_place(Kind::Shape, &seen.item).is_some()
+        || seen.after.depth == entry.depth
+}
+
+/// The first rule that an item of a shape breaks.
+fn first_broken(mode: Mode, entry: &Entry, seen: &Seen) -> Option<ShapeWhy>
+    requires near { seen.now.item.at < 4096 }
+    requires callee { IfSome seen.now.callee IsClaim }
+    requires place { IsNearPlace 4100 seen.now.place }
+    requires extent { IsNearExtent seen.now.extent }
+    ensures kept { IfNone result (EachKept (ShapeKeeps mode screen entry.now seen.now) shape_rules) }
+    ensures broken { IfSome result (ShapeBrokenFirst (ShapeKeeps mode screen entry.now seen.now)) }
+{
+    if matches!(seen.item.instr, Instr::Halt) {
+        return Some(ShapeWhy::HaltInShape);
+    }
+    if !place_known(&seen.extent, &seen.place) {
+        return Some(ShapeWhy::BeamUnknown);
+    }
+    if !scale_known(&seen.extent) {
+        return Some(ShapeWhy::ScaleUnknown);
+    }
+    if !lit_on_screen(&seen.extent, &seen.place) {
+        return Some(ShapeWhy::OffScreen);
+    }
+    if !has_callee(target(Kind::Shape, &seen.item.instr), &seen.callee) {
+        return Some(ShapeWhy::NoEntry);
+    }
+    if depth_under(&seen.item.instr, &seen.callee) > entry.depth {
+        return Some(ShapeWhy::TooDeep);
+    }
+    if seen.after.words > entry.words {
+        return Some(ShapeWhy::TooManyWords);
+    }
+    if !ends_there(entry, seen) {
+        return Some(ShapeWhy::EndDiffers);
+    }
+    if !leaves_scale(entry, seen) {
+        return Some(ShapeWhy::ScaleDiffers);
+    }
+    if !lit_in_box(&entry.lit, &seen.extent, &seen.place) {
+        return Some(ShapeWhy::BoxTooSmall);
+    }
+    if !words_as_claimed(mode, entry, seen) {
+        return Some(ShapeWhy::WordsDiffer);
+    }
+    if !depth_as_claimed(mode, entry, seen) {
+        return Some(ShapeWhy::DepthDiffers);
+    }
+    None
+}
+
+impl Rules for ShapeRules {
+    type Why = ShapeWhy;
+
+    ghost order = { shape_number };
+
+    ghost unmapped = { shape.Unmapped };
+
+    ghost odd = { shape.Odd };
+
+    ghost kind = { Shape };
+
+    ghost valid = { λ r. IsClaim r.entry };
+
+    ghost scale = { λ r. r.entry.key };
+
+    ghost keeps = { λ r. ShapeKeeps r.mode screen r.entry };
+
+    fn kind(&self) -> Kind {
+        Kind::Shape
+    }
+
+    fn scale(&self) -> Key {
+        self.entry.key
+    }
+
+    fn unmapped(&self) -> ShapeWhy {
+        ShapeWhy::Unmapped
+    }
+
+    fn odd(&self) -> ShapeWhy {
+        ShapeWhy::Odd
+    }
+
+    fn first_broken(&self, seen: &Seen) -> Option<ShapeWhy> {
+        first_broken(self.mode, &self.entry, seen)
+    }
+}
+
+/// Judges the shape of one entry.
+fn check_shape<E: Entries>(
+    mode: Mode,
+    rom: &RomImage,
+    entries: &E,
+    entry: &Entry,
+) -> Result<(), ShapeFault>
+    requires entries { IsSomeCertificate (E.list entries.now) }
+    requires entry { IsClaim entry.now }
+    ensures ok { OnOk result (GoodShape mode screen rom.now (E.list entries.now) entry.now) }
+    ensures err { IfErr result (λ fault. ShapeFaultAt mode screen rom.now (E.list entries.now) entry.now fault.word fault.why) }
+    ensures place { IfErr result (λ fault. (fault.addr ≡ entry.now.addr) × (fault.key ≡ entry.now.key)) }
+{
+    let rules = ShapeRules {
+        entry: *entry,
+        mode,
+    };
+    match walk(rom, entries, &rules, entry.addr) {
+        Ok(_) => Ok(()),
+        Err(fault) => Err(ShapeFault {
+            addr: entry.addr,
+            key: entry.key,
+            word: fault.at,
+            why: fault.why,
+        }),
+    }
+}
+
+/// Judges each entry's shape, in the order of the certificate, in a mode.
+fn check_shapes_in<E: Entries>(
+    mode: Mode,
+    rom: &RomImage,
+    cert: &Cert,
+    entries: &E,
+) -> Result<(), ShapeFault>
+    requires { E.list entries.now ≡ cert.now }
+    ensures ok { OnOk result (Good mode screen rom.now cert.now) }
+    ensures err { IfErr result (FirstShapeFault mode screen rom.now cert.now) }
+{
+    for entry in cert.entries() {
+        if let Err(fault) = check_shape(mode, rom, entries, entry) {
+            return Err(fault);
+        }
+    }
+    Ok(())
+}
+
+/// Judges each entry's shape, in the order of the certificate, its counts as bounds: the first faulty entry is answered,
+/// with the first item of its shape that breaks a rule, and the lowest rule that this item breaks (20 to 31, profile).
+///
+/// `entries` are those of the certificate. Each shape is visited once, and nothing is run. Takes no memory.
+pub fn check_shapes<E: Entries>(rom: &RomImage, cert: &Cert, entries: &E) -> Result<(), ShapeFault>
+    requires { E.list entries.now ≡ cert.now }
+    ensures ok { OnOk result (Good Bound screen rom.now cert.now) }
+    ensures err { IfErr result (FirstShapeFault Bound screen rom.now cert.now) }
+{
+    check_shapes_in(Mode::Bound, rom, cert, entries)
+}
