@@ -2,6 +2,7 @@ pub mod Entry
 pub mod Order
 pub mod Grammar
 pub mod Reading
+pub mod Numbers
 pub mod Stream
 pub mod Laws
 pub mod Lookup

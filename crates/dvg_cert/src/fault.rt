@@ -1,5 +1,8 @@
 //! Why a certificate was refused, and why a text was not written.
 
+ghost use Rattle.std.specs.Prelude.{◌≡◌};
+ghost use Rattle.dvg_cert.specs.Numbers.{cert_number, write_number};
+
 use thiserror::Error;
 
 /// Why a certificate is refused. The numbers are 10 to 16, in this order.
@@ -28,6 +31,23 @@ pub enum CertWhy {
     Memory,
 }
 
+impl CertWhy {
+    /// The number of the refusal, as a report has it.
+    pub fn number(self) -> u8
+        ensures { result ≡ cert_number self }
+    {
+        match self {
+            CertWhy::Form => 10,
+            CertWhy::Order => 11,
+            CertWhy::Count => 12,
+            CertWhy::Unended => 13,
+            CertWhy::After => 14,
+            CertWhy::TooLong => 15,
+            CertWhy::Memory => 16,
+        }
+    }
+}
+
 /// A refused certificate: the line, counted from 1, and why.
 #[derive(Clone, Copy, Debug, PartialEq, Eq, Error)]
 #[error("line {line}: {why}")]
@@ -42,4 +62,15 @@ pub enum WriteFault {
     /// Refusal 17: the writer failed, or took no byte.
     #[error("the writer failed")]
     Device,
+}
+
+impl WriteFault {
+    /// The number of the refusal, as a report has it.
+    pub fn number(self) -> u8
+        ensures { result ≡ write_number self }
+    {
+        match self {
+            WriteFault::Device => 17,
+        }
+    }
 }
