@@ -34,6 +34,7 @@ taken_free first last Nothing h = tt
 taken_free first last (Begun from to es) h = (first_free, entries_free from to es h.2.each)
 taken_free first last (Whole from to es) h = (first_free, Frees-append (entry_lines es) (done_line (length es) ∷ []) (entries_free from to es h.2.each) (done_free (length es) h.2.few, tt))
 
+-- each line is shorter than 200 bytes
 abbrev pub Shorts : List (List ℕ) → Type 0
 Shorts [] = Unit {0}
 Shorts (l ∷ ls) = (length l < 200) × Shorts ls
@@ -54,7 +55,7 @@ entries_short : (first last : ℕ) (es : List Entry) → AllByRecursion (IsEntry
 entries_short first last [] h = tt
 entries_short first last (e ∷ es) h = let n = length_entry first last e h.0 in (omega arith, entries_short first last es h.1)
 
-taken_short : (first last : ℕ) (t : Taken) → IsTaken first last t → Shorts (lines_of t)
+pub taken_short : (first last : ℕ) (t : Taken) → IsTaken first last t → Shorts (lines_of t)
 taken_short first last Nothing h = tt
 taken_short first last (Begun from to es) h = (omega arith, entries_short from to es h.2.each)
 taken_short first last (Whole from to es) h = let n = length_done (length es) h.2.few in (omega arith, Shorts-append (entry_lines es) (done_line (length es) ∷ []) (entries_short from to es h.2.each) (omega arith, tt))

@@ -1,5 +1,5 @@
 -- The laws of texts.
-use Rattle.std.proofs.Common.{◌≡◌, ◌≢◌, ℕ, ◌+◌, ◌<◌, Bool, true, false, cond, List, [], ◌∷◌, ◌++◌, length, Result, Ok, Err, refl, ap, ◌∙◌, arith, inl, inr}
+use Rattle.std.proofs.Common.{◌≡◌, ◌≢◌, ℕ, ◌+◌, ◌*◌, ◌<◌, ◌≤◌, Bool, true, false, cond, List, [], ◌∷◌, ◌++◌, length, Result, Ok, Err, refl, ap, ◌∙◌, arith, inl, inr}
 use Rattle.std.specs.Prelude.{◌==◌, count_by}
 use Rattle.std.proofs.lemmas.List.{append-nil, length-append}
 use Rattle.std.proofs.lemmas.List.Recursion.{is_count_by}
@@ -8,11 +8,11 @@ use Rattle.dvg_cert.specs.declared.fault.CertWhy.TheVariants.{Form, Order, Count
 use Rattle.dvg_cert.specs.declared.fault.CertFault.{CertFault}
 use Rattle.dvg_cert.specs.Entry.{Entry}
 use Rattle.dvg_cert.specs.Grammar.{done_line, text_of}
-use Rattle.dvg_cert.specs.Reading.{Taken, Nothing, Begun, Whole, text_taken, line_number, Without, Holds, MayStand, IsRefusal, ReadAnswer}
-use Rattle.dvg_cert.specs.Laws.{NotMemory, OneAnswer}
+use Rattle.dvg_cert.specs.Reading.{Taken, Nothing, Begun, Whole, text_taken, line_number, Without, IsTaken, IsRest, Holds, MayStand, IsRefusal, ReadAnswer}
+use Rattle.dvg_cert.specs.Laws.{NotMemory, OneAnswer, ShortText}
 use Rattle.dvg_cert.proofs.Rising.{same_rom}
 use Rattle.dvg_cert.proofs.LinesOfTexts.{lines_text, Frees, entry_lines, lines_of}
-use Rattle.dvg_cert.proofs.OneAnswerLemmas.{taken_free, taken_lines, rest_free, spelled_once, spelled_fault, fault_once, standing_fault}
+use Rattle.dvg_cert.proofs.OneAnswerLemmas.{taken_free, taken_lines, Shorts, taken_short, rest_free, spelled_once, spelled_fault, fault_once, standing_fault}
 use Rattle.dvg_cert.proofs.AnyText.{judged, stuck_refusal}
 
 same_fault : (f g : CertFault) → f.line ≡ g.line → f.why ≡ g.why → f ≡ g
@@ -96,3 +96,25 @@ line_at first last text taken rest h =
     let all : ends_in (text_taken taken) ≡ length (lines_of taken) = ap ends_in (taken_lines taken) ∙ ends-lines (lines_of taken) (taken_free first last taken h.lines) in
     let counted : ends_in text ≡ count_by (λ b. b == 10) text = is_count_by ends_in (λ b. b == 10) refl (λ x xs. refl) text in
     omega (arith, counted, whole, all, ends-free rest (rest_free taken rest h.begun).0, length-lines taken)
+
+-- short lines with their ends
+short_lines : (ls : List (List ℕ)) → Shorts ls → length (lines_text ls) ≤ 200 * length ls
+short_lines [] h = omega arith
+short_lines (l ∷ ls) h = omega (arith, length-append l (10 ∷ lines_text ls), h.0, short_lines ls h.1)
+
+-- the lines that were taken, and the line begun after them
+few_lines : (first last : ℕ) (taken : Taken) (rest : List ℕ) → IsTaken first last taken → IsRest taken rest → 200 * length (lines_of taken) + length rest ≤ 819600
+few_lines first last Nothing rest h r = omega (arith, r.1)
+few_lines first last (Begun from to es) rest h r = omega (arith, length-entries es, h.2.few, r.1)
+few_lines first last (Whole from to es) rest h r =
+    let none : length rest ≡ length {A = ℕ} [] = ap length r in
+    omega (arith, length-entries es, length-append (entry_lines es) (done_line (length es) ∷ []), h.2.few)
+
+pub short_text : ShortText
+short_text = λ first last text small m.
+    let taken = m.0 in
+    let rest = m.1 in
+    let h = m.2 in
+    let parts : length text ≡ length (text_taken taken) + length rest = ap length h.parts ∙ length-append (text_taken taken) rest in
+    let all : length (text_taken taken) ≡ length (lines_text (lines_of taken)) = ap length (taken_lines taken) in
+    omega (arith, parts, all, short_lines (lines_of taken) (taken_short first last taken h.lines), few_lines first last taken rest h.lines h.begun)

@@ -1,5 +1,5 @@
 -- The laws of texts, for a ROM at any word addresses of three hexadecimal digits.
-use Rattle.std.specs.Prelude.{◌≡◌, ◌≢◌, ℕ, ◌+◌, ◌<◌, ◌==◌, List, ◌++◌, Result, Ok, Err, count_by}
+use Rattle.std.specs.Prelude.{◌≡◌, ◌≢◌, ℕ, ◌+◌, ◌<◌, ◌≤◌, ◌==◌, List, ◌++◌, length, Result, Ok, Err, count_by}
 use Rattle.dvg_cert.specs.declared.fault.CertWhy.TheVariants.{Unended, Memory}
 use Rattle.dvg_cert.specs.declared.fault.CertFault.{CertFault}
 use Rattle.dvg_cert.specs.Entry.{Entry}
@@ -36,3 +36,7 @@ OpenFront = (first last : ℕ) (front after : List ℕ) → last < 4096 → MayS
 -- the number of the line that a text has come to is one plus the number of its LFs
 abbrev pub LineNumber : Type 0
 LineNumber = (first last : ℕ) (text : List ℕ) (taken : Taken) (rest : List ℕ) → last < 4096 → Holds first last text taken rest → line_number taken ≡ count_by (λ b. b == 10) text + 1
+
+-- a text whose whole lines were all taken has at most 4098 lines of at most 200 bytes
+abbrev pub ShortText : Type 0
+ShortText = (first last : ℕ) (text : List ℕ) → last < 4096 → MayStand first last text → length text ≤ 819600

@@ -1,6 +1,6 @@
 //! The laws of texts, proved over the definitions alone.
 
-ghost use Rattle.dvg_cert.specs.Laws.{OneText, OneList, OneAnswer, OpenAnswer, OpenFront, LineNumber};
+ghost use Rattle.dvg_cert.specs.Laws.{OneText, OneList, OneAnswer, OpenAnswer, OpenFront, LineNumber, ShortText};
 
 /// Each list of a certificate has exactly one text.
 pub fn one_text()
@@ -30,4 +30,9 @@ pub fn open_front()
 /// The line that a text has come to is one plus the number of its line ends.
 pub fn line_number()
     ensures { LineNumber }
+{}
+
+/// A text whose whole lines were all taken has at most 819,600 bytes, 4098 lines of 200.
+pub fn short_text()
+    ensures { ShortText }
 {}
