@@ -1,5 +1,5 @@
 -- The laws of texts.
-use Rattle.std.proofs.Common.{◌≡◌, ◌≢◌, ℕ, ◌+◌, ◌*◌, ◌<◌, ◌≤◌, Bool, true, false, cond, List, [], ◌∷◌, ◌++◌, length, Result, Ok, Err, refl, ap, ◌∙◌, arith, inl, inr}
+use Rattle.std.proofs.Common.{◌≡◌, ◌≢◌, ℕ, ◌+◌, ◌*◌, ◌<◌, ◌≤◌, Bool, true, false, cond, List, [], ◌∷◌, ◌++◌, length, Result, Ok, Err, refl, ap, ◌∙◌, append_assoc, arith, inl, inr}
 use Rattle.std.specs.Prelude.{◌==◌, count_by}
 use Rattle.std.proofs.lemmas.List.{append-nil, length-append}
 use Rattle.std.proofs.lemmas.List.Recursion.{is_count_by}
@@ -7,12 +7,12 @@ use Rattle.dvg_cert.specs.declared.fault.CertWhy.{CertWhy}
 use Rattle.dvg_cert.specs.declared.fault.CertWhy.TheVariants.{Form, Order, Count, Unended, After, TooLong, Memory}
 use Rattle.dvg_cert.specs.declared.fault.CertFault.{CertFault}
 use Rattle.dvg_cert.specs.Entry.{Entry}
-use Rattle.dvg_cert.specs.Grammar.{done_line, text_of}
+use Rattle.dvg_cert.specs.Grammar.{done_line, begun_with, text_of}
 use Rattle.dvg_cert.specs.Reading.{Taken, Nothing, Begun, Whole, text_taken, line_number, Without, IsTaken, IsRest, Holds, MayStand, IsRefusal, ReadAnswer}
-use Rattle.dvg_cert.specs.Laws.{NotMemory, OneAnswer, ShortText}
+use Rattle.dvg_cert.specs.Laws.{NotMemory, OneAnswer, ShortText, FrontRefusal, CutRefusal}
 use Rattle.dvg_cert.proofs.Rising.{same_rom}
 use Rattle.dvg_cert.proofs.LinesOfTexts.{lines_text, Frees, entry_lines, lines_of}
-use Rattle.dvg_cert.proofs.OneAnswerLemmas.{taken_free, taken_lines, Shorts, taken_short, rest_free, spelled_once, spelled_fault, fault_once, standing_fault}
+use Rattle.dvg_cert.proofs.OneAnswerLemmas.{taken_free, taken_lines, Shorts, taken_short, rest_free, spelled_once, spelled_fault, fault_once, Stuck, standing_fault}
 use Rattle.dvg_cert.proofs.AnyText.{judged, stuck_refusal}
 
 same_fault : (f g : CertFault) → f.line ≡ g.line → f.why ≡ g.why → f ≡ g
@@ -118,3 +118,37 @@ short_text = λ first last text small m.
     let parts : length text ≡ length (text_taken taken) + length rest = ap length h.parts ∙ length-append (text_taken taken) rest in
     let all : length (text_taken taken) ≡ length (lines_text (lines_of taken)) = ap length (taken_lines taken) in
     omega (arith, parts, all, short_lines (lines_of taken) (taken_short first last taken h.lines), few_lines first last taken rest h.lines h.begun)
+
+-- a byte that cannot come stays where it is
+stuck_stays : (why : CertWhy) (first last : ℕ) (front after : List ℕ) (line : ℕ) → Stuck first last front line why → Stuck first last (front ++ after) line why
+stuck_stays why first last front after line s =
+    (s.0, s.1, s.2 ++ after, s.3, s.4, ap (λ (x : List ℕ). x ++ after) s.5 ∙ append_assoc s.0 (s.1 ∷ s.2) after, s.6, s.7, s.8)
+
+-- so does a refusal, its end aside
+refusal_stays : (why : CertWhy) (first last : ℕ) (front after : List ℕ) (line : ℕ) → IsRefusal first last front line why → why ≢ Unended → IsRefusal first last (front ++ after) line why
+refusal_stays Memory first last front after line h n =
+    (h.0, h.1 ++ after, h.2, h.3, ap (λ (x : List ℕ). x ++ after) h.4 ∙ append_assoc (begun_with h.0) h.1 after, h.5)
+refusal_stays Unended first last front after line h n = absurd (n refl)
+refusal_stays Form first last front after line h n = stuck_stays Form first last front after line h
+refusal_stays Order first last front after line h n = stuck_stays Order first last front after line h
+refusal_stays Count first last front after line h n = stuck_stays Count first last front after line h
+refusal_stays After first last front after line h n = stuck_stays After first last front after line h
+refusal_stays TooLong first last front after line h n = stuck_stays TooLong first last front after line h
+
+pub front_refusal : FrontRefusal
+front_refusal = λ first last front after f h n. refusal_stays f.why first last front after f.line h n
+
+-- an open text may stand
+open_stands : (why : CertWhy) (first last : ℕ) (text : List ℕ) (line : ℕ) → IsRefusal first last text line why → why ≡ Unended → MayStand first last text
+open_stands Unended first last text line h e = (h.0, h.1, h.2)
+open_stands Memory first last text line h e = absurd cc
+open_stands Form first last text line h e = absurd cc
+open_stands Order first last text line h e = absurd cc
+open_stands Count first last text line h e = absurd cc
+open_stands After first last text line h e = absurd cc
+open_stands TooLong first last text line h e = absurd cc
+
+pub cut_refusal : CutRefusal
+cut_refusal = λ first last text piece after new f answer small h never k m.
+    let not_end : f.why ≢ Unended = λ e. never (h.1 (open_stands f.why first last (text ++ piece) f.line h.0 e)) in
+    answers_once first last ((text ++ piece) ++ after) answer (Err f) small k m (front_refusal first last (text ++ piece) after f h.0 not_end) never

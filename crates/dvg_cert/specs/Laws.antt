@@ -6,6 +6,7 @@ use Rattle.dvg_cert.specs.Entry.{Entry}
 use Rattle.dvg_cert.specs.Order.{IsCertificate}
 use Rattle.dvg_cert.specs.Grammar.{Spells}
 use Rattle.dvg_cert.specs.Reading.{Taken, Holds, MayStand, line_number, ReadAnswer}
+use Rattle.dvg_cert.specs.Stream.{Stream, Open, FeedsTo}
 
 -- each list of a certificate has exactly one text
 abbrev pub OneText : Type 0
@@ -40,3 +41,12 @@ LineNumber = (first last : ℕ) (text : List ℕ) (taken : Taken) (rest : List �
 -- a text whose whole lines were all taken has at most 4098 lines of at most 200 bytes
 abbrev pub ShortText : Type 0
 ShortText = (first last : ℕ) (text : List ℕ) → last < 4096 → MayStand first last text → length text ≤ 819600
+
+-- a refusal of a front of a text, its end aside, is a refusal of the text
+abbrev pub FrontRefusal : Type 0
+FrontRefusal = (first last : ℕ) (front after : List ℕ) (f : CertFault) → ReadAnswer first last front (Err f) → f.why ≢ Unended → ReadAnswer first last (front ++ after) (Err f)
+
+-- the refusal of a piece is the answer to every text that goes on from it, want of memory aside, however the text was cut
+abbrev pub CutRefusal : Type 0
+CutRefusal = (first last : ℕ) (text piece after : List ℕ) (new : Stream) (f : CertFault) (answer : Result (List Entry) CertFault) → last < 4096 → FeedsTo first last (Open text) piece new (Err f) → f.why ≢ Memory
+    → ReadAnswer first last ((text ++ piece) ++ after) answer → NotMemory answer → answer ≡ Err f

@@ -1,6 +1,6 @@
 //! The laws of texts, proved over the definitions alone.
 
-ghost use Rattle.dvg_cert.specs.Laws.{OneText, OneList, OneAnswer, OpenAnswer, OpenFront, LineNumber, ShortText};
+ghost use Rattle.dvg_cert.specs.Laws.{OneText, OneList, OneAnswer, OpenAnswer, OpenFront, LineNumber, ShortText, FrontRefusal, CutRefusal};
 
 /// Each list of a certificate has exactly one text.
 pub fn one_text()
@@ -35,4 +35,14 @@ pub fn line_number()
 /// A text whose whole lines were all taken has at most 819,600 bytes, 4098 lines of 200.
 pub fn short_text()
     ensures { ShortText }
+{}
+
+/// A refusal of a front of a text, its end aside, is a refusal of the text.
+pub fn front_refusal()
+    ensures { FrontRefusal }
+{}
+
+/// The refusal of a piece is the answer to every text that goes on from it, want of memory aside, however it was cut.
+pub fn cut_refusal()
+    ensures { CutRefusal }
 {}
