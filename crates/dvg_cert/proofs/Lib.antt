@@ -15,3 +15,4 @@ pub mod Spelled
 pub mod AnyText
 pub mod TextLaws
 pub mod Pieces
+pub mod OnlyEntries

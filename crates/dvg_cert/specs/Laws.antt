@@ -1,12 +1,13 @@
--- The laws of texts, for a ROM at any word addresses of three hexadecimal digits.
-use Rattle.std.specs.Prelude.{◌≡◌, ◌≢◌, ℕ, ◌+◌, ◌<◌, ◌≤◌, ◌==◌, List, ◌++◌, length, Result, Ok, Err, count_by}
+-- The laws of texts and of look-ups, for a ROM at any word addresses of three hexadecimal digits.
+use Rattle.std.specs.Prelude.{◌≡◌, ◌≢◌, ℕ, ◌+◌, ◌<◌, ◌≤◌, ◌==◌, List, ◌++◌, length, Result, Ok, Err, IfSome, IfNone, count_by}
 use Rattle.dvg_cert.specs.declared.fault.CertWhy.TheVariants.{Unended, Memory}
 use Rattle.dvg_cert.specs.declared.fault.CertFault.{CertFault}
-use Rattle.dvg_cert.specs.Entry.{Entry}
+use Rattle.dvg_cert.specs.Entry.{Entry, Key}
 use Rattle.dvg_cert.specs.Order.{IsCertificate}
 use Rattle.dvg_cert.specs.Grammar.{Spells}
 use Rattle.dvg_cert.specs.Reading.{Taken, Holds, MayStand, line_number, ReadAnswer}
 use Rattle.dvg_cert.specs.Stream.{Stream, Open, FeedsTo}
+use Rattle.dvg_cert.specs.Lookup.{entry_at, IsOnlyAt, HasNoneAt}
 
 -- each list of a certificate has exactly one text
 abbrev pub OneText : Type 0
@@ -46,7 +47,11 @@ ShortText = (first last : ℕ) (text : List ℕ) → last < 4096 → MayStand fi
 abbrev pub FrontRefusal : Type 0
 FrontRefusal = (first last : ℕ) (front after : List ℕ) (f : CertFault) → ReadAnswer first last front (Err f) → f.why ≢ Unended → ReadAnswer first last (front ++ after) (Err f)
 
--- the refusal of a piece is the answer to every text that goes on from it, want of memory aside, however the text was cut
+-- the refusal of a piece is the answer to every text that goes on from it, however it is cut, want of memory aside
 abbrev pub CutRefusal : Type 0
 CutRefusal = (first last : ℕ) (text piece after : List ℕ) (new : Stream) (f : CertFault) (answer : Result (List Entry) CertFault) → last < 4096 → FeedsTo first last (Open text) piece new (Err f) → f.why ≢ Memory
     → ReadAnswer first last ((text ++ piece) ++ after) answer → NotMemory answer → answer ≡ Err f
+
+-- in a certificate's list an entry found at an address and key is the only one there, and where none is found none is
+abbrev pub OnlyEntry : Type 0
+OnlyEntry = (first last : ℕ) (es : List Entry) (addr : ℕ) (key : Key) → IsCertificate first last es → IfSome (entry_at es addr key) (IsOnlyAt es addr key) × IfNone (entry_at es addr key) (HasNoneAt es addr key)

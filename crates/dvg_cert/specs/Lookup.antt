@@ -1,5 +1,5 @@
 -- The entry of a list at an address and a key, and the entry that a call names.
-use Rattle.std.specs.Prelude.{ℕ, ◌==◌, ◌&&◌, Bool, true, false, List, Option, Some, None, find}
+use Rattle.std.specs.Prelude.{◌≡◌, ℕ, ◌==◌, ◌&&◌, Bool, true, false, List, Option, Some, None, find, Contains}
 use Rattle.dvg_cert.specs.Entry.{Entry, Key, At, Any}
 
 abbrev pub same_key : Key → Key → Bool
@@ -14,6 +14,14 @@ is_at addr key e = (addr == e.addr) && same_key key e.key
 -- the first entry at this address and key; in a rising list the only one
 abbrev pub entry_at : List Entry → ℕ → Key → Option Entry
 entry_at list addr key = find (is_at addr key) list
+
+-- the entry is in the list at this address and key, and no other is
+abbrev pub IsOnlyAt : List Entry → ℕ → Key → Entry → Type 0
+IsOnlyAt list addr key e = Contains list e × (e.addr ≡ addr) × (e.key ≡ key) × ((f : Entry) → Contains list f → f.addr ≡ addr → f.key ≡ key → f ≡ e)
+
+-- no entry of the list is at this address and key
+abbrev pub HasNoneAt : List Entry → ℕ → Key → Type 0
+HasNoneAt list addr key = (f : Entry) → Contains list f → f.addr ≡ addr → f.key ≡ key → ⊥
 
 abbrev pub or_else : Option Entry → Option Entry → Option Entry
 or_else (Some e) other = Some e

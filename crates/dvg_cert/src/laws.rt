@@ -1,6 +1,6 @@
-//! The laws of texts, proved over the definitions alone.
+//! The laws of texts and of look-ups, proved over the definitions alone.
 
-ghost use Rattle.dvg_cert.specs.Laws.{OneText, OneList, OneAnswer, OpenAnswer, OpenFront, LineNumber, ShortText, FrontRefusal, CutRefusal};
+ghost use Rattle.dvg_cert.specs.Laws.{OneText, OneList, OneAnswer, OpenAnswer, OpenFront, LineNumber, ShortText, FrontRefusal, CutRefusal, OnlyEntry};
 
 /// Each list of a certificate has exactly one text.
 pub fn one_text()
@@ -45,4 +45,9 @@ pub fn front_refusal()
 /// The refusal of a piece is the answer to every text that goes on from it, want of memory aside, however it was cut.
 pub fn cut_refusal()
     ensures { CutRefusal }
+{}
+
+/// The entry that is found at an address and key is the only one there, and where none is found none is.
+pub fn only_entry()
+    ensures { OnlyEntry }
 {}

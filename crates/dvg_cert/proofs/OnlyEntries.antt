@@ -1,0 +1,127 @@
+-- A list that rises has one entry at an address and key at the most.
+use Rattle.std.proofs.Common.{◌≡◌, ℕ, zero, suc, Bool, true, false, cond, List, [], ◌∷◌, ◌&&◌, Option, Some, None, refl, sym, ap, subst, ◌∙◌, arith, inl, inr, ◌⊎◌}
+use Rattle.std.specs.Prelude.{◌==◌, IfSome, IfNone, Contains}
+use Rattle.std.proofs.lemmas.Bool.Decides.{nat_tests}
+use Rattle.dvg_cert.specs.Entry.{Entry, Key, At, Any}
+use Rattle.dvg_cert.specs.Order.{KeyBefore, Before, IsRising}
+use Rattle.dvg_cert.specs.Lookup.{same_key, is_at, entry_at, IsOnlyAt, HasNoneAt}
+use Rattle.dvg_cert.specs.Laws.{OnlyEntry}
+
+key_same : (a b : Key) → same_key a b ≡ true → b ≡ a
+key_same (At m) (At n) h = let e : n ≡ m = grind (arith, nat_tests) in ap At e
+key_same (At m) Any h = absurd cc
+key_same Any (At n) h = absurd cc
+key_same Any Any h = refl
+
+key_itself : (a : Key) → same_key a a ≡ true
+key_itself (At m) = grind (arith, nat_tests)
+key_itself Any = refl
+
+both : (a b : Bool) → a && b ≡ true → (a ≡ true) × (b ≡ true)
+both true true h = (refl, refl)
+both true false h = absurd cc
+both false b h = absurd cc
+
+at_means : (addr : ℕ) (key : Key) (e : Entry) → is_at addr key e ≡ true → (e.addr ≡ addr) × (e.key ≡ key)
+at_means addr key e h =
+    let r = both (addr == e.addr) (same_key key e.key) h in
+    let a : addr == e.addr ≡ true = r.0 in
+    (grind (arith, nat_tests), key_same key e.key r.1)
+
+at_holds : (addr : ℕ) (key : Key) (e : Entry) → e.addr ≡ addr → e.key ≡ key → is_at addr key e ≡ true
+at_holds addr key e a k =
+    let same : addr == e.addr ≡ true = grind (arith, nat_tests) in
+    let keys : same_key key e.key ≡ true = ap (same_key key) k ∙ key_itself key in
+    joined (addr == e.addr) (same_key key e.key) same keys
+  where
+    joined : (a b : Bool) → a ≡ true → b ≡ true → a && b ≡ true
+    joined true true h k = refl
+    joined true false h k = absurd cc
+    joined false b h k = absurd cc
+
+key_before : (a b c : Key) → KeyBefore a b → KeyBefore b c → KeyBefore a c
+key_before (At l) (At m) (At n) h k = omega arith
+key_before (At l) (At m) Any h k = tt
+key_before (At l) Any c h k = absurd k
+key_before Any b c h k = absurd h
+
+key_not_before : (a b : Key) → b ≡ a → KeyBefore a b → ⊥
+key_not_before (At m) (At n) e h = let same : n ≡ m = cc in absurd (omega arith)
+key_not_before (At m) Any e h = absurd cc
+key_not_before Any b e h = h
+
+before_next : (e f g : Entry) → Before e f → Before f g → Before e g
+before_next e f g (inl h) (inl k) = inl (omega arith)
+before_next e f g (inl h) (inr k) = inl (omega (arith, k.0))
+before_next e f g (inr h) (inl k) = inl (omega (arith, h.0))
+before_next e f g (inr h) (inr k) = inr (h.0 ∙ k.0, key_before e.key f.key g.key h.1 k.1)
+
+not_before : (e f : Entry) → f.addr ≡ e.addr → f.key ≡ e.key → Before e f → ⊥
+not_before e f a k (inl h) = absurd (omega arith)
+not_before e f a k (inr h) = key_not_before e.key f.key k h.1
+
+-- an entry of a list is its first or in what follows
+first_or_later : (e : Entry) (es : List Entry) (f : Entry) → Contains (e ∷ es) f → (f ≡ e) ⊎ Contains es f
+first_or_later e es f (zero, lt, same) = inl (sym same)
+first_or_later e es f (suc k, lt, same) = inr (k, omega arith, same)
+
+later : (e : Entry) (es : List Entry) (f : Entry) → Contains es f → Contains (e ∷ es) f
+later e es f h = (suc h.0, omega (arith, h.1), h.2)
+
+rising_tail : (e : Entry) (es : List Entry) → IsRising (e ∷ es) → IsRising es
+rising_tail e [] h = tt
+rising_tail e (f ∷ es) h = h.1
+
+before_later : (e : Entry) (es : List Entry) (f : Entry) → IsRising (e ∷ es) → Contains es f → Before e f
+before_later e [] f h c = absurd (omega (arith, c.1))
+before_later e (g ∷ es) f h c =
+    elim (first_or_later g es f c) [
+      | inl same ↦ subst (λ (x : Entry). Before e x) (sym same) h.0
+      | inr d ↦ before_next e g f h.0 (before_later g es f h.1 d)
+    ]
+
+elsewhere : (addr : ℕ) (key : Key) (e f : Entry) → is_at addr key e ≡ false → f ≡ e → f.addr ≡ addr → f.key ≡ key → ⊥
+elsewhere addr key e f is same a k = let yes = at_holds addr key f a k in absurd cc
+
+-- one more entry in front
+found_first : (addr : ℕ) (key : Key) (e : Entry) (es : List Entry) (b : Bool) (o : Option Entry) → is_at addr key e ≡ b → IsRising (e ∷ es) → IfSome o (IsOnlyAt es addr key) × IfNone o (HasNoneAt es addr key)
+    → IfSome (cond b (Some e) o) (IsOnlyAt (e ∷ es) addr key) × IfNone (cond b (Some e) o) (HasNoneAt (e ∷ es) addr key)
+found_first addr key e es true o is h r =
+    let here = at_means addr key e is in (
+      (
+        (zero, omega arith, refl),
+        here.0,
+        here.1,
+        λ f c a k. elim (first_or_later e es f c) [
+          | inl same ↦ same
+          | inr d ↦ absurd (not_before e f (a ∙ sym here.0) (k ∙ sym here.1) (before_later e es f h d))
+        ],
+      ),
+      tt,
+    )
+found_first addr key e es false (Some g) is h r = (
+  (
+    later e es g r.0.0,
+    r.0.1,
+    r.0.2,
+    λ f c a k. elim (first_or_later e es f c) [
+      | inl same ↦ absurd (elsewhere addr key e f is same a k)
+      | inr d ↦ r.0.3 f d a k
+    ],
+  ),
+  tt,
+)
+found_first addr key e es false None is h r = (
+  tt,
+  λ f c a k. elim (first_or_later e es f c) [
+    | inl same ↦ elsewhere addr key e f is same a k
+    | inr d ↦ r.1 f d a k
+  ],
+)
+
+found : (es : List Entry) (addr : ℕ) (key : Key) → IsRising es → IfSome (entry_at es addr key) (IsOnlyAt es addr key) × IfNone (entry_at es addr key) (HasNoneAt es addr key)
+found [] addr key h = (tt, λ f c a k. absurd (omega (arith, c.1)))
+found (e ∷ es) addr key h = found_first addr key e es (is_at addr key e) (entry_at es addr key) refl h (found es addr key (rising_tail e es h))
+
+pub only_entry : OnlyEntry
+only_entry = λ first last es addr key h. found es addr key h.rising
