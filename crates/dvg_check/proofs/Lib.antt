@@ -9,3 +9,4 @@ pub mod Loop
 pub mod FrameWalk
 pub mod Accepting
 pub mod Listed
+pub mod Example

@@ -7,4 +7,5 @@ pub mod Verdict
 pub mod Behaving
 pub mod Safety
 pub mod Laws
+pub mod Example
 pub mod Private

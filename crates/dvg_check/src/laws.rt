@@ -1,8 +1,9 @@
-//! Laws over the definitions alone, for every map and window; each says for which mode. Each is the contract of a function
-//! with an empty body.
+//! Laws over the definitions alone. All but the worked example are for every map and window; each says for which mode. Each
+//! is the contract of a function with an empty body.
 
 ghost use Rattle.dvg_check.specs.Rules.{Bound, Exact};
 ghost use Rattle.dvg_check.specs.Laws.{OneItem, OneShape, AllShapes, GoodIsSafe, ExactIsExact, OneFault, NoFault, OneShapeFault, NoShapeFault, OneCount, OneVerdict, StrokeInWindow};
+ghost use Rattle.dvg_check.specs.Example.{WorkedExample};
 
 /// A draw or a LABS leads from a state that agrees with what is known before it to one that agrees with what is known
 /// after it.
@@ -68,4 +69,9 @@ pub fn one_verdict()
 /// A straight stroke lies in the window where both its ends do.
 pub fn stroke_in_window()
     ensures { StrokeInWindow }
+{}
+
+/// The worked example is good: a lit stroke as a shape of the ROM at 800, and a frame that calls it.
+pub fn worked_example()
+    ensures { WorkedExample }
 {}

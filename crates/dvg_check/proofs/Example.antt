@@ -1,0 +1,180 @@
+-- The worked example: what stands at its places, and that each item keeps each rule.
+use Rattle.std.proofs.Common.{arith, List, refl, sym, subst, pos, zero, suc, ◌≡◌, ◌∷◌, ℕ, []}
+use Rattle.std.proofs.lemmas.Int.{ints}
+use Rattle.dvg_words.specs.Beam.{displacement, screen}
+use Rattle.dvg_words.specs.Decoding.{cell_at, instruction_of}
+use Rattle.dvg_words.specs.Memory.{frame_word, rom_word}
+use Rattle.dvg_words.specs.Values.{DrawFields}
+use Rattle.dvg_words.specs.declared.instruction.Cell.TheVariants.{Holds}
+use Rattle.dvg_words.specs.declared.instruction.Format.TheVariants.{Long, Short}
+use Rattle.dvg_words.specs.declared.instruction.Instr.TheVariants.{Draw as Draws, Labs, Halt, Jsrl, Rtsl}
+use Rattle.dvg_check.specs.Example.{example_rom, example_entry, example_list, example_frame, WorkedExample}
+use Rattle.dvg_check.specs.Known.{shape_context, frame_context}
+use Rattle.dvg_check.specs.Rules.{ShapeKeeps, FrameKeeps, ShapePlaceKeeps, FramePlaceKeeps, CellKeeps, AsClaimed, GoodShape, Good, AllKeep, sight}
+use Rattle.dvg_check.specs.declared.fault.FrameWhy.{FrameWhy}
+use Rattle.dvg_check.specs.declared.fault.FrameWhy.TheVariants as frame
+use Rattle.dvg_check.specs.declared.fault.Mode.{Mode}
+use Rattle.dvg_check.specs.declared.fault.Mode.TheVariants.{Bound, Exact}
+use Rattle.dvg_check.specs.declared.fault.ShapeWhy.{ShapeWhy}
+use Rattle.dvg_check.specs.declared.fault.ShapeWhy.TheVariants as shape
+use Rattle.dvg_check.specs.declared.item.Item.{Item}
+use Rattle.dvg_check.specs.declared.item.Kind.TheVariants.{Shape, Frame}
+use Rattle.dvg_check.proofs.Faults.{all_kept}
+
+-- ---- the shape
+
+abbrev stroke : DrawFields
+stroke = record { dx = pos 1023; dy = pos 767; lscale = 9; bright = 7 }
+
+abbrev draw_item : Item
+draw_item = record { at = 2048; format = Long; instr = Draws stroke }
+
+abbrev return_item : Item
+return_item = record { at = 2050; format = Short; instr = Rtsl }
+
+draw_there : cell_at (rom_word example_rom) 2048 ≡ Holds Long (Draws stroke)
+unfolding cell_at instruction_of
+draw_there = refl
+
+return_there : cell_at (rom_word example_rom) 2050 ≡ Holds Short Rtsl
+unfolding cell_at instruction_of
+return_there = refl
+
+draw_keeps : (mode : Mode) (why : ShapeWhy) → ShapeKeeps mode screen example_entry (sight (shape_context example_list example_entry) [] draw_item) why
+unfolding displacement
+draw_keeps mode shape.Unmapped = tt
+draw_keeps mode shape.Odd = tt
+draw_keeps mode shape.HaltInShape = λ e. cc
+draw_keeps mode shape.BeamUnknown = λ e. cc
+draw_keeps mode shape.ScaleUnknown = tt
+draw_keeps mode shape.OffScreen = tt
+draw_keeps mode shape.NoEntry = tt
+draw_keeps mode shape.TooDeep = omega arith
+draw_keeps mode shape.TooManyWords = omega arith
+draw_keeps mode shape.EndDiffers = tt
+draw_keeps mode shape.ScaleDiffers = tt
+draw_keeps mode shape.BoxTooSmall =
+    (record { left = omega (arith, ints); right = omega (arith, ints); bottom = omega (arith, ints); top = omega (arith, ints) }, record { left = omega (arith, ints); right = omega (arith, ints); bottom = omega (arith, ints); top = omega (arith, ints) })
+draw_keeps mode shape.WordsDiffer = tt
+draw_keeps mode shape.DepthDiffers = tt
+
+as_claimed : (mode : Mode) (n : ℕ) → AsClaimed mode n n
+as_claimed Bound n = tt
+as_claimed Exact n = refl
+
+return_keeps : (mode : Mode) (why : ShapeWhy) → ShapeKeeps mode screen example_entry (sight (shape_context example_list example_entry) (draw_item ∷ []) return_item) why
+unfolding displacement
+return_keeps mode shape.Unmapped = tt
+return_keeps mode shape.Odd = tt
+return_keeps mode shape.HaltInShape = λ e. cc
+return_keeps mode shape.BeamUnknown = tt
+return_keeps mode shape.ScaleUnknown = tt
+return_keeps mode shape.OffScreen = tt
+return_keeps mode shape.NoEntry = tt
+return_keeps mode shape.TooDeep = omega arith
+return_keeps mode shape.TooManyWords = omega arith
+return_keeps mode shape.EndDiffers = refl
+return_keeps mode shape.ScaleDiffers = refl
+return_keeps mode shape.BoxTooSmall = tt
+return_keeps mode shape.WordsDiffer = as_claimed mode 3
+return_keeps mode shape.DepthDiffers = as_claimed mode 0
+
+-- what stands at an item of the shape keeps what the item keeps
+shape_there : (mode : Mode) (earlier : List Item) (i : Item) → cell_at (rom_word example_rom) i.at ≡ Holds i.format i.instr → ((why : ShapeWhy) → ShapeKeeps mode screen example_entry (sight (shape_context example_list example_entry) earlier i) why) → (why : ShapeWhy) → ShapePlaceKeeps mode screen example_rom example_list example_entry earlier i.at why
+shape_there mode earlier i is kept why =
+    subst (λ cell. CellKeeps shape.Unmapped shape.Odd (λ j. ShapeKeeps mode screen example_entry (sight (shape_context example_list example_entry) earlier j)) i.at cell why) (sym is) (kept why)
+
+shape_good : (mode : Mode) → GoodShape mode screen example_rom example_list example_entry
+shape_good mode =
+    all_kept Shape (rom_word example_rom) 2048 ShapeWhy (ShapePlaceKeeps mode screen example_rom example_list example_entry) (draw_item ∷ []) return_item (refl, draw_there, refl) return_there refl
+    ((tt, shape_there mode [] draw_item draw_there (draw_keeps mode)), shape_there mode (draw_item ∷ []) return_item return_there (return_keeps mode))
+
+shapes_good : (mode : Mode) → Good mode screen example_rom example_list
+shapes_good mode e (zero, lt, is) = subst (GoodShape mode screen example_rom example_list) is (shape_good mode)
+shapes_good mode e (suc k, lt, is) = absurd (omega (arith, lt))
+
+-- ---- the frame
+
+abbrev labs_item : Item
+labs_item = record { at = 0; format = Long; instr = Labs 0 128 0 }
+
+abbrev call_item : Item
+call_item = record { at = 2; format = Short; instr = Jsrl 2048 }
+
+abbrev halt_item : Item
+halt_item = record { at = 3; format = Short; instr = Halt }
+
+labs_there : cell_at (frame_word example_frame) 0 ≡ Holds Long (Labs 0 128 0)
+unfolding cell_at instruction_of
+labs_there = refl
+
+call_there : cell_at (frame_word example_frame) 2 ≡ Holds Short (Jsrl 2048)
+unfolding cell_at instruction_of
+call_there = refl
+
+halt_there : cell_at (frame_word example_frame) 3 ≡ Holds Short Halt
+unfolding cell_at instruction_of
+halt_there = refl
+
+labs_keeps : (why : FrameWhy) → FrameKeeps screen 20000 (sight (frame_context example_list) [] labs_item) why
+labs_keeps frame.Unmapped = tt
+labs_keeps frame.Odd = tt
+labs_keeps frame.ReturnInFrame = λ e. cc
+labs_keeps frame.BackJump = tt
+labs_keeps frame.BeamUnknown = tt
+labs_keeps frame.ScaleUnknown = tt
+labs_keeps frame.OffScreen = tt
+labs_keeps frame.NoEntry = tt
+labs_keeps frame.Budget = omega arith
+
+call_keeps : (why : FrameWhy) → FrameKeeps screen 20000 (sight (frame_context example_list) (labs_item ∷ []) call_item) why
+call_keeps frame.Unmapped = tt
+call_keeps frame.Odd = tt
+call_keeps frame.ReturnInFrame = λ e. cc
+call_keeps frame.BackJump = tt
+call_keeps frame.BeamUnknown = λ e. cc
+call_keeps frame.ScaleUnknown = tt
+call_keeps frame.OffScreen =
+    (record { left = omega (arith, ints); right = omega (arith, ints); bottom = omega (arith, ints); top = omega (arith, ints) }, record { left = omega (arith, ints); right = omega (arith, ints); bottom = omega (arith, ints); top = omega (arith, ints) })
+call_keeps frame.NoEntry = tt
+call_keeps frame.Budget = omega arith
+
+halt_keeps : (why : FrameWhy) → FrameKeeps screen 20000 (sight (frame_context example_list) (call_item ∷ labs_item ∷ []) halt_item) why
+halt_keeps frame.Unmapped = tt
+halt_keeps frame.Odd = tt
+halt_keeps frame.ReturnInFrame = λ e. cc
+halt_keeps frame.BackJump = tt
+halt_keeps frame.BeamUnknown = tt
+halt_keeps frame.ScaleUnknown = tt
+halt_keeps frame.OffScreen = tt
+halt_keeps frame.NoEntry = tt
+halt_keeps frame.Budget = omega arith
+
+-- what stands at an item of the frame keeps what the item keeps
+frame_there : (earlier : List Item) (i : Item) → cell_at (frame_word example_frame) i.at ≡ Holds i.format i.instr → ((why : FrameWhy) → FrameKeeps screen 20000 (sight (frame_context example_list) earlier i) why) → (why : FrameWhy) → FramePlaceKeeps screen example_frame example_list 20000 earlier i.at why
+frame_there earlier i is kept why =
+    subst (λ cell. CellKeeps frame.Unmapped frame.Odd (λ j. FrameKeeps screen 20000 (sight (frame_context example_list) earlier j)) i.at cell why) (sym is) (kept why)
+
+frame_keeps : AllKeep Frame (frame_word example_frame) 0 (FramePlaceKeeps screen example_frame example_list 20000)
+frame_keeps =
+    all_kept Frame (frame_word example_frame) 0 FrameWhy (FramePlaceKeeps screen example_frame example_list 20000) (call_item ∷ labs_item ∷ []) halt_item ((refl, labs_there, refl), call_there, refl) halt_there refl
+    (((tt, frame_there [] labs_item labs_there labs_keeps), frame_there (labs_item ∷ []) call_item call_there call_keeps), frame_there (call_item ∷ labs_item ∷ []) halt_item halt_there halt_keeps)
+
+-- ---- both
+
+pub worked_example : WorkedExample
+worked_example =
+    record {
+      shapes = shapes_good Bound;
+      exact = shapes_good Exact;
+      frame = record {
+        keeps = frame_keeps;
+        items = call_item ∷ labs_item ∷ [];
+        at = 3;
+        format = Short;
+        leads = ((refl, labs_there, refl), call_there, refl);
+        halts = halt_there;
+        count_is = refl;
+        depth_is = refl;
+      };
+    }
