@@ -1,13 +1,15 @@
 -- The worked example: what stands at its places, and that each item keeps each rule.
 use Rattle.std.proofs.Common.{arith, List, refl, sym, subst, pos, zero, suc, ◌≡◌, ◌∷◌, ℕ, []}
 use Rattle.std.proofs.lemmas.Int.{ints}
+use Rattle.std.proofs.lemmas.List.{length-replicate}
 use Rattle.dvg_words.specs.Beam.{displacement, screen}
 use Rattle.dvg_words.specs.Decoding.{cell_at, instruction_of}
-use Rattle.dvg_words.specs.Memory.{frame_word, rom_word}
-use Rattle.dvg_words.specs.Values.{DrawFields}
+use Rattle.dvg_words.specs.Memory.{IsMemory, frame_word, rom_word}
+use Rattle.dvg_words.specs.Values.{DrawFields, asteroids}
 use Rattle.dvg_words.specs.declared.instruction.Cell.TheVariants.{Holds}
 use Rattle.dvg_words.specs.declared.instruction.Format.TheVariants.{Long, Short}
 use Rattle.dvg_words.specs.declared.instruction.Instr.TheVariants.{Draw as Draws, Labs, Halt, Jsrl, Rtsl}
+use Rattle.dvg_cert.specs.Order.{IsCertificate}
 use Rattle.dvg_check.specs.Example.{example_rom, example_entry, example_list, example_frame, WorkedExample}
 use Rattle.dvg_check.specs.Known.{shape_context, frame_context}
 use Rattle.dvg_check.specs.Rules.{ShapeKeeps, FrameKeeps, ShapePlaceKeeps, FramePlaceKeeps, CellKeeps, AsClaimed, GoodShape, Good, AllKeep, sight}
@@ -160,11 +162,39 @@ frame_keeps =
     all_kept Frame (frame_word example_frame) 0 FrameWhy (FramePlaceKeeps screen example_frame example_list 20000) (call_item ∷ labs_item ∷ []) halt_item ((refl, labs_there, refl), call_there, refl) halt_there refl
     (((tt, frame_there [] labs_item labs_there labs_keeps), frame_there (labs_item ∷ []) call_item call_there call_keeps), frame_there (call_item ∷ labs_item ∷ []) halt_item halt_there halt_keeps)
 
--- ---- both
+-- ---- all
+
+a_memory : IsMemory (record { frame = example_frame; rom = example_rom })
+a_memory = record {
+  frame = record { some = omega arith; few = omega arith };
+  rom = record { map = record { past_frames = omega arith; ordered = omega arith; inside = omega arith }; filled = omega (arith, length-replicate {A = ℕ} 1021 0) };
+}
+
+a_certificate : IsCertificate asteroids.rom_first asteroids.rom_last example_list
+a_certificate = record {
+  each = (
+    record {
+      addr_low = omega arith;
+      addr_high = omega arith;
+      key = omega arith;
+      stop = ((omega (arith, ints), omega (arith, ints)), (omega (arith, ints), omega (arith, ints)));
+      lit = (((omega (arith, ints), omega (arith, ints)), (omega (arith, ints), omega (arith, ints)), omega (arith, ints)), ((omega (arith, ints), omega (arith, ints)), (omega (arith, ints), omega (arith, ints)), omega (arith, ints)));
+      depth = omega arith;
+      words_low = omega arith;
+      words_high = omega arith;
+      scale = omega arith;
+    },
+    tt,
+  );
+  rising = tt;
+  few = omega arith;
+}
 
 pub worked_example : WorkedExample
 worked_example =
     record {
+      memory = a_memory;
+      certificate = a_certificate;
       shapes = shapes_good Bound;
       exact = shapes_good Exact;
       frame = record {

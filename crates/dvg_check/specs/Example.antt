@@ -1,12 +1,13 @@
 -- A worked example: a lit stroke as a shape of a ROM, a certificate that claims it, and a frame that calls it.
 use Rattle.std.specs.Prelude.{ℕ, pos, List, [], ◌∷◌, replicate}
 use Rattle.dvg_words.specs.Values.{asteroids}
-use Rattle.dvg_words.specs.Memory.{Rom}
+use Rattle.dvg_words.specs.Memory.{Rom, IsMemory}
 use Rattle.dvg_words.specs.Beam.{screen}
 use Rattle.dvg_cert.specs.declared.entry.Key.TheVariants.{At}
 use Rattle.dvg_cert.specs.declared.entry.End.TheVariants.{Rel}
 use Rattle.dvg_cert.specs.declared.entry.LitBox.TheVariants.{Span}
 use Rattle.dvg_cert.specs.declared.entry.Entry.{Entry}
+use Rattle.dvg_cert.specs.Order.{IsCertificate}
 use Rattle.dvg_check.specs.Rules.{Bound, Exact, Good, GoodFrame}
 
 -- at 800 a lit draw by 1023 screen places to the right and 767 up, as VCTR at local scale 9, then RTSL; zeros elsewhere
@@ -34,8 +35,11 @@ example_list = example_entry ∷ []
 abbrev pub example_frame : List ℕ
 example_frame = 0xA080 ∷ 0x0000 ∷ 0xC800 ∷ 0xB0B0 ∷ []
 
--- the shape is good in both modes, and the frame is good, with seven words and one return place
+-- these are a memory and a certificate for it; the shape is good in both modes, and the frame is good, with seven words and
+-- one return place
 pub record WorkedExample : Type 0 where
+  pub memory : IsMemory (record { frame = example_frame; rom = example_rom })
+  pub certificate : IsCertificate asteroids.rom_first asteroids.rom_last example_list
   pub shapes : Good Bound screen example_rom example_list
   pub exact : Good Exact screen example_rom example_list
   pub frame : GoodFrame screen example_frame example_list 20000 7 1
