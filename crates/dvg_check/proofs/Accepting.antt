@@ -1,80 +1,133 @@
 -- What is accepted is safe, and there is one verdict.
-use Rattle.std.proofs.Common.{arith, List, sym, ap, refl, ◌≡◌, ◌∙◌, ℕ, ⊎_elim, []}
-use Rattle.std.specs.Prelude.{Err, Ok}
-use Rattle.dvg_words.specs.Memory.{Rom, IsFrame, IsRom, words_of}
-use Rattle.dvg_words.specs.Values.{Window}
+use Rattle.std.proofs.Common.{arith, List, length, sym, subst, ap, refl, ◌≡◌, ◌∙◌, ◌<◌, ◌≤◌, ℕ}
+use Rattle.std.specs.Prelude.{Err, Ok, Result, Contains}
+use Rattle.dvg_words.specs.Memory.{Rom, IsFrame, IsRom, words_of, rom_of}
+use Rattle.dvg_words.specs.Values.{MemoryMap, Window}
 use Rattle.dvg_words.specs.declared.image.ImageFault.TheVariants.{RomLength, FrameLength}
-use Rattle.dvg_check.specs.FirstFault.{FirstFrameFault}
+use Rattle.dvg_cert.specs.Grammar.{Spells}
+use Rattle.dvg_cert.specs.Laws.{OneList, OneAnswer}
+use Rattle.dvg_cert.specs.Laws.{NotMemory as HasMemory}
+use Rattle.dvg_cert.specs.Reading.{ReadAnswer}
+use Rattle.dvg_cert.specs.declared.entry.Entry.{Entry}
+use Rattle.dvg_cert.specs.declared.fault.CertFault.{CertFault}
+use Rattle.dvg_cert.specs.declared.fault.CertWhy.TheVariants.{Memory}
 use Rattle.dvg_check.specs.Private.Running.{IsSomeCertificate}
 use Rattle.dvg_check.specs.Laws.{OneVerdict}
 use Rattle.dvg_check.specs.Rules.{Good, GoodFrame}
 use Rattle.dvg_check.specs.Safety.{Safe}
-use Rattle.dvg_check.specs.declared.fault.FrameFault.{FrameFault}
-use Rattle.dvg_check.specs.declared.fault.FrameWhy.TheVariants as frame
+use Rattle.dvg_check.specs.Verdict.{PartsVerdict, ListVerdict, Verdict, NotMemory}
 use Rattle.dvg_check.specs.declared.fault.Mode.{Mode}
 use Rattle.dvg_check.specs.declared.fault.Mode.TheVariants.{Bound}
+use Rattle.dvg_check.specs.declared.verdict.Refusal.{Refusal}
 use Rattle.dvg_check.specs.declared.verdict.Refusal.TheVariants as refusal
 use Rattle.dvg_check.specs.declared.verdict.Yes.{Yes}
-use Rattle.dvg_check.proofs.Faults.{one_count, one_fault, no_fault}
+use Rattle.dvg_check.proofs.Faults.{one_count, one_fault, no_fault, one_shape_fault, no_shape_fault}
 use Rattle.dvg_check.proofs.FrameLaws.{good_is_safe}
+use Rattle.dvg_check.proofs.Near.{listed_claim}
 
-pub no_entries : IsSomeCertificate []
-no_entries = (2048, 3071, omega arith, record { each = tt; rising = tt; few = omega arith })
-
--- an empty certificate has no faulty shape
-pub good_without_entries : (mode : Mode) (w : Window) (rom : Rom) → Good mode w rom []
-good_without_entries mode w rom e listed = absurd (omega (arith, listed.1))
-
-pub safe_without_entries : (w : Window) (frame : List ℕ) (rom : Rom) (budget words depth : ℕ) → IsFrame frame → IsRom rom → GoodFrame w frame [] budget words depth → Safe (record { frame = frame; rom = rom }) w words depth
-safe_without_entries w frame rom budget words depth is_frame is_rom good =
-    good_is_safe (record { frame = frame; rom = rom }) w [] budget words depth (record { frame = is_frame; rom = is_rom }) (λ e listed. absurd (omega (arith, listed.1))) (good_without_entries Bound w rom) good
+-- the shapes and the frame of a certificate's list are safe
+pub safe_of_good : (w : Window) (frame : List ℕ) (rom : Rom) (list : List Entry) (budget words depth : ℕ) → IsSomeCertificate list → IsFrame frame → IsRom rom → Good Bound w rom list → GoodFrame w frame list budget words depth → Safe (record { frame = frame; rom = rom }) w words depth
+safe_of_good w frame rom list budget words depth some is_frame is_rom good good_frame =
+    good_is_safe (record { frame = frame; rom = rom }) w list budget words depth (record { frame = is_frame; rom = is_rom }) (λ e listed. (listed_claim list e some listed).depth) good good_frame
 
 -- ---- one verdict
 
-same_frames : (w : Window) (words : List ℕ) (budget : ℕ) (y z : Yes) → GoodFrame w words [] budget y.words y.depth → GoodFrame w words [] budget z.words z.depth → y.shapes ≡ 0 → z.shapes ≡ 0 → y ≡ z
-same_frames w words budget y z g h p q =
-    let s = one_count w words [] budget y.words y.depth z.words z.depth g h in
+same_yes : (w : Window) (words : List ℕ) (list : List Entry) (budget : ℕ) (y z : Yes) → GoodFrame w words list budget y.words y.depth → GoodFrame w words list budget z.words z.depth → y.shapes ≡ length list → z.shapes ≡ length list → y ≡ z
+same_yes w words list budget y z g h p q =
+    let s = one_count w words list budget y.words y.depth z.words z.depth g h in
     let shapes : y.shapes ≡ z.shapes = p ∙ sym q in
     λ i. record { shapes = shapes i; words = s.count_is i; depth = s.depth_is i }
 
--- a call that is not checked yet is no other fault
-no_call : (w : Window) (words : List ℕ) (budget at : ℕ) (f : FrameFault) → FirstFrameFault w words [] budget (record { word = at; why = frame.NoEntry }) → FirstFrameFault w words [] budget f → (f.why ≡ frame.NoEntry → ⊥) → ⊥
-no_call w words budget at f a b other = other (sym (ap (λ (x : FrameFault). x.why) (one_fault w words [] budget (record { word = at; why = frame.NoEntry }) f a b)))
+-- the shapes and the frame of one list come to one answer
+same_parts : (mode : Mode) (w : Window) (rom : Rom) (list : List Entry) (words : List ℕ) (budget : ℕ) (a b : Result Yes Refusal) → PartsVerdict mode w rom list words budget a → PartsVerdict mode w rom list words budget b → a ≡ b
+same_parts mode w rom list words budget (Ok y) (Ok z) h k = ap Ok (same_yes w words list budget y z h.1 k.1 h.2 k.2)
+same_parts mode w rom list words budget (Ok y) (Err (refusal.Shape g)) h k = absurd (no_shape_fault mode w rom list g h.0 k)
+same_parts mode w rom list words budget (Ok y) (Err (refusal.Frame g)) h k = absurd (no_fault w words list budget y.words y.depth g h.1 k.1)
+same_parts mode w rom list words budget (Ok y) (Err (refusal.Image g)) h k = absurd k
+same_parts mode w rom list words budget (Ok y) (Err refusal.BudgetRange) h k = absurd k
+same_parts mode w rom list words budget (Ok y) (Err (refusal.Cert g)) h k = absurd k
+same_parts mode w rom list words budget (Err (refusal.Shape f)) (Ok z) h k = absurd (no_shape_fault mode w rom list f k.0 h)
+same_parts mode w rom list words budget (Err (refusal.Shape f)) (Err (refusal.Shape g)) h k = ap (λ x. Err (refusal.Shape x)) (one_shape_fault mode w rom list f g h k)
+same_parts mode w rom list words budget (Err (refusal.Shape f)) (Err (refusal.Frame g)) h k = absurd (no_shape_fault mode w rom list f k.0 h)
+same_parts mode w rom list words budget (Err (refusal.Shape f)) (Err (refusal.Image g)) h k = absurd k
+same_parts mode w rom list words budget (Err (refusal.Shape f)) (Err refusal.BudgetRange) h k = absurd k
+same_parts mode w rom list words budget (Err (refusal.Shape f)) (Err (refusal.Cert g)) h k = absurd k
+same_parts mode w rom list words budget (Err (refusal.Frame f)) (Ok z) h k = absurd (no_fault w words list budget z.words z.depth f k.1 h.1)
+same_parts mode w rom list words budget (Err (refusal.Frame f)) (Err (refusal.Shape g)) h k = absurd (no_shape_fault mode w rom list g h.0 k)
+same_parts mode w rom list words budget (Err (refusal.Frame f)) (Err (refusal.Frame g)) h k = ap (λ x. Err (refusal.Frame x)) (one_fault w words list budget f g h.1 k.1)
+same_parts mode w rom list words budget (Err (refusal.Frame f)) (Err (refusal.Image g)) h k = absurd k
+same_parts mode w rom list words budget (Err (refusal.Frame f)) (Err refusal.BudgetRange) h k = absurd k
+same_parts mode w rom list words budget (Err (refusal.Frame f)) (Err (refusal.Cert g)) h k = absurd k
+same_parts mode w rom list words budget (Err (refusal.Image f)) b h k = absurd h
+same_parts mode w rom list words budget (Err refusal.BudgetRange) b h k = absurd h
+same_parts mode w rom list words budget (Err (refusal.Cert f)) b h k = absurd h
 
-pub one_verdict : OneVerdict
-one_verdict mode map w rom cert words budget (Err (refusal.Image RomLength)) (Err (refusal.Image RomLength)) h k = refl
-one_verdict mode map w rom cert words budget (Err (refusal.Image RomLength)) (Err (refusal.Image FrameLength)) h k = absurd (h k.0)
-one_verdict mode map w rom cert words budget (Err (refusal.Image RomLength)) (Err refusal.BudgetRange) h k = absurd (h k.0)
-one_verdict mode map w rom cert words budget (Err (refusal.Image RomLength)) (Err refusal.NotYet) h k = absurd (h k.0.rom_length)
-one_verdict mode map w rom cert words budget (Err (refusal.Image RomLength)) (Err (refusal.Frame g)) h k = absurd (h k.0.rom_length)
-one_verdict mode map w rom cert words budget (Err (refusal.Image RomLength)) (Ok z) h k = absurd (h k.0.rom_length)
-one_verdict mode map w rom cert words budget (Err (refusal.Image FrameLength)) (Err (refusal.Image RomLength)) h k = absurd (k h.0)
-one_verdict mode map w rom cert words budget (Err (refusal.Image FrameLength)) (Err (refusal.Image FrameLength)) h k = refl
-one_verdict mode map w rom cert words budget (Err (refusal.Image FrameLength)) (Err refusal.BudgetRange) h k = absurd (h.1 k.1)
-one_verdict mode map w rom cert words budget (Err (refusal.Image FrameLength)) (Err refusal.NotYet) h k = absurd (h.1 k.0.frame_length)
-one_verdict mode map w rom cert words budget (Err (refusal.Image FrameLength)) (Err (refusal.Frame g)) h k = absurd (h.1 k.0.frame_length)
-one_verdict mode map w rom cert words budget (Err (refusal.Image FrameLength)) (Ok z) h k = absurd (h.1 k.0.frame_length)
-one_verdict mode map w rom cert words budget (Err refusal.BudgetRange) (Err (refusal.Image RomLength)) h k = absurd (k h.0)
-one_verdict mode map w rom cert words budget (Err refusal.BudgetRange) (Err (refusal.Image FrameLength)) h k = absurd (k.1 h.1)
-one_verdict mode map w rom cert words budget (Err refusal.BudgetRange) (Err refusal.BudgetRange) h k = refl
-one_verdict mode map w rom cert words budget (Err refusal.BudgetRange) (Err refusal.NotYet) h k = absurd (h.2 k.0.budget_range)
-one_verdict mode map w rom cert words budget (Err refusal.BudgetRange) (Err (refusal.Frame g)) h k = absurd (h.2 k.0.budget_range)
-one_verdict mode map w rom cert words budget (Err refusal.BudgetRange) (Ok z) h k = absurd (h.2 k.0.budget_range)
-one_verdict mode map w rom cert words budget (Err refusal.NotYet) (Err (refusal.Image RomLength)) h k = absurd (k h.0.rom_length)
-one_verdict mode map w rom cert words budget (Err refusal.NotYet) (Err (refusal.Image FrameLength)) h k = absurd (k.1 h.0.frame_length)
-one_verdict mode map w rom cert words budget (Err refusal.NotYet) (Err refusal.BudgetRange) h k = absurd (k.2 h.0.budget_range)
-one_verdict mode map w rom cert words budget (Err refusal.NotYet) (Err refusal.NotYet) h k = refl
-one_verdict mode map w rom cert words budget (Err refusal.NotYet) (Err (refusal.Frame g)) h k = absurd (⊎_elim (λ other. other k.1) (λ call. no_call w (words_of words) budget call.0 g call.1 k.2 k.3) h.1)
-one_verdict mode map w rom cert words budget (Err refusal.NotYet) (Ok z) h k = absurd (⊎_elim (λ other. other k.1) (λ call. no_fault w (words_of words) [] budget z.words z.depth (record { word = call.0; why = frame.NoEntry }) k.3 call.1) h.1)
-one_verdict mode map w rom cert words budget (Err (refusal.Frame f)) (Err (refusal.Image RomLength)) h k = absurd (k h.0.rom_length)
-one_verdict mode map w rom cert words budget (Err (refusal.Frame f)) (Err (refusal.Image FrameLength)) h k = absurd (k.1 h.0.frame_length)
-one_verdict mode map w rom cert words budget (Err (refusal.Frame f)) (Err refusal.BudgetRange) h k = absurd (k.2 h.0.budget_range)
-one_verdict mode map w rom cert words budget (Err (refusal.Frame f)) (Err refusal.NotYet) h k = absurd (⊎_elim (λ other. other h.1) (λ call. no_call w (words_of words) budget call.0 f call.1 h.2 h.3) k.1)
-one_verdict mode map w rom cert words budget (Err (refusal.Frame f)) (Err (refusal.Frame g)) h k = ap (λ x. Err (refusal.Frame x)) (one_fault w (words_of words) [] budget f g h.2 k.2)
-one_verdict mode map w rom cert words budget (Err (refusal.Frame f)) (Ok z) h k = absurd (no_fault w (words_of words) [] budget z.words z.depth f k.3 h.2)
-one_verdict mode map w rom cert words budget (Ok y) (Err (refusal.Image RomLength)) h k = absurd (k h.0.rom_length)
-one_verdict mode map w rom cert words budget (Ok y) (Err (refusal.Image FrameLength)) h k = absurd (k.1 h.0.frame_length)
-one_verdict mode map w rom cert words budget (Ok y) (Err refusal.BudgetRange) h k = absurd (k.2 h.0.budget_range)
-one_verdict mode map w rom cert words budget (Ok y) (Err refusal.NotYet) h k = absurd (⊎_elim (λ other. other h.1) (λ call. no_fault w (words_of words) [] budget y.words y.depth (record { word = call.0; why = frame.NoEntry }) h.3 call.1) k.1)
-one_verdict mode map w rom cert words budget (Ok y) (Err (refusal.Frame g)) h k = absurd (no_fault w (words_of words) [] budget y.words y.depth g h.3 k.2)
-one_verdict mode map w rom cert words budget (Ok y) (Ok z) h k = ap Ok (same_frames w (words_of words) budget y z h.3 k.3 h.4 k.4)
+module _ (one_list : OneList) (one_answer : OneAnswer) (mode : Mode) (map : MemoryMap) (w : Window) (rom cert words : List ℕ) (budget : ℕ) (small : map.rom_last < 4096) where
+  same_lists : (a b : Result Yes Refusal) → ListVerdict mode map w rom cert words budget a → ListVerdict mode map w rom cert words budget b → a ≡ b
+  same_lists a b h k =
+      let same : k.list ≡ h.list = one_list map.rom_first map.rom_last k.list h.list cert small k.spells h.spells in
+      same_parts mode w (rom_of map rom) h.list (words_of words) budget a b h.parts (subst (λ (l : List Entry). PartsVerdict mode w (rom_of map rom) l (words_of words) budget b) same k.parts)
+
+  -- a text has one answer
+  same_read : (a b : Result (List Entry) CertFault) → ReadAnswer map.rom_first map.rom_last cert a → ReadAnswer map.rom_first map.rom_last cert b → HasMemory a → HasMemory b → a ≡ b
+  same_read a b h k m n = let answer = one_answer map.rom_first map.rom_last cert small in answer.3 a h m ∙ sym (answer.3 b k n)
+
+  same_refusal : (f g : CertFault) → ReadAnswer map.rom_first map.rom_last cert (Err f) → ReadAnswer map.rom_first map.rom_last cert (Err g) → (f.why ≡ Memory → ⊥) → (g.why ≡ Memory → ⊥) → f ≡ g
+  same_refusal f g h k m n = let e = same_read (Err f) (Err g) h k m n in cc
+
+  no_refusal : (f : CertFault) (a : Result Yes Refusal) → ReadAnswer map.rom_first map.rom_last cert (Err f) → ListVerdict mode map w rom cert words budget a → (f.why ≡ Memory → ⊥) → ⊥
+  no_refusal f a h k m = let e = same_read (Ok k.list) (Err f) k.spells h tt m in cc
+
+  same_verdict : (a b : Result Yes Refusal) → Verdict mode map w rom cert words budget a → Verdict mode map w rom cert words budget b → NotMemory a → NotMemory b → a ≡ b
+  same_verdict (Err (refusal.Image RomLength)) (Err (refusal.Image RomLength)) h k m n = refl
+  same_verdict (Err (refusal.Image RomLength)) (Err (refusal.Image FrameLength)) h k m n = absurd (h k.0)
+  same_verdict (Err (refusal.Image RomLength)) (Err refusal.BudgetRange) h k m n = absurd (h k.0)
+  same_verdict (Err (refusal.Image RomLength)) (Err (refusal.Cert g)) h k m n = absurd (h k.0.rom_length)
+  same_verdict (Err (refusal.Image RomLength)) (Err (refusal.Shape g)) h k m n = absurd (h k.in_range.rom_length)
+  same_verdict (Err (refusal.Image RomLength)) (Err (refusal.Frame g)) h k m n = absurd (h k.in_range.rom_length)
+  same_verdict (Err (refusal.Image RomLength)) (Ok z) h k m n = absurd (h k.in_range.rom_length)
+  same_verdict (Err (refusal.Image FrameLength)) (Err (refusal.Image RomLength)) h k m n = absurd (k h.0)
+  same_verdict (Err (refusal.Image FrameLength)) (Err (refusal.Image FrameLength)) h k m n = refl
+  same_verdict (Err (refusal.Image FrameLength)) (Err refusal.BudgetRange) h k m n = absurd (h.1 k.1)
+  same_verdict (Err (refusal.Image FrameLength)) (Err (refusal.Cert g)) h k m n = absurd (h.1 k.0.frame_length)
+  same_verdict (Err (refusal.Image FrameLength)) (Err (refusal.Shape g)) h k m n = absurd (h.1 k.in_range.frame_length)
+  same_verdict (Err (refusal.Image FrameLength)) (Err (refusal.Frame g)) h k m n = absurd (h.1 k.in_range.frame_length)
+  same_verdict (Err (refusal.Image FrameLength)) (Ok z) h k m n = absurd (h.1 k.in_range.frame_length)
+  same_verdict (Err refusal.BudgetRange) (Err (refusal.Image RomLength)) h k m n = absurd (k h.0)
+  same_verdict (Err refusal.BudgetRange) (Err (refusal.Image FrameLength)) h k m n = absurd (k.1 h.1)
+  same_verdict (Err refusal.BudgetRange) (Err refusal.BudgetRange) h k m n = refl
+  same_verdict (Err refusal.BudgetRange) (Err (refusal.Cert g)) h k m n = absurd (h.2 k.0.budget_range)
+  same_verdict (Err refusal.BudgetRange) (Err (refusal.Shape g)) h k m n = absurd (h.2 k.in_range.budget_range)
+  same_verdict (Err refusal.BudgetRange) (Err (refusal.Frame g)) h k m n = absurd (h.2 k.in_range.budget_range)
+  same_verdict (Err refusal.BudgetRange) (Ok z) h k m n = absurd (h.2 k.in_range.budget_range)
+  same_verdict (Err (refusal.Cert f)) (Err (refusal.Image RomLength)) h k m n = absurd (k h.0.rom_length)
+  same_verdict (Err (refusal.Cert f)) (Err (refusal.Image FrameLength)) h k m n = absurd (k.1 h.0.frame_length)
+  same_verdict (Err (refusal.Cert f)) (Err refusal.BudgetRange) h k m n = absurd (k.2 h.0.budget_range)
+  same_verdict (Err (refusal.Cert f)) (Err (refusal.Cert g)) h k m n = ap (λ x. Err (refusal.Cert x)) (same_refusal f g h.1 k.1 m n)
+  same_verdict (Err (refusal.Cert f)) (Err (refusal.Shape g)) h k m n = absurd (no_refusal f (Err (refusal.Shape g)) h.1 k m)
+  same_verdict (Err (refusal.Cert f)) (Err (refusal.Frame g)) h k m n = absurd (no_refusal f (Err (refusal.Frame g)) h.1 k m)
+  same_verdict (Err (refusal.Cert f)) (Ok z) h k m n = absurd (no_refusal f (Ok z) h.1 k m)
+  same_verdict (Err (refusal.Shape f)) (Err (refusal.Image RomLength)) h k m n = absurd (k h.in_range.rom_length)
+  same_verdict (Err (refusal.Shape f)) (Err (refusal.Image FrameLength)) h k m n = absurd (k.1 h.in_range.frame_length)
+  same_verdict (Err (refusal.Shape f)) (Err refusal.BudgetRange) h k m n = absurd (k.2 h.in_range.budget_range)
+  same_verdict (Err (refusal.Shape f)) (Err (refusal.Cert g)) h k m n = absurd (no_refusal g (Err (refusal.Shape f)) k.1 h n)
+  same_verdict (Err (refusal.Shape f)) (Err (refusal.Shape g)) h k m n = same_lists (Err (refusal.Shape f)) (Err (refusal.Shape g)) h k
+  same_verdict (Err (refusal.Shape f)) (Err (refusal.Frame g)) h k m n = same_lists (Err (refusal.Shape f)) (Err (refusal.Frame g)) h k
+  same_verdict (Err (refusal.Shape f)) (Ok z) h k m n = same_lists (Err (refusal.Shape f)) (Ok z) h k
+  same_verdict (Err (refusal.Frame f)) (Err (refusal.Image RomLength)) h k m n = absurd (k h.in_range.rom_length)
+  same_verdict (Err (refusal.Frame f)) (Err (refusal.Image FrameLength)) h k m n = absurd (k.1 h.in_range.frame_length)
+  same_verdict (Err (refusal.Frame f)) (Err refusal.BudgetRange) h k m n = absurd (k.2 h.in_range.budget_range)
+  same_verdict (Err (refusal.Frame f)) (Err (refusal.Cert g)) h k m n = absurd (no_refusal g (Err (refusal.Frame f)) k.1 h n)
+  same_verdict (Err (refusal.Frame f)) (Err (refusal.Shape g)) h k m n = same_lists (Err (refusal.Frame f)) (Err (refusal.Shape g)) h k
+  same_verdict (Err (refusal.Frame f)) (Err (refusal.Frame g)) h k m n = same_lists (Err (refusal.Frame f)) (Err (refusal.Frame g)) h k
+  same_verdict (Err (refusal.Frame f)) (Ok z) h k m n = same_lists (Err (refusal.Frame f)) (Ok z) h k
+  same_verdict (Ok y) (Err (refusal.Image RomLength)) h k m n = absurd (k h.in_range.rom_length)
+  same_verdict (Ok y) (Err (refusal.Image FrameLength)) h k m n = absurd (k.1 h.in_range.frame_length)
+  same_verdict (Ok y) (Err refusal.BudgetRange) h k m n = absurd (k.2 h.in_range.budget_range)
+  same_verdict (Ok y) (Err (refusal.Cert g)) h k m n = absurd (no_refusal g (Ok y) k.1 h n)
+  same_verdict (Ok y) (Err (refusal.Shape g)) h k m n = same_lists (Ok y) (Err (refusal.Shape g)) h k
+  same_verdict (Ok y) (Err (refusal.Frame g)) h k m n = same_lists (Ok y) (Err (refusal.Frame g)) h k
+  same_verdict (Ok y) (Ok z) h k m n = same_lists (Ok y) (Ok z) h k
+
+pub one_verdict : OneList → OneAnswer → OneVerdict
+one_verdict one_list one_answer mode map w rom cert words budget a b small h k m n = same_verdict one_list one_answer mode map w rom cert words budget small a b h k m n

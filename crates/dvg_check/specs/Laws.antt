@@ -16,7 +16,7 @@ use Rattle.dvg_check.specs.Items.{Kind, Shape, Frame, Item, LeadsTo}
 use Rattle.dvg_check.specs.Known.{Context, scale_before, place_before}
 use Rattle.dvg_check.specs.Rules.{Mode, Bound, Exact, Good, GoodFrame}
 use Rattle.dvg_check.specs.FirstFault.{ShapeFault, FirstShapeFault, FrameFault, FirstFrameFault}
-use Rattle.dvg_check.specs.Verdict.{Yes, Refusal, Verdict}
+use Rattle.dvg_check.specs.Verdict.{Yes, Refusal, Verdict, NotMemory}
 use Rattle.dvg_check.specs.Behaving.{ScaleFits, PlaceFits, Behaves}
 use Rattle.dvg_check.specs.Safety.{Safe, HaltsWith}
 
@@ -133,11 +133,12 @@ OneCount =
     (w : Window) (words : List ℕ) (list : List Entry) (budget count depth count' depth' : ℕ)
     → GoodFrame w words list budget count depth → GoodFrame w words list budget count' depth' → SameCounts count depth count' depth'
 
--- there is one verdict at the most
+-- there is one verdict at the most, want of memory aside
 abbrev pub OneVerdict : Type 0
 OneVerdict =
     (mode : Mode) (map : MemoryMap) (w : Window) (rom cert words : List ℕ) (budget : ℕ) (a b : Result Yes Refusal)
-    → Verdict mode map w rom cert words budget a → Verdict mode map w rom cert words budget b → a ≡ b
+    → map.rom_last < 4096
+    → Verdict mode map w rom cert words budget a → Verdict mode map w rom cert words budget b → NotMemory a → NotMemory b → a ≡ b
 
 -- ---- strokes
 

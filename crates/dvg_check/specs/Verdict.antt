@@ -1,18 +1,18 @@
--- The verdict on the bytes of a ROM, of a certificate and of a frame, under a budget of words. All of it is profile.
-use Rattle.std.specs.Prelude.{◌≡◌, ◌≢◌, ℕ, ◌≤◌, ◌⊎◌, List, [], length, codes, Result, Ok, Err}
+-- The verdict on the bytes of a ROM, of a certificate and of a frame, under a budget of words: the first that applies of 1,
+-- 2, 49, the certificate's refusal, the first fault of the shapes, that of the frame, accepted. All of it is profile.
+use Rattle.std.specs.Prelude.{◌≡◌, ◌≢◌, ℕ, ◌≤◌, List, length, Result, Ok, Err}
 use Rattle.dvg_words.specs.Values.{MemoryMap, Window}
-use Rattle.dvg_words.specs.Memory.{words_of, rom_of, IsRomLength, IsFrameLength}
+use Rattle.dvg_words.specs.Memory.{Rom, words_of, rom_of, IsRomLength, IsFrameLength}
 use Rattle.dvg_words.specs.declared.image.ImageFault.TheVariants.{RomLength, FrameLength}
+use Rattle.dvg_cert.specs.declared.entry.Entry.{Entry}
+use Rattle.dvg_cert.specs.declared.fault.CertWhy.TheVariants.{Memory}
+use Rattle.dvg_cert.specs.Grammar.{Spells}
+use Rattle.dvg_cert.specs.Reading.{ReadAnswer}
 use Rattle.dvg_check.specs.Rules.{Mode, Good, GoodFrame}
-use Rattle.dvg_check.specs.declared.fault.FrameWhy.TheVariants as frame
-use Rattle.dvg_check.specs.FirstFault.{FirstFrameFault}
+use Rattle.dvg_check.specs.FirstFault.{FirstShapeFault, FirstFrameFault}
 pub use Rattle.dvg_check.specs.declared.verdict.Yes.{Yes}
 pub use Rattle.dvg_check.specs.declared.verdict.Refusal.{Refusal}
 pub use Rattle.dvg_check.specs.declared.verdict.Refusal.TheVariants as refusal
-
--- the certificate without entries
-abbrev pub empty_certificate : List ℕ
-empty_certificate = codes "dvgcert 1\ndone 0\n"
 
 pub record IsBudget (budget : ℕ) : Type 0 where
   pub some : 1 ≤ budget
@@ -24,15 +24,28 @@ pub record InRange (map : MemoryMap) (rom frame : List ℕ) (budget : ℕ) : Typ
   pub frame_length : IsFrameLength (length frame)
   pub budget_range : IsBudget budget
 
--- The first that applies of: 1, 2, 49, 90 for any other certificate, the frame's first fault, accepted. Over the empty
--- certificate a call is 47, since it names no entry; until shapes are checked, 90 stands in its place.
+-- what the shapes of a list and a frame come to
+abbrev pub PartsVerdict : Mode → Window → Rom → List Entry → List ℕ → ℕ → Result Yes Refusal → Type 0
+PartsVerdict mode w rom list words budget (Ok y) = Good mode w rom list × GoodFrame w words list budget y.words y.depth × (y.shapes ≡ length list)
+PartsVerdict mode w rom list words budget (Err (refusal.Shape f)) = FirstShapeFault mode w rom list f
+PartsVerdict mode w rom list words budget (Err (refusal.Frame f)) = Good mode w rom list × FirstFrameFault w words list budget f
+PartsVerdict mode w rom list words budget (Err r) = ⊥
+
+-- the list that the certificate spells, and what its shapes and the frame come to
+pub record ListVerdict (mode : Mode) (map : MemoryMap) (w : Window) (rom cert words : List ℕ) (budget : ℕ) (answer : Result Yes Refusal) : Type 0 where
+  pub in_range : InRange map rom words budget
+  pub list : List Entry
+  pub spells : Spells map.rom_first map.rom_last list cert
+  pub parts : PartsVerdict mode w (rom_of map rom) list (words_of words) budget answer
+
 abbrev pub Verdict : Mode → MemoryMap → Window → List ℕ → List ℕ → List ℕ → ℕ → Result Yes Refusal → Type 0
 Verdict mode map w rom cert words budget (Err (refusal.Image RomLength)) = IsRomLength map (length rom) → ⊥
 Verdict mode map w rom cert words budget (Err (refusal.Image FrameLength)) = IsRomLength map (length rom) × (IsFrameLength (length words) → ⊥)
 Verdict mode map w rom cert words budget (Err refusal.BudgetRange) = IsRomLength map (length rom) × IsFrameLength (length words) × (IsBudget budget → ⊥)
-Verdict mode map w rom cert words budget (Err refusal.NotYet) =
-    InRange map rom words budget × ((cert ≢ empty_certificate) ⊎ ((at : ℕ) × FirstFrameFault w (words_of words) [] budget (record { word = at; why = frame.NoEntry })))
-Verdict mode map w rom cert words budget (Err (refusal.Frame f)) =
-    InRange map rom words budget × (cert ≡ empty_certificate) × FirstFrameFault w (words_of words) [] budget f × (f.why ≢ frame.NoEntry)
-Verdict mode map w rom cert words budget (Ok y) =
-    InRange map rom words budget × (cert ≡ empty_certificate) × Good mode w (rom_of map rom) [] × GoodFrame w (words_of words) [] budget y.words y.depth × (y.shapes ≡ 0)
+Verdict mode map w rom cert words budget (Err (refusal.Cert f)) = InRange map rom words budget × ReadAnswer map.rom_first map.rom_last cert (Err f)
+Verdict mode map w rom cert words budget answer = ListVerdict mode map w rom cert words budget answer
+
+-- the answer is not that memory was short for the certificate
+abbrev pub NotMemory : Result Yes Refusal → Type 0
+NotMemory (Err (refusal.Cert f)) = f.why ≢ Memory
+NotMemory answer = Unit {0}

@@ -1,7 +1,7 @@
 //! Which rule is broken, and where.
 
 ghost use Rattle.std.specs.Prelude.{◌≡◌};
-ghost use Rattle.dvg_check.specs.FirstFault.{frame_number};
+ghost use Rattle.dvg_check.specs.FirstFault.{shape_number, frame_number};
 
 use dvg_cert::Key;
 
@@ -43,6 +43,30 @@ pub enum ShapeWhy {
     WordsDiffer,
     /// 33: the depth is less than claimed, where claims are exact.
     DepthDiffers,
+}
+
+impl ShapeWhy {
+    /// The number of the rule, as a report has it.
+    pub fn number(self) -> u8
+        ensures { result ≡ shape_number self }
+    {
+        match self {
+            ShapeWhy::Unmapped => 20,
+            ShapeWhy::Odd => 21,
+            ShapeWhy::HaltInShape => 22,
+            ShapeWhy::BeamUnknown => 23,
+            ShapeWhy::ScaleUnknown => 24,
+            ShapeWhy::OffScreen => 25,
+            ShapeWhy::NoEntry => 26,
+            ShapeWhy::TooDeep => 27,
+            ShapeWhy::TooManyWords => 28,
+            ShapeWhy::EndDiffers => 29,
+            ShapeWhy::ScaleDiffers => 30,
+            ShapeWhy::BoxTooSmall => 31,
+            ShapeWhy::WordsDiffer => 32,
+            ShapeWhy::DepthDiffers => 33,
+        }
+    }
 }
 
 /// The rules that an item of a frame may break, 40 to 48.

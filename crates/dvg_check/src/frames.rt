@@ -109,7 +109,7 @@ pub struct Accepted {
 }
 
 /// Judges a frame by entries: its words and its depth where it keeps all rules, else its first fault.
-pub fn judge_frame<E: Entries>(
+fn judge_frame<E: Entries>(
     frame: &FrameImage,
     entries: &E,
     budget: u32,

@@ -1,9 +1,11 @@
 //! Laws over the definitions alone. All but the worked example are for every map and window; each says for which mode. Each
-//! is the contract of a function with an empty body.
+//! is the contract of a function that does nothing.
 
 ghost use Rattle.dvg_check.specs.Rules.{Bound, Exact};
 ghost use Rattle.dvg_check.specs.Laws.{OneItem, OneShape, AllShapes, GoodIsSafe, ExactIsExact, OneFault, NoFault, OneShapeFault, NoShapeFault, OneCount, OneVerdict, StrokeInWindow};
 ghost use Rattle.dvg_check.specs.Example.{WorkedExample};
+
+use dvg_cert::laws::{one_answer, one_list};
 
 /// A draw or a LABS leads from a state that agrees with what is known before it to one that agrees with what is known
 /// after it.
@@ -61,10 +63,13 @@ pub fn one_count()
     ensures { OneCount }
 {}
 
-/// There is one verdict at the most.
+/// There is one verdict at the most, want of memory aside.
 pub fn one_verdict()
     ensures { OneVerdict }
-{}
+{
+    one_list();
+    one_answer();
+}
 
 /// A straight stroke lies in the window where both its ends do.
 pub fn stroke_in_window()

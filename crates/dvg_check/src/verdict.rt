@@ -1,17 +1,18 @@
 //! The verdict on bytes.
 
-ghost use Rattle.std.specs.Prelude.{◌≡◌, [], IfOk};
+ghost use Rattle.std.specs.Prelude.{◌≡◌, ◌≤◌, IfOk};
 ghost use Rattle.dvg_words.specs.Values.{asteroids};
-ghost use Rattle.dvg_words.specs.Memory.{words_of, rom_of};
+ghost use Rattle.dvg_words.specs.Memory.{words_of, rom_of, IsFrame, IsRom};
 ghost use Rattle.dvg_words.specs.Beam.{screen};
 ghost use Rattle.dvg_check.specs.Rules.{Bound};
-ghost use Rattle.dvg_check.specs.Verdict.{Verdict};
+ghost use Rattle.dvg_check.specs.Verdict.{PartsVerdict, Verdict};
 ghost use Rattle.dvg_check.specs.Safety.{Safe};
 ghost use Rattle.dvg_check.specs.declared.verdict.Refusal.TheVariants as refusals;
 
-use crate::fault::{FrameFault, FrameWhy};
-use crate::frames::judge_frame;
-use dvg_cert::{Entries, Entry, Key};
+use crate::fault::{FrameFault, ShapeFault};
+use crate::frames::check_frame;
+use crate::shapes::check_shapes;
+use dvg_cert::{Cert, CertFault, ListIndex, read_cert};
 use dvg_words::{FrameImage, ImageFault, RomImage};
 use std::alloc::Global;
 
@@ -31,8 +32,10 @@ pub enum Refusal {
     Image(ImageFault),
     /// 49: the budget is not 1 to 1,000,000.
     BudgetRange,
-    /// 90: the certificate is not the empty one, or the frame calls a shape, which are not checked yet.
-    NotYet,
+    /// 10 to 16: the certificate is not one of the format, or there was no memory for it.
+    Cert(CertFault),
+    /// 20 to 31: a shape breaks a rule.
+    Shape(ShapeFault),
     /// 40 to 48: the frame breaks a rule.
     Frame(FrameFault),
 }
@@ -45,30 +48,43 @@ impl From<ImageFault> for Refusal {
     }
 }
 
-/// The certificate without entries.
-const EMPTY_CERTIFICATE: &[u8] = b"dvgcert 1\ndone 0\n";
+impl From<CertFault> for Refusal {
+    ghost from_gives = { λ fault refusal. refusal ≡ refusals.Cert fault };
 
-/// The entries of the certificate without entries.
-struct NoEntries;
-
-impl Entries for NoEntries {
-    ghost list = { λ _. [] };
-
-    fn find(&self, _addr: u16, _key: Key) -> Option<Entry> {
-        None
+    fn from(fault: CertFault) -> Refusal {
+        Refusal::Cert(fault)
     }
 }
 
-/// Judges a frame over a vector ROM: a yes means that every run of the generator from the frame's first word is safe.
+impl From<ShapeFault> for Refusal {
+    ghost from_gives = { λ fault refusal. refusal ≡ refusals.Shape fault };
+
+    fn from(fault: ShapeFault) -> Refusal {
+        Refusal::Shape(fault)
+    }
+}
+
+impl From<FrameFault> for Refusal {
+    ghost from_gives = { λ fault refusal. refusal ≡ refusals.Frame fault };
+
+    fn from(fault: FrameFault) -> Refusal {
+        Refusal::Frame(fault)
+    }
+}
+
+/// Judges a frame over a vector ROM and its certificate: a yes means that every run of the generator from the frame's
+/// first word is safe.
 ///
 /// `budget` is how many words the frame may take at the most, 1 to 1,000,000. The verdict is exact: the first that
-/// applies of 1, 2, 49, 90 for any certificate but the empty one, the frame's first fault (90 for a call), and the yes.
-/// Where it accepts, every run from the frame's first
-/// word, at any beam place and any global scale, reaches HALT within the answered count of words, stores at most four
-/// return places at once, fetches only words of the ROM and the frame, and draws no lit stroke that leaves 0 to 1023 on
-/// either axis. Takes no memory so far.
+/// applies of 1, 2, 49, the certificate's refusal (10 to 16), the first fault of its shapes (20 to 31), the frame's first
+/// fault (40 to 48), and the yes. Where it accepts, every run from the frame's first word, at any beam place and any
+/// global scale, reaches HALT within the answered count of words, stores at most four return places at once, fetches
+/// only words of the ROM and the frame, and draws no lit stroke that leaves 0 to 1023 on either axis.
+///
+/// Each claimed shape is visited once, and nothing is run. Takes memory for the certificate's entries alone, and none
+/// before 1, 2 and 49 are ruled out; 16 comes only where there was none for an entry that could be taken.
 pub fn check(
-    _alloc: Global,
+    alloc: Global,
     rom: &[u8],
     cert: &[u8],
     frame: &[u8],
@@ -77,21 +93,29 @@ pub fn check(
     ensures verdict { Verdict Bound asteroids screen rom.now cert.now frame.now budget result }
     ensures safe { IfOk result (λ yes. Safe (record { frame = words_of frame.now; rom = rom_of asteroids rom.now }) screen yes.words yes.depth) }
 {
-    let _rom = RomImage::from_bytes(rom)?;
+    let rom = RomImage::from_bytes(rom)?;
     let frame = FrameImage::from_bytes(frame)?;
     if !(1..=1_000_000).contains(&budget) {
         return Err(Refusal::BudgetRange);
     }
-    if cert != EMPTY_CERTIFICATE {
-        return Err(Refusal::NotYet);
-    }
-    match judge_frame(&frame, &NoEntries, budget) {
-        Ok(accepted) => Ok(Yes {
-            shapes: 0,
-            words: accepted.words,
-            depth: accepted.depth,
-        }),
-        Err(fault) if fault.why == FrameWhy::NoEntry => Err(Refusal::NotYet),
-        Err(fault) => Err(Refusal::Frame(fault)),
-    }
+    let cert = read_cert(alloc, cert)?;
+    judge(&rom, &frame, &cert, budget)
+}
+
+/// Judges the shapes of a certificate, and a frame by them.
+fn judge(rom: &RomImage, frame: &FrameImage, cert: &Cert, budget: u32) -> Result<Yes, Refusal>
+    requires rom { IsRom rom.now }
+    requires frame { IsFrame frame.now }
+    requires budget { budget ≤ 1000000 }
+    ensures verdict { PartsVerdict Bound screen rom.now cert.now frame.now budget result }
+    ensures safe { IfOk result (λ yes. Safe (record { frame = frame.now; rom = rom.now }) screen yes.words yes.depth) }
+{
+    let entries = ListIndex::new(cert);
+    check_shapes(rom, cert, &entries)?;
+    let accepted = check_frame(rom, frame, cert, &entries, budget)?;
+    Ok(Yes {
+        shapes: cert.entries().len() as u32,
+        words: accepted.words,
+        depth: accepted.depth,
+    })
 }

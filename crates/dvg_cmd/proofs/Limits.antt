@@ -1,5 +1,5 @@
 -- What was read of an input, over plain values.
-use Rattle.std.proofs.Common.{◌≡◌, ℕ, ◌+◌, ◌≤◌, List, Option, None, Some, IfSome, length, take, ap, ◌∙◌, arith}
+use Rattle.std.proofs.Common.{◌≡◌, ℕ, ◌+◌, ◌≤◌, List, Option, None, Some, IfSome, length, take, drop, ◌++◌, ap, ◌∙◌, arith}
 use Rattle.std.proofs.lemmas.Grind.{common_steps}
 use Rattle.dvg_cmd.specs.Runs.{limited}
 
@@ -21,3 +21,11 @@ limited-short n held short = let all : length held ≤ n = grind (arith, common_
 pub limited-long : (n : ℕ) (held : List ℕ) → length held + 1 ≤ n → limited n held ≡ held
 unfolding limited
 limited-long n held short = grind (arith, common_steps)
+
+-- what lies past the limit
+abbrev pub rest_of : ℕ → List ℕ → List ℕ
+rest_of n held = drop n held
+
+pub limited-parts : (n : ℕ) (held : List ℕ) → held ≡ limited n held ++ rest_of n held
+unfolding limited
+limited-parts n held = grind (arith, common_steps)

@@ -1,22 +1,27 @@
 -- The verdict on the first bytes of inputs is the verdict on all of them.
-use Rattle.std.proofs.Common.{List, length, Option, None, Some, refl, arith, ap, subst, sym, inl, inr, ◌≡◌, ◌+◌, ◌≤◌, ◌∙◌, ℕ, ⊎_elim, []}
+use Rattle.std.proofs.Common.{append-nil, List, length, Option, None, Some, refl, arith, ap, subst, sym, ◌≡◌, ◌+◌, ◌≤◌, ◌++◌, ◌∙◌, ℕ, []}
 use Rattle.std.specs.Prelude.{IfSome, Result, Err, Ok}
 use Rattle.dvg_words.specs.Memory.{IsRomLength, IsFrameLength, words_of, rom_of}
 use Rattle.dvg_words.specs.Values.{Window, asteroids}
 use Rattle.dvg_words.specs.declared.image.ImageFault.TheVariants.{RomLength, FrameLength}
-use Rattle.dvg_check.specs.FirstFault.{FirstFrameFault}
-use Rattle.dvg_check.specs.Rules.{Good, GoodFrame}
-use Rattle.dvg_check.specs.Verdict.{empty_certificate, InRange, Verdict}
-use Rattle.dvg_check.specs.declared.fault.FrameWhy.TheVariants as frame
+use Rattle.dvg_cert.specs.Grammar.{Spells, text_of}
+use Rattle.dvg_cert.specs.Laws.{ShortText, FrontRefusal}
+use Rattle.dvg_cert.specs.Reading.{MayStand, Whole, IsRefusal}
+use Rattle.dvg_cert.specs.declared.entry.Entry.{Entry}
+use Rattle.dvg_cert.specs.declared.fault.CertWhy.{CertWhy}
+use Rattle.dvg_cert.specs.declared.fault.CertWhy.TheVariants.{Form, Order, Count, Unended, After, TooLong, Memory}
+use Rattle.dvg_check.specs.Verdict.{InRange, PartsVerdict, ListVerdict, Verdict}
 use Rattle.dvg_check.specs.declared.fault.Mode.TheVariants.{Bound}
 use Rattle.dvg_check.specs.declared.verdict.Refusal.{Refusal}
 use Rattle.dvg_check.specs.declared.verdict.Refusal.TheVariants as refusal
 use Rattle.dvg_check.specs.declared.verdict.Yes.{Yes}
 use Rattle.dvg_cmd.specs.Runs.{limited}
-use Rattle.dvg_cmd.proofs.Limits.{limited-short, limited-long}
+use Rattle.dvg_cmd.proofs.Limits.{limited-short, limited-long, rest_of, limited-parts}
 
--- what was read of an input: all of it, where it or what was read stays below the limit
+-- what was read of an input: a front, which is all of it where it or the input stays below the limit
 pub record FrontOf (n : ℕ) (front held : List ℕ) : Type 0 where
+  pub rest : List ℕ
+  pub parts : held ≡ front ++ rest
   pub short : length front + 1 ≤ n → front ≡ held
   pub long : length held + 1 ≤ n → front ≡ held
 
@@ -30,25 +35,21 @@ held_told None front = tt
 held_told (Some held) front = refl
 
 pub front_of_held : (n : ℕ) (remaining : Option (List ℕ)) (front : List ℕ) → IfSome remaining (λ held. front ≡ limited n held) → FrontOf n front (held_bytes remaining front)
-front_of_held n None front h = record { short = λ lt. refl; long = λ lt. refl }
+front_of_held n None front h = record { rest = []; parts = sym (append-nil front); short = λ lt. refl; long = λ lt. refl }
 front_of_held n (Some held) front h =
     record {
+      rest = rest_of n held;
+      parts = limited-parts n held ∙ ap (λ (x : List ℕ). x ++ rest_of n held) (sym h);
       short = λ lt. h ∙ limited-short n held (omega (arith, ap length h, lt));
       long = λ lt. h ∙ limited-long n held lt;
     }
 
-module _ (n m : ℕ) (n_past : 2049 ≤ n) (m_past : 18 ≤ m) (w : Window) (budget : ℕ) (rb cb fb r c f : List ℕ) (rom : FrontOf n rb r) (cert : FrontOf m cb c) (frame_is : FrontOf n fb f) where
+module _ (short_text : ShortText) (front_refusal : FrontRefusal) (n m : ℕ) (n_past : 2049 ≤ n) (m_past : 819601 ≤ m) (w : Window) (budget : ℕ) (rb cb fb r c f : List ℕ) (rom : FrontOf n rb r) (cert : FrontOf m cb c) (frame_is : FrontOf n fb f) where
   rom_same : IsRomLength asteroids (length rb) → rb ≡ r
   rom_same h = rom.short (omega (arith, h, n_past))
 
   frame_same : IsFrameLength (length fb) → fb ≡ f
   frame_same h = frame_is.short (omega (arith, h.few, n_past))
-
-  cert_same : cb ≡ empty_certificate → cb ≡ c
-  cert_same e = cert.short (let long : length cb ≡ 17 = ap length e in omega (arith, long, m_past))
-
-  cert_back : c ≡ empty_certificate → cb ≡ c
-  cert_back e = cert.long (let long : length c ≡ 17 = ap length e in omega (arith, long, m_past))
 
   rom_back : IsRomLength asteroids (length r) → IsRomLength asteroids (length rb)
   rom_back h = subst (λ (x : List ℕ). IsRomLength asteroids (length x)) (sym (rom.long (omega (arith, h, n_past)))) h
@@ -65,13 +66,40 @@ module _ (n m : ℕ) (n_past : 2049 ≤ n) (m_past : 18 ≤ m) (w : Window) (bud
   in_range : InRange asteroids rb fb budget → InRange asteroids r f budget
   in_range h = record { rom_length = rom_on h.rom_length; frame_length = frame_on h.frame_length; budget_range = h.budget_range }
 
+  -- a text whose whole lines were all taken was read whole
+  cert_same : MayStand 2048 3071 cb → cb ≡ c
+  cert_same h = cert.short (let few = short_text 2048 3071 cb (omega arith) h in omega (arith, few, m_past))
+
+  spelled_same : (list : List Entry) → Spells 2048 3071 list cb → cb ≡ c
+  spelled_same list h = cert_same (Whole 2048 3071 list, [], record { parts = h.1 ∙ sym (append-nil (text_of list)); lines = (refl, refl, h.0); begun = refl })
+
+  -- what refuses the front, its end aside, refuses all
+  goes_on : (line : ℕ) (why : CertWhy) → IsRefusal 2048 3071 cb line why → (why ≡ Unended → ⊥) → IsRefusal 2048 3071 c line why
+  goes_on line why h other = subst (λ (x : List ℕ). IsRefusal 2048 3071 x line why) (sym cert.parts) (front_refusal 2048 3071 cb cert.rest (record { line = line; why = why }) h other)
+
+  refused_whole : (line : ℕ) (why : CertWhy) → IsRefusal 2048 3071 cb line why → IsRefusal 2048 3071 c line why
+  refused_whole line Unended h = subst (λ (x : List ℕ). IsRefusal 2048 3071 x line Unended) (cert_same (h.0, h.1, h.2)) h
+  refused_whole line Form h = goes_on line Form h (λ e. cc)
+  refused_whole line Order h = goes_on line Order h (λ e. cc)
+  refused_whole line Count h = goes_on line Count h (λ e. cc)
+  refused_whole line After h = goes_on line After h (λ e. cc)
+  refused_whole line TooLong h = goes_on line TooLong h (λ e. cc)
+  refused_whole line Memory h = goes_on line Memory h (λ e. cc)
+
+  list_whole : (v : Result Yes Refusal) → ListVerdict Bound asteroids w rb cb fb budget v → ListVerdict Bound asteroids w r c f budget v
+  list_whole v h =
+      record {
+        in_range = in_range h.in_range;
+        list = h.list;
+        spells = subst (λ (x : List ℕ). Spells 2048 3071 h.list x) (spelled_same h.list h.spells) h.spells;
+        parts = subst (λ (x : List ℕ). PartsVerdict Bound w (rom_of asteroids x) h.list (words_of f) budget v) (rom_same h.in_range.rom_length) (subst (λ (x : List ℕ). PartsVerdict Bound w (rom_of asteroids rb) h.list (words_of x) budget v) (frame_same h.in_range.frame_length) h.parts);
+      }
+
   pub verdict_whole : (v : Result Yes Refusal) → Verdict Bound asteroids w rb cb fb budget v → Verdict Bound asteroids w r c f budget v
   verdict_whole (Err (refusal.Image RomLength)) h = λ k. h (rom_back k)
   verdict_whole (Err (refusal.Image FrameLength)) h = (rom_on h.0, λ k. h.1 (frame_back k))
   verdict_whole (Err refusal.BudgetRange) h = (rom_on h.0, frame_on h.1, h.2)
-  verdict_whole (Err refusal.NotYet) h =
-      (in_range h.0, ⊎_elim (λ other. inl (λ e. other (cert_back e ∙ e))) (λ call. inr (subst (λ (x : List ℕ). (at : ℕ) × FirstFrameFault w (words_of x) [] budget (record { word = at; why = frame.NoEntry })) (frame_same h.0.frame_length) call)) h.1)
-  verdict_whole (Err (refusal.Frame g)) h =
-      (in_range h.0, sym (cert_same h.1) ∙ h.1, subst (λ (x : List ℕ). FirstFrameFault w (words_of x) [] budget g) (frame_same h.0.frame_length) h.2, h.3)
-  verdict_whole (Ok y) h =
-      (in_range h.0, sym (cert_same h.1) ∙ h.1, subst (λ (x : List ℕ). Good Bound w (rom_of asteroids x) []) (rom_same h.0.rom_length) h.2, subst (λ (x : List ℕ). GoodFrame w (words_of x) [] budget y.words y.depth) (frame_same h.0.frame_length) h.3, h.4)
+  verdict_whole (Err (refusal.Cert g)) h = (in_range h.0, refused_whole g.line g.why h.1)
+  verdict_whole (Err (refusal.Shape g)) h = list_whole (Err (refusal.Shape g)) h
+  verdict_whole (Err (refusal.Frame g)) h = list_whole (Err (refusal.Frame g)) h
+  verdict_whole (Ok y) h = list_whole (Ok y) h

@@ -4,7 +4,12 @@ use Rattle.dvg_words.specs.declared.image.ImageFault.TheVariants.{RomLength, Fra
 use Rattle.dvg_check.specs.declared.verdict.Yes.{Yes}
 use Rattle.dvg_check.specs.declared.verdict.Refusal.{Refusal}
 use Rattle.dvg_check.specs.declared.verdict.Refusal.TheVariants as refusal
-use Rattle.dvg_check.specs.FirstFault.{frame_number}
+use Rattle.dvg_check.specs.declared.fault.ShapeFault.{ShapeFault}
+use Rattle.dvg_check.specs.declared.fault.FrameFault.{FrameFault}
+use Rattle.dvg_check.specs.FirstFault.{shape_number, frame_number}
+use Rattle.dvg_cert.specs.declared.fault.CertFault.{CertFault}
+use Rattle.dvg_cert.specs.Numbers.{cert_number}
+use Rattle.dvg_cert.specs.Grammar.{key_token}
 
 -- a digit of 0 to 9 or A to F
 abbrev pub hex_digit : ℕ → ℕ
@@ -15,12 +20,25 @@ abbrev pub hex_address : ℕ → List ℕ
 hex_address n =
     (if nat_lt n 4096 then [] else hex_digit (n / 4096) ∷ []) ++ hex_digit (n / 256 % 16) ∷ hex_digit (n / 16 % 16) ∷ hex_digit (n % 16) ∷ []
 
+-- a certificate's line, counted from 1
+abbrev pub cert_fault_text : CertFault → List ℕ
+cert_fault_text f = decimal (cert_number f.why) ++ codes " certificate line " ++ decimal f.line
+
+-- an entry's address and key, and the word address of the first item that breaks a rule
+abbrev pub shape_fault_text : ShapeFault → List ℕ
+shape_fault_text f = decimal (shape_number f.why) ++ codes " shape " ++ hex_address f.addr ++ codes "/" ++ key_token f.key ++ codes " at " ++ hex_address f.word
+
+-- the word address of the first item that breaks a rule
+abbrev pub frame_fault_text : FrameFault → List ℕ
+frame_fault_text f = decimal (frame_number f.why) ++ codes " frame at " ++ hex_address f.word
+
 abbrev pub refusal_text : Refusal → List ℕ
 refusal_text (refusal.Image RomLength) = codes "1"
 refusal_text (refusal.Image FrameLength) = codes "2"
 refusal_text refusal.BudgetRange = codes "49"
-refusal_text refusal.NotYet = codes "90"
-refusal_text (refusal.Frame fault) = decimal (frame_number fault.why) ++ codes " frame at " ++ hex_address fault.word
+refusal_text (refusal.Cert f) = cert_fault_text f
+refusal_text (refusal.Shape f) = shape_fault_text f
+refusal_text (refusal.Frame f) = frame_fault_text f
 
 abbrev pub accepted_text : Yes → List ℕ
 accepted_text y = codes "accepted shapes=" ++ decimal y.shapes ++ codes " words=" ++ decimal y.words ++ codes " depth=" ++ decimal y.depth

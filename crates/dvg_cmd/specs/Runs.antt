@@ -5,8 +5,11 @@ use Rattle.dvg_words.specs.Values.{asteroids}
 use Rattle.dvg_words.specs.Beam.{screen}
 use Rattle.dvg_words.specs.Memory.{words_of, rom_of}
 use Rattle.dvg_cert.specs.Devices.{AppendsFront}
+use Rattle.dvg_cert.specs.declared.fault.CertWhy.{CertWhy}
+use Rattle.dvg_cert.specs.declared.fault.CertWhy.TheVariants.{Memory}
 use Rattle.dvg_check.specs.declared.verdict.Yes.{Yes}
 use Rattle.dvg_check.specs.declared.verdict.Refusal.{Refusal}
+use Rattle.dvg_check.specs.declared.verdict.Refusal.TheVariants as refusal
 use Rattle.dvg_check.specs.declared.fault.Mode.TheVariants.{Bound}
 use Rattle.dvg_check.specs.Verdict.{Verdict}
 use Rattle.dvg_check.specs.Safety.{Safe}
@@ -14,7 +17,7 @@ use Rattle.dvg_cmd.specs.Report.{report_text}
 use Rattle.dvg_cmd.specs.declared.reading.TextFault.{TextFault}
 use Rattle.dvg_cmd.specs.declared.reading.TextFault.TheVariants as text
 pub use Rattle.dvg_cmd.specs.declared.running.Outcome.{Outcome}
-pub use Rattle.dvg_cmd.specs.declared.running.Outcome.TheVariants.{Accepted, Refused}
+pub use Rattle.dvg_cmd.specs.declared.running.Outcome.TheVariants.{Accepted, Refused, NoMemory}
 pub use Rattle.dvg_cmd.specs.declared.running.RunFault.{RunFault}
 use Rattle.dvg_cmd.specs.declared.running.RunFault.TheVariants as fault
 
@@ -47,9 +50,15 @@ blames_writer answer = false
 
 -- ---- what is written
 
+-- the outcome of a refused certificate
+abbrev pub cert_outcome : CertWhy → Outcome
+cert_outcome Memory = NoMemory
+cert_outcome why = Refused
+
 -- the outcome of an accepted line, and of a refusal
 abbrev pub outcome_of : Result Yes Refusal → Outcome
 outcome_of (Ok y) = Accepted
+outcome_of (Err (refusal.Cert f)) = cert_outcome f.why
 outcome_of (Err r) = Refused
 
 -- the verdict on all bytes that three readers held; a reader that does not tell its bytes held some

@@ -1,10 +1,11 @@
 //! The report: the one line that is written for a verdict.
 
 ghost use Rattle.std.specs.Prelude.{◌≡◌, ◌+◌, ◌≤◌, ◌<◌, ◌++◌, [], length, codes, decimal};
-ghost use Rattle.dvg_check.specs.FirstFault.{frame_number};
-ghost use Rattle.dvg_cmd.specs.Report.{report_text, verdict_text, accepted_text, refusal_text, hex_digit, hex_address};
+ghost use Rattle.dvg_cert.specs.Grammar.{key_token};
+ghost use Rattle.dvg_cmd.specs.Report.{report_text, verdict_text, accepted_text, refusal_text, cert_fault_text, shape_fault_text, frame_fault_text, hex_digit, hex_address};
 
-use dvg_check::{FrameFault, Refusal, Yes};
+use dvg_cert::{CertFault, Key};
+use dvg_check::{FrameFault, Refusal, ShapeFault, Yes};
 use dvg_words::ImageFault;
 use itoa::Buffer;
 use std::marker::Model;
@@ -100,26 +101,73 @@ fn push_refusal(report: &mut Report, refusal: &Refusal)
         Refusal::Image(ImageFault::RomLength) => report.push(b"1"),
         Refusal::Image(ImageFault::FrameLength) => report.push(b"2"),
         Refusal::BudgetRange => report.push(b"49"),
-        Refusal::NotYet => report.push(b"90"),
+        Refusal::Cert(fault) => push_cert_fault(report, fault),
+        Refusal::Shape(fault) => push_shape_fault(report, fault),
         Refusal::Frame(fault) => push_frame_fault(report, fault),
     }
 }
 
+fn push_cert_fault(report: &mut Report, fault: &CertFault)
+    requires { length report.old ≤ 8 }
+    ensures text { report.new ≡ report.old ++ cert_fault_text fault.now }
+    ensures short { length report.new ≤ 63 }
+{
+    let mut digits = Buffer::new();
+    report.push(digits.format(fault.why.number()).as_bytes());
+    report.push(b" certificate line ");
+    report.push(digits.format(fault.line).as_bytes());
+}
+
+fn push_shape_fault(report: &mut Report, fault: &ShapeFault)
+    requires { length report.old ≤ 8 }
+    ensures text { report.new ≡ report.old ++ shape_fault_text fault.now }
+    ensures short { length report.new ≤ 63 }
+{
+    let mut digits = Buffer::new();
+    report.push(digits.format(fault.why.number()).as_bytes());
+    report.push(b" shape ");
+    push_address(report, fault.addr);
+    report.push(b"/");
+    push_key(report, fault.key);
+    report.push(b" at ");
+    push_address(report, fault.word);
+}
+
 fn push_frame_fault(report: &mut Report, fault: &FrameFault)
     requires { length report.old ≤ 8 }
-    ensures text { report.new ≡ report.old ++ (decimal (frame_number fault.now.why) ++ codes " frame at " ++ hex_address fault.now.word) }
+    ensures text { report.new ≡ report.old ++ frame_fault_text fault.now }
     ensures short { length report.new ≤ 63 }
 {
     let mut digits = Buffer::new();
     report.push(digits.format(fault.why.number()).as_bytes());
     report.push(b" frame at ");
-    if fault.word >= 0x1000 {
-        report.push(&[hex_digit(fault.word >> 12)]);
+    push_address(report, fault.word);
+}
+
+fn push_key(report: &mut Report, key: Key)
+    requires { length report.old ≤ 60 }
+    ensures text { report.new ≡ report.old ++ key_token key }
+    ensures short { length report.new ≤ length report.old + 3 }
+{
+    match key {
+        Key::At(scale) => report.push(Buffer::new().format(scale).as_bytes()),
+        Key::Any => report.push(b"any"),
+    }
+}
+
+/// A word address in hexadecimal capitals.
+fn push_address(report: &mut Report, word: u16)
+    requires { length report.old ≤ 59 }
+    ensures text { report.new ≡ report.old ++ hex_address word }
+    ensures short { length report.new ≤ length report.old + 4 }
+{
+    if word >= 0x1000 {
+        report.push(&[hex_digit(word >> 12)]);
     }
     report.push(&[
-        hex_digit(fault.word / 256 % 16),
-        hex_digit(fault.word / 16 % 16),
-        hex_digit(fault.word % 16),
+        hex_digit(word / 256 % 16),
+        hex_digit(word / 16 % 16),
+        hex_digit(word % 16),
     ]);
 }
 

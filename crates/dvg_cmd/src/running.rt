@@ -8,7 +8,8 @@ ghost use Rattle.dvg_cmd.specs.Runs.{outcome_of, blames_rom, blames_frame, blame
 
 use crate::reading::{TextFault, read_image, read_text};
 use crate::report::report_of;
-use dvg_cert::{CountedRead, CountedWrite, write_bytes};
+use dvg_cert::laws::{front_refusal, short_text};
+use dvg_cert::{CertWhy, CountedRead, CountedWrite, write_bytes};
 use dvg_check::{Refusal, Yes, check};
 use std::alloc::Global;
 use thiserror::Error;
@@ -20,7 +21,7 @@ pub enum Outcome {
     Accepted,
     /// A refusal.
     Refused,
-    /// A refusal for want of memory, which does not come so far.
+    /// A refusal for want of memory for the certificate's entries, 16.
     NoMemory,
 }
 
@@ -53,6 +54,7 @@ fn outcome_of(verdict: &Result<Yes, Refusal>) -> Outcome
 {
     match verdict {
         Ok(_) => Outcome::Accepted,
+        Err(Refusal::Cert(fault)) if fault.why == CertWhy::Memory => Outcome::NoMemory,
         Err(_) => Outcome::Refused,
     }
 }
@@ -105,6 +107,9 @@ pub fn run_check<R1: CountedRead, R2: CountedRead, R3: CountedRead, W: CountedWr
     ensures safe { result ≡ Ok Outcome.Accepted → ReportsSafe (R1.remaining rom.old) (R3.remaining frame.old)
         (W.contents out.old) (W.contents out.new) }
 {
+    // The laws by which what is read to the limits decides the verdict on all bytes.
+    short_text();
+    front_refusal();
     let Ok(rom_bytes) = read_image(rom) else {
         return Err(RunFault::ReadRom);
     };

@@ -1,9 +1,14 @@
 //! Exit statuses, and what is said on standard error.
 
+ghost use Rattle.std.specs.Prelude.{◌≡◌};
+ghost use Rattle.dvg_cmd.specs.Status.{exit_status, fault_message};
+
 use crate::running::{Outcome, RunFault};
 
 /// The exit status of a run: 0 accepted, 1 refused, 3 a failed read or write, 4 want of memory.
-pub fn status_of(end: &Result<Outcome, RunFault>) -> u8 {
+pub fn status_of(end: &Result<Outcome, RunFault>) -> u8
+    ensures { result ≡ exit_status end.now }
+{
     match end {
         Ok(Outcome::Accepted) => 0,
         Ok(Outcome::Refused) => 1,
@@ -13,7 +18,9 @@ pub fn status_of(end: &Result<Outcome, RunFault>) -> u8 {
 }
 
 /// The line on standard error for a fault, without its LF.
-pub fn message_of(fault: &RunFault) -> &'static str {
+pub fn message_of(fault: &RunFault) -> &'static str
+    ensures { result.now ≡ fault_message fault.now }
+{
     match fault {
         RunFault::ReadRom => "dvgcheck: cannot read the ROM",
         RunFault::ReadFrame => "dvgcheck: cannot read the frame",

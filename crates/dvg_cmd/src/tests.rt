@@ -1,14 +1,14 @@
-//! Rows: frames and what is reported of them, and what a failing device leaves.
+//! Rows: what is reported of inputs, and what a failing device leaves.
 
 mod devices;
+mod rows;
 
 use crate::{
     Counted, CountedRead, CountedWrite, Outcome, RunFault, message_of, run_check, status_of,
 };
 use devices::{SlowReader, SlowWriter};
+use rows::{EMPTY, ROWS, Row, STROKE, STROKE_CERT, TEXTS};
 use std::alloc::{AllocError, Global};
-
-const EMPTY: &[u8] = b"dvgcert 1\ndone 0\n";
 
 const ROM: &[u8] = &[0; 2048];
 
@@ -45,7 +45,7 @@ fn bytes_of(alloc: Global, words: &[u16]) -> Result<Vec<u8>, AllocError> {
 }
 
 /// Frames over the empty certificate, budgets and reports.
-const ROWS: &[(&[u16], u32, &str)] = &[
+const FRAMES: &[(&[u16], u32, &str)] = &[
     (&[0xB000], 20000, "accepted shapes=0 words=1 depth=0\n"),
     (&[0xB0B0], 1, "accepted shapes=0 words=1 depth=0\n"),
     (
@@ -134,14 +134,14 @@ const ROWS: &[(&[u16], u32, &str)] = &[
         20000,
         "refused 43 frame at 002\n",
     ),
-    (&[0xC800, 0xB000], 20000, "refused 90\n"),
+    (&[0xC800, 0xB000], 20000, "refused 47 frame at 000\n"),
     // A fault of an item before the call comes first, and so does the call before a later fault.
     (
         &[0x7000, 0x7000, 0xC800],
         20000,
         "refused 44 frame at 000\n",
     ),
-    (&[0xC800, 0xD000], 20000, "refused 90\n"),
+    (&[0xC800, 0xD000], 20000, "refused 47 frame at 000\n"),
     // A dark stroke may leave the screen.
     (
         &[0xA3FF, 0x0000, 0x9001, 0x0000, 0xB000],
@@ -167,7 +167,7 @@ const ROWS: &[(&[u16], u32, &str)] = &[
 
 #[test]
 fn reports_rows(rt: HostRuntime) -> Result<(), AllocError> {
-    for (words, budget, report) in ROWS {
+    for (words, budget, report) in FRAMES {
         let frame = bytes_of(rt.alloc(), words)?;
         let (end, line) = run(rt.alloc(), ROM, EMPTY, &frame, *budget);
         let outcome = if report.starts_with("accepted") {
@@ -177,6 +177,55 @@ fn reports_rows(rt: HostRuntime) -> Result<(), AllocError> {
         };
         assert_eq!(rt; line.as_slice(), report.as_bytes(), "for {report}");
         assert_eq!(rt; end, Ok(outcome), "for {report}");
+    }
+    Ok(())
+}
+
+/// The bytes of a ROM of zeros but for words from a word address on.
+fn rom_bytes(alloc: Global, first: u16, words: &[u16]) -> Result<Vec<u8>, AllocError> {
+    let mut bytes = Vec::new(alloc);
+    for addr in 0x800u16..0xC00 {
+        let word = match addr.checked_sub(first) {
+            Some(at) => words.get(usize::from(at)).copied().unwrap_or(0),
+            None => 0,
+        };
+        bytes.extend_from_slice(&word.to_le_bytes())?;
+    }
+    Ok(bytes)
+}
+
+/// The outcome and the line of a row, or of a text.
+fn is_reported(end: &Result<Outcome, RunFault>, line: &[u8], report: &str) -> bool {
+    let outcome = if report.starts_with("accepted") {
+        Outcome::Accepted
+    } else {
+        Outcome::Refused
+    };
+    *end == Ok(outcome) && line.strip_suffix(b"\n") == Some(report.as_bytes())
+}
+
+fn row_is_reported(alloc: Global, row: &Row) -> Result<bool, AllocError> {
+    let rom = rom_bytes(alloc, row.first, row.words)?;
+    let frame = bytes_of(alloc, row.frame)?;
+    let (end, line) = run(alloc, &rom, row.text, &frame, row.budget);
+    Ok(is_reported(&end, &line, row.report))
+}
+
+#[test]
+fn reports_worked_rows(rt: HostRuntime) -> Result<(), AllocError> {
+    for row in ROWS {
+        let is = row_is_reported(rt.alloc(), row)?;
+        assert!(rt; is, "for {}", row.what);
+    }
+    Ok(())
+}
+
+#[test]
+fn reports_texts(rt: HostRuntime) -> Result<(), AllocError> {
+    let rom = rom_bytes(rt.alloc(), 0x800, STROKE)?;
+    for (text, report) in TEXTS {
+        let (end, line) = run(rt.alloc(), &rom, text, &[0x00, 0xB0], 20000);
+        assert!(rt; is_reported(&end, &line, report), "for {report}");
     }
     Ok(())
 }
@@ -207,14 +256,9 @@ const LENGTHS: &[(usize, &[u8], usize, &str)] = &[
     (2048, EMPTY, 0, "refused 2\n"),
     (2048, b"", 3, "refused 2\n"),
     (2048, EMPTY, 2050, "refused 2\n"),
-    (2048, b"", 2, "refused 90\n"),
-    (2048, b"dvgcert 1\ndone 0\nx", 2, "refused 90\n"),
-    (
-        2048,
-        b"dvgcert 1\nshape 800 0 end rel 1047552 785408 box 0 1047552 0 785408 depth 0 words 3 scale 0\ndone 1\n",
-        2,
-        "refused 90\n",
-    ),
+    (2048, b"", 2, "refused 13 certificate line 1\n"),
+    // A ROM of zeros goes on with dark draws of two words each.
+    (2048, STROKE_CERT, 2, "refused 28 shape 800/0 at 802\n"),
 ];
 
 #[test]
