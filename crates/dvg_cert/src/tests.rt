@@ -277,14 +277,16 @@ fn weak_devices(rt: HostRuntime) -> Result<(), Fail> {
     Ok(())
 }
 
-/// With every allocation there is, the list; where one is refused, as `rt try --test --fail-alloc 1` does, 16 at an entry's
-/// line. A text without entries takes no memory.
+/// The list, where there is memory for it. Where the first allocation is refused, as by tests/refused-memory, this test fails
+/// and tells the refusal, which stays though there is memory again. A text without entries takes no memory.
 #[test]
 fn refused_memory(rt: HostRuntime) {
-    let answer = answer_of(read_cert(rt.alloc(), LONGEST));
-    assert!(rt; answer == Ok(1) || answer == refused(2, CertWhy::Memory));
     assert_eq!(rt;
         answer_of(read_cert(rt.alloc(), b"dvgcert 1\ndone 0\n")),
         Ok(0)
     );
+    match fed(&rt, rt.alloc(), LONGEST, 7, 7) {
+        Ok(count) => assert_eq!(rt; count, 1),
+        Err(fault) => panic!(rt; "refused {} at line {}", fault.why.number(), fault.line),
+    }
 }
