@@ -1,103 +1,37 @@
-//! Reads the text of a certificate several times, so that a profiler can count the instructions of a byte:
+//! Reads or checks certificates several times, so that a profiler can count the instructions of a byte or of an item:
 //!
-//!     dvg_bench ENTRIES TIMES
+//!     dvg_bench read ENTRIES TIMES
+//!     dvg_bench draws ENTRIES TIMES
+//!     dvg_bench calls ENTRIES TIMES
 //!
-//! Two runs that differ in their times alone differ by the cost of reading.
+//! `read` reads the text of so many entries, `draws` and `calls` check as many shapes. Two runs that differ in their times
+//! alone differ by the cost of reading or checking.
 #![tactic(auto)]
 
-ghost use Rattle.std.specs.Prelude.{◌<◌, ◌≤◌, pos, ◌≤ℤ◌, ◌<ℤ◌};
+mod reading;
+mod shapes;
 
 use anyhow::{Context, Result, bail};
-use dvg_cert::{Cert, Counted, End, Entry, Key, LitBox, read_cert, write_cert};
-use std::alloc::{AllocError, Global};
+use reading::read_texts;
+use shapes::{Filling, check_entries};
 use std::env;
-
-/// A row of numbers that looks random and is the same in each run.
-#[derive(Drop)]
-struct Numbers {
-    state: u64,
-}
-
-impl Numbers {
-    fn below(&mut self, limit: u32) -> u32
-        requires { 0 < limit }
-        ensures { result < limit }
-    {
-        self.state = self
-            .state
-            .wrapping_mul(6_364_136_223_846_793_005)
-            .wrapping_add(1_442_695_040_888_963_407);
-        (self.state >> 33) as u32 % limit
-    }
-
-    fn size(&mut self) -> i64
-        ensures from { pos 0 ≤ℤ result }
-        ensures to { result <ℤ pos 2000000 }
-    {
-        self.below(2_000_000) as i64
-    }
-}
-
-/// Four keys for each address, with numbers of many lengths.
-fn entry_at(index: u16, numbers: &mut Numbers) -> Entry
-    requires { index < 4096 }
-{
-    let (x, y) = (numbers.size(), -numbers.size());
-    Entry {
-        addr: 0x800 + index / 4,
-        key: Key::At((index % 4) as u8),
-        stop: if index % 2 == 0 {
-            End::Rel { x, y }
-        } else {
-            End::Abs { x, y }
-        },
-        lit: LitBox::Span {
-            x_min: -numbers.size(),
-            x_max: numbers.size(),
-            y_min: -numbers.size(),
-            y_max: numbers.size(),
-        },
-        depth: numbers.below(4) as u8,
-        words: 1 + numbers.below(20_000),
-        scale: Key::At(numbers.below(16) as u8),
-    }
-}
-
-fn entries_of(alloc: Global, count: u16) -> Result<Vec<Entry>, AllocError>
-    requires { count ≤ 4096 }
-{
-    let mut numbers = Numbers { state: 1 };
-    let mut entries = Vec::new(alloc);
-    for index in 0..count {
-        entries.push(entry_at(index, &mut numbers))?;
-    }
-    Ok(entries)
-}
-
-fn text_of(alloc: Global, count: u16) -> Result<Vec<u8>> {
-    if count > 4096 {
-        bail!("a certificate has 4096 entries at the most");
-    }
-    let Ok(cert) = Cert::from_entries(entries_of(alloc, count)?) else {
-        bail!("these are not the entries of a certificate");
-    };
-    let mut out = Counted::new(Vec::new(alloc));
-    write_cert(&cert, &mut out)?;
-    Ok(out.into_inner())
-}
 
 fn main(rt: HostRuntime) -> Result<()> {
     let mut words = env::args(&rt)?.skip(1);
+    let input = words.next().context("read, draws or calls is missing")?;
     let count: u16 = words.next().context("ENTRIES is missing")?.parse()?;
     let times: u32 = words.next().context("TIMES is missing")?.parse()?;
-    let text = text_of(rt.alloc(), count)?;
-    for _ in 0..times {
-        let cert = read_cert(rt.alloc(), &text)?;
-        if cert.entries().len() != count as usize {
-            bail!("an entry was lost");
+    let filling = match input.as_str() {
+        "read" => {
+            let bytes = read_texts(rt.alloc(), count, times)?;
+            println!(rt; "{count} entries in {bytes} bytes, read {times} times")?;
+            return Ok(());
         }
-    }
-    let bytes = text.len();
-    println!(rt; "{count} entries in {bytes} bytes, read {times} times")?;
+        "draws" => Filling::Draws,
+        "calls" => Filling::Calls,
+        _ => bail!("the input is read, draws or calls"),
+    };
+    let items = check_entries(rt.alloc(), filling, count, times)?;
+    println!(rt; "{count} shapes of {items} items, checked {times} times")?;
     Ok(())
 }

@@ -1,0 +1,142 @@
+//! A ROM full of lit draws, or of calls, with four entries for each of its last words.
+
+ghost use Rattle.std.specs.Prelude.{◌<◌, ◌≤◌, ◌+◌, ◌*◌, ℤ, pos, neg_ℤ, ◌≤ℤ◌};
+
+use anyhow::{Result, bail};
+use dvg_cert::{Cert, End, Entry, Key, ListIndex, LitBox};
+use dvg_check::check_shapes;
+use dvg_words::RomImage;
+use std::alloc::{AllocError, Global};
+
+/// What the ROM is full of: strokes to and fro, one to each item, or calls of the last word, fifteen before each RTSL.
+#[derive(Clone, Copy, Debug, PartialEq, Eq)]
+pub enum Filling {
+    Draws,
+    Calls,
+}
+
+const FIRST: u16 = 0x800;
+
+const LAST: u16 = 0xBFF;
+
+const RTSL: u16 = 0xD000;
+
+/// SVEC by 1, 0 at scale code 0, intensity 7.
+const FORTH: u16 = 0xF071;
+
+/// SVEC by -1, 0 at scale code 0, intensity 7.
+const BACK: u16 = 0xF075;
+
+const CALL_LAST: u16 = 0xC000 + LAST;
+
+fn word_at(filling: Filling, addr: u16) -> u16 {
+    match filling {
+        _ if addr == LAST => RTSL,
+        Filling::Draws => if addr % 2 == 0 { FORTH } else { BACK },
+        Filling::Calls => if addr % 16 == 15 { RTSL } else { CALL_LAST },
+    }
+}
+
+fn rom_bytes(alloc: Global, filling: Filling) -> Result<Vec<u8>, AllocError> {
+    let mut bytes = Vec::new(alloc);
+    for addr in FIRST..=LAST {
+        bytes.extend_from_slice(&word_at(filling, addr).to_le_bytes())?;
+    }
+    Ok(bytes)
+}
+
+/// How many items the shape at an address has before its RTSL.
+fn items_before_end(filling: Filling, addr: u16) -> u16
+    requires { addr ≤ 3071 }
+    ensures { result ≤ 3071 }
+{
+    match filling {
+        Filling::Draws => LAST - addr,
+        Filling::Calls => 15 - addr % 16,
+    }
+}
+
+/// The entry of the shape of draws at an address: it ends where it began, or one stroke from there.
+fn draws_entry(addr: u16, gscale: u8) -> Entry
+    requires addr { addr ≤ 3071 }
+    requires scale { gscale < 4 }
+{
+    let stroke: i64 = if addr % 2 == 0 { 2048 } else { -2048 } * (1 << gscale);
+    let items = items_before_end(Filling::Draws, addr);
+    Entry {
+        addr,
+        key: Key::At(gscale),
+        stop: End::Rel {
+            x: if items % 2 == 0 { 0 } else { stroke },
+            y: 0,
+        },
+        lit: LitBox::Span {
+            x_min: stroke.min(0),
+            x_max: stroke.max(0),
+            y_min: 0,
+            y_max: 0,
+        },
+        depth: 0,
+        words: u32::from(items) + 1,
+        scale: Key::At(gscale),
+    }
+}
+
+/// The entry of the shape of calls at an address: each call has two words, the last word's among them.
+fn calls_entry(addr: u16, gscale: u8) -> Entry
+    requires addr { addr ≤ 3071 }
+    requires scale { gscale < 4 }
+{
+    let items = items_before_end(Filling::Calls, addr);
+    Entry {
+        addr,
+        key: Key::At(gscale),
+        stop: End::Rel { x: 0, y: 0 },
+        lit: LitBox::Empty,
+        depth: if items == 0 { 0 } else { 1 },
+        words: 2 * u32::from(items) + 1,
+        scale: Key::At(gscale),
+    }
+}
+
+/// The entries of the ROM's last words, for the global scales 0 to 3.
+fn entries_of(alloc: Global, filling: Filling, count: u16) -> Result<Vec<Entry>, AllocError>
+    requires { count ≤ 4096 }
+{
+    let mut entries = Vec::new(alloc);
+    for index in 4096 - count..4096 {
+        let (addr, gscale) = (FIRST + index / 4, (index % 4) as u8);
+        entries.push(match filling {
+            Filling::Draws => draws_entry(addr, gscale),
+            Filling::Calls => calls_entry(addr, gscale),
+        })?;
+    }
+    Ok(entries)
+}
+
+/// Checks the shapes of so many entries so many times, and gives how many items they have together.
+pub fn check_entries(alloc: Global, filling: Filling, count: u16, times: u32) -> Result<u64> {
+    if count > 4096 {
+        bail!("a certificate has 4096 entries at the most");
+    }
+    let bytes = rom_bytes(alloc, filling)?;
+    let Ok(rom) = RomImage::from_bytes(&bytes) else {
+        bail!("these are not the bytes of a ROM");
+    };
+    let Ok(cert) = Cert::from_entries(entries_of(alloc, filling, count)?) else {
+        bail!("these are not the entries of a certificate");
+    };
+    let index = ListIndex::new(&cert);
+    for _ in 0..times {
+        if check_shapes(&rom, &cert, &index).is_err() {
+            bail!("a shape was refused");
+        }
+    }
+    let mut items = 0u64;
+    for entry in cert.entries() {
+        items = items.saturating_add(
+            1 + u64::from(items_before_end(filling, entry.addr.min(LAST))),
+        );
+    }
+    Ok(items)
+}
