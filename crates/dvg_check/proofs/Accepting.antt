@@ -1,10 +1,9 @@
 -- What is accepted is safe, and there is one verdict.
-use Rattle.std.proofs.Common.{arith, List, length, sym, subst, ap, refl, ◌≡◌, ◌∙◌, ◌<◌, ◌≤◌, ℕ}
-use Rattle.std.specs.Prelude.{Err, Ok, Result, Contains}
+use Rattle.std.proofs.Common.{List, length, sym, subst, ap, refl, ◌≡◌, ◌∙◌, ◌<◌, ℕ}
+use Rattle.std.specs.Prelude.{Err, Ok, Result}
 use Rattle.dvg_words.specs.Memory.{Rom, IsFrame, IsRom, words_of, rom_of}
 use Rattle.dvg_words.specs.Values.{MemoryMap, Window}
 use Rattle.dvg_words.specs.declared.image.ImageFault.TheVariants.{RomLength, FrameLength}
-use Rattle.dvg_cert.specs.Grammar.{Spells}
 use Rattle.dvg_cert.specs.Laws.{OneList, OneAnswer}
 use Rattle.dvg_cert.specs.Laws.{NotMemory as HasMemory}
 use Rattle.dvg_cert.specs.Reading.{ReadAnswer}

@@ -9,6 +9,7 @@ use crate::{
 use devices::{SlowReader, SlowWriter};
 use rows::{EMPTY, ROWS, Row, STROKE, STROKE_CERT, TEXTS};
 use std::alloc::{AllocError, Global};
+use std::str;
 
 const ROM: &[u8] = &[0; 2048];
 
@@ -405,4 +406,26 @@ fn says_how_it_ended(rt: HostRuntime) {
     ] {
         assert_eq!(rt; message_of(&fault), message);
     }
+}
+
+/// The line, where there is memory. Where an allocation is refused, as by tests/refused-memory, this test fails and tells
+/// the status and what was written.
+#[test]
+fn refused_memory(rt: HostRuntime) {
+    let mut rom = [0; 2048];
+    rom[..6].copy_from_slice(&[0xFF, 0x92, 0xFF, 0x73, 0x00, 0xD0]);
+    let mut told = SlowWriter::new(64, MANY);
+    let end = run_check(
+        rt.alloc(),
+        &mut Counted::new(rom.as_slice()),
+        &mut Counted::new(STROKE_CERT),
+        &mut Counted::new([0x00, 0xB0].as_slice()),
+        20000,
+        &mut Counted::new(&mut told),
+    );
+    let line = str::from_utf8(told.told()).unwrap_or("no text");
+    if end != Ok(Outcome::Accepted) {
+        panic!(rt; "status {}, line '{}'", status_of(&end), line.trim_end());
+    }
+    assert_eq!(rt; line, "accepted shapes=1 words=1 depth=0\n");
 }
