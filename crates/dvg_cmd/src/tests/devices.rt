@@ -38,6 +38,7 @@ pub struct SlowWriter {
 }
 
 impl SlowWriter {
+    /// A writer that was told nothing so far.
     pub fn new(most: usize, writes_left: u32) -> SlowWriter {
         SlowWriter {
             told: [0; 64],
