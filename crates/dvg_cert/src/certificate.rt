@@ -113,7 +113,7 @@ fn is_key_before(a: Key, b: Key) -> bool
 }
 
 /// Whether an entry is within the limits of a certificate.
-fn is_entry(entry: &Entry) -> bool
+pub fn is_entry(entry: &Entry) -> bool
     ensures { IsTrue result ↔ IsEntry 2048 3071 entry.now }
 {
     ROM_FIRST <= entry.addr
@@ -127,7 +127,8 @@ fn is_entry(entry: &Entry) -> bool
         && is_key(entry.scale)
 }
 
-fn is_key(key: Key) -> bool
+/// Whether a key is any, or a global scale of 0 to 15.
+pub fn is_key(key: Key) -> bool
     ensures { IsTrue result ↔ IsKey key }
 {
     match key {

@@ -6,7 +6,7 @@ ghost use Rattle.dvg_words.specs.Beam.{shift, displacement, labs_place};
 ghost use Rattle.dvg_cert.specs.Entry.{IsKey, IsEnd, IsBox};
 ghost use Rattle.dvg_check.specs.Known.{target, callee_at, scale_set, draw_effect, stop_effect, callee_effect, effect_of, callee_words, depth_under};
 ghost use Rattle.dvg_check.specs.Lit.{draw_extent, box_extent, callee_extent, extent_of};
-ghost use Rattle.dvg_check.specs.Private.Running.{place_past, known_past, sight_by, IsNear, IsNearPlace, IsNearEffect, IsNearExtent, IsSound, IsClaim, IsSomeCertificate};
+ghost use Rattle.dvg_check.specs.Private.Running.{place_past, known_past, sight_with, sight_by, IsNear, IsNearPlace, IsNearEffect, IsNearExtent, IsSound, IsClaim, IsSomeCertificate};
 
 use crate::item::{Item, Kind, word_count};
 use dvg_cert::{End, Entries, Entry, Key, LitBox};
@@ -281,7 +281,27 @@ pub fn see<E: Entries>(entries: &E, kind: Kind, before: &Known, item: &Item) -> 
     ensures scale_after { IsKey result.after.scale }
     ensures depth_after { result.after.depth ≤ 4 }
 {
-    let callee = callee(entries, target(kind, &item.instr), before.scale);
+    see_with(
+        callee(entries, target(kind, &item.instr), before.scale),
+        before,
+        item,
+    )
+}
+
+/// What the rules see of an item that calls this entry.
+pub fn see_with(callee: Option<Entry>, before: &Known, item: &Item) -> Seen
+    requires callee { IfSome callee IsClaim }
+    requires before { IsSound item.now.at before.now }
+    requires near { item.now.at < 4096 }
+    requires fields { InstrFits item.now.instr }
+    ensures value { result ≡ sight_with callee before.now item.now }
+    ensures place { IsNearPlace item.now.at result.place }
+    ensures extent { IsNearExtent result.extent }
+    ensures callee { IfSome result.callee IsClaim }
+    ensures place_after { IsNearPlace (item.now.at + 1) result.after.place }
+    ensures scale_after { IsKey result.after.scale }
+    ensures depth_after { result.after.depth ≤ 4 }
+{
     let (effect, extent) = effect_and_extent(&item.instr, before.scale, &callee);
     Seen {
         item: *item,

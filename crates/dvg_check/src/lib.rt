@@ -5,10 +5,10 @@
 
 mod fault;
 mod frames;
-mod item;
-mod known;
+pub mod item;
+pub mod known;
 pub mod laws;
-mod rules;
+pub mod rules;
 mod shapes;
 mod verdict;
 mod walk;

