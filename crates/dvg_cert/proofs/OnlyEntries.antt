@@ -22,13 +22,13 @@ both true true h = (refl, refl)
 both true false h = absurd cc
 both false b h = absurd cc
 
-at_means : (addr : ℕ) (key : Key) (e : Entry) → is_at addr key e ≡ true → (e.addr ≡ addr) × (e.key ≡ key)
+pub at_means : (addr : ℕ) (key : Key) (e : Entry) → is_at addr key e ≡ true → (e.addr ≡ addr) × (e.key ≡ key)
 at_means addr key e h =
     let r = both (addr == e.addr) (same_key key e.key) h in
     let a : addr == e.addr ≡ true = r.0 in
     (grind (arith, nat_tests), key_same key e.key r.1)
 
-at_holds : (addr : ℕ) (key : Key) (e : Entry) → e.addr ≡ addr → e.key ≡ key → is_at addr key e ≡ true
+pub at_holds : (addr : ℕ) (key : Key) (e : Entry) → e.addr ≡ addr → e.key ≡ key → is_at addr key e ≡ true
 at_holds addr key e a k =
     let same : addr == e.addr ≡ true = grind (arith, nat_tests) in
     let keys : same_key key e.key ≡ true = ap (same_key key) k ∙ key_itself key in
@@ -50,29 +50,29 @@ key_not_before (At m) (At n) e h = let same : n ≡ m = cc in absurd (omega arit
 key_not_before (At m) Any e h = absurd cc
 key_not_before Any b e h = h
 
-before_next : (e f g : Entry) → Before e f → Before f g → Before e g
+pub before_next : (e f g : Entry) → Before e f → Before f g → Before e g
 before_next e f g (inl h) (inl k) = inl (omega arith)
 before_next e f g (inl h) (inr k) = inl (omega (arith, k.0))
 before_next e f g (inr h) (inl k) = inl (omega (arith, h.0))
 before_next e f g (inr h) (inr k) = inr (h.0 ∙ k.0, key_before e.key f.key g.key h.1 k.1)
 
-not_before : (e f : Entry) → f.addr ≡ e.addr → f.key ≡ e.key → Before e f → ⊥
+pub not_before : (e f : Entry) → f.addr ≡ e.addr → f.key ≡ e.key → Before e f → ⊥
 not_before e f a k (inl h) = absurd (omega arith)
 not_before e f a k (inr h) = key_not_before e.key f.key k h.1
 
 -- an entry of a list is its first or in what follows
-first_or_later : (e : Entry) (es : List Entry) (f : Entry) → Contains (e ∷ es) f → (f ≡ e) ⊎ Contains es f
+pub first_or_later : (e : Entry) (es : List Entry) (f : Entry) → Contains (e ∷ es) f → (f ≡ e) ⊎ Contains es f
 first_or_later e es f (zero, lt, same) = inl (sym same)
 first_or_later e es f (suc k, lt, same) = inr (k, omega arith, same)
 
-later : (e : Entry) (es : List Entry) (f : Entry) → Contains es f → Contains (e ∷ es) f
+pub later : (e : Entry) (es : List Entry) (f : Entry) → Contains es f → Contains (e ∷ es) f
 later e es f h = (suc h.0, omega (arith, h.1), h.2)
 
-rising_tail : (e : Entry) (es : List Entry) → IsRising (e ∷ es) → IsRising es
+pub rising_tail : (e : Entry) (es : List Entry) → IsRising (e ∷ es) → IsRising es
 rising_tail e [] h = tt
 rising_tail e (f ∷ es) h = h.1
 
-before_later : (e : Entry) (es : List Entry) (f : Entry) → IsRising (e ∷ es) → Contains es f → Before e f
+pub before_later : (e : Entry) (es : List Entry) (f : Entry) → IsRising (e ∷ es) → Contains es f → Before e f
 before_later e [] f h c = absurd (omega (arith, c.1))
 before_later e (g ∷ es) f h c =
     elim (first_or_later g es f c) [
@@ -119,7 +119,7 @@ found_first addr key e es false None is h r = (
   ],
 )
 
-found : (es : List Entry) (addr : ℕ) (key : Key) → IsRising es → IfSome (entry_at es addr key) (IsOnlyAt es addr key) × IfNone (entry_at es addr key) (HasNoneAt es addr key)
+pub found : (es : List Entry) (addr : ℕ) (key : Key) → IsRising es → IfSome (entry_at es addr key) (IsOnlyAt es addr key) × IfNone (entry_at es addr key) (HasNoneAt es addr key)
 found [] addr key h = (tt, λ f c a k. absurd (omega (arith, c.1)))
 found (e ∷ es) addr key h = found_first addr key e es (is_at addr key e) (entry_at es addr key) refl h (found es addr key (rising_tail e es h))
 

@@ -48,14 +48,14 @@ further Frame at format (Jmpl to) p e = by_test (nat_lt at to) refl e
 pub next_further : (kind : Kind) (i : Item) (p : ℕ) → next_place kind i ≡ Some p → i.at + 1 ≤ p
 next_further kind i p e = further kind i.at i.format i.instr p e
 
-near : (kind : Kind) (at : ℕ) (format : Format) (instr : Instr) (p : ℕ) → at < 4096 → InstrFits instr → place_after kind at format instr ≡ Some p → p ≤ 4098
-near kind at format (Draws d) p lt h e = let q : at + word_count format ≡ p = cc in omega (arith, q, lt, word_count-few format)
-near kind at format (Labs x y g) p lt h e = let q : at + word_count format ≡ p = cc in omega (arith, q, lt, word_count-few format)
-near kind at format Halt p lt h e = cc
-near kind at format (Jsrl to) p lt h e = let q : at + word_count format ≡ p = cc in omega (arith, q, lt, word_count-few format)
-near kind at format Rtsl p lt h e = cc
-near Shape at format (Jmpl to) p lt h e = cc
-near Frame at format (Jmpl to) p lt h e = by_test (nat_lt at to) e
+pub next_near : (kind : Kind) (at : ℕ) (format : Format) (instr : Instr) (p : ℕ) → at < 4096 → InstrFits instr → place_after kind at format instr ≡ Some p → p ≤ 4098
+next_near kind at format (Draws d) p lt h e = let q : at + word_count format ≡ p = cc in omega (arith, q, lt, word_count-few format)
+next_near kind at format (Labs x y g) p lt h e = let q : at + word_count format ≡ p = cc in omega (arith, q, lt, word_count-few format)
+next_near kind at format Halt p lt h e = cc
+next_near kind at format (Jsrl to) p lt h e = let q : at + word_count format ≡ p = cc in omega (arith, q, lt, word_count-few format)
+next_near kind at format Rtsl p lt h e = cc
+next_near Shape at format (Jmpl to) p lt h e = cc
+next_near Frame at format (Jmpl to) p lt h e = by_test (nat_lt at to) e
   where
     by_test : (b : Bool) → (if b then Some to else None) ≡ Some p → p ≤ 4098
     by_test true f = let q : to ≡ p = cc in omega (arith, q, h)
@@ -146,7 +146,7 @@ module _ (Why : Type 0) (order : Why → ℕ) (missing odd : Why) (Keeps : Seen 
           kept = (k.kept, λ why. kept_here why (kept why));
           knows = known_on;
           sound = record { place = IsNearPlace-more (at + 1) p v.after.place (next_further kind item p goes) place; scale = scale_is; words = few; depth = depth };
-          close = near kind at format instr p lt fits goes;
+          close = next_near kind at format instr p lt fits goes;
         }
 
     pub done : ((why : Why) → Keeps v why) → next_place kind item ≡ None → WalksTo context word first keeps v.after

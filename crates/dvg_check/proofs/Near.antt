@@ -47,7 +47,7 @@ sight_known kind list scale earlier i known is =
 -- ---- entries
 
 -- an entry of a list of which each is such
-at_place : (P : Entry → Type 0) (list : List Entry) (e : Entry) → AllByRecursion P list → Contains list e → P e
+pub at_place : (P : Entry → Type 0) (list : List Entry) (e : Entry) → AllByRecursion P list → Contains list e → P e
 at_place P [] e all c = absurd (omega (arith, c.1))
 at_place P (x ∷ list) e all (zero, lt, is) = subst P is all.0
 at_place P (x ∷ list) e all (suc k, lt, is) = at_place P list e all.1 (k, omega (arith, lt), is)

@@ -13,7 +13,7 @@ mod shapes;
 mod verdict;
 mod walk;
 
-pub use fault::{FrameFault, FrameWhy, ShapeFault, ShapeWhy};
+pub use fault::{FrameFault, FrameWhy, Mode, ShapeFault, ShapeWhy};
 pub use frames::{Accepted, check_frame};
 pub use shapes::check_shapes;
 pub use verdict::{Refusal, Yes, check};

@@ -1,0 +1,59 @@
+-- Two made lists agree at each address and key that both have.
+use Rattle.std.proofs.Common.{◌≡◌, ℕ, zero, suc, ◌+◌, ◌<◌, List, [], ◌∷◌, Option, Some, None, refl, sym, ap, ◌∙◌, subst, arith}
+use Rattle.std.specs.Prelude.{Contains}
+use Rattle.dvg_words.specs.Decoding.{cell_at}
+use Rattle.dvg_words.specs.Memory.{Rom, rom_word}
+use Rattle.dvg_words.specs.declared.instruction.Cell.TheVariants.{Holds}
+use Rattle.dvg_cert.specs.Lookup.{entry_at}
+use Rattle.dvg_cert.specs.declared.entry.Entry.{Entry}
+use Rattle.dvg_cert.specs.declared.entry.Key.{Key}
+use Rattle.dvg_check.specs.Items.{LeadsTo}
+use Rattle.dvg_check.specs.Known.{target, scale_before}
+use Rattle.dvg_check.specs.declared.item.Item.{Item}
+use Rattle.dvg_check.specs.declared.item.Kind.TheVariants.{Shape}
+use Rattle.dvg_make.specs.Made.{MadeEntry}
+use Rattle.dvg_make.specs.Private.Walking.{keyed_context}
+use Rattle.dvg_make.proofs.Matching.{listed_at, Gathered, SameAt, Matched, gathered_same}
+use Rattle.dvg_make.proofs.Ends.{callee_less, same_sums, made_ends, sums_of}
+
+module _ (rom : Rom) (a b : List Entry) (made_a : (e : Entry) → Contains a e → MadeEntry rom a e) (made_b : (e : Entry) → Contains b e → MadeEntry rom b e) where
+  -- the entries of both with fewer words
+  abbrev Agree : ℕ → Type 0
+  Agree n = (addr : ℕ) (key : Key) (e f : Entry) → entry_at a addr key ≡ Some e → entry_at b addr key ≡ Some f → e.words < n → e ≡ f
+
+  module _ (e f : Entry) (made_e : MadeEntry rom a e) (made_f : MadeEntry rom b f) (addr : e.addr ≡ f.addr) (key : e.key ≡ f.key) (agree : Agree e.words) where
+    same_at : (earlier : List Item) (i : Item) → LeadsTo Shape (rom_word rom) e.addr earlier i.at → cell_at (rom_word rom) i.at ≡ Holds i.format i.instr → Matched a b e.key earlier → (o : Option ℕ) → target Shape i.instr ≡ o → SameAt a b o (scale_before (keyed_context a e.key) earlier)
+    same_at earlier i lead is m None t = tt
+    same_at earlier i lead is m (Some to) t =
+        let g = made_e.keyed earlier i lead is to t in
+        let h = made_f.keyed earlier i (subst (λ x. LeadsTo Shape (rom_word rom) x earlier i.at) addr lead) is to t in
+        let scale : scale_before (keyed_context a e.key) earlier ≡ scale_before (keyed_context b f.key) earlier = ap (λ (x : Gathered). x.known.scale) (gathered_same a b e.key earlier m) ∙ ap (λ (k : Key). scale_before (keyed_context b k) earlier) key in
+        let there : entry_at b to (scale_before (keyed_context a e.key) earlier) ≡ Some h.0 = ap (λ (s : Key). entry_at b to s) scale ∙ h.1 in
+        let same = agree to (scale_before (keyed_context a e.key) earlier) g.0 h.0 g.1 there (callee_less rom a e made_e earlier i lead is to g.0 t g.1) in
+        (g.0, g.1, there ∙ ap Some (sym same))
+
+    matched : (items : List Item) (p : ℕ) → LeadsTo Shape (rom_word rom) e.addr items p → Matched a b e.key items
+    matched [] p lead = tt
+    matched (i ∷ earlier) p lead =
+        let m = matched earlier i.at lead.0 in
+        (m, same_at earlier i lead.0 lead.1 m (target Shape i.instr) refl)
+
+    same_entry : e ≡ f
+    same_entry =
+        let l = made_ends rom a e made_e in
+        let m = matched l.items l.i.at l.leads in
+        same_sums a b (l.i ∷ l.items) e f addr key (m, same_at l.items l.i l.leads l.is m (target Shape l.i.instr) refl) l.sums (sums_of rom b f made_f l.items l.i (subst (λ x. LeadsTo Shape (rom_word rom) x l.items l.i.at) addr l.leads) l.is l.last)
+
+  agree_up_to : (n : ℕ) → Agree n
+  agree_up_to zero addr key e f p q lt = absurd (omega arith)
+  agree_up_to (suc n) addr key e f p q lt =
+      let x = listed_at a addr key e p in
+      let y = listed_at b addr key f q in
+      same_entry e f (made_a e x.listed) (made_b f y.listed) (x.addr_is ∙ sym y.addr_is) (x.key_is ∙ sym y.key_is) (λ to k g h u v less. agree_up_to n to k g h u v (omega (arith, lt, less)))
+
+  pub agree : (addr : ℕ) (key : Key) (e f : Entry) → entry_at a addr key ≡ Some e → entry_at b addr key ≡ Some f → e ≡ f
+  agree addr key e f p q = agree_up_to (e.words + 1) addr key e f p q (omega arith)
+
+  -- the items of an entry of both find the same entries
+  pub matched_made : (e : Entry) → MadeEntry rom a e → MadeEntry rom b e → (items : List Item) (p : ℕ) → LeadsTo Shape (rom_word rom) e.addr items p → Matched a b e.key items
+  matched_made e made_e made_f items p lead = matched e e made_e made_f refl refl (λ to k g h u v less. agree to k g h u v) items p lead

@@ -1,0 +1,328 @@
+-- The shapes in the making, and the entries that every made list has for them.
+use Rattle.std.proofs.Common.{◌≡◌, ℕ, zero, suc, ◌+◌, ◌<◌, ◌≤◌, List, [], ◌∷◌, ◌++◌, length, Option, Some, None, refl, sym, ap, ◌∙◌, subst, arith, ◌⊎◌, inl, inr, ⊎_elim, length-append}
+use Rattle.std.specs.Prelude.{Bool, true, false, if◌then◌else◌, Contains}
+use Rattle.dvg_words.specs.Memory.{Rom, rom_word}
+use Rattle.dvg_cert.specs.Entry.{IsEntry}
+use Rattle.dvg_cert.specs.Lookup.{is_at, entry_at, or_else}
+use Rattle.dvg_cert.specs.declared.entry.Entry.{Entry}
+use Rattle.dvg_cert.specs.declared.entry.Key.{Key}
+use Rattle.dvg_cert.proofs.OnlyEntries.{at_holds}
+use Rattle.dvg_check.specs.Items.{LeadsTo}
+use Rattle.dvg_check.specs.Known.{shape_context, scale_before}
+use Rattle.dvg_check.specs.declared.item.Item.{Item}
+use Rattle.dvg_check.specs.declared.item.Kind.TheVariants.{Shape}
+use Rattle.dvg_check.specs.declared.known.Known.{Known}
+use Rattle.dvg_make.specs.declared.walk.Walk.{Walk}
+use Rattle.dvg_make.specs.Made.{MadeEntry, Made}
+use Rattle.dvg_make.specs.Refusals.{NoneMade}
+use Rattle.dvg_make.specs.Private.Walking.{keyed_context, start, IsWalk, Extends, NeverAt, IsFinished, IsWaiting}
+use Rattle.dvg_make.specs.Private.Making.{IsMaking, AllWalks, Chain, Apart, IsUnique, IsPresent, IsCalled, Making}
+use Rattle.dvg_make.proofs.Matching.{listed_at, entry_at-append}
+use Rattle.dvg_make.proofs.Ends.{callee_less}
+use Rattle.dvg_make.proofs.Onward.{listed_entry}
+use Rattle.dvg_make.proofs.Growing.{scale_grows, fine_grows, walk_grows, made_grows, same_made}
+
+-- ---- chains of needs
+
+chain_below : (made : List Entry) (most n : ℕ) (stack : List Walk) → Chain made most stack n → n < most
+chain_below made most n [] h = h
+chain_below made most n (w ∷ stack) h = let lt = chain_below made h.0.words n stack h.3 in omega (arith, lt, h.2)
+
+chain_less : (made : List Entry) (most n m : ℕ) (stack : List Walk) → m ≤ n → Chain made most stack n → Chain made most stack m
+chain_less made most n m [] le h = omega (arith, h)
+chain_less made most n m (w ∷ stack) le h = (h.0, h.1, h.2, chain_less made h.0.words n m stack le h.3)
+
+chain_push : (made : List Entry) (most n : ℕ) (stack : List Walk) (w : Walk) (f : Entry) → entry_at made w.addr w.key ≡ Some f → n < f.words → Chain made most stack f.words → Chain made most (stack ++ w ∷ []) n
+chain_push made most n [] w f e lt h = (f, e, h, lt)
+chain_push made most n (v ∷ stack) w f e lt h = (h.0, h.1, h.2, chain_push made h.0.words n stack w f e lt h.3)
+
+record Popped (made : List Entry) (most : ℕ) (stack : List Walk) (w : Walk) (n : ℕ) : Type 0 where
+  f : Entry
+  found_it : entry_at made w.addr w.key ≡ Some f
+  less : n < f.words
+  chain : Chain made most stack f.words
+
+chain_pop : (made : List Entry) (most n : ℕ) (stack : List Walk) (w : Walk) → Chain made most (stack ++ w ∷ []) n → Popped made most stack w n
+chain_pop made most n [] w h = record { f = h.0; found_it = h.1; less = h.3; chain = h.2 }
+chain_pop made most n (v ∷ stack) w h = let p = chain_pop made h.0.words n stack w h.3 in record { f = p.f; found_it = p.found_it; less = p.less; chain = (h.0, h.1, h.2, p.chain) }
+
+-- a shape that is being made has more words
+chain_has : (made : List Entry) (most n : ℕ) (stack : List Walk) (addr : ℕ) (key : Key) (g : Entry) → IsMaking stack addr key → Chain made most stack n → entry_at made addr key ≡ Some g → n < g.words
+chain_has made most n [] addr key g m h e = absurd m
+chain_has made most n (v ∷ stack) addr key g (inl same) h e =
+    let there : entry_at made addr key ≡ Some h.0 = subst (λ x. entry_at made x key ≡ Some h.0) same.0 (subst (λ x. entry_at made v.addr x ≡ Some h.0) same.1 h.1) in
+    let f : h.0 ≡ g = cc in
+    let words : h.0.words ≡ g.words = ap (λ (x : Entry). x.words) f in
+    let below = chain_below made h.0.words n stack h.3 in
+    omega (arith, below, words)
+chain_has made most n (v ∷ stack) addr key g (inr later) h e = chain_has made h.0.words n stack addr key g later h.3 e
+
+-- ---- no list
+
+module _ (rom : Rom) (roots : List (ℕ × Key)) (done : List Entry) (stack : List Walk) (walk : Walk) (h : Making rom roots done (stack ++ walk ∷ [])) where
+  pub none_here : NeverAt rom done walk.addr walk.key → NoneMade rom roots
+  none_here none made m =
+      let f = h.forced made m in
+      let p = chain_pop made 1000001 0 stack walk f.1 in
+      none roots made m f.0 (p.f, p.found_it)
+
+  -- the entry that the walk calls for has fewer words, and more than none
+  record Callee (made : List Entry) (addr : ℕ) (key : Key) (most : ℕ) : Type 0 where
+    g : Entry
+    there : entry_at made addr key ≡ Some g
+    some : 0 < g.words
+    less : g.words < most
+
+  module _ (new : Walk) (addr : ℕ) (w : IsWaiting rom done walk new addr) where
+    abbrev at_key : Key
+    at_key = new.known.scale
+
+    callee : (made : List Entry) → (m : Made rom roots made) → (p : Popped made 1000001 stack walk 0) → Extends done made → Callee made addr at_key p.f.words
+    callee made m p ext =
+        let l = listed_at made walk.addr walk.key p.f p.found_it in
+        let is = m.each p.f l.listed in
+        let addr_is : new.addr ≡ p.f.addr = w.same_addr ∙ sym l.addr_is in
+        let key_is : new.key ≡ p.f.key = w.same_key ∙ sym l.key_is in
+        let i : Item = w.item in
+        let lead : LeadsTo Shape (rom_word rom) p.f.addr w.walk.items i.at = subst (λ x. LeadsTo Shape (rom_word rom) p.f.addr w.walk.items x) (sym w.at) (subst (λ x. LeadsTo Shape (rom_word rom) x w.walk.items new.at) addr_is w.walk.leads) in
+        let g = is.keyed w.walk.items i lead w.stands addr w.target_is in
+        let scale : scale_before (shape_context made p.f) w.walk.items ≡ at_key =
+        ap (λ (x : Key). scale_before (keyed_context made x) w.walk.items) (sym key_is) ∙ sym (scale_grows done made new.key ext w.walk.items w.walk.knows.fine) ∙ sym (ap (λ (x : Known). x.scale) w.walk.knows.known)
+        in
+        let there : entry_at made addr at_key ≡ Some g.0 = subst (λ (x : Key). entry_at made addr x ≡ Some g.0) scale g.1 in
+        let gl = listed_at made addr at_key g.0 there in
+        let some = (listed_entry rom.map.rom_first rom.map.rom_last made g.0 m.certificate.each gl.listed).words_low in
+        record { g = g.0; there = there; some = omega (arith, some); less = callee_less rom made p.f is w.walk.items i lead w.stands addr g.0 w.target_is g.1 }
+
+    -- it is being made already
+    pub none_deep : IsMaking (stack ++ new ∷ []) addr at_key → NoneMade rom roots
+    none_deep making made m =
+        let f = h.forced made m in
+        let p = chain_pop made 1000001 0 stack walk f.1 in
+        let c = callee made m p f.0 in
+        let found_new : entry_at made new.addr new.key ≡ Some p.f = subst (λ x. entry_at made x new.key ≡ Some p.f) (sym w.same_addr) (subst (λ x. entry_at made walk.addr x ≡ Some p.f) (sym w.same_key) p.found_it) in
+        let ch : Chain made 1000001 (stack ++ new ∷ []) c.g.words = chain_push made 1000001 c.g.words stack new p.f found_new c.less p.chain in
+        let lt = chain_has made 1000001 c.g.words (stack ++ new ∷ []) addr at_key c.g making ch c.there in
+        omega (arith, lt)
+
+    pub forced_begun : (made : List Entry) → Made rom roots made → Extends done made × Chain made 1000001 ((stack ++ new ∷ []) ++ start addr at_key ∷ []) 0
+    forced_begun made m =
+        let f = h.forced made m in
+        let p = chain_pop made 1000001 0 stack walk f.1 in
+        let c = callee made m p f.0 in
+        let found_new : entry_at made new.addr new.key ≡ Some p.f = subst (λ x. entry_at made x new.key ≡ Some p.f) (sym w.same_addr) (subst (λ x. entry_at made walk.addr x ≡ Some p.f) (sym w.same_key) p.found_it) in
+        (f.0, chain_push made 1000001 0 (stack ++ new ∷ []) (start addr at_key) c.g c.there c.some (chain_push made 1000001 c.g.words stack new p.f found_new c.less p.chain))
+
+-- ---- the stack
+
+pub making_append : (stack more : List Walk) (addr : ℕ) (key : Key) → IsMaking (stack ++ more) addr key → IsMaking stack addr key ⊎ IsMaking more addr key
+making_append [] more addr key h = inr h
+making_append (v ∷ stack) more addr key (inl same) = inl (inl same)
+making_append (v ∷ stack) more addr key (inr later) = ⊎_elim (λ x. inl (inr x)) (λ x. inr x) (making_append stack more addr key later)
+
+pub making_left : (stack more : List Walk) (addr : ℕ) (key : Key) → IsMaking stack addr key → IsMaking (stack ++ more) addr key
+making_left [] more addr key h = absurd h
+making_left (v ∷ stack) more addr key (inl same) = inl same
+making_left (v ∷ stack) more addr key (inr later) = inr (making_left stack more addr key later)
+
+pub making_last : (stack : List Walk) (w : Walk) (addr : ℕ) (key : Key) → w.addr ≡ addr → w.key ≡ key → IsMaking (stack ++ w ∷ []) addr key
+making_last [] w addr key a k = inl (a, k)
+making_last (v ∷ stack) w addr key a k = inr (making_last stack w addr key a k)
+
+pub record ApartPop (done : List Entry) (stack : List Walk) (w : Walk) : Type 0 where
+  pub rest : Apart done stack
+  pub none : entry_at done w.addr w.key ≡ None
+  pub other : IsMaking stack w.addr w.key → ⊥
+
+pub apart_pop : (done : List Entry) (stack : List Walk) (w : Walk) → Apart done (stack ++ w ∷ []) → ApartPop done stack w
+apart_pop done [] w h = record { rest = tt; none = h.0; other = λ m. m }
+apart_pop done (v ∷ stack) w h =
+    let p = apart_pop done stack w h.2 in
+    record {
+      rest = (h.0, λ m. h.1 (making_left stack (w ∷ []) v.addr v.key m), p.rest);
+      none = p.none;
+      other = λ m. ⊎_elim (λ s. h.1 (making_last stack w v.addr v.key (sym s.0) (sym s.1))) p.other m;
+    }
+
+pub apart_push : (done : List Entry) (stack : List Walk) (w : Walk) → Apart done stack → entry_at done w.addr w.key ≡ None → (IsMaking stack w.addr w.key → ⊥) → Apart done (stack ++ w ∷ [])
+apart_push done [] w h none other = (none, λ m. m, tt)
+apart_push done (v ∷ stack) w h none other = (
+  h.0,
+  λ m. ⊎_elim h.1 (λ x. ⊎_elim (λ s. other (inl (sym s.0, sym s.1))) (λ b. b) x) (making_append stack (w ∷ []) v.addr v.key m),
+  apart_push done stack w h.2 none (λ m. other (inr m)),
+)
+
+apart_more : (done : List Entry) (stack : List Walk) (e : Entry) → Apart done stack → (IsMaking stack e.addr e.key → ⊥) → Apart (done ++ e ∷ []) stack
+apart_more done [] e h not = tt
+apart_more done (v ∷ stack) e h not = (
+  entry_at-append done (e ∷ []) v.addr v.key ∙ ap (λ o. or_else o (entry_at (e ∷ []) v.addr v.key)) h.0 ∙ by_test (entry_at (e ∷ []) v.addr v.key) refl,
+  h.1,
+  apart_more done stack e h.2 (λ m. not (inr m)),
+)
+  where
+    by_test : (o : Option Entry) → entry_at (e ∷ []) v.addr v.key ≡ o → entry_at (e ∷ []) v.addr v.key ≡ None
+    by_test None q = q
+    by_test (Some f) q =
+        let l = listed_at (e ∷ []) v.addr v.key f q in
+        absurd (not (inl (sym l.addr_is ∙ only f l.listed, sym l.key_is ∙ only_key f l.listed)))
+      where
+        only : (f : Entry) → Contains (e ∷ []) f → f.addr ≡ e.addr
+        only f (zero, lt, is) = ap (λ (x : Entry). x.addr) (sym is)
+        only f (suc k, lt, is) = absurd (omega (arith, lt))
+
+        only_key : (f : Entry) → Contains (e ∷ []) f → f.key ≡ e.key
+        only_key f (zero, lt, is) = ap (λ (x : Entry). x.key) (sym is)
+        only_key f (suc k, lt, is) = absurd (omega (arith, lt))
+
+pub walks_pop : (rom : Rom) (done : List Entry) (stack more : List Walk) → AllWalks rom done (stack ++ more) → AllWalks rom done stack
+walks_pop rom done [] more h = tt
+walks_pop rom done (v ∷ stack) more h = (h.0, walks_pop rom done stack more h.1)
+
+pub walks_last : (rom : Rom) (done : List Entry) (stack : List Walk) (w : Walk) → AllWalks rom done (stack ++ w ∷ []) → IsWalk rom done w
+walks_last rom done [] w h = h.0
+walks_last rom done (v ∷ stack) w h = walks_last rom done stack w h.1
+
+pub walks_push : (rom : Rom) (done : List Entry) (stack : List Walk) (w : Walk) → AllWalks rom done stack → IsWalk rom done w → AllWalks rom done (stack ++ w ∷ [])
+walks_push rom done [] w h i = (i, tt)
+walks_push rom done (v ∷ stack) w h i = (h.0, walks_push rom done stack w h.1 i)
+
+walks_grow : (rom : Rom) (a b : List Entry) (stack : List Walk) → Extends a b → AllWalks rom a stack → AllWalks rom b stack
+walks_grow rom a b [] ext h = tt
+walks_grow rom a b (v ∷ stack) ext h = (walk_grows rom a b v ext h.0, walks_grow rom a b stack ext h.1)
+
+-- ---- one entry more
+
+pub extends_more : (done more : List Entry) → Extends done (done ++ more)
+extends_more done more addr key f e = entry_at-append done more addr key ∙ ap (λ o. or_else o (entry_at more addr key)) e
+
+-- an entry that is found in no other
+find_one : (e : Entry) (addr : ℕ) (key : Key) → ((e.addr ≡ addr) × (e.key ≡ key) → ⊥) → entry_at (e ∷ []) addr key ≡ None
+find_one e addr key not = by_found (entry_at (e ∷ []) addr key) refl
+  where
+    by_found : (o : Option Entry) → entry_at (e ∷ []) addr key ≡ o → entry_at (e ∷ []) addr key ≡ None
+    by_found None q = q
+    by_found (Some f) q =
+        let l = listed_at (e ∷ []) addr key f q in
+        let is : e ≡ f = only f l.listed in
+        absurd (not (ap (λ (x : Entry). x.addr) is ∙ l.addr_is, ap (λ (x : Entry). x.key) is ∙ l.key_is))
+      where
+        only : (f : Entry) → Contains (e ∷ []) f → e ≡ f
+        only f (zero, lt, is) = is
+        only f (suc k, lt, is) = absurd (omega (arith, lt))
+
+unique_more : (done : List Entry) (e : Entry) → IsUnique done → entry_at done e.addr e.key ≡ None → IsUnique (done ++ e ∷ [])
+unique_more [] e u none = (refl, tt)
+unique_more (x ∷ done) e u none = by_test (is_at e.addr e.key x) refl none (λ n. unique_more done e u.1 n)
+  where
+    not_same : is_at e.addr e.key x ≡ false → (e.addr ≡ x.addr) × (e.key ≡ x.key) → ⊥
+    not_same q s = let yes = at_holds e.addr e.key x (sym s.0) (sym s.1) in cc (q, yes)
+
+    by_test : (t : Bool) → is_at e.addr e.key x ≡ t → (if t then Some x else entry_at done e.addr e.key) ≡ None → (entry_at done e.addr e.key ≡ None → IsUnique (done ++ e ∷ [])) → IsUnique ((x ∷ done) ++ e ∷ [])
+    by_test true q n more = cc n
+    by_test false q n more = (entry_at-append done (e ∷ []) x.addr x.key ∙ ap (λ o. or_else o (entry_at (e ∷ []) x.addr x.key)) u.0 ∙ find_one e x.addr x.key (not_same q), more n)
+
+listed_more : (done : List Entry) (e x : Entry) → Contains (done ++ e ∷ []) x → Contains done x ⊎ (e ≡ x)
+listed_more [] e x (zero, lt, is) = inr is
+listed_more [] e x (suc k, lt, is) = absurd (omega (arith, lt))
+listed_more (y ∷ done) e x (zero, lt, is) = inl (zero, omega arith, is)
+listed_more (y ∷ done) e x (suc k, lt, is) = ⊎_elim (λ c. inl (suc c.0, omega (arith, c.1), c.2)) (λ q. inr q) (listed_more done e x (k, omega (arith, lt), is))
+
+-- ---- who needs what
+
+called_grows : (rom : Rom) (a b : List Entry) (old new : List Walk) → Extends a b → ((addr : ℕ) (key : Key) → IsPresent a old addr key → IsPresent b new addr key) → (addr : ℕ) (key : Key) → IsCalled rom a old addr key → IsCalled rom b new addr key
+called_grows rom a b old new ext present addr key c =
+    record {
+      from = c.from;
+      from_key = c.from_key;
+      present = present c.from c.from_key c.present;
+      earlier = c.earlier;
+      item = c.item;
+      leads = c.leads;
+      stands = c.stands;
+      fine = fine_grows a b c.from_key ext c.earlier c.fine;
+      target_is = c.target_is;
+      key_is = sym (scale_grows a b c.from_key ext c.earlier c.fine) ∙ c.key_is;
+    }
+
+abbrev pub IsNeeded : Rom → List (ℕ × Key) → List Entry → List Walk → ℕ → Key → Type 0
+IsNeeded rom roots done stack addr key = Contains roots (addr, key) ⊎ IsCalled rom done stack addr key
+
+pub needed_grows : (rom : Rom) (roots : List (ℕ × Key)) (a b : List Entry) (old new : List Walk) → Extends a b → ((addr : ℕ) (key : Key) → IsPresent a old addr key → IsPresent b new addr key) → (addr : ℕ) (key : Key) → IsNeeded rom roots a old addr key → IsNeeded rom roots b new addr key
+needed_grows rom roots a b old new ext present addr key n = ⊎_elim (λ r. inl r) (λ c. inr (called_grows rom a b old new ext present addr key c)) n
+
+module _ (rom : Rom) (roots : List (ℕ × Key)) (done : List Entry) (stack : List Walk) (walk : Walk) (h : Making rom roots done (stack ++ walk ∷ [])) where
+  long : length (stack ++ walk ∷ []) ≡ length stack + 1
+  long = length-append stack (walk ∷ [])
+
+  module _ (e : Entry) (f : IsFinished rom done walk e) where
+    pub finished_new : entry_at done e.addr e.key ≡ None
+    finished_new = subst (λ a. entry_at done a e.key ≡ None) (sym f.addr) (subst (λ k. entry_at done walk.addr k ≡ None) (sym f.key) (apart_pop done stack walk h.apart).none)
+
+    found_more : (made : List Entry) → Made rom roots made → Extends (done ++ e ∷ []) made
+    found_more made m addr key g q =
+        let ext = (h.forced made m).0 in
+        let p = chain_pop made 1000001 0 stack walk (h.forced made m).1 in
+        let pl = listed_at made walk.addr walk.key p.f p.found_it in
+        let same : e ≡ p.f = same_made rom done made e p.f ext f.made (m.each p.f pl.listed) (f.addr ∙ sym pl.addr_is) (f.key ∙ sym pl.key_is) in
+        by_found (entry_at done addr key) refl ext p.found_it same pl.addr_is pl.key_is
+      where
+        by_found : (o : Option Entry) → entry_at done addr key ≡ o → Extends done made → {x : Entry} → entry_at made walk.addr walk.key ≡ Some x → e ≡ x → x.addr ≡ walk.addr → x.key ≡ walk.key → entry_at made addr key ≡ Some g
+        by_found (Some y) t ext there same a k =
+            let y_is : Some y ≡ Some g = sym (extends_more done (e ∷ []) addr key y t) ∙ q in
+            ext addr key y t ∙ y_is
+        by_found None t ext {x = x} there same a k =
+            let last : entry_at (e ∷ []) addr key ≡ Some g = sym (ap (λ o. or_else o (entry_at (e ∷ []) addr key)) t) ∙ sym (entry_at-append done (e ∷ []) addr key) ∙ q in
+            let l = listed_at (e ∷ []) addr key g last in
+            let is : e ≡ g = only g l.listed in
+            let at : walk.addr ≡ addr = sym a ∙ ap (λ (z : Entry). z.addr) (sym same ∙ is) ∙ l.addr_is in
+            let with_key : walk.key ≡ key = sym k ∙ ap (λ (z : Entry). z.key) (sym same ∙ is) ∙ l.key_is in
+            subst (λ z. entry_at made z key ≡ Some g) at (subst (λ z. entry_at made walk.addr z ≡ Some g) with_key (there ∙ ap Some (sym same ∙ is)))
+          where
+            only : (g : Entry) → Contains (e ∷ []) g → e ≡ g
+            only g (zero, lt, is) = is
+            only g (suc k, lt, is) = absurd (omega (arith, lt))
+
+    ends_at : entry_at (done ++ e ∷ []) walk.addr walk.key ≡ Some e
+    ends_at =
+        let pop = apart_pop done stack walk h.apart in
+        let last : entry_at (e ∷ []) walk.addr walk.key ≡ Some e = ap (λ t. if t then Some e else None) (at_holds walk.addr walk.key e f.addr f.key) in
+        entry_at-append done (e ∷ []) walk.addr walk.key ∙ ap (λ o. or_else o (entry_at (e ∷ []) walk.addr walk.key)) pop.none ∙ last
+
+    pub present_finished : (addr : ℕ) (key : Key) → IsPresent done (stack ++ walk ∷ []) addr key → IsPresent (done ++ e ∷ []) stack addr key
+    present_finished addr key (inl has) = inl (has.0, extends_more done (e ∷ []) addr key has.0 has.1)
+    present_finished addr key (inr m) =
+        ⊎_elim (λ x. inr x)
+        (λ x. ⊎_elim (λ s. inl (e, subst (λ a. entry_at (done ++ e ∷ []) a key ≡ Some e) s.0 (subst (λ (k : Key). entry_at (done ++ e ∷ []) walk.addr k ≡ Some e) s.1 ends_at))) (λ b. absurd b) x)
+        (making_append stack (walk ∷ []) addr key m)
+
+    was_present : (addr : ℕ) (key : Key) → IsPresent (done ++ e ∷ []) stack addr key → IsPresent done (stack ++ walk ∷ []) addr key
+    was_present addr key (inr m) = inr (making_left stack (walk ∷ []) addr key m)
+    was_present addr key (inl has) = by_found (entry_at done addr key) refl
+      where
+        by_found : (o : Option Entry) → entry_at done addr key ≡ o → IsPresent done (stack ++ walk ∷ []) addr key
+        by_found (Some x) q = inl (x, q)
+        by_found None q =
+            let last : entry_at (e ∷ []) addr key ≡ Some has.0 = sym (ap (λ o. or_else o (entry_at (e ∷ []) addr key)) q) ∙ sym (entry_at-append done (e ∷ []) addr key) ∙ has.1 in
+            let l = listed_at (e ∷ []) addr key has.0 last in
+            let is : e ≡ has.0 = only has.0 l.listed in
+            inr (making_last stack walk addr key (sym f.addr ∙ ap (λ (x : Entry). x.addr) is ∙ l.addr_is) (sym f.key ∙ ap (λ (x : Entry). x.key) is ∙ l.key_is))
+          where
+            only : (g : Entry) → Contains (e ∷ []) g → e ≡ g
+            only g (zero, lt, is) = is
+            only g (suc k, lt, is) = absurd (omega (arith, lt))
+
+    pub making_finished : Making rom roots (done ++ e ∷ []) stack
+    making_finished =
+        let ext = extends_more done (e ∷ []) in
+        let pop = apart_pop done stack walk h.apart in
+        let len : length (done ++ e ∷ []) ≡ length done + 1 = length-append done (e ∷ []) in
+        record {
+          entries = λ x c. ⊎_elim (λ c. h.entries x c) (λ q. subst (IsEntry rom.map.rom_first rom.map.rom_last) q f.entry) (listed_more done e x c);
+          made = λ x c. ⊎_elim (λ c. made_grows rom done (done ++ e ∷ []) x ext (h.made x c)) (λ q. subst (MadeEntry rom (done ++ e ∷ [])) q (made_grows rom done (done ++ e ∷ []) e ext f.made)) (listed_more done e x c);
+          walks = walks_grow rom done (done ++ e ∷ []) stack ext (walks_pop rom done stack (walk ∷ []) h.walks);
+          apart = apart_more done stack e pop.rest (λ m. pop.other (subst (λ a. IsMaking stack a walk.key) f.addr (subst (λ k. IsMaking stack e.addr k) f.key m)));
+          unique = unique_more done e h.unique finished_new;
+          needed = λ addr key p. needed_grows rom roots done (done ++ e ∷ []) (stack ++ walk ∷ []) stack ext present_finished addr key (h.needed addr key (was_present addr key p));
+          room = omega (arith, h.room, long, len);
+          forced = λ made m. let p = chain_pop made 1000001 0 stack walk (h.forced made m).1 in (found_more made m, chain_less made 1000001 p.f.words 0 stack (omega arith) p.chain);
+        }

@@ -1,0 +1,293 @@
+-- What a made entry says of its shape: at each item, and at the end.
+use Rattle.std.proofs.Common.{◌≡◌, ◌≢◌, ℕ, zero, suc, ◌+◌, ◌<◌, ◌≤◌, List, [], ◌∷◌, ◌++◌, Option, Some, None, refl, sym, ap, ◌∙◌, subst, arith}
+use Rattle.dvg_words.specs.Decoding.{cell_at}
+use Rattle.dvg_words.specs.Memory.{Rom, rom_word}
+use Rattle.dvg_words.specs.Beam.{screen}
+use Rattle.dvg_words.specs.Values.{Window}
+use Rattle.dvg_words.specs.declared.beam.Point.{Point}
+use Rattle.dvg_words.specs.declared.instruction.Cell.{Cell}
+use Rattle.dvg_words.specs.declared.instruction.Cell.TheVariants.{Missing, Odd, Holds}
+use Rattle.dvg_words.specs.declared.instruction.Format.{Format}
+use Rattle.dvg_words.specs.declared.instruction.Instr.{Instr}
+use Rattle.dvg_cert.specs.Lookup.{entry_at}
+use Rattle.dvg_cert.specs.declared.entry.End.{End}
+use Rattle.dvg_cert.specs.declared.entry.End.TheVariants.{Rel, Abs, Lost}
+use Rattle.dvg_cert.specs.declared.entry.Entry.{Entry}
+use Rattle.dvg_cert.specs.declared.entry.Key.{Key}
+use Rattle.dvg_cert.specs.declared.entry.LitBox.{LitBox}
+use Rattle.dvg_check.specs.FirstFault.{AllBefore}
+use Rattle.dvg_check.specs.Items.{next_place, LeadsTo}
+use Rattle.dvg_check.specs.Known.{Context, shape_context, target, callee_at, callee, callee_words, scale_before, place_before, words_before, depth_before, depth_under, known_before}
+use Rattle.dvg_check.specs.Lit.{extent, LitInBox}
+use Rattle.dvg_check.specs.Rules.{sight, HasCallee, AtLast, ShapeKeeps, CellKeeps}
+use Rattle.dvg_check.specs.declared.fault.Mode.TheVariants.{Exact}
+use Rattle.dvg_check.specs.declared.fault.ShapeWhy.{ShapeWhy}
+use Rattle.dvg_check.specs.declared.fault.ShapeWhy.TheVariants as shape
+use Rattle.dvg_check.specs.declared.item.Item.{Item}
+use Rattle.dvg_check.specs.declared.item.Kind.TheVariants.{Shape}
+use Rattle.dvg_check.specs.declared.known.Known.{Known}
+use Rattle.dvg_check.specs.declared.known.LitExtent.{LitExtent}
+use Rattle.dvg_check.specs.declared.known.LitExtent.TheVariants.{Nothing, Between, Anywhere}
+use Rattle.dvg_check.specs.declared.known.Seen.{Seen}
+use Rattle.dvg_check.proofs.Faults.{all_kept}
+use Rattle.dvg_check.proofs.ShapeLaws.{word_count-some}
+use Rattle.dvg_make.specs.Least.{corners, lit_points, HoldsAll, IsLeast}
+use Rattle.dvg_make.specs.Made.{HasEntry, EachItem, AtEnd, MadeKeeps, MadeEntry}
+use Rattle.dvg_make.specs.Private.Walking.{keyed_context, IsStraight, IsFine, AllFine}
+use Rattle.dvg_make.proofs.Boxes.{one_least}
+use Rattle.dvg_make.proofs.Matching.{Gathered, gathered, Matched, gathered_same, exact_named}
+
+-- ---- at an item
+
+rule_at : (rom : Rom) (list : List Entry) (e : Entry) → MadeEntry rom list e → (earlier : List Item) (i : Item) → LeadsTo Shape (rom_word rom) e.addr earlier i.at → cell_at (rom_word rom) i.at ≡ Holds i.format i.instr → (w : Window) (why : ShapeWhy) → why ≢ shape.OffScreen → ShapeKeeps Exact w e (sight (shape_context list e) earlier i) why
+rule_at rom list e made earlier i lead is w why not =
+    subst (λ cell. CellKeeps shape.Unmapped shape.Odd (λ j. ShapeKeeps Exact w e (sight (shape_context list e) earlier j)) i.at cell why) is (made.keeps earlier i.at lead why w not)
+
+-- what a made entry says of an item that is seen
+pub record Allows (e : Entry) (v : Seen) : Type 0 where
+  pub straight : IsStraight v
+  pub deep : depth_under v.item.instr v.callee ≤ e.depth
+  pub many : v.after.words ≤ e.words
+
+pub allows_at : (rom : Rom) (list : List Entry) (e : Entry) → MadeEntry rom list e → (earlier : List Item) (i : Item) → LeadsTo Shape (rom_word rom) e.addr earlier i.at → cell_at (rom_word rom) i.at ≡ Holds i.format i.instr → Allows e (sight (shape_context list e) earlier i)
+allows_at rom list e made earlier i lead is =
+    let k = rule_at rom list e made earlier i lead is screen in
+    record {
+      straight = record { no_halt = k shape.HaltInShape (λ q. cc q); place = k shape.BeamUnknown (λ q. cc q); scale = k shape.ScaleUnknown (λ q. cc q) };
+      deep = k shape.TooDeep (λ q. cc q);
+      many = k shape.TooManyWords (λ q. cc q);
+    }
+
+-- a called entry has fewer words
+pub callee_less : (rom : Rom) (list : List Entry) (e : Entry) → MadeEntry rom list e → (earlier : List Item) (i : Item) → LeadsTo Shape (rom_word rom) e.addr earlier i.at → cell_at (rom_word rom) i.at ≡ Holds i.format i.instr → (to : ℕ) (g : Entry) → target Shape i.instr ≡ Some to → entry_at list to (scale_before (shape_context list e) earlier) ≡ Some g → g.words < e.words
+callee_less rom list e made earlier i lead is to g t h =
+    let allows = allows_at rom list e made earlier i lead is in
+    let scale : Key = scale_before (shape_context list e) earlier in
+    let named : callee (shape_context list e) earlier i.instr ≡ Some g = ap (λ o. callee_at list o scale) t ∙ exact_named list to scale g h in
+    let words : callee_words (callee (shape_context list e) earlier i.instr) ≡ g.words = ap callee_words named in
+    omega (arith, allows.many, words, word_count-some i.format)
+
+-- ---- at the end
+
+abbrev pub known_of : Entry → Known
+known_of e = record { place = e.stop; scale = e.scale; words = e.words; depth = e.depth }
+
+-- what a made entry says at the end of its items
+pub record Sums (list : List Entry) (items : List Item) (e : Entry) : Type 0 where
+  pub known : known_before (shape_context list e) items ≡ known_of e
+  pub box : IsLeast (lit_points (shape_context list e) items) e.lit
+
+at_last : (o : Option ℕ) (P : Type 0) → o ≡ None → AtLast o P → P
+at_last None P e h = h
+at_last (Some p) P e h = cc
+
+sums_at : (rom : Rom) (list : List Entry) (e : Entry) → MadeEntry rom list e → (earlier : List Item) (i : Item) → LeadsTo Shape (rom_word rom) e.addr earlier i.at → cell_at (rom_word rom) i.at ≡ Holds i.format i.instr → next_place Shape i ≡ None → Sums list (i ∷ earlier) e
+sums_at rom list e made earlier i lead is last =
+    let k = rule_at rom list e made earlier i lead is screen in
+    let place = at_last (next_place Shape i) _ last (k shape.EndDiffers (λ q. cc q)) in
+    let scale = at_last (next_place Shape i) _ last (k shape.ScaleDiffers (λ q. cc q)) in
+    let words = at_last (next_place Shape i) _ last (k shape.WordsDiffer (λ q. cc q)) in
+    let depth = at_last (next_place Shape i) _ last (k shape.DepthDiffers (λ q. cc q)) in
+    record { known = λ x. record { place = place x; scale = scale x; words = words x; depth = depth x }; box = made.box earlier i lead is last }
+
+-- entries with the same address, key and sums are the same
+pub same_sums : (a b : List Entry) (items : List Item) (e f : Entry) → e.addr ≡ f.addr → e.key ≡ f.key → Matched a b e.key items → Sums a items e → Sums b items f → e ≡ f
+same_sums a b items e f addr key m s t =
+    let all : gathered (keyed_context a e.key) items ≡ gathered (keyed_context b f.key) items = gathered_same a b e.key items m ∙ ap (λ (k : Key). gathered (keyed_context b k) items) key in
+    let known : known_of e ≡ known_of f = sym s.known ∙ ap (λ (g : Gathered). g.known) all ∙ t.known in
+    let lit = one_least (lit_points (shape_context b f) items) e.lit f.lit (subst (λ l. IsLeast l e.lit) (ap (λ (g : Gathered). g.lit) all) s.box) t.box in
+    λ x. record { addr = addr x; key = key x; stop = (known x).place; lit = lit x; depth = (known x).depth; words = (known x).words; scale = (known x).scale }
+
+-- ---- the items end
+
+record Stops (rom : Rom) (addr : ℕ) : Type 0 where
+  items : List Item
+  i : Item
+  leads : LeadsTo Shape (rom_word rom) addr items i.at
+  is : cell_at (rom_word rom) i.at ≡ Holds i.format i.instr
+  last : next_place Shape i ≡ None
+
+module _ (rom : Rom) (list : List Entry) (e : Entry) (made : MadeEntry rom list e) where
+  pub stands_at : (items : List Item) (p : ℕ) → LeadsTo Shape (rom_word rom) e.addr items p → (format : Format) × (instr : Instr) × (cell_at (rom_word rom) p ≡ Holds format instr)
+  stands_at items p lead = by_cell (cell_at (rom_word rom) p) refl
+    where
+      by_cell : (c : Cell) → cell_at (rom_word rom) p ≡ c → (format : Format) × (instr : Instr) × (c ≡ Holds format instr)
+      by_cell Missing q = absurd (subst (λ cell. CellKeeps shape.Unmapped shape.Odd (λ j. ShapeKeeps Exact screen e (sight (shape_context list e) items j)) p cell shape.Unmapped) q (made.keeps items p lead shape.Unmapped screen (λ x. cc x)) refl)
+      by_cell Odd q = absurd (subst (λ cell. CellKeeps shape.Unmapped shape.Odd (λ j. ShapeKeeps Exact screen e (sight (shape_context list e) items j)) p cell shape.Odd) q (made.keeps items p lead shape.Odd screen (λ x. cc x)) refl)
+      by_cell (Holds format instr) q = (format, instr, refl)
+
+  find_last : (n : ℕ) (items : List Item) (p : ℕ) → LeadsTo Shape (rom_word rom) e.addr items p → e.words ≤ words_before (shape_context list e) items + n → Stops rom e.addr
+  find_last zero items p lead le =
+      let h = stands_at items p lead in
+      let i : Item = record { at = p; format = h.0; instr = h.1 } in
+      let more : words_before (shape_context list e) (i ∷ items) ≤ e.words = (allows_at rom list e made items i lead h.2).many in
+      absurd (omega (arith, more, le, word_count-some h.0))
+  find_last (suc n) items p lead le = by_next (next_place Shape i) refl (λ q l k. find_last n (i ∷ items) q l k)
+    where
+      h : (format : Format) × (instr : Instr) × (cell_at (rom_word rom) p ≡ Holds format instr)
+      h = stands_at items p lead
+
+      i : Item
+      i = record { at = p; format = h.0; instr = h.1 }
+
+      by_next : (o : Option ℕ) → next_place Shape i ≡ o → ((q : ℕ) → LeadsTo Shape (rom_word rom) e.addr (i ∷ items) q → e.words ≤ words_before (shape_context list e) (i ∷ items) + n → Stops rom e.addr) → Stops rom e.addr
+      by_next None is more = record { items = items; i = i; leads = lead; is = h.2; last = is }
+      by_next (Some q) is more = more q (lead, h.2, is) (omega (arith, le, word_count-some h.0))
+
+  stops : Stops rom e.addr
+  stops = find_last e.words [] e.addr refl (omega arith)
+
+-- ---- a shape that ends as its entry says
+
+pub record Ends (rom : Rom) (list : List Entry) (e : Entry) : Type 0 where
+  pub items : List Item
+  pub i : Item
+  pub leads : LeadsTo Shape (rom_word rom) e.addr items i.at
+  pub is : cell_at (rom_word rom) i.at ≡ Holds i.format i.instr
+  pub last : next_place Shape i ≡ None
+  pub sums : Sums list (i ∷ items) e
+  pub fine : AllFine (shape_context list e) (i ∷ items)
+
+fine_at : (rom : Rom) (list : List Entry) (e : Entry) → MadeEntry rom list e → (earlier : List Item) (i : Item) → LeadsTo Shape (rom_word rom) e.addr earlier i.at → cell_at (rom_word rom) i.at ≡ Holds i.format i.instr → IsFine (shape_context list e) earlier i
+fine_at rom list e made earlier i lead is =
+    record { straight = (allows_at rom list e made earlier i lead is).straight; keyed = made.keyed earlier i lead is }
+
+pub all_fine : (rom : Rom) (list : List Entry) (e : Entry) → MadeEntry rom list e → (items : List Item) (p : ℕ) → LeadsTo Shape (rom_word rom) e.addr items p → AllFine (shape_context list e) items
+all_fine rom list e made [] p lead = tt
+all_fine rom list e made (i ∷ earlier) p lead = (all_fine rom list e made earlier i.at lead.0, fine_at rom list e made earlier i lead.0 lead.1)
+
+pub made_ends : (rom : Rom) (list : List Entry) (e : Entry) → MadeEntry rom list e → Ends rom list e
+made_ends rom list e made =
+    let s = stops rom list e made in
+    record {
+      items = s.items;
+      i = s.i;
+      leads = s.leads;
+      is = s.is;
+      last = s.last;
+      sums = sums_at rom list e made s.items s.i s.leads s.is s.last;
+      fine = (all_fine rom list e made s.items s.i.at s.leads, fine_at rom list e made s.items s.i s.leads s.is);
+    }
+
+pub sums_of : (rom : Rom) (list : List Entry) (e : Entry) → MadeEntry rom list e → (earlier : List Item) (i : Item) → LeadsTo Shape (rom_word rom) e.addr earlier i.at → cell_at (rom_word rom) i.at ≡ Holds i.format i.instr → next_place Shape i ≡ None → Sums list (i ∷ earlier) e
+sums_of = sums_at
+
+-- ---- and the other way round
+
+holds_left : (box : LitBox) (a b : List Point) → HoldsAll box (a ++ b) → HoldsAll box a
+holds_left box [] b h = tt
+holds_left box (p ∷ a) b h = (h.0, holds_left box a b h.1)
+
+holds_right : (box : LitBox) (a b : List Point) → HoldsAll box (a ++ b) → HoldsAll box b
+holds_right box [] b h = h
+holds_right box (p ∷ a) b h = holds_right box a b h.1
+
+boxed_of : (box : LitBox) (v : LitExtent) (k : End) → HoldsAll box (corners v k) → LitInBox box v k
+boxed_of box Nothing k h = tt
+boxed_of box (Between a b) (Rel x y) h = (h.0, h.1.0)
+boxed_of box (Between a b) (Abs x y) h = tt
+boxed_of box (Between a b) Lost h = tt
+boxed_of box Anywhere k h = tt
+
+has_callee : (list : List Entry) (o : Option ℕ) (scale : Key) → ((to : ℕ) → o ≡ Some to → HasEntry list to scale) → HasCallee o (callee_at list o scale)
+has_callee list None scale h = tt
+has_callee list (Some to) scale h = let f = h to refl in subst (λ x. HasCallee (Some to) x) (sym (exact_named list to scale f.0 f.1)) tt
+
+last_map : {A : Type 0} (o : Option ℕ) (x y : Known) (f : Known → A) → AtLast o (x ≡ y) → AtLast o (f x ≡ f y)
+last_map None x y f h = ap f h
+last_map (Some p) x y f h = tt
+
+module _ (rom : Rom) (list : List Entry) (e : Entry) where
+  abbrev c : Context
+  c = shape_context list e
+
+  record AtItem (earlier : List Item) (i : Item) : Type 0 where
+    fine : IsFine c earlier i
+    deep : depth_under i.instr (callee c earlier i.instr) ≤ e.depth
+    many : words_before c (i ∷ earlier) ≤ e.words
+    holds : HoldsAll e.lit (corners (extent c earlier i.instr) (place_before c earlier))
+    known : AtLast (next_place Shape i) (known_before c (i ∷ earlier) ≡ known_of e)
+
+  kept_at : (earlier : List Item) (i : Item) → AtItem earlier i → (w : Window) (why : ShapeWhy) → why ≢ shape.OffScreen → ShapeKeeps Exact w e (sight c earlier i) why
+  kept_at earlier i h w shape.Unmapped not = tt
+  kept_at earlier i h w shape.Odd not = tt
+  kept_at earlier i h w shape.HaltInShape not = h.fine.straight.no_halt
+  kept_at earlier i h w shape.BeamUnknown not = h.fine.straight.place
+  kept_at earlier i h w shape.ScaleUnknown not = h.fine.straight.scale
+  kept_at earlier i h w shape.OffScreen not = absurd (not refl)
+  kept_at earlier i h w shape.NoEntry not = has_callee list (target Shape i.instr) (scale_before c earlier) h.fine.keyed
+  kept_at earlier i h w shape.TooDeep not = h.deep
+  kept_at earlier i h w shape.TooManyWords not = h.many
+  kept_at earlier i h w shape.EndDiffers not = last_map (next_place Shape i) _ _ (λ (k : Known). k.place) h.known
+  kept_at earlier i h w shape.ScaleDiffers not = last_map (next_place Shape i) _ _ (λ (k : Known). k.scale) h.known
+  kept_at earlier i h w shape.BoxTooSmall not = boxed_of e.lit (extent c earlier i.instr) (place_before c earlier) h.holds
+  kept_at earlier i h w shape.WordsDiffer not = last_map (next_place Shape i) _ _ (λ (k : Known). k.words) h.known
+  kept_at earlier i h w shape.DepthDiffers not = last_map (next_place Shape i) _ _ (λ (k : Known). k.depth) h.known
+
+  kept_place : (earlier : List Item) (i : Item) → cell_at (rom_word rom) i.at ≡ Holds i.format i.instr → AtItem earlier i → (why : ShapeWhy) → MadeKeeps rom list e earlier i.at why
+  kept_place earlier i is h why w not =
+      subst (λ cell. CellKeeps shape.Unmapped shape.Odd (λ j. ShapeKeeps Exact w e (sight c earlier j)) i.at cell why) (sym is) (kept_at earlier i h w why not)
+
+  kept_before : (items : List Item) (p : ℕ) → LeadsTo Shape (rom_word rom) e.addr items p → AllFine c items → depth_before c items ≤ e.depth → words_before c items ≤ e.words → HoldsAll e.lit (lit_points c items) → AllBefore (MadeKeeps rom list e) items
+  kept_before [] p lead fine deep many holds = tt
+  kept_before (i ∷ earlier) p lead fine deep many holds = (
+    kept_before earlier i.at lead.0 fine.0 (omega (arith, deep)) (omega (arith, many)) (holds_right e.lit (corners (extent c earlier i.instr) (place_before c earlier)) (lit_points c earlier) holds),
+    kept_place earlier i lead.1
+        (record {
+          fine = fine.1;
+          deep = omega (arith, deep);
+          many = many;
+          holds = holds_left e.lit (corners (extent c earlier i.instr) (place_before c earlier)) (lit_points c earlier) holds;
+          known = subst (λ o. AtLast o (known_before c (i ∷ earlier) ≡ known_of e)) (sym lead.2) tt;
+        }),
+  )
+
+  -- what holds at these items and at the last, holds at each item
+  abbrev AtCell : (List Item → Item → Type 0) → List Item → ℕ → Cell → Type 0
+  AtCell P earlier p Missing = Unit {0}
+  AtCell P earlier p Odd = Unit {0}
+  AtCell P earlier p (Holds format instr) = P earlier (record { at = p; format = format; instr = instr })
+
+  abbrev Each : (List Item → Item → Type 0) → List Item → Type 0
+  Each P [] = Unit {0}
+  Each P (i ∷ earlier) = Each P earlier × P earlier i
+
+  each_before : (P : List Item → Item → Type 0) (items : List Item) (p : ℕ) → LeadsTo Shape (rom_word rom) e.addr items p → Each P items → AllBefore {Why = Unit {0}} (λ earlier p why. AtCell P earlier p (cell_at (rom_word rom) p)) items
+  each_before P [] p lead h = tt
+  each_before P (i ∷ earlier) p lead h = (each_before P earlier i.at lead.0 h.0, λ why. subst (AtCell P earlier i.at) (sym lead.1) h.1)
+
+  module _ (h : Ends rom list e) where
+    each_item : (P : List Item → Item → Type 0) → Each P (h.i ∷ h.items) → EachItem rom e.addr P
+    each_item P all earlier j l k =
+        subst (AtCell P earlier j.at) k (all_kept Shape (rom_word rom) e.addr (Unit {0}) (λ earlier p why. AtCell P earlier p (cell_at (rom_word rom) p)) h.items h.i h.leads h.is h.last (each_before P h.items h.i.at h.leads all.0, λ why. subst (AtCell P h.items h.i.at) (sym h.is) all.1) earlier j.at l tt)
+
+    fine_each : (items : List Item) → AllFine c items → Each (IsFine c) items
+    fine_each [] f = tt
+    fine_each (i ∷ earlier) f = (fine_each earlier f.0, f.1)
+
+    end_each : (Q : List Item → Type 0) (items : List Item) (p : ℕ) → LeadsTo Shape (rom_word rom) e.addr items p → Each (λ earlier j. next_place Shape j ≡ None → Q (j ∷ earlier)) items
+    end_each Q [] p lead = tt
+    end_each Q (i ∷ earlier) p lead = (end_each Q earlier i.at lead.0, λ last. let no : Some p ≡ None = sym lead.2 ∙ last in cc no)
+
+    at_end : (Q : List Item → Type 0) → Q (h.i ∷ h.items) → AtEnd rom e.addr Q
+    at_end Q q = each_item (λ earlier j. next_place Shape j ≡ None → Q (j ∷ earlier)) (end_each Q h.items h.i.at h.leads, λ x. q)
+
+    pub ends_made : MadeEntry rom list e
+    ends_made =
+        let deep : depth_before c (h.i ∷ h.items) ≡ e.depth = ap (λ (k : Known). k.depth) h.sums.known in
+        let many : words_before c (h.i ∷ h.items) ≡ e.words = ap (λ (k : Known). k.words) h.sums.known in
+        record {
+          keeps = all_kept Shape (rom_word rom) e.addr ShapeWhy (MadeKeeps rom list e) h.items h.i h.leads h.is h.last (
+            kept_before h.items h.i.at h.leads h.fine.0 (omega (arith, deep)) (omega (arith, many)) (holds_right e.lit (corners (extent c h.items h.i.instr) (place_before c h.items)) (lit_points c h.items) h.sums.box.holds),
+            kept_place h.items h.i h.is
+                (record {
+                  fine = h.fine.1;
+                  deep = omega (arith, deep);
+                  many = omega (arith, many);
+                  holds = holds_left e.lit (corners (extent c h.items h.i.instr) (place_before c h.items)) (lit_points c h.items) h.sums.box.holds;
+                  known = subst (λ o. AtLast o (known_before c (h.i ∷ h.items) ≡ known_of e)) (sym h.last) h.sums.known;
+                }),
+          );
+          keyed = λ earlier j l g. (each_item (IsFine c) (fine_each (h.i ∷ h.items) h.fine) earlier j l g).keyed;
+          box = at_end (λ all. IsLeast (lit_points c all) e.lit) h.sums.box;
+        }

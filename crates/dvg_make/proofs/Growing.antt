@@ -1,0 +1,65 @@
+-- What is known by a list is known by each that extends it.
+use Rattle.std.proofs.Common.{◌≡◌, List, [], ◌∷◌, sym, ap, ◌∙◌, subst}
+use Rattle.dvg_words.specs.Memory.{Rom}
+use Rattle.dvg_cert.specs.Lookup.{entry_at}
+use Rattle.dvg_cert.specs.declared.entry.Entry.{Entry}
+use Rattle.dvg_cert.specs.declared.entry.Key.{Key}
+use Rattle.dvg_check.specs.Known.{target, scale_before}
+use Rattle.dvg_check.specs.declared.item.Item.{Item}
+use Rattle.dvg_check.specs.declared.item.Kind.TheVariants.{Shape}
+use Rattle.dvg_make.specs.declared.walk.Walk.{Walk}
+use Rattle.dvg_make.specs.Least.{IsLeast}
+use Rattle.dvg_make.specs.Made.{MadeEntry}
+use Rattle.dvg_make.specs.Private.Walking.{keyed_context, IsStraight, AllFine, KnowsAt, IsWalk, Extends}
+use Rattle.dvg_make.proofs.Matching.{Gathered, Matched, gathered_same, sight_same}
+use Rattle.dvg_make.proofs.Ends.{made_ends, ends_made, same_sums, sums_of}
+use Rattle.dvg_make.proofs.Onward.{same_if, matched_fine}
+
+module _ (a b : List Entry) (key : Key) (ext : Extends a b) where
+  pub scale_grows : (items : List Item) → AllFine (keyed_context a key) items → scale_before (keyed_context a key) items ≡ scale_before (keyed_context b key) items
+  scale_grows items h = ap (λ (x : Gathered). x.known.scale) (gathered_same a b key items (matched_fine a b key ext items h))
+
+  pub fine_grows : (items : List Item) → AllFine (keyed_context a key) items → AllFine (keyed_context b key) items
+  fine_grows [] h = tt
+  fine_grows (i ∷ earlier) h =
+      let m : Matched a b key (i ∷ earlier) = (matched_fine a b key ext earlier h.0, same_if a b _ ext (target Shape i.instr) h.1.keyed) in (
+        fine_grows earlier h.0,
+        record {
+          straight = subst IsStraight (sight_same a b key earlier i m) h.1.straight;
+          keyed = λ to t. let f = h.1.keyed to t in (f.0, ap (λ (x : Key). entry_at b to x) (sym (scale_grows earlier h.0)) ∙ ext to _ f.0 f.1);
+        },
+      )
+
+  knows_grows : (items : List Item) (w : Walk) → KnowsAt (keyed_context a key) items w → KnowsAt (keyed_context b key) items w
+  knows_grows items w k =
+      let t = gathered_same a b key items (matched_fine a b key ext items k.fine) in
+      record {
+        known = k.known ∙ ap (λ (x : Gathered). x.known) t;
+        lit = subst (λ l. IsLeast l w.lit) (ap (λ (x : Gathered). x.lit) t) k.lit;
+        fine = fine_grows items k.fine;
+      }
+
+pub walk_grows : (rom : Rom) (a b : List Entry) (w : Walk) → Extends a b → IsWalk rom a w → IsWalk rom b w
+walk_grows rom a b w ext h =
+    record { items = h.items; leads = h.leads; knows = knows_grows a b w.key ext h.items w h.knows; sound = h.sound; close = h.close }
+
+pub made_grows : (rom : Rom) (a b : List Entry) (e : Entry) → Extends a b → MadeEntry rom a e → MadeEntry rom b e
+made_grows rom a b e ext made =
+    let h = made_ends rom a e made in
+    let t = gathered_same a b e.key (h.i ∷ h.items) (matched_fine a b e.key ext (h.i ∷ h.items) h.fine) in
+    ends_made rom b e
+    (record {
+      items = h.items;
+      i = h.i;
+      leads = h.leads;
+      is = h.is;
+      last = h.last;
+      sums = record { known = sym (ap (λ (x : Gathered). x.known) t) ∙ h.sums.known; box = subst (λ l. IsLeast l e.lit) (ap (λ (x : Gathered). x.lit) t) h.sums.box };
+      fine = fine_grows a b e.key ext (h.i ∷ h.items) h.fine;
+    })
+
+-- two made entries of a shape
+pub same_made : (rom : Rom) (a b : List Entry) (e f : Entry) → Extends a b → MadeEntry rom a e → MadeEntry rom b f → e.addr ≡ f.addr → e.key ≡ f.key → e ≡ f
+same_made rom a b e f ext made other addr key =
+    let h = made_ends rom a e made in
+    same_sums a b (h.i ∷ h.items) e f addr key (matched_fine a b e.key ext (h.i ∷ h.items) h.fine) h.sums (sums_of rom b f other h.items h.i (subst (λ x. Rattle.dvg_check.specs.Items.LeadsTo Shape (Rattle.dvg_words.specs.Memory.rom_word rom) x h.items h.i.at) addr h.leads) h.is h.last)

@@ -1,0 +1,15 @@
+pub mod Boxes
+pub mod Matching
+pub mod Ends
+pub mod Agreeing
+pub mod Onward
+pub mod Growing
+pub mod Chains
+pub mod Crowds
+pub mod Turns
+pub mod Pairs
+pub mod Sorting
+pub mod Roots
+pub mod Finishing
+pub mod OneList
+pub mod Windows

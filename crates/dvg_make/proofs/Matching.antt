@@ -1,0 +1,100 @@
+-- Two lists that have the same entries for what items call know the same after them.
+use Rattle.std.proofs.Common.{◌≡◌, ℕ, suc, List, [], ◌∷◌, ◌++◌, Option, Some, None, refl, sym, ap, ◌∙◌, arith}
+use Rattle.std.specs.Prelude.{Bool, true, false, if◌then◌else◌, Contains}
+use Rattle.dvg_words.specs.declared.beam.Point.{Point}
+use Rattle.dvg_cert.specs.Lookup.{is_at, entry_at, named_entry, or_else}
+use Rattle.dvg_cert.specs.declared.entry.Entry.{Entry}
+use Rattle.dvg_cert.specs.declared.entry.Key.{Key}
+use Rattle.dvg_cert.specs.declared.entry.Key.TheVariants.{Any}
+use Rattle.dvg_cert.proofs.OnlyEntries.{at_means}
+use Rattle.dvg_check.specs.Known.{Context, target, callee_at, callee, scale_before, known_before}
+use Rattle.dvg_check.specs.Lit.{extent_of}
+use Rattle.dvg_check.specs.Rules.{sight}
+use Rattle.dvg_check.specs.Private.Running.{known_past, sight_with}
+use Rattle.dvg_check.specs.declared.item.Item.{Item}
+use Rattle.dvg_check.specs.declared.item.Kind.TheVariants.{Shape}
+use Rattle.dvg_check.specs.declared.known.Known.{Known}
+use Rattle.dvg_check.specs.declared.known.Seen.{Seen}
+use Rattle.dvg_check.proofs.Near.{sight_is}
+use Rattle.dvg_make.specs.Least.{corners, lit_points}
+use Rattle.dvg_make.specs.Private.Walking.{keyed_context}
+
+-- ---- the entry at an address and key
+
+pub record Listed (list : List Entry) (addr : ℕ) (key : Key) (e : Entry) : Type 0 where
+  pub listed : Contains list e
+  pub addr_is : e.addr ≡ addr
+  pub key_is : e.key ≡ key
+
+pub listed_at : (list : List Entry) (addr : ℕ) (key : Key) (e : Entry) → entry_at list addr key ≡ Some e → Listed list addr key e
+listed_at [] addr key e h = cc
+listed_at (x ∷ list) addr key e h = by_test (is_at addr key x) refl h (λ g. listed_at list addr key e g)
+  where
+    by_test : (b : Bool) → is_at addr key x ≡ b → (if b then Some x else entry_at list addr key) ≡ Some e → (entry_at list addr key ≡ Some e → Listed list addr key e) → Listed (x ∷ list) addr key e
+    by_test true t g more =
+        let same : x ≡ e = cc in
+        let here = at_means addr key x t in
+        record { listed = (0, omega arith, same); addr_is = ap (λ (y : Entry). y.addr) (sym same) ∙ here.0; key_is = ap (λ (y : Entry). y.key) (sym same) ∙ here.1 }
+    by_test false t g more =
+        let l = more g in
+        record { listed = (suc l.listed.0, omega (arith, l.listed.1), l.listed.2); addr_is = l.addr_is; key_is = l.key_is }
+
+-- ---- what is known after items, in one record
+
+pub record Gathered : Type 0 where
+  pub known : Known
+  pub lit : List Point
+
+abbrev pub gathered : Context → List Item → Gathered
+gathered c items = record { known = known_before c items; lit = lit_points c items }
+
+abbrev pub gathered_past : Item → Option Entry → Gathered → Gathered
+gathered_past i o g = record { known = known_past i o g.known; lit = corners (extent_of i.instr g.known.scale o) g.known.place ++ g.lit }
+
+pub gathered-cons : (c : Context) (earlier : List Item) (i : Item) → gathered c (i ∷ earlier) ≡ gathered_past i (callee c earlier i.instr) (gathered c earlier)
+gathered-cons c earlier i =
+    let known : known_before c (i ∷ earlier) ≡ known_past i (callee c earlier i.instr) (known_before c earlier) = ap (λ (v : Seen). v.after) (sight_is c earlier i) in
+    ap (λ (k : Known). record { known = k; lit = lit_points c (i ∷ earlier) }) known
+
+-- ---- from list to list
+
+-- both have the entry at just this target and scale
+abbrev pub SameAt : List Entry → List Entry → Option ℕ → Key → Type 0
+SameAt a b None scale = Unit {0}
+SameAt a b (Some to) scale = (e : Entry) × (entry_at a to scale ≡ Some e) × (entry_at b to scale ≡ Some e)
+
+abbrev pub Matched : List Entry → List Entry → Key → List Item → Type 0
+Matched a b key [] = Unit {0}
+Matched a b key (i ∷ earlier) = Matched a b key earlier × SameAt a b (target Shape i.instr) (scale_before (keyed_context a key) earlier)
+
+pub exact_named : (list : List Entry) (to : ℕ) (scale : Key) (e : Entry) → entry_at list to scale ≡ Some e → named_entry list to scale ≡ Some e
+exact_named list to scale e h = ap (λ o. or_else o (entry_at list to Any)) h
+
+callee_same : (a b : List Entry) (t : Option ℕ) (scale : Key) → SameAt a b t scale → callee_at a t scale ≡ callee_at b t scale
+callee_same a b None scale h = refl
+callee_same a b (Some to) scale h = exact_named a to scale h.0 h.1 ∙ sym (exact_named b to scale h.0 h.2)
+
+-- whatever is said of what is gathered and of the entry that is called next
+both_same : {X : Type 0} (F : Option Entry → Gathered → X) (a b : List Entry) (key : Key) (earlier : List Item) (t : Option ℕ) → gathered (keyed_context a key) earlier ≡ gathered (keyed_context b key) earlier → SameAt a b t (scale_before (keyed_context a key) earlier)
+    → F (callee_at a t (scale_before (keyed_context a key) earlier)) (gathered (keyed_context a key) earlier) ≡ F (callee_at b t (scale_before (keyed_context b key) earlier)) (gathered (keyed_context b key) earlier)
+both_same F a b key earlier t e h =
+    ap (λ o. F o (gathered (keyed_context a key) earlier)) (callee_same a b t _ h) ∙ ap (λ (g : Gathered). F (callee_at b t g.known.scale) g) e
+
+pub gathered_same : (a b : List Entry) (key : Key) (items : List Item) → Matched a b key items → gathered (keyed_context a key) items ≡ gathered (keyed_context b key) items
+gathered_same a b key [] h = refl
+gathered_same a b key (i ∷ earlier) h =
+    gathered-cons (keyed_context a key) earlier i ∙ both_same (gathered_past i) a b key earlier (target Shape i.instr) (gathered_same a b key earlier h.0) h.1 ∙ sym (gathered-cons (keyed_context b key) earlier i)
+
+pub sight_same : (a b : List Entry) (key : Key) (earlier : List Item) (i : Item) → Matched a b key (i ∷ earlier) → sight (keyed_context a key) earlier i ≡ sight (keyed_context b key) earlier i
+sight_same a b key earlier i h =
+    sight_is (keyed_context a key) earlier i ∙ both_same (λ o g. sight_with o g.known i) a b key earlier (target Shape i.instr) (gathered_same a b key earlier h.0) h.1 ∙ sym (sight_is (keyed_context b key) earlier i)
+
+-- ---- lists that grow
+
+pub entry_at-append : (l m : List Entry) (addr : ℕ) (key : Key) → entry_at (l ++ m) addr key ≡ or_else (entry_at l addr key) (entry_at m addr key)
+entry_at-append [] m addr key = refl
+entry_at-append (x ∷ l) m addr key = by_test (is_at addr key x) (entry_at-append l m addr key)
+  where
+    by_test : (t : Bool) → entry_at (l ++ m) addr key ≡ or_else (entry_at l addr key) (entry_at m addr key) → (if t then Some x else entry_at (l ++ m) addr key) ≡ or_else (if t then Some x else entry_at l addr key) (entry_at m addr key)
+    by_test true e = refl
+    by_test false e = e

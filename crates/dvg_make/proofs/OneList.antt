@@ -1,0 +1,93 @@
+-- A ROM and roots have one made list at the most.
+use Rattle.std.proofs.Common.{◌≡◌, ℕ, zero, suc, ◌+◌, ◌<◌, ◌≤◌, List, [], ◌∷◌, Option, Some, None, refl, sym, ap, ◌∙◌, subst, arith, ⊎_elim}
+use Rattle.std.specs.Prelude.{Contains}
+use Rattle.dvg_words.specs.Memory.{Rom}
+use Rattle.dvg_cert.specs.Order.{IsRising}
+use Rattle.dvg_cert.specs.Lookup.{entry_at}
+use Rattle.dvg_cert.specs.declared.entry.Entry.{Entry}
+use Rattle.dvg_cert.specs.declared.entry.Key.{Key}
+use Rattle.dvg_cert.proofs.OnlyEntries.{not_before, before_next, before_later, rising_tail, first_or_later, later}
+use Rattle.dvg_check.specs.Known.{shape_context, target, callee_at, scale_before}
+use Rattle.dvg_check.specs.declared.item.Kind.TheVariants.{Shape}
+use Rattle.dvg_make.specs.Laws.{OneMade}
+use Rattle.dvg_make.specs.Made.{HasEntry, Needs, Made}
+use Rattle.dvg_make.proofs.Matching.{listed_at, Gathered, gathered_same, exact_named}
+use Rattle.dvg_make.proofs.Ends.{callee_less}
+use Rattle.dvg_make.proofs.Agreeing.{agree, matched_made}
+use Rattle.dvg_make.proofs.Onward.{listed_entry}
+use Rattle.dvg_make.proofs.Finishing.{found_listed}
+
+-- ---- rising lists with the same entries are one
+
+in_rest : (x : Entry) (a b : List Entry) → IsRising (x ∷ a) → ((e : Entry) → Contains (x ∷ a) e → Contains (x ∷ b) e) → (e : Entry) → Contains a e → Contains b e
+in_rest x a b rises h e c =
+    ⊎_elim (λ same. absurd (not_before x e (ap (λ (y : Entry). y.addr) same) (ap (λ (y : Entry). y.key) same) (before_later x a e rises c))) (λ d. d) (first_or_later x b e (h e (later x a e c)))
+
+same_first : (x y : Entry) (a b : List Entry) → IsRising (x ∷ a) → IsRising (y ∷ b) → Contains (y ∷ b) x → Contains (x ∷ a) y → x ≡ y
+same_first x y a b rises rises' h k =
+    ⊎_elim (λ same. same)
+    (λ d. ⊎_elim (λ same. sym same) (λ d'. absurd (not_before x x refl refl (before_next x y x (before_later x a y rises d') (before_later y b x rises' d)))) (first_or_later x a y k))
+    (first_or_later y b x h)
+
+same_rising : (a b : List Entry) → IsRising a → IsRising b → ((e : Entry) → Contains a e → Contains b e) → ((e : Entry) → Contains b e → Contains a e) → a ≡ b
+same_rising [] [] rises rises' h k = refl
+same_rising [] (y ∷ b) rises rises' h k = let c = k y (zero, omega arith, refl) in absurd (omega (arith, c.1))
+same_rising (x ∷ a) [] rises rises' h k = let c = h x (zero, omega arith, refl) in absurd (omega (arith, c.1))
+same_rising (x ∷ a) (y ∷ b) rises rises' h k =
+    let first : x ≡ y = same_first x y a b rises rises' (h x (zero, omega arith, refl)) (k y (zero, omega arith, refl)) in
+    let h' : (e : Entry) → Contains (x ∷ a) e → Contains (x ∷ b) e = λ e c. subst (λ (z : Entry). Contains (z ∷ b) e) (sym first) (h e c) in
+    let k' : (e : Entry) → Contains (x ∷ b) e → Contains (x ∷ a) e = λ e c. k e (subst (λ (z : Entry). Contains (z ∷ b) e) first c) in
+    let rest : a ≡ b = same_rising a b (rising_tail x a rises) (rising_tail y b rises') (in_rest x a b rises h') (in_rest x b a (subst (λ (z : Entry). IsRising (z ∷ b)) (sym first) rises') k') in
+    λ i. first i ∷ rest i
+
+-- ---- each entry of the one list is in the other
+
+target_of : (list : List Entry) (o : Option ℕ) (scale : Key) (f : Entry) → callee_at list o scale ≡ Some f → ((to : ℕ) → o ≡ Some to → HasEntry list to scale) → (to : ℕ) × (o ≡ Some to) × (entry_at list to scale ≡ Some f)
+target_of list None scale f e h = cc
+target_of list (Some to) scale f e h =
+    let g = h to refl in
+    (to, refl, g.1 ∙ sym (exact_named list to scale g.0 g.1) ∙ e)
+
+module _ (rom : Rom) (roots : List (ℕ × Key)) (a b : List Entry) (made_a : Made rom roots a) (made_b : Made rom roots b) where
+  needs_less : (e f : Entry) → Contains a e → Needs rom a e f → f.words < e.words
+  needs_less e f in_a n =
+      let made = made_a.each e in_a in
+      let t = target_of a (target Shape n.item.instr) (scale_before (shape_context a e) n.earlier) f n.callee_is (made.keyed n.earlier n.item n.leads n.stands) in
+      callee_less rom a e made n.earlier n.item n.leads n.stands t.0 f t.1 t.2
+
+  -- what an entry of both needs in the one list, the other has
+  needed_there : (e f : Entry) → Contains a e → Contains b e → Needs rom a e f → HasEntry b f.addr f.key
+  needed_there e f in_a in_b n =
+      let e_a = made_a.each e in_a in
+      let e_b = made_b.each e in_b in
+      let scale : Key = scale_before (shape_context a e) n.earlier in
+      let t = target_of a (target Shape n.item.instr) scale f n.callee_is (e_a.keyed n.earlier n.item n.leads n.stands) in
+      let l = listed_at a t.0 scale f t.2 in
+      let g = e_b.keyed n.earlier n.item n.leads n.stands t.0 t.1 in
+      let same : scale ≡ scale_before (shape_context b e) n.earlier = ap (λ (x : Gathered). x.known.scale) (gathered_same a b e.key n.earlier (matched_made rom a b made_a.each made_b.each e e_a e_b n.earlier n.item.at n.leads)) in
+      let there : entry_at b t.0 scale ≡ Some g.0 = ap (λ (k : Key). entry_at b t.0 k) same ∙ g.1 in
+      (g.0, subst (λ x. entry_at b x f.key ≡ Some g.0) (sym l.addr_is) (subst (λ (k : Key). entry_at b t.0 k ≡ Some g.0) (sym l.key_is) there))
+
+  in_both : (f : Entry) → Contains a f → HasEntry b f.addr f.key → Contains b f
+  in_both f in_a has =
+      let same : f ≡ has.0 = agree rom a b made_a.each made_b.each f.addr f.key f has.0 (found_listed a f made_a.certificate.rising in_a) has.1 in
+      subst (Contains b) (sym same) (listed_at b f.addr f.key has.0 has.1).listed
+
+  there_up_to : (n : ℕ) (f : Entry) → Contains a f → 1000001 ≤ f.words + n → Contains b f
+  there_up_to zero f in_a le =
+      let is = listed_entry rom.map.rom_first rom.map.rom_last a f made_a.certificate.each in_a in
+      absurd (omega (arith, is.words_high, le))
+  there_up_to (suc n) f in_a le =
+      ⊎_elim (λ root. in_both f in_a (made_b.rooted f.addr f.key root))
+      (λ c.
+      let less = needs_less c.0 f c.1 c.2 in
+      let in_b = there_up_to n c.0 c.1 (omega (arith, less, le)) in
+      in_both f in_a (needed_there c.0 f c.1 in_b c.2))
+      (made_a.needed f in_a)
+
+  pub all_there : (f : Entry) → Contains a f → Contains b f
+  all_there f in_a = there_up_to 1000001 f in_a (omega arith)
+
+pub one_made : OneMade
+one_made rom roots a b made_a made_b =
+    same_rising a b made_a.certificate.rising made_b.certificate.rising (all_there rom roots a b made_a made_b) (all_there rom roots b a made_b made_a)

@@ -1,0 +1,205 @@
+-- A shape in the making, item by item.
+use Rattle.std.proofs.Common.{◌≡◌, ℕ, ◌+◌, ◌<◌, List, [], ◌∷◌, ◌++◌, Option, Some, None, refl, sym, ap, ◌∙◌, subst, arith}
+use Rattle.std.specs.Prelude.{Contains, Result, Ok, Err, OnErr, IfSome}
+use Rattle.std.specs.List.{AllByRecursion}
+use Rattle.dvg_words.specs.Decoding.{cell_at, InstrFits}
+use Rattle.dvg_words.specs.Memory.{Rom, rom_word}
+use Rattle.dvg_words.specs.declared.instruction.Cell.TheVariants.{Holds}
+use Rattle.dvg_words.specs.declared.instruction.Format.{Format}
+use Rattle.dvg_words.specs.declared.instruction.Instr.{Instr}
+use Rattle.dvg_words.specs.declared.instruction.Instr.TheVariants.{Draw as Draws, Labs, Halt, Jsrl, Rtsl, Jmpl}
+use Rattle.dvg_cert.specs.Entry.{IsEntry}
+use Rattle.dvg_cert.specs.declared.entry.Entry.{Entry}
+use Rattle.dvg_cert.specs.declared.entry.Key.{Key}
+use Rattle.dvg_check.specs.Items.{next_place, LeadsTo}
+use Rattle.dvg_check.specs.Known.{Context, shape_context, target, callee_at, callee, scale_before, known_before}
+use Rattle.dvg_check.specs.Rules.{sight}
+use Rattle.dvg_check.specs.Private.Running.{sight_with, IsSound, IsClaim}
+use Rattle.dvg_check.specs.declared.item.Item.{Item}
+use Rattle.dvg_check.specs.declared.item.Kind.TheVariants.{Shape}
+use Rattle.dvg_check.specs.declared.known.Known.{Known}
+use Rattle.dvg_check.specs.declared.known.Seen.{Seen}
+use Rattle.dvg_check.proofs.Near.{sight_is, IsNearPlace-more, at_place}
+use Rattle.dvg_check.proofs.Loop.{next_further, next_near}
+use Rattle.dvg_make.specs.declared.walk.Walk.{Walk}
+use Rattle.dvg_make.specs.Least.{corners, lit_points, IsLeast}
+use Rattle.dvg_make.specs.Made.{HasEntry, MadeEntry, Made}
+use Rattle.dvg_make.specs.Private.Walking.{keyed_context, entry_of, IsStraight, IsAsked, Passes, AllFine, KnowsAt, IsWalk, Extends, NeverAt, IsCallee, LacksCallee, IsFinished, IsWaiting}
+use Rattle.dvg_make.proofs.Boxes.{one_least}
+use Rattle.dvg_make.proofs.Matching.{listed_at, Gathered, gathered, SameAt, Matched, exact_named, gathered_same, sight_same}
+use Rattle.dvg_make.proofs.Ends.{Allows, allows_at, known_of, stands_at, ends_made, sums_of}
+
+-- ---- one item further
+
+seen_same : (c : Context) (items : List Item) (i : Item) (o : Option Entry) (w : Walk) → o ≡ callee c items i.instr → w.known ≡ known_before c items → sight_with o w.known i ≡ sight c items i
+seen_same c items i o w e k = ap (λ x. sight_with x w.known i) e ∙ ap (λ (x : Known). sight_with (callee c items i.instr) x i) k ∙ sym (sight_is c items i)
+
+knows_more : (c : Context) (items : List Item) (i : Item) (o : Option Entry) (w new : Walk) → o ≡ callee c items i.instr → ((to : ℕ) → target Shape i.instr ≡ Some to → HasEntry c.list to (scale_before c items)) → KnowsAt c items w → Passes (sight_with o w.known i) w new → KnowsAt c (i ∷ items) new
+knows_more c items i o w new e keyed k s =
+    let v = seen_same c items i o w e k.known in
+    record {
+      known = s.known ∙ ap (λ (x : Seen). x.after) v;
+      lit = subst (λ (x : Seen). IsLeast (corners x.extent x.place ++ lit_points c items) new.lit) v (s.lit (lit_points c items) k.lit);
+      fine = (k.fine, record { straight = subst IsStraight v s.asked.straight; keyed = keyed });
+    }
+
+-- ---- a made list with the entries of this one knows the same
+
+pub same_if : (a b : List Entry) (scale : Key) → Extends a b → (o : Option ℕ) → ((to : ℕ) → o ≡ Some to → HasEntry a to scale) → SameAt a b o scale
+same_if a b scale ext None h = tt
+same_if a b scale ext (Some to) h =
+    let f = h to refl in
+    (f.0, f.1, ext to scale f.0 f.1)
+
+pub matched_fine : (a b : List Entry) (key : Key) → Extends a b → (items : List Item) → AllFine (keyed_context a key) items → Matched a b key items
+matched_fine a b key ext [] h = tt
+matched_fine a b key ext (i ∷ items) h = (matched_fine a b key ext items h.0, same_if a b _ ext (target Shape i.instr) h.1.keyed)
+
+-- the made entry of the shape
+record Its (rom : Rom) (made : List Entry) (w : Walk) : Type 0 where
+  f : Entry
+  addr : f.addr ≡ w.addr
+  key : f.key ≡ w.key
+  is : MadeEntry rom made f
+  entry : IsEntry rom.map.rom_first rom.map.rom_last f
+
+pub listed_entry : (first last : ℕ) (list : List Entry) (e : Entry) → AllByRecursion (IsEntry first last) list → Contains list e → IsEntry first last e
+listed_entry first last list e all c = at_place (IsEntry first last) list e all c
+
+its : (rom : Rom) (roots : List (ℕ × Key)) (made : List Entry) (w : Walk) → Made rom roots made → HasEntry made w.addr w.key → Its rom made w
+its rom roots made w m h =
+    let l = listed_at made w.addr w.key h.0 h.1 in
+    record { f = h.0; addr = l.addr_is; key = l.key_is; is = m.each h.0 l.listed; entry = listed_entry rom.map.rom_first rom.map.rom_last made h.0 m.certificate.each l.listed }
+
+module _ (rom : Rom) (list : List Entry) (w : Walk) where
+  abbrev c : Context
+  c = keyed_context list w.key
+
+  lead_of : (made : List Entry) (t : Its rom made w) (items : List Item) (p : ℕ) → LeadsTo Shape (rom_word rom) w.addr items p → LeadsTo Shape (rom_word rom) t.f.addr items p
+  lead_of made t items p l = subst (λ a. LeadsTo Shape (rom_word rom) a items p) (sym t.addr) l
+
+  -- nothing stands where the walk stands
+  none_there : (items : List Item) → LeadsTo Shape (rom_word rom) w.addr items w.at → ((format : Format) (i : Instr) → cell_at (rom_word rom) w.at ≡ Holds format i → ⊥) → NeverAt rom list w.addr w.key
+  none_there items lead not roots made m ext has =
+      let t = its rom roots made w m has in
+      let h = stands_at rom made t.f t.is items w.at (lead_of made t items w.at lead) in
+      not h.0 h.1 h.2
+
+  -- the item is not as it is asked
+  none_asked : (items : List Item) (i : Item) (o : Option Entry) → LeadsTo Shape (rom_word rom) w.addr items i.at → cell_at (rom_word rom) i.at ≡ Holds i.format i.instr → KnowsAt c items w → o ≡ callee c items i.instr → ((to : ℕ) → target Shape i.instr ≡ Some to → HasEntry list to (scale_before c items)) → (IsAsked (sight_with o w.known i) → ⊥) → NeverAt rom list w.addr w.key
+  none_asked items i o lead is k e keyed not roots made m ext has =
+      let t = its rom roots made w m has in
+      let allows = allows_at rom made t.f t.is items i (lead_of made t items i.at lead) is in
+      let match : Matched list made w.key (i ∷ items) = (matched_fine list made w.key ext items k.fine, same_if list made _ ext (target Shape i.instr) keyed) in
+      let v : sight (shape_context made t.f) items i ≡ sight_with o w.known i = ap (λ (x : Key). sight (keyed_context made x) items i) t.key ∙ sym (sight_same list made w.key items i match) ∙ sym (seen_same c items i o w e k.known) in
+      let here : Allows t.f (sight_with o w.known i) = subst (Allows t.f) v allows in
+      not (record { straight = here.straight; deep = omega (arith, here.deep, t.entry.depth); many = omega (arith, here.many, t.entry.words_high) })
+
+  -- the entry is past a limit
+  none_says : (new : Walk) (items : List Item) (i : Item) → LeadsTo Shape (rom_word rom) w.addr items i.at → cell_at (rom_word rom) i.at ≡ Holds i.format i.instr → next_place Shape i ≡ None → new.addr ≡ w.addr → new.key ≡ w.key → KnowsAt c (i ∷ items) new → (IsEntry rom.map.rom_first rom.map.rom_last (entry_of new) → ⊥) → NeverAt rom list w.addr w.key
+  none_says new items i lead is last addr key k not roots made m ext has =
+      let t = its rom roots made w m has in
+      let sums = sums_of rom made t.f t.is items i (lead_of made t items i.at lead) is last in
+      let all : gathered (shape_context made t.f) (i ∷ items) ≡ gathered c (i ∷ items) = ap (λ (x : Key). gathered (keyed_context made x) (i ∷ items)) t.key ∙ sym (gathered_same list made w.key (i ∷ items) (matched_fine list made w.key ext (i ∷ items) k.fine)) in
+      let known : known_of t.f ≡ new.known = sym sums.known ∙ ap (λ (x : Gathered). x.known) all ∙ sym k.known in
+      let lit : t.f.lit ≡ new.lit = one_least (lit_points c (i ∷ items)) t.f.lit new.lit (subst (λ l. IsLeast l t.f.lit) (ap (λ (x : Gathered). x.lit) all) sums.box) k.lit in
+      let addr_is : t.f.addr ≡ new.addr = t.addr ∙ sym addr in
+      let key_is : t.f.key ≡ new.key = t.key ∙ sym key in
+      let same : t.f ≡ entry_of new = λ x. record { addr = addr_is x; key = key_is x; stop = (known x).place; lit = lit x; depth = (known x).depth; words = (known x).words; scale = (known x).scale } in
+      not (subst (IsEntry rom.map.rom_first rom.map.rom_last) same t.entry)
+
+-- ---- the walk
+
+-- the walk so far
+pub record Walking (rom : Rom) (list : List Entry) (from w : Walk) : Type 0 where
+  pub addr : w.addr ≡ from.addr
+  pub key : w.key ≡ from.key
+  pub walk : IsWalk rom list w
+
+record IsCalled (c : Context) (items : List Item) (i : Item) (o : Option Entry) : Type 0 where
+  is : o ≡ callee c items i.instr
+  keyed : (to : ℕ) → target Shape i.instr ≡ Some to → HasEntry c.list to (scale_before c items)
+
+called_now : (list : List Entry) (key : Key) (items : List Item) (i : Item) (scale : Key) (o : Option Entry) → scale ≡ scale_before (keyed_context list key) items → IsCallee list i.instr scale o → IsCalled (keyed_context list key) items i o
+called_now list key items i scale o e h =
+    record { is = h.value ∙ ap (callee_at list (target Shape i.instr)) e; keyed = λ to t. subst (HasEntry list to) e (h.keyed to t) }
+
+fits_target : (i : Instr) (to : ℕ) → InstrFits i → target Shape i ≡ Some to → to < 4096
+fits_target (Draws d) to f e = cc
+fits_target (Labs x y g) to f e = cc
+fits_target Halt to f e = cc
+fits_target (Jsrl t) to f e = let q : t ≡ to = cc in omega (arith, q, f)
+fits_target Rtsl to f e = cc
+fits_target (Jmpl t) to f e = let q : t ≡ to = cc in omega (arith, q, f)
+
+module _ (rom : Rom) (list : List Entry) (from w : Walk) (h : Walking rom list from w) where
+  as_from : NeverAt rom list w.addr w.key → NeverAt rom list from.addr from.key
+  as_from n = subst (NeverAt rom list from.addr) h.key (subst (λ a. NeverAt rom list a w.key) h.addr n)
+
+  pub nothing_there : ((format : Format) (i : Instr) → cell_at (rom_word rom) w.at ≡ Holds format i → ⊥) → NeverAt rom list from.addr from.key
+  nothing_there not = as_from (none_there rom list w h.walk.items h.walk.leads not)
+
+  module _ (format : Format) (instr : Instr) (is : cell_at (rom_word rom) w.at ≡ Holds format instr) where
+    abbrev i : Item
+    i = record { at = w.at; format = format; instr = instr }
+
+    pub waits : (addr : ℕ) → InstrFits instr → LacksCallee list instr w.known.scale addr → IsWaiting rom list from w addr
+    waits addr fits m =
+        record { same_addr = h.addr; same_key = h.key; walk = h.walk; item = i; at = refl; stands = is; target_is = m.target_is; none = m.none; near = fits_target instr addr fits m.target_is; scale = h.walk.sound.scale }
+
+    module _ (o : Option Entry) (nm : IsCallee list instr w.known.scale o) where
+      known : IsCalled (keyed_context list w.key) h.walk.items i o
+      known = called_now list w.key h.walk.items i w.known.scale o (ap (λ (k : Known). k.scale) h.walk.knows.known) nm
+
+      pub not_asked : (IsAsked (sight_with o w.known i) → ⊥) → NeverAt rom list from.addr from.key
+      not_asked not = as_from (none_asked rom list w h.walk.items i o h.walk.leads is h.walk.knows known.is known.keyed not)
+
+      module _ (next : Walk) (s : Passes (sight_with o w.known i) w next) where
+        knows_next : KnowsAt (keyed_context list w.key) (i ∷ h.walk.items) next
+        knows_next = knows_more (keyed_context list w.key) h.walk.items i o w next known.is known.keyed h.walk.knows s
+
+        pub onward : (p : ℕ) → w.at < 4096 → InstrFits instr → IsSound (w.at + 1) next.known → next_place Shape i ≡ Some p → Walking rom list from (record next { at = p })
+        onward p lt fits sound goes =
+            let k : KnowsAt (keyed_context list next.key) (i ∷ h.walk.items) next = subst (λ (x : Key). KnowsAt (keyed_context list x) (i ∷ h.walk.items) next) (sym s.key) knows_next in
+            record {
+              addr = s.addr ∙ h.addr;
+              key = s.key ∙ h.key;
+              walk = record {
+                items = i ∷ h.walk.items;
+                leads = (subst (λ a. LeadsTo Shape (rom_word rom) a h.walk.items w.at) (sym s.addr) h.walk.leads, is, goes);
+                knows = record { known = k.known; lit = k.lit; fine = k.fine };
+                sound = record { place = IsNearPlace-more (w.at + 1) p next.known.place (next_further Shape i p goes) sound.place; scale = sound.scale; words = sound.words; depth = sound.depth };
+                close = next_near Shape w.at format instr p lt fits goes;
+              };
+            }
+
+        pub not_ended : next_place Shape i ≡ None → (IsEntry rom.map.rom_first rom.map.rom_last (entry_of next) → ⊥) → NeverAt rom list from.addr from.key
+        not_ended last not = as_from (none_says rom list w next h.walk.items i h.walk.leads is last s.addr s.key knows_next not)
+
+        pub finished : (e : Entry) → next_place Shape i ≡ None → e ≡ entry_of next → IsEntry rom.map.rom_first rom.map.rom_last e → IsFinished rom list from e
+        finished e last same entry =
+            let k : KnowsAt (keyed_context list next.key) (i ∷ h.walk.items) next = subst (λ (x : Key). KnowsAt (keyed_context list x) (i ∷ h.walk.items) next) (sym s.key) knows_next in
+            let leads : LeadsTo Shape (rom_word rom) next.addr h.walk.items w.at = subst (λ a. LeadsTo Shape (rom_word rom) a h.walk.items w.at) (sym s.addr) h.walk.leads in
+            let made : MadeEntry rom list (entry_of next) = ends_made rom list (entry_of next) (record { items = h.walk.items; i = i; leads = leads; is = is; last = last; sums = record { known = sym k.known; box = k.lit }; fine = k.fine }) in
+            record {
+              addr = ap (λ (x : Entry). x.addr) same ∙ s.addr ∙ h.addr;
+              key = ap (λ (x : Entry). x.key) same ∙ s.key ∙ h.key;
+              entry = entry;
+              made = subst (MadeEntry rom list) (sym same) made;
+            }
+
+pub on_err : {T E : Type 0} (r : Result T E) (P : Type 0) → P → OnErr r P
+on_err (Ok x) P h = tt
+on_err (Err x) P h = h
+
+-- a called entry is within the limits
+pub claim_of : (rom : Rom) (list : List Entry) (i : Instr) (scale : Key) (o : Option Entry) → rom.map.rom_last < 4096 → ((e : Entry) → Contains list e → IsEntry rom.map.rom_first rom.map.rom_last e) → IsCallee list i scale o → IfSome o IsClaim
+claim_of rom list i scale o last entries h = by_target (target Shape i) refl
+  where
+    by_target : (t : Option ℕ) → target Shape i ≡ t → IfSome o IsClaim
+    by_target None e = let none : o ≡ None = h.value ∙ ap (λ x. callee_at list x scale) e in subst (λ (x : Option Entry). IfSome x IsClaim) (sym none) tt
+    by_target (Some to) e =
+        let f = h.keyed to e in
+        let some : o ≡ Some f.0 = h.value ∙ ap (λ x. callee_at list x scale) e ∙ exact_named list to scale f.0 f.1 in
+        let is = entries f.0 (listed_at list to scale f.0 f.1).listed in
+        subst (λ (x : Option Entry). IfSome x IsClaim) (sym some) (record { key = is.key; stop = is.stop; lit = is.lit; depth = is.depth; words = is.words_high; scale = is.scale; addr = omega (arith, is.addr_high, last) })

@@ -1,0 +1,5 @@
+use Rattle.dvg_make.proofs.Boxes.{one_least as law}
+use Rattle.dvg_make.proofs.laws.one_least.Goals as goal
+
+pub returns : goal.returns
+returns c = law

@@ -1,0 +1,31 @@
+-- The laws of made lists, over the definitions alone, for every map and window.
+use Rattle.std.specs.Prelude.{◌≡◌, ◌↔◌, ℕ, List, Contains}
+use Rattle.dvg_words.specs.Values.{Window}
+use Rattle.dvg_words.specs.Memory.{Rom}
+use Rattle.dvg_words.specs.declared.beam.Point.{Point}
+use Rattle.dvg_cert.specs.declared.entry.Entry.{Entry}
+use Rattle.dvg_cert.specs.declared.entry.Key.{Key}
+use Rattle.dvg_cert.specs.declared.entry.LitBox.{LitBox}
+use Rattle.dvg_check.specs.Known.{shape_context, place_before}
+use Rattle.dvg_check.specs.Lit.{extent, LitInWindow}
+use Rattle.dvg_check.specs.Rules.{Good}
+use Rattle.dvg_check.specs.declared.fault.Mode.TheVariants.{Bound, Exact}
+use Rattle.dvg_make.specs.Least.{IsLeast}
+use Rattle.dvg_make.specs.Made.{EachItem, Made}
+
+-- points have one least box at the most
+abbrev pub OneLeast : Type 0
+OneLeast = (ps : List Point) (a b : LitBox) → IsLeast ps a → IsLeast ps b → a ≡ b
+
+-- a ROM and roots have one made list at the most
+abbrev pub OneMade : Type 0
+OneMade = (rom : Rom) (roots : List (ℕ × Key)) (a b : List Entry) → Made rom roots a → Made rom roots b → a ≡ b
+
+-- no lit stroke and no called box at an absolute place leaves the window
+abbrev pub AllInWindow : Window → Rom → List Entry → Type 0
+AllInWindow w rom list = (e : Entry) → Contains list e → EachItem rom e.addr (λ earlier i. LitInWindow w (extent (shape_context list e) earlier i.instr) (place_before (shape_context list e) earlier))
+
+-- a made list is good exactly there, and its counts are then exact
+abbrev pub GoodInWindow : Type 0
+GoodInWindow = (rom : Rom) (roots : List (ℕ × Key)) (list : List Entry) (w : Window) → Made rom roots list
+    → (Good Bound w rom list ↔ AllInWindow w rom list) × (Good Exact w rom list ↔ AllInWindow w rom list)

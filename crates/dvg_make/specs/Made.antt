@@ -1,0 +1,67 @@
+-- What the maker makes: the list of entries that a ROM and roots ask for. All of it is profile.
+use Rattle.std.specs.Prelude.{◌≡◌, ◌≢◌, ℕ, ◌⊎◌, List, ◌∷◌, Some, None, Contains}
+use Rattle.dvg_words.specs.Values.{Window}
+use Rattle.dvg_words.specs.Memory.{Rom, rom_word}
+use Rattle.dvg_words.specs.declared.instruction.Cell.TheVariants.{Holds}
+use Rattle.dvg_words.specs.Decoding.{cell_at}
+use Rattle.dvg_cert.specs.declared.entry.Entry.{Entry}
+use Rattle.dvg_cert.specs.declared.entry.Key.{Key}
+use Rattle.dvg_cert.specs.Order.{IsCertificate}
+use Rattle.dvg_cert.specs.Lookup.{entry_at}
+use Rattle.dvg_check.specs.Items.{next_place, LeadsTo}
+use Rattle.dvg_check.specs.declared.item.Kind.TheVariants.{Shape}
+use Rattle.dvg_check.specs.declared.item.Item.{Item}
+use Rattle.dvg_check.specs.Known.{shape_context, target, callee, scale_before}
+use Rattle.dvg_check.specs.Rules.{ShapePlaceKeeps, AllKeep}
+use Rattle.dvg_check.specs.declared.fault.ShapeWhy.{ShapeWhy}
+use Rattle.dvg_check.specs.declared.fault.Mode.TheVariants.{Exact}
+use Rattle.dvg_check.specs.declared.fault.ShapeWhy.TheVariants as shape
+use Rattle.dvg_make.specs.Least.{lit_points, IsLeast}
+
+-- ---- one entry
+
+-- the list has an entry at just this address and key (profile)
+abbrev pub HasEntry : List Entry → ℕ → Key → Type 0
+HasEntry list addr key = (e : Entry) × (entry_at list addr key ≡ Some e)
+
+-- holds of each item of the shape at an address, with the items before it (profile)
+abbrev pub EachItem : Rom → ℕ → (List Item → Item → Type 0) → Type 0
+EachItem rom addr P = (earlier : List Item) (i : Item) → LeadsTo Shape (rom_word rom) addr earlier i.at → cell_at (rom_word rom) i.at ≡ Holds i.format i.instr → P earlier i
+
+-- holds of all items of the shape at an address (profile)
+abbrev pub AtEnd : Rom → ℕ → (List Item → Type 0) → Type 0
+AtEnd rom addr P = EachItem rom addr (λ earlier i. next_place Shape i ≡ None → P (i ∷ earlier))
+
+-- the rules of shapes with exact counts, but for what is lit at absolute places (profile)
+abbrev pub MadeKeeps : Rom → List Entry → Entry → List Item → ℕ → ShapeWhy → Type 0
+MadeKeeps rom list e earlier p why = (w : Window) → why ≢ shape.OffScreen → ShapePlaceKeeps Exact w rom list e earlier p why
+
+-- the entry of a shape as it is made (profile)
+pub record MadeEntry (rom : Rom) (list : List Entry) (e : Entry) : Type 0 where
+  -- its counts are exact, its end and its scale are what is known there
+  pub keeps : AllKeep Shape (rom_word rom) e.addr (MadeKeeps rom list e)
+  -- each call and tail jump has an entry with its target as address and the known scale before it as key
+  pub keyed : EachItem rom e.addr (λ earlier i. (to : ℕ) → target Shape i.instr ≡ Some to → HasEntry list to (scale_before (shape_context list e) earlier))
+  -- its box is the least one
+  pub box : AtEnd rom e.addr (λ items. IsLeast (lit_points (shape_context list e) items) e.lit)
+
+-- ---- the list
+
+-- an item of the one entry's shape calls or tail jumps to the other entry (profile)
+pub record Needs (rom : Rom) (list : List Entry) (e f : Entry) : Type 0 where
+  pub earlier : List Item
+  pub item : Item
+  pub leads : LeadsTo Shape (rom_word rom) e.addr earlier item.at
+  pub stands : cell_at (rom_word rom) item.at ≡ Holds item.format item.instr
+  pub callee_is : callee (shape_context list e) earlier item.instr ≡ Some f
+
+-- the list that a ROM and roots ask for (profile)
+pub record Made (rom : Rom) (roots : List (ℕ × Key)) (list : List Entry) : Type 0 where
+  -- it is a certificate's
+  pub certificate : IsCertificate rom.map.rom_first rom.map.rom_last list
+  -- each of its entries is as it is made
+  pub each : (e : Entry) → Contains list e → MadeEntry rom list e
+  -- each root has its entry
+  pub rooted : (addr : ℕ) (key : Key) → Contains roots (addr, key) → HasEntry list addr key
+  -- each entry is a root's, or another one needs it
+  pub needed : (f : Entry) → Contains list f → Contains roots (f.addr, f.key) ⊎ ((e : Entry) × Contains list e × Needs rom list e f)

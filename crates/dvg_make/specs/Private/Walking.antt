@@ -1,0 +1,125 @@
+-- A shape in the making.
+use Rattle.std.specs.Prelude.{◌≡◌, ◌≢◌, ℕ, ◌<◌, ◌≤◌, pos, List, [], ◌∷◌, ◌++◌, Option, Some, None}
+use Rattle.dvg_words.specs.declared.instruction.Instr.{Instr}
+use Rattle.dvg_words.specs.declared.instruction.Instr.TheVariants.{Halt}
+use Rattle.dvg_words.specs.declared.instruction.Cell.TheVariants.{Holds}
+use Rattle.dvg_words.specs.Decoding.{cell_at}
+use Rattle.dvg_words.specs.declared.beam.Point.{Point}
+use Rattle.dvg_words.specs.Memory.{Rom, rom_word}
+use Rattle.dvg_cert.specs.Entry.{IsKey, IsEntry}
+use Rattle.dvg_cert.specs.declared.entry.Entry.{Entry}
+use Rattle.dvg_cert.specs.declared.entry.Key.{Key}
+use Rattle.dvg_cert.specs.declared.entry.End.TheVariants.{Rel}
+use Rattle.dvg_cert.specs.declared.entry.LitBox.TheVariants.{Empty}
+use Rattle.dvg_cert.specs.Lookup.{entry_at}
+use Rattle.dvg_check.specs.Items.{LeadsTo}
+use Rattle.dvg_check.specs.declared.item.Kind.TheVariants.{Shape}
+use Rattle.dvg_check.specs.declared.item.Item.{Item}
+use Rattle.dvg_check.specs.Known.{Context, target, callee_at, scale_before, depth_under, known_before}
+use Rattle.dvg_check.specs.Lit.{PlaceKnown, ScaleKnown}
+use Rattle.dvg_check.specs.Rules.{sight}
+use Rattle.dvg_check.specs.declared.known.Seen.{Seen}
+use Rattle.dvg_check.specs.Private.Running.{IsSound}
+use Rattle.dvg_make.specs.declared.walk.Walk.{Walk}
+use Rattle.dvg_make.specs.declared.walk.Progress.{Progress}
+use Rattle.dvg_make.specs.declared.walk.Progress.TheVariants.{Finished, Waiting}
+use Rattle.dvg_make.specs.Least.{corners, lit_points, IsLeast}
+use Rattle.dvg_make.specs.Made.{HasEntry, MadeEntry, Made}
+
+-- what the items of a shape stand in that starts at this key
+abbrev pub keyed_context : List Entry → Key → Context
+keyed_context list key = record { kind = Shape; list = list; scale = key }
+
+-- before the first item
+abbrev pub start : ℕ → Key → Walk
+start addr key = record { addr = addr; key = key; at = addr; known = record { place = Rel (pos 0) (pos 0); scale = key; words = 0; depth = 0 }; lit = Empty }
+
+-- the entry by what is known after the last item
+abbrev pub entry_of : Walk → Entry
+entry_of w = record { addr = w.addr; key = w.key; stop = w.known.place; lit = w.lit; depth = w.known.depth; words = w.known.words; scale = w.known.scale }
+
+-- what is asked of an item that is seen: that it is no HALT, and lights only at a known place and scale
+pub record IsStraight (v : Seen) : Type 0 where
+  pub no_halt : v.item.instr ≢ Halt
+  pub place : PlaceKnown v.extent v.place
+  pub scale : ScaleKnown v.extent
+
+-- what is asked of an item that is seen, with the entry that it calls
+pub record IsAsked (v : Seen) : Type 0 where
+  pub straight : IsStraight v
+  pub deep : depth_under v.item.instr v.callee ≤ 3
+  pub many : v.after.words ≤ 1000000
+
+-- past one item that is seen, which is as asked
+pub record Passes (v : Seen) (w new : Walk) : Type 0 where
+  pub addr : new.addr ≡ w.addr
+  pub key : new.key ≡ w.key
+  pub known : new.known ≡ v.after
+  pub lit : (ps : List Point) → IsLeast ps w.lit → IsLeast (corners v.extent v.place ++ ps) new.lit
+  pub asked : IsAsked v
+
+-- the item is straight, and its target has its entry
+pub record IsFine (c : Context) (earlier : List Item) (i : Item) : Type 0 where
+  pub straight : IsStraight (sight c earlier i)
+  pub keyed : (to : ℕ) → target Shape i.instr ≡ Some to → HasEntry c.list to (scale_before c earlier)
+
+abbrev pub AllFine : Context → List Item → Type 0
+AllFine c [] = Unit {0}
+AllFine c (i ∷ earlier) = AllFine c earlier × IsFine c earlier i
+
+-- the walk knows what these items leave, and each is fine
+pub record KnowsAt (c : Context) (items : List Item) (w : Walk) : Type 0 where
+  pub known : w.known ≡ known_before c items
+  pub lit : IsLeast (lit_points c items) w.lit
+  pub fine : AllFine c items
+
+pub record IsWalk (rom : Rom) (list : List Entry) (w : Walk) : Type 0 where
+  pub items : List Item
+  pub leads : LeadsTo Shape (rom_word rom) w.addr items w.at
+  pub knows : KnowsAt (keyed_context list w.key) items w
+  pub sound : IsSound w.at w.known
+  pub close : w.at ≤ 4098
+
+-- the other list has all entries of the one
+abbrev pub Extends : List Entry → List Entry → Type 0
+Extends a b = (addr : ℕ) (key : Key) (e : Entry) → entry_at a addr key ≡ Some e → entry_at b addr key ≡ Some e
+
+-- no made list that has the entries of this one has one at this address and key
+abbrev pub NeverAt : Rom → List Entry → ℕ → Key → Type 0
+NeverAt rom list addr key = (roots : List (ℕ × Key)) (made : List Entry) → Made rom roots made → Extends list made → HasEntry made addr key → ⊥
+
+-- the entry that an instruction calls, by exact key
+pub record IsCallee (list : List Entry) (i : Instr) (scale : Key) (callee : Option Entry) : Type 0 where
+  pub value : callee ≡ callee_at list (target Shape i) scale
+  pub keyed : (to : ℕ) → target Shape i ≡ Some to → HasEntry list to scale
+
+-- the list has no entry for the target of an instruction
+pub record LacksCallee (list : List Entry) (i : Instr) (scale : Key) (addr : ℕ) : Type 0 where
+  pub target_is : target Shape i ≡ Some addr
+  pub none : entry_at list addr scale ≡ None
+
+-- ---- how far a shape was made
+
+-- its entry is made
+pub record IsFinished (rom : Rom) (list : List Entry) (w : Walk) (e : Entry) : Type 0 where
+  pub addr : e.addr ≡ w.addr
+  pub key : e.key ≡ w.key
+  pub entry : IsEntry rom.map.rom_first rom.map.rom_last e
+  pub made : MadeEntry rom list e
+
+-- it stands at an item that calls for an entry that is not there
+pub record IsWaiting (rom : Rom) (list : List Entry) (w new : Walk) (addr : ℕ) : Type 0 where
+  pub same_addr : new.addr ≡ w.addr
+  pub same_key : new.key ≡ w.key
+  pub walk : IsWalk rom list new
+  pub item : Item
+  pub at : item.at ≡ new.at
+  pub stands : cell_at (rom_word rom) item.at ≡ Holds item.format item.instr
+  pub target_is : target Shape item.instr ≡ Some addr
+  pub none : entry_at list addr new.known.scale ≡ None
+  pub near : addr < 4096
+  pub scale : IsKey new.known.scale
+
+abbrev pub Advances : Rom → List Entry → Walk → Progress → Type 0
+Advances rom list w (Finished e) = IsFinished rom list w e
+Advances rom list w (Waiting new addr) = IsWaiting rom list w new addr

@@ -1,0 +1,79 @@
+//! The entries that are made, by address and key.
+
+ghost use Rattle.std.specs.Prelude.{◌≡◌, ◌++◌, [], ◌∷◌, length, ℕ, IfOk, OnOk, OnErr, None};
+ghost use Rattle.dvg_cert.specs.declared.entry.Key.{Key as KeyValue};
+ghost use Rattle.dvg_cert.specs.Order.{IsRising};
+ghost use Rattle.dvg_cert.specs.Lookup.{entry_at};
+
+use dvg_cert::{Entry, Key};
+use indexmap::IndexMap;
+use std::alloc::{AllocError, Global};
+use std::marker::Model;
+
+/// The entries that are made, by address and key.
+#[derive(Drop)]
+pub struct Done {
+    found: IndexMap<(u16, Key), Entry>,
+}
+
+impl Model for Done {
+    ghost use Rattle.std.specs.Prelude.{List};
+    ghost use Rattle.dvg_cert.specs.declared.entry.Entry.{Entry};
+    ghost use Rattle.std.specs.Map.{values_of};
+    ghost use Rattle.dvg_make.specs.Private.Keyed.{IsKeyed};
+
+    ghost Value = { List Entry };
+
+    ghost view = { λ done. values_of done.found.entries };
+
+    ghost invariant = { λ done. IsKeyed done.found.entries };
+}
+
+impl Done {
+    pub fn new(alloc: Global) -> Done
+        ensures { result ≡ [] }
+    {
+        Done {
+            found: IndexMap::new(alloc),
+        }
+    }
+
+    /// The entry at an address and key.
+    pub fn find(&self, addr: u16, key: Key) -> Option<Entry>
+        ensures { result ≡ entry_at self.now addr key }
+    {
+        self.found.get(&(addr, key)).copied()
+    }
+
+    pub fn len(&self) -> usize
+        ensures { result ≡ length self.now }
+    {
+        self.found.len()
+    }
+
+    /// Adds an entry whose address and key have none.
+    pub fn add(&mut self, entry: Entry) -> Result<(), AllocError>
+        requires { entry_at self.old entry.addr entry.key ≡ None }
+        ensures ok { OnOk result (self.new ≡ self.old ++ entry ∷ []) }
+        ensures err { OnErr result (self.new ≡ self.old) }
+    {
+        self.found.insert((entry.addr, entry.key), entry)?;
+        Ok(())
+    }
+
+    /// Puts the entries in the order of a certificate.
+    pub fn sort(&mut self) -> Result<(), AllocError>
+        ensures rising { OnOk result (IsRising self.new) }
+        ensures same { OnOk result ((addr : ℕ) (key : KeyValue) → entry_at self.new addr key ≡ entry_at self.old addr key) }
+        ensures len { OnOk result (length self.new ≡ length self.old) }
+    {
+        self.found.sort_keys()
+    }
+
+    /// The entries in their order.
+    pub fn entries(&self, alloc: Global) -> Result<Vec<Entry>, AllocError>
+        ensures { IfOk result (λ entries. entries.items ≡ self.now) }
+    {
+        self.found.values().copied().collect(alloc)
+    }
+}
