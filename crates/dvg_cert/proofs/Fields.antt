@@ -1,5 +1,5 @@
 -- A field that is read is the field that is spelled, and what is spelled is read again.
-use Rattle.std.proofs.Common.{◌≡◌, ℕ, suc, ◌+◌, ◌*◌, ◌/◌, ◌%◌, ◌^◌, ◌<◌, ◌≤◌, Bool, true, false, cond, ◌&&◌, List, [], ◌∷◌, length, Option, Some, None, refl, sym, ap, subst, ◌∙◌, arith}
+use Rattle.std.proofs.Common.{◌≡◌, ℕ, suc, ◌+◌, ◌*◌, ◌/◌, ◌%◌, ◌^◌, ◌<◌, ◌≤◌, Bool, true, false, cond, ◌&&◌, List, [], ◌∷◌, length, Option, Some, None, IfSome, IfNone, refl, sym, ap, subst, ◌∙◌, arith}
 use Rattle.std.specs.Prelude.{codes, decimal, nat_le, nat_lt, ◌==◌, ℤ, pos, negsuc, neg_ℤ}
 use Rattle.std.specs.Option.{option_map}
 use Rattle.std.specs.Fmt.{signed_decimal, digit_glyph}
@@ -172,3 +172,21 @@ pub address_again : (first last a : ℕ) → last < 4096 → first ≤ a → a �
 address_again first last a small from to =
     hex_made first last (a / 256) (a / 16 % 16) (a % 16) a (digit_glyph true (a / 256)) (digit_glyph true (a / 16 % 16)) (digit_glyph true (a % 16)) (omega arith) (omega arith) (omega arith) (omega arith) from to
     (glyph_again (a / 256) (omega arith)) (glyph_again (a / 16 % 16) (omega arith)) (glyph_again (a % 16) (omega arith))
+
+-- ---- tokens on their own
+
+pub address_found : (token : List ℕ) (o : Option ℕ) → o ≡ address_in 0 4095 token → IfSome o (λ a. (a < 4096) × (token ≡ address_token a))
+address_found token None e = tt
+address_found token (Some a) e = let t = address_takes 0 4095 token a (omega arith) (sym e) in (omega (arith, t.2), t.0)
+
+pub no_address : (token : List ℕ) (o : Option ℕ) → o ≡ address_in 0 4095 token → IfNone o ((a : ℕ) → a < 4096 → token ≡ address_token a → ⊥)
+no_address token None e = λ a small is. let again = address_again 0 4095 a (omega arith) (omega arith) (omega (arith, small)) in let found : address_in 0 4095 token ≡ Some a = ap (address_in 0 4095) is ∙ again in cc
+no_address token (Some a) e = tt
+
+pub key_found : (token : List ℕ) (o : Option Key) → o ≡ key_in token → IfSome o (λ k. IsKey k × (token ≡ key_token k))
+key_found token None e = tt
+key_found token (Some k) e = let t = key_takes token k (sym e) in (t.1, t.0)
+
+pub no_key : (token : List ℕ) (o : Option Key) → o ≡ key_in token → IfNone o ((k : Key) → IsKey k → token ≡ key_token k → ⊥)
+no_key token None e = λ k h is. let again = key_again k h in let found : key_in token ≡ Some k = ap key_in is ∙ again in cc
+no_key token (Some k) e = tt

@@ -21,6 +21,7 @@ pub use counted::{Counted, CountedRead, CountedWrite};
 pub use entry::{End, Entry, Key, LitBox};
 pub use fault::{CertFault, CertWhy, WriteFault};
 pub use lookup::{Entries, ListIndex};
+pub use numerals::{read_address, read_key};
 pub use reader::{CertReader, read_cert};
 pub use writer::{write_bytes, write_cert};
 

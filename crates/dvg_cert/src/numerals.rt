@@ -1,7 +1,12 @@
 //! The values of single tokens.
 
 ghost use Rattle.std.specs.Prelude.{◌≡◌, ℕ, ◌^◌, ◌<◌, ◌≤◌, ◌↔◌, decimal, length, slice_index, IsTrue, IfSome, IfNone};
-ghost use Rattle.dvg_cert.specs.Tokens.{hex_value, natural_in, number_in, address_in, limit};
+ghost use Rattle.dvg_cert.specs.Entry.{IsKey};
+ghost use Rattle.dvg_cert.specs.declared.entry.Key.{Key as KeyValue};
+ghost use Rattle.dvg_cert.specs.Grammar.{address_token, key_token};
+ghost use Rattle.dvg_cert.specs.Tokens.{hex_value, natural_in, number_in, key_in, address_in, limit};
+
+use crate::entry::Key;
 
 const LIMIT: u64 = 2_000_000_000_000;
 
@@ -23,6 +28,34 @@ pub fn address(token: &[u8], first: u16, last: u16) -> Option<u16>
     } else {
         None
     }
+}
+
+/// The word address that a token spells: three hexadecimal digits in capitals.
+pub fn read_address(token: &[u8]) -> Option<u16>
+    ensures some { IfSome result (λ addr. (addr < 4096) × (token.now ≡ address_token addr)) }
+    ensures none { IfNone result ((addr : ℕ) → addr < 4096 → token.now ≡ address_token addr → ⊥) }
+{
+    address(token, 0, 0xFFF)
+}
+
+/// The key that a token spells, a scale of 0 to 15 or any.
+#[tactic(auto, unfolding(crate::specs::Tokens::key_in))]
+pub fn key(token: &[u8]) -> Option<Key>
+    ensures { result ≡ key_in token.now }
+{
+    if token == b"any".as_slice() {
+        return Some(Key::Any);
+    }
+    let number = natural(token, 0, 15)?;
+    Some(Key::At(number as u8))
+}
+
+/// The key that a token spells: the decimal of a scale of 0 to 15, or `any`.
+pub fn read_key(token: &[u8]) -> Option<Key>
+    ensures some { IfSome result (λ key. IsKey key × (token.now ≡ key_token key)) }
+    ensures none { IfNone result ((key : KeyValue) → IsKey key → token.now ≡ key_token key → ⊥) }
+{
+    key(token)
 }
 
 /// The value of a capital hexadecimal digit, or 16.

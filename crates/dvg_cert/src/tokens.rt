@@ -5,7 +5,7 @@ ghost use Rattle.std.specs.List.{slice_split};
 ghost use Rattle.dvg_cert.specs.Tokens.{Reads, natural_in, number_in, key_in, address_in, the_token, by_token, end_at, box_at, entry_at, limit};
 
 use crate::entry::{End, Entry, Key, LitBox};
-use crate::numerals::{address, natural, number};
+use crate::numerals::{address, key, natural, number};
 use std::marker::Model;
 
 /// The tokens of a line that are left: the bytes after the space that ended the last token taken.
@@ -80,16 +80,11 @@ impl<'a> Tokens<'a> {
     }
 
     /// Takes a scale, or any.
-    #[tactic(auto, unfolding(crate::specs::Tokens::bind, crate::specs::Tokens::by_token, crate::specs::Tokens::key_in))]
+    #[tactic(auto, unfolding(crate::specs::Tokens::bind, crate::specs::Tokens::by_token))]
     fn key(&mut self) -> Option<Key>
         ensures { Reads result self.new (by_token key_in self.old) }
     {
-        let token = self.next_token()?;
-        if token == b"any".as_slice() {
-            return Some(Key::Any);
-        }
-        let number = natural(token, 0, 15)?;
-        Some(Key::At(number as u8))
+        key(self.next_token()?)
     }
 
     /// Takes an address from `first` to `last`.
