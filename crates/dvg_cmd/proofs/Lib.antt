@@ -2,3 +2,4 @@ pub mod Pieces
 pub mod Limits
 pub mod Whole
 pub mod Reporting
+pub mod MakerRuns

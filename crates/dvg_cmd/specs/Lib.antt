@@ -1,3 +1,4 @@
 pub mod Report
 pub mod Runs
 pub mod Status
+pub mod Making

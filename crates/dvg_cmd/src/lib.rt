@@ -1,9 +1,10 @@
 //! Runs of the checker over readers and writers, and the report that they write.
 //!
 //! [`run_check`] reads a ROM, a certificate and a frame, judges them by [`check`] and writes one line, the report of
-//! the verdict.
+//! the verdict. [`run_make`] reads a ROM and writes the certificate that [`make`](dvg_make::make) makes.
 #![tactic(auto)]
 
+mod making;
 mod reading;
 mod report;
 mod running;
@@ -13,6 +14,8 @@ mod tests;
 
 pub use dvg_cert::{Counted, CountedRead, CountedWrite, WriteFault, write_bytes};
 pub use dvg_check::{FrameFault, FrameWhy, Refusal, Yes, check};
-pub use report::{Report, report_of};
+pub use dvg_make::MakeFault;
+pub use making::{MakeRunFault, root_of, run_make};
+pub use report::{Report, make_report_of, report_of};
 pub use running::{Outcome, RunFault, run_check};
-pub use status::{message_of, status_of};
+pub use status::{make_status_of, message_of, status_of};

@@ -2,10 +2,15 @@
 
 ghost use Rattle.std.specs.Prelude.{◌≡◌, ◌+◌, ◌≤◌, ◌<◌, ◌++◌, [], length, codes, decimal};
 ghost use Rattle.dvg_cert.specs.Grammar.{key_token};
+ghost use Rattle.dvg_cmd.specs.Status.{fault_message, make_message};
 ghost use Rattle.dvg_cmd.specs.Report.{report_text, verdict_text, accepted_text, refusal_text, cert_fault_text, shape_fault_text, frame_fault_text, hex_digit, hex_address};
 
+use crate::making::MakeRunFault;
+use crate::running::RunFault;
+use crate::status::message_of;
 use dvg_cert::{CertFault, Key};
 use dvg_check::{FrameFault, Refusal, ShapeFault, Yes};
+use dvg_make::MakeFault;
 use dvg_words::ImageFault;
 use itoa::Buffer;
 use std::marker::Model;
@@ -52,6 +57,13 @@ impl Report {
         self.bytes[self.len..end].copy_from_slice(text);
         self.len = end;
     }
+
+    fn end_line(&mut self)
+        requires { length self.old ≤ 63 }
+        ensures { self.new ≡ self.old ++ codes "\n" }
+    {
+        self.push(b"\n");
+    }
 }
 
 /// The line of a verdict, with its LF. Takes no memory.
@@ -60,8 +72,45 @@ pub fn report_of(verdict: &Result<Yes, Refusal>) -> Report
 {
     let mut report = Report::new();
     push_verdict(&mut report, verdict);
-    report.push(b"\n");
+    report.end_line();
     report
+}
+
+/// The line on standard error of a run that made no certificate, with its LF. Takes no memory.
+pub fn make_report_of(fault: &MakeRunFault) -> Report
+    ensures { result ≡ make_message fault.now ++ codes "\n" }
+{
+    let mut report = Report::new();
+    push_make_fault(&mut report, fault);
+    report.end_line();
+    report
+}
+
+fn push_make_fault(report: &mut Report, fault: &MakeRunFault)
+    requires { report.old ≡ [] }
+    ensures text { report.new ≡ make_message fault.now }
+    ensures short { length report.new ≤ 63 }
+{
+    match fault {
+        MakeRunFault::RomLength => report.push(b"refused 1"),
+        MakeRunFault::Make(MakeFault::Unstraight { word }) => {
+            report.push(b"refused 60 at ");
+            push_address(report, *word);
+        }
+        MakeRunFault::Make(MakeFault::Deep) => report.push(b"refused 61"),
+        MakeRunFault::Make(MakeFault::TooLarge) => report.push(b"refused 62"),
+        MakeRunFault::Make(MakeFault::Memory) => push_message(report, &RunFault::Memory),
+        MakeRunFault::ReadRom => push_message(report, &RunFault::ReadRom),
+        MakeRunFault::Write => push_message(report, &RunFault::Write),
+    }
+}
+
+fn push_message(report: &mut Report, fault: &RunFault)
+    requires { report.old ≡ [] }
+    ensures text { report.new ≡ fault_message fault.now }
+    ensures short { length report.new ≤ 63 }
+{
+    report.push(message_of(fault).as_bytes());
 }
 
 fn push_verdict(report: &mut Report, verdict: &Result<Yes, Refusal>)

@@ -1,9 +1,11 @@
 //! Exit statuses, and what is said on standard error.
 
 ghost use Rattle.std.specs.Prelude.{◌≡◌};
-ghost use Rattle.dvg_cmd.specs.Status.{exit_status, fault_message};
+ghost use Rattle.dvg_cmd.specs.Status.{exit_status, fault_message, make_exit_status};
 
+use crate::making::MakeRunFault;
 use crate::running::{Outcome, RunFault};
+use dvg_make::MakeFault;
 
 /// The exit status of a run: 0 accepted, 1 refused, 3 a failed read or write, 4 want of memory.
 pub fn status_of(end: &Result<Outcome, RunFault>) -> u8
@@ -27,5 +29,17 @@ pub fn message_of(fault: &RunFault) -> &'static str
         RunFault::ReadCert => "dvgcheck: cannot read the certificate",
         RunFault::Write => "dvgcheck: cannot write",
         RunFault::Memory => "dvgcheck: out of memory",
+    }
+}
+
+/// The exit status of a run of the maker: 0 made, 1 refused, 3 a failed read or write, 4 want of memory.
+pub fn make_status_of(end: &Result<(), MakeRunFault>) -> u8
+    ensures { result ≡ make_exit_status end.now }
+{
+    match end {
+        Ok(()) => 0,
+        Err(MakeRunFault::Make(MakeFault::Memory)) => 4,
+        Err(MakeRunFault::RomLength | MakeRunFault::Make(_)) => 1,
+        Err(MakeRunFault::ReadRom | MakeRunFault::Write) => 3,
     }
 }

@@ -1,6 +1,7 @@
 //! Rows: what is reported of inputs, and what a failing device leaves.
 
 mod devices;
+mod making;
 mod rows;
 
 use crate::{

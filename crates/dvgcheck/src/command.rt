@@ -1,8 +1,10 @@
 //! The command line.
 
 use clap::error::ErrorKind;
-use clap::{Arg, Command, Error, value_parser};
-use std::alloc::{AllocError, Global};
+use clap::{Arg, ArgMatches, Command, Error, value_parser};
+use dvg_cert::Key;
+use dvg_cmd::root_of;
+use std::alloc::{AllocError, AllocFailed, Global};
 use std::{env, io};
 
 /// Why the words of the command line ask for no run.
@@ -12,6 +14,8 @@ pub enum Usage {
     Clap(Error),
     /// A word is no UTF-8, or there is no command.
     Unreadable,
+    /// A word in the place of a root is none.
+    BadRoot,
     OutOfMemory,
 }
 
@@ -24,10 +28,23 @@ impl From<Error> for Usage {
     }
 }
 
+impl<T: Drop> From<AllocFailed<T>> for Usage {
+    fn from(_error: AllocFailed<T>) -> Usage {
+        Usage::OutOfMemory
+    }
+}
+
 impl From<AllocError> for Usage {
     fn from(_error: AllocError) -> Usage {
         Usage::OutOfMemory
     }
+}
+
+/// What the words ask for.
+#[derive(Drop)]
+pub enum Request<'a> {
+    Check(CheckWords<'a>),
+    Make(MakeWords<'a>),
 }
 
 /// What `check` was asked: the paths of its files, and the budget of words.
@@ -39,6 +56,13 @@ pub struct CheckWords<'a> {
     pub budget: u32,
 }
 
+/// What `make` was asked: the path of its file, and the roots.
+#[derive(Drop)]
+pub struct MakeWords<'a> {
+    pub rom: &'a str,
+    pub roots: Vec<(u16, Key)>,
+}
+
 /// The words of the command line, the program's name first.
 pub fn words(rt: &HostRuntime) -> Result<Vec<String>, Usage> {
     match env::args(rt) {
@@ -48,44 +72,82 @@ pub fn words(rt: &HostRuntime) -> Result<Vec<String>, Usage> {
     }
 }
 
-fn command<'a>(alloc: Global) -> Result<Command<'a>, AllocError> {
+const ROM_HELP: &str = "The vector ROM: 2048 bytes, low byte first";
+
+fn check_command<'a>(alloc: Global) -> Result<Command<'a>, AllocError> {
     let budget = Arg::new(alloc, "budget")
         .long("budget")
         .value_name("N")
         .help("How many words the frame may take at the most")
         .value_parser(value_parser!(u32).range(1..=1_000_000))
         .default_value("20000");
-    let check = Command::new(alloc, "check")
+    Command::new(alloc, "check")
         .about("Judges a frame over a vector ROM and its certificate, and prints the report")
-        .arg(file(alloc, "ROM", "The vector ROM: 2048 bytes, low byte first"))?
-        .arg(file(alloc, "CERT", "The certificate of the ROM's shapes"))?
-        .arg(file(
+        .arg(needed(alloc, "ROM", ROM_HELP))?
+        .arg(needed(alloc, "CERT", "The certificate of the ROM's shapes"))?
+        .arg(needed(
             alloc,
             "FRAME",
             "The frame: 2 to 2048 bytes of vector RAM, from word 000 on",
         ))?
-        .arg(budget)?;
+        .arg(budget)
+}
+
+fn make_command<'a>(alloc: Global) -> Result<Command<'a>, AllocError> {
+    let roots = needed(
+        alloc,
+        "ROOT",
+        "A shape that a program calls: its address, a slash, and a scale of 0 to 15 or any, as 800/0",
+    )
+    .num_args(1..);
+    Command::new(alloc, "make")
+        .about("Prints the certificate of shapes of a vector ROM, and of all that they call")
+        .arg(needed(alloc, "ROM", ROM_HELP))?
+        .arg(roots)
+}
+
+fn command<'a>(alloc: Global) -> Result<Command<'a>, AllocError> {
     Command::new(alloc, "dvgcheck")
         .about("Checks frames and vector ROMs of Atari's Digital Vector Generator")
         .subcommand_required(true)
         .arg_required_else_help(true)
-        .subcommand(check)
+        .subcommand(check_command(alloc)?)?
+        .subcommand(make_command(alloc)?)
 }
 
-fn file<'a>(alloc: Global, name: &'a str, help: &'a str) -> Arg<'a> {
+fn needed<'a>(alloc: Global, name: &'a str, help: &'a str) -> Arg<'a> {
     Arg::new(alloc, name).required(true).help(help)
 }
 
-/// What the words ask for. All of them are read before a file is opened.
-pub fn read_words<'a>(alloc: Global, words: &'a [String]) -> Result<CheckWords<'a>, Usage> {
-    let matches = command(alloc)?.try_get_matches_from(words)?;
-    let Some(("check", check)) = matches.subcommand() else {
-        return Err(Usage::Unreadable);
-    };
-    Ok(CheckWords {
+fn check_words<'a>(check: &ArgMatches<'a>) -> CheckWords<'a> {
+    CheckWords {
         rom: check.get_str("ROM").unwrap_or(""),
         cert: check.get_str("CERT").unwrap_or(""),
         frame: check.get_str("FRAME").unwrap_or(""),
         budget: check.get_one::<u32>("budget").unwrap_or(20_000),
+    }
+}
+
+fn make_words<'a>(alloc: Global, make: &ArgMatches<'a>) -> Result<MakeWords<'a>, Usage> {
+    let mut roots = Vec::new(alloc);
+    for word in make.get_strs("ROOT").unwrap_or(&[]) {
+        let Some(root) = root_of(word) else {
+            return Err(Usage::BadRoot);
+        };
+        roots.push(root)?;
+    }
+    Ok(MakeWords {
+        rom: make.get_str("ROM").unwrap_or(""),
+        roots,
     })
+}
+
+/// What the words ask for. All of them are read before a file is opened.
+pub fn read_words<'a>(alloc: Global, words: &'a [String]) -> Result<Request<'a>, Usage> {
+    let matches = command(alloc)?.try_get_matches_from(words)?;
+    match matches.subcommand() {
+        Some(("check", check)) => Ok(Request::Check(check_words(check))),
+        Some(("make", make)) => Ok(Request::Make(make_words(alloc, make)?)),
+        _ => Err(Usage::Unreadable),
+    }
 }

@@ -1,15 +1,19 @@
-//! `dvgcheck`: checks frames and vector ROMs of Atari's Digital Vector Generator, and prints the report.
+//! `dvgcheck`: checks frames and vector ROMs of Atari's Digital Vector Generator, and prints the report, and makes
+//! certificates.
 //!
 //! Thin over `dvg_cmd`: it reads the command line, opens the files and says how it went.
 #![tactic(auto)]
 
 mod command;
 
-use command::{CheckWords, Usage, read_words};
-use dvg_cmd::{Counted, Outcome, RunFault, message_of, run_check, status_of};
+use command::{CheckWords, MakeWords, Request, Usage, read_words};
+use dvg_cmd::{
+    Counted, MakeRunFault, Outcome, RunFault, make_report_of, make_status_of, message_of,
+    run_check, run_make, status_of,
+};
 use std::fs::File;
 use std::process::ExitCode;
-use std::{fs, io};
+use std::{fs, io, str};
 
 /// Opens the files in the order ROM, frame, certificate, before any is read, and runs the check.
 fn check(rt: &HostRuntime, words: &CheckWords) -> Result<Outcome, RunFault> {
@@ -30,6 +34,19 @@ fn open(rt: &HostRuntime, path: &str, fault: RunFault) -> Result<File, RunFault>
     fs::open(rt, path).map_err(|_| fault)
 }
 
+/// Opens the file and runs the maker.
+fn make(rt: &HostRuntime, words: &MakeWords) -> Result<(), MakeRunFault> {
+    let Ok(rom) = fs::open(rt, words.rom) else {
+        return Err(MakeRunFault::ReadRom);
+    };
+    run_make(
+        rt.alloc(),
+        &mut Counted::new(rom),
+        &words.roots,
+        &mut Counted::new(io::writer(rt)),
+    )
+}
+
 /// Says a fault on standard error. Where that can't be written either, the exit status alone tells.
 fn say(rt: &HostRuntime, message: &str) {
     let _ = eprintln!(rt; "{message}");
@@ -39,6 +56,10 @@ fn say_usage(rt: &HostRuntime, usage: &Usage) -> u8 {
     match usage {
         Usage::Unreadable => {
             say(rt, "dvgcheck: cannot read the command line");
+            2
+        }
+        Usage::BadRoot => {
+            say(rt, "dvgcheck: bad root");
             2
         }
         Usage::OutOfMemory => {
@@ -55,19 +76,34 @@ fn say_usage(rt: &HostRuntime, usage: &Usage) -> u8 {
     }
 }
 
+fn run_checker(rt: &HostRuntime, words: &CheckWords) -> u8 {
+    let end = check(rt, words);
+    if let Err(fault) = &end {
+        say(rt, message_of(fault));
+    }
+    status_of(&end)
+}
+
+fn run_maker(rt: &HostRuntime, words: &MakeWords) -> u8 {
+    let end = make(rt, words);
+    if let Err(fault) = &end {
+        let report = make_report_of(fault);
+        let line = str::from_utf8(report.as_bytes()).unwrap_or("");
+        say(rt, line.trim_end());
+    }
+    make_status_of(&end)
+}
+
 fn run(rt: &HostRuntime) -> u8 {
     let words = match command::words(rt) {
         Ok(words) => words,
         Err(usage) => return say_usage(rt, &usage),
     };
-    let end = match read_words(rt.alloc(), &words) {
-        Ok(words) => check(rt, &words),
-        Err(usage) => return say_usage(rt, &usage),
-    };
-    if let Err(fault) = &end {
-        say(rt, message_of(fault));
+    match read_words(rt.alloc(), &words) {
+        Ok(Request::Check(words)) => run_checker(rt, &words),
+        Ok(Request::Make(words)) => run_maker(rt, &words),
+        Err(usage) => say_usage(rt, &usage),
     }
-    status_of(&end)
 }
 
 fn main(rt: HostRuntime) -> ExitCode {

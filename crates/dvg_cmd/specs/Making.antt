@@ -1,0 +1,57 @@
+-- What a run of the maker says of the bytes that its reader held, and what it writes. All of it is profile.
+use Rattle.std.specs.Prelude.{◌≡◌, ℕ, ◌<◌, Bool, true, false, List, ◌++◌, length, codes, Option, IfSome, Result, Ok, Err}
+use Rattle.std.specs.Io.KnownBytes.{Appends}
+use Rattle.dvg_words.specs.Values.{asteroids}
+use Rattle.dvg_words.specs.Memory.{rom_of, IsRomLength}
+use Rattle.dvg_cert.specs.declared.entry.Entry.{Entry}
+use Rattle.dvg_cert.specs.declared.entry.Key.{Key}
+use Rattle.dvg_cert.specs.Entry.{IsKey}
+use Rattle.dvg_cert.specs.Grammar.{address_token, key_token, text_of}
+use Rattle.dvg_cert.specs.Devices.{AppendsFront}
+use Rattle.dvg_make.specs.Made.{Made}
+use Rattle.dvg_make.specs.Refusals.{Refuses}
+pub use Rattle.dvg_cmd.specs.declared.making.MakeRunFault.{MakeRunFault}
+use Rattle.dvg_cmd.specs.declared.making.MakeRunFault.TheVariants as fault
+
+-- the text is this root's: its address, a slash and its key
+abbrev pub IsRoot : List ℕ → ℕ → Key → Type 0
+IsRoot text addr key = (addr < 4096) × IsKey key × (text ≡ address_token addr ++ codes "/" ++ key_token key)
+
+-- ---- which device an answer blames
+
+abbrev pub blames_maker_rom : Result (Unit {0}) MakeRunFault → Bool
+blames_maker_rom (Err fault.ReadRom) = true
+blames_maker_rom answer = false
+
+abbrev pub blames_maker_writer : Result (Unit {0}) MakeRunFault → Bool
+blames_maker_writer (Err fault.Write) = true
+blames_maker_writer answer = false
+
+-- ---- what is answered
+
+-- all bytes that a reader held; a reader that does not tell its bytes held some
+abbrev pub Held : Option (List ℕ) → List ℕ → Type 0
+Held reader bytes = IfSome reader (λ held. bytes ≡ held)
+
+-- the list that is made for all bytes that a reader held
+pub record Makes (rom : Option (List ℕ)) (roots : List (ℕ × Key)) : Type 0 where
+  pub rom_bytes : List ℕ
+  pub held : Held rom rom_bytes
+  pub rom_length : IsRomLength asteroids (length rom_bytes)
+  pub list : List Entry
+  pub made : Made (rom_of asteroids rom_bytes) roots list
+
+-- its text was written, and nothing else
+abbrev pub MakesText : Option (List ℕ) → List (ℕ × Key) → Option (List ℕ) → Option (List ℕ) → Type 0
+MakesText rom roots old new = (m : Makes rom roots) × Appends old new (text_of m.list)
+
+-- a front of its text was written, and nothing else
+abbrev pub MakesFront : Option (List ℕ) → List (ℕ × Key) → Option (List ℕ) → Option (List ℕ) → Type 0
+MakesFront rom roots old new = (m : Makes rom roots) × AppendsFront old new (text_of m.list)
+
+-- what a fault says of all bytes that a reader held: a wrong length, or what the maker's refusal says
+abbrev pub MakeFaultMeans : Option (List ℕ) → List (ℕ × Key) → MakeRunFault → Type 0
+MakeFaultMeans rom roots fault.RomLength = (bytes : List ℕ) × Held rom bytes × (IsRomLength asteroids (length bytes) → ⊥)
+MakeFaultMeans rom roots (fault.Make f) = (bytes : List ℕ) × Held rom bytes × IsRomLength asteroids (length bytes) × Refuses (rom_of asteroids bytes) roots f
+MakeFaultMeans rom roots fault.ReadRom = Unit {0}
+MakeFaultMeans rom roots fault.Write = Unit {0}

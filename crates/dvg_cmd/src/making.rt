@@ -1,0 +1,99 @@
+//! Running the maker over a reader and a writer.
+
+ghost use Rattle.std.specs.Prelude.{◌≡◌, ◌≢◌, ◌≤◌, ℕ, [], length, Some, Err, IfOk, IfErr, IfSome, IfNone, OnOk, MatchResult};
+ghost use Rattle.std.specs.Io.KnownBytes.{Appends};
+ghost use Rattle.dvg_words.specs.Values.{asteroids};
+ghost use Rattle.dvg_words.specs.Memory.{rom_of, IsRomLength};
+ghost use Rattle.dvg_cert.specs.Devices.{count_after};
+ghost use Rattle.dvg_cert.specs.declared.entry.Key.{Key as KeyValue};
+ghost use Rattle.dvg_make.specs.Made.{Made};
+ghost use Rattle.dvg_make.specs.Refusals.{Refuses};
+ghost use Rattle.dvg_cmd.specs.Making.{IsRoot, blames_maker_rom, blames_maker_writer, MakesText, MakesFront, MakeFaultMeans};
+
+use crate::reading::read_image;
+use dvg_cert::{Cert, CountedRead, CountedWrite, Key, read_address, read_key, write_cert};
+use dvg_make::{MakeFault, make};
+use dvg_words::RomImage;
+use std::alloc::Global;
+use thiserror::Error;
+
+/// Why a run of the maker wrote no certificate, or a front of it.
+#[derive(Clone, Copy, Debug, PartialEq, Eq, Error)]
+pub enum MakeRunFault {
+    /// 1: the ROM has a wrong length.
+    #[error("the ROM has a wrong length")]
+    RomLength,
+    /// 60 to 63: no certificate is made.
+    #[error("{0}")]
+    Make(MakeFault),
+    /// 70: the ROM's reader failed.
+    #[error("cannot read the ROM")]
+    ReadRom,
+    /// 73: the writer failed, or took no byte.
+    #[error("cannot write")]
+    Write,
+}
+
+/// The root that a word of the command line spells, as reports name entries: three hexadecimal digits in capitals, a slash,
+/// and a scale of 0 to 15 or `any`.
+pub fn root_of(text: &str) -> Option<(u16, Key)>
+    ensures some { IfSome result (λ root. IsRoot text.now root.0 root.1) }
+    ensures none { IfNone result ((addr : ℕ) (key : KeyValue) → IsRoot text.now addr key → ⊥) }
+{
+    let [a, b, c, b'/', key @ ..] = text.as_bytes() else {
+        return None;
+    };
+    let addr = read_address(&[*a, *b, *c])?;
+    let key = read_key(key)?;
+    Some((addr, key))
+}
+
+/// The certificate for the bytes of a ROM.
+fn make_for(alloc: Global, bytes: &[u8], roots: &[(u16, Key)]) -> Result<Cert, MakeRunFault>
+    ensures ok { IfOk result (λ cert. IsRomLength asteroids (length bytes.now) × Made (rom_of asteroids bytes.now) roots.now cert) }
+    ensures refused { IfErr result (λ fault. MakeFaultMeans (Some bytes.now) roots.now fault) }
+    ensures fault { IfErr result (λ fault. (fault ≢ MakeRunFault.ReadRom) × (fault ≢ MakeRunFault.Write)) }
+{
+    let Ok(rom) = RomImage::from_bytes(bytes) else {
+        return Err(MakeRunFault::RomLength);
+    };
+    match make(alloc, &rom, roots) {
+        Ok(cert) => Ok(cert),
+        Err(fault) => Err(MakeRunFault::Make(fault)),
+    }
+}
+
+/// Reads a ROM and writes the certificate of the shapes at these roots, and of all that they call or tail jump to.
+///
+/// The ROM is read to its end, or to one byte past 2048. The first failed read or write ends the run, and nothing is tried
+/// again. On 1, 60 to 63 and 70 nothing was written, on 73 a front of the certificate.
+pub fn run_make<R: CountedRead, W: CountedWrite>(
+    alloc: Global,
+    rom: &mut R,
+    roots: &[(u16, Key)],
+    out: &mut W,
+) -> Result<(), MakeRunFault>
+    // 70 and 73 come exactly where their device failed in this call, by one more in the device's count.
+    ensures rom_count { R.failures rom.new ≡ count_after (blames_maker_rom result) (R.failures rom.old) }
+    ensures out_count { W.failures out.new ≡ count_after (blames_maker_writer result) (W.failures out.old) }
+
+    // What is written is the text of the list that is made for all bytes that the reader held, or a front of it, or nothing.
+    ensures text { OnOk result (MakesText (R.remaining rom.old) roots.now (W.contents out.old) (W.contents out.new)) }
+    ensures front { result ≡ Err MakeRunFault.Write → MakesFront (R.remaining rom.old) roots.now (W.contents out.old) (W.contents out.new) }
+    ensures nothing { IfErr result (λ fault. fault ≢ MakeRunFault.Write → Appends (W.contents out.old) (W.contents out.new) []) }
+
+    // 1 comes for a wrong length alone, and 60 to 62 only where no list is made.
+    ensures refused { IfErr result (MakeFaultMeans (R.remaining rom.old) roots.now) }
+{
+    let Ok(bytes) = read_image(rom) else {
+        return Err(MakeRunFault::ReadRom);
+    };
+    let cert = match make_for(alloc, bytes.as_bytes(), roots) {
+        Ok(cert) => cert,
+        Err(fault) => return Err(fault),
+    };
+    match write_cert(&cert, out) {
+        Ok(()) => Ok(()),
+        Err(_) => Err(MakeRunFault::Write),
+    }
+}
