@@ -1,4 +1,4 @@
--- Code, not definition: the running state of the reader. Only private functions cite this.
+-- Code, not definition: the running state of the reader. No clause of a public function cites this.
 use Rattle.std.specs.Prelude.{◌≡◌, ◌≢◌, ℕ, ◌+◌, ◌<◌, ◌≤◌, List, [], ◌∷◌, ◌++◌, length, take, drop, Result, Ok, Err, Option, Some, None}
 use Rattle.dvg_cert.specs.declared.line.Line.TheVariants as lines
 use Rattle.dvg_cert.specs.declared.fault.CertWhy.{CertWhy}

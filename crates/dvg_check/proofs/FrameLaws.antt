@@ -18,13 +18,13 @@ use Rattle.dvg_cert.specs.declared.entry.End.TheVariants.{Rel, Abs, Lost}
 use Rattle.dvg_cert.specs.declared.entry.Entry.{Entry}
 use Rattle.dvg_cert.specs.declared.entry.LitBox.{LitBox}
 use Rattle.dvg_cert.specs.declared.entry.LitBox.TheVariants.{Empty}
-use Rattle.dvg_check.specs.Behaving.{Counts, Ends, LitFits, Stretch}
+use Rattle.dvg_check.specs.Behaving.{Counts, LitFits, Stretch}
 use Rattle.dvg_check.specs.Items.{LeadsTo}
 use Rattle.dvg_check.specs.Known.{fixed_place, place_moved_by, place_before, frame_context, effects, total_move, depth_under, depth_before, callee, words_before}
 use Rattle.dvg_check.specs.Laws.{GoodIsSafe, ExactIsExact}
 use Rattle.dvg_check.specs.Lit.{LitInBox, extent}
 use Rattle.dvg_check.specs.Rules.{Good, AllKeep, FramePlaceKeeps, FrameKeeps, sight, CellKeeps, GoodFrame}
-use Rattle.dvg_check.specs.Safety.{IsSafeStatus, IsSafeState}
+use Rattle.dvg_check.specs.Safety.{Ends, IsSafeStatus, IsSafeState}
 use Rattle.dvg_check.specs.declared.fault.FrameWhy.{FrameWhy}
 use Rattle.dvg_check.specs.declared.fault.FrameWhy.TheVariants as frame
 use Rattle.dvg_check.specs.declared.fault.Mode.{Mode}

@@ -15,15 +15,12 @@ use Rattle.dvg_cert.specs.declared.entry.LitBox.TheVariants.{Empty, Span}
 use Rattle.dvg_cert.specs.declared.entry.Entry.{Entry}
 use Rattle.dvg_check.specs.Lit.{InBox}
 use Rattle.dvg_check.specs.Rules.{Mode, Bound, Exact}
+use Rattle.dvg_check.specs.Safety.{Ends}
 
 -- a count, and what bounds it or is it
 abbrev pub Counts : Mode → ℕ → ℕ → Type 0
 Counts Bound n claimed = n ≤ claimed
 Counts Exact n claimed = n ≡ claimed
-
--- both ends of a stroke
-abbrev pub Ends : (Point → Type 0) → Stroke → Type 0
-Ends P stroke = P stroke.from × P stroke.to
 
 -- From one running state to another, within so many steps and by so many further words. A halt or a fault has no step,
 -- so there is none on the way.

@@ -1,5 +1,5 @@
 -- The laws, over the definitions alone, for every map and window; each says for which mode.
-use Rattle.std.specs.Prelude.{◌≡◌, ℕ, ℤ, ◌+◌, ◌<◌, ◌≤◌, ◌⊎◌, ◌≤ℤ◌, List, [], ◌∷◌, ◌++◌, Option, Contains, Result}
+use Rattle.std.specs.Prelude.{◌≡◌, ℕ, ℤ, ◌+◌, ◌<◌, ◌≤◌, ◌⊎◌, ◌≤ℤ◌, length, List, [], ◌∷◌, ◌++◌, Option, Contains, Result}
 use Rattle.dvg_words.specs.Values.{MemoryMap, Window}
 use Rattle.dvg_words.specs.declared.instruction.Instr.TheVariants.{Draw as Draws, Labs}
 use Rattle.dvg_words.specs.declared.instruction.Instr.{Instr}
@@ -8,7 +8,7 @@ use Rattle.dvg_words.specs.Decoding.{word_count, cell_at}
 use Rattle.dvg_words.specs.Memory.{Memory, Rom, IsMemory, rom_word, frame_word}
 use Rattle.dvg_words.specs.declared.beam.Point.{Point}
 use Rattle.dvg_words.specs.Beam.{InWindow}
-use Rattle.dvg_words.specs.Generator.{Stroke, State, Running, places, lit_by, next_status}
+use Rattle.dvg_words.specs.Generator.{Stroke, State, Running, Halted, Reached, start, places, lit_by, next_status}
 use Rattle.dvg_cert.specs.declared.entry.Key.{Key}
 use Rattle.dvg_cert.specs.declared.entry.End.{End}
 use Rattle.dvg_cert.specs.declared.entry.Entry.{Entry}
@@ -18,7 +18,7 @@ use Rattle.dvg_check.specs.Rules.{Mode, Bound, Exact, Good, GoodFrame}
 use Rattle.dvg_check.specs.FirstFault.{ShapeFault, FirstShapeFault, FrameFault, FirstFrameFault}
 use Rattle.dvg_check.specs.Verdict.{Yes, Refusal, Verdict, NotMemory}
 use Rattle.dvg_check.specs.Behaving.{ScaleFits, PlaceFits, Behaves}
-use Rattle.dvg_check.specs.Safety.{Safe, HaltsWith}
+use Rattle.dvg_check.specs.Safety.{Safe}
 
 -- ---- one item
 
@@ -89,6 +89,11 @@ GoodIsSafe =
     → GoodFrame w m.frame list budget words depth
     → Safe m w words depth
 
+-- at each halt so many words were fetched, and so many return places were stored at once
+abbrev pub HaltsWith : Memory → ℕ → ℕ → Type 0
+HaltsWith m words depth =
+    (place : Point) (scale steps : ℕ) (h : State) → scale ≤ 15 → Reached m steps (Running (start place scale)) (Halted h) → (length h.fetched ≡ words) × (h.max_stack ≡ depth)
+
 -- where the counts of the shapes are exact, so are those of the frame
 abbrev pub ExactIsExact : Type 0
 ExactIsExact =
@@ -105,7 +110,7 @@ OneFault =
     (w : Window) (words : List ℕ) (list : List Entry) (budget : ℕ) (f g : FrameFault)
     → FirstFrameFault w words list budget f → FirstFrameFault w words list budget g → f ≡ g
 
--- and none where it is good
+-- a good frame has no fault
 abbrev pub NoFault : Type 0
 NoFault =
     (w : Window) (words : List ℕ) (list : List Entry) (budget count depth : ℕ) (f : FrameFault)
@@ -117,7 +122,7 @@ OneShapeFault =
     (mode : Mode) (w : Window) (rom : Rom) (list : List Entry) (f g : ShapeFault)
     → FirstShapeFault mode w rom list f → FirstShapeFault mode w rom list g → f ≡ g
 
--- and none where all are good
+-- a certificate of good shapes has none
 abbrev pub NoShapeFault : Type 0
 NoShapeFault =
     (mode : Mode) (w : Window) (rom : Rom) (list : List Entry) (f : ShapeFault)

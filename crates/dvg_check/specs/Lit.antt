@@ -17,7 +17,7 @@ use Rattle.dvg_check.specs.Known.{Context, callee, scale_before}
 pub use Rattle.dvg_check.specs.declared.known.LitExtent.{LitExtent}
 pub use Rattle.dvg_check.specs.declared.known.LitExtent.TheVariants.{Nothing, Between, Anywhere}
 
--- sight from the place before it, a lit draw lights what lies between its ends; intensity 0 is dark
+-- seen from the place before it, a lit draw lights what lies between its ends; intensity 0 is dark
 abbrev pub draw_extent : ℕ → DrawFields → Key → LitExtent
 draw_extent zero d scale = Nothing
 draw_extent (suc n) d (At gscale) = Between origin (displacement d gscale)

@@ -1,16 +1,19 @@
 -- The safety theorem: what acceptance means for every run of the generator.
-use Rattle.std.specs.Prelude.{◌≡◌, ℕ, ◌≤◌, ◌⊎◌, length}
+use Rattle.std.specs.Prelude.{ℕ, ◌≤◌, ◌⊎◌, length}
 use Rattle.std.specs.List.{AllByRecursion}
 use Rattle.dvg_words.specs.Values.{Window}
 use Rattle.dvg_words.specs.Memory.{Memory, InFrame, InRom}
 use Rattle.dvg_words.specs.declared.beam.Point.{Point}
 use Rattle.dvg_words.specs.Beam.{InWindow}
-use Rattle.dvg_words.specs.Generator.{State, Status, Running, Halted, Fault, Reached, start}
-use Rattle.dvg_check.specs.Behaving.{Ends}
+use Rattle.dvg_words.specs.Generator.{Stroke, State, Status, Running, Halted, Fault, Reached, start}
 
 -- a word of the frame or of the ROM
 abbrev pub IsMapped : Memory → ℕ → Type 0
 IsMapped m p = InFrame m.frame p ⊎ InRom m.rom.map p
+
+-- both ends of a stroke
+abbrev pub Ends : (Point → Type 0) → Stroke → Type 0
+Ends P stroke = P stroke.from × P stroke.to
 
 -- what holds of a state that a run has reached by so many steps
 pub record IsSafeState (m : Memory) (w : Window) (words depth steps : ℕ) (s : State) : Type 0 where
@@ -34,8 +37,3 @@ pub record Safe (m : Memory) (w : Window) (words depth : ℕ) : Type 0 where
   pub four : depth ≤ 4
   pub halts : (place : Point) (scale : ℕ) → scale ≤ 15 → (steps : ℕ) × (h : State) × (steps ≤ words) × Reached m steps (Running (start place scale)) (Halted h)
   pub each : (place : Point) (scale : ℕ) → scale ≤ 15 → (steps : ℕ) (s : Status) → Reached m steps (Running (start place scale)) s → IsSafeStatus m w words depth steps s
-
--- at each halt so many words were fetched, and so many return places were stored at once
-abbrev pub HaltsWith : Memory → ℕ → ℕ → Type 0
-HaltsWith m words depth =
-    (place : Point) (scale steps : ℕ) (h : State) → scale ≤ 15 → Reached m steps (Running (start place scale)) (Halted h) → (length h.fetched ≡ words) × (h.max_stack ≡ depth)

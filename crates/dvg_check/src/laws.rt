@@ -43,7 +43,7 @@ pub fn one_fault()
     ensures { OneFault }
 {}
 
-/// A good frame has none.
+/// A good frame has no fault.
 pub fn no_fault()
     ensures { NoFault }
 {}
@@ -53,7 +53,7 @@ pub fn one_shape_fault()
     ensures { OneShapeFault }
 {}
 
-/// A certificate of good shapes has none.
+/// A certificate of good shapes has no fault.
 pub fn no_shape_fault()
     ensures { NoShapeFault }
 {}

@@ -21,6 +21,8 @@ pub use Rattle.dvg_cmd.specs.declared.running.Outcome.TheVariants.{Accepted, Ref
 pub use Rattle.dvg_cmd.specs.declared.running.RunFault.{RunFault}
 use Rattle.dvg_cmd.specs.declared.running.RunFault.TheVariants as fault
 
+-- ---- words of the code, which no clause of a public function cites
+
 -- the first of the bytes, up to a limit
 unfoldable pub limited : ℕ → List ℕ → List ℕ
 limited most bytes = take most bytes

@@ -12,9 +12,12 @@ mod status;
 #[cfg(test)]
 mod tests;
 
-pub use dvg_cert::{Counted, CountedRead, CountedWrite, WriteFault, write_bytes};
-pub use dvg_check::{FrameFault, FrameWhy, Refusal, Yes, check};
-pub use dvg_make::MakeFault;
+pub use dvg_cert::{
+    CertFault, CertWhy, Counted, CountedRead, CountedWrite, WriteFault, write_bytes,
+};
+pub use dvg_check::{FrameFault, FrameWhy, Refusal, ShapeFault, ShapeWhy, Yes, check};
+pub use dvg_make::{MakeFault, make};
+pub use dvg_words::ImageFault;
 pub use making::{MakeRunFault, root_of, run_make};
 pub use report::{Report, make_report_of, report_of};
 pub use running::{Outcome, RunFault, run_check};

@@ -46,7 +46,7 @@ pub enum RunFault {
 }
 
 /// How many bytes of a certificate are read at the most: one past its limit.
-const CERTIFICATE_LIMIT: usize = 1_048_577;
+const PAST_CERTIFICATE_LIMIT: usize = 1_048_577;
 
 /// What was reported by the line of a verdict.
 fn outcome_of(verdict: &Result<Yes, Refusal>) -> Outcome
@@ -116,7 +116,7 @@ pub fn run_check<R1: CountedRead, R2: CountedRead, R3: CountedRead, W: CountedWr
     let Ok(frame_bytes) = read_image(frame) else {
         return Err(RunFault::ReadFrame);
     };
-    let cert_bytes = match read_text(alloc, cert, CERTIFICATE_LIMIT) {
+    let cert_bytes = match read_text(alloc, cert, PAST_CERTIFICATE_LIMIT) {
         Ok(bytes) => bytes,
         Err(TextFault::Read) => return Err(RunFault::ReadCert),
         Err(TextFault::Memory) => return Err(RunFault::Memory),

@@ -12,7 +12,7 @@ use std::{env, io};
 pub enum Usage {
     /// Help was asked for, or a word is wrong.
     Clap(Error),
-    /// A word is no UTF-8, or there is no command.
+    /// A word is no UTF-8.
     Unreadable,
     /// A word in the place of a root is none.
     BadRoot,
