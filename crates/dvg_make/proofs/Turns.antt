@@ -1,6 +1,6 @@
 -- What begins, and what each turn gives.
 use Rattle.std.proofs.Common.{◌≡◌, ℕ, ◌+◌, ◌<◌, ◌≤◌, List, [], ◌∷◌, ◌++◌, length, None, refl, sym, ap, ◌∙◌, subst, arith, inl, inr, ⊎_elim, length-append}
-use Rattle.std.specs.Prelude.{Contains, Result, Ok, Err, OnOk, IfErr}
+use Rattle.std.specs.Prelude.{Contains, Result, Ok, Err, OnOk, IfErr, IsErrAnd}
 use Rattle.std.proofs.lemmas.Int.{ints}
 use Rattle.dvg_words.specs.Memory.{Rom, rom_word, InRom}
 use Rattle.dvg_cert.specs.Entry.{IsKey}
@@ -176,6 +176,14 @@ on_ok (Err x) P h = tt
 pub on_ok_map : {T E : Type 0} (r : Result T E) (P Q : Type 0) → (P → Q) → OnOk r P → OnOk r Q
 on_ok_map (Ok x) P Q f h = f h
 on_ok_map (Err x) P Q f h = tt
+
+pub if_err_all : {T E : Type 0} (r : Result T E) (P : E → Type 0) → ((x : E) → P x) → IfErr r P
+if_err_all (Ok x) P f = tt
+if_err_all (Err x) P f = f x
+
+pub if_err_same : {T E : Type 0} (r : Result T E) (x : E) (P : E → Type 0) → IsErrAnd r (λ e. e ≡ x) → P x → IfErr r P
+if_err_same (Ok y) x P h p = tt
+if_err_same (Err e) x P h p = subst P (sym h) p
 
 pub if_err_map : {T E : Type 0} (r : Result T E) (P Q : E → Type 0) → ((x : E) → P x → Q x) → IfErr r P → IfErr r Q
 if_err_map (Ok x) P Q f h = tt

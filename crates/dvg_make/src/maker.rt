@@ -44,10 +44,8 @@ fn begin(done: &Done, stack: &mut Vec<Walk>, addr: u16, key: Key) -> Result<(), 
     if done.len() >= MOST_ENTRIES || stack.len() >= MOST_ENTRIES - done.len() {
         return Err(MakeFault::TooLarge);
     }
-    match stack.push(Walk::start(addr, key)) {
-        Ok(()) => Ok(()),
-        Err(_) => Err(MakeFault::Memory),
-    }
+    stack.push(Walk::start(addr, key))?;
+    Ok(())
 }
 
 /// One turn: the shape on the top goes as far as it can.
@@ -66,21 +64,15 @@ fn turn(
     ensures present { OnOk result ((addr : ℕ) (key : KeyValue) → IsPresent done.old (stack.old.items ++ walk ∷ []) addr key → IsPresent done.new stack.new.items addr key) }
     ensures err { IfErr result (Refuses rom.now roots.now) }
 {
-    let progress = match advance(rom, done, walk) {
-        Ok(progress) => progress,
-        Err(fault) => return Err(fault),
-    };
+    let progress = advance(rom, done, walk)?;
     match progress {
-        Progress::Finished(entry) => match done.add(entry) {
-            Ok(()) => Ok(()),
-            Err(_) => Err(MakeFault::Memory),
-        },
+        Progress::Finished(entry) => {
+            done.add(entry)?;
+            Ok(())
+        }
         Progress::Waiting { walk, addr } => {
-            let key = walk.known.scale;
-            match stack.push(walk) {
-                Ok(()) => begin(done, stack, addr, key),
-                Err(_) => Err(MakeFault::Memory),
-            }
+            stack.push(walk)?;
+            begin(done, stack, addr, walk.known.scale)
         }
     }
 }
@@ -106,9 +98,7 @@ fn make_root(
     ensures err { IfErr result (Refuses rom.now roots.now) }
 {
     let mut stack = Vec::new(alloc);
-    if let Err(fault) = begin(done, &mut stack, addr, key) {
-        return Err(fault);
-    }
+    begin(done, &mut stack, addr, key)?;
     while let Some(walk) = stack.pop() {
         turn(rom, roots, done, &mut stack, walk)?;
     }
@@ -158,10 +148,7 @@ fn make_all(alloc: Global, rom: &RomImage, roots: &[(u16, Key)]) -> Result<Done,
 {
     let mut done = Done::new(alloc);
     for &(addr, key) in roots {
-        match need_root(alloc, rom, roots, &mut done, addr, key) {
-            Ok(()) => {}
-            Err(fault) => return Err(fault),
-        }
+        need_root(alloc, rom, roots, &mut done, addr, key)?;
     }
     Ok(done)
 }

@@ -96,6 +96,34 @@ fn makes_all_that_is_needed(rt: HostRuntime) -> Result<(), Fail> {
 }
 
 #[test]
+fn makes_calls_twice_and_tail_jumps(rt: HostRuntime) -> Result<(), Fail> {
+    let zero = (0x800, Key::At(0));
+    makes(
+        rt.alloc(),
+        &rom_bytes(&[(0x800, &[0xC803, 0xC803, 0xD000, 0xD000])]),
+        &[zero],
+        "dvgcert 1\nshape 800 0 end rel 0 0 box none depth 1 words 5 scale 0\nshape 803 0 end rel 0 0 box none depth 0 words 1 scale 0\ndone 2\n",
+    )?;
+    makes(
+        rt.alloc(),
+        &rom_bytes(&[(0x800, &[0xE801, 0xD000])]),
+        &[zero],
+        "dvgcert 1\nshape 800 0 end rel 0 0 box none depth 0 words 2 scale 0\nshape 801 0 end rel 0 0 box none depth 0 words 1 scale 0\ndone 2\n",
+    )
+}
+
+/// A call at a known scale has an entry at that scale, though there is one for any scale.
+#[test]
+fn makes_exact_keys(rt: HostRuntime) -> Result<(), Fail> {
+    makes(
+        rt.alloc(),
+        &rom_bytes(&[(0x800, &[0xA000, 0x0000, 0xC804, 0xD000, 0xD000])]),
+        &[(0x804, Key::Any), (0x800, Key::Any)],
+        "dvgcert 1\nshape 800 any end abs 0 0 box none depth 1 words 5 scale 0\nshape 804 0 end rel 0 0 box none depth 0 words 1 scale 0\nshape 804 any end rel 0 0 box none depth 0 words 1 scale any\ndone 3\n",
+    )
+}
+
+#[test]
 fn makes_roots_in_order(rt: HostRuntime) -> Result<(), Fail> {
     let stroke = rom_bytes(&[STROKE]);
     let zero = (0x800, Key::At(0));
@@ -122,6 +150,16 @@ fn refuses_what_no_list_is_made_for(rt: HostRuntime) {
         ((0x800, &[0xB000]), zero, unstraight(0x800)),
         ((0x800, &[0xE000]), zero, unstraight(0)),
         ((0x800, &[0xC800, 0xD000]), zero, Some(MakeFault::Deep)),
+        (
+            (
+                0x800,
+                &[
+                    0xC802, 0xD000, 0xC804, 0xD000, 0xC806, 0xD000, 0xC808, 0xD000, 0xD000,
+                ],
+            ),
+            zero,
+            Some(MakeFault::Deep),
+        ),
     ] {
         assert_eq!(rt; fault_of(rt.alloc(), &rom_bytes(&[part]), root), fault);
     }
@@ -147,4 +185,26 @@ fn counts_to_a_million(rt: HostRuntime) -> Result<(), Fail> {
         &[(0x900, Key::At(0))],
         "dvgcert 1\nshape 900 0 end rel 0 0 box none depth 2 words 130561 scale 0\nshape A00 0 end rel 0 0 box none depth 1 words 511 scale 0\nshape B00 0 end rel 0 0 box none depth 0 words 1 scale 0\ndone 3\n",
     )
+}
+
+#[test]
+fn makes_4096_entries_at_the_most(rt: HostRuntime) -> Result<(), Fail> {
+    let bytes = rom_bytes(&[(0x800, &[0xD000; 1024])]);
+    let Ok(rom) = RomImage::from_bytes(&bytes) else {
+        return Err(Fail::new("the ROM was refused"));
+    };
+    let mut roots = Vec::new(rt.alloc());
+    for addr in 0x800..0x900 {
+        for scale in 0..16 {
+            roots.push((addr, Key::At(scale)))?;
+        }
+    }
+    let made = make(rt.alloc(), &rom, &roots).map(|cert| cert.entries().len());
+    assert_eq!(rt; made, Ok(4096));
+    roots.push((0x900, Key::At(0)))?;
+    assert_eq!(rt;
+        make(rt.alloc(), &rom, &roots).err(),
+        Some(MakeFault::TooLarge)
+    );
+    Ok(())
 }

@@ -2,38 +2,39 @@ use Rattle.std.proofs.Common.{sym, subst}
 use Rattle.dvg_make.specs.Private.Walking.{Advances}
 use Rattle.dvg_make.specs.Private.Making.{IsPresent, Making}
 use Rattle.dvg_make.proofs.Chains.{walks_last, none_here, finished_new, making_finished, present_finished}
-use Rattle.dvg_make.proofs.Turns.{begun_ok, begun_present, refused, as_refusal, grown, on_ok_map, if_err_map}
+use Rattle.dvg_make.proofs.Turns.{begun_ok, begun_present, refused, as_refusal, grown, on_ok_map, if_err_map, if_err_all}
 use Rattle.dvg_make.proofs.maker.turn.Goals as goal
 
 pub advance-requires-clause-walk : goal.advance-requires-clause-walk
 advance-requires-clause-walk c = walks_last c.args.rom.now c.args.done.now c.args.stack.now.items c.args.walk c.requires.making.walks
 
-pub returns-in-Err-clause-err : goal.returns-in-Err-clause-err
-returns-in-Err-clause-err c = as_refusal c.args.rom.now c.args.roots.now _ (none_here c.args.rom.now c.args.roots.now c.args.done.now c.args.stack.now.items c.args.walk c.requires.making c.in-Err.ensures.err)
+pub returns-in_err-progress-clause-err : goal.returns-in_err-progress-clause-err
+returns-in_err-progress-clause-err c =
+    if_err_all c.from_residual.result _ (λ fault. as_refusal c.args.rom.now c.args.roots.now fault (none_here c.args.rom.now c.args.roots.now c.args.done.now c.args.stack.now.items c.args.walk c.requires.making c.in_err-progress.ensures.err))
 
 pub add-requires : goal.add-requires
 add-requires c =
-    finished_new c.args.rom.now c.args.roots.now c.args.done.now c.args.stack.now.items c.args.walk c.requires.making c.in-Finished.entry (subst (Advances c.args.rom.now c.args.done.now c.args.walk) c.in-Finished.is c.in-Ok.ensures.ok)
+    finished_new c.args.rom.now c.args.roots.now c.args.done.now c.args.stack.now.items c.args.walk c.requires.making c.in-Finished.entry (subst (Advances c.args.rom.now c.args.done.now c.args.walk) c.in-Finished.is c.in_ok-progress.ensures.ok)
 
-pub returns-in-Ok-add-clause-ok : goal.returns-in-Ok-add-clause-ok
-returns-in-Ok-add-clause-ok c =
-    subst (λ d. Making c.args.rom.now c.args.roots.now d c.args.stack.now.items) (sym c.in-Ok-add.ensures.ok) (making_finished c.args.rom.now c.args.roots.now c.args.done.now c.args.stack.now.items c.args.walk c.requires.making c.in-Finished.entry (subst (Advances c.args.rom.now c.args.done.now c.args.walk) c.in-Finished.is c.in-Ok.ensures.ok))
+pub returns-in_ok-add-in-Finished-clause-ok : goal.returns-in_ok-add-in-Finished-clause-ok
+returns-in_ok-add-in-Finished-clause-ok c =
+    subst (λ d. Making c.args.rom.now c.args.roots.now d c.args.stack.now.items) (sym c.in_ok-add-in-Finished.ensures.ok) (making_finished c.args.rom.now c.args.roots.now c.args.done.now c.args.stack.now.items c.args.walk c.requires.making c.in-Finished.entry (subst (Advances c.args.rom.now c.args.done.now c.args.walk) c.in-Finished.is c.in_ok-progress.ensures.ok))
 
-pub returns-in-Ok-add-clause-grows : goal.returns-in-Ok-add-clause-grows
-returns-in-Ok-add-clause-grows c = grown c.args.done.now c.add.new.self c.in-Finished.entry c.in-Ok-add.ensures.ok
+pub returns-in_ok-add-in-Finished-clause-grows : goal.returns-in_ok-add-in-Finished-clause-grows
+returns-in_ok-add-in-Finished-clause-grows c = grown c.args.done.now c.add.new.self c.in-Finished.entry c.in_ok-add-in-Finished.ensures.ok
 
-pub returns-in-Ok-add-clause-present : goal.returns-in-Ok-add-clause-present
-returns-in-Ok-add-clause-present c =
-    λ addr key p. subst (λ d. IsPresent d c.args.stack.now.items addr key) (sym c.in-Ok-add.ensures.ok) (present_finished c.args.rom.now c.args.roots.now c.args.done.now c.args.stack.now.items c.args.walk c.requires.making c.in-Finished.entry (subst (Advances c.args.rom.now c.args.done.now c.args.walk) c.in-Finished.is c.in-Ok.ensures.ok) addr key p)
+pub returns-in_ok-add-in-Finished-clause-present : goal.returns-in_ok-add-in-Finished-clause-present
+returns-in_ok-add-in-Finished-clause-present c =
+    λ addr key p. subst (λ d. IsPresent d c.args.stack.now.items addr key) (sym c.in_ok-add-in-Finished.ensures.ok) (present_finished c.args.rom.now c.args.roots.now c.args.done.now c.args.stack.now.items c.args.walk c.requires.making c.in-Finished.entry (subst (Advances c.args.rom.now c.args.done.now c.args.walk) c.in-Finished.is c.in_ok-progress.ensures.ok) addr key p)
 
-pub returns-in-Ok-push-clause-ok : goal.returns-in-Ok-push-clause-ok
-returns-in-Ok-push-clause-ok c =
-    on_ok_map c.begin.result _ _ (begun_ok c.args.rom.now c.args.roots.now c.args.done.now c.args.stack.now.items c.args.walk c.requires.making c.in-Waiting.walk c.in-Waiting.addr (subst (Advances c.args.rom.now c.args.done.now c.args.walk) c.in-Waiting.is c.in-Ok.ensures.ok) _ c.in-Ok-push.ensures.items c.begin.new.stack.items) c.begin.ensures.ok
+pub returns-in_ok-push-in-Waiting-clause-ok : goal.returns-in_ok-push-in-Waiting-clause-ok
+returns-in_ok-push-in-Waiting-clause-ok c =
+    on_ok_map c.begin.result _ _ (begun_ok c.args.rom.now c.args.roots.now c.args.done.now c.args.stack.now.items c.args.walk c.requires.making c.in-Waiting.walk c.in-Waiting.addr (subst (Advances c.args.rom.now c.args.done.now c.args.walk) c.in-Waiting.is c.in_ok-progress.ensures.ok) _ c.in_ok-push-in-Waiting.ensures.items c.begin.new.stack.items) c.begin.ensures.ok
 
-pub returns-in-Ok-push-clause-present : goal.returns-in-Ok-push-clause-present
-returns-in-Ok-push-clause-present c =
-    on_ok_map c.begin.result _ _ (begun_present c.args.rom.now c.args.roots.now c.args.done.now c.args.stack.now.items c.args.walk c.requires.making c.in-Waiting.walk c.in-Waiting.addr (subst (Advances c.args.rom.now c.args.done.now c.args.walk) c.in-Waiting.is c.in-Ok.ensures.ok) _ c.in-Ok-push.ensures.items c.begin.new.stack.items) c.begin.ensures.ok
+pub returns-in_ok-push-in-Waiting-clause-present : goal.returns-in_ok-push-in-Waiting-clause-present
+returns-in_ok-push-in-Waiting-clause-present c =
+    on_ok_map c.begin.result _ _ (begun_present c.args.rom.now c.args.roots.now c.args.done.now c.args.stack.now.items c.args.walk c.requires.making c.in-Waiting.walk c.in-Waiting.addr (subst (Advances c.args.rom.now c.args.done.now c.args.walk) c.in-Waiting.is c.in_ok-progress.ensures.ok) _ c.in_ok-push-in-Waiting.ensures.items c.begin.new.stack.items) c.begin.ensures.ok
 
-pub returns-in-Ok-push-clause-err : goal.returns-in-Ok-push-clause-err
-returns-in-Ok-push-clause-err c =
-    if_err_map c.begin.result _ _ (refused c.args.rom.now c.args.roots.now c.args.done.now c.args.stack.now.items c.args.walk c.requires.making c.in-Waiting.walk c.in-Waiting.addr (subst (Advances c.args.rom.now c.args.done.now c.args.walk) c.in-Waiting.is c.in-Ok.ensures.ok) _ c.in-Ok-push.ensures.items) c.begin.ensures.err
+pub returns-in_ok-push-in-Waiting-clause-err : goal.returns-in_ok-push-in-Waiting-clause-err
+returns-in_ok-push-in-Waiting-clause-err c =
+    if_err_map c.begin.result _ _ (refused c.args.rom.now c.args.roots.now c.args.done.now c.args.stack.now.items c.args.walk c.requires.making c.in-Waiting.walk c.in-Waiting.addr (subst (Advances c.args.rom.now c.args.done.now c.args.walk) c.in-Waiting.is c.in_ok-progress.ensures.ok) _ c.in_ok-push-in-Waiting.ensures.items) c.begin.ensures.err
