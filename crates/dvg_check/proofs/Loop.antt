@@ -9,13 +9,12 @@ use Rattle.dvg_words.specs.declared.instruction.Format.{Format}
 use Rattle.dvg_words.specs.declared.instruction.Format.TheVariants.{Short, Long}
 use Rattle.dvg_words.specs.declared.instruction.Instr.{Instr}
 use Rattle.dvg_words.specs.declared.instruction.Instr.TheVariants.{Draw as Draws, Labs, Halt, Jsrl, Rtsl, Jmpl}
-use Rattle.dvg_cert.specs.Entry.{IsKey}
 use Rattle.dvg_cert.specs.declared.entry.Entry.{Entry}
 use Rattle.dvg_cert.specs.declared.entry.Key.{Key}
 use Rattle.dvg_check.specs.FirstFault.{AllBefore, FaultAt}
 use Rattle.dvg_check.specs.Items.{place_after, next_place, LeadsTo}
 use Rattle.dvg_check.specs.Known.{Context, known_before}
-use Rattle.dvg_check.specs.Private.Running.{IsSound, sight_by, IsNearPlace, WalksTo}
+use Rattle.dvg_check.specs.Private.Running.{IsSound, sight_by, WalksTo, KeepsAll, BreaksFirst}
 use Rattle.dvg_check.specs.Rules.{PlaceKeeps, CellKeeps, sight}
 use Rattle.dvg_check.specs.declared.item.Item.{Item}
 use Rattle.dvg_check.specs.declared.item.Kind.{Kind}
@@ -115,48 +114,51 @@ module _ (Why : Type 0) (order : Why → ℕ) (missing odd : Why) (Keeps : Seen 
       }
 
   -- an item, as the code sees it and as the rules do
-  module _ (at : ℕ) (known : Known) (format : Format) (instr : Instr) (v : Seen) (k : Walked context word first keeps at known) (is : cell_at word at ≡ Holds format instr) (v_is : v ≡ sight_by list kind known (record { at = at; format = format; instr = instr })) where
+  module _ (at : ℕ) (known : Known) (format : Format) (instr : Instr) (k : Walked context word first keeps at known) (is : cell_at word at ≡ Holds format instr) where
     abbrev item : Item
     item = record { at = at; format = format; instr = instr }
 
-    same : sight context k.items item ≡ v
-    same = sight_known kind list scale k.items item known k.knows ∙ sym v_is
+    abbrev seen : Seen
+    seen = sight_by list kind known item
 
-    kept_here : (why : Why) → Keeps v why → keeps k.items at why
+    same : sight context k.items item ≡ seen
+    same = sight_known kind list scale k.items item known k.knows
+
+    kept_here : (why : Why) → Keeps seen why → keeps k.items at why
     kept_here why h = subst (CellKept k.items at why) (sym is) (subst (λ x. Keeps x why) (sym same) h)
 
-    pub broken : (why : Why) → (Keeps v why → ⊥) → ((other : Why) → order other < order why → Keeps v other) → FaultAt order kind word first keeps at why
-    broken why breaks lowest =
+    pub broken : (why : Why) → BreaksFirst order Keeps seen why → FaultAt order kind word first keeps at why
+    broken why b =
         record {
           items = k.items;
           leads = k.leads;
           before = k.kept;
-          breaks = λ h. breaks (subst (λ x. Keeps x why) same (subst (CellKept k.items at why) is h));
-          lowest = λ other lt. kept_here other (lowest other lt);
+          breaks = λ h. b.broken (subst (λ x. Keeps x why) same (subst (CellKept k.items at why) is h));
+          lowest = λ other lt. kept_here other (b.lowest other lt);
         }
 
-    known_on : v.after ≡ known_before context (item ∷ k.items)
-    known_on = ap (λ (x : Seen). x.after) (sym same)
+    known_on : (after : Known) → after ≡ seen.after → after ≡ known_before context (item ∷ k.items)
+    known_on after e = e ∙ ap (λ (x : Seen). x.after) (sym same)
 
-    pub onward : (p : ℕ) → at < 4096 → InstrFits instr → ((why : Why) → Keeps v why) → next_place kind item ≡ Some p → v.after.words ≤ 1000000 → IsNearPlace (at + 1) v.after.place → IsKey v.after.scale → v.after.depth ≤ 4 → Walked context word first keeps p v.after
-    onward p lt fits kept goes few place scale_is depth =
+    pub onward : (p : ℕ) (after : Known) → at < 4096 → InstrFits instr → KeepsAll Keeps seen after → next_place kind item ≡ Some p → Walked context word first keeps p after
+    onward p after lt fits h goes =
         record {
           items = item ∷ k.items;
           leads = (k.leads, is, goes);
-          kept = (k.kept, λ why. kept_here why (kept why));
-          knows = known_on;
-          sound = record { place = IsNearPlace-more (at + 1) p v.after.place (next_further kind item p goes) place; scale = scale_is; words = few; depth = depth };
+          kept = (k.kept, λ why. kept_here why (h.kept why));
+          knows = known_on after h.knows;
+          sound = record { place = IsNearPlace-more (at + 1) p after.place (next_further kind item p goes) h.place; scale = h.scale; words = h.words; depth = h.depth };
           close = next_near kind at format instr p lt fits goes;
         }
 
-    pub done : ((why : Why) → Keeps v why) → next_place kind item ≡ None → WalksTo context word first keeps v.after
-    done kept ends =
+    pub done : (last : Known) → KeepsAll Keeps seen last → next_place kind item ≡ None → WalksTo context word first keeps last
+    done last h ends =
         record {
-          keeps_all = all_kept kind word first Why keeps k.items item k.leads is ends (k.kept, λ why. kept_here why (kept why));
+          keeps_all = all_kept kind word first Why keeps k.items item k.leads is ends (k.kept, λ why. kept_here why (h.kept why));
           items = k.items;
           last = item;
           leads = k.leads;
           stands = is;
           ends = ends;
-          knows = known_on;
+          knows = known_on last h.knows;
         }

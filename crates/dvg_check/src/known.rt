@@ -6,7 +6,7 @@ ghost use Rattle.dvg_words.specs.Beam.{shift, displacement, labs_place};
 ghost use Rattle.dvg_cert.specs.Entry.{IsKey, IsEnd, IsBox};
 ghost use Rattle.dvg_check.specs.Known.{target, callee_at, scale_set, draw_effect, stop_effect, callee_effect, effect_of, callee_words, depth_under};
 ghost use Rattle.dvg_check.specs.Lit.{draw_extent, box_extent, callee_extent, extent_of};
-ghost use Rattle.dvg_check.specs.Private.Running.{place_past, known_past, sight_with, sight_by, IsNear, IsNearPlace, IsNearEffect, IsNearExtent, IsSound, IsClaim, IsSomeCertificate};
+ghost use Rattle.dvg_check.specs.Private.Running.{place_past, known_past, sight_with, IsNear, IsNearPlace, IsNearEffect, IsNearExtent, IsSound, IsClaim, IsSomeCertificate};
 
 use crate::item::{Item, Kind, word_count};
 use dvg_cert::{End, Entries, Entry, Key, LitBox};
@@ -66,6 +66,7 @@ pub fn shift(p: &Point, d: &Point) -> Point
 }
 
 /// How far a draw moves the beam.
+#[inline(always)]
 fn draw_move(draw: &Draw, gscale: u8) -> Point
     requires { gscale ≤ 15 }
     ensures value { result ≡ displacement draw.now gscale }
@@ -90,6 +91,7 @@ fn labs_place(x: u16, y: u16) -> Point
 }
 
 /// What a draw does to the place, and what it lights.
+#[inline(always)]
 fn draw_effect_and_extent(draw: &Draw, scale: Key) -> (Effect, LitExtent)
     requires { IsKey scale }
     ensures effect { result.0 ≡ draw_effect draw.now scale }
@@ -167,6 +169,7 @@ fn callee_effect_and_extent(callee: &Option<Entry>) -> (Effect, LitExtent)
 }
 
 /// What an instruction does to the place, and what it lights.
+#[inline(always)]
 fn effect_and_extent(instr: &Instr, scale: Key, callee: &Option<Entry>) -> (Effect, LitExtent)
     requires scale { IsKey scale }
     requires callee { IfSome callee.now IsClaim }
@@ -194,6 +197,7 @@ pub fn target(kind: Kind, instr: &Instr) -> Option<u16>
 }
 
 /// The place past an effect.
+#[inline(always)]
 fn place_past(effect: &Effect, place: &End, at: u16) -> End
     requires at { at ≤ 4100 }
     requires place { IsNearPlace at place.now }
@@ -216,6 +220,7 @@ fn place_past(effect: &Effect, place: &End, at: u16) -> End
 }
 
 /// The scale past an instruction.
+#[inline(always)]
 fn scale_past(instr: &Instr, scale: Key, callee: &Option<Entry>) -> Key
     requires scale { IsKey scale }
     requires instr { InstrFits instr.now }
@@ -231,6 +236,7 @@ fn scale_past(instr: &Instr, scale: Key, callee: &Option<Entry>) -> Key
 }
 
 /// How many return places are stored at once under an instruction.
+#[inline(always)]
 pub fn depth_under(instr: &Instr, callee: &Option<Entry>) -> u8
     requires { IfSome callee.now IsClaim }
     ensures value { result ≡ depth_under instr.now callee.now }
@@ -244,6 +250,7 @@ pub fn depth_under(instr: &Instr, callee: &Option<Entry>) -> u8
 }
 
 /// The words of the entry that is called.
+#[inline(always)]
 fn callee_words(callee: &Option<Entry>) -> u32
     requires { IfSome callee.now IsClaim }
     ensures value { result ≡ callee_words callee.now }
@@ -256,7 +263,7 @@ fn callee_words(callee: &Option<Entry>) -> u32
 }
 
 /// The entry that is named by a target.
-fn callee<E: Entries>(entries: &E, target: Option<u16>, scale: Key) -> Option<Entry>
+pub fn callee<E: Entries>(entries: &E, target: Option<u16>, scale: Key) -> Option<Entry>
     requires { IsSomeCertificate (E.list entries.now) }
     ensures value { result ≡ callee_at (E.list entries.now) target scale }
     ensures claim { IfSome result IsClaim }
@@ -267,28 +274,8 @@ fn callee<E: Entries>(entries: &E, target: Option<u16>, scale: Key) -> Option<En
     }
 }
 
-/// What the rules see of an item.
-pub fn see<E: Entries>(entries: &E, kind: Kind, before: &Known, item: &Item) -> Seen
-    requires entries { IsSomeCertificate (E.list entries.now) }
-    requires before { IsSound item.now.at before.now }
-    requires near { item.now.at < 4096 }
-    requires fields { InstrFits item.now.instr }
-    ensures value { result ≡ sight_by (E.list entries.now) kind before.now item.now }
-    ensures place { IsNearPlace item.now.at result.place }
-    ensures extent { IsNearExtent result.extent }
-    ensures callee { IfSome result.callee IsClaim }
-    ensures place_after { IsNearPlace (item.now.at + 1) result.after.place }
-    ensures scale_after { IsKey result.after.scale }
-    ensures depth_after { result.after.depth ≤ 4 }
-{
-    see_with(
-        callee(entries, target(kind, &item.instr), before.scale),
-        before,
-        item,
-    )
-}
-
 /// What the rules see of an item that calls this entry.
+#[inline(always)]
 pub fn see_with(callee: Option<Entry>, before: &Known, item: &Item) -> Seen
     requires callee { IfSome callee IsClaim }
     requires before { IsSound item.now.at before.now }

@@ -1,6 +1,6 @@
 //! The rules of shapes, and the check of all shapes of a certificate.
 
-ghost use Rattle.std.specs.Prelude.{◌≡◌, ◌<◌, ◌≤ℤ◌, ◌↔◌, IsTrue, OnOk, IfErr, IfNone, IfSome};
+ghost use Rattle.std.specs.Prelude.{◌≡◌, ◌<◌, ◌≤◌, ◌≤ℤ◌, ◌↔◌, IsTrue, OnOk, IfErr, IfNone, IfSome};
 ghost use Rattle.dvg_words.specs.Beam.{screen};
 ghost use Rattle.dvg_cert.specs.declared.entry.LitBox.TheVariants.{Span};
 ghost use Rattle.dvg_check.specs.Items.{Shape, next_place};
@@ -11,6 +11,7 @@ ghost use Rattle.dvg_check.specs.Rules.{AtLast, AsClaimed, ShapeKeeps, GoodShape
 ghost use Rattle.dvg_check.specs.FirstFault.{shape_number, ShapeFaultAt, FirstShapeFault};
 ghost use Rattle.dvg_check.specs.Private.Running.{IsNearPlace, IsNearExtent, IsClaim, IsSomeCertificate, EachKept, shape_rules, ShapeBrokenFirst};
 
+use crate::cells::{ROM_END, RomCells};
 use crate::fault::{Mode, ShapeFault, ShapeWhy};
 use crate::item::{Item, Kind, next_place};
 use crate::known::{LitExtent, Seen, depth_under, shift, target};
@@ -99,6 +100,7 @@ fn depth_as_claimed(mode: Mode, entry: &Entry, seen: &Seen) -> bool
 }
 
 /// The first rule that an item of a shape breaks.
+#[inline(always)]
 fn first_broken(mode: Mode, entry: &Entry, seen: &Seen) -> Option<ShapeWhy>
     requires near { seen.now.item.at < 4096 }
     requires callee { IfSome seen.now.callee IsClaim }
@@ -179,6 +181,7 @@ impl Rules for ShapeRules {
         ShapeWhy::Odd
     }
 
+    #[inline(always)]
     fn first_broken(&self, seen: &Seen) -> Option<ShapeWhy> {
         first_broken(self.mode, &self.entry, seen)
     }
@@ -187,21 +190,21 @@ impl Rules for ShapeRules {
 /// Judges the shape of one entry.
 fn check_shape<E: Entries>(
     mode: Mode,
-    rom: &RomImage,
+    cells: &RomCells,
     entries: &E,
     entry: &Entry,
 ) -> Result<(), ShapeFault>
     requires entries { IsSomeCertificate (E.list entries.now) }
     requires entry { IsClaim entry.now }
-    ensures ok { OnOk result (GoodShape mode screen rom.now (E.list entries.now) entry.now) }
-    ensures err { IfErr result (λ fault. ShapeFaultAt mode screen rom.now (E.list entries.now) entry.now fault.word fault.why) }
+    ensures ok { OnOk result (GoodShape mode screen cells.now (E.list entries.now) entry.now) }
+    ensures err { IfErr result (λ fault. ShapeFaultAt mode screen cells.now (E.list entries.now) entry.now fault.word fault.why) }
     ensures place { IfErr result (λ fault. (fault.addr ≡ entry.now.addr) × (fault.key ≡ entry.now.key)) }
 {
     let rules = ShapeRules {
         entry: *entry,
         mode,
     };
-    match walk(rom, entries, &rules, entry.addr) {
+    match walk(cells, entries, &rules, entry.addr) {
         Ok(_) => Ok(()),
         Err(fault) => Err(ShapeFault {
             addr: entry.addr,
@@ -212,19 +215,30 @@ fn check_shape<E: Entries>(
     }
 }
 
+/// The word address of the first shape, or that past the ROM where there is none.
+fn first_shape(cert: &Cert) -> u16
+    ensures low { 2048 ≤ result }
+    ensures high { result ≤ 3072 }
+{
+    match cert.entries().first() {
+        None => ROM_END,
+        Some(entry) => entry.addr,
+    }
+}
+
 /// Judges each entry's shape, in the order of the certificate, in a mode.
 fn check_shapes_in<E: Entries>(
     mode: Mode,
-    rom: &RomImage,
+    cells: &RomCells,
     cert: &Cert,
     entries: &E,
 ) -> Result<(), ShapeFault>
     requires { E.list entries.now ≡ cert.now }
-    ensures ok { OnOk result (Good mode screen rom.now cert.now) }
-    ensures err { IfErr result (FirstShapeFault mode screen rom.now cert.now) }
+    ensures ok { OnOk result (Good mode screen cells.now cert.now) }
+    ensures err { IfErr result (FirstShapeFault mode screen cells.now cert.now) }
 {
     for entry in cert.entries() {
-        if let Err(fault) = check_shape(mode, rom, entries, entry) {
+        if let Err(fault) = check_shape(mode, cells, entries, entry) {
             return Err(fault);
         }
     }
@@ -240,5 +254,6 @@ pub fn check_shapes<E: Entries>(rom: &RomImage, cert: &Cert, entries: &E) -> Res
     ensures ok { OnOk result (Good Bound screen rom.now cert.now) }
     ensures err { IfErr result (FirstShapeFault Bound screen rom.now cert.now) }
 {
-    check_shapes_in(Mode::Bound, rom, cert, entries)
+    let cells = RomCells::read_from(rom, first_shape(cert));
+    check_shapes_in(Mode::Bound, &cells, cert, entries)
 }

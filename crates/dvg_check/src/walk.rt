@@ -1,19 +1,25 @@
 //! The one loop over the items of a shape or of a frame.
+//!
+//! Most items are draws, so their code stands apart from that of calls, and all that judges an item is inlined: there
+//! the compiler knows what kind of item it is, and leaves out the tests that ask for it.
 
-ghost use Rattle.std.specs.Prelude.{◌≡◌, ◌≤◌, ◌<◌, List, [], IfOk, IfErr};
+ghost use Rattle.std.specs.Prelude.{◌≡◌, ◌≤◌, ◌<◌, List, [], None, IfOk, IfErr, IfSome};
 ghost use Rattle.dvg_cert.specs.Entry.{IsKey};
 ghost use Rattle.dvg_cert.specs.declared.entry.Entry.{Entry};
+ghost use Rattle.dvg_words.specs.Decoding.{InstrFits};
+ghost use Rattle.dvg_check.specs.Items.{next_place};
 ghost use Rattle.dvg_check.specs.Rules.{PlaceKeeps};
 ghost use Rattle.dvg_check.specs.FirstFault.{FaultAt};
-ghost use Rattle.dvg_check.specs.Known.{known_before};
-ghost use Rattle.dvg_check.specs.Private.Running.{WalksTo, IsSound, IsSomeCertificate};
+ghost use Rattle.dvg_check.specs.Known.{known_before, target};
+ghost use Rattle.dvg_check.specs.Private.Running.{WalksTo, IsSound, IsClaim, IsSomeCertificate, sight_with, sight_by, KeepsAll, BreaksFirst};
 
+use crate::cells::Cells;
 use crate::fault::Fault;
 use crate::item::{Item, Kind, next_place};
-use crate::known::{Known, see};
+use crate::known::{Known, callee, see_with, target};
 use crate::rules::Rules;
-use dvg_cert::{End, Entries, Key};
-use dvg_words::{Cell, Fetch, read_cell};
+use dvg_cert::{End, Entries, Entry, Key};
+use dvg_words::{Cell, Instr};
 
 /// What is known before the first item.
 fn start(kind: Kind, scale: Key) -> Known
@@ -33,9 +39,123 @@ fn start(kind: Kind, scale: Key) -> Known
     }
 }
 
+/// Judges an item that calls this entry: the first rule that it breaks, or what is known after it and where the next one
+/// stands, `None` after the last.
+#[inline(always)]
+fn judge_with<R: Rules>(
+    rules: &R,
+    callee: Option<Entry>,
+    before: &Known,
+    item: &Item,
+) -> Result<(Known, Option<u16>), R::Why>
+    requires rules { R.valid rules.now }
+    requires callee { IfSome callee IsClaim }
+    requires before { IsSound item.now.at before.now }
+    requires near { item.now.at < 4096 }
+    requires fields { InstrFits item.now.instr }
+    ensures kept { IfOk result (λ onward. KeepsAll (R.keeps rules.now) (sight_with callee before.now item.now) onward.0) }
+    ensures next { IfOk result (λ onward. onward.1 ≡ next_place R.kind item.now) }
+    ensures broken { IfErr result (BreaksFirst R.order (R.keeps rules.now) (sight_with callee before.now item.now)) }
+{
+    let seen = see_with(callee, before, item);
+    match rules.first_broken(&seen) {
+        Some(why) => Err(why),
+        None => Ok((seen.after, next_place(rules.kind(), item))),
+    }
+}
+
+/// Judges an item that calls nothing, as a draw. Where the place is relative to the call and the scale is known, as for
+/// most draws, it has code of its own.
+#[inline(always)]
+fn judge_draw<R: Rules>(
+    rules: &R,
+    before: &Known,
+    item: &Item,
+) -> Result<(Known, Option<u16>), R::Why>
+    requires rules { R.valid rules.now }
+    requires before { IsSound item.now.at before.now }
+    requires near { item.now.at < 4096 }
+    requires fields { InstrFits item.now.instr }
+    ensures kept { IfOk result (λ onward. KeepsAll (R.keeps rules.now) (sight_with None before.now item.now) onward.0) }
+    ensures next { IfOk result (λ onward. onward.1 ≡ next_place R.kind item.now) }
+    ensures broken { IfErr result (BreaksFirst R.order (R.keeps rules.now) (sight_with None before.now item.now)) }
+{
+    match (before.place, before.scale) {
+        (End::Rel { x, y }, Key::At(gscale)) => {
+            let known = Known {
+                place: End::Rel { x, y },
+                scale: Key::At(gscale),
+                words: before.words,
+                depth: before.depth,
+            };
+            judge_with(rules, None, &known, item)
+        }
+        _ => judge_with(rules, None, before, item),
+    }
+}
+
+/// The word address that an item calls. Not inlined, so that the first test of an item is whether it is a draw.
+#[inline(never)]
+fn called<R: Rules>(rules: &R, item: &Item) -> Option<u16>
+    ensures { result ≡ target R.kind item.now.instr }
+{
+    target(rules.kind(), &item.instr)
+}
+
+/// Judges an item that may call an entry.
+#[inline(always)]
+fn judge_call<E: Entries, R: Rules>(
+    rules: &R,
+    entries: &E,
+    before: Known,
+    item: Item,
+) -> Result<(Known, Option<u16>), R::Why>
+    requires entries { IsSomeCertificate (E.list entries.now) }
+    requires rules { R.valid rules.now }
+    requires before { IsSound item.at before }
+    requires near { item.at < 4096 }
+    requires fields { InstrFits item.instr }
+    ensures kept { IfOk result (λ onward. KeepsAll (R.keeps rules.now) (sight_by (E.list entries.now) R.kind before item) onward.0) }
+    ensures next { IfOk result (λ onward. onward.1 ≡ next_place R.kind item) }
+    ensures broken { IfErr result (BreaksFirst R.order (R.keeps rules.now) (sight_by (E.list entries.now) R.kind before item)) }
+{
+    let callee = callee(entries, called(rules, &item), before.scale);
+    judge_with(rules, callee, &before, &item)
+}
+
+/// Judges an item.
+#[inline(always)]
+fn judge<E: Entries, R: Rules>(
+    rules: &R,
+    entries: &E,
+    before: &Known,
+    item: &Item,
+) -> Result<(Known, Option<u16>), R::Why>
+    requires entries { IsSomeCertificate (E.list entries.now) }
+    requires rules { R.valid rules.now }
+    requires before { IsSound item.now.at before.now }
+    requires near { item.now.at < 4096 }
+    requires fields { InstrFits item.now.instr }
+    ensures kept { IfOk result (λ onward. KeepsAll (R.keeps rules.now) (sight_by (E.list entries.now) R.kind before.now item.now) onward.0) }
+    ensures next { IfOk result (λ onward. onward.1 ≡ next_place R.kind item.now) }
+    ensures broken { IfErr result (BreaksFirst R.order (R.keeps rules.now) (sight_by (E.list entries.now) R.kind before.now item.now)) }
+{
+    match item.instr {
+        Instr::Draw(draw) => {
+            let drawn = Item {
+                at: item.at,
+                format: item.format,
+                instr: Instr::Draw(draw),
+            };
+            judge_draw(rules, before, &drawn)
+        }
+        _ => judge_call(rules, entries, *before, *item),
+    }
+}
+
 /// Goes over the items from the first place on, up to the first that breaks a rule or the last.
-pub fn walk<W: Fetch, E: Entries, R: Rules>(
-    words: &W,
+pub fn walk<C: Cells, E: Entries, R: Rules>(
+    cells: &C,
     entries: &E,
     rules: &R,
     first: u16,
@@ -44,17 +164,16 @@ pub fn walk<W: Fetch, E: Entries, R: Rules>(
     requires rules { R.valid rules.now }
     requires first { first < 4096 }
     ensures ok { IfOk result (λ known. WalksTo (record { kind = R.kind; list = E.list entries.now; scale = R.scale rules.now })
-        (W.words words.now) first (PlaceKeeps R.unmapped R.odd (R.keeps rules.now)
-        (record { kind = R.kind; list = E.list entries.now; scale = R.scale rules.now }) (W.words words.now)) known) }
-    ensures err { IfErr result (λ fault. FaultAt R.order R.kind (W.words words.now) first
+        (C.words cells.now) first (PlaceKeeps R.unmapped R.odd (R.keeps rules.now)
+        (record { kind = R.kind; list = E.list entries.now; scale = R.scale rules.now }) (C.words cells.now)) known) }
+    ensures err { IfErr result (λ fault. FaultAt R.order R.kind (C.words cells.now) first
         (PlaceKeeps R.unmapped R.odd (R.keeps rules.now)
-        (record { kind = R.kind; list = E.list entries.now; scale = R.scale rules.now }) (W.words words.now)) fault.at fault.why) }
+        (record { kind = R.kind; list = E.list entries.now; scale = R.scale rules.now }) (C.words cells.now)) fault.at fault.why) }
 {
-    let kind = rules.kind();
     let mut at = first;
-    let mut known = start(kind, rules.scale());
+    let mut known = start(rules.kind(), rules.scale());
     'items: loop {
-        let (format, instr) = match read_cell(words, at) {
+        let (format, instr) = match cells.cell(at) {
             Cell::Missing => {
                 return Err(Fault {
                     at,
@@ -70,14 +189,13 @@ pub fn walk<W: Fetch, E: Entries, R: Rules>(
             Cell::Holds { format, instr } => (format, instr),
         };
         let item = Item { at, format, instr };
-        let seen = see(entries, kind, &known, &item);
-        if let Some(why) = rules.first_broken(&seen) {
-            return Err(Fault { at, why });
-        }
-        known = seen.after;
-        match next_place(kind, &item) {
-            None => return Ok(known),
-            Some(next) => at = next,
+        match judge(rules, entries, &known, &item) {
+            Err(why) => return Err(Fault { at, why }),
+            Ok((last, None)) => return Ok(last),
+            Ok((after, Some(next))) => {
+                known = after;
+                at = next;
+            }
         }
     }
 }

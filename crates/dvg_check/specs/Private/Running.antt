@@ -1,8 +1,10 @@
 -- What the code keeps while it goes over items: no rule stands here. What is known after an item, by what is known before
 -- it; what stands below all sums, so that none leaves 64 bits; and the order in which the code tests rules.
-use Rattle.std.specs.Prelude.{◌≡◌, ℕ, ◌+◌, ◌*◌, ◌<◌, ◌≤◌, max, List, [], ◌∷◌, take, Option, None, unwrap_or, pos, neg_ℤ, ◌≤ℤ◌}
+use Rattle.std.specs.Prelude.{◌≡◌, ℕ, ◌+◌, ◌*◌, ◌<◌, ◌≤◌, max, List, [], ◌∷◌, take, slice_get, Option, Some, None, unwrap_or, pos, neg_ℤ, ◌≤ℤ◌}
 use Rattle.dvg_words.specs.declared.instruction.Cell.TheVariants.{Holds}
-use Rattle.dvg_words.specs.Decoding.{word_count, cell_at}
+use Rattle.dvg_words.specs.declared.instruction.Cell.{Cell}
+use Rattle.dvg_words.specs.Decoding.{word_count, cell_at, CellFits}
+use Rattle.dvg_words.specs.Memory.{Rom, rom_word}
 use Rattle.dvg_words.specs.declared.beam.Point.{Point}
 use Rattle.dvg_cert.specs.Entry.{IsKey, IsEnd, IsBox}
 use Rattle.dvg_cert.specs.Order.{IsCertificate}
@@ -89,6 +91,15 @@ pub record IsSound (at : ℕ) (known : Known) : Type 0 where
   pub words : known.words ≤ 1000000
   pub depth : known.depth ≤ 4
 
+-- ---- cells read beforehand
+
+-- these are as many cells of a ROM from a word address on
+pub record IsReadFrom (rom : Rom) (from count : ℕ) (cells : List Cell) : Type 0 where
+  pub from_low : from ≤ 3072
+  pub few : count ≤ 1024
+  pub read : (k : ℕ) → k < count → slice_get cells k ≡ Some (cell_at (rom_word rom) (from + k))
+  pub fits : (k : ℕ) → k < count → CellFits (cell_at (rom_word rom) (from + k))
+
 -- ---- rules in the order in which the code tests them
 
 abbrev pub EachKept : {Why : Type 0} → (Why → Type 0) → List Why → Type 0
@@ -135,6 +146,22 @@ FrameBrokenFirst K why = EachKept K (take (frame_index why) frame_rules) × (K w
 
 abbrev pub ShapeBrokenFirst : (ShapeWhy → Type 0) → ShapeWhy → Type 0
 ShapeBrokenFirst K why = EachKept K (take (shape_index why) shape_rules) × (K why → ⊥)
+
+-- ---- one item
+
+-- every rule is kept, and this, within its bounds, is known after the item
+pub record KeepsAll {Why : Type 0} (Keeps : Seen → Why → Type 0) (v : Seen) (known : Known) : Type 0 where
+  pub kept : (why : Why) → Keeps v why
+  pub knows : known ≡ v.after
+  pub place : IsNearPlace (v.item.at + 1) known.place
+  pub scale : IsKey known.scale
+  pub words : known.words ≤ 1000000
+  pub depth : known.depth ≤ 4
+
+-- this rule is broken, and all that come before it are kept
+pub record BreaksFirst {Why : Type 0} (order : Why → ℕ) (Keeps : Seen → Why → Type 0) (v : Seen) (why : Why) : Type 0 where
+  pub broken : Keeps v why → ⊥
+  pub lowest : (other : Why) → order other < order why → Keeps v other
 
 -- ---- a walk over all items
 

@@ -1,0 +1,102 @@
+//! What stands at the word addresses of a ROM and of a frame.
+
+ghost use Rattle.std.specs.Prelude.{◌≡◌, ◌≤◌, ℕ, Option};
+ghost use Rattle.dvg_words.specs.Decoding.{cell_at, CellFits, StandsBelow};
+ghost use Rattle.dvg_words.specs.Memory.{rom_word, frame_word};
+
+use dvg_words::{Cell, FrameImage, RomImage, read_cell};
+use std::marker::Model;
+
+/// What stands at word addresses.
+pub trait Cells {
+    /// The word at each address, none where there is none.
+    ghost words: { Self → ℕ → Option ℕ };
+
+    /// What stands at a word address.
+    fn cell(&self, at: u16) -> Cell
+        ensures value { result ≡ cell_at (words self.now) at }
+        ensures fields { CellFits result }
+        ensures near { StandsBelow 4096 at result };
+}
+
+impl<'a> Cells for FrameImage<'a> {
+    ghost words = { λ s. frame_word s };
+
+    fn cell(&self, at: u16) -> Cell {
+        read_cell(self, at)
+    }
+}
+
+/// The word address past the last one of a ROM.
+pub const ROM_END: u16 = 0xC00;
+
+/// A ROM, of which all that stands from one word address on is read beforehand.
+#[derive(Drop)]
+pub struct RomCells<'a> {
+    rom: &'a RomImage<'a>,
+    from: u16,
+    count: u16,
+    cells: [Cell; 1024],
+}
+
+impl<'a> Model for RomCells<'a> {
+    ghost use Rattle.std.specs.Prelude.{◌≡◌, ◌≤◌, ◌<◌, ◌+◌, ℕ, length, slice_get, Some};
+    ghost use Rattle.dvg_words.specs.Decoding.{cell_at};
+    ghost use Rattle.dvg_words.specs.Memory.{Rom, rom_word};
+    ghost use Rattle.dvg_check.specs.Private.Running.{IsReadFrom};
+
+    ghost Value = { Rom };
+
+    ghost view = { λ s. s.rom.now };
+
+    ghost invariant = { λ s. IsReadFrom s.rom.now s.from s.count s.cells };
+}
+
+impl<'a> RomCells<'a> {
+    /// The ROM, with all that stands from a word address on.
+    pub fn read_from(rom: &'a RomImage<'a>, from: u16) -> RomCells<'a>
+        requires from { 2048 ≤ from }
+        requires to { from ≤ 3072 }
+        ensures { result ≡ rom.now }
+    {
+        let count = ROM_END - from;
+        let mut cells = [Cell::Missing; 1024];
+        for index in 0..count {
+            cells[index as usize] = read_cell(rom, from + index);
+        }
+        RomCells {
+            rom,
+            from,
+            count,
+            cells,
+        }
+    }
+}
+
+/// What stands where nothing was read beforehand.
+#[cold]
+#[inline(never)]
+fn read_late(rom: &RomImage, at: u16) -> Cell
+    ensures value { result ≡ cell_at (rom_word rom.now) at }
+    ensures fields { CellFits result }
+    ensures near { StandsBelow 4096 at result }
+{
+    read_cell(rom, at)
+}
+
+impl<'a> Cells for RomCells<'a> {
+    ghost words = { λ s. rom_word s };
+
+    #[inline(always)]
+    fn cell(&self, at: u16) -> Cell {
+        let rom = self.rom;
+        let index = at.wrapping_sub(self.from);
+        if index >= self.count {
+            // A value of its own: returned at once it would share its place with the array's cells, at a copy each.
+            let cell = read_late(rom, at);
+            return cell;
+        }
+        let cells = &self.cells;
+        cells[index as usize]
+    }
+}
