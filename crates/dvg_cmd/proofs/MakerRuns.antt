@@ -1,5 +1,5 @@
 -- What a run of the maker answers, over plain values.
-use Rattle.std.proofs.Common.{Option, List, length, Some, arith, subst, sym, refl, ◌≡◌, ◌≤◌, ◌∙◌, ℕ}
+use Rattle.std.proofs.Common.{Option, List, length, Some, arith, subst, sym, ◌≡◌, ◌≤◌, ◌∙◌, ℕ}
 use Rattle.std.specs.Prelude.{IfSome}
 use Rattle.dvg_words.specs.Memory.{IsRomLength, rom_of}
 use Rattle.dvg_words.specs.Values.{asteroids}

@@ -1,5 +1,5 @@
 -- What a run of the maker says of the bytes that its reader held, and what it writes. All of it is profile.
-use Rattle.std.specs.Prelude.{◌≡◌, ℕ, ◌<◌, Bool, true, false, List, ◌++◌, length, codes, Option, IfSome, Result, Ok, Err}
+use Rattle.std.specs.Prelude.{◌≡◌, ℕ, ◌<◌, Bool, true, false, List, ◌++◌, length, codes, Option, IfSome, Result, Err}
 use Rattle.std.specs.Io.KnownBytes.{Appends}
 use Rattle.dvg_words.specs.Values.{asteroids}
 use Rattle.dvg_words.specs.Memory.{rom_of, IsRomLength}

@@ -30,6 +30,7 @@ impl Model for Done {
 }
 
 impl Done {
+    /// No entry so far.
     pub fn new(alloc: Global) -> Done
         ensures { result ≡ [] }
     {
@@ -45,6 +46,7 @@ impl Done {
         self.found.get(&(addr, key)).copied()
     }
 
+    /// How many entries are made.
     pub fn len(&self) -> usize
         ensures { result ≡ length self.now }
     {
