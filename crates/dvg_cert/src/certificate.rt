@@ -41,7 +41,7 @@ impl Cert {
         ensures refused { IfErr result (λ same. (same ≡ entries) × (IsCertificate 2048 3071 entries.items → ⊥)) }
     {
         if is_certificate(&entries) {
-            Ok(Cert { entries })
+            Ok(certificate_of(entries))
         } else {
             Err(entries)
         }
