@@ -30,6 +30,13 @@ abbrev pub IsBox : LitBox → Type 0
 IsBox Empty = Unit {0}
 IsBox (Span x_min x_max y_min y_max) = IsRange x_min x_max × IsRange y_min y_max
 
+-- the first and the last word address of the ROM of Asteroids, of which texts of version 1 speak (profile)
+abbrev pub rom_first : ℕ
+rom_first = 0x800
+
+abbrev pub rom_last : ℕ
+rom_last = 0xBFF
+
 -- an entry for a ROM from word address `first` to `last` (profile)
 pub record IsEntry (first last : ℕ) (e : Entry) : Type 0 where
   pub addr_low : first ≤ e.addr

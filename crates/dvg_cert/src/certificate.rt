@@ -1,7 +1,7 @@
 //! Certificates, and which lists of entries are a certificate's.
 
 ghost use Rattle.std.specs.Prelude.{◌≡◌, ◌↔◌, ◌≤◌, length, take, IsTrue, IfOk, IfErr, ◌≤ℤ◌};
-ghost use Rattle.dvg_cert.specs.Entry.{IsNumber, IsRange, IsKey, IsEnd, IsBox, IsEntry};
+ghost use Rattle.dvg_cert.specs.Entry.{rom_first, rom_last, IsNumber, IsRange, IsKey, IsEnd, IsBox, IsEntry};
 ghost use Rattle.dvg_cert.specs.Order.{IsCertificate, StandsAfter, Before, KeyBefore};
 
 use crate::entry::{End, Entry, Key, LitBox};
@@ -23,6 +23,7 @@ pub struct Cert {
 }
 
 impl Model for Cert {
+    ghost use Rattle.dvg_cert.specs.Entry.{rom_first, rom_last};
     ghost use Rattle.std.specs.Prelude.{List};
     ghost use Rattle.dvg_cert.specs.Entry.{Entry};
     ghost use Rattle.dvg_cert.specs.Order.{IsCertificate};
@@ -31,14 +32,14 @@ impl Model for Cert {
 
     ghost view = { λ s. s.entries.items };
 
-    ghost invariant = { λ s. IsCertificate 2048 3071 s.entries.items };
+    ghost invariant = { λ s. IsCertificate rom_first rom_last s.entries.items };
 }
 
 impl Cert {
     /// The certificate with these entries, or the same vector again where they are not a certificate's.
     pub fn from_entries(entries: Vec<Entry>) -> Result<Cert, Vec<Entry>>
-        ensures taken { IfOk result (λ cert. (cert ≡ entries.items) × IsCertificate 2048 3071 entries.items) }
-        ensures refused { IfErr result (λ same. (same ≡ entries) × (IsCertificate 2048 3071 entries.items → ⊥)) }
+        ensures taken { IfOk result (λ cert. (cert ≡ entries.items) × IsCertificate rom_first rom_last entries.items) }
+        ensures refused { IfErr result (λ same. (same ≡ entries) × (IsCertificate rom_first rom_last entries.items → ⊥)) }
     {
         if is_certificate(&entries) {
             Ok(certificate_of(entries))
@@ -50,7 +51,7 @@ impl Cert {
     /// The entries, in their order.
     pub fn entries(&self) -> &[Entry]
         ensures value { result.now ≡ self.now }
-        ensures certificate { IsCertificate 2048 3071 self.now }
+        ensures certificate { IsCertificate rom_first rom_last self.now }
     {
         &self.entries
     }
@@ -58,7 +59,7 @@ impl Cert {
 
 /// The certificate with these entries, which are known to be a certificate's.
 pub fn certificate_of(entries: Vec<Entry>) -> Cert
-    requires { IsCertificate 2048 3071 entries.items }
+    requires { IsCertificate rom_first rom_last entries.items }
     ensures { result ≡ entries.items }
 {
     Cert { entries }
@@ -66,7 +67,7 @@ pub fn certificate_of(entries: Vec<Entry>) -> Cert
 
 /// Whether entries are those of a certificate.
 fn is_certificate(entries: &[Entry]) -> bool
-    ensures { IsTrue result ↔ IsCertificate 2048 3071 entries.now }
+    ensures { IsTrue result ↔ IsCertificate rom_first rom_last entries.now }
 {
     if entries.len() > MOST_ENTRIES {
         return false;
@@ -114,7 +115,7 @@ fn is_key_before(a: Key, b: Key) -> bool
 
 /// Whether an entry is within the limits of a certificate.
 pub fn is_entry(entry: &Entry) -> bool
-    ensures { IsTrue result ↔ IsEntry 2048 3071 entry.now }
+    ensures { IsTrue result ↔ IsEntry rom_first rom_last entry.now }
 {
     ROM_FIRST <= entry.addr
         && entry.addr <= ROM_LAST

@@ -1,6 +1,7 @@
 //! Reading a certificate, whole or in pieces.
 
 ghost use Rattle.std.specs.Prelude.{◌≡◌, ◌+◌, ◌<◌, ◌==◌, [], ◌++◌, length, position, OnOk, IfNone, IfSome};
+ghost use Rattle.dvg_cert.specs.Entry.{rom_first, rom_last};
 ghost use Rattle.dvg_cert.specs.declared.fault.CertWhy.TheVariants.{After};
 ghost use Rattle.dvg_cert.specs.Reading.{IsTaken, IsRest, IsUnended, ReadAnswer};
 ghost use Rattle.dvg_cert.specs.Stream.{Open, FeedsTo, FinishesTo};
@@ -28,6 +29,7 @@ pub struct CertReader {
 }
 
 impl Model for CertReader {
+    ghost use Rattle.dvg_cert.specs.Entry.{rom_first, rom_last};
     ghost use Rattle.dvg_cert.specs.Stream.{Stream};
 
     ghost Value = { Stream };
@@ -36,7 +38,7 @@ impl Model for CertReader {
 
     ghost view = { λ s. stream_of s.refused s.lines s.begun };
 
-    ghost invariant = { λ s. IsProgress 2048 3071 s.refused s.lines s.begun };
+    ghost invariant = { λ s. IsProgress rom_first rom_last s.refused s.lines s.begun };
 }
 
 impl CertReader {
@@ -53,7 +55,7 @@ impl CertReader {
 
     /// Takes a piece, wherever the text was cut. After a refusal every call answers the same one.
     pub fn feed(&mut self, piece: &[u8]) -> Result<(), CertFault>
-        ensures { FeedsTo 2048 3071 self.old piece.now self.new result }
+        ensures { FeedsTo rom_first rom_last self.old piece.now self.new result }
     {
         if let Some(fault) = self.refused {
             return Err(fault);
@@ -69,7 +71,7 @@ impl CertReader {
 
     /// The answer to all pieces together.
     pub fn finish(self) -> Result<Cert, CertFault>
-        ensures { FinishesTo 2048 3071 self result }
+        ensures { FinishesTo rom_first rom_last self result }
     {
         if let Some(fault) = self.refused {
             return Err(fault);
@@ -80,7 +82,7 @@ impl CertReader {
 
 /// The certificate that a text spells, or why it is refused.
 pub fn read_cert(alloc: Global, text: &[u8]) -> Result<Cert, CertFault>
-    ensures { ReadAnswer 2048 3071 text.now result }
+    ensures { ReadAnswer rom_first rom_last text.now result }
 {
     let mut reader = CertReader::new(alloc);
     reader.feed(text)?;
@@ -89,9 +91,9 @@ pub fn read_cert(alloc: Global, text: &[u8]) -> Result<Cert, CertFault>
 
 /// Takes the lines of a piece where they lie, and keeps what is left of it.
 fn take_piece(lines: &mut TakenLines, begun: &mut LineBuffer, piece: &[u8]) -> Result<(), CertFault>
-    requires taken { IsTaken 2048 3071 lines.old }
+    requires taken { IsTaken rom_first rom_last lines.old }
     requires begun { IsRest lines.old begun.old }
-    ensures { TakesPiece 2048 3071 lines.old begun.old piece.now lines.new begun.new result }
+    ensures { TakesPiece rom_first rom_last lines.old begun.old piece.now lines.new begun.new result }
 {
     let mut rest = piece;
     while let Some(after) = take_next(lines, begun, rest)? {
@@ -106,9 +108,9 @@ fn take_next<'a>(
     begun: &mut LineBuffer,
     rest: &'a [u8],
 ) -> Result<Option<&'a [u8]>, CertFault>
-    requires taken { IsTaken 2048 3071 lines.old }
+    requires taken { IsTaken rom_first rom_last lines.old }
     requires begun { IsRest lines.old begun.old }
-    ensures { TakesNext (λ x. x.now) 2048 3071 lines.old begun.old rest.now lines.new begun.new result }
+    ensures { TakesNext (λ x. x.now) rom_first rom_last lines.old begun.old rest.now lines.new begun.new result }
 {
     let line = lines.line_number();
     if lines.is_whole() {
@@ -149,7 +151,7 @@ fn fault_after(line: u32, rest: &[u8]) -> Option<CertFault>
 fn take_begun(lines: &mut TakenLines, begun: &mut LineBuffer, front: &[u8]) -> Result<(), CertWhy>
     requires open { IsUnended lines.old }
     requires short { length begun.old + length front.now < 200 }
-    ensures line { TakesLine 2048 3071 lines.old (begun.old ++ front.now) lines.new result }
+    ensures line { TakesLine rom_first rom_last lines.old (begun.old ++ front.now) lines.new result }
     ensures empty { OnOk result (begun.new ≡ []) }
 {
     if begun.len() == 0 {

@@ -2,7 +2,7 @@
 
 ghost use Rattle.std.specs.Prelude.{◌≡◌, ◌↔◌, IsTrue, IfOk, IfErr, Ok, Err};
 ghost use Rattle.dvg_cert.specs.declared.fault.CertWhy.TheVariants.{Unended};
-ghost use Rattle.dvg_cert.specs.Entry.{IsEntry};
+ghost use Rattle.dvg_cert.specs.Entry.{rom_first, rom_last, IsEntry};
 ghost use Rattle.dvg_cert.specs.Order.{IsCertificate};
 ghost use Rattle.dvg_cert.specs.Reading.{Nothing, Whole, IsUnended, IsTaken, line_number};
 ghost use Rattle.dvg_cert.specs.Progress.{TakesEntry, TakesLine, TakesLater};
@@ -30,15 +30,16 @@ pub struct TakenLines {
 }
 
 impl Model for TakenLines {
+    ghost use Rattle.dvg_cert.specs.Entry.{rom_first, rom_last};
     ghost use Rattle.dvg_cert.specs.Reading.{Taken};
 
     ghost Value = { Taken };
 
     ghost use Rattle.dvg_cert.specs.Progress.{taken_of, IsStaged};
 
-    ghost view = { λ s. taken_of 2048 3071 s.stage s.entries.items };
+    ghost view = { λ s. taken_of rom_first rom_last s.stage s.entries.items };
 
-    ghost invariant = { λ s. IsStaged 2048 3071 s.stage s.entries.items };
+    ghost invariant = { λ s. IsStaged rom_first rom_last s.stage s.entries.items };
 }
 
 impl TakenLines {
@@ -77,7 +78,7 @@ impl TakenLines {
     /// Takes a line, which comes without its end.
     pub fn take_line(&mut self, line: &[u8]) -> Result<(), CertWhy>
         requires { IsUnended self.old }
-        ensures { TakesLine 2048 3071 self.old line.now self.new result }
+        ensures { TakesLine rom_first rom_last self.old line.now self.new result }
     {
         match self.stage {
             Stage::First => {
@@ -97,7 +98,7 @@ impl TakenLines {
 
     /// The certificate, where the last line was taken.
     pub fn finish(self) -> Result<Cert, CertFault>
-        ensures whole { IfOk result (λ cert. (self ≡ Whole 2048 3071 cert) × IsCertificate 2048 3071 cert) }
+        ensures whole { IfOk result (λ cert. (self ≡ Whole rom_first rom_last cert) × IsCertificate rom_first rom_last cert) }
         ensures unended { IfErr result (λ f. IsUnended self × (f.line ≡ line_number self) × (f.why ≡ Unended)) }
     {
         let line = self.line_number();
@@ -113,8 +114,8 @@ impl TakenLines {
 
 /// Takes a line after the first, and answers which line comes next.
 fn take_later(entries: &mut Vec<Entry>, line: &[u8]) -> Result<Stage, CertWhy>
-    requires { IsCertificate 2048 3071 entries.old.items }
-    ensures { TakesLater 2048 3071 entries.old.items line.now entries.new.items result }
+    requires { IsCertificate rom_first rom_last entries.old.items }
+    ensures { TakesLater rom_first rom_last entries.old.items line.now entries.new.items result }
 {
     match line_of(line, ROM_FIRST, ROM_LAST) {
         None => Err(CertWhy::Form),
@@ -133,9 +134,9 @@ fn take_later(entries: &mut Vec<Entry>, line: &[u8]) -> Result<Stage, CertWhy>
 
 /// Takes an entry where it stands after the last one and there is room. An `Err` changes nothing.
 fn take_entry(entries: &mut Vec<Entry>, entry: Entry) -> Result<(), CertWhy>
-    requires taken { IsCertificate 2048 3071 entries.old.items }
-    requires entry { IsEntry 2048 3071 entry }
-    ensures { TakesEntry 2048 3071 entries.old.items entry entries.new.items result }
+    requires taken { IsCertificate rom_first rom_last entries.old.items }
+    requires entry { IsEntry rom_first rom_last entry }
+    ensures { TakesEntry rom_first rom_last entries.old.items entry entries.new.items result }
 {
     if !stands_after(entries, &entry) {
         return Err(CertWhy::Order);

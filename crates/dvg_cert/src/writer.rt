@@ -4,7 +4,7 @@ ghost use Rattle.std.specs.Prelude.{◌≡◌, ◌<◌, ◌≤◌, ◌+◌, ◌�
 ghost use Rattle.std.specs.Fmt.{signed_decimal, digit_glyph};
 ghost use Rattle.std.specs.Io.KnownBytes.{Appends};
 ghost use Rattle.dvg_cert.specs.Devices.{count_after, AppendsFront};
-ghost use Rattle.dvg_cert.specs.Entry.{IsNumber, IsKey, IsEnd, IsBox, IsEntry};
+ghost use Rattle.dvg_cert.specs.Entry.{rom_first, rom_last, IsNumber, IsKey, IsEnd, IsBox, IsEntry};
 ghost use Rattle.dvg_cert.specs.Grammar.{address_token, key_token, end_tokens, box_tokens, entry_line, done_line, ended, text_of};
 ghost use Rattle.dvg_cert.specs.Writing.{spaced};
 
@@ -60,7 +60,7 @@ pub fn write_cert<W: CountedWrite>(cert: &Cert, out: &mut W) -> Result<(), Write
 }
 
 fn spell_entry(line: &mut LineBuffer, entry: &Entry)
-    requires { IsEntry 2048 3071 entry.now }
+    requires { IsEntry rom_first rom_last entry.now }
     ensures { line.new ≡ ended (entry_line entry.now) }
 {
     line.clear();
