@@ -81,8 +81,8 @@ at_last : (o : Option ℕ) (P : Type 0) → o ≡ None → AtLast o P → P
 at_last None P e h = h
 at_last (Some p) P e h = cc
 
-sums_at : (rom : Rom) (list : List Entry) (e : Entry) → MadeEntry rom list e → (earlier : List Item) (i : Item) → LeadsTo Shape (rom_word rom) e.addr earlier i.at → cell_at (rom_word rom) i.at ≡ Holds i.format i.instr → next_place Shape i ≡ None → Sums list (i ∷ earlier) e
-sums_at rom list e made earlier i lead is last =
+pub sums_of : (rom : Rom) (list : List Entry) (e : Entry) → MadeEntry rom list e → (earlier : List Item) (i : Item) → LeadsTo Shape (rom_word rom) e.addr earlier i.at → cell_at (rom_word rom) i.at ≡ Holds i.format i.instr → next_place Shape i ≡ None → Sums list (i ∷ earlier) e
+sums_of rom list e made earlier i lead is last =
     let k = rule_at rom list e made earlier i lead is screen in
     let place = at_last (next_place Shape i) _ last (k shape.EndDiffers (λ q. cc q)) in
     let scale = at_last (next_place Shape i) _ last (k shape.ScaleDiffers (λ q. cc q)) in
@@ -165,12 +165,9 @@ made_ends rom list e made =
       leads = s.leads;
       is = s.is;
       last = s.last;
-      sums = sums_at rom list e made s.items s.i s.leads s.is s.last;
+      sums = sums_of rom list e made s.items s.i s.leads s.is s.last;
       fine = (all_fine rom list e made s.items s.i.at s.leads, fine_at rom list e made s.items s.i s.leads s.is);
     }
-
-pub sums_of : (rom : Rom) (list : List Entry) (e : Entry) → MadeEntry rom list e → (earlier : List Item) (i : Item) → LeadsTo Shape (rom_word rom) e.addr earlier i.at → cell_at (rom_word rom) i.at ≡ Holds i.format i.instr → next_place Shape i ≡ None → Sums list (i ∷ earlier) e
-sums_of = sums_at
 
 -- ---- and the other way round
 

@@ -1,6 +1,7 @@
 -- What is known by a list is known by each that extends it.
 use Rattle.std.proofs.Common.{◌≡◌, List, [], ◌∷◌, sym, ap, ◌∙◌, subst}
-use Rattle.dvg_words.specs.Memory.{Rom}
+use Rattle.dvg_words.specs.Memory.{Rom, rom_word}
+use Rattle.dvg_check.specs.Items.{LeadsTo}
 use Rattle.dvg_cert.specs.Lookup.{entry_at}
 use Rattle.dvg_cert.specs.declared.entry.Entry.{Entry}
 use Rattle.dvg_cert.specs.declared.entry.Key.{Key}
@@ -62,4 +63,4 @@ made_grows rom a b e ext made =
 pub same_made : (rom : Rom) (a b : List Entry) (e f : Entry) → Extends a b → MadeEntry rom a e → MadeEntry rom b f → e.addr ≡ f.addr → e.key ≡ f.key → e ≡ f
 same_made rom a b e f ext made other addr key =
     let h = made_ends rom a e made in
-    same_sums a b (h.i ∷ h.items) e f addr key (matched_fine a b e.key ext (h.i ∷ h.items) h.fine) h.sums (sums_of rom b f other h.items h.i (subst (λ x. Rattle.dvg_check.specs.Items.LeadsTo Shape (Rattle.dvg_words.specs.Memory.rom_word rom) x h.items h.i.at) addr h.leads) h.is h.last)
+    same_sums a b (h.i ∷ h.items) e f addr key (matched_fine a b e.key ext (h.i ∷ h.items) h.fine) h.sums (sums_of rom b f other h.items h.i (subst (λ x. LeadsTo Shape (rom_word rom) x h.items h.i.at) addr h.leads) h.is h.last)

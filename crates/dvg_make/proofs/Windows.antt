@@ -16,7 +16,7 @@ use Rattle.dvg_check.specs.declared.fault.ShapeWhy.TheVariants as shape
 use Rattle.dvg_check.specs.declared.item.Item.{Item}
 use Rattle.dvg_check.specs.declared.known.Seen.{Seen}
 use Rattle.dvg_make.specs.Laws.{AllInWindow, GoodInWindow}
-use Rattle.dvg_make.specs.Made.{Made}
+use Rattle.dvg_make.specs.Made.{MadeEntry, Made}
 
 is_off_screen : (why : ShapeWhy) → (why ≡ shape.OffScreen) ⊎ (why ≢ shape.OffScreen)
 is_off_screen shape.Unmapped = inr (λ q. cc q)
@@ -71,7 +71,7 @@ module _ (rom : Rom) (list : List Entry) (w : Window) where
   pub in_window : (mode : Mode) → Good mode w rom list → AllInWindow w rom list
   in_window mode good e c earlier i lead is = subst (λ cell. Kept mode e earlier i.at cell shape.OffScreen) is (good e c earlier i.at lead shape.OffScreen)
 
-  pub in_exact : ((e : Entry) → Contains list e → Rattle.dvg_make.specs.Made.MadeEntry rom list e) → AllInWindow w rom list → Good Exact w rom list
+  pub in_exact : ((e : Entry) → Contains list e → MadeEntry rom list e) → AllInWindow w rom list → Good Exact w rom list
   in_exact each all e c earlier p lead why = ⊎_elim (λ off. subst (ShapePlaceKeeps Exact w rom list e earlier p) (sym off) (by_cell (cell_at (rom_word rom) p) refl)) (λ not. (each e c).keeps earlier p lead why w not) (is_off_screen why)
     where
       by_cell : (cell : Cell) → cell_at (rom_word rom) p ≡ cell → Kept Exact e earlier p cell shape.OffScreen

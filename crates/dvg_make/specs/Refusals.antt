@@ -7,6 +7,7 @@ pub use Rattle.dvg_make.specs.declared.fault.MakeFault.{MakeFault}
 pub use Rattle.dvg_make.specs.declared.fault.MakeFault.TheVariants.{Unstraight, Deep, TooLarge, Memory}
 use Rattle.dvg_make.specs.Made.{Made}
 
+-- the number of a refusal (profile)
 abbrev pub fault_number : MakeFault → ℕ
 fault_number (Unstraight word) = 60
 fault_number Deep = 61

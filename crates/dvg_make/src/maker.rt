@@ -163,6 +163,7 @@ pub fn make(alloc: Global, rom: &RomImage, roots: &[(u16, Key)]) -> Result<Cert,
     ensures err { IfErr result (Refuses rom.now roots.now) }
 {
     let span = rom.span();
+    // The addresses of a certificate are those of this map.
     prove!(span == (0x800, 0xBFF));
     let mut done = make_all(alloc, rom, roots)?;
     done.sort()?;
