@@ -16,7 +16,7 @@ use Rattle.dvg_check.specs.declared.fault.ShapeWhy.TheVariants as shape
 use Rattle.dvg_check.specs.declared.item.Item.{Item}
 use Rattle.dvg_check.specs.declared.known.Seen.{Seen}
 use Rattle.dvg_make.specs.Laws.{AllInWindow, GoodInWindow}
-use Rattle.dvg_make.specs.Made.{MadeEntry, Made}
+use Rattle.dvg_make.specs.Made.{MadeEntry}
 
 is_off_screen : (why : ShapeWhy) → (why ≡ shape.OffScreen) ⊎ (why ≢ shape.OffScreen)
 is_off_screen shape.Unmapped = inr (λ q. cc q)
