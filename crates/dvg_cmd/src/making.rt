@@ -57,10 +57,7 @@ fn make_for(alloc: Global, bytes: &[u8], roots: &[(u16, Key)]) -> Result<Cert, M
     let Ok(rom) = RomImage::from_bytes(bytes) else {
         return Err(MakeRunFault::RomLength);
     };
-    match make(alloc, &rom, roots) {
-        Ok(cert) => Ok(cert),
-        Err(fault) => Err(MakeRunFault::Make(fault)),
-    }
+    make(alloc, &rom, roots).map_err(MakeRunFault::Make)
 }
 
 /// Reads a ROM and writes the certificate of the shapes at these roots, and of all that they call or tail jump to.

@@ -24,11 +24,11 @@ use Rattle.dvg_make.specs.Least.{lit_points, IsLeast}
 abbrev pub HasEntry : List Entry → ℕ → Key → Type 0
 HasEntry list addr key = (e : Entry) × (entry_at list addr key ≡ Some e)
 
--- holds of each item of the shape at an address, with the items before it (profile)
+-- holds of each item of the shape at an address that is there and not odd, with the items before it (profile)
 abbrev pub EachItem : Rom → ℕ → (List Item → Item → Type 0) → Type 0
 EachItem rom addr P = (earlier : List Item) (i : Item) → LeadsTo Shape (rom_word rom) addr earlier i.at → cell_at (rom_word rom) i.at ≡ Holds i.format i.instr → P earlier i
 
--- holds of all items of the shape at an address (profile)
+-- holds of all items of the shape at an address, up to the last one (profile)
 abbrev pub AtEnd : Rom → ℕ → (List Item → Type 0) → Type 0
 AtEnd rom addr P = EachItem rom addr (λ earlier i. next_place Shape i ≡ None → P (i ∷ earlier))
 

@@ -18,7 +18,7 @@ fault_number Memory = 63
 abbrev pub NoneMade : Rom → List (ℕ × Key) → Type 0
 NoneMade rom roots = (list : List Entry) → Made rom roots list → ⊥
 
--- only want of memory is no claim (profile)
+-- 60, 61 and 62 say that no list is made, 63 says nothing (profile)
 abbrev pub Refuses : Rom → List (ℕ × Key) → MakeFault → Type 0
 Refuses rom roots Memory = Unit {0}
 Refuses rom roots (Unstraight word) = NoneMade rom roots

@@ -13,7 +13,7 @@ pub enum MakeFault {
     /// word is outside the ROM, or has a key over 15.
     #[error("the shapes are not straight at {word:03X}")]
     Unstraight { word: u16 },
-    /// 61: a shape needs itself, or more return places than there are.
+    /// 61: a shape needs itself, or its calls go more than three deep.
     #[error("the shapes call too deep")]
     Deep,
     /// 62: an entry is past a limit of certificates, or there are too many.

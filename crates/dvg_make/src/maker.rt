@@ -156,8 +156,13 @@ fn make_all(alloc: Global, rom: &RomImage, roots: &[(u16, Key)]) -> Result<Done,
 /// Makes the certificate of the shapes at these addresses and keys, and of all that they call or tail jump to: exact words
 /// and depths, the least boxes, and for each call an entry at the very scale that is known there (profile).
 ///
-/// Refuses 60 to 62 only where there is no such certificate, and 63 where there was no memory. A shape is walked once for
-/// each scale at which it is needed. What is lit off screen at absolute places is not asked.
+/// A root is a word address and the global scale at the call, `Any` where it is not known. A root that is given twice has
+/// one entry, no roots give the empty certificate, and a root outside the ROM or with a scale over 15 is 60.
+///
+/// Refuses 60 to 62 only where there is no such certificate, and 63 where there was no memory. The first fault met is
+/// answered: roots and items in order, an entry that an item needs before the item. A shape is walked once for each scale
+/// at which it is needed. What is lit off screen at absolute places is not asked. Takes memory for the entries and for the
+/// shapes in the making.
 pub fn make(alloc: Global, rom: &RomImage, roots: &[(u16, Key)]) -> Result<Cert, MakeFault>
     ensures ok { IfOk result (Made rom.now roots.now) }
     ensures err { IfErr result (Refuses rom.now roots.now) }

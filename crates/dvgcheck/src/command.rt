@@ -2,8 +2,7 @@
 
 use clap::error::ErrorKind;
 use clap::{Arg, ArgMatches, Command, Error, value_parser};
-use dvg_cert::Key;
-use dvg_cmd::root_of;
+use dvg_cmd::{Key, root_of};
 use std::alloc::{AllocError, AllocFailed, Global};
 use std::{env, io};
 

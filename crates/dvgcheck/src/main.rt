@@ -30,15 +30,16 @@ fn check(rt: &HostRuntime, words: &CheckWords) -> Result<Outcome, RunFault> {
     )
 }
 
-fn open(rt: &HostRuntime, path: &str, fault: RunFault) -> Result<File, RunFault> {
-    fs::open(rt, path).map_err(|_| fault)
+fn open<F: Drop>(rt: &HostRuntime, path: &str, fault: F) -> Result<File, F> {
+    match fs::open(rt, path) {
+        Ok(file) => Ok(file),
+        Err(_) => Err(fault),
+    }
 }
 
 /// Opens the file and runs the maker.
 fn make(rt: &HostRuntime, words: &MakeWords) -> Result<(), MakeRunFault> {
-    let Ok(rom) = fs::open(rt, words.rom) else {
-        return Err(MakeRunFault::ReadRom);
-    };
+    let rom = open(rt, words.rom, MakeRunFault::ReadRom)?;
     run_make(
         rt.alloc(),
         &mut Counted::new(rom),
@@ -87,6 +88,7 @@ fn run_checker(rt: &HostRuntime, words: &CheckWords) -> u8 {
 fn run_maker(rt: &HostRuntime, words: &MakeWords) -> u8 {
     let end = make(rt, words);
     if let Err(fault) = &end {
+        // The report is ASCII.
         let report = make_report_of(fault);
         let line = str::from_utf8(report.as_bytes()).unwrap_or("");
         say(rt, line.trim_end());

@@ -30,18 +30,18 @@ impl Read for SlowReader<'_> {
 /// A writer that takes so many bytes a write, and fails after so many writes.
 #[derive(Drop)]
 pub struct SlowWriter {
-    told: [u8; 64],
+    told: [u8; 128],
     len: usize,
     most: usize,
     writes_left: u32,
-    ghost fits: { len ≤ 64 },
+    ghost fits: { len ≤ 128 },
 }
 
 impl SlowWriter {
     /// A writer that was told nothing so far.
     pub fn new(most: usize, writes_left: u32) -> SlowWriter {
         SlowWriter {
-            told: [0; 64],
+            told: [0; 128],
             len: 0,
             most,
             writes_left,
@@ -60,7 +60,7 @@ impl Write for SlowWriter {
             return Err(io::Error::from(io::ErrorKind::Other));
         }
         self.writes_left -= 1;
-        let count = buf.len().min(self.most).min(64 - self.len);
+        let count = buf.len().min(self.most).min(128 - self.len);
         let end = self.len + count;
         self.told[self.len..end].copy_from_slice(&buf[..count]);
         self.len = end;

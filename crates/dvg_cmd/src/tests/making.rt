@@ -9,6 +9,7 @@ use crate::{
 };
 use dvg_cert::Key;
 use std::alloc::{AllocError, Global};
+use std::str;
 
 /// A ROM of zeros but for words from a word address on, the roots, and the text of the certificate, or the fault.
 struct Row {
@@ -372,4 +373,33 @@ fn says_how_making_ended(rt: HostRuntime) {
             "at {fault:?}"
         );
     }
+}
+
+/// The text, where there is memory. Where an allocation is refused, as by tests/refused-memory, this test fails and tells
+/// the status and the line.
+#[test]
+fn refused_memory(rt: HostRuntime) {
+    let mut rom = [0; 2048];
+    rom[1] = 0xD0;
+    let mut told = SlowWriter::new(128, 3000);
+    let end = run_make(
+        rt.alloc(),
+        &mut Counted::new(rom.as_slice()),
+        &[(0x800, Key::At(0))],
+        &mut Counted::new(&mut told),
+    );
+    if let Err(fault) = &end {
+        let report = make_report_of(fault);
+        let line = str::from_utf8(report.as_bytes()).unwrap_or("no text");
+        panic!(rt;
+            "status {}, line '{}', {} bytes",
+            make_status_of(&end),
+            line.trim_end(),
+            told.told().len()
+        );
+    }
+    assert_eq!(rt;
+        told.told(),
+        b"dvgcert 1\nshape 800 0 end rel 0 0 box none depth 0 words 1 scale 0\ndone 1\n".as_slice()
+    );
 }
