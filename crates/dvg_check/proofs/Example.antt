@@ -28,17 +28,17 @@ use Rattle.dvg_check.proofs.Faults.{all_kept}
 abbrev stroke : DrawFields
 stroke = record { dx = pos 1023; dy = pos 767; lscale = 9; bright = 7 }
 
-abbrev draw_item : Item
+abbrev pub draw_item : Item
 draw_item = record { at = 2048; format = Long; instr = Draws stroke }
 
-abbrev return_item : Item
+abbrev pub return_item : Item
 return_item = record { at = 2050; format = Short; instr = Rtsl }
 
-draw_there : cell_at (rom_word example_rom) 2048 ≡ Holds Long (Draws stroke)
+pub draw_there : cell_at (rom_word example_rom) 2048 ≡ Holds Long (Draws stroke)
 unfolding cell_at instruction_of
 draw_there = refl
 
-return_there : cell_at (rom_word example_rom) 2050 ≡ Holds Short Rtsl
+pub return_there : cell_at (rom_word example_rom) 2050 ≡ Holds Short Rtsl
 unfolding cell_at instruction_of
 return_there = refl
 

@@ -13,3 +13,4 @@ pub mod Roots
 pub mod Finishing
 pub mod OneList
 pub mod Windows
+pub mod Example

@@ -1,11 +1,13 @@
--- The laws of made lists, over the definitions alone, for every map and window.
-use Rattle.std.specs.Prelude.{◌≡◌, ◌↔◌, ℕ, List, Contains}
+-- The laws of made lists, over the definitions alone. All but the worked example are for every map and window.
+use Rattle.std.specs.Prelude.{◌≡◌, ◌↔◌, ℕ, List, [], ◌∷◌, Contains}
 use Rattle.dvg_words.specs.Values.{Window}
 use Rattle.dvg_words.specs.Memory.{Rom}
 use Rattle.dvg_words.specs.declared.beam.Point.{Point}
 use Rattle.dvg_cert.specs.declared.entry.Entry.{Entry}
 use Rattle.dvg_cert.specs.declared.entry.Key.{Key}
+use Rattle.dvg_cert.specs.declared.entry.Key.TheVariants.{At}
 use Rattle.dvg_cert.specs.declared.entry.LitBox.{LitBox}
+use Rattle.dvg_check.specs.Example.{example_rom, example_list}
 use Rattle.dvg_check.specs.Known.{shape_context, place_before}
 use Rattle.dvg_check.specs.Lit.{extent, LitInWindow}
 use Rattle.dvg_check.specs.Rules.{Good}
@@ -29,3 +31,7 @@ AllInWindow w rom list = (e : Entry) → Contains list e → EachItem rom e.addr
 abbrev pub GoodInWindow : Type 0
 GoodInWindow = (rom : Rom) (roots : List (ℕ × Key)) (list : List Entry) (w : Window) → Made rom roots list
     → (Good Bound w rom list ↔ AllInWindow w rom list) × (Good Exact w rom list ↔ AllInWindow w rom list)
+
+-- the stroke at 800 at global scale 0 makes its one entry, and no roots make the empty list
+abbrev pub WorkedExampleMade : Type 0
+WorkedExampleMade = Made example_rom ((0x800, At 0) ∷ []) example_list × Made example_rom [] []

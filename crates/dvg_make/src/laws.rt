@@ -1,6 +1,7 @@
-//! Laws over the definitions alone, for every map and window. Each is the contract of a function that does nothing.
+//! Laws over the definitions alone. All but the worked example are for every map and window. Each is the contract of a
+//! function that does nothing.
 
-ghost use Rattle.dvg_make.specs.Laws.{OneLeast, OneMade, GoodInWindow};
+ghost use Rattle.dvg_make.specs.Laws.{OneLeast, OneMade, GoodInWindow, WorkedExampleMade};
 
 /// Points have one least box at the most.
 pub fn one_least()
@@ -15,4 +16,9 @@ pub fn one_made()
 /// A made list is good exactly where nothing that is lit at an absolute place leaves the window, and its counts are exact.
 pub fn good_in_window()
     ensures { GoodInWindow }
+{}
+
+/// The worked example is made: for the stroke at 800 at global scale 0 its one entry. No roots make the empty list.
+pub fn worked_example()
+    ensures { WorkedExampleMade }
 {}

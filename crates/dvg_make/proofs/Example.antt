@@ -1,0 +1,137 @@
+-- The worked example is made.
+use Rattle.std.proofs.Common.{◌≡◌, ◌≢◌, ◌∙◌, ℕ, zero, suc, List, [], ◌∷◌, ◌⊎◌, Some, None, refl, sym, ap, subst, inl, arith}
+use Rattle.std.specs.Prelude.{Contains}
+use Rattle.std.proofs.lemmas.Int.{ints}
+use Rattle.dvg_words.specs.Beam.{displacement, screen}
+use Rattle.dvg_words.specs.Decoding.{cell_at}
+use Rattle.dvg_words.specs.Memory.{rom_word}
+use Rattle.dvg_words.specs.Values.{Window}
+use Rattle.dvg_words.specs.declared.instruction.Cell.{Cell}
+use Rattle.dvg_words.specs.declared.instruction.Cell.TheVariants.{Missing, Odd, Holds}
+use Rattle.dvg_cert.specs.declared.entry.Entry.{Entry}
+use Rattle.dvg_cert.specs.declared.entry.Key.{Key}
+use Rattle.dvg_cert.specs.declared.entry.Key.TheVariants.{At}
+use Rattle.dvg_cert.specs.declared.entry.LitBox.{LitBox}
+use Rattle.dvg_cert.specs.declared.entry.LitBox.TheVariants.{Empty, Span}
+use Rattle.dvg_check.specs.Example.{example_rom, example_entry, example_list}
+use Rattle.dvg_check.specs.Items.{next_place}
+use Rattle.dvg_check.specs.Known.{shape_context, target, scale_before}
+use Rattle.dvg_check.specs.Rules.{AllKeep, CellKeeps, ShapeKeeps, sight}
+use Rattle.dvg_check.specs.declared.fault.Mode.TheVariants.{Exact}
+use Rattle.dvg_check.specs.declared.fault.ShapeWhy.{ShapeWhy}
+use Rattle.dvg_check.specs.declared.fault.ShapeWhy.TheVariants as shape
+use Rattle.dvg_check.specs.declared.item.Item.{Item}
+use Rattle.dvg_check.specs.declared.item.Kind.TheVariants.{Shape}
+use Rattle.dvg_check.specs.declared.known.Seen.{Seen}
+use Rattle.dvg_check.proofs.Example.{draw_item, return_item, draw_there, return_there, worked_example as example_good}
+use Rattle.dvg_check.proofs.Faults.{all_kept}
+use Rattle.dvg_make.specs.Laws.{WorkedExampleMade}
+use Rattle.dvg_make.specs.Least.{lit_points, HoldsAll, IsInside, IsLeast}
+use Rattle.dvg_make.specs.Made.{HasEntry, EachItem, MadeKeeps, MadeEntry, Needs, Made}
+
+-- ---- its items
+
+item_same : (i j : Item) → i.at ≡ j.at → Holds i.format i.instr ≡ Holds j.format j.instr → i ≡ j
+item_same i j a e =
+    let l : i.format ≡ j.format = cc in
+    let k : i.instr ≡ j.instr = cc in
+    λ x. record { at = a x; format = l x; instr = k x }
+
+module _ (P : List Item → Item → Type 0) where
+  -- what holds of the item, if it stands at a place
+  abbrev Here : List Item → ℕ → Item → Type 0
+  Here earlier p i = i.at ≡ p → cell_at (rom_word example_rom) p ≡ Holds i.format i.instr → P earlier i
+
+  here : (earlier : List Item) (i : Item) → cell_at (rom_word example_rom) i.at ≡ Holds i.format i.instr → P earlier i → (j : Item) → Here earlier i.at j
+  here earlier i is h j at stands = subst (P earlier) (sym (item_same j i at (sym stands ∙ is))) h
+
+  -- what holds of both items holds of each item
+  both_items : P [] draw_item → P (draw_item ∷ []) return_item → EachItem example_rom 2048 P
+  both_items first last earlier i lead is =
+      all_kept Shape (rom_word example_rom) 2048 Item Here (draw_item ∷ []) return_item (refl, draw_there, refl) return_there refl ((tt, here [] draw_item draw_there first), here (draw_item ∷ []) return_item return_there last) earlier i.at lead i refl is
+
+-- ---- its rules
+
+-- but for what is lit at absolute places, the rules do not speak of the window
+any_window : (v w : Window) (e : Entry) (seen : Seen) (why : ShapeWhy) → why ≢ shape.OffScreen → ShapeKeeps Exact v e seen why → ShapeKeeps Exact w e seen why
+any_window v w e seen shape.Unmapped not h = h
+any_window v w e seen shape.Odd not h = h
+any_window v w e seen shape.HaltInShape not h = h
+any_window v w e seen shape.BeamUnknown not h = h
+any_window v w e seen shape.ScaleUnknown not h = h
+any_window v w e seen shape.OffScreen not h = absurd (not refl)
+any_window v w e seen shape.NoEntry not h = h
+any_window v w e seen shape.TooDeep not h = h
+any_window v w e seen shape.TooManyWords not h = h
+any_window v w e seen shape.EndDiffers not h = h
+any_window v w e seen shape.ScaleDiffers not h = h
+any_window v w e seen shape.BoxTooSmall not h = h
+any_window v w e seen shape.WordsDiffer not h = h
+any_window v w e seen shape.DepthDiffers not h = h
+
+-- what the example keeps in a window, if a cell stands at a place
+abbrev Kept : List Item → ℕ → ShapeWhy → Window → Cell → Type 0
+Kept earlier p why w cell = CellKeeps shape.Unmapped shape.Odd (λ i. ShapeKeeps Exact w example_entry (sight (shape_context example_list example_entry) earlier i)) p cell why
+
+any_cell : (earlier : List Item) (p : ℕ) (why : ShapeWhy) (w : Window) (cell : Cell) → why ≢ shape.OffScreen → Kept earlier p why screen cell → Kept earlier p why w cell
+any_cell earlier p why w Missing not h = h
+any_cell earlier p why w Odd not h = h
+any_cell earlier p why w (Holds format i) not h = any_window screen w example_entry _ why not h
+
+example_keeps : AllKeep Shape (rom_word example_rom) 2048 (MadeKeeps example_rom example_list example_entry)
+example_keeps earlier p lead why w not = any_cell earlier p why w (cell_at (rom_word example_rom) p) not (example_good.exact example_entry (zero, omega arith, refl) earlier p lead why)
+
+-- ---- its box
+
+example_least : IsLeast (lit_points (shape_context example_list example_entry) (return_item ∷ draw_item ∷ [])) example_entry.lit
+unfolding displacement
+example_least =
+    record {
+      holds = (record { left = omega (arith, ints); right = omega (arith, ints); bottom = omega (arith, ints); top = omega (arith, ints) }, (record { left = omega (arith, ints); right = omega (arith, ints); bottom = omega (arith, ints); top = omega (arith, ints) }, tt));
+      least = inside;
+    }
+  where
+    inside : (other : LitBox) → HoldsAll other (lit_points (shape_context example_list example_entry) (return_item ∷ draw_item ∷ [])) → IsInside example_entry.lit other
+    inside Empty h = absurd h.0
+    inside (Span a b c d) h = (h.0.left, h.1.0.right, h.0.bottom, h.1.0.top)
+
+-- ---- all
+
+example_entry_made : MadeEntry example_rom example_list example_entry
+example_entry_made =
+    record {
+      keeps = example_keeps;
+      keyed = both_items (λ earlier i. (to : ℕ) → target Shape i.instr ≡ Some to → HasEntry example_list to (scale_before (shape_context example_list example_entry) earlier)) (λ to e. cc e) (λ to e. cc e);
+      box = both_items (λ earlier i. next_place Shape i ≡ None → IsLeast (lit_points (shape_context example_list example_entry) (i ∷ earlier)) example_entry.lit) (λ e. cc e) (λ e. example_least);
+    }
+
+-- the stroke at 800 at global scale 0
+abbrev example_roots : List (ℕ × Key)
+example_roots = (0x800, At 0) ∷ []
+
+example_made : Made example_rom example_roots example_list
+example_made = record { certificate = example_good.certificate; each = each; rooted = rooted; needed = needed }
+  where
+    each : (e : Entry) → Contains example_list e → MadeEntry example_rom example_list e
+    each e (zero, lt, is) = subst (MadeEntry example_rom example_list) is example_entry_made
+    each e (suc k, lt, is) = absurd (omega (arith, lt))
+
+    rooted : (addr : ℕ) (key : Key) → Contains example_roots (addr, key) → HasEntry example_list addr key
+    rooted addr key (zero, lt, is) = subst (λ (r : ℕ × Key). HasEntry example_list r.0 r.1) is (example_entry, refl)
+    rooted addr key (suc k, lt, is) = absurd (omega (arith, lt))
+
+    needed : (f : Entry) → Contains example_list f → Contains example_roots (f.addr, f.key) ⊎ ((e : Entry) × Contains example_list e × Needs example_rom example_list e f)
+    needed f (zero, lt, is) = inl (zero, omega arith, ap (λ (e : Entry). (e.addr, e.key)) is)
+    needed f (suc k, lt, is) = absurd (omega (arith, lt))
+
+none_made : Made example_rom [] []
+none_made =
+    record {
+      certificate = record { each = tt; rising = tt; few = omega arith };
+      each = λ e c. absurd (omega (arith, c.1));
+      rooted = λ addr key c. absurd (omega (arith, c.1));
+      needed = λ f c. absurd (omega (arith, c.1));
+    }
+
+pub worked_example : WorkedExampleMade
+worked_example = (example_made, none_made)
