@@ -16,6 +16,12 @@ pub const ROM_LAST: u16 = 0xBFF;
 /// The most entries of a certificate.
 pub const MOST_ENTRIES: usize = 4096;
 
+/// The most return places that an entry may claim.
+pub const MOST_DEPTH: u8 = 3;
+
+/// The most words that an entry may claim.
+pub const MOST_WORDS: u32 = 1_000_000;
+
 /// A certificate: its entries, rising by address and key, and within the limits.
 #[derive(Drop)]
 pub struct Cert {
@@ -122,9 +128,9 @@ pub fn is_entry(entry: &Entry) -> bool
         && is_key(entry.key)
         && is_end(entry.stop)
         && is_box(&entry.lit)
-        && entry.depth <= 3
+        && entry.depth <= MOST_DEPTH
         && 1 <= entry.words
-        && entry.words <= 1_000_000
+        && entry.words <= MOST_WORDS
         && is_key(entry.scale)
 }
 

@@ -16,7 +16,9 @@ mod taken;
 mod tokens;
 mod writer;
 
-pub use certificate::{Cert, certificate_of, is_entry, is_key};
+pub use certificate::{
+    Cert, MOST_DEPTH, MOST_ENTRIES, MOST_WORDS, certificate_of, is_entry, is_key,
+};
 pub use counted::{Counted, CountedRead, CountedWrite};
 pub use entry::{End, Entry, Key, LitBox};
 pub use fault::{CertFault, CertWhy, WriteFault};

@@ -4,6 +4,7 @@ ghost use Rattle.std.specs.Prelude.{◌≡◌, ◌≤◌, ◌==◌, [], ◌∷�
 ghost use Rattle.std.specs.List.{slice_split};
 ghost use Rattle.dvg_cert.specs.Tokens.{Reads, natural_in, number_in, key_in, address_in, the_token, by_token, end_at, box_at, entry_at, limit};
 
+use crate::certificate::{MOST_DEPTH, MOST_WORDS};
 use crate::entry::{End, Entry, Key, LitBox};
 use crate::numerals::{address, key, natural, number};
 use std::marker::Model;
@@ -155,9 +156,9 @@ impl<'a> Tokens<'a> {
         self.expect(b"box")?;
         let lit = self.lit()?;
         self.expect(b"depth")?;
-        let depth = self.natural(0, 3)? as u8;
+        let depth = self.natural(0, u64::from(MOST_DEPTH))? as u8;
         self.expect(b"words")?;
-        let words = self.natural(1, 1_000_000)? as u32;
+        let words = self.natural(1, u64::from(MOST_WORDS))? as u32;
         self.expect(b"scale")?;
         let scale = self.key()?;
         Some(Entry {

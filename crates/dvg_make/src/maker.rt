@@ -14,12 +14,9 @@ ghost use Rattle.dvg_make.specs.Private.Making.{IsMaking, IsPresent, NotBegun, I
 use crate::done::Done;
 use crate::fault::MakeFault;
 use crate::walk::{Progress, Walk, advance};
-use dvg_cert::{Cert, Key, certificate_of, is_key};
+use dvg_cert::{Cert, Key, MOST_ENTRIES, certificate_of, is_key};
 use dvg_words::RomImage;
 use std::alloc::Global;
-
-/// The most entries of a certificate.
-const MOST_ENTRIES: usize = 4096;
 
 /// Whether this shape is in the making.
 fn is_making(stack: &[Walk], addr: u16, key: Key) -> bool
@@ -106,7 +103,7 @@ fn make_root(
 }
 
 /// Whether a certificate may have an entry at this address and key.
-fn is_root(rom: &RomImage, addr: u16, key: Key) -> bool
+fn can_be_root(rom: &RomImage, addr: u16, key: Key) -> bool
     ensures { IsTrue result ↔ (InRom rom.now.map addr × IsKey key) }
 {
     let (first, last) = rom.span();
@@ -133,7 +130,7 @@ fn need_root(
     if done.find(addr, key).is_some() {
         return Ok(());
     }
-    if !is_root(rom, addr, key) {
+    if !can_be_root(rom, addr, key) {
         return Err(MakeFault::Unstraight { word: addr });
     }
     make_root(alloc, rom, roots, done, addr, key)

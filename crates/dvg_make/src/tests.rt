@@ -124,7 +124,7 @@ fn makes_exact_keys(rt: HostRuntime) -> Result<(), Fail> {
 }
 
 #[test]
-fn makes_roots_in_order(rt: HostRuntime) -> Result<(), Fail> {
+fn makes_roots_in_any_order(rt: HostRuntime) -> Result<(), Fail> {
     let stroke = rom_bytes(&[STROKE]);
     let zero = (0x800, Key::At(0));
     let fifteen = (0x800, Key::At(15));

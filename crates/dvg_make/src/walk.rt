@@ -11,17 +11,11 @@ ghost use Rattle.dvg_make.specs.Private.Walking.{start, entry_of, IsStraight, Is
 use crate::done::Done;
 use crate::fault::MakeFault;
 use crate::least::boxed;
-use dvg_cert::{End, Entry, Key, LitBox, is_entry};
+use dvg_cert::{End, Entry, Key, LitBox, MOST_DEPTH, MOST_WORDS, is_entry};
 use dvg_check::item::{Item, Kind, next_place};
 use dvg_check::known::{Known, Seen, depth_under, see_with, target};
 use dvg_check::rules::{place_known, scale_known};
 use dvg_words::{Cell, Instr, RomImage, read_cell};
-
-/// The most calls that stand below a shape.
-const MOST_DEPTH: u8 = 3;
-
-/// The most words that a shape may take.
-const MOST_WORDS: u32 = 1_000_000;
 
 /// A shape in the making: its address and key, where its next item stands, what is known there, and the least box of what
 /// was lit so far.

@@ -21,6 +21,7 @@ abbrev pub IsMaking : List Walk → ℕ → Key → Type 0
 IsMaking [] addr key = ⊥
 IsMaking (w ∷ stack) addr key = ((w.addr ≡ addr) × (w.key ≡ key)) ⊎ IsMaking stack addr key
 
+-- each of these shapes is walked as far as it was taken
 abbrev pub AllWalks : Rom → List Entry → List Walk → Type 0
 AllWalks rom done [] = Unit {0}
 AllWalks rom done (w ∷ stack) = IsWalk rom done w × AllWalks rom done stack
@@ -57,6 +58,8 @@ pub record IsCalled (rom : Rom) (done : List Entry) (stack : List Walk) (addr : 
   pub target_is : target Shape item.instr ≡ Some addr
   pub key_is : scale_before (keyed_context done from_key) earlier ≡ key
 
+-- what holds of the entries that are made and of the shapes in the making: among it that each made list has these entries,
+-- and that the words of these shapes fall in it
 pub record Making (rom : Rom) (roots : List (ℕ × Key)) (done : List Entry) (stack : List Walk) : Type 0 where
   pub entries : (e : Entry) → Contains done e → IsEntry rom.map.rom_first rom.map.rom_last e
   pub made : (e : Entry) → Contains done e → MadeEntry rom done e
@@ -74,6 +77,7 @@ NotBegun done stack addr key Deep = IsMaking stack addr key
 NotBegun done stack addr key TooLarge = (4096 ≤ length done + length stack) × (IsMaking stack addr key → ⊥)
 NotBegun done stack addr key Memory = Unit {0}
 
+-- a shape was begun that was not in the making, where there is room
 pub record IsBegun (done : List Entry) (old new : List Walk) (addr : ℕ) (key : Key) : Type 0 where
   pub stack : new ≡ old ++ start addr key ∷ []
   pub other : IsMaking old addr key → ⊥
