@@ -5,6 +5,7 @@ pub mod ShapeLaws
 pub mod FrameLaws
 pub mod Faults
 pub mod Near
+pub mod Reaches
 pub mod Loop
 pub mod FrameWalk
 pub mod Accepting

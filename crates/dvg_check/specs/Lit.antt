@@ -83,3 +83,9 @@ LitInBox box (Between a b) (Abs x y) = Unit {0}
 LitInBox box (Between a b) Lost = Unit {0}
 LitInBox box Nothing place = Unit {0}
 LitInBox box Anywhere place = Unit {0}
+
+-- the one box is part of the other
+abbrev pub IsInside : LitBox → LitBox → Type 0
+IsInside Empty outer = Unit {0}
+IsInside (Span x_min x_max y_min y_max) Empty = ⊥
+IsInside (Span x_min x_max y_min y_max) (Span left right bottom top) = (left ≤ℤ x_min) × (x_max ≤ℤ right) × (bottom ≤ℤ y_min) × (y_max ≤ℤ top)

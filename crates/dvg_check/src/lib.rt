@@ -3,6 +3,7 @@
 //! [`check`] takes bytes, and its contract has both halves: the exact verdict, and the safety of every run.
 #![tactic(auto)]
 
+pub mod boxes;
 mod cells;
 mod fault;
 mod frames;

@@ -16,6 +16,7 @@ use Rattle.dvg_cert.specs.declared.entry.LitBox.TheVariants.{Empty, Span}
 use Rattle.dvg_check.specs.Example.{example_rom, example_entry, example_list}
 use Rattle.dvg_check.specs.Items.{next_place}
 use Rattle.dvg_check.specs.Known.{shape_context, target, scale_before}
+use Rattle.dvg_check.specs.Lit.{IsInside}
 use Rattle.dvg_check.specs.Rules.{AllKeep, CellKeeps, ShapeKeeps, sight}
 use Rattle.dvg_check.specs.declared.fault.Mode.TheVariants.{Exact}
 use Rattle.dvg_check.specs.declared.fault.ShapeWhy.{ShapeWhy}
@@ -26,7 +27,7 @@ use Rattle.dvg_check.specs.declared.known.Seen.{Seen}
 use Rattle.dvg_check.proofs.Example.{draw_item, return_item, draw_there, return_there, worked_example as example_good}
 use Rattle.dvg_check.proofs.Faults.{all_kept}
 use Rattle.dvg_make.specs.Laws.{WorkedExampleMade}
-use Rattle.dvg_make.specs.Least.{lit_points, HoldsAll, IsInside, IsLeast}
+use Rattle.dvg_make.specs.Least.{lit_points, HoldsAll, IsLeast}
 use Rattle.dvg_make.specs.Made.{HasEntry, EachItem, MadeKeeps, MadeEntry, Needs, Made}
 
 -- ---- its items

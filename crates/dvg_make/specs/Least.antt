@@ -1,15 +1,14 @@
 -- The least box of what items light at relative places. All of it is profile.
-use Rattle.std.specs.Prelude.{◌≤ℤ◌, List, [], ◌∷◌, ◌++◌}
+use Rattle.std.specs.Prelude.{List, [], ◌∷◌, ◌++◌}
 use Rattle.std.specs.List.{AllByRecursion}
 use Rattle.dvg_words.specs.declared.beam.Point.{Point}
 use Rattle.dvg_words.specs.Beam.{shift}
 use Rattle.dvg_cert.specs.declared.entry.End.{End}
 use Rattle.dvg_cert.specs.declared.entry.End.TheVariants.{Rel, Abs, Lost}
 use Rattle.dvg_cert.specs.declared.entry.LitBox.{LitBox}
-use Rattle.dvg_cert.specs.declared.entry.LitBox.TheVariants.{Empty, Span}
 use Rattle.dvg_check.specs.declared.item.Item.{Item}
 use Rattle.dvg_check.specs.Known.{Context, place_before}
-use Rattle.dvg_check.specs.Lit.{extent, InBox}
+use Rattle.dvg_check.specs.Lit.{extent, InBox, IsInside}
 use Rattle.dvg_check.specs.declared.known.LitExtent.{LitExtent}
 use Rattle.dvg_check.specs.declared.known.LitExtent.TheVariants.{Nothing, Between, Anywhere}
 
@@ -29,12 +28,6 @@ lit_points c (i ∷ earlier) = corners (extent c earlier i.instr) (place_before 
 -- the box has all of these points (profile)
 abbrev pub HoldsAll : LitBox → List Point → Type 0
 HoldsAll box ps = AllByRecursion (InBox box) ps
-
--- the one box is part of the other (profile)
-abbrev pub IsInside : LitBox → LitBox → Type 0
-IsInside Empty outer = Unit {0}
-IsInside (Span x_min x_max y_min y_max) Empty = ⊥
-IsInside (Span x_min x_max y_min y_max) (Span left right bottom top) = (left ≤ℤ x_min) × (x_max ≤ℤ right) × (bottom ≤ℤ y_min) × (y_max ≤ℤ top)
 
 -- the box has these points, and is part of each box that has them (profile)
 pub record IsLeast (ps : List Point) (box : LitBox) : Type 0 where
