@@ -4,7 +4,10 @@ pub mod Onward
 pub mod ShapeLaws
 pub mod FrameLaws
 pub mod Faults
+pub mod Passing
+pub mod Table
 pub mod Near
+pub mod Sizes
 pub mod Reaches
 pub mod Loop
 pub mod FrameWalk

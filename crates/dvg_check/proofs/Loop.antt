@@ -14,7 +14,8 @@ use Rattle.dvg_cert.specs.declared.entry.Key.{Key}
 use Rattle.dvg_check.specs.FirstFault.{AllBefore, FaultAt}
 use Rattle.dvg_check.specs.Items.{place_after, next_place, LeadsTo}
 use Rattle.dvg_check.specs.Known.{Context, known_before}
-use Rattle.dvg_check.specs.Private.Running.{IsSound, sight_by, WalksTo, KeepsAll, BreaksFirst}
+use Rattle.dvg_check.specs.Private.Runs.{Stroke, KeepsOver, PassesTo}
+use Rattle.dvg_check.specs.Private.Running.{IsSound, sight_by, sight_with, WalksTo, KeepsAll, BreaksFirst}
 use Rattle.dvg_check.specs.Rules.{PlaceKeeps, CellKeeps, sight}
 use Rattle.dvg_check.specs.declared.item.Item.{Item}
 use Rattle.dvg_check.specs.declared.item.Kind.{Kind}
@@ -162,3 +163,20 @@ module _ (Why : Type 0) (order : Why → ℕ) (missing odd : Why) (Keeps : Seen 
           ends = ends;
           knows = known_on last h.knows;
         }
+
+  -- ---- over draws that were judged as one
+
+  over_draws : (strokes : List Stroke) (at : ℕ) (known : Known) (p : ℕ) (after : Known) (items : List Item) → LeadsTo kind word first items at → AllBefore keeps items → known ≡ known_before context items → KeepsOver Keeps word strokes at known p after → (on : List Item) × LeadsTo kind word first on p × AllBefore keeps on × (after ≡ known_before context on)
+  over_draws [] at known p after items leads kept knows over = (items, subst (LeadsTo kind word first items) over.0 leads, kept, sym over.1 ∙ knows)
+  over_draws (s ∷ rest) at known p after items leads kept knows over =
+      let item : Item = record { at = at; format = s.format; instr = Draws s.draw } in
+      let same : sight context items item ≡ sight_with None known item = sight_known kind list scale items item known knows in
+      over_draws rest (at + word_count s.format) (sight_with None known item).after p after (item ∷ items) (leads, over.0, refl)
+      (kept, λ why. subst (CellKept items at why) (sym over.0) (subst (λ (v : Seen). Keeps v why) (sym same) (over.1 why)))
+      (ap (λ (v : Seen). v.after) (sym same))
+      over.2
+
+  pub passed : (at : ℕ) (known : Known) (p : ℕ) (after : Known) → Walked context word first keeps at known → PassesTo Keeps word at known p after → Walked context word first keeps p after
+  passed at known p after k over =
+      let on = over_draws over.strokes at known p after k.items k.leads k.kept k.knows over.keeps_over in
+      record { items = on.0; leads = on.1; kept = on.2; knows = on.3; sound = over.sound; close = over.near }

@@ -3,7 +3,9 @@
 ghost use Rattle.std.specs.Prelude.{◌≡◌, ◌≤◌, ℕ, Option};
 ghost use Rattle.dvg_words.specs.Decoding.{cell_at, CellFits, StandsBelow};
 ghost use Rattle.dvg_words.specs.Memory.{rom_word, frame_word};
+ghost use Rattle.dvg_check.specs.Private.Runs.{IsRun};
 
+use crate::run::{Run, runs_in};
 use dvg_words::{Cell, FrameImage, RomImage, read_cell};
 use std::marker::Model;
 
@@ -17,6 +19,10 @@ pub trait Cells {
         ensures value { result ≡ cell_at (words self.now) at }
         ensures fields { CellFits result }
         ensures near { StandsBelow 4096 at result };
+
+    /// The draws that stand one after another from a word address on, as far as they are known beforehand: maybe none.
+    fn run(&self, at: u16) -> Run
+        ensures { IsRun (words self.now) at result };
 }
 
 impl<'a> Cells for FrameImage<'a> {
@@ -25,18 +31,24 @@ impl<'a> Cells for FrameImage<'a> {
     fn cell(&self, at: u16) -> Cell {
         read_cell(self, at)
     }
+
+    #[inline(always)]
+    fn run(&self, _at: u16) -> Run {
+        Run::NONE
+    }
 }
 
 /// The word address past the last one of a ROM.
 pub const ROM_END: u16 = 0xC00;
 
-/// A ROM, of which all that stands from one word address on is read beforehand.
+/// A ROM, of which all that stands from one word address on is read beforehand, with the run from each place on.
 #[derive(Drop)]
 pub struct RomCells<'a> {
     rom: &'a RomImage<'a>,
     from: u16,
     count: u16,
     cells: [Cell; 1024],
+    runs: [Run; 1024],
 }
 
 impl<'a> Model for RomCells<'a> {
@@ -44,16 +56,18 @@ impl<'a> Model for RomCells<'a> {
     ghost use Rattle.dvg_words.specs.Decoding.{cell_at};
     ghost use Rattle.dvg_words.specs.Memory.{Rom, rom_word};
     ghost use Rattle.dvg_check.specs.Private.Running.{IsReadFrom};
+    ghost use Rattle.dvg_check.specs.Private.Runs.{AreRunsFrom};
 
     ghost Value = { Rom };
 
     ghost view = { λ s. s.rom.now };
 
-    ghost invariant = { λ s. IsReadFrom s.rom.now s.from s.count s.cells };
+    ghost invariant = { λ s. IsReadFrom s.rom.now s.from s.count s.cells × AreRunsFrom s.rom.now s.from s.runs };
 }
 
 impl<'a> RomCells<'a> {
     /// The ROM, with all that stands from a word address on.
+    #[inline(always)]
     pub fn read_from(rom: &'a RomImage<'a>, from: u16) -> RomCells<'a>
         requires from { 2048 ≤ from }
         requires to { from ≤ 3072 }
@@ -64,11 +78,13 @@ impl<'a> RomCells<'a> {
         for index in 0..count {
             cells[index as usize] = read_cell(rom, from + index);
         }
+        let runs = runs_in(&cells);
         RomCells {
             rom,
             from,
             count,
             cells,
+            runs,
         }
     }
 }
@@ -98,5 +114,15 @@ impl<'a> Cells for RomCells<'a> {
         }
         let cells = &self.cells;
         cells[index as usize]
+    }
+
+    #[inline(always)]
+    fn run(&self, at: u16) -> Run {
+        let index = at.wrapping_sub(self.from);
+        let runs = &self.runs;
+        match runs.get(usize::from(index)) {
+            Some(run) => *run,
+            None => Run::NONE,
+        }
     }
 }

@@ -51,7 +51,7 @@ pub struct Seen {
     pub after: Known,
 }
 
-const ORIGIN: Point = Point { x: 0, y: 0 };
+pub const ORIGIN: Point = Point { x: 0, y: 0 };
 
 /// A place, moved.
 pub fn shift(p: &Point, d: &Point) -> Point
@@ -198,7 +198,7 @@ pub fn target(kind: Kind, instr: &Instr) -> Option<u16>
 
 /// The place past an effect.
 #[inline(always)]
-fn place_past(effect: &Effect, place: &End, at: u16) -> End
+pub fn place_past(effect: &Effect, place: &End, at: u16) -> End
     requires at { at ≤ 4100 }
     requires place { IsNearPlace at place.now }
     requires effect { IsNearEffect effect.now }

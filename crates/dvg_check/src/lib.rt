@@ -11,6 +11,7 @@ pub mod item;
 pub mod known;
 pub mod laws;
 pub mod rules;
+mod run;
 mod shapes;
 mod verdict;
 mod walk;

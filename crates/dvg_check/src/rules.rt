@@ -8,6 +8,7 @@ ghost use Rattle.dvg_check.specs.Items.{Kind};
 ghost use Rattle.dvg_check.specs.Lit.{PlaceKnown, ScaleKnown, LitInWindow};
 ghost use Rattle.dvg_check.specs.Rules.{Seen, HasCallee};
 ghost use Rattle.dvg_check.specs.Private.Running.{IsNearPlace, IsNearExtent, IsClaim};
+ghost use Rattle.dvg_check.specs.Private.Runs.{IsPart};
 
 use crate::item::Kind;
 use crate::known::{LitExtent, Seen, shift};
@@ -17,7 +18,7 @@ use dvg_words::{Point, on_screen};
 /// What is asked of the items of a shape or of a frame.
 pub trait Rules {
     /// The rules, each with a number of its own.
-    type Why;
+    type Why: Drop;
 
     ghost order: { Self.Why → ℕ };
 
@@ -53,7 +54,8 @@ pub trait Rules {
     fn odd(&self) -> Self::Why
         ensures { result ≡ odd };
 
-    /// The first rule that an item breaks. Where it breaks none, the words so far are a million at the most.
+    /// The first rule that an item breaks. Where it breaks none, no draw that is a part of it does, and the words so far are
+    /// a million at the most.
     fn first_broken(&self, seen: &Seen) -> Option<Self::Why>
         requires valid { valid self.now }
         requires near { seen.now.item.at < 4096 }
@@ -61,6 +63,7 @@ pub trait Rules {
         requires place { IsNearPlace 4100 seen.now.place }
         requires extent { IsNearExtent seen.now.extent }
         ensures kept { IfNone result ((why : Self.Why) → keeps self.now seen.now why) }
+        ensures parts { IfNone result ((part : Seen) → IsPart part seen.now → (why : Self.Why) → keeps self.now part why) }
         ensures few { IfNone result (seen.now.after.words ≤ 1000000) }
         ensures broken { IfSome result (λ why. keeps self.now seen.now why → ⊥) }
         ensures lowest { IfSome result (λ why. (other : Self.Why) → order other < order why → keeps self.now seen.now other) };

@@ -12,12 +12,14 @@ ghost use Rattle.dvg_check.specs.Rules.{PlaceKeeps};
 ghost use Rattle.dvg_check.specs.FirstFault.{FaultAt};
 ghost use Rattle.dvg_check.specs.Known.{known_before, target};
 ghost use Rattle.dvg_check.specs.Private.Running.{WalksTo, IsSound, IsClaim, IsSomeCertificate, sight_with, sight_by, KeepsAll, BreaksFirst};
+ghost use Rattle.dvg_check.specs.Private.Runs.{PassesTo};
 
 use crate::cells::Cells;
 use crate::fault::Fault;
 use crate::item::{Item, Kind, next_place};
 use crate::known::{Known, callee, see_with, target};
 use crate::rules::Rules;
+use crate::run::{run_factor, see_run};
 use dvg_cert::{End, Entries, Entry, Key};
 use dvg_words::{Cell, Instr};
 
@@ -153,6 +155,35 @@ fn judge<E: Entries, R: Rules>(
     }
 }
 
+/// Judges the run of draws that begins with an item at once: what is known after it, and where the next item stands. `None`
+/// where that doesn't show that they keep all rules.
+#[inline(always)]
+fn pass_run<C: Cells, R: Rules>(
+    cells: &C,
+    rules: &R,
+    before: &Known,
+    item: &Item,
+) -> Option<(Known, u16)>
+    requires rules { R.valid rules.now }
+    requires before { IsSound item.now.at before.now }
+    requires near { item.now.at < 4096 }
+    ensures { IfSome result (λ onward. PassesTo (R.keeps rules.now) (C.words cells.now) item.now.at before.now onward.1 onward.0) }
+{
+    let Key::At(gscale) = before.scale else {
+        return None;
+    };
+    let run = cells.run(item.at);
+    if run.words == 0 {
+        return None;
+    }
+    let factor = run_factor(&run, gscale)?;
+    let seen = see_run(&run, factor, before, item);
+    if rules.first_broken(&seen).is_some() {
+        return None;
+    }
+    Some((seen.after, item.at + run.words))
+}
+
 /// Goes over the items from the first place on, up to the first that breaks a rule or the last.
 pub fn walk<C: Cells, E: Entries, R: Rules>(
     cells: &C,
@@ -189,6 +220,11 @@ pub fn walk<C: Cells, E: Entries, R: Rules>(
             Cell::Holds { format, instr } => (format, instr),
         };
         let item = Item { at, format, instr };
+        if let Some((after, next)) = pass_run(cells, rules, &known, &item) {
+            known = after;
+            at = next;
+            continue;
+        }
         match judge(rules, entries, &known, &item) {
             Err(why) => return Err(Fault { at, why }),
             Ok((last, None)) => return Ok(last),

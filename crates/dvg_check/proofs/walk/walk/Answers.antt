@@ -3,7 +3,7 @@ use Rattle.dvg_cert.specs.declared.entry.Entry.{Entry}
 use Rattle.dvg_cert.specs.declared.entry.Key.{Key}
 use Rattle.dvg_check.specs.Known.{Known, known_before}
 use Rattle.dvg_check.specs.declared.item.Kind.{Kind}
-use Rattle.dvg_check.proofs.Loop.{begin, broken, onward, done}
+use Rattle.dvg_check.proofs.Loop.{begin, broken, onward, done, passed}
 use Rattle.dvg_check.proofs.walk.walk.Goals as goal
 
 -- what is known at the start, at the kind and the scale that the rules tell
@@ -28,3 +28,7 @@ returns-in-Ok-default-None-clause-ok g c =
 pub items-preserved : goal.items-preserved
 items-preserved g c =
     onward _ g.R.Rules.order g.R.Rules.unmapped g.R.Rules.odd (g.R.Rules.keeps c.args.rules.now) g.R.Rules.kind (g.E.Entries.list c.args.entries.now) (g.R.Rules.scale c.args.rules.now) (g.C.Cells.words c.args.cells.now) c.args.first c.items.at c.items.known c.in-Holds.format c.in-Holds.instr c.items.invariant (sym c.in-Holds.ensures.value) c.in-Ok-default-Some.next c.in-Ok-default-Some.after c.in-Holds.ensures.near c.in-Holds.ensures.fields c.in-Ok-default-Some.ensures.kept (sym c.in-Ok-default-Some.ensures.next ∙ c.in-Ok-default-Some.field-0-1-is)
+
+pub items-preserved-in-Some : goal.items-preserved-in-Some
+items-preserved-in-Some g c =
+    passed _ g.R.Rules.order g.R.Rules.unmapped g.R.Rules.odd (g.R.Rules.keeps c.args.rules.now) g.R.Rules.kind (g.E.Entries.list c.args.entries.now) (g.R.Rules.scale c.args.rules.now) (g.C.Cells.words c.args.cells.now) c.args.first c.items.at c.items.known c.in-Some.next c.in-Some.after c.items.invariant c.in-Some.ensures

@@ -1,0 +1,298 @@
+-- What is judged as one: each draw in it keeps all rules where the whole does.
+use Rattle.std.proofs.Common.{arith, List, false, Option, None, Some, refl, sym, ap, subst, suc, zero, pos, max, ◌≡◌, ◌+◌, ◌*◌, ◌^◌, ◌<◌, ◌≤◌, ◌∷◌, ◌∙◌, ℕ, ℤ, ◌+ℤ◌, ◌*ℤ◌, ◌≤ℤ◌, ◌%◌, []}
+use Rattle.std.proofs.Math.IntN.{*ℤ_comm, suc_ℤ-*ℤ, *ℤ-zero, zero-*ℤ}
+use Rattle.std.proofs.lemmas.Bool.Decides.{nat_tests}
+use Rattle.std.proofs.lemmas.Int.{ints}
+use Rattle.std.proofs.lemmas.Nat.{pow-add}
+use Rattle.std.proofs.Math.Nat.{mul-suc}
+use Rattle.std.proofs.Math.Pow.{pow_mono}
+use Rattle.std.specs.Prelude.{IfNone}
+use Rattle.std.specs.Option.{is_some}
+use Rattle.dvg_words.specs.Beam.{displacement, factor, origin, shift}
+use Rattle.dvg_words.specs.Decoding.{cell_at, word_count}
+use Rattle.dvg_words.specs.Values.{DrawFields, Window}
+use Rattle.dvg_words.specs.declared.beam.Point.{Point}
+use Rattle.dvg_words.specs.declared.instruction.Cell.TheVariants.{Holds}
+use Rattle.dvg_words.specs.declared.instruction.Format.{Format}
+use Rattle.dvg_words.specs.declared.instruction.Instr.{Instr}
+use Rattle.dvg_words.specs.declared.instruction.Instr.TheVariants.{Draw as Draws, Halt, Rtsl}
+use Rattle.dvg_cert.specs.declared.entry.End.{End}
+use Rattle.dvg_cert.specs.declared.entry.End.TheVariants.{Rel, Abs, Lost}
+use Rattle.dvg_cert.specs.declared.entry.Entry.{Entry}
+use Rattle.dvg_cert.specs.declared.entry.Key.{Key}
+use Rattle.dvg_cert.specs.declared.entry.Key.TheVariants.{At}
+use Rattle.dvg_cert.specs.declared.entry.LitBox.{LitBox}
+use Rattle.dvg_cert.specs.declared.entry.LitBox.TheVariants.{Empty, Span}
+use Rattle.dvg_check.specs.Items.{Shape, Frame, next_place}
+use Rattle.dvg_check.specs.Known.{place_moved_by, target, depth_under}
+use Rattle.dvg_check.specs.Lit.{LitExtent, Nothing, Between, Anywhere, PlaceKnown, ScaleKnown, LitInWindow, InBox, InSpan, LitInBox, draw_extent}
+use Rattle.dvg_check.specs.Private.Running.{EachKept, IsNearPlace, IsSound, shape_rules, frame_rules, sight_with, place_past}
+use Rattle.dvg_check.specs.Private.Runs.{Run, Stroke, Follow, NoneHigher, EndsIn, LitIn, LiesIn, IsPart, IsFactor, IsRun, Tells, PassesTo, KeepsOver, count, multiplied, run_extent, run_sight, size, total}
+use Rattle.dvg_check.specs.Rules.{AtLast, AsClaimed, HasCallee, IsForward, Mode, ShapeKeeps, FrameKeeps}
+use Rattle.dvg_check.specs.declared.fault.FrameWhy.{FrameWhy}
+use Rattle.dvg_check.specs.declared.fault.FrameWhy.TheVariants as frame
+use Rattle.dvg_check.specs.declared.fault.ShapeWhy.{ShapeWhy}
+use Rattle.dvg_check.specs.declared.fault.ShapeWhy.TheVariants as shape
+use Rattle.dvg_check.specs.declared.item.Item.{Item}
+use Rattle.dvg_check.specs.declared.known.Known.{Known}
+use Rattle.dvg_check.specs.declared.known.Seen.{Seen}
+use Rattle.dvg_check.proofs.Steps.{point_is, shift_shift, shift_origin, origin_shift}
+use Rattle.dvg_check.proofs.Near.{IsNearPlace-more}
+
+-- ---- the rules of a part
+
+pub of_none : {A : Type 0} {P : Type 0} (o : Option A) → is_some o ≡ false → IfNone o P → P
+of_none None e h = h
+of_none (Some x) e h = cc
+
+pub if_none : {A : Type 0} {P Q : Type 0} (o : Option A) → (P → Q) → IfNone o P → IfNone o Q
+if_none None f h = f h
+if_none (Some x) f h = tt
+
+known_part : (e f : LitExtent) (p q : End) → LiesIn e p f q → PlaceKnown f q → PlaceKnown e p
+known_part Nothing f p q lies known = tt
+known_part (Between a b) (Between c d) (Rel x y) q lies known = λ is. cc
+known_part (Between a b) (Between c d) (Abs x y) q lies known = λ is. cc
+known_part (Between a b) (Between c d) Lost Lost lies known = known
+known_part (Between a b) (Between c d) Lost (Rel u v) lies known = absurd lies
+known_part (Between a b) (Between c d) Lost (Abs u v) lies known = absurd lies
+known_part (Between a b) Nothing p q lies known = absurd lies
+known_part (Between a b) Anywhere p q lies known = absurd lies
+known_part Anywhere f p q lies known = absurd lies
+
+scale_part : (e f : LitExtent) (p q : End) → LiesIn e p f q → ScaleKnown e
+scale_part Nothing f p q lies = tt
+scale_part (Between a b) f p q lies = tt
+scale_part Anywhere f p q lies = lies
+
+-- the edges of what the whole lights are within these, so what lies between them is too
+window_part : (w : Window) (e f : LitExtent) (p q : End) → LiesIn e p f q → LitInWindow w f q → LitInWindow w e p
+window_part w Nothing f p q lies h = tt
+window_part w (Between a b) (Between c d) (Rel x y) q lies h = tt
+window_part w (Between a b) (Between c d) (Abs x y) (Abs u v) lies h = (
+  record { left = omega (arith, ints, h.0.left, lies.0.left); right = omega (arith, ints, h.1.right, lies.0.right); bottom = omega (arith, ints, h.0.bottom, lies.0.bottom); top = omega (arith, ints, h.1.top, lies.0.top) },
+  record { left = omega (arith, ints, h.0.left, lies.1.left); right = omega (arith, ints, h.1.right, lies.1.right); bottom = omega (arith, ints, h.0.bottom, lies.1.bottom); top = omega (arith, ints, h.1.top, lies.1.top) },
+)
+window_part w (Between a b) (Between c d) (Abs x y) (Rel u v) lies h = absurd lies
+window_part w (Between a b) (Between c d) (Abs x y) Lost lies h = absurd lies
+window_part w (Between a b) (Between c d) Lost q lies h = tt
+window_part w (Between a b) Nothing p q lies h = absurd lies
+window_part w (Between a b) Anywhere p q lies h = absurd lies
+window_part w Anywhere f p q lies h = absurd lies
+
+box_part : (box : LitBox) (e f : LitExtent) (p q : End) → LiesIn e p f q → LitInBox box f q → LitInBox box e p
+box_part box Nothing f p q lies h = tt
+box_part Empty (Between a b) (Between c d) (Rel x y) (Rel u v) lies h = absurd h.0
+box_part (Span left right bottom top) (Between a b) (Between c d) (Rel x y) (Rel u v) lies h = (
+  record { left = omega (arith, ints, h.0.left, lies.0.left); right = omega (arith, ints, h.1.right, lies.0.right); bottom = omega (arith, ints, h.0.bottom, lies.0.bottom); top = omega (arith, ints, h.1.top, lies.0.top) },
+  record { left = omega (arith, ints, h.0.left, lies.1.left); right = omega (arith, ints, h.1.right, lies.1.right); bottom = omega (arith, ints, h.0.bottom, lies.1.bottom); top = omega (arith, ints, h.1.top, lies.1.top) },
+)
+box_part box (Between a b) (Between c d) (Rel x y) (Abs u v) lies h = absurd lies
+box_part box (Between a b) (Between c d) (Rel x y) Lost lies h = absurd lies
+box_part box (Between a b) (Between c d) (Abs x y) q lies h = tt
+box_part box (Between a b) (Between c d) Lost q lies h = tt
+box_part box (Between a b) Nothing p q lies h = absurd lies
+box_part box (Between a b) Anywhere p q lies h = absurd lies
+box_part box Anywhere f p q lies h = absurd lies
+
+pub shape_part : (mode : Mode) (w : Window) (e : Entry) (whole part : Seen) → EachKept (ShapeKeeps mode w e whole) shape_rules → IsPart part whole → (why : ShapeWhy) → ShapeKeeps mode w e part why
+shape_part mode w e whole part h p shape.Unmapped = tt
+shape_part mode w e whole part h p shape.Odd = tt
+shape_part mode w e whole part h p shape.HaltInShape = λ is. let no : Draws p.draw ≡ Halt = sym p.draws ∙ is in cc no
+shape_part mode w e whole part h p shape.BeamUnknown = known_part part.extent whole.extent part.place whole.place p.lit h.1.1.1.0
+shape_part mode w e whole part h p shape.ScaleUnknown = scale_part part.extent whole.extent part.place whole.place p.lit
+shape_part mode w e whole part h p shape.OffScreen = window_part w part.extent whole.extent part.place whole.place p.lit h.1.1.1.1.1.0
+shape_part mode w e whole part h p shape.NoEntry = subst (λ (x : Instr). HasCallee (target Shape x) part.callee) (sym p.draws) tt
+shape_part mode w e whole part h p shape.TooDeep = subst (λ (x : Option Entry). depth_under part.item.instr x ≤ e.depth) (sym p.alone) (omega arith)
+shape_part mode w e whole part h p shape.TooManyWords = let le : whole.after.words ≤ e.words = h.1.1.1.1.1.1.1.1.0 in omega (arith, le, p.few)
+shape_part mode w e whole part h p shape.EndDiffers = subst (λ (x : Instr). AtLast (next_place Shape (record part.item { instr = x })) (part.after.place ≡ e.stop)) (sym p.draws) tt
+shape_part mode w e whole part h p shape.ScaleDiffers = subst (λ (x : Instr). AtLast (next_place Shape (record part.item { instr = x })) (part.after.scale ≡ e.scale)) (sym p.draws) tt
+shape_part mode w e whole part h p shape.BoxTooSmall = box_part e.lit part.extent whole.extent part.place whole.place p.lit h.1.1.1.1.1.1.1.1.1.1.1.0
+shape_part mode w e whole part h p shape.WordsDiffer = subst (λ (x : Instr). AtLast (next_place Shape (record part.item { instr = x })) (AsClaimed mode part.after.words e.words)) (sym p.draws) tt
+shape_part mode w e whole part h p shape.DepthDiffers = subst (λ (x : Instr). AtLast (next_place Shape (record part.item { instr = x })) (AsClaimed mode part.after.depth e.depth)) (sym p.draws) tt
+
+pub frame_part : (w : Window) (budget : ℕ) (whole part : Seen) → EachKept (FrameKeeps w budget whole) frame_rules → IsPart part whole → (why : FrameWhy) → FrameKeeps w budget part why
+frame_part w budget whole part h p frame.Unmapped = tt
+frame_part w budget whole part h p frame.Odd = tt
+frame_part w budget whole part h p frame.ReturnInFrame = λ is. let no : Draws p.draw ≡ Rtsl = sym p.draws ∙ is in cc no
+frame_part w budget whole part h p frame.BackJump = subst (IsForward part.item.at) (sym p.draws) tt
+frame_part w budget whole part h p frame.BeamUnknown = known_part part.extent whole.extent part.place whole.place p.lit h.1.1.1.1.0
+frame_part w budget whole part h p frame.ScaleUnknown = scale_part part.extent whole.extent part.place whole.place p.lit
+frame_part w budget whole part h p frame.OffScreen = window_part w part.extent whole.extent part.place whole.place p.lit h.1.1.1.1.1.1.0
+frame_part w budget whole part h p frame.NoEntry = subst (λ (x : Instr). HasCallee (target Frame x) part.callee) (sym p.draws) tt
+frame_part w budget whole part h p frame.Budget = let le : whole.after.words ≤ budget = h.1.1.1.1.1.1.1.1.0 in omega (arith, le, p.few)
+
+-- ---- multiplying
+
+times_suc : (m : ℤ) (n : ℕ) → m *ℤ pos (suc n) ≡ m *ℤ pos n +ℤ m
+times_suc m n = *ℤ_comm m (pos (suc n)) ∙ suc_ℤ-*ℤ (pos n) m ∙ ap (λ (x : ℤ). x +ℤ m) (*ℤ_comm (pos n) m)
+
+times_add : (a b : ℤ) (n : ℕ) → (a +ℤ b) *ℤ pos n ≡ a *ℤ pos n +ℤ b *ℤ pos n
+times_add a b zero = let z = *ℤ-zero a in let y = *ℤ-zero b in let x = *ℤ-zero (a +ℤ b) in omega (arith, ints, x, y, z)
+times_add a b (suc n) = let h = times_add a b n in let z = times_suc a n in let y = times_suc b n in let x = times_suc (a +ℤ b) n in omega (arith, ints, x, y, z, h)
+
+times_mono : (a b : ℤ) (n : ℕ) → a ≤ℤ b → (a *ℤ pos n) ≤ℤ (b *ℤ pos n)
+times_mono a b zero le = let z = *ℤ-zero a in let y = *ℤ-zero b in omega (arith, ints, y, z)
+times_mono a b (suc n) le = let h = times_mono a b n le in let z = times_suc a n in let y = times_suc b n in omega (arith, ints, y, z, h, le)
+
+times_sum : (a : ℤ) (m n : ℕ) → a *ℤ pos (m + n) ≡ a *ℤ pos m +ℤ a *ℤ pos n
+times_sum a m zero = let z = *ℤ-zero a in let e : m + 0 ≡ m = omega arith in let f = ap (λ (x : ℕ). a *ℤ pos x) e in omega (arith, ints, z, f)
+times_sum a m (suc n) = let h = times_sum a m n in let z = times_suc a n in let y = times_suc a (m + n) in let e : m + suc n ≡ suc (m + n) = omega arith in let f = ap (λ (x : ℕ). a *ℤ pos x) e in omega (arith, ints, y, z, h, f)
+
+times_times : (a : ℤ) (m n : ℕ) → a *ℤ pos m *ℤ pos n ≡ a *ℤ pos (m * n)
+times_times a m zero = let z = *ℤ-zero (a *ℤ pos m) in let y = *ℤ-zero a in let e : m * 0 ≡ 0 = omega arith in let f = ap (λ (x : ℕ). a *ℤ pos x) e in omega (arith, ints, y, z, f)
+times_times a m (suc n) = let h = times_times a m n in let z = times_suc (a *ℤ pos m) n in let y = times_sum a (m * n) m in let f = ap (λ (x : ℕ). a *ℤ pos x) (mul-suc m n) in omega (arith, ints, y, z, h, f)
+
+-- ---- a run, draw by draw
+
+-- a global scale that is no more than 9 with each local scale multiplies sizes by one number
+grows : (l g highest f : ℕ) → l ≤ highest → IsFactor highest g f → factor l g ≡ 2 ^ l * f
+grows l g highest f le is =
+    let low : l + g ≤ 9 = omega (arith, le, is.0) in
+    let small : (l + g) % 16 ≡ l + g = grind arith in
+    let nine : factor l g ≡ 2 ^ (l + g + 1) = grind (arith, nat_tests) in
+    nine ∙ ap (λ (x : ℕ). 2 ^ x) (omega arith) ∙ pow-add 2 l (g + 1) ∙ ap (λ (x : ℕ). 2 ^ l * x) (sym is.1)
+
+drawn : (d : DrawFields) (g highest f : ℕ) → d.lscale ≤ highest → IsFactor highest g f → displacement d g ≡ multiplied (size d) f
+unfolding displacement
+drawn d g highest f le is =
+    let e = grows d.lscale g highest f le is in
+    point_is _ _
+    (ap (λ (x : ℕ). d.dx *ℤ pos x) e ∙ sym (times_times d.dx (2 ^ d.lscale) f))
+    (ap (λ (x : ℕ). d.dy *ℤ pos x) e ∙ sym (times_times d.dy (2 ^ d.lscale) f))
+
+multiplied_shift : (p d : Point) (f : ℕ) → multiplied (shift p d) f ≡ shift (multiplied p f) (multiplied d f)
+multiplied_shift p d f = point_is _ _ (times_add p.x d.x f) (times_add p.y d.y f)
+
+moved_on : (place : End) (p d : Point) → place_moved_by (place_moved_by place p) d ≡ place_moved_by place (shift p d)
+moved_on (Rel x y) p d = λ i. let e = shift_shift (record { x = x; y = y }) p d i in Rel e.x e.y
+moved_on (Abs x y) p d = λ i. let e = shift_shift (record { x = x; y = y }) p d i in Abs e.x e.y
+moved_on Lost p d = refl
+
+-- what lies in a box lies in it multiplied
+span_times : (left right bottom top : ℤ) (p : Point) (f : ℕ) → InSpan left right bottom top p → InSpan (left *ℤ pos f) (right *ℤ pos f) (bottom *ℤ pos f) (top *ℤ pos f) (multiplied p f)
+span_times left right bottom top p f h =
+    record { left = times_mono left p.x f h.left; right = times_mono p.x right f h.right; bottom = times_mono bottom p.y f h.bottom; top = times_mono p.y top f h.top }
+
+span_from : (left right bottom top x y : ℤ) (p q : Point) → InSpan left right bottom top p → q.x ≡ x +ℤ p.x → q.y ≡ y +ℤ p.y → InSpan (x +ℤ left) (x +ℤ right) (y +ℤ bottom) (y +ℤ top) q
+span_from left right bottom top x y p q h a b =
+    record { left = omega (arith, ints, h.left, a); right = omega (arith, ints, h.right, a); bottom = omega (arith, ints, h.bottom, b); top = omega (arith, ints, h.top, b) }
+
+-- a lit move inside the box of a run, from a place between, lies in what the run lights
+lies : (box : LitBox) (place : End) (n f : ℕ) (o d e : Point) → e ≡ multiplied d f → EndsIn box (suc n) o d → LiesIn (Between origin e) (place_moved_by place (multiplied o f)) (run_extent box f) place
+lies Empty place n f o d e is h = absurd h.0
+lies (Span left right bottom top) (Rel x y) n f o d e is h =
+    let ex : e.x ≡ d.x *ℤ pos f = ap (λ (p : Point). p.x) is in
+    let ey : e.y ≡ d.y *ℤ pos f = ap (λ (p : Point). p.y) is in
+    let ax = times_add o.x d.x f in
+    let ay = times_add o.y d.y f in (
+      span_from _ _ _ _ x y (multiplied o f) _ (span_times left right bottom top o f h.0) (omega (arith, ints)) (omega (arith, ints)),
+      span_from _ _ _ _ x y (multiplied (shift o d) f) _ (span_times left right bottom top (shift o d) f h.1) (omega (arith, ints, ex, ax)) (omega (arith, ints, ey, ay)),
+    )
+lies (Span left right bottom top) (Abs x y) n f o d e is h =
+    let ex : e.x ≡ d.x *ℤ pos f = ap (λ (p : Point). p.x) is in
+    let ey : e.y ≡ d.y *ℤ pos f = ap (λ (p : Point). p.y) is in
+    let ax = times_add o.x d.x f in
+    let ay = times_add o.y d.y f in (
+      span_from _ _ _ _ x y (multiplied o f) _ (span_times left right bottom top o f h.0) (omega (arith, ints)) (omega (arith, ints)),
+      span_from _ _ _ _ x y (multiplied (shift o d) f) _ (span_times left right bottom top (shift o d) f h.1) (omega (arith, ints, ex, ax)) (omega (arith, ints, ey, ay)),
+    )
+lies (Span left right bottom top) Lost n f o d e is h = tt
+
+lies_drawn : (box : LitBox) (place : End) (g highest f : ℕ) (o : Point) (d : DrawFields) → d.lscale ≤ highest → IsFactor highest g f → (bright : ℕ) → EndsIn box bright o (size d) → LiesIn (draw_extent bright d (At g)) (place_moved_by place (multiplied o f)) (run_extent box f) place
+lies_drawn box place g highest f o d le is zero h = tt
+lies_drawn box place g highest f o d le is (suc n) h = lies box place n f o (size d) (displacement d g) (drawn d g highest f le is) h
+
+multiplied_origin : (f : ℕ) → multiplied origin f ≡ origin
+multiplied_origin f = point_is _ _ (zero-*ℤ (pos f)) (zero-*ℤ (pos f))
+
+moved_nowhere : (place : End) → place_moved_by place origin ≡ place
+moved_nowhere (Rel x y) = λ i. let e = shift_origin (record { x = x; y = y }) i in Rel e.x e.y
+moved_nowhere (Abs x y) = λ i. let e = shift_origin (record { x = x; y = y }) i in Abs e.x e.y
+moved_nowhere Lost = refl
+
+-- what is known at a place between, where the scale is known
+abbrev pub between : End → ℕ → ℕ → ℕ → ℕ → Point → ℕ → Known
+between place g words depth f o n = record { place = place_moved_by place (multiplied o f); scale = At g; words = words + n; depth = depth }
+
+max_zero : (n : ℕ) → max 0 n ≡ n
+max_zero n = omega arith
+
+module _ (Why : Type 0) (Keeps : Seen → Why → Type 0) (word : ℕ → Option ℕ) (place : End) (g words depth f : ℕ) (run : Run) (first : Item) where
+  abbrev start : Known
+  start = record { place = place; scale = At g; words = words; depth = depth }
+
+  abbrev at_offset : Point → ℕ → Known
+  at_offset o n = between place g words depth f o n
+
+  abbrev item : ℕ → Stroke → Item
+  item p s = record { at = p; format = s.format; instr = Draws s.draw }
+
+  -- one draw further
+  step : (p : ℕ) (s : Stroke) (o : Point) (n : ℕ) → s.draw.lscale ≤ run.highest → IsFactor run.highest g f → (sight_with None (at_offset o n) (item p s)).after ≡ at_offset (shift o (size s.draw)) (n + word_count s.format)
+  step p s o n le is =
+      let moves : place_moved_by (place_moved_by place (multiplied o f)) (displacement s.draw g) ≡ place_moved_by place (multiplied (shift o (size s.draw)) f) =
+      ap (place_moved_by (place_moved_by place (multiplied o f))) (drawn s.draw g run.highest f le is) ∙ moved_on place (multiplied o f) (multiplied (size s.draw) f) ∙ ap (place_moved_by place) (sym (multiplied_shift o (size s.draw) f)) in
+      let counts : word_count s.format + 0 + (words + n) ≡ words + (n + word_count s.format) = omega arith in
+      let deep : max 0 depth ≡ depth = max_zero depth in
+      λ i. record { place = moves i; scale = At g; words = counts i; depth = deep i }
+
+  part : (p : ℕ) (s : Stroke) (o : Point) (n : ℕ) → s.draw.lscale ≤ run.highest → IsFactor run.highest g f → EndsIn run.lit s.draw.bright o (size s.draw) → n + word_count s.format ≤ run.words → IsPart (sight_with None (at_offset o n) (item p s)) (run_sight run f start first)
+  part p s o n le is ends few =
+      record { draw = s.draw; draws = refl; alone = refl; few = omega (arith, few); lit = lies_drawn run.lit place g run.highest f o s.draw le is s.draw.bright ends }
+
+  pub over : (rest : List Stroke) (o : Point) (n p q : ℕ) → IsFactor run.highest g f → Follow word p rest q → NoneHigher run.highest rest → LitIn run.lit o rest → n + count rest ≡ run.words → ((v : Seen) → IsPart v (run_sight run f start first) → (why : Why) → Keeps v why) → KeepsOver Keeps word rest p (at_offset o n) q (at_offset (shift o (total rest)) (n + count rest))
+  over [] o n p q is follow high lit few keeps =
+      let same : shift o origin ≡ o = shift_origin o in
+      let none : n + 0 ≡ n = omega arith in (follow, λ i. at_offset (sym same i) (sym none i))
+  over (s ∷ rest) o n p q is follow high lit few keeps =
+      let next = step p s o n high.0 is in
+      let on = over rest (shift o (size s.draw)) (n + word_count s.format) (p + word_count s.format) q is follow.1 high.1 lit.1 (omega (arith, few)) keeps in
+      let where_to : shift (shift o (size s.draw)) (total rest) ≡ shift o (total (s ∷ rest)) = shift_shift o (size s.draw) (total rest) in
+      let counts : n + word_count s.format + count rest ≡ n + count (s ∷ rest) = omega arith in (
+        follow.0,
+        keeps _ (part p s o n high.0 is lit.0 (omega (arith, few))),
+        subst (λ (k : Known). KeepsOver Keeps word rest (p + word_count s.format) k q (at_offset (shift o (total (s ∷ rest))) (n + count (s ∷ rest)))) (sym next)
+            (subst (λ (k : Known). KeepsOver Keeps word rest (p + word_count s.format) (at_offset (shift o (size s.draw)) (n + word_count s.format)) q k) (λ i. at_offset (where_to i) (counts i)) on),
+      )
+
+  begins : at_offset origin 0 ≡ start
+  begins =
+      let still : place_moved_by place (multiplied origin f) ≡ place = ap (place_moved_by place) (multiplied_origin f) ∙ moved_nowhere place in
+      let none : words + 0 ≡ words = omega arith in
+      λ i. record { place = still i; scale = At g; words = none i; depth = depth }
+
+  ends : (strokes : List Stroke) → Tells strokes run → at_offset (shift origin (total strokes)) (0 + count strokes) ≡ (run_sight run f start first).after
+  ends strokes t =
+      let moves : shift origin (total strokes) ≡ run.by = origin_shift (total strokes) ∙ sym t.by in
+      let counts : 0 + count strokes ≡ run.words = omega (arith, t.words) in
+      λ i. at_offset (moves i) (counts i)
+
+  passes_here : (at : ℕ) → IsRun word at run → (run.words ≡ 0 → ⊥) → IsFactor run.highest g f → at < 4096 → IsSound at start → ((v : Seen) → IsPart v (run_sight run f start first) → (why : Why) → Keeps v why) → IsNearPlace (at + 1) (run_sight run f start first).after.place → (run_sight run f start first).after.words ≤ 1000000 → PassesTo Keeps word at start (at + run.words) (run_sight run f start first).after
+  passes_here at r some is lt sound keeps near few =
+      let more : 1 ≤ run.words = grind (arith, some) in
+      let over_all = over r.stands.strokes origin 0 at (at + run.words) is r.stands.follow r.stands.tells.highest r.stands.tells.lit (omega (arith, r.stands.tells.words)) keeps in
+      record {
+        strokes = r.stands.strokes;
+        keeps_over = subst (λ (k : Known). KeepsOver Keeps word r.stands.strokes at k (at + run.words) (run_sight run f start first).after) begins (subst (KeepsOver Keeps word r.stands.strokes at (at_offset origin 0) (at + run.words)) (ends r.stands.strokes r.stands.tells) over_all);
+        further = omega (arith, more);
+        near = r.near lt;
+        sound = record { place = IsNearPlace-more (at + 1) (at + run.words) (run_sight run f start first).after.place (omega (arith, more)) near; scale = sound.scale; words = few; depth = sound.depth };
+      }
+
+-- a run whose sight keeps all rules
+pub passes : (Why : Type 0) (Keeps : Seen → Why → Type 0) (word : ℕ → Option ℕ) (before : Known) (g f : ℕ) (run : Run) (first : Item) (seen : Seen) → before.scale ≡ At g → seen ≡ run_sight run f before first → IsRun word first.at run → (run.words ≡ 0 → ⊥) → IsFactor run.highest g f → first.at < 4096 → IsSound first.at before → ((v : Seen) → IsPart v seen → (why : Why) → Keeps v why) → IsNearPlace (first.at + 1) seen.after.place → seen.after.words ≤ 1000000 → PassesTo Keeps word first.at before (first.at + run.words) seen.after
+passes Why Keeps word before g f run first seen scale is r some fits lt sound keeps near few =
+    let start : Known = record { place = before.place; scale = At g; words = before.words; depth = before.depth } in
+    let same : before ≡ start = λ i. record before { scale = scale i } in
+    let seen_is : seen ≡ run_sight run f start first = is ∙ ap (λ (k : Known). run_sight run f k first) same in
+    subst (λ (k : Known). PassesTo Keeps word first.at k (first.at + run.words) seen.after) (sym same)
+    (subst (λ (v : Seen). PassesTo Keeps word first.at start (first.at + run.words) v.after) (sym seen_is)
+    (passes_here Why Keeps word before.place g before.words before.depth f run first first.at r some fits lt
+    (subst (IsSound first.at) same sound)
+    (subst (λ (v : Seen). (u : Seen) → IsPart u v → (why : Why) → Keeps u why) seen_is keeps)
+    (subst (λ (v : Seen). IsNearPlace (first.at + 1) v.after.place) seen_is near)
+    (subst (λ (v : Seen). v.after.words ≤ 1000000) seen_is few)))
+
+pub factor_small : (highest g f : ℕ) → IsFactor highest g f → f ≤ 1024
+factor_small highest g f is = let le = pow_mono {i = g + 1} {j = 10} (omega (arith, is.0)) in omega (arith, le, is.1)

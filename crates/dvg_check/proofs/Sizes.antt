@@ -1,0 +1,200 @@
+-- Sizes of runs stay small, and what a run of draws says holds of one more draw before them.
+use Rattle.std.proofs.Common.{arith, List, [], ◌∷◌, ◌≡◌, ◌+◌, ◌*◌, ◌^◌, ◌%◌, ◌≤◌, ◌∙◌, ℕ, zero, suc, ℤ, pos, negsuc, neg_ℤ, ◌*ℤ◌, ◌≤ℤ◌, subst, sym, ap}
+use Rattle.std.proofs.Math.Nat.{pow-suc, mod-eq_of_lt, mul-le-mul}
+use Rattle.std.proofs.Math.Pow.{pow_mono}
+use Rattle.std.proofs.lemmas.Int.{ints, unsigned_abs-mul}
+use Rattle.std.specs.Int.RustNames.{unsigned_abs}
+use Rattle.dvg_words.specs.Beam.{origin, shift}
+use Rattle.dvg_words.specs.Decoding.{word_count}
+use Rattle.dvg_words.specs.declared.beam.Point.{Point}
+use Rattle.dvg_cert.specs.declared.entry.LitBox.{LitBox}
+use Rattle.dvg_cert.specs.declared.entry.LitBox.TheVariants.{Empty, Span}
+use Rattle.dvg_check.specs.Lit.{InBox, IsInside}
+use Rattle.dvg_check.specs.Private.Running.{IsNear}
+use Rattle.dvg_check.specs.Private.Runs.{Stroke, Tells, IsSize, IsSizeBox, NoneHigher, EndsIn, LitIn, moved, multiplied, size}
+use Rattle.dvg_check.specs.declared.run.Run.{Run}
+use Rattle.dvg_check.proofs.Steps.{point_is, shift_origin, origin_shift}
+
+-- ---- products
+
+abs_within : (z : ℤ) (m : ℕ) → neg_ℤ (pos m) ≤ℤ z → z ≤ℤ pos m → unsigned_abs z ≤ m
+abs_within (pos a) m low high = omega (arith, ints)
+abs_within (negsuc a) m low high = omega (arith, ints)
+
+within_abs : (z : ℤ) (m : ℕ) → unsigned_abs z ≤ m → (neg_ℤ (pos m) ≤ℤ z) × (z ≤ℤ pos m)
+within_abs (pos a) m h = (omega (arith, ints), omega (arith, ints))
+within_abs (negsuc a) m h = (omega (arith, ints), omega (arith, ints))
+
+product_within : (z : ℤ) (k m n : ℕ) → neg_ℤ (pos m) ≤ℤ z → z ≤ℤ pos m → k ≤ n → (neg_ℤ (pos (m * n)) ≤ℤ (z *ℤ pos k)) × ((z *ℤ pos k) ≤ℤ pos (m * n))
+product_within z k m n low high le =
+    let is : unsigned_abs (z *ℤ pos k) ≡ unsigned_abs z * k = unsigned_abs-mul z (pos k) in
+    let below : unsigned_abs z * k ≤ m * n = mul-le-mul (abs_within z m low high) le in
+    within_abs (z *ℤ pos k) (m * n) (omega (arith, is, below))
+
+-- a shift by at most nine places loses no bit
+pub one_shifted : (t : ℕ) → t ≤ 9 → (1 * 2 ^ t % 4294967296 ≡ 2 ^ t) × (2 ^ t ≤ 512)
+one_shifted t h =
+    let small : 2 ^ t ≤ 2 ^ 9 = pow_mono h in
+    (mod-eq_of_lt (omega arith) ∙ omega arith, omega arith)
+
+pub two_shifted : (t : ℕ) → t ≤ 9 → 2 * 2 ^ t % 4294967296 ≡ 2 ^ (t + 1)
+two_shifted t h =
+    let small : 2 ^ t ≤ 2 ^ 9 = pow_mono h in
+    let e : t + 1 ≡ suc t = omega arith in
+    let twice : 2 ^ (t + 1) ≡ 2 * 2 ^ t = rw (e, pow-suc 2 t) (omega arith) in
+    mod-eq_of_lt (omega arith) ∙ omega arith
+
+-- ---- bounds
+
+pub IsSize-more : (m n : ℕ) (p : Point) → m ≤ n → IsSize m p → IsSize n p
+IsSize-more m n p le h =
+    record { left = omega (arith, ints, h.left, le); right = omega (arith, ints, h.right, le); down = omega (arith, ints, h.down, le); up = omega (arith, ints, h.up, le) }
+
+pub IsSize-shift : (m n : ℕ) (p d : Point) → IsSize m p → IsSize n d → IsSize (m + n) (shift p d)
+IsSize-shift m n p d h k =
+    record { left = omega (arith, ints, h.left, k.left); right = omega (arith, ints, h.right, k.right); down = omega (arith, ints, h.down, k.down); up = omega (arith, ints, h.up, k.up) }
+
+pub IsSize-origin : (n : ℕ) → IsSize n origin
+IsSize-origin n = record { left = omega (arith, ints); right = omega (arith, ints); down = omega (arith, ints); up = omega (arith, ints) }
+
+pub IsSizeBox-more : (m n : ℕ) (box : LitBox) → m ≤ n → IsSizeBox m box → IsSizeBox n box
+IsSizeBox-more m n Empty le h = tt
+IsSizeBox-more m n (Span x_min x_max y_min y_max) le h = (IsSize-more m n _ le h.0, IsSize-more m n _ le h.1)
+
+pub IsSizeBox-moved : (m n : ℕ) (box : LitBox) (d : Point) → IsSizeBox m box → IsSize n d → IsSizeBox (m + n) (moved box d)
+IsSizeBox-moved m n Empty d h k = tt
+IsSizeBox-moved m n (Span x_min x_max y_min y_max) d h k =
+    (IsSize-shift m n (record { x = x_min; y = y_min }) d h.0 k, IsSize-shift m n (record { x = x_max; y = y_max }) d h.1 k)
+
+-- a draw's sizes, multiplied by what its local scale says
+pub IsSize-multiplied : (dx dy : ℤ) (k : ℕ) → negsuc 1022 ≤ℤ dx → dx ≤ℤ pos 1023 → negsuc 1022 ≤ℤ dy → dy ≤ℤ pos 1023 → k ≤ 512 → IsSize 1 (multiplied (record { x = dx; y = dy }) k)
+IsSize-multiplied dx dy k left right down up le =
+    let a = product_within dx k 1023 512 left right le in
+    let b = product_within dy k 1023 512 down up le in
+    record { left = a.0; right = a.1; down = b.0; up = b.1 }
+
+-- a run's sizes, multiplied
+pub IsNear-multiplied : (p : Point) (k : ℕ) → IsSize 1025 p → k ≤ 1024 → IsNear 1 (multiplied p k)
+IsNear-multiplied p k h le =
+    let a = product_within p.x k 536870400 1024 h.left h.right le in
+    let b = product_within p.y k 536870400 1024 h.down h.up le in
+    record {
+      left = omega (arith, ints, a.0);
+      right = omega (arith, ints, a.1);
+      down = omega (arith, ints, b.0);
+      up = omega (arith, ints, b.1);
+    }
+
+pub IsNear-sizes : (n : ℕ) (p : Point) → IsSize 1025 p → 1 ≤ n → IsNear n p
+IsNear-sizes n p h le =
+    record { left = omega (arith, ints, h.left, le); right = omega (arith, ints, h.right, le); down = omega (arith, ints, h.down, le); up = omega (arith, ints, h.up, le) }
+
+-- ---- boxes
+
+-- the greatest box of these sizes
+abbrev wall : ℕ → LitBox
+wall n = Span (neg_ℤ (pos (523776 * n))) (pos (523776 * n)) (neg_ℤ (pos (523776 * n))) (pos (523776 * n))
+
+in_wall : (n : ℕ) (p : Point) → IsSize n p → InBox (wall n) p
+in_wall n p h = record { left = h.left; right = h.right; bottom = h.down; top = h.up }
+
+inside_wall : (n : ℕ) (box : LitBox) → IsSizeBox n box → IsInside box (wall n)
+inside_wall n Empty h = tt
+inside_wall n (Span x_min x_max y_min y_max) h = (h.0.left, h.1.right, h.0.down, h.1.up)
+
+-- a box inside the greatest one, that has this point
+sized_by_point : (n : ℕ) (p : Point) (box : LitBox) → IsSize n p → InBox box p → IsInside box (wall n) → IsSizeBox n box
+sized_by_point n p Empty h i w = tt
+sized_by_point n p (Span x_min x_max y_min y_max) h i w = (
+  record { left = w.0; right = omega (arith, ints, i.left, h.right); down = w.2; up = omega (arith, ints, i.bottom, h.up) },
+  record { left = omega (arith, ints, i.right, h.left); right = w.1; down = omega (arith, ints, i.top, h.down); up = w.3 },
+)
+
+-- a box inside the greatest one, that has this part
+sized_by_part : (n : ℕ) (x_min x_max y_min y_max : ℤ) (box : LitBox) → IsSizeBox n (Span x_min x_max y_min y_max) → IsInside (Span x_min x_max y_min y_max) box → IsInside box (wall n) → IsSizeBox n box
+sized_by_part n x_min x_max y_min y_max Empty h i w = tt
+sized_by_part n x_min x_max y_min y_max (Span left right bottom top) h i w = (
+  record { left = w.0; right = omega (arith, ints, i.0, h.0.right); down = w.2; up = omega (arith, ints, i.2, h.0.up) },
+  record { left = omega (arith, ints, i.1, h.1.left); right = w.1; down = omega (arith, ints, i.3, h.1.down); up = w.3 },
+)
+
+pub IsSizeBox-spanning : (n : ℕ) (p q : Point) (box : LitBox) → IsSize n p → IsSize n q → InBox box p → ((other : LitBox) → InBox other p → InBox other q → IsInside box other) → IsSizeBox n box
+IsSizeBox-spanning n p q box h k i least = sized_by_point n p box h i (least (wall n) (in_wall n p h) (in_wall n q k))
+
+nothing_inside : (n : ℕ) (box : LitBox) → IsInside box Empty → IsSizeBox n box
+nothing_inside n Empty h = tt
+nothing_inside n (Span x_min x_max y_min y_max) h = absurd h
+
+pub IsSizeBox-joined : (n : ℕ) (first second box : LitBox) → IsSizeBox n first → IsSizeBox n second → IsInside first box → IsInside second box → ((other : LitBox) → IsInside first other → IsInside second other → IsInside box other) → IsSizeBox n box
+IsSizeBox-joined n Empty Empty box h k i j least = nothing_inside n box (least Empty tt tt)
+IsSizeBox-joined n Empty (Span a b c d) box h k i j least = sized_by_part n a b c d box k j (least (wall n) tt (inside_wall n (Span a b c d) k))
+IsSizeBox-joined n (Span a b c d) second box h k i j least =
+    sized_by_part n a b c d box h i (least (wall n) (inside_wall n (Span a b c d) h) (inside_wall n second k))
+
+in_whole : (part whole : LitBox) (p : Point) → IsInside part whole → InBox part p → InBox whole p
+in_whole Empty whole p i h = absurd h
+in_whole (Span a b c d) Empty p i h = absurd i
+in_whole (Span a b c d) (Span x_min x_max y_min y_max) p i h =
+    record { left = omega (arith, ints, i.0, h.left); right = omega (arith, ints, i.1, h.right); bottom = omega (arith, ints, i.2, h.bottom); top = omega (arith, ints, i.3, h.top) }
+
+in_moved : (box : LitBox) (p d : Point) → InBox box p → InBox (moved box d) (shift p d)
+in_moved Empty p d h = absurd h
+in_moved (Span a b c e) p d h =
+    record { left = omega (arith, ints, h.left); right = omega (arith, ints, h.right); bottom = omega (arith, ints, h.bottom); top = omega (arith, ints, h.top) }
+
+-- ---- what draws light
+
+ends_in_whole : (part whole : LitBox) (bright : ℕ) (p d : Point) → IsInside part whole → EndsIn part bright p d → EndsIn whole bright p d
+ends_in_whole part whole zero p d i h = tt
+ends_in_whole part whole (suc n) p d i h = (in_whole part whole p i h.0, in_whole part whole (shift p d) i h.1)
+
+lit_in_whole : (part whole : LitBox) (p : Point) (strokes : List Stroke) → IsInside part whole → LitIn part p strokes → LitIn whole p strokes
+lit_in_whole part whole p [] i h = tt
+lit_in_whole part whole p (s ∷ rest) i h =
+    (ends_in_whole part whole s.draw.bright p (size s.draw) i h.0, lit_in_whole part whole (shift p (size s.draw)) rest i h.1)
+
+shift_swap : (p d e : Point) → shift (shift p d) e ≡ shift (shift p e) d
+shift_swap p d e = point_is _ _ (omega (arith, ints)) (omega (arith, ints))
+
+ends_in_moved : (box : LitBox) (bright : ℕ) (p d e : Point) → EndsIn box bright p e → EndsIn (moved box d) bright (shift p d) e
+ends_in_moved box zero p d e h = tt
+ends_in_moved box (suc n) p d e h = (in_moved box p d h.0, subst (InBox (moved box d)) (shift_swap p e d) (in_moved box (shift p e) d h.1))
+
+lit_in_moved : (box : LitBox) (p d : Point) (strokes : List Stroke) → LitIn box p strokes → LitIn (moved box d) (shift p d) strokes
+lit_in_moved box p d [] h = tt
+lit_in_moved box p d (s ∷ rest) h = (
+  ends_in_moved box s.draw.bright p d (size s.draw) h.0,
+  subst (λ q. LitIn (moved box d) q rest) (shift_swap p (size s.draw) d) (lit_in_moved box (shift p (size s.draw)) d rest h.1),
+)
+
+-- ---- what a run tells
+
+NoneHigher-more : (m n : ℕ) (strokes : List Stroke) → m ≤ n → NoneHigher m strokes → NoneHigher n strokes
+NoneHigher-more m n [] le h = tt
+NoneHigher-more m n (s ∷ rest) le h = (omega (arith, h.0, le), NoneHigher-more m n rest le h.1)
+
+ends_by_points : (box : LitBox) (bright : ℕ) (d : Point) → InBox box origin → InBox box d → EndsIn box bright origin d
+ends_by_points box zero d h k = tt
+ends_by_points box (suc n) d h k = (h, subst (InBox box) (sym (origin_shift d)) k)
+
+pub tells_of_lit : (s : Stroke) (run : Run) → run.words ≡ word_count s.format → s.draw.lscale ≡ run.highest → run.by ≡ size s.draw → InBox run.lit origin → InBox run.lit run.by → Tells (s ∷ []) run
+tells_of_lit s run words highest by first second =
+    record {
+      words = omega (arith, words);
+      highest = (omega (arith, highest), tt);
+      by = by ∙ sym (shift_origin (size s.draw));
+      lit = (ends_by_points run.lit s.draw.bright (size s.draw) first (subst (InBox run.lit) by second), tt);
+    }
+
+pub tells_of_more : (s : Stroke) (strokes : List Stroke) (first rest whole : Run) → whole.words ≡ first.words + rest.words → first.highest ≤ whole.highest → rest.highest ≤ whole.highest → whole.by ≡ shift first.by rest.by → IsInside first.lit whole.lit → IsInside (moved rest.lit first.by) whole.lit → Tells (s ∷ []) first → Tells strokes rest → Tells (s ∷ strokes) whole
+tells_of_more s strokes first rest whole words high_first high_rest by in_first in_rest one more =
+    let begins : first.by ≡ size s.draw = one.by ∙ shift_origin (size s.draw) in
+    let after : LitIn (moved rest.lit first.by) (shift origin first.by) strokes = lit_in_moved rest.lit origin first.by strokes more.lit in
+    let there : LitIn whole.lit (shift origin (size s.draw)) strokes =
+    subst (λ d. LitIn whole.lit (shift origin d) strokes) begins (lit_in_whole (moved rest.lit first.by) whole.lit (shift origin first.by) strokes in_rest after) in
+    record {
+      words = omega (arith, words, one.words, more.words);
+      highest = (omega (arith, one.highest.0, high_first), NoneHigher-more rest.highest whole.highest strokes high_rest more.highest);
+      by = by ∙ ap (λ d. shift d rest.by) begins ∙ ap (shift (size s.draw)) more.by;
+      lit = (ends_in_whole first.lit whole.lit s.draw.bright origin (size s.draw) in_first one.lit.0, there);
+    }

@@ -1,0 +1,27 @@
+use Rattle.std.proofs.Common.{arith, ap, sym, ◌≡◌, ◌≤◌}
+use Rattle.dvg_words.specs.Beam.{origin}
+use Rattle.dvg_words.specs.Values.{DrawFields}
+use Rattle.dvg_words.specs.Decoding.{word_count}
+use Rattle.dvg_words.specs.declared.instruction.Format.{Format}
+use Rattle.dvg_words.specs.declared.instruction.Format.TheVariants.{Long, Short}
+use Rattle.dvg_check.specs.Private.Runs.{IsSize}
+use Rattle.dvg_check.specs.declared.run.Run.{Run}
+use Rattle.dvg_check.proofs.Sizes.{IsSize-more, IsSize-origin, IsSizeBox-spanning, tells_of_lit}
+use Rattle.dvg_check.proofs.run.run_of.Goals as goal
+
+-- a draw has a word
+one_word : (format : Format) → 1 ≤ word_count format
+one_word Short = omega arith
+one_word Long = omega arith
+
+pub returns-else-draw-eq0-clause-sized : goal.returns-else-draw-eq0-clause-sized
+returns-else-draw-eq0-clause-sized c =
+    let n : 1 ≤ c.word_count.result = omega (arith, one_word c.args.format) in
+    let by : IsSize c.word_count.result c.size-by.result = IsSize-more 1 c.word_count.result c.size-by.result n c.size-by.ensures.near in
+    record { by = by; lit = IsSizeBox-spanning c.word_count.result origin c.size-by.result c.spanning.result (IsSize-origin c.word_count.result) by c.spanning.ensures.first c.spanning.ensures.least }
+
+pub returns-else-draw-eq0-clause-tells : goal.returns-else-draw-eq0-clause-tells
+returns-else-draw-eq0-clause-tells c =
+    let run : Run = record { words = c.word_count.result; highest = c.draw.inside.lscale; by = c.size-by.result; lit = c.spanning.result } in
+    let highest : c.args.draw.now.lscale ≡ c.draw.inside.lscale = sym (ap (λ (d : DrawFields). d.lscale) c.draw.view_is) in
+    tells_of_lit (record { format = c.args.format; draw = c.args.draw.now }) run c.word_count.ensures.value highest c.size-by.ensures.value c.spanning.ensures.first c.spanning.ensures.second

@@ -1,0 +1,185 @@
+-- What the code says of draws that stand one after another, and judges at once. No rule stands here.
+use Rattle.std.specs.Prelude.{◌≡◌, ℕ, zero, suc, ◌+◌, ◌*◌, ◌^◌, ◌<◌, ◌≤◌, List, [], ◌∷◌, Option, Some, None, slice_get, ◌⊎◌, ℤ, pos, neg_ℤ, ◌+ℤ◌, ◌*ℤ◌, ◌≤ℤ◌}
+use Rattle.dvg_words.specs.Values.{DrawFields}
+use Rattle.dvg_words.specs.declared.instruction.Instr.TheVariants.{Draw as Draws}
+use Rattle.dvg_words.specs.declared.instruction.Format.{Format}
+use Rattle.dvg_words.specs.declared.instruction.Cell.{Cell}
+use Rattle.dvg_words.specs.declared.instruction.Cell.TheVariants.{Missing, Holds}
+use Rattle.dvg_words.specs.Memory.{Rom, rom_word}
+use Rattle.dvg_words.specs.Decoding.{word_count, cell_at}
+use Rattle.dvg_words.specs.declared.beam.Point.{Point}
+use Rattle.dvg_words.specs.Beam.{origin, shift, displacement}
+use Rattle.dvg_cert.specs.declared.entry.LitBox.{LitBox}
+use Rattle.dvg_cert.specs.declared.entry.LitBox.TheVariants.{Empty, Span}
+use Rattle.dvg_cert.specs.declared.entry.Key.TheVariants.{At}
+use Rattle.dvg_cert.specs.declared.entry.End.{End}
+use Rattle.dvg_cert.specs.declared.entry.End.TheVariants.{Rel, Abs, Lost}
+use Rattle.dvg_cert.specs.declared.entry.Entry.{Entry}
+use Rattle.dvg_check.specs.Items.{Item}
+use Rattle.dvg_check.specs.Known.{Known, Effect, Moves}
+use Rattle.dvg_check.specs.Lit.{LitExtent, Nothing, Between, Anywhere, box_extent, InSpan, InBox}
+use Rattle.dvg_check.specs.Rules.{Seen}
+use Rattle.dvg_check.specs.Private.Running.{place_past, sight_with, IsSound}
+pub use Rattle.dvg_check.specs.declared.run.Run.{Run}
+
+-- a draw and its format
+pub record Stroke : Type 0 where
+  pub format : Format
+  pub draw : DrawFields
+
+-- these stand one after another from one place up to another
+abbrev pub Follow : (ℕ → Option ℕ) → ℕ → List Stroke → ℕ → Type 0
+Follow word p [] q = p ≡ q
+Follow word p (s ∷ rest) q = (cell_at word p ≡ Holds s.format (Draws s.draw)) × Follow word (p + word_count s.format) rest q
+
+abbrev pub count : List Stroke → ℕ
+count [] = 0
+count (s ∷ rest) = word_count s.format + count rest
+
+abbrev pub multiplied : Point → ℕ → Point
+multiplied p factor = record { x = p.x *ℤ pos factor; y = p.y *ℤ pos factor }
+
+-- a draw's sizes, told at local scale 0
+abbrev pub size : DrawFields → Point
+size d = multiplied (record { x = d.dx; y = d.dy }) (2 ^ d.lscale)
+
+abbrev pub total : List Stroke → Point
+total [] = origin
+total (s ∷ rest) = shift (size s.draw) (total rest)
+
+-- none of them has a higher local scale
+abbrev pub NoneHigher : ℕ → List Stroke → Type 0
+NoneHigher highest [] = Unit {0}
+NoneHigher highest (s ∷ rest) = (s.draw.lscale ≤ highest) × NoneHigher highest rest
+
+-- if it is lit, a move from this place has both ends in the box
+abbrev pub EndsIn : LitBox → ℕ → Point → Point → Type 0
+EndsIn box zero p d = Unit {0}
+EndsIn box (suc n) p d = InBox box p × InBox box (shift p d)
+
+-- from this place on, what they light is in the box
+abbrev pub LitIn : LitBox → Point → List Stroke → Type 0
+LitIn box p [] = Unit {0}
+LitIn box p (s ∷ rest) = EndsIn box s.draw.bright p (size s.draw) × LitIn box (shift p (size s.draw)) rest
+
+abbrev pub moved : LitBox → Point → LitBox
+moved Empty d = Empty
+moved (Span x_min x_max y_min y_max) d = Span (x_min +ℤ d.x) (x_max +ℤ d.x) (y_min +ℤ d.y) (y_max +ℤ d.y)
+
+-- ---- sizes: each word adds 1023 times 512 at the most
+
+pub record IsSize (n : ℕ) (p : Point) : Type 0 where
+  pub left : neg_ℤ (pos (523776 * n)) ≤ℤ p.x
+  pub right : p.x ≤ℤ pos (523776 * n)
+  pub down : neg_ℤ (pos (523776 * n)) ≤ℤ p.y
+  pub up : p.y ≤ℤ pos (523776 * n)
+
+abbrev pub IsSizeBox : ℕ → LitBox → Type 0
+IsSizeBox n Empty = Unit {0}
+IsSizeBox n (Span x_min x_max y_min y_max) = IsSize n (record { x = x_min; y = y_min }) × IsSize n (record { x = x_max; y = y_max })
+
+-- ---- runs
+
+pub record IsSized (run : Run) : Type 0 where
+  pub by : IsSize run.words run.by
+  pub lit : IsSizeBox run.words run.lit
+
+-- the run tells of these draws
+pub record Tells (strokes : List Stroke) (run : Run) : Type 0 where
+  pub words : run.words ≡ count strokes
+  pub highest : NoneHigher run.highest strokes
+  pub by : run.by ≡ total strokes
+  pub lit : LitIn run.lit origin strokes
+
+-- and they stand from this place on
+pub record Stands (word : ℕ → Option ℕ) (at : ℕ) (run : Run) : Type 0 where
+  pub strokes : List Stroke
+  pub tells : Tells strokes run
+  pub follow : Follow word at strokes (at + run.words)
+
+pub record IsRun (word : ℕ → Option ℕ) (at : ℕ) (run : Run) : Type 0 where
+  pub few : run.words ≤ 1025
+  pub near : at < 4096 → at + run.words ≤ 4098
+  pub sized : IsSized run
+  pub stands : Stands word at run
+
+-- ---- the runs from each cell on
+
+pub record IsFew (index : ℕ) (run : Run) : Type 0 where
+  pub few : run.words + index ≤ 1025
+  pub sized : IsSized run
+
+abbrev pub AreFew : List Run → Type 0
+AreFew runs = (k : ℕ) (run : Run) → slice_get runs k ≡ Some run → IsFew k run
+
+abbrev pub AllRead : (ℕ → Option ℕ) → ℕ → List Cell → Type 0
+AllRead word from cells = (k : ℕ) (cell : Cell) → slice_get cells k ≡ Some cell → (cell ≡ Missing) ⊎ (cell_at word (from + k) ≡ cell)
+
+abbrev pub AllStand : (ℕ → Option ℕ) → ℕ → List Run → Type 0
+AllStand word from runs = (k : ℕ) (run : Run) → slice_get runs k ≡ Some run → Stands word (from + k) run
+
+-- the runs from each place of a ROM on
+pub record AreRunsFrom (rom : Rom) (from : ℕ) (runs : List Run) : Type 0 where
+  pub from_low : from ≤ 3072
+  pub few : AreFew runs
+  pub stand : AllStand (rom_word rom) from runs
+
+-- what a global scale multiplies sizes at local scale 0 by
+abbrev pub IsFactor : ℕ → ℕ → ℕ → Type 0
+IsFactor highest gscale factor = (highest + gscale ≤ 9) × (factor ≡ 2 ^ (gscale + 1))
+
+abbrev pub run_extent : LitBox → ℕ → LitExtent
+run_extent Empty factor = Nothing
+run_extent (Span x_min x_max y_min y_max) factor = Between (multiplied (record { x = x_min; y = y_min }) factor) (multiplied (record { x = x_max; y = y_max }) factor)
+
+-- the run, seen as one item that calls nothing
+abbrev pub run_sight : Run → ℕ → Known → Item → Seen
+run_sight run factor before i =
+    record {
+      item = i;
+      place = before.place;
+      extent = run_extent run.lit factor;
+      callee = None;
+      after = record before { place = place_past (Moves (multiplied run.by factor)) before.place; words = before.words + run.words };
+    }
+
+-- ---- one item as a part of what is judged at once
+
+-- what lies between two corners, from one place, lies between two others, from another
+abbrev pub LieBetween : Point → Point → End → Point → Point → End → Type 0
+LieBetween a b (Rel x y) c d (Rel u v) = InSpan (u +ℤ c.x) (u +ℤ d.x) (v +ℤ c.y) (v +ℤ d.y) (shift (record { x = x; y = y }) a) × InSpan (u +ℤ c.x) (u +ℤ d.x) (v +ℤ c.y) (v +ℤ d.y) (shift (record { x = x; y = y }) b)
+LieBetween a b (Abs x y) c d (Abs u v) = InSpan (u +ℤ c.x) (u +ℤ d.x) (v +ℤ c.y) (v +ℤ d.y) (shift (record { x = x; y = y }) a) × InSpan (u +ℤ c.x) (u +ℤ d.x) (v +ℤ c.y) (v +ℤ d.y) (shift (record { x = x; y = y }) b)
+LieBetween a b Lost c d Lost = Unit {0}
+LieBetween a b place c d from = ⊥
+
+abbrev pub LiesIn : LitExtent → End → LitExtent → End → Type 0
+LiesIn Nothing place whole from = Unit {0}
+LiesIn (Between a b) place (Between c d) from = LieBetween a b place c d from
+LiesIn (Between a b) place Nothing from = ⊥
+LiesIn (Between a b) place Anywhere from = ⊥
+LiesIn Anywhere place whole from = ⊥
+
+-- a draw that lights no more, at no more words
+pub record IsPart (part whole : Seen) : Type 0 where
+  pub draw : DrawFields
+  pub draws : part.item.instr ≡ Draws draw
+  pub alone : part.callee ≡ None
+  pub few : part.after.words ≤ whole.after.words
+  pub lit : LiesIn part.extent part.place whole.extent whole.place
+
+-- ---- a walk over draws
+
+-- these draws, from one place and what is known there to another, keep all rules
+abbrev pub KeepsOver : {Why : Type 0} → (Seen → Why → Type 0) → (ℕ → Option ℕ) → List Stroke → ℕ → Known → ℕ → Known → Type 0
+KeepsOver keeps word [] at before p after = (at ≡ p) × (before ≡ after)
+KeepsOver {Why} keeps word (s ∷ rest) at before p after =
+    (cell_at word at ≡ Holds s.format (Draws s.draw)) ×
+    ((why : Why) → keeps (sight_with None before (record { at = at; format = s.format; instr = Draws s.draw })) why) ×
+    KeepsOver keeps word rest (at + word_count s.format) (sight_with None before (record { at = at; format = s.format; instr = Draws s.draw })).after p after
+
+pub record PassesTo {Why : Type 0} (keeps : Seen → Why → Type 0) (word : ℕ → Option ℕ) (at : ℕ) (before : Known) (p : ℕ) (after : Known) : Type 0 where
+  pub strokes : List Stroke
+  pub keeps_over : KeepsOver keeps word strokes at before p after
+  pub further : at < p
+  pub near : p ≤ 4098
+  pub sound : IsSound p after

@@ -1,0 +1,233 @@
+//! Runs: draws that stand one after another. Most shapes are few of them, and a run that keeps all rules is judged at once.
+
+ghost use Rattle.std.specs.Prelude.{◌≡◌, ◌≤◌, ◌<◌, ◌+◌, ◌≤ℤ◌, ◌*ℤ◌, ℕ, Option, [], ◌∷◌, List, pos, neg_ℤ, IfSome, ◌⊎◌};
+ghost use Rattle.dvg_words.specs.declared.instruction.Cell.TheVariants.{Missing};
+ghost use Rattle.dvg_words.specs.Decoding.{cell_at, word_count};
+ghost use Rattle.dvg_check.specs.Known.{Moves};
+ghost use Rattle.dvg_check.specs.Private.Running.{IsNear, IsNearExtent, IsNearPlace, IsSound};
+ghost use Rattle.dvg_check.specs.Private.Runs.{Stroke, Tells, IsRun, IsSize, IsSizeBox, IsSized, IsFew, AreFew, Stands, AllRead, AllStand, IsFactor, size, moved, multiplied, run_extent, run_sight};
+
+use crate::boxes::{joined, spanning};
+use crate::item::{Item, word_count};
+use crate::known::{Effect, Known, LitExtent, ORIGIN, Seen, place_past, shift};
+use dvg_cert::LitBox;
+use dvg_words::{Cell, Draw, Format, Instr, Point};
+
+/// Draws that stand one after another: how many words they have, their highest local scale, and, in sizes at local
+/// scale 0, how far they move the beam and the least box of what they light, seen from the place before the first.
+#[derive(Clone, Copy, Debug, PartialEq, Eq)]
+pub struct Run {
+    pub words: u16,
+    pub highest: u8,
+    pub by: Point,
+    pub lit: LitBox,
+}
+
+impl Run {
+    /// No draws.
+    pub const NONE: Run = Run {
+        words: 0,
+        highest: 0,
+        by: ORIGIN,
+        lit: LitBox::Empty,
+    };
+}
+
+/// A draw's sizes, told at local scale 0.
+fn size(draw: &Draw) -> Point
+    ensures value { result ≡ size draw.now }
+    ensures near { IsSize 1 result }
+{
+    let sizes = Point {
+        x: i64::from(draw.dx),
+        y: i64::from(draw.dy),
+    };
+    multiplied(&sizes, 1 << draw.lscale)
+}
+
+/// A draw, as a run of one.
+fn run_of(format: Format, draw: &Draw) -> Run
+    ensures words { result.words ≡ word_count format }
+    ensures sized { IsSized result }
+    ensures tells { Tells (record { format = format; draw = draw.now } ∷ []) result }
+{
+    let by = size(draw);
+    Run {
+        words: word_count(format),
+        highest: draw.lscale,
+        by,
+        lit: if draw.bright == 0 {
+            LitBox::Empty
+        } else {
+            spanning(&ORIGIN, &by)
+        },
+    }
+}
+
+/// A box, moved.
+fn moved(lit: &LitBox, by: &Point) -> LitBox
+    requires lit { IsSizeBox 1025 lit.now }
+    requires by { IsSize 1025 by.now }
+    ensures { result ≡ moved lit.now by.now }
+{
+    match lit {
+        LitBox::Empty => LitBox::Empty,
+        LitBox::Span {
+            x_min,
+            x_max,
+            y_min,
+            y_max,
+        } => LitBox::Span {
+            x_min: x_min + by.x,
+            x_max: x_max + by.x,
+            y_min: y_min + by.y,
+            y_max: y_max + by.y,
+        },
+    }
+}
+
+/// A draw and the run that follows it, as one run.
+fn followed(first: &Run, rest: &Run) -> Run
+    requires few { first.now.words + rest.now.words ≤ 1025 }
+    requires first { IsSized first.now }
+    requires rest { IsSized rest.now }
+    ensures words { result.words ≡ first.now.words + rest.now.words }
+    ensures sized { IsSized result }
+    ensures tells { (s : Stroke) (strokes : List Stroke) → Tells (s ∷ []) first.now → Tells strokes rest.now → Tells (s ∷ strokes) result }
+{
+    Run {
+        words: first.words + rest.words,
+        highest: first.highest.max(rest.highest),
+        by: shift(&first.by, &rest.by),
+        lit: joined(&first.lit, &moved(&rest.lit, &first.by)),
+    }
+}
+
+/// The run that begins with what stands at a place, before the runs of the places after it.
+fn run_before(cell: &Cell, runs: &[Run; 1024], index: u16) -> Run
+    requires near { index < 1024 }
+    requires few { AreFew runs.now }
+    ensures few { IsFew index result }
+    ensures stands { (word : ℕ → Option ℕ) (from : ℕ) → (cell.now ≡ Missing) ⊎ (cell_at word (from + index) ≡ cell.now) → AllStand word from runs.now → Stands word (from + index) result }
+{
+    let Cell::Holds {
+        format,
+        instr: Instr::Draw(draw),
+    } = cell
+    else {
+        return Run::NONE;
+    };
+    let first = run_of(*format, draw);
+    match runs.get(usize::from(index + first.words)) {
+        Some(rest) => followed(&first, rest),
+        None => first,
+    }
+}
+
+/// The runs from each of these cells on.
+#[inline(always)]
+pub fn runs_in(cells: &[Cell; 1024]) -> [Run; 1024]
+    ensures few { AreFew result }
+    ensures stand { (word : ℕ → Option ℕ) (from : ℕ) → AllRead word from cells.now → AllStand word from result }
+{
+    let mut runs = [Run::NONE; 1024];
+    let mut index = 1024;
+    'places: while index > 0 {
+        index -= 1;
+        runs[usize::from(index)] = run_before(&cells[usize::from(index)], &runs, index);
+    }
+    runs
+}
+
+/// What a global scale multiplies a run's sizes by, `None` where it doesn't multiply all of them alike.
+pub fn run_factor(run: &Run, gscale: u8) -> Option<u32>
+    requires { gscale ≤ 15 }
+    ensures { IfSome result (IsFactor run.now.highest gscale) }
+{
+    if u16::from(run.highest) + u16::from(gscale) <= 9 {
+        Some(2 << gscale)
+    } else {
+        None
+    }
+}
+
+/// A size or a coordinate of sizes, multiplied.
+fn times(size: i64, factor: u32) -> i64
+    requires low { neg_ℤ (pos 536870912) ≤ℤ size }
+    requires high { size ≤ℤ pos 536870912 }
+    requires factor { factor ≤ 1024 }
+    ensures { result ≡ size *ℤ pos factor }
+{
+    size * i64::from(factor)
+}
+
+fn multiplied(p: &Point, factor: u32) -> Point
+    requires p { IsSize 1025 p.now }
+    requires factor { factor ≤ 1024 }
+    ensures { result ≡ multiplied p.now factor }
+{
+    Point {
+        x: times(p.x, factor),
+        y: times(p.y, factor),
+    }
+}
+
+/// What a run lights, seen from the place before it.
+fn run_extent(lit: &LitBox, factor: u32) -> LitExtent
+    requires lit { IsSizeBox 1025 lit.now }
+    requires factor { factor ≤ 1024 }
+    ensures value { result ≡ run_extent lit.now factor }
+    ensures near { IsNearExtent result }
+{
+    match lit {
+        LitBox::Empty => LitExtent::Nothing,
+        LitBox::Span {
+            x_min,
+            x_max,
+            y_min,
+            y_max,
+        } => LitExtent::Between {
+            from: multiplied(
+                &Point {
+                    x: *x_min,
+                    y: *y_min,
+                },
+                factor,
+            ),
+            to: multiplied(
+                &Point {
+                    x: *x_max,
+                    y: *y_max,
+                },
+                factor,
+            ),
+        },
+    }
+}
+
+/// What the rules see of a run, as if it were one item.
+#[inline(always)]
+pub fn see_run(run: &Run, factor: u32, before: &Known, item: &Item) -> Seen
+    requires few { run.now.words ≤ 1025 }
+    requires sized { IsSized run.now }
+    requires factor { factor ≤ 1024 }
+    requires before { IsSound item.now.at before.now }
+    requires near { item.now.at < 4096 }
+    ensures value { result ≡ run_sight run.now factor before.now item.now }
+    ensures extent { IsNearExtent result.extent }
+    ensures place_after { IsNearPlace (item.now.at + 1) result.after.place }
+{
+    let effect = Effect::Moves(multiplied(&run.by, factor));
+    Seen {
+        item: *item,
+        place: before.place,
+        extent: run_extent(&run.lit, factor),
+        callee: None,
+        after: Known {
+            place: place_past(&effect, &before.place, item.at),
+            scale: before.scale,
+            words: before.words + u32::from(run.words),
+            depth: before.depth,
+        },
+    }
+}
