@@ -3,9 +3,9 @@
 ghost use Rattle.std.specs.Prelude.{◌≡◌, ◌≤◌, ℕ, Option};
 ghost use Rattle.dvg_words.specs.Decoding.{cell_at, CellFits, StandsBelow};
 ghost use Rattle.dvg_words.specs.Memory.{rom_word, frame_word};
-ghost use Rattle.dvg_check.specs.Private.Runs.{IsRun};
+ghost use Rattle.dvg_check.specs.Private.Runs.{IsRun, AreCellsFrom, AreRunsFrom};
 
-use crate::run::{Run, runs_in};
+use crate::run::Run;
 use dvg_words::{Cell, FrameImage, RomImage, read_cell};
 use std::marker::Model;
 
@@ -41,48 +41,58 @@ impl<'a> Cells for FrameImage<'a> {
 /// The word address past the last one of a ROM.
 pub const ROM_END: u16 = 0xC00;
 
-/// A ROM, of which all that stands from one word address on is read beforehand, with the run from each place on.
+/// What stands at the word addresses of a ROM from one on.
+pub fn read_cells(rom: &RomImage, from: u16) -> [Cell; 1024]
+    requires from { 2048 ≤ from }
+    requires to { from ≤ 3072 }
+    ensures { AreCellsFrom rom.now from result }
+{
+    let mut cells = [Cell::Missing; 1024];
+    for index in 0..ROM_END - from {
+        cells[index as usize] = read_cell(rom, from + index);
+    }
+    cells
+}
+
+/// A ROM, of which all that stands from one word address on was read beforehand, with the run from each place on.
 #[derive(Drop)]
 pub struct RomCells<'a> {
     rom: &'a RomImage<'a>,
     from: u16,
     count: u16,
-    cells: [Cell; 1024],
-    runs: [Run; 1024],
+    cells: &'a [Cell; 1024],
+    runs: &'a [Run; 1024],
 }
 
 impl<'a> Model for RomCells<'a> {
-    ghost use Rattle.std.specs.Prelude.{◌≡◌, ◌≤◌, ◌<◌, ◌+◌, ℕ, length, slice_get, Some};
-    ghost use Rattle.dvg_words.specs.Decoding.{cell_at};
+    ghost use Rattle.std.specs.Prelude.{◌≡◌, ◌+◌, ℕ};
     ghost use Rattle.dvg_words.specs.Memory.{Rom, rom_word};
-    ghost use Rattle.dvg_check.specs.Private.Running.{IsReadFrom};
-    ghost use Rattle.dvg_check.specs.Private.Runs.{AreRunsFrom};
+    ghost use Rattle.dvg_check.specs.Private.Runs.{AreCellsFrom, AreRunsFrom};
 
     ghost Value = { Rom };
 
     ghost view = { λ s. s.rom.now };
 
-    ghost invariant = { λ s. IsReadFrom s.rom.now s.from s.count s.cells × AreRunsFrom s.rom.now s.from s.runs };
+    ghost invariant = { λ s. (s.from + s.count ≡ 3072) × AreCellsFrom s.rom.now s.from s.cells.now × AreRunsFrom s.rom.now s.from s.runs.now };
 }
 
 impl<'a> RomCells<'a> {
-    /// The ROM, with all that stands from a word address on.
-    #[inline(always)]
-    pub fn read_from(rom: &'a RomImage<'a>, from: u16) -> RomCells<'a>
-        requires from { 2048 ≤ from }
-        requires to { from ≤ 3072 }
+    /// The ROM with its cells and its runs from a word address on.
+    pub fn new(
+        rom: &'a RomImage<'a>,
+        from: u16,
+        cells: &'a [Cell; 1024],
+        runs: &'a [Run; 1024],
+    ) -> RomCells<'a>
+        requires from { from ≤ 3072 }
+        requires cells { AreCellsFrom rom.now from cells.now }
+        requires runs { AreRunsFrom rom.now from runs.now }
         ensures { result ≡ rom.now }
     {
-        let count = ROM_END - from;
-        let mut cells = [Cell::Missing; 1024];
-        for index in 0..count {
-            cells[index as usize] = read_cell(rom, from + index);
-        }
-        let runs = runs_in(&cells);
         RomCells {
             rom,
             from,
-            count,
+            count: ROM_END - from,
             cells,
             runs,
         }
@@ -112,14 +122,14 @@ impl<'a> Cells for RomCells<'a> {
             let cell = read_late(rom, at);
             return cell;
         }
-        let cells = &self.cells;
+        let cells = self.cells;
         cells[index as usize]
     }
 
     #[inline(always)]
     fn run(&self, at: u16) -> Run {
         let index = at.wrapping_sub(self.from);
-        let runs = &self.runs;
+        let runs = self.runs;
         match runs.get(usize::from(index)) {
             Some(run) => *run,
             None => Run::NONE,

@@ -1,6 +1,6 @@
 -- What the code keeps while it goes over items: no rule stands here. What is known after an item, by what is known before
 -- it; what stands below all sums, so that none leaves 64 bits; and the order in which the code tests rules.
-use Rattle.std.specs.Prelude.{◌≡◌, ℕ, ◌+◌, ◌*◌, ◌<◌, ◌≤◌, max, List, [], ◌∷◌, take, slice_get, Option, Some, None, unwrap_or, pos, neg_ℤ, ◌≤ℤ◌}
+use Rattle.std.specs.Prelude.{◌≡◌, ℕ, ◌+◌, ◌*◌, ◌<◌, ◌≤◌, max, List, [], ◌∷◌, take, Option, Some, None, unwrap_or, pos, neg_ℤ, ◌≤ℤ◌}
 use Rattle.dvg_words.specs.declared.instruction.Cell.TheVariants.{Holds}
 use Rattle.dvg_words.specs.declared.instruction.Cell.{Cell}
 use Rattle.dvg_words.specs.Decoding.{word_count, cell_at, CellFits}
@@ -90,15 +90,6 @@ pub record IsSound (at : ℕ) (known : Known) : Type 0 where
   pub scale : IsKey known.scale
   pub words : known.words ≤ 1000000
   pub depth : known.depth ≤ 4
-
--- ---- cells read beforehand
-
--- these are as many cells of a ROM from a word address on
-pub record IsReadFrom (rom : Rom) (from count : ℕ) (cells : List Cell) : Type 0 where
-  pub from_low : from ≤ 3072
-  pub few : count ≤ 1024
-  pub read : (k : ℕ) → k < count → slice_get cells k ≡ Some (cell_at (rom_word rom) (from + k))
-  pub fits : (k : ℕ) → k < count → CellFits (cell_at (rom_word rom) (from + k))
 
 -- ---- rules in the order in which the code tests them
 

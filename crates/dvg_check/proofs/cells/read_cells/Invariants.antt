@@ -2,7 +2,7 @@ use Rattle.std.proofs.Common.{◌≡◌, ◌<◌, ◌+◌, Some, slice_get, ℕ,
 use Rattle.dvg_words.specs.Decoding.{cell_at, CellFits}
 use Rattle.dvg_words.specs.Memory.{rom_word}
 use Rattle.dvg_check.specs.Private.Runs.{AllRead}
-use Rattle.dvg_check.proofs.cells.RomCells.read_from.Given as goal
+use Rattle.dvg_check.proofs.cells.read_cells.Given as goal
 
 abbrev pub invariant-loop-index : goal.invariant-loop-index
 invariant-loop-index l =

@@ -7,7 +7,7 @@ use Rattle.dvg_words.specs.Memory.{rom_word}
 use Rattle.dvg_words.specs.declared.instruction.Cell.{Cell}
 use Rattle.dvg_words.specs.declared.instruction.Cell.TheVariants.{Missing}
 use Rattle.dvg_check.proofs.Table.{copies_all, set_all}
-use Rattle.dvg_check.proofs.cells.RomCells.read_from.Goals as goal
+use Rattle.dvg_check.proofs.cells.read_cells.Goals as goal
 
 -- nothing is read at this place yet, or what stands there
 abbrev Read : (ℕ → Option ℕ) → ℕ → ℕ → Cell → Type 0
