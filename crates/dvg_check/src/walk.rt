@@ -1,7 +1,4 @@
 //! The one loop over the items of a shape or of a frame.
-//!
-//! Most items are draws, so their code stands apart from that of calls, and all that judges an item is inlined: there
-//! the compiler knows what kind of item it is, and leaves out the tests that ask for it.
 
 ghost use Rattle.std.specs.Prelude.{◌≡◌, ◌≤◌, ◌<◌, List, [], None, IfOk, IfErr, IfSome};
 ghost use Rattle.dvg_cert.specs.Entry.{IsKey};
@@ -41,92 +38,8 @@ fn start(kind: Kind, scale: Key) -> Known
     }
 }
 
-/// Judges an item that calls this entry: the first rule that it breaks, or what is known after it and where the next one
-/// stands, `None` after the last.
-#[inline(always)]
-fn judge_with<R: Rules>(
-    rules: &R,
-    callee: Option<Entry>,
-    before: &Known,
-    item: &Item,
-) -> Result<(Known, Option<u16>), R::Why>
-    requires rules { R.valid rules.now }
-    requires callee { IfSome callee IsClaim }
-    requires before { IsSound item.now.at before.now }
-    requires near { item.now.at < 4096 }
-    requires fields { InstrFits item.now.instr }
-    ensures kept { IfOk result (λ onward. KeepsAll (R.keeps rules.now) (sight_with callee before.now item.now) onward.0) }
-    ensures next { IfOk result (λ onward. onward.1 ≡ next_place R.kind item.now) }
-    ensures broken { IfErr result (BreaksFirst R.order (R.keeps rules.now) (sight_with callee before.now item.now)) }
-{
-    let seen = see_with(callee, before, item);
-    match rules.first_broken(&seen) {
-        Some(why) => Err(why),
-        None => Ok((seen.after, next_place(rules.kind(), item))),
-    }
-}
-
-/// Judges an item that calls nothing, as a draw. Where the place is relative to the call and the scale is known, as for
-/// most draws, it has code of its own.
-#[inline(always)]
-fn judge_draw<R: Rules>(
-    rules: &R,
-    before: &Known,
-    item: &Item,
-) -> Result<(Known, Option<u16>), R::Why>
-    requires rules { R.valid rules.now }
-    requires before { IsSound item.now.at before.now }
-    requires near { item.now.at < 4096 }
-    requires fields { InstrFits item.now.instr }
-    ensures kept { IfOk result (λ onward. KeepsAll (R.keeps rules.now) (sight_with None before.now item.now) onward.0) }
-    ensures next { IfOk result (λ onward. onward.1 ≡ next_place R.kind item.now) }
-    ensures broken { IfErr result (BreaksFirst R.order (R.keeps rules.now) (sight_with None before.now item.now)) }
-{
-    match (before.place, before.scale) {
-        (End::Rel { x, y }, Key::At(gscale)) => {
-            let known = Known {
-                place: End::Rel { x, y },
-                scale: Key::At(gscale),
-                words: before.words,
-                depth: before.depth,
-            };
-            judge_with(rules, None, &known, item)
-        }
-        _ => judge_with(rules, None, before, item),
-    }
-}
-
-/// The word address that an item calls. Not inlined, so that the first test of an item is whether it is a draw.
-#[inline(never)]
-fn called<R: Rules>(rules: &R, item: &Item) -> Option<u16>
-    ensures { result ≡ target R.kind item.now.instr }
-{
-    target(rules.kind(), &item.instr)
-}
-
-/// Judges an item that may call an entry.
-#[inline(always)]
-fn judge_call<E: Entries, R: Rules>(
-    rules: &R,
-    entries: &E,
-    before: Known,
-    item: Item,
-) -> Result<(Known, Option<u16>), R::Why>
-    requires entries { IsSomeCertificate (E.list entries.now) }
-    requires rules { R.valid rules.now }
-    requires before { IsSound item.at before }
-    requires near { item.at < 4096 }
-    requires fields { InstrFits item.instr }
-    ensures kept { IfOk result (λ onward. KeepsAll (R.keeps rules.now) (sight_by (E.list entries.now) R.kind before item) onward.0) }
-    ensures next { IfOk result (λ onward. onward.1 ≡ next_place R.kind item) }
-    ensures broken { IfErr result (BreaksFirst R.order (R.keeps rules.now) (sight_by (E.list entries.now) R.kind before item)) }
-{
-    let callee = callee(entries, called(rules, &item), before.scale);
-    judge_with(rules, callee, &before, &item)
-}
-
-/// Judges an item.
-#[inline(always)]
+/// Judges an item: the first rule that it breaks, or what is known after it and where the next one stands, `None` after
+/// the last.
 fn judge<E: Entries, R: Rules>(
     rules: &R,
     entries: &E,
@@ -142,16 +55,12 @@ fn judge<E: Entries, R: Rules>(
     ensures next { IfOk result (λ onward. onward.1 ≡ next_place R.kind item.now) }
     ensures broken { IfErr result (BreaksFirst R.order (R.keeps rules.now) (sight_by (E.list entries.now) R.kind before.now item.now)) }
 {
-    match item.instr {
-        Instr::Draw(draw) => {
-            let drawn = Item {
-                at: item.at,
-                format: item.format,
-                instr: Instr::Draw(draw),
-            };
-            judge_draw(rules, before, &drawn)
-        }
-        _ => judge_call(rules, entries, *before, *item),
+    let kind = rules.kind();
+    let callee = callee(entries, target(kind, &item.instr), before.scale);
+    let seen = see_with(callee, before, item);
+    match rules.first_broken(&seen) {
+        Some(why) => Err(why),
+        None => Ok((seen.after, next_place(kind, item))),
     }
 }
 
