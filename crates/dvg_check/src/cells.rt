@@ -32,7 +32,6 @@ impl<'a> Cells for FrameImage<'a> {
         read_cell(self, at)
     }
 
-    #[inline(always)]
     fn run(&self, _at: u16) -> Run {
         Run::NONE
     }
@@ -99,34 +98,19 @@ impl<'a> RomCells<'a> {
     }
 }
 
-/// What stands where nothing was read beforehand.
-#[cold]
-#[inline(never)]
-fn read_late(rom: &RomImage, at: u16) -> Cell
-    ensures value { result ≡ cell_at (rom_word rom.now) at }
-    ensures fields { CellFits result }
-    ensures near { StandsBelow 4096 at result }
-{
-    read_cell(rom, at)
-}
-
 impl<'a> Cells for RomCells<'a> {
     ghost words = { λ s. rom_word s };
 
-    #[inline(always)]
     fn cell(&self, at: u16) -> Cell {
         let rom = self.rom;
         let index = at.wrapping_sub(self.from);
         if index >= self.count {
-            // A value of its own: returned at once it would share its place with the array's cells, at a copy each.
-            let cell = read_late(rom, at);
-            return cell;
+            return read_cell(rom, at);
         }
         let cells = self.cells;
         cells[index as usize]
     }
 
-    #[inline(always)]
     fn run(&self, at: u16) -> Run {
         let index = at.wrapping_sub(self.from);
         let runs = self.runs;

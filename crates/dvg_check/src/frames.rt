@@ -33,7 +33,6 @@ fn is_forward(item: &Item) -> bool
 }
 
 /// The first rule that an item of a frame breaks.
-#[inline(always)]
 fn first_broken(budget: u32, seen: &Seen) -> Option<FrameWhy>
     requires place { IsNearPlace 4100 seen.now.place }
     requires extent { IsNearExtent seen.now.extent }
@@ -97,7 +96,6 @@ impl Rules for FrameRules {
         FrameWhy::Odd
     }
 
-    #[inline(always)]
     fn first_broken(&self, seen: &Seen) -> Option<FrameWhy> {
         first_broken(self.budget, seen)
     }

@@ -66,7 +66,6 @@ pub fn shift(p: &Point, d: &Point) -> Point
 }
 
 /// How far a draw moves the beam.
-#[inline(always)]
 fn draw_move(draw: &Draw, gscale: u8) -> Point
     requires { gscale ≤ 15 }
     ensures value { result ≡ displacement draw.now gscale }
@@ -91,7 +90,6 @@ fn labs_place(x: u16, y: u16) -> Point
 }
 
 /// What a draw does to the place, and what it lights.
-#[inline(always)]
 fn draw_effect_and_extent(draw: &Draw, scale: Key) -> (Effect, LitExtent)
     requires { IsKey scale }
     ensures effect { result.0 ≡ draw_effect draw.now scale }
@@ -169,7 +167,6 @@ fn callee_effect_and_extent(callee: &Option<Entry>) -> (Effect, LitExtent)
 }
 
 /// What an instruction does to the place, and what it lights.
-#[inline(always)]
 fn effect_and_extent(instr: &Instr, scale: Key, callee: &Option<Entry>) -> (Effect, LitExtent)
     requires scale { IsKey scale }
     requires callee { IfSome callee.now IsClaim }
@@ -197,7 +194,6 @@ pub fn target(kind: Kind, instr: &Instr) -> Option<u16>
 }
 
 /// The place past an effect.
-#[inline(always)]
 pub fn place_past(effect: &Effect, place: &End, at: u16) -> End
     requires at { at ≤ 4100 }
     requires place { IsNearPlace at place.now }
@@ -220,7 +216,6 @@ pub fn place_past(effect: &Effect, place: &End, at: u16) -> End
 }
 
 /// The scale past an instruction.
-#[inline(always)]
 fn scale_past(instr: &Instr, scale: Key, callee: &Option<Entry>) -> Key
     requires scale { IsKey scale }
     requires instr { InstrFits instr.now }
@@ -236,7 +231,6 @@ fn scale_past(instr: &Instr, scale: Key, callee: &Option<Entry>) -> Key
 }
 
 /// How many return places are stored at once under an instruction.
-#[inline(always)]
 pub fn depth_under(instr: &Instr, callee: &Option<Entry>) -> u8
     requires { IfSome callee.now IsClaim }
     ensures value { result ≡ depth_under instr.now callee.now }
@@ -250,7 +244,6 @@ pub fn depth_under(instr: &Instr, callee: &Option<Entry>) -> u8
 }
 
 /// The words of the entry that is called.
-#[inline(always)]
 fn callee_words(callee: &Option<Entry>) -> u32
     requires { IfSome callee.now IsClaim }
     ensures value { result ≡ callee_words callee.now }
@@ -275,7 +268,6 @@ pub fn callee<E: Entries>(entries: &E, target: Option<u16>, scale: Key) -> Optio
 }
 
 /// What the rules see of an item that calls this entry.
-#[inline(always)]
 pub fn see_with(callee: Option<Entry>, before: &Known, item: &Item) -> Seen
     requires callee { IfSome callee IsClaim }
     requires before { IsSound item.now.at before.now }

@@ -125,7 +125,6 @@ fn run_before(cell: &Cell, runs: &[Run; 1024], index: u16) -> Run
 }
 
 /// The runs from each of these cells on.
-#[inline(always)]
 pub fn runs_in(cells: &[Cell; 1024]) -> [Run; 1024]
     ensures few { AreFew result }
     ensures stand { (word : ℕ → Option ℕ) (from : ℕ) → AllRead word from cells.now → AllStand word from result }
@@ -206,7 +205,6 @@ fn run_extent(lit: &LitBox, factor: u32) -> LitExtent
 }
 
 /// What the rules see of a run, as if it were one item.
-#[inline(always)]
 pub fn see_run(run: &Run, factor: u32, before: &Known, item: &Item) -> Seen
     requires few { run.now.words ≤ 1025 }
     requires sized { IsSized run.now }

@@ -101,7 +101,6 @@ fn depth_as_claimed(mode: Mode, entry: &Entry, seen: &Seen) -> bool
 }
 
 /// The first rule that an item of a shape breaks.
-#[inline(always)]
 fn first_broken(mode: Mode, entry: &Entry, seen: &Seen) -> Option<ShapeWhy>
     requires near { seen.now.item.at < 4096 }
     requires callee { IfSome seen.now.callee IsClaim }
@@ -182,7 +181,6 @@ impl Rules for ShapeRules {
         ShapeWhy::Odd
     }
 
-    #[inline(always)]
     fn first_broken(&self, seen: &Seen) -> Option<ShapeWhy> {
         first_broken(self.mode, &self.entry, seen)
     }

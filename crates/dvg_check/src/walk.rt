@@ -66,7 +66,6 @@ fn judge<E: Entries, R: Rules>(
 
 /// Judges the run of draws that begins with an item at once: what is known after it, and where the next item stands. `None`
 /// where that doesn't show that they keep all rules.
-#[inline(always)]
 fn pass_run<C: Cells, R: Rules>(
     cells: &C,
     rules: &R,
