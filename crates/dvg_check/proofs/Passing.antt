@@ -9,24 +9,21 @@ use Rattle.std.proofs.Math.Pow.{pow_mono}
 use Rattle.std.specs.Prelude.{IfNone}
 use Rattle.std.specs.Option.{is_some}
 use Rattle.dvg_words.specs.Beam.{displacement, factor, origin, shift}
-use Rattle.dvg_words.specs.Decoding.{cell_at, word_count}
+use Rattle.dvg_words.specs.Decoding.{word_count}
 use Rattle.dvg_words.specs.Values.{DrawFields, Window}
 use Rattle.dvg_words.specs.declared.beam.Point.{Point}
-use Rattle.dvg_words.specs.declared.instruction.Cell.TheVariants.{Holds}
-use Rattle.dvg_words.specs.declared.instruction.Format.{Format}
 use Rattle.dvg_words.specs.declared.instruction.Instr.{Instr}
 use Rattle.dvg_words.specs.declared.instruction.Instr.TheVariants.{Draw as Draws, Halt, Rtsl}
 use Rattle.dvg_cert.specs.declared.entry.End.{End}
 use Rattle.dvg_cert.specs.declared.entry.End.TheVariants.{Rel, Abs, Lost}
 use Rattle.dvg_cert.specs.declared.entry.Entry.{Entry}
-use Rattle.dvg_cert.specs.declared.entry.Key.{Key}
 use Rattle.dvg_cert.specs.declared.entry.Key.TheVariants.{At}
 use Rattle.dvg_cert.specs.declared.entry.LitBox.{LitBox}
 use Rattle.dvg_cert.specs.declared.entry.LitBox.TheVariants.{Empty, Span}
 use Rattle.dvg_check.specs.Items.{Shape, Frame, next_place}
 use Rattle.dvg_check.specs.Known.{place_moved_by, target, depth_under}
-use Rattle.dvg_check.specs.Lit.{LitExtent, Nothing, Between, Anywhere, PlaceKnown, ScaleKnown, LitInWindow, InBox, InSpan, LitInBox, draw_extent}
-use Rattle.dvg_check.specs.Private.Running.{EachKept, IsNearPlace, IsSound, shape_rules, frame_rules, sight_with, place_past}
+use Rattle.dvg_check.specs.Lit.{LitExtent, Nothing, Between, Anywhere, PlaceKnown, ScaleKnown, LitInWindow, InSpan, LitInBox, draw_extent}
+use Rattle.dvg_check.specs.Private.Running.{EachKept, IsNearPlace, IsSound, shape_rules, frame_rules, sight_with}
 use Rattle.dvg_check.specs.Private.Runs.{Run, Stroke, Follow, NoneHigher, EndsIn, LitIn, LiesIn, IsPart, IsFactor, IsRun, Tells, PassesTo, KeepsOver, count, multiplied, run_extent, run_sight, size, total}
 use Rattle.dvg_check.specs.Rules.{AtLast, AsClaimed, HasCallee, IsForward, Mode, ShapeKeeps, FrameKeeps}
 use Rattle.dvg_check.specs.declared.fault.FrameWhy.{FrameWhy}

@@ -1,18 +1,18 @@
 -- Runs of draws read beforehand: a draw before a run, and tables that are filled place by place.
-use Rattle.std.proofs.Common.{◌≡◌, ◌+◌, ◌<◌, ◌-◌, ◌%◌, ◌⊎◌, inl, inr, ◌∙◌, ℕ, zero, suc, List, [], ◌∷◌, Option, Some, slice_get, get_or, set, replicate, length, nat_lt, true, refl, sym, subst, arith}
+use Rattle.std.proofs.Common.{◌≡◌, ◌+◌, ◌<◌, ◌-◌, ◌%◌, ◌∙◌, ℕ, zero, suc, List, [], ◌∷◌, Option, Some, slice_get, get_or, set, replicate, length, nat_lt, true, refl, sym, subst, arith}
 use Rattle.std.proofs.lemmas.Bool.Decides.{nat_tests}
 use Rattle.std.proofs.lemmas.Int.{ints}
-use Rattle.std.proofs.lemmas.Option.{slice_get-get_or, slice_get_read}
+use Rattle.std.proofs.lemmas.Option.{slice_get_read}
 use Rattle.dvg_words.specs.Values.{DrawFields}
 use Rattle.dvg_words.specs.Beam.{origin}
 use Rattle.dvg_words.specs.Memory.{Rom, rom_word}
 use Rattle.dvg_words.specs.Decoding.{cell_at, word_count}
 use Rattle.dvg_words.specs.declared.instruction.Cell.{Cell}
-use Rattle.dvg_words.specs.declared.instruction.Cell.TheVariants.{Missing, Holds}
+use Rattle.dvg_words.specs.declared.instruction.Cell.TheVariants.{Holds}
 use Rattle.dvg_words.specs.declared.instruction.Format.{Format}
 use Rattle.dvg_words.specs.declared.instruction.Instr.TheVariants.{Draw as Draws}
 use Rattle.dvg_cert.specs.declared.entry.LitBox.TheVariants.{Empty}
-use Rattle.dvg_check.specs.Private.Runs.{Run, Stroke, Follow, Tells, Stands, IsFew, IsRun, AllRead, AreRunsFrom}
+use Rattle.dvg_check.specs.Private.Runs.{Run, Stroke, Follow, Tells, Stands, IsFew, IsRun, AreRunsFrom}
 
 -- ---- tables
 
@@ -33,10 +33,6 @@ pub copies_all : {A : Type 0} (P : ℕ → A → Type 0) (n : ℕ) (v : A) → (
 copies_all P zero v h k x e = cc
 copies_all P (suc n) v h zero x e = let same : v ≡ x = cc in subst (P 0) same (h 0 (omega arith))
 copies_all P (suc n) v h (suc k) x e = copies_all (λ m. P (suc m)) n v (λ m lt. h (suc m) (omega (arith, lt))) k x e
-
--- what is read at a place, where the place is told by an equal number
-pub read_at : (word : ℕ → Option ℕ) (from : ℕ) (cells : List Cell) (i j : ℕ) (d : Cell) → AllRead word from cells → i ≡ j → j < length cells → (get_or cells i d ≡ Missing) ⊎ (cell_at word (from + j) ≡ get_or cells i d)
-read_at word from cells i j d all e lt = all j (get_or cells i d) (subst (λ (n : ℕ). slice_get cells j ≡ Some (get_or cells n d)) (sym e) (slice_get-get_or cells j d lt))
 
 -- the item that a look-up at a sum finds
 pub found_at : {A : Type 0} (xs : List A) (at index words : ℕ) (x : A) → at ≡ index + words → true ≡ nat_lt at (length xs) → x ≡ get_or xs at x → slice_get xs (index + words) ≡ Some x
@@ -60,9 +56,8 @@ pub nothing_stands : (word : ℕ → Option ℕ) (at : ℕ) → Stands word at n
 nothing_stands word at = record { strokes = []; tells = record { words = refl; highest = tt; by = refl; lit = tt }; follow = omega arith }
 
 -- a draw that is read, before a run that stands past it
-pub stands_before : (word : ℕ → Option ℕ) (from index : ℕ) (cell : Cell) (format : Format) (draw : DrawFields) (first rest result : Run) → cell ≡ Holds format (Draws draw) → (cell ≡ Missing) ⊎ (cell_at word (from + index) ≡ cell) → first.words ≡ word_count format → result.words ≡ first.words + rest.words → Tells (record { format = format; draw = draw } ∷ []) first → ((s : Stroke) (strokes : List Stroke) → Tells (s ∷ []) first → Tells strokes rest → Tells (s ∷ strokes) result) → Stands word (from + (index + first.words)) rest → Stands word (from + index) result
-stands_before word from index cell format draw first rest result is (inl missing) words sum tells more stands = cc
-stands_before word from index cell format draw first rest result is (inr read) words sum tells more stands =
+pub stands_before : (word : ℕ → Option ℕ) (from index : ℕ) (cell : Cell) (format : Format) (draw : DrawFields) (first rest result : Run) → cell ≡ Holds format (Draws draw) → cell_at word (from + index) ≡ cell → first.words ≡ word_count format → result.words ≡ first.words + rest.words → Tells (record { format = format; draw = draw } ∷ []) first → ((s : Stroke) (strokes : List Stroke) → Tells (s ∷ []) first → Tells strokes rest → Tells (s ∷ strokes) result) → Stands word (from + (index + first.words)) rest → Stands word (from + index) result
+stands_before word from index cell format draw first rest result is read words sum tells more stands =
     let s : Stroke = record { format = format; draw = draw } in
     let begin : from + (index + first.words) ≡ from + index + word_count format = omega (arith, words) in
     let end : from + (index + first.words) + rest.words ≡ from + index + result.words = omega (arith, sum) in

@@ -3,7 +3,7 @@
 ghost use Rattle.std.specs.Prelude.{◌≡◌, ◌≤◌, ℕ, Option};
 ghost use Rattle.dvg_words.specs.Decoding.{cell_at, CellFits, StandsBelow};
 ghost use Rattle.dvg_words.specs.Memory.{rom_word, frame_word};
-ghost use Rattle.dvg_check.specs.Private.Runs.{IsRun, AreCellsFrom, AreRunsFrom};
+ghost use Rattle.dvg_check.specs.Private.Runs.{IsRun, AreRunsFrom};
 
 use crate::run::Run;
 use dvg_words::{Cell, FrameImage, RomImage, read_cell};
@@ -40,61 +40,33 @@ impl<'a> Cells for FrameImage<'a> {
 /// The word address past the last one of a ROM.
 pub const ROM_END: u16 = 0xC00;
 
-/// What stands at the word addresses of a ROM from one on.
-pub fn read_cells(rom: &RomImage, from: u16) -> [Cell; 1024]
-    requires from { 2048 ≤ from }
-    requires to { from ≤ 3072 }
-    ensures { AreCellsFrom rom.now from result }
-{
-    let mut cells = [Cell::Missing; 1024];
-    for index in 0..ROM_END - from {
-        cells[index as usize] = read_cell(rom, from + index);
-    }
-    cells
-}
-
-/// A ROM, of which all that stands from one word address on was read beforehand, with the run from each place on.
+/// A ROM, with the runs of draws from each place on that were made out beforehand.
 #[derive(Drop)]
 pub struct RomCells<'a> {
     rom: &'a RomImage<'a>,
     from: u16,
-    count: u16,
-    cells: &'a [Cell; 1024],
     runs: &'a [Run; 1024],
 }
 
 impl<'a> Model for RomCells<'a> {
-    ghost use Rattle.std.specs.Prelude.{◌≡◌, ◌+◌, ℕ};
+    ghost use Rattle.std.specs.Prelude.{◌≡◌};
     ghost use Rattle.dvg_words.specs.Memory.{Rom, rom_word};
-    ghost use Rattle.dvg_check.specs.Private.Runs.{AreCellsFrom, AreRunsFrom};
+    ghost use Rattle.dvg_check.specs.Private.Runs.{AreRunsFrom};
 
     ghost Value = { Rom };
 
     ghost view = { λ s. s.rom.now };
 
-    ghost invariant = { λ s. (s.from + s.count ≡ 3072) × AreCellsFrom s.rom.now s.from s.cells.now × AreRunsFrom s.rom.now s.from s.runs.now };
+    ghost invariant = { λ s. AreRunsFrom s.rom.now s.from s.runs.now };
 }
 
 impl<'a> RomCells<'a> {
-    /// The ROM with its cells and its runs from a word address on.
-    pub fn new(
-        rom: &'a RomImage<'a>,
-        from: u16,
-        cells: &'a [Cell; 1024],
-        runs: &'a [Run; 1024],
-    ) -> RomCells<'a>
-        requires from { from ≤ 3072 }
-        requires cells { AreCellsFrom rom.now from cells.now }
-        requires runs { AreRunsFrom rom.now from runs.now }
+    /// The ROM, with its runs from a word address on.
+    pub fn new(rom: &'a RomImage<'a>, from: u16, runs: &'a [Run; 1024]) -> RomCells<'a>
+        requires { AreRunsFrom rom.now from runs.now }
         ensures { result ≡ rom.now }
     {
-        RomCells {
-            rom,
-            from,
-            count: ROM_END - from,
-            cells,
-            runs,
-        }
+        RomCells { rom, from, runs }
     }
 }
 
@@ -102,13 +74,7 @@ impl<'a> Cells for RomCells<'a> {
     ghost words = { λ s. rom_word s };
 
     fn cell(&self, at: u16) -> Cell {
-        let rom = self.rom;
-        let index = at.wrapping_sub(self.from);
-        if index >= self.count {
-            return read_cell(rom, at);
-        }
-        let cells = self.cells;
-        cells[index as usize]
+        read_cell(self.rom, at)
     }
 
     fn run(&self, at: u16) -> Run {

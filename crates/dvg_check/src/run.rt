@@ -1,17 +1,17 @@
 //! Runs: draws that stand one after another. Most shapes are few of them, and a run that keeps all rules is judged at once.
 
-ghost use Rattle.std.specs.Prelude.{◌≡◌, ◌≤◌, ◌<◌, ◌+◌, ◌≤ℤ◌, ◌*ℤ◌, ℕ, Option, [], ◌∷◌, List, pos, neg_ℤ, IfSome, ◌⊎◌};
-ghost use Rattle.dvg_words.specs.declared.instruction.Cell.TheVariants.{Missing};
+ghost use Rattle.std.specs.Prelude.{◌≡◌, ◌≤◌, ◌<◌, ◌+◌, ◌≤ℤ◌, ◌*ℤ◌, ℕ, Option, [], ◌∷◌, List, pos, neg_ℤ, IfSome};
 ghost use Rattle.dvg_words.specs.Decoding.{cell_at, word_count};
 ghost use Rattle.dvg_check.specs.Known.{Moves};
 ghost use Rattle.dvg_check.specs.Private.Running.{IsNear, IsNearExtent, IsNearPlace, IsSound};
-ghost use Rattle.dvg_check.specs.Private.Runs.{Stroke, Tells, IsRun, IsSize, IsSizeBox, IsSized, IsFew, AreFew, Stands, AllRead, AllStand, IsFactor, size, moved, multiplied, run_extent, run_sight};
+ghost use Rattle.dvg_check.specs.Private.Runs.{Stroke, Tells, IsRun, IsSize, IsSizeBox, IsSized, IsFew, AreFew, Stands, AllStand, AreRunsFrom, IsFactor, size, moved, multiplied, run_extent, run_sight};
 
 use crate::boxes::{joined, spanning};
+use crate::cells::ROM_END;
 use crate::item::{Item, word_count};
 use crate::known::{Effect, Known, LitExtent, ORIGIN, Seen, place_past, shift};
 use dvg_cert::LitBox;
-use dvg_words::{Cell, Draw, Format, Instr, Point};
+use dvg_words::{Cell, Draw, Format, Instr, Point, RomImage, read_cell};
 
 /// Draws that stand one after another: how many words they have, their highest local scale, and, in sizes at local
 /// scale 0, how far they move the beam and the least box of what they light, seen from the place before the first.
@@ -108,7 +108,7 @@ fn run_before(cell: &Cell, runs: &[Run; 1024], index: u16) -> Run
     requires near { index < 1024 }
     requires few { AreFew runs.now }
     ensures few { IsFew index result }
-    ensures stands { (word : ℕ → Option ℕ) (from : ℕ) → (cell.now ≡ Missing) ⊎ (cell_at word (from + index) ≡ cell.now) → AllStand word from runs.now → Stands word (from + index) result }
+    ensures stands { (word : ℕ → Option ℕ) (from : ℕ) → cell_at word (from + index) ≡ cell.now → AllStand word from runs.now → Stands word (from + index) result }
 {
     let Cell::Holds {
         format,
@@ -124,16 +124,17 @@ fn run_before(cell: &Cell, runs: &[Run; 1024], index: u16) -> Run
     }
 }
 
-/// The runs from each of these cells on.
-pub fn runs_in(cells: &[Cell; 1024]) -> [Run; 1024]
-    ensures few { AreFew result }
-    ensures stand { (word : ℕ → Option ℕ) (from : ℕ) → AllRead word from cells.now → AllStand word from result }
+/// The runs from each place of a ROM on, beginning at a word address.
+pub fn runs_from(rom: &RomImage, from: u16) -> [Run; 1024]
+    requires low { 2048 ≤ from }
+    requires high { from ≤ 3072 }
+    ensures { AreRunsFrom rom.now from result }
 {
     let mut runs = [Run::NONE; 1024];
-    let mut index = 1024;
+    let mut index = ROM_END - from;
     'places: while index > 0 {
         index -= 1;
-        runs[usize::from(index)] = run_before(&cells[usize::from(index)], &runs, index);
+        runs[usize::from(index)] = run_before(&read_cell(rom, from + index), &runs, index);
     }
     runs
 }

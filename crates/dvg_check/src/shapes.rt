@@ -11,11 +11,11 @@ ghost use Rattle.dvg_check.specs.Rules.{AtLast, AsClaimed, ShapeKeeps, GoodShape
 ghost use Rattle.dvg_check.specs.FirstFault.{shape_number, ShapeFaultAt, FirstShapeFault};
 ghost use Rattle.dvg_check.specs.Private.Running.{IsNearPlace, IsNearExtent, IsClaim, IsSomeCertificate, EachKept, shape_rules, ShapeBrokenFirst};
 
-use crate::cells::{ROM_END, RomCells, read_cells};
+use crate::cells::{ROM_END, RomCells};
 use crate::fault::{Mode, ShapeFault, ShapeWhy};
 use crate::item::{Item, Kind, next_place};
 use crate::known::{LitExtent, Seen, depth_under, shift, target};
-use crate::run::runs_in;
+use crate::run::runs_from;
 use crate::rules::{Rules, has_callee, lit_on_screen, place_known, scale_known};
 use crate::walk::walk;
 use dvg_cert::{Cert, End, Entries, Entry, Key, LitBox};
@@ -254,8 +254,7 @@ pub fn check_shapes<E: Entries>(rom: &RomImage, cert: &Cert, entries: &E) -> Res
     ensures err { IfErr result (FirstShapeFault Bound screen rom.now cert.now) }
 {
     let from = first_shape(cert);
-    let cells = read_cells(rom, from);
-    let runs = runs_in(&cells);
-    let rom_cells = RomCells::new(rom, from, &cells, &runs);
-    check_shapes_in(Mode::Bound, &rom_cells, cert, entries)
+    let runs = runs_from(rom, from);
+    let cells = RomCells::new(rom, from, &runs);
+    check_shapes_in(Mode::Bound, &cells, cert, entries)
 }

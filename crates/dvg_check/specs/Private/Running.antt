@@ -1,10 +1,8 @@
 -- What the code keeps while it goes over items: no rule stands here. What is known after an item, by what is known before
 -- it; what stands below all sums, so that none leaves 64 bits; and the order in which the code tests rules.
-use Rattle.std.specs.Prelude.{◌≡◌, ℕ, ◌+◌, ◌*◌, ◌<◌, ◌≤◌, max, List, [], ◌∷◌, take, Option, Some, None, unwrap_or, pos, neg_ℤ, ◌≤ℤ◌}
+use Rattle.std.specs.Prelude.{◌≡◌, ℕ, ◌+◌, ◌*◌, ◌<◌, ◌≤◌, max, List, [], ◌∷◌, take, Option, None, unwrap_or, pos, neg_ℤ, ◌≤ℤ◌}
 use Rattle.dvg_words.specs.declared.instruction.Cell.TheVariants.{Holds}
-use Rattle.dvg_words.specs.declared.instruction.Cell.{Cell}
-use Rattle.dvg_words.specs.Decoding.{word_count, cell_at, CellFits}
-use Rattle.dvg_words.specs.Memory.{Rom, rom_word}
+use Rattle.dvg_words.specs.Decoding.{word_count, cell_at}
 use Rattle.dvg_words.specs.declared.beam.Point.{Point}
 use Rattle.dvg_cert.specs.Entry.{IsKey, IsEnd, IsBox}
 use Rattle.dvg_cert.specs.Order.{IsCertificate}

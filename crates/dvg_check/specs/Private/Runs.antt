@@ -1,23 +1,20 @@
 -- What the code says of draws that stand one after another, and judges at once. No rule stands here.
-use Rattle.std.specs.Prelude.{◌≡◌, ℕ, zero, suc, ◌+◌, ◌*◌, ◌^◌, ◌<◌, ◌≤◌, List, [], ◌∷◌, length, Option, Some, None, slice_get, ◌⊎◌, ℤ, pos, neg_ℤ, ◌+ℤ◌, ◌*ℤ◌, ◌≤ℤ◌}
+use Rattle.std.specs.Prelude.{◌≡◌, ℕ, zero, suc, ◌+◌, ◌*◌, ◌^◌, ◌<◌, ◌≤◌, List, [], ◌∷◌, Option, Some, None, slice_get, pos, neg_ℤ, ◌+ℤ◌, ◌*ℤ◌, ◌≤ℤ◌}
 use Rattle.dvg_words.specs.Values.{DrawFields}
 use Rattle.dvg_words.specs.declared.instruction.Instr.TheVariants.{Draw as Draws}
 use Rattle.dvg_words.specs.declared.instruction.Format.{Format}
-use Rattle.dvg_words.specs.declared.instruction.Cell.{Cell}
-use Rattle.dvg_words.specs.declared.instruction.Cell.TheVariants.{Missing, Holds}
+use Rattle.dvg_words.specs.declared.instruction.Cell.TheVariants.{Holds}
 use Rattle.dvg_words.specs.Memory.{Rom, rom_word}
-use Rattle.dvg_words.specs.Decoding.{word_count, cell_at, CellFits}
+use Rattle.dvg_words.specs.Decoding.{word_count, cell_at}
 use Rattle.dvg_words.specs.declared.beam.Point.{Point}
-use Rattle.dvg_words.specs.Beam.{origin, shift, displacement}
+use Rattle.dvg_words.specs.Beam.{origin, shift}
 use Rattle.dvg_cert.specs.declared.entry.LitBox.{LitBox}
 use Rattle.dvg_cert.specs.declared.entry.LitBox.TheVariants.{Empty, Span}
-use Rattle.dvg_cert.specs.declared.entry.Key.TheVariants.{At}
 use Rattle.dvg_cert.specs.declared.entry.End.{End}
 use Rattle.dvg_cert.specs.declared.entry.End.TheVariants.{Rel, Abs, Lost}
-use Rattle.dvg_cert.specs.declared.entry.Entry.{Entry}
 use Rattle.dvg_check.specs.Items.{Item}
-use Rattle.dvg_check.specs.Known.{Known, Effect, Moves}
-use Rattle.dvg_check.specs.Lit.{LitExtent, Nothing, Between, Anywhere, box_extent, InSpan, InBox}
+use Rattle.dvg_check.specs.Known.{Known, Moves}
+use Rattle.dvg_check.specs.Lit.{LitExtent, Nothing, Between, Anywhere, InSpan, InBox}
 use Rattle.dvg_check.specs.Rules.{Seen}
 use Rattle.dvg_check.specs.Private.Running.{place_past, sight_with, IsSound}
 pub use Rattle.dvg_check.specs.declared.run.Run.{Run}
@@ -103,7 +100,7 @@ pub record IsRun (word : ℕ → Option ℕ) (at : ℕ) (run : Run) : Type 0 whe
   pub sized : IsSized run
   pub stands : Stands word at run
 
--- ---- the runs from each cell on
+-- ---- the runs from each place on
 
 pub record IsFew (index : ℕ) (run : Run) : Type 0 where
   pub few : run.words + index ≤ 1025
@@ -112,21 +109,10 @@ pub record IsFew (index : ℕ) (run : Run) : Type 0 where
 abbrev pub AreFew : List Run → Type 0
 AreFew runs = (k : ℕ) (run : Run) → slice_get runs k ≡ Some run → IsFew k run
 
-abbrev pub AllRead : (ℕ → Option ℕ) → ℕ → List Cell → Type 0
-AllRead word from cells = (k : ℕ) (cell : Cell) → slice_get cells k ≡ Some cell → (cell ≡ Missing) ⊎ (cell_at word (from + k) ≡ cell)
-
 abbrev pub AllStand : (ℕ → Option ℕ) → ℕ → List Run → Type 0
 AllStand word from runs = (k : ℕ) (run : Run) → slice_get runs k ≡ Some run → Stands word (from + k) run
 
--- these are the cells of a ROM from a word address on
-pub record AreCellsFrom (rom : Rom) (from : ℕ) (cells : List Cell) : Type 0 where
-  pub long : length cells ≡ 1024
-  pub from_low : 2048 ≤ from
-  pub all : AllRead (rom_word rom) from cells
-  pub read : (k : ℕ) → from + k < 3072 → slice_get cells k ≡ Some (cell_at (rom_word rom) (from + k))
-  pub fits : (k : ℕ) → from + k < 3072 → CellFits (cell_at (rom_word rom) (from + k))
-
--- and the runs from each place of it on
+-- the runs from each place of a ROM on
 pub record AreRunsFrom (rom : Rom) (from : ℕ) (runs : List Run) : Type 0 where
   pub from_low : from ≤ 3072
   pub few : AreFew runs
