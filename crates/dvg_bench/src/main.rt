@@ -2,9 +2,10 @@
 //!
 //!     dvg_bench read ENTRIES TIMES
 //!     dvg_bench draws ENTRIES TIMES
+//!     dvg_bench unscaled ENTRIES TIMES
 //!     dvg_bench calls ENTRIES TIMES
 //!
-//! `read` reads the text of so many entries, `draws` and `calls` check as many shapes. Two runs that differ in their times
+//! `read` reads the text of so many entries, the others check as many shapes. Two runs that differ in their times
 //! alone differ by the cost of reading or checking.
 #![tactic(auto)]
 
@@ -18,7 +19,9 @@ use std::env;
 
 fn main(rt: HostRuntime) -> Result<()> {
     let mut words = env::args(&rt)?.skip(1);
-    let input = words.next().context("read, draws or calls is missing")?;
+    let input = words
+        .next()
+        .context("read, draws, unscaled or calls is missing")?;
     let count: u16 = words.next().context("ENTRIES is missing")?.parse()?;
     let times: u32 = words.next().context("TIMES is missing")?.parse()?;
     let filling = match input.as_str() {
@@ -28,8 +31,9 @@ fn main(rt: HostRuntime) -> Result<()> {
             return Ok(());
         }
         "draws" => Filling::Draws,
+        "unscaled" => Filling::Unscaled,
         "calls" => Filling::Calls,
-        _ => bail!("the input is read, draws or calls"),
+        _ => bail!("the input is read, draws, unscaled or calls"),
     };
     let items = check_entries(rt.alloc(), filling, count, times)?;
     println!(rt; "{count} shapes of {items} items, checked {times} times")?;

@@ -1,4 +1,4 @@
-//! A ROM full of lit draws, or of calls, with four entries for each of its last words.
+//! A ROM full of draws, or of calls, with entries for its last words.
 
 ghost use Rattle.std.specs.Prelude.{◌<◌, ◌≤◌, ◌+◌, ◌*◌, ℤ, pos, neg_ℤ, ◌≤ℤ◌};
 
@@ -8,10 +8,12 @@ use dvg_check::check_shapes;
 use dvg_words::RomImage;
 use std::alloc::{AllocError, Global};
 
-/// What the ROM is full of: strokes to and fro, one to each item, or calls of the last word, fifteen before each RTSL.
+/// What the ROM is full of: lit strokes to and fro, with entries for four global scales; dark ones, with entries for `any`;
+/// or calls of the last word, fifteen before each RTSL, with entries for four global scales.
 #[derive(Clone, Copy, Debug, PartialEq, Eq)]
 pub enum Filling {
     Draws,
+    Unscaled,
     Calls,
 }
 
@@ -27,12 +29,16 @@ const FORTH: u16 = 0xF071;
 /// SVEC by -1, 0 at scale code 0, intensity 7.
 const BACK: u16 = 0xF075;
 
+/// SVEC by 1, 0 at scale code 0, intensity 0.
+const DARK: u16 = 0xF001;
+
 const CALL_LAST: u16 = 0xC000 + LAST;
 
 fn word_at(filling: Filling, addr: u16) -> u16 {
     match filling {
         _ if addr == LAST => RTSL,
         Filling::Draws => if addr % 2 == 0 { FORTH } else { BACK },
+        Filling::Unscaled => DARK,
         Filling::Calls => if addr % 16 == 15 { RTSL } else { CALL_LAST },
     }
 }
@@ -51,7 +57,7 @@ fn items_before_end(filling: Filling, addr: u16) -> u16
     ensures { result ≤ 3071 }
 {
     match filling {
-        Filling::Draws => LAST - addr,
+        Filling::Draws | Filling::Unscaled => LAST - addr,
         Filling::Calls => 15 - addr % 16,
     }
 }
@@ -82,6 +88,26 @@ fn draws_entry(addr: u16, gscale: u8) -> Entry
     }
 }
 
+/// The entry for `any` of the shape of dark draws at an address: a draw at unknown scale loses the place.
+fn unscaled_entry(addr: u16) -> Entry
+    requires { addr ≤ 3071 }
+{
+    let items = items_before_end(Filling::Unscaled, addr);
+    Entry {
+        addr,
+        key: Key::Any,
+        stop: if items == 0 {
+            End::Rel { x: 0, y: 0 }
+        } else {
+            End::Lost
+        },
+        lit: LitBox::Empty,
+        depth: 0,
+        words: u32::from(items) + 1,
+        scale: Key::Any,
+    }
+}
+
 /// The entry of the shape of calls at an address: each call has two words, the last word's among them.
 fn calls_entry(addr: u16, gscale: u8) -> Entry
     requires addr { addr ≤ 3071 }
@@ -99,15 +125,30 @@ fn calls_entry(addr: u16, gscale: u8) -> Entry
     }
 }
 
-/// The entries of the ROM's last words, for the global scales 0 to 3.
-fn entries_of(alloc: Global, filling: Filling, count: u16) -> Result<Vec<Entry>, AllocError>
-    requires { count ≤ 4096 }
+/// How many entries each word of the ROM has.
+fn keys(filling: Filling) -> u16
+    ensures some { 1 ≤ result }
+    ensures few { result ≤ 4 }
 {
+    match filling {
+        Filling::Draws | Filling::Calls => 4,
+        Filling::Unscaled => 1,
+    }
+}
+
+/// The last entries of the ROM's words, so many.
+fn entries_of(alloc: Global, filling: Filling, count: u16) -> Result<Vec<Entry>> {
+    let keys = keys(filling);
+    let all = 1024 * keys;
+    if count > all {
+        bail!("the ROM has fewer entries");
+    }
     let mut entries = Vec::new(alloc);
-    for index in 4096 - count..4096 {
-        let (addr, gscale) = (FIRST + index / 4, (index % 4) as u8);
+    for index in all - count..all {
+        let (addr, gscale) = (FIRST + index / keys, (index % keys) as u8);
         entries.push(match filling {
             Filling::Draws => draws_entry(addr, gscale),
+            Filling::Unscaled => unscaled_entry(addr),
             Filling::Calls => calls_entry(addr, gscale),
         })?;
     }
@@ -116,9 +157,6 @@ fn entries_of(alloc: Global, filling: Filling, count: u16) -> Result<Vec<Entry>,
 
 /// Checks the shapes of so many entries so many times, and gives how many items they have together.
 pub fn check_entries(alloc: Global, filling: Filling, count: u16, times: u32) -> Result<u64> {
-    if count > 4096 {
-        bail!("a certificate has 4096 entries at the most");
-    }
     let bytes = rom_bytes(alloc, filling)?;
     let Ok(rom) = RomImage::from_bytes(&bytes) else {
         bail!("these are not the bytes of a ROM");
