@@ -8,7 +8,7 @@ use Rattle.dvg_check.proofs.Sizes.{IsNear-multiplied}
 use Rattle.dvg_check.proofs.run.run_extent.Goals as goal
 
 -- a corner that was multiplied
-near_corner : (p q : Point) (k : ℕ) → IsSize 1025 p → k ≤ 1024 → q ≡ multiplied p k → IsNear 1 q
+near_corner : (p q : Point) (k : ℕ) → IsSize 536870400 p → k ≤ 1024 → q ≡ multiplied p k → IsNear 1 q
 near_corner p q k h le is = subst (IsNear 1) (sym is) (IsNear-multiplied p k h le)
 
 pub returns-in-Span-clause-near : goal.returns-in-Span-clause-near
