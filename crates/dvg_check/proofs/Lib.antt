@@ -7,6 +7,7 @@ pub mod Faults
 pub mod Passing
 pub mod Table
 pub mod Near
+pub mod Scaling
 pub mod Sizes
 pub mod Reaches
 pub mod Loop

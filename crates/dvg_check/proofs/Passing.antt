@@ -1,11 +1,9 @@
 -- What is judged as one: each draw in it keeps all rules where the whole does.
-use Rattle.std.proofs.Common.{arith, List, false, Option, None, Some, refl, sym, ap, subst, suc, zero, pos, max, ◌≡◌, ◌+◌, ◌*◌, ◌^◌, ◌<◌, ◌≤◌, ◌∷◌, ◌∙◌, ℕ, ℤ, ◌+ℤ◌, ◌*ℤ◌, ◌≤ℤ◌, ◌%◌, []}
-use Rattle.std.proofs.Math.IntN.{*ℤ_comm, suc_ℤ-*ℤ, *ℤ-zero, zero-*ℤ}
+use Rattle.std.proofs.Common.{arith, List, false, Option, None, Some, refl, sym, ap, subst, suc, zero, pos, max, ⊎_elim, ◌≡◌, ◌+◌, ◌-◌, ◌*◌, ◌^◌, ◌<◌, ◌≤◌, ◌∷◌, ◌∙◌, ℕ, ℤ, ◌+ℤ◌, ◌*ℤ◌, ◌%◌, []}
+use Rattle.std.proofs.lemmas.Bool.{cases_lt}
 use Rattle.std.proofs.lemmas.Bool.Decides.{nat_tests}
 use Rattle.std.proofs.lemmas.Int.{ints}
 use Rattle.std.proofs.lemmas.Nat.{pow-add}
-use Rattle.std.proofs.Math.Nat.{mul-suc}
-use Rattle.std.proofs.Math.Pow.{pow_mono}
 use Rattle.std.specs.Prelude.{IfNone}
 use Rattle.std.specs.Option.{is_some}
 use Rattle.dvg_words.specs.Beam.{displacement, factor, origin, shift}
@@ -24,7 +22,7 @@ use Rattle.dvg_check.specs.Items.{Shape, Frame, next_place}
 use Rattle.dvg_check.specs.Known.{place_moved_by, target, depth_under}
 use Rattle.dvg_check.specs.Lit.{LitExtent, Nothing, Between, Anywhere, PlaceKnown, ScaleKnown, LitInWindow, InSpan, LitInBox, draw_extent}
 use Rattle.dvg_check.specs.Private.Running.{EachKept, IsNearPlace, IsSound, shape_rules, frame_rules, sight_with}
-use Rattle.dvg_check.specs.Private.Runs.{Run, Stroke, Follow, NoneHigher, EndsIn, LitIn, LiesIn, IsPart, IsFactor, IsRun, Tells, PassesTo, KeepsOver, count, multiplied, run_extent, run_sight, size, total}
+use Rattle.dvg_check.specs.Private.Runs.{Run, Stroke, Follow, ScalesWithin, EndsIn, LitIn, LiesIn, IsPart, IsFactor, IsRun, Tells, PassesTo, KeepsOver, count, multiplied, run_extent, run_sight, size, total}
 use Rattle.dvg_check.specs.Rules.{AtLast, AsClaimed, HasCallee, IsForward, Mode, ShapeKeeps, FrameKeeps}
 use Rattle.dvg_check.specs.declared.fault.FrameWhy.{FrameWhy}
 use Rattle.dvg_check.specs.declared.fault.FrameWhy.TheVariants as frame
@@ -35,6 +33,7 @@ use Rattle.dvg_check.specs.declared.known.Known.{Known}
 use Rattle.dvg_check.specs.declared.known.Seen.{Seen}
 use Rattle.dvg_check.proofs.Steps.{point_is, shift_shift, shift_origin, origin_shift}
 use Rattle.dvg_check.proofs.Near.{IsNearPlace-more}
+use Rattle.dvg_check.proofs.Scaling.{times_add, times_mono, times_times, multiplied_origin, multiplied_shift}
 
 -- ---- the rules of a part
 
@@ -119,47 +118,41 @@ frame_part w budget whole part h p frame.OffScreen = window_part w part.extent w
 frame_part w budget whole part h p frame.NoEntry = subst (λ (x : Instr). HasCallee (target Frame x) part.callee) (sym p.draws) tt
 frame_part w budget whole part h p frame.Budget = let le : whole.after.words ≤ budget = h.1.1.1.1.1.1.1.1.0 in omega (arith, le, p.few)
 
--- ---- multiplying
-
-times_suc : (m : ℤ) (n : ℕ) → m *ℤ pos (suc n) ≡ m *ℤ pos n +ℤ m
-times_suc m n = *ℤ_comm m (pos (suc n)) ∙ suc_ℤ-*ℤ (pos n) m ∙ ap (λ (x : ℤ). x +ℤ m) (*ℤ_comm (pos n) m)
-
-times_add : (a b : ℤ) (n : ℕ) → (a +ℤ b) *ℤ pos n ≡ a *ℤ pos n +ℤ b *ℤ pos n
-times_add a b zero = let z = *ℤ-zero a in let y = *ℤ-zero b in let x = *ℤ-zero (a +ℤ b) in omega (arith, ints, x, y, z)
-times_add a b (suc n) = let h = times_add a b n in let z = times_suc a n in let y = times_suc b n in let x = times_suc (a +ℤ b) n in omega (arith, ints, x, y, z, h)
-
-times_mono : (a b : ℤ) (n : ℕ) → a ≤ℤ b → (a *ℤ pos n) ≤ℤ (b *ℤ pos n)
-times_mono a b zero le = let z = *ℤ-zero a in let y = *ℤ-zero b in omega (arith, ints, y, z)
-times_mono a b (suc n) le = let h = times_mono a b n le in let z = times_suc a n in let y = times_suc b n in omega (arith, ints, y, z, h, le)
-
-times_sum : (a : ℤ) (m n : ℕ) → a *ℤ pos (m + n) ≡ a *ℤ pos m +ℤ a *ℤ pos n
-times_sum a m zero = let z = *ℤ-zero a in let e : m + 0 ≡ m = omega arith in let f = ap (λ (x : ℕ). a *ℤ pos x) e in omega (arith, ints, z, f)
-times_sum a m (suc n) = let h = times_sum a m n in let z = times_suc a n in let y = times_suc a (m + n) in let e : m + suc n ≡ suc (m + n) = omega arith in let f = ap (λ (x : ℕ). a *ℤ pos x) e in omega (arith, ints, y, z, h, f)
-
-times_times : (a : ℤ) (m n : ℕ) → a *ℤ pos m *ℤ pos n ≡ a *ℤ pos (m * n)
-times_times a m zero = let z = *ℤ-zero (a *ℤ pos m) in let y = *ℤ-zero a in let e : m * 0 ≡ 0 = omega arith in let f = ap (λ (x : ℕ). a *ℤ pos x) e in omega (arith, ints, y, z, f)
-times_times a m (suc n) = let h = times_times a m n in let z = times_suc (a *ℤ pos m) n in let y = times_sum a (m * n) m in let f = ap (λ (x : ℕ). a *ℤ pos x) (mul-suc m n) in omega (arith, ints, y, z, h, f)
-
 -- ---- a run, draw by draw
 
--- a global scale that is no more than 9 with each local scale multiplies sizes by one number
-grows : (l g highest f : ℕ) → l ≤ highest → IsFactor highest g f → factor l g ≡ 2 ^ l * f
-grows l g highest f le is =
-    let low : l + g ≤ 9 = omega (arith, le, is.0) in
-    let small : (l + g) % 16 ≡ l + g = grind arith in
-    let nine : factor l g ≡ 2 ^ (l + g + 1) = grind (arith, nat_tests) in
-    nine ∙ ap (λ (x : ℕ). 2 ^ x) (omega arith) ∙ pow-add 2 l (g + 1) ∙ ap (λ (x : ℕ). 2 ^ l * x) (sym is.1)
+-- a factor, by the power of two that it is
+factor_power : (l g p : ℕ) → (l + g + 1) % 16 ≡ p → p ≤ 10 → factor l g ≡ 2 ^ p
+factor_power l g zero is le = let last : (l + g) % 16 ≡ 15 = omega (arith, is) in grind (arith, nat_tests, last)
+factor_power l g (suc n) is le =
+    let below : (l + g) % 16 ≡ n = omega (arith, is) in
+    let e : suc n ≡ n + 1 = omega arith in
+    rw e (grind (arith, nat_tests, below))
 
-drawn : (d : DrawFields) (g highest f : ℕ) → d.lscale ≤ highest → IsFactor highest g f → displacement d g ≡ multiplied (size d) f
+grows : (lowest highest g f l : ℕ) → f ≡ factor lowest g → highest - lowest ≤ 10 - (lowest + g + 1) % 16 → lowest ≤ l → l ≤ highest → factor l g ≡ 2 ^ (l - lowest) * f
+grows lowest highest g f l is le low high =
+    let p : ℕ = (lowest + g + 1) % 16 in
+    ⊎_elim
+    (λ (lt : p < 11).
+    let here : f ≡ 2 ^ p = is ∙ factor_power lowest g p refl (omega (arith, lt)) in
+    factor_power l g (l - lowest + p) (omega (arith, lt, le, low, high)) (omega (arith, lt, le, low, high)) ∙ pow-add 2 (l - lowest) p ∙ ap (λ (x : ℕ). 2 ^ (l - lowest) * x) (sym here))
+    (λ (ge : 11 ≤ p).
+    let same : l ≡ lowest = omega (arith, ge, le, low, high) in
+    let none : l - lowest ≡ 0 = omega (arith, same) in
+    let once : 2 ^ (l - lowest) * f ≡ f = rw none (omega arith) in
+    ap (λ (x : ℕ). factor x g) same ∙ sym is ∙ sym once)
+    (cases_lt p 11)
+
+-- up to the power 10, each higher local scale doubles the factor
+pub is_factor : (lowest highest g f : ℕ) → f ≡ factor lowest g → f ≤ 1024 → highest - lowest ≤ 10 - (lowest + g + 1) % 16 → IsFactor lowest highest g f
+is_factor lowest highest g f is small le = record { small = small; grows = λ l low high. grows lowest highest g f l is le low high }
+
+drawn : (d : DrawFields) (g lowest highest f : ℕ) → lowest ≤ d.lscale → d.lscale ≤ highest → IsFactor lowest highest g f → displacement d g ≡ multiplied (size lowest d) f
 unfolding displacement
-drawn d g highest f le is =
-    let e = grows d.lscale g highest f le is in
+drawn d g lowest highest f low high is =
+    let e = is.grows d.lscale low high in
     point_is _ _
-    (ap (λ (x : ℕ). d.dx *ℤ pos x) e ∙ sym (times_times d.dx (2 ^ d.lscale) f))
-    (ap (λ (x : ℕ). d.dy *ℤ pos x) e ∙ sym (times_times d.dy (2 ^ d.lscale) f))
-
-multiplied_shift : (p d : Point) (f : ℕ) → multiplied (shift p d) f ≡ shift (multiplied p f) (multiplied d f)
-multiplied_shift p d f = point_is _ _ (times_add p.x d.x f) (times_add p.y d.y f)
+    (ap (λ (x : ℕ). d.dx *ℤ pos x) e ∙ sym (times_times d.dx (2 ^ (d.lscale - lowest)) f))
+    (ap (λ (x : ℕ). d.dy *ℤ pos x) e ∙ sym (times_times d.dy (2 ^ (d.lscale - lowest)) f))
 
 moved_on : (place : End) (p d : Point) → place_moved_by (place_moved_by place p) d ≡ place_moved_by place (shift p d)
 moved_on (Rel x y) p d = λ i. let e = shift_shift (record { x = x; y = y }) p d i in Rel e.x e.y
@@ -196,12 +189,9 @@ lies (Span left right bottom top) (Abs x y) n f o d e is h =
     )
 lies (Span left right bottom top) Lost n f o d e is h = tt
 
-lies_drawn : (box : LitBox) (place : End) (g highest f : ℕ) (o : Point) (d : DrawFields) → d.lscale ≤ highest → IsFactor highest g f → (bright : ℕ) → EndsIn box bright o (size d) → LiesIn (draw_extent bright d (At g)) (place_moved_by place (multiplied o f)) (run_extent box f) place
-lies_drawn box place g highest f o d le is zero h = tt
-lies_drawn box place g highest f o d le is (suc n) h = lies box place n f o (size d) (displacement d g) (drawn d g highest f le is) h
-
-multiplied_origin : (f : ℕ) → multiplied origin f ≡ origin
-multiplied_origin f = point_is _ _ (zero-*ℤ (pos f)) (zero-*ℤ (pos f))
+lies_drawn : (box : LitBox) (place : End) (g lowest highest f : ℕ) (o : Point) (d : DrawFields) → lowest ≤ d.lscale → d.lscale ≤ highest → IsFactor lowest highest g f → (bright : ℕ) → EndsIn box bright o (size lowest d) → LiesIn (draw_extent bright d (At g)) (place_moved_by place (multiplied o f)) (run_extent box f) place
+lies_drawn box place g lowest highest f o d low high is zero h = tt
+lies_drawn box place g lowest highest f o d low high is (suc n) h = lies box place n f o (size lowest d) (displacement d g) (drawn d g lowest highest f low high is) h
 
 moved_nowhere : (place : End) → place_moved_by place origin ≡ place
 moved_nowhere (Rel x y) = λ i. let e = shift_origin (record { x = x; y = y }) i in Rel e.x e.y
@@ -226,31 +216,31 @@ module _ (Why : Type 0) (Keeps : Seen → Why → Type 0) (word : ℕ → Option
   item p s = record { at = p; format = s.format; instr = Draws s.draw }
 
   -- one draw further
-  step : (p : ℕ) (s : Stroke) (o : Point) (n : ℕ) → s.draw.lscale ≤ run.highest → IsFactor run.highest g f → (sight_with None (at_offset o n) (item p s)).after ≡ at_offset (shift o (size s.draw)) (n + word_count s.format)
-  step p s o n le is =
-      let moves : place_moved_by (place_moved_by place (multiplied o f)) (displacement s.draw g) ≡ place_moved_by place (multiplied (shift o (size s.draw)) f) =
-      ap (place_moved_by (place_moved_by place (multiplied o f))) (drawn s.draw g run.highest f le is) ∙ moved_on place (multiplied o f) (multiplied (size s.draw) f) ∙ ap (place_moved_by place) (sym (multiplied_shift o (size s.draw) f)) in
+  step : (p : ℕ) (s : Stroke) (o : Point) (n : ℕ) → run.lowest ≤ s.draw.lscale → s.draw.lscale ≤ run.highest → IsFactor run.lowest run.highest g f → (sight_with None (at_offset o n) (item p s)).after ≡ at_offset (shift o (size run.lowest s.draw)) (n + word_count s.format)
+  step p s o n low high is =
+      let moves : place_moved_by (place_moved_by place (multiplied o f)) (displacement s.draw g) ≡ place_moved_by place (multiplied (shift o (size run.lowest s.draw)) f) =
+      ap (place_moved_by (place_moved_by place (multiplied o f))) (drawn s.draw g run.lowest run.highest f low high is) ∙ moved_on place (multiplied o f) (multiplied (size run.lowest s.draw) f) ∙ ap (place_moved_by place) (sym (multiplied_shift o (size run.lowest s.draw) f)) in
       let counts : word_count s.format + 0 + (words + n) ≡ words + (n + word_count s.format) = omega arith in
       let deep : max 0 depth ≡ depth = max_zero depth in
       λ i. record { place = moves i; scale = At g; words = counts i; depth = deep i }
 
-  part : (p : ℕ) (s : Stroke) (o : Point) (n : ℕ) → s.draw.lscale ≤ run.highest → IsFactor run.highest g f → EndsIn run.lit s.draw.bright o (size s.draw) → n + word_count s.format ≤ run.words → IsPart (sight_with None (at_offset o n) (item p s)) (run_sight run f start first)
-  part p s o n le is ends few =
-      record { draw = s.draw; draws = refl; alone = refl; few = omega (arith, few); lit = lies_drawn run.lit place g run.highest f o s.draw le is s.draw.bright ends }
+  part : (p : ℕ) (s : Stroke) (o : Point) (n : ℕ) → run.lowest ≤ s.draw.lscale → s.draw.lscale ≤ run.highest → IsFactor run.lowest run.highest g f → EndsIn run.lit s.draw.bright o (size run.lowest s.draw) → n + word_count s.format ≤ run.words → IsPart (sight_with None (at_offset o n) (item p s)) (run_sight run f start first)
+  part p s o n low high is ends few =
+      record { draw = s.draw; draws = refl; alone = refl; few = omega (arith, few); lit = lies_drawn run.lit place g run.lowest run.highest f o s.draw low high is s.draw.bright ends }
 
-  pub over : (rest : List Stroke) (o : Point) (n p q : ℕ) → IsFactor run.highest g f → Follow word p rest q → NoneHigher run.highest rest → LitIn run.lit o rest → n + count rest ≡ run.words → ((v : Seen) → IsPart v (run_sight run f start first) → (why : Why) → Keeps v why) → KeepsOver Keeps word rest p (at_offset o n) q (at_offset (shift o (total rest)) (n + count rest))
-  over [] o n p q is follow high lit few keeps =
+  pub over : (rest : List Stroke) (o : Point) (n p q : ℕ) → IsFactor run.lowest run.highest g f → Follow word p rest q → ScalesWithin run.lowest run.highest rest → LitIn run.lit run.lowest o rest → n + count rest ≡ run.words → ((v : Seen) → IsPart v (run_sight run f start first) → (why : Why) → Keeps v why) → KeepsOver Keeps word rest p (at_offset o n) q (at_offset (shift o (total run.lowest rest)) (n + count rest))
+  over [] o n p q is follow scales lit few keeps =
       let same : shift o origin ≡ o = shift_origin o in
       let none : n + 0 ≡ n = omega arith in (follow, λ i. at_offset (sym same i) (sym none i))
-  over (s ∷ rest) o n p q is follow high lit few keeps =
-      let next = step p s o n high.0 is in
-      let on = over rest (shift o (size s.draw)) (n + word_count s.format) (p + word_count s.format) q is follow.1 high.1 lit.1 (omega (arith, few)) keeps in
-      let where_to : shift (shift o (size s.draw)) (total rest) ≡ shift o (total (s ∷ rest)) = shift_shift o (size s.draw) (total rest) in
+  over (s ∷ rest) o n p q is follow scales lit few keeps =
+      let next = step p s o n scales.0 scales.1 is in
+      let on = over rest (shift o (size run.lowest s.draw)) (n + word_count s.format) (p + word_count s.format) q is follow.1 scales.2 lit.1 (omega (arith, few)) keeps in
+      let where_to : shift (shift o (size run.lowest s.draw)) (total run.lowest rest) ≡ shift o (total run.lowest (s ∷ rest)) = shift_shift o (size run.lowest s.draw) (total run.lowest rest) in
       let counts : n + word_count s.format + count rest ≡ n + count (s ∷ rest) = omega arith in (
         follow.0,
-        keeps _ (part p s o n high.0 is lit.0 (omega (arith, few))),
-        subst (λ (k : Known). KeepsOver Keeps word rest (p + word_count s.format) k q (at_offset (shift o (total (s ∷ rest))) (n + count (s ∷ rest)))) (sym next)
-            (subst (λ (k : Known). KeepsOver Keeps word rest (p + word_count s.format) (at_offset (shift o (size s.draw)) (n + word_count s.format)) q k) (λ i. at_offset (where_to i) (counts i)) on),
+        keeps _ (part p s o n scales.0 scales.1 is lit.0 (omega (arith, few))),
+        subst (λ (k : Known). KeepsOver Keeps word rest (p + word_count s.format) k q (at_offset (shift o (total run.lowest (s ∷ rest))) (n + count (s ∷ rest)))) (sym next)
+            (subst (λ (k : Known). KeepsOver Keeps word rest (p + word_count s.format) (at_offset (shift o (size run.lowest s.draw)) (n + word_count s.format)) q k) (λ i. at_offset (where_to i) (counts i)) on),
       )
 
   begins : at_offset origin 0 ≡ start
@@ -259,16 +249,16 @@ module _ (Why : Type 0) (Keeps : Seen → Why → Type 0) (word : ℕ → Option
       let none : words + 0 ≡ words = omega arith in
       λ i. record { place = still i; scale = At g; words = none i; depth = depth }
 
-  ends : (strokes : List Stroke) → Tells strokes run → at_offset (shift origin (total strokes)) (0 + count strokes) ≡ (run_sight run f start first).after
+  ends : (strokes : List Stroke) → Tells strokes run → at_offset (shift origin (total run.lowest strokes)) (0 + count strokes) ≡ (run_sight run f start first).after
   ends strokes t =
-      let moves : shift origin (total strokes) ≡ run.by = origin_shift (total strokes) ∙ sym t.by in
+      let moves : shift origin (total run.lowest strokes) ≡ run.by = origin_shift (total run.lowest strokes) ∙ sym t.by in
       let counts : 0 + count strokes ≡ run.words = omega (arith, t.words) in
       λ i. at_offset (moves i) (counts i)
 
-  passes_here : (at : ℕ) → IsRun word at run → (run.words ≡ 0 → ⊥) → IsFactor run.highest g f → at < 4096 → IsSound at start → ((v : Seen) → IsPart v (run_sight run f start first) → (why : Why) → Keeps v why) → IsNearPlace (at + 1) (run_sight run f start first).after.place → (run_sight run f start first).after.words ≤ 1000000 → PassesTo Keeps word at start (at + run.words) (run_sight run f start first).after
+  passes_here : (at : ℕ) → IsRun word at run → (run.words ≡ 0 → ⊥) → IsFactor run.lowest run.highest g f → at < 4096 → IsSound at start → ((v : Seen) → IsPart v (run_sight run f start first) → (why : Why) → Keeps v why) → IsNearPlace (at + 1) (run_sight run f start first).after.place → (run_sight run f start first).after.words ≤ 1000000 → PassesTo Keeps word at start (at + run.words) (run_sight run f start first).after
   passes_here at r some is lt sound keeps near few =
       let more : 1 ≤ run.words = grind (arith, some) in
-      let over_all = over r.stands.strokes origin 0 at (at + run.words) is r.stands.follow r.stands.tells.highest r.stands.tells.lit (omega (arith, r.stands.tells.words)) keeps in
+      let over_all = over r.stands.strokes origin 0 at (at + run.words) is r.stands.follow r.stands.tells.scales r.stands.tells.lit (omega (arith, r.stands.tells.words)) keeps in
       record {
         strokes = r.stands.strokes;
         keeps_over = subst (λ (k : Known). KeepsOver Keeps word r.stands.strokes at k (at + run.words) (run_sight run f start first).after) begins (subst (KeepsOver Keeps word r.stands.strokes at (at_offset origin 0) (at + run.words)) (ends r.stands.strokes r.stands.tells) over_all);
@@ -278,7 +268,7 @@ module _ (Why : Type 0) (Keeps : Seen → Why → Type 0) (word : ℕ → Option
       }
 
 -- a run whose sight keeps all rules
-pub passes : (Why : Type 0) (Keeps : Seen → Why → Type 0) (word : ℕ → Option ℕ) (before : Known) (g f : ℕ) (run : Run) (first : Item) (seen : Seen) → before.scale ≡ At g → seen ≡ run_sight run f before first → IsRun word first.at run → (run.words ≡ 0 → ⊥) → IsFactor run.highest g f → first.at < 4096 → IsSound first.at before → ((v : Seen) → IsPart v seen → (why : Why) → Keeps v why) → IsNearPlace (first.at + 1) seen.after.place → seen.after.words ≤ 1000000 → PassesTo Keeps word first.at before (first.at + run.words) seen.after
+pub passes : (Why : Type 0) (Keeps : Seen → Why → Type 0) (word : ℕ → Option ℕ) (before : Known) (g f : ℕ) (run : Run) (first : Item) (seen : Seen) → before.scale ≡ At g → seen ≡ run_sight run f before first → IsRun word first.at run → (run.words ≡ 0 → ⊥) → IsFactor run.lowest run.highest g f → first.at < 4096 → IsSound first.at before → ((v : Seen) → IsPart v seen → (why : Why) → Keeps v why) → IsNearPlace (first.at + 1) seen.after.place → seen.after.words ≤ 1000000 → PassesTo Keeps word first.at before (first.at + run.words) seen.after
 passes Why Keeps word before g f run first seen scale is r some fits lt sound keeps near few =
     let start : Known = record { place = before.place; scale = At g; words = before.words; depth = before.depth } in
     let same : before ≡ start = λ i. record before { scale = scale i } in
@@ -290,6 +280,3 @@ passes Why Keeps word before g f run first seen scale is r some fits lt sound ke
     (subst (λ (v : Seen). (u : Seen) → IsPart u v → (why : Why) → Keeps u why) seen_is keeps)
     (subst (λ (v : Seen). IsNearPlace (first.at + 1) v.after.place) seen_is near)
     (subst (λ (v : Seen). v.after.words ≤ 1000000) seen_is few)))
-
-pub factor_small : (highest g f : ℕ) → IsFactor highest g f → f ≤ 1024
-factor_small highest g f is = let le = pow_mono {i = g + 1} {j = 10} (omega (arith, is.0)) in omega (arith, le, is.1)

@@ -43,17 +43,17 @@ found_at xs at index words x e inside is =
 
 -- no draws
 abbrev pub nothing : Run
-nothing = record { words = 0; highest = 0; by = origin; lit = Empty }
+nothing = record { words = 0; lowest = 9; highest = 0; by = origin; lit = Empty }
 
 pub nothing_few : (k : ℕ) → k < 1024 → IsFew k nothing
 nothing_few k lt =
     record {
       few = omega (arith, lt);
-      sized = record { by = record { left = omega (arith, ints); right = omega (arith, ints); down = omega (arith, ints); up = omega (arith, ints) }; lit = tt };
+      sized = record { lowest = omega arith; by = record { left = omega (arith, ints); right = omega (arith, ints); down = omega (arith, ints); up = omega (arith, ints) }; lit = tt };
     }
 
 pub nothing_stands : (word : ℕ → Option ℕ) (at : ℕ) → Stands word at nothing
-nothing_stands word at = record { strokes = []; tells = record { words = refl; highest = tt; by = refl; lit = tt }; follow = omega arith }
+nothing_stands word at = record { strokes = []; tells = record { words = refl; scales = tt; by = refl; lit = tt }; follow = omega arith }
 
 -- a draw that is read, before a run that stands past it
 pub stands_before : (word : ℕ → Option ℕ) (from index : ℕ) (cell : Cell) (format : Format) (draw : DrawFields) (first rest result : Run) → cell ≡ Holds format (Draws draw) → cell_at word (from + index) ≡ cell → first.words ≡ word_count format → result.words ≡ first.words + rest.words → Tells (record { format = format; draw = draw } ∷ []) first → ((s : Stroke) (strokes : List Stroke) → Tells (s ∷ []) first → Tells strokes rest → Tells (s ∷ strokes) result) → Stands word (from + (index + first.words)) rest → Stands word (from + index) result

@@ -4,20 +4,22 @@ ghost use Rattle.std.specs.Prelude.{◌≡◌, ◌≤◌, ◌<◌, ◌+◌, ◌�
 ghost use Rattle.dvg_words.specs.Decoding.{cell_at, word_count};
 ghost use Rattle.dvg_check.specs.Known.{Moves};
 ghost use Rattle.dvg_check.specs.Private.Running.{IsNear, IsNearExtent, IsNearPlace, IsSound};
-ghost use Rattle.dvg_check.specs.Private.Runs.{Stroke, Tells, IsRun, IsSize, IsSizeBox, IsSized, IsFew, AreFew, Stands, AllStand, AreRunsFrom, IsFactor, size, moved, multiplied, run_extent, run_sight};
+ghost use Rattle.dvg_check.specs.Private.Runs.{Stroke, Tells, IsRun, IsSize, IsSizeBox, IsSized, IsFew, AreFew, Stands, AllStand, AreRunsFrom, IsFactor, size, moved, multiplied, multiplied_box, run_extent, run_sight};
 
 use crate::boxes::{joined, spanning};
 use crate::cells::ROM_END;
 use crate::item::{Item, word_count};
 use crate::known::{Effect, Known, LitExtent, ORIGIN, Seen, place_past, shift};
 use dvg_cert::LitBox;
-use dvg_words::{Cell, Draw, Format, Instr, Point, RomImage, read_cell};
+use dvg_words::{Cell, Draw, Format, Instr, Point, RomImage, factor, read_cell};
 
-/// Draws that stand one after another: how many words they have, their highest local scale, and, in sizes at local
-/// scale 0, how far they move the beam and the least box of what they light, seen from the place before the first.
+/// Draws that stand one after another: how many words they have, their lowest and their highest local scale, and, in
+/// sizes at the lowest, how far they move the beam and the least box of what they light, seen from the place before the
+/// first.
 #[derive(Clone, Copy, Debug, PartialEq, Eq)]
 pub struct Run {
     pub words: u16,
+    pub lowest: u8,
     pub highest: u8,
     pub by: Point,
     pub lit: LitBox,
@@ -27,22 +29,22 @@ impl Run {
     /// No draws.
     pub const NONE: Run = Run {
         words: 0,
+        lowest: 9,
         highest: 0,
         by: ORIGIN,
         lit: LitBox::Empty,
     };
 }
 
-/// A draw's sizes, told at local scale 0.
+/// A draw's sizes, told at its own local scale.
 fn size(draw: &Draw) -> Point
-    ensures value { result ≡ size draw.now }
-    ensures near { IsSize 1 result }
+    ensures value { result ≡ size draw.now.lscale draw.now }
+    ensures near { IsSize 1023 result }
 {
-    let sizes = Point {
+    Point {
         x: i64::from(draw.dx),
         y: i64::from(draw.dy),
-    };
-    multiplied(&sizes, 1 << draw.lscale)
+    }
 }
 
 /// A draw, as a run of one.
@@ -54,6 +56,7 @@ fn run_of(format: Format, draw: &Draw) -> Run
     let by = size(draw);
     Run {
         words: word_count(format),
+        lowest: draw.lscale,
         highest: draw.lscale,
         by,
         lit: if draw.bright == 0 {
@@ -66,8 +69,8 @@ fn run_of(format: Format, draw: &Draw) -> Run
 
 /// A box, moved.
 fn moved(lit: &LitBox, by: &Point) -> LitBox
-    requires lit { IsSizeBox 1025 lit.now }
-    requires by { IsSize 1025 by.now }
+    requires lit { IsSizeBox 536870400 lit.now }
+    requires by { IsSize 536870400 by.now }
     ensures { result ≡ moved lit.now by.now }
 {
     match lit {
@@ -86,6 +89,69 @@ fn moved(lit: &LitBox, by: &Point) -> LitBox
     }
 }
 
+/// A size or a coordinate of sizes, multiplied.
+fn times(size: i64, factor: u32) -> i64
+    requires low { neg_ℤ (pos 536870912) ≤ℤ size }
+    requires high { size ≤ℤ pos 536870912 }
+    requires factor { factor ≤ 1024 }
+    ensures { result ≡ size *ℤ pos factor }
+{
+    size * i64::from(factor)
+}
+
+fn multiplied(p: &Point, factor: u32) -> Point
+    requires p { IsSize 536870400 p.now }
+    requires factor { factor ≤ 1024 }
+    ensures { result ≡ multiplied p.now factor }
+{
+    Point {
+        x: times(p.x, factor),
+        y: times(p.y, factor),
+    }
+}
+
+fn multiplied_box(lit: &LitBox, factor: u32) -> LitBox
+    requires lit { IsSizeBox 536870400 lit.now }
+    requires factor { factor ≤ 1024 }
+    ensures { result ≡ multiplied_box lit.now factor }
+{
+    match lit {
+        LitBox::Empty => LitBox::Empty,
+        LitBox::Span {
+            x_min,
+            x_max,
+            y_min,
+            y_max,
+        } => LitBox::Span {
+            x_min: times(*x_min, factor),
+            x_max: times(*x_max, factor),
+            y_min: times(*y_min, factor),
+            y_max: times(*y_max, factor),
+        },
+    }
+}
+
+/// A run, told in sizes at a local scale that is no higher than its lowest.
+fn at_lowest(run: &Run, lowest: u8) -> Run
+    requires few { run.now.words ≤ 1025 }
+    requires sized { IsSized run.now }
+    requires lower { lowest ≤ run.now.lowest }
+    ensures words { result.words ≡ run.now.words }
+    ensures lowest { result.lowest ≡ lowest }
+    ensures highest { result.highest ≡ run.now.highest }
+    ensures sized { IsSized result }
+    ensures tells { (strokes : List Stroke) → Tells strokes run.now → Tells strokes result }
+{
+    let factor = 1 << (run.lowest - lowest);
+    Run {
+        words: run.words,
+        lowest,
+        highest: run.highest,
+        by: multiplied(&run.by, factor),
+        lit: multiplied_box(&run.lit, factor),
+    }
+}
+
 /// A draw and the run that follows it, as one run.
 fn followed(first: &Run, rest: &Run) -> Run
     requires few { first.now.words + rest.now.words ≤ 1025 }
@@ -95,8 +161,12 @@ fn followed(first: &Run, rest: &Run) -> Run
     ensures sized { IsSized result }
     ensures tells { (s : Stroke) (strokes : List Stroke) → Tells (s ∷ []) first.now → Tells strokes rest.now → Tells (s ∷ strokes) result }
 {
+    let lowest = first.lowest.min(rest.lowest);
+    let first = at_lowest(first, lowest);
+    let rest = at_lowest(rest, lowest);
     Run {
         words: first.words + rest.words,
+        lowest,
         highest: first.highest.max(rest.highest),
         by: shift(&first.by, &rest.by),
         lit: joined(&first.lit, &moved(&rest.lit, &first.by)),
@@ -141,45 +211,27 @@ pub fn runs_from(rom: &RomImage, from: u16) -> [Run; 1024]
 
 /// What a global scale multiplies a run's sizes by, `None` where it doesn't multiply all of them alike.
 pub fn run_factor(run: &Run, gscale: u8) -> Option<u32>
-    requires { gscale ≤ 15 }
-    ensures { IfSome result (IsFactor run.now.highest gscale) }
+    requires lowest { run.now.lowest ≤ 9 }
+    requires gscale { gscale ≤ 15 }
+    ensures { IfSome result (IsFactor run.now.lowest run.now.highest gscale) }
 {
-    if u16::from(run.highest) + u16::from(gscale) <= 9 {
-        Some(2 << gscale)
+    // up to 10, the factor is 2 to this power, and each higher local scale doubles it; above 10, the factor is 1
+    let power = (run.lowest + gscale + 1) % 16;
+    if run.highest.saturating_sub(run.lowest) <= 10u8.saturating_sub(power) {
+        Some(u32::from(factor(run.lowest, gscale)))
     } else {
         None
     }
 }
 
-/// A size or a coordinate of sizes, multiplied.
-fn times(size: i64, factor: u32) -> i64
-    requires low { neg_ℤ (pos 536870912) ≤ℤ size }
-    requires high { size ≤ℤ pos 536870912 }
-    requires factor { factor ≤ 1024 }
-    ensures { result ≡ size *ℤ pos factor }
-{
-    size * i64::from(factor)
-}
-
-fn multiplied(p: &Point, factor: u32) -> Point
-    requires p { IsSize 1025 p.now }
-    requires factor { factor ≤ 1024 }
-    ensures { result ≡ multiplied p.now factor }
-{
-    Point {
-        x: times(p.x, factor),
-        y: times(p.y, factor),
-    }
-}
-
 /// What a run lights, seen from the place before it.
 fn run_extent(lit: &LitBox, factor: u32) -> LitExtent
-    requires lit { IsSizeBox 1025 lit.now }
+    requires lit { IsSizeBox 536870400 lit.now }
     requires factor { factor ≤ 1024 }
     ensures value { result ≡ run_extent lit.now factor }
     ensures near { IsNearExtent result }
 {
-    match lit {
+    match multiplied_box(lit, factor) {
         LitBox::Empty => LitExtent::Nothing,
         LitBox::Span {
             x_min,
@@ -187,20 +239,8 @@ fn run_extent(lit: &LitBox, factor: u32) -> LitExtent
             y_min,
             y_max,
         } => LitExtent::Between {
-            from: multiplied(
-                &Point {
-                    x: *x_min,
-                    y: *y_min,
-                },
-                factor,
-            ),
-            to: multiplied(
-                &Point {
-                    x: *x_max,
-                    y: *y_max,
-                },
-                factor,
-            ),
+            from: Point { x: x_min, y: y_min },
+            to: Point { x: x_max, y: y_max },
         },
     }
 }

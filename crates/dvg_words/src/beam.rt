@@ -12,12 +12,13 @@ pub struct Point {
     pub y: i64,
 }
 
-/// What a size is multiplied by.
-fn factor(local: u8, global: u8) -> i32
+/// What a size is multiplied by at a local scale of 0 to 9 and a global scale of 0 to 15, 1 to 1024: the product is in units
+/// of 1/1024 of a screen place (profile).
+pub fn factor(local: u8, global: u8) -> u16
     requires local { local ≤ 9 }
     requires global { global ≤ 15 }
-    ensures value { result ≡ pos (factor local global) }
-    ensures small { result ≤ℤ pos 1024 }
+    ensures value { result ≡ factor local global }
+    ensures small { result ≤ 1024 }
 {
     match (local + global) % 16 {
         scale @ 0..=9 => 2 << scale,
@@ -26,14 +27,13 @@ fn factor(local: u8, global: u8) -> i32
 }
 
 /// A size of a draw, multiplied by a factor.
-fn scaled(size: i16, factor: i32) -> i32
+fn scaled(size: i16, factor: u16) -> i32
     requires size_low { negsuc 1022 ≤ℤ size }
     requires size_high { size ≤ℤ pos 1023 }
-    requires factor_low { pos 0 ≤ℤ factor }
-    requires factor_high { factor ≤ℤ pos 1024 }
-    ensures { result ≡ size *ℤ factor }
+    requires factor { factor ≤ 1024 }
+    ensures { result ≡ size *ℤ pos factor }
 {
-    i32::from(size) * factor
+    i32::from(size) * i32::from(factor)
 }
 
 #[tactic(auto, unfolding(crate::specs::Beam::displacement))]

@@ -14,7 +14,7 @@ pub mod laws;
 #[cfg(test)]
 mod tests;
 
-pub use beam::{Point, displacement, on_screen};
+pub use beam::{Point, displacement, factor, on_screen};
 pub use decoding::{Fetch, decode, is_long, read_cell};
 pub use image::{FrameImage, ImageFault, RomImage};
 pub use instruction::{Cell, Draw, Format, Instr};

@@ -1,5 +1,5 @@
 -- What the code says of draws that stand one after another, and judges at once. No rule stands here.
-use Rattle.std.specs.Prelude.{◌≡◌, ℕ, zero, suc, ◌+◌, ◌*◌, ◌^◌, ◌<◌, ◌≤◌, List, [], ◌∷◌, Option, Some, None, slice_get, pos, neg_ℤ, ◌+ℤ◌, ◌*ℤ◌, ◌≤ℤ◌}
+use Rattle.std.specs.Prelude.{◌≡◌, ℕ, zero, suc, ◌+◌, ◌*◌, ◌^◌, ◌<◌, ◌≤◌, ◌-◌, List, [], ◌∷◌, Option, Some, None, slice_get, pos, neg_ℤ, ◌+ℤ◌, ◌*ℤ◌, ◌≤ℤ◌}
 use Rattle.dvg_words.specs.Values.{DrawFields}
 use Rattle.dvg_words.specs.declared.instruction.Instr.TheVariants.{Draw as Draws}
 use Rattle.dvg_words.specs.declared.instruction.Format.{Format}
@@ -7,7 +7,7 @@ use Rattle.dvg_words.specs.declared.instruction.Cell.TheVariants.{Holds}
 use Rattle.dvg_words.specs.Memory.{Rom, rom_word}
 use Rattle.dvg_words.specs.Decoding.{word_count, cell_at}
 use Rattle.dvg_words.specs.declared.beam.Point.{Point}
-use Rattle.dvg_words.specs.Beam.{origin, shift}
+use Rattle.dvg_words.specs.Beam.{origin, shift, factor}
 use Rattle.dvg_cert.specs.declared.entry.LitBox.{LitBox}
 use Rattle.dvg_cert.specs.declared.entry.LitBox.TheVariants.{Empty, Span}
 use Rattle.dvg_cert.specs.declared.entry.End.{End}
@@ -36,57 +36,67 @@ count (s ∷ rest) = word_count s.format + count rest
 abbrev pub multiplied : Point → ℕ → Point
 multiplied p factor = record { x = p.x *ℤ pos factor; y = p.y *ℤ pos factor }
 
--- a draw's sizes, told at local scale 0
-abbrev pub size : DrawFields → Point
-size d = multiplied (record { x = d.dx; y = d.dy }) (2 ^ d.lscale)
+abbrev pub multiplied_box : LitBox → ℕ → LitBox
+multiplied_box Empty factor = Empty
+multiplied_box (Span x_min x_max y_min y_max) factor = Span (x_min *ℤ pos factor) (x_max *ℤ pos factor) (y_min *ℤ pos factor) (y_max *ℤ pos factor)
 
-abbrev pub total : List Stroke → Point
-total [] = origin
-total (s ∷ rest) = shift (size s.draw) (total rest)
+-- a draw's sizes, told at a local scale that is no higher than its own
+abbrev pub size : ℕ → DrawFields → Point
+size base d = multiplied (record { x = d.dx; y = d.dy }) (2 ^ (d.lscale - base))
 
--- none of them has a higher local scale
-abbrev pub NoneHigher : ℕ → List Stroke → Type 0
-NoneHigher highest [] = Unit {0}
-NoneHigher highest (s ∷ rest) = (s.draw.lscale ≤ highest) × NoneHigher highest rest
+abbrev pub total : ℕ → List Stroke → Point
+total base [] = origin
+total base (s ∷ rest) = shift (size base s.draw) (total base rest)
+
+-- none of them has a lower or a higher local scale than these
+abbrev pub ScalesWithin : ℕ → ℕ → List Stroke → Type 0
+ScalesWithin lowest highest [] = Unit {0}
+ScalesWithin lowest highest (s ∷ rest) = (lowest ≤ s.draw.lscale) × (s.draw.lscale ≤ highest) × ScalesWithin lowest highest rest
 
 -- if it is lit, a move from this place has both ends in the box
 abbrev pub EndsIn : LitBox → ℕ → Point → Point → Type 0
 EndsIn box zero p d = Unit {0}
 EndsIn box (suc n) p d = InBox box p × InBox box (shift p d)
 
--- from this place on, what they light is in the box
-abbrev pub LitIn : LitBox → Point → List Stroke → Type 0
-LitIn box p [] = Unit {0}
-LitIn box p (s ∷ rest) = EndsIn box s.draw.bright p (size s.draw) × LitIn box (shift p (size s.draw)) rest
+-- from this place on, what they light is in the box, in sizes at this local scale
+abbrev pub LitIn : LitBox → ℕ → Point → List Stroke → Type 0
+LitIn box base p [] = Unit {0}
+LitIn box base p (s ∷ rest) = EndsIn box s.draw.bright p (size base s.draw) × LitIn box base (shift p (size base s.draw)) rest
 
 abbrev pub moved : LitBox → Point → LitBox
 moved Empty d = Empty
 moved (Span x_min x_max y_min y_max) d = Span (x_min +ℤ d.x) (x_max +ℤ d.x) (y_min +ℤ d.y) (y_max +ℤ d.y)
 
--- ---- sizes: each word adds 1023 times 512 at the most
+-- ---- sizes
 
-pub record IsSize (n : ℕ) (p : Point) : Type 0 where
-  pub left : neg_ℤ (pos (523776 * n)) ≤ℤ p.x
-  pub right : p.x ≤ℤ pos (523776 * n)
-  pub down : neg_ℤ (pos (523776 * n)) ≤ℤ p.y
-  pub up : p.y ≤ℤ pos (523776 * n)
+-- no coordinate is beyond this
+pub record IsSize (most : ℕ) (p : Point) : Type 0 where
+  pub left : neg_ℤ (pos most) ≤ℤ p.x
+  pub right : p.x ≤ℤ pos most
+  pub down : neg_ℤ (pos most) ≤ℤ p.y
+  pub up : p.y ≤ℤ pos most
 
 abbrev pub IsSizeBox : ℕ → LitBox → Type 0
-IsSizeBox n Empty = Unit {0}
-IsSizeBox n (Span x_min x_max y_min y_max) = IsSize n (record { x = x_min; y = y_min }) × IsSize n (record { x = x_max; y = y_max })
+IsSizeBox most Empty = Unit {0}
+IsSizeBox most (Span x_min x_max y_min y_max) = IsSize most (record { x = x_min; y = y_min }) × IsSize most (record { x = x_max; y = y_max })
+
+-- how far so many words reach at the most, each 1023 at local scale 9, in sizes at this local scale: 1025 words reach 536870400 at the most
+abbrev pub reach : ℕ → ℕ → ℕ
+reach lowest words = 1023 * 2 ^ (9 - lowest) * words
 
 -- ---- runs
 
 pub record IsSized (run : Run) : Type 0 where
-  pub by : IsSize run.words run.by
-  pub lit : IsSizeBox run.words run.lit
+  pub lowest : run.lowest ≤ 9
+  pub by : IsSize (reach run.lowest run.words) run.by
+  pub lit : IsSizeBox (reach run.lowest run.words) run.lit
 
 -- the run tells of these draws
 pub record Tells (strokes : List Stroke) (run : Run) : Type 0 where
   pub words : run.words ≡ count strokes
-  pub highest : NoneHigher run.highest strokes
-  pub by : run.by ≡ total strokes
-  pub lit : LitIn run.lit origin strokes
+  pub scales : ScalesWithin run.lowest run.highest strokes
+  pub by : run.by ≡ total run.lowest strokes
+  pub lit : LitIn run.lit run.lowest origin strokes
 
 -- and they stand from this place on
 pub record Stands (word : ℕ → Option ℕ) (at : ℕ) (run : Run) : Type 0 where
@@ -118,9 +128,10 @@ pub record AreRunsFrom (rom : Rom) (from : ℕ) (runs : List Run) : Type 0 where
   pub few : AreFew runs
   pub stand : AllStand (rom_word rom) from runs
 
--- what a global scale multiplies sizes at local scale 0 by
-abbrev pub IsFactor : ℕ → ℕ → ℕ → Type 0
-IsFactor highest gscale factor = (highest + gscale ≤ 9) × (factor ≡ 2 ^ (gscale + 1))
+-- what a global scale multiplies sizes at the lowest local scale by: each higher one doubles it, up to the highest
+pub record IsFactor (lowest highest gscale multiplier : ℕ) : Type 0 where
+  pub small : multiplier ≤ 1024
+  pub grows : (local : ℕ) → lowest ≤ local → local ≤ highest → factor local gscale ≡ 2 ^ (local - lowest) * multiplier
 
 abbrev pub run_extent : LitBox → ℕ → LitExtent
 run_extent Empty factor = Nothing

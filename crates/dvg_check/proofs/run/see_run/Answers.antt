@@ -1,16 +1,16 @@
 use Rattle.std.proofs.Common.{arith, sym, subst}
 use Rattle.dvg_check.specs.Private.Running.{IsNear}
 use Rattle.dvg_check.specs.Private.Runs.{IsSize}
-use Rattle.dvg_check.proofs.Sizes.{IsSize-more, IsSizeBox-more, IsNear-multiplied}
+use Rattle.dvg_check.proofs.Sizes.{within_most, box_within_most, IsNear-multiplied}
 use Rattle.dvg_check.proofs.run.see_run.Goals as goal
 
 pub multiplied-requires-clause-p : goal.multiplied-requires-clause-p
-multiplied-requires-clause-p c = IsSize-more c.args.run.now.words 1025 c.args.run.now.by (omega arith) c.requires.sized.by
+multiplied-requires-clause-p c = within_most c.args.run.now.lowest c.args.run.now.words c.args.run.now.by (omega arith) c.requires.sized.by
 
 pub run_extent-requires-clause-lit : goal.run_extent-requires-clause-lit
-run_extent-requires-clause-lit c = IsSizeBox-more c.args.run.now.words 1025 c.args.run.now.lit (omega arith) c.requires.sized.lit
+run_extent-requires-clause-lit c = box_within_most c.args.run.now.lowest c.args.run.now.words c.args.run.now.lit (omega arith) c.requires.sized.lit
 
 pub place_past-requires-clause-effect : goal.place_past-requires-clause-effect
 place_past-requires-clause-effect c =
-    let by : IsSize 1025 c.args.run.now.by = IsSize-more c.args.run.now.words 1025 c.args.run.now.by (omega arith) c.requires.sized.by in
+    let by : IsSize 536870400 c.args.run.now.by = within_most c.args.run.now.lowest c.args.run.now.words c.args.run.now.by (omega arith) c.requires.sized.by in
     subst (IsNear 1) (sym c.multiplied.ensures) (IsNear-multiplied c.args.run.now.by c.args.factor by c.requires.factor)

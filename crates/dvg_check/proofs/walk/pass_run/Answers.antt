@@ -2,11 +2,11 @@ use Rattle.std.proofs.Common.{arith, sym, subst}
 use Rattle.dvg_check.specs.Private.Running.{IsNearPlace}
 use Rattle.dvg_check.specs.declared.known.Seen.{Seen}
 use Rattle.dvg_check.proofs.Near.{IsNearPlace-more}
-use Rattle.dvg_check.proofs.Passing.{passes, factor_small, of_none}
+use Rattle.dvg_check.proofs.Passing.{passes, of_none}
 use Rattle.dvg_check.proofs.walk.pass_run.Goals as goal
 
 pub see_run-seen-requires-clause-factor : goal.see_run-seen-requires-clause-factor
-see_run-seen-requires-clause-factor g c = factor_small c.run-run.result.highest c.in-At.gscale c.in_ok-factor.factor c.in_ok-factor.ensures
+see_run-seen-requires-clause-factor g c = c.in_ok-factor.ensures.small
 
 pub first_broken-requires-clause-place : goal.first_broken-requires-clause-place
 first_broken-requires-clause-place g c =
