@@ -136,12 +136,12 @@ fn keys(filling: Filling) -> u16
     }
 }
 
-/// The last entries of the ROM's words, so many.
+/// So many entries, those of the ROM's last words.
 fn entries_of(alloc: Global, filling: Filling, count: u16) -> Result<Vec<Entry>> {
     let keys = keys(filling);
     let all = 1024 * keys;
     if count > all {
-        bail!("the ROM has fewer entries");
+        bail!("the ROM has 4096 entries at the most, unscaled 1024");
     }
     let mut entries = Vec::new(alloc);
     for index in all - count..all {

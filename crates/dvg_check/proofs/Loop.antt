@@ -14,7 +14,7 @@ use Rattle.dvg_cert.specs.declared.entry.Key.{Key}
 use Rattle.dvg_check.specs.FirstFault.{AllBefore, FaultAt}
 use Rattle.dvg_check.specs.Items.{place_after, next_place, LeadsTo}
 use Rattle.dvg_check.specs.Known.{Context, known_before}
-use Rattle.dvg_check.specs.Private.Runs.{Stroke, KeepsOver, PassesTo}
+use Rattle.dvg_check.specs.Private.Runs.{FormattedDraw, KeepsOver, PassesTo}
 use Rattle.dvg_check.specs.Private.Running.{IsSound, sight_by, sight_with, WalksTo, KeepsAll, BreaksFirst}
 use Rattle.dvg_check.specs.Rules.{PlaceKeeps, CellKeeps, sight}
 use Rattle.dvg_check.specs.declared.item.Item.{Item}
@@ -166,7 +166,7 @@ module _ (Why : Type 0) (order : Why → ℕ) (missing odd : Why) (Keeps : Seen 
 
   -- ---- over draws that were judged as one
 
-  over_draws : (strokes : List Stroke) (at : ℕ) (known : Known) (p : ℕ) (after : Known) (items : List Item) → LeadsTo kind word first items at → AllBefore keeps items → known ≡ known_before context items → KeepsOver Keeps word strokes at known p after → (on : List Item) × LeadsTo kind word first on p × AllBefore keeps on × (after ≡ known_before context on)
+  over_draws : (strokes : List FormattedDraw) (at : ℕ) (known : Known) (p : ℕ) (after : Known) (items : List Item) → LeadsTo kind word first items at → AllBefore keeps items → known ≡ known_before context items → KeepsOver Keeps word strokes at known p after → (on : List Item) × LeadsTo kind word first on p × AllBefore keeps on × (after ≡ known_before context on)
   over_draws [] at known p after items leads kept knows over = (items, subst (LeadsTo kind word first items) over.0 leads, kept, sym over.1 ∙ knows)
   over_draws (s ∷ rest) at known p after items leads kept knows over =
       let item : Item = record { at = at; format = s.format; instr = Draws s.draw } in

@@ -22,7 +22,7 @@ use Rattle.dvg_check.specs.Items.{Shape, Frame, next_place}
 use Rattle.dvg_check.specs.Known.{place_moved_by, target, depth_under}
 use Rattle.dvg_check.specs.Lit.{LitExtent, Nothing, Between, Anywhere, PlaceKnown, ScaleKnown, LitInWindow, InSpan, LitInBox, draw_extent}
 use Rattle.dvg_check.specs.Private.Running.{EachKept, IsNearPlace, IsSound, shape_rules, frame_rules, sight_with}
-use Rattle.dvg_check.specs.Private.Runs.{Run, Stroke, Follow, ScalesWithin, EndsIn, LitIn, LiesIn, IsPart, IsFactor, IsRun, Tells, PassesTo, KeepsOver, count, multiplied, run_extent, run_sight, size, total}
+use Rattle.dvg_check.specs.Private.Runs.{Run, FormattedDraw, Follow, ScalesWithin, EndsIn, LitIn, LiesIn, IsPart, IsFactor, IsRun, Tells, PassesTo, KeepsOver, count, multiplied, run_extent, run_sight, size, total}
 use Rattle.dvg_check.specs.Rules.{AtLast, AsClaimed, HasCallee, IsForward, Mode, ShapeKeeps, FrameKeeps}
 use Rattle.dvg_check.specs.declared.fault.FrameWhy.{FrameWhy}
 use Rattle.dvg_check.specs.declared.fault.FrameWhy.TheVariants as frame
@@ -212,11 +212,11 @@ module _ (Why : Type 0) (Keeps : Seen → Why → Type 0) (word : ℕ → Option
   abbrev at_offset : Point → ℕ → Known
   at_offset o n = between place g words depth f o n
 
-  abbrev item : ℕ → Stroke → Item
+  abbrev item : ℕ → FormattedDraw → Item
   item p s = record { at = p; format = s.format; instr = Draws s.draw }
 
   -- one draw further
-  step : (p : ℕ) (s : Stroke) (o : Point) (n : ℕ) → run.lowest ≤ s.draw.lscale → s.draw.lscale ≤ run.highest → IsFactor run.lowest run.highest g f → (sight_with None (at_offset o n) (item p s)).after ≡ at_offset (shift o (size run.lowest s.draw)) (n + word_count s.format)
+  step : (p : ℕ) (s : FormattedDraw) (o : Point) (n : ℕ) → run.lowest ≤ s.draw.lscale → s.draw.lscale ≤ run.highest → IsFactor run.lowest run.highest g f → (sight_with None (at_offset o n) (item p s)).after ≡ at_offset (shift o (size run.lowest s.draw)) (n + word_count s.format)
   step p s o n low high is =
       let moves : place_moved_by (place_moved_by place (multiplied o f)) (displacement s.draw g) ≡ place_moved_by place (multiplied (shift o (size run.lowest s.draw)) f) =
       ap (place_moved_by (place_moved_by place (multiplied o f))) (drawn s.draw g run.lowest run.highest f low high is) ∙ moved_on place (multiplied o f) (multiplied (size run.lowest s.draw) f) ∙ ap (place_moved_by place) (sym (multiplied_shift o (size run.lowest s.draw) f)) in
@@ -224,11 +224,11 @@ module _ (Why : Type 0) (Keeps : Seen → Why → Type 0) (word : ℕ → Option
       let deep : max 0 depth ≡ depth = max_zero depth in
       λ i. record { place = moves i; scale = At g; words = counts i; depth = deep i }
 
-  part : (p : ℕ) (s : Stroke) (o : Point) (n : ℕ) → run.lowest ≤ s.draw.lscale → s.draw.lscale ≤ run.highest → IsFactor run.lowest run.highest g f → EndsIn run.lit s.draw.bright o (size run.lowest s.draw) → n + word_count s.format ≤ run.words → IsPart (sight_with None (at_offset o n) (item p s)) (run_sight run f start first)
+  part : (p : ℕ) (s : FormattedDraw) (o : Point) (n : ℕ) → run.lowest ≤ s.draw.lscale → s.draw.lscale ≤ run.highest → IsFactor run.lowest run.highest g f → EndsIn run.lit s.draw.bright o (size run.lowest s.draw) → n + word_count s.format ≤ run.words → IsPart (sight_with None (at_offset o n) (item p s)) (run_sight run f start first)
   part p s o n low high is ends few =
       record { draw = s.draw; draws = refl; alone = refl; few = omega (arith, few); lit = lies_drawn run.lit place g run.lowest run.highest f o s.draw low high is s.draw.bright ends }
 
-  pub over : (rest : List Stroke) (o : Point) (n p q : ℕ) → IsFactor run.lowest run.highest g f → Follow word p rest q → ScalesWithin run.lowest run.highest rest → LitIn run.lit run.lowest o rest → n + count rest ≡ run.words → ((v : Seen) → IsPart v (run_sight run f start first) → (why : Why) → Keeps v why) → KeepsOver Keeps word rest p (at_offset o n) q (at_offset (shift o (total run.lowest rest)) (n + count rest))
+  pub over : (rest : List FormattedDraw) (o : Point) (n p q : ℕ) → IsFactor run.lowest run.highest g f → Follow word p rest q → ScalesWithin run.lowest run.highest rest → LitIn run.lit run.lowest o rest → n + count rest ≡ run.words → ((v : Seen) → IsPart v (run_sight run f start first) → (why : Why) → Keeps v why) → KeepsOver Keeps word rest p (at_offset o n) q (at_offset (shift o (total run.lowest rest)) (n + count rest))
   over [] o n p q is follow scales lit few keeps =
       let same : shift o origin ≡ o = shift_origin o in
       let none : n + 0 ≡ n = omega arith in (follow, λ i. at_offset (sym same i) (sym none i))
@@ -249,7 +249,7 @@ module _ (Why : Type 0) (Keeps : Seen → Why → Type 0) (word : ℕ → Option
       let none : words + 0 ≡ words = omega arith in
       λ i. record { place = still i; scale = At g; words = none i; depth = depth }
 
-  ends : (strokes : List Stroke) → Tells strokes run → at_offset (shift origin (total run.lowest strokes)) (0 + count strokes) ≡ (run_sight run f start first).after
+  ends : (strokes : List FormattedDraw) → Tells strokes run → at_offset (shift origin (total run.lowest strokes)) (0 + count strokes) ≡ (run_sight run f start first).after
   ends strokes t =
       let moves : shift origin (total run.lowest strokes) ≡ run.by = origin_shift (total run.lowest strokes) ∙ sym t.by in
       let counts : 0 + count strokes ≡ run.words = omega (arith, t.words) in

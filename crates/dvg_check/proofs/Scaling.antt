@@ -10,7 +10,7 @@ use Rattle.dvg_words.specs.declared.beam.Point.{Point}
 use Rattle.dvg_cert.specs.declared.entry.LitBox.{LitBox}
 use Rattle.dvg_cert.specs.declared.entry.LitBox.TheVariants.{Empty, Span}
 use Rattle.dvg_check.specs.Lit.{InBox}
-use Rattle.dvg_check.specs.Private.Runs.{Stroke, Tells, ScalesWithin, EndsIn, LitIn, multiplied, multiplied_box, size, total}
+use Rattle.dvg_check.specs.Private.Runs.{FormattedDraw, Tells, ScalesWithin, EndsIn, LitIn, multiplied, multiplied_box, size, total}
 use Rattle.dvg_check.specs.declared.run.Run.{Run}
 use Rattle.dvg_check.proofs.Steps.{point_is}
 
@@ -53,11 +53,11 @@ size_lower d m base low high =
     (ap (λ (x : ℕ). d.dx *ℤ pos x) (sym e) ∙ sym (times_times d.dx (2 ^ (d.lscale - m)) (2 ^ (m - base))))
     (ap (λ (x : ℕ). d.dy *ℤ pos x) (sym e) ∙ sym (times_times d.dy (2 ^ (d.lscale - m)) (2 ^ (m - base))))
 
-scales_lower : (m base highest : ℕ) (strokes : List Stroke) → base ≤ m → ScalesWithin m highest strokes → ScalesWithin base highest strokes
+scales_lower : (m base highest : ℕ) (strokes : List FormattedDraw) → base ≤ m → ScalesWithin m highest strokes → ScalesWithin base highest strokes
 scales_lower m base highest [] low h = tt
 scales_lower m base highest (s ∷ rest) low h = (omega (arith, low, h.0), h.1, scales_lower m base highest rest low h.2)
 
-total_lower : (m base highest : ℕ) (strokes : List Stroke) → base ≤ m → ScalesWithin m highest strokes → total base strokes ≡ multiplied (total m strokes) (2 ^ (m - base))
+total_lower : (m base highest : ℕ) (strokes : List FormattedDraw) → base ≤ m → ScalesWithin m highest strokes → total base strokes ≡ multiplied (total m strokes) (2 ^ (m - base))
 total_lower m base highest [] low h = sym (multiplied_origin (2 ^ (m - base)))
 total_lower m base highest (s ∷ rest) low h =
     let one = size_lower s.draw m base low h.0 in
@@ -73,7 +73,7 @@ ends_multiplied : (box : LitBox) (bright k : ℕ) (p d : Point) → EndsIn box b
 ends_multiplied box zero k p d h = tt
 ends_multiplied box (suc n) k p d h = (in_multiplied box p k h.0, subst (InBox (multiplied_box box k)) (multiplied_shift p d k) (in_multiplied box (shift p d) k h.1))
 
-lit_lower : (box : LitBox) (m base highest : ℕ) (p : Point) (strokes : List Stroke) → base ≤ m → ScalesWithin m highest strokes → LitIn box m p strokes → LitIn (multiplied_box box (2 ^ (m - base))) base (multiplied p (2 ^ (m - base))) strokes
+lit_lower : (box : LitBox) (m base highest : ℕ) (p : Point) (strokes : List FormattedDraw) → base ≤ m → ScalesWithin m highest strokes → LitIn box m p strokes → LitIn (multiplied_box box (2 ^ (m - base))) base (multiplied p (2 ^ (m - base))) strokes
 lit_lower box m base highest p [] low scales h = tt
 lit_lower box m base highest p (s ∷ rest) low scales h =
     let k : ℕ = 2 ^ (m - base) in
@@ -84,7 +84,7 @@ lit_lower box m base highest p (s ∷ rest) low scales h =
     )
 
 -- a run, told at a lower local scale
-pub tells_lower : (strokes : List Stroke) (run lower : Run) (k : ℕ) → k ≡ 2 ^ (run.lowest - lower.lowest) → lower.lowest ≤ run.lowest → lower.words ≡ run.words → lower.highest ≡ run.highest → lower.by ≡ multiplied run.by k → lower.lit ≡ multiplied_box run.lit k → Tells strokes run → Tells strokes lower
+pub tells_lower : (strokes : List FormattedDraw) (run lower : Run) (k : ℕ) → k ≡ 2 ^ (run.lowest - lower.lowest) → lower.lowest ≤ run.lowest → lower.words ≡ run.words → lower.highest ≡ run.highest → lower.by ≡ multiplied run.by k → lower.lit ≡ multiplied_box run.lit k → Tells strokes run → Tells strokes lower
 tells_lower strokes run lower k power low words highest by lit t =
     let still : multiplied origin k ≡ origin = multiplied_origin k in
     let told : LitIn (multiplied_box run.lit (2 ^ (run.lowest - lower.lowest))) lower.lowest (multiplied origin (2 ^ (run.lowest - lower.lowest))) strokes =

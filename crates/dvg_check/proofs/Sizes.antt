@@ -12,7 +12,7 @@ use Rattle.dvg_cert.specs.declared.entry.LitBox.{LitBox}
 use Rattle.dvg_cert.specs.declared.entry.LitBox.TheVariants.{Empty, Span}
 use Rattle.dvg_check.specs.Lit.{InBox, IsInside}
 use Rattle.dvg_check.specs.Private.Running.{IsNear}
-use Rattle.dvg_check.specs.Private.Runs.{Stroke, Tells, IsSize, IsSizeBox, ScalesWithin, EndsIn, LitIn, moved, multiplied, multiplied_box, reach, size, total}
+use Rattle.dvg_check.specs.Private.Runs.{FormattedDraw, Tells, IsSize, IsSizeBox, ScalesWithin, EndsIn, LitIn, moved, multiplied, multiplied_box, reach, size, total}
 use Rattle.dvg_check.specs.declared.run.Run.{Run}
 use Rattle.dvg_check.proofs.Scaling.{power_lower}
 use Rattle.dvg_check.proofs.Steps.{point_is, shift_origin, origin_shift}
@@ -34,7 +34,7 @@ product_within z k m n low high le =
     within_abs (z *ℤ pos k) (m * n) (omega (arith, is, below))
 
 -- a shift by at most nine places loses no bit
-pub one_shifted : (t : ℕ) → t ≤ 9 → (1 * 2 ^ t % 4294967296 ≡ 2 ^ t) × (2 ^ t ≤ 512)
+pub one_shifted : (t : ℕ) → t ≤ 9 → (1 * 2 ^ t % 65536 ≡ 2 ^ t) × (2 ^ t ≤ 512)
 one_shifted t h =
     let small : 2 ^ t ≤ 2 ^ 9 = pow_mono h in
     (mod-eq_of_lt (omega arith) ∙ omega arith, omega arith)
@@ -195,7 +195,7 @@ ends_in_whole : (part whole : LitBox) (bright : ℕ) (p d : Point) → IsInside 
 ends_in_whole part whole zero p d i h = tt
 ends_in_whole part whole (suc n) p d i h = (in_whole part whole p i h.0, in_whole part whole (shift p d) i h.1)
 
-lit_in_whole : (part whole : LitBox) (base : ℕ) (p : Point) (strokes : List Stroke) → IsInside part whole → LitIn part base p strokes → LitIn whole base p strokes
+lit_in_whole : (part whole : LitBox) (base : ℕ) (p : Point) (strokes : List FormattedDraw) → IsInside part whole → LitIn part base p strokes → LitIn whole base p strokes
 lit_in_whole part whole base p [] i h = tt
 lit_in_whole part whole base p (s ∷ rest) i h =
     (ends_in_whole part whole s.draw.bright p (size base s.draw) i h.0, lit_in_whole part whole base (shift p (size base s.draw)) rest i h.1)
@@ -207,7 +207,7 @@ ends_in_moved : (box : LitBox) (bright : ℕ) (p d e : Point) → EndsIn box bri
 ends_in_moved box zero p d e h = tt
 ends_in_moved box (suc n) p d e h = (in_moved box p d h.0, subst (InBox (moved box d)) (shift_swap p e d) (in_moved box (shift p e) d h.1))
 
-lit_in_moved : (box : LitBox) (base : ℕ) (p d : Point) (strokes : List Stroke) → LitIn box base p strokes → LitIn (moved box d) base (shift p d) strokes
+lit_in_moved : (box : LitBox) (base : ℕ) (p d : Point) (strokes : List FormattedDraw) → LitIn box base p strokes → LitIn (moved box d) base (shift p d) strokes
 lit_in_moved box base p d [] h = tt
 lit_in_moved box base p d (s ∷ rest) h = (
   ends_in_moved box s.draw.bright p d (size base s.draw) h.0,
@@ -216,7 +216,7 @@ lit_in_moved box base p d (s ∷ rest) h = (
 
 -- ---- what a run tells
 
-scales_higher : (lowest m n : ℕ) (strokes : List Stroke) → m ≤ n → ScalesWithin lowest m strokes → ScalesWithin lowest n strokes
+scales_higher : (lowest m n : ℕ) (strokes : List FormattedDraw) → m ≤ n → ScalesWithin lowest m strokes → ScalesWithin lowest n strokes
 scales_higher lowest m n [] le h = tt
 scales_higher lowest m n (s ∷ rest) le h = (h.0, omega (arith, h.1, le), scales_higher lowest m n rest le h.2)
 
@@ -224,7 +224,7 @@ ends_by_points : (box : LitBox) (bright : ℕ) (d : Point) → InBox box origin 
 ends_by_points box zero d h k = tt
 ends_by_points box (suc n) d h k = (h, subst (InBox box) (sym (origin_shift d)) k)
 
-pub tells_of_lit : (s : Stroke) (run : Run) → run.words ≡ word_count s.format → s.draw.lscale ≡ run.lowest → s.draw.lscale ≡ run.highest → run.by ≡ size run.lowest s.draw → InBox run.lit origin → InBox run.lit run.by → Tells (s ∷ []) run
+pub tells_of_lit : (s : FormattedDraw) (run : Run) → run.words ≡ word_count s.format → s.draw.lscale ≡ run.lowest → s.draw.lscale ≡ run.highest → run.by ≡ size run.lowest s.draw → InBox run.lit origin → InBox run.lit run.by → Tells (s ∷ []) run
 tells_of_lit s run words lowest highest by first second =
     record {
       words = omega (arith, words);
@@ -233,7 +233,7 @@ tells_of_lit s run words lowest highest by first second =
       lit = (ends_by_points run.lit s.draw.bright (size run.lowest s.draw) first (subst (InBox run.lit) by second), tt);
     }
 
-pub tells_of_more : (s : Stroke) (strokes : List Stroke) (first rest whole : Run) → whole.words ≡ first.words + rest.words → first.lowest ≡ whole.lowest → rest.lowest ≡ whole.lowest → first.highest ≤ whole.highest → rest.highest ≤ whole.highest → whole.by ≡ shift first.by rest.by → IsInside first.lit whole.lit → IsInside (moved rest.lit first.by) whole.lit → Tells (s ∷ []) first → Tells strokes rest → Tells (s ∷ strokes) whole
+pub tells_of_more : (s : FormattedDraw) (strokes : List FormattedDraw) (first rest whole : Run) → whole.words ≡ first.words + rest.words → first.lowest ≡ whole.lowest → rest.lowest ≡ whole.lowest → first.highest ≤ whole.highest → rest.highest ≤ whole.highest → whole.by ≡ shift first.by rest.by → IsInside first.lit whole.lit → IsInside (moved rest.lit first.by) whole.lit → Tells (s ∷ []) first → Tells strokes rest → Tells (s ∷ strokes) whole
 tells_of_more s strokes first rest whole words low_first low_rest high_first high_rest by in_first in_rest one more =
     let base : ℕ = whole.lowest in
     let begins : first.by ≡ size base s.draw = one.by ∙ shift_origin (size first.lowest s.draw) ∙ ap (λ (m : ℕ). size m s.draw) low_first in

@@ -1,5 +1,5 @@
 -- Runs of draws read beforehand: a draw before a run, and tables that are filled place by place.
-use Rattle.std.proofs.Common.{◌≡◌, ◌+◌, ◌<◌, ◌-◌, ◌%◌, ◌∙◌, ℕ, zero, suc, List, [], ◌∷◌, Option, Some, slice_get, get_or, set, replicate, length, nat_lt, true, refl, sym, subst, arith}
+use Rattle.std.proofs.Common.{◌≡◌, ◌+◌, ◌<◌, ◌≤◌, ◌-◌, ◌%◌, ◌∙◌, ℕ, zero, suc, List, [], ◌∷◌, Option, Some, slice_get, get_or, set, replicate, length, nat_lt, true, refl, sym, subst, arith}
 use Rattle.std.proofs.lemmas.Bool.Decides.{nat_tests}
 use Rattle.std.proofs.lemmas.Int.{ints}
 use Rattle.std.proofs.lemmas.Option.{slice_get_read}
@@ -12,7 +12,7 @@ use Rattle.dvg_words.specs.declared.instruction.Cell.TheVariants.{Holds}
 use Rattle.dvg_words.specs.declared.instruction.Format.{Format}
 use Rattle.dvg_words.specs.declared.instruction.Instr.TheVariants.{Draw as Draws}
 use Rattle.dvg_cert.specs.declared.entry.LitBox.TheVariants.{Empty}
-use Rattle.dvg_check.specs.Private.Runs.{Run, Stroke, Follow, Tells, Stands, IsFew, IsRun, AreRunsFrom}
+use Rattle.dvg_check.specs.Private.Runs.{Run, FormattedDraw, Follow, Tells, Stands, IsFew, IsRun, AreRunsFrom}
 
 -- ---- tables
 
@@ -55,10 +55,19 @@ nothing_few k lt =
 pub nothing_stands : (word : ℕ → Option ℕ) (at : ℕ) → Stands word at nothing
 nothing_stands word at = record { strokes = []; tells = record { words = refl; scales = tt; by = refl; lit = tt }; follow = omega arith }
 
+-- a table of no draws
+pub nothing_runs : (rom : Rom) (from : ℕ) → from ≤ 3072 → AreRunsFrom rom from (replicate 1024 nothing)
+nothing_runs rom from le =
+    record {
+      from_high = le;
+      few = copies_all IsFew 1024 nothing nothing_few;
+      stand = copies_all (λ k run. Stands (rom_word rom) (from + k) run) 1024 nothing (λ k lt. nothing_stands (rom_word rom) (from + k));
+    }
+
 -- a draw that is read, before a run that stands past it
-pub stands_before : (word : ℕ → Option ℕ) (from index : ℕ) (cell : Cell) (format : Format) (draw : DrawFields) (first rest result : Run) → cell ≡ Holds format (Draws draw) → cell_at word (from + index) ≡ cell → first.words ≡ word_count format → result.words ≡ first.words + rest.words → Tells (record { format = format; draw = draw } ∷ []) first → ((s : Stroke) (strokes : List Stroke) → Tells (s ∷ []) first → Tells strokes rest → Tells (s ∷ strokes) result) → Stands word (from + (index + first.words)) rest → Stands word (from + index) result
+pub stands_before : (word : ℕ → Option ℕ) (from index : ℕ) (cell : Cell) (format : Format) (draw : DrawFields) (first rest result : Run) → cell ≡ Holds format (Draws draw) → cell_at word (from + index) ≡ cell → first.words ≡ word_count format → result.words ≡ first.words + rest.words → Tells (record { format = format; draw = draw } ∷ []) first → ((s : FormattedDraw) (strokes : List FormattedDraw) → Tells (s ∷ []) first → Tells strokes rest → Tells (s ∷ strokes) result) → Stands word (from + (index + first.words)) rest → Stands word (from + index) result
 stands_before word from index cell format draw first rest result is read words sum tells more stands =
-    let s : Stroke = record { format = format; draw = draw } in
+    let s : FormattedDraw = record { format = format; draw = draw } in
     let begin : from + (index + first.words) ≡ from + index + word_count format = omega (arith, words) in
     let end : from + (index + first.words) + rest.words ≡ from + index + result.words = omega (arith, sum) in
     let onward : Follow word (from + index + word_count format) stands.strokes (from + index + result.words) =
@@ -67,14 +76,14 @@ stands_before word from index cell format draw first rest result is read words s
     record { strokes = s ∷ stands.strokes; tells = more s stands.strokes tells stands.tells; follow = (read ∙ is, onward) }
 
 -- the run that a look-up at a wrapped difference finds
-pub run_at : (rom seen : Rom) (from at index : ℕ) (runs : List Run) (run : Run) → rom ≡ seen → AreRunsFrom rom from runs → at < 65536 → index ≡ (at + (65536 - from)) % 65536 → true ≡ nat_lt index (length runs) → run ≡ get_or runs index run → IsRun (rom_word seen) at run
-run_at rom seen from at index runs run same table low e inside is =
+pub run_found : (rom seen : Rom) (from at index : ℕ) (runs : List Run) (run : Run) → rom ≡ seen → AreRunsFrom rom from runs → at < 65536 → index ≡ (at + (65536 - from)) % 65536 → true ≡ nat_lt index (length runs) → run ≡ get_or runs index run → IsRun (rom_word seen) at run
+run_found rom seen from at index runs run same table low e inside is =
     let found : slice_get runs index ≡ Some run = slice_get_read runs (length runs) index run refl (grind (arith, nat_tests)) is in
     let few = table.few index run found in
-    let place : from + index ≡ at = omega (arith, table.from_low, few.few) in
+    let place : from + index ≡ at = omega (arith, table.from_high, few.few) in
     record {
       few = omega (arith, few.few);
-      near = λ lt. omega (arith, few.few, table.from_low, place);
+      near = λ lt. omega (arith, few.few, table.from_high, place);
       sized = few.sized;
       stands = subst (λ (m : Rom). Stands (rom_word m) at run) same (subst (λ (p : ℕ). Stands (rom_word rom) p run) place (table.stand index run found));
     }

@@ -33,6 +33,7 @@ impl<'a> Cells for FrameImage<'a> {
     }
 
     fn run(&self, _at: u16) -> Run {
+        // A frame is walked once, so its runs are not made out.
         Run::NONE
     }
 }
@@ -40,7 +41,7 @@ impl<'a> Cells for FrameImage<'a> {
 /// The word address past the last one of a ROM.
 pub const ROM_END: u16 = 0xC00;
 
-/// A ROM, with the runs of draws from each place on that were made out beforehand.
+/// A ROM, with the runs of draws that were made out beforehand, one for each place from a word address on.
 #[derive(Drop)]
 pub struct RomCells<'a> {
     rom: &'a RomImage<'a>,
@@ -78,6 +79,7 @@ impl<'a> Cells for RomCells<'a> {
     }
 
     fn run(&self, at: u16) -> Run {
+        // Before the first place the difference wraps, to past the table.
         let index = at.wrapping_sub(self.from);
         let runs = self.runs;
         match runs.get(usize::from(index)) {

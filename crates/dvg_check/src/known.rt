@@ -51,6 +51,7 @@ pub struct Seen {
     pub after: Known,
 }
 
+/// The place 0, 0.
 pub const ORIGIN: Point = Point { x: 0, y: 0 };
 
 /// A place, moved.
@@ -193,7 +194,7 @@ pub fn target(kind: Kind, instr: &Instr) -> Option<u16>
     }
 }
 
-/// The place past an effect.
+/// The place past an effect of the item at a word address, which bounds the place before it in the contract alone.
 pub fn place_past(effect: &Effect, place: &End, at: u16) -> End
     requires at { at ≤ 4100 }
     requires place { IsNearPlace at place.now }

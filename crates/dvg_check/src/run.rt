@@ -1,10 +1,11 @@
-//! Runs: draws that stand one after another. Most shapes are few of them, and a run that keeps all rules is judged at once.
+//! Runs of draws, not of the generator: draws that stand one after another. Most shapes consist of a few runs, and one that
+//! is seen to keep all rules is judged as if it were one item.
 
 ghost use Rattle.std.specs.Prelude.{◌≡◌, ◌≤◌, ◌<◌, ◌+◌, ◌≤ℤ◌, ◌*ℤ◌, ℕ, Option, [], ◌∷◌, List, pos, neg_ℤ, IfSome};
 ghost use Rattle.dvg_words.specs.Decoding.{cell_at, word_count};
 ghost use Rattle.dvg_check.specs.Known.{Moves};
 ghost use Rattle.dvg_check.specs.Private.Running.{IsNear, IsNearExtent, IsNearPlace, IsSound};
-ghost use Rattle.dvg_check.specs.Private.Runs.{Stroke, Tells, IsRun, IsSize, IsSizeBox, IsSized, IsFew, AreFew, Stands, AllStand, AreRunsFrom, IsFactor, size, moved, multiplied, multiplied_box, run_extent, run_sight};
+ghost use Rattle.dvg_check.specs.Private.Runs.{FormattedDraw, Tells, IsRun, IsSize, IsSizeBox, IsSized, IsFew, AreFew, Stands, AllStand, AreRunsFrom, IsFactor, size, moved, multiplied, multiplied_box, run_extent, run_sight};
 
 use crate::boxes::{joined, spanning};
 use crate::cells::ROM_END;
@@ -13,9 +14,10 @@ use crate::known::{Effect, Known, LitExtent, ORIGIN, Seen, place_past, shift};
 use dvg_cert::LitBox;
 use dvg_words::{Cell, Draw, Format, Instr, Point, RomImage, factor, read_cell};
 
-/// Draws that stand one after another: how many words they have, their lowest and their highest local scale, and, in
-/// sizes at the lowest, how far they move the beam and the least box of what they light, seen from the place before the
-/// first.
+/// Draws that stand one after another: how many words they have, their lowest and their highest local scale, and how far
+/// they move the beam and a box of what they light (the code's is the least), seen from the place before the first.
+///
+/// The move and the box are in sizes at the lowest local scale: a draw one local scale higher counts twice its sizes.
 #[derive(Clone, Copy, Debug, PartialEq, Eq)]
 pub struct Run {
     pub words: u16,
@@ -89,17 +91,18 @@ fn moved(lit: &LitBox, by: &Point) -> LitBox
     }
 }
 
-/// A size or a coordinate of sizes, multiplied.
-fn times(size: i64, factor: u32) -> i64
-    requires low { neg_ℤ (pos 536870912) ≤ℤ size }
-    requires high { size ≤ℤ pos 536870912 }
+/// A coordinate in sizes, multiplied. 536870400 is 1023 * 512 * 1025, the reach of 1025 words.
+fn times(size: i64, factor: u16) -> i64
+    requires low { neg_ℤ (pos 536870400) ≤ℤ size }
+    requires high { size ≤ℤ pos 536870400 }
     requires factor { factor ≤ 1024 }
     ensures { result ≡ size *ℤ pos factor }
 {
     size * i64::from(factor)
 }
 
-fn multiplied(p: &Point, factor: u32) -> Point
+/// A point in sizes, multiplied.
+fn multiplied(p: &Point, factor: u16) -> Point
     requires p { IsSize 536870400 p.now }
     requires factor { factor ≤ 1024 }
     ensures { result ≡ multiplied p.now factor }
@@ -110,7 +113,8 @@ fn multiplied(p: &Point, factor: u32) -> Point
     }
 }
 
-fn multiplied_box(lit: &LitBox, factor: u32) -> LitBox
+/// A box in sizes, multiplied.
+fn multiplied_box(lit: &LitBox, factor: u16) -> LitBox
     requires lit { IsSizeBox 536870400 lit.now }
     requires factor { factor ≤ 1024 }
     ensures { result ≡ multiplied_box lit.now factor }
@@ -132,20 +136,20 @@ fn multiplied_box(lit: &LitBox, factor: u32) -> LitBox
 }
 
 /// A run, told in sizes at a local scale that is no higher than its lowest.
-fn at_lowest(run: &Run, lowest: u8) -> Run
+fn told_at(run: &Run, lscale: u8) -> Run
     requires few { run.now.words ≤ 1025 }
     requires sized { IsSized run.now }
-    requires lower { lowest ≤ run.now.lowest }
+    requires lower { lscale ≤ run.now.lowest }
     ensures words { result.words ≡ run.now.words }
-    ensures lowest { result.lowest ≡ lowest }
+    ensures lowest { result.lowest ≡ lscale }
     ensures highest { result.highest ≡ run.now.highest }
     ensures sized { IsSized result }
-    ensures tells { (strokes : List Stroke) → Tells strokes run.now → Tells strokes result }
+    ensures tells { (strokes : List FormattedDraw) → Tells strokes run.now → Tells strokes result }
 {
-    let factor = 1 << (run.lowest - lowest);
+    let factor = 1 << (run.lowest - lscale);
     Run {
         words: run.words,
-        lowest,
+        lowest: lscale,
         highest: run.highest,
         by: multiplied(&run.by, factor),
         lit: multiplied_box(&run.lit, factor),
@@ -159,11 +163,11 @@ fn followed(first: &Run, rest: &Run) -> Run
     requires rest { IsSized rest.now }
     ensures words { result.words ≡ first.now.words + rest.now.words }
     ensures sized { IsSized result }
-    ensures tells { (s : Stroke) (strokes : List Stroke) → Tells (s ∷ []) first.now → Tells strokes rest.now → Tells (s ∷ strokes) result }
+    ensures tells { (s : FormattedDraw) (strokes : List FormattedDraw) → Tells (s ∷ []) first.now → Tells strokes rest.now → Tells (s ∷ strokes) result }
 {
     let lowest = first.lowest.min(rest.lowest);
-    let first = at_lowest(first, lowest);
-    let rest = at_lowest(rest, lowest);
+    let first = told_at(first, lowest);
+    let rest = told_at(rest, lowest);
     Run {
         words: first.words + rest.words,
         lowest,
@@ -173,8 +177,8 @@ fn followed(first: &Run, rest: &Run) -> Run
     }
 }
 
-/// The run that begins with what stands at a place, before the runs of the places after it.
-fn run_before(cell: &Cell, runs: &[Run; 1024], index: u16) -> Run
+/// The run from a place on: the draw that stands there, if one does, and the run past it.
+fn run_at(cell: &Cell, runs: &[Run; 1024], index: u16) -> Run
     requires near { index < 1024 }
     requires few { AreFew runs.now }
     ensures few { IsFew index result }
@@ -194,23 +198,23 @@ fn run_before(cell: &Cell, runs: &[Run; 1024], index: u16) -> Run
     }
 }
 
-/// The runs from each place of a ROM on, beginning at a word address.
-pub fn runs_from(rom: &RomImage, from: u16) -> [Run; 1024]
+/// Fills a table of runs with those from each place of a ROM on, beginning at a word address.
+pub fn fill_runs(rom: &RomImage, from: u16, runs: &mut [Run; 1024])
     requires low { 2048 ≤ from }
     requires high { from ≤ 3072 }
-    ensures { AreRunsFrom rom.now from result }
+    requires before { AreRunsFrom rom.now from runs.old }
+    ensures { AreRunsFrom rom.now from runs.new }
 {
-    let mut runs = [Run::NONE; 1024];
     let mut index = ROM_END - from;
     'places: while index > 0 {
         index -= 1;
-        runs[usize::from(index)] = run_before(&read_cell(rom, from + index), &runs, index);
+        let run = run_at(&read_cell(rom, from + index), runs, index);
+        runs[usize::from(index)] = run;
     }
-    runs
 }
 
 /// What a global scale multiplies a run's sizes by, `None` where it doesn't multiply all of them alike.
-pub fn run_factor(run: &Run, gscale: u8) -> Option<u32>
+pub fn run_factor(run: &Run, gscale: u8) -> Option<u16>
     requires lowest { run.now.lowest ≤ 9 }
     requires gscale { gscale ≤ 15 }
     ensures { IfSome result (IsFactor run.now.lowest run.now.highest gscale) }
@@ -218,14 +222,14 @@ pub fn run_factor(run: &Run, gscale: u8) -> Option<u32>
     // up to 10, the factor is 2 to this power, and each higher local scale doubles it; above 10, the factor is 1
     let power = (run.lowest + gscale + 1) % 16;
     if run.highest.saturating_sub(run.lowest) <= 10u8.saturating_sub(power) {
-        Some(u32::from(factor(run.lowest, gscale)))
+        Some(factor(run.lowest, gscale))
     } else {
         None
     }
 }
 
 /// What a run lights, seen from the place before it.
-fn run_extent(lit: &LitBox, factor: u32) -> LitExtent
+fn run_extent(lit: &LitBox, factor: u16) -> LitExtent
     requires lit { IsSizeBox 536870400 lit.now }
     requires factor { factor ≤ 1024 }
     ensures value { result ≡ run_extent lit.now factor }
@@ -246,7 +250,7 @@ fn run_extent(lit: &LitBox, factor: u32) -> LitExtent
 }
 
 /// What the rules see of a run, as if it were one item.
-pub fn see_run(run: &Run, factor: u32, before: &Known, item: &Item) -> Seen
+pub fn see_run(run: &Run, factor: u16, before: &Known, item: &Item) -> Seen
     requires few { run.now.words ≤ 1025 }
     requires sized { IsSized run.now }
     requires factor { factor ≤ 1024 }

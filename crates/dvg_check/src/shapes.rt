@@ -16,7 +16,7 @@ use crate::fault::{Mode, ShapeFault, ShapeWhy};
 use crate::item::{Item, Kind, next_place};
 use crate::known::{LitExtent, Seen, depth_under, shift, target};
 use crate::rules::{Rules, has_callee, lit_on_screen, place_known, scale_known};
-use crate::run::runs_from;
+use crate::run::{Run, fill_runs};
 use crate::walk::walk;
 use dvg_cert::{Cert, End, Entries, Entry, Key, LitBox};
 use dvg_words::{Instr, Point, RomImage};
@@ -247,14 +247,16 @@ fn check_shapes_in<E: Entries>(
 /// Judges each entry's shape, in the order of the certificate, its counts as bounds: the first faulty entry is answered,
 /// with the first item of its shape that breaks a rule, and the lowest rule that this item breaks (20 to 31, profile).
 ///
-/// `entries` are those of the certificate. Each shape is visited once, and nothing is run. Takes no memory.
+/// `entries` are those of the certificate. Each shape is visited once, and nothing is run. Nothing is allocated;
+/// the table of runs takes 64 KiB of the stack.
 pub fn check_shapes<E: Entries>(rom: &RomImage, cert: &Cert, entries: &E) -> Result<(), ShapeFault>
     requires { E.list entries.now ≡ cert.now }
     ensures ok { OnOk result (Good Bound screen rom.now cert.now) }
     ensures err { IfErr result (FirstShapeFault Bound screen rom.now cert.now) }
 {
     let from = first_shape(cert);
-    let runs = runs_from(rom, from);
+    let mut runs = [Run::NONE; 1024];
+    fill_runs(rom, from, &mut runs);
     let cells = RomCells::new(rom, from, &runs);
     check_shapes_in(Mode::Bound, &cells, cert, entries)
 }

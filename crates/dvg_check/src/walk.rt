@@ -17,8 +17,8 @@ use crate::item::{Item, Kind, next_place};
 use crate::known::{Known, callee, see_with, target};
 use crate::rules::Rules;
 use crate::run::{run_factor, see_run};
-use dvg_cert::{End, Entries, Entry, Key};
-use dvg_words::{Cell, Instr};
+use dvg_cert::{End, Entries, Key};
+use dvg_words::Cell;
 
 /// What is known before the first item.
 fn start(kind: Kind, scale: Key) -> Known
@@ -64,8 +64,9 @@ fn judge<E: Entries, R: Rules>(
     }
 }
 
-/// Judges the run of draws that begins with an item at once: what is known after it, and where the next item stands. `None`
-/// where that doesn't show that they keep all rules.
+/// Judges at once the run of draws that begins with an item: what is known after the run, and where the next item stands.
+/// `None` where no run is known there, where the scale is unknown, or where this doesn't show that each draw keeps all
+/// rules.
 fn pass_run<C: Cells, R: Rules>(
     cells: &C,
     rules: &R,

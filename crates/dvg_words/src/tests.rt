@@ -3,7 +3,7 @@
 ghost use Rattle.dvg_words.specs.Values.{DrawFits};
 
 use crate::{
-    Draw, FrameImage, ImageFault, Instr, RomImage, decode, displacement, is_long, on_screen,
+    Draw, FrameImage, ImageFault, Instr, RomImage, decode, displacement, factor, is_long, on_screen,
 };
 use std::test::Fail;
 
@@ -82,6 +82,7 @@ fn moves_the_beam(rt: HostRuntime) {
         (short, 5, (-768, -768)),
         (short, 11, (-1536, -1536)),
     ];
+    assert_eq!(rt; factor(long.lscale, 15), 512);
     for (draw, gscale, by) in rows {
         assert_eq!(rt; displacement(&draw, gscale), by, "at global scale {gscale}");
     }

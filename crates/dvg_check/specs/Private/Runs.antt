@@ -1,4 +1,4 @@
--- What the code says of draws that stand one after another, and judges at once. No rule stands here.
+-- What the code says of runs of draws, which stand one after another and are judged at once. No rule stands here.
 use Rattle.std.specs.Prelude.{◌≡◌, ℕ, zero, suc, ◌+◌, ◌*◌, ◌^◌, ◌<◌, ◌≤◌, ◌-◌, List, [], ◌∷◌, Option, Some, None, slice_get, pos, neg_ℤ, ◌+ℤ◌, ◌*ℤ◌, ◌≤ℤ◌}
 use Rattle.dvg_words.specs.Values.{DrawFields}
 use Rattle.dvg_words.specs.declared.instruction.Instr.TheVariants.{Draw as Draws}
@@ -20,16 +20,16 @@ use Rattle.dvg_check.specs.Private.Running.{place_past, sight_with, IsSound}
 pub use Rattle.dvg_check.specs.declared.run.Run.{Run}
 
 -- a draw and its format
-pub record Stroke : Type 0 where
+pub record FormattedDraw : Type 0 where
   pub format : Format
   pub draw : DrawFields
 
 -- these stand one after another from one place up to another
-abbrev pub Follow : (ℕ → Option ℕ) → ℕ → List Stroke → ℕ → Type 0
+abbrev pub Follow : (ℕ → Option ℕ) → ℕ → List FormattedDraw → ℕ → Type 0
 Follow word p [] q = p ≡ q
 Follow word p (s ∷ rest) q = (cell_at word p ≡ Holds s.format (Draws s.draw)) × Follow word (p + word_count s.format) rest q
 
-abbrev pub count : List Stroke → ℕ
+abbrev pub count : List FormattedDraw → ℕ
 count [] = 0
 count (s ∷ rest) = word_count s.format + count rest
 
@@ -44,12 +44,12 @@ multiplied_box (Span x_min x_max y_min y_max) factor = Span (x_min *ℤ pos fact
 abbrev pub size : ℕ → DrawFields → Point
 size base d = multiplied (record { x = d.dx; y = d.dy }) (2 ^ (d.lscale - base))
 
-abbrev pub total : ℕ → List Stroke → Point
+abbrev pub total : ℕ → List FormattedDraw → Point
 total base [] = origin
 total base (s ∷ rest) = shift (size base s.draw) (total base rest)
 
 -- none of them has a lower or a higher local scale than these
-abbrev pub ScalesWithin : ℕ → ℕ → List Stroke → Type 0
+abbrev pub ScalesWithin : ℕ → ℕ → List FormattedDraw → Type 0
 ScalesWithin lowest highest [] = Unit {0}
 ScalesWithin lowest highest (s ∷ rest) = (lowest ≤ s.draw.lscale) × (s.draw.lscale ≤ highest) × ScalesWithin lowest highest rest
 
@@ -59,7 +59,7 @@ EndsIn box zero p d = Unit {0}
 EndsIn box (suc n) p d = InBox box p × InBox box (shift p d)
 
 -- from this place on, what they light is in the box, in sizes at this local scale
-abbrev pub LitIn : LitBox → ℕ → Point → List Stroke → Type 0
+abbrev pub LitIn : LitBox → ℕ → Point → List FormattedDraw → Type 0
 LitIn box base p [] = Unit {0}
 LitIn box base p (s ∷ rest) = EndsIn box s.draw.bright p (size base s.draw) × LitIn box base (shift p (size base s.draw)) rest
 
@@ -86,13 +86,14 @@ reach lowest words = 1023 * 2 ^ (9 - lowest) * words
 
 -- ---- runs
 
+-- its numbers are within the reach of its words
 pub record IsSized (run : Run) : Type 0 where
   pub lowest : run.lowest ≤ 9
   pub by : IsSize (reach run.lowest run.words) run.by
   pub lit : IsSizeBox (reach run.lowest run.words) run.lit
 
 -- the run tells of these draws
-pub record Tells (strokes : List Stroke) (run : Run) : Type 0 where
+pub record Tells (strokes : List FormattedDraw) (run : Run) : Type 0 where
   pub words : run.words ≡ count strokes
   pub scales : ScalesWithin run.lowest run.highest strokes
   pub by : run.by ≡ total run.lowest strokes
@@ -100,10 +101,11 @@ pub record Tells (strokes : List Stroke) (run : Run) : Type 0 where
 
 -- and they stand from this place on
 pub record Stands (word : ℕ → Option ℕ) (at : ℕ) (run : Run) : Type 0 where
-  pub strokes : List Stroke
+  pub strokes : List FormattedDraw
   pub tells : Tells strokes run
   pub follow : Follow word at strokes (at + run.words)
 
+-- a run from this place on: maybe not the longest, maybe of no draws
 pub record IsRun (word : ℕ → Option ℕ) (at : ℕ) (run : Run) : Type 0 where
   pub few : run.words ≤ 1025
   pub near : at < 4096 → at + run.words ≤ 4098
@@ -112,6 +114,7 @@ pub record IsRun (word : ℕ → Option ℕ) (at : ℕ) (run : Run) : Type 0 whe
 
 -- ---- the runs from each place on
 
+-- the run at this place of the table ends with the table at the latest
 pub record IsFew (index : ℕ) (run : Run) : Type 0 where
   pub few : run.words + index ≤ 1025
   pub sized : IsSized run
@@ -122,9 +125,9 @@ AreFew runs = (k : ℕ) (run : Run) → slice_get runs k ≡ Some run → IsFew 
 abbrev pub AllStand : (ℕ → Option ℕ) → ℕ → List Run → Type 0
 AllStand word from runs = (k : ℕ) (run : Run) → slice_get runs k ≡ Some run → Stands word (from + k) run
 
--- the runs from each place of a ROM on
+-- each of these is a run from its place of a ROM on
 pub record AreRunsFrom (rom : Rom) (from : ℕ) (runs : List Run) : Type 0 where
-  pub from_low : from ≤ 3072
+  pub from_high : from ≤ 3072
   pub few : AreFew runs
   pub stand : AllStand (rom_word rom) from runs
 
@@ -175,15 +178,16 @@ pub record IsPart (part whole : Seen) : Type 0 where
 -- ---- a walk over draws
 
 -- these draws, from one place and what is known there to another, keep all rules
-abbrev pub KeepsOver : {Why : Type 0} → (Seen → Why → Type 0) → (ℕ → Option ℕ) → List Stroke → ℕ → Known → ℕ → Known → Type 0
+abbrev pub KeepsOver : {Why : Type 0} → (Seen → Why → Type 0) → (ℕ → Option ℕ) → List FormattedDraw → ℕ → Known → ℕ → Known → Type 0
 KeepsOver keeps word [] at before p after = (at ≡ p) × (before ≡ after)
 KeepsOver {Why} keeps word (s ∷ rest) at before p after =
     (cell_at word at ≡ Holds s.format (Draws s.draw)) ×
     ((why : Why) → keeps (sight_with None before (record { at = at; format = s.format; instr = Draws s.draw })) why) ×
     KeepsOver keeps word rest (at + word_count s.format) (sight_with None before (record { at = at; format = s.format; instr = Draws s.draw })).after p after
 
+-- some draws lead from one place to a further one, and keep all rules on the way
 pub record PassesTo {Why : Type 0} (keeps : Seen → Why → Type 0) (word : ℕ → Option ℕ) (at : ℕ) (before : Known) (p : ℕ) (after : Known) : Type 0 where
-  pub strokes : List Stroke
+  pub strokes : List FormattedDraw
   pub keeps_over : KeepsOver keeps word strokes at before p after
   pub further : at < p
   pub near : p ≤ 4098

@@ -31,35 +31,35 @@ sized_together first rest whole after one more words low_first low_rest by lit i
 
 pub shift-requires-clause-p : goal.shift-requires-clause-p
 shift-requires-clause-p c =
-    let first = c.at_lowest-first.result in
-    IsNear-sizes 4100 first.by (within_most first.lowest first.words first.by (omega arith) c.at_lowest-first.ensures.sized.by) (omega arith)
+    let first = c.told_at-first.result in
+    IsNear-sizes 4100 first.by (within_most first.lowest first.words first.by (omega arith) c.told_at-first.ensures.sized.by) (omega arith)
 
 pub shift-requires-clause-d : goal.shift-requires-clause-d
 shift-requires-clause-d c =
-    let rest = c.at_lowest-rest.result in
-    IsNear-sizes 1 rest.by (within_most rest.lowest rest.words rest.by (omega arith) c.at_lowest-rest.ensures.sized.by) (omega arith)
+    let rest = c.told_at-rest.result in
+    IsNear-sizes 1 rest.by (within_most rest.lowest rest.words rest.by (omega arith) c.told_at-rest.ensures.sized.by) (omega arith)
 
 pub moved-requires-clause-lit : goal.moved-requires-clause-lit
 moved-requires-clause-lit c =
-    let rest = c.at_lowest-rest.result in
-    box_within_most rest.lowest rest.words rest.lit (omega arith) c.at_lowest-rest.ensures.sized.lit
+    let rest = c.told_at-rest.result in
+    box_within_most rest.lowest rest.words rest.lit (omega arith) c.told_at-rest.ensures.sized.lit
 
 pub moved-requires-clause-by : goal.moved-requires-clause-by
 moved-requires-clause-by c =
-    let first = c.at_lowest-first.result in
-    within_most first.lowest first.words first.by (omega arith) c.at_lowest-first.ensures.sized.by
+    let first = c.told_at-first.result in
+    within_most first.lowest first.words first.by (omega arith) c.told_at-first.ensures.sized.by
 
 pub returns-clause-sized : goal.returns-clause-sized
 returns-clause-sized c =
-    let first = c.at_lowest-first.result in
-    let rest = c.at_lowest-rest.result in
+    let first = c.told_at-first.result in
+    let rest = c.told_at-rest.result in
     let whole : Run = record { words = first.words + rest.words; lowest = c.min-lowest.result; highest = c.max.result; by = c.shift.result; lit = c.joined.result } in
-    sized_together first rest whole c.moved.result c.at_lowest-first.ensures.sized c.at_lowest-rest.ensures.sized refl c.at_lowest-first.ensures.lowest c.at_lowest-rest.ensures.lowest c.shift.ensures c.moved.ensures c.joined.ensures.first c.joined.ensures.second c.joined.ensures.least
+    sized_together first rest whole c.moved.result c.told_at-first.ensures.sized c.told_at-rest.ensures.sized refl c.told_at-first.ensures.lowest c.told_at-rest.ensures.lowest c.shift.ensures c.moved.ensures c.joined.ensures.first c.joined.ensures.second c.joined.ensures.least
 
 pub returns-clause-tells : goal.returns-clause-tells
 returns-clause-tells c = λ s strokes one more.
-    let first = c.at_lowest-first.result in
-    let rest = c.at_lowest-rest.result in
+    let first = c.told_at-first.result in
+    let rest = c.told_at-rest.result in
     let whole : Run = record { words = first.words + rest.words; lowest = c.min-lowest.result; highest = c.max.result; by = c.shift.result; lit = c.joined.result } in
     let second : IsInside (moved rest.lit first.by) c.joined.result = subst (λ box. IsInside box c.joined.result) c.moved.ensures c.joined.ensures.second in
-    tells_of_more s strokes first rest whole refl c.at_lowest-first.ensures.lowest c.at_lowest-rest.ensures.lowest (omega arith) (omega arith) c.shift.ensures c.joined.ensures.first second (c.at_lowest-first.ensures.tells _ one) (c.at_lowest-rest.ensures.tells _ more)
+    tells_of_more s strokes first rest whole refl c.told_at-first.ensures.lowest c.told_at-rest.ensures.lowest (omega arith) (omega arith) c.shift.ensures c.joined.ensures.first second (c.told_at-first.ensures.tells _ one) (c.told_at-rest.ensures.tells _ more)

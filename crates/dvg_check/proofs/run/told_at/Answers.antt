@@ -3,7 +3,7 @@ use Rattle.dvg_check.specs.Private.Runs.{IsSize, IsSizeBox, IsSized, multiplied,
 use Rattle.dvg_check.specs.declared.run.Run.{Run}
 use Rattle.dvg_check.proofs.Scaling.{tells_lower}
 use Rattle.dvg_check.proofs.Sizes.{IsSize-multiplied, IsSizeBox-multiplied, box_within_most, one_shifted, reach_lower, within_most}
-use Rattle.dvg_check.proofs.run.at_lowest.Goals as goal
+use Rattle.dvg_check.proofs.run.told_at.Goals as goal
 
 sized_lower : (run lower : Run) (k : ℕ) → k ≡ 2 ^ (run.lowest - lower.lowest) → lower.lowest ≤ run.lowest → lower.words ≡ run.words → lower.by ≡ multiplied run.by k → lower.lit ≡ multiplied_box run.lit k → IsSized run → IsSized lower
 sized_lower run lower k power low words by lit h =
@@ -24,7 +24,7 @@ multiplied-requires-clause-p c =
 
 pub multiplied-requires-clause-factor : goal.multiplied-requires-clause-factor
 multiplied-requires-clause-factor c =
-    let t = one_shifted (c.args.run.now.lowest - c.args.lowest) (omega arith) in
+    let t = one_shifted (c.args.run.now.lowest - c.args.lscale) (omega arith) in
     omega (arith, t)
 
 pub multiplied_box-requires-clause-lit : goal.multiplied_box-requires-clause-lit
@@ -34,19 +34,19 @@ multiplied_box-requires-clause-lit c =
 
 pub multiplied_box-requires-clause-factor : goal.multiplied_box-requires-clause-factor
 multiplied_box-requires-clause-factor c =
-    let t = one_shifted (c.args.run.now.lowest - c.args.lowest) (omega arith) in
+    let t = one_shifted (c.args.run.now.lowest - c.args.lscale) (omega arith) in
     omega (arith, t)
 
 pub returns-clause-sized : goal.returns-clause-sized
 returns-clause-sized c =
     let run = c.args.run.now in
-    let lower : Run = record { words = run.words; lowest = c.args.lowest; highest = run.highest; by = c.multiplied.result; lit = c.multiplied_box.result } in
-    let t = one_shifted (run.lowest - c.args.lowest) (omega arith) in
+    let lower : Run = record { words = run.words; lowest = c.args.lscale; highest = run.highest; by = c.multiplied.result; lit = c.multiplied_box.result } in
+    let t = one_shifted (run.lowest - c.args.lscale) (omega arith) in
     sized_lower run lower _ t.0 c.requires.lower refl c.multiplied.ensures c.multiplied_box.ensures c.requires.sized
 
 pub returns-clause-tells : goal.returns-clause-tells
 returns-clause-tells c = λ strokes tells.
     let run = c.args.run.now in
-    let lower : Run = record { words = run.words; lowest = c.args.lowest; highest = run.highest; by = c.multiplied.result; lit = c.multiplied_box.result } in
-    let t = one_shifted (run.lowest - c.args.lowest) (omega arith) in
+    let lower : Run = record { words = run.words; lowest = c.args.lscale; highest = run.highest; by = c.multiplied.result; lit = c.multiplied_box.result } in
+    let t = one_shifted (run.lowest - c.args.lscale) (omega arith) in
     tells_lower strokes run lower _ t.0 c.requires.lower refl refl c.multiplied.ensures c.multiplied_box.ensures tells

@@ -3,7 +3,7 @@ use Rattle.dvg_words.specs.declared.instruction.Cell.TheVariants.{Holds}
 use Rattle.dvg_words.specs.declared.instruction.Instr.TheVariants.{Draw as Draws}
 use Rattle.dvg_check.specs.Private.Runs.{Tells}
 use Rattle.dvg_check.proofs.Table.{found_at, stands_before}
-use Rattle.dvg_check.proofs.run.run_before.Goals as goal
+use Rattle.dvg_check.proofs.run.run_at.Goals as goal
 
 pub followed-requires-clause-few : goal.followed-requires-clause-few
 followed-requires-clause-few c =
