@@ -1,5 +1,5 @@
 -- Where draws move the beam. Places are whole numbers in units of 1/1024 of a screen place (profile).
-use Rattle.std.specs.Prelude.{ℕ, pos, ◌+◌, ◌*◌, ◌%◌, ◌^◌, ◌+ℤ◌, ◌≤ℤ◌, ◌*ℤ◌, nat_le, if◌then◌else◌}
+use Rattle.std.specs.Prelude.{ℕ, pos, neg_ℤ, ◌+◌, ◌*◌, ◌%◌, ◌^◌, ◌+ℤ◌, ◌≤ℤ◌, ◌*ℤ◌, nat_le, if◌then◌else◌}
 use Rattle.dvg_words.specs.Values.{DrawFields, Window}
 pub use Rattle.dvg_words.specs.declared.beam.Point.{Point}
 
@@ -36,3 +36,10 @@ pub record InWindow (w : Window) (p : Point) : Type 0 where
 -- the whole screen (profile)
 abbrev pub screen : Window
 screen = record { x_min = 0; x_max = 1023; y_min = 0; y_max = 1023 }
+
+-- neither coordinate is further than this from 0
+pub record IsWithin (most : ℕ) (p : Point) : Type 0 where
+  pub left : neg_ℤ (pos most) ≤ℤ p.x
+  pub right : p.x ≤ℤ pos most
+  pub down : neg_ℤ (pos most) ≤ℤ p.y
+  pub up : p.y ≤ℤ pos most

@@ -1,5 +1,5 @@
 -- What the words of an instruction say, field by field, and what stands at a word address.
-use Rattle.std.specs.Prelude.{ℕ, ℤ, pos, neg_ℤ, ◌≤◌, ◌<◌, ◌+◌, ◌*◌, ◌/◌, ◌%◌, ◌==◌, nat_le, Bool, ◌&&◌, Option, None, Some, if◌then◌else◌}
+use Rattle.std.specs.Prelude.{ℕ, ℤ, pos, neg_ℤ, ◌≤◌, ◌<◌, ◌+◌, ◌*◌, ◌/◌, ◌%◌, ◌^◌, ◌==◌, nat_le, Bool, ◌&&◌, Option, None, Some, if◌then◌else◌}
 use Rattle.dvg_words.specs.Values.{DrawFields, DrawFits}
 pub use Rattle.dvg_words.specs.declared.instruction.Instr.{Instr}
 use Rattle.dvg_words.specs.declared.instruction.Instr.TheVariants.{Draw, Labs, Halt, Jsrl, Rtsl, Jmpl}
@@ -10,11 +10,11 @@ pub use Rattle.dvg_words.specs.declared.instruction.Cell.TheVariants.{Missing, O
 
 -- bits 15 to 12 (DVG documentation)
 abbrev pub opcode : ℕ → ℕ
-opcode word = word / 4096
+opcode word = word / 2 ^ 12
 
 -- bits 11 to 0, a word address (DVG documentation)
 abbrev pub target_of : ℕ → ℕ
-target_of word = word % 4096
+target_of word = word % 2 ^ 12
 
 -- VCTR and LABS have two words, all others one (DVG documentation)
 abbrev pub is_long_opcode : ℕ → Bool

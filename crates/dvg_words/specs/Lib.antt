@@ -3,4 +3,5 @@ pub mod Decoding
 pub mod Memory
 pub mod Beam
 pub mod Generator
+pub mod Numbers
 pub mod Laws

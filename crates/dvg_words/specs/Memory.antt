@@ -1,6 +1,6 @@
 -- The words of byte lists, and which word the generator fetches at a word address.
 use Rattle.std.specs.Prelude.{◌≡◌, ◌≤◌, ◌<◌, ℕ, ◌+◌, ◌-◌, ◌*◌, ◌%◌, nat_le, nat_lt, ◌&&◌, List, [], ◌∷◌, length, slice_get, Option, None, if◌then◌else◌}
-use Rattle.dvg_words.specs.Values.{MemoryMap, IsMap}
+use Rattle.dvg_words.specs.Values.{RAM_WORDS, MemoryMap, IsMap}
 
 -- two bytes to a word, the low byte at the even address (Asteroids schematics); a last byte alone is no word
 abbrev pub words_of : List ℕ → List ℕ
@@ -15,13 +15,13 @@ IsRomLength map n = n + 2 * map.rom_first ≡ 2 * (map.rom_last + 1)
 -- the lengths in bytes that a frame may have (profile)
 pub record IsFrameLength (n : ℕ) : Type 0 where
   pub some : 2 ≤ n
-  pub few : n ≤ 2048
+  pub few : n ≤ 2 * RAM_WORDS
   pub even : n % 2 ≡ 0
 
 -- a frame has 1 to 1024 words (profile), which are words of vector RAM, 000 to 3FF (Asteroids schematics)
 pub record IsFrame (frame : List ℕ) : Type 0 where
   pub some : 1 ≤ length frame
-  pub few : length frame ≤ 1024
+  pub few : length frame ≤ RAM_WORDS
 
 -- a vector ROM: where it lies, and its words
 pub record Rom : Type 0 where

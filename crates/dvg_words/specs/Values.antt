@@ -1,5 +1,6 @@
 -- Values that contracts see: a draw's fields, the memory map, a window.
 use Rattle.std.specs.Prelude.{ℕ, ℤ, pos, negsuc, ◌≤◌, ◌≤ℤ◌}
+pub use Rattle.dvg_words.specs.declared.map.TheConstants.{ADDRESS_END, RAM_WORDS, ROM_FIRST, ROM_LAST}
 
 -- a draw: its signed sizes, its local scale and its intensity
 pub record DrawFields : Type 0 where
@@ -24,13 +25,13 @@ pub record MemoryMap : Type 0 where
 
 -- words 800 to BFF, the processor's addresses 5000 to 57FF (Asteroids schematics)
 abbrev pub asteroids : MemoryMap
-asteroids = record { rom_first = 2048; rom_last = 3071 }
+asteroids = record { rom_first = ROM_FIRST; rom_last = ROM_LAST }
 
 -- the ROM lies between the last place of a frame and word BFF, and is not empty (profile)
 pub record IsMap (map : MemoryMap) : Type 0 where
-  pub past_frames : 1024 ≤ map.rom_first
+  pub past_frames : RAM_WORDS ≤ map.rom_first
   pub ordered : map.rom_first ≤ map.rom_last
-  pub inside : map.rom_last ≤ 3071
+  pub inside : map.rom_last ≤ 0xBFF
 
 -- a part of the screen, in screen places, ends included
 pub record Window : Type 0 where

@@ -1,7 +1,8 @@
 //! Where the beam goes. Places are in units of 1/1024 of a screen place, and y grows upwards (profile).
 
-ghost use Rattle.std.specs.Prelude.{◌≡◌, ◌≤◌, ◌↔◌, IsTrue, pos, negsuc, ◌≤ℤ◌, ◌*ℤ◌};
-ghost use Rattle.dvg_words.specs.Beam.{factor, displacement, InWindow, screen};
+ghost use Rattle.std.specs.Prelude.{◌≡◌, ◌≤◌, ◌↔◌, IsTrue, pos, negsuc, ◌^◌, ◌+ℤ◌, ◌≤ℤ◌, ◌*ℤ◌, FitsSigned};
+ghost use Rattle.std.specs.Int.{w64};
+ghost use Rattle.dvg_words.specs.Beam.{factor, displacement, shift, labs_place, IsWithin, InWindow, screen};
 
 use crate::instruction::Draw;
 
@@ -10,6 +11,34 @@ use crate::instruction::Draw;
 pub struct Point {
     pub x: i64,
     pub y: i64,
+}
+
+impl Point {
+    /// The place 0, 0, and the move that stays.
+    pub const ORIGIN: Point = Point { x: 0, y: 0 };
+}
+
+/// A place, moved.
+pub fn shift(place: &Point, by: &Point) -> Point
+    requires x { FitsSigned w64 (place.now.x +ℤ by.now.x) }
+    requires y { FitsSigned w64 (place.now.y +ℤ by.now.y) }
+    ensures { result ≡ shift place.now by.now }
+{
+    Point {
+        x: place.x + by.x,
+        y: place.y + by.y,
+    }
+}
+
+/// Where a LABS of these fields, in screen places, sets the beam.
+pub fn labs_place(x: u16, y: u16) -> Point
+    ensures value { result ≡ labs_place x y }
+    ensures near { IsWithin (2 ^ 31) result }
+{
+    Point {
+        x: 1024 * i64::from(x),
+        y: 1024 * i64::from(y),
+    }
 }
 
 /// What a size is multiplied by at a local scale of 0 to 9 and a global scale of 0 to 15, 1 to 1024: the product is in units
@@ -45,6 +74,19 @@ pub fn displacement(draw: &Draw, gscale: u8) -> (i32, i32)
 {
     let factor = factor(draw.lscale, gscale);
     (scaled(draw.dx, factor), scaled(draw.dy, factor))
+}
+
+/// How far a draw moves the beam at a global scale of 0 to 15.
+pub fn draw_move(draw: &Draw, gscale: u8) -> Point
+    requires { gscale ≤ 15 }
+    ensures value { result ≡ displacement draw.now gscale }
+    ensures near { IsWithin (2 ^ 31) result }
+{
+    let (dx, dy) = displacement(draw, gscale);
+    Point {
+        x: i64::from(dx),
+        y: i64::from(dy),
+    }
 }
 
 /// Whether a place, in units of 1/1024 of a screen place, is on the screen: 0 to 1023 on both axes.

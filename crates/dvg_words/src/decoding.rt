@@ -4,6 +4,7 @@ ghost use Rattle.std.specs.Prelude.{◌≡◌, ℕ, ◌<◌, Option, IfSome, IsT
 ghost use Rattle.dvg_words.specs.Decoding.{opcode, is_long_opcode, magnitude_and_sign, vctr_draw, svec_draw, instruction_of, InstrFits, format_of, cell_holding, cell_at, CellFits, StandsBelow};
 
 use crate::instruction::{Cell, Draw, Format, Instr};
+use crate::map::ADDRESS_END;
 
 /// Whether the instruction with this first word has a second one: opcodes 0 to A (DVG documentation).
 pub fn is_long(first: u16) -> bool
@@ -82,7 +83,7 @@ pub trait Fetch {
     /// The word at a word address.
     fn fetch(&self, addr: u16) -> Option<u16>
         ensures word { result ≡ words self.now addr }
-        ensures near { IfSome result (λ _. addr < 4096) };
+        ensures near { IfSome result (λ _. addr < ADDRESS_END) };
 }
 
 fn cell_of(format: Format, instr: Option<Instr>) -> Cell
@@ -102,7 +103,7 @@ fn cell_of(format: Format, instr: Option<Instr>) -> Cell
 pub fn read_cell<F: Fetch>(words: &F, addr: u16) -> Cell
     ensures value { result ≡ cell_at (F.words words.now) addr }
     ensures fields { CellFits result }
-    ensures near { StandsBelow 4096 addr result }
+    ensures near { StandsBelow ADDRESS_END addr result }
 {
     let Some(first) = words.fetch(addr) else {
         return Cell::Missing;

@@ -3,19 +3,42 @@
 ghost use Rattle.std.specs.Prelude.{◌≡◌, ◌≢◌, ◌+◌, ◌*◌, ◌<◌, ◌≤◌, Some, IfSome, IfOk, MatchResult, length, slice_get};
 ghost use Rattle.dvg_words.specs.Values.{asteroids};
 ghost use Rattle.dvg_words.specs.Memory.{words_of, rom_of, rom_word, frame_word, IsRom, IsRomLength, IsFrame, IsFrameLength};
+ghost use Rattle.dvg_words.specs.Numbers.{image_number};
 
 use crate::decoding::Fetch;
+use crate::map::{ADDRESS_END, RAM_WORDS, ROM_FIRST, ROM_LAST};
 use byteorder::{ByteOrder, LittleEndian};
 use std::marker::Model;
+use thiserror::Error;
 
 /// Why bytes are no image.
-#[derive(Clone, Copy, Debug, PartialEq, Eq)]
+#[derive(Clone, Copy, Debug, PartialEq, Eq, Error)]
 pub enum ImageFault {
-    /// Refusal 1: a ROM has exactly 2048 bytes.
+    /// 1: a ROM has exactly 2048 bytes.
+    #[error("the ROM has a wrong length")]
     RomLength,
-    /// Refusal 2: a frame has 2 to 2048 bytes, an even number.
+    /// 2: a frame has 2 to 2048 bytes, an even number.
+    #[error("the frame has a wrong length")]
     FrameLength,
 }
+
+impl ImageFault {
+    /// The number of the refusal, as a report has it.
+    pub fn number(self) -> u8
+        ensures { result ≡ image_number self }
+    {
+        match self {
+            ImageFault::RomLength => 1,
+            ImageFault::FrameLength => 2,
+        }
+    }
+}
+
+/// How many bytes a ROM has, two for each of its addresses.
+const ROM_BYTES: usize = 2 * (ROM_LAST as usize + 1 - ROM_FIRST as usize);
+
+/// How many bytes a frame has at the most.
+const MOST_FRAME_BYTES: usize = 2 * RAM_WORDS as usize;
 
 /// The word of this number among the bytes, the low byte first (Asteroids schematics).
 fn word_at(bytes: &[u8], index: u16) -> u16
@@ -51,7 +74,7 @@ impl<'a> RomImage<'a> {
             (λ fault. (IsRomLength asteroids (length bytes.now) → ⊥) × (fault ≡ ImageFault.RomLength)) }
         ensures whole { IfOk result IsRom }
     {
-        if bytes.len() != 2048 {
+        if bytes.len() != ROM_BYTES {
             return Err(ImageFault::RomLength);
         }
         Ok(RomImage { bytes })
@@ -64,20 +87,20 @@ impl<'a> RomImage<'a> {
         ensures map { self.now.map ≡ asteroids }
     {
         let _bytes = self.bytes;
-        (0x800, 0xBFF)
+        (ROM_FIRST, ROM_LAST)
     }
 
     /// The word at a word address, `None` outside the ROM.
     pub fn word(&self, addr: u16) -> Option<u16>
         ensures word { result ≡ rom_word self.now addr }
-        ensures near { IfSome result (λ _. addr < 4096) }
+        ensures near { IfSome result (λ _. addr < ADDRESS_END) }
         ensures rom { IsRom self.now }
     {
         let bytes = self.bytes;
-        if addr < 0x800 || addr > 0xBFF {
+        if addr < ROM_FIRST || addr > ROM_LAST {
             return None;
         }
-        Some(word_at(bytes, addr - 0x800))
+        Some(word_at(bytes, addr - ROM_FIRST))
     }
 }
 
@@ -114,7 +137,7 @@ impl<'a> FrameImage<'a> {
             (λ fault. (IsFrameLength (length bytes.now) → ⊥) × (fault ≡ ImageFault.FrameLength)) }
         ensures whole { IfOk result IsFrame }
     {
-        if bytes.len() < 2 || bytes.len() > 2048 || bytes.len() % 2 != 0 {
+        if bytes.len() < 2 || bytes.len() > MOST_FRAME_BYTES || bytes.len() % 2 != 0 {
             return Err(ImageFault::FrameLength);
         }
         Ok(FrameImage { bytes })
@@ -131,7 +154,7 @@ impl<'a> FrameImage<'a> {
     /// The word at a word address, `None` past the last word.
     pub fn word(&self, addr: u16) -> Option<u16>
         ensures word { result ≡ frame_word self.now addr }
-        ensures near { IfSome result (λ _. addr < 4096) }
+        ensures near { IfSome result (λ _. addr < ADDRESS_END) }
     {
         if addr >= self.words() {
             return None;

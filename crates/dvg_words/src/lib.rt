@@ -11,10 +11,12 @@ mod decoding;
 mod image;
 mod instruction;
 pub mod laws;
+mod map;
 #[cfg(test)]
 mod tests;
 
-pub use beam::{Point, displacement, factor, on_screen};
+pub use beam::{Point, displacement, draw_move, factor, labs_place, on_screen, shift};
 pub use decoding::{Fetch, decode, is_long, read_cell};
 pub use image::{FrameImage, ImageFault, RomImage};
 pub use instruction::{Cell, Draw, Format, Instr};
+pub use map::{ADDRESS_END, RAM_WORDS, ROM_FIRST, ROM_LAST};

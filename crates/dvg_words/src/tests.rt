@@ -3,7 +3,8 @@
 ghost use Rattle.dvg_words.specs.Values.{DrawFits};
 
 use crate::{
-    Draw, FrameImage, ImageFault, Instr, RomImage, decode, displacement, factor, is_long, on_screen,
+    Draw, Format, FrameImage, ImageFault, Instr, Point, RomImage, decode, displacement, draw_move,
+    factor, is_long, labs_place, on_screen, shift,
 };
 use std::test::Fail;
 
@@ -83,6 +84,16 @@ fn moves_the_beam(rt: HostRuntime) {
         (short, 11, (-1536, -1536)),
     ];
     assert_eq!(rt; factor(long.lscale, 15), 512);
+    let from = labs_place(0, 128);
+    assert_eq!(rt; from, Point { x: 0, y: 131072 });
+    let to = shift(&from, &draw_move(&long, 0));
+    assert_eq!(rt;
+        to,
+        Point {
+            x: 1047552,
+            y: 916480
+        }
+    );
     for (draw, gscale, by) in rows {
         assert_eq!(rt; displacement(&draw, gscale), by, "at global scale {gscale}");
     }
@@ -91,6 +102,7 @@ fn moves_the_beam(rt: HostRuntime) {
 #[test]
 fn knows_the_screen(rt: HostRuntime) {
     assert!(rt; is_long(0xA000) && !is_long(0xB000));
+    assert_eq!(rt; (Format::Long.words(), Format::Short.words()), (2, 1));
     for (x, y, is_on) in [
         (0, 0, true),
         (1047552, 1047552, true),
@@ -139,6 +151,13 @@ fn refuses_wrong_lengths(rt: HostRuntime) {
         let fault = RomImage::from_bytes(&bytes[..length]).err();
         assert_eq!(rt; fault, Some(ImageFault::RomLength), "at {length}");
     }
+    assert_eq!(rt;
+        (
+            ImageFault::RomLength.number(),
+            ImageFault::FrameLength.number()
+        ),
+        (1, 2)
+    );
     for length in [0usize, 1, 3, 2049, 2050] {
         let fault = FrameImage::from_bytes(&bytes[..length]).err();
         assert_eq!(rt; fault, Some(ImageFault::FrameLength), "at {length}");
