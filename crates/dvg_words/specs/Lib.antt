@@ -4,3 +4,4 @@ pub mod Memory
 pub mod Beam
 pub mod Generator
 pub mod Laws
+pub mod Example
