@@ -1,0 +1,51 @@
+-- The stored return places are at most `max_stack`, in each state of each run.
+use Rattle.std.proofs.Common.{arith, subst, zero, suc, ◌≤◌, ◌∷◌, ℕ, [], List, Bool, true, false, nat_lt, length}
+use Rattle.dvg_words.specs.Decoding.{Format, Cell, Instr, Missing, Odd, Holds, cell_at}
+use Rattle.dvg_words.specs.Generator.{State, Status, Running, Halted, Fault, Step, Reached, after_call, after_return, after_instruction, after_cell, after_fetch, next_status}
+use Rattle.dvg_words.specs.Laws.{state_of, StackWithinMax}
+use Rattle.dvg_words.specs.Memory.{Memory, word_at}
+use Rattle.dvg_words.specs.declared.instruction.Instr.TheVariants.{Draw as Draws, Labs, Halt, Jsrl, Rtsl, Jmpl}
+
+abbrev StackWithin : State → Type 0
+StackWithin s = length s.return_stack ≤ s.max_stack
+
+-- ---- one step
+
+within_call : (room : Bool) (to : ℕ) (s : State) → StackWithin s → StackWithin (state_of (after_call room to s))
+within_call true to s h = omega arith
+within_call false to s h = h
+
+within_return : (stack : List ℕ) (s : State) → length stack ≤ s.max_stack → StackWithin s → StackWithin (state_of (after_return stack s))
+within_return [] s some h = h
+within_return (back ∷ rest) s some h = omega (arith, some)
+
+within_instruction : (i : Instr) (format : Format) (s : State) → StackWithin s → StackWithin (state_of (after_instruction i format s))
+within_instruction (Draws d) format s h = h
+within_instruction (Labs x y gscale) format s h = h
+within_instruction Halt format s h = h
+within_instruction (Jsrl to) format s h = within_call (nat_lt (length s.return_stack) 4) to s h
+within_instruction Rtsl format s h = within_return s.return_stack s h h
+within_instruction (Jmpl to) format s h = h
+
+within_cell : (cell : Cell) (s : State) → StackWithin s → StackWithin (state_of (after_cell cell s))
+within_cell Missing s h = h
+within_cell Odd s h = h
+within_cell (Holds format i) s h = within_instruction i format s h
+
+within_next : (m : Memory) (s : State) → StackWithin s → StackWithin (state_of (next_status m s))
+unfolding next_status
+within_next m s h = within_cell (cell_at (word_at m) s.pc) (after_fetch m s) h
+
+within_step : (m : Memory) (a b : Status) → Step m a b → StackWithin (state_of a) → StackWithin (state_of b)
+within_step m (Running s) b step h = subst (λ status. StackWithin (state_of status)) step (within_next m s h)
+within_step m (Halted s) b step h = absurd step
+within_step m (Fault s) b step h = absurd step
+
+-- ---- runs
+
+within_run : (m : Memory) (steps : ℕ) (a b : Status) → Reached m steps a b → StackWithin (state_of a) → StackWithin (state_of b)
+within_run m zero a b reached h = subst (λ status. StackWithin (state_of status)) reached h
+within_run m (suc steps) a b reached h = within_run m steps reached.0 b reached.2 (within_step m a reached.0 reached.1 h)
+
+pub stack_within_max : StackWithinMax
+stack_within_max m place scale steps after reached = within_run m steps _ after reached (omega arith)
