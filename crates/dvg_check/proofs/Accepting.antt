@@ -4,13 +4,12 @@ use Rattle.std.specs.Prelude.{Err, Ok, Result}
 use Rattle.dvg_words.specs.Memory.{Rom, IsFrame, IsRom, words_of, rom_of}
 use Rattle.dvg_words.specs.Values.{MemoryMap, Window}
 use Rattle.dvg_words.specs.declared.image.ImageFault.TheVariants.{RomLength, FrameLength}
-use Rattle.dvg_cert.specs.Laws.{OneList, OneAnswer}
-use Rattle.dvg_cert.specs.Laws.{NotMemory as HasMemory}
+use Rattle.dvg_cert.specs.Laws.{OneList, OneAnswer, NotMemory as HasMemory}
 use Rattle.dvg_cert.specs.Reading.{ReadAnswer}
 use Rattle.dvg_cert.specs.declared.entry.Entry.{Entry}
 use Rattle.dvg_cert.specs.declared.fault.CertFault.{CertFault}
 use Rattle.dvg_cert.specs.declared.fault.CertWhy.TheVariants.{Memory}
-use Rattle.dvg_check.specs.Private.Running.{IsSomeCertificate}
+use Rattle.dvg_items.specs.Bounds.{IsSomeCertificate}
 use Rattle.dvg_check.specs.Laws.{OneVerdict}
 use Rattle.dvg_check.specs.Rules.{Good, GoodFrame}
 use Rattle.dvg_check.specs.Safety.{Safe}
@@ -22,7 +21,7 @@ use Rattle.dvg_check.specs.declared.verdict.Refusal.TheVariants as refusal
 use Rattle.dvg_check.specs.declared.verdict.Yes.{Yes}
 use Rattle.dvg_check.proofs.Faults.{one_count, one_fault, no_fault, one_shape_fault, no_shape_fault}
 use Rattle.dvg_check.proofs.FrameLaws.{good_is_safe}
-use Rattle.dvg_check.proofs.Near.{listed_claim}
+use Rattle.dvg_items.proofs.Listed.{listed_claim}
 
 -- the shapes and the frame of a certificate's list are safe
 pub safe_of_good : (w : Window) (frame : List ℕ) (rom : Rom) (list : List Entry) (budget words depth : ℕ) → IsSomeCertificate list → IsFrame frame → IsRom rom → Good Bound w rom list → GoodFrame w frame list budget words depth → Safe (record { frame = frame; rom = rom }) w words depth

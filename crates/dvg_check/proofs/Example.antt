@@ -4,23 +4,25 @@ use Rattle.std.proofs.lemmas.Int.{ints}
 use Rattle.std.proofs.lemmas.List.{length-replicate}
 use Rattle.dvg_words.specs.Beam.{displacement, screen}
 use Rattle.dvg_words.specs.Decoding.{cell_at, instruction_of}
+use Rattle.dvg_words.specs.Example.{example_rom, example_frame}
 use Rattle.dvg_words.specs.Memory.{IsMemory, frame_word, rom_word}
 use Rattle.dvg_words.specs.Values.{DrawFields, asteroids}
 use Rattle.dvg_words.specs.declared.instruction.Cell.TheVariants.{Holds}
 use Rattle.dvg_words.specs.declared.instruction.Format.TheVariants.{Long, Short}
 use Rattle.dvg_words.specs.declared.instruction.Instr.TheVariants.{Draw as Draws, Labs, Halt, Jsrl, Rtsl}
 use Rattle.dvg_cert.specs.Order.{IsCertificate}
-use Rattle.dvg_check.specs.Example.{example_rom, example_entry, example_list, example_frame, WorkedExample}
-use Rattle.dvg_check.specs.Known.{shape_context, frame_context}
-use Rattle.dvg_check.specs.Rules.{ShapeKeeps, FrameKeeps, ShapePlaceKeeps, FramePlaceKeeps, CellKeeps, AsClaimed, GoodShape, Good, AllKeep, sight}
+use Rattle.dvg_check.specs.Example.{example_entry, example_list, WorkedExample}
+use Rattle.dvg_items.specs.Known.{shape_context, frame_context}
+use Rattle.dvg_check.specs.Rules.{ShapeKeeps, FrameKeeps, ShapePlaceKeeps, FramePlaceKeeps, CellKeeps, AsClaimed, GoodShape, Good, AllKeep}
+use Rattle.dvg_items.specs.Seen.{sight}
 use Rattle.dvg_check.specs.declared.fault.FrameWhy.{FrameWhy}
 use Rattle.dvg_check.specs.declared.fault.FrameWhy.TheVariants as frame
 use Rattle.dvg_check.specs.declared.fault.Mode.{Mode}
 use Rattle.dvg_check.specs.declared.fault.Mode.TheVariants.{Bound, Exact}
 use Rattle.dvg_check.specs.declared.fault.ShapeWhy.{ShapeWhy}
 use Rattle.dvg_check.specs.declared.fault.ShapeWhy.TheVariants as shape
-use Rattle.dvg_check.specs.declared.item.Item.{Item}
-use Rattle.dvg_check.specs.declared.item.Kind.TheVariants.{Shape, Frame}
+use Rattle.dvg_items.specs.declared.item.Item.{Item}
+use Rattle.dvg_items.specs.declared.item.Kind.TheVariants.{Shape, Frame}
 use Rattle.dvg_check.proofs.Faults.{all_kept}
 
 -- ---- the shape
@@ -56,7 +58,7 @@ draw_keeps mode shape.TooManyWords = omega arith
 draw_keeps mode shape.EndDiffers = tt
 draw_keeps mode shape.ScaleDiffers = tt
 draw_keeps mode shape.BoxTooSmall =
-    (record { left = omega (arith, ints); right = omega (arith, ints); bottom = omega (arith, ints); top = omega (arith, ints) }, record { left = omega (arith, ints); right = omega (arith, ints); bottom = omega (arith, ints); top = omega (arith, ints) })
+    (record { left = omega (arith, ints); right = omega (arith, ints); bottom = omega (arith, ints); top = omega (arith, ints) }, (record { left = omega (arith, ints); right = omega (arith, ints); bottom = omega (arith, ints); top = omega (arith, ints) }, tt))
 draw_keeps mode shape.WordsDiffer = tt
 draw_keeps mode shape.DepthDiffers = tt
 
@@ -137,7 +139,7 @@ call_keeps frame.BackJump = tt
 call_keeps frame.BeamUnknown = λ e. cc
 call_keeps frame.ScaleUnknown = tt
 call_keeps frame.OffScreen =
-    (record { left = omega (arith, ints); right = omega (arith, ints); bottom = omega (arith, ints); top = omega (arith, ints) }, record { left = omega (arith, ints); right = omega (arith, ints); bottom = omega (arith, ints); top = omega (arith, ints) })
+    (record { left = omega (arith, ints); right = omega (arith, ints); bottom = omega (arith, ints); top = omega (arith, ints) }, (record { left = omega (arith, ints); right = omega (arith, ints); bottom = omega (arith, ints); top = omega (arith, ints) }, tt))
 call_keeps frame.NoEntry = tt
 call_keeps frame.Budget = omega arith
 

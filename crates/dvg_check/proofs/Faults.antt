@@ -10,112 +10,63 @@ use Rattle.dvg_words.specs.Values.{Window}
 use Rattle.dvg_words.specs.declared.instruction.Cell.TheVariants.{Holds}
 use Rattle.dvg_words.specs.declared.instruction.Instr.TheVariants.{Halt}
 use Rattle.dvg_cert.specs.declared.entry.Entry.{Entry}
+use Rattle.dvg_items.proofs.Leading.{Same, same_lead, too_long, shorter, everywhere}
 use Rattle.dvg_check.specs.FirstFault.{AllBefore, FaultAt, frame_number, shape_number, ShapeFaultAt}
-use Rattle.dvg_check.specs.Items.{LeadsTo, next_place}
-use Rattle.dvg_check.specs.Known.{words_before, frame_context, depth_before}
+use Rattle.dvg_items.specs.Items.{LeadsTo, next_place}
+use Rattle.dvg_items.specs.Known.{words_before, frame_context, depth_before}
 use Rattle.dvg_check.specs.Laws.{OneFault, NoFault, OneCount, NoShapeFault, OneShapeFault}
 use Rattle.dvg_check.specs.Rules.{AllKeep, FramePlaceKeeps, GoodFrame, ShapePlaceKeeps, GoodShape}
 use Rattle.dvg_check.specs.declared.fault.FrameWhy.{FrameWhy}
 use Rattle.dvg_check.specs.declared.fault.FrameWhy.TheVariants as frame
 use Rattle.dvg_check.specs.declared.fault.ShapeWhy.{ShapeWhy}
 use Rattle.dvg_check.specs.declared.fault.ShapeWhy.TheVariants as shape
-use Rattle.dvg_check.specs.declared.item.Item.{Item}
-use Rattle.dvg_check.specs.declared.item.Kind.{Kind}
-use Rattle.dvg_check.specs.declared.item.Kind.TheVariants.{Frame, Shape}
+use Rattle.dvg_items.specs.declared.item.Item.{Item}
+use Rattle.dvg_items.specs.declared.item.Kind.{Kind}
+use Rattle.dvg_items.specs.declared.item.Kind.TheVariants.{Frame, Shape}
 
-pub record Same (a b : List Item) (p q : ℕ) : Type 0 where
-  pub items : a ≡ b
-  pub place : p ≡ q
+module _ (kind : Kind) (word : ℕ → Option ℕ) (first : ℕ) (Why : Type 0) (keeps : List Item → ℕ → Why → Type 0) where
+  -- what each rule says of a place
+  abbrev AllKept : List Item → ℕ → Type 0
+  AllKept earlier p = (why : Why) → keeps earlier p why
 
-item_same : (i j : Item) → i.at ≡ j.at → Holds i.format i.instr ≡ Holds j.format j.instr → i ≡ j
-item_same i j a e =
-    let l : i.format ≡ j.format = cc in
-    let k : i.instr ≡ j.instr = cc in
-    λ x. record { at = a x; format = l x; instr = k x }
+  -- what a walk to the last item keeps, every place keeps
+  pub all_kept : (items : List Item) (i : Item) → LeadsTo kind word first items i.at → cell_at word i.at ≡ Holds i.format i.instr → next_place kind i ≡ None → AllBefore keeps (i ∷ items) → AllKeep kind word first keeps
+  all_kept items i lead is last kept = everywhere kind word first AllKept items i lead is last kept
 
-module _ (kind : Kind) (word : ℕ → Option ℕ) (first : ℕ) where
-  -- as many items lead to one place
-  pub same_lead : (a b : List Item) (p q : ℕ) → LeadsTo kind word first a p → LeadsTo kind word first b q → length a ≡ length b → Same a b p q
-  same_lead [] [] p q h k e = record { items = refl; place = h ∙ sym k }
-  same_lead [] (j ∷ b) p q h k e = absurd (omega arith)
-  same_lead (i ∷ a) [] p q h k e = absurd (omega arith)
-  same_lead (i ∷ a) (j ∷ b) p q h k e =
-      let s = same_lead a b i.at j.at h.0 k.0 (omega arith) in
-      let same : i ≡ j = item_same i j s.place (sym h.1 ∙ ap (cell_at word) s.place ∙ k.1) in
-      let goes : next_place kind i ≡ next_place kind j = ap (next_place kind) same in
-      let place : Some p ≡ Some q = sym h.2 ∙ goes ∙ k.2 in
-      record { items = cc (same, s.items); place = cc place }
+  module _ (order : Why → ℕ) where
+    -- a fault and none exclude each other
+    pub fault_or_none : (at : ℕ) (why : Why) → FaultAt order kind word first keeps at why → AllKeep kind word first keeps → ⊥
+    fault_or_none at why f all = f.breaks (all f.items at f.leads why)
 
-  -- nothing leads past a last item
-  pub too_long : (items : List Item) (i : Item) → LeadsTo kind word first items i.at → cell_at word i.at ≡ Holds i.format i.instr → next_place kind i ≡ None → (earlier : List Item) (q : ℕ) → LeadsTo kind word first earlier q → length items < length earlier → ⊥
-  too_long items i lead is last [] q h lt = omega arith
-  too_long items i lead is last (j ∷ earlier) q h lt =
-      ⊎_elim
-      (λ less. too_long items i lead is last earlier j.at h.0 less)
-      (λ le.
-      let s = same_lead earlier items j.at i.at h.0 lead (omega arith) in
-      let same : j ≡ i = item_same j i s.place (sym h.1 ∙ ap (cell_at word) s.place ∙ is) in
-      let no : Some q ≡ None = sym h.2 ∙ ap (next_place kind) same ∙ last in
-      cc no)
-      (cases_lt (length items) (length earlier))
+    -- the fault of fewer items stretch first
+    not_before : (p q : ℕ) (u v : Why) → (f : FaultAt order kind word first keeps p u) → (g : FaultAt order kind word first keeps q v) → length f.items < length g.items → ⊥
+    not_before p q u v f g less = f.breaks (shorter kind word first AllKept g.items q g.leads g.before f.items p f.leads less u)
 
-  module _ (Why : Type 0) (keeps : List Item → ℕ → Why → Type 0) where
-    here_same : (a b : List Item) (p q : ℕ) → Same a b p q → ((why : Why) → keeps b q why) → (why : Why) → keeps a p why
-    here_same a b p q s h why = subst (λ x. keeps x p why) (sym s.items) (subst (λ x. keeps b x why) (sym s.place) (h why))
-
-    shorter : (items : List Item) (p : ℕ) → LeadsTo kind word first items p → AllBefore keeps items → (earlier : List Item) (q : ℕ) → LeadsTo kind word first earlier q → length earlier < length items → (why : Why) → keeps earlier q why
-    shorter [] p lead kept earlier q h lt = absurd (omega arith)
-    shorter (i ∷ items) p lead kept earlier q h lt =
+    pub same_items : (p q : ℕ) (u v : Why) → (f : FaultAt order kind word first keeps p u) → (g : FaultAt order kind word first keeps q v) → Same f.items g.items p q
+    same_items p q u v f g =
         ⊎_elim
-        (λ less. shorter items i.at lead.0 kept.0 earlier q h less)
-        (λ le. here_same earlier items q i.at (same_lead earlier items q i.at h lead.0 (omega arith)) kept.1)
-        (cases_lt (length earlier) (length items))
-
-    -- what a walk to the last item has sight
-    pub all_kept : (items : List Item) (i : Item) → LeadsTo kind word first items i.at → cell_at word i.at ≡ Holds i.format i.instr → next_place kind i ≡ None → AllBefore keeps (i ∷ items) → AllKeep kind word first keeps
-    all_kept items i lead is last kept earlier q h =
-        ⊎_elim
-        (λ less. shorter items i.at lead kept.0 earlier q h less)
+        (λ less. absurd (not_before p q u v f g less))
         (λ le. ⊎_elim
-        (λ more. absurd (too_long items i lead is last earlier q h more))
-        (λ ge. here_same earlier items q i.at (same_lead earlier items q i.at h lead (omega arith)) kept.1)
-        (cases_lt (length items) (length earlier)))
-        (cases_lt (length earlier) (length items))
+        (λ more. absurd (not_before q p v u g f more))
+        (λ ge. same_lead kind word first f.items g.items p q f.leads g.leads (omega arith))
+        (cases_lt (length g.items) (length f.items)))
+        (cases_lt (length f.items) (length g.items))
 
-    module _ (order : Why → ℕ) where
-      -- a fault and none exclude each other
-      pub fault_or_none : (at : ℕ) (why : Why) → FaultAt order kind word first keeps at why → AllKeep kind word first keeps → ⊥
-      fault_or_none at why f all = f.breaks (all f.items at f.leads why)
+    not_lower : (p q : ℕ) (u v : Why) → (f : FaultAt order kind word first keeps p u) → (g : FaultAt order kind word first keeps q v) → order u < order v → ⊥
+    not_lower p q u v f g less =
+        let s = same_items p q u v f g in
+        f.breaks (subst (λ x. keeps x p u) (sym s.items) (subst (λ x. keeps g.items x u) (sym s.place) (g.lowest u less)))
 
-      -- the fault of fewer items stretch first
-      not_before : (p q : ℕ) (u v : Why) → (f : FaultAt order kind word first keeps p u) → (g : FaultAt order kind word first keeps q v) → length f.items < length g.items → ⊥
-      not_before p q u v f g less = f.breaks (shorter g.items q g.leads g.before f.items p f.leads less u)
-
-      pub same_items : (p q : ℕ) (u v : Why) → (f : FaultAt order kind word first keeps p u) → (g : FaultAt order kind word first keeps q v) → Same f.items g.items p q
-      same_items p q u v f g =
-          ⊎_elim
-          (λ less. absurd (not_before p q u v f g less))
-          (λ le. ⊎_elim
-          (λ more. absurd (not_before q p v u g f more))
-          (λ ge. same_lead f.items g.items p q f.leads g.leads (omega arith))
-          (cases_lt (length g.items) (length f.items)))
-          (cases_lt (length f.items) (length g.items))
-
-      not_lower : (p q : ℕ) (u v : Why) → (f : FaultAt order kind word first keeps p u) → (g : FaultAt order kind word first keeps q v) → order u < order v → ⊥
-      not_lower p q u v f g less =
-          let s = same_items p q u v f g in
-          f.breaks (subst (λ x. keeps x p u) (sym s.items) (subst (λ x. keeps g.items x u) (sym s.place) (g.lowest u less)))
-
-      -- and the lowest rule is one
-      pub same_order : (p q : ℕ) (u v : Why) → (f : FaultAt order kind word first keeps p u) → (g : FaultAt order kind word first keeps q v) → order u ≡ order v
-      same_order p q u v f g =
-          ⊎_elim
-          (λ less. absurd (not_lower p q u v f g less))
-          (λ le. ⊎_elim
-          (λ more. absurd (not_lower q p v u g f more))
-          (λ ge. omega arith)
-          (cases_lt (order v) (order u)))
-          (cases_lt (order u) (order v))
+    -- and the lowest rule is one
+    pub same_order : (p q : ℕ) (u v : Why) → (f : FaultAt order kind word first keeps p u) → (g : FaultAt order kind word first keeps q v) → order u ≡ order v
+    same_order p q u v f g =
+        ⊎_elim
+        (λ less. absurd (not_lower p q u v f g less))
+        (λ le. ⊎_elim
+        (λ more. absurd (not_lower q p v u g f more))
+        (λ ge. omega arith)
+        (cases_lt (order v) (order u)))
+        (cases_lt (order u) (order v))
 
 -- ---- frames
 

@@ -19,25 +19,28 @@ use Rattle.dvg_cert.specs.declared.entry.Entry.{Entry}
 use Rattle.dvg_cert.specs.declared.entry.LitBox.{LitBox}
 use Rattle.dvg_cert.specs.declared.entry.LitBox.TheVariants.{Empty}
 use Rattle.dvg_check.specs.Behaving.{Counts, LitFits, Stretch}
-use Rattle.dvg_check.specs.Items.{LeadsTo}
-use Rattle.dvg_check.specs.Known.{fixed_place, place_moved_by, place_before, frame_context, effects, total_move, depth_under, depth_before, callee, words_before}
+use Rattle.dvg_items.specs.Items.{LeadsTo}
+use Rattle.dvg_items.specs.Known.{place_past, place_moved_by, place_before, frame_context, depth_under, depth_before, callee, words_before}
 use Rattle.dvg_check.specs.Laws.{GoodIsSafe, ExactIsExact}
-use Rattle.dvg_check.specs.Lit.{LitInBox, extent}
-use Rattle.dvg_check.specs.Rules.{Good, AllKeep, FramePlaceKeeps, FrameKeeps, sight, CellKeeps, GoodFrame}
+use Rattle.dvg_items.specs.Lit.{LitInBox}
+use Rattle.dvg_items.specs.Seen.{extent, sight}
+use Rattle.dvg_check.specs.Rules.{Good, AllKeep, FramePlaceKeeps, FrameKeeps, CellKeeps, GoodFrame}
 use Rattle.dvg_check.specs.Safety.{Ends, IsSafeStatus, IsSafeState}
 use Rattle.dvg_check.specs.declared.fault.FrameWhy.{FrameWhy}
 use Rattle.dvg_check.specs.declared.fault.FrameWhy.TheVariants as frame
 use Rattle.dvg_check.specs.declared.fault.Mode.{Mode}
 use Rattle.dvg_check.specs.declared.fault.Mode.TheVariants.{Bound, Exact}
-use Rattle.dvg_check.specs.declared.item.Item.{Item}
-use Rattle.dvg_check.specs.declared.item.Kind.TheVariants.{Frame}
-use Rattle.dvg_check.specs.declared.known.Effect.{Effect}
-use Rattle.dvg_check.specs.declared.known.Effect.TheVariants.{Sets, Loses, Moves}
-use Rattle.dvg_check.specs.declared.known.LitExtent.{LitExtent}
-use Rattle.dvg_check.specs.declared.known.LitExtent.TheVariants.{Nothing, Anywhere, Between}
+use Rattle.dvg_items.specs.declared.item.Item.{Item}
+use Rattle.dvg_items.specs.declared.item.Kind.TheVariants.{Frame}
+use Rattle.dvg_items.specs.declared.known.Effect.{Effect}
+use Rattle.dvg_items.specs.declared.known.Effect.TheVariants.{Sets, Loses, Moves}
+use Rattle.dvg_items.specs.declared.lit.LitExtent.{LitExtent}
+use Rattle.dvg_items.specs.declared.lit.LitExtent.TheVariants.{Nothing, Anywhere, Between}
 use Rattle.dvg_check.proofs.Onward.{Stands}
 use Rattle.dvg_check.proofs.Runs.{reached_on, counts_sum, counts_same, AllByRecursion-append, AllByRecursion-map, rest_of, Grows, AllByRecursion-back, grows, stretch_as}
-use Rattle.dvg_check.proofs.ShapeLaws.{named_listed, word_count-some, Facts, all_shapes, arrive}
+use Rattle.dvg_items.proofs.Listed.{named_listed}
+use Rattle.dvg_items.proofs.Near.{word_count-some}
+use Rattle.dvg_check.proofs.ShapeLaws.{Facts, all_shapes, arrive}
 use Rattle.dvg_check.proofs.Steps.{next_there, own, stands}
 
 -- ---- a frame's known place is never relative
@@ -47,26 +50,24 @@ NotRelative (Rel x y) = ⊥
 NotRelative (Abs x y) = Unit {0}
 NotRelative Lost = Unit {0}
 
-by_effects : (es : List Effect) → NotRelative (fixed_place Lost es)
-by_effects [] = tt
-by_effects (Sets p ∷ es) = tt
-by_effects (Loses ∷ es) = tt
-by_effects (Moves d ∷ es) = by_effects es
-
 by_move : (k : End) (d : Point) → NotRelative k → NotRelative (place_moved_by k d)
 by_move (Rel x y) d h = h
 by_move (Abs x y) d h = tt
 by_move Lost d h = tt
 
+by_effect : (f : Effect) (k : End) → NotRelative k → NotRelative (place_past f k)
+by_effect (Sets p) k h = tt
+by_effect Loses k h = tt
+by_effect (Moves d) k h = by_move k d h
+
 frame_place : (list : List Entry) (items : List Item) → NotRelative (place_before (frame_context list) items)
-frame_place list items = by_move (fixed_place Lost (effects (frame_context list) items)) (total_move (effects (frame_context list) items)) (by_effects (effects (frame_context list) items))
+frame_place list [] = tt
+frame_place list (i ∷ items) = by_effect _ (place_before (frame_context list) items) (frame_place list items)
 
 no_box : (box : LitBox) (l : LitExtent) (k : End) → NotRelative k → LitInBox box l k
-no_box box Nothing k h = tt
-no_box box Anywhere k h = tt
-no_box box (Between a b) (Rel x y) h = absurd h
-no_box box (Between a b) (Abs x y) h = tt
-no_box box (Between a b) Lost h = tt
+no_box box l (Rel x y) h = absurd h
+no_box box l (Abs x y) h = tt
+no_box box l Lost h = tt
 
 -- ---- depth
 

@@ -10,15 +10,16 @@ use Rattle.dvg_words.specs.declared.instruction.Format.{Format}
 use Rattle.dvg_words.specs.declared.instruction.Instr.{Instr}
 use Rattle.dvg_words.specs.declared.instruction.Instr.TheVariants.{Rtsl, Halt, Draw as Draws, Labs, Jsrl, Jmpl}
 use Rattle.dvg_cert.specs.declared.entry.Entry.{Entry}
-use Rattle.dvg_check.specs.Items.{place_after, LeadsTo}
-use Rattle.dvg_check.specs.Known.{known_before, frame_context}
-use Rattle.dvg_check.specs.Rules.{IsForward, AllKeep, FramePlaceKeeps, GoodFrame, FrameKeeps, sight, CellKeeps}
-use Rattle.dvg_check.specs.Private.Running.{WalksTo}
+use Rattle.dvg_items.specs.Items.{place_after, LeadsTo}
+use Rattle.dvg_items.specs.Known.{known_before, frame_context}
+use Rattle.dvg_check.specs.Rules.{IsForward, AllKeep, FramePlaceKeeps, GoodFrame, FrameKeeps, CellKeeps}
+use Rattle.dvg_items.specs.Seen.{sight}
+use Rattle.dvg_check.specs.Private.Judging.{WalksTo}
 use Rattle.dvg_check.specs.declared.fault.FrameWhy.{FrameWhy}
 use Rattle.dvg_check.specs.declared.fault.FrameWhy.TheVariants as frame
-use Rattle.dvg_check.specs.declared.item.Item.{Item}
-use Rattle.dvg_check.specs.declared.item.Kind.TheVariants.{Frame}
-use Rattle.dvg_check.specs.declared.known.Known.{Known}
+use Rattle.dvg_items.specs.declared.item.Item.{Item}
+use Rattle.dvg_items.specs.declared.item.Kind.TheVariants.{Frame}
+use Rattle.dvg_items.specs.declared.known.Known.{Known}
 
 -- the last item of a frame is a halt
 last_halts : (at : ℕ) (format : Format) (instr : Instr) → place_after Frame at format instr ≡ None → (instr ≡ Rtsl → ⊥) → IsForward at instr → instr ≡ Halt

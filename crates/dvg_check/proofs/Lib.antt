@@ -6,10 +6,8 @@ pub mod FrameLaws
 pub mod Faults
 pub mod Passing
 pub mod Table
-pub mod Near
 pub mod Scaling
 pub mod Sizes
-pub mod Reaches
 pub mod Loop
 pub mod FrameWalk
 pub mod Accepting

@@ -12,65 +12,36 @@ use Rattle.dvg_words.specs.declared.instruction.Instr.TheVariants.{Draw as Draws
 use Rattle.dvg_cert.specs.declared.entry.Entry.{Entry}
 use Rattle.dvg_cert.specs.declared.entry.Key.{Key}
 use Rattle.dvg_check.specs.FirstFault.{AllBefore, FaultAt}
-use Rattle.dvg_check.specs.Items.{place_after, next_place, LeadsTo}
-use Rattle.dvg_check.specs.Known.{Context, known_before}
+use Rattle.dvg_items.specs.Items.{place_after, next_place, LeadsTo}
+use Rattle.dvg_items.specs.Known.{Context, known_before}
 use Rattle.dvg_check.specs.Private.Runs.{FormattedDraw, KeepsOver, PassesTo}
-use Rattle.dvg_check.specs.Private.Running.{IsSound, sight_by, sight_with, WalksTo, KeepsAll, BreaksFirst}
-use Rattle.dvg_check.specs.Rules.{PlaceKeeps, CellKeeps, sight}
-use Rattle.dvg_check.specs.declared.item.Item.{Item}
-use Rattle.dvg_check.specs.declared.item.Kind.{Kind}
-use Rattle.dvg_check.specs.declared.item.Kind.TheVariants.{Shape, Frame}
-use Rattle.dvg_check.specs.declared.known.Known.{Known}
-use Rattle.dvg_check.specs.declared.known.Seen.{Seen}
+use Rattle.dvg_check.specs.Private.Judging.{sight_by, WalksTo, KeepsAll, BreaksFirst}
+use Rattle.dvg_items.specs.Seen.{sight_with, sight}
+use Rattle.dvg_check.specs.Rules.{PlaceKeeps, CellKeeps}
+use Rattle.dvg_items.specs.declared.item.Item.{Item}
+use Rattle.dvg_items.specs.declared.item.Kind.{Kind}
+use Rattle.dvg_items.specs.declared.item.Kind.TheVariants.{Shape, Frame}
+use Rattle.dvg_items.specs.declared.known.Known.{Known}
+use Rattle.dvg_items.specs.declared.seen.Seen.{Seen}
+use Rattle.dvg_items.specs.Bounds.{IsSoundCursor, IsSoundStep}
+use Rattle.dvg_items.specs.declared.cursor.Cursor.{Cursor}
+use Rattle.dvg_items.specs.declared.cursor.Step.{Step}
+use Rattle.dvg_items.specs.declared.cursor.Step.TheVariants.{Onward, Last}
+use Rattle.dvg_items.specs.Cursor.{first_cursor, step_to}
 use Rattle.dvg_check.proofs.Faults.{all_kept}
-use Rattle.dvg_check.proofs.Near.{IsNearPlace-more, sight_known}
-use Rattle.dvg_check.proofs.ShapeLaws.{word_count-some}
-
--- ---- one place on
-
-word_count-few : (format : Format) → word_count format ≤ 2
-word_count-few Short = omega arith
-word_count-few Long = omega arith
-
-further : (kind : Kind) (at : ℕ) (format : Format) (instr : Instr) (p : ℕ) → place_after kind at format instr ≡ Some p → at + 1 ≤ p
-further kind at format (Draws d) p e = let q : at + word_count format ≡ p = cc in omega (arith, q, word_count-some format)
-further kind at format (Labs x y g) p e = let q : at + word_count format ≡ p = cc in omega (arith, q, word_count-some format)
-further kind at format Halt p e = cc
-further kind at format (Jsrl to) p e = let q : at + word_count format ≡ p = cc in omega (arith, q, word_count-some format)
-further kind at format Rtsl p e = cc
-further Shape at format (Jmpl to) p e = cc
-further Frame at format (Jmpl to) p e = by_test (nat_lt at to) refl e
-  where
-    by_test : (b : Bool) → nat_lt at to ≡ b → (if b then Some to else None) ≡ Some p → at + 1 ≤ p
-    by_test true t f = let lt : at < to = grind (arith, nat_tests) in let q : to ≡ p = cc in omega (arith, lt, q)
-    by_test false t f = cc
-
-pub next_further : (kind : Kind) (i : Item) (p : ℕ) → next_place kind i ≡ Some p → i.at + 1 ≤ p
-next_further kind i p e = further kind i.at i.format i.instr p e
-
-pub next_near : (kind : Kind) (at : ℕ) (format : Format) (instr : Instr) (p : ℕ) → at < 4096 → InstrFits instr → place_after kind at format instr ≡ Some p → p ≤ 4098
-next_near kind at format (Draws d) p lt h e = let q : at + word_count format ≡ p = cc in omega (arith, q, lt, word_count-few format)
-next_near kind at format (Labs x y g) p lt h e = let q : at + word_count format ≡ p = cc in omega (arith, q, lt, word_count-few format)
-next_near kind at format Halt p lt h e = cc
-next_near kind at format (Jsrl to) p lt h e = let q : at + word_count format ≡ p = cc in omega (arith, q, lt, word_count-few format)
-next_near kind at format Rtsl p lt h e = cc
-next_near Shape at format (Jmpl to) p lt h e = cc
-next_near Frame at format (Jmpl to) p lt h e = by_test (nat_lt at to) e
-  where
-    by_test : (b : Bool) → (if b then Some to else None) ≡ Some p → p ≤ 4098
-    by_test true f = let q : to ≡ p = cc in omega (arith, q, h)
-    by_test false f = cc
 
 -- ---- the loop
 
--- the items so far: they lead to the place, their places keep all rules, and what is known is known of them
-pub record Walked {Why : Type 0} (c : Context) (word : ℕ → Option ℕ) (first : ℕ) (keeps : List Item → ℕ → Why → Type 0) (at : ℕ) (known : Known) : Type 0 where
+-- the items so far: they lead to the cursor, their places keep all rules, and what is known is known of them
+pub record Walked {Why : Type 0} (c : Context) (word : ℕ → Option ℕ) (first : ℕ) (keeps : List Item → ℕ → Why → Type 0) (cursor : Cursor) : Type 0 where
   pub items : List Item
-  pub leads : LeadsTo c.kind word first items at
+  pub leads : LeadsTo c.kind word first items cursor.at
   pub kept : AllBefore keeps items
-  pub knows : known ≡ known_before c items
-  pub sound : IsSound at known
-  pub close : at ≤ 4098
+  pub knows : cursor.known ≡ known_before c items
+  pub sound : IsSoundCursor cursor
+
+pub sight_known : (c : Context) (earlier : List Item) (i : Item) (known : Known) → known ≡ known_before c earlier → sight c earlier i ≡ sight_by c.list c.kind known i
+sight_known c earlier i known is = ap (λ (k : Known). sight_by c.list c.kind k i) (sym is)
 
 module _ (Why : Type 0) (order : Why → ℕ) (missing odd : Why) (Keeps : Seen → Why → Type 0) (kind : Kind) (list : List Entry) (scale : Key) (word : ℕ → Option ℕ) (first : ℕ) where
   abbrev context : Context
@@ -83,85 +54,95 @@ module _ (Why : Type 0) (order : Why → ℕ) (missing odd : Why) (Keeps : Seen 
   abbrev CellKept : List Item → ℕ → Why → Cell → Type 0
   CellKept items at why cell = CellKeeps missing odd (λ i. Keeps (sight context items i)) at cell why
 
-  pub begin : (known : Known) → known ≡ known_before context [] → IsSound 0 known → first < 4096 → Walked context word first keeps first known
-  begin known is sound lt =
+  pub begin : (cursor : Cursor) → cursor ≡ first_cursor kind first scale → IsSoundCursor cursor → Walked context word first keeps cursor
+  begin cursor is sound =
       record {
         items = [];
-        leads = refl;
+        leads = ap (λ (c : Cursor). c.at) is;
         kept = tt;
-        knows = is;
-        sound = record { place = IsNearPlace-more 0 first known.place (omega arith) sound.place; scale = sound.scale; words = sound.words; depth = sound.depth };
-        close = omega (arith, lt);
+        knows = ap (λ (c : Cursor). c.known) is;
+        sound = sound;
       }
 
-  pub at_missing : (at : ℕ) (known : Known) → Walked context word first keeps at known → cell_at word at ≡ Missing → FaultAt order kind word first keeps at missing
-  at_missing at known k is =
+  pub at_missing : (cursor : Cursor) → Walked context word first keeps cursor → cell_at word cursor.at ≡ Missing → FaultAt order kind word first keeps cursor.at missing
+  at_missing cursor k is =
       record {
         items = k.items;
         leads = k.leads;
         before = k.kept;
-        breaks = λ h. subst (CellKept k.items at missing) is h refl;
-        lowest = λ other lt. subst (CellKept k.items at other) (sym is) (λ e. let o : order other ≡ order missing = ap order e in omega (arith, o, lt));
+        breaks = λ h. subst (CellKept k.items cursor.at missing) is h refl;
+        lowest = λ other lt. subst (CellKept k.items cursor.at other) (sym is) (λ e. let o : order other ≡ order missing = ap order e in omega (arith, o, lt));
       }
 
-  pub at_odd : (at : ℕ) (known : Known) → Walked context word first keeps at known → cell_at word at ≡ Odd → FaultAt order kind word first keeps at odd
-  at_odd at known k is =
+  pub at_odd : (cursor : Cursor) → Walked context word first keeps cursor → cell_at word cursor.at ≡ Odd → FaultAt order kind word first keeps cursor.at odd
+  at_odd cursor k is =
       record {
         items = k.items;
         leads = k.leads;
         before = k.kept;
-        breaks = λ h. subst (CellKept k.items at odd) is h refl;
-        lowest = λ other lt. subst (CellKept k.items at other) (sym is) (λ e. let o : order other ≡ order odd = ap order e in omega (arith, o, lt));
+        breaks = λ h. subst (CellKept k.items cursor.at odd) is h refl;
+        lowest = λ other lt. subst (CellKept k.items cursor.at other) (sym is) (λ e. let o : order other ≡ order odd = ap order e in omega (arith, o, lt));
       }
 
   -- an item, as the code sees it and as the rules do
-  module _ (at : ℕ) (known : Known) (format : Format) (instr : Instr) (k : Walked context word first keeps at known) (is : cell_at word at ≡ Holds format instr) where
+  module _ (cursor : Cursor) (format : Format) (instr : Instr) (k : Walked context word first keeps cursor) (is : cell_at word cursor.at ≡ Holds format instr) where
     abbrev item : Item
-    item = record { at = at; format = format; instr = instr }
+    item = record { at = cursor.at; format = format; instr = instr }
 
     abbrev seen : Seen
-    seen = sight_by list kind known item
+    seen = sight_by list kind cursor.known item
 
     same : sight context k.items item ≡ seen
-    same = sight_known kind list scale k.items item known k.knows
+    same = sight_known context k.items item cursor.known k.knows
 
-    kept_here : (why : Why) → Keeps seen why → keeps k.items at why
-    kept_here why h = subst (CellKept k.items at why) (sym is) (subst (λ x. Keeps x why) (sym same) h)
+    kept_here : (why : Why) → Keeps seen why → keeps k.items cursor.at why
+    kept_here why h = subst (CellKept k.items cursor.at why) (sym is) (subst (λ x. Keeps x why) (sym same) h)
 
-    pub broken : (why : Why) → BreaksFirst order Keeps seen why → FaultAt order kind word first keeps at why
+    pub broken : (why : Why) → BreaksFirst order Keeps seen why → FaultAt order kind word first keeps cursor.at why
     broken why b =
         record {
           items = k.items;
           leads = k.leads;
           before = k.kept;
-          breaks = λ h. b.broken (subst (λ x. Keeps x why) same (subst (CellKept k.items at why) is h));
+          breaks = λ h. b.broken (subst (λ x. Keeps x why) same (subst (CellKept k.items cursor.at why) is h));
           lowest = λ other lt. kept_here other (b.lowest other lt);
         }
 
     known_on : (after : Known) → after ≡ seen.after → after ≡ known_before context (item ∷ k.items)
     known_on after e = e ∙ ap (λ (x : Seen). x.after) (sym same)
 
-    pub onward : (p : ℕ) (after : Known) → at < 4096 → InstrFits instr → KeepsAll Keeps seen after → next_place kind item ≡ Some p → Walked context word first keeps p after
-    onward p after lt fits h goes =
+    leads_on : (o : Option ℕ) (next : Cursor) → next_place kind item ≡ o → Onward next ≡ step_to o seen.after → (next_place kind item ≡ Some next.at) × (next.known ≡ seen.after)
+    leads_on None next e s = cc
+    leads_on (Some p) next e s =
+        let c : next ≡ record { at = p; known = seen.after } = cc s in
+        (e ∙ ap (λ (x : Cursor). Some x.at) (sym c), ap (λ (x : Cursor). x.known) c)
+
+    pub onward : (step : Step) (next : Cursor) → step ≡ Onward next → KeepsAll Keeps kind seen step → Walked context word first keeps next
+    onward step next step_is h =
+        let on = leads_on (next_place kind item) next refl (sym step_is ∙ h.leads) in
         record {
           items = item ∷ k.items;
-          leads = (k.leads, is, goes);
+          leads = (k.leads, is, on.0);
           kept = (k.kept, λ why. kept_here why (h.kept why));
-          knows = known_on after h.knows;
-          sound = record { place = IsNearPlace-more (at + 1) p after.place (next_further kind item p goes) h.place; scale = h.scale; words = h.words; depth = h.depth };
-          close = next_near kind at format instr p lt fits goes;
+          knows = known_on next.known on.1;
+          sound = subst IsSoundStep step_is h.sound;
         }
 
-    pub done : (last : Known) → KeepsAll Keeps seen last → next_place kind item ≡ None → WalksTo context word first keeps last
-    done last h ends =
+    ends_at : (o : Option ℕ) (known : Known) → next_place kind item ≡ o → Last known ≡ step_to o seen.after → (next_place kind item ≡ None) × (known ≡ seen.after)
+    ends_at None known e s = (e, cc)
+    ends_at (Some p) known e s = cc
+
+    pub done : (step : Step) (known : Known) → step ≡ Last known → KeepsAll Keeps kind seen step → WalksTo context word first keeps known
+    done step known step_is h =
+        let end = ends_at (next_place kind item) known refl (sym step_is ∙ h.leads) in
         record {
-          keeps_all = all_kept kind word first Why keeps k.items item k.leads is ends (k.kept, λ why. kept_here why (h.kept why));
+          keeps_all = all_kept kind word first Why keeps k.items item k.leads is end.0 (k.kept, λ why. kept_here why (h.kept why));
           items = k.items;
           last = item;
           leads = k.leads;
           stands = is;
-          ends = ends;
-          knows = known_on last h.knows;
+          ends = end.0;
+          knows = known_on known end.1;
         }
 
   -- ---- over draws that were judged as one
@@ -170,13 +151,13 @@ module _ (Why : Type 0) (order : Why → ℕ) (missing odd : Why) (Keeps : Seen 
   over_draws [] at known p after items leads kept knows over = (items, subst (LeadsTo kind word first items) over.0 leads, kept, sym over.1 ∙ knows)
   over_draws (s ∷ rest) at known p after items leads kept knows over =
       let item : Item = record { at = at; format = s.format; instr = Draws s.draw } in
-      let same : sight context items item ≡ sight_with None known item = sight_known kind list scale items item known knows in
+      let same : sight context items item ≡ sight_with None known item = sight_known context items item known knows in
       over_draws rest (at + word_count s.format) (sight_with None known item).after p after (item ∷ items) (leads, over.0, refl)
       (kept, λ why. subst (CellKept items at why) (sym over.0) (subst (λ (v : Seen). Keeps v why) (sym same) (over.1 why)))
       (ap (λ (v : Seen). v.after) (sym same))
       over.2
 
-  pub passed : (at : ℕ) (known : Known) (p : ℕ) (after : Known) → Walked context word first keeps at known → PassesTo Keeps word at known p after → Walked context word first keeps p after
-  passed at known p after k over =
-      let on = over_draws over.strokes at known p after k.items k.leads k.kept k.knows over.keeps_over in
-      record { items = on.0; leads = on.1; kept = on.2; knows = on.3; sound = over.sound; close = over.near }
+  pub passed : (cursor next : Cursor) → Walked context word first keeps cursor → PassesTo Keeps word cursor.at cursor.known next.at next.known → Walked context word first keeps next
+  passed cursor next k over =
+      let on = over_draws over.strokes cursor.at cursor.known next.at next.known k.items k.leads k.kept k.knows over.keeps_over in
+      record { items = on.0; leads = on.1; kept = on.2; knows = on.3; sound = over.sound }

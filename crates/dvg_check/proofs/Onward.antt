@@ -24,19 +24,20 @@ use Rattle.dvg_cert.specs.declared.entry.Key.TheVariants.{Any, At}
 use Rattle.dvg_cert.specs.declared.entry.LitBox.{LitBox}
 use Rattle.dvg_cert.specs.declared.entry.LitBox.TheVariants.{Empty, Span}
 use Rattle.dvg_check.specs.Behaving.{box_at, PlaceFits, LitFits, ScaleFits, Stretch, Returned, Behaves}
-use Rattle.dvg_check.specs.Items.{place_after, LeadsTo}
-use Rattle.dvg_check.specs.Known.{place_moved_by, draw_effect, Context, place_before, scale_before, target, callee, stop_effect, effect, callee_effect, callee_words, depth_under, scale_set, callee_at}
+use Rattle.dvg_items.specs.Items.{place_after, LeadsTo}
+use Rattle.dvg_items.specs.Known.{place_moved_by, draw_effect, Context, place_before, scale_before, target, callee, stop_effect, callee_effect, callee_words, depth_under, scale_set, callee_at, place_past}
 use Rattle.dvg_check.specs.Laws.{IsDrawOrLabs, lit_on, word_of}
-use Rattle.dvg_check.specs.Lit.{InBox, LitInWindow, LitInBox, PlaceKnown, box_extent, draw_extent, ScaleKnown, extent, callee_extent}
-use Rattle.dvg_check.specs.Rules.{HasCallee}
-use Rattle.dvg_check.specs.Private.Running.{place_past}
+use Rattle.dvg_items.specs.Lit.{InBox, LitInWindow, LitInBox, PlaceKnown, box_extent, draw_extent, ScaleKnown, callee_extent}
+use Rattle.dvg_items.specs.Seen.{extent, HasCallee}
 use Rattle.dvg_check.specs.declared.fault.Mode.{Mode}
-use Rattle.dvg_check.specs.declared.item.Item.{Item}
-use Rattle.dvg_check.specs.declared.item.Kind.{Kind}
-use Rattle.dvg_check.specs.declared.item.Kind.TheVariants.{Frame, Shape}
-use Rattle.dvg_check.specs.declared.known.LitExtent.TheVariants.{Between}
+use Rattle.dvg_items.specs.declared.item.Item.{Item}
+use Rattle.dvg_items.specs.declared.item.Kind.{Kind}
+use Rattle.dvg_items.specs.declared.item.Kind.TheVariants.{Frame, Shape}
+use Rattle.dvg_items.specs.declared.lit.LitExtent.TheVariants.{Between}
+use Rattle.dvg_items.proofs.Listed.{listed_at}
 use Rattle.dvg_check.proofs.Runs.{counts_same, stretch_less, stretch_on, stretch_as, deeper}
-use Rattle.dvg_check.proofs.Steps.{shift_shift, shift_origin, fits_moved, place_before-cons, own, next_there, one_item, stands}
+use Rattle.dvg_items.proofs.Points.{shift_shift, shift_origin}
+use Rattle.dvg_check.proofs.Steps.{effect, fits_moved, own, next_there, one_item, stands}
 
 -- ---- a long instruction is a draw or a LABS
 
@@ -91,13 +92,13 @@ abbrev Both : (Point → Type 0) → Point → Point → Type 0
 Both P a b = P a × P b
 
 lit_points : (w : Window) (box : LitBox) (base p a b : Point) (k : End) → PlaceFits k base p → k ≢ Lost → LitInWindow w (Between a b) k → LitInBox box (Between a b) k → Both (InWindow w) (shift p a) (shift p b) ⊎ Both (InBox (box_at box base)) (shift p a) (shift p b)
-lit_points w box base p a b (Abs x y) h n shown boxed = inl (subst (λ r. Both (InWindow w) (shift r a) (shift r b)) (sym h) shown)
+lit_points w box base p a b (Abs x y) h n shown boxed = inl (subst (λ r. Both (InWindow w) (shift r a) (shift r b)) (sym h) (shown.0, shown.1.0))
 lit_points w box base p a b (Rel x y) h n shown boxed =
     let d : Point = record { x = x; y = y } in
     let at : (c : Point) → InBox box (shift d c) → InBox (box_at box base) (shift p c) =
     λ c i. subst (InBox (box_at box base)) (sym (ap (λ r. shift r c) h ∙ shift_shift base d c)) (in_box_at box base (shift d c) i)
     in
-    inr (at a boxed.0, at b boxed.1)
+    inr (at a boxed.0, at b boxed.1.0)
 lit_points w box base p a b Lost h n shown boxed = absurd (n refl)
 
 -- a point in a box is where both corners are
@@ -151,41 +152,15 @@ pub record Named (list : List Entry) (to : ℕ) (scale : Key) (f : Entry) : Type
   pub addr : f.addr ≡ to
   pub key : (g : ℕ) → ScaleFits scale g → ScaleFits f.key g
 
-same_key_is : (a b : Key) → same_key a b ≡ true → a ≡ b
-same_key_is (At a) (At b) e = let n : a ≡ b = grind (arith, nat_tests) in ap At n
-same_key_is (At a) Any e = cc
-same_key_is Any (At b) e = cc
-same_key_is Any Any e = refl
-
-record Listed (list : List Entry) (addr : ℕ) (key : Key) (f : Entry) : Type 0 where
-  listed : Contains list f
-  addr_is : f.addr ≡ addr
-  key_is : f.key ≡ key
-
-find_is : (list : List Entry) (addr : ℕ) (key : Key) (f : Entry) → entry_at list addr key ≡ Some f → Listed list addr key f
-find_is [] addr key f e = cc
-find_is (x ∷ list) addr key f e = by_tests (addr == x.addr) (same_key key x.key) refl refl e (λ g. find_is list addr key f g)
-  where
-    later : Listed list addr key f → Listed (x ∷ list) addr key f
-    later l = record { listed = (suc l.listed.0, omega (arith, l.listed.1), l.listed.2); addr_is = l.addr_is; key_is = l.key_is }
-
-    by_tests : (a b : Bool) → (addr == x.addr) ≡ a → same_key key x.key ≡ b → (if a && b then Some x else entry_at list addr key) ≡ Some f → (entry_at list addr key ≡ Some f → Listed list addr key f) → Listed (x ∷ list) addr key f
-    by_tests true true p q g more =
-        let same : x ≡ f = cc in
-        let at : x.addr ≡ addr = grind (arith, nat_tests) in
-        record { listed = (0, omega arith, same); addr_is = ap (λ (y : Entry). y.addr) (sym same) ∙ at; key_is = ap (λ (y : Entry). y.key) (sym same) ∙ sym (same_key_is key x.key q) }
-    by_tests true false p q g more = later (more g)
-    by_tests false b p q g more = later (more g)
-
 any_fits : (list : List Entry) (to : ℕ) (scale : Key) (f : Entry) → entry_at list to Any ≡ Some f → Named list to scale f
 any_fits list to scale f e =
-    let l = find_is list to Any f e in
+    let l = listed_at list to Any f e in
     record { listed = l.listed; addr = l.addr_is; key = λ g a. subst (λ k. ScaleFits k g) (sym l.key_is) tt }
 
 first_fits : (list : List Entry) (to : ℕ) (scale : Key) (o : Option Entry) (f : Entry) → entry_at list to scale ≡ o → or_else o (entry_at list to Any) ≡ Some f → Named list to scale f
 first_fits list to scale None f e h = any_fits list to scale f h
 first_fits list to scale (Some x) f e h =
-    let l = find_is list to scale f (e ∙ h) in
+    let l = listed_at list to scale f (e ∙ h) in
     record { listed = l.listed; addr = l.addr_is; key = λ s a. subst (λ k. ScaleFits k s) (sym l.key_is) a }
 
 pub named_is : (list : List Entry) (to : ℕ) (scale : Key) (f : Entry) → named_entry list to scale ≡ Some f → Named list to scale f
@@ -259,7 +234,7 @@ called_by w c box base earlier instr f p is same fits agrees =
 -- what is known after an item that callee an entry
 pub after_entry : (c : Context) (base : Point) (earlier : List Item) (i : Item) (o : Option Entry) (f : Entry) (p q : Point) (scale : ℕ) → o ≡ Some f → effect c earlier i.instr ≡ callee_effect o → PlaceFits (place_before c earlier) base p → PlaceFits f.stop p q → PlaceFits (place_before c (i ∷ earlier)) base q
 after_entry c base earlier i o f p q scale is same agrees fits =
-    let e : place_before c (i ∷ earlier) ≡ place_past (stop_effect f.stop) (place_before c earlier) = place_before-cons c earlier i ∙ ap (λ x. place_past x (place_before c earlier)) (same ∙ ap callee_effect is) in
+    let e : place_before c (i ∷ earlier) ≡ place_past (stop_effect f.stop) (place_before c earlier) = ap (λ x. place_past x (place_before c earlier)) (same ∙ ap callee_effect is) in
     subst (λ k. PlaceFits k base q) (sym e) (place_returned base p q (place_before c earlier) f.stop agrees fits)
 
 record Jumps (kind : Kind) (to p : ℕ) : Type 0 where
@@ -305,7 +280,7 @@ module _ (mode : Mode) (m : Memory) (w : Window) (box : LitBox) (base : Point) (
       let r = one_item m c first earlier i base s mem lead e kind st.pc st.place st.scale in
       let q = r.1 in (
         r.0,
-        one_step mode m Ok Lit (length rs) i.format i.at s r.0 (lit_on i.instr s.place r.0.place) q.step q.fetched own q.strokes (lit_item w c box earlier i.instr base s.place r.0.place kind fits st.place (subst (λ k. PlaceFits k base r.0.place) (place_before-cons c earlier i) q.place)) (omega (arith, q.max_stack, st.room)),
+        one_step mode m Ok Lit (length rs) i.format i.at s r.0 (lit_on i.instr s.place r.0.place) q.step q.fetched own q.strokes (lit_item w c box earlier i.instr base s.place r.0.place kind fits st.place q.place) (omega (arith, q.max_stack, st.room)),
         record { pc = q.pc; return_stack = q.return_stack ∙ st.return_stack; room = omega (arith, q.max_stack, st.room); place = q.place; scale = q.scale_is },
       )
 
@@ -346,7 +321,7 @@ module _ (mode : Mode) (m : Memory) (w : Window) (box : LitBox) (base : Point) (
       let step : next_status m s ≡ Running t = next_there m s format (Jmpl to) (ap (cell_at (word_at m)) st.pc ∙ e) in
       let one = one_step mode m Ok Lit (length rs) format at s t [] step (ap (λ q. places format q ++ s.fetched) st.pc) own refl tt (omega (arith, st.room)) in
       let i : Item = record { at = at; format = format; instr = Jmpl to } in
-      let known : place_before c (i ∷ earlier) ≡ place_moved_by (place_before c earlier) origin = place_before-cons c earlier i ∙ ap (λ o. place_past (callee_effect o) (place_before c earlier)) is in (
+      let known : place_before c (i ∷ earlier) ≡ place_moved_by (place_before c earlier) origin = ap (λ o. place_past (callee_effect o) (place_before c earlier)) is in (
         t,
         stretch_as mode m Ok Lit (word_count format) _ (length rs) _ s t (omega (arith, ap callee_words is)) (omega (arith, ap (depth_under (Jmpl to)) is)) one,
         record {

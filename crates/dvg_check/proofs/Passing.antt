@@ -18,21 +18,26 @@ use Rattle.dvg_cert.specs.declared.entry.Entry.{Entry}
 use Rattle.dvg_cert.specs.declared.entry.Key.TheVariants.{At}
 use Rattle.dvg_cert.specs.declared.entry.LitBox.{LitBox}
 use Rattle.dvg_cert.specs.declared.entry.LitBox.TheVariants.{Empty, Span}
-use Rattle.dvg_check.specs.Items.{Shape, Frame, next_place}
-use Rattle.dvg_check.specs.Known.{place_moved_by, target, depth_under}
-use Rattle.dvg_check.specs.Lit.{LitExtent, Nothing, Between, Anywhere, PlaceKnown, ScaleKnown, LitInWindow, InSpan, LitInBox, draw_extent}
-use Rattle.dvg_check.specs.Private.Running.{EachKept, IsNearPlace, IsSound, shape_rules, frame_rules, sight_with}
+use Rattle.dvg_items.specs.declared.item.Kind.TheVariants.{Shape, Frame}
+use Rattle.dvg_items.specs.Items.{next_place}
+use Rattle.dvg_items.specs.Known.{place_moved_by, target, depth_under}
+use Rattle.dvg_items.specs.declared.lit.LitExtent.{LitExtent}
+use Rattle.dvg_items.specs.declared.lit.LitExtent.TheVariants.{Nothing, Between, Anywhere}
+use Rattle.dvg_items.specs.Lit.{PlaceKnown, ScaleKnown, LitInWindow, InSpan, LitInBox, draw_extent}
+use Rattle.dvg_check.specs.Private.Judging.{EachKept, shape_rules, frame_rules}
+use Rattle.dvg_items.specs.Bounds.{IsSoundCursor, IsNearPlace}
+use Rattle.dvg_items.specs.Seen.{sight_with, HasCallee}
 use Rattle.dvg_check.specs.Private.Runs.{Run, FormattedDraw, Follow, ScalesWithin, EndsIn, LitIn, LiesIn, IsPart, IsFactor, IsRun, Tells, PassesTo, KeepsOver, count, multiplied, run_extent, run_sight, size, total}
-use Rattle.dvg_check.specs.Rules.{AtLast, AsClaimed, HasCallee, IsForward, Mode, ShapeKeeps, FrameKeeps}
+use Rattle.dvg_check.specs.Rules.{AtLast, AsClaimed, IsForward, Mode, ShapeKeeps, FrameKeeps}
 use Rattle.dvg_check.specs.declared.fault.FrameWhy.{FrameWhy}
 use Rattle.dvg_check.specs.declared.fault.FrameWhy.TheVariants as frame
 use Rattle.dvg_check.specs.declared.fault.ShapeWhy.{ShapeWhy}
 use Rattle.dvg_check.specs.declared.fault.ShapeWhy.TheVariants as shape
-use Rattle.dvg_check.specs.declared.item.Item.{Item}
-use Rattle.dvg_check.specs.declared.known.Known.{Known}
-use Rattle.dvg_check.specs.declared.known.Seen.{Seen}
-use Rattle.dvg_check.proofs.Steps.{point_is, shift_shift, shift_origin, origin_shift}
-use Rattle.dvg_check.proofs.Near.{IsNearPlace-more}
+use Rattle.dvg_items.specs.declared.item.Item.{Item}
+use Rattle.dvg_items.specs.declared.known.Known.{Known}
+use Rattle.dvg_items.specs.declared.seen.Seen.{Seen}
+use Rattle.dvg_items.proofs.Points.{point_is, shift_shift, shift_origin, origin_shift}
+use Rattle.dvg_items.proofs.Near.{IsNearPlace-more}
 use Rattle.dvg_check.proofs.Scaling.{times_add, times_mono, times_times, multiplied_origin, multiplied_shift}
 
 -- ---- the rules of a part
@@ -63,11 +68,13 @@ scale_part Anywhere f p q lies = lies
 
 -- the edges of what the whole lights are within these, so what lies between them is too
 window_part : (w : Window) (e f : LitExtent) (p q : End) → LiesIn e p f q → LitInWindow w f q → LitInWindow w e p
-window_part w Nothing f p q lies h = tt
+window_part w Nothing f (Rel x y) q lies h = tt
+window_part w Nothing f (Abs x y) q lies h = tt
+window_part w Nothing f Lost q lies h = tt
 window_part w (Between a b) (Between c d) (Rel x y) q lies h = tt
 window_part w (Between a b) (Between c d) (Abs x y) (Abs u v) lies h = (
-  record { left = omega (arith, ints, h.0.left, lies.0.left); right = omega (arith, ints, h.1.right, lies.0.right); bottom = omega (arith, ints, h.0.bottom, lies.0.bottom); top = omega (arith, ints, h.1.top, lies.0.top) },
-  record { left = omega (arith, ints, h.0.left, lies.1.left); right = omega (arith, ints, h.1.right, lies.1.right); bottom = omega (arith, ints, h.0.bottom, lies.1.bottom); top = omega (arith, ints, h.1.top, lies.1.top) },
+  record { left = omega (arith, ints, h.0.left, lies.0.left); right = omega (arith, ints, h.1.0.right, lies.0.right); bottom = omega (arith, ints, h.0.bottom, lies.0.bottom); top = omega (arith, ints, h.1.0.top, lies.0.top) },
+  (record { left = omega (arith, ints, h.0.left, lies.1.left); right = omega (arith, ints, h.1.0.right, lies.1.right); bottom = omega (arith, ints, h.0.bottom, lies.1.bottom); top = omega (arith, ints, h.1.0.top, lies.1.top) }, tt),
 )
 window_part w (Between a b) (Between c d) (Abs x y) (Rel u v) lies h = absurd lies
 window_part w (Between a b) (Between c d) (Abs x y) Lost lies h = absurd lies
@@ -77,11 +84,13 @@ window_part w (Between a b) Anywhere p q lies h = absurd lies
 window_part w Anywhere f p q lies h = absurd lies
 
 box_part : (box : LitBox) (e f : LitExtent) (p q : End) → LiesIn e p f q → LitInBox box f q → LitInBox box e p
-box_part box Nothing f p q lies h = tt
+box_part box Nothing f (Rel x y) q lies h = tt
+box_part box Nothing f (Abs x y) q lies h = tt
+box_part box Nothing f Lost q lies h = tt
 box_part Empty (Between a b) (Between c d) (Rel x y) (Rel u v) lies h = absurd h.0
 box_part (Span left right bottom top) (Between a b) (Between c d) (Rel x y) (Rel u v) lies h = (
-  record { left = omega (arith, ints, h.0.left, lies.0.left); right = omega (arith, ints, h.1.right, lies.0.right); bottom = omega (arith, ints, h.0.bottom, lies.0.bottom); top = omega (arith, ints, h.1.top, lies.0.top) },
-  record { left = omega (arith, ints, h.0.left, lies.1.left); right = omega (arith, ints, h.1.right, lies.1.right); bottom = omega (arith, ints, h.0.bottom, lies.1.bottom); top = omega (arith, ints, h.1.top, lies.1.top) },
+  record { left = omega (arith, ints, h.0.left, lies.0.left); right = omega (arith, ints, h.1.0.right, lies.0.right); bottom = omega (arith, ints, h.0.bottom, lies.0.bottom); top = omega (arith, ints, h.1.0.top, lies.0.top) },
+  (record { left = omega (arith, ints, h.0.left, lies.1.left); right = omega (arith, ints, h.1.0.right, lies.1.right); bottom = omega (arith, ints, h.0.bottom, lies.1.bottom); top = omega (arith, ints, h.1.0.top, lies.1.top) }, tt),
 )
 box_part box (Between a b) (Between c d) (Rel x y) (Abs u v) lies h = absurd lies
 box_part box (Between a b) (Between c d) (Rel x y) Lost lies h = absurd lies
@@ -255,7 +264,7 @@ module _ (Why : Type 0) (Keeps : Seen → Why → Type 0) (word : ℕ → Option
       let counts : 0 + count strokes ≡ run.words = omega (arith, t.words) in
       λ i. at_offset (moves i) (counts i)
 
-  passes_here : (at : ℕ) → IsRun word at run → (run.words ≡ 0 → ⊥) → IsFactor run.lowest run.highest g f → at < 4096 → IsSound at start → ((v : Seen) → IsPart v (run_sight run f start first) → (why : Why) → Keeps v why) → IsNearPlace (at + 1) (run_sight run f start first).after.place → (run_sight run f start first).after.words ≤ 1000000 → PassesTo Keeps word at start (at + run.words) (run_sight run f start first).after
+  passes_here : (at : ℕ) → IsRun word at run → (run.words ≡ 0 → ⊥) → IsFactor run.lowest run.highest g f → at < 4096 → IsSoundCursor (record { at = at; known = start }) → ((v : Seen) → IsPart v (run_sight run f start first) → (why : Why) → Keeps v why) → IsNearPlace (at + 1) (run_sight run f start first).after.place → (run_sight run f start first).after.words ≤ 1000000 → PassesTo Keeps word at start (at + run.words) (run_sight run f start first).after
   passes_here at r some is lt sound keeps near few =
       let more : 1 ≤ run.words = grind (arith, some) in
       let over_all = over r.stands.strokes origin 0 at (at + run.words) is r.stands.follow r.stands.tells.scales r.stands.tells.lit (omega (arith, r.stands.tells.words)) keeps in
@@ -264,11 +273,11 @@ module _ (Why : Type 0) (Keeps : Seen → Why → Type 0) (word : ℕ → Option
         keeps_over = subst (λ (k : Known). KeepsOver Keeps word r.stands.strokes at k (at + run.words) (run_sight run f start first).after) begins (subst (KeepsOver Keeps word r.stands.strokes at (at_offset origin 0) (at + run.words)) (ends r.stands.strokes r.stands.tells) over_all);
         further = omega (arith, more);
         near = r.near lt;
-        sound = record { place = IsNearPlace-more (at + 1) (at + run.words) (run_sight run f start first).after.place (omega (arith, more)) near; scale = sound.scale; words = few; depth = sound.depth };
+        sound = record { at = r.near lt; place = IsNearPlace-more (at + 1) (at + run.words) (run_sight run f start first).after.place (omega (arith, more)) near; scale = sound.scale; words = few; depth = sound.depth };
       }
 
 -- a run whose sight keeps all rules
-pub passes : (Why : Type 0) (Keeps : Seen → Why → Type 0) (word : ℕ → Option ℕ) (before : Known) (g f : ℕ) (run : Run) (first : Item) (seen : Seen) → before.scale ≡ At g → seen ≡ run_sight run f before first → IsRun word first.at run → (run.words ≡ 0 → ⊥) → IsFactor run.lowest run.highest g f → first.at < 4096 → IsSound first.at before → ((v : Seen) → IsPart v seen → (why : Why) → Keeps v why) → IsNearPlace (first.at + 1) seen.after.place → seen.after.words ≤ 1000000 → PassesTo Keeps word first.at before (first.at + run.words) seen.after
+pub passes : (Why : Type 0) (Keeps : Seen → Why → Type 0) (word : ℕ → Option ℕ) (before : Known) (g f : ℕ) (run : Run) (first : Item) (seen : Seen) → before.scale ≡ At g → seen ≡ run_sight run f before first → IsRun word first.at run → (run.words ≡ 0 → ⊥) → IsFactor run.lowest run.highest g f → first.at < 4096 → IsSoundCursor (record { at = first.at; known = before }) → ((v : Seen) → IsPart v seen → (why : Why) → Keeps v why) → IsNearPlace (first.at + 1) seen.after.place → seen.after.words ≤ 1000000 → PassesTo Keeps word first.at before (first.at + run.words) seen.after
 passes Why Keeps word before g f run first seen scale is r some fits lt sound keeps near few =
     let start : Known = record { place = before.place; scale = At g; words = before.words; depth = before.depth } in
     let same : before ≡ start = λ i. record before { scale = scale i } in
@@ -276,7 +285,7 @@ passes Why Keeps word before g f run first seen scale is r some fits lt sound ke
     subst (λ (k : Known). PassesTo Keeps word first.at k (first.at + run.words) seen.after) (sym same)
     (subst (λ (v : Seen). PassesTo Keeps word first.at start (first.at + run.words) v.after) (sym seen_is)
     (passes_here Why Keeps word before.place g before.words before.depth f run first first.at r some fits lt
-    (subst (IsSound first.at) same sound)
+    (subst (λ (k : Known). IsSoundCursor (record { at = first.at; known = k })) same sound)
     (subst (λ (v : Seen). (u : Seen) → IsPart u v → (why : Why) → Keeps u why) seen_is keeps)
     (subst (λ (v : Seen). IsNearPlace (first.at + 1) v.after.place) seen_is near)
     (subst (λ (v : Seen). v.after.words ≤ 1000000) seen_is few)))

@@ -9,10 +9,10 @@ use Rattle.dvg_words.specs.Values.{DrawFields}
 use Rattle.dvg_words.specs.declared.beam.Point.{Point}
 use Rattle.dvg_cert.specs.declared.entry.LitBox.{LitBox}
 use Rattle.dvg_cert.specs.declared.entry.LitBox.TheVariants.{Empty, Span}
-use Rattle.dvg_check.specs.Lit.{InBox}
+use Rattle.dvg_items.specs.Lit.{InBox}
 use Rattle.dvg_check.specs.Private.Runs.{FormattedDraw, Tells, ScalesWithin, EndsIn, LitIn, multiplied, multiplied_box, size, total}
 use Rattle.dvg_check.specs.declared.run.Run.{Run}
-use Rattle.dvg_check.proofs.Steps.{point_is}
+use Rattle.dvg_items.proofs.Points.{point_is}
 
 -- ---- multiplying
 

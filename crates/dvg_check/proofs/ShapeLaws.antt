@@ -18,19 +18,23 @@ use Rattle.dvg_cert.specs.declared.entry.Entry.{Entry}
 use Rattle.dvg_cert.specs.declared.entry.Key.{Key}
 use Rattle.dvg_cert.specs.declared.entry.LitBox.{LitBox}
 use Rattle.dvg_check.specs.Behaving.{Behaves, Stretch, LitFits, Counts, PlaceFits, ScaleFits, Returned}
-use Rattle.dvg_check.specs.Items.{LeadsTo, place_after, next_place}
-use Rattle.dvg_check.specs.Known.{Context, callee, depth_before, words_before, callee_at, shape_context, target, scale_before, callee_words, depth_under, place_before, scale_set}
+use Rattle.dvg_items.specs.Items.{LeadsTo, place_after, next_place}
+use Rattle.dvg_items.specs.Known.{Context, callee, depth_before, words_before, callee_at, shape_context, target, scale_before, callee_words, depth_under, place_before, scale_set}
 use Rattle.dvg_check.specs.Laws.{word_of, OneShape, AllShapes}
-use Rattle.dvg_check.specs.Rules.{GoodShape, CellKeeps, ShapeKeeps, sight, AtLast, HasCallee, Good}
+use Rattle.dvg_check.specs.Rules.{GoodShape, CellKeeps, ShapeKeeps, AtLast, Good}
+use Rattle.dvg_items.specs.Seen.{sight, HasCallee}
 use Rattle.dvg_check.specs.declared.fault.Mode.{Mode}
 use Rattle.dvg_check.specs.declared.fault.Mode.TheVariants.{Bound, Exact}
 use Rattle.dvg_check.specs.declared.fault.ShapeWhy.{ShapeWhy}
 use Rattle.dvg_check.specs.declared.fault.ShapeWhy.TheVariants as shape
-use Rattle.dvg_check.specs.declared.item.Item.{Item}
-use Rattle.dvg_check.specs.declared.item.Kind.TheVariants.{Shape}
+use Rattle.dvg_items.specs.declared.item.Item.{Item}
+use Rattle.dvg_items.specs.declared.item.Kind.TheVariants.{Shape}
+use Rattle.dvg_items.proofs.Listed.{named_listed}
+use Rattle.dvg_items.proofs.Near.{word_count-some}
 use Rattle.dvg_check.proofs.Onward.{Fits, Stands, over_item, named_is, one_step, fits_still, called_by, within_caller, after_entry}
 use Rattle.dvg_check.proofs.Runs.{stretch_here, stretch_on, counts_same, stretch_as}
-use Rattle.dvg_check.proofs.Steps.{own, next_there, stands, place_before-cons, shift_origin}
+use Rattle.dvg_check.proofs.Steps.{own, next_there, stands}
+use Rattle.dvg_items.proofs.Points.{shift_origin}
 
 -- ---- any kind: along the items that lead to a place
 
@@ -49,10 +53,6 @@ arrive mode m w c box base Ok first rs s mem rom facts st (i ∷ earlier) p lead
     let f = facts earlier i lead.0 lead.1 in
     let b = over_item mode m w box base Ok rom c first earlier i.at i.format i.instr p rs a.0 mem f.own lead.0 lead.1 lead.2 f.fits (omega arith) f.calls a.2 in
     (b.0, stretch_on mode m Ok (LitFits w box base) (words_before c earlier) _ _ (length rs + depth_before c earlier) _ _ s a.0 b.0 (counts_same mode _ _ (omega arith)) (counts_same mode _ _ (omega arith)) a.1 b.1, b.2)
-
-pub named_listed : (list : List Entry) (o : Option ℕ) (scale : Key) (f : Entry) → callee_at list o scale ≡ Some f → Contains list f
-named_listed list None scale f e = cc
-named_listed list (Some to) scale f e = (named_is list to scale f e).listed
 
 -- one return place fewer is some step
 some_step : (m : Memory) (n : ℕ) (s t : State) (back : ℕ) (rest : List ℕ) → Reached m n (Running s) (Running t) → s.return_stack ≡ back ∷ rest → t.return_stack ≡ rest → 1 ≤ n
@@ -73,10 +73,6 @@ counts_deep Bound l a b d h = omega (arith, h)
 counts_deep Exact l a b d h = omega (arith, h)
 
 -- ---- what the rules say in a shape
-
-pub word_count-some : (format : Format) → 1 ≤ word_count format
-word_count-some Short = omega arith
-word_count-some Long = omega arith
 
 module _ (mode : Mode) (m : Memory) (w : Window) (list : List Entry) (e : Entry) (mem : IsMemory m) (keep : GoodShape mode w m.rom list e) where
   abbrev context : Context
@@ -196,7 +192,7 @@ module _ (mode : Mode) (m : Memory) (w : Window) (list : List Entry) (e : Entry)
           stretch = stretch_as mode m (InRom m.rom.map) (LitFits w e.lit s0.place) (word_count format) _ (length s0.return_stack) _ s t (omega arith) (omega arith) one;
           pc = refl;
           return_stack = refl;
-          place = subst (λ k. PlaceFits k s0.place s.place) (sym (place_before-cons context earlier i)) (fits_still s0.place s.place (place_before context earlier) st.place);
+          place = fits_still s0.place s.place (place_before context earlier) st.place;
           scale = st.scale;
         },
       )

@@ -10,12 +10,12 @@ use Rattle.dvg_words.specs.Decoding.{word_count}
 use Rattle.dvg_words.specs.declared.beam.Point.{Point}
 use Rattle.dvg_cert.specs.declared.entry.LitBox.{LitBox}
 use Rattle.dvg_cert.specs.declared.entry.LitBox.TheVariants.{Empty, Span}
-use Rattle.dvg_check.specs.Lit.{InBox, IsInside}
-use Rattle.dvg_check.specs.Private.Running.{IsNear}
+use Rattle.dvg_items.specs.Lit.{InBox, IsInside}
+use Rattle.dvg_items.specs.Bounds.{IsNear}
 use Rattle.dvg_check.specs.Private.Runs.{FormattedDraw, Tells, IsSize, IsSizeBox, ScalesWithin, EndsIn, LitIn, moved, multiplied, multiplied_box, reach, size, total}
 use Rattle.dvg_check.specs.declared.run.Run.{Run}
 use Rattle.dvg_check.proofs.Scaling.{power_lower}
-use Rattle.dvg_check.proofs.Steps.{point_is, shift_origin, origin_shift}
+use Rattle.dvg_items.proofs.Points.{point_is, shift_origin, origin_shift}
 
 -- ---- products
 

@@ -21,29 +21,15 @@ use Rattle.dvg_cert.specs.declared.entry.End.{End}
 use Rattle.dvg_cert.specs.declared.entry.End.TheVariants.{Rel, Abs, Lost}
 use Rattle.dvg_cert.specs.declared.entry.Key.{Key}
 use Rattle.dvg_cert.specs.declared.entry.Key.TheVariants.{Any, At}
+use Rattle.dvg_items.proofs.Points.{shift_shift}
 use Rattle.dvg_check.specs.Behaving.{PlaceFits, ScaleFits}
-use Rattle.dvg_check.specs.Known.{place_moved_by, fixed_place, total_move, Context, place_before, effect, first_place, effects, draw_effect, scale_before}
+use Rattle.dvg_items.specs.Known.{place_moved_by, Context, place_before, callee, effect_of, draw_effect, scale_before, place_past}
 use Rattle.dvg_check.specs.Laws.{word_of, IsDrawOrLabs, Past, OneItem}
-use Rattle.dvg_check.specs.Private.Running.{place_past}
-use Rattle.dvg_check.specs.declared.item.Item.{Item}
-use Rattle.dvg_check.specs.declared.item.Kind.{Kind}
-use Rattle.dvg_check.specs.declared.item.Kind.TheVariants.{Shape, Frame}
-use Rattle.dvg_check.specs.declared.known.Effect.{Effect}
-use Rattle.dvg_check.specs.declared.known.Effect.TheVariants.{Sets, Loses, Moves}
-
--- ---- points
-
-pub point_is : (p q : Point) → p.x ≡ q.x → p.y ≡ q.y → p ≡ q
-point_is p q a b = λ i. record { x = a i; y = b i }
-
-pub shift_origin : (p : Point) → shift p origin ≡ p
-shift_origin p = point_is _ _ (omega (arith, ints)) (omega (arith, ints))
-
-pub origin_shift : (p : Point) → shift origin p ≡ p
-origin_shift p = point_is _ _ (omega (arith, ints)) (omega (arith, ints))
-
-pub shift_shift : (p d e : Point) → shift (shift p d) e ≡ shift p (shift d e)
-shift_shift p d e = point_is _ _ (omega (arith, ints)) (omega (arith, ints))
+use Rattle.dvg_items.specs.declared.item.Item.{Item}
+use Rattle.dvg_items.specs.declared.item.Kind.{Kind}
+use Rattle.dvg_items.specs.declared.item.Kind.TheVariants.{Shape, Frame}
+use Rattle.dvg_items.specs.declared.known.Effect.{Effect}
+use Rattle.dvg_items.specs.declared.known.Effect.TheVariants.{Sets, Loses, Moves}
 
 -- ---- what stands at a place
 
@@ -156,29 +142,6 @@ next_there m s format i e =
 
 -- ---- what is known after an item
 
-moves_on : (k : End) (d e : Point) → place_moved_by k (shift d e) ≡ place_moved_by (place_moved_by k d) e
-moves_on (Rel x y) d e =
-    let a : x +ℤ (d.x +ℤ e.x) ≡ (x +ℤ d.x) +ℤ e.x = omega (arith, ints) in
-    let b : y +ℤ (d.y +ℤ e.y) ≡ (y +ℤ d.y) +ℤ e.y = omega (arith, ints) in
-    λ i. Rel (a i) (b i)
-moves_on (Abs x y) d e =
-    let a : x +ℤ (d.x +ℤ e.x) ≡ (x +ℤ d.x) +ℤ e.x = omega (arith, ints) in
-    let b : y +ℤ (d.y +ℤ e.y) ≡ (y +ℤ d.y) +ℤ e.y = omega (arith, ints) in
-    λ i. Abs (a i) (b i)
-moves_on Lost d e = refl
-
-by_effect : (first : End) (f : Effect) (es : List Effect) → place_moved_by (fixed_place first (f ∷ es)) (total_move (f ∷ es)) ≡ place_past f (place_moved_by (fixed_place first es) (total_move es))
-by_effect first (Sets p) es =
-    let a : p.x +ℤ pos 0 ≡ p.x = omega (arith, ints) in
-    let b : p.y +ℤ pos 0 ≡ p.y = omega (arith, ints) in
-    λ i. Abs (a i) (b i)
-by_effect first Loses es = refl
-by_effect first (Moves d) es = moves_on (fixed_place first es) (total_move es) d
-
--- the place follows the items one by one
-pub place_before-cons : (c : Context) (earlier : List Item) (i : Item) → place_before c (i ∷ earlier) ≡ place_past (effect c earlier i.instr) (place_before c earlier)
-place_before-cons c earlier i = by_effect (first_place c.kind) (effect c earlier i.instr) (effects c earlier)
-
 pub fits_moved : (base p d : Point) (k : End) → PlaceFits k base p → PlaceFits (place_moved_by k d) base (shift p d)
 fits_moved base p d (Rel x y) h = ap (λ r. shift r d) h ∙ shift_shift base (record { x = x; y = y }) d
 fits_moved base p d (Abs x y) h = ap (λ r. shift r d) h
@@ -189,6 +152,10 @@ fits_drawn base p d k Any scale h g = tt
 fits_drawn base p d k (At x) scale h g =
     subst (λ y. PlaceFits (place_moved_by k (displacement d y)) base (shift p (displacement d scale))) g (fits_moved base p (displacement d scale) k h)
 
+-- what an instruction does to the place, after these items
+abbrev pub effect : Context → List Item → Instr → Effect
+effect c earlier i = effect_of i (scale_before c earlier) (callee c earlier i)
+
 -- ---- the law on one item
 
 item_step : (m : Memory) (c : Context) (earlier : List Item) (at : ℕ) (format : Format) (instr : Instr) (base : Point) (s : State) → cell_at (word_at m) at ≡ Holds format instr → IsDrawOrLabs instr → s.pc ≡ at → PlaceFits (place_before c earlier) base s.place → ScaleFits (scale_before c earlier) s.scale → (t : State) × Past m base (record { at = at; format = format; instr = instr }) (place_before c (record { at = at; format = format; instr = instr } ∷ earlier)) (scale_before c (record { at = at; format = format; instr = instr } ∷ earlier)) s t
@@ -198,7 +165,7 @@ item_step m c earlier at format (Draws d) base s e k pc place scale =
       record {
         step = next_there m s format (Draws d) (ap (cell_at (word_at m)) pc ∙ e);
         pc = ap (λ p. p + word_count format) pc;
-        place = subst (λ known. PlaceFits known base (shift s.place (displacement d s.scale))) (sym (place_before-cons c earlier i)) (fits_drawn base s.place d (place_before c earlier) (scale_before c earlier) s.scale place scale);
+        place = (fits_drawn base s.place d (place_before c earlier) (scale_before c earlier) s.scale place scale);
         scale_is = scale;
         fetched = ap (λ p. places format p ++ s.fetched) pc;
         strokes = refl;
@@ -212,7 +179,7 @@ item_step m c earlier at format (Labs x y g) base s e k pc place scale =
       record {
         step = next_there m s format (Labs x y g) (ap (cell_at (word_at m)) pc ∙ e);
         pc = ap (λ p. p + word_count format) pc;
-        place = subst (λ known. PlaceFits known base (labs_place x y)) (sym (place_before-cons c earlier i)) refl;
+        place = refl;
         scale_is = refl;
         fetched = ap (λ p. places format p ++ s.fetched) pc;
         strokes = refl;

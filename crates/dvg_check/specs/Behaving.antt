@@ -13,7 +13,7 @@ use Rattle.dvg_cert.specs.declared.entry.End.TheVariants.{Rel, Abs, Lost}
 use Rattle.dvg_cert.specs.declared.entry.LitBox.{LitBox}
 use Rattle.dvg_cert.specs.declared.entry.LitBox.TheVariants.{Empty, Span}
 use Rattle.dvg_cert.specs.declared.entry.Entry.{Entry}
-use Rattle.dvg_check.specs.Lit.{InBox}
+use Rattle.dvg_items.specs.Lit.{InBox}
 use Rattle.dvg_check.specs.Rules.{Mode, Bound, Exact}
 use Rattle.dvg_check.specs.Safety.{Ends}
 

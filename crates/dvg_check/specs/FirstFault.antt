@@ -4,7 +4,10 @@ use Rattle.std.specs.List.{AllByRecursion}
 use Rattle.dvg_words.specs.Values.{Window}
 use Rattle.dvg_words.specs.Memory.{Rom, rom_word, frame_word}
 use Rattle.dvg_cert.specs.declared.entry.Entry.{Entry}
-use Rattle.dvg_check.specs.Items.{Kind, Shape, Frame, Item, LeadsTo}
+use Rattle.dvg_items.specs.declared.item.Kind.{Kind}
+use Rattle.dvg_items.specs.declared.item.Kind.TheVariants.{Shape, Frame}
+use Rattle.dvg_items.specs.declared.item.Item.{Item}
+use Rattle.dvg_items.specs.Items.{LeadsTo, AtEachOf}
 use Rattle.dvg_check.specs.Rules.{Mode, ShapeWhy, FrameWhy, ShapePlaceKeeps, FramePlaceKeeps, GoodShape}
 use Rattle.dvg_check.specs.declared.fault.ShapeWhy.TheVariants as shape
 use Rattle.dvg_check.specs.declared.fault.FrameWhy.TheVariants as frame
@@ -40,8 +43,7 @@ frame_number frame.Budget = 48
 
 -- every place of these items keeps every rule
 abbrev pub AllBefore : {Why : Type 0} → (List Item → ℕ → Why → Type 0) → List Item → Type 0
-AllBefore keeps [] = Unit {0}
-AllBefore {Why} keeps (i ∷ earlier) = AllBefore keeps earlier × ((why : Why) → keeps earlier i.at why)
+AllBefore {Why} keeps items = AtEachOf (λ earlier p. (why : Why) → keeps earlier p why) items
 
 -- the first place that breaks a rule, and the lowest rule that it breaks
 pub record FaultAt {Why : Type 0} (order : Why → ℕ) (kind : Kind) (word : ℕ → Option ℕ) (first : ℕ) (keeps : List Item → ℕ → Why → Type 0) (at : ℕ) (why : Why) : Type 0 where

@@ -12,8 +12,11 @@ use Rattle.dvg_words.specs.Generator.{Stroke, State, Running, Halted, Reached, s
 use Rattle.dvg_cert.specs.declared.entry.Key.{Key}
 use Rattle.dvg_cert.specs.declared.entry.End.{End}
 use Rattle.dvg_cert.specs.declared.entry.Entry.{Entry}
-use Rattle.dvg_check.specs.Items.{Kind, Shape, Frame, Item, LeadsTo}
-use Rattle.dvg_check.specs.Known.{Context, scale_before, place_before}
+use Rattle.dvg_items.specs.declared.item.Kind.{Kind}
+use Rattle.dvg_items.specs.declared.item.Kind.TheVariants.{Shape, Frame}
+use Rattle.dvg_items.specs.declared.item.Item.{Item}
+use Rattle.dvg_items.specs.Items.{LeadsTo}
+use Rattle.dvg_items.specs.Known.{Context, scale_before, place_before}
 use Rattle.dvg_check.specs.Rules.{Mode, Bound, Exact, Good, GoodFrame}
 use Rattle.dvg_check.specs.FirstFault.{ShapeFault, FirstShapeFault, FrameFault, FirstFrameFault}
 use Rattle.dvg_check.specs.Verdict.{Yes, Refusal, Verdict, NotMemory}

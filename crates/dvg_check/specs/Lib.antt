@@ -1,6 +1,3 @@
-pub mod Items
-pub mod Known
-pub mod Lit
 pub mod Rules
 pub mod FirstFault
 pub mod Verdict

@@ -1,3 +1,3 @@
 -- Words of the code's own, which no rule stands on.
-pub mod Running
+pub mod Judging
 pub mod Runs

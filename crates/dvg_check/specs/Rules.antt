@@ -9,33 +9,20 @@ use Rattle.dvg_words.specs.declared.instruction.Format.{Format}
 use Rattle.dvg_words.specs.Decoding.{word_count, cell_at}
 use Rattle.dvg_words.specs.Memory.{Rom, rom_word, frame_word}
 use Rattle.dvg_cert.specs.declared.entry.Entry.{Entry}
-use Rattle.dvg_check.specs.Items.{Kind, Shape, Frame, Item, next_place, LeadsTo}
-use Rattle.dvg_check.specs.Known.{Context, shape_context, frame_context, target, callee, place_before, words_before, depth_under, depth_before, known_before}
-use Rattle.dvg_check.specs.Lit.{extent, PlaceKnown, ScaleKnown, LitInWindow, LitInBox}
-pub use Rattle.dvg_check.specs.declared.known.Seen.{Seen}
+use Rattle.dvg_items.specs.declared.item.Kind.{Kind}
+use Rattle.dvg_items.specs.declared.item.Kind.TheVariants.{Shape, Frame}
+use Rattle.dvg_items.specs.declared.item.Item.{Item}
+use Rattle.dvg_items.specs.Items.{next_place, LeadsTo}
+use Rattle.dvg_items.specs.Known.{Context, shape_context, frame_context, target, callee, place_before, words_before, depth_under, depth_before, known_before}
+use Rattle.dvg_items.specs.Seen.{HasCallee, sight}
+use Rattle.dvg_items.specs.Lit.{PlaceKnown, ScaleKnown, LitInWindow, LitInBox}
+pub use Rattle.dvg_items.specs.declared.seen.Seen.{Seen}
 pub use Rattle.dvg_check.specs.declared.fault.Mode.{Mode}
 pub use Rattle.dvg_check.specs.declared.fault.Mode.TheVariants.{Bound, Exact}
 pub use Rattle.dvg_check.specs.declared.fault.ShapeWhy.{ShapeWhy}
 pub use Rattle.dvg_check.specs.declared.fault.ShapeWhy.TheVariants as shape
 pub use Rattle.dvg_check.specs.declared.fault.FrameWhy.{FrameWhy}
 pub use Rattle.dvg_check.specs.declared.fault.FrameWhy.TheVariants as frame
-
--- an item, the place before it, what it lights, the entry that it calls, and what is known after it
-abbrev pub sight : Context → List Item → Item → Seen
-sight c earlier i =
-    record {
-      item = i;
-      place = place_before c earlier;
-      extent = extent c earlier i.instr;
-      callee = callee c earlier i.instr;
-      after = known_before c (i ∷ earlier);
-    }
-
--- what a target needs
-abbrev pub HasCallee : Option ℕ → Option Entry → Type 0
-HasCallee None named = Unit {0}
-HasCallee (Some to) None = ⊥
-HasCallee (Some to) (Some e) = Unit {0}
 
 -- what the last item keeps
 abbrev pub AtLast : Option ℕ → Type 0 → Type 0

@@ -1,12 +1,13 @@
 //! What stands at the word addresses of a ROM and of a frame.
 
 ghost use Rattle.std.specs.Prelude.{◌≡◌, ◌≤◌, ℕ, Option};
+ghost use Rattle.dvg_words.specs.declared.map.TheConstants.{ADDRESS_END};
 ghost use Rattle.dvg_words.specs.Decoding.{cell_at, CellFits, StandsBelow};
 ghost use Rattle.dvg_words.specs.Memory.{rom_word, frame_word};
 ghost use Rattle.dvg_check.specs.Private.Runs.{IsRun, AreRunsFrom};
 
 use crate::run::Run;
-use dvg_words::{Cell, FrameImage, RomImage, read_cell};
+use dvg_words::{Cell, FrameImage, ROM_LAST, RomImage, read_cell};
 use std::marker::Model;
 
 /// What stands at word addresses.
@@ -18,7 +19,7 @@ pub trait Cells {
     fn cell(&self, at: u16) -> Cell
         ensures value { result ≡ cell_at (words self.now) at }
         ensures fields { CellFits result }
-        ensures near { StandsBelow 4096 at result };
+        ensures near { StandsBelow ADDRESS_END at result };
 
     /// The draws that stand one after another from a word address on, as far as they are known beforehand: maybe none.
     fn run(&self, at: u16) -> Run
@@ -39,7 +40,7 @@ impl<'a> Cells for FrameImage<'a> {
 }
 
 /// The word address past the last one of a ROM.
-pub const ROM_END: u16 = 0xC00;
+pub const ROM_END: u16 = ROM_LAST + 1;
 
 /// A ROM, with the runs of draws that were made out beforehand, one for each place from a word address on.
 #[derive(Drop)]

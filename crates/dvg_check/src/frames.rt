@@ -3,18 +3,18 @@
 ghost use Rattle.std.specs.Prelude.{◌≡◌, ◌≤◌, [], IfOk, IfErr, IfNone, IfSome, IsTrue, ◌↔◌};
 ghost use Rattle.dvg_words.specs.Beam.{screen};
 ghost use Rattle.dvg_cert.specs.declared.entry.Key.TheVariants.{Any};
-ghost use Rattle.dvg_check.specs.Items.{Frame};
+ghost use Rattle.dvg_items.specs.declared.item.Kind.TheVariants.{Frame};
 ghost use Rattle.dvg_check.specs.Rules.{FrameWhy, FrameKeeps, IsForward, GoodFrame};
 ghost use Rattle.dvg_check.specs.declared.fault.FrameWhy.TheVariants as frame;
 ghost use Rattle.dvg_check.specs.FirstFault.{FrameFault, frame_number, FirstFrameFault};
-ghost use Rattle.dvg_check.specs.Private.Running.{IsNearPlace, IsNearExtent, IsSomeCertificate, EachKept, frame_rules, FrameBrokenFirst};
+ghost use Rattle.dvg_items.specs.Bounds.{IsSomeCertificate, IsSoundSeen};
+ghost use Rattle.dvg_check.specs.Private.Judging.{EachKept, frame_rules, FrameBrokenFirst};
 
 use crate::fault::{FrameFault, FrameWhy};
-use crate::item::{Item, Kind};
-use crate::known::{Seen, target};
-use crate::rules::{Rules, has_callee, lit_on_screen, place_known, scale_known};
+use crate::rules::Rules;
 use crate::walk::walk;
 use dvg_cert::{Cert, Entries, Key};
+use dvg_items::{Item, Kind, Seen, has_callee, lit_on_screen, place_known, scale_known, target};
 use dvg_words::{FrameImage, Instr, RomImage};
 
 /// What is asked of a frame: how many words it may take at the most.
@@ -34,8 +34,7 @@ fn is_forward(item: &Item) -> bool
 
 /// The first rule that an item of a frame breaks.
 fn first_broken(budget: u32, seen: &Seen) -> Option<FrameWhy>
-    requires place { IsNearPlace 4100 seen.now.place }
-    requires extent { IsNearExtent seen.now.extent }
+    requires { IsSoundSeen seen.now }
     ensures kept { IfNone result (EachKept (FrameKeeps screen budget seen.now) frame_rules) }
     ensures broken { IfSome result (FrameBrokenFirst (FrameKeeps screen budget seen.now)) }
 {

@@ -1,16 +1,14 @@
-//! The checker: it decides whether a frame keeps the rules, and a yes means that every run of the generator is safe.
+//! The checker: it decides whether a vector ROM's shapes and a frame keep the rules, and a yes means that every run of the
+//! generator is safe.
 //!
 //! [`check`] takes bytes, and its contract has both halves: the exact verdict, and the safety of every run.
 #![tactic(auto)]
 
-pub mod boxes;
 mod cells;
 mod fault;
 mod frames;
-pub mod item;
-pub mod known;
 pub mod laws;
-pub mod rules;
+mod rules;
 mod run;
 mod shapes;
 mod verdict;

@@ -2,17 +2,16 @@
 //! is seen to keep all rules is judged as if it were one item.
 
 ghost use Rattle.std.specs.Prelude.{◌≡◌, ◌≤◌, ◌<◌, ◌+◌, ◌≤ℤ◌, ◌*ℤ◌, ℕ, Option, [], ◌∷◌, List, pos, neg_ℤ, IfSome};
-ghost use Rattle.dvg_words.specs.Decoding.{cell_at, word_count};
-ghost use Rattle.dvg_check.specs.Known.{Moves};
-ghost use Rattle.dvg_check.specs.Private.Running.{IsNear, IsNearExtent, IsNearPlace, IsSound};
+ghost use Rattle.dvg_words.specs.Decoding.{cell_at, word_count, InstrFits};
+ghost use Rattle.dvg_items.specs.declared.known.Effect.TheVariants.{Moves};
+ghost use Rattle.dvg_items.specs.Bounds.{IsNearExtent, IsSoundCursor, IsSoundSeen};
+ghost use Rattle.dvg_words.specs.declared.map.TheConstants.{ADDRESS_END};
 ghost use Rattle.dvg_check.specs.Private.Runs.{FormattedDraw, Tells, IsRun, IsSize, IsSizeBox, IsSized, IsFew, AreFew, Stands, AllStand, AreRunsFrom, IsFactor, size, moved, multiplied, multiplied_box, run_extent, run_sight};
 
-use crate::boxes::{joined, spanning};
 use crate::cells::ROM_END;
-use crate::item::{Item, word_count};
-use crate::known::{Effect, Known, LitExtent, ORIGIN, Seen, place_past, shift};
 use dvg_cert::LitBox;
-use dvg_words::{Cell, Draw, Format, Instr, Point, RomImage, factor, read_cell};
+use dvg_items::{Effect, Item, Known, LitExtent, Seen, joined, place_past, spanning};
+use dvg_words::{Cell, Draw, Format, Instr, Point, RomImage, factor, read_cell, shift};
 
 /// Draws that stand one after another: how many words they have, their lowest and their highest local scale, and how far
 /// they move the beam and a box of what they light (the code's is the least), seen from the place before the first.
@@ -33,7 +32,7 @@ impl Run {
         words: 0,
         lowest: 9,
         highest: 0,
-        by: ORIGIN,
+        by: Point::ORIGIN,
         lit: LitBox::Empty,
     };
 }
@@ -57,14 +56,14 @@ fn run_of(format: Format, draw: &Draw) -> Run
 {
     let by = size(draw);
     Run {
-        words: word_count(format),
+        words: format.words(),
         lowest: draw.lscale,
         highest: draw.lscale,
         by,
         lit: if draw.bright == 0 {
             LitBox::Empty
         } else {
-            spanning(&ORIGIN, &by)
+            spanning(&Point::ORIGIN, &by)
         },
     }
 }
@@ -254,11 +253,11 @@ pub fn see_run(run: &Run, factor: u16, before: &Known, item: &Item) -> Seen
     requires few { run.now.words ≤ 1025 }
     requires sized { IsSized run.now }
     requires factor { factor ≤ 1024 }
-    requires before { IsSound item.now.at before.now }
-    requires near { item.now.at < 4096 }
+    requires before { IsSoundCursor (record { at = item.now.at; known = before.now }) }
+    requires near { item.now.at < ADDRESS_END }
+    requires fields { InstrFits item.now.instr }
     ensures value { result ≡ run_sight run.now factor before.now item.now }
-    ensures extent { IsNearExtent result.extent }
-    ensures place_after { IsNearPlace (item.now.at + 1) result.after.place }
+    ensures sound { IsSoundSeen result }
 {
     let effect = Effect::Moves(multiplied(&run.by, factor));
     Seen {

@@ -3,23 +3,28 @@
 ghost use Rattle.std.specs.Prelude.{◌≡◌, ◌<◌, ◌≤◌, ◌≤ℤ◌, ◌↔◌, IsTrue, OnOk, IfErr, IfNone, IfSome};
 ghost use Rattle.dvg_words.specs.Beam.{screen};
 ghost use Rattle.dvg_cert.specs.declared.entry.LitBox.TheVariants.{Span};
-ghost use Rattle.dvg_check.specs.Items.{Shape, next_place};
-ghost use Rattle.dvg_check.specs.Lit.{InBox, LitInBox};
+ghost use Rattle.dvg_items.specs.declared.item.Kind.TheVariants.{Shape};
+ghost use Rattle.dvg_items.specs.Items.{next_place};
+ghost use Rattle.dvg_items.specs.Lit.{InBox, LitInBox};
 ghost use Rattle.dvg_check.specs.declared.fault.Mode.TheVariants.{Bound};
 ghost use Rattle.dvg_check.specs.declared.fault.ShapeWhy.TheVariants as shape;
 ghost use Rattle.dvg_check.specs.Rules.{AtLast, AsClaimed, ShapeKeeps, GoodShape, Good};
 ghost use Rattle.dvg_check.specs.FirstFault.{shape_number, ShapeFaultAt, FirstShapeFault};
-ghost use Rattle.dvg_check.specs.Private.Running.{IsNearPlace, IsNearExtent, IsClaim, IsSomeCertificate, EachKept, shape_rules, ShapeBrokenFirst};
+ghost use Rattle.dvg_items.specs.Bounds.{IsClaim, IsSomeCertificate, IsSoundSeen};
+ghost use Rattle.dvg_words.specs.declared.map.TheConstants.{ADDRESS_END};
+ghost use Rattle.dvg_check.specs.Private.Judging.{EachKept, shape_rules, ShapeBrokenFirst};
 
 use crate::cells::{ROM_END, RomCells};
 use crate::fault::{Mode, ShapeFault, ShapeWhy};
-use crate::item::{Item, Kind, next_place};
-use crate::known::{LitExtent, Seen, depth_under, shift, target};
-use crate::rules::{Rules, has_callee, lit_on_screen, place_known, scale_known};
+use crate::rules::Rules;
 use crate::run::{Run, fill_runs};
 use crate::walk::walk;
-use dvg_cert::{Cert, End, Entries, Entry, Key, LitBox};
-use dvg_words::{Instr, Point, RomImage};
+use dvg_cert::{Cert, Entries, Entry, Key};
+use dvg_items::{
+    Kind, Seen, depth_under, has_callee, lit_in_box, lit_on_screen, place_known, scale_known,
+    target,
+};
+use dvg_words::{Instr, RomImage};
 
 /// What is asked of a shape: what its entry claims, and whether the claimed counts are bounds or exact.
 #[derive(Drop)]
@@ -28,84 +33,45 @@ pub struct ShapeRules {
     pub mode: Mode,
 }
 
-fn is_between(low: &i64, value: i64, high: &i64) -> bool
-    ensures { IsTrue result ↔ (low.now ≤ℤ value) × (value ≤ℤ high.now) }
-{
-    *low <= value && value <= *high
-}
-
-/// Whether a point is in a box, ends included.
-fn is_in_box(lit: &LitBox, p: &Point) -> bool
-    ensures { IsTrue result ↔ InBox lit.now p.now }
-{
-    match lit {
-        LitBox::Empty => false,
-        LitBox::Span {
-            x_min,
-            x_max,
-            y_min,
-            y_max,
-        } => is_between(x_min, p.x, x_max) && is_between(y_min, p.y, y_max),
-    }
-}
-
-/// What is lit at a relative place is in the box, both ends of it.
-fn lit_in_box(lit: &LitBox, extent: &LitExtent, place: &End) -> bool
-    requires place { IsNearPlace 4100 place.now }
-    requires extent { IsNearExtent extent.now }
-    ensures { IsTrue result ↔ LitInBox lit.now extent.now place.now }
-{
-    match (extent, place) {
-        (LitExtent::Between { from, to }, End::Rel { x, y }) => {
-            let here = Point { x: *x, y: *y };
-            is_in_box(lit, &shift(&here, from)) && is_in_box(lit, &shift(&here, to))
-        }
-        _ => true,
-    }
-}
-
 /// At the last item, the place after it is the claimed one.
 fn ends_there(entry: &Entry, seen: &Seen) -> bool
-    requires { seen.now.item.at < 4096 }
+    requires { seen.now.item.at < ADDRESS_END }
     ensures { IsTrue result ↔ AtLast (next_place Shape seen.now.item) (seen.now.after.place ≡ entry.now.stop) }
 {
-    next_place(Kind::Shape, &seen.item).is_some() || seen.after.place == entry.stop
+    seen.item.next_place(Kind::Shape).is_some() || seen.after.place == entry.stop
 }
 
 /// At the last item, the scale after it is the claimed one.
 fn leaves_scale(entry: &Entry, seen: &Seen) -> bool
-    requires { seen.now.item.at < 4096 }
+    requires { seen.now.item.at < ADDRESS_END }
     ensures { IsTrue result ↔ AtLast (next_place Shape seen.now.item) (seen.now.after.scale ≡ entry.now.scale) }
 {
-    next_place(Kind::Shape, &seen.item).is_some() || seen.after.scale == entry.scale
+    seen.item.next_place(Kind::Shape).is_some() || seen.after.scale == entry.scale
 }
 
 /// At the last item, the words are as many as claimed, where claims are exact.
 fn words_as_claimed(mode: Mode, entry: &Entry, seen: &Seen) -> bool
-    requires { seen.now.item.at < 4096 }
+    requires { seen.now.item.at < ADDRESS_END }
     ensures { IsTrue result ↔ AtLast (next_place Shape seen.now.item) (AsClaimed mode seen.now.after.words entry.now.words) }
 {
     mode == Mode::Bound
-        || next_place(Kind::Shape, &seen.item).is_some()
+        || seen.item.next_place(Kind::Shape).is_some()
         || seen.after.words == entry.words
 }
 
 /// At the last item, the depth is as claimed, where claims are exact.
 fn depth_as_claimed(mode: Mode, entry: &Entry, seen: &Seen) -> bool
-    requires { seen.now.item.at < 4096 }
+    requires { seen.now.item.at < ADDRESS_END }
     ensures { IsTrue result ↔ AtLast (next_place Shape seen.now.item) (AsClaimed mode seen.now.after.depth entry.now.depth) }
 {
     mode == Mode::Bound
-        || next_place(Kind::Shape, &seen.item).is_some()
+        || seen.item.next_place(Kind::Shape).is_some()
         || seen.after.depth == entry.depth
 }
 
 /// The first rule that an item of a shape breaks.
 fn first_broken(mode: Mode, entry: &Entry, seen: &Seen) -> Option<ShapeWhy>
-    requires near { seen.now.item.at < 4096 }
-    requires callee { IfSome seen.now.callee IsClaim }
-    requires place { IsNearPlace 4100 seen.now.place }
-    requires extent { IsNearExtent seen.now.extent }
+    requires { IsSoundSeen seen.now }
     ensures kept { IfNone result (EachKept (ShapeKeeps mode screen entry.now seen.now) shape_rules) }
     ensures broken { IfSome result (ShapeBrokenFirst (ShapeKeeps mode screen entry.now seen.now)) }
 {

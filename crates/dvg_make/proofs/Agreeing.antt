@@ -7,13 +7,14 @@ use Rattle.dvg_words.specs.declared.instruction.Cell.TheVariants.{Holds}
 use Rattle.dvg_cert.specs.Lookup.{entry_at}
 use Rattle.dvg_cert.specs.declared.entry.Entry.{Entry}
 use Rattle.dvg_cert.specs.declared.entry.Key.{Key}
-use Rattle.dvg_check.specs.Items.{LeadsTo}
-use Rattle.dvg_check.specs.Known.{target, scale_before}
-use Rattle.dvg_check.specs.declared.item.Item.{Item}
-use Rattle.dvg_check.specs.declared.item.Kind.TheVariants.{Shape}
+use Rattle.dvg_items.specs.Items.{LeadsTo}
+use Rattle.dvg_items.specs.Known.{target, scale_before}
+use Rattle.dvg_items.specs.declared.item.Item.{Item}
+use Rattle.dvg_items.specs.declared.item.Kind.TheVariants.{Shape}
 use Rattle.dvg_make.specs.Made.{MadeEntry}
 use Rattle.dvg_make.specs.Private.Walking.{keyed_context}
-use Rattle.dvg_make.proofs.Matching.{listed_at, Gathered, SameAt, Matched, gathered_same}
+use Rattle.dvg_items.proofs.Listed.{listed_at}
+use Rattle.dvg_make.proofs.Matching.{Gathered, SameAt, Matched, gathered_same}
 use Rattle.dvg_make.proofs.Ends.{callee_less, same_sums, made_ends, sums_of}
 
 module _ (rom : Rom) (a b : List Entry) (made_a : (e : Entry) → Contains a e → MadeEntry rom a e) (made_b : (e : Entry) → Contains b e → MadeEntry rom b e) where

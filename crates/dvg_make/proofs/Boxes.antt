@@ -8,11 +8,11 @@ use Rattle.dvg_cert.specs.declared.entry.End.{End}
 use Rattle.dvg_cert.specs.declared.entry.End.TheVariants.{Rel}
 use Rattle.dvg_cert.specs.declared.entry.LitBox.{LitBox}
 use Rattle.dvg_cert.specs.declared.entry.LitBox.TheVariants.{Empty, Span}
-use Rattle.dvg_check.specs.declared.known.LitExtent.{LitExtent}
-use Rattle.dvg_check.specs.declared.known.LitExtent.TheVariants.{Between}
-use Rattle.dvg_check.specs.Lit.{InBox, IsInside}
-use Rattle.dvg_check.proofs.Reaches.{IsSpanning, IsJoined}
-use Rattle.dvg_make.specs.Least.{HoldsAll, IsLeast, corners}
+use Rattle.dvg_items.specs.declared.lit.LitExtent.{LitExtent}
+use Rattle.dvg_items.specs.declared.lit.LitExtent.TheVariants.{Between}
+use Rattle.dvg_items.specs.Lit.{InBox, IsInside}
+use Rattle.dvg_items.proofs.LeastBoxes.{IsSpanning, IsJoined}
+use Rattle.dvg_make.specs.Least.{HoldsAll, IsLeast}
 
 both_inside : (a b : LitBox) → IsInside a b → IsInside b a → a ≡ b
 both_inside Empty Empty h k = refl
@@ -47,10 +47,6 @@ two_points p q lit one new ps s j h =
       least = λ other k. j.least other (h.least other k.1.1) (s.least other k.0 k.1.0);
     }
 
--- both corners of what is lit at a relative place
-pub both_corners : (extent : LitExtent) (place : End) (lit one new : LitBox) (x y : ℤ) (from to a b : Point) → extent ≡ Between from to → place ≡ Rel x y → a ≡ shift (record { x = x; y = y }) from → b ≡ shift (record { x = x; y = y }) to → IsSpanning a b one → IsJoined lit one new → (ps : List Point) → IsLeast ps lit → IsLeast (corners extent place ++ ps) new
-both_corners extent place lit one new x y from to a b l k ea eb s j ps h =
-    let p : Point = record { x = x; y = y } in
-    let t : IsLeast (a ∷ b ∷ ps) new = two_points a b lit one new ps s j h in
-    let u : IsLeast (shift p from ∷ shift p to ∷ ps) new = subst (λ (z : Point). IsLeast (shift p from ∷ z ∷ ps) new) eb (subst (λ (z : Point). IsLeast (z ∷ b ∷ ps) new) ea t) in
-    subst (λ z. IsLeast (corners z place ++ ps) new) (sym l) (subst (λ z. IsLeast (corners (Between from to) z ++ ps) new) (sym k) u)
+-- two points more
+pub both_corners : (points : List Point) (lit one new : LitBox) (a b : Point) → points ≡ a ∷ b ∷ [] → IsSpanning a b one → IsJoined lit one new → (ps : List Point) → IsLeast ps lit → IsLeast (points ++ ps) new
+both_corners points lit one new a b is s j ps h = subst (λ z. IsLeast (z ++ ps) new) (sym is) (two_points a b lit one new ps s j h)

@@ -7,17 +7,19 @@ use Rattle.dvg_cert.specs.Lookup.{is_at, entry_at, or_else}
 use Rattle.dvg_cert.specs.declared.entry.Entry.{Entry}
 use Rattle.dvg_cert.specs.declared.entry.Key.{Key}
 use Rattle.dvg_cert.proofs.OnlyEntries.{at_holds}
-use Rattle.dvg_check.specs.Items.{LeadsTo}
-use Rattle.dvg_check.specs.Known.{shape_context, scale_before}
-use Rattle.dvg_check.specs.declared.item.Item.{Item}
-use Rattle.dvg_check.specs.declared.item.Kind.TheVariants.{Shape}
-use Rattle.dvg_check.specs.declared.known.Known.{Known}
+use Rattle.dvg_items.specs.Items.{LeadsTo}
+use Rattle.dvg_items.specs.Known.{shape_context, scale_before}
+use Rattle.dvg_items.specs.declared.item.Item.{Item}
+use Rattle.dvg_items.specs.declared.item.Kind.TheVariants.{Shape}
+use Rattle.dvg_items.specs.declared.known.Known.{Known}
+use Rattle.dvg_words.specs.declared.map.TheConstants.{ADDRESS_END}
 use Rattle.dvg_make.specs.declared.walk.Walk.{Walk}
 use Rattle.dvg_make.specs.Made.{MadeEntry, Made}
 use Rattle.dvg_make.specs.Refusals.{NoneMade}
 use Rattle.dvg_make.specs.Private.Walking.{keyed_context, start, IsWalk, Extends, NeverAt, IsFinished, IsWaiting}
 use Rattle.dvg_make.specs.Private.Making.{IsMaking, AllWalks, Chain, Apart, IsUnique, IsPresent, IsCalled, Making}
-use Rattle.dvg_make.proofs.Matching.{listed_at, entry_at-append}
+use Rattle.dvg_items.proofs.Listed.{listed_at}
+use Rattle.dvg_make.proofs.Matching.{entry_at-append}
 use Rattle.dvg_make.proofs.Ends.{callee_less}
 use Rattle.dvg_make.proofs.Onward.{listed_entry}
 use Rattle.dvg_make.proofs.Growing.{scale_grows, fine_grows, walk_grows, made_grows, same_made}
@@ -75,7 +77,7 @@ module _ (rom : Rom) (roots : List (ℕ × Key)) (done : List Entry) (stack : Li
 
   module _ (new : Walk) (addr : ℕ) (w : IsWaiting rom done walk new addr) where
     abbrev at_key : Key
-    at_key = new.known.scale
+    at_key = new.cursor.known.scale
 
     callee : (made : List Entry) → (m : Made rom roots made) → (p : Popped made 1000001 stack walk 0) → Extends done made → Callee made addr at_key p.f.words
     callee made m p ext =
@@ -84,10 +86,10 @@ module _ (rom : Rom) (roots : List (ℕ × Key)) (done : List Entry) (stack : Li
         let addr_is : new.addr ≡ p.f.addr = w.same_addr ∙ sym l.addr_is in
         let key_is : new.key ≡ p.f.key = w.same_key ∙ sym l.key_is in
         let i : Item = w.item in
-        let lead : LeadsTo Shape (rom_word rom) p.f.addr w.walk.items i.at = subst (λ x. LeadsTo Shape (rom_word rom) p.f.addr w.walk.items x) (sym w.at) (subst (λ x. LeadsTo Shape (rom_word rom) x w.walk.items new.at) addr_is w.walk.leads) in
+        let lead : LeadsTo Shape (rom_word rom) p.f.addr w.walk.items i.at = subst (λ x. LeadsTo Shape (rom_word rom) p.f.addr w.walk.items x) (sym w.at) (subst (λ x. LeadsTo Shape (rom_word rom) x w.walk.items new.cursor.at) addr_is w.walk.leads) in
         let g = is.keyed w.walk.items i lead w.stands addr w.target_is in
         let scale : scale_before (shape_context made p.f) w.walk.items ≡ at_key =
-        ap (λ (x : Key). scale_before (keyed_context made x) w.walk.items) (sym key_is) ∙ sym (scale_grows done made new.key ext w.walk.items w.walk.knows.fine) ∙ sym (ap (λ (x : Known). x.scale) w.walk.knows.known)
+        ap (λ (x : Key). scale_before (keyed_context made x) w.walk.items) (sym key_is) ∙ sym (scale_grows done made new.key ext w.walk.items w.walk.knows.fine) ∙ sym (ap (λ (x : Known). x.scale) w.walk.knows.known_is)
         in
         let there : entry_at made addr at_key ≡ Some g.0 = subst (λ (x : Key). entry_at made addr x ≡ Some g.0) scale g.1 in
         let gl = listed_at made addr at_key g.0 there in

@@ -16,22 +16,23 @@ use Rattle.dvg_cert.specs.declared.entry.Entry.{Entry}
 use Rattle.dvg_cert.specs.declared.entry.Key.{Key}
 use Rattle.dvg_cert.specs.declared.entry.LitBox.{LitBox}
 use Rattle.dvg_check.specs.FirstFault.{AllBefore}
-use Rattle.dvg_check.specs.Items.{next_place, LeadsTo}
-use Rattle.dvg_check.specs.Known.{Context, shape_context, target, callee_at, callee, callee_words, scale_before, place_before, words_before, depth_before, depth_under, known_before}
-use Rattle.dvg_check.specs.Lit.{extent, LitInBox}
-use Rattle.dvg_check.specs.Rules.{sight, HasCallee, AtLast, ShapeKeeps, CellKeeps}
+use Rattle.dvg_items.specs.Items.{next_place, LeadsTo}
+use Rattle.dvg_items.specs.Known.{Context, shape_context, target, callee_at, callee, callee_words, scale_before, place_before, words_before, depth_before, depth_under, known_before}
+use Rattle.dvg_items.specs.Seen.{extent, sight, HasCallee}
+use Rattle.dvg_items.specs.Lit.{relative_corners, LitInBox}
+use Rattle.dvg_check.specs.Rules.{AtLast, ShapeKeeps, CellKeeps}
 use Rattle.dvg_check.specs.declared.fault.Mode.TheVariants.{Exact}
 use Rattle.dvg_check.specs.declared.fault.ShapeWhy.{ShapeWhy}
 use Rattle.dvg_check.specs.declared.fault.ShapeWhy.TheVariants as shape
-use Rattle.dvg_check.specs.declared.item.Item.{Item}
-use Rattle.dvg_check.specs.declared.item.Kind.TheVariants.{Shape}
-use Rattle.dvg_check.specs.declared.known.Known.{Known}
-use Rattle.dvg_check.specs.declared.known.LitExtent.{LitExtent}
-use Rattle.dvg_check.specs.declared.known.LitExtent.TheVariants.{Nothing, Between, Anywhere}
-use Rattle.dvg_check.specs.declared.known.Seen.{Seen}
+use Rattle.dvg_items.specs.declared.item.Item.{Item}
+use Rattle.dvg_items.specs.declared.item.Kind.TheVariants.{Shape}
+use Rattle.dvg_items.specs.declared.known.Known.{Known}
+use Rattle.dvg_items.specs.declared.lit.LitExtent.{LitExtent}
+use Rattle.dvg_items.specs.declared.lit.LitExtent.TheVariants.{Nothing, Between, Anywhere}
+use Rattle.dvg_items.specs.declared.seen.Seen.{Seen}
 use Rattle.dvg_check.proofs.Faults.{all_kept}
-use Rattle.dvg_check.proofs.ShapeLaws.{word_count-some}
-use Rattle.dvg_make.specs.Least.{corners, lit_points, HoldsAll, IsLeast}
+use Rattle.dvg_items.proofs.Near.{word_count-some}
+use Rattle.dvg_make.specs.Least.{lit_points, HoldsAll, IsLeast}
 use Rattle.dvg_make.specs.Made.{HasEntry, EachItem, AtEnd, MadeKeeps, MadeEntry}
 use Rattle.dvg_make.specs.Private.Walking.{keyed_context, IsStraight, IsFine, AllFine}
 use Rattle.dvg_make.proofs.Boxes.{one_least}
@@ -179,13 +180,6 @@ holds_right : (box : LitBox) (a b : List Point) → HoldsAll box (a ++ b) → Ho
 holds_right box [] b h = h
 holds_right box (p ∷ a) b h = holds_right box a b h.1
 
-boxed_of : (box : LitBox) (v : LitExtent) (k : End) → HoldsAll box (corners v k) → LitInBox box v k
-boxed_of box Nothing k h = tt
-boxed_of box (Between a b) (Rel x y) h = (h.0, h.1.0)
-boxed_of box (Between a b) (Abs x y) h = tt
-boxed_of box (Between a b) Lost h = tt
-boxed_of box Anywhere k h = tt
-
 has_callee : (list : List Entry) (o : Option ℕ) (scale : Key) → ((to : ℕ) → o ≡ Some to → HasEntry list to scale) → HasCallee o (callee_at list o scale)
 has_callee list None scale h = tt
 has_callee list (Some to) scale h = let f = h to refl in subst (λ x. HasCallee (Some to) x) (sym (exact_named list to scale f.0 f.1)) tt
@@ -202,7 +196,7 @@ module _ (rom : Rom) (list : List Entry) (e : Entry) where
     fine : IsFine c earlier i
     deep : depth_under i.instr (callee c earlier i.instr) ≤ e.depth
     many : words_before c (i ∷ earlier) ≤ e.words
-    holds : HoldsAll e.lit (corners (extent c earlier i.instr) (place_before c earlier))
+    holds : HoldsAll e.lit (relative_corners (extent c earlier i.instr) (place_before c earlier))
     known : AtLast (next_place Shape i) (known_before c (i ∷ earlier) ≡ known_of e)
 
   kept_at : (earlier : List Item) (i : Item) → AtItem earlier i → (w : Window) (why : ShapeWhy) → why ≢ shape.OffScreen → ShapeKeeps Exact w e (sight c earlier i) why
@@ -217,7 +211,7 @@ module _ (rom : Rom) (list : List Entry) (e : Entry) where
   kept_at earlier i h w shape.TooManyWords not = h.many
   kept_at earlier i h w shape.EndDiffers not = last_map (next_place Shape i) _ _ (λ (k : Known). k.place) h.known
   kept_at earlier i h w shape.ScaleDiffers not = last_map (next_place Shape i) _ _ (λ (k : Known). k.scale) h.known
-  kept_at earlier i h w shape.BoxTooSmall not = boxed_of e.lit (extent c earlier i.instr) (place_before c earlier) h.holds
+  kept_at earlier i h w shape.BoxTooSmall not = h.holds
   kept_at earlier i h w shape.WordsDiffer not = last_map (next_place Shape i) _ _ (λ (k : Known). k.words) h.known
   kept_at earlier i h w shape.DepthDiffers not = last_map (next_place Shape i) _ _ (λ (k : Known). k.depth) h.known
 
@@ -228,13 +222,13 @@ module _ (rom : Rom) (list : List Entry) (e : Entry) where
   kept_before : (items : List Item) (p : ℕ) → LeadsTo Shape (rom_word rom) e.addr items p → AllFine c items → depth_before c items ≤ e.depth → words_before c items ≤ e.words → HoldsAll e.lit (lit_points c items) → AllBefore (MadeKeeps rom list e) items
   kept_before [] p lead fine deep many holds = tt
   kept_before (i ∷ earlier) p lead fine deep many holds = (
-    kept_before earlier i.at lead.0 fine.0 (omega (arith, deep)) (omega (arith, many)) (holds_right e.lit (corners (extent c earlier i.instr) (place_before c earlier)) (lit_points c earlier) holds),
+    kept_before earlier i.at lead.0 fine.0 (omega (arith, deep)) (omega (arith, many)) (holds_right e.lit (relative_corners (extent c earlier i.instr) (place_before c earlier)) (lit_points c earlier) holds),
     kept_place earlier i lead.1
         (record {
           fine = fine.1;
           deep = omega (arith, deep);
           many = many;
-          holds = holds_left e.lit (corners (extent c earlier i.instr) (place_before c earlier)) (lit_points c earlier) holds;
+          holds = holds_left e.lit (relative_corners (extent c earlier i.instr) (place_before c earlier)) (lit_points c earlier) holds;
           known = subst (λ o. AtLast o (known_before c (i ∷ earlier) ≡ known_of e)) (sym lead.2) tt;
         }),
   )
@@ -275,13 +269,13 @@ module _ (rom : Rom) (list : List Entry) (e : Entry) where
         let many : words_before c (h.i ∷ h.items) ≡ e.words = ap (λ (k : Known). k.words) h.sums.known in
         record {
           keeps = all_kept Shape (rom_word rom) e.addr ShapeWhy (MadeKeeps rom list e) h.items h.i h.leads h.is h.last (
-            kept_before h.items h.i.at h.leads h.fine.0 (omega (arith, deep)) (omega (arith, many)) (holds_right e.lit (corners (extent c h.items h.i.instr) (place_before c h.items)) (lit_points c h.items) h.sums.box.holds),
+            kept_before h.items h.i.at h.leads h.fine.0 (omega (arith, deep)) (omega (arith, many)) (holds_right e.lit (relative_corners (extent c h.items h.i.instr) (place_before c h.items)) (lit_points c h.items) h.sums.box.holds),
             kept_place h.items h.i h.is
                 (record {
                   fine = h.fine.1;
                   deep = omega (arith, deep);
                   many = omega (arith, many);
-                  holds = holds_left e.lit (corners (extent c h.items h.i.instr) (place_before c h.items)) (lit_points c h.items) h.sums.box.holds;
+                  holds = holds_left e.lit (relative_corners (extent c h.items h.i.instr) (place_before c h.items)) (lit_points c h.items) h.sums.box.holds;
                   known = subst (λ o. AtLast o (known_before c (h.i ∷ h.items) ≡ known_of e)) (sym h.last) h.sums.known;
                 }),
           );

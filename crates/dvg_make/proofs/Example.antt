@@ -13,17 +13,19 @@ use Rattle.dvg_cert.specs.declared.entry.Key.{Key}
 use Rattle.dvg_cert.specs.declared.entry.Key.TheVariants.{At}
 use Rattle.dvg_cert.specs.declared.entry.LitBox.{LitBox}
 use Rattle.dvg_cert.specs.declared.entry.LitBox.TheVariants.{Empty, Span}
-use Rattle.dvg_check.specs.Example.{example_rom, example_entry, example_list}
-use Rattle.dvg_check.specs.Items.{next_place}
-use Rattle.dvg_check.specs.Known.{shape_context, target, scale_before}
-use Rattle.dvg_check.specs.Lit.{IsInside}
-use Rattle.dvg_check.specs.Rules.{AllKeep, CellKeeps, ShapeKeeps, sight}
+use Rattle.dvg_words.specs.Example.{example_rom}
+use Rattle.dvg_check.specs.Example.{example_entry, example_list}
+use Rattle.dvg_items.specs.Items.{next_place}
+use Rattle.dvg_items.specs.Known.{shape_context, target, scale_before}
+use Rattle.dvg_items.specs.Lit.{IsInside}
+use Rattle.dvg_check.specs.Rules.{AllKeep, CellKeeps, ShapeKeeps}
+use Rattle.dvg_items.specs.Seen.{sight}
 use Rattle.dvg_check.specs.declared.fault.Mode.TheVariants.{Exact}
 use Rattle.dvg_check.specs.declared.fault.ShapeWhy.{ShapeWhy}
 use Rattle.dvg_check.specs.declared.fault.ShapeWhy.TheVariants as shape
-use Rattle.dvg_check.specs.declared.item.Item.{Item}
-use Rattle.dvg_check.specs.declared.item.Kind.TheVariants.{Shape}
-use Rattle.dvg_check.specs.declared.known.Seen.{Seen}
+use Rattle.dvg_items.specs.declared.item.Item.{Item}
+use Rattle.dvg_items.specs.declared.item.Kind.TheVariants.{Shape}
+use Rattle.dvg_items.specs.declared.seen.Seen.{Seen}
 use Rattle.dvg_check.proofs.Example.{draw_item, return_item, draw_there, return_there, worked_example as example_good}
 use Rattle.dvg_check.proofs.Faults.{all_kept}
 use Rattle.dvg_make.specs.Laws.{WorkedExampleMade}

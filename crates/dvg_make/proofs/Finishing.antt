@@ -9,13 +9,14 @@ use Rattle.dvg_cert.specs.Lookup.{entry_at, IsOnlyAt, HasNoneAt}
 use Rattle.dvg_cert.specs.declared.entry.Entry.{Entry}
 use Rattle.dvg_cert.specs.declared.entry.Key.{Key}
 use Rattle.dvg_cert.proofs.OnlyEntries.{found}
-use Rattle.dvg_check.specs.Items.{LeadsTo}
-use Rattle.dvg_check.specs.Known.{shape_context, callee_at, scale_before}
-use Rattle.dvg_check.specs.declared.item.Kind.TheVariants.{Shape}
+use Rattle.dvg_items.specs.Items.{LeadsTo}
+use Rattle.dvg_items.specs.Known.{shape_context, callee_at, scale_before}
+use Rattle.dvg_items.specs.declared.item.Kind.TheVariants.{Shape}
 use Rattle.dvg_make.specs.Made.{HasEntry, Needs, Made}
 use Rattle.dvg_make.specs.Private.Walking.{keyed_context, Extends}
 use Rattle.dvg_make.specs.Private.Making.{IsPresent, IsCalled, Making}
-use Rattle.dvg_make.proofs.Matching.{listed_at, exact_named}
+use Rattle.dvg_items.proofs.Listed.{listed_at}
+use Rattle.dvg_make.proofs.Matching.{exact_named}
 use Rattle.dvg_make.proofs.Growing.{scale_grows, made_grows}
 
 -- in a rising list each entry is found

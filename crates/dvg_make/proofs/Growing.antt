@@ -1,13 +1,15 @@
 -- What is known by a list is known by each that extends it.
 use Rattle.std.proofs.Common.{◌≡◌, List, [], ◌∷◌, sym, ap, ◌∙◌, subst}
 use Rattle.dvg_words.specs.Memory.{Rom, rom_word}
-use Rattle.dvg_check.specs.Items.{LeadsTo}
+use Rattle.dvg_items.specs.Items.{LeadsTo}
 use Rattle.dvg_cert.specs.Lookup.{entry_at}
 use Rattle.dvg_cert.specs.declared.entry.Entry.{Entry}
 use Rattle.dvg_cert.specs.declared.entry.Key.{Key}
-use Rattle.dvg_check.specs.Known.{target, scale_before}
-use Rattle.dvg_check.specs.declared.item.Item.{Item}
-use Rattle.dvg_check.specs.declared.item.Kind.TheVariants.{Shape}
+use Rattle.dvg_items.specs.Known.{target, scale_before}
+use Rattle.dvg_items.specs.declared.item.Item.{Item}
+use Rattle.dvg_items.specs.declared.item.Kind.TheVariants.{Shape}
+use Rattle.dvg_cert.specs.declared.entry.LitBox.{LitBox}
+use Rattle.dvg_items.specs.declared.known.Known.{Known}
 use Rattle.dvg_make.specs.declared.walk.Walk.{Walk}
 use Rattle.dvg_make.specs.Least.{IsLeast}
 use Rattle.dvg_make.specs.Made.{MadeEntry}
@@ -31,18 +33,18 @@ module _ (a b : List Entry) (key : Key) (ext : Extends a b) where
         },
       )
 
-  knows_grows : (items : List Item) (w : Walk) → KnowsAt (keyed_context a key) items w → KnowsAt (keyed_context b key) items w
-  knows_grows items w k =
+  knows_grows : (items : List Item) (known : Known) (lit : LitBox) → KnowsAt (keyed_context a key) items known lit → KnowsAt (keyed_context b key) items known lit
+  knows_grows items known lit k =
       let t = gathered_same a b key items (matched_fine a b key ext items k.fine) in
       record {
-        known = k.known ∙ ap (λ (x : Gathered). x.known) t;
-        lit = subst (λ l. IsLeast l w.lit) (ap (λ (x : Gathered). x.lit) t) k.lit;
+        known_is = k.known_is ∙ ap (λ (x : Gathered). x.known) t;
+        least = subst (λ l. IsLeast l lit) (ap (λ (x : Gathered). x.lit) t) k.least;
         fine = fine_grows items k.fine;
       }
 
 pub walk_grows : (rom : Rom) (a b : List Entry) (w : Walk) → Extends a b → IsWalk rom a w → IsWalk rom b w
 walk_grows rom a b w ext h =
-    record { items = h.items; leads = h.leads; knows = knows_grows a b w.key ext h.items w h.knows; sound = h.sound; close = h.close }
+    record { items = h.items; leads = h.leads; knows = knows_grows a b w.key ext h.items w.cursor.known w.lit h.knows; sound = h.sound }
 
 pub made_grows : (rom : Rom) (a b : List Entry) (e : Entry) → Extends a b → MadeEntry rom a e → MadeEntry rom b e
 made_grows rom a b e ext made =

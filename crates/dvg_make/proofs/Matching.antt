@@ -7,37 +7,16 @@ use Rattle.dvg_cert.specs.declared.entry.Entry.{Entry}
 use Rattle.dvg_cert.specs.declared.entry.Key.{Key}
 use Rattle.dvg_cert.specs.declared.entry.Key.TheVariants.{Any}
 use Rattle.dvg_cert.proofs.OnlyEntries.{at_means}
-use Rattle.dvg_check.specs.Known.{Context, target, callee_at, callee, scale_before, known_before}
-use Rattle.dvg_check.specs.Lit.{extent_of}
-use Rattle.dvg_check.specs.Rules.{sight}
-use Rattle.dvg_check.specs.Private.Running.{known_past, sight_with}
-use Rattle.dvg_check.specs.declared.item.Item.{Item}
-use Rattle.dvg_check.specs.declared.item.Kind.TheVariants.{Shape}
-use Rattle.dvg_check.specs.declared.known.Known.{Known}
-use Rattle.dvg_check.specs.declared.known.Seen.{Seen}
-use Rattle.dvg_check.proofs.Near.{sight_is}
-use Rattle.dvg_make.specs.Least.{corners, lit_points}
+use Rattle.dvg_items.specs.Known.{Context, target, callee_at, callee, scale_before, known_before, known_past}
+use Rattle.dvg_items.specs.Lit.{extent_of, relative_corners}
+use Rattle.dvg_items.specs.Seen.{sight, sight_with}
+use Rattle.dvg_items.specs.declared.item.Item.{Item}
+use Rattle.dvg_items.specs.declared.item.Kind.TheVariants.{Shape}
+use Rattle.dvg_items.specs.declared.known.Known.{Known}
+use Rattle.dvg_items.specs.declared.seen.Seen.{Seen}
+use Rattle.dvg_items.proofs.Listed.{Listed, listed_at}
+use Rattle.dvg_make.specs.Least.{lit_points}
 use Rattle.dvg_make.specs.Private.Walking.{keyed_context}
-
--- ---- the entry at an address and key
-
-pub record Listed (list : List Entry) (addr : ℕ) (key : Key) (e : Entry) : Type 0 where
-  pub listed : Contains list e
-  pub addr_is : e.addr ≡ addr
-  pub key_is : e.key ≡ key
-
-pub listed_at : (list : List Entry) (addr : ℕ) (key : Key) (e : Entry) → entry_at list addr key ≡ Some e → Listed list addr key e
-listed_at [] addr key e h = cc
-listed_at (x ∷ list) addr key e h = by_test (is_at addr key x) refl h (λ g. listed_at list addr key e g)
-  where
-    by_test : (b : Bool) → is_at addr key x ≡ b → (if b then Some x else entry_at list addr key) ≡ Some e → (entry_at list addr key ≡ Some e → Listed list addr key e) → Listed (x ∷ list) addr key e
-    by_test true t g more =
-        let same : x ≡ e = cc in
-        let here = at_means addr key x t in
-        record { listed = (0, omega arith, same); addr_is = ap (λ (y : Entry). y.addr) (sym same) ∙ here.0; key_is = ap (λ (y : Entry). y.key) (sym same) ∙ here.1 }
-    by_test false t g more =
-        let l = more g in
-        record { listed = (suc l.listed.0, omega (arith, l.listed.1), l.listed.2); addr_is = l.addr_is; key_is = l.key_is }
 
 -- ---- what is known after items, in one record
 
@@ -49,12 +28,10 @@ abbrev pub gathered : Context → List Item → Gathered
 gathered c items = record { known = known_before c items; lit = lit_points c items }
 
 abbrev pub gathered_past : Item → Option Entry → Gathered → Gathered
-gathered_past i o g = record { known = known_past i o g.known; lit = corners (extent_of i.instr g.known.scale o) g.known.place ++ g.lit }
+gathered_past i o g = record { known = known_past i o g.known; lit = relative_corners (extent_of i.instr g.known.scale o) g.known.place ++ g.lit }
 
 pub gathered-cons : (c : Context) (earlier : List Item) (i : Item) → gathered c (i ∷ earlier) ≡ gathered_past i (callee c earlier i.instr) (gathered c earlier)
-gathered-cons c earlier i =
-    let known : known_before c (i ∷ earlier) ≡ known_past i (callee c earlier i.instr) (known_before c earlier) = ap (λ (v : Seen). v.after) (sight_is c earlier i) in
-    ap (λ (k : Known). record { known = k; lit = lit_points c (i ∷ earlier) }) known
+gathered-cons c earlier i = refl
 
 -- ---- from list to list
 
@@ -87,7 +64,7 @@ gathered_same a b key (i ∷ earlier) h =
 
 pub sight_same : (a b : List Entry) (key : Key) (earlier : List Item) (i : Item) → Matched a b key (i ∷ earlier) → sight (keyed_context a key) earlier i ≡ sight (keyed_context b key) earlier i
 sight_same a b key earlier i h =
-    sight_is (keyed_context a key) earlier i ∙ both_same (λ o g. sight_with o g.known i) a b key earlier (target Shape i.instr) (gathered_same a b key earlier h.0) h.1 ∙ sym (sight_is (keyed_context b key) earlier i)
+    both_same (λ o g. sight_with o g.known i) a b key earlier (target Shape i.instr) (gathered_same a b key earlier h.0) h.1
 
 -- ---- lists that grow
 

@@ -7,11 +7,12 @@ use Rattle.dvg_cert.specs.Lookup.{entry_at}
 use Rattle.dvg_cert.specs.declared.entry.Entry.{Entry}
 use Rattle.dvg_cert.specs.declared.entry.Key.{Key}
 use Rattle.dvg_cert.proofs.OnlyEntries.{not_before, before_next, before_later, rising_tail, first_or_later, later}
-use Rattle.dvg_check.specs.Known.{shape_context, target, callee_at, scale_before}
-use Rattle.dvg_check.specs.declared.item.Kind.TheVariants.{Shape}
+use Rattle.dvg_items.specs.Known.{shape_context, target, callee_at, scale_before}
+use Rattle.dvg_items.specs.declared.item.Kind.TheVariants.{Shape}
 use Rattle.dvg_make.specs.Laws.{OneMade}
 use Rattle.dvg_make.specs.Made.{HasEntry, Needs, Made}
-use Rattle.dvg_make.proofs.Matching.{listed_at, Gathered, gathered_same, exact_named}
+use Rattle.dvg_items.proofs.Listed.{listed_at}
+use Rattle.dvg_make.proofs.Matching.{Gathered, gathered_same, exact_named}
 use Rattle.dvg_make.proofs.Ends.{callee_less}
 use Rattle.dvg_make.proofs.Agreeing.{agree, matched_made}
 use Rattle.dvg_make.proofs.Onward.{listed_entry}

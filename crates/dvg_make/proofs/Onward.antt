@@ -11,35 +11,43 @@ use Rattle.dvg_words.specs.declared.instruction.Instr.TheVariants.{Draw as Draws
 use Rattle.dvg_cert.specs.Entry.{IsEntry}
 use Rattle.dvg_cert.specs.declared.entry.Entry.{Entry}
 use Rattle.dvg_cert.specs.declared.entry.Key.{Key}
-use Rattle.dvg_check.specs.Items.{next_place, LeadsTo}
-use Rattle.dvg_check.specs.Known.{Context, shape_context, target, callee_at, callee, scale_before, known_before}
-use Rattle.dvg_check.specs.Rules.{sight}
-use Rattle.dvg_check.specs.Private.Running.{sight_with, IsSound, IsClaim}
-use Rattle.dvg_check.specs.declared.item.Item.{Item}
-use Rattle.dvg_check.specs.declared.item.Kind.TheVariants.{Shape}
-use Rattle.dvg_check.specs.declared.known.Known.{Known}
-use Rattle.dvg_check.specs.declared.known.Seen.{Seen}
-use Rattle.dvg_check.proofs.Near.{sight_is, IsNearPlace-more, at_place}
-use Rattle.dvg_check.proofs.Loop.{next_further, next_near}
+use Rattle.dvg_items.specs.Items.{next_place, LeadsTo}
+use Rattle.dvg_items.specs.Known.{Context, shape_context, target, callee_at, callee, scale_before, known_before}
+use Rattle.dvg_items.specs.Seen.{sight, sight_with}
+use Rattle.dvg_items.specs.Bounds.{IsClaim, IsSoundStep}
+use Rattle.dvg_items.specs.declared.item.Item.{Item}
+use Rattle.dvg_items.specs.declared.item.Kind.TheVariants.{Shape}
+use Rattle.dvg_items.specs.declared.known.Known.{Known}
+use Rattle.dvg_items.specs.declared.seen.Seen.{Seen}
+use Rattle.dvg_items.proofs.Near.{IsNearPlace-more, next_further, next_near}
+use Rattle.dvg_items.proofs.Listed.{at_place}
+use Rattle.dvg_words.specs.declared.map.TheConstants.{ADDRESS_END}
+use Rattle.dvg_cert.specs.declared.entry.LitBox.{LitBox}
+use Rattle.dvg_items.specs.declared.cursor.Cursor.{Cursor}
+use Rattle.dvg_items.specs.declared.cursor.Step.{Step}
+use Rattle.dvg_items.specs.declared.cursor.Step.TheVariants.{Onward, Last}
+use Rattle.dvg_items.specs.Cursor.{step_to, step_past}
+use Rattle.dvg_items.specs.Lit.{relative_corners}
 use Rattle.dvg_make.specs.declared.walk.Walk.{Walk}
-use Rattle.dvg_make.specs.Least.{corners, lit_points, IsLeast}
+use Rattle.dvg_make.specs.Least.{lit_points, IsLeast}
 use Rattle.dvg_make.specs.Made.{HasEntry, MadeEntry, Made}
 use Rattle.dvg_make.specs.Private.Walking.{keyed_context, entry_of, IsStraight, IsAsked, Passes, AllFine, KnowsAt, IsWalk, Extends, NeverAt, IsCallee, LacksCallee, IsFinished, IsWaiting}
 use Rattle.dvg_make.proofs.Boxes.{one_least}
-use Rattle.dvg_make.proofs.Matching.{listed_at, Gathered, gathered, SameAt, Matched, exact_named, gathered_same, sight_same}
+use Rattle.dvg_items.proofs.Listed.{listed_at}
+use Rattle.dvg_make.proofs.Matching.{Gathered, gathered, SameAt, Matched, exact_named, gathered_same, sight_same}
 use Rattle.dvg_make.proofs.Ends.{Allows, allows_at, known_of, stands_at, ends_made, sums_of}
 
 -- ---- one item further
 
-seen_same : (c : Context) (items : List Item) (i : Item) (o : Option Entry) (w : Walk) → o ≡ callee c items i.instr → w.known ≡ known_before c items → sight_with o w.known i ≡ sight c items i
-seen_same c items i o w e k = ap (λ x. sight_with x w.known i) e ∙ ap (λ (x : Known). sight_with (callee c items i.instr) x i) k ∙ sym (sight_is c items i)
+seen_same : (c : Context) (items : List Item) (i : Item) (o : Option Entry) (known : Known) → o ≡ callee c items i.instr → known ≡ known_before c items → sight_with o known i ≡ sight c items i
+seen_same c items i o known e k = ap (λ x. sight_with x known i) e ∙ ap (λ (x : Known). sight_with (callee c items i.instr) x i) k
 
-knows_more : (c : Context) (items : List Item) (i : Item) (o : Option Entry) (w new : Walk) → o ≡ callee c items i.instr → ((to : ℕ) → target Shape i.instr ≡ Some to → HasEntry c.list to (scale_before c items)) → KnowsAt c items w → Passes (sight_with o w.known i) w new → KnowsAt c (i ∷ items) new
-knows_more c items i o w new e keyed k s =
-    let v = seen_same c items i o w e k.known in
+knows_more : (c : Context) (items : List Item) (i : Item) (o : Option Entry) (known : Known) (lit new : LitBox) → o ≡ callee c items i.instr → ((to : ℕ) → target Shape i.instr ≡ Some to → HasEntry c.list to (scale_before c items)) → KnowsAt c items known lit → Passes (sight_with o known i) lit new → KnowsAt c (i ∷ items) (sight_with o known i).after new
+knows_more c items i o known lit new e keyed k s =
+    let v = seen_same c items i o known e k.known_is in
     record {
-      known = s.known ∙ ap (λ (x : Seen). x.after) v;
-      lit = subst (λ (x : Seen). IsLeast (corners x.extent x.place ++ lit_points c items) new.lit) v (s.lit (lit_points c items) k.lit);
+      known_is = ap (λ (x : Seen). x.after) v;
+      least = subst (λ (x : Seen). IsLeast (relative_corners x.extent x.place ++ lit_points c items) new) v (s.grows (lit_points c items) k.least);
       fine = (k.fine, record { straight = subst IsStraight v s.asked.straight; keyed = keyed });
     }
 
@@ -79,33 +87,33 @@ module _ (rom : Rom) (list : List Entry) (w : Walk) where
   lead_of made t items p l = subst (λ a. LeadsTo Shape (rom_word rom) a items p) (sym t.addr) l
 
   -- nothing stands where the walk stands
-  none_there : (items : List Item) → LeadsTo Shape (rom_word rom) w.addr items w.at → ((format : Format) (i : Instr) → cell_at (rom_word rom) w.at ≡ Holds format i → ⊥) → NeverAt rom list w.addr w.key
+  none_there : (items : List Item) → LeadsTo Shape (rom_word rom) w.addr items w.cursor.at → ((format : Format) (i : Instr) → cell_at (rom_word rom) w.cursor.at ≡ Holds format i → ⊥) → NeverAt rom list w.addr w.key
   none_there items lead not roots made m ext has =
       let t = its rom roots made w m has in
-      let h = stands_at rom made t.f t.is items w.at (lead_of made t items w.at lead) in
+      let h = stands_at rom made t.f t.is items w.cursor.at (lead_of made t items w.cursor.at lead) in
       not h.0 h.1 h.2
 
   -- the item is not as it is asked
-  none_asked : (items : List Item) (i : Item) (o : Option Entry) → LeadsTo Shape (rom_word rom) w.addr items i.at → cell_at (rom_word rom) i.at ≡ Holds i.format i.instr → KnowsAt c items w → o ≡ callee c items i.instr → ((to : ℕ) → target Shape i.instr ≡ Some to → HasEntry list to (scale_before c items)) → (IsAsked (sight_with o w.known i) → ⊥) → NeverAt rom list w.addr w.key
+  none_asked : (items : List Item) (i : Item) (o : Option Entry) → LeadsTo Shape (rom_word rom) w.addr items i.at → cell_at (rom_word rom) i.at ≡ Holds i.format i.instr → KnowsAt c items w.cursor.known w.lit → o ≡ callee c items i.instr → ((to : ℕ) → target Shape i.instr ≡ Some to → HasEntry list to (scale_before c items)) → (IsAsked (sight_with o w.cursor.known i) → ⊥) → NeverAt rom list w.addr w.key
   none_asked items i o lead is k e keyed not roots made m ext has =
       let t = its rom roots made w m has in
       let allows = allows_at rom made t.f t.is items i (lead_of made t items i.at lead) is in
       let match : Matched list made w.key (i ∷ items) = (matched_fine list made w.key ext items k.fine, same_if list made _ ext (target Shape i.instr) keyed) in
-      let v : sight (shape_context made t.f) items i ≡ sight_with o w.known i = ap (λ (x : Key). sight (keyed_context made x) items i) t.key ∙ sym (sight_same list made w.key items i match) ∙ sym (seen_same c items i o w e k.known) in
-      let here : Allows t.f (sight_with o w.known i) = subst (Allows t.f) v allows in
+      let v : sight (shape_context made t.f) items i ≡ sight_with o w.cursor.known i = ap (λ (x : Key). sight (keyed_context made x) items i) t.key ∙ sym (sight_same list made w.key items i match) ∙ sym (seen_same c items i o w.cursor.known e k.known_is) in
+      let here : Allows t.f (sight_with o w.cursor.known i) = subst (Allows t.f) v allows in
       not (record { straight = here.straight; deep = omega (arith, here.deep, t.entry.depth); many = omega (arith, here.many, t.entry.words_high) })
 
   -- the entry is past a limit
-  none_says : (new : Walk) (items : List Item) (i : Item) → LeadsTo Shape (rom_word rom) w.addr items i.at → cell_at (rom_word rom) i.at ≡ Holds i.format i.instr → next_place Shape i ≡ None → new.addr ≡ w.addr → new.key ≡ w.key → KnowsAt c (i ∷ items) new → (IsEntry rom.map.rom_first rom.map.rom_last (entry_of new) → ⊥) → NeverAt rom list w.addr w.key
-  none_says new items i lead is last addr key k not roots made m ext has =
+  none_says : (known : Known) (lit : LitBox) (items : List Item) (i : Item) → LeadsTo Shape (rom_word rom) w.addr items i.at → cell_at (rom_word rom) i.at ≡ Holds i.format i.instr → next_place Shape i ≡ None → KnowsAt c (i ∷ items) known lit → (IsEntry rom.map.rom_first rom.map.rom_last (entry_of w.addr w.key known lit) → ⊥) → NeverAt rom list w.addr w.key
+  none_says known lit items i lead is last k not roots made m ext has =
       let t = its rom roots made w m has in
       let sums = sums_of rom made t.f t.is items i (lead_of made t items i.at lead) is last in
       let all : gathered (shape_context made t.f) (i ∷ items) ≡ gathered c (i ∷ items) = ap (λ (x : Key). gathered (keyed_context made x) (i ∷ items)) t.key ∙ sym (gathered_same list made w.key (i ∷ items) (matched_fine list made w.key ext (i ∷ items) k.fine)) in
-      let known : known_of t.f ≡ new.known = sym sums.known ∙ ap (λ (x : Gathered). x.known) all ∙ sym k.known in
-      let lit : t.f.lit ≡ new.lit = one_least (lit_points c (i ∷ items)) t.f.lit new.lit (subst (λ l. IsLeast l t.f.lit) (ap (λ (x : Gathered). x.lit) all) sums.box) k.lit in
-      let addr_is : t.f.addr ≡ new.addr = t.addr ∙ sym addr in
-      let key_is : t.f.key ≡ new.key = t.key ∙ sym key in
-      let same : t.f ≡ entry_of new = λ x. record { addr = addr_is x; key = key_is x; stop = (known x).place; lit = lit x; depth = (known x).depth; words = (known x).words; scale = (known x).scale } in
+      let known_is : known_of t.f ≡ known = sym sums.known ∙ ap (λ (x : Gathered). x.known) all ∙ sym k.known_is in
+      let lit_is : t.f.lit ≡ lit = one_least (lit_points c (i ∷ items)) t.f.lit lit (subst (λ l. IsLeast l t.f.lit) (ap (λ (x : Gathered). x.lit) all) sums.box) k.least in
+      let addr_is : t.f.addr ≡ w.addr = t.addr in
+      let key_is : t.f.key ≡ w.key = t.key in
+      let same : t.f ≡ entry_of w.addr w.key known lit = λ x. record { addr = addr_is x; key = key_is x; stop = (known_is x).place; lit = lit_is x; depth = (known_is x).depth; words = (known_is x).words; scale = (known_is x).scale } in
       not (subst (IsEntry rom.map.rom_first rom.map.rom_last) same t.entry)
 
 -- ---- the walk
@@ -124,7 +132,7 @@ called_now : (list : List Entry) (key : Key) (items : List Item) (i : Item) (sca
 called_now list key items i scale o e h =
     record { is = h.value ∙ ap (callee_at list (target Shape i.instr)) e; keyed = λ to t. subst (HasEntry list to) e (h.keyed to t) }
 
-fits_target : (i : Instr) (to : ℕ) → InstrFits i → target Shape i ≡ Some to → to < 4096
+fits_target : (i : Instr) (to : ℕ) → InstrFits i → target Shape i ≡ Some to → to < ADDRESS_END
 fits_target (Draws d) to f e = cc
 fits_target (Labs x y g) to f e = cc
 fits_target Halt to f e = cc
@@ -136,64 +144,82 @@ module _ (rom : Rom) (list : List Entry) (from w : Walk) (h : Walking rom list f
   as_from : NeverAt rom list w.addr w.key → NeverAt rom list from.addr from.key
   as_from n = subst (NeverAt rom list from.addr) h.key (subst (λ a. NeverAt rom list a w.key) h.addr n)
 
-  pub nothing_there : ((format : Format) (i : Instr) → cell_at (rom_word rom) w.at ≡ Holds format i → ⊥) → NeverAt rom list from.addr from.key
+  pub nothing_there : ((format : Format) (i : Instr) → cell_at (rom_word rom) w.cursor.at ≡ Holds format i → ⊥) → NeverAt rom list from.addr from.key
   nothing_there not = as_from (none_there rom list w h.walk.items h.walk.leads not)
 
-  module _ (format : Format) (instr : Instr) (is : cell_at (rom_word rom) w.at ≡ Holds format instr) where
+  module _ (format : Format) (instr : Instr) (is : cell_at (rom_word rom) w.cursor.at ≡ Holds format instr) where
     abbrev i : Item
-    i = record { at = w.at; format = format; instr = instr }
+    i = record { at = w.cursor.at; format = format; instr = instr }
 
-    pub waits : (addr : ℕ) → InstrFits instr → LacksCallee list instr w.known.scale addr → IsWaiting rom list from w addr
+    pub waits : (addr : ℕ) → InstrFits instr → LacksCallee list instr w.cursor.known.scale addr → IsWaiting rom list from w addr
     waits addr fits m =
         record { same_addr = h.addr; same_key = h.key; walk = h.walk; item = i; at = refl; stands = is; target_is = m.target_is; none = m.none; near = fits_target instr addr fits m.target_is; scale = h.walk.sound.scale }
 
-    module _ (o : Option Entry) (nm : IsCallee list instr w.known.scale o) where
+    module _ (o : Option Entry) (nm : IsCallee list instr w.cursor.known.scale o) where
       known : IsCalled (keyed_context list w.key) h.walk.items i o
-      known = called_now list w.key h.walk.items i w.known.scale o (ap (λ (k : Known). k.scale) h.walk.knows.known) nm
+      known = called_now list w.key h.walk.items i w.cursor.known.scale o (ap (λ (k : Known). k.scale) h.walk.knows.known_is) nm
 
-      pub not_asked : (IsAsked (sight_with o w.known i) → ⊥) → NeverAt rom list from.addr from.key
+      pub not_asked : (IsAsked (sight_with o w.cursor.known i) → ⊥) → NeverAt rom list from.addr from.key
       not_asked not = as_from (none_asked rom list w h.walk.items i o h.walk.leads is h.walk.knows known.is known.keyed not)
 
-      module _ (next : Walk) (s : Passes (sight_with o w.known i) w next) where
-        knows_next : KnowsAt (keyed_context list w.key) (i ∷ h.walk.items) next
-        knows_next = knows_more (keyed_context list w.key) h.walk.items i o w next known.is known.keyed h.walk.knows s
+      -- what the rules see of the instruction here
+      abbrev seen : Seen
+      seen = sight_with o w.cursor.known i
 
-        pub onward : (p : ℕ) → w.at < 4096 → InstrFits instr → IsSound (w.at + 1) next.known → next_place Shape i ≡ Some p → Walking rom list from (record next { at = p })
-        onward p lt fits sound goes =
-            let k : KnowsAt (keyed_context list next.key) (i ∷ h.walk.items) next = subst (λ (x : Key). KnowsAt (keyed_context list x) (i ∷ h.walk.items) next) (sym s.key) knows_next in
+      module _ (lit : LitBox) (s : Passes seen w.lit lit) where
+        knows_next : KnowsAt (keyed_context list w.key) (i ∷ h.walk.items) seen.after lit
+        knows_next = knows_more (keyed_context list w.key) h.walk.items i o w.cursor.known w.lit lit known.is known.keyed h.walk.knows s
+
+        leads_on : (p : Option ℕ) (next : Cursor) → next_place Shape i ≡ p → Onward next ≡ step_to p seen.after → (next_place Shape i ≡ Some next.at) × (next.known ≡ seen.after)
+        leads_on None next e t = cc
+        leads_on (Some p) next e t =
+            let c : next ≡ record { at = p; known = seen.after } = cc t in
+            (e ∙ ap (λ (x : Cursor). Some x.at) (sym c), ap (λ (x : Cursor). x.known) c)
+
+        pub onward : (step : Step) (next : Cursor) → step ≡ Onward next → step ≡ step_past Shape seen → IsSoundStep step → Walking rom list from (record { addr = w.addr; key = w.key; cursor = next; lit = lit })
+        onward step next step_is goes sound =
+            let on = leads_on (next_place Shape i) next refl (sym step_is ∙ goes) in
             record {
-              addr = s.addr ∙ h.addr;
-              key = s.key ∙ h.key;
+              addr = h.addr;
+              key = h.key;
               walk = record {
                 items = i ∷ h.walk.items;
-                leads = (subst (λ a. LeadsTo Shape (rom_word rom) a h.walk.items w.at) (sym s.addr) h.walk.leads, is, goes);
-                knows = record { known = k.known; lit = k.lit; fine = k.fine };
-                sound = record { place = IsNearPlace-more (w.at + 1) p next.known.place (next_further Shape i p goes) sound.place; scale = sound.scale; words = sound.words; depth = sound.depth };
-                close = next_near Shape w.at format instr p lt fits goes;
+                leads = (h.walk.leads, is, on.0);
+                knows = subst (λ (k : Known). KnowsAt (keyed_context list w.key) (i ∷ h.walk.items) k lit) (sym on.1) knows_next;
+                sound = subst IsSoundStep step_is sound;
               };
             }
 
-        pub not_ended : next_place Shape i ≡ None → (IsEntry rom.map.rom_first rom.map.rom_last (entry_of next) → ⊥) → NeverAt rom list from.addr from.key
-        not_ended last not = as_from (none_says rom list w next h.walk.items i h.walk.leads is last s.addr s.key knows_next not)
+        ends_at : (p : Option ℕ) (last : Known) → next_place Shape i ≡ p → Last last ≡ step_to p seen.after → (next_place Shape i ≡ None) × (last ≡ seen.after)
+        ends_at None last e t = (e, cc)
+        ends_at (Some p) last e t = cc
 
-        pub finished : (e : Entry) → next_place Shape i ≡ None → e ≡ entry_of next → IsEntry rom.map.rom_first rom.map.rom_last e → IsFinished rom list from e
-        finished e last same entry =
-            let k : KnowsAt (keyed_context list next.key) (i ∷ h.walk.items) next = subst (λ (x : Key). KnowsAt (keyed_context list x) (i ∷ h.walk.items) next) (sym s.key) knows_next in
-            let leads : LeadsTo Shape (rom_word rom) next.addr h.walk.items w.at = subst (λ a. LeadsTo Shape (rom_word rom) a h.walk.items w.at) (sym s.addr) h.walk.leads in
-            let made : MadeEntry rom list (entry_of next) = ends_made rom list (entry_of next) (record { items = h.walk.items; i = i; leads = leads; is = is; last = last; sums = record { known = sym k.known; box = k.lit }; fine = k.fine }) in
-            record {
-              addr = ap (λ (x : Entry). x.addr) same ∙ s.addr ∙ h.addr;
-              key = ap (λ (x : Entry). x.key) same ∙ s.key ∙ h.key;
-              entry = entry;
-              made = subst (MadeEntry rom list) (sym same) made;
-            }
+        module _ (step : Step) (last : Known) (step_is : step ≡ Last last) (goes : step ≡ step_past Shape seen) where
+          end : (next_place Shape i ≡ None) × (last ≡ seen.after)
+          end = ends_at (next_place Shape i) last refl (sym step_is ∙ goes)
+
+          knows_last : KnowsAt (keyed_context list w.key) (i ∷ h.walk.items) last lit
+          knows_last = subst (λ (k : Known). KnowsAt (keyed_context list w.key) (i ∷ h.walk.items) k lit) (sym end.1) knows_next
+
+          pub not_ended : (IsEntry rom.map.rom_first rom.map.rom_last (entry_of w.addr w.key last lit) → ⊥) → NeverAt rom list from.addr from.key
+          not_ended not = as_from (none_says rom list w last lit h.walk.items i h.walk.leads is end.0 knows_last not)
+
+          pub finished : (e : Entry) → e ≡ entry_of w.addr w.key last lit → IsEntry rom.map.rom_first rom.map.rom_last e → IsFinished rom list from e
+          finished e same entry =
+              let made : MadeEntry rom list (entry_of w.addr w.key last lit) = ends_made rom list (entry_of w.addr w.key last lit) (record { items = h.walk.items; i = i; leads = h.walk.leads; is = is; last = end.0; sums = record { known = sym knows_last.known_is; box = knows_last.least }; fine = knows_last.fine }) in
+              record {
+                addr = ap (λ (x : Entry). x.addr) same ∙ h.addr;
+                key = ap (λ (x : Entry). x.key) same ∙ h.key;
+                entry = entry;
+                made = subst (MadeEntry rom list) (sym same) made;
+              }
 
 pub on_err : {T E : Type 0} (r : Result T E) (P : Type 0) → P → OnErr r P
 on_err (Ok x) P h = tt
 on_err (Err x) P h = h
 
 -- a called entry is within the limits
-pub claim_of : (rom : Rom) (list : List Entry) (i : Instr) (scale : Key) (o : Option Entry) → rom.map.rom_last < 4096 → ((e : Entry) → Contains list e → IsEntry rom.map.rom_first rom.map.rom_last e) → IsCallee list i scale o → IfSome o IsClaim
+pub claim_of : (rom : Rom) (list : List Entry) (i : Instr) (scale : Key) (o : Option Entry) → rom.map.rom_last < ADDRESS_END → ((e : Entry) → Contains list e → IsEntry rom.map.rom_first rom.map.rom_last e) → IsCallee list i scale o → IfSome o IsClaim
 claim_of rom list i scale o last entries h = by_target (target Shape i) refl
   where
     by_target : (t : Option ℕ) → target Shape i ≡ t → IfSome o IsClaim

@@ -1,6 +1,6 @@
 -- Looking an entry up among pairs.
 use Rattle.std.proofs.Common.{◌≡◌, ℕ, Bool, true, false, ◌&&◌, List, [], ◌∷◌, ◌++◌, refl, ap, ◌∙◌, arith, length, get_or, ◌<◌, inl, inr, zero, suc}
-use Rattle.std.specs.Map.{lookup}
+use Rattle.std.specs.Map.{lookup, values_of}
 use Rattle.std.specs.Prelude.{nat_eq}
 use Rattle.dvg_cert.specs.Lookup.{same_key, is_at, entry_at}
 use Rattle.dvg_cert.specs.declared.entry.Entry.{Entry}
@@ -8,7 +8,6 @@ use Rattle.dvg_cert.specs.declared.entry.Key.{Key}
 use Rattle.dvg_cert.specs.declared.entry.Key.TheVariants.{At, Any}
 use Rattle.dvg_make.specs.declared.walk.Walk.{Walk}
 use Rattle.dvg_make.specs.Private.Keyed.{IsOwn, IsKeyed}
-use Rattle.std.specs.Map.{values_of}
 use Rattle.std.proofs.lemmas.List.Elements.{All-nil, All-cons}
 use Rattle.dvg_make.specs.Private.Making.{IsMaking}
 

@@ -7,9 +7,10 @@ use Rattle.dvg_cert.specs.Entry.{IsKey}
 use Rattle.dvg_cert.specs.Lookup.{entry_at}
 use Rattle.dvg_cert.specs.declared.entry.Entry.{Entry}
 use Rattle.dvg_cert.specs.declared.entry.Key.{Key}
-use Rattle.dvg_check.specs.Items.{LeadsTo}
-use Rattle.dvg_check.specs.declared.item.Kind.TheVariants.{Shape}
-use Rattle.dvg_check.specs.declared.known.Known.{Known}
+use Rattle.dvg_items.specs.Items.{LeadsTo}
+use Rattle.dvg_items.specs.declared.item.Kind.TheVariants.{Shape}
+use Rattle.dvg_items.specs.declared.known.Known.{Known}
+use Rattle.dvg_words.specs.declared.map.TheConstants.{ADDRESS_END}
 use Rattle.dvg_make.specs.declared.walk.Walk.{Walk}
 use Rattle.dvg_make.specs.declared.fault.MakeFault.{MakeFault}
 use Rattle.dvg_make.specs.declared.fault.MakeFault.TheVariants.{Unstraight, Deep, TooLarge, Memory}
@@ -17,25 +18,24 @@ use Rattle.dvg_make.specs.Refusals.{NoneMade, Refuses}
 use Rattle.dvg_make.specs.Private.Walking.{start, IsWalk, Extends, IsWaiting}
 use Rattle.dvg_make.specs.Private.Making.{IsMaking, IsPresent, IsCalled, NotBegun, IsBegun, Making}
 use Rattle.dvg_make.proofs.Crowds.{crowded}
-use Rattle.dvg_make.proofs.Matching.{listed_at}
+use Rattle.dvg_items.proofs.Listed.{listed_at}
 use Rattle.dvg_make.proofs.Onward.{listed_entry}
 use Rattle.dvg_make.proofs.Chains.{none_deep, forced_begun, apart_pop, apart_push, walks_pop, walks_push, extends_more, making_append, making_left, making_last, IsNeeded, needed_grows}
 
-start_walk : (rom : Rom) (done : List Entry) (addr : ℕ) (key : Key) → addr < 4096 → IsKey key → IsWalk rom done (start addr key)
+start_walk : (rom : Rom) (done : List Entry) (addr : ℕ) (key : Key) → addr < ADDRESS_END → IsKey key → IsWalk rom done (start addr key)
 start_walk rom done addr key lt is =
     record {
       items = [];
       leads = refl;
-      knows = record { known = refl; lit = record { holds = tt; least = λ b h. tt }; fine = tt };
-      sound = record { place = record { left = omega (arith, ints); right = omega (arith, ints); down = omega (arith, ints); up = omega (arith, ints) }; scale = is; words = omega arith; depth = omega arith };
-      close = omega (arith, lt);
+      knows = record { known_is = refl; least = record { holds = tt; least = λ b h. tt }; fine = tt };
+      sound = record { at = omega (arith, lt); place = record { left = omega (arith, ints); right = omega (arith, ints); down = omega (arith, ints); up = omega (arith, ints) }; scale = is; words = omega arith; depth = omega arith };
     }
 
 no_more : (done : List Entry) (addr : ℕ) (key : Key) (w : Walk) (a : ℕ) (k : Key) → IsPresent done [] a k → IsPresent done (w ∷ []) a k
 no_more done addr key w a k (inl has) = inl has
 no_more done addr key w a k (inr m) = absurd m
 
-pub first_begun : (rom : Rom) (roots : List (ℕ × Key)) (done : List Entry) (addr : ℕ) (key : Key) → Making rom roots done [] → Contains roots (addr, key) → addr < 4096 → IsKey key → entry_at done addr key ≡ None → length done < 4096 → Making rom roots done (start addr key ∷ [])
+pub first_begun : (rom : Rom) (roots : List (ℕ × Key)) (done : List Entry) (addr : ℕ) (key : Key) → Making rom roots done [] → Contains roots (addr, key) → addr < ADDRESS_END → IsKey key → entry_at done addr key ≡ None → length done < 4096 → Making rom roots done (start addr key ∷ [])
 first_begun rom roots done addr key h root near is none few =
     record {
       entries = h.entries;
@@ -58,7 +58,7 @@ first_begun rom roots done addr key h root near is none few =
 
 module _ (rom : Rom) (roots : List (ℕ × Key)) (done : List Entry) (stack : List Walk) (walk : Walk) (h : Making rom roots done (stack ++ walk ∷ [])) (new : Walk) (addr : ℕ) (w : IsWaiting rom done walk new addr) where
   abbrev at_key : Key
-  at_key = new.known.scale
+  at_key = new.cursor.known.scale
 
   pub present_begun : (a : ℕ) (k : Key) → IsPresent done (stack ++ walk ∷ []) a k → IsPresent done ((stack ++ new ∷ []) ++ start addr at_key ∷ []) a k
   present_begun a k (inl has) = inl has
@@ -83,7 +83,7 @@ module _ (rom : Rom) (roots : List (ℕ × Key)) (done : List Entry) (stack : Li
         stands = w.stands;
         fine = w.walk.knows.fine;
         target_is = w.target_is;
-        key_is = sym (ap (λ (x : Known). x.scale) w.walk.knows.known);
+        key_is = sym (ap (λ (x : Known). x.scale) w.walk.knows.known_is);
       }
 
   needed_begun : (a : ℕ) (k : Key) → IsPresent done ((stack ++ new ∷ []) ++ start addr at_key ∷ []) a k → IsNeeded rom roots done ((stack ++ new ∷ []) ++ start addr at_key ∷ []) a k
@@ -140,26 +140,26 @@ as_refusal rom roots TooLarge n = n
 as_refusal rom roots Memory n = tt
 
 module _ (rom : Rom) (roots : List (ℕ × Key)) (done : List Entry) (stack : List Walk) (walk : Walk) (h : Making rom roots done (stack ++ walk ∷ [])) (new : Walk) (addr : ℕ) (w : IsWaiting rom done walk new addr) (pushed : List Walk) (e : pushed ≡ stack ++ new ∷ []) where
-  pub begun_ok : (begun : List Walk) → IsBegun done pushed begun addr new.known.scale → Making rom roots done begun
+  pub begun_ok : (begun : List Walk) → IsBegun done pushed begun addr new.cursor.known.scale → Making rom roots done begun
   begun_ok begun b =
-      subst (Making rom roots done) (sym (b.stack ∙ ap (λ (s : List Walk). s ++ start addr new.known.scale ∷ []) e))
-      (making_begun rom roots done stack walk h new addr w (λ m. b.other (subst (λ s. IsMaking s addr new.known.scale) (sym e) m)) (subst (λ (s : List Walk). length done + length s < 4096) e b.few))
+      subst (Making rom roots done) (sym (b.stack ∙ ap (λ (s : List Walk). s ++ start addr new.cursor.known.scale ∷ []) e))
+      (making_begun rom roots done stack walk h new addr w (λ m. b.other (subst (λ s. IsMaking s addr new.cursor.known.scale) (sym e) m)) (subst (λ (s : List Walk). length done + length s < 4096) e b.few))
 
-  pub begun_present : (begun : List Walk) → IsBegun done pushed begun addr new.known.scale → (a : ℕ) (k : Key) → IsPresent done (stack ++ walk ∷ []) a k → IsPresent done begun a k
-  begun_present begun b a k p = subst (λ s. IsPresent done s a k) (sym (b.stack ∙ ap (λ (s : List Walk). s ++ start addr new.known.scale ∷ []) e)) (present_begun rom roots done stack walk h new addr w a k p)
+  pub begun_present : (begun : List Walk) → IsBegun done pushed begun addr new.cursor.known.scale → (a : ℕ) (k : Key) → IsPresent done (stack ++ walk ∷ []) a k → IsPresent done begun a k
+  begun_present begun b a k p = subst (λ s. IsPresent done s a k) (sym (b.stack ∙ ap (λ (s : List Walk). s ++ start addr new.cursor.known.scale ∷ []) e)) (present_begun rom roots done stack walk h new addr w a k p)
 
-  pub refused : (f : MakeFault) → NotBegun done pushed addr new.known.scale f → Refuses rom roots f
-  refused f b = refuses rom roots done stack walk h new addr w f (subst (λ s. NotBegun done s addr new.known.scale f) e b)
+  pub refused : (f : MakeFault) → NotBegun done pushed addr new.cursor.known.scale f → Refuses rom roots f
+  refused f b = refuses rom roots done stack walk h new addr w f (subst (λ s. NotBegun done s addr new.cursor.known.scale f) e b)
 
 pub grown : (done new : List Entry) (e : Entry) → new ≡ done ++ e ∷ [] → Extends done new
 grown done new e q = subst (Extends done) (sym q) (extends_more done (e ∷ []))
 
-pub first_ok : (rom : Rom) (roots : List (ℕ × Key)) (done : List Entry) (addr : ℕ) (key : Key) → Making rom roots done [] → Contains roots (addr, key) → addr < 4096 → IsKey key → entry_at done addr key ≡ None → (old begun : List Walk) → old ≡ [] → IsBegun done old begun addr key → Making rom roots done begun
+pub first_ok : (rom : Rom) (roots : List (ℕ × Key)) (done : List Entry) (addr : ℕ) (key : Key) → Making rom roots done [] → Contains roots (addr, key) → addr < ADDRESS_END → IsKey key → entry_at done addr key ≡ None → (old begun : List Walk) → old ≡ [] → IsBegun done old begun addr key → Making rom roots done begun
 first_ok rom roots done addr key h root near is none old begun e b0 =
     let b : IsBegun done [] begun addr key = subst (λ s. IsBegun done s begun addr key) e b0 in
     subst (Making rom roots done) (sym b.stack) (first_begun rom roots done addr key h root near is none (omega (arith, b.few)))
 
-pub first_refused : (rom : Rom) (roots : List (ℕ × Key)) (done : List Entry) (addr : ℕ) (key : Key) → Making rom roots done [] → Contains roots (addr, key) → addr < 4096 → entry_at done addr key ≡ None → (f : MakeFault) → NotBegun done [] addr key f → Refuses rom roots f
+pub first_refused : (rom : Rom) (roots : List (ℕ × Key)) (done : List Entry) (addr : ℕ) (key : Key) → Making rom roots done [] → Contains roots (addr, key) → addr < ADDRESS_END → entry_at done addr key ≡ None → (f : MakeFault) → NotBegun done [] addr key f → Refuses rom roots f
 first_refused rom roots done addr key h root near none (Unstraight word) b = absurd b
 first_refused rom roots done addr key h root near none Deep b = absurd b
 first_refused rom roots done addr key h root near none TooLarge b = λ made m.
@@ -189,7 +189,7 @@ pub if_err_map : {T E : Type 0} (r : Result T E) (P Q : E → Type 0) → ((x : 
 if_err_map (Ok x) P Q f h = tt
 if_err_map (Err x) P Q f h = f x h
 
-pub first_fault : (rom : Rom) (roots : List (ℕ × Key)) (done : List Entry) (addr : ℕ) (key : Key) → Making rom roots done [] → Contains roots (addr, key) → addr < 4096 → entry_at done addr key ≡ None → (old : List Walk) → old ≡ [] → (f : MakeFault) → NotBegun done old addr key f → Refuses rom roots f
+pub first_fault : (rom : Rom) (roots : List (ℕ × Key)) (done : List Entry) (addr : ℕ) (key : Key) → Making rom roots done [] → Contains roots (addr, key) → addr < ADDRESS_END → entry_at done addr key ≡ None → (old : List Walk) → old ≡ [] → (f : MakeFault) → NotBegun done old addr key f → Refuses rom roots f
 first_fault rom roots done addr key h root near none old e f b = first_refused rom roots done addr key h root near none f (subst (λ s. NotBegun done s addr key f) e b)
 
 pub root_outside : (rom : Rom) (roots : List (ℕ × Key)) (addr : ℕ) (key : Key) → Contains roots (addr, key) → (InRom rom.map addr × IsKey key → ⊥) → NoneMade rom roots

@@ -7,14 +7,15 @@ use Rattle.dvg_words.specs.Values.{Window}
 use Rattle.dvg_words.specs.declared.instruction.Cell.{Cell}
 use Rattle.dvg_words.specs.declared.instruction.Cell.TheVariants.{Missing, Odd, Holds}
 use Rattle.dvg_cert.specs.declared.entry.Entry.{Entry}
-use Rattle.dvg_check.specs.Known.{shape_context}
-use Rattle.dvg_check.specs.Rules.{sight, AtLast, ShapeKeeps, CellKeeps, ShapePlaceKeeps, Good}
+use Rattle.dvg_items.specs.Known.{shape_context}
+use Rattle.dvg_items.specs.Seen.{sight}
+use Rattle.dvg_check.specs.Rules.{AtLast, ShapeKeeps, CellKeeps, ShapePlaceKeeps, Good}
 use Rattle.dvg_check.specs.declared.fault.Mode.{Mode}
 use Rattle.dvg_check.specs.declared.fault.Mode.TheVariants.{Bound, Exact}
 use Rattle.dvg_check.specs.declared.fault.ShapeWhy.{ShapeWhy}
 use Rattle.dvg_check.specs.declared.fault.ShapeWhy.TheVariants as shape
-use Rattle.dvg_check.specs.declared.item.Item.{Item}
-use Rattle.dvg_check.specs.declared.known.Seen.{Seen}
+use Rattle.dvg_items.specs.declared.item.Item.{Item}
+use Rattle.dvg_items.specs.declared.seen.Seen.{Seen}
 use Rattle.dvg_make.specs.Laws.{AllInWindow, GoodInWindow}
 use Rattle.dvg_make.specs.Made.{MadeEntry}
 

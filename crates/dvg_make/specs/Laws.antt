@@ -7,9 +7,11 @@ use Rattle.dvg_cert.specs.declared.entry.Entry.{Entry}
 use Rattle.dvg_cert.specs.declared.entry.Key.{Key}
 use Rattle.dvg_cert.specs.declared.entry.Key.TheVariants.{At}
 use Rattle.dvg_cert.specs.declared.entry.LitBox.{LitBox}
-use Rattle.dvg_check.specs.Example.{example_rom, example_list}
-use Rattle.dvg_check.specs.Known.{shape_context, place_before}
-use Rattle.dvg_check.specs.Lit.{extent, LitInWindow}
+use Rattle.dvg_words.specs.Example.{example_rom}
+use Rattle.dvg_check.specs.Example.{example_list}
+use Rattle.dvg_items.specs.Known.{shape_context, place_before}
+use Rattle.dvg_items.specs.Seen.{extent}
+use Rattle.dvg_items.specs.Lit.{LitInWindow}
 use Rattle.dvg_check.specs.Rules.{Good}
 use Rattle.dvg_check.specs.declared.fault.Mode.TheVariants.{Bound, Exact}
 use Rattle.dvg_make.specs.Least.{IsLeast}

@@ -6,24 +6,17 @@ use Rattle.dvg_words.specs.Beam.{shift}
 use Rattle.dvg_cert.specs.declared.entry.End.{End}
 use Rattle.dvg_cert.specs.declared.entry.End.TheVariants.{Rel, Abs, Lost}
 use Rattle.dvg_cert.specs.declared.entry.LitBox.{LitBox}
-use Rattle.dvg_check.specs.declared.item.Item.{Item}
-use Rattle.dvg_check.specs.Known.{Context, place_before}
-use Rattle.dvg_check.specs.Lit.{extent, InBox, IsInside}
-use Rattle.dvg_check.specs.declared.known.LitExtent.{LitExtent}
-use Rattle.dvg_check.specs.declared.known.LitExtent.TheVariants.{Nothing, Between, Anywhere}
-
--- both corners of what is lit at a relative place (profile)
-abbrev pub corners : LitExtent → End → List Point
-corners (Between a b) (Rel x y) = shift (record { x = x; y = y }) a ∷ shift (record { x = x; y = y }) b ∷ []
-corners (Between a b) (Abs x y) = []
-corners (Between a b) Lost = []
-corners Nothing place = []
-corners Anywhere place = []
+use Rattle.dvg_items.specs.declared.item.Item.{Item}
+use Rattle.dvg_items.specs.Known.{Context, place_before}
+use Rattle.dvg_items.specs.Seen.{extent}
+use Rattle.dvg_items.specs.Lit.{InBox, IsInside, relative_corners}
+use Rattle.dvg_items.specs.declared.lit.LitExtent.{LitExtent}
+use Rattle.dvg_items.specs.declared.lit.LitExtent.TheVariants.{Nothing, Between, Anywhere}
 
 -- at relative places, both ends of the lit draws and the shifted corners of the boxes that are called (profile)
 abbrev pub lit_points : Context → List Item → List Point
 lit_points c [] = []
-lit_points c (i ∷ earlier) = corners (extent c earlier i.instr) (place_before c earlier) ++ lit_points c earlier
+lit_points c (i ∷ earlier) = relative_corners (extent c earlier i.instr) (place_before c earlier) ++ lit_points c earlier
 
 -- the box has all of these points (profile)
 abbrev pub HoldsAll : LitBox → List Point → Type 0

@@ -69,7 +69,7 @@ fn turn(
         }
         Progress::Waiting { walk, addr } => {
             stack.push(walk)?;
-            begin(done, stack, addr, walk.known.scale)
+            begin(done, stack, addr, walk.cursor.known.scale)
         }
     }
 }

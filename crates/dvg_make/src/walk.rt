@@ -1,30 +1,31 @@
 //! One shape, item by item.
 
-ghost use Rattle.std.specs.Prelude.{◌≡◌, ◌↔◌, ◌+◌, ◌<◌, ◌≤◌, IsTrue, IfOk, IfErr, IfSome, OnErr, Contains};
+ghost use Rattle.std.specs.Prelude.{◌≡◌, ◌↔◌, ◌<◌, IsTrue, IfOk, IfErr, IfSome, OnErr, Contains};
 ghost use Rattle.dvg_words.specs.Values.{asteroids};
 ghost use Rattle.dvg_words.specs.Decoding.{InstrFits};
-ghost use Rattle.dvg_cert.specs.Entry.{rom_first, rom_last, IsEntry, IsKey};
+ghost use Rattle.dvg_words.specs.declared.map.TheConstants.{ADDRESS_END};
+ghost use Rattle.dvg_cert.specs.Entry.{rom_first, rom_last, IsEntry};
 ghost use Rattle.dvg_cert.specs.declared.entry.Entry.{Entry};
-ghost use Rattle.dvg_check.specs.Private.Running.{sight_with, IsSound, IsClaim};
+ghost use Rattle.dvg_items.specs.declared.item.Kind.TheVariants.{Shape};
+ghost use Rattle.dvg_items.specs.Seen.{sight_with};
+ghost use Rattle.dvg_items.specs.Cursor.{step_past};
+ghost use Rattle.dvg_items.specs.Bounds.{IsSoundCursor, IsSoundStep, IsClaim};
 ghost use Rattle.dvg_make.specs.Private.Walking.{start, entry_of, IsStraight, IsAsked, Passes, IsWalk, NeverAt, IsCallee, LacksCallee, Advances};
 
 use crate::done::Done;
 use crate::fault::MakeFault;
 use crate::least::boxed;
-use dvg_cert::{End, Entry, Key, LitBox, MOST_DEPTH, MOST_WORDS, is_entry};
-use dvg_check::item::{Item, Kind, next_place};
-use dvg_check::known::{Known, Seen, depth_under, see_with, target};
-use dvg_check::rules::{place_known, scale_known};
-use dvg_words::{Cell, Instr, RomImage, read_cell};
+use dvg_cert::{Entry, Key, LitBox, MOST_DEPTH, MOST_WORDS, is_entry};
+use dvg_items::{Cursor, Kind, Known, Seen, Step, depth_under, place_known, scale_known, target};
+use dvg_words::{Cell, Format, Instr, RomImage, read_cell};
 
-/// A shape in the making: its address and key, where its next item stands, what is known there, and the least box of what
-/// was lit so far.
+/// A shape in the making: its address and key, where its next item stands with what is known there, and the least box of
+/// what was lit so far.
 #[derive(Clone, Copy, Debug, PartialEq, Eq)]
 pub struct Walk {
     pub addr: u16,
     pub key: Key,
-    pub at: u16,
-    pub known: Known,
+    pub cursor: Cursor,
     pub lit: LitBox,
 }
 
@@ -36,29 +37,68 @@ impl Walk {
         Walk {
             addr,
             key,
-            at: addr,
-            known: Known {
-                place: End::Rel { x: 0, y: 0 },
-                scale: key,
-                words: 0,
-                depth: 0,
-            },
+            cursor: Cursor::start(Kind::Shape, addr, key),
             lit: LitBox::Empty,
         }
     }
 
-    /// The entry by what is known after the last item.
-    fn entry(&self) -> Entry
-        ensures { result ≡ entry_of self.now }
+    /// The entry by what is known, and was lit, after the last item.
+    fn entry(&self, known: &Known, lit: LitBox) -> Entry
+        ensures { result ≡ entry_of self.now.addr self.now.key known.now lit }
     {
         Entry {
             addr: self.addr,
             key: self.key,
-            stop: self.known.place,
-            lit: self.lit,
-            depth: self.known.depth,
-            words: self.known.words,
-            scale: self.known.scale,
+            stop: known.place,
+            lit,
+            depth: known.depth,
+            words: known.words,
+            scale: known.scale,
+        }
+    }
+
+    /// Goes past the instruction that stands next, with the entry that it calls: where that leads, and the least box then.
+    fn pass(
+        &self,
+        format: Format,
+        instr: &Instr,
+        callee: Option<Entry>,
+    ) -> Result<(Step, LitBox), MakeFault>
+        requires here { IsSoundCursor self.now.cursor }
+        requires near { self.now.cursor.at < ADDRESS_END }
+        requires fields { InstrFits instr.now }
+        requires callee { IfSome callee IsClaim }
+        ensures ok { IfOk result (λ past. Passes (sight_with callee self.now.cursor.known (record { at = self.now.cursor.at; format = format; instr = instr.now })) self.now.lit past.1) }
+        ensures step { IfOk result (λ past. past.0 ≡ step_past Shape (sight_with callee self.now.cursor.known (record { at = self.now.cursor.at; format = format; instr = instr.now }))) }
+        ensures sound { IfOk result (λ past. IsSoundStep past.0) }
+        ensures err { OnErr result (IsAsked (sight_with callee self.now.cursor.known (record { at = self.now.cursor.at; format = format; instr = instr.now })) → ⊥) }
+    {
+        let seen = self.cursor.see(format, instr, callee);
+        if !is_straight(&seen) {
+            return Err(MakeFault::Unstraight {
+                word: self.cursor.at,
+            });
+        }
+        if depth_under(instr, &callee) > MOST_DEPTH {
+            return Err(MakeFault::Deep);
+        }
+        if seen.after.words > MOST_WORDS {
+            return Err(MakeFault::TooLarge);
+        }
+        let lit = boxed(&self.lit, &seen.extent, &seen.place);
+        Ok((seen.step(Kind::Shape), lit))
+    }
+
+    /// The entry of the shape after its last item.
+    fn finish(&self, known: &Known, lit: LitBox) -> Result<Entry, MakeFault>
+        ensures ok { IfOk result (λ entry. (entry ≡ entry_of self.now.addr self.now.key known.now lit) × IsEntry rom_first rom_last entry) }
+        ensures err { OnErr result (IsEntry rom_first rom_last (entry_of self.now.addr self.now.key known.now lit) → ⊥) }
+    {
+        let entry = self.entry(known, lit);
+        if is_entry(&entry) {
+            Ok(entry)
+        } else {
+            Err(MakeFault::TooLarge)
         }
     }
 }
@@ -78,46 +118,6 @@ fn is_straight(seen: &Seen) -> bool
     !matches!(seen.item.instr, Instr::Halt)
         && place_known(&seen.extent, &seen.place)
         && scale_known(&seen.extent)
-}
-
-/// Goes past one item, with the entry that it calls.
-fn step(walk: &Walk, item: &Item, callee: Option<Entry>) -> Result<Walk, MakeFault>
-    requires sound { IsSound item.now.at walk.now.known }
-    requires near { item.now.at < 4096 }
-    requires fields { InstrFits item.now.instr }
-    requires callee { IfSome callee IsClaim }
-    ensures ok { IfOk result (Passes (sight_with callee walk.now.known item.now) walk.now) }
-    ensures sound { IfOk result (λ new. IsSound (item.now.at + 1) new.known) }
-    ensures err { OnErr result (IsAsked (sight_with callee walk.now.known item.now) → ⊥) }
-{
-    let seen = see_with(callee, &walk.known, item);
-    if !is_straight(&seen) {
-        return Err(MakeFault::Unstraight { word: item.at });
-    }
-    if depth_under(&item.instr, &callee) > MOST_DEPTH {
-        return Err(MakeFault::Deep);
-    }
-    if seen.after.words > MOST_WORDS {
-        return Err(MakeFault::TooLarge);
-    }
-    Ok(Walk {
-        known: seen.after,
-        lit: boxed(&walk.lit, &seen.extent, &seen.place),
-        ..*walk
-    })
-}
-
-/// The entry of a shape after its last item.
-fn finish(walk: &Walk) -> Result<Entry, MakeFault>
-    ensures ok { IfOk result (λ entry. (entry ≡ entry_of walk.now) × IsEntry rom_first rom_last entry) }
-    ensures err { OnErr result (IsEntry rom_first rom_last (entry_of walk.now) → ⊥) }
-{
-    let entry = walk.entry();
-    if is_entry(&entry) {
-        Ok(entry)
-    } else {
-        Err(MakeFault::TooLarge)
-    }
 }
 
 /// The entry that an instruction calls, or its target where that has none at this very scale.
@@ -143,21 +143,22 @@ pub fn advance(rom: &RomImage, done: &Done, from: Walk) -> Result<Progress, Make
     ensures err { OnErr result (NeverAt rom.now done.now from.addr from.key) }
 {
     let mut walk = from;
-    while let Cell::Holds { format, instr } = read_cell(rom, walk.at) {
-        let item = Item {
-            at: walk.at,
-            format,
-            instr,
-        };
-        let callee = match look_up(done, &instr, walk.known.scale) {
+    while let Cell::Holds { format, instr } = read_cell(rom, walk.cursor.at) {
+        let callee = match look_up(done, &instr, walk.cursor.known.scale) {
             Ok(callee) => callee,
             Err(addr) => return Ok(Progress::Waiting { walk, addr }),
         };
-        let next = step(&walk, &item, callee)?;
-        match next_place(Kind::Shape, &item) {
-            Some(at) => walk = Walk { at, ..next },
-            None => return Ok(Progress::Finished(finish(&next)?)),
+        let (step, lit) = walk.pass(format, &instr, callee)?;
+        match step {
+            Step::Onward(cursor) => walk = Walk {
+                cursor,
+                lit,
+                ..walk
+            },
+            Step::Last(known) => return Ok(Progress::Finished(walk.finish(&known, lit)?)),
         }
     }
-    Err(MakeFault::Unstraight { word: walk.at })
+    Err(MakeFault::Unstraight {
+        word: walk.cursor.at,
+    })
 }

@@ -12,11 +12,16 @@ use Rattle.dvg_cert.specs.declared.entry.LitBox.{LitBox}
 use Rattle.dvg_cert.specs.declared.entry.LitBox.TheVariants.{Empty, Span}
 use Rattle.dvg_cert.specs.declared.entry.End.{End}
 use Rattle.dvg_cert.specs.declared.entry.End.TheVariants.{Rel, Abs, Lost}
-use Rattle.dvg_check.specs.Items.{Item}
-use Rattle.dvg_check.specs.Known.{Known, Moves}
-use Rattle.dvg_check.specs.Lit.{LitExtent, Nothing, Between, Anywhere, InSpan, InBox}
-use Rattle.dvg_check.specs.Rules.{Seen}
-use Rattle.dvg_check.specs.Private.Running.{place_past, sight_with, IsSound}
+use Rattle.dvg_items.specs.declared.item.Item.{Item}
+use Rattle.dvg_items.specs.declared.known.Known.{Known}
+use Rattle.dvg_items.specs.declared.known.Effect.TheVariants.{Moves}
+use Rattle.dvg_items.specs.Known.{place_past}
+use Rattle.dvg_items.specs.declared.lit.LitExtent.{LitExtent}
+use Rattle.dvg_items.specs.declared.lit.LitExtent.TheVariants.{Nothing, Between, Anywhere}
+use Rattle.dvg_items.specs.Lit.{InSpan, InBox}
+use Rattle.dvg_items.specs.declared.seen.Seen.{Seen}
+use Rattle.dvg_items.specs.Seen.{sight_with}
+use Rattle.dvg_items.specs.Bounds.{IsSoundCursor}
 pub use Rattle.dvg_check.specs.declared.run.Run.{Run}
 
 -- a draw and its format
@@ -191,4 +196,4 @@ pub record PassesTo {Why : Type 0} (keeps : Seen → Why → Type 0) (word : ℕ
   pub keeps_over : KeepsOver keeps word strokes at before p after
   pub further : at < p
   pub near : p ≤ 4098
-  pub sound : IsSound p after
+  pub sound : IsSoundCursor (record { at = p; known = after })

@@ -7,10 +7,10 @@ use Rattle.dvg_cert.specs.Entry.{IsEntry}
 use Rattle.dvg_cert.specs.declared.entry.Entry.{Entry}
 use Rattle.dvg_cert.specs.declared.entry.Key.{Key}
 use Rattle.dvg_cert.specs.Lookup.{entry_at}
-use Rattle.dvg_check.specs.Items.{LeadsTo}
-use Rattle.dvg_check.specs.declared.item.Kind.TheVariants.{Shape}
-use Rattle.dvg_check.specs.declared.item.Item.{Item}
-use Rattle.dvg_check.specs.Known.{target, scale_before}
+use Rattle.dvg_items.specs.Items.{LeadsTo}
+use Rattle.dvg_items.specs.declared.item.Kind.TheVariants.{Shape}
+use Rattle.dvg_items.specs.declared.item.Item.{Item}
+use Rattle.dvg_items.specs.Known.{target, scale_before}
 use Rattle.dvg_make.specs.declared.walk.Walk.{Walk}
 use Rattle.dvg_make.specs.Made.{HasEntry, MadeEntry, Made}
 use Rattle.dvg_make.specs.Refusals.{MakeFault, Unstraight, Deep, TooLarge, Memory}

@@ -12,18 +12,22 @@ use Rattle.dvg_cert.specs.declared.entry.Key.{Key}
 use Rattle.dvg_cert.specs.declared.entry.End.TheVariants.{Rel}
 use Rattle.dvg_cert.specs.declared.entry.LitBox.TheVariants.{Empty}
 use Rattle.dvg_cert.specs.Lookup.{entry_at}
-use Rattle.dvg_check.specs.Items.{LeadsTo}
-use Rattle.dvg_check.specs.declared.item.Kind.TheVariants.{Shape}
-use Rattle.dvg_check.specs.declared.item.Item.{Item}
-use Rattle.dvg_check.specs.Known.{Context, target, callee_at, scale_before, depth_under, known_before}
-use Rattle.dvg_check.specs.Lit.{PlaceKnown, ScaleKnown}
-use Rattle.dvg_check.specs.Rules.{sight}
-use Rattle.dvg_check.specs.declared.known.Seen.{Seen}
-use Rattle.dvg_check.specs.Private.Running.{IsSound}
+use Rattle.dvg_items.specs.Items.{LeadsTo}
+use Rattle.dvg_items.specs.declared.item.Kind.TheVariants.{Shape}
+use Rattle.dvg_items.specs.declared.item.Item.{Item}
+use Rattle.dvg_items.specs.Known.{Context, target, callee_at, scale_before, depth_under, known_before}
+use Rattle.dvg_items.specs.Lit.{relative_corners, PlaceKnown, ScaleKnown}
+use Rattle.dvg_items.specs.Seen.{sight}
+use Rattle.dvg_items.specs.declared.seen.Seen.{Seen}
+use Rattle.dvg_items.specs.Bounds.{IsSoundCursor}
+use Rattle.dvg_items.specs.Cursor.{first_cursor}
+use Rattle.dvg_items.specs.declared.known.Known.{Known}
+use Rattle.dvg_words.specs.declared.map.TheConstants.{ADDRESS_END}
+use Rattle.dvg_cert.specs.declared.entry.LitBox.{LitBox}
 use Rattle.dvg_make.specs.declared.walk.Walk.{Walk}
 use Rattle.dvg_make.specs.declared.walk.Progress.{Progress}
 use Rattle.dvg_make.specs.declared.walk.Progress.TheVariants.{Finished, Waiting}
-use Rattle.dvg_make.specs.Least.{corners, lit_points, IsLeast}
+use Rattle.dvg_make.specs.Least.{lit_points, IsLeast}
 use Rattle.dvg_make.specs.Made.{HasEntry, MadeEntry, Made}
 
 -- what the items of a shape stand in that starts at this key
@@ -32,11 +36,11 @@ keyed_context list key = record { kind = Shape; list = list; scale = key }
 
 -- before the first item
 abbrev pub start : ℕ → Key → Walk
-start addr key = record { addr = addr; key = key; at = addr; known = record { place = Rel (pos 0) (pos 0); scale = key; words = 0; depth = 0 }; lit = Empty }
+start addr key = record { addr = addr; key = key; cursor = first_cursor Shape addr key; lit = Empty }
 
--- the entry by what is known after the last item
-abbrev pub entry_of : Walk → Entry
-entry_of w = record { addr = w.addr; key = w.key; stop = w.known.place; lit = w.lit; depth = w.known.depth; words = w.known.words; scale = w.known.scale }
+-- the entry by what is known, and was lit, after the last item
+abbrev pub entry_of : ℕ → Key → Known → LitBox → Entry
+entry_of addr key known lit = record { addr = addr; key = key; stop = known.place; lit = lit; depth = known.depth; words = known.words; scale = known.scale }
 
 -- what is asked of an item that is seen: that it is no HALT, and lights only at a known place and scale
 pub record IsStraight (v : Seen) : Type 0 where
@@ -50,12 +54,9 @@ pub record IsAsked (v : Seen) : Type 0 where
   pub deep : depth_under v.item.instr v.callee ≤ 3
   pub many : v.after.words ≤ 1000000
 
--- past one item that is seen, which is as asked
-pub record Passes (v : Seen) (w new : Walk) : Type 0 where
-  pub addr : new.addr ≡ w.addr
-  pub key : new.key ≡ w.key
-  pub known : new.known ≡ v.after
-  pub lit : (ps : List Point) → IsLeast ps w.lit → IsLeast (corners v.extent v.place ++ ps) new.lit
+-- past one item that is seen, which is as asked, the least box becomes this one
+pub record Passes (v : Seen) (lit new : LitBox) : Type 0 where
+  pub grows : (ps : List Point) → IsLeast ps lit → IsLeast (relative_corners v.extent v.place ++ ps) new
   pub asked : IsAsked v
 
 -- the item is straight, and its target has its entry
@@ -67,18 +68,17 @@ abbrev pub AllFine : Context → List Item → Type 0
 AllFine c [] = Unit {0}
 AllFine c (i ∷ earlier) = AllFine c earlier × IsFine c earlier i
 
--- the walk knows what these items leave, and each is fine
-pub record KnowsAt (c : Context) (items : List Item) (w : Walk) : Type 0 where
-  pub known : w.known ≡ known_before c items
-  pub lit : IsLeast (lit_points c items) w.lit
+-- this is known and was lit after these items, and each is fine
+pub record KnowsAt (c : Context) (items : List Item) (known : Known) (lit : LitBox) : Type 0 where
+  pub known_is : known ≡ known_before c items
+  pub least : IsLeast (lit_points c items) lit
   pub fine : AllFine c items
 
 pub record IsWalk (rom : Rom) (list : List Entry) (w : Walk) : Type 0 where
   pub items : List Item
-  pub leads : LeadsTo Shape (rom_word rom) w.addr items w.at
-  pub knows : KnowsAt (keyed_context list w.key) items w
-  pub sound : IsSound w.at w.known
-  pub close : w.at ≤ 4098
+  pub leads : LeadsTo Shape (rom_word rom) w.addr items w.cursor.at
+  pub knows : KnowsAt (keyed_context list w.key) items w.cursor.known w.lit
+  pub sound : IsSoundCursor w.cursor
 
 -- the other list has all entries of the one
 abbrev pub Extends : List Entry → List Entry → Type 0
@@ -113,12 +113,12 @@ pub record IsWaiting (rom : Rom) (list : List Entry) (w new : Walk) (addr : ℕ)
   pub same_key : new.key ≡ w.key
   pub walk : IsWalk rom list new
   pub item : Item
-  pub at : item.at ≡ new.at
+  pub at : item.at ≡ new.cursor.at
   pub stands : cell_at (rom_word rom) item.at ≡ Holds item.format item.instr
   pub target_is : target Shape item.instr ≡ Some addr
-  pub none : entry_at list addr new.known.scale ≡ None
-  pub near : addr < 4096
-  pub scale : IsKey new.known.scale
+  pub none : entry_at list addr new.cursor.known.scale ≡ None
+  pub near : addr < ADDRESS_END
+  pub scale : IsKey new.cursor.known.scale
 
 abbrev pub Advances : Rom → List Entry → Walk → Progress → Type 0
 Advances rom list w (Finished e) = IsFinished rom list w e

@@ -1,8 +1,8 @@
-use Rattle.std.proofs.Common.{arith, ap, refl, sym, subst, ◌≡◌, ◌+◌, ◌∙◌, ℕ}
+use Rattle.std.proofs.Common.{arith, rules, ap, refl, sym, subst, ◌≡◌, ◌+◌, ◌∙◌, ℕ}
 use Rattle.dvg_words.specs.Beam.{shift}
 use Rattle.dvg_cert.specs.declared.entry.LitBox.{LitBox}
 use Rattle.dvg_check.specs.Private.Runs.{IsSize, IsSizeBox, IsSized, moved, reach}
-use Rattle.dvg_check.specs.Lit.{IsInside}
+use Rattle.dvg_items.specs.Lit.{IsInside}
 use Rattle.dvg_check.specs.declared.run.Run.{Run}
 use Rattle.dvg_check.proofs.Sizes.{IsSize-shift, IsSizeBox-more, IsSizeBox-moved, IsSizeBox-joined, IsNear-sizes, within_most, box_within_most, reach_more, reach_sum, tells_of_more}
 use Rattle.dvg_check.proofs.run.followed.Goals as goal
@@ -29,15 +29,21 @@ sized_together first rest whole after one more words low_first low_rest by lit i
       lit = IsSizeBox-joined (reach base whole.words) first.lit after whole.lit begin end in_first in_rest least;
     }
 
-pub shift-requires-clause-p : goal.shift-requires-clause-p
-shift-requires-clause-p c =
+pub shift-requires-clause-x : goal.shift-requires-clause-x
+shift-requires-clause-x c =
     let first = c.told_at-first.result in
-    IsNear-sizes 4100 first.by (within_most first.lowest first.words first.by (omega arith) c.told_at-first.ensures.sized.by) (omega arith)
-
-pub shift-requires-clause-d : goal.shift-requires-clause-d
-shift-requires-clause-d c =
     let rest = c.told_at-rest.result in
-    IsNear-sizes 1 rest.by (within_most rest.lowest rest.words rest.by (omega arith) c.told_at-rest.ensures.sized.by) (omega arith)
+    let p : IsSize 536870400 first.by = within_most first.lowest first.words first.by (omega arith) c.told_at-first.ensures.sized.by in
+    let d : IsSize 536870400 rest.by = within_most rest.lowest rest.words rest.by (omega arith) c.told_at-rest.ensures.sized.by in
+    search (rules, p.left, p.right, d.left, d.right)
+
+pub shift-requires-clause-y : goal.shift-requires-clause-y
+shift-requires-clause-y c =
+    let first = c.told_at-first.result in
+    let rest = c.told_at-rest.result in
+    let p : IsSize 536870400 first.by = within_most first.lowest first.words first.by (omega arith) c.told_at-first.ensures.sized.by in
+    let d : IsSize 536870400 rest.by = within_most rest.lowest rest.words rest.by (omega arith) c.told_at-rest.ensures.sized.by in
+    search (rules, p.down, p.up, d.down, d.up)
 
 pub moved-requires-clause-lit : goal.moved-requires-clause-lit
 moved-requires-clause-lit c =

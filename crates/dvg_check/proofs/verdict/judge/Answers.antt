@@ -1,6 +1,6 @@
 use Rattle.std.proofs.Common.{arith}
 use Rattle.dvg_words.specs.Beam.{screen}
-use Rattle.dvg_check.specs.Private.Running.{IsSomeCertificate}
+use Rattle.dvg_items.specs.Bounds.{IsSomeCertificate}
 use Rattle.dvg_check.proofs.Accepting.{safe_of_good}
 use Rattle.dvg_check.proofs.verdict.judge.Goals as goal
 

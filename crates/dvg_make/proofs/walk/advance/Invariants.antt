@@ -6,4 +6,4 @@ abbrev pub invariant-loop-format : goal.invariant-loop-format
 invariant-loop-format l = Walking l.rom l.done l.fn.from l.walk
 
 abbrev pub decreases-loop-format : goal.decreases-loop-format
-decreases-loop-format l = 5000 - l.walk.at
+decreases-loop-format l = 5000 - l.walk.cursor.at

@@ -1,0 +1,65 @@
+-- The items of a shape or of a frame are determined, so a walk to the last one has met them all.
+use Rattle.std.proofs.Common.{List, Option, length, refl, sym, arith, ap, Some, None, subst, suc, ◌≡◌, ◌+◌, ◌<◌, ◌∷◌, ◌∙◌, ℕ, ⊎_elim, []}
+use Rattle.std.proofs.lemmas.Bool.{cases_lt}
+use Rattle.dvg_words.specs.Decoding.{cell_at}
+use Rattle.dvg_words.specs.declared.instruction.Cell.TheVariants.{Holds}
+use Rattle.dvg_items.specs.Items.{Item, Kind, LeadsTo, next_place, AtEveryPlace, AtEachOf}
+
+pub record Same (a b : List Item) (p q : ℕ) : Type 0 where
+  pub items : a ≡ b
+  pub place : p ≡ q
+
+item_same : (i j : Item) → i.at ≡ j.at → Holds i.format i.instr ≡ Holds j.format j.instr → i ≡ j
+item_same i j a e =
+    let l : i.format ≡ j.format = cc in
+    let k : i.instr ≡ j.instr = cc in
+    λ x. record { at = a x; format = l x; instr = k x }
+
+module _ (kind : Kind) (word : ℕ → Option ℕ) (first : ℕ) where
+  -- as many items lead to one place
+  pub same_lead : (a b : List Item) (p q : ℕ) → LeadsTo kind word first a p → LeadsTo kind word first b q → length a ≡ length b → Same a b p q
+  same_lead [] [] p q h k e = record { items = refl; place = h ∙ sym k }
+  same_lead [] (j ∷ b) p q h k e = absurd (omega arith)
+  same_lead (i ∷ a) [] p q h k e = absurd (omega arith)
+  same_lead (i ∷ a) (j ∷ b) p q h k e =
+      let s = same_lead a b i.at j.at h.0 k.0 (omega arith) in
+      let same : i ≡ j = item_same i j s.place (sym h.1 ∙ ap (cell_at word) s.place ∙ k.1) in
+      let goes : next_place kind i ≡ next_place kind j = ap (next_place kind) same in
+      let place : Some p ≡ Some q = sym h.2 ∙ goes ∙ k.2 in
+      record { items = cc (same, s.items); place = cc place }
+
+  -- nothing leads past a last item
+  pub too_long : (items : List Item) (i : Item) → LeadsTo kind word first items i.at → cell_at word i.at ≡ Holds i.format i.instr → next_place kind i ≡ None → (earlier : List Item) (q : ℕ) → LeadsTo kind word first earlier q → length items < length earlier → ⊥
+  too_long items i lead is last [] q h lt = omega arith
+  too_long items i lead is last (j ∷ earlier) q h lt =
+      ⊎_elim
+      (λ less. too_long items i lead is last earlier j.at h.0 less)
+      (λ le.
+      let s = same_lead earlier items j.at i.at h.0 lead (omega arith) in
+      let same : j ≡ i = item_same j i s.place (sym h.1 ∙ ap (cell_at word) s.place ∙ is) in
+      let no : Some q ≡ None = sym h.2 ∙ ap (next_place kind) same ∙ last in
+      cc no)
+      (cases_lt (length items) (length earlier))
+
+  module _ (P : List Item → ℕ → Type 0) where
+    pub here_same : (a b : List Item) (p q : ℕ) → Same a b p q → P b q → P a p
+    here_same a b p q s h = subst (λ x. P x p) (sym s.items) (subst (λ x. P b x) (sym s.place) h)
+
+    pub shorter : (items : List Item) (p : ℕ) → LeadsTo kind word first items p → AtEachOf P items → (earlier : List Item) (q : ℕ) → LeadsTo kind word first earlier q → length earlier < length items → P earlier q
+    shorter [] p lead kept earlier q h lt = absurd (omega arith)
+    shorter (i ∷ items) p lead kept earlier q h lt =
+        ⊎_elim
+        (λ less. shorter items i.at lead.0 kept.0 earlier q h less)
+        (λ le. here_same earlier items q i.at (same_lead earlier items q i.at h lead.0 (omega arith)) kept.1)
+        (cases_lt (length earlier) (length items))
+
+    -- what holds at each item of a walk to the last one holds everywhere
+    pub everywhere : (items : List Item) (i : Item) → LeadsTo kind word first items i.at → cell_at word i.at ≡ Holds i.format i.instr → next_place kind i ≡ None → AtEachOf P (i ∷ items) → AtEveryPlace kind word first P
+    everywhere items i lead is last kept earlier q h =
+        ⊎_elim
+        (λ less. shorter items i.at lead kept.0 earlier q h less)
+        (λ le. ⊎_elim
+        (λ more. absurd (too_long items i lead is last earlier q h more))
+        (λ ge. here_same earlier items q i.at (same_lead earlier items q i.at h lead (omega arith)) kept.1)
+        (cases_lt (length items) (length earlier)))
+        (cases_lt (length earlier) (length items))

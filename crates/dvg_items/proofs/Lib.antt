@@ -1,0 +1,6 @@
+pub mod Points
+pub mod PlaceLaw
+pub mod LeastBoxes
+pub mod Near
+pub mod Listed
+pub mod Leading

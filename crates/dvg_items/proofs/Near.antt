@@ -1,0 +1,84 @@
+-- Numbers stay small from one item to the next.
+use Rattle.std.proofs.Common.{arith, Some, nat_lt, refl, Bool, None, true, false, Option, ◌≡◌, ◌+◌, ◌<◌, ◌≤◌, ℕ}
+use Rattle.std.proofs.lemmas.Bool.Decides.{nat_tests}
+use Rattle.std.proofs.lemmas.Int.{ints}
+use Rattle.std.specs.Prelude.{if◌then◌else◌, FitsSigned, ◌+ℤ◌}
+use Rattle.std.specs.Int.{w64}
+use Rattle.dvg_words.specs.declared.map.TheConstants.{ADDRESS_END}
+use Rattle.dvg_words.specs.Beam.{shift}
+use Rattle.dvg_words.specs.Decoding.{word_count, InstrFits}
+use Rattle.dvg_words.specs.declared.beam.Point.{Point}
+use Rattle.dvg_words.specs.declared.instruction.Format.{Format}
+use Rattle.dvg_words.specs.declared.instruction.Format.TheVariants.{Short, Long}
+use Rattle.dvg_words.specs.declared.instruction.Instr.{Instr}
+use Rattle.dvg_words.specs.declared.instruction.Instr.TheVariants.{Draw as Draws, Labs, Halt, Jsrl, Rtsl, Jmpl}
+use Rattle.dvg_cert.specs.declared.entry.End.{End}
+use Rattle.dvg_cert.specs.declared.entry.End.TheVariants.{Rel, Abs, Lost}
+use Rattle.dvg_items.specs.Items.{Item, Kind, Shape, Frame, place_after, next_place}
+use Rattle.dvg_items.specs.Seen.{Seen}
+use Rattle.dvg_items.specs.Bounds.{IsNear, IsNearPlace, IsSoundCursor, IsSoundSeen}
+
+-- ---- places
+
+pub IsNear-shift : (n : ℕ) (p d : Point) → IsNear n p → IsNear 1 d → IsNear (n + 1) (shift p d)
+IsNear-shift n p d h k =
+    record { left = omega (arith, ints, h.left, k.left); right = omega (arith, ints, h.right, k.right); down = omega (arith, ints, h.down, k.down); up = omega (arith, ints, h.up, k.up) }
+
+pub IsNear-more : (m n : ℕ) (p : Point) → m ≤ n → IsNear m p → IsNear n p
+IsNear-more m n p le h =
+    record { left = omega (arith, ints, h.left, le); right = omega (arith, ints, h.right, le); down = omega (arith, ints, h.down, le); up = omega (arith, ints, h.up, le) }
+
+pub IsNearPlace-more : (m n : ℕ) (place : End) → m ≤ n → IsNearPlace m place → IsNearPlace n place
+IsNearPlace-more m n (Rel x y) le h = IsNear-more m n (record { x = x; y = y }) le h
+IsNearPlace-more m n (Abs x y) le h = IsNear-more m n (record { x = x; y = y }) le h
+IsNearPlace-more m n Lost le h = tt
+
+-- ---- word addresses
+
+pub word_count-some : (format : Format) → 1 ≤ word_count format
+word_count-some Short = omega arith
+word_count-some Long = omega arith
+
+pub word_count-few : (format : Format) → word_count format ≤ 2
+word_count-few Short = omega arith
+word_count-few Long = omega arith
+
+further : (kind : Kind) (at : ℕ) (format : Format) (instr : Instr) (p : ℕ) → place_after kind at format instr ≡ Some p → at + 1 ≤ p
+further kind at format (Draws d) p e = let q : at + word_count format ≡ p = cc in omega (arith, q, word_count-some format)
+further kind at format (Labs x y g) p e = let q : at + word_count format ≡ p = cc in omega (arith, q, word_count-some format)
+further kind at format Halt p e = cc
+further kind at format (Jsrl to) p e = let q : at + word_count format ≡ p = cc in omega (arith, q, word_count-some format)
+further kind at format Rtsl p e = cc
+further Shape at format (Jmpl to) p e = cc
+further Frame at format (Jmpl to) p e = by_test (nat_lt at to) refl e
+  where
+    by_test : (b : Bool) → nat_lt at to ≡ b → (if b then Some to else None) ≡ Some p → at + 1 ≤ p
+    by_test true t f = let lt : at < to = grind (arith, nat_tests) in let q : to ≡ p = cc in omega (arith, lt, q)
+    by_test false t f = cc
+
+pub next_further : (kind : Kind) (i : Item) (p : ℕ) → next_place kind i ≡ Some p → i.at + 1 ≤ p
+next_further kind i p e = further kind i.at i.format i.instr p e
+
+pub next_near : (kind : Kind) (at : ℕ) (format : Format) (instr : Instr) (p : ℕ) → at < ADDRESS_END → InstrFits instr → place_after kind at format instr ≡ Some p → p ≤ ADDRESS_END + 2
+next_near kind at format (Draws d) p lt h e = let q : at + word_count format ≡ p = cc in omega (arith, q, lt, word_count-few format)
+next_near kind at format (Labs x y g) p lt h e = let q : at + word_count format ≡ p = cc in omega (arith, q, lt, word_count-few format)
+next_near kind at format Halt p lt h e = cc
+next_near kind at format (Jsrl to) p lt h e = let q : at + word_count format ≡ p = cc in omega (arith, q, lt, word_count-few format)
+next_near kind at format Rtsl p lt h e = cc
+next_near Shape at format (Jmpl to) p lt h e = cc
+next_near Frame at format (Jmpl to) p lt h e = by_test (nat_lt at to) e
+  where
+    by_test : (b : Bool) → (if b then Some to else None) ≡ Some p → p ≤ ADDRESS_END + 2
+    by_test true f = let q : to ≡ p = cc in omega (arith, q, h)
+    by_test false f = cc
+
+-- what is known past an item is known where it leads to
+pub step_sound : (kind : Kind) (v : Seen) (p : ℕ) → IsSoundSeen v → v.after.words ≤ 1000000 → next_place kind v.item ≡ Some p → IsSoundCursor (record { at = p; known = v.after })
+step_sound kind v p h few goes =
+    record {
+      at = next_near kind v.item.at v.item.format v.item.instr p h.at h.fields goes;
+      place = IsNearPlace-more (v.item.at + 1) p v.after.place (next_further kind v.item p goes) h.place_after;
+      scale = h.scale_after;
+      words = few;
+      depth = h.depth_after;
+    }

@@ -1,0 +1,40 @@
+-- The known place, told from all items at once.
+use Rattle.std.proofs.Common.{arith, pos, List, [], ◌∷◌, ◌≡◌, ◌∙◌, refl, sym, ap}
+use Rattle.std.proofs.lemmas.Int.{ints}
+use Rattle.std.specs.Prelude.{◌+ℤ◌}
+use Rattle.dvg_words.specs.Beam.{shift, origin}
+use Rattle.dvg_words.specs.declared.beam.Point.{Point}
+use Rattle.dvg_cert.specs.declared.entry.End.{End}
+use Rattle.dvg_cert.specs.declared.entry.End.TheVariants.{Rel, Abs, Lost}
+use Rattle.dvg_items.specs.Items.{Item, Kind, Shape, Frame}
+use Rattle.dvg_items.specs.Known.{Context, Effect, Sets, Loses, Moves, callee, effect_of, first_place, place_before, place_moved_by, place_past, scale_before}
+use Rattle.dvg_items.specs.Places.{effects, fixed_place, total_move, PlaceFromAll}
+
+moves_on : (k : End) (d e : Point) → place_moved_by k (shift d e) ≡ place_moved_by (place_moved_by k d) e
+moves_on (Rel x y) d e =
+    let a : x +ℤ (d.x +ℤ e.x) ≡ (x +ℤ d.x) +ℤ e.x = omega (arith, ints) in
+    let b : y +ℤ (d.y +ℤ e.y) ≡ (y +ℤ d.y) +ℤ e.y = omega (arith, ints) in
+    λ i. Rel (a i) (b i)
+moves_on (Abs x y) d e =
+    let a : x +ℤ (d.x +ℤ e.x) ≡ (x +ℤ d.x) +ℤ e.x = omega (arith, ints) in
+    let b : y +ℤ (d.y +ℤ e.y) ≡ (y +ℤ d.y) +ℤ e.y = omega (arith, ints) in
+    λ i. Abs (a i) (b i)
+moves_on Lost d e = refl
+
+by_effect : (first : End) (f : Effect) (es : List Effect) → place_moved_by (fixed_place first (f ∷ es)) (total_move (f ∷ es)) ≡ place_past f (place_moved_by (fixed_place first es) (total_move es))
+by_effect first (Sets p) es =
+    let a : p.x +ℤ pos 0 ≡ p.x = omega (arith, ints) in
+    let b : p.y +ℤ pos 0 ≡ p.y = omega (arith, ints) in
+    λ i. Abs (a i) (b i)
+by_effect first Loses es = refl
+by_effect first (Moves d) es = moves_on (fixed_place first es) (total_move es) d
+
+first_still : (kind : Kind) → place_moved_by (first_place kind) origin ≡ first_place kind
+first_still Shape = refl
+first_still Frame = refl
+
+pub place_from_all : PlaceFromAll
+place_from_all c [] = sym (first_still c.kind)
+place_from_all c (i ∷ earlier) =
+    ap (place_past (effect_of i.instr (scale_before c earlier) (callee c earlier i.instr))) (place_from_all c earlier)
+    ∙ sym (by_effect (first_place c.kind) (effect_of i.instr (scale_before c earlier) (callee c earlier i.instr)) (effects c earlier))

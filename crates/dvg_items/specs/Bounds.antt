@@ -1,0 +1,76 @@
+-- Limits within which the code's numbers stay: no rule stands here. An item moves the place by 2^41 at the most and stands
+-- one place further on at the least, so no sum over a shape or a frame leaves 64 bits.
+use Rattle.std.specs.Prelude.{ℕ, ◌+◌, ◌*◌, ◌^◌, ◌<◌, ◌≤◌, List, IfSome}
+use Rattle.dvg_words.specs.declared.map.TheConstants.{ADDRESS_END}
+use Rattle.dvg_words.specs.Decoding.{InstrFits}
+use Rattle.dvg_words.specs.declared.beam.Point.{Point}
+use Rattle.dvg_words.specs.Beam.{IsWithin}
+use Rattle.dvg_cert.specs.Entry.{IsKey, IsEnd, IsBox}
+use Rattle.dvg_cert.specs.Order.{IsCertificate}
+use Rattle.dvg_cert.specs.declared.entry.End.{End}
+use Rattle.dvg_cert.specs.declared.entry.End.TheVariants.{Rel, Abs, Lost}
+use Rattle.dvg_cert.specs.declared.entry.Entry.{Entry}
+use Rattle.dvg_items.specs.Known.{Effect, Sets, Loses, Moves}
+use Rattle.dvg_items.specs.Lit.{LitExtent, Nothing, Between, Anywhere}
+use Rattle.dvg_items.specs.Seen.{Seen}
+use Rattle.dvg_items.specs.Cursor.{Cursor, Step, Onward, Last}
+
+-- ---- entries
+
+-- what an entry claims is within the limits
+pub record IsClaim (e : Entry) : Type 0 where
+  pub key : IsKey e.key
+  pub stop : IsEnd e.stop
+  pub lit : IsBox e.lit
+  pub depth : e.depth ≤ 3
+  pub words : e.words ≤ 1000000
+  pub scale : IsKey e.scale
+  pub addr : e.addr < ADDRESS_END
+
+-- the list is a certificate's, for some ROM
+abbrev pub IsSomeCertificate : List Entry → Type 0
+IsSomeCertificate list = (first : ℕ) × (last : ℕ) × (last < ADDRESS_END) × IsCertificate first last list
+
+-- ---- places
+
+-- so many items move no further
+abbrev pub IsNear : ℕ → Point → Type 0
+IsNear n p = IsWithin (2 ^ 41 * n) p
+
+abbrev pub IsNearPlace : ℕ → End → Type 0
+IsNearPlace n (Rel x y) = IsNear n (record { x = x; y = y })
+IsNearPlace n (Abs x y) = IsNear n (record { x = x; y = y })
+IsNearPlace n Lost = Unit {0}
+
+abbrev pub IsNearEffect : Effect → Type 0
+IsNearEffect (Sets p) = IsNear 1 p
+IsNearEffect Loses = Unit {0}
+IsNearEffect (Moves d) = IsNear 1 d
+
+abbrev pub IsNearExtent : LitExtent → Type 0
+IsNearExtent Nothing = Unit {0}
+IsNearExtent (Between a b) = IsNear 1 a × IsNear 1 b
+IsNearExtent Anywhere = Unit {0}
+
+-- ---- where a walk stands, and what it sees there
+
+pub record IsSoundCursor (c : Cursor) : Type 0 where
+  pub at : c.at ≤ ADDRESS_END + 2
+  pub place : IsNearPlace c.at c.known.place
+  pub scale : IsKey c.known.scale
+  pub words : c.known.words ≤ 1000000
+  pub depth : c.known.depth ≤ 4
+
+pub record IsSoundSeen (v : Seen) : Type 0 where
+  pub at : v.item.at < ADDRESS_END
+  pub fields : InstrFits v.item.instr
+  pub place : IsNearPlace ADDRESS_END v.place
+  pub extent : IsNearExtent v.extent
+  pub callee : IfSome v.callee IsClaim
+  pub place_after : IsNearPlace (v.item.at + 1) v.after.place
+  pub scale_after : IsKey v.after.scale
+  pub depth_after : v.after.depth ≤ 4
+
+abbrev pub IsSoundStep : Step → Type 0
+IsSoundStep (Onward c) = IsSoundCursor c
+IsSoundStep (Last known) = Unit {0}

@@ -1,0 +1,39 @@
+-- The items of a shape or of a frame: one instruction after another, up to where it ends.
+use Rattle.std.specs.Prelude.{◌≡◌, ℕ, ◌+◌, List, [], ◌∷◌, Option, Some, None, nat_lt, if◌then◌else◌}
+use Rattle.dvg_words.specs.declared.instruction.Instr.TheVariants.{Draw as Draws, Labs, Halt, Jsrl, Rtsl, Jmpl}
+use Rattle.dvg_words.specs.declared.instruction.Instr.{Instr}
+use Rattle.dvg_words.specs.declared.instruction.Format.{Format}
+use Rattle.dvg_words.specs.declared.instruction.Cell.TheVariants.{Holds}
+use Rattle.dvg_words.specs.Decoding.{word_count, cell_at}
+pub use Rattle.dvg_items.specs.declared.item.Kind.{Kind}
+pub use Rattle.dvg_items.specs.declared.item.Kind.TheVariants.{Shape, Frame}
+pub use Rattle.dvg_items.specs.declared.item.Item.{Item}
+
+-- where the item after an instruction stands: a frame goes on at a jump, but never backwards; a shape ends there (profile)
+abbrev pub place_after : Kind → ℕ → Format → Instr → Option ℕ
+place_after kind at format (Draws d) = Some (at + word_count format)
+place_after kind at format (Labs x y gscale) = Some (at + word_count format)
+place_after kind at format Halt = None
+place_after kind at format (Jsrl to) = Some (at + word_count format)
+place_after kind at format Rtsl = None
+place_after Shape at format (Jmpl to) = None
+place_after Frame at format (Jmpl to) = if nat_lt at to then Some to else None
+
+-- none after the last item
+abbrev pub next_place : Kind → Item → Option ℕ
+next_place kind i = place_after kind i.at i.format i.instr
+
+-- these items, the latest first, lead from the first place to this one, in a memory that is read by `word` (profile)
+abbrev pub LeadsTo : Kind → (ℕ → Option ℕ) → ℕ → List Item → ℕ → Type 0
+LeadsTo kind word first [] p = p ≡ first
+LeadsTo kind word first (i ∷ earlier) p =
+    LeadsTo kind word first earlier i.at × (cell_at word i.at ≡ Holds i.format i.instr) × (next_place kind i ≡ Some p)
+
+-- holds at every place that items lead to, with these items
+abbrev pub AtEveryPlace : Kind → (ℕ → Option ℕ) → ℕ → (List Item → ℕ → Type 0) → Type 0
+AtEveryPlace kind word first P = (earlier : List Item) (p : ℕ) → LeadsTo kind word first earlier p → P earlier p
+
+-- holds at the place of each of these items, with the items before it
+abbrev pub AtEachOf : (List Item → ℕ → Type 0) → List Item → Type 0
+AtEachOf P [] = Unit {0}
+AtEachOf P (i ∷ earlier) = AtEachOf P earlier × P earlier i.at

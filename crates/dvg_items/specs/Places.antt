@@ -1,0 +1,34 @@
+-- The known place, told from all items at once: where the latest that sets or loses it left it, and the moves since then.
+-- No rule stands on this; a law says that it is the place that is known. All of it is profile.
+use Rattle.std.specs.Prelude.{◌≡◌, List, [], ◌∷◌}
+use Rattle.dvg_words.specs.declared.beam.Point.{Point}
+use Rattle.dvg_words.specs.Beam.{origin, shift}
+use Rattle.dvg_cert.specs.declared.entry.End.{End}
+use Rattle.dvg_cert.specs.declared.entry.End.TheVariants.{Abs, Lost}
+use Rattle.dvg_items.specs.Items.{Item}
+use Rattle.dvg_items.specs.Known.{Context, Effect, Sets, Loses, Moves, callee, effect_of, first_place, place_before, place_moved_by, scale_before}
+
+-- the effects of the items, the latest first
+abbrev pub effects : Context → List Item → List Effect
+effects c [] = []
+effects c (i ∷ earlier) = effect_of i.instr (scale_before c earlier) (callee c earlier i.instr) ∷ effects c earlier
+
+-- where the latest effect that sets or loses the place leaves it, or else the start
+abbrev pub fixed_place : End → List Effect → End
+fixed_place first [] = first
+fixed_place first (Sets p ∷ earlier) = Abs p.x p.y
+fixed_place first (Loses ∷ earlier) = Lost
+fixed_place first (Moves d ∷ earlier) = fixed_place first earlier
+
+-- the sum of the moves since then
+abbrev pub total_move : List Effect → Point
+total_move [] = origin
+total_move (Sets p ∷ earlier) = origin
+total_move (Loses ∷ earlier) = origin
+total_move (Moves d ∷ earlier) = shift (total_move earlier) d
+
+-- the known place is the one, moved by the other
+abbrev pub PlaceFromAll : Type 0
+PlaceFromAll =
+    (c : Context) (earlier : List Item)
+    → place_before c earlier ≡ place_moved_by (fixed_place (first_place c.kind) (effects c earlier)) (total_move (effects c earlier))

@@ -1,0 +1,33 @@
+-- What the rules see of an item. All of it is profile.
+use Rattle.std.specs.Prelude.{ℕ, List, Option, Some, None}
+use Rattle.dvg_words.specs.declared.instruction.Instr.{Instr}
+use Rattle.dvg_cert.specs.declared.entry.Entry.{Entry}
+use Rattle.dvg_items.specs.Items.{Item}
+use Rattle.dvg_items.specs.Known.{Context, Known, known_past, known_before, scale_before, callee}
+use Rattle.dvg_items.specs.Lit.{LitExtent, extent_of}
+pub use Rattle.dvg_items.specs.declared.seen.Seen.{Seen}
+
+-- of an item that calls this entry: the item, the place before it, what it lights, the entry, and what is known past it
+abbrev pub sight_with : Option Entry → Known → Item → Seen
+sight_with named before i =
+    record {
+      item = i;
+      place = before.place;
+      extent = extent_of i.instr before.scale named;
+      callee = named;
+      after = known_past i named before;
+    }
+
+-- of the item after these
+abbrev pub sight : Context → List Item → Item → Seen
+sight c earlier i = sight_with (callee c earlier i.instr) (known_before c earlier) i
+
+-- what an instruction after these items lights
+abbrev pub extent : Context → List Item → Instr → LitExtent
+extent c earlier i = extent_of i (scale_before c earlier) (callee c earlier i)
+
+-- what a target needs
+abbrev pub HasCallee : Option ℕ → Option Entry → Type 0
+HasCallee None named = Unit {0}
+HasCallee (Some to) None = ⊥
+HasCallee (Some to) (Some e) = Unit {0}

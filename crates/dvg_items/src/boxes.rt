@@ -1,0 +1,73 @@
+//! Boxes of what is lit.
+
+ghost use Rattle.std.specs.Prelude.{◌↔◌, ◌≤ℤ◌, IsTrue};
+ghost use Rattle.dvg_items.specs.Lit.{InBox, IsInside};
+ghost use Rattle.dvg_cert.specs.declared.entry.LitBox.{LitBox};
+
+use dvg_cert::LitBox;
+use dvg_words::Point;
+
+fn is_between(low: &i64, value: i64, high: &i64) -> bool
+    ensures { IsTrue result ↔ (low.now ≤ℤ value) × (value ≤ℤ high.now) }
+{
+    *low <= value && value <= *high
+}
+
+/// Whether a point is in a box, ends included. No point is in the empty box.
+pub fn is_in_box(lit: &LitBox, p: &Point) -> bool
+    ensures { IsTrue result ↔ InBox lit.now p.now }
+{
+    match lit {
+        LitBox::Empty => false,
+        LitBox::Span {
+            x_min,
+            x_max,
+            y_min,
+            y_max,
+        } => is_between(x_min, p.x, x_max) && is_between(y_min, p.y, y_max),
+    }
+}
+
+/// The least box of two points.
+pub fn spanning(p: &Point, q: &Point) -> LitBox
+    ensures first { InBox result p.now }
+    ensures second { InBox result q.now }
+    ensures least { (other : LitBox) → InBox other p.now → InBox other q.now → IsInside result other }
+{
+    LitBox::Span {
+        x_min: p.x.min(q.x),
+        x_max: p.x.max(q.x),
+        y_min: p.y.min(q.y),
+        y_max: p.y.max(q.y),
+    }
+}
+
+/// The least box that has two boxes as parts.
+pub fn joined(first: &LitBox, second: &LitBox) -> LitBox
+    ensures first { IsInside first.now result }
+    ensures second { IsInside second.now result }
+    ensures least { (other : LitBox) → IsInside first.now other → IsInside second.now other → IsInside result other }
+{
+    match (first, second) {
+        (LitBox::Empty, other) | (other, LitBox::Empty) => *other,
+        (
+            LitBox::Span {
+                x_min,
+                x_max,
+                y_min,
+                y_max,
+            },
+            LitBox::Span {
+                x_min: left,
+                x_max: right,
+                y_min: bottom,
+                y_max: top,
+            },
+        ) => LitBox::Span {
+            x_min: (*x_min).min(*left),
+            x_max: (*x_max).max(*right),
+            y_min: (*y_min).min(*bottom),
+            y_max: (*y_max).max(*top),
+        },
+    }
+}

@@ -1,0 +1,66 @@
+//! Where a walk over items stands.
+
+ghost use Rattle.std.specs.Prelude.{◌≡◌, ◌<◌, IfSome};
+ghost use Rattle.dvg_words.specs.declared.map.TheConstants.{ADDRESS_END};
+ghost use Rattle.dvg_words.specs.Decoding.{InstrFits};
+ghost use Rattle.dvg_cert.specs.Entry.{IsKey};
+ghost use Rattle.dvg_items.specs.Seen.{sight_with};
+ghost use Rattle.dvg_items.specs.Cursor.{first_cursor};
+ghost use Rattle.dvg_items.specs.Bounds.{IsClaim, IsSoundCursor, IsSoundSeen};
+
+use crate::item::{Item, Kind};
+use crate::known::Known;
+use crate::lit::extent_of;
+use crate::seen::Seen;
+use dvg_cert::{Entry, Key};
+use dvg_words::{Format, Instr};
+
+/// The word address where an item stands, and what is known before it.
+#[derive(Clone, Copy, Debug, PartialEq, Eq)]
+pub struct Cursor {
+    pub at: u16,
+    pub known: Known,
+}
+
+/// Where an item leads: to the next one, or to what is known after the last.
+#[derive(Clone, Copy, Debug, PartialEq, Eq)]
+pub enum Step {
+    Onward(Cursor),
+    Last(Known),
+}
+
+impl Cursor {
+    /// Before the first item of a shape or of a frame, which stands at a word address, at a scale, `Any` where it is unknown.
+    pub fn start(kind: Kind, first: u16, scale: Key) -> Cursor
+        ensures value { result ≡ first_cursor kind first scale }
+        ensures sound { first < ADDRESS_END → IsKey scale → IsSoundCursor result }
+    {
+        Cursor {
+            at: first,
+            known: Known::start(kind, scale),
+        }
+    }
+
+    /// What the rules see of the instruction that stands here, with the entry that it calls.
+    pub fn see(&self, format: Format, instr: &Instr, callee: Option<Entry>) -> Seen
+        requires here { IsSoundCursor self.now }
+        requires near { self.now.at < ADDRESS_END }
+        requires fields { InstrFits instr.now }
+        requires callee { IfSome callee IsClaim }
+        ensures value { result ≡ sight_with callee self.now.known (record { at = self.now.at; format = format; instr = instr.now }) }
+        ensures sound { IsSoundSeen result }
+    {
+        let item = Item {
+            at: self.at,
+            format,
+            instr: *instr,
+        };
+        Seen {
+            item,
+            place: self.known.place,
+            extent: extent_of(instr, self.known.scale, &callee),
+            callee,
+            after: self.known.past(&item, &callee),
+        }
+    }
+}

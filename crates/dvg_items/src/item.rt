@@ -1,0 +1,48 @@
+//! Items: instructions at their places.
+
+ghost use Rattle.std.specs.Prelude.{◌≡◌, ◌<◌};
+ghost use Rattle.dvg_words.specs.declared.map.TheConstants.{ADDRESS_END};
+ghost use Rattle.dvg_items.specs.Items.{next_place};
+ghost use Rattle.dvg_items.specs.Known.{target};
+
+use dvg_words::{Format, Instr};
+
+/// Whose items they are.
+#[derive(Clone, Copy, Debug, PartialEq, Eq)]
+pub enum Kind {
+    Shape,
+    Frame,
+}
+
+/// The word address of an instruction's first word, and the instruction.
+#[derive(Clone, Copy, Debug, PartialEq, Eq)]
+pub struct Item {
+    pub at: u16,
+    pub format: Format,
+    pub instr: Instr,
+}
+
+impl Item {
+    /// Where the item after this one stands, `None` after the last: past its words, or where a frame's jump leads. Nothing
+    /// follows HALT, RTSL, a shape's JMPL, or a frame's JMPL to its own place or a lower one (profile).
+    pub fn next_place(&self, kind: Kind) -> Option<u16>
+        requires { self.now.at < ADDRESS_END }
+        ensures { result ≡ next_place kind self.now }
+    {
+        match (kind, self.instr) {
+            (_, Instr::Halt | Instr::Rtsl) | (Kind::Shape, Instr::Jmpl { .. }) => None,
+            (Kind::Frame, Instr::Jmpl { to }) => { if self.at < to { Some(to) } else { None } }
+            _ => Some(self.at + self.format.words()),
+        }
+    }
+}
+
+/// Where a call leads, or a shape's tail jump. `None` for every other instruction.
+pub fn target(kind: Kind, instr: &Instr) -> Option<u16>
+    ensures { result ≡ target kind instr.now }
+{
+    match (kind, instr) {
+        (_, Instr::Jsrl { to }) | (Kind::Shape, Instr::Jmpl { to }) => Some(*to),
+        _ => None,
+    }
+}

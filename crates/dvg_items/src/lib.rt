@@ -1,0 +1,24 @@
+//! Items: the instructions of a shape or of a frame, one after another, what is known before each, and what each lights.
+//!
+//! A [`Cursor`] stands where an item stands, with what is known there ([`Known`]). [`Cursor::see`] tells what the rules see
+//! of that item ([`Seen`]), and [`Seen::step`] leads past it. What judges, makes or explains shapes and frames goes over
+//! their items so.
+#![tactic(auto)]
+
+mod boxes;
+mod cursor;
+mod item;
+mod known;
+pub mod laws;
+mod lit;
+mod seen;
+
+pub use boxes::{is_in_box, joined, spanning};
+pub use cursor::{Cursor, Step};
+pub use item::{Item, Kind, target};
+pub use known::{Effect, Known, callee, depth_under, place_past};
+pub use lit::{LitExtent, lit_in_box, lit_on_screen, place_known, relative_corners, scale_known};
+pub use seen::{Seen, has_callee};
+
+#[cfg(test)]
+mod tests;

@@ -1,0 +1,164 @@
+//! What an item lights, and the tests of where that may be.
+
+ghost use Rattle.std.specs.Prelude.{◌≡◌, ◌↔◌, [], ◌∷◌, IsTrue, IfSome, IfNone};
+ghost use Rattle.dvg_words.specs.Beam.{screen, InWindow};
+ghost use Rattle.dvg_words.specs.declared.map.TheConstants.{ADDRESS_END};
+ghost use Rattle.dvg_cert.specs.Entry.{IsKey, IsBox};
+ghost use Rattle.dvg_items.specs.Lit.{draw_extent, box_extent, callee_extent, extent_of, corners, absolute_corners, relative_corners, PlaceKnown, ScaleKnown, LitInWindow, LitInBox};
+ghost use Rattle.dvg_items.specs.Bounds.{IsNearPlace, IsNear, IsNearExtent, IsClaim};
+
+use crate::boxes::is_in_box;
+use dvg_cert::{End, Entry, Key, LitBox};
+use dvg_words::{Draw, Instr, Point, draw_move, on_screen, shift};
+
+/// What an item lights, seen from the place before it.
+#[derive(Clone, Copy, Debug, PartialEq, Eq)]
+pub enum LitExtent {
+    Nothing,
+    /// All of it between two corners.
+    Between { from: Point, to: Point },
+    /// Wherever: a lit draw at unknown scale.
+    Anywhere,
+}
+
+/// What a draw lights.
+fn draw_extent(draw: &Draw, scale: Key) -> LitExtent
+    requires { IsKey scale }
+    ensures extent { result ≡ draw_extent draw.now.bright draw.now scale }
+    ensures near { IsNearExtent result }
+{
+    if draw.bright == 0 {
+        return LitExtent::Nothing;
+    }
+    match scale {
+        Key::At(gscale) => LitExtent::Between {
+            from: Point::ORIGIN,
+            to: draw_move(draw, gscale),
+        },
+        Key::Any => LitExtent::Anywhere,
+    }
+}
+
+/// What a called shape may light.
+fn box_extent(lit: LitBox) -> LitExtent
+    requires { IsBox lit }
+    ensures extent { result ≡ box_extent lit }
+    ensures near { IsNearExtent result }
+{
+    match lit {
+        LitBox::Empty => LitExtent::Nothing,
+        LitBox::Span {
+            x_min,
+            x_max,
+            y_min,
+            y_max,
+        } => LitExtent::Between {
+            from: Point { x: x_min, y: y_min },
+            to: Point { x: x_max, y: y_max },
+        },
+    }
+}
+
+/// What an instruction lights, with the entry that it calls.
+pub fn extent_of(instr: &Instr, scale: Key, callee: &Option<Entry>) -> LitExtent
+    requires scale { IsKey scale }
+    requires callee { IfSome callee.now IsClaim }
+    ensures extent { result ≡ extent_of instr.now scale callee.now }
+    ensures near { IsNearExtent result }
+{
+    match (instr, callee) {
+        (Instr::Draw(draw), _) => draw_extent(draw, scale),
+        (Instr::Jsrl { .. } | Instr::Jmpl { .. }, Some(e)) => box_extent(e.lit),
+        _ => LitExtent::Nothing,
+    }
+}
+
+/// What is lit is lit at a known place.
+pub fn place_known(extent: &LitExtent, place: &End) -> bool
+    ensures { IsTrue result ↔ PlaceKnown extent.now place.now }
+{
+    match (extent, place) {
+        (LitExtent::Nothing, _) => true,
+        (_, End::Lost) => false,
+        _ => true,
+    }
+}
+
+/// What is lit is lit at a known scale.
+pub fn scale_known(extent: &LitExtent) -> bool
+    ensures { IsTrue result ↔ ScaleKnown extent.now }
+{
+    !matches!(extent, LitExtent::Anywhere)
+}
+
+/// Both corners of what is lit, from a place.
+fn corners(extent: &LitExtent, x: i64, y: i64) -> Option<(Point, Point)>
+    requires place { IsNear ADDRESS_END (record { x = x; y = y }) }
+    requires extent { IsNearExtent extent.now }
+    ensures some { IfSome result (λ c. corners extent.now (record { x = x; y = y }) ≡ c.0 ∷ c.1 ∷ []) }
+    ensures none { IfNone result (corners extent.now (record { x = x; y = y }) ≡ []) }
+{
+    match extent {
+        LitExtent::Between { from, to } => {
+            let here = Point { x, y };
+            Some((shift(&here, from), shift(&here, to)))
+        }
+        _ => None,
+    }
+}
+
+/// Both corners of what is lit at an absolute place.
+fn absolute_corners(extent: &LitExtent, place: &End) -> Option<(Point, Point)>
+    requires place { IsNearPlace ADDRESS_END place.now }
+    requires extent { IsNearExtent extent.now }
+    ensures some { IfSome result (λ c. absolute_corners extent.now place.now ≡ c.0 ∷ c.1 ∷ []) }
+    ensures none { IfNone result (absolute_corners extent.now place.now ≡ []) }
+{
+    match place {
+        End::Abs { x, y } => corners(extent, *x, *y),
+        _ => None,
+    }
+}
+
+/// Both corners of what is lit at a relative place, seen from the beam at the call. `None` where nothing is, or elsewhere.
+pub fn relative_corners(extent: &LitExtent, place: &End) -> Option<(Point, Point)>
+    requires place { IsNearPlace ADDRESS_END place.now }
+    requires extent { IsNearExtent extent.now }
+    ensures some { IfSome result (λ c. relative_corners extent.now place.now ≡ c.0 ∷ c.1 ∷ []) }
+    ensures none { IfNone result (relative_corners extent.now place.now ≡ []) }
+{
+    match place {
+        End::Rel { x, y } => corners(extent, *x, *y),
+        _ => None,
+    }
+}
+
+fn is_on_screen(p: &Point) -> bool
+    ensures { IsTrue result ↔ InWindow screen p.now }
+{
+    on_screen(p.x, p.y)
+}
+
+/// What is lit at an absolute place is on the screen, both corners of it.
+pub fn lit_on_screen(extent: &LitExtent, place: &End) -> bool
+    requires place { IsNearPlace ADDRESS_END place.now }
+    requires extent { IsNearExtent extent.now }
+    ensures { IsTrue result ↔ LitInWindow screen extent.now place.now }
+{
+    match absolute_corners(extent, place) {
+        Some((from, to)) => is_on_screen(&from) && is_on_screen(&to),
+        None => true,
+    }
+}
+
+/// What is lit at a relative place is in the box, both corners of it.
+pub fn lit_in_box(lit: &LitBox, extent: &LitExtent, place: &End) -> bool
+    requires place { IsNearPlace ADDRESS_END place.now }
+    requires extent { IsNearExtent extent.now }
+    ensures { IsTrue result ↔ LitInBox lit.now extent.now place.now }
+{
+    match relative_corners(extent, place) {
+        Some((from, to)) => is_in_box(lit, &from) && is_in_box(lit, &to),
+        None => true,
+    }
+}

@@ -1,0 +1,48 @@
+//! What the rules see of an item.
+
+ghost use Rattle.std.specs.Prelude.{◌≡◌, ◌≤◌, ◌↔◌, IsTrue};
+ghost use Rattle.dvg_items.specs.Seen.{HasCallee};
+ghost use Rattle.dvg_items.specs.Cursor.{step_past};
+ghost use Rattle.dvg_items.specs.Bounds.{IsSoundSeen, IsSoundStep};
+
+use crate::cursor::{Cursor, Step};
+use crate::item::{Item, Kind};
+use crate::known::Known;
+use crate::lit::LitExtent;
+use dvg_cert::{End, Entry};
+
+/// What the rules see of an item: the item, the place before it, what it lights, the entry that it calls, and what is
+/// known past it.
+#[derive(Clone, Copy, Debug, PartialEq, Eq)]
+pub struct Seen {
+    pub item: Item,
+    pub place: End,
+    pub extent: LitExtent,
+    pub callee: Option<Entry>,
+    pub after: Known,
+}
+
+impl Seen {
+    /// Past the item: to where the next one stands, or to what is known after the last.
+    pub fn step(&self, kind: Kind) -> Step
+        requires seen { IsSoundSeen self.now }
+        requires words { self.now.after.words ≤ 1000000 }
+        ensures value { result ≡ step_past kind self.now }
+        ensures sound { IsSoundStep result }
+    {
+        match self.item.next_place(kind) {
+            Some(at) => Step::Onward(Cursor {
+                at,
+                known: self.after,
+            }),
+            None => Step::Last(self.after),
+        }
+    }
+}
+
+/// A call or tail jump names an entry.
+pub fn has_callee(target: Option<u16>, callee: &Option<Entry>) -> bool
+    ensures { IsTrue result ↔ HasCallee target callee.now }
+{
+    target.is_none() || callee.is_some()
+}
