@@ -1,6 +1,7 @@
 -- What is accepted is safe, and there is one verdict.
 use Rattle.std.proofs.Common.{List, length, sym, subst, ap, refl, ◌≡◌, ◌∙◌, ◌<◌, ℕ}
-use Rattle.std.specs.Prelude.{Err, Ok, Result}
+use Rattle.std.specs.Prelude.{Err, Ok, Result, IfOk}
+use Rattle.dvg_words.specs.Beam.{screen}
 use Rattle.dvg_words.specs.Memory.{Rom, IsFrame, IsRom, words_of, rom_of}
 use Rattle.dvg_words.specs.Values.{MemoryMap, Window}
 use Rattle.dvg_words.specs.declared.image.ImageFault.TheVariants.{RomLength, FrameLength}
@@ -13,6 +14,9 @@ use Rattle.dvg_items.specs.Bounds.{IsSomeCertificate}
 use Rattle.dvg_check.specs.Laws.{OneVerdict}
 use Rattle.dvg_check.specs.Rules.{Good, GoodFrame}
 use Rattle.dvg_check.specs.Safety.{Safe}
+use Rattle.dvg_check.specs.Judged.{Shapes, IsJudged}
+use Rattle.dvg_check.specs.declared.fault.FrameFault.{FrameFault}
+use Rattle.dvg_check.specs.declared.frames.Accepted.{Accepted}
 use Rattle.dvg_check.specs.Verdict.{PartsVerdict, ListVerdict, Verdict, NotMemory}
 use Rattle.dvg_check.specs.declared.fault.Mode.{Mode}
 use Rattle.dvg_check.specs.declared.fault.Mode.TheVariants.{Bound}
@@ -27,6 +31,11 @@ use Rattle.dvg_items.proofs.Listed.{listed_claim}
 pub safe_of_good : (w : Window) (frame : List ℕ) (rom : Rom) (list : List Entry) (budget words depth : ℕ) → IsSomeCertificate list → IsFrame frame → IsRom rom → Good Bound w rom list → GoodFrame w frame list budget words depth → Safe (record { frame = frame; rom = rom }) w words depth
 safe_of_good w frame rom list budget words depth some is_frame is_rom good good_frame =
     good_is_safe (record { frame = frame; rom = rom }) w list budget words depth (record { frame = is_frame; rom = is_rom }) (λ e listed. (listed_claim list e some listed).depth) good good_frame
+
+-- an accepted frame over judged shapes is safe
+pub safe_over : (shapes : Shapes) (frame : List ℕ) (budget : ℕ) (answer : Result Accepted FrameFault) → IsJudged shapes → IsFrame frame → IfOk answer (λ yes. GoodFrame screen frame shapes.list budget yes.words yes.depth) → IfOk answer (λ yes. Safe (record { frame = frame; rom = shapes.rom }) screen yes.words yes.depth)
+safe_over shapes frame budget (Ok a) h is_frame good = safe_of_good screen frame shapes.rom shapes.list budget a.words a.depth h.list is_frame h.rom h.good good
+safe_over shapes frame budget (Err f) h is_frame good = tt
 
 -- ---- one verdict
 

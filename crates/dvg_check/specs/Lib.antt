@@ -1,5 +1,6 @@
 pub mod Rules
 pub mod FirstFault
+pub mod Judged
 pub mod Verdict
 pub mod Behaving
 pub mod Safety

@@ -108,7 +108,7 @@ pub struct Accepted {
 }
 
 /// Judges a frame by entries: its words and its depth where it keeps all rules, else its first fault.
-fn judge_frame<E: Entries>(
+pub fn judge_frame<E: Entries>(
     frame: &FrameImage,
     entries: &E,
     budget: u32,

@@ -7,6 +7,7 @@
 mod cells;
 mod fault;
 mod frames;
+mod judged;
 pub mod laws;
 mod rules;
 mod run;
@@ -16,6 +17,7 @@ mod walk;
 
 pub use fault::{FrameFault, FrameWhy, Mode, ShapeFault, ShapeWhy};
 pub use frames::{Accepted, check_frame};
+pub use judged::JudgedShapes;
 pub use shapes::check_shapes;
 pub use verdict::{Refusal, Yes, check};
 

@@ -10,8 +10,7 @@ ghost use Rattle.dvg_check.specs.Safety.{Safe};
 ghost use Rattle.dvg_check.specs.declared.verdict.Refusal.TheVariants as refusals;
 
 use crate::fault::{FrameFault, ShapeFault};
-use crate::frames::check_frame;
-use crate::shapes::check_shapes;
+use crate::judged::JudgedShapes;
 use dvg_cert::{Cert, CertFault, ListIndex, read_cert};
 use dvg_words::{FrameImage, ImageFault, RomImage};
 use std::alloc::Global;
@@ -111,8 +110,8 @@ fn judge(rom: &RomImage, frame: &FrameImage, cert: &Cert, budget: u32) -> Result
     ensures safe { IfOk result (λ yes. Safe (record { frame = frame.now; rom = rom.now }) screen yes.words yes.depth) }
 {
     let entries = ListIndex::new(cert);
-    check_shapes(rom, cert, &entries)?;
-    let accepted = check_frame(rom, frame, cert, &entries, budget)?;
+    let shapes = JudgedShapes::judge(rom, cert, &entries)?;
+    let accepted = shapes.check_frame(frame, budget)?;
     Ok(Yes {
         shapes: cert.entries().len() as u32,
         words: accepted.words,

@@ -85,6 +85,7 @@ impl<'a> RomImage<'a> {
         ensures first { result.0 ≡ self.now.map.rom_first }
         ensures last { result.1 ≡ self.now.map.rom_last }
         ensures map { self.now.map ≡ asteroids }
+        ensures rom { IsRom self.now }
     {
         let _bytes = self.bytes;
         (ROM_FIRST, ROM_LAST)
