@@ -2,3 +2,4 @@ pub mod Report
 pub mod Runs
 pub mod Status
 pub mod Making
+pub mod Numbers

@@ -8,6 +8,7 @@ ghost use Rattle.dvg_cert.specs.Devices.{count_after};
 ghost use Rattle.dvg_cert.specs.declared.entry.Key.{Key as KeyValue};
 ghost use Rattle.dvg_make.specs.Made.{Made};
 ghost use Rattle.dvg_make.specs.Refusals.{Refuses};
+ghost use Rattle.dvg_cmd.specs.Numbers.{make_run_number};
 ghost use Rattle.dvg_cmd.specs.Making.{IsRoot, blames_maker_rom, blames_maker_writer, MakesText, MakesFront, MakeFaultMeans};
 
 use crate::reading::read_image;
@@ -32,6 +33,20 @@ pub enum MakeRunFault {
     /// 73: the writer failed, or took no byte.
     #[error("cannot write")]
     Write,
+}
+
+impl MakeRunFault {
+    /// The number of the fault.
+    pub fn number(self) -> u8
+        ensures { result ≡ make_run_number self }
+    {
+        match self {
+            MakeRunFault::RomLength => 1,
+            MakeRunFault::Make(fault) => fault.number(),
+            MakeRunFault::ReadRom => 70,
+            MakeRunFault::Write => 73,
+        }
+    }
 }
 
 /// The root that a word of the command line spells, as reports name entries: three hexadecimal digits in capitals, a slash,

@@ -3,6 +3,7 @@
 ghost use Rattle.std.specs.Prelude.{◌≡◌, ◌≢◌, [], Ok, Err, IfOk, IfErr, OnOk, OnErr, is_err};
 ghost use Rattle.std.specs.Io.KnownBytes.{Appends};
 ghost use Rattle.dvg_cert.specs.Devices.{count_after, AppendsFront};
+ghost use Rattle.dvg_cmd.specs.Numbers.{run_number};
 ghost use Rattle.dvg_cmd.specs.Report.{report_text};
 ghost use Rattle.dvg_cmd.specs.Runs.{outcome_of, blames_rom, blames_frame, blames_certificate, blames_writer, Reports, ReportsFront, ReportsSafe};
 
@@ -25,7 +26,7 @@ pub enum Outcome {
     NoMemory,
 }
 
-/// Why a run ended before its report was written.
+/// Why a run ended before its report was written. The numbers are 70 to 74, in this order.
 #[derive(Clone, Copy, Debug, PartialEq, Eq, Error)]
 pub enum RunFault {
     /// 70: the ROM's reader failed.
@@ -43,6 +44,21 @@ pub enum RunFault {
     /// 74: there was no room for the certificate's bytes.
     #[error("out of memory")]
     Memory,
+}
+
+impl RunFault {
+    /// The number of the fault.
+    pub fn number(self) -> u8
+        ensures { result ≡ run_number self }
+    {
+        match self {
+            RunFault::ReadRom => 70,
+            RunFault::ReadFrame => 71,
+            RunFault::ReadCert => 72,
+            RunFault::Write => 73,
+            RunFault::Memory => 74,
+        }
+    }
 }
 
 /// How many bytes of a certificate are read at the most: one past its limit.
