@@ -42,9 +42,10 @@ impl Report {
         }
     }
 
-    /// The bytes of the line.
+    /// The bytes of the line, 64 at the most.
     pub fn as_bytes(&self) -> &[u8]
-        ensures { result.now ≡ self.now }
+        ensures bytes { result.now ≡ self.now }
+        ensures short { length result.now ≤ 64 }
     {
         &self.bytes[..self.len]
     }
@@ -66,9 +67,10 @@ impl Report {
     }
 }
 
-/// The line of a verdict, with its LF. Takes no memory.
+/// The line of a verdict, with its LF: 64 bytes at the most. Takes no memory.
 pub fn report_of(verdict: &Result<Yes, Refusal>) -> Report
-    ensures { result ≡ report_text verdict.now }
+    ensures text { result ≡ report_text verdict.now }
+    ensures short { length result ≤ 64 }
 {
     let mut report = Report::new();
     push_verdict(&mut report, verdict);
@@ -76,9 +78,10 @@ pub fn report_of(verdict: &Result<Yes, Refusal>) -> Report
     report
 }
 
-/// The line on standard error of a run that made no certificate, with its LF. Takes no memory.
+/// The line on standard error of a run that made no certificate, with its LF: 64 bytes at the most. Takes no memory.
 pub fn make_report_of(fault: &MakeRunFault) -> Report
-    ensures { result ≡ make_message fault.now ++ codes "\n" }
+    ensures text { result ≡ make_message fault.now ++ codes "\n" }
+    ensures short { length result ≤ 64 }
 {
     let mut report = Report::new();
     push_make_fault(&mut report, fault);
