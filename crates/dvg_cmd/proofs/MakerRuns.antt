@@ -11,7 +11,7 @@ use Rattle.dvg_cert.specs.declared.entry.Key.{Key}
 use Rattle.dvg_make.specs.Made.{Made}
 use Rattle.dvg_make.specs.Refusals.{Refuses}
 use Rattle.dvg_cmd.specs.Making.{Makes, MakesText, MakesFront, MakeFaultMeans, MakeRunFault}
-use Rattle.dvg_cmd.specs.Runs.{limited}
+use Rattle.dvg_cmd.specs.Private.Reading.{limited}
 use Rattle.dvg_cmd.specs.declared.making.MakeRunFault.TheVariants as fault
 use Rattle.dvg_cmd.proofs.Whole.{held_bytes, held_told, front_of_held}
 

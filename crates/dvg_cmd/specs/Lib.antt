@@ -3,3 +3,4 @@ pub mod Runs
 pub mod Status
 pub mod Making
 pub mod Numbers
+pub mod Private
