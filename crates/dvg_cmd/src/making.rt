@@ -12,6 +12,7 @@ ghost use Rattle.dvg_cmd.specs.Numbers.{make_run_number};
 ghost use Rattle.dvg_cmd.specs.Making.{IsRoot, blames_maker_rom, blames_maker_writer, MakesText, MakesFront, MakeFaultMeans};
 
 use crate::reading::read_image;
+use crate::running::RunFault;
 use dvg_cert::{Cert, CountedRead, CountedWrite, Key, read_address, read_key, write_cert};
 use dvg_make::{MakeFault, make};
 use dvg_words::RomImage;
@@ -28,10 +29,10 @@ pub enum MakeRunFault {
     #[error("{0}")]
     Make(MakeFault),
     /// 70: the ROM's reader failed.
-    #[error("cannot read the ROM")]
+    #[error("{}", RunFault::ReadRom)]
     ReadRom,
     /// 73: the writer failed, or took no byte.
-    #[error("cannot write")]
+    #[error("{}", RunFault::Write)]
     Write,
 }
 

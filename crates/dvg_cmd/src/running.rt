@@ -9,6 +9,7 @@ ghost use Rattle.dvg_cmd.specs.Runs.{outcome_of, blames_rom, blames_frame, blame
 
 use crate::reading::{TextFault, read_image, read_text};
 use crate::report::report_of;
+use crate::status::text_of;
 use dvg_cert::laws::{front_refusal, short_text};
 use dvg_cert::{CertWhy, CountedRead, CountedWrite, write_bytes};
 use dvg_check::{Refusal, Yes, check};
@@ -28,21 +29,17 @@ pub enum Outcome {
 
 /// Why a run ended before its report was written. The numbers are 70 to 74, in this order.
 #[derive(Clone, Copy, Debug, PartialEq, Eq, Error)]
+#[error("{}", text_of(self))]
 pub enum RunFault {
     /// 70: the ROM's reader failed.
-    #[error("cannot read the ROM")]
     ReadRom,
     /// 71: the frame's reader failed.
-    #[error("cannot read the frame")]
     ReadFrame,
     /// 72: the certificate's reader failed.
-    #[error("cannot read the certificate")]
     ReadCert,
     /// 73: the writer failed, or took no byte.
-    #[error("cannot write")]
     Write,
     /// 74: there was no room for the certificate's bytes.
-    #[error("out of memory")]
     Memory,
 }
 
