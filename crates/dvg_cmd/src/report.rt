@@ -1,6 +1,6 @@
 //! The report: the one line that is written for a verdict.
 
-ghost use Rattle.std.specs.Prelude.{◌≡◌, ◌+◌, ◌≤◌, ◌<◌, ◌++◌, [], length, codes, decimal};
+ghost use Rattle.std.specs.Prelude.{◌≡◌, ◌+◌, ◌≤◌, ◌<◌, ◌++◌, [], length, codes};
 ghost use Rattle.dvg_cert.specs.Grammar.{key_token};
 ghost use Rattle.dvg_cmd.specs.Status.{fault_message, make_message};
 ghost use Rattle.dvg_cmd.specs.Report.{report_text, verdict_text, accepted_text, refusal_text, cert_fault_text, shape_fault_text, frame_fault_text, hex_digit, hex_address};
