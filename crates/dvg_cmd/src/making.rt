@@ -100,10 +100,7 @@ pub fn run_make<R: CountedRead, W: CountedWrite>(
     let Ok(bytes) = read_image(rom) else {
         return Err(MakeRunFault::ReadRom);
     };
-    let cert = match make_for(alloc, bytes.as_bytes(), roots) {
-        Ok(cert) => cert,
-        Err(fault) => return Err(fault),
-    };
+    let cert = make_for(alloc, bytes.as_bytes(), roots)?;
     match write_cert(&cert, out) {
         Ok(()) => Ok(()),
         Err(_) => Err(MakeRunFault::Write),
