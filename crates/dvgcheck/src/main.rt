@@ -31,10 +31,7 @@ fn check(rt: &HostRuntime, words: &CheckWords) -> Result<Outcome, RunFault> {
 }
 
 fn open<F: Drop>(rt: &HostRuntime, path: &str, fault: F) -> Result<File, F> {
-    match fs::open(rt, path) {
-        Ok(file) => Ok(file),
-        Err(_) => Err(fault),
-    }
+    fs::open(rt, path).map_err(|_| fault)
 }
 
 /// Opens the file and runs the maker.
