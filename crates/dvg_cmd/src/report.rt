@@ -1,6 +1,6 @@
 //! The report: the one line that is written for a verdict.
 
-ghost use Rattle.std.specs.Prelude.{◌≡◌, ◌+◌, ◌≤◌, ◌<◌, ◌++◌, [], length, codes};
+ghost use Rattle.std.specs.Prelude.{◌≡◌, ◌+◌, ◌≤◌, ◌<◌, ◌++◌, [], length, codes, decimal};
 ghost use Rattle.dvg_cert.specs.Grammar.{key_token};
 ghost use Rattle.dvg_cmd.specs.Status.{fault_message, make_message};
 ghost use Rattle.dvg_cmd.specs.Report.{report_text, verdict_text, accepted_text, refusal_text, cert_fault_text, shape_fault_text, frame_fault_text, hex_digit, hex_address};
@@ -57,6 +57,14 @@ impl Report {
         let end = self.len + text.len();
         self.bytes[self.len..end].copy_from_slice(text);
         self.len = end;
+    }
+
+    fn push_decimal(&mut self, number: u32)
+        requires { length self.old ≤ 54 }
+        ensures text { self.new ≡ self.old ++ decimal number }
+        ensures short { length self.new ≤ length self.old + 10 }
+    {
+        self.push(Buffer::new().format(number).as_bytes());
     }
 
     fn end_line(&mut self)
@@ -135,13 +143,12 @@ fn push_accepted(report: &mut Report, yes: &Yes)
     ensures text { report.new ≡ accepted_text yes.now }
     ensures short { length report.new ≤ 63 }
 {
-    let mut digits = Buffer::new();
     report.push(b"accepted shapes=");
-    report.push(digits.format(yes.shapes).as_bytes());
+    report.push_decimal(yes.shapes);
     report.push(b" words=");
-    report.push(digits.format(yes.words).as_bytes());
+    report.push_decimal(yes.words);
     report.push(b" depth=");
-    report.push(digits.format(yes.depth).as_bytes());
+    report.push_decimal(u32::from(yes.depth));
 }
 
 fn push_refusal(report: &mut Report, refusal: &Refusal)
@@ -164,10 +171,9 @@ fn push_cert_fault(report: &mut Report, fault: &CertFault)
     ensures text { report.new ≡ report.old ++ cert_fault_text fault.now }
     ensures short { length report.new ≤ 63 }
 {
-    let mut digits = Buffer::new();
-    report.push(digits.format(fault.why.number()).as_bytes());
+    report.push_decimal(u32::from(fault.why.number()));
     report.push(b" certificate line ");
-    report.push(digits.format(fault.line).as_bytes());
+    report.push_decimal(fault.line);
 }
 
 fn push_shape_fault(report: &mut Report, fault: &ShapeFault)
@@ -175,8 +181,7 @@ fn push_shape_fault(report: &mut Report, fault: &ShapeFault)
     ensures text { report.new ≡ report.old ++ shape_fault_text fault.now }
     ensures short { length report.new ≤ 63 }
 {
-    let mut digits = Buffer::new();
-    report.push(digits.format(fault.why.number()).as_bytes());
+    report.push_decimal(u32::from(fault.why.number()));
     report.push(b" shape ");
     push_address(report, fault.addr);
     report.push(b"/");
@@ -190,19 +195,18 @@ fn push_frame_fault(report: &mut Report, fault: &FrameFault)
     ensures text { report.new ≡ report.old ++ frame_fault_text fault.now }
     ensures short { length report.new ≤ 63 }
 {
-    let mut digits = Buffer::new();
-    report.push(digits.format(fault.why.number()).as_bytes());
+    report.push_decimal(u32::from(fault.why.number()));
     report.push(b" frame at ");
     push_address(report, fault.word);
 }
 
 fn push_key(report: &mut Report, key: Key)
-    requires { length report.old ≤ 60 }
+    requires { length report.old ≤ 54 }
     ensures text { report.new ≡ report.old ++ key_token key }
-    ensures short { length report.new ≤ length report.old + 3 }
+    ensures short { length report.new ≤ length report.old + 10 }
 {
     match key {
-        Key::At(scale) => report.push(Buffer::new().format(scale).as_bytes()),
+        Key::At(scale) => report.push_decimal(u32::from(scale)),
         Key::Any => report.push(b"any"),
     }
 }
