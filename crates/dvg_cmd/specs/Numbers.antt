@@ -6,7 +6,7 @@ use Rattle.dvg_cmd.specs.declared.running.RunFault.TheVariants.{ReadRom, ReadFra
 use Rattle.dvg_cmd.specs.declared.making.MakeRunFault.{MakeRunFault}
 use Rattle.dvg_cmd.specs.declared.making.MakeRunFault.TheVariants as maker
 
--- why a run of the checker wrote no report (profile)
+-- why a run of the checker wrote no report
 abbrev pub run_number : RunFault → ℕ
 run_number ReadRom = 70
 run_number ReadFrame = 71
@@ -14,7 +14,7 @@ run_number ReadCert = 72
 run_number Write = 73
 run_number Memory = 74
 
--- why a run of the maker wrote no certificate (profile)
+-- why a run of the maker wrote no certificate
 abbrev pub make_run_number : MakeRunFault → ℕ
 make_run_number maker.RomLength = 1
 make_run_number (maker.Make f) = fault_number f
