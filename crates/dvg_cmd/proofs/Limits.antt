@@ -1,7 +1,7 @@
 -- What was read of an input, over plain values.
 use Rattle.std.proofs.Common.{◌≡◌, ℕ, ◌+◌, ◌≤◌, List, Option, None, Some, IfSome, length, take, drop, ◌++◌, ap, ◌∙◌, arith}
 use Rattle.std.proofs.lemmas.Grind.{common_steps}
-use Rattle.dvg_cmd.specs.Runs.{limited}
+use Rattle.dvg_cmd.specs.Private.Reading.{limited}
 
 limited_is : (m n : ℕ) (held : List ℕ) → m ≡ n → take m held ≡ limited n held
 unfolding limited

@@ -1,6 +1,6 @@
 -- What a run of the maker answers, over plain values.
 use Rattle.std.proofs.Common.{Option, List, length, Some, arith, subst, sym, ◌≡◌, ◌≤◌, ◌∙◌, ℕ}
-use Rattle.std.specs.Prelude.{IfSome}
+use Rattle.std.specs.Prelude.{IfSome, IfErr, IsErrAnd, Result, Ok, Err}
 use Rattle.dvg_words.specs.Memory.{IsRomLength, rom_of}
 use Rattle.dvg_words.specs.Values.{asteroids}
 use Rattle.std.specs.Io.KnownBytes.{Appends}
@@ -11,7 +11,7 @@ use Rattle.dvg_cert.specs.declared.entry.Key.{Key}
 use Rattle.dvg_make.specs.Made.{Made}
 use Rattle.dvg_make.specs.Refusals.{Refuses}
 use Rattle.dvg_cmd.specs.Making.{Makes, MakesText, MakesFront, MakeFaultMeans, MakeRunFault}
-use Rattle.dvg_cmd.specs.Runs.{limited}
+use Rattle.dvg_cmd.specs.Private.Reading.{limited}
 use Rattle.dvg_cmd.specs.declared.making.MakeRunFault.TheVariants as fault
 use Rattle.dvg_cmd.proofs.Whole.{held_bytes, held_told, front_of_held}
 
@@ -36,7 +36,7 @@ module _ (n : ℕ) (past : 2049 ≤ n) (rom : Option (List ℕ)) (rb : List ℕ)
   pub makes_front : (list : List Entry) → IsRomLength asteroids (length rb) × Made (rom_of asteroids rb) roots list → (old new : Option (List ℕ)) → AppendsFront old new (text_of list) → MakesFront rom roots old new
   makes_front list h old new written = (makes list h, written)
 
-  pub means : (f : MakeRunFault) → MakeFaultMeans (Some rb) roots f → MakeFaultMeans rom roots f
+  means : (f : MakeRunFault) → MakeFaultMeans (Some rb) roots f → MakeFaultMeans rom roots f
   means fault.RomLength h =
       let same : h.0 ≡ rb = h.1 in
       (held_bytes rom rb, held_told rom rb, λ long. h.2 (subst (λ (x : List ℕ). IsRomLength asteroids (length x)) (sym ((front_of_held n rom rb read).long (omega (arith, long, past))) ∙ sym same) long))
@@ -47,3 +47,7 @@ module _ (n : ℕ) (past : 2049 ≤ n) (rom : Option (List ℕ)) (rb : List ℕ)
       (held_bytes rom rb, held_told rom rb, subst (λ (x : List ℕ). IsRomLength asteroids (length x)) (read_whole long) long, subst (λ (x : List ℕ). Refuses (rom_of asteroids x) roots f) (read_whole long) refuses)
   means fault.ReadRom h = tt
   means fault.Write h = tt
+
+  pub means_told : (answer : Result (Unit {0}) MakeRunFault) (f : MakeRunFault) → IsErrAnd answer (λ g. g ≡ f) → MakeFaultMeans (Some rb) roots f → IfErr answer (MakeFaultMeans rom roots)
+  means_told (Ok u) f e h = tt
+  means_told (Err g) f e h = subst (λ (x : MakeRunFault). MakeFaultMeans rom roots x) (sym e) (means f h)

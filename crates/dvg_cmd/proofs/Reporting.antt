@@ -16,7 +16,8 @@ use Rattle.dvg_check.specs.declared.verdict.Refusal.{Refusal}
 use Rattle.dvg_check.specs.declared.verdict.Refusal.TheVariants as refusal
 use Rattle.dvg_check.specs.declared.verdict.Yes.{Yes}
 use Rattle.dvg_cmd.specs.Report.{report_text}
-use Rattle.dvg_cmd.specs.Runs.{limited, Judges, cert_outcome, outcome_of, Reports, ReportsFront, ReportsSafe}
+use Rattle.dvg_cmd.specs.Private.Reading.{limited}
+use Rattle.dvg_cmd.specs.Runs.{Judges, cert_outcome, outcome_of, Reports, ReportsFront, ReportsSafe}
 use Rattle.dvg_cmd.specs.declared.running.Outcome.{Outcome}
 use Rattle.dvg_cmd.specs.declared.running.Outcome.TheVariants.{Accepted}
 use Rattle.dvg_cmd.specs.declared.running.RunFault.{RunFault}

@@ -15,7 +15,7 @@ use Rattle.dvg_check.specs.declared.fault.Mode.TheVariants.{Bound}
 use Rattle.dvg_check.specs.declared.verdict.Refusal.{Refusal}
 use Rattle.dvg_check.specs.declared.verdict.Refusal.TheVariants as refusal
 use Rattle.dvg_check.specs.declared.verdict.Yes.{Yes}
-use Rattle.dvg_cmd.specs.Runs.{limited}
+use Rattle.dvg_cmd.specs.Private.Reading.{limited}
 use Rattle.dvg_cmd.proofs.Limits.{limited-short, limited-long, rest_of, limited-parts}
 
 -- what was read of an input: a front, which is all of it where it or the input stays below the limit

@@ -2,3 +2,5 @@ pub mod Report
 pub mod Runs
 pub mod Status
 pub mod Making
+pub mod Numbers
+pub mod Private

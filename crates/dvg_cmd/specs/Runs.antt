@@ -1,5 +1,5 @@
 -- What a run says of the bytes that its readers held, and what it writes. All of it is profile.
-use Rattle.std.specs.Prelude.{◌≡◌, ℕ, Bool, true, false, List, take, Option, IfSome, Result, Ok, Err}
+use Rattle.std.specs.Prelude.{◌≡◌, ℕ, Bool, true, false, List, Option, IfSome, Result, Ok, Err}
 use Rattle.std.specs.Io.KnownBytes.{Appends}
 use Rattle.dvg_words.specs.Values.{asteroids}
 use Rattle.dvg_words.specs.Beam.{screen}
@@ -14,23 +14,10 @@ use Rattle.dvg_check.specs.declared.fault.Mode.TheVariants.{Bound}
 use Rattle.dvg_check.specs.Verdict.{Verdict}
 use Rattle.dvg_check.specs.Safety.{Safe}
 use Rattle.dvg_cmd.specs.Report.{report_text}
-use Rattle.dvg_cmd.specs.declared.reading.TextFault.{TextFault}
-use Rattle.dvg_cmd.specs.declared.reading.TextFault.TheVariants as text
 pub use Rattle.dvg_cmd.specs.declared.running.Outcome.{Outcome}
 pub use Rattle.dvg_cmd.specs.declared.running.Outcome.TheVariants.{Accepted, Refused, NoMemory}
 pub use Rattle.dvg_cmd.specs.declared.running.RunFault.{RunFault}
 use Rattle.dvg_cmd.specs.declared.running.RunFault.TheVariants as fault
-
--- ---- words of the code, which no clause of a public function cites
-
--- the first of the bytes, up to a limit
-unfoldable pub limited : ℕ → List ℕ → List ℕ
-limited most bytes = take most bytes
-
-abbrev pub is_failed_read : {A : Type 0} → Result A TextFault → Bool
-is_failed_read (Ok bytes) = false
-is_failed_read (Err text.Read) = true
-is_failed_read (Err text.Memory) = false
 
 -- ---- which device an answer blames
 

@@ -1,16 +1,17 @@
 //! Running the maker over a reader and a writer.
 
-ghost use Rattle.std.specs.Prelude.{◌≡◌, ◌≢◌, ◌≤◌, ℕ, [], length, Some, Err, IfOk, IfErr, IfSome, IfNone, OnOk, MatchResult};
+ghost use Rattle.std.specs.Prelude.{◌≡◌, ◌≢◌, ℕ, [], length, Some, Err, IfOk, IfErr, IfSome, IfNone, OnOk};
 ghost use Rattle.std.specs.Io.KnownBytes.{Appends};
 ghost use Rattle.dvg_words.specs.Values.{asteroids};
 ghost use Rattle.dvg_words.specs.Memory.{rom_of, IsRomLength};
 ghost use Rattle.dvg_cert.specs.Devices.{count_after};
 ghost use Rattle.dvg_cert.specs.declared.entry.Key.{Key as KeyValue};
 ghost use Rattle.dvg_make.specs.Made.{Made};
-ghost use Rattle.dvg_make.specs.Refusals.{Refuses};
+ghost use Rattle.dvg_cmd.specs.Numbers.{make_run_number};
 ghost use Rattle.dvg_cmd.specs.Making.{IsRoot, blames_maker_rom, blames_maker_writer, MakesText, MakesFront, MakeFaultMeans};
 
 use crate::reading::read_image;
+use crate::running::RunFault;
 use dvg_cert::{Cert, CountedRead, CountedWrite, Key, read_address, read_key, write_cert};
 use dvg_make::{MakeFault, make};
 use dvg_words::RomImage;
@@ -27,11 +28,25 @@ pub enum MakeRunFault {
     #[error("{0}")]
     Make(MakeFault),
     /// 70: the ROM's reader failed.
-    #[error("cannot read the ROM")]
+    #[error("{}", RunFault::ReadRom)]
     ReadRom,
     /// 73: the writer failed, or took no byte.
-    #[error("cannot write")]
+    #[error("{}", RunFault::Write)]
     Write,
+}
+
+impl MakeRunFault {
+    /// The number of the fault.
+    pub fn number(self) -> u8
+        ensures { result ≡ make_run_number self }
+    {
+        match self {
+            MakeRunFault::RomLength => 1,
+            MakeRunFault::Make(fault) => fault.number(),
+            MakeRunFault::ReadRom => 70,
+            MakeRunFault::Write => 73,
+        }
+    }
 }
 
 /// The root that a word of the command line spells, as reports name entries: three hexadecimal digits in capitals, a slash,
@@ -85,10 +100,7 @@ pub fn run_make<R: CountedRead, W: CountedWrite>(
     let Ok(bytes) = read_image(rom) else {
         return Err(MakeRunFault::ReadRom);
     };
-    let cert = match make_for(alloc, bytes.as_bytes(), roots) {
-        Ok(cert) => cert,
-        Err(fault) => return Err(fault),
-    };
+    let cert = make_for(alloc, bytes.as_bytes(), roots)?;
     match write_cert(&cert, out) {
         Ok(()) => Ok(()),
         Err(_) => Err(MakeRunFault::Write),

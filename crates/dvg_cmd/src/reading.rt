@@ -3,7 +3,7 @@
 ghost use Rattle.std.specs.Prelude.{◌≡◌, ◌≤◌, ◌<◌, [], length, take, IfOk, IfSome, is_err};
 ghost use Rattle.std.specs.Io.KnownBytes.{Consumes, IsAtEnd};
 ghost use Rattle.dvg_cert.specs.Devices.{count_after};
-ghost use Rattle.dvg_cmd.specs.Runs.{limited, is_failed_read};
+ghost use Rattle.dvg_cmd.specs.Private.Reading.{limited, is_failed_read};
 
 use dvg_cert::CountedRead;
 use std::alloc::Global;
@@ -72,7 +72,7 @@ impl ImageBytes {
     }
 
     /// Reads from the start of what the reader holds.
-    #[tactic(auto, unfolding(crate::specs::Runs::limited))]
+    #[tactic(auto, unfolding(crate::specs::Private::Reading::limited))]
     fn read_from<R: CountedRead>(&mut self, reader: &mut R) -> io::Result<()>
         ensures bytes { IfOk result (λ _. IfSome (R.remaining reader.old) (λ held. self.new ≡ limited 2049 held)) }
         ensures count { R.failures reader.new ≡ count_after (is_err result) (R.failures reader.old) }
@@ -100,7 +100,7 @@ pub enum TextFault {
 }
 
 /// The bytes of a text, up to so many.
-#[tactic(auto, unfolding(crate::specs::Runs::limited))]
+#[tactic(auto, unfolding(crate::specs::Private::Reading::limited))]
 pub fn read_text<R: CountedRead>(
     alloc: Global,
     reader: &mut R,

@@ -42,9 +42,10 @@ impl Report {
         }
     }
 
-    /// The bytes of the line.
+    /// The bytes of the line, 64 at the most.
     pub fn as_bytes(&self) -> &[u8]
-        ensures { result.now ≡ self.now }
+        ensures bytes { result.now ≡ self.now }
+        ensures short { length result.now ≤ 64 }
     {
         &self.bytes[..self.len]
     }
@@ -58,6 +59,14 @@ impl Report {
         self.len = end;
     }
 
+    fn push_decimal(&mut self, number: u32)
+        requires { length self.old ≤ 54 }
+        ensures text { self.new ≡ self.old ++ decimal number }
+        ensures short { length self.new ≤ length self.old + 10 }
+    {
+        self.push(Buffer::new().format(number).as_bytes());
+    }
+
     fn end_line(&mut self)
         requires { length self.old ≤ 63 }
         ensures { self.new ≡ self.old ++ codes "\n" }
@@ -66,9 +75,10 @@ impl Report {
     }
 }
 
-/// The line of a verdict, with its LF. Takes no memory.
+/// The line of a verdict, with its LF: 64 bytes at the most. Takes no memory.
 pub fn report_of(verdict: &Result<Yes, Refusal>) -> Report
-    ensures { result ≡ report_text verdict.now }
+    ensures text { result ≡ report_text verdict.now }
+    ensures short { length result ≤ 64 }
 {
     let mut report = Report::new();
     push_verdict(&mut report, verdict);
@@ -76,9 +86,10 @@ pub fn report_of(verdict: &Result<Yes, Refusal>) -> Report
     report
 }
 
-/// The line on standard error of a run that made no certificate, with its LF. Takes no memory.
+/// The line on standard error of a run that made no certificate, with its LF: 64 bytes at the most. Takes no memory.
 pub fn make_report_of(fault: &MakeRunFault) -> Report
-    ensures { result ≡ make_message fault.now ++ codes "\n" }
+    ensures text { result ≡ make_message fault.now ++ codes "\n" }
+    ensures short { length result ≤ 64 }
 {
     let mut report = Report::new();
     push_make_fault(&mut report, fault);
@@ -132,13 +143,12 @@ fn push_accepted(report: &mut Report, yes: &Yes)
     ensures text { report.new ≡ accepted_text yes.now }
     ensures short { length report.new ≤ 63 }
 {
-    let mut digits = Buffer::new();
     report.push(b"accepted shapes=");
-    report.push(digits.format(yes.shapes).as_bytes());
+    report.push_decimal(yes.shapes);
     report.push(b" words=");
-    report.push(digits.format(yes.words).as_bytes());
+    report.push_decimal(yes.words);
     report.push(b" depth=");
-    report.push(digits.format(yes.depth).as_bytes());
+    report.push_decimal(u32::from(yes.depth));
 }
 
 fn push_refusal(report: &mut Report, refusal: &Refusal)
@@ -161,10 +171,9 @@ fn push_cert_fault(report: &mut Report, fault: &CertFault)
     ensures text { report.new ≡ report.old ++ cert_fault_text fault.now }
     ensures short { length report.new ≤ 63 }
 {
-    let mut digits = Buffer::new();
-    report.push(digits.format(fault.why.number()).as_bytes());
+    report.push_decimal(u32::from(fault.why.number()));
     report.push(b" certificate line ");
-    report.push(digits.format(fault.line).as_bytes());
+    report.push_decimal(fault.line);
 }
 
 fn push_shape_fault(report: &mut Report, fault: &ShapeFault)
@@ -172,8 +181,7 @@ fn push_shape_fault(report: &mut Report, fault: &ShapeFault)
     ensures text { report.new ≡ report.old ++ shape_fault_text fault.now }
     ensures short { length report.new ≤ 63 }
 {
-    let mut digits = Buffer::new();
-    report.push(digits.format(fault.why.number()).as_bytes());
+    report.push_decimal(u32::from(fault.why.number()));
     report.push(b" shape ");
     push_address(report, fault.addr);
     report.push(b"/");
@@ -187,19 +195,18 @@ fn push_frame_fault(report: &mut Report, fault: &FrameFault)
     ensures text { report.new ≡ report.old ++ frame_fault_text fault.now }
     ensures short { length report.new ≤ 63 }
 {
-    let mut digits = Buffer::new();
-    report.push(digits.format(fault.why.number()).as_bytes());
+    report.push_decimal(u32::from(fault.why.number()));
     report.push(b" frame at ");
     push_address(report, fault.word);
 }
 
 fn push_key(report: &mut Report, key: Key)
-    requires { length report.old ≤ 60 }
+    requires { length report.old ≤ 54 }
     ensures text { report.new ≡ report.old ++ key_token key }
-    ensures short { length report.new ≤ length report.old + 3 }
+    ensures short { length report.new ≤ length report.old + 10 }
 {
     match key {
-        Key::At(scale) => report.push(Buffer::new().format(scale).as_bytes()),
+        Key::At(scale) => report.push_decimal(u32::from(scale)),
         Key::Any => report.push(b"any"),
     }
 }

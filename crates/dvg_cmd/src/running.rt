@@ -3,11 +3,13 @@
 ghost use Rattle.std.specs.Prelude.{◌≡◌, ◌≢◌, [], Ok, Err, IfOk, IfErr, OnOk, OnErr, is_err};
 ghost use Rattle.std.specs.Io.KnownBytes.{Appends};
 ghost use Rattle.dvg_cert.specs.Devices.{count_after, AppendsFront};
+ghost use Rattle.dvg_cmd.specs.Numbers.{run_number};
 ghost use Rattle.dvg_cmd.specs.Report.{report_text};
 ghost use Rattle.dvg_cmd.specs.Runs.{outcome_of, blames_rom, blames_frame, blames_certificate, blames_writer, Reports, ReportsFront, ReportsSafe};
 
 use crate::reading::{TextFault, read_image, read_text};
 use crate::report::report_of;
+use crate::status::text_of;
 use dvg_cert::laws::{front_refusal, short_text};
 use dvg_cert::{CertWhy, CountedRead, CountedWrite, write_bytes};
 use dvg_check::{Refusal, Yes, check};
@@ -25,24 +27,35 @@ pub enum Outcome {
     NoMemory,
 }
 
-/// Why a run ended before its report was written.
+/// Why a run ended before its report was written. The numbers are 70 to 74, in this order.
 #[derive(Clone, Copy, Debug, PartialEq, Eq, Error)]
+#[error("{}", text_of(self))]
 pub enum RunFault {
     /// 70: the ROM's reader failed.
-    #[error("cannot read the ROM")]
     ReadRom,
     /// 71: the frame's reader failed.
-    #[error("cannot read the frame")]
     ReadFrame,
     /// 72: the certificate's reader failed.
-    #[error("cannot read the certificate")]
     ReadCert,
     /// 73: the writer failed, or took no byte.
-    #[error("cannot write")]
     Write,
     /// 74: there was no room for the certificate's bytes.
-    #[error("out of memory")]
     Memory,
+}
+
+impl RunFault {
+    /// The number of the fault.
+    pub fn number(self) -> u8
+        ensures { result ≡ run_number self }
+    {
+        match self {
+            RunFault::ReadRom => 70,
+            RunFault::ReadFrame => 71,
+            RunFault::ReadCert => 72,
+            RunFault::Write => 73,
+            RunFault::Memory => 74,
+        }
+    }
 }
 
 /// How many bytes of a certificate are read at the most: one past its limit.

@@ -1,6 +1,6 @@
 //! Exit statuses, and what is said on standard error.
 
-ghost use Rattle.std.specs.Prelude.{◌≡◌};
+ghost use Rattle.std.specs.Prelude.{◌≡◌, ◌++◌, codes};
 ghost use Rattle.dvg_cmd.specs.Status.{exit_status, fault_message, make_exit_status};
 
 use crate::making::MakeRunFault;
@@ -30,6 +30,14 @@ pub fn message_of(fault: &RunFault) -> &'static str
         RunFault::Write => "dvgcheck: cannot write",
         RunFault::Memory => "dvgcheck: out of memory",
     }
+}
+
+/// A fault's message without the program's name, as `Display` shows it.
+pub fn text_of(fault: &RunFault) -> &'static str
+    ensures { fault_message fault.now ≡ codes "dvgcheck: " ++ result.now }
+{
+    let message = message_of(fault);
+    message.strip_prefix("dvgcheck: ").unwrap_or(message)
 }
 
 /// The exit status of a run of the maker: 0 made, 1 refused, 3 a failed read or write, 4 want of memory.

@@ -5,7 +5,8 @@ mod making;
 mod rows;
 
 use crate::{
-    Counted, CountedRead, CountedWrite, Outcome, RunFault, message_of, run_check, status_of,
+    Counted, CountedRead, CountedWrite, MakeRunFault, Outcome, RunFault, message_of, run_check,
+    status_of,
 };
 use devices::{SlowReader, SlowWriter};
 use rows::{EMPTY, ROWS, Row, STROKE, STROKE_CERT, TEXTS};
@@ -379,6 +380,28 @@ fn says_how_it_ended(rt: HostRuntime) {
     ] {
         assert_eq!(rt; message_of(&fault), message);
     }
+}
+
+#[test]
+fn shows_faults_as_messages_do(rt: HostRuntime) -> Result<(), AllocError> {
+    for fault in [
+        RunFault::ReadRom,
+        RunFault::ReadFrame,
+        RunFault::ReadCert,
+        RunFault::Write,
+        RunFault::Memory,
+    ] {
+        let shown = format!(in rt.alloc(); "dvgcheck: {fault}")?;
+        assert_eq!(rt; shown.as_str(), message_of(&fault));
+    }
+    for (fault, same) in [
+        (MakeRunFault::ReadRom, RunFault::ReadRom),
+        (MakeRunFault::Write, RunFault::Write),
+    ] {
+        let shown = format!(in rt.alloc(); "dvgcheck: {fault}")?;
+        assert_eq!(rt; shown.as_str(), message_of(&same));
+    }
+    Ok(())
 }
 
 /// The line, where there is memory. Where an allocation is refused, as by tests/refused-memory, this test fails and tells

@@ -31,10 +31,7 @@ fn check(rt: &HostRuntime, words: &CheckWords) -> Result<Outcome, RunFault> {
 }
 
 fn open<F: Drop>(rt: &HostRuntime, path: &str, fault: F) -> Result<File, F> {
-    match fs::open(rt, path) {
-        Ok(file) => Ok(file),
-        Err(_) => Err(fault),
-    }
+    fs::open(rt, path).map_err(|_| fault)
 }
 
 /// Opens the file and runs the maker.
@@ -48,63 +45,58 @@ fn make(rt: &HostRuntime, words: &MakeWords) -> Result<(), MakeRunFault> {
     )
 }
 
-/// Says a fault on standard error. Where that can't be written either, the exit status alone tells.
-fn say(rt: &HostRuntime, message: &str) {
-    let _ = eprintln!(rt; "{message}");
+/// Says a line of ASCII on standard error, and ends it where it has no LF. Where that can't be written either, the exit
+/// status alone tells.
+fn say(rt: &HostRuntime, line: &[u8]) {
+    let text = str::from_utf8(line).unwrap_or("");
+    let _ = eprintln!(rt; "{}", text.trim_end());
 }
 
-fn say_usage(rt: &HostRuntime, usage: &Usage) -> u8 {
+/// Tells how a check ended, by a fault's message and the exit status.
+fn tell_check(rt: &HostRuntime, end: &Result<Outcome, RunFault>) -> u8 {
+    if let Err(fault) = end {
+        say(rt, message_of(fault).as_bytes());
+    }
+    status_of(end)
+}
+
+/// Tells how a run of the maker ended, by a fault's line and the exit status.
+fn tell_make(rt: &HostRuntime, end: &Result<(), MakeRunFault>) -> u8 {
+    if let Err(fault) = end {
+        say(rt, make_report_of(fault).as_bytes());
+    }
+    make_status_of(end)
+}
+
+/// Tells why no run was asked for, and answers the exit status.
+fn tell_usage(rt: &HostRuntime, usage: &Usage) -> u8 {
     match usage {
         Usage::Unreadable => {
-            say(rt, "dvgcheck: cannot read the command line");
+            say(rt, b"dvgcheck: cannot read the command line");
             2
         }
         Usage::BadRoot => {
-            say(rt, "dvgcheck: bad root");
+            say(rt, b"dvgcheck: bad root");
             2
         }
-        Usage::OutOfMemory => {
-            say(rt, message_of(&RunFault::Memory));
-            status_of(&Err(RunFault::Memory))
-        }
-        Usage::Clap(error) => {
-            if error.print(rt).is_err() && !error.use_stderr() {
-                say(rt, message_of(&RunFault::Write));
-                return status_of(&Err(RunFault::Write));
-            }
-            if error.use_stderr() { 2 } else { 0 }
-        }
+        Usage::OutOfMemory => tell_check(rt, &Err(RunFault::Memory)),
+        Usage::Clap(error) => match error.print(rt) {
+            _ if error.use_stderr() => 2,
+            Ok(()) => 0,
+            Err(_) => tell_check(rt, &Err(RunFault::Write)),
+        },
     }
-}
-
-fn run_checker(rt: &HostRuntime, words: &CheckWords) -> u8 {
-    let end = check(rt, words);
-    if let Err(fault) = &end {
-        say(rt, message_of(fault));
-    }
-    status_of(&end)
-}
-
-fn run_maker(rt: &HostRuntime, words: &MakeWords) -> u8 {
-    let end = make(rt, words);
-    if let Err(fault) = &end {
-        // The report is ASCII.
-        let report = make_report_of(fault);
-        let line = str::from_utf8(report.as_bytes()).unwrap_or("");
-        say(rt, line.trim_end());
-    }
-    make_status_of(&end)
 }
 
 fn run(rt: &HostRuntime) -> u8 {
     let words = match command::words(rt) {
         Ok(words) => words,
-        Err(usage) => return say_usage(rt, &usage),
+        Err(usage) => return tell_usage(rt, &usage),
     };
     match read_words(rt.alloc(), &words) {
-        Ok(Request::Check(words)) => run_checker(rt, &words),
-        Ok(Request::Make(words)) => run_maker(rt, &words),
-        Err(usage) => say_usage(rt, &usage),
+        Ok(Request::Check(words)) => tell_check(rt, &check(rt, &words)),
+        Ok(Request::Make(words)) => tell_make(rt, &make(rt, &words)),
+        Err(usage) => tell_usage(rt, &usage),
     }
 }
 
