@@ -1,7 +1,13 @@
 use Rattle.std.proofs.Common.{subst}
-use Rattle.dvg_check.specs.Judged.{IsJudged}
+use Rattle.std.specs.Prelude.{IfOk}
+use Rattle.dvg_words.specs.Beam.{screen}
+use Rattle.dvg_check.specs.Judged.{Shapes}
+use Rattle.dvg_check.specs.Safety.{Safe}
 use Rattle.dvg_check.proofs.Accepting.{safe_over}
 use Rattle.dvg_check.proofs.judged.JudgedShapes.check_frame.Goals as goal
 
 pub returns-clause-safe : goal.returns-clause-safe
-returns-clause-safe g c = safe_over c.args.self.now c.args.frame.now c.args.budget c.judge_frame.result (subst IsJudged c.self.view_is c.self.invariant) c.words-words.ensures.frame c.judge_frame.ensures.ok
+returns-clause-safe g c =
+    let shapes : Shapes = record { rom = c.self.inside.rom.now; list = g.E.Entries.list c.self.inside.entries.now } in
+    let Told : Shapes → Type 0 = λ s. IfOk c.judge_frame.result (λ a. Safe (record { frame = c.args.frame.now; rom = s.rom }) screen a.words a.depth) in
+    subst Told c.self.view_is (safe_over shapes c.args.frame.now c.args.budget c.judge_frame.result c.self.invariant c.words-words.ensures.frame c.judge_frame.ensures.ok)
