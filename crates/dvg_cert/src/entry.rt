@@ -1,5 +1,7 @@
 //! What a certificate claims of a shape.
 
+use std::fmt;
+
 /// A global scale, or any.
 ///
 /// As a key it is the scale at which a shape is called, and `Any` stands for every scale. As the scale that is left
@@ -8,6 +10,16 @@
 pub enum Key {
     At(u8),
     Any,
+}
+
+/// As a certificate spells it.
+impl fmt::Display for Key {
+    fn fmt<W: fmt::Write>(&self, f: &mut fmt::Formatter<W>) -> fmt::Result {
+        match self {
+            Key::At(scale) => write!(f, "{scale}"),
+            Key::Any => f.write_str("any"),
+        }
+    }
 }
 
 /// Where the beam is at a shape's return, in units of 1/1024 of a screen place.

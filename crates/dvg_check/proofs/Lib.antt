@@ -12,4 +12,5 @@ pub mod Loop
 pub mod FrameWalk
 pub mod Accepting
 pub mod Listed
+pub mod Safety
 pub mod Example

@@ -8,7 +8,8 @@ use Rattle.dvg_words.specs.Decoding.{word_count, cell_at}
 use Rattle.dvg_words.specs.Memory.{Memory, Rom, IsMemory, rom_word, frame_word}
 use Rattle.dvg_words.specs.declared.beam.Point.{Point}
 use Rattle.dvg_words.specs.Beam.{InWindow}
-use Rattle.dvg_words.specs.Generator.{Stroke, State, Running, Halted, Reached, start, places, lit_by, next_status}
+use Rattle.dvg_words.specs.Generator.{Stroke, State, Status, Running, Halted, Reached, start, places, lit_by, next_status}
+use Rattle.dvg_words.specs.Laws.{state_of}
 use Rattle.dvg_cert.specs.declared.entry.Key.{Key}
 use Rattle.dvg_cert.specs.declared.entry.End.{End}
 use Rattle.dvg_cert.specs.declared.entry.Entry.{Entry}
@@ -157,3 +158,22 @@ IsBetween a b v = ((a ≤ℤ v) × (v ≤ℤ b)) ⊎ ((b ≤ℤ v) × (v ≤ℤ 
 -- a straight stroke lies between its ends on each axis, so it lies in the window where both ends do
 abbrev pub StrokeInWindow : Type 0
 StrokeInWindow = (w : Window) (a b p : Point) → InWindow w a → InWindow w b → IsBetween a.x b.x p.x → IsBetween a.y b.y p.y → InWindow w p
+
+-- a point of a straight stroke
+abbrev pub IsOn : Stroke → Point → Type 0
+IsOn stroke p = IsBetween stroke.from.x stroke.to.x p.x × IsBetween stroke.from.y stroke.to.y p.y
+
+-- over a safe memory, what holds of the state of every run after every number of steps
+abbrev pub InEachRun : (Memory → Window → ℕ → ℕ → State → Type 0) → Type 0
+InEachRun P =
+    (m : Memory) (w : Window) (words depth : ℕ) → Safe m w words depth
+    → (place : Point) (scale steps : ℕ) (after : Status) → scale ≤ 15 → Reached m steps (Running (start place scale)) after
+    → P m w words depth (state_of after)
+
+-- no point of a lit stroke lies outside the window
+abbrev pub SafeStrokes : Type 0
+SafeStrokes = InEachRun (λ m w words depth s. (stroke : Stroke) → Contains s.strokes stroke → (p : Point) → IsOn stroke p → InWindow w p)
+
+-- at most so many return places are stored, and four at the most
+abbrev pub SafeStack : Type 0
+SafeStack = InEachRun (λ m w words depth s. (length s.return_stack ≤ depth) × (length s.return_stack ≤ 4))

@@ -2,6 +2,7 @@ pub mod Rules
 pub mod FirstFault
 pub mod Judged
 pub mod Verdict
+pub mod Numbers
 pub mod Behaving
 pub mod Safety
 pub mod Laws

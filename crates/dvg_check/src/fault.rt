@@ -4,6 +4,7 @@ ghost use Rattle.std.specs.Prelude.{◌≡◌};
 ghost use Rattle.dvg_check.specs.FirstFault.{shape_number, frame_number};
 
 use dvg_cert::Key;
+use thiserror::Error;
 
 /// Whether the words and the depth that a certificate claims are bounds, or exact.
 #[derive(Clone, Copy, Debug, PartialEq, Eq)]
@@ -13,35 +14,49 @@ pub enum Mode {
 }
 
 /// The rules that an item of a shape may break, 20 to 33.
-#[derive(Clone, Copy, Debug, PartialEq, Eq)]
+#[derive(Clone, Copy, Debug, PartialEq, Eq, Error)]
 pub enum ShapeWhy {
     /// 20: a word of the item is outside the ROM.
+    #[error("a word of the item is outside the ROM")]
     Unmapped,
     /// 21: the item is an odd LABS.
+    #[error("the item is an odd LABS")]
     Odd,
     /// 22: the item is HALT.
+    #[error("the item is HALT")]
     HaltInShape,
     /// 23: it lights at a lost place.
+    #[error("it lights at a lost place")]
     BeamUnknown,
     /// 24: it lights at unknown scale.
+    #[error("it lights at unknown scale")]
     ScaleUnknown,
     /// 25: it lights off screen.
+    #[error("it lights off the screen")]
     OffScreen,
     /// 26: no entry is named by a call or tail jump.
+    #[error("it calls a shape that has no entry")]
     NoEntry,
     /// 27: more return places are needed than claimed.
+    #[error("more return places are needed than claimed")]
     TooDeep,
     /// 28: more words are needed than claimed.
+    #[error("more words are needed than claimed")]
     TooManyWords,
     /// 29: the place at the end is not the claimed one.
+    #[error("the place at the end is not the claimed one")]
     EndDiffers,
     /// 30: the scale at the end is not the claimed one.
+    #[error("the scale at the end is not the claimed one")]
     ScaleDiffers,
     /// 31: it lights outside the claimed box.
+    #[error("it lights outside the claimed box")]
     BoxTooSmall,
     /// 32: the words are fewer than claimed, where claims are exact.
+    #[error("the words are fewer than claimed")]
     WordsDiffer,
     /// 33: the depth is less than claimed, where claims are exact.
+    #[error("the depth is less than claimed")]
     DepthDiffers,
 }
 
@@ -70,25 +85,34 @@ impl ShapeWhy {
 }
 
 /// The rules that an item of a frame may break, 40 to 48.
-#[derive(Clone, Copy, Debug, PartialEq, Eq)]
+#[derive(Clone, Copy, Debug, PartialEq, Eq, Error)]
 pub enum FrameWhy {
     /// 40: a word of the item is outside the frame.
+    #[error("a word of the item is outside the frame")]
     Unmapped,
     /// 41: the item is an odd LABS.
+    #[error("the item is an odd LABS")]
     Odd,
     /// 42: the item is RTSL.
+    #[error("the item is RTSL")]
     ReturnInFrame,
     /// 43: the item is a jump to its own address or a lower one.
+    #[error("the item is a jump to its own address or a lower one")]
     BackJump,
     /// 44: it lights at a lost place.
+    #[error("it lights at a lost place")]
     BeamUnknown,
     /// 45: it lights at unknown scale.
+    #[error("it lights at unknown scale")]
     ScaleUnknown,
     /// 46: it lights off screen.
+    #[error("it lights off the screen")]
     OffScreen,
     /// 47: no entry is named by a call.
+    #[error("it calls a shape that has no entry")]
     NoEntry,
     /// 48: the words so far are over the budget.
+    #[error("the words so far are over the budget")]
     Budget,
 }
 
@@ -120,7 +144,8 @@ pub struct Fault<Why> {
 
 /// The first faulty entry of a certificate, the word address of the first item of its shape that breaks a rule, and the
 /// lowest rule that this item breaks.
-#[derive(Clone, Copy, Debug, PartialEq, Eq)]
+#[derive(Clone, Copy, Debug, PartialEq, Eq, Error)]
+#[error("shape {addr:03X}/{key} at {word:03X}: {why}")]
 pub struct ShapeFault {
     pub addr: u16,
     pub key: Key,
@@ -128,9 +153,28 @@ pub struct ShapeFault {
     pub why: ShapeWhy,
 }
 
+impl ShapeFault {
+    /// The number of the rule, 20 to 33.
+    pub fn number(self) -> u8
+        ensures { result ≡ shape_number self.why }
+    {
+        self.why.number()
+    }
+}
+
 /// The word address of the first item of a frame that breaks a rule, and the lowest rule that this item breaks.
-#[derive(Clone, Copy, Debug, PartialEq, Eq)]
+#[derive(Clone, Copy, Debug, PartialEq, Eq, Error)]
+#[error("frame at {word:03X}: {why}")]
 pub struct FrameFault {
     pub word: u16,
     pub why: FrameWhy,
+}
+
+impl FrameFault {
+    /// The number of the rule, 40 to 48.
+    pub fn number(self) -> u8
+        ensures { result ≡ frame_number self.why }
+    {
+        self.why.number()
+    }
 }

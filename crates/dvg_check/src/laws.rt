@@ -2,10 +2,11 @@
 //! is the contract of a function that does nothing.
 
 ghost use Rattle.dvg_check.specs.Rules.{Bound, Exact};
-ghost use Rattle.dvg_check.specs.Laws.{OneItem, OneShape, AllShapes, GoodIsSafe, ExactIsExact, OneFault, NoFault, OneShapeFault, NoShapeFault, OneCount, OneVerdict, StrokeInWindow};
+ghost use Rattle.dvg_check.specs.Laws.{OneItem, OneShape, AllShapes, GoodIsSafe, ExactIsExact, OneFault, NoFault, OneShapeFault, NoShapeFault, OneCount, OneVerdict, StrokeInWindow, SafeStrokes, SafeStack};
 ghost use Rattle.dvg_check.specs.Example.{WorkedExample};
 
 use dvg_cert::laws::{one_answer, one_list};
+use dvg_words::laws::stack_within_max;
 
 /// A draw or a LABS leads from a state that agrees with what is known before it to one that agrees with what is known
 /// after it.
@@ -75,6 +76,21 @@ pub fn one_verdict()
 pub fn stroke_in_window()
     ensures { StrokeInWindow }
 {}
+
+/// Over a safe memory no point of a lit stroke of any run lies outside the window.
+pub fn safe_strokes()
+    ensures { SafeStrokes }
+{
+    stroke_in_window();
+}
+
+/// Over a safe memory each state of any run stores at most so many return places as the safety theorem tells, and four at
+/// the most.
+pub fn safe_stack()
+    ensures { SafeStack }
+{
+    stack_within_max();
+}
 
 /// The worked example is good: a lit stroke as a shape of the ROM at 800, and a frame that calls it.
 pub fn worked_example()

@@ -6,6 +6,7 @@ ghost use Rattle.dvg_words.specs.Memory.{words_of, rom_of, IsFrame, IsRom};
 ghost use Rattle.dvg_words.specs.Beam.{screen};
 ghost use Rattle.dvg_check.specs.Rules.{Bound};
 ghost use Rattle.dvg_check.specs.Verdict.{PartsVerdict, Verdict};
+ghost use Rattle.dvg_check.specs.Numbers.{refusal_number};
 ghost use Rattle.dvg_check.specs.Safety.{Safe};
 ghost use Rattle.dvg_check.specs.declared.verdict.Refusal.TheVariants as refusals;
 
@@ -14,6 +15,7 @@ use crate::judged::JudgedShapes;
 use dvg_cert::{Cert, CertFault, ListIndex, read_cert};
 use dvg_words::{FrameImage, ImageFault, RomImage};
 use std::alloc::Global;
+use thiserror::Error;
 
 /// What is accepted: how many shapes the certificate claims, how many words every run fetches at the most, and how many
 /// return places it stores at once at the most.
@@ -25,18 +27,38 @@ pub struct Yes {
 }
 
 /// Why a ROM, a certificate and a frame are refused.
-#[derive(Clone, Copy, Debug, PartialEq, Eq)]
+#[derive(Clone, Copy, Debug, PartialEq, Eq, Error)]
 pub enum Refusal {
     /// 1 or 2: the ROM or the frame has a wrong length.
+    #[error("{0}")]
     Image(ImageFault),
     /// 49: the budget is not 1 to 1,000,000.
+    #[error("the budget is out of range")]
     BudgetRange,
     /// 10 to 16: the certificate is not one of the format, or there was no memory for it.
+    #[error("certificate {0}")]
     Cert(CertFault),
     /// 20 to 31: a shape breaks a rule.
+    #[error("{0}")]
     Shape(ShapeFault),
     /// 40 to 48: the frame breaks a rule.
+    #[error("{0}")]
     Frame(FrameFault),
+}
+
+impl Refusal {
+    /// The number of the refusal, as a report has it.
+    pub fn number(self) -> u8
+        ensures { result ≡ refusal_number self }
+    {
+        match self {
+            Refusal::Image(fault) => fault.number(),
+            Refusal::BudgetRange => 49,
+            Refusal::Cert(fault) => fault.why.number(),
+            Refusal::Shape(fault) => fault.number(),
+            Refusal::Frame(fault) => fault.number(),
+        }
+    }
 }
 
 impl From<ImageFault> for Refusal {

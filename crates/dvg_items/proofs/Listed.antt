@@ -46,8 +46,8 @@ pub named_listed : (list : List Entry) (o : Option ℕ) (scale : Key) (f : Entry
 named_listed list None scale f e = cc
 named_listed list (Some to) scale f e = named_by list to scale (entry_at list to scale) f refl e
 
--- an entry of a list of which each is such
-pub at_place : (P : Entry → Type 0) (list : List Entry) (e : Entry) → AllByRecursion P list → Contains list e → P e
+-- what is in a list of which each is such
+pub at_place : {A : Type 0} (P : A → Type 0) (list : List A) (e : A) → AllByRecursion P list → Contains list e → P e
 at_place P [] e all c = absurd (omega (arith, c.1))
 at_place P (x ∷ list) e all (zero, lt, is) = subst P is all.0
 at_place P (x ∷ list) e all (suc k, lt, is) = at_place P list e all.1 (k, omega (arith, lt), is)

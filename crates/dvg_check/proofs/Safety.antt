@@ -1,0 +1,28 @@
+-- What is safe, state by state.
+use Rattle.std.proofs.Common.{arith, ◌≤◌, ℕ, length}
+use Rattle.dvg_words.specs.Generator.{State, Status, Running, Halted, Fault}
+use Rattle.dvg_words.specs.Laws.{state_of, StackWithinMax}
+use Rattle.dvg_words.specs.Beam.{InWindow}
+use Rattle.dvg_words.specs.Memory.{Memory}
+use Rattle.dvg_words.specs.Values.{Window}
+use Rattle.dvg_items.proofs.Listed.{at_place}
+use Rattle.dvg_check.specs.Laws.{StrokeInWindow, SafeStrokes, SafeStack}
+use Rattle.dvg_check.specs.Safety.{Ends, IsSafeState, IsSafeStatus}
+
+-- what is safe is no fault
+safe_state : (m : Memory) (w : Window) (words depth steps : ℕ) (after : Status) → IsSafeStatus m w words depth steps after → IsSafeState m w words depth steps (state_of after)
+safe_state m w words depth steps (Running s) h = h
+safe_state m w words depth steps (Halted s) h = h
+safe_state m w words depth steps (Fault s) h = absurd h
+
+pub safe_strokes : StrokeInWindow → SafeStrokes
+safe_strokes within m w words depth safe place scale steps after small reached stroke listed p on =
+    let s = safe_state m w words depth steps after (safe.each place scale small steps after reached) in
+    let ends = at_place (Ends (InWindow w)) (state_of after).strokes stroke s.lit listed in
+    within w stroke.from stroke.to p ends.0 ends.1 on.0 on.1
+
+pub safe_stack : StackWithinMax → SafeStack
+safe_stack within m w words depth safe place scale steps after small reached =
+    let s = safe_state m w words depth steps after (safe.each place scale small steps after reached) in
+    let le = within m place scale steps after reached in
+    (omega (arith, le, s.stored), omega (arith, le, s.stored, safe.four))
