@@ -37,7 +37,8 @@ use Rattle.dvg_items.specs.declared.known.Effect.TheVariants.{Sets, Loses, Moves
 use Rattle.dvg_items.specs.declared.lit.LitExtent.{LitExtent}
 use Rattle.dvg_items.specs.declared.lit.LitExtent.TheVariants.{Nothing, Anywhere, Between}
 use Rattle.dvg_check.proofs.Onward.{Stands}
-use Rattle.dvg_check.proofs.Runs.{reached_on, counts_sum, counts_same, AllByRecursion-append, AllByRecursion-map, rest_of, Grows, AllByRecursion-back, grows, stretch_as}
+use Rattle.dvg_items.proofs.Lists.{all_append, all_map, all_right}
+use Rattle.dvg_check.proofs.Runs.{reached_on, counts_sum, counts_same, rest_of, Grows, grows, stretch_as}
 use Rattle.dvg_items.proofs.Listed.{named_listed}
 use Rattle.dvg_items.proofs.Near.{word_count-some}
 use Rattle.dvg_check.proofs.ShapeLaws.{Facts, all_shapes, arrive}
@@ -122,9 +123,9 @@ halt mode m w most words depth at format base p scale t is mine pc sum c =
       within = omega (arith, c.within, word_count-some format);
       reached = reached_on m c.steps 1 (Running (start p scale)) (Running t) (Halted h) c.reached (Halted h, step, refl);
       few = counts_sum mode (length c.words) (word_count format) (length h.fetched) most (word_count format) words (omega (arith, length-append (places format t.pc) t.fetched, ap length c.fetched, length-append c.words [], length-places format t.pc)) c.few (counts_same mode _ _ refl) (counts_same mode _ _ (sym sum));
-      mapped = AllByRecursion-append Ok (places format t.pc) t.fetched (subst (λ q. AllByRecursion Ok (places format q)) (sym pc) mine) (subst (AllByRecursion Ok) (sym c.fetched) (AllByRecursion-append Ok c.words [] c.mapped tt));
+      mapped = all_append Ok (places format t.pc) t.fetched (subst (λ q. AllByRecursion Ok (places format q)) (sym pc) mine) (subst (AllByRecursion Ok) (sym c.fetched) (all_append Ok c.words [] c.mapped tt));
       stored = stored_all mode t.max_stack depth c.stored;
-      lit = subst (AllByRecursion (Ends (InWindow w))) (sym c.drew) (AllByRecursion-append (Ends (InWindow w)) c.strokes [] (AllByRecursion-map (LitFits w Empty base) (Ends (InWindow w)) c.strokes (on_screen w base) c.lit) tt);
+      lit = subst (AllByRecursion (Ends (InWindow w))) (sym c.drew) (all_append (Ends (InWindow w)) c.strokes [] (all_map (LitFits w Empty base) (Ends (InWindow w)) c.strokes (on_screen w base) c.lit) tt);
     }
 
 safe_status : (m : Memory) (w : Window) (words depth n : ℕ) (s : State) (a : Status) (r : Halts Bound m w words depth s) → Reached m n (Running s) a → IsSafeStatus m w words depth n a
@@ -137,9 +138,9 @@ safe_status m w words depth n s a r reached =
         record {
           within = le;
           few = omega (arith, ap length g.fetched, length-append g.words b.fetched, r.few);
-          mapped = AllByRecursion-back (λ p. InFrame m.frame p ⊎ InRom m.rom.map p) g.words b.fetched (subst (AllByRecursion (λ p. InFrame m.frame p ⊎ InRom m.rom.map p)) g.fetched r.mapped);
+          mapped = all_right (λ p. InFrame m.frame p ⊎ InRom m.rom.map p) g.words b.fetched (subst (AllByRecursion (λ p. InFrame m.frame p ⊎ InRom m.rom.map p)) g.fetched r.mapped);
           stored = omega (arith, g.stored, r.stored);
-          lit = AllByRecursion-back (Ends (InWindow w)) g.strokes b.strokes (subst (AllByRecursion (Ends (InWindow w))) g.drew r.lit);
+          lit = all_right (Ends (InWindow w)) g.strokes b.strokes (subst (AllByRecursion (Ends (InWindow w))) g.drew r.lit);
         }
 
     by_status : (b : Status) (j : ℕ) → n ≤ words → Reached m j b (Halted r.h) → IsSafeStatus m w words depth n b
@@ -158,7 +159,7 @@ module _ (mode : Mode) (m : Memory) (w : Window) (list : List Entry) (budget : �
   frame_facts earlier i lead is =
       let c = frame_context list in
       record {
-        own = AllByRecursion-map (InFrame m.frame) (λ q. InFrame m.frame q ⊎ InRom m.rom.map q) (places i.format i.at) (λ q h. inl h) (own Frame m i.at i.format i.instr mem is);
+        own = all_map (InFrame m.frame) (λ q. InFrame m.frame q ⊎ InRom m.rom.map q) (places i.format i.at) (λ q h. inl h) (own Frame m i.at i.format i.instr mem is);
         fits =
             record {
               known = frame_rule earlier i lead is frame.BeamUnknown;
@@ -176,7 +177,7 @@ run mode m w list budget words depth mem three good gf p scale =
     let Ok : ℕ → Type 0 = λ q. InFrame m.frame q ⊎ InRom m.rom.map q in
     let st : Stands c origin [] [] 0 (start p scale) = record { pc = refl; return_stack = refl; room = omega arith; place = tt; scale = tt } in
     let a = arrive mode m w c Empty origin Ok 0 [] (start p scale) mem (λ q h. inr h) (frame_facts mode m w list budget mem good gf.keeps) st gf.items gf.at gf.leads (omega (arith, depth_before-four list three gf.items)) in
-    let mine = AllByRecursion-map (InFrame m.frame) Ok (places gf.format gf.at) (λ q h. inl h) (own Frame m gf.at gf.format Halt mem gf.halts) in
+    let mine = all_map (InFrame m.frame) Ok (places gf.format gf.at) (λ q h. inl h) (own Frame m gf.at gf.format Halt mem gf.halts) in
     let come = stretch_as mode m Ok (LitFits w Empty origin) (words_before c gf.items) (words_before c gf.items) _ depth (start p scale) a.0 refl (omega (arith, gf.depth_is)) a.1 in
     halt mode m w (words_before c gf.items) words depth gf.at gf.format origin p scale a.0 (stands Frame m gf.at gf.format Halt mem gf.halts) mine a.2.pc gf.count_is come
 

@@ -28,6 +28,7 @@ use Rattle.dvg_items.specs.declared.cursor.Cursor.{Cursor}
 use Rattle.dvg_items.specs.declared.cursor.Step.{Step}
 use Rattle.dvg_items.specs.declared.cursor.Step.TheVariants.{Onward, Last}
 use Rattle.dvg_items.specs.Cursor.{first_cursor, step_to}
+use Rattle.dvg_items.proofs.Stepping.{leads_on, ends_at}
 use Rattle.dvg_check.proofs.Faults.{all_kept}
 
 -- ---- the loop
@@ -111,15 +112,9 @@ module _ (Why : Type 0) (order : Why → ℕ) (missing odd : Why) (Keeps : Seen 
     known_on : (after : Known) → after ≡ seen.after → after ≡ known_before context (item ∷ k.items)
     known_on after e = e ∙ ap (λ (x : Seen). x.after) (sym same)
 
-    leads_on : (o : Option ℕ) (next : Cursor) → next_place kind item ≡ o → Onward next ≡ step_to o seen.after → (next_place kind item ≡ Some next.at) × (next.known ≡ seen.after)
-    leads_on None next e s = cc
-    leads_on (Some p) next e s =
-        let c : next ≡ record { at = p; known = seen.after } = cc s in
-        (e ∙ ap (λ (x : Cursor). Some x.at) (sym c), ap (λ (x : Cursor). x.known) c)
-
     pub onward : (step : Step) (next : Cursor) → step ≡ Onward next → KeepsAll Keeps kind seen step → Walked context word first keeps next
     onward step next step_is h =
-        let on = leads_on (next_place kind item) next refl (sym step_is ∙ h.leads) in
+        let on = leads_on kind seen step next step_is h.leads in
         record {
           items = item ∷ k.items;
           leads = (k.leads, is, on.0);
@@ -128,13 +123,9 @@ module _ (Why : Type 0) (order : Why → ℕ) (missing odd : Why) (Keeps : Seen 
           sound = subst IsSoundStep step_is h.sound;
         }
 
-    ends_at : (o : Option ℕ) (known : Known) → next_place kind item ≡ o → Last known ≡ step_to o seen.after → (next_place kind item ≡ None) × (known ≡ seen.after)
-    ends_at None known e s = (e, cc)
-    ends_at (Some p) known e s = cc
-
     pub done : (step : Step) (known : Known) → step ≡ Last known → KeepsAll Keeps kind seen step → WalksTo context word first keeps known
     done step known step_is h =
-        let end = ends_at (next_place kind item) known refl (sym step_is ∙ h.leads) in
+        let end = ends_at kind seen step known step_is h.leads in
         record {
           keeps_all = all_kept kind word first Why keeps k.items item k.leads is end.0 (k.kept, λ why. kept_here why (h.kept why));
           items = k.items;

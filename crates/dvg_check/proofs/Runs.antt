@@ -9,23 +9,11 @@ use Rattle.dvg_words.specs.declared.instruction.Cell.TheVariants.{Missing, Odd, 
 use Rattle.dvg_words.specs.declared.instruction.Format.{Format}
 use Rattle.dvg_words.specs.declared.instruction.Instr.{Instr}
 use Rattle.dvg_words.specs.declared.instruction.Instr.TheVariants.{Draw as Draws, Labs, Halt, Jsrl, Rtsl, Jmpl}
+use Rattle.dvg_words.specs.Laws.{state_of}
+use Rattle.dvg_items.proofs.Lists.{all_append, all_map}
 use Rattle.dvg_check.specs.Behaving.{Counts, Stretch}
 use Rattle.dvg_check.specs.declared.fault.Mode.{Mode}
 use Rattle.dvg_check.specs.declared.fault.Mode.TheVariants.{Bound, Exact}
-
--- ---- lists
-
-pub AllByRecursion-append : {A : Type 0} (P : A → Type 0) (xs ys : List A) → AllByRecursion P xs → AllByRecursion P ys → AllByRecursion P (xs ++ ys)
-AllByRecursion-append P [] ys a b = b
-AllByRecursion-append P (x ∷ xs) ys a b = (a.0, AllByRecursion-append P xs ys a.1 b)
-
-pub AllByRecursion-back : {A : Type 0} (P : A → Type 0) (xs ys : List A) → AllByRecursion P (xs ++ ys) → AllByRecursion P ys
-AllByRecursion-back P [] ys a = a
-AllByRecursion-back P (x ∷ xs) ys a = AllByRecursion-back P xs ys a.1
-
-pub AllByRecursion-map : {A : Type 0} (P Q : A → Type 0) (xs : List A) → ((x : A) → P x → Q x) → AllByRecursion P xs → AllByRecursion Q xs
-AllByRecursion-map P Q [] h a = tt
-AllByRecursion-map P Q (x ∷ xs) h a = (h x a.0, AllByRecursion-map P Q xs h a.1)
 
 -- ---- runs
 
@@ -53,11 +41,6 @@ rest_of m (suc i) (suc k) a b h r q =
     (on.0, omega (arith, on.1), on.2)
 
 -- ---- what is recorded
-
-abbrev pub state_of : Status → State
-state_of (Running s) = s
-state_of (Halted s) = s
-state_of (Fault s) = s
 
 pub record Grows (s t : State) : Type 0 where
   pub words : List ℕ
@@ -142,10 +125,10 @@ stretch_on mode m F P a b c d1 d2 d s t u le deep p q =
       words = q.words ++ p.words;
       fetched = q.fetched ∙ ap (λ l. q.words ++ l) p.fetched ∙ sym (append_assoc q.words p.words s.fetched);
       few = counts_sum mode (length p.words) (length q.words) (length (q.words ++ p.words)) a b c (omega (arith, length-append q.words p.words)) p.few q.few le;
-      mapped = AllByRecursion-append F q.words p.words q.mapped p.mapped;
+      mapped = all_append F q.words p.words q.mapped p.mapped;
       strokes = q.strokes ++ p.strokes;
       drew = q.drew ∙ ap (λ l. q.strokes ++ l) p.drew ∙ sym (append_assoc q.strokes p.strokes s.strokes);
-      lit = AllByRecursion-append P q.strokes p.strokes q.lit p.lit;
+      lit = all_append P q.strokes p.strokes q.lit p.lit;
       stored = counts_max mode s.max_stack t.max_stack u.max_stack d1 d2 d p.stored q.stored deep;
     }
 
@@ -159,10 +142,10 @@ stretch_less mode m F G P Q most deep s t f g c =
       words = c.words;
       fetched = c.fetched;
       few = c.few;
-      mapped = AllByRecursion-map F G c.words f c.mapped;
+      mapped = all_map F G c.words f c.mapped;
       strokes = c.strokes;
       drew = c.drew;
-      lit = AllByRecursion-map P Q c.strokes g c.lit;
+      lit = all_map P Q c.strokes g c.lit;
       stored = c.stored;
     }
 

@@ -5,7 +5,7 @@ use Rattle.dvg_words.specs.Laws.{state_of, StackWithinMax}
 use Rattle.dvg_words.specs.Beam.{InWindow}
 use Rattle.dvg_words.specs.Memory.{Memory}
 use Rattle.dvg_words.specs.Values.{Window}
-use Rattle.dvg_items.proofs.Listed.{at_place}
+use Rattle.dvg_items.proofs.Lists.{at_place}
 use Rattle.dvg_check.specs.Laws.{StrokeInWindow, SafeStrokes, SafeStack}
 use Rattle.dvg_check.specs.Safety.{Ends, IsSafeState, IsSafeStatus}
 

@@ -4,3 +4,5 @@ pub mod LeastBoxes
 pub mod Near
 pub mod Listed
 pub mod Leading
+pub mod Lists
+pub mod Stepping

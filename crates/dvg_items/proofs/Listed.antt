@@ -8,6 +8,7 @@ use Rattle.dvg_cert.specs.Lookup.{same_key, entry_at, or_else, named_entry}
 use Rattle.dvg_cert.specs.declared.entry.Entry.{Entry}
 use Rattle.dvg_cert.specs.declared.entry.Key.{Key}
 use Rattle.dvg_cert.specs.declared.entry.Key.TheVariants.{Any, At}
+use Rattle.dvg_items.proofs.Lists.{at_place}
 use Rattle.dvg_items.specs.Known.{callee_at}
 use Rattle.dvg_items.specs.Bounds.{IsClaim, IsSomeCertificate}
 
@@ -45,12 +46,6 @@ named_by list to scale (Some x) f e h = (listed_at list to scale f (e ∙ h)).li
 pub named_listed : (list : List Entry) (o : Option ℕ) (scale : Key) (f : Entry) → callee_at list o scale ≡ Some f → Contains list f
 named_listed list None scale f e = cc
 named_listed list (Some to) scale f e = named_by list to scale (entry_at list to scale) f refl e
-
--- what is in a list of which each is such
-pub at_place : {A : Type 0} (P : A → Type 0) (list : List A) (e : A) → AllByRecursion P list → Contains list e → P e
-at_place P [] e all c = absurd (omega (arith, c.1))
-at_place P (x ∷ list) e all (zero, lt, is) = subst P is all.0
-at_place P (x ∷ list) e all (suc k, lt, is) = at_place P list e all.1 (k, omega (arith, lt), is)
 
 pub listed_claim : (list : List Entry) (e : Entry) → IsSomeCertificate list → Contains list e → IsClaim e
 listed_claim list e c h =

@@ -11,6 +11,7 @@ use Rattle.dvg_cert.specs.declared.entry.LitBox.TheVariants.{Empty, Span}
 use Rattle.dvg_items.specs.declared.lit.LitExtent.{LitExtent}
 use Rattle.dvg_items.specs.declared.lit.LitExtent.TheVariants.{Between}
 use Rattle.dvg_items.specs.Lit.{InBox, IsInside}
+use Rattle.dvg_items.proofs.Lists.{all_map}
 use Rattle.dvg_items.proofs.LeastBoxes.{IsSpanning, IsJoined}
 use Rattle.dvg_make.specs.Least.{HoldsAll, IsLeast}
 
@@ -36,14 +37,10 @@ in_wider (Span x0 x1 y0 y1) Empty p i h = absurd i
 in_wider (Span x0 x1 y0 y1) (Span a0 a1 b0 b1) p i h =
     record { left = omega (arith, ints, i.0, h.left); right = omega (arith, ints, i.1, h.right); bottom = omega (arith, ints, i.2, h.bottom); top = omega (arith, ints, i.3, h.top) }
 
-holds_wider : (a b : LitBox) (ps : List Point) → IsInside a b → HoldsAll a ps → HoldsAll b ps
-holds_wider a b [] i h = tt
-holds_wider a b (p ∷ ps) i h = (in_wider a b p i h.0, holds_wider a b ps i h.1)
-
 two_points : (p q : Point) (lit one new : LitBox) (ps : List Point) → IsSpanning p q one → IsJoined lit one new → IsLeast ps lit → IsLeast (p ∷ q ∷ ps) new
 two_points p q lit one new ps s j h =
     record {
-      holds = (in_wider one new p j.second s.first, (in_wider one new q j.second s.second, holds_wider lit new ps j.first h.holds));
+      holds = (in_wider one new p j.second s.first, (in_wider one new q j.second s.second, all_map (InBox lit) (InBox new) ps (λ x. in_wider lit new x j.first) h.holds));
       least = λ other k. j.least other (h.least other k.1.1) (s.least other k.0 k.1.0);
     }
 

@@ -19,7 +19,8 @@ use Rattle.dvg_check.specs.FirstFault.{AllBefore}
 use Rattle.dvg_items.specs.Items.{next_place, LeadsTo}
 use Rattle.dvg_items.specs.Known.{Context, shape_context, target, callee_at, callee, callee_words, scale_before, place_before, words_before, depth_before, depth_under, known_before}
 use Rattle.dvg_items.specs.Seen.{extent, sight, HasCallee}
-use Rattle.dvg_items.specs.Lit.{relative_corners, LitInBox}
+use Rattle.dvg_items.proofs.Lists.{all_left, all_right}
+use Rattle.dvg_items.specs.Lit.{InBox, relative_corners, LitInBox}
 use Rattle.dvg_check.specs.Rules.{AtLast, ShapeKeeps, CellKeeps}
 use Rattle.dvg_check.specs.declared.fault.Mode.TheVariants.{Exact}
 use Rattle.dvg_check.specs.declared.fault.ShapeWhy.{ShapeWhy}
@@ -172,14 +173,6 @@ made_ends rom list e made =
 
 -- ---- and the other way round
 
-holds_left : (box : LitBox) (a b : List Point) → HoldsAll box (a ++ b) → HoldsAll box a
-holds_left box [] b h = tt
-holds_left box (p ∷ a) b h = (h.0, holds_left box a b h.1)
-
-holds_right : (box : LitBox) (a b : List Point) → HoldsAll box (a ++ b) → HoldsAll box b
-holds_right box [] b h = h
-holds_right box (p ∷ a) b h = holds_right box a b h.1
-
 has_callee : (list : List Entry) (o : Option ℕ) (scale : Key) → ((to : ℕ) → o ≡ Some to → HasEntry list to scale) → HasCallee o (callee_at list o scale)
 has_callee list None scale h = tt
 has_callee list (Some to) scale h = let f = h to refl in subst (λ x. HasCallee (Some to) x) (sym (exact_named list to scale f.0 f.1)) tt
@@ -222,13 +215,13 @@ module _ (rom : Rom) (list : List Entry) (e : Entry) where
   kept_before : (items : List Item) (p : ℕ) → LeadsTo Shape (rom_word rom) e.addr items p → AllFine c items → depth_before c items ≤ e.depth → words_before c items ≤ e.words → HoldsAll e.lit (lit_points c items) → AllBefore (MadeKeeps rom list e) items
   kept_before [] p lead fine deep many holds = tt
   kept_before (i ∷ earlier) p lead fine deep many holds = (
-    kept_before earlier i.at lead.0 fine.0 (omega (arith, deep)) (omega (arith, many)) (holds_right e.lit (relative_corners (extent c earlier i.instr) (place_before c earlier)) (lit_points c earlier) holds),
+    kept_before earlier i.at lead.0 fine.0 (omega (arith, deep)) (omega (arith, many)) (all_right (InBox e.lit) (relative_corners (extent c earlier i.instr) (place_before c earlier)) (lit_points c earlier) holds),
     kept_place earlier i lead.1
         (record {
           fine = fine.1;
           deep = omega (arith, deep);
           many = many;
-          holds = holds_left e.lit (relative_corners (extent c earlier i.instr) (place_before c earlier)) (lit_points c earlier) holds;
+          holds = all_left (InBox e.lit) (relative_corners (extent c earlier i.instr) (place_before c earlier)) (lit_points c earlier) holds;
           known = subst (λ o. AtLast o (known_before c (i ∷ earlier) ≡ known_of e)) (sym lead.2) tt;
         }),
   )
@@ -269,13 +262,13 @@ module _ (rom : Rom) (list : List Entry) (e : Entry) where
         let many : words_before c (h.i ∷ h.items) ≡ e.words = ap (λ (k : Known). k.words) h.sums.known in
         record {
           keeps = all_kept Shape (rom_word rom) e.addr ShapeWhy (MadeKeeps rom list e) h.items h.i h.leads h.is h.last (
-            kept_before h.items h.i.at h.leads h.fine.0 (omega (arith, deep)) (omega (arith, many)) (holds_right e.lit (relative_corners (extent c h.items h.i.instr) (place_before c h.items)) (lit_points c h.items) h.sums.box.holds),
+            kept_before h.items h.i.at h.leads h.fine.0 (omega (arith, deep)) (omega (arith, many)) (all_right (InBox e.lit) (relative_corners (extent c h.items h.i.instr) (place_before c h.items)) (lit_points c h.items) h.sums.box.holds),
             kept_place h.items h.i h.is
                 (record {
                   fine = h.fine.1;
                   deep = omega (arith, deep);
                   many = omega (arith, many);
-                  holds = holds_left e.lit (relative_corners (extent c h.items h.i.instr) (place_before c h.items)) (lit_points c h.items) h.sums.box.holds;
+                  holds = all_left (InBox e.lit) (relative_corners (extent c h.items h.i.instr) (place_before c h.items)) (lit_points c h.items) h.sums.box.holds;
                   known = subst (λ o. AtLast o (known_before c (h.i ∷ h.items) ≡ known_of e)) (sym h.last) h.sums.known;
                 }),
           );

@@ -16,6 +16,7 @@ use Rattle.dvg_make.specs.Made.{HasEntry, Needs, Made}
 use Rattle.dvg_make.specs.Private.Walking.{keyed_context, Extends}
 use Rattle.dvg_make.specs.Private.Making.{IsPresent, IsCalled, Making}
 use Rattle.dvg_items.proofs.Listed.{listed_at}
+use Rattle.dvg_items.proofs.Lists.{all_listed}
 use Rattle.dvg_make.proofs.Matching.{exact_named}
 use Rattle.dvg_make.proofs.Growing.{scale_grows, made_grows}
 
@@ -26,10 +27,6 @@ found_listed list e rises c = by_found (entry_at list e.addr e.key) refl (found 
     by_found : (o : Option Entry) → entry_at list e.addr e.key ≡ o → IfSome o (IsOnlyAt list e.addr e.key) × IfNone o (HasNoneAt list e.addr e.key) → o ≡ Some e
     by_found (Some g) q h = ap Some (sym (h.0.3 e c refl refl))
     by_found None q h = absurd (h.1 e c refl refl)
-
-all_listed : (P : Entry → Type 0) (list : List Entry) → ((e : Entry) → Contains list e → P e) → AllByRecursion P list
-all_listed P [] h = tt
-all_listed P (x ∷ list) h = (h x (zero, omega arith, refl), all_listed P list (λ e c. h e (suc c.0, omega (arith, c.1), c.2)))
 
 module _ (rom : Rom) (roots : List (ℕ × Key)) (done list : List Entry) (h : Making rom roots done []) (rises : IsRising list) (same : (addr : ℕ) (key : Key) → entry_at list addr key ≡ entry_at done addr key) (long : length list ≡ length done) where
   ext : Extends done list

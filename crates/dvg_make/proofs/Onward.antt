@@ -20,7 +20,8 @@ use Rattle.dvg_items.specs.declared.item.Kind.TheVariants.{Shape}
 use Rattle.dvg_items.specs.declared.known.Known.{Known}
 use Rattle.dvg_items.specs.declared.seen.Seen.{Seen}
 use Rattle.dvg_items.proofs.Near.{IsNearPlace-more, next_further, next_near}
-use Rattle.dvg_items.proofs.Listed.{at_place}
+use Rattle.dvg_items.proofs.Lists.{at_place}
+use Rattle.dvg_items.proofs.Stepping.{leads_on, ends_at}
 use Rattle.dvg_words.specs.declared.map.TheConstants.{ADDRESS_END}
 use Rattle.dvg_cert.specs.declared.entry.LitBox.{LitBox}
 use Rattle.dvg_items.specs.declared.cursor.Cursor.{Cursor}
@@ -170,15 +171,9 @@ module _ (rom : Rom) (list : List Entry) (from w : Walk) (h : Walking rom list f
         knows_next : KnowsAt (keyed_context list w.key) (i ∷ h.walk.items) seen.after lit
         knows_next = knows_more (keyed_context list w.key) h.walk.items i o w.cursor.known w.lit lit known.is known.keyed h.walk.knows s
 
-        leads_on : (p : Option ℕ) (next : Cursor) → next_place Shape i ≡ p → Onward next ≡ step_to p seen.after → (next_place Shape i ≡ Some next.at) × (next.known ≡ seen.after)
-        leads_on None next e t = cc
-        leads_on (Some p) next e t =
-            let c : next ≡ record { at = p; known = seen.after } = cc t in
-            (e ∙ ap (λ (x : Cursor). Some x.at) (sym c), ap (λ (x : Cursor). x.known) c)
-
         pub onward : (step : Step) (next : Cursor) → step ≡ Onward next → step ≡ step_past Shape seen → IsSoundStep step → Walking rom list from (record { addr = w.addr; key = w.key; cursor = next; lit = lit })
         onward step next step_is goes sound =
-            let on = leads_on (next_place Shape i) next refl (sym step_is ∙ goes) in
+            let on = leads_on Shape seen step next step_is goes in
             record {
               addr = h.addr;
               key = h.key;
@@ -190,13 +185,9 @@ module _ (rom : Rom) (list : List Entry) (from w : Walk) (h : Walking rom list f
               };
             }
 
-        ends_at : (p : Option ℕ) (last : Known) → next_place Shape i ≡ p → Last last ≡ step_to p seen.after → (next_place Shape i ≡ None) × (last ≡ seen.after)
-        ends_at None last e t = (e, cc)
-        ends_at (Some p) last e t = cc
-
         module _ (step : Step) (last : Known) (step_is : step ≡ Last last) (goes : step ≡ step_past Shape seen) where
           end : (next_place Shape i ≡ None) × (last ≡ seen.after)
-          end = ends_at (next_place Shape i) last refl (sym step_is ∙ goes)
+          end = ends_at Shape seen step last step_is goes
 
           knows_last : KnowsAt (keyed_context list w.key) (i ∷ h.walk.items) last lit
           knows_last = subst (λ (k : Known). KnowsAt (keyed_context list w.key) (i ∷ h.walk.items) k lit) (sym end.1) knows_next
