@@ -6,9 +6,10 @@ use Rattle.std.specs.Str.{bytes_eq}
 use Rattle.std.proofs.lemmas.Option.{cond_some, some_pair_parts}
 use Rattle.std.proofs.lemmas.Int.{ints}
 use Rattle.std.proofs.lemmas.Str.Parse.{digit_from_value}
+use Rattle.dvg_cert.specs.Limits.{MOST_DEPTH, MOST_WORDS, MOST_MAGNITUDE, ADDRESS_END}
 use Rattle.dvg_cert.specs.Entry.{Key, End, Rel, Abs, Lost, LitBox, Empty, Span, Entry, IsNumber, IsKey, IsEnd, IsBox, IsEntry}
 use Rattle.dvg_cert.specs.Grammar.{address_token, key_token, end_tokens, box_tokens, entry_tokens}
-use Rattle.dvg_cert.specs.Tokens.{bind, ◌>>=◌, natural_in, number_in, key_in, address_in, by_token, the_token, two_at, span_at, end_at, box_at, entry_at, limit}
+use Rattle.dvg_cert.specs.Tokens.{bind, ◌>>=◌, natural_in, number_in, key_in, address_in, by_token, the_token, two_at, span_at, end_at, box_at, entry_at}
 use Rattle.dvg_cert.proofs.NaturalNumbers.{natural_some}
 use Rattle.dvg_cert.proofs.Fields.{first_digit, bind_some, both, same_bytes, bytes_same, natural_takes, number_takes, number_again, key_takes, key_again, address_takes, address_again}
 
@@ -37,17 +38,17 @@ pub by_again : {X : Type 0} (f : Text → Option X) (w : Text) (x : X) (rest : L
 unfolding by_token bind
 by_again f w x rest e = rw e refl
 
-number_field : (ws : List Text) (z : ℤ) (rest : List Text) → by_token (number_in limit) ws ≡ Some (z, rest) → (ws ≡ signed_decimal z ∷ rest) × IsNumber z
+number_field : (ws : List Text) (z : ℤ) (rest : List Text) → by_token (number_in MOST_MAGNITUDE) ws ≡ Some (z, rest) → (ws ≡ signed_decimal z ∷ rest) × IsNumber z
 number_field ws z rest e =
-    let b = by_takes (number_in limit) ws z rest e in
+    let b = by_takes (number_in MOST_MAGNITUDE) ws z rest e in
     let t = number_takes b.0 z b.2 in
     (b.1 ∙ ap (λ (w : Text). w ∷ rest) t.0, t.1)
 
 two_numbers : (make : ℤ → ℤ → End) (ws : List Text) (e : End) (rest : List Text) → two_at make ws ≡ Some (e, rest)
     → (x : ℤ) × (y : ℤ) × (ws ≡ signed_decimal x ∷ signed_decimal y ∷ rest) × IsNumber x × IsNumber y × (make x y ≡ e)
 two_numbers make ws e rest h =
-    let a = bind_some (by_token (number_in limit) ws) (λ x. by_token (number_in limit) x.1 >>= λ y. Some (make x.0 y.0, y.1)) (e, rest) h in
-    let b = bind_some (by_token (number_in limit) a.0.1) (λ y. Some (make a.0.0 y.0, y.1)) (e, rest) a.2 in
+    let a = bind_some (by_token (number_in MOST_MAGNITUDE) ws) (λ x. by_token (number_in MOST_MAGNITUDE) x.1 >>= λ y. Some (make x.0 y.0, y.1)) (e, rest) h in
+    let b = bind_some (by_token (number_in MOST_MAGNITUDE) a.0.1) (λ y. Some (make a.0.0 y.0, y.1)) (e, rest) a.2 in
     let s = some_pair_parts (make a.0.0 b.0.0) e b.0.1 rest b.2 in
     let x = number_field ws a.0.0 a.0.1 a.1 in
     let y = number_field a.0.1 b.0.0 b.0.1 b.1 in
@@ -77,8 +78,8 @@ end_takes (w ∷ ws) e rest h = end_step (bytes_eq w (codes "lost")) (bytes_eq w
 
 pub end_again : (e : End) (rest : List Text) → IsEnd e → end_at (end_tokens e ++ rest) ≡ Some (e, rest)
 unfolding end_at bind
-end_again (Rel x y) rest h = rw (by_again (number_in limit) (signed_decimal x) x (signed_decimal y ∷ rest) (number_again x h.0), by_again (number_in limit) (signed_decimal y) y rest (number_again y h.1)) refl
-end_again (Abs x y) rest h = rw (by_again (number_in limit) (signed_decimal x) x (signed_decimal y ∷ rest) (number_again x h.0), by_again (number_in limit) (signed_decimal y) y rest (number_again y h.1)) refl
+end_again (Rel x y) rest h = rw (by_again (number_in MOST_MAGNITUDE) (signed_decimal x) x (signed_decimal y ∷ rest) (number_again x h.0), by_again (number_in MOST_MAGNITUDE) (signed_decimal y) y rest (number_again y h.1)) refl
+end_again (Abs x y) rest h = rw (by_again (number_in MOST_MAGNITUDE) (signed_decimal x) x (signed_decimal y ∷ rest) (number_again x h.0), by_again (number_in MOST_MAGNITUDE) (signed_decimal y) y rest (number_again y h.1)) refl
 end_again Lost rest h = refl
 
 -- the value of a step that did not fail, for the rest of a proof
@@ -99,7 +100,7 @@ key_field ws k rest e =
     let t = key_takes b.0 k b.2 in
     (b.1 ∙ ap (λ (w : Text). w ∷ rest) t.0, t.1)
 
-address_field : (first last : ℕ) (ws : List Text) (n : ℕ) (rest : List Text) → last < 4096 → by_token (address_in first last) ws ≡ Some (n, rest) → (ws ≡ address_token n ∷ rest) × (first ≤ n) × (n ≤ last)
+address_field : (first last : ℕ) (ws : List Text) (n : ℕ) (rest : List Text) → last < ADDRESS_END → by_token (address_in first last) ws ≡ Some (n, rest) → (ws ≡ address_token n ∷ rest) × (first ≤ n) × (n ≤ last)
 address_field first last ws n rest small e =
     let b = by_takes (address_in first last) ws n rest e in
     let t = address_takes first last b.0 n small b.2 in
@@ -152,14 +153,14 @@ box_again (Span x0 x1 y0 y1) rest h =
     rw (
       not_none (bytes_eq (signed_decimal x0) (codes "none")) x0 h.0.0 refl,
       number_again x0 h.0.0,
-      by_again (number_in limit) (signed_decimal x1) x1 (signed_decimal y0 ∷ signed_decimal y1 ∷ rest) (number_again x1 h.0.1),
-      by_again (number_in limit) (signed_decimal y0) y0 (signed_decimal y1 ∷ rest) (number_again y0 h.1.0),
-      by_again (number_in limit) (signed_decimal y1) y1 rest (number_again y1 h.1.1),
+      by_again (number_in MOST_MAGNITUDE) (signed_decimal x1) x1 (signed_decimal y0 ∷ signed_decimal y1 ∷ rest) (number_again x1 h.0.1),
+      by_again (number_in MOST_MAGNITUDE) (signed_decimal y0) y0 (signed_decimal y1 ∷ rest) (number_again y0 h.1.0),
+      by_again (number_in MOST_MAGNITUDE) (signed_decimal y1) y1 rest (number_again y1 h.1.1),
       true_le x0 x1 h.0.2,
       true_le y0 y1 h.1.2,
     ) refl
 
-pub entry_takes : (first last : ℕ) (ws : List Text) (e : Entry) (rest : List Text) → last < 4096 → entry_at first last ws ≡ Some (e, rest) → (ws ≡ entry_tokens e ++ rest) × IsEntry first last e
+pub entry_takes : (first last : ℕ) (ws : List Text) (e : Entry) (rest : List Text) → last < ADDRESS_END → entry_at first last ws ≡ Some (e, rest) → (ws ≡ entry_tokens e ++ rest) × IsEntry first last e
 unfolding entry_at
 entry_takes first last ws e rest small h =
     bind_then h (λ s1 e1 h1.
@@ -185,9 +186,9 @@ entry_takes first last ws e rest small h =
     let q6 = the_takes (codes "box") st.1 s3.1 e6 in
     let q7 = box_takes s3.1 lb.0 lb.1 e7 in
     let q8 = the_takes (codes "depth") lb.1 s4.1 e8 in
-    let q9 = natural_field 0 3 s4.1 d.0 d.1 e9 in
+    let q9 = natural_field 0 MOST_DEPTH s4.1 d.0 d.1 e9 in
     let q10 = the_takes (codes "words") d.1 s5.1 e10 in
-    let q11 = natural_field 1 1000000 s5.1 n.0 n.1 e11 in
+    let q11 = natural_field 1 MOST_WORDS s5.1 n.0 n.1 e11 in
     let q12 = the_takes (codes "scale") n.1 s6.1 e12 in
     let q13 = key_field s6.1 sc.0 sc.1 e13 in
     let parts : ws ≡ entry_tokens made ++ sc.1 = rw (q1, q2.0, q3.0, q4, q5.0, q6, q7.0, q8, q9.0, q10, q11.0, q12, q13.0) (simp append_assoc) in
@@ -198,7 +199,7 @@ pub the_again : (expected : Text) (rest : List Text) → the_token expected (exp
 unfolding the_token bind
 the_again expected rest = rw (bytes_same expected expected refl) refl
 
-pub entry_again : (first last : ℕ) (e : Entry) (rest : List Text) → last < 4096 → IsEntry first last e → entry_at first last (entry_tokens e ++ rest) ≡ Some (e, rest)
+pub entry_again : (first last : ℕ) (e : Entry) (rest : List Text) → last < ADDRESS_END → IsEntry first last e → entry_at first last (entry_tokens e ++ rest) ≡ Some (e, rest)
 unfolding entry_at bind
 entry_again first last e rest small h =
     let tail_s : List Text = codes "scale" ∷ key_token e.scale ∷ rest in
@@ -216,9 +217,9 @@ entry_again first last e rest small h =
       the_again (codes "box") (box_tokens e.lit ++ tail_d),
       box_again e.lit tail_d h.lit,
       the_again (codes "depth") (decimal e.depth ∷ tail_w),
-      by_again (natural_in 0 3) (decimal e.depth) e.depth tail_w (natural_some 0 3 e.depth (decimal e.depth) (omega (arith, h.depth)) (omega arith) h.depth refl),
+      by_again (natural_in 0 MOST_DEPTH) (decimal e.depth) e.depth tail_w (natural_some 0 MOST_DEPTH e.depth (decimal e.depth) (omega (arith, h.depth)) (omega arith) h.depth refl),
       the_again (codes "words") (decimal e.words ∷ tail_s),
-      by_again (natural_in 1 1000000) (decimal e.words) e.words tail_s (natural_some 1 1000000 e.words (decimal e.words) (omega (arith, h.words_high)) h.words_low h.words_high refl),
+      by_again (natural_in 1 MOST_WORDS) (decimal e.words) e.words tail_s (natural_some 1 MOST_WORDS e.words (decimal e.words) (omega (arith, h.words_high)) h.words_low h.words_high refl),
       the_again (codes "scale") (key_token e.scale ∷ rest),
       by_again key_in (key_token e.scale) e.scale rest (key_again e.scale h.scale),
     ) refl

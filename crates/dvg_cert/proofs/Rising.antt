@@ -4,6 +4,7 @@ use Rattle.std.specs.Prelude.{slice_get}
 use Rattle.std.specs.List.{AllByRecursion, flat_map}
 use Rattle.std.proofs.lemmas.List.{append-nil}
 use Rattle.std.proofs.lemmas.List.Concat.{flat_map-append}
+use Rattle.dvg_cert.specs.Limits.{MOST_ENTRIES}
 use Rattle.dvg_cert.specs.Entry.{Entry, IsEntry}
 use Rattle.dvg_cert.specs.Order.{Before, StandsAfter, IsRising, IsCertificate}
 use Rattle.dvg_cert.specs.Grammar.{entry_line, ended, first_line, begun_with}
@@ -45,7 +46,7 @@ length_push : (es : List Entry) (e : Entry) → length (es ++ e ∷ []) ≡ suc 
 length_push [] e = refl
 length_push (x ∷ es) e = ap suc (length_push es e)
 
-pub certificate_push : (first last : ℕ) (es : List Entry) (e : Entry) → IsCertificate first last es → IsEntry first last e → StandsAfter es e → length es < 4096 → IsCertificate first last (es ++ e ∷ [])
+pub certificate_push : (first last : ℕ) (es : List Entry) (e : Entry) → IsCertificate first last es → IsEntry first last e → StandsAfter es e → length es < MOST_ENTRIES → IsCertificate first last (es ++ e ∷ [])
 certificate_push first last es e h fits s room = record { each = each_push first last es e h.each fits; rising = rising_push es e h.rising s; few = omega (arith, length_push es e) }
 
 -- one more line

@@ -5,6 +5,7 @@ use Rattle.std.specs.List.{join_with_byte, flat_map}
 use Rattle.std.proofs.lemmas.List.{append-nil, length-append, take-append-le}
 use Rattle.std.proofs.lemmas.List.Concat.{flat_map-append}
 use Rattle.std.specs.Io.KnownBytes.{Appends}
+use Rattle.dvg_cert.specs.Limits.{LINE_FEED, SPACE}
 use Rattle.dvg_cert.specs.Entry.{Entry}
 use Rattle.dvg_cert.specs.Grammar.{entry_line, end_tokens, box_tokens, address_token, key_token, ended, begun_with, text_of, done_line, first_line}
 use Rattle.dvg_cert.specs.Devices.{AppendsFront}
@@ -14,13 +15,13 @@ use Rattle.dvg_cert.proofs.Rising.{begun_push}
 use Rattle.dvg_cert.proofs.KnownPieces.{Appends-more}
 use Rattle.dvg_cert.proofs.ListParts.{cut_at}
 
-join_spaced : (w : List ℕ) (ws : List (List ℕ)) → join_with_byte 32 (w ∷ ws) ≡ w ++ spaced ws
+join_spaced : (w : List ℕ) (ws : List (List ℕ)) → join_with_byte SPACE (w ∷ ws) ≡ w ++ spaced ws
 join_spaced w [] = sym (append-nil w)
-join_spaced w (v ∷ vs) = ap (λ (t : List ℕ). w ++ 32 ∷ t) (join_spaced v vs)
+join_spaced w (v ∷ vs) = ap (λ (t : List ℕ). w ++ SPACE ∷ t) (join_spaced v vs)
 
 spaced-append : (ws vs : List (List ℕ)) → spaced (ws ++ vs) ≡ spaced ws ++ spaced vs
 spaced-append [] vs = refl
-spaced-append (w ∷ ws) vs = ap (λ (t : List ℕ). 32 ∷ (w ++ t)) (spaced-append ws vs) ∙ ap (λ (t : List ℕ). 32 ∷ t) (sym (append_assoc w (spaced ws) (spaced vs)))
+spaced-append (w ∷ ws) vs = ap (λ (t : List ℕ). SPACE ∷ (w ++ t)) (spaced-append ws vs) ∙ ap (λ (t : List ℕ). SPACE ∷ t) (sym (append_assoc w (spaced ws) (spaced vs)))
 
 -- a piece of a text was written in part
 pub sent_part : (old mid new : Option (List ℕ)) (text front piece tail : List ℕ) → text ≡ front ++ (piece ++ tail) → Appends old mid front → AppendsFront mid new piece → AppendsFront old new text
@@ -51,17 +52,17 @@ unfolding begun_with
 first_part es = refl
 
 line_parts : (shape hex key endw : List ℕ) (stop : List (List ℕ)) (boxw : List ℕ) (lit : List (List ℕ)) (d1 d w1 w s1 s : List ℕ)
-    → ((((((((((((shape ++ 32 ∷ hex) ++ 32 ∷ key) ++ 32 ∷ endw) ++ spaced stop) ++ 32 ∷ boxw) ++ spaced lit) ++ 32 ∷ d1) ++ 32 ∷ d) ++ 32 ∷ w1) ++ 32 ∷ w) ++ 32 ∷ s1) ++ 32 ∷ s) ++ 10 ∷ []
-    ≡ join_with_byte 32 (shape ∷ hex ∷ key ∷ endw ∷ ((stop ++ boxw ∷ lit) ++ d1 ∷ d ∷ w1 ∷ w ∷ s1 ∷ s ∷ [])) ++ 10 ∷ []
+    → ((((((((((((shape ++ SPACE ∷ hex) ++ SPACE ∷ key) ++ SPACE ∷ endw) ++ spaced stop) ++ SPACE ∷ boxw) ++ spaced lit) ++ SPACE ∷ d1) ++ SPACE ∷ d) ++ SPACE ∷ w1) ++ SPACE ∷ w) ++ SPACE ∷ s1) ++ SPACE ∷ s) ++ LINE_FEED ∷ []
+    ≡ join_with_byte SPACE (shape ∷ hex ∷ key ∷ endw ∷ ((stop ++ boxw ∷ lit) ++ d1 ∷ d ∷ w1 ∷ w ∷ s1 ∷ s ∷ [])) ++ LINE_FEED ∷ []
 line_parts shape hex key endw stop boxw lit d1 d w1 w s1 s =
     let back : List (List ℕ) = d1 ∷ d ∷ w1 ∷ w ∷ s1 ∷ s ∷ [] in
-    let parts : spaced ((stop ++ boxw ∷ lit) ++ back) ≡ (spaced stop ++ 32 ∷ (boxw ++ spaced lit)) ++ spaced back = spaced-append (stop ++ boxw ∷ lit) back ∙ ap (λ (t : List ℕ). t ++ spaced back) (spaced-append stop (boxw ∷ lit)) in
-    regroup shape (32 ∷ hex) (32 ∷ key) (32 ∷ endw) (spaced stop) (32 ∷ boxw) (spaced lit) (32 ∷ d1) (32 ∷ d) (32 ∷ w1) (32 ∷ w) (32 ∷ s1) (32 ∷ s) (10 ∷ []) ∙ ap (λ (t : List ℕ). (shape ++ 32 ∷ (hex ++ 32 ∷ (key ++ 32 ∷ (endw ++ t)))) ++ 10 ∷ []) (sym parts) ∙ ap (λ (t : List ℕ). t ++ 10 ∷ []) (sym (join_spaced shape (hex ∷ key ∷ endw ∷ ((stop ++ boxw ∷ lit) ++ back))))
+    let parts : spaced ((stop ++ boxw ∷ lit) ++ back) ≡ (spaced stop ++ SPACE ∷ (boxw ++ spaced lit)) ++ spaced back = spaced-append (stop ++ boxw ∷ lit) back ∙ ap (λ (t : List ℕ). t ++ spaced back) (spaced-append stop (boxw ∷ lit)) in
+    regroup shape (SPACE ∷ hex) (SPACE ∷ key) (SPACE ∷ endw) (spaced stop) (SPACE ∷ boxw) (spaced lit) (SPACE ∷ d1) (SPACE ∷ d) (SPACE ∷ w1) (SPACE ∷ w) (SPACE ∷ s1) (SPACE ∷ s) (LINE_FEED ∷ []) ∙ ap (λ (t : List ℕ). (shape ++ SPACE ∷ (hex ++ SPACE ∷ (key ++ SPACE ∷ (endw ++ t)))) ++ LINE_FEED ∷ []) (sym parts) ∙ ap (λ (t : List ℕ). t ++ LINE_FEED ∷ []) (sym (join_spaced shape (hex ∷ key ∷ endw ∷ ((stop ++ boxw ∷ lit) ++ back))))
   where
     regroup : (a b c d e f g h i j k l m n : List ℕ) → ((((((((((((a ++ b) ++ c) ++ d) ++ e) ++ f) ++ g) ++ h) ++ i) ++ j) ++ k) ++ l) ++ m) ++ n ≡ (a ++ (b ++ (c ++ (d ++ ((e ++ (f ++ g)) ++ (h ++ (i ++ (j ++ (k ++ (l ++ (m ++ []))))))))))) ++ n
     regroup a b c d e f g h i j k l m n = simp (append_assoc, append-nil)
 
-pub spelled_entry : (e : Entry) → ((((((((((((codes "shape" ++ 32 ∷ address_token e.addr) ++ 32 ∷ key_token e.key) ++ 32 ∷ codes "end") ++ spaced (end_tokens e.stop)) ++ 32 ∷ codes "box") ++ spaced (box_tokens e.lit)) ++ 32 ∷ codes "depth") ++ 32 ∷ decimal e.depth) ++ 32 ∷ codes "words") ++ 32 ∷ decimal e.words) ++ 32 ∷ codes "scale") ++ 32 ∷ key_token e.scale) ++ 10 ∷ [] ≡ ended (entry_line e)
+pub spelled_entry : (e : Entry) → ((((((((((((codes "shape" ++ SPACE ∷ address_token e.addr) ++ SPACE ∷ key_token e.key) ++ SPACE ∷ codes "end") ++ spaced (end_tokens e.stop)) ++ SPACE ∷ codes "box") ++ spaced (box_tokens e.lit)) ++ SPACE ∷ codes "depth") ++ SPACE ∷ decimal e.depth) ++ SPACE ∷ codes "words") ++ SPACE ∷ decimal e.words) ++ SPACE ∷ codes "scale") ++ SPACE ∷ key_token e.scale) ++ LINE_FEED ∷ [] ≡ ended (entry_line e)
 spelled_entry e = line_parts (codes "shape") (address_token e.addr) (key_token e.key) (codes "end") (end_tokens e.stop) (codes "box") (box_tokens e.lit) (codes "depth") (decimal e.depth) (codes "words") (decimal e.words) (codes "scale") (key_token e.scale)
 
 -- where an error is returned

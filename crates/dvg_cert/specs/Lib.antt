@@ -1,3 +1,4 @@
+pub mod Limits
 pub mod Entry
 pub mod Order
 pub mod Grammar

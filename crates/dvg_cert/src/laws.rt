@@ -32,7 +32,7 @@ pub fn line_number()
     ensures { LineNumber }
 {}
 
-/// A text whose whole lines were all taken has at most 819,600 bytes, 4098 lines of 200.
+/// A text whose whole lines were all taken has at most 819,600 bytes: 4098 lines of 200, one for each entry and two.
 pub fn short_text()
     ensures { ShortText }
 {}

@@ -1,24 +1,26 @@
-//! A line of at most 200 bytes, in place.
+//! A line within its limit, in place.
 
 ghost use Rattle.std.specs.Prelude.{◌≡◌, ◌≤◌, ◌<◌, ◌+◌, [], ◌∷◌, ◌++◌, length};
 
+use crate::limits::{LONGEST_LINE, SPACE};
 use std::marker::Model;
 
 /// The bytes of a line so far.
 #[derive(Drop)]
 pub struct LineBuffer {
-    bytes: [u8; 200],
+    bytes: [u8; LONGEST_LINE],
     len: usize,
 }
 
 impl Model for LineBuffer {
     ghost use Rattle.std.specs.Prelude.{ℕ, List, take, ◌≤◌};
+    ghost use Rattle.dvg_cert.specs.Limits.{LONGEST_LINE};
 
     ghost Value = { List ℕ };
 
     ghost view = { λ s. take s.len s.bytes };
 
-    ghost invariant = { λ s. s.len ≤ 200 };
+    ghost invariant = { λ s. s.len ≤ LONGEST_LINE };
 }
 
 impl LineBuffer {
@@ -27,7 +29,7 @@ impl LineBuffer {
         ensures { result ≡ [] }
     {
         LineBuffer {
-            bytes: [0; 200],
+            bytes: [0; LONGEST_LINE],
             len: 0,
         }
     }
@@ -35,7 +37,7 @@ impl LineBuffer {
     /// How many bytes.
     pub fn len(&self) -> usize
         ensures value { result ≡ length self.now }
-        ensures within { result ≤ 200 }
+        ensures within { result ≤ LONGEST_LINE }
     {
         self.len
     }
@@ -56,7 +58,7 @@ impl LineBuffer {
 
     /// Puts the bytes at the end.
     pub fn push(&mut self, more: &[u8])
-        requires { length self.old + length more.now ≤ 200 }
+        requires { length self.old + length more.now ≤ LONGEST_LINE }
         ensures { self.new ≡ self.old ++ more.now }
     {
         let end = self.len + more.len();
@@ -66,11 +68,11 @@ impl LineBuffer {
 
     /// Puts a space and a token at the end.
     pub fn push_token(&mut self, token: &[u8])
-        requires { length self.old + length token.now < 200 }
-        ensures value { self.new ≡ self.old ++ 32 ∷ token.now }
+        requires { length self.old + length token.now < LONGEST_LINE }
+        ensures value { self.new ≡ self.old ++ SPACE ∷ token.now }
         ensures len { length self.new ≡ length self.old + 1 + length token.now }
     {
-        self.push(b" ");
+        self.push(&[SPACE]);
         self.push(token);
     }
 }

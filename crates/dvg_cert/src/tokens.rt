@@ -2,10 +2,10 @@
 
 ghost use Rattle.std.specs.Prelude.{◌≡◌, ◌≤◌, ◌==◌, [], ◌∷◌, IfSome, IfNone, length, position};
 ghost use Rattle.std.specs.List.{slice_split};
-ghost use Rattle.dvg_cert.specs.Tokens.{Reads, natural_in, number_in, key_in, address_in, the_token, by_token, end_at, box_at, entry_at, limit};
+ghost use Rattle.dvg_cert.specs.Tokens.{Reads, natural_in, number_in, key_in, address_in, the_token, by_token, end_at, box_at, entry_at};
 
-use crate::certificate::{MOST_DEPTH, MOST_WORDS};
 use crate::entry::{End, Entry, Key, LitBox};
+use crate::limits::{MOST_DEPTH, MOST_MAGNITUDE, MOST_WORDS, SPACE};
 use crate::numerals::{address, key, natural, number};
 use std::marker::Model;
 
@@ -29,7 +29,7 @@ impl<'a> Tokens<'a> {
     /// The tokens of a line.
     #[tactic(auto, unfolding(crate::specs::Tokens::tokens_left))]
     pub fn new(line: &'a [u8]) -> Self
-        ensures { result ≡ slice_split (λ b. b == 32) line.now }
+        ensures { result ≡ slice_split (λ b. b == SPACE) line.now }
     {
         Tokens { rest: Some(line) }
     }
@@ -65,7 +65,7 @@ impl<'a> Tokens<'a> {
     /// Takes a number from `low` to `high`.
     #[tactic(auto, unfolding(crate::specs::Tokens::bind, crate::specs::Tokens::by_token))]
     pub fn natural(&mut self, low: u64, high: u64) -> Option<u64>
-        requires { high ≤ limit }
+        requires { high ≤ MOST_MAGNITUDE }
         ensures value { Reads result self.new (by_token (natural_in low high) self.old) }
         ensures within { IfSome result (λ n. n ≤ high) }
     {
@@ -75,7 +75,7 @@ impl<'a> Tokens<'a> {
     /// Takes a number of an end or a box.
     #[tactic(auto, unfolding(crate::specs::Tokens::bind, crate::specs::Tokens::by_token))]
     fn number(&mut self) -> Option<i64>
-        ensures { Reads result self.new (by_token (number_in limit) self.old) }
+        ensures { Reads result self.new (by_token (number_in MOST_MAGNITUDE) self.old) }
     {
         number(self.next_token()?)
     }
@@ -183,7 +183,7 @@ impl<'a> Tokens<'a> {
 
 /// The place of the first space.
 fn space_at(bytes: &[u8]) -> Option<usize>
-    ensures { result ≡ position (λ b. b == 32) bytes.now }
+    ensures { result ≡ position (λ b. b == SPACE) bytes.now }
 {
-    bytes.iter().position(|b| *b == b' ')
+    bytes.iter().position(|b| *b == SPACE)
 }

@@ -4,7 +4,8 @@ ghost use Rattle.std.specs.Prelude.{◌≡◌, ◌<◌, ◌≤◌, ◌+◌, ◌�
 ghost use Rattle.std.specs.Fmt.{signed_decimal, digit_glyph};
 ghost use Rattle.std.specs.Io.KnownBytes.{Appends};
 ghost use Rattle.dvg_cert.specs.Devices.{count_after, AppendsFront};
-ghost use Rattle.dvg_cert.specs.Entry.{rom_first, rom_last, IsNumber, IsKey, IsEnd, IsBox, IsEntry};
+ghost use Rattle.dvg_words.specs.Values.{asteroids};
+ghost use Rattle.dvg_cert.specs.Entry.{IsNumber, IsKey, IsEnd, IsBox, IsEntry};
 ghost use Rattle.dvg_cert.specs.Grammar.{address_token, key_token, end_tokens, box_tokens, entry_line, done_line, ended, text_of};
 ghost use Rattle.dvg_cert.specs.Writing.{spaced};
 
@@ -12,7 +13,9 @@ use crate::certificate::Cert;
 use crate::counted::CountedWrite;
 use crate::entry::{End, Entry, Key, LitBox};
 use crate::fault::WriteFault;
+use crate::limits::{LINE_FEED, LONGEST_LINE, MOST_ENTRIES, MOST_WORDS, SPACE};
 use crate::line_buffer::LineBuffer;
+use dvg_words::ADDRESS_END;
 use itoa::Buffer;
 
 /// Writes all of the bytes, by as many writes as it takes, and nothing else. Takes no memory.
@@ -60,7 +63,7 @@ pub fn write_cert<W: CountedWrite>(cert: &Cert, out: &mut W) -> Result<(), Write
 }
 
 fn spell_entry(line: &mut LineBuffer, entry: &Entry)
-    requires { IsEntry rom_first rom_last entry.now }
+    requires { IsEntry asteroids.rom_first asteroids.rom_last entry.now }
     ensures { line.new ≡ ended (entry_line entry.now) }
 {
     line.clear();
@@ -77,23 +80,23 @@ fn spell_entry(line: &mut LineBuffer, entry: &Entry)
     push_natural(line, entry.words);
     line.push_token(b"scale");
     push_key(line, entry.scale);
-    line.push(b"\n");
+    line.push(&[LINE_FEED]);
 }
 
 fn spell_done(line: &mut LineBuffer, count: u32)
-    requires { count ≤ 4096 }
+    requires { count ≤ MOST_ENTRIES }
     ensures { line.new ≡ ended (done_line count) }
 {
     line.clear();
     line.push(b"done");
     push_natural(line, count);
-    line.push(b"\n");
+    line.push(&[LINE_FEED]);
 }
 
 fn push_natural(line: &mut LineBuffer, number: u32)
-    requires number { number ≤ 1000000 }
-    requires room { length line.old ≤ 190 }
-    ensures value { line.new ≡ line.old ++ 32 ∷ decimal number }
+    requires number { number ≤ MOST_WORDS }
+    requires room { length line.old + 8 ≤ LONGEST_LINE }
+    ensures value { line.new ≡ line.old ++ SPACE ∷ decimal number }
     ensures len { length line.new ≤ length line.old + 8 }
 {
     let mut buffer = Buffer::new();
@@ -102,8 +105,8 @@ fn push_natural(line: &mut LineBuffer, number: u32)
 
 fn push_number(line: &mut LineBuffer, number: &i64)
     requires number { IsNumber number.now }
-    requires room { length line.old ≤ 180 }
-    ensures value { line.new ≡ line.old ++ 32 ∷ signed_decimal number.now }
+    requires room { length line.old + 15 ≤ LONGEST_LINE }
+    ensures value { line.new ≡ line.old ++ SPACE ∷ signed_decimal number.now }
     ensures len { length line.new ≤ length line.old + 15 }
 {
     let number = *number;
@@ -113,8 +116,8 @@ fn push_number(line: &mut LineBuffer, number: &i64)
 
 fn push_key(line: &mut LineBuffer, key: Key)
     requires key { IsKey key }
-    requires room { length line.old ≤ 190 }
-    ensures value { line.new ≡ line.old ++ 32 ∷ key_token key }
+    requires room { length line.old + 8 ≤ LONGEST_LINE }
+    ensures value { line.new ≡ line.old ++ SPACE ∷ key_token key }
     ensures len { length line.new ≤ length line.old + 8 }
 {
     match key {
@@ -125,7 +128,7 @@ fn push_key(line: &mut LineBuffer, key: Key)
 
 fn push_end(line: &mut LineBuffer, end: End)
     requires end { IsEnd end }
-    requires room { length line.old ≤ 150 }
+    requires room { length line.old + 34 ≤ LONGEST_LINE }
     ensures value { line.new ≡ line.old ++ spaced (end_tokens end) }
     ensures len { length line.new ≤ length line.old + 34 }
 {
@@ -146,7 +149,7 @@ fn push_end(line: &mut LineBuffer, end: End)
 
 fn push_box(line: &mut LineBuffer, lit: &LitBox)
     requires lit { IsBox lit.now }
-    requires room { length line.old ≤ 130 }
+    requires room { length line.old + 60 ≤ LONGEST_LINE }
     ensures value { line.new ≡ line.old ++ spaced (box_tokens lit.now) }
     ensures len { length line.new ≤ length line.old + 60 }
 {
@@ -167,9 +170,9 @@ fn push_box(line: &mut LineBuffer, lit: &LitBox)
 }
 
 fn push_address(line: &mut LineBuffer, addr: u16)
-    requires addr { addr < 4096 }
-    requires room { length line.old ≤ 190 }
-    ensures value { line.new ≡ line.old ++ 32 ∷ address_token addr }
+    requires addr { addr < ADDRESS_END }
+    requires room { length line.old + 4 ≤ LONGEST_LINE }
+    ensures value { line.new ≡ line.old ++ SPACE ∷ address_token addr }
     ensures len { length line.new ≡ length line.old + 4 }
 {
     let token = [

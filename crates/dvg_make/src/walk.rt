@@ -3,7 +3,7 @@
 ghost use Rattle.std.specs.Prelude.{◌≡◌, ◌↔◌, ◌+◌, ◌<◌, ◌≤◌, IsTrue, IfOk, IfErr, IfSome, OnErr, Contains};
 ghost use Rattle.dvg_words.specs.Values.{asteroids};
 ghost use Rattle.dvg_words.specs.Decoding.{InstrFits};
-ghost use Rattle.dvg_cert.specs.Entry.{rom_first, rom_last, IsEntry, IsKey};
+ghost use Rattle.dvg_cert.specs.Entry.{IsEntry, IsKey};
 ghost use Rattle.dvg_cert.specs.declared.entry.Entry.{Entry};
 ghost use Rattle.dvg_check.specs.Private.Running.{sight_with, IsSound, IsClaim};
 ghost use Rattle.dvg_make.specs.Private.Walking.{start, entry_of, IsStraight, IsAsked, Passes, IsWalk, NeverAt, IsCallee, LacksCallee, Advances};
@@ -109,8 +109,8 @@ fn step(walk: &Walk, item: &Item, callee: Option<Entry>) -> Result<Walk, MakeFau
 
 /// The entry of a shape after its last item.
 fn finish(walk: &Walk) -> Result<Entry, MakeFault>
-    ensures ok { IfOk result (λ entry. (entry ≡ entry_of walk.now) × IsEntry rom_first rom_last entry) }
-    ensures err { OnErr result (IsEntry rom_first rom_last (entry_of walk.now) → ⊥) }
+    ensures ok { IfOk result (λ entry. (entry ≡ entry_of walk.now) × IsEntry asteroids.rom_first asteroids.rom_last entry) }
+    ensures err { OnErr result (IsEntry asteroids.rom_first asteroids.rom_last (entry_of walk.now) → ⊥) }
 {
     let entry = walk.entry();
     if is_entry(&entry) {
