@@ -3,22 +3,23 @@ use Rattle.std.proofs.Common.{◌≡◌, ℕ, suc, ◌<◌, ◌≤◌, Bool, tru
 use Rattle.std.specs.Prelude.{codes, decimal, ℤ, pos, negsuc, ◌≤ℤ◌, int_le}
 use Rattle.std.specs.Fmt.{signed_decimal}
 use Rattle.std.specs.Str.{bytes_eq}
-use Rattle.std.proofs.lemmas.Option.{cond_some, some_pair_parts}
+use Rattle.std.proofs.lemmas.Option.{cond_some, some_pair_parts, option_and_then_some}
+use Rattle.std.proofs.lemmas.Bool.{and_parts}
 use Rattle.std.proofs.lemmas.Int.{ints}
 use Rattle.std.proofs.lemmas.Str.Parse.{digit_from_value}
 use Rattle.dvg_cert.specs.Limits.{MOST_DEPTH, MOST_WORDS, MOST_MAGNITUDE, ADDRESS_END}
 use Rattle.dvg_cert.specs.Entry.{Key, End, Rel, Abs, Lost, LitBox, Empty, Span, Entry, IsNumber, IsKey, IsEnd, IsBox, IsEntry}
 use Rattle.dvg_cert.specs.Grammar.{address_token, key_token, end_tokens, box_tokens, entry_tokens}
-use Rattle.dvg_cert.specs.Tokens.{bind, ◌>>=◌, natural_in, number_in, key_in, address_in, by_token, the_token, two_at, span_at, end_at, box_at, entry_at}
+use Rattle.dvg_cert.specs.Tokens.{◌>>=◌, natural_in, number_in, key_in, address_in, by_token, the_token, two_at, span_at, end_at, box_at, entry_at}
 use Rattle.dvg_cert.proofs.NaturalNumbers.{natural_some}
-use Rattle.dvg_cert.proofs.Fields.{first_digit, bind_some, both, same_bytes, bytes_same, natural_takes, number_takes, number_again, key_takes, key_again, address_takes, address_again}
+use Rattle.dvg_cert.proofs.Fields.{first_digit, bind_some, same_bytes, bytes_same, natural_takes, number_takes, number_again, key_takes, key_again, address_takes, address_again}
 
 abbrev pub Text : Type 0
 Text = List ℕ
 
 -- the first token is the one wanted
 pub the_takes : (expected : Text) (ws rest : List Text) → the_token expected ws ≡ Some (tt, rest) → ws ≡ expected ∷ rest
-unfolding the_token bind
+unfolding the_token
 the_takes expected [] rest e = absurd cc
 the_takes expected (w ∷ ws) rest e =
     let g = cond_some {A = Unit {0} × List Text} (bytes_eq w expected) (tt, ws) (tt, rest) e in
@@ -27,7 +28,7 @@ the_takes expected (w ∷ ws) rest e =
 
 -- the first token has the value
 pub by_takes : {X : Type 0} (f : Text → Option X) (ws : List Text) (x : X) (rest : List Text) → by_token f ws ≡ Some (x, rest) → (w : Text) × (ws ≡ w ∷ rest) × (f w ≡ Some x)
-unfolding by_token bind
+unfolding by_token
 by_takes f [] x rest e = absurd cc
 by_takes {X} f (w ∷ ws) x rest e =
     let b = bind_some (f w) (λ y. Some (y, ws)) (x, rest) e in
@@ -35,7 +36,7 @@ by_takes {X} f (w ∷ ws) x rest e =
     (w, ap (λ (vs : List Text). w ∷ vs) s.1, b.1 ∙ ap Some s.0)
 
 pub by_again : {X : Type 0} (f : Text → Option X) (w : Text) (x : X) (rest : List Text) → f w ≡ Some x → by_token f (w ∷ rest) ≡ Some (x, rest)
-unfolding by_token bind
+unfolding by_token
 by_again f w x rest e = rw e refl
 
 number_field : (ws : List Text) (z : ℤ) (rest : List Text) → by_token (number_in MOST_MAGNITUDE) ws ≡ Some (z, rest) → (ws ≡ signed_decimal z ∷ rest) × IsNumber z
@@ -72,21 +73,19 @@ end_step false false true w ws e rest it iu iv h =
 end_step false false false w ws e rest it iu iv h = absurd cc
 
 pub end_takes : (ws : List Text) (e : End) (rest : List Text) → end_at ws ≡ Some (e, rest) → (ws ≡ end_tokens e ++ rest) × IsEnd e
-unfolding end_at bind
+unfolding end_at
 end_takes [] e rest h = absurd cc
 end_takes (w ∷ ws) e rest h = end_step (bytes_eq w (codes "lost")) (bytes_eq w (codes "rel")) (bytes_eq w (codes "abs")) w ws e rest refl refl refl h
 
 pub end_again : (e : End) (rest : List Text) → IsEnd e → end_at (end_tokens e ++ rest) ≡ Some (e, rest)
-unfolding end_at bind
+unfolding end_at
 end_again (Rel x y) rest h = rw (by_again (number_in MOST_MAGNITUDE) (signed_decimal x) x (signed_decimal y ∷ rest) (number_again x h.0), by_again (number_in MOST_MAGNITUDE) (signed_decimal y) y rest (number_again y h.1)) refl
 end_again (Abs x y) rest h = rw (by_again (number_in MOST_MAGNITUDE) (signed_decimal x) x (signed_decimal y ∷ rest) (number_again x h.0), by_again (number_in MOST_MAGNITUDE) (signed_decimal y) y rest (number_again y h.1)) refl
 end_again Lost rest h = refl
 
 -- the value of a step that did not fail, for the rest of a proof
 pub bind_then : {A B P : Type 0} {r : Option A} {f : A → Option B} {y : B} → (r >>= f) ≡ Some y → ((x : A) → r ≡ Some x → f x ≡ Some y → P) → P
-unfolding bind
-bind_then {r = None} e k = absurd cc
-bind_then {r = Some x} e k = k x refl e
+bind_then {r} {f} {y} e k = option_and_then_some f r y e k
 
 pub natural_field : (low high : ℕ) (ws : List Text) (n : ℕ) (rest : List Text) → by_token (natural_in low high) ws ≡ Some (n, rest) → (ws ≡ decimal n ∷ rest) × (low ≤ n) × (n ≤ high)
 natural_field low high ws n rest e =
@@ -122,7 +121,7 @@ box_step false w ws b rest is h =
     bind_then h1 (λ y0 e2 h2.
     bind_then h2 (λ y1 e3 h3.
     let g = cond_some {A = LitBox × List Text} (int_le x0 x1.0 && int_le y0.0 y1.0) (Span x0 x1.0 y0.0 y1.0, y1.1) (b, rest) h3 in
-    let t = both (int_le x0 x1.0) (int_le y0.0 y1.0) g.0 in
+    let t = and_parts (int_le x0 x1.0) (int_le y0.0 y1.0) g.0 in
     let p0 = number_takes w x0 e0 in
     let p1 = number_field ws x1.0 x1.1 e1 in
     let p2 = number_field x1.1 y0.0 y0.1 e2 in
@@ -131,7 +130,7 @@ box_step false w ws b rest is h =
     subst (λ (y : LitBox × List Text). (w ∷ ws ≡ box_tokens y.0 ++ y.1) × IsBox y.0) g.1 (parts, ((p0.1, p1.1, le_true x0 x1.0 t.0), (p2.1, p3.1, le_true y0.0 y1.0 t.1)))))))
 
 box_takes : (ws : List Text) (b : LitBox) (rest : List Text) → box_at ws ≡ Some (b, rest) → (ws ≡ box_tokens b ++ rest) × IsBox b
-unfolding box_at bind
+unfolding box_at
 box_takes [] b rest h = absurd cc
 box_takes (w ∷ ws) b rest h = box_step (bytes_eq w (codes "none")) w ws b rest refl h
 
@@ -147,7 +146,7 @@ not_none true (negsuc n) h is =
 not_none false z h is = refl
 
 box_again : (b : LitBox) (rest : List Text) → IsBox b → box_at (box_tokens b ++ rest) ≡ Some (b, rest)
-unfolding box_at bind
+unfolding box_at
 box_again Empty rest h = refl
 box_again (Span x0 x1 y0 y1) rest h =
     rw (
@@ -196,11 +195,11 @@ entry_takes first last ws e rest small h =
     subst (λ (y : Entry × List Text). (ws ≡ entry_tokens y.0 ++ y.1) × IsEntry first last y.0) (pair_is same.0 same.1) (parts, fits))))))))))))))
 
 pub the_again : (expected : Text) (rest : List Text) → the_token expected (expected ∷ rest) ≡ Some (tt, rest)
-unfolding the_token bind
+unfolding the_token
 the_again expected rest = rw (bytes_same expected expected refl) refl
 
 pub entry_again : (first last : ℕ) (e : Entry) (rest : List Text) → last < ADDRESS_END → IsEntry first last e → entry_at first last (entry_tokens e ++ rest) ≡ Some (e, rest)
-unfolding entry_at bind
+unfolding entry_at
 entry_again first last e rest small h =
     let tail_s : List Text = codes "scale" ∷ key_token e.scale ∷ rest in
     let tail_w : List Text = codes "words" ∷ decimal e.words ∷ tail_s in

@@ -10,25 +10,20 @@ use Rattle.std.proofs.lemmas.Bool.Decides.{nat_tests}
 use Rattle.std.proofs.lemmas.Option.{cond_some}
 use Rattle.std.proofs.Common.{zero}
 use Rattle.std.proofs.lemmas.Int.{ints}
-use Rattle.std.proofs.lemmas.Bool.{eqb-true}
+use Rattle.std.proofs.lemmas.Bool.{eqb-true, and_parts}
 use Rattle.std.proofs.lemmas.Fmt.{decimal_is_IsNumeral}
 use Rattle.std.proofs.lemmas.Str.Parse.{digit_from_value}
 use Rattle.std.specs.Str.Parse.{AllDigits}
 use Rattle.dvg_cert.specs.Limits.{MOST_MAGNITUDE, ADDRESS_END}
 use Rattle.dvg_cert.specs.Entry.{Key, At, Any, IsNumber, IsKey}
 use Rattle.dvg_cert.specs.Grammar.{address_token, key_token}
-use Rattle.dvg_cert.specs.Tokens.{bind, ◌>>=◌, natural_in, number_in, key_in, hex_value, address_in}
+use Rattle.dvg_cert.specs.Tokens.{◌>>=◌, natural_in, number_in, key_in, hex_value, address_in}
 use Rattle.dvg_cert.proofs.NaturalNumbers.{natural_some}
 
 -- the value of a step that did not fail
 pub bind_some : {A B : Type 0} (r : Option A) (f : A → Option B) (y : B) → (r >>= f) ≡ Some y → (x : A) × (r ≡ Some x) × (f x ≡ Some y)
-unfolding bind
 bind_some None f y e = absurd cc
 bind_some (Some x) f y e = (x, refl, e)
-
-pub both : (b c : Bool) → (b && c) ≡ true → (b ≡ true) × (c ≡ true)
-both true c e = (refl, e)
-both false c e = absurd cc
 
 pub same_bytes : (xs ys : List ℕ) → bytes_eq xs ys ≡ true → xs ≡ ys
 same_bytes xs ys = (bytes_eq-Decides xs ys).0
@@ -41,8 +36,8 @@ unfolding natural_in
 natural_takes low high token n e =
     let m : ℕ = digits_value 10 token in
     let g = cond_some (bytes_eq (decimal m) token && (nat_le low m && nat_le m high)) m n e in
-    let a = both (bytes_eq (decimal m) token) (nat_le low m && nat_le m high) g.0 in
-    let b = both (nat_le low m) (nat_le m high) a.1 in
+    let a = and_parts (bytes_eq (decimal m) token) (nat_le low m && nat_le m high) g.0 in
+    let b = and_parts (nat_le low m) (nat_le m high) a.1 in
     let from : low ≤ m = grind (arith, nat_tests) in
     let to : m ≤ high = grind (arith, nat_tests) in
     (sym (same_bytes (decimal m) token a.0) ∙ ap decimal g.1, subst (λ (k : ℕ). low ≤ k) g.1 from, subst (λ (k : ℕ). k ≤ high) g.1 to)
@@ -152,10 +147,10 @@ address_takes first last (x ∷ y ∷ z ∷ []) a small e =
   where
     hex_read : (first last x y z n a : ℕ) → last < ADDRESS_END → n ≡ hex_value x * 256 + hex_value y * 16 + hex_value z → ((nat_lt (hex_value x) 16 && (nat_lt (hex_value y) 16 && nat_lt (hex_value z) 16)) && (nat_le first n && nat_le n last)) ≡ true → n ≡ a → (x ∷ y ∷ z ∷ [] ≡ address_token a) × (first ≤ a) × (a ≤ last)
     hex_read first last x y z n a small n_is ok same =
-        let p = both (nat_lt (hex_value x) 16 && (nat_lt (hex_value y) 16 && nat_lt (hex_value z) 16)) (nat_le first n && nat_le n last) ok in
-        let q = both (nat_lt (hex_value x) 16) (nat_lt (hex_value y) 16 && nat_lt (hex_value z) 16) p.0 in
-        let r = both (nat_lt (hex_value y) 16) (nat_lt (hex_value z) 16) q.1 in
-        let s = both (nat_le first n) (nat_le n last) p.1 in
+        let p = and_parts (nat_lt (hex_value x) 16 && (nat_lt (hex_value y) 16 && nat_lt (hex_value z) 16)) (nat_le first n && nat_le n last) ok in
+        let q = and_parts (nat_lt (hex_value x) 16) (nat_lt (hex_value y) 16 && nat_lt (hex_value z) 16) p.0 in
+        let r = and_parts (nat_lt (hex_value y) 16) (nat_lt (hex_value z) 16) q.1 in
+        let s = and_parts (nat_le first n) (nat_le n last) p.1 in
         hex_parts first last (hex_value x) (hex_value y) (hex_value z) n a x y z (below (hex_value x) q.0) (below (hex_value y) r.0) (below (hex_value z) r.1) (at_most first n s.0) (at_most n last s.1) n_is same (glyph_takes x (below (hex_value x) q.0)) (glyph_takes y (below (hex_value y) r.0)) (glyph_takes z (below (hex_value z) r.1))
 address_takes first last token a small e = absurd cc
 

@@ -1,7 +1,7 @@
 -- Lines: the tokens of a spelled line are its tokens, and it has no line end inside.
 use Rattle.std.proofs.Common.{◌≡◌, ℕ, suc, ◌/◌, ◌%◌, ◌^◌, ◌<◌, ◌≤◌, true, false, List, [], ◌∷◌, ◌++◌, length, Option, Some, None, refl, sym, ap, subst, ◌∙◌, arith, lit<, lit≤, ◌⊎◌, inl, inr}
 use Rattle.std.specs.Prelude.{codes, decimal, ℤ, pos, negsuc, ◌==◌}
-use Rattle.std.specs.Option.{option_map}
+use Rattle.std.specs.Option.{option_map, option_or}
 use Rattle.std.specs.Fmt.{signed_decimal, digit_glyph}
 use Rattle.std.specs.Str.Parse.{AllDigits}
 use Rattle.std.specs.List.{slice_split, onto_first, join_with_byte}
@@ -20,7 +20,7 @@ use Rattle.dvg_cert.specs.Grammar.{address_token, key_token, end_tokens, box_tok
 use Rattle.dvg_cert.specs.Reading.{IsLine, Without}
 use Rattle.dvg_cert.specs.declared.line.Line.{Line}
 use Rattle.dvg_cert.specs.declared.line.Line.TheVariants as lines
-use Rattle.dvg_cert.specs.Tokens.{bind, natural_in, by_token, the_token, entry_at, done_at, nothing_left, or_else, line_in, tokens_left}
+use Rattle.dvg_cert.specs.Tokens.{natural_in, by_token, the_token, entry_at, done_at, nothing_left, line_in, tokens_left}
 use Rattle.dvg_cert.proofs.NaturalNumbers.{natural_some}
 use Rattle.dvg_cert.proofs.Cutting.{split_free}
 use Rattle.dvg_cert.proofs.Fields.{first_digit}
@@ -105,13 +105,12 @@ line_free (w ∷ []) h = graphic_without LINE_FEED w (lit≤ tt) h.0
 line_free (w ∷ v ∷ vs) h = Without-append LINE_FEED w (SPACE ∷ join_with_byte SPACE (v ∷ vs)) (graphic_without LINE_FEED w (lit≤ tt) h.0) (refl, line_free (v ∷ vs) h.1)
 
 some_left : {X : Type 0} (o : Option (X × List Text)) (x : X) → nothing_left o ≡ Some x → o ≡ Some (x, [])
-unfolding bind
 some_left None x e = absurd cc
 some_left {X} (Some p) x e =
     let g = cond_some {A = X} (length p.1 == 0) p.0 x e in
     ap Some (pair_is g.1 (nil_from_length p.1 (eqb-true (length p.1) 0 g.0)))
 
-either : (o : Option ℕ) (p : Option Entry) (l : Line) → or_else (option_map (λ n. lines.Done n) o) (option_map (λ e. lines.Entry e) p) ≡ Some l → ((n : ℕ) × (o ≡ Some n) × (lines.Done n ≡ l)) ⊎ ((e : Entry) × (p ≡ Some e) × (lines.Entry e ≡ l))
+either : (o : Option ℕ) (p : Option Entry) (l : Line) → option_or (option_map (λ n. lines.Done n) o) (option_map (λ e. lines.Entry e) p) ≡ Some l → ((n : ℕ) × (o ≡ Some n) × (lines.Done n ≡ l)) ⊎ ((e : Entry) × (p ≡ Some e) × (lines.Entry e ≡ l))
 either (Some n) p l e = inl (n, refl, cc)
 either None (Some x) l e = inr (x, refl, cc)
 either None None l e = absurd cc
@@ -134,7 +133,7 @@ line_takes first last bytes l small e =
     ]
 
 pub line_again : (first last : ℕ) (bytes : Text) (l : Line) → last < ADDRESS_END → IsLine first last l bytes → line_in first last (slice_split (λ b. b == SPACE) bytes) ≡ Some l
-unfolding line_in the_token bind
+unfolding line_in the_token
 line_again first last bytes (lines.Done n) small h =
     let tokens : slice_split (λ b. b == SPACE) bytes ≡ codes "done" ∷ decimal n ∷ [] = ap (slice_split (λ b. b == SPACE)) h.1 ∙ split_join (codes "done") (decimal n ∷ []) (lit< tt, (lit< tt, (lit< tt, (lit< tt, tt)))) (graphic_decimal n (omega (arith, h.0)), tt) in
     let got : by_token (natural_in 0 MOST_ENTRIES) (decimal n ∷ []) ≡ Some (n, []) = by_again (natural_in 0 MOST_ENTRIES) (decimal n) n [] (natural_some 0 MOST_ENTRIES n (decimal n) (omega (arith, h.0)) (omega arith) h.0 refl) in

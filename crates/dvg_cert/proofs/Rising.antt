@@ -2,7 +2,7 @@
 use Rattle.std.proofs.Common.{◌≡◌, ℕ, zero, suc, ◌-◌, ◌<◌, List, [], ◌∷◌, ◌++◌, length, Some, None, refl, sym, ap, subst, ◌∙◌, append_assoc, arith}
 use Rattle.std.specs.Prelude.{slice_get}
 use Rattle.std.specs.List.{AllByRecursion, flat_map}
-use Rattle.std.proofs.lemmas.List.{append-nil}
+use Rattle.std.proofs.lemmas.List.{append-nil, length_push}
 use Rattle.std.proofs.lemmas.List.Concat.{flat_map-append}
 use Rattle.dvg_cert.specs.Limits.{MOST_ENTRIES}
 use Rattle.dvg_cert.specs.Entry.{Entry, IsEntry}
@@ -41,10 +41,6 @@ rising_push (x ∷ y ∷ es) e h s = (h.0, rising_push (y ∷ es) e h.1 s)
 each_push : (first last : ℕ) (es : List Entry) (e : Entry) → AllByRecursion (IsEntry first last) es → IsEntry first last e → AllByRecursion (IsEntry first last) (es ++ e ∷ [])
 each_push first last [] e h s = (s, tt)
 each_push first last (x ∷ es) e h s = (h.0, each_push first last es e h.1 s)
-
-length_push : (es : List Entry) (e : Entry) → length (es ++ e ∷ []) ≡ suc (length es)
-length_push [] e = refl
-length_push (x ∷ es) e = ap suc (length_push es e)
 
 pub certificate_push : (first last : ℕ) (es : List Entry) (e : Entry) → IsCertificate first last es → IsEntry first last e → StandsAfter es e → length es < MOST_ENTRIES → IsCertificate first last (es ++ e ∷ [])
 certificate_push first last es e h fits s room = record { each = each_push first last es e h.each fits; rising = rising_push es e h.rising s; few = omega (arith, length_push es e) }

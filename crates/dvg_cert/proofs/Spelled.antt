@@ -12,7 +12,7 @@ use Rattle.dvg_cert.specs.Devices.{AppendsFront}
 use Rattle.dvg_cert.specs.Writing.{spaced}
 use Rattle.std.proofs.Math.Seq.{take-length, take-append-add}
 use Rattle.dvg_cert.proofs.Rising.{begun_push}
-use Rattle.dvg_cert.proofs.KnownPieces.{Appends-more}
+use Rattle.std.proofs.KnownBytes.{Appends-nil, Appends-trans}
 use Rattle.dvg_cert.proofs.ListParts.{cut_at}
 
 join_spaced : (w : List ℕ) (ws : List (List ℕ)) → join_with_byte SPACE (w ∷ ws) ≡ w ++ spaced ws
@@ -30,7 +30,7 @@ sent_part old mid new text front piece tail e h s =
     let parts : take (length front + n) text ≡ front ++ take n piece =
     ap (take (length front + n)) e ∙ take-append-add front (piece ++ tail) n ∙ ap (λ (t : List ℕ). front ++ t) (take-append-le n piece tail s.1) in
     let size : length text ≡ length front + (length piece + length tail) = ap length e ∙ length-append front (piece ++ tail) ∙ ap (λ (k : ℕ). length front + k) (length-append piece tail) in
-    (length front + n, omega (arith, size, s.1), subst (λ (t : List ℕ). Appends old new t) (sym parts) (Appends-more old mid new front (take n piece) h s.2))
+    (length front + n, omega (arith, size, s.1), subst (λ (t : List ℕ). Appends old new t) (sym parts) (Appends-trans old mid new front (take n piece) h s.2))
 
 -- the text of a certificate from an entry on
 pub text_at : (es : List Entry) (i : ℕ) (d : Entry) → i < length es → text_of es ≡ begun_with (take i es) ++ (ended (entry_line (get_or es i d)) ++ (flat_map (λ e. ended (entry_line e)) (drop (suc i) es) ++ ended (done_line (length es))))
@@ -74,10 +74,6 @@ pub text_first : (es : List Entry) (old new : Option (List ℕ)) → AppendsFron
 text_first es old new s =
     let e : text_of es ≡ ended first_line ++ (flat_map (λ e. ended (entry_line e)) es ++ ended (done_line (length es))) = ap (λ (t : List ℕ). t ++ ended (done_line (length es))) (first_part es) ∙ append_assoc (ended first_line) (flat_map (λ e. ended (entry_line e)) es) (ended (done_line (length es))) in
     sent_part old old new (text_of es) [] (ended first_line) (flat_map (λ e. ended (entry_line e)) es ++ ended (done_line (length es))) e (Appends-nil old) s
-  where
-    Appends-nil : (o : Option (List ℕ)) → Appends o o []
-    Appends-nil None = tt
-    Appends-nil (Some x) = sym (append-nil x)
 
 pub entry_sent : (old mid new : Option (List ℕ)) (es cert : List Entry) (i : ℕ) (d : Entry) (piece : List ℕ) → es ≡ cert → i < length es → piece ≡ ended (entry_line (get_or es i d)) → Appends old mid (begun_with (take i es)) → AppendsFront mid new piece → AppendsFront old new (text_of cert)
 entry_sent old mid new es cert i d piece same lt p h s =
@@ -87,7 +83,7 @@ entry_sent old mid new es cert i d piece same lt p h s =
 
 pub entry_written : (old mid new : Option (List ℕ)) (es : List Entry) (i : ℕ) (d : Entry) (piece : List ℕ) → i < length es → piece ≡ ended (entry_line (get_or es i d)) → Appends old mid (begun_with (take i es)) → Appends mid new piece → Appends old new (begun_with (take (i + 1) es))
 entry_written old mid new es i d piece lt p h k =
-    subst (λ (t : List ℕ). Appends old new t) (ap (λ (t : List ℕ). begun_with (take i es) ++ t) p ∙ sym (begun_next es i d lt)) (Appends-more old mid new (begun_with (take i es)) piece h k)
+    subst (λ (t : List ℕ). Appends old new t) (ap (λ (t : List ℕ). begun_with (take i es) ++ t) p ∙ sym (begun_next es i d lt)) (Appends-trans old mid new (begun_with (take i es)) piece h k)
 
 all_of : (es cert : List Entry) (i : ℕ) → es ≡ cert → i ≡ length es → take i es ≡ cert
 all_of es cert i same all = ap (λ (n : ℕ). take n es) all ∙ take-length es ∙ same
@@ -103,12 +99,4 @@ pub done_written : (old mid new : Option (List ℕ)) (es cert : List Entry) (i n
 done_written old mid new es cert i n piece same all m p h k =
     let a : begun_with (take i es) ≡ begun_with cert = ap begun_with (all_of es cert i same all) in
     let q : piece ≡ ended (done_line (length cert)) = p ∙ ap (λ (k : ℕ). ended (done_line k)) (m ∙ ap length same) in
-    subst (λ (t : List ℕ). Appends old new t) (ap (λ (t : List ℕ). t ++ piece) a ∙ ap (λ (t : List ℕ). begun_with cert ++ t) q) (Appends-more old mid new (begun_with (take i es)) piece h k)
-
-pub on_err : {X E P Q : Type 0} (r : Result X E) → (P → Q) → OnErr r P → OnErr r Q
-on_err (Ok x) f p = tt
-on_err (Err e) f p = f p
-
-pub on_ok : {X E P Q : Type 0} (r : Result X E) → (P → Q) → OnOk r P → OnOk r Q
-on_ok (Ok x) f p = f p
-on_ok (Err e) f p = tt
+    subst (λ (t : List ℕ). Appends old new t) (ap (λ (t : List ℕ). t ++ piece) a ∙ ap (λ (t : List ℕ). begun_with cert ++ t) q) (Appends-trans old mid new (begun_with (take i es)) piece h k)

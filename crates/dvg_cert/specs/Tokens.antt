@@ -2,7 +2,7 @@
 use Rattle.std.specs.Prelude.{◌≡◌, ℕ, ◌+◌, ◌-◌, ◌*◌, List, [], ◌∷◌, length, codes, decimal, ℤ, pos, neg_ℤ, ◌&&◌, nat_le, nat_lt, int_le, ◌==◌, if◌then◌else◌, Option, Some, None}
 use Rattle.std.specs.Str.{bytes_eq}
 use Rattle.std.specs.Str.Parse.{digits_value}
-use Rattle.std.specs.Option.{option_map}
+use Rattle.std.specs.Option.{option_map, option_or, option_and_then}
 use Rattle.std.specs.List.{slice_split}
 use Rattle.std.specs.Borrow.{Bor}
 use Rattle.dvg_cert.specs.Limits.{MOST_ENTRIES, MOST_DEPTH, MOST_WORDS, MOST_MAGNITUDE, SPACE}
@@ -10,13 +10,9 @@ use Rattle.dvg_cert.specs.declared.line.Line.{Line}
 use Rattle.dvg_cert.specs.declared.line.Line.TheVariants as lines
 use Rattle.dvg_cert.specs.Entry.{Key, At, Any, End, Rel, Abs, Lost, LitBox, Empty, Span, Entry}
 
-unfoldable pub bind : {A B : Type 0} → Option A → (A → Option B) → Option B
-bind None f = None
-bind (Some x) f = f x
-
 infixl 10 ◌>>=◌
 abbrev pub ◌>>=◌ : {A B : Type 0} → Option A → (A → Option B) → Option B
-◌>>=◌ = bind
+o >>= f = option_and_then f o
 
 -- what a function returned and left is what reading gives
 abbrev pub Reads : {X : Type 0} → Option X → List (List ℕ) → Option (X × List (List ℕ)) → Type 0
@@ -119,10 +115,6 @@ done_at tokens = do
   d ← the_token (codes "done") tokens
   by_token (natural_in 0 MOST_ENTRIES) d.1
 
-abbrev pub or_else : {X : Type 0} → Option X → Option X → Option X
-or_else None o = o
-or_else (Some x) o = Some x
-
 -- the whole of the tokens
 unfoldable pub line_in : ℕ → ℕ → List (List ℕ) → Option Line
-line_in first last tokens = or_else (option_map (λ n. lines.Done n) (nothing_left (done_at tokens))) (option_map (λ e. lines.Entry e) (nothing_left (entry_at first last tokens)))
+line_in first last tokens = option_or (option_map (λ n. lines.Done n) (nothing_left (done_at tokens))) (option_map (λ e. lines.Entry e) (nothing_left (entry_at first last tokens)))

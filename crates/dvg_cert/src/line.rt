@@ -39,7 +39,6 @@ fn read_line(line: &[u8], first: u16, last: u16) -> Option<Line>
 }
 
 /// The number of entries, where the whole line says it.
-#[tactic(auto, unfolding(crate::specs::Tokens::bind))]
 fn whole_done(line: &[u8]) -> Option<u16>
     ensures { result ≡ nothing_left (done_at (slice_split (λ b. b == SPACE) line.now)) }
 {
@@ -50,7 +49,6 @@ fn whole_done(line: &[u8]) -> Option<u16>
 }
 
 /// The entry, where the whole line says it.
-#[tactic(auto, unfolding(crate::specs::Tokens::bind))]
 fn whole_entry(line: &[u8], first: u16, last: u16) -> Option<Entry>
     ensures { result ≡ nothing_left (entry_at first last (slice_split (λ b. b == SPACE) line.now)) }
 {

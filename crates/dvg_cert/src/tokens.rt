@@ -54,7 +54,7 @@ impl<'a> Tokens<'a> {
     }
 
     /// Takes this token.
-    #[tactic(auto, unfolding(crate::specs::Tokens::bind, crate::specs::Tokens::the_token))]
+    #[tactic(auto, unfolding(crate::specs::Tokens::the_token))]
     pub fn expect(&mut self, expected: &[u8]) -> Option<()>
         ensures { Reads result self.new (the_token expected.now self.old) }
     {
@@ -63,7 +63,7 @@ impl<'a> Tokens<'a> {
     }
 
     /// Takes a number from `low` to `high`.
-    #[tactic(auto, unfolding(crate::specs::Tokens::bind, crate::specs::Tokens::by_token))]
+    #[tactic(auto, unfolding(crate::specs::Tokens::by_token))]
     pub fn natural(&mut self, low: u64, high: u64) -> Option<u64>
         requires { high ≤ MOST_MAGNITUDE }
         ensures value { Reads result self.new (by_token (natural_in low high) self.old) }
@@ -73,7 +73,7 @@ impl<'a> Tokens<'a> {
     }
 
     /// Takes a number of an end or a box.
-    #[tactic(auto, unfolding(crate::specs::Tokens::bind, crate::specs::Tokens::by_token))]
+    #[tactic(auto, unfolding(crate::specs::Tokens::by_token))]
     fn number(&mut self) -> Option<i64>
         ensures { Reads result self.new (by_token (number_in MOST_MAGNITUDE) self.old) }
     {
@@ -81,7 +81,7 @@ impl<'a> Tokens<'a> {
     }
 
     /// Takes a scale, or any.
-    #[tactic(auto, unfolding(crate::specs::Tokens::bind, crate::specs::Tokens::by_token))]
+    #[tactic(auto, unfolding(crate::specs::Tokens::by_token))]
     fn key(&mut self) -> Option<Key>
         ensures { Reads result self.new (by_token key_in self.old) }
     {
@@ -89,7 +89,7 @@ impl<'a> Tokens<'a> {
     }
 
     /// Takes an address from `first` to `last`.
-    #[tactic(auto, unfolding(crate::specs::Tokens::bind, crate::specs::Tokens::by_token))]
+    #[tactic(auto, unfolding(crate::specs::Tokens::by_token))]
     fn address(&mut self, first: u16, last: u16) -> Option<u16>
         ensures { Reads result self.new (by_token (address_in first last) self.old) }
     {
@@ -97,7 +97,7 @@ impl<'a> Tokens<'a> {
     }
 
     /// Takes an end.
-    #[tactic(auto, unfolding(crate::specs::Tokens::bind, crate::specs::Tokens::end_at))]
+    #[tactic(auto, unfolding(crate::specs::Tokens::end_at))]
     fn end(&mut self) -> Option<End>
         ensures { Reads result self.new (end_at self.old) }
     {
@@ -119,7 +119,7 @@ impl<'a> Tokens<'a> {
     }
 
     /// Takes a box.
-    #[tactic(auto, unfolding(crate::specs::Tokens::bind, crate::specs::Tokens::box_at))]
+    #[tactic(auto, unfolding(crate::specs::Tokens::box_at))]
     fn lit(&mut self) -> Option<LitBox>
         ensures { Reads result self.new (box_at self.old) }
     {
@@ -144,7 +144,7 @@ impl<'a> Tokens<'a> {
     }
 
     /// Takes an entry of a ROM from word address `first` to `last`.
-    #[tactic(auto, unfolding(crate::specs::Tokens::bind, crate::specs::Tokens::entry_at))]
+    #[tactic(auto, unfolding(crate::specs::Tokens::entry_at))]
     pub fn entry(&mut self, first: u16, last: u16) -> Option<Entry>
         ensures { Reads result self.new (entry_at first last self.old) }
     {
