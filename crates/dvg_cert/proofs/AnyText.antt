@@ -17,7 +17,7 @@ use Rattle.dvg_cert.specs.Entry.{Entry, Key, At, Any}
 use Rattle.dvg_cert.specs.Order.{KeyBefore, Before, StandsAfter}
 use Rattle.dvg_cert.specs.Grammar.{first_line, done_line, begun_with, ended, text_of}
 use Rattle.dvg_cert.specs.Reading.{IsLine, Taken, Nothing, Begun, Whole, text_taken, line_number, Holds, MayStand, IsUnended, Meets, IsRefusal}
-use Rattle.dvg_cert.specs.Tokens.{line_in}
+use Rattle.dvg_cert.specs.Private.Tokens.{line_in}
 use Rattle.dvg_cert.proofs.LineTokens.{line_takes, line_again, Without-append}
 use Rattle.dvg_cert.proofs.Rising.{certificate_push}
 use Rattle.dvg_cert.proofs.Refusals.{rest_of, rest_is, entry_taken, first_taken, meets_long}

@@ -10,7 +10,7 @@ use Rattle.std.proofs.lemmas.Str.Parse.{digit_from_value}
 use Rattle.dvg_cert.specs.Limits.{MOST_DEPTH, MOST_WORDS, MOST_MAGNITUDE, ADDRESS_END}
 use Rattle.dvg_cert.specs.Entry.{Key, End, Rel, Abs, Lost, LitBox, Empty, Span, Entry, IsNumber, IsKey, IsEnd, IsBox, IsEntry}
 use Rattle.dvg_cert.specs.Grammar.{address_token, key_token, end_tokens, box_tokens, entry_tokens}
-use Rattle.dvg_cert.specs.Tokens.{◌>>=◌, natural_in, number_in, key_in, address_in, by_token, the_token, two_at, span_at, end_at, box_at, entry_at}
+use Rattle.dvg_cert.specs.Private.Tokens.{◌>>=◌, natural_in, number_in, key_in, address_in, by_token, the_token, two_at, span_at, end_at, box_at, entry_at}
 use Rattle.dvg_cert.proofs.NaturalNumbers.{natural_some}
 use Rattle.dvg_cert.proofs.Fields.{first_digit, bind_some, same_bytes, bytes_same, natural_takes, number_takes, number_again, key_takes, key_again, address_takes, address_again}
 

@@ -17,7 +17,7 @@ use Rattle.std.specs.Str.Parse.{AllDigits}
 use Rattle.dvg_cert.specs.Limits.{MOST_MAGNITUDE, ADDRESS_END}
 use Rattle.dvg_cert.specs.Entry.{Key, At, Any, IsNumber, IsKey}
 use Rattle.dvg_cert.specs.Grammar.{address_token, key_token}
-use Rattle.dvg_cert.specs.Tokens.{◌>>=◌, natural_in, number_in, key_in, hex_value, address_in}
+use Rattle.dvg_cert.specs.Private.Tokens.{◌>>=◌, natural_in, number_in, key_in, hex_value, address_in}
 use Rattle.dvg_cert.proofs.NaturalNumbers.{natural_some}
 
 -- the value of a step that did not fail

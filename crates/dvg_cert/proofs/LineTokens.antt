@@ -20,7 +20,7 @@ use Rattle.dvg_cert.specs.Grammar.{address_token, key_token, end_tokens, box_tok
 use Rattle.dvg_cert.specs.Reading.{IsLine, Without}
 use Rattle.dvg_cert.specs.declared.line.Line.{Line}
 use Rattle.dvg_cert.specs.declared.line.Line.TheVariants as lines
-use Rattle.dvg_cert.specs.Tokens.{natural_in, by_token, the_token, entry_at, done_at, nothing_left, line_in, tokens_left}
+use Rattle.dvg_cert.specs.Private.Tokens.{natural_in, by_token, the_token, entry_at, done_at, nothing_left, line_in, tokens_left}
 use Rattle.dvg_cert.proofs.NaturalNumbers.{natural_some}
 use Rattle.dvg_cert.proofs.Cutting.{split_free}
 use Rattle.dvg_cert.proofs.Fields.{first_digit}

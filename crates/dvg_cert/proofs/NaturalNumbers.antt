@@ -11,7 +11,7 @@ use Rattle.std.specs.Str.Parse.{ParsesUnsigned}
 use Rattle.std.proofs.Common.{Result, Ok}
 use Rattle.std.proofs.lemmas.Str.{IsUtf8-from_ascii}
 use Rattle.std.proofs.lemmas.Fmt.{IsAscii-decimal, parse-decimal}
-use Rattle.dvg_cert.specs.Tokens.{natural_in}
+use Rattle.dvg_cert.specs.Private.Tokens.{natural_in}
 
 pub natural_some : (low high n : ℕ) (token : List ℕ) → n < 2 ^ 64 → low ≤ n → n ≤ high → token ≡ decimal n → natural_in low high token ≡ Some n
 unfolding natural_in

@@ -7,7 +7,7 @@ use Rattle.dvg_cert.specs.declared.fault.CertFault.{CertFault}
 use Rattle.dvg_cert.specs.Entry.{Entry}
 use Rattle.dvg_cert.specs.Reading.{Taken, text_taken, IsRefusal, ReadAnswer}
 use Rattle.dvg_cert.specs.Stream.{Stream, Open, Refused, FeedsTo}
-use Rattle.dvg_cert.specs.Progress.{stream_of}
+use Rattle.dvg_cert.specs.Private.Progress.{stream_of}
 use Rattle.dvg_cert.proofs.TextLaws.{only_memory}
 
 pub piece_refused : (first last : ℕ) (refused : Option CertFault) (lines : Taken) (begun piece : List ℕ) (old : Stream) (f : CertFault) → last < ADDRESS_END → refused ≡ None → stream_of refused lines begun ≡ old

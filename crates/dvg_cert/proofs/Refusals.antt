@@ -6,7 +6,7 @@ use Rattle.dvg_cert.specs.Limits.{LONGEST_LINE, LINE_FEED}
 use Rattle.dvg_cert.specs.Entry.{Entry}
 use Rattle.dvg_cert.specs.Grammar.{entry_line, first_line, begun_with, text_of, ended}
 use Rattle.dvg_cert.specs.Reading.{IsRefusal, Nothing, Begun, Whole, Taken, Without, text_taken, line_number, IsTaken, IsUnended, IsRest, Holds, Meets}
-use Rattle.dvg_cert.specs.Progress.{IsLineRefused, EndsLine, taken_of, IsStaged}
+use Rattle.dvg_cert.specs.Private.Progress.{IsLineRefused, EndsLine, taken_of, IsStaged}
 use Rattle.dvg_cert.specs.declared.fault.CertFault.{CertFault}
 use Rattle.dvg_cert.specs.declared.fault.CertWhy.{CertWhy}
 use Rattle.dvg_cert.specs.declared.fault.CertWhy.TheVariants.{Form, Order, Count, Unended, After, TooLong, Memory}

@@ -9,7 +9,7 @@ use Rattle.dvg_cert.specs.Limits.{LINE_FEED, SPACE}
 use Rattle.dvg_cert.specs.Entry.{Entry}
 use Rattle.dvg_cert.specs.Grammar.{entry_line, end_tokens, box_tokens, address_token, key_token, ended, begun_with, text_of, done_line, first_line}
 use Rattle.dvg_cert.specs.Devices.{AppendsFront}
-use Rattle.dvg_cert.specs.Writing.{spaced}
+use Rattle.dvg_cert.specs.Private.Writing.{spaced}
 use Rattle.std.proofs.Math.Seq.{take-length, take-append-add}
 use Rattle.dvg_cert.proofs.Rising.{begun_push}
 use Rattle.std.proofs.KnownBytes.{Appends-nil, Appends-trans}

@@ -8,6 +8,4 @@ pub mod Stream
 pub mod Laws
 pub mod Lookup
 pub mod Devices
-pub mod Tokens
-pub mod Progress
-pub mod Writing
+pub mod Private

@@ -4,7 +4,7 @@ ghost use Rattle.std.specs.Prelude.{◌≡◌, ◌<◌, ◌==◌, IfSome, IfNone
 ghost use Rattle.std.specs.List.{slice_split};
 ghost use Rattle.dvg_cert.specs.declared.line.Line.{Line};
 ghost use Rattle.dvg_cert.specs.Reading.{IsLine};
-ghost use Rattle.dvg_cert.specs.Tokens.{entry_at, nothing_left, done_at, line_in};
+ghost use Rattle.dvg_cert.specs.Private.Tokens.{entry_at, nothing_left, done_at, line_in};
 
 use crate::entry::Entry;
 use crate::limits::{MOST_ENTRIES, SPACE};
@@ -27,7 +27,7 @@ pub fn line_of(line: &[u8], first: u16, last: u16) -> Option<Line>
     read_line(line, first, last)
 }
 
-#[tactic(auto, unfolding(crate::specs::Tokens::line_in))]
+#[tactic(auto, unfolding(crate::specs::Private::Tokens::line_in))]
 fn read_line(line: &[u8], first: u16, last: u16) -> Option<Line>
     ensures { result ≡ line_in first last (slice_split (λ b. b == SPACE) line.now) }
 {

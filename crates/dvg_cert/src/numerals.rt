@@ -4,14 +4,14 @@ ghost use Rattle.std.specs.Prelude.{◌≡◌, ℕ, ◌^◌, ◌<◌, ◌≤◌,
 ghost use Rattle.dvg_cert.specs.Entry.{IsKey};
 ghost use Rattle.dvg_cert.specs.declared.entry.Key.{Key as KeyValue};
 ghost use Rattle.dvg_cert.specs.Grammar.{address_token, key_token};
-ghost use Rattle.dvg_cert.specs.Tokens.{hex_value, natural_in, number_in, key_in, address_in};
+ghost use Rattle.dvg_cert.specs.Private.Tokens.{hex_value, natural_in, number_in, key_in, address_in};
 
 use crate::entry::Key;
 use crate::limits::MOST_MAGNITUDE;
 use dvg_words::ADDRESS_END;
 
 /// The address from `first` to `last` that a token spells.
-#[tactic(auto, unfolding(crate::specs::Tokens::address_in))]
+#[tactic(auto, unfolding(crate::specs::Private::Tokens::address_in))]
 pub fn address(token: &[u8], first: u16, last: u16) -> Option<u16>
     ensures { result ≡ address_in first last token.now }
 {
@@ -39,7 +39,7 @@ pub fn read_address(token: &[u8]) -> Option<u16>
 }
 
 /// The key that a token spells, a scale of 0 to 15 or any.
-#[tactic(auto, unfolding(crate::specs::Tokens::key_in))]
+#[tactic(auto, unfolding(crate::specs::Private::Tokens::key_in))]
 pub fn key(token: &[u8]) -> Option<Key>
     ensures { result ≡ key_in token.now }
 {
@@ -71,7 +71,7 @@ fn hex_value(digit: u8) -> u8
 }
 
 /// The number of an end or a box that a token spells.
-#[tactic(auto, unfolding(crate::specs::Tokens::number_in))]
+#[tactic(auto, unfolding(crate::specs::Private::Tokens::number_in))]
 pub fn number(token: &[u8]) -> Option<i64>
     ensures { result ≡ number_in MOST_MAGNITUDE token.now }
 {

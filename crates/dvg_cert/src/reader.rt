@@ -5,7 +5,7 @@ ghost use Rattle.dvg_words.specs.Values.{asteroids};
 ghost use Rattle.dvg_cert.specs.declared.fault.CertWhy.TheVariants.{After};
 ghost use Rattle.dvg_cert.specs.Reading.{IsTaken, IsRest, IsUnended, ReadAnswer};
 ghost use Rattle.dvg_cert.specs.Stream.{Open, FeedsTo, FinishesTo};
-ghost use Rattle.dvg_cert.specs.Progress.{EndsLine, TakesLine, TakesNext, TakesPiece};
+ghost use Rattle.dvg_cert.specs.Private.Progress.{EndsLine, TakesLine, TakesNext, TakesPiece};
 
 use crate::certificate::Cert;
 use crate::fault::{CertFault, CertWhy};
@@ -32,7 +32,7 @@ impl Model for CertReader {
 
     ghost Value = { Stream };
 
-    ghost use Rattle.dvg_cert.specs.Progress.{stream_of, IsProgress};
+    ghost use Rattle.dvg_cert.specs.Private.Progress.{stream_of, IsProgress};
 
     ghost view = { λ s. stream_of s.refused s.lines s.begun };
 

@@ -6,7 +6,7 @@ ghost use Rattle.dvg_words.specs.Values.{asteroids};
 ghost use Rattle.dvg_cert.specs.Entry.{IsEntry};
 ghost use Rattle.dvg_cert.specs.Order.{IsCertificate};
 ghost use Rattle.dvg_cert.specs.Reading.{Nothing, Whole, IsUnended, IsTaken, line_number};
-ghost use Rattle.dvg_cert.specs.Progress.{TakesEntry, TakesLine, TakesLater};
+ghost use Rattle.dvg_cert.specs.Private.Progress.{TakesEntry, TakesLine, TakesLater};
 
 use crate::certificate::{Cert, certificate_of, stands_after};
 use crate::entry::Entry;
@@ -38,7 +38,7 @@ impl Model for TakenLines {
 
     ghost Value = { Taken };
 
-    ghost use Rattle.dvg_cert.specs.Progress.{taken_of, IsStaged};
+    ghost use Rattle.dvg_cert.specs.Private.Progress.{taken_of, IsStaged};
 
     ghost view = { λ s. taken_of asteroids.rom_first asteroids.rom_last s.stage s.entries.items };
 

@@ -7,7 +7,7 @@ ghost use Rattle.dvg_cert.specs.Devices.{count_after, AppendsFront};
 ghost use Rattle.dvg_words.specs.Values.{asteroids};
 ghost use Rattle.dvg_cert.specs.Entry.{IsNumber, IsKey, IsEnd, IsBox, IsEntry};
 ghost use Rattle.dvg_cert.specs.Grammar.{address_token, key_token, end_tokens, box_tokens, entry_line, done_line, ended, text_of};
-ghost use Rattle.dvg_cert.specs.Writing.{spaced};
+ghost use Rattle.dvg_cert.specs.Private.Writing.{spaced};
 
 use crate::certificate::Cert;
 use crate::counted::CountedWrite;

@@ -1,7 +1,7 @@
 use Rattle.std.proofs.Common.{◌∙◌, sym, ap}
 use Rattle.std.proofs.lemmas.List.{take_rest}
 use Rattle.dvg_cert.specs.Limits.{SPACE}
-use Rattle.dvg_cert.specs.Tokens.{tokens_left}
+use Rattle.dvg_cert.specs.Private.Tokens.{tokens_left}
 use Rattle.dvg_cert.proofs.Cutting.{cut_some, free_none, split_free}
 use Rattle.dvg_cert.proofs.tokens.Tokens.next_token.Goals as goal
 

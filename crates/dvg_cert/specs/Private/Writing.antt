@@ -1,4 +1,4 @@
--- Code, not definition: a line is put together token by token. Only private functions cite this.
+-- How a line is put together token by token. No rule stands here.
 use Rattle.std.specs.Prelude.{ℕ, List, [], ◌∷◌, ◌++◌}
 use Rattle.dvg_cert.specs.Limits.{SPACE}
 

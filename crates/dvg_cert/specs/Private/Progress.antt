@@ -1,4 +1,4 @@
--- Code, not definition: the running state of the reader. No clause of a public function cites this.
+-- The running state of the reader. No rule stands here.
 use Rattle.std.specs.Prelude.{◌≡◌, ◌≢◌, ℕ, ◌+◌, ◌<◌, ◌≤◌, List, [], ◌∷◌, ◌++◌, length, take, drop, Result, Ok, Err, Option, Some, None}
 use Rattle.dvg_cert.specs.Limits.{MOST_ENTRIES, LINE_FEED}
 use Rattle.dvg_cert.specs.declared.line.Line.TheVariants as lines

@@ -1,4 +1,4 @@
--- Code, not definition: how the tokens of a line are read from left to right. Only private functions cite this.
+-- How the tokens of a line are read from left to right. No rule stands here.
 use Rattle.std.specs.Prelude.{◌≡◌, ℕ, ◌+◌, ◌-◌, ◌*◌, List, [], ◌∷◌, length, codes, decimal, ℤ, pos, neg_ℤ, ◌&&◌, nat_le, nat_lt, int_le, ◌==◌, if◌then◌else◌, Option, Some, None}
 use Rattle.std.specs.Str.{bytes_eq}
 use Rattle.std.specs.Str.Parse.{digits_value}
