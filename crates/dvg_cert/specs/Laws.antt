@@ -28,6 +28,11 @@ abbrev pub OneAnswer : Type 0
 OneAnswer = (first last : ℕ) (text : List ℕ) → last < ADDRESS_END → (answer : Result (List Entry) CertFault) × ReadAnswer first last text answer × NotMemory answer
     × ((other : Result (List Entry) CertFault) → ReadAnswer first last text other → NotMemory other → other ≡ answer)
 
+-- what is written is read back: each answer to a list's text that is not want of memory is that list
+abbrev pub ReadBack : Type 0
+ReadBack = (first last : ℕ) (es : List Entry) (text : List ℕ) (answer : Result (List Entry) CertFault) → last < ADDRESS_END
+    → Spells first last es text → ReadAnswer first last text answer → NotMemory answer → answer ≡ Ok es
+
 -- a text whose whole lines were all taken is refused for its end alone, want of memory aside
 abbrev pub OpenAnswer : Type 0
 OpenAnswer = (first last : ℕ) (text : List ℕ) (f : CertFault) → last < ADDRESS_END → MayStand first last text → ReadAnswer first last text (Err f) → f.why ≢ Memory → f.why ≡ Unended
