@@ -68,11 +68,6 @@ entry_not_done first last x n small h k e =
     let s : lines.Entry x ≡ lines.Done n = one_line first last (entry_line x) (lines.Entry x) (lines.Done n) small (h, refl) (k, e) in
     absurd cc
 
-pub one_done : (first last m n : ℕ) → last < ADDRESS_END → m ≤ MOST_ENTRIES → n ≤ MOST_ENTRIES → done_line m ≡ done_line n → m ≡ n
-one_done first last m n small h k e =
-    let s : lines.Done m ≡ lines.Done n = one_line first last (done_line m) (lines.Done m) (lines.Done n) small (h, refl) (k, e) in
-    cc
-
 -- the lines of entries
 abbrev pub entry_lines : List Entry → List (List ℕ)
 entry_lines [] = []

@@ -30,11 +30,6 @@ rest_is Nothing rest u h = h
 rest_is (Begun from to es) rest u h = h
 rest_is (Whole from to es) rest u h = absurd u
 
-pub no_rest : (taken : Taken) → IsRest taken []
-no_rest Nothing = (tt, omega arith)
-no_rest (Begun from to es) = (tt, omega arith)
-no_rest (Whole from to es) = refl
-
 meets_line : (why : CertWhy) (taken : Taken) (line : List ℕ) → why ≢ Memory → IsUnended taken → IsLineRefused taken line why → Meets taken line LINE_FEED why
 meets_line why Nothing line never u w = inr (refl, w)
 meets_line Form (Begun from to es) line never u w = inr (refl, w)
@@ -138,18 +133,6 @@ pub after_refused : (first last line : ℕ) (f : CertFault) (taken : Taken) (beg
 after_refused first last line f taken begun rest h r u n some e =
     subst (λ (x : CertFault). IsRefusal first last (text_taken taken ++ (begun ++ rest)) x.line x.why × (x.why ≢ Unended)) (sym e)
     (subst (λ (k : ℕ). IsRefusal first last (text_taken taken ++ (begun ++ rest)) k After × (After ≢ Unended)) (sym n) (after_fault first last taken begun rest h r u some))
-
--- nothing more after the last line
-pub stays : (first last : ℕ) (taken : Taken) (begun rest : List ℕ) → IsTaken first last taken → IsRest taken begun → rest ≡ [] → Holds first last (text_taken taken ++ (begun ++ rest)) taken begun
-stays first last taken begun rest h r e = record { parts = ap (λ (t : List ℕ). text_taken taken ++ (begun ++ t)) e ∙ ap (λ (t : List ℕ). text_taken taken ++ t) (append-nil begun); lines = h; begun = r }
-
--- a line that is taken
-pub line_taken : (taken new : Taken) (begun rest front after : List ℕ) → rest ≡ front ++ LINE_FEED ∷ after → text_taken new ≡ text_taken taken ++ ended (begun ++ front) → text_taken taken ++ (begun ++ rest) ≡ text_taken new ++ after
-line_taken taken new begun rest front after e t =
-    ap (λ (x : List ℕ). text_taken taken ++ (begun ++ x)) e ∙ again (text_taken taken) begun front after ∙ ap (λ (x : List ℕ). x ++ after) (sym t)
-  where
-    again : (a b c d : List ℕ) → a ++ (b ++ (c ++ LINE_FEED ∷ d)) ≡ (a ++ ((b ++ c) ++ LINE_FEED ∷ [])) ++ d
-    again a b c d = simp append_assoc
 
 -- the first line
 pub first_at : (first last : ℕ) (stage : Stage) (es : List Entry) (taken : Taken) (line : List ℕ) → stage ≡ First → taken_of first last stage es ≡ taken → IsStaged first last stage es → line ≡ first_line → IsTaken first last (Begun first last es) × (begun_with es ≡ text_taken taken ++ ended line)

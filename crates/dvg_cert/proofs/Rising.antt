@@ -1,5 +1,5 @@
 -- Lists of entries that rise, and one more at the end.
-use Rattle.std.proofs.Common.{◌≡◌, ℕ, zero, suc, ◌-◌, ◌<◌, List, [], ◌∷◌, ◌++◌, length, Some, None, refl, sym, ap, subst, ◌∙◌, append_assoc, arith}
+use Rattle.std.proofs.Common.{◌≡◌, ℕ, zero, suc, ◌-◌, ◌<◌, List, [], ◌∷◌, ◌++◌, length, Some, refl, sym, ap, subst, ◌∙◌, append_assoc, arith}
 use Rattle.std.specs.Prelude.{slice_get}
 use Rattle.std.specs.List.{AllByRecursion, flat_map}
 use Rattle.std.proofs.lemmas.List.{append-nil, length_push}
@@ -21,17 +21,6 @@ stands [] f e h = absurd cc
 stands (x ∷ es) f e h =
     let k : length (x ∷ es) - 1 ≡ length es = omega arith in
     last_at (x ∷ es) (length es) f e refl (ap (slice_get (x ∷ es)) (sym k) ∙ h)
-
-pub stands_first : (es : List Entry) (e : Entry) → slice_get es (length es - 1) ≡ None → StandsAfter es e
-stands_first [] e h = tt
-stands_first (x ∷ es) e h =
-    let k : length (x ∷ es) - 1 ≡ length es = omega arith in
-    absurd (none_past (x ∷ es) (length es) (omega arith) (ap (slice_get (x ∷ es)) (sym k) ∙ h))
-  where
-    none_past : (es : List Entry) (k : ℕ) → k < length es → slice_get es k ≡ None → ⊥
-    none_past [] k lt e = absurd (omega arith)
-    none_past (x ∷ es) zero lt e = cc
-    none_past (x ∷ es) (suc k) lt e = none_past es k (omega arith) e
 
 rising_push : (es : List Entry) (e : Entry) → IsRising es → StandsAfter es e → IsRising (es ++ e ∷ [])
 rising_push [] e h s = tt

@@ -1,5 +1,5 @@
 -- What an entry of a certificate may say.
-use Rattle.std.specs.Prelude.{ℕ, ◌≤◌, ℤ, pos, neg_ℤ, ◌≤ℤ◌}
+use Rattle.std.specs.Prelude.{ℕ, ◌≤◌, ℤ, neg_ℤ, ◌≤ℤ◌}
 use Rattle.dvg_cert.specs.Limits.{MOST_DEPTH, MOST_WORDS, MOST_NUMBER}
 pub use Rattle.dvg_cert.specs.declared.entry.Key.{Key}
 pub use Rattle.dvg_cert.specs.declared.entry.Key.TheVariants.{At, Any}

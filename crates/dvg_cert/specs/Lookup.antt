@@ -1,5 +1,5 @@
 -- The entry of a list at an address and a key, and the entry that a call names.
-use Rattle.std.specs.Prelude.{◌≡◌, ℕ, ◌==◌, ◌&&◌, Bool, true, false, List, Option, Some, None, find, Contains}
+use Rattle.std.specs.Prelude.{◌≡◌, ℕ, ◌==◌, ◌&&◌, Bool, true, false, List, Option, find, Contains}
 use Rattle.std.specs.Option.{option_or}
 use Rattle.dvg_cert.specs.Entry.{Entry, Key, At, Any}
 
