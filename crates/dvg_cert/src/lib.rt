@@ -22,6 +22,7 @@ pub use counted::{Counted, CountedRead, CountedWrite};
 pub use entry::{End, Entry, Key, LitBox};
 pub use fault::{CertFault, CertWhy, WriteFault};
 pub use limits::{MOST_DEPTH, MOST_ENTRIES, MOST_NUMBER, MOST_WORDS};
+pub use line_buffer::push_bytes;
 pub use lookup::{Entries, ListIndex};
 pub use numerals::{read_address, read_key};
 pub use reader::{CertReader, read_cert};

@@ -10,7 +10,7 @@ ghost use Rattle.dvg_cert.specs.Private.Progress.{EndsLine, TakesLine, TakesNext
 use crate::certificate::Cert;
 use crate::fault::{CertFault, CertWhy};
 use crate::limits::{LINE_FEED, LONGEST_LINE};
-use crate::line_buffer::LineBuffer;
+use crate::line_buffer::{LineBuffer, push_bytes};
 use crate::taken::TakenLines;
 use memchr::memchr;
 use std::alloc::Global;
@@ -34,9 +34,9 @@ impl Model for CertReader {
 
     ghost use Rattle.dvg_cert.specs.Private.Progress.{stream_of, IsProgress};
 
-    ghost view = { λ s. stream_of s.refused s.lines s.begun };
+    ghost view = { λ s. stream_of s.refused s.lines s.begun.items };
 
-    ghost invariant = { λ s. IsProgress asteroids.rom_first asteroids.rom_last s.refused s.lines s.begun };
+    ghost invariant = { λ s. IsProgress asteroids.rom_first asteroids.rom_last s.refused s.lines s.begun.items };
 }
 
 impl CertReader {
@@ -90,8 +90,8 @@ pub fn read_cert(alloc: Global, text: &[u8]) -> Result<Cert, CertFault>
 /// Takes the lines of a piece where they lie, and keeps what is left of it.
 fn take_piece(lines: &mut TakenLines, begun: &mut LineBuffer, piece: &[u8]) -> Result<(), CertFault>
     requires taken { IsTaken asteroids.rom_first asteroids.rom_last lines.old }
-    requires begun { IsRest lines.old begun.old }
-    ensures { TakesPiece asteroids.rom_first asteroids.rom_last lines.old begun.old piece.now lines.new begun.new result }
+    requires begun { IsRest lines.old begun.old.items }
+    ensures { TakesPiece asteroids.rom_first asteroids.rom_last lines.old begun.old.items piece.now lines.new begun.new.items result }
 {
     let mut rest = piece;
     while let Some(after) = take_next(lines, begun, rest)? {
@@ -107,8 +107,8 @@ fn take_next<'a>(
     rest: &'a [u8],
 ) -> Result<Option<&'a [u8]>, CertFault>
     requires taken { IsTaken asteroids.rom_first asteroids.rom_last lines.old }
-    requires begun { IsRest lines.old begun.old }
-    ensures { TakesNext (λ x. x.now) asteroids.rom_first asteroids.rom_last lines.old begun.old rest.now lines.new begun.new result }
+    requires begun { IsRest lines.old begun.old.items }
+    ensures { TakesNext (λ x. x.now) asteroids.rom_first asteroids.rom_last lines.old begun.old.items rest.now lines.new begun.new.items result }
 {
     let line = lines.line_number();
     if lines.is_whole() {
@@ -120,7 +120,7 @@ fn take_next<'a>(
     let at = match line_end(rest, LONGEST_LINE - begun.len()) {
         Ok(Some(at)) => at,
         Ok(None) => {
-            begun.push(rest);
+            push_bytes(begun, rest);
             return Ok(None);
         }
         Err(why) => return Err(CertFault { line, why }),
@@ -148,15 +148,15 @@ fn fault_after(line: u32, rest: &[u8]) -> Option<CertFault>
 /// Takes the line of what was begun and of these bytes. A whole line of the piece is read where it lies.
 fn take_begun(lines: &mut TakenLines, begun: &mut LineBuffer, front: &[u8]) -> Result<(), CertWhy>
     requires open { IsUnended lines.old }
-    requires short { length begun.old + length front.now < LONGEST_LINE }
-    ensures line { TakesLine asteroids.rom_first asteroids.rom_last lines.old (begun.old ++ front.now) lines.new result }
-    ensures empty { OnOk result (begun.new ≡ []) }
+    requires short { length begun.old.items + length front.now < LONGEST_LINE }
+    ensures line { TakesLine asteroids.rom_first asteroids.rom_last lines.old (begun.old.items ++ front.now) lines.new result }
+    ensures empty { OnOk result (begun.new.items ≡ []) }
 {
-    if begun.len() == 0 {
+    if begun.is_empty() {
         return lines.take_line(front);
     }
-    begun.push(front);
-    lines.take_line(begun.as_bytes())?;
+    push_bytes(begun, front);
+    lines.take_line(begun.as_slice())?;
     begun.clear();
     Ok(())
 }
