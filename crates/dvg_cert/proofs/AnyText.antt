@@ -1,5 +1,5 @@
 -- Each text may stand, or has a first byte that cannot come.
-use Rattle.std.proofs.Common.{◌≡◌, ◌≢◌, ℕ, ◌+◌, ◌<◌, ◌≤◌, Bool, true, false, List, [], ◌∷◌, ◌++◌, length, Option, Some, None, refl, sym, ap, subst, ◌∙◌, append_assoc, arith, inl, inr, ◌⊎◌}
+use Rattle.std.proofs.Common.{◌≡◌, ◌≢◌, ℕ, ◌+◌, ◌-◌, ◌<◌, ◌≤◌, Bool, true, false, List, [], ◌∷◌, ◌++◌, length, Option, Some, None, refl, sym, ap, subst, ◌∙◌, append_assoc, arith, inl, inr, ◌⊎◌}
 use Rattle.std.specs.Prelude.{◌==◌, nat_lt}
 use Rattle.std.specs.Str.{bytes_eq}
 use Rattle.std.specs.List.{slice_split}
@@ -8,6 +8,7 @@ use Rattle.std.proofs.lemmas.Bool.{eqb-true}
 use Rattle.std.proofs.lemmas.Bool.Decides.{nat_tests}
 use Rattle.std.proofs.lemmas.Slice.Eq.{bytes_eq-Decides}
 use Rattle.std.proofs.lemmas.Option.{none-some}
+use Rattle.dvg_cert.specs.Limits.{MOST_ENTRIES, LONGEST_LINE, LINE_FEED, SPACE, ADDRESS_END}
 use Rattle.dvg_cert.specs.declared.line.Line.{Line}
 use Rattle.dvg_cert.specs.declared.line.Line.TheVariants as lines
 use Rattle.dvg_cert.specs.declared.fault.CertWhy.{CertWhy}
@@ -16,7 +17,7 @@ use Rattle.dvg_cert.specs.Entry.{Entry, Key, At, Any}
 use Rattle.dvg_cert.specs.Order.{KeyBefore, Before, StandsAfter}
 use Rattle.dvg_cert.specs.Grammar.{first_line, done_line, begun_with, ended, text_of}
 use Rattle.dvg_cert.specs.Reading.{IsLine, Taken, Nothing, Begun, Whole, text_taken, line_number, Holds, MayStand, IsUnended, Meets, IsRefusal}
-use Rattle.dvg_cert.specs.Tokens.{line_in}
+use Rattle.dvg_cert.specs.Private.Tokens.{line_in}
 use Rattle.dvg_cert.proofs.LineTokens.{line_takes, line_again, Without-append}
 use Rattle.dvg_cert.proofs.Rising.{certificate_push}
 use Rattle.dvg_cert.proofs.Refusals.{rest_of, rest_is, entry_taken, first_taken, meets_long}
@@ -57,12 +58,12 @@ stands_or (f ∷ g ∷ es) e = stands_or (g ∷ es) e
 abbrev pub OneMore : ℕ → ℕ → List ℕ → Taken → List ℕ → ℕ → Type 0
 OneMore first last front taken rest b = MayStand first last (front ++ b ∷ []) ⊎ ((why : CertWhy) × Meets taken rest b why)
 
-next_parts : (front text rest next : List ℕ) (b : ℕ) → front ≡ text ++ rest → b ≡ 10 → next ≡ text ++ ended rest → front ++ b ∷ [] ≡ next ++ []
+next_parts : (front text rest next : List ℕ) (b : ℕ) → front ≡ text ++ rest → b ≡ LINE_FEED → next ≡ text ++ ended rest → front ++ b ∷ [] ≡ next ++ []
 next_parts front text rest next b e lf n =
     ap (λ (x : List ℕ). x ++ b ∷ []) e ∙ append_assoc text rest (b ∷ []) ∙ ap (λ (x : ℕ). text ++ (rest ++ x ∷ [])) lf ∙ sym n ∙ sym (append-nil next)
 
 -- the LF of the first line
-first_end : (t : Bool) (first last : ℕ) (front rest : List ℕ) (b : ℕ) → bytes_eq rest first_line ≡ t → Holds first last front Nothing rest → b ≡ 10 → OneMore first last front Nothing rest b
+first_end : (t : Bool) (first last : ℕ) (front rest : List ℕ) (b : ℕ) → bytes_eq rest first_line ≡ t → Holds first last front Nothing rest → b ≡ LINE_FEED → OneMore first last front Nothing rest b
 first_end true first last front rest b t h lf =
     let line : rest ≡ first_line = (bytes_eq-Decides rest first_line).0 t in
     inl (Begun first last [], [], record { parts = next_parts front [] rest (begun_with []) b h.parts lf (first_taken rest line); lines = (refl, refl, record { each = tt; rising = tt; few = omega arith }); begun = (tt, omega arith) })
@@ -72,24 +73,24 @@ first_end false first last front rest b t h lf = inr (Form, inr (lf, λ e. diffe
     differs t p q = cc
 
 -- the LF of an entry's line
-entry_end : (first last from to : ℕ) (es : List Entry) (front rest : List ℕ) (b : ℕ) (e : Entry) → Holds first last front (Begun from to es) rest → b ≡ 10 → IsLine from to (lines.Entry e) rest → OneMore first last front (Begun from to es) rest b
+entry_end : (first last from to : ℕ) (es : List Entry) (front rest : List ℕ) (b : ℕ) (e : Entry) → Holds first last front (Begun from to es) rest → b ≡ LINE_FEED → IsLine from to (lines.Entry e) rest → OneMore first last front (Begun from to es) rest b
 entry_end first last from to es front rest b e h lf line =
     elim (stands_or es e) [
-      | inl s ↦ room (nat_lt (length es) 4096) refl s
+      | inl s ↦ room (nat_lt (length es) MOST_ENTRIES) refl s
       | inr n ↦ inr (Order, inr (lf, (e, line, n)))
     ]
   where
-    room : (t : Bool) → nat_lt (length es) 4096 ≡ t → StandsAfter es e → OneMore first last front (Begun from to es) rest b
+    room : (t : Bool) → nat_lt (length es) MOST_ENTRIES ≡ t → StandsAfter es e → OneMore first last front (Begun from to es) rest b
     room true t s =
         let k = certificate_push from to es e h.lines.2 line.0 s (grind (arith, nat_tests)) in
         inl (Begun from to (es ++ e ∷ []), [], record { parts = next_parts front (begun_with es) rest (begun_with (es ++ e ∷ [])) b h.parts lf (entry_taken es rest e line.1); lines = (h.lines.0, h.lines.1, k); begun = (tt, omega arith) })
     room false t s =
         let few = h.lines.2.few in
-        let least : 4096 ≤ length es = grind (arith, nat_tests) in
+        let least : MOST_ENTRIES ≤ length es = grind (arith, nat_tests) in
         inr (TooLong, inr (lf, (e, line, s, omega (arith, few, least))))
 
 -- the LF of a last line
-done_end : (t : Bool) (first last from to : ℕ) (es : List Entry) (front rest : List ℕ) (b n : ℕ) → (n == length es) ≡ t → Holds first last front (Begun from to es) rest → b ≡ 10 → IsLine from to (lines.Done n) rest → OneMore first last front (Begun from to es) rest b
+done_end : (t : Bool) (first last from to : ℕ) (es : List Entry) (front rest : List ℕ) (b n : ℕ) → (n == length es) ≡ t → Holds first last front (Begun from to es) rest → b ≡ LINE_FEED → IsLine from to (lines.Done n) rest → OneMore first last front (Begun from to es) rest b
 done_end true first last from to es front rest b n t h lf line =
     let same : n ≡ length es = eqb-true n (length es) t in
     let spelled : text_of es ≡ begun_with es ++ ended rest = ap (λ (x : List ℕ). begun_with es ++ ended x) (ap done (sym same) ∙ sym line.1) in
@@ -100,39 +101,39 @@ done_end true first last from to es front rest b n t h lf line =
 done_end false first last from to es front rest b n t h lf line = inr (Count, inr (lf, (n, line, λ e. absurd (grind (arith, nat_tests)))))
 
 -- the LF of a later line
-later_end : (r : Option Line) (first last from to : ℕ) (es : List Entry) (front rest : List ℕ) (b : ℕ) → line_in from to (slice_split (λ b. b == 32) rest) ≡ r → to < 4096 → Holds first last front (Begun from to es) rest → b ≡ 10 → OneMore first last front (Begun from to es) rest b
+later_end : (r : Option Line) (first last from to : ℕ) (es : List Entry) (front rest : List ℕ) (b : ℕ) → line_in from to (slice_split (λ b. b == SPACE) rest) ≡ r → to < ADDRESS_END → Holds first last front (Begun from to es) rest → b ≡ LINE_FEED → OneMore first last front (Begun from to es) rest b
 later_end None first last from to es front rest b r small h lf =
     inr (Form, inr (lf, λ l k. none-some l (sym r ∙ line_again from to rest l small k)))
 later_end (Some (lines.Entry e)) first last from to es front rest b r small h lf = entry_end first last from to es front rest b e h lf (line_takes from to rest (lines.Entry e) small r)
 later_end (Some (lines.Done n)) first last from to es front rest b r small h lf = done_end (n == length es) first last from to es front rest b n refl h lf (line_takes from to rest (lines.Done n) small r)
 
-at_end : (first last : ℕ) (front : List ℕ) (taken : Taken) (rest : List ℕ) (b : ℕ) → last < 4096 → IsUnended taken → Holds first last front taken rest → b ≡ 10 → OneMore first last front taken rest b
+at_end : (first last : ℕ) (front : List ℕ) (taken : Taken) (rest : List ℕ) (b : ℕ) → last < ADDRESS_END → IsUnended taken → Holds first last front taken rest → b ≡ LINE_FEED → OneMore first last front taken rest b
 at_end first last front Nothing rest b small u h lf = first_end (bytes_eq rest first_line) first last front rest b refl h lf
-at_end first last front (Begun from to es) rest b small u h lf = later_end (line_in from to (slice_split (λ b. b == 32) rest)) first last from to es front rest b refl (omega (arith, h.lines.1)) h lf
+at_end first last front (Begun from to es) rest b small u h lf = later_end (line_in from to (slice_split (λ b. b == SPACE) rest)) first last from to es front rest b refl (omega (arith, h.lines.1)) h lf
 at_end first last front (Whole from to es) rest b small u h lf = absurd u
 
 -- a byte within a line, or its LF
-in_line : (lf full : Bool) (first last : ℕ) (front : List ℕ) (taken : Taken) (rest : List ℕ) (b : ℕ) → (b == 10) ≡ lf → (length rest == 199) ≡ full → last < 4096 → IsUnended taken → Holds first last front taken rest → OneMore first last front taken rest b
-in_line true full first last front taken rest b e f small u h = at_end first last front taken rest b small u h (eqb-true b 10 e)
-in_line false true first last front taken rest b e f small u h = inr (TooLong, meets_long taken rest b u (λ x. absurd (grind (arith, nat_tests))) (eqb-true (length rest) 199 f))
+in_line : (lf full : Bool) (first last : ℕ) (front : List ℕ) (taken : Taken) (rest : List ℕ) (b : ℕ) → (b == LINE_FEED) ≡ lf → (length rest == LONGEST_LINE - 1) ≡ full → last < ADDRESS_END → IsUnended taken → Holds first last front taken rest → OneMore first last front taken rest b
+in_line true full first last front taken rest b e f small u h = at_end first last front taken rest b small u h (eqb-true b LINE_FEED e)
+in_line false true first last front taken rest b e f small u h = inr (TooLong, meets_long taken rest b u (λ x. absurd (grind (arith, nat_tests))) (eqb-true (length rest) (LONGEST_LINE - 1) f))
 in_line false false first last front taken rest b e f small u h =
     let s = rest_is taken rest u h.begun in
-    let short : length (rest ++ b ∷ []) < 200 = shorter (length rest) (length (rest ++ b ∷ [])) f s.1 (length-append rest (b ∷ [])) in
-    inl (taken, rest ++ b ∷ [], record { parts = ap (λ (x : List ℕ). x ++ b ∷ []) h.parts ∙ append_assoc (text_taken taken) rest (b ∷ []); lines = h.lines; begun = rest_of taken (rest ++ b ∷ []) u (Without-append 10 rest (b ∷ []) s.0 (e, tt)) short })
+    let short : length (rest ++ b ∷ []) < LONGEST_LINE = shorter (length rest) (length (rest ++ b ∷ [])) f s.1 (length-append rest (b ∷ [])) in
+    inl (taken, rest ++ b ∷ [], record { parts = ap (λ (x : List ℕ). x ++ b ∷ []) h.parts ∙ append_assoc (text_taken taken) rest (b ∷ []); lines = h.lines; begun = rest_of taken (rest ++ b ∷ []) u (Without-append LINE_FEED rest (b ∷ []) s.0 (e, tt)) short })
   where
-    shorter : (n m : ℕ) → (n == 199) ≡ false → n < 200 → m ≡ n + 1 → m < 200
+    shorter : (n m : ℕ) → (n == LONGEST_LINE - 1) ≡ false → n < LONGEST_LINE → m ≡ n + 1 → m < LONGEST_LINE
     shorter n m d lt e = grind (arith, nat_tests)
 
-one_more : (first last : ℕ) (front : List ℕ) (taken : Taken) (rest : List ℕ) (b : ℕ) → last < 4096 → Holds first last front taken rest → OneMore first last front taken rest b
-one_more first last front Nothing rest b small h = in_line (b == 10) (length rest == 199) first last front Nothing rest b refl refl small tt h
-one_more first last front (Begun from to es) rest b small h = in_line (b == 10) (length rest == 199) first last front (Begun from to es) rest b refl refl small tt h
+one_more : (first last : ℕ) (front : List ℕ) (taken : Taken) (rest : List ℕ) (b : ℕ) → last < ADDRESS_END → Holds first last front taken rest → OneMore first last front taken rest b
+one_more first last front Nothing rest b small h = in_line (b == LINE_FEED) (length rest == LONGEST_LINE - 1) first last front Nothing rest b refl refl small tt h
+one_more first last front (Begun from to es) rest b small h = in_line (b == LINE_FEED) (length rest == LONGEST_LINE - 1) first last front (Begun from to es) rest b refl refl small tt h
 one_more first last front (Whole from to es) rest b small h = inr (After, refl)
 
 -- the text may stand, or a byte stops it
 abbrev pub Judged : ℕ → ℕ → List ℕ → Type 0
 Judged first last text = MayStand first last text ⊎ ((line : ℕ) × (why : CertWhy) × Stuck first last text line why)
 
-goes : (first last : ℕ) (front text : List ℕ) (taken : Taken) (rest : List ℕ) → last < 4096 → Holds first last front taken rest → Judged first last (front ++ text)
+goes : (first last : ℕ) (front text : List ℕ) (taken : Taken) (rest : List ℕ) → last < ADDRESS_END → Holds first last front taken rest → Judged first last (front ++ text)
 goes first last front [] taken rest small h = inl (subst (λ (x : List ℕ). MayStand first last x) (sym (append-nil front)) (taken, rest, h))
 goes first last front (b ∷ text) taken rest small h =
     elim (one_more first last front taken rest b small h) [
@@ -140,11 +141,11 @@ goes first last front (b ∷ text) taken rest small h =
       | inr m ↦ inr (line_number taken, m.0, (front, b, text, taken, rest, refl, h, m.1, refl))
     ]
 
-pub judged : (first last : ℕ) (text : List ℕ) → last < 4096 → Judged first last text
+pub judged : (first last : ℕ) (text : List ℕ) → last < ADDRESS_END → Judged first last text
 judged first last text small = goes first last [] text Nothing [] small (record { parts = refl; lines = tt; begun = (tt, omega arith) })
 
 -- a front of a text that may stand
-pub open_front : (first last : ℕ) (front after : List ℕ) → last < 4096 → MayStand first last (front ++ after) → MayStand first last front
+pub open_front : (first last : ℕ) (front after : List ℕ) → last < ADDRESS_END → MayStand first last (front ++ after) → MayStand first last front
 open_front first last front after small h =
     elim (judged first last front small) [
       | inl s ↦ s

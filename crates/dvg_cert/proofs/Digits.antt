@@ -10,7 +10,7 @@ use Rattle.std.proofs.lemmas.Str.Parse.{IsNumeralModel, digit_from_value, digits
 use Rattle.std.proofs.lemmas.Int.Digits.{digits_value-lt, digits_value_more}
 use Rattle.std.proofs.lemmas.Fmt.{decimal_is_IsNumeral, decimal-digits_value, length-decimal-le}
 use Rattle.std.proofs.Math.Seq.{take-length}
-use Rattle.dvg_cert.specs.Tokens.{limit}
+use Rattle.dvg_cert.specs.Limits.{MOST_MAGNITUDE}
 use Rattle.dvg_cert.proofs.Fields.{first_digit}
 
 own : IsNumeralModel (λ ds. AllDigits 10 ds) (digits_value 10)
@@ -36,13 +36,13 @@ one_digit ds i c n lt e from to h v =
     let m = digits_value_more 10 ds i lt in
     (rw add-one (all_more ds i lt h small), omega (arith, m))
 
-pub not_digit : (ds : List ℕ) (i c n : ℕ) → i < length ds → c ≡ get_or ds i 0 → n ≤ limit → ds ≡ decimal n → (48 ≤ c) × (c ≤ 57)
+pub not_digit : (ds : List ℕ) (i c n : ℕ) → i < length ds → c ≡ get_or ds i 0 → n ≤ MOST_MAGNITUDE → ds ≡ decimal n → (48 ≤ c) × (c ≤ 57)
 not_digit ds i c n lt e le d = let r = digit_at ds i lt (first_digit ds n (omega arith) d).1 in (omega arith, omega arith)
 
-pub not_long : (ds : List ℕ) (n : ℕ) → n ≤ limit → ds ≡ decimal n → (length ds ≤ 13) × (0 < length ds)
+pub not_long : (ds : List ℕ) (n : ℕ) → n ≤ MOST_MAGNITUDE → ds ≡ decimal n → (length ds ≤ 13) × (0 < length ds)
 not_long ds n le d = let s = first_digit ds n (omega arith) d in (omega (arith, ap length d, length-decimal-le 13 n (omega arith) (omega arith) (omega arith)), s.0)
 
-pub not_zero : (ds : List ℕ) (n : ℕ) → 1 < length ds → get_or ds 0 0 ≡ 48 → n ≤ limit → ds ≡ decimal n → ⊥
+pub not_zero : (ds : List ℕ) (n : ℕ) → 1 < length ds → get_or ds 0 0 ≡ 48 → n ≤ MOST_MAGNITUDE → ds ≡ decimal n → ⊥
 not_zero [] n lt z le d = absurd (omega arith)
 not_zero (x ∷ ds) n lt z le d =
     let s = first_digit (x ∷ ds) n (omega arith) d in
@@ -54,7 +54,7 @@ not_zero (x ∷ ds) n lt z le d =
     let short = length-decimal-le (length ds) n (omega arith) lt2 (omega arith) in
     absurd (omega (arith, ap length d))
 
-pub no_zero : (ds : List ℕ) (n : ℕ) → n ≤ limit → ds ≡ decimal n → get_or ds 0 0 ≡ 48 → length ds ≡ 1
+pub no_zero : (ds : List ℕ) (n : ℕ) → n ≤ MOST_MAGNITUDE → ds ≡ decimal n → get_or ds 0 0 ≡ 48 → length ds ≡ 1
 no_zero ds n le d z = short (nat_lt 1 (length ds)) refl
   where
     short : (t : Bool) → nat_lt 1 (length ds) ≡ t → length ds ≡ 1

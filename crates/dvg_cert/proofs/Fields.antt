@@ -10,24 +10,20 @@ use Rattle.std.proofs.lemmas.Bool.Decides.{nat_tests}
 use Rattle.std.proofs.lemmas.Option.{cond_some}
 use Rattle.std.proofs.Common.{zero}
 use Rattle.std.proofs.lemmas.Int.{ints}
-use Rattle.std.proofs.lemmas.Bool.{eqb-true}
+use Rattle.std.proofs.lemmas.Bool.{eqb-true, and_parts}
 use Rattle.std.proofs.lemmas.Fmt.{decimal_is_IsNumeral}
 use Rattle.std.proofs.lemmas.Str.Parse.{digit_from_value}
 use Rattle.std.specs.Str.Parse.{AllDigits}
+use Rattle.dvg_cert.specs.Limits.{MOST_MAGNITUDE, ADDRESS_END}
 use Rattle.dvg_cert.specs.Entry.{Key, At, Any, IsNumber, IsKey}
 use Rattle.dvg_cert.specs.Grammar.{address_token, key_token}
-use Rattle.dvg_cert.specs.Tokens.{bind, ◌>>=◌, natural_in, number_in, key_in, hex_value, address_in, limit}
+use Rattle.dvg_cert.specs.Private.Tokens.{◌>>=◌, natural_in, number_in, key_in, hex_value, address_in}
 use Rattle.dvg_cert.proofs.NaturalNumbers.{natural_some}
 
 -- the value of a step that did not fail
 pub bind_some : {A B : Type 0} (r : Option A) (f : A → Option B) (y : B) → (r >>= f) ≡ Some y → (x : A) × (r ≡ Some x) × (f x ≡ Some y)
-unfolding bind
 bind_some None f y e = absurd cc
 bind_some (Some x) f y e = (x, refl, e)
-
-pub both : (b c : Bool) → (b && c) ≡ true → (b ≡ true) × (c ≡ true)
-both true c e = (refl, e)
-both false c e = absurd cc
 
 pub same_bytes : (xs ys : List ℕ) → bytes_eq xs ys ≡ true → xs ≡ ys
 same_bytes xs ys = (bytes_eq-Decides xs ys).0
@@ -40,8 +36,8 @@ unfolding natural_in
 natural_takes low high token n e =
     let m : ℕ = digits_value 10 token in
     let g = cond_some (bytes_eq (decimal m) token && (nat_le low m && nat_le m high)) m n e in
-    let a = both (bytes_eq (decimal m) token) (nat_le low m && nat_le m high) g.0 in
-    let b = both (nat_le low m) (nat_le m high) a.1 in
+    let a = and_parts (bytes_eq (decimal m) token) (nat_le low m && nat_le m high) g.0 in
+    let b = and_parts (nat_le low m) (nat_le m high) a.1 in
     let from : low ≤ m = grind (arith, nat_tests) in
     let to : m ≤ high = grind (arith, nat_tests) in
     (sym (same_bytes (decimal m) token a.0) ∙ ap decimal g.1, subst (λ (k : ℕ). low ≤ k) g.1 from, subst (λ (k : ℕ). k ≤ high) g.1 to)
@@ -50,23 +46,23 @@ map_some : {A B : Type 0} (f : A → B) (o : Option A) (y : B) → option_map f 
 map_some f None y e = absurd cc
 map_some f (Some x) y e = (x, refl, cc)
 
-negated : (n : ℕ) → 1 ≤ n → n ≤ limit → (45 ∷ decimal n ≡ signed_decimal (neg_ℤ (pos n))) × IsNumber (neg_ℤ (pos n))
+negated : (n : ℕ) → 1 ≤ n → n ≤ MOST_MAGNITUDE → (45 ∷ decimal n ≡ signed_decimal (neg_ℤ (pos n))) × IsNumber (neg_ℤ (pos n))
 negated zero from to = absurd (omega arith)
 negated (suc n) from to = (refl, (omega (arith, ints), omega (arith, ints)))
 
-number_step : (t : Bool) (c : ℕ) (cs : List ℕ) (z : ℤ) → (c == 45) ≡ t → cond t (option_map (λ n. neg_ℤ (pos n)) (natural_in 1 limit cs)) (option_map pos (natural_in 0 limit (c ∷ cs))) ≡ Some z → (c ∷ cs ≡ signed_decimal z) × IsNumber z
+number_step : (t : Bool) (c : ℕ) (cs : List ℕ) (z : ℤ) → (c == 45) ≡ t → cond t (option_map (λ n. neg_ℤ (pos n)) (natural_in 1 MOST_MAGNITUDE cs)) (option_map pos (natural_in 0 MOST_MAGNITUDE (c ∷ cs))) ≡ Some z → (c ∷ cs ≡ signed_decimal z) × IsNumber z
 number_step true c cs z is e =
-    let m = map_some (λ n. neg_ℤ (pos n)) (natural_in 1 limit cs) z e in
-    let t = natural_takes 1 limit cs m.0 m.1 in
+    let m = map_some (λ n. neg_ℤ (pos n)) (natural_in 1 MOST_MAGNITUDE cs) z e in
+    let t = natural_takes 1 MOST_MAGNITUDE cs m.0 m.1 in
     let g = negated m.0 t.1 t.2 in
     let c_is : c ≡ 45 = eqb-true c 45 is in
     subst (λ (y : ℤ). (c ∷ cs ≡ signed_decimal y) × IsNumber y) m.2 (ap (λ (x : ℕ). x ∷ cs) c_is ∙ ap (λ (ds : List ℕ). 45 ∷ ds) t.0 ∙ g.0, g.1)
 number_step false c cs z is e =
-    let m = map_some pos (natural_in 0 limit (c ∷ cs)) z e in
-    let t = natural_takes 0 limit (c ∷ cs) m.0 m.1 in
+    let m = map_some pos (natural_in 0 MOST_MAGNITUDE (c ∷ cs)) z e in
+    let t = natural_takes 0 MOST_MAGNITUDE (c ∷ cs) m.0 m.1 in
     subst (λ (y : ℤ). (c ∷ cs ≡ signed_decimal y) × IsNumber y) m.2 (t.0, (omega (arith, ints), omega (arith, ints)))
 
-pub number_takes : (token : List ℕ) (z : ℤ) → number_in limit token ≡ Some z → (token ≡ signed_decimal z) × IsNumber z
+pub number_takes : (token : List ℕ) (z : ℤ) → number_in MOST_MAGNITUDE token ≡ Some z → (token ≡ signed_decimal z) × IsNumber z
 unfolding number_in
 number_takes [] z e = absurd cc
 number_takes (c ∷ cs) z e = number_step (c == 45) c cs z refl e
@@ -75,20 +71,20 @@ number_takes (c ∷ cs) z e = number_step (c == 45) c cs z refl e
 pub first_digit : (w : List ℕ) (n : ℕ) → n < 2 ^ 64 → w ≡ decimal n → (0 < length w) × AllDigits 10 w
 first_digit w n small e = subst (λ (ds : List ℕ). (0 < length ds) × AllDigits 10 ds) (sym e) (decimal_is_IsNumeral n small).0
 
-plain : (w : List ℕ) (n : ℕ) → n ≤ limit → w ≡ decimal n → (0 < length w) × AllDigits 10 w → number_in limit w ≡ Some (pos n)
+plain : (w : List ℕ) (n : ℕ) → n ≤ MOST_MAGNITUDE → w ≡ decimal n → (0 < length w) × AllDigits 10 w → number_in MOST_MAGNITUDE w ≡ Some (pos n)
 unfolding number_in
 plain [] n to e h = absurd (omega (arith, h.0))
 plain (c ∷ cs) n to e h =
     let r = digit_from_value c h.1.0 in
     let differs : (c == 45) ≡ false = grind (arith, nat_tests) in
-    let got : natural_in 0 limit (c ∷ cs) ≡ Some n = natural_some 0 limit n (c ∷ cs) (omega arith) (omega arith) to e in
+    let got : natural_in 0 MOST_MAGNITUDE (c ∷ cs) ≡ Some n = natural_some 0 MOST_MAGNITUDE n (c ∷ cs) (omega arith) (omega arith) to e in
     rw (differs, got) refl
 
-pub number_again : (z : ℤ) → IsNumber z → number_in limit (signed_decimal z) ≡ Some z
+pub number_again : (z : ℤ) → IsNumber z → number_in MOST_MAGNITUDE (signed_decimal z) ≡ Some z
 unfolding number_in
 number_again (pos n) h = plain (decimal n) n (omega (arith, ints)) refl (first_digit (decimal n) n (omega (arith, ints)) refl)
 number_again (negsuc n) h =
-    let got : natural_in 1 limit (decimal (suc n)) ≡ Some (suc n) = natural_some 1 limit (suc n) (decimal (suc n)) (omega (arith, ints)) (omega arith) (omega (arith, ints)) refl in
+    let got : natural_in 1 MOST_MAGNITUDE (decimal (suc n)) ≡ Some (suc n) = natural_some 1 MOST_MAGNITUDE (suc n) (decimal (suc n)) (omega (arith, ints)) (omega arith) (omega (arith, ints)) refl in
     rw got refl
 
 key_step : (t : Bool) (token : List ℕ) (k : Key) → bytes_eq token (codes "any") ≡ t → cond t (Some Any) (option_map At (natural_in 0 15 token)) ≡ Some k → (token ≡ key_token k) × IsKey k
@@ -142,19 +138,19 @@ hex_parts first last u v w n a x y z hu hv hw from to n_is same ex ey ez =
     joined : (a b c x y z : ℕ) → a ≡ x → b ≡ y → c ≡ z → (a ∷ b ∷ c ∷ []) ≡ (x ∷ y ∷ z ∷ [])
     joined a b c x y z p q r = cc
 
-pub address_takes : (first last : ℕ) (token : List ℕ) (a : ℕ) → last < 4096 → address_in first last token ≡ Some a → (token ≡ address_token a) × (first ≤ a) × (a ≤ last)
+pub address_takes : (first last : ℕ) (token : List ℕ) (a : ℕ) → last < ADDRESS_END → address_in first last token ≡ Some a → (token ≡ address_token a) × (first ≤ a) × (a ≤ last)
 unfolding address_in
 address_takes first last (x ∷ y ∷ z ∷ []) a small e =
     let n : ℕ = hex_value x * 256 + hex_value y * 16 + hex_value z in
     let g = cond_some ((nat_lt (hex_value x) 16 && (nat_lt (hex_value y) 16 && nat_lt (hex_value z) 16)) && (nat_le first n && nat_le n last)) n a e in
     hex_read first last x y z n a small refl g.0 g.1
   where
-    hex_read : (first last x y z n a : ℕ) → last < 4096 → n ≡ hex_value x * 256 + hex_value y * 16 + hex_value z → ((nat_lt (hex_value x) 16 && (nat_lt (hex_value y) 16 && nat_lt (hex_value z) 16)) && (nat_le first n && nat_le n last)) ≡ true → n ≡ a → (x ∷ y ∷ z ∷ [] ≡ address_token a) × (first ≤ a) × (a ≤ last)
+    hex_read : (first last x y z n a : ℕ) → last < ADDRESS_END → n ≡ hex_value x * 256 + hex_value y * 16 + hex_value z → ((nat_lt (hex_value x) 16 && (nat_lt (hex_value y) 16 && nat_lt (hex_value z) 16)) && (nat_le first n && nat_le n last)) ≡ true → n ≡ a → (x ∷ y ∷ z ∷ [] ≡ address_token a) × (first ≤ a) × (a ≤ last)
     hex_read first last x y z n a small n_is ok same =
-        let p = both (nat_lt (hex_value x) 16 && (nat_lt (hex_value y) 16 && nat_lt (hex_value z) 16)) (nat_le first n && nat_le n last) ok in
-        let q = both (nat_lt (hex_value x) 16) (nat_lt (hex_value y) 16 && nat_lt (hex_value z) 16) p.0 in
-        let r = both (nat_lt (hex_value y) 16) (nat_lt (hex_value z) 16) q.1 in
-        let s = both (nat_le first n) (nat_le n last) p.1 in
+        let p = and_parts (nat_lt (hex_value x) 16 && (nat_lt (hex_value y) 16 && nat_lt (hex_value z) 16)) (nat_le first n && nat_le n last) ok in
+        let q = and_parts (nat_lt (hex_value x) 16) (nat_lt (hex_value y) 16 && nat_lt (hex_value z) 16) p.0 in
+        let r = and_parts (nat_lt (hex_value y) 16) (nat_lt (hex_value z) 16) q.1 in
+        let s = and_parts (nat_le first n) (nat_le n last) p.1 in
         hex_parts first last (hex_value x) (hex_value y) (hex_value z) n a x y z (below (hex_value x) q.0) (below (hex_value y) r.0) (below (hex_value z) r.1) (at_most first n s.0) (at_most n last s.1) n_is same (glyph_takes x (below (hex_value x) q.0)) (glyph_takes y (below (hex_value y) r.0)) (glyph_takes z (below (hex_value z) r.1))
 address_takes first last token a small e = absurd cc
 
@@ -168,18 +164,18 @@ hex_made first last u v w a x y z hu hv hw a_is from to ex ey ez =
     let tl : nat_le a last ≡ true = grind (arith, nat_tests) in
     rw (ex, ey, ez, ← a_is, tu, tv, tw, tf, tl) refl
 
-pub address_again : (first last a : ℕ) → last < 4096 → first ≤ a → a ≤ last → address_in first last (address_token a) ≡ Some a
+pub address_again : (first last a : ℕ) → last < ADDRESS_END → first ≤ a → a ≤ last → address_in first last (address_token a) ≡ Some a
 address_again first last a small from to =
     hex_made first last (a / 256) (a / 16 % 16) (a % 16) a (digit_glyph true (a / 256)) (digit_glyph true (a / 16 % 16)) (digit_glyph true (a % 16)) (omega arith) (omega arith) (omega arith) (omega arith) from to
     (glyph_again (a / 256) (omega arith)) (glyph_again (a / 16 % 16) (omega arith)) (glyph_again (a % 16) (omega arith))
 
 -- ---- tokens on their own
 
-pub address_found : (token : List ℕ) (o : Option ℕ) → o ≡ address_in 0 4095 token → IfSome o (λ a. (a < 4096) × (token ≡ address_token a))
+pub address_found : (token : List ℕ) (o : Option ℕ) → o ≡ address_in 0 4095 token → IfSome o (λ a. (a < ADDRESS_END) × (token ≡ address_token a))
 address_found token None e = tt
 address_found token (Some a) e = let t = address_takes 0 4095 token a (omega arith) (sym e) in (omega (arith, t.2), t.0)
 
-pub no_address : (token : List ℕ) (o : Option ℕ) → o ≡ address_in 0 4095 token → IfNone o ((a : ℕ) → a < 4096 → token ≡ address_token a → ⊥)
+pub no_address : (token : List ℕ) (o : Option ℕ) → o ≡ address_in 0 4095 token → IfNone o ((a : ℕ) → a < ADDRESS_END → token ≡ address_token a → ⊥)
 no_address token None e = λ a small is. let again = address_again 0 4095 a (omega arith) (omega arith) (omega (arith, small)) in let found : address_in 0 4095 token ≡ Some a = ap (address_in 0 4095) is ∙ again in cc
 no_address token (Some a) e = tt
 

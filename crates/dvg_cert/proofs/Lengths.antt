@@ -1,5 +1,6 @@
 -- How long a line is.
 use Rattle.std.proofs.Common.{◌≡◌, ℕ, suc, ◌+◌, ◌≤◌, List, [], ◌∷◌, ◌++◌, length, arith, w64}
+use Rattle.dvg_cert.specs.Limits.{MOST_ENTRIES, SPACE}
 use mir.Val.{SFits}
 use Rattle.std.specs.Prelude.{codes, decimal, ℤ, pos, negsuc}
 use Rattle.std.specs.Fmt.{signed_decimal}
@@ -15,10 +16,10 @@ abbrev pub weight : List (List ℕ) → ℕ
 weight [] = 0
 weight (w ∷ ws) = length w + 1 + weight ws
 
-join_le : (ws : List (List ℕ)) → length (join_with_byte 32 ws) ≤ weight ws
+join_le : (ws : List (List ℕ)) → length (join_with_byte SPACE ws) ≤ weight ws
 join_le [] = omega arith
 join_le (w ∷ []) = omega arith
-join_le (w ∷ v ∷ vs) = omega (arith, join_le (v ∷ vs), length-append w (32 ∷ join_with_byte 32 (v ∷ vs)))
+join_le (w ∷ v ∷ vs) = omega (arith, join_le (v ∷ vs), length-append w (SPACE ∷ join_with_byte SPACE (v ∷ vs)))
 
 weight-append : (ws vs : List (List ℕ)) → weight (ws ++ vs) ≡ weight ws + weight vs
 weight-append [] vs = omega arith
@@ -61,5 +62,5 @@ length_entry first last e h =
     at_most : (a b : ℕ) → a ≤ b → b ≤ 148 → a ≤ 148
     at_most a b h k = omega arith
 
-pub length_done : (n : ℕ) → n ≤ 4096 → length (done_line n) ≤ 10
+pub length_done : (n : ℕ) → n ≤ MOST_ENTRIES → length (done_line n) ≤ 10
 length_done n h = omega (arith, length-decimal-le 4 n (omega arith) (omega arith) (omega arith), join_le (codes "done" ∷ decimal n ∷ []))

@@ -1,4 +1,3 @@
-pub mod KnownPieces
 pub mod NaturalNumbers
 pub mod Cutting
 pub mod Digits

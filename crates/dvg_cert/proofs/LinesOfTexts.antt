@@ -3,6 +3,7 @@ use Rattle.std.proofs.Common.{◌≡◌, ℕ, ◌<◌, ◌≤◌, List, [], ◌�
 use Rattle.std.specs.List.{AllByRecursion}
 use Rattle.std.proofs.lemmas.List.{append-nil, length-append}
 use Rattle.std.proofs.lemmas.Bool.Decides.{nat_tests}
+use Rattle.dvg_cert.specs.Limits.{MOST_ENTRIES, LINE_FEED, ADDRESS_END}
 use Rattle.dvg_cert.specs.Entry.{Entry, IsEntry}
 use Rattle.dvg_cert.specs.Order.{IsCertificate, StandsAfter, IsRising}
 use Rattle.dvg_cert.specs.Grammar.{entry_line, first_line, done_line}
@@ -18,59 +19,54 @@ Text : Type 0
 Text = List ℕ
 
 -- cutting at the first line end
-pub cut_once : (a b c d : List ℕ) → Without 10 a → Without 10 c → a ++ 10 ∷ b ≡ c ++ 10 ∷ d → (a ≡ c) × (b ≡ d)
+pub cut_once : (a b c d : List ℕ) → Without LINE_FEED a → Without LINE_FEED c → a ++ LINE_FEED ∷ b ≡ c ++ LINE_FEED ∷ d → (a ≡ c) × (b ≡ d)
 cut_once [] b [] d h k e = (refl, cc)
-cut_once [] b (y ∷ c) d h k e = let n : 10 ≡ y = cc in absurd (grind (arith, nat_tests))
-cut_once (x ∷ a) b [] d h k e = let n : x ≡ 10 = cc in absurd (grind (arith, nat_tests))
+cut_once [] b (y ∷ c) d h k e = let n : LINE_FEED ≡ y = cc in absurd (grind (arith, nat_tests))
+cut_once (x ∷ a) b [] d h k e = let n : x ≡ LINE_FEED = cc in absurd (grind (arith, nat_tests))
 cut_once (x ∷ a) b (y ∷ c) d h k e =
     let head : x ≡ y = cc in
     let r = cut_once a b c d h.1 k.1 (cc) in
     (cc (head, r.0), r.1)
 
-pub no_cut : (a b c : List ℕ) → Without 10 c → a ++ 10 ∷ b ≡ c → ⊥
+pub no_cut : (a b c : List ℕ) → Without LINE_FEED c → a ++ LINE_FEED ∷ b ≡ c → ⊥
 no_cut [] b [] k e = cc
-no_cut [] b (y ∷ c) k e = let n : 10 ≡ y = cc in absurd (grind (arith, nat_tests))
+no_cut [] b (y ∷ c) k e = let n : LINE_FEED ≡ y = cc in absurd (grind (arith, nat_tests))
 no_cut (x ∷ a) b [] k e = cc
 no_cut (x ∷ a) b (y ∷ c) k e = no_cut a b c k.1 (cc)
 
 -- lines with their ends
 abbrev pub lines_text : List (List ℕ) → List ℕ
 lines_text [] = []
-lines_text (l ∷ ls) = l ++ 10 ∷ lines_text ls
+lines_text (l ∷ ls) = l ++ LINE_FEED ∷ lines_text ls
 
 abbrev pub Frees : List (List ℕ) → Type 0
 Frees [] = Unit {0}
-Frees (l ∷ ls) = Without 10 l × Frees ls
+Frees (l ∷ ls) = Without LINE_FEED l × Frees ls
 
 -- lines and a tail are other lines and a rest: then they are the first of those lines
-pub lines_front : (ls ms : List (List ℕ)) (tail rest : List ℕ) → Frees ls → Frees ms → Without 10 rest → lines_text ls ++ tail ≡ lines_text ms ++ rest → (more : List (List ℕ)) × (ms ≡ ls ++ more) × (tail ≡ lines_text more ++ rest)
+pub lines_front : (ls ms : List (List ℕ)) (tail rest : List ℕ) → Frees ls → Frees ms → Without LINE_FEED rest → lines_text ls ++ tail ≡ lines_text ms ++ rest → (more : List (List ℕ)) × (ms ≡ ls ++ more) × (tail ≡ lines_text more ++ rest)
 lines_front [] ms tail rest h k free e = (ms, refl, e)
-lines_front (l ∷ ls) [] tail rest h k free e = absurd (no_cut l (lines_text ls ++ tail) rest free (sym (append_assoc l (10 ∷ lines_text ls) tail) ∙ e))
+lines_front (l ∷ ls) [] tail rest h k free e = absurd (no_cut l (lines_text ls ++ tail) rest free (sym (append_assoc l (LINE_FEED ∷ lines_text ls) tail) ∙ e))
 lines_front (l ∷ ls) (m ∷ ms) tail rest h k free e =
-    let c = cut_once l (lines_text ls ++ tail) m (lines_text ms ++ rest) h.0 k.0 (sym (append_assoc l (10 ∷ lines_text ls) tail) ∙ e ∙ append_assoc m (10 ∷ lines_text ms) rest) in
+    let c = cut_once l (lines_text ls ++ tail) m (lines_text ms ++ rest) h.0 k.0 (sym (append_assoc l (LINE_FEED ∷ lines_text ls) tail) ∙ e ∙ append_assoc m (LINE_FEED ∷ lines_text ms) rest) in
     let r = lines_front ls ms tail rest h.1 k.1 free c.1 in
     (r.0, cc (c.0, r.1), r.2)
 
 -- a line says one thing
-pub one_line : (first last : ℕ) (bytes : List ℕ) (l m : Line) → last < 4096 → IsLine first last l bytes → IsLine first last m bytes → l ≡ m
+pub one_line : (first last : ℕ) (bytes : List ℕ) (l m : Line) → last < ADDRESS_END → IsLine first last l bytes → IsLine first last m bytes → l ≡ m
 one_line first last bytes l m small h k =
     let e : Some l ≡ Some m = sym (line_again first last bytes l small h) ∙ line_again first last bytes m small k in
     cc
 
-pub one_entry : (first last : ℕ) (x y : Entry) → last < 4096 → IsEntry first last x → IsEntry first last y → entry_line x ≡ entry_line y → x ≡ y
+pub one_entry : (first last : ℕ) (x y : Entry) → last < ADDRESS_END → IsEntry first last x → IsEntry first last y → entry_line x ≡ entry_line y → x ≡ y
 one_entry first last x y small h k e =
     let s : lines.Entry x ≡ lines.Entry y = one_line first last (entry_line x) (lines.Entry x) (lines.Entry y) small (h, refl) (k, e) in
     cc
 
-pub entry_not_done : (first last : ℕ) (x : Entry) (n : ℕ) → last < 4096 → IsEntry first last x → n ≤ 4096 → entry_line x ≡ done_line n → ⊥
+pub entry_not_done : (first last : ℕ) (x : Entry) (n : ℕ) → last < ADDRESS_END → IsEntry first last x → n ≤ MOST_ENTRIES → entry_line x ≡ done_line n → ⊥
 entry_not_done first last x n small h k e =
     let s : lines.Entry x ≡ lines.Done n = one_line first last (entry_line x) (lines.Entry x) (lines.Done n) small (h, refl) (k, e) in
     absurd cc
-
-pub one_done : (first last m n : ℕ) → last < 4096 → m ≤ 4096 → n ≤ 4096 → done_line m ≡ done_line n → m ≡ n
-one_done first last m n small h k e =
-    let s : lines.Done m ≡ lines.Done n = one_line first last (done_line m) (lines.Done m) (lines.Done n) small (h, refl) (k, e) in
-    cc
 
 -- the lines of entries
 abbrev pub entry_lines : List Entry → List (List ℕ)
@@ -87,7 +83,7 @@ abbrev pub NoEntry : ℕ → ℕ → List (List ℕ) → Type 0
 NoEntry first last end = (x : Entry) (ls : List (List ℕ)) → IsEntry first last x → end ≡ entry_line x ∷ ls → ⊥
 
 -- one list goes on where the other has a line
-pub next_of : (first last : ℕ) (es fs : List Entry) (end ms : List (List ℕ)) (line : List ℕ) → last < 4096 → AllByRecursion (IsEntry first last) es → AllByRecursion (IsEntry first last) fs → NoEntry first last end
+pub next_of : (first last : ℕ) (es fs : List Entry) (end ms : List (List ℕ)) (line : List ℕ) → last < ADDRESS_END → AllByRecursion (IsEntry first last) es → AllByRecursion (IsEntry first last) fs → NoEntry first last end
     → entry_lines fs ++ end ≡ entry_lines es ++ line ∷ ms → ((e : Entry) × (gs : List Entry) × (fs ≡ es ++ e ∷ gs) × (line ≡ entry_line e)) ⊎ ((fs ≡ es) × (end ≡ line ∷ ms))
 next_of first last [] [] end ms line small h k never e = inr (refl, e)
 next_of first last [] (f ∷ fs) end ms line small h k never e = inl (f, fs, refl, sym (cc))
@@ -102,7 +98,7 @@ next_of first last (x ∷ es) (f ∷ fs) end ms line small h k never e =
     ]
 
 -- two lists that end alike
-pub ends_once : (first last : ℕ) (es fs : List Entry) (end end' : List (List ℕ)) → last < 4096 → AllByRecursion (IsEntry first last) es → AllByRecursion (IsEntry first last) fs → NoEntry first last end → NoEntry first last end'
+pub ends_once : (first last : ℕ) (es fs : List Entry) (end end' : List (List ℕ)) → last < ADDRESS_END → AllByRecursion (IsEntry first last) es → AllByRecursion (IsEntry first last) fs → NoEntry first last end → NoEntry first last end'
     → entry_lines es ++ end ≡ entry_lines fs ++ end' → (es ≡ fs) × (end ≡ end')
 ends_once first last [] [] end end' small h k never never' e = (refl, e)
 ends_once first last [] (f ∷ fs) end end' small h k never never' e = absurd (never f (entry_lines fs ++ end') k.0 e)
@@ -117,7 +113,7 @@ ends_once first last (x ∷ es) (f ∷ fs) end end' small h k never never' e =
 no_entry_nil : (first last : ℕ) → NoEntry first last []
 no_entry_nil first last = λ x ls h e. absurd cc
 
-no_entry_done : (first last n : ℕ) → last < 4096 → n ≤ 4096 → NoEntry first last (done_line n ∷ [])
+no_entry_done : (first last n : ℕ) → last < ADDRESS_END → n ≤ MOST_ENTRIES → NoEntry first last (done_line n ∷ [])
 no_entry_done first last n small few = λ x ls h e. let head : done_line n ≡ entry_line x = cc in entry_not_done first last x n small h few (sym head)
 
 same_begun : (from to from' to' : ℕ) (es fs : List Entry) → from ≡ from' → to ≡ to' → es ≡ fs → Begun from to es ≡ Begun from' to' fs
@@ -126,7 +122,7 @@ same_begun from to from' to' es fs p q r = cc
 same_whole : (from to from' to' : ℕ) (es fs : List Entry) → from ≡ from' → to ≡ to' → es ≡ fs → Whole from to es ≡ Whole from' to' fs
 same_whole from to from' to' es fs p q r = cc
 
-pub lines_once : (first last : ℕ) (t u : Taken) → last < 4096 → IsTaken first last t → IsTaken first last u → lines_of t ≡ lines_of u → t ≡ u
+pub lines_once : (first last : ℕ) (t u : Taken) → last < ADDRESS_END → IsTaken first last t → IsTaken first last u → lines_of t ≡ lines_of u → t ≡ u
 lines_once first last Nothing Nothing small h k e = refl
 lines_once first last Nothing (Begun from' to' fs) small h k e = absurd cc
 lines_once first last Nothing (Whole from' to' fs) small h k e = absurd cc
@@ -169,34 +165,34 @@ rising_mid (x ∷ y ∷ es) e gs h = rising_mid (y ∷ es) e gs h.1
 -- the line may stand after these
 abbrev pub GoesOn : Taken → List ℕ → Type 0
 GoesOn Nothing line = line ≡ first_line
-GoesOn (Begun from to es) line = ((e : Entry) × IsLine from to (lines.Entry e) line × StandsAfter es e × (length es < 4096)) ⊎ IsLine from to (lines.Done (length es)) line
+GoesOn (Begun from to es) line = ((e : Entry) × IsLine from to (lines.Entry e) line × StandsAfter es e × (length es < MOST_ENTRIES)) ⊎ IsLine from to (lines.Done (length es)) line
 GoesOn (Whole from to es) line = ⊥
 
 -- the addresses of these lines are three digits
 abbrev pub Small : Taken → Type 0
 Small Nothing = Unit {0}
-Small (Begun from to es) = to < 4096
-Small (Whole from to es) = to < 4096
+Small (Begun from to es) = to < ADDRESS_END
+Small (Whole from to es) = to < ADDRESS_END
 
-pub small_taken : (first last : ℕ) (t : Taken) → last < 4096 → IsTaken first last t → Small t
+pub small_taken : (first last : ℕ) (t : Taken) → last < ADDRESS_END → IsTaken first last t → Small t
 small_taken first last Nothing small h = tt
 small_taken first last (Begun from to es) small h = omega (arith, h.1)
 small_taken first last (Whole from to es) small h = omega (arith, h.1)
 
-goes_entry : (first last : ℕ) (es fs : List Entry) (line : List ℕ) → IsCertificate first last fs → ((e : Entry) × (gs : List Entry) × (fs ≡ es ++ e ∷ gs) × (line ≡ entry_line e)) → (e : Entry) × IsLine first last (lines.Entry e) line × StandsAfter es e × (length es < 4096)
+goes_entry : (first last : ℕ) (es fs : List Entry) (line : List ℕ) → IsCertificate first last fs → ((e : Entry) × (gs : List Entry) × (fs ≡ es ++ e ∷ gs) × (line ≡ entry_line e)) → (e : Entry) × IsLine first last (lines.Entry e) line × StandsAfter es e × (length es < MOST_ENTRIES)
 goes_entry first last es fs line h r =
     let each : AllByRecursion (IsEntry first last) (es ++ r.0 ∷ r.1) = subst (λ (xs : List Entry). AllByRecursion (IsEntry first last) xs) r.2 h.each in
     let rising : IsRising (es ++ r.0 ∷ r.1) = subst (λ (xs : List Entry). IsRising xs) r.2 h.rising in
-    let few : length (es ++ r.0 ∷ r.1) ≤ 4096 = subst (λ (xs : List Entry). length xs ≤ 4096) r.2 h.few in
+    let few : length (es ++ r.0 ∷ r.1) ≤ MOST_ENTRIES = subst (λ (xs : List Entry). length xs ≤ MOST_ENTRIES) r.2 h.few in
     (r.0, (each_mid first last es r.0 r.1 each, r.3), rising_mid es r.0 r.1 rising, omega (arith, length-append es (r.0 ∷ r.1)))
 
-pub goes_on : (first last : ℕ) (t u : Taken) (line : List ℕ) (ms : List (List ℕ)) → last < 4096 → IsTaken first last t → IsTaken first last u → lines_of u ≡ lines_of t ++ line ∷ ms → GoesOn t line
+pub goes_on : (first last : ℕ) (t u : Taken) (line : List ℕ) (ms : List (List ℕ)) → last < ADDRESS_END → IsTaken first last t → IsTaken first last u → lines_of u ≡ lines_of t ++ line ∷ ms → GoesOn t line
 goes_on first last Nothing Nothing line ms small h k e = absurd cc
 goes_on first last Nothing (Begun from' to' fs) line ms small h k e = cc
 goes_on first last Nothing (Whole from' to' fs) line ms small h k e = cc
 goes_on first last (Begun from to es) Nothing line ms small h k e = absurd cc
 goes_on first last (Begun from to es) (Begun from' to' fs) line ms small h k e =
-    let less : to < 4096 = omega (arith, h.1, small) in
+    let less : to < ADDRESS_END = omega (arith, h.1, small) in
     let y = same_rom from to from' to' fs (k.0 ∙ sym h.0) (k.1 ∙ sym h.1) k.2 in
     let tail : entry_lines fs ≡ entry_lines es ++ line ∷ ms = cc in
     elim (next_of from to es fs [] ms line less h.2.each y.each (no_entry_nil from to) (append-nil (entry_lines fs) ∙ tail)) [
@@ -204,7 +200,7 @@ goes_on first last (Begun from to es) (Begun from' to' fs) line ms small h k e =
       | inr r ↦ absurd (cc (r.1))
     ]
 goes_on first last (Begun from to es) (Whole from' to' fs) line ms small h k e =
-    let less : to < 4096 = omega (arith, h.1, small) in
+    let less : to < ADDRESS_END = omega (arith, h.1, small) in
     let y = same_rom from to from' to' fs (k.0 ∙ sym h.0) (k.1 ∙ sym h.1) k.2 in
     let tail : entry_lines fs ++ done_line (length fs) ∷ [] ≡ entry_lines es ++ line ∷ ms = cc in
     elim (next_of from to es fs (done_line (length fs) ∷ []) ms line less h.2.each y.each (no_entry_done from to (length fs) less y.few) tail) [
@@ -213,7 +209,7 @@ goes_on first last (Begun from to es) (Whole from' to' fs) line ms small h k e =
     ]
 goes_on first last (Whole from to es) Nothing line ms small h k e = absurd cc
 goes_on first last (Whole from to es) (Begun from' to' fs) line ms small h k e =
-    let less : to < 4096 = omega (arith, h.1, small) in
+    let less : to < ADDRESS_END = omega (arith, h.1, small) in
     let y = same_rom from to from' to' fs (k.0 ∙ sym h.0) (k.1 ∙ sym h.1) k.2 in
     let tail : entry_lines fs ≡ (entry_lines es ++ done_line (length es) ∷ []) ++ line ∷ ms = cc in
     elim (next_of from to es fs [] (line ∷ ms) (done_line (length es)) less h.2.each y.each (no_entry_nil from to) (append-nil (entry_lines fs) ∙ tail ∙ append_assoc (entry_lines es) (done_line (length es) ∷ []) (line ∷ ms))) [
@@ -221,7 +217,7 @@ goes_on first last (Whole from to es) (Begun from' to' fs) line ms small h k e =
       | inr r ↦ absurd (cc (r.1))
     ]
 goes_on first last (Whole from to es) (Whole from' to' fs) line ms small h k e =
-    let less : to < 4096 = omega (arith, h.1, small) in
+    let less : to < ADDRESS_END = omega (arith, h.1, small) in
     let y = same_rom from to from' to' fs (k.0 ∙ sym h.0) (k.1 ∙ sym h.1) k.2 in
     let tail : entry_lines fs ++ done_line (length fs) ∷ [] ≡ (entry_lines es ++ done_line (length es) ∷ []) ++ line ∷ ms = cc in
     elim (next_of from to es fs (done_line (length fs) ∷ []) (line ∷ ms) (done_line (length es)) less h.2.each y.each (no_entry_done from to (length fs) less y.few) (tail ∙ append_assoc (entry_lines es) (done_line (length es) ∷ []) (line ∷ ms))) [
@@ -229,13 +225,13 @@ goes_on first last (Whole from to es) (Whole from' to' fs) line ms small h k e =
       | inr r ↦ absurd (cc (r.1))
     ]
 
-pub not_both : (first last : ℕ) (e : Entry) (n : ℕ) (line : List ℕ) → last < 4096 → IsLine first last (lines.Entry e) line → IsLine first last (lines.Done n) line → ⊥
+pub not_both : (first last : ℕ) (e : Entry) (n : ℕ) (line : List ℕ) → last < ADDRESS_END → IsLine first last (lines.Entry e) line → IsLine first last (lines.Done n) line → ⊥
 not_both first last e n line small h k = let s = one_line first last line (lines.Entry e) (lines.Done n) small h k in absurd cc
 
-pub same_entry : (first last : ℕ) (e f : Entry) (line : List ℕ) → last < 4096 → IsLine first last (lines.Entry e) line → IsLine first last (lines.Entry f) line → e ≡ f
+pub same_entry : (first last : ℕ) (e f : Entry) (line : List ℕ) → last < ADDRESS_END → IsLine first last (lines.Entry e) line → IsLine first last (lines.Entry f) line → e ≡ f
 same_entry first last e f line small h k = let s = one_line first last line (lines.Entry e) (lines.Entry f) small h k in cc
 
-pub same_count : (first last m n : ℕ) (line : List ℕ) → last < 4096 → IsLine first last (lines.Done m) line → IsLine first last (lines.Done n) line → m ≡ n
+pub same_count : (first last m n : ℕ) (line : List ℕ) → last < ADDRESS_END → IsLine first last (lines.Done m) line → IsLine first last (lines.Done n) line → m ≡ n
 same_count first last m n line small h k = let s = one_line first last line (lines.Done m) (lines.Done n) small h k in cc
 
 -- what is wrong may not stand

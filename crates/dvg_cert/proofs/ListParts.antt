@@ -3,6 +3,7 @@ use Rattle.std.proofs.Common.{◌≡◌, ℕ, zero, suc, ◌+◌, ◌<◌, ◌�
 use Rattle.std.specs.Prelude.{IsTrue, false}
 use Rattle.std.specs.List.{AllByRecursion}
 use Rattle.std.proofs.lemmas.List.{length-take-le}
+use Rattle.dvg_cert.specs.Limits.{MOST_ENTRIES}
 use Rattle.dvg_cert.specs.Entry.{Entry, IsEntry}
 use Rattle.dvg_cert.specs.Order.{IsCertificate, IsRising, StandsAfter}
 use Rattle.dvg_cert.proofs.Rising.{certificate_push}
@@ -19,7 +20,7 @@ not_entry first last es i d lt h k = h (each_mid first last (take i es) (get_or 
 pub not_rising : (first last : ℕ) (es : List Entry) (i : ℕ) (d : Entry) → i < length es → (StandsAfter (take i es) (get_or es i d) → IsTrue false) → IsCertificate first last es → IsTrue false
 not_rising first last es i d lt h k = h (rising_mid (take i es) (get_or es i d) (drop (suc i) es) (subst (λ (xs : List Entry). IsRising xs) (cut_at es i d lt).0 k.rising))
 
-pub one_further : (first last : ℕ) (es : List Entry) (i : ℕ) (d : Entry) → i < length es → length es ≤ 4096 → IsCertificate first last (take i es) → IsEntry first last (get_or es i d) → StandsAfter (take i es) (get_or es i d) → IsCertificate first last (take (i + 1) es)
+pub one_further : (first last : ℕ) (es : List Entry) (i : ℕ) (d : Entry) → i < length es → length es ≤ MOST_ENTRIES → IsCertificate first last (take i es) → IsEntry first last (get_or es i d) → StandsAfter (take i es) (get_or es i d) → IsCertificate first last (take (i + 1) es)
 one_further first last es i d lt few h fits s =
     let k = certificate_push first last (take i es) (get_or es i d) h fits s (omega (arith, length-take-le i es (omega arith))) in
     rw add-one (subst (λ (xs : List Entry). IsCertificate first last xs) (sym (cut_at es i d lt).1) k)

@@ -1,9 +1,10 @@
 -- A text has one answer.
-use Rattle.std.proofs.Common.{◌≡◌, ◌≢◌, ℕ, ◌<◌, ◌≤◌, List, [], ◌∷◌, ◌++◌, length, refl, sym, ap, subst, ◌∙◌, append_assoc, arith, lit<, inl, inr, ◌⊎◌}
+use Rattle.std.proofs.Common.{◌≡◌, ◌≢◌, ℕ, ◌-◌, ◌<◌, ◌≤◌, List, [], ◌∷◌, ◌++◌, length, refl, sym, ap, subst, ◌∙◌, append_assoc, arith, lit<, inl, inr, ◌⊎◌}
 use Rattle.std.specs.Prelude.{decimal, codes}
 use Rattle.std.specs.List.{flat_map, AllByRecursion}
 use Rattle.std.proofs.lemmas.List.{append-nil, length-append}
 use Rattle.std.proofs.lemmas.Bool.Decides.{nat_tests}
+use Rattle.dvg_cert.specs.Limits.{MOST_ENTRIES, LONGEST_LINE, LINE_FEED, ADDRESS_END}
 use Rattle.dvg_cert.specs.Entry.{Entry, IsEntry}
 use Rattle.dvg_cert.specs.Order.{StandsAfter}
 use Rattle.dvg_cert.specs.Grammar.{entry_line, entry_tokens, first_line, begun_with, text_of, ended, done_line, Spells}
@@ -15,10 +16,10 @@ use Rattle.dvg_cert.proofs.LineTokens.{line_free, graphics_entry, graphic_decima
 use Rattle.dvg_cert.proofs.Lengths.{length_entry, length_done}
 use Rattle.dvg_cert.proofs.LinesOfTexts.{cut_once, no_cut, lines_text, Frees, lines_front, entry_lines, lines_of, lines_once, goes_on, Small, small_taken, wrong_goes, same_entry, not_both}
 
-first_free : Without 10 first_line
+first_free : Without LINE_FEED first_line
 first_free = (refl, (refl, (refl, (refl, (refl, (refl, (refl, (refl, (refl, tt)))))))))
 
-done_free : (n : ℕ) → n ≤ 4096 → Without 10 (done_line n)
+done_free : (n : ℕ) → n ≤ MOST_ENTRIES → Without LINE_FEED (done_line n)
 done_free n h = line_free (codes "done" ∷ decimal n ∷ []) ((lit< tt, (lit< tt, (lit< tt, (lit< tt, tt)))), (graphic_decimal n (omega arith), tt))
 
 Frees-append : (ls ms : List (List ℕ)) → Frees ls → Frees ms → Frees (ls ++ ms)
@@ -34,20 +35,20 @@ taken_free first last Nothing h = tt
 taken_free first last (Begun from to es) h = (first_free, entries_free from to es h.2.each)
 taken_free first last (Whole from to es) h = (first_free, Frees-append (entry_lines es) (done_line (length es) ∷ []) (entries_free from to es h.2.each) (done_free (length es) h.2.few, tt))
 
--- each line is shorter than 200 bytes
+-- each line has room for its end
 abbrev pub Shorts : List (List ℕ) → Type 0
 Shorts [] = Unit {0}
-Shorts (l ∷ ls) = (length l < 200) × Shorts ls
+Shorts (l ∷ ls) = (length l < LONGEST_LINE) × Shorts ls
 
 Shorts-append : (ls ms : List (List ℕ)) → Shorts ls → Shorts ms → Shorts (ls ++ ms)
 Shorts-append [] ms h k = k
 Shorts-append (l ∷ ls) ms h k = (h.0, Shorts-append ls ms h.1 k)
 
-Shorts-mid : (ls ms : List (List ℕ)) (m : List ℕ) → Shorts (ls ++ m ∷ ms) → length m < 200
+Shorts-mid : (ls ms : List (List ℕ)) (m : List ℕ) → Shorts (ls ++ m ∷ ms) → length m < LONGEST_LINE
 Shorts-mid [] ms m h = h.0
 Shorts-mid (l ∷ ls) ms m h = Shorts-mid ls ms m h.1
 
-Frees-mid : (ls ms : List (List ℕ)) (m : List ℕ) → Frees (ls ++ m ∷ ms) → Without 10 m
+Frees-mid : (ls ms : List (List ℕ)) (m : List ℕ) → Frees (ls ++ m ∷ ms) → Without LINE_FEED m
 Frees-mid [] ms m h = h.0
 Frees-mid (l ∷ ls) ms m h = Frees-mid ls ms m h.1
 
@@ -62,11 +63,11 @@ taken_short first last (Whole from to es) h = let n = length_done (length es) h.
 
 lines_text-append : (ls ms : List (List ℕ)) → lines_text (ls ++ ms) ≡ lines_text ls ++ lines_text ms
 lines_text-append [] ms = refl
-lines_text-append (l ∷ ls) ms = ap (λ (t : List ℕ). l ++ 10 ∷ t) (lines_text-append ls ms) ∙ sym (append_assoc l (10 ∷ lines_text ls) (lines_text ms))
+lines_text-append (l ∷ ls) ms = ap (λ (t : List ℕ). l ++ LINE_FEED ∷ t) (lines_text-append ls ms) ∙ sym (append_assoc l (LINE_FEED ∷ lines_text ls) (lines_text ms))
 
 flat_lines : (es : List Entry) → flat_map (λ e. ended (entry_line e)) es ≡ lines_text (entry_lines es)
 flat_lines [] = refl
-flat_lines (e ∷ es) = append_assoc (entry_line e) (10 ∷ []) (flat_map (λ e. ended (entry_line e)) es) ∙ ap (λ (t : List ℕ). entry_line e ++ 10 ∷ t) (flat_lines es)
+flat_lines (e ∷ es) = append_assoc (entry_line e) (LINE_FEED ∷ []) (flat_map (λ e. ended (entry_line e)) es) ∙ ap (λ (t : List ℕ). entry_line e ++ LINE_FEED ∷ t) (flat_lines es)
 
 begun_lines : (es : List Entry) → begun_with es ≡ lines_text (first_line ∷ entry_lines es)
 unfolding begun_with
@@ -77,16 +78,16 @@ taken_lines Nothing = refl
 taken_lines (Begun from to es) = begun_lines es
 taken_lines (Whole from to es) = ap (λ (t : List ℕ). t ++ ended (done_line (length es))) (begun_lines es) ∙ sym (lines_text-append (first_line ∷ entry_lines es) (done_line (length es) ∷ []))
 
-pub rest_free : (t : Taken) (rest : List ℕ) → IsRest t rest → Without 10 rest × (length rest < 200)
+pub rest_free : (t : Taken) (rest : List ℕ) → IsRest t rest → Without LINE_FEED rest × (length rest < LONGEST_LINE)
 rest_free Nothing rest h = h
 rest_free (Begun from to es) rest h = h
-rest_free (Whole from to es) rest h = subst (λ (r : List ℕ). Without 10 r × (length r < 200)) (sym h) (tt, omega arith)
+rest_free (Whole from to es) rest h = subst (λ (r : List ℕ). Without LINE_FEED r × (length r < LONGEST_LINE)) (sym h) (tt, omega arith)
 
 -- the longer of two bytes without a line end
-longer : (a b c d : List ℕ) (x : ℕ) → Without 10 a → x ≢ 10 → a ++ x ∷ b ≡ c ++ 10 ∷ d → length a < length c
+longer : (a b c d : List ℕ) (x : ℕ) → Without LINE_FEED a → x ≢ LINE_FEED → a ++ x ∷ b ≡ c ++ LINE_FEED ∷ d → length a < length c
 longer [] b [] d x h n e = absurd (n cc)
 longer [] b (y ∷ c) d x h n e = omega arith
-longer (z ∷ a) b [] d x h n e = let s : z ≡ 10 = cc in absurd (grind (arith, nat_tests))
+longer (z ∷ a) b [] d x h n e = let s : z ≡ LINE_FEED = cc in absurd (grind (arith, nat_tests))
 longer (z ∷ a) b (y ∷ c) d x h n e = omega (arith, longer a b c d x h.1 n (cc))
 
 -- what may stand, and what is in front of it
@@ -96,12 +97,12 @@ front_of first last front text after t u rest rest' h k e =
     (ap (λ (x : List ℕ). x ++ (rest ++ after)) (sym (taken_lines t)) ∙ sym (append_assoc (text_taken t) rest after) ∙ ap (λ (x : List ℕ). x ++ after) (sym h.parts) ∙ sym e ∙ k.parts ∙ ap (λ (x : List ℕ). x ++ rest') (taken_lines u))
 
 -- a text stands in one way
-pub holds_once : (first last : ℕ) (text : List ℕ) (t u : Taken) (rest rest' : List ℕ) → last < 4096 → Holds first last text t rest → Holds first last text u rest' → (t ≡ u) × (rest ≡ rest')
+pub holds_once : (first last : ℕ) (text : List ℕ) (t u : Taken) (rest rest' : List ℕ) → last < ADDRESS_END → Holds first last text t rest → Holds first last text u rest' → (t ≡ u) × (rest ≡ rest')
 holds_once first last text t u rest rest' small h k = same (front_of first last text text [] t u rest rest' h k (sym (append-nil text)))
   where
     same : ((more : List (List ℕ)) × (lines_of u ≡ lines_of t ++ more) × (rest ++ [] ≡ lines_text more ++ rest')) → (t ≡ u) × (rest ≡ rest')
     same ([], l, r) = (lines_once first last t u small h.lines k.lines (sym (l ∙ append-nil (lines_of t))), sym (append-nil rest) ∙ r)
-    same ((m ∷ ms), l, r) = absurd (no_cut m (lines_text ms ++ rest') rest (rest_free t rest h.begun).0 (sym (append_assoc m (10 ∷ lines_text ms) rest') ∙ sym r ∙ append-nil rest))
+    same ((m ∷ ms), l, r) = absurd (no_cut m (lines_text ms ++ rest') rest (rest_free t rest h.begun).0 (sym (append_assoc m (LINE_FEED ∷ lines_text ms) rest') ∙ sym r ∙ append-nil rest))
 
 same_meets : (t : Taken) (line : List ℕ) (why why' : CertWhy) → Small t → IsWrong t line why → IsWrong t line why' → why ≡ why'
 same_meets Nothing line Form Form small h k = refl
@@ -151,7 +152,7 @@ same_meets (Begun from to es) line Count TooLong small h k = absurd (not_both fr
 same_meets (Begun from to es) line Count Count small h k = refl
 
 abbrev pub Stops : Taken → List ℕ → ℕ → CertWhy → Type 0
-Stops t rest b why = ((b ≢ 10) × (length rest ≡ 199) × (why ≡ TooLong)) ⊎ ((b ≡ 10) × IsWrong t rest why)
+Stops t rest b why = ((b ≢ LINE_FEED) × (length rest ≡ LONGEST_LINE - 1) × (why ≡ TooLong)) ⊎ ((b ≡ LINE_FEED) × IsWrong t rest why)
 
 stops_once : (t : Taken) (rest : List ℕ) (b : ℕ) (why why' : CertWhy) → Small t → Stops t rest b why → Stops t rest b why' → why ≡ why'
 stops_once t rest b why why' small (inl h) (inl k) = h.2 ∙ sym k.2
@@ -165,23 +166,23 @@ meets_once (Begun from to es) rest b why why' small h k = stops_once (Begun from
 meets_once (Whole from to es) rest b why why' small h k = h ∙ sym k
 
 -- what a byte meets cannot stand
-stops_not : (first last : ℕ) (t u : Taken) (rest rest' after : List ℕ) (b : ℕ) (why : CertWhy) → last < 4096 → IsTaken first last t → IsTaken first last u → Without 10 rest → IsRest u rest' → Stops t rest b why
+stops_not : (first last : ℕ) (t u : Taken) (rest rest' after : List ℕ) (b : ℕ) (why : CertWhy) → last < ADDRESS_END → IsTaken first last t → IsTaken first last u → Without LINE_FEED rest → IsRest u rest' → Stops t rest b why
     → ((more : List (List ℕ)) × (lines_of u ≡ lines_of t ++ more) × (rest ++ b ∷ after ≡ lines_text more ++ rest')) → ⊥
 stops_not first last t u rest rest' after b why small h k free r (inl s) ([], l, e) =
     let n : length (rest ++ b ∷ after) ≡ length rest' = ap length e in absurd (omega (arith, length-append rest (b ∷ after), s.1, (rest_free u rest' r).1))
 stops_not first last t u rest rest' after b why small h k free r (inl s) ((m ∷ ms), l, e) =
-    let n = longer rest after m (lines_text ms ++ rest') b free s.0 (e ∙ append_assoc m (10 ∷ lines_text ms) rest') in
-    let short : length m < 200 = Shorts-mid (lines_of t) ms m (subst (λ (ls : List (List ℕ)). Shorts ls) l (taken_short first last u k)) in
+    let n = longer rest after m (lines_text ms ++ rest') b free s.0 (e ∙ append_assoc m (LINE_FEED ∷ lines_text ms) rest') in
+    let short : length m < LONGEST_LINE = Shorts-mid (lines_of t) ms m (subst (λ (ls : List (List ℕ)). Shorts ls) l (taken_short first last u k)) in
     absurd (omega (arith, s.1))
 stops_not first last t u rest rest' after b why small h k free r (inr s) ([], l, e) =
     no_cut rest after rest' (rest_free u rest' r).0 (ap (λ (x : ℕ). rest ++ x ∷ after) (sym s.0) ∙ e)
 stops_not first last t u rest rest' after b why small h k free r (inr s) ((m ∷ ms), l, e) =
-    let mfree : Without 10 m = Frees-mid (lines_of t) ms m (subst (λ (ls : List (List ℕ)). Frees ls) l (taken_free first last u k)) in
-    let c = cut_once rest after m (lines_text ms ++ rest') free mfree (ap (λ (x : ℕ). rest ++ x ∷ after) (sym s.0) ∙ e ∙ append_assoc m (10 ∷ lines_text ms) rest') in
+    let mfree : Without LINE_FEED m = Frees-mid (lines_of t) ms m (subst (λ (ls : List (List ℕ)). Frees ls) l (taken_free first last u k)) in
+    let c = cut_once rest after m (lines_text ms ++ rest') free mfree (ap (λ (x : ℕ). rest ++ x ∷ after) (sym s.0) ∙ e ∙ append_assoc m (LINE_FEED ∷ lines_text ms) rest') in
     let g = goes_on first last t u rest ms small h k (l ∙ ap (λ (x : List ℕ). lines_of t ++ x ∷ ms) (sym c.0)) in
     wrong_goes why t rest (small_taken first last t small h) s.1 g
 
-after_not : (first last from to : ℕ) (es : List Entry) (u : Taken) (rest rest' after : List ℕ) (b : ℕ) → last < 4096 → IsTaken first last (Whole from to es) → IsTaken first last u → IsRest u rest'
+after_not : (first last from to : ℕ) (es : List Entry) (u : Taken) (rest rest' after : List ℕ) (b : ℕ) → last < ADDRESS_END → IsTaken first last (Whole from to es) → IsTaken first last u → IsRest u rest'
     → ((more : List (List ℕ)) × (lines_of u ≡ lines_of (Whole from to es) ++ more) × (rest ++ b ∷ after ≡ lines_text more ++ rest')) → ⊥
 after_not first last from to es u rest rest' after b small h k r ([], l, e) =
     let same = lines_once first last (Whole from to es) u small h k (sym (l ∙ append-nil (lines_of (Whole from to es)))) in
@@ -191,7 +192,7 @@ after_not first last from to es u rest rest' after b small h k r ([], l, e) =
 after_not first last from to es u rest rest' after b small h k r ((m ∷ ms), l, e) = goes_on first last (Whole from to es) u m ms small h k l
 
 -- where a byte cannot stand no text stands
-pub no_meet : (first last : ℕ) (front text after : List ℕ) (t u : Taken) (rest rest' : List ℕ) (b : ℕ) (why : CertWhy) → last < 4096 → Holds first last front t rest → Holds first last text u rest' → text ≡ front ++ b ∷ after → Meets t rest b why → ⊥
+pub no_meet : (first last : ℕ) (front text after : List ℕ) (t u : Taken) (rest rest' : List ℕ) (b : ℕ) (why : CertWhy) → last < ADDRESS_END → Holds first last front t rest → Holds first last text u rest' → text ≡ front ++ b ∷ after → Meets t rest b why → ⊥
 no_meet first last front text after Nothing u rest rest' b why small h k e m = stops_not first last Nothing u rest rest' after b why small tt k.lines h.begun.0 k.begun m (front_of first last front text (b ∷ after) Nothing u rest rest' h k e)
 no_meet first last front text after (Begun from to es) u rest rest' b why small h k e m = stops_not first last (Begun from to es) u rest rest' after b why small h.lines k.lines h.begun.0 k.begun m (front_of first last front text (b ∷ after) (Begun from to es) u rest rest' h k e)
 no_meet first last front text after (Whole from to es) u rest rest' b why small h k e m = after_not first last from to es u rest rest' after b small h.lines k.lines k.begun (front_of first last front text (b ∷ after) (Whole from to es) u rest rest' h k e)
@@ -212,7 +213,7 @@ fault_is After first last text line never h = inr h
 fault_is TooLong first last text line never h = inr h
 
 -- a text that stands has no byte that cannot
-pub stuck_stands : (first last : ℕ) (text : List ℕ) (line : ℕ) (why : CertWhy) (u : Taken) (rest' : List ℕ) → last < 4096 → Stuck first last text line why → Holds first last text u rest' → ⊥
+pub stuck_stands : (first last : ℕ) (text : List ℕ) (line : ℕ) (why : CertWhy) (u : Taken) (rest' : List ℕ) → last < ADDRESS_END → Stuck first last text line why → Holds first last text u rest' → ⊥
 stuck_stands first last text line why u rest' small s k = no_meet first last s.0 text s.2 s.3 u s.4 rest' s.1 why small s.6 k s.5 s.7
 
 compare : (f g a b : List ℕ) (x y : ℕ) → f ++ x ∷ a ≡ g ++ y ∷ b → ((f ≡ g) × (x ≡ y)) ⊎ (((c : List ℕ) × (g ≡ f ++ x ∷ c)) ⊎ ((c : List ℕ) × (f ≡ g ++ y ∷ c)))
@@ -227,7 +228,7 @@ compare (z ∷ f) (w ∷ g) a b x y e =
       | inr (inr r) ↦ inr (inr (r.0, cc (head, r.1)))
     ]
 
-stuck_once : (first last : ℕ) (text : List ℕ) (line line' : ℕ) (why why' : CertWhy) → last < 4096 → Stuck first last text line why → Stuck first last text line' why' → (line ≡ line') × (why ≡ why')
+stuck_once : (first last : ℕ) (text : List ℕ) (line line' : ℕ) (why why' : CertWhy) → last < ADDRESS_END → Stuck first last text line why → Stuck first last text line' why' → (line ≡ line') × (why ≡ why')
 stuck_once first last text line line' why why' small s r =
     elim (compare s.0 r.0 s.2 r.2 s.1 r.1 (sym s.5 ∙ r.5)) [
       | inl q ↦
@@ -239,7 +240,7 @@ stuck_once first last text line line' why why' small s r =
       | inr (inr q) ↦ absurd (no_meet first last r.0 s.0 q.0 r.3 s.3 r.4 s.4 r.1 why' small r.6 s.6 q.1 r.7)
     ]
 
-pub fault_once : (first last : ℕ) (text : List ℕ) (line line' : ℕ) (why why' : CertWhy) → last < 4096 → why ≢ Memory → why' ≢ Memory → IsRefusal first last text line why → IsRefusal first last text line' why' → (line ≡ line') × (why ≡ why')
+pub fault_once : (first last : ℕ) (text : List ℕ) (line line' : ℕ) (why why' : CertWhy) → last < ADDRESS_END → why ≢ Memory → why' ≢ Memory → IsRefusal first last text line why → IsRefusal first last text line' why' → (line ≡ line') × (why ≡ why')
 fault_once first last text line line' why why' small n n' h k =
     elim (fault_is why first last text line n h) [
       | inl s ↦ elim (fault_is why' first last text line' n' k) [
@@ -252,7 +253,7 @@ fault_once first last text line line' why why' small n n' h k =
       ]
     ]
 
-pub standing_fault : (first last : ℕ) (text : List ℕ) (taken : Taken) (rest : List ℕ) (line : ℕ) (why : CertWhy) → last < 4096 → Holds first last text taken rest → why ≢ Memory → IsRefusal first last text line why → (why ≡ Unended) × Open first last text line
+pub standing_fault : (first last : ℕ) (text : List ℕ) (taken : Taken) (rest : List ℕ) (line : ℕ) (why : CertWhy) → last < ADDRESS_END → Holds first last text taken rest → why ≢ Memory → IsRefusal first last text line why → (why ≡ Unended) × Open first last text line
 standing_fault first last text taken rest line why small h n k =
     elim (fault_is why first last text line n k) [
       | inl s ↦ s
@@ -262,12 +263,12 @@ standing_fault first last text taken rest line why small h n k =
 spelled_holds : (first last : ℕ) (es : List Entry) (text : List ℕ) → Spells first last es text → Holds first last text (Whole first last es) []
 spelled_holds first last es text h = record { parts = h.1 ∙ sym (append-nil (text_of es)); lines = (refl, refl, h.0); begun = refl }
 
-pub spelled_fault : (first last : ℕ) (es : List Entry) (text : List ℕ) (line : ℕ) (why : CertWhy) → last < 4096 → Spells first last es text → why ≢ Memory → IsRefusal first last text line why → ⊥
+pub spelled_fault : (first last : ℕ) (es : List Entry) (text : List ℕ) (line : ℕ) (why : CertWhy) → last < ADDRESS_END → Spells first last es text → why ≢ Memory → IsRefusal first last text line why → ⊥
 spelled_fault first last es text line why small h n k =
     let s = spelled_holds first last es text h in
     let o = (standing_fault first last text (Whole first last es) [] line why small s n k).1 in
     let t = holds_once first last text o.0 (Whole first last es) o.1 [] small o.2 s in
     subst (λ (x : Taken). IsUnended x) t.0 o.3
 
-pub spelled_once : (first last : ℕ) (es fs : List Entry) (text : List ℕ) → last < 4096 → Spells first last es text → Spells first last fs text → es ≡ fs
+pub spelled_once : (first last : ℕ) (es fs : List Entry) (text : List ℕ) → last < ADDRESS_END → Spells first last es text → Spells first last fs text → es ≡ fs
 spelled_once first last es fs text small h k = let t = (holds_once first last text (Whole first last es) (Whole first last fs) [] [] small (spelled_holds first last es text h) (spelled_holds first last fs text k)).0 in cc

@@ -1,6 +1,7 @@
 -- A list that rises has one entry at an address and key at the most.
-use Rattle.std.proofs.Common.{◌≡◌, ℕ, zero, suc, Bool, true, false, cond, List, [], ◌∷◌, ◌&&◌, Option, Some, None, refl, sym, ap, subst, ◌∙◌, arith, inl, inr, ◌⊎◌}
+use Rattle.std.proofs.Common.{◌≡◌, ℕ, zero, suc, Bool, true, false, cond, List, [], ◌∷◌, Option, Some, None, refl, sym, ap, subst, ◌∙◌, arith, inl, inr, ◌⊎◌}
 use Rattle.std.specs.Prelude.{◌==◌, IfSome, IfNone, Contains}
+use Rattle.std.proofs.lemmas.Bool.{and_parts, and_from}
 use Rattle.std.proofs.lemmas.Bool.Decides.{nat_tests}
 use Rattle.dvg_cert.specs.Entry.{Entry, Key, At, Any}
 use Rattle.dvg_cert.specs.Order.{KeyBefore, Before, IsRising}
@@ -17,14 +18,9 @@ key_itself : (a : Key) → same_key a a ≡ true
 key_itself (At m) = grind (arith, nat_tests)
 key_itself Any = refl
 
-both : (a b : Bool) → a && b ≡ true → (a ≡ true) × (b ≡ true)
-both true true h = (refl, refl)
-both true false h = absurd cc
-both false b h = absurd cc
-
 pub at_means : (addr : ℕ) (key : Key) (e : Entry) → is_at addr key e ≡ true → (e.addr ≡ addr) × (e.key ≡ key)
 at_means addr key e h =
-    let r = both (addr == e.addr) (same_key key e.key) h in
+    let r = and_parts (addr == e.addr) (same_key key e.key) h in
     let a : addr == e.addr ≡ true = r.0 in
     (grind (arith, nat_tests), key_same key e.key r.1)
 
@@ -32,12 +28,7 @@ pub at_holds : (addr : ℕ) (key : Key) (e : Entry) → e.addr ≡ addr → e.ke
 at_holds addr key e a k =
     let same : addr == e.addr ≡ true = grind (arith, nat_tests) in
     let keys : same_key key e.key ≡ true = ap (same_key key) k ∙ key_itself key in
-    joined (addr == e.addr) (same_key key e.key) same keys
-  where
-    joined : (a b : Bool) → a ≡ true → b ≡ true → a && b ≡ true
-    joined true true h k = refl
-    joined true false h k = absurd cc
-    joined false b h k = absurd cc
+    and_from (addr == e.addr) (same_key key e.key) same keys
 
 key_before : (a b c : Key) → KeyBefore a b → KeyBefore b c → KeyBefore a c
 key_before (At l) (At m) (At n) h k = omega arith

@@ -1,15 +1,16 @@
 -- A piece that is refused, as the stream sees it.
 use Rattle.std.proofs.Common.{◌≡◌, ◌≢◌, ℕ, ◌<◌, List, [], ◌++◌, Option, Some, None, Result, Ok, Err, refl, sym, subst}
 use Rattle.std.specs.Result.{IsErrAnd}
+use Rattle.dvg_cert.specs.Limits.{ADDRESS_END}
 use Rattle.dvg_cert.specs.declared.fault.CertWhy.TheVariants.{Unended}
 use Rattle.dvg_cert.specs.declared.fault.CertFault.{CertFault}
 use Rattle.dvg_cert.specs.Entry.{Entry}
 use Rattle.dvg_cert.specs.Reading.{Taken, text_taken, IsRefusal, ReadAnswer}
 use Rattle.dvg_cert.specs.Stream.{Stream, Open, Refused, FeedsTo}
-use Rattle.dvg_cert.specs.Progress.{stream_of}
+use Rattle.dvg_cert.specs.Private.Progress.{stream_of}
 use Rattle.dvg_cert.proofs.TextLaws.{only_memory}
 
-pub piece_refused : (first last : ℕ) (refused : Option CertFault) (lines : Taken) (begun piece : List ℕ) (old : Stream) (f : CertFault) → last < 4096 → refused ≡ None → stream_of refused lines begun ≡ old
+pub piece_refused : (first last : ℕ) (refused : Option CertFault) (lines : Taken) (begun piece : List ℕ) (old : Stream) (f : CertFault) → last < ADDRESS_END → refused ≡ None → stream_of refused lines begun ≡ old
     → IsRefusal first last ((text_taken lines ++ begun) ++ piece) f.line f.why → f.why ≢ Unended → FeedsTo first last old piece (Refused f) (Err f)
 piece_refused first last (Some g) lines begun piece old f small none view r n = absurd cc
 piece_refused first last None lines begun piece old f small none view r n =

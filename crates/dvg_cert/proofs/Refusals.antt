@@ -2,10 +2,11 @@
 use Rattle.std.proofs.Common.{◌≡◌, ◌≢◌, ℕ, zero, suc, ◌+◌, ◌-◌, ◌<◌, List, [], ◌∷◌, ◌++◌, length, get_or, take, drop, Err, refl, sym, ap, subst, ◌∙◌, append_assoc, arith, inl, inr}
 use Rattle.std.proofs.lemmas.List.{append-nil, length-append, length-take-le}
 use Rattle.std.proofs.lemmas.Bool.Decides.{nat_tests}
+use Rattle.dvg_cert.specs.Limits.{LONGEST_LINE, LINE_FEED}
 use Rattle.dvg_cert.specs.Entry.{Entry}
 use Rattle.dvg_cert.specs.Grammar.{entry_line, first_line, begun_with, text_of, ended}
 use Rattle.dvg_cert.specs.Reading.{IsRefusal, Nothing, Begun, Whole, Taken, Without, text_taken, line_number, IsTaken, IsUnended, IsRest, Holds, Meets}
-use Rattle.dvg_cert.specs.Progress.{IsLineRefused, EndsLine, taken_of, IsStaged}
+use Rattle.dvg_cert.specs.Private.Progress.{IsLineRefused, EndsLine, taken_of, IsStaged}
 use Rattle.dvg_cert.specs.declared.fault.CertFault.{CertFault}
 use Rattle.dvg_cert.specs.declared.fault.CertWhy.{CertWhy}
 use Rattle.dvg_cert.specs.declared.fault.CertWhy.TheVariants.{Form, Order, Count, Unended, After, TooLong, Memory}
@@ -19,22 +20,17 @@ not_whole Nothing h = tt
 not_whole (Begun from to es) h = tt
 not_whole (Whole from to es) h = absurd (h (λ x. x))
 
-pub rest_of : (taken : Taken) (rest : List ℕ) → IsUnended taken → Without 10 rest → length rest < 200 → IsRest taken rest
+pub rest_of : (taken : Taken) (rest : List ℕ) → IsUnended taken → Without LINE_FEED rest → length rest < LONGEST_LINE → IsRest taken rest
 rest_of Nothing rest u free short = (free, short)
 rest_of (Begun from to es) rest u free short = (free, short)
 rest_of (Whole from to es) rest u free short = absurd u
 
-pub rest_is : (taken : Taken) (rest : List ℕ) → IsUnended taken → IsRest taken rest → Without 10 rest × (length rest < 200)
+pub rest_is : (taken : Taken) (rest : List ℕ) → IsUnended taken → IsRest taken rest → Without LINE_FEED rest × (length rest < LONGEST_LINE)
 rest_is Nothing rest u h = h
 rest_is (Begun from to es) rest u h = h
 rest_is (Whole from to es) rest u h = absurd u
 
-pub no_rest : (taken : Taken) → IsRest taken []
-no_rest Nothing = (tt, omega arith)
-no_rest (Begun from to es) = (tt, omega arith)
-no_rest (Whole from to es) = refl
-
-meets_line : (why : CertWhy) (taken : Taken) (line : List ℕ) → why ≢ Memory → IsUnended taken → IsLineRefused taken line why → Meets taken line 10 why
+meets_line : (why : CertWhy) (taken : Taken) (line : List ℕ) → why ≢ Memory → IsUnended taken → IsLineRefused taken line why → Meets taken line LINE_FEED why
 meets_line why Nothing line never u w = inr (refl, w)
 meets_line Form (Begun from to es) line never u w = inr (refl, w)
 meets_line Order (Begun from to es) line never u w = inr (refl, w)
@@ -45,7 +41,7 @@ meets_line After (Begun from to es) line never u w = absurd w
 meets_line Memory (Begun from to es) line never u w = absurd (never refl)
 meets_line why (Whole from to es) line never u w = absurd u
 
-regroup : (a b c : List ℕ) → a ++ (b ++ 10 ∷ c) ≡ (a ++ (b ++ 10 ∷ [])) ++ c
+regroup : (a b c : List ℕ) → a ++ (b ++ LINE_FEED ∷ c) ≡ (a ++ (b ++ LINE_FEED ∷ [])) ++ c
 regroup a b c = simp append_assoc
 
 -- one more entry line
@@ -56,7 +52,7 @@ pub first_taken : (line : List ℕ) → line ≡ first_line → begun_with [] �
 unfolding begun_with
 first_taken line l = ap ended (sym l)
 
-no_memory : (first last : ℕ) (taken : Taken) (line after : List ℕ) → IsTaken first last taken → IsLineRefused taken line Memory → IsRefusal first last (text_taken taken ++ (line ++ 10 ∷ after)) (line_number taken) Memory
+no_memory : (first last : ℕ) (taken : Taken) (line after : List ℕ) → IsTaken first last taken → IsLineRefused taken line Memory → IsRefusal first last (text_taken taken ++ (line ++ LINE_FEED ∷ after)) (line_number taken) Memory
 no_memory first last Nothing line after h w = absurd w
 no_memory first last (Begun from to es) line after h w =
     (es ++ w.0 ∷ [], after, same_rom first last from to (es ++ w.0 ∷ []) h.0 h.1 w.2, omega (arith, length-append es (w.0 ∷ [])), regroup (begun_with es) line after ∙ ap (λ (t : List ℕ). t ++ after) (sym (entry_taken es line w.0 w.1.1)), omega (arith, length-append es (w.0 ∷ [])))
@@ -73,56 +69,56 @@ never_after (Begun from to es) line w = w
 never_after (Whole from to es) line w = w
 
 -- a whole line that is refused
-pub line_fault : (why : CertWhy) (first last : ℕ) (taken : Taken) (line after : List ℕ) → IsTaken first last taken → IsUnended taken → Without 10 line → length line < 200 → IsLineRefused taken line why → IsRefusal first last (text_taken taken ++ (line ++ 10 ∷ after)) (line_number taken) why × (why ≢ Unended)
+pub line_fault : (why : CertWhy) (first last : ℕ) (taken : Taken) (line after : List ℕ) → IsTaken first last taken → IsUnended taken → Without LINE_FEED line → length line < LONGEST_LINE → IsLineRefused taken line why → IsRefusal first last (text_taken taken ++ (line ++ LINE_FEED ∷ after)) (line_number taken) why × (why ≢ Unended)
 line_fault Form first last taken line after h u free short w =
-    ((text_taken taken ++ line, 10, after, taken, line, sym (append_assoc (text_taken taken) line (10 ∷ after)), record { parts = refl; lines = h; begun = rest_of taken line u free short }, meets_line Form taken line (λ e. absurd cc) u w, refl), λ e. absurd cc)
+    ((text_taken taken ++ line, LINE_FEED, after, taken, line, sym (append_assoc (text_taken taken) line (LINE_FEED ∷ after)), record { parts = refl; lines = h; begun = rest_of taken line u free short }, meets_line Form taken line (λ e. absurd cc) u w, refl), λ e. absurd cc)
 line_fault Order first last taken line after h u free short w =
-    ((text_taken taken ++ line, 10, after, taken, line, sym (append_assoc (text_taken taken) line (10 ∷ after)), record { parts = refl; lines = h; begun = rest_of taken line u free short }, meets_line Order taken line (λ e. absurd cc) u w, refl), λ e. absurd cc)
+    ((text_taken taken ++ line, LINE_FEED, after, taken, line, sym (append_assoc (text_taken taken) line (LINE_FEED ∷ after)), record { parts = refl; lines = h; begun = rest_of taken line u free short }, meets_line Order taken line (λ e. absurd cc) u w, refl), λ e. absurd cc)
 line_fault Count first last taken line after h u free short w =
-    ((text_taken taken ++ line, 10, after, taken, line, sym (append_assoc (text_taken taken) line (10 ∷ after)), record { parts = refl; lines = h; begun = rest_of taken line u free short }, meets_line Count taken line (λ e. absurd cc) u w, refl), λ e. absurd cc)
+    ((text_taken taken ++ line, LINE_FEED, after, taken, line, sym (append_assoc (text_taken taken) line (LINE_FEED ∷ after)), record { parts = refl; lines = h; begun = rest_of taken line u free short }, meets_line Count taken line (λ e. absurd cc) u w, refl), λ e. absurd cc)
 line_fault TooLong first last taken line after h u free short w =
-    ((text_taken taken ++ line, 10, after, taken, line, sym (append_assoc (text_taken taken) line (10 ∷ after)), record { parts = refl; lines = h; begun = rest_of taken line u free short }, meets_line TooLong taken line (λ e. absurd cc) u w, refl), λ e. absurd cc)
+    ((text_taken taken ++ line, LINE_FEED, after, taken, line, sym (append_assoc (text_taken taken) line (LINE_FEED ∷ after)), record { parts = refl; lines = h; begun = rest_of taken line u free short }, meets_line TooLong taken line (λ e. absurd cc) u w, refl), λ e. absurd cc)
 line_fault Memory first last taken line after h u free short w = (no_memory first last taken line after h w, λ e. absurd cc)
 line_fault Unended first last taken line after h u free short w = absurd (never_unended taken line w)
 line_fault After first last taken line after h u free short w = absurd (never_after taken line w)
 
 -- a front of what is free, and the element after it
-next_free : (n : ℕ) (xs : List ℕ) → n < length xs → Without 10 (take (suc n) xs) → (xs ≡ take n xs ++ get_or xs n 0 ∷ drop (suc n) xs) × Without 10 (take n xs) × (get_or xs n 0 ≢ 10)
+next_free : (n : ℕ) (xs : List ℕ) → n < length xs → Without LINE_FEED (take (suc n) xs) → (xs ≡ take n xs ++ get_or xs n 0 ∷ drop (suc n) xs) × Without LINE_FEED (take n xs) × (get_or xs n 0 ≢ LINE_FEED)
 next_free n [] lt h = absurd (omega arith)
 next_free zero (x ∷ xs) lt h = (refl, tt, λ e. absurd (grind (arith, nat_tests)))
 next_free (suc n) (x ∷ xs) lt h = let r = next_free n xs (omega arith) h.1 in (ap (λ (ys : List ℕ). x ∷ ys) r.0, (h.0, r.1), r.2)
 
-pub meets_long : (taken : Taken) (rest : List ℕ) (b : ℕ) → IsUnended taken → b ≢ 10 → length rest ≡ 199 → Meets taken rest b TooLong
+pub meets_long : (taken : Taken) (rest : List ℕ) (b : ℕ) → IsUnended taken → b ≢ LINE_FEED → length rest ≡ LONGEST_LINE - 1 → Meets taken rest b TooLong
 meets_long Nothing rest b u h n = inl (h, n, refl)
 meets_long (Begun from to es) rest b u h n = inl (h, n, refl)
 meets_long (Whole from to es) rest b u h n = absurd u
 
-long_at : (first last k : ℕ) (taken : Taken) (begun rest : List ℕ) → IsTaken first last taken → IsUnended taken → Without 10 begun → length begun + k ≡ 199 → k < length rest → Without 10 (take (suc k) rest) → IsRefusal first last (text_taken taken ++ (begun ++ rest)) (line_number taken) TooLong
+long_at : (first last k : ℕ) (taken : Taken) (begun rest : List ℕ) → IsTaken first last taken → IsUnended taken → Without LINE_FEED begun → length begun + k ≡ LONGEST_LINE - 1 → k < length rest → Without LINE_FEED (take (suc k) rest) → IsRefusal first last (text_taken taken ++ (begun ++ rest)) (line_number taken) TooLong
 long_at first last k taken begun rest h u clear n lt free =
     let r = next_free k rest lt free in
     let b : ℕ = get_or rest k 0 in
     let line : List ℕ = begun ++ take k rest in
-    let m : length line ≡ 199 = omega (arith, length-append begun (take k rest), length-take-le k rest (omega arith)) in
+    let m : length line ≡ LONGEST_LINE - 1 = omega (arith, length-append begun (take k rest), length-take-le k rest (omega arith)) in
     let parts : text_taken taken ++ (begun ++ rest) ≡ (text_taken taken ++ line) ++ b ∷ drop (suc k) rest =
     ap (λ (t : List ℕ). text_taken taken ++ (begun ++ t)) r.0 ∙ again (text_taken taken) begun (take k rest) (b ∷ drop (suc k) rest) in
-    (text_taken taken ++ line, b, drop (suc k) rest, taken, line, parts, record { parts = refl; lines = h; begun = rest_of taken line u (Without-append 10 begun (take k rest) clear r.1) (omega arith) }, meets_long taken line b u r.2 m, refl)
+    (text_taken taken ++ line, b, drop (suc k) rest, taken, line, parts, record { parts = refl; lines = h; begun = rest_of taken line u (Without-append LINE_FEED begun (take k rest) clear r.1) (omega arith) }, meets_long taken line b u r.2 m, refl)
   where
     again : (a b c d : List ℕ) → a ++ (b ++ (c ++ d)) ≡ (a ++ (b ++ c)) ++ d
     again a b c d = simp append_assoc
 
 -- no line end where a line must have one
-pub end_fault : (why : CertWhy) (first last room : ℕ) (taken : Taken) (begun rest : List ℕ) → IsTaken first last taken → IsUnended taken → IsRest taken begun → room ≡ 200 - length begun → EndsLine room rest (Err why) → IsRefusal first last (text_taken taken ++ (begun ++ rest)) (line_number taken) why × (why ≢ Unended)
+pub end_fault : (why : CertWhy) (first last room : ℕ) (taken : Taken) (begun rest : List ℕ) → IsTaken first last taken → IsUnended taken → IsRest taken begun → room ≡ LONGEST_LINE - length begun → EndsLine room rest (Err why) → IsRefusal first last (text_taken taken ++ (begun ++ rest)) (line_number taken) why × (why ≢ Unended)
 end_fault why first last room taken begun rest h u r n e =
     let s = rest_is taken begun u r in
-    let m : room ≡ suc (199 - length begun) = omega (arith, s.1) in
-    let f = long_at first last (199 - length begun) taken begun rest h u s.0 (omega (arith, s.1)) (omega (arith, e.1, s.1)) (subst (λ (k : ℕ). Without 10 (take k rest)) m e.2) in
+    let m : room ≡ suc (LONGEST_LINE - 1 - length begun) = omega (arith, s.1) in
+    let f = long_at first last (LONGEST_LINE - 1 - length begun) taken begun rest h u s.0 (omega (arith, s.1)) (omega (arith, e.1, s.1)) (subst (λ (k : ℕ). Without LINE_FEED (take k rest)) m e.2) in
     subst (λ (w : CertWhy). IsRefusal first last (text_taken taken ++ (begun ++ rest)) (line_number taken) w × (w ≢ Unended)) (sym e.0) (f, λ x. absurd cc)
 
 -- a line begun
-pub begins : (first last : ℕ) (taken : Taken) (begun rest new : List ℕ) → IsTaken first last taken → IsUnended taken → IsRest taken begun → Without 10 rest → length rest < 200 - length begun → new ≡ begun ++ rest → Holds first last (text_taken taken ++ (begun ++ rest)) taken new
+pub begins : (first last : ℕ) (taken : Taken) (begun rest new : List ℕ) → IsTaken first last taken → IsUnended taken → IsRest taken begun → Without LINE_FEED rest → length rest < LONGEST_LINE - length begun → new ≡ begun ++ rest → Holds first last (text_taken taken ++ (begun ++ rest)) taken new
 begins first last taken begun rest new h u r free short e =
     let s = rest_is taken begun u r in
-    subst (λ (t : List ℕ). Holds first last (text_taken taken ++ (begun ++ rest)) taken t) (sym e) (record { parts = refl; lines = h; begun = rest_of taken (begun ++ rest) u (Without-append 10 begun rest s.0 free) (omega (arith, length-append begun rest)) })
+    subst (λ (t : List ℕ). Holds first last (text_taken taken ++ (begun ++ rest)) taken t) (sym e) (record { parts = refl; lines = h; begun = rest_of taken (begun ++ rest) u (Without-append LINE_FEED begun rest s.0 free) (omega (arith, length-append begun rest)) })
 
 -- bytes after the last line
 after_fault : (first last : ℕ) (taken : Taken) (begun rest : List ℕ) → IsTaken first last taken → IsRest taken begun → (IsUnended taken → ⊥) → 0 < length rest → IsRefusal first last (text_taken taken ++ (begun ++ rest)) (line_number taken) After × (After ≢ Unended)
@@ -138,18 +134,6 @@ after_refused first last line f taken begun rest h r u n some e =
     subst (λ (x : CertFault). IsRefusal first last (text_taken taken ++ (begun ++ rest)) x.line x.why × (x.why ≢ Unended)) (sym e)
     (subst (λ (k : ℕ). IsRefusal first last (text_taken taken ++ (begun ++ rest)) k After × (After ≢ Unended)) (sym n) (after_fault first last taken begun rest h r u some))
 
--- nothing more after the last line
-pub stays : (first last : ℕ) (taken : Taken) (begun rest : List ℕ) → IsTaken first last taken → IsRest taken begun → rest ≡ [] → Holds first last (text_taken taken ++ (begun ++ rest)) taken begun
-stays first last taken begun rest h r e = record { parts = ap (λ (t : List ℕ). text_taken taken ++ (begun ++ t)) e ∙ ap (λ (t : List ℕ). text_taken taken ++ t) (append-nil begun); lines = h; begun = r }
-
--- a line that is taken
-pub line_taken : (taken new : Taken) (begun rest front after : List ℕ) → rest ≡ front ++ 10 ∷ after → text_taken new ≡ text_taken taken ++ ended (begun ++ front) → text_taken taken ++ (begun ++ rest) ≡ text_taken new ++ after
-line_taken taken new begun rest front after e t =
-    ap (λ (x : List ℕ). text_taken taken ++ (begun ++ x)) e ∙ again (text_taken taken) begun front after ∙ ap (λ (x : List ℕ). x ++ after) (sym t)
-  where
-    again : (a b c d : List ℕ) → a ++ (b ++ (c ++ 10 ∷ d)) ≡ (a ++ ((b ++ c) ++ 10 ∷ [])) ++ d
-    again a b c d = simp append_assoc
-
 -- the first line
 pub first_at : (first last : ℕ) (stage : Stage) (es : List Entry) (taken : Taken) (line : List ℕ) → stage ≡ First → taken_of first last stage es ≡ taken → IsStaged first last stage es → line ≡ first_line → IsTaken first last (Begun first last es) × (begun_with es ≡ text_taken taken ++ ended line)
 first_at first last First es taken line s v h l =
@@ -161,10 +145,10 @@ first_at first last Later es taken line s v h l = absurd cc
 first_at first last Ended es taken line s v h l = absurd cc
 
 -- a line whose end has come, and that is refused
-pub line_refused : (why : CertWhy) (first last : ℕ) (taken : Taken) (begun rest front after : List ℕ) → IsTaken first last taken → IsUnended taken → IsRest taken begun → rest ≡ front ++ 10 ∷ after → Without 10 front → length front < 200 - length begun → IsLineRefused taken (begun ++ front) why
+pub line_refused : (why : CertWhy) (first last : ℕ) (taken : Taken) (begun rest front after : List ℕ) → IsTaken first last taken → IsUnended taken → IsRest taken begun → rest ≡ front ++ LINE_FEED ∷ after → Without LINE_FEED front → length front < LONGEST_LINE - length begun → IsLineRefused taken (begun ++ front) why
     → IsRefusal first last (text_taken taken ++ (begun ++ rest)) (line_number taken) why × (why ≢ Unended)
 line_refused why first last taken begun rest front after h u r e free short w =
     let s = rest_is taken begun u r in
-    let f = line_fault why first last taken (begun ++ front) after h u (Without-append 10 begun front s.0 free) (omega (arith, length-append begun front)) w in
-    let parts : text_taken taken ++ (begun ++ rest) ≡ text_taken taken ++ ((begun ++ front) ++ 10 ∷ after) = ap (λ (t : List ℕ). text_taken taken ++ t) (ap (λ (t : List ℕ). begun ++ t) e ∙ sym (append_assoc begun front (10 ∷ after))) in
+    let f = line_fault why first last taken (begun ++ front) after h u (Without-append LINE_FEED begun front s.0 free) (omega (arith, length-append begun front)) w in
+    let parts : text_taken taken ++ (begun ++ rest) ≡ text_taken taken ++ ((begun ++ front) ++ LINE_FEED ∷ after) = ap (λ (t : List ℕ). text_taken taken ++ t) (ap (λ (t : List ℕ). begun ++ t) e ∙ sym (append_assoc begun front (LINE_FEED ∷ after))) in
     subst (λ (t : List ℕ). IsRefusal first last t (line_number taken) why × (why ≢ Unended)) (sym parts) f

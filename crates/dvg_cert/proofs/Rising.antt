@@ -1,9 +1,10 @@
 -- Lists of entries that rise, and one more at the end.
-use Rattle.std.proofs.Common.{◌≡◌, ℕ, zero, suc, ◌-◌, ◌<◌, List, [], ◌∷◌, ◌++◌, length, Some, None, refl, sym, ap, subst, ◌∙◌, append_assoc, arith}
+use Rattle.std.proofs.Common.{◌≡◌, ℕ, zero, suc, ◌-◌, ◌<◌, List, [], ◌∷◌, ◌++◌, length, Some, refl, sym, ap, subst, ◌∙◌, append_assoc, arith}
 use Rattle.std.specs.Prelude.{slice_get}
 use Rattle.std.specs.List.{AllByRecursion, flat_map}
-use Rattle.std.proofs.lemmas.List.{append-nil}
+use Rattle.std.proofs.lemmas.List.{append-nil, length_push}
 use Rattle.std.proofs.lemmas.List.Concat.{flat_map-append}
+use Rattle.dvg_cert.specs.Limits.{MOST_ENTRIES}
 use Rattle.dvg_cert.specs.Entry.{Entry, IsEntry}
 use Rattle.dvg_cert.specs.Order.{Before, StandsAfter, IsRising, IsCertificate}
 use Rattle.dvg_cert.specs.Grammar.{entry_line, ended, first_line, begun_with}
@@ -21,17 +22,6 @@ stands (x ∷ es) f e h =
     let k : length (x ∷ es) - 1 ≡ length es = omega arith in
     last_at (x ∷ es) (length es) f e refl (ap (slice_get (x ∷ es)) (sym k) ∙ h)
 
-pub stands_first : (es : List Entry) (e : Entry) → slice_get es (length es - 1) ≡ None → StandsAfter es e
-stands_first [] e h = tt
-stands_first (x ∷ es) e h =
-    let k : length (x ∷ es) - 1 ≡ length es = omega arith in
-    absurd (none_past (x ∷ es) (length es) (omega arith) (ap (slice_get (x ∷ es)) (sym k) ∙ h))
-  where
-    none_past : (es : List Entry) (k : ℕ) → k < length es → slice_get es k ≡ None → ⊥
-    none_past [] k lt e = absurd (omega arith)
-    none_past (x ∷ es) zero lt e = cc
-    none_past (x ∷ es) (suc k) lt e = none_past es k (omega arith) e
-
 rising_push : (es : List Entry) (e : Entry) → IsRising es → StandsAfter es e → IsRising (es ++ e ∷ [])
 rising_push [] e h s = tt
 rising_push (x ∷ []) e h s = (s, tt)
@@ -41,11 +31,7 @@ each_push : (first last : ℕ) (es : List Entry) (e : Entry) → AllByRecursion 
 each_push first last [] e h s = (s, tt)
 each_push first last (x ∷ es) e h s = (h.0, each_push first last es e h.1 s)
 
-length_push : (es : List Entry) (e : Entry) → length (es ++ e ∷ []) ≡ suc (length es)
-length_push [] e = refl
-length_push (x ∷ es) e = ap suc (length_push es e)
-
-pub certificate_push : (first last : ℕ) (es : List Entry) (e : Entry) → IsCertificate first last es → IsEntry first last e → StandsAfter es e → length es < 4096 → IsCertificate first last (es ++ e ∷ [])
+pub certificate_push : (first last : ℕ) (es : List Entry) (e : Entry) → IsCertificate first last es → IsEntry first last e → StandsAfter es e → length es < MOST_ENTRIES → IsCertificate first last (es ++ e ∷ [])
 certificate_push first last es e h fits s room = record { each = each_push first last es e h.each fits; rising = rising_push es e h.rising s; few = omega (arith, length_push es e) }
 
 -- one more line

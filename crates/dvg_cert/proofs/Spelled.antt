@@ -1,26 +1,27 @@
 -- A line put together token by token, and a text line by line.
-use Rattle.std.proofs.Common.{◌≡◌, ℕ, suc, ◌+◌, ◌<◌, List, [], ◌∷◌, ◌++◌, length, get_or, take, drop, Option, Some, None, Result, Ok, Err, refl, sym, ap, subst, ◌∙◌, append_assoc, arith, add-one}
-use Rattle.std.specs.Prelude.{codes, decimal, OnErr, OnOk}
+use Rattle.std.proofs.Common.{◌≡◌, ℕ, suc, ◌+◌, ◌<◌, List, [], ◌∷◌, ◌++◌, length, get_or, take, drop, Option, Result, Ok, Err, refl, sym, ap, subst, ◌∙◌, append_assoc, arith, add-one}
+use Rattle.std.specs.Prelude.{codes, decimal, OnErr}
 use Rattle.std.specs.List.{join_with_byte, flat_map}
 use Rattle.std.proofs.lemmas.List.{append-nil, length-append, take-append-le}
 use Rattle.std.proofs.lemmas.List.Concat.{flat_map-append}
 use Rattle.std.specs.Io.KnownBytes.{Appends}
+use Rattle.dvg_cert.specs.Limits.{LINE_FEED, SPACE}
 use Rattle.dvg_cert.specs.Entry.{Entry}
 use Rattle.dvg_cert.specs.Grammar.{entry_line, end_tokens, box_tokens, address_token, key_token, ended, begun_with, text_of, done_line, first_line}
 use Rattle.dvg_cert.specs.Devices.{AppendsFront}
-use Rattle.dvg_cert.specs.Writing.{spaced}
+use Rattle.dvg_cert.specs.Private.Writing.{spaced}
 use Rattle.std.proofs.Math.Seq.{take-length, take-append-add}
 use Rattle.dvg_cert.proofs.Rising.{begun_push}
-use Rattle.dvg_cert.proofs.KnownPieces.{Appends-more}
+use Rattle.std.proofs.KnownBytes.{Appends-nil, Appends-trans}
 use Rattle.dvg_cert.proofs.ListParts.{cut_at}
 
-join_spaced : (w : List ℕ) (ws : List (List ℕ)) → join_with_byte 32 (w ∷ ws) ≡ w ++ spaced ws
+join_spaced : (w : List ℕ) (ws : List (List ℕ)) → join_with_byte SPACE (w ∷ ws) ≡ w ++ spaced ws
 join_spaced w [] = sym (append-nil w)
-join_spaced w (v ∷ vs) = ap (λ (t : List ℕ). w ++ 32 ∷ t) (join_spaced v vs)
+join_spaced w (v ∷ vs) = ap (λ (t : List ℕ). w ++ SPACE ∷ t) (join_spaced v vs)
 
 spaced-append : (ws vs : List (List ℕ)) → spaced (ws ++ vs) ≡ spaced ws ++ spaced vs
 spaced-append [] vs = refl
-spaced-append (w ∷ ws) vs = ap (λ (t : List ℕ). 32 ∷ (w ++ t)) (spaced-append ws vs) ∙ ap (λ (t : List ℕ). 32 ∷ t) (sym (append_assoc w (spaced ws) (spaced vs)))
+spaced-append (w ∷ ws) vs = ap (λ (t : List ℕ). SPACE ∷ (w ++ t)) (spaced-append ws vs) ∙ ap (λ (t : List ℕ). SPACE ∷ t) (sym (append_assoc w (spaced ws) (spaced vs)))
 
 -- a piece of a text was written in part
 pub sent_part : (old mid new : Option (List ℕ)) (text front piece tail : List ℕ) → text ≡ front ++ (piece ++ tail) → Appends old mid front → AppendsFront mid new piece → AppendsFront old new text
@@ -29,7 +30,7 @@ sent_part old mid new text front piece tail e h s =
     let parts : take (length front + n) text ≡ front ++ take n piece =
     ap (take (length front + n)) e ∙ take-append-add front (piece ++ tail) n ∙ ap (λ (t : List ℕ). front ++ t) (take-append-le n piece tail s.1) in
     let size : length text ≡ length front + (length piece + length tail) = ap length e ∙ length-append front (piece ++ tail) ∙ ap (λ (k : ℕ). length front + k) (length-append piece tail) in
-    (length front + n, omega (arith, size, s.1), subst (λ (t : List ℕ). Appends old new t) (sym parts) (Appends-more old mid new front (take n piece) h s.2))
+    (length front + n, omega (arith, size, s.1), subst (λ (t : List ℕ). Appends old new t) (sym parts) (Appends-trans old mid new front (take n piece) h s.2))
 
 -- the text of a certificate from an entry on
 pub text_at : (es : List Entry) (i : ℕ) (d : Entry) → i < length es → text_of es ≡ begun_with (take i es) ++ (ended (entry_line (get_or es i d)) ++ (flat_map (λ e. ended (entry_line e)) (drop (suc i) es) ++ ended (done_line (length es))))
@@ -51,17 +52,17 @@ unfolding begun_with
 first_part es = refl
 
 line_parts : (shape hex key endw : List ℕ) (stop : List (List ℕ)) (boxw : List ℕ) (lit : List (List ℕ)) (d1 d w1 w s1 s : List ℕ)
-    → ((((((((((((shape ++ 32 ∷ hex) ++ 32 ∷ key) ++ 32 ∷ endw) ++ spaced stop) ++ 32 ∷ boxw) ++ spaced lit) ++ 32 ∷ d1) ++ 32 ∷ d) ++ 32 ∷ w1) ++ 32 ∷ w) ++ 32 ∷ s1) ++ 32 ∷ s) ++ 10 ∷ []
-    ≡ join_with_byte 32 (shape ∷ hex ∷ key ∷ endw ∷ ((stop ++ boxw ∷ lit) ++ d1 ∷ d ∷ w1 ∷ w ∷ s1 ∷ s ∷ [])) ++ 10 ∷ []
+    → ((((((((((((shape ++ SPACE ∷ hex) ++ SPACE ∷ key) ++ SPACE ∷ endw) ++ spaced stop) ++ SPACE ∷ boxw) ++ spaced lit) ++ SPACE ∷ d1) ++ SPACE ∷ d) ++ SPACE ∷ w1) ++ SPACE ∷ w) ++ SPACE ∷ s1) ++ SPACE ∷ s) ++ LINE_FEED ∷ []
+    ≡ join_with_byte SPACE (shape ∷ hex ∷ key ∷ endw ∷ ((stop ++ boxw ∷ lit) ++ d1 ∷ d ∷ w1 ∷ w ∷ s1 ∷ s ∷ [])) ++ LINE_FEED ∷ []
 line_parts shape hex key endw stop boxw lit d1 d w1 w s1 s =
     let back : List (List ℕ) = d1 ∷ d ∷ w1 ∷ w ∷ s1 ∷ s ∷ [] in
-    let parts : spaced ((stop ++ boxw ∷ lit) ++ back) ≡ (spaced stop ++ 32 ∷ (boxw ++ spaced lit)) ++ spaced back = spaced-append (stop ++ boxw ∷ lit) back ∙ ap (λ (t : List ℕ). t ++ spaced back) (spaced-append stop (boxw ∷ lit)) in
-    regroup shape (32 ∷ hex) (32 ∷ key) (32 ∷ endw) (spaced stop) (32 ∷ boxw) (spaced lit) (32 ∷ d1) (32 ∷ d) (32 ∷ w1) (32 ∷ w) (32 ∷ s1) (32 ∷ s) (10 ∷ []) ∙ ap (λ (t : List ℕ). (shape ++ 32 ∷ (hex ++ 32 ∷ (key ++ 32 ∷ (endw ++ t)))) ++ 10 ∷ []) (sym parts) ∙ ap (λ (t : List ℕ). t ++ 10 ∷ []) (sym (join_spaced shape (hex ∷ key ∷ endw ∷ ((stop ++ boxw ∷ lit) ++ back))))
+    let parts : spaced ((stop ++ boxw ∷ lit) ++ back) ≡ (spaced stop ++ SPACE ∷ (boxw ++ spaced lit)) ++ spaced back = spaced-append (stop ++ boxw ∷ lit) back ∙ ap (λ (t : List ℕ). t ++ spaced back) (spaced-append stop (boxw ∷ lit)) in
+    regroup shape (SPACE ∷ hex) (SPACE ∷ key) (SPACE ∷ endw) (spaced stop) (SPACE ∷ boxw) (spaced lit) (SPACE ∷ d1) (SPACE ∷ d) (SPACE ∷ w1) (SPACE ∷ w) (SPACE ∷ s1) (SPACE ∷ s) (LINE_FEED ∷ []) ∙ ap (λ (t : List ℕ). (shape ++ SPACE ∷ (hex ++ SPACE ∷ (key ++ SPACE ∷ (endw ++ t)))) ++ LINE_FEED ∷ []) (sym parts) ∙ ap (λ (t : List ℕ). t ++ LINE_FEED ∷ []) (sym (join_spaced shape (hex ∷ key ∷ endw ∷ ((stop ++ boxw ∷ lit) ++ back))))
   where
     regroup : (a b c d e f g h i j k l m n : List ℕ) → ((((((((((((a ++ b) ++ c) ++ d) ++ e) ++ f) ++ g) ++ h) ++ i) ++ j) ++ k) ++ l) ++ m) ++ n ≡ (a ++ (b ++ (c ++ (d ++ ((e ++ (f ++ g)) ++ (h ++ (i ++ (j ++ (k ++ (l ++ (m ++ []))))))))))) ++ n
     regroup a b c d e f g h i j k l m n = simp (append_assoc, append-nil)
 
-pub spelled_entry : (e : Entry) → ((((((((((((codes "shape" ++ 32 ∷ address_token e.addr) ++ 32 ∷ key_token e.key) ++ 32 ∷ codes "end") ++ spaced (end_tokens e.stop)) ++ 32 ∷ codes "box") ++ spaced (box_tokens e.lit)) ++ 32 ∷ codes "depth") ++ 32 ∷ decimal e.depth) ++ 32 ∷ codes "words") ++ 32 ∷ decimal e.words) ++ 32 ∷ codes "scale") ++ 32 ∷ key_token e.scale) ++ 10 ∷ [] ≡ ended (entry_line e)
+pub spelled_entry : (e : Entry) → ((((((((((((codes "shape" ++ SPACE ∷ address_token e.addr) ++ SPACE ∷ key_token e.key) ++ SPACE ∷ codes "end") ++ spaced (end_tokens e.stop)) ++ SPACE ∷ codes "box") ++ spaced (box_tokens e.lit)) ++ SPACE ∷ codes "depth") ++ SPACE ∷ decimal e.depth) ++ SPACE ∷ codes "words") ++ SPACE ∷ decimal e.words) ++ SPACE ∷ codes "scale") ++ SPACE ∷ key_token e.scale) ++ LINE_FEED ∷ [] ≡ ended (entry_line e)
 spelled_entry e = line_parts (codes "shape") (address_token e.addr) (key_token e.key) (codes "end") (end_tokens e.stop) (codes "box") (box_tokens e.lit) (codes "depth") (decimal e.depth) (codes "words") (decimal e.words) (codes "scale") (key_token e.scale)
 
 -- where an error is returned
@@ -73,10 +74,6 @@ pub text_first : (es : List Entry) (old new : Option (List ℕ)) → AppendsFron
 text_first es old new s =
     let e : text_of es ≡ ended first_line ++ (flat_map (λ e. ended (entry_line e)) es ++ ended (done_line (length es))) = ap (λ (t : List ℕ). t ++ ended (done_line (length es))) (first_part es) ∙ append_assoc (ended first_line) (flat_map (λ e. ended (entry_line e)) es) (ended (done_line (length es))) in
     sent_part old old new (text_of es) [] (ended first_line) (flat_map (λ e. ended (entry_line e)) es ++ ended (done_line (length es))) e (Appends-nil old) s
-  where
-    Appends-nil : (o : Option (List ℕ)) → Appends o o []
-    Appends-nil None = tt
-    Appends-nil (Some x) = sym (append-nil x)
 
 pub entry_sent : (old mid new : Option (List ℕ)) (es cert : List Entry) (i : ℕ) (d : Entry) (piece : List ℕ) → es ≡ cert → i < length es → piece ≡ ended (entry_line (get_or es i d)) → Appends old mid (begun_with (take i es)) → AppendsFront mid new piece → AppendsFront old new (text_of cert)
 entry_sent old mid new es cert i d piece same lt p h s =
@@ -86,7 +83,7 @@ entry_sent old mid new es cert i d piece same lt p h s =
 
 pub entry_written : (old mid new : Option (List ℕ)) (es : List Entry) (i : ℕ) (d : Entry) (piece : List ℕ) → i < length es → piece ≡ ended (entry_line (get_or es i d)) → Appends old mid (begun_with (take i es)) → Appends mid new piece → Appends old new (begun_with (take (i + 1) es))
 entry_written old mid new es i d piece lt p h k =
-    subst (λ (t : List ℕ). Appends old new t) (ap (λ (t : List ℕ). begun_with (take i es) ++ t) p ∙ sym (begun_next es i d lt)) (Appends-more old mid new (begun_with (take i es)) piece h k)
+    subst (λ (t : List ℕ). Appends old new t) (ap (λ (t : List ℕ). begun_with (take i es) ++ t) p ∙ sym (begun_next es i d lt)) (Appends-trans old mid new (begun_with (take i es)) piece h k)
 
 all_of : (es cert : List Entry) (i : ℕ) → es ≡ cert → i ≡ length es → take i es ≡ cert
 all_of es cert i same all = ap (λ (n : ℕ). take n es) all ∙ take-length es ∙ same
@@ -102,12 +99,4 @@ pub done_written : (old mid new : Option (List ℕ)) (es cert : List Entry) (i n
 done_written old mid new es cert i n piece same all m p h k =
     let a : begun_with (take i es) ≡ begun_with cert = ap begun_with (all_of es cert i same all) in
     let q : piece ≡ ended (done_line (length cert)) = p ∙ ap (λ (k : ℕ). ended (done_line k)) (m ∙ ap length same) in
-    subst (λ (t : List ℕ). Appends old new t) (ap (λ (t : List ℕ). t ++ piece) a ∙ ap (λ (t : List ℕ). begun_with cert ++ t) q) (Appends-more old mid new (begun_with (take i es)) piece h k)
-
-pub on_err : {X E P Q : Type 0} (r : Result X E) → (P → Q) → OnErr r P → OnErr r Q
-on_err (Ok x) f p = tt
-on_err (Err e) f p = f p
-
-pub on_ok : {X E P Q : Type 0} (r : Result X E) → (P → Q) → OnOk r P → OnOk r Q
-on_ok (Ok x) f p = f p
-on_ok (Err e) f p = tt
+    subst (λ (t : List ℕ). Appends old new t) (ap (λ (t : List ℕ). t ++ piece) a ∙ ap (λ (t : List ℕ). begun_with cert ++ t) q) (Appends-trans old mid new (begun_with (take i es)) piece h k)

@@ -3,6 +3,7 @@ use Rattle.std.proofs.Common.{◌≡◌, ◌≢◌, ℕ, ◌+◌, ◌*◌, ◌<�
 use Rattle.std.specs.Prelude.{◌==◌, count_by}
 use Rattle.std.proofs.lemmas.List.{append-nil, length-append}
 use Rattle.std.proofs.lemmas.List.Recursion.{is_count_by}
+use Rattle.dvg_cert.specs.Limits.{MOST_ENTRIES, LONGEST_LINE, LINE_FEED, ADDRESS_END}
 use Rattle.dvg_cert.specs.declared.fault.CertWhy.{CertWhy}
 use Rattle.dvg_cert.specs.declared.fault.CertWhy.TheVariants.{Form, Order, Count, Unended, After, TooLong, Memory}
 use Rattle.dvg_cert.specs.declared.fault.CertFault.{CertFault}
@@ -22,7 +23,7 @@ same_fault f g p q = made f.line g.line f.why g.why p q
     made l m w v p q = cc
 
 -- two answers that are not want of memory are one
-pub answers_once : (first last : ℕ) (text : List ℕ) (a b : Result (List Entry) CertFault) → last < 4096 → ReadAnswer first last text a → NotMemory a → ReadAnswer first last text b → NotMemory b → a ≡ b
+pub answers_once : (first last : ℕ) (text : List ℕ) (a b : Result (List Entry) CertFault) → last < ADDRESS_END → ReadAnswer first last text a → NotMemory a → ReadAnswer first last text b → NotMemory b → a ≡ b
 answers_once first last text (Ok es) (Ok fs) small h n k m = ap Ok (spelled_once first last es fs text small h k)
 answers_once first last text (Ok es) (Err f) small h n k m = absurd (spelled_fault first last es text f.line f.why small h m k)
 answers_once first last text (Err f) (Ok es) small h n k m = absurd (spelled_fault first last es text f.line f.why small k n h)
@@ -36,7 +37,7 @@ standing_answer first last text (Whole from to es) rest h =
     let none : rest ≡ [] = h.begun in
     (Ok es, (same_rom first last from to es h.lines.0 h.lines.1 h.lines.2, h.parts ∙ ap (λ (x : List ℕ). text_of es ++ x) none ∙ append-nil (text_of es)), tt)
 
-some_answer : (first last : ℕ) (text : List ℕ) → last < 4096 → (answer : Result (List Entry) CertFault) × ReadAnswer first last text answer × NotMemory answer
+some_answer : (first last : ℕ) (text : List ℕ) → last < ADDRESS_END → (answer : Result (List Entry) CertFault) × ReadAnswer first last text answer × NotMemory answer
 some_answer first last text small =
     elim (judged first last text small) [
       | inl s ↦ standing_answer first last text s.0 s.1 s.2
@@ -47,7 +48,7 @@ pub one_answer : OneAnswer
 one_answer = λ first last text small. let a = some_answer first last text small in (a.0, a.1, a.2, λ other h n. answers_once first last text other a.0 small h n a.1 a.2)
 
 -- the only refusal of a text that may stand, its end aside
-pub only_memory : (why : CertWhy) (first last : ℕ) (text : List ℕ) (line : ℕ) → last < 4096 → IsRefusal first last text line why → why ≢ Unended → MayStand first last text → why ≡ Memory
+pub only_memory : (why : CertWhy) (first last : ℕ) (text : List ℕ) (line : ℕ) → last < ADDRESS_END → IsRefusal first last text line why → why ≢ Unended → MayStand first last text → why ≡ Memory
 only_memory Memory first last text line small h n m = refl
 only_memory Unended first last text line small h n m = absurd (n refl)
 only_memory Form first last text line small h n m = absurd (n (standing_fault first last text m.0 m.1 line Form small m.2 (λ e. absurd cc) h).0)
@@ -59,19 +60,19 @@ only_memory TooLong first last text line small h n m = absurd (n (standing_fault
 -- the line ends of a text
 abbrev pub ends_in : List ℕ → ℕ
 ends_in [] = 0
-ends_in (x ∷ xs) = cond (x == 10) (1 + ends_in xs) (ends_in xs)
+ends_in (x ∷ xs) = cond (x == LINE_FEED) (1 + ends_in xs) (ends_in xs)
 
 ends-append : (xs ys : List ℕ) → ends_in (xs ++ ys) ≡ ends_in xs + ends_in ys
 ends-append [] ys = omega arith
-ends-append (x ∷ xs) ys = more (x == 10) (ends_in xs) (ends_in ys) (ends_in (xs ++ ys)) (ends-append xs ys)
+ends-append (x ∷ xs) ys = more (x == LINE_FEED) (ends_in xs) (ends_in ys) (ends_in (xs ++ ys)) (ends-append xs ys)
   where
     more : (t : Bool) (a b c : ℕ) → c ≡ a + b → cond t (1 + c) c ≡ cond t (1 + a) a + b
     more true a b c e = omega arith
     more false a b c e = e
 
-ends-free : (xs : List ℕ) → Without 10 xs → ends_in xs ≡ 0
+ends-free : (xs : List ℕ) → Without LINE_FEED xs → ends_in xs ≡ 0
 ends-free [] h = refl
-ends-free (x ∷ xs) h = none (x == 10) (ends_in xs) h.0 (ends-free xs h.1)
+ends-free (x ∷ xs) h = none (x == LINE_FEED) (ends_in xs) h.0 (ends-free xs h.1)
   where
     none : (t : Bool) (a : ℕ) → t ≡ false → a ≡ 0 → cond t (1 + a) a ≡ 0
     none true a e z = absurd cc
@@ -79,7 +80,7 @@ ends-free (x ∷ xs) h = none (x == 10) (ends_in xs) h.0 (ends-free xs h.1)
 
 ends-lines : (ls : List (List ℕ)) → Frees ls → ends_in (lines_text ls) ≡ length ls
 ends-lines [] h = refl
-ends-lines (l ∷ ls) h = omega (arith, ends-append l (10 ∷ lines_text ls), ends-free l h.0, ends-lines ls h.1)
+ends-lines (l ∷ ls) h = omega (arith, ends-append l (LINE_FEED ∷ lines_text ls), ends-free l h.0, ends-lines ls h.1)
 
 length-entries : (es : List Entry) → length (entry_lines es) ≡ length es
 length-entries [] = refl
@@ -90,20 +91,20 @@ length-lines Nothing = refl
 length-lines (Begun from to es) = omega (arith, length-entries es)
 length-lines (Whole from to es) = omega (arith, length-entries es, length-append (entry_lines es) (done_line (length es) ∷ []))
 
-pub line_at : (first last : ℕ) (text : List ℕ) (taken : Taken) (rest : List ℕ) → Holds first last text taken rest → line_number taken ≡ count_by (λ b. b == 10) text + 1
+pub line_at : (first last : ℕ) (text : List ℕ) (taken : Taken) (rest : List ℕ) → Holds first last text taken rest → line_number taken ≡ count_by (λ b. b == LINE_FEED) text + 1
 line_at first last text taken rest h =
     let whole : ends_in text ≡ ends_in (text_taken taken) + ends_in rest = ap ends_in h.parts ∙ ends-append (text_taken taken) rest in
     let all : ends_in (text_taken taken) ≡ length (lines_of taken) = ap ends_in (taken_lines taken) ∙ ends-lines (lines_of taken) (taken_free first last taken h.lines) in
-    let counted : ends_in text ≡ count_by (λ b. b == 10) text = is_count_by ends_in (λ b. b == 10) refl (λ x xs. refl) text in
+    let counted : ends_in text ≡ count_by (λ b. b == LINE_FEED) text = is_count_by ends_in (λ b. b == LINE_FEED) refl (λ x xs. refl) text in
     omega (arith, counted, whole, all, ends-free rest (rest_free taken rest h.begun).0, length-lines taken)
 
 -- short lines with their ends
-short_lines : (ls : List (List ℕ)) → Shorts ls → length (lines_text ls) ≤ 200 * length ls
+short_lines : (ls : List (List ℕ)) → Shorts ls → length (lines_text ls) ≤ LONGEST_LINE * length ls
 short_lines [] h = omega arith
-short_lines (l ∷ ls) h = omega (arith, length-append l (10 ∷ lines_text ls), h.0, short_lines ls h.1)
+short_lines (l ∷ ls) h = omega (arith, length-append l (LINE_FEED ∷ lines_text ls), h.0, short_lines ls h.1)
 
 -- the lines that were taken, and the line begun after them
-few_lines : (first last : ℕ) (taken : Taken) (rest : List ℕ) → IsTaken first last taken → IsRest taken rest → 200 * length (lines_of taken) + length rest ≤ 819600
+few_lines : (first last : ℕ) (taken : Taken) (rest : List ℕ) → IsTaken first last taken → IsRest taken rest → LONGEST_LINE * length (lines_of taken) + length rest ≤ (MOST_ENTRIES + 2) * LONGEST_LINE
 few_lines first last Nothing rest h r = omega (arith, r.1)
 few_lines first last (Begun from to es) rest h r = omega (arith, length-entries es, h.2.few, r.1)
 few_lines first last (Whole from to es) rest h r =

@@ -1,5 +1,6 @@
 -- What an entry of a certificate may say.
-use Rattle.std.specs.Prelude.{ℕ, ◌≤◌, ℤ, pos, neg_ℤ, ◌≤ℤ◌}
+use Rattle.std.specs.Prelude.{ℕ, ◌≤◌, ℤ, neg_ℤ, ◌≤ℤ◌}
+use Rattle.dvg_cert.specs.Limits.{MOST_DEPTH, MOST_WORDS, MOST_NUMBER}
 pub use Rattle.dvg_cert.specs.declared.entry.Key.{Key}
 pub use Rattle.dvg_cert.specs.declared.entry.Key.TheVariants.{At, Any}
 pub use Rattle.dvg_cert.specs.declared.entry.End.{End}
@@ -10,7 +11,7 @@ pub use Rattle.dvg_cert.specs.declared.entry.Entry.{Entry}
 
 -- the numbers of ends and boxes, in units of 1/1024 of a screen place (profile)
 abbrev pub IsNumber : ℤ → Type 0
-IsNumber z = (neg_ℤ (pos 2000000000000) ≤ℤ z) × (z ≤ℤ pos 2000000000000)
+IsNumber z = (neg_ℤ MOST_NUMBER ≤ℤ z) × (z ≤ℤ MOST_NUMBER)
 
 -- a global scale has four bits (DVG documentation)
 abbrev pub IsKey : Key → Type 0
@@ -30,13 +31,6 @@ abbrev pub IsBox : LitBox → Type 0
 IsBox Empty = Unit {0}
 IsBox (Span x_min x_max y_min y_max) = IsRange x_min x_max × IsRange y_min y_max
 
--- the first and the last word address of the ROM of Asteroids, of which texts of version 1 speak (profile)
-abbrev pub rom_first : ℕ
-rom_first = 0x800
-
-abbrev pub rom_last : ℕ
-rom_last = 0xBFF
-
 -- an entry for a ROM from word address `first` to `last` (profile)
 pub record IsEntry (first last : ℕ) (e : Entry) : Type 0 where
   pub addr_low : first ≤ e.addr
@@ -44,7 +38,7 @@ pub record IsEntry (first last : ℕ) (e : Entry) : Type 0 where
   pub key : IsKey e.key
   pub stop : IsEnd e.stop
   pub lit : IsBox e.lit
-  pub depth : e.depth ≤ 3
+  pub depth : e.depth ≤ MOST_DEPTH
   pub words_low : 1 ≤ e.words
-  pub words_high : e.words ≤ 1000000
+  pub words_high : e.words ≤ MOST_WORDS
   pub scale : IsKey e.scale

@@ -2,6 +2,7 @@
 use Rattle.std.specs.Prelude.{◌≡◌, ℕ, ◌/◌, ◌%◌, List, [], ◌∷◌, ◌++◌, length, codes, decimal, true}
 use Rattle.std.specs.Fmt.{signed_decimal, digit_glyph}
 use Rattle.std.specs.List.{join_with_byte, flat_map}
+use Rattle.dvg_cert.specs.Limits.{LINE_FEED, SPACE}
 use Rattle.dvg_cert.specs.Entry.{Key, At, Any, End, Rel, Abs, Lost, LitBox, Empty, Span, Entry}
 use Rattle.dvg_cert.specs.Order.{IsCertificate}
 
@@ -35,14 +36,14 @@ abbrev pub first_line : List ℕ
 first_line = codes "dvgcert 1"
 
 abbrev pub entry_line : Entry → List ℕ
-entry_line e = join_with_byte 32 (entry_tokens e)
+entry_line e = join_with_byte SPACE (entry_tokens e)
 
 abbrev pub done_line : ℕ → List ℕ
-done_line n = join_with_byte 32 (codes "done" ∷ decimal n ∷ [])
+done_line n = join_with_byte SPACE (codes "done" ∷ decimal n ∷ [])
 
 -- a line with its end (profile)
 abbrev pub ended : List ℕ → List ℕ
-ended line = line ++ 10 ∷ []
+ended line = line ++ LINE_FEED ∷ []
 
 -- the first line, and a line for each entry (profile)
 unfoldable pub begun_with : List Entry → List ℕ

@@ -1,3 +1,4 @@
+pub mod Limits
 pub mod Entry
 pub mod Order
 pub mod Grammar
@@ -7,6 +8,4 @@ pub mod Stream
 pub mod Laws
 pub mod Lookup
 pub mod Devices
-pub mod Tokens
-pub mod Progress
-pub mod Writing
+pub mod Private

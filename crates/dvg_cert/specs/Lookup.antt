@@ -1,5 +1,6 @@
 -- The entry of a list at an address and a key, and the entry that a call names.
-use Rattle.std.specs.Prelude.{◌≡◌, ℕ, ◌==◌, ◌&&◌, Bool, true, false, List, Option, Some, None, find, Contains}
+use Rattle.std.specs.Prelude.{◌≡◌, ℕ, ◌==◌, ◌&&◌, Bool, true, false, List, Option, find, Contains}
+use Rattle.std.specs.Option.{option_or}
 use Rattle.dvg_cert.specs.Entry.{Entry, Key, At, Any}
 
 abbrev pub same_key : Key → Key → Bool
@@ -23,10 +24,6 @@ IsOnlyAt list addr key e = Contains list e × (e.addr ≡ addr) × (e.key ≡ ke
 abbrev pub HasNoneAt : List Entry → ℕ → Key → Type 0
 HasNoneAt list addr key = (f : Entry) → Contains list f → f.addr ≡ addr → f.key ≡ key → ⊥
 
-abbrev pub or_else : Option Entry → Option Entry → Option Entry
-or_else (Some e) other = Some e
-or_else None other = other
-
 -- the entry named by an address and a known scale, where `Any` is an unknown one: that at the scale, else that at any scale (profile)
 abbrev pub named_entry : List Entry → ℕ → Key → Option Entry
-named_entry list addr scale = or_else (entry_at list addr scale) (entry_at list addr Any)
+named_entry list addr scale = option_or (entry_at list addr scale) (entry_at list addr Any)

@@ -1,6 +1,7 @@
 -- The order of a certificate's entries, and which lists are a certificate's.
 use Rattle.std.specs.Prelude.{◌≡◌, ℕ, ◌<◌, ◌≤◌, ◌⊎◌, List, [], ◌∷◌, length}
 use Rattle.std.specs.List.{AllByRecursion}
+use Rattle.dvg_cert.specs.Limits.{MOST_ENTRIES}
 use Rattle.dvg_cert.specs.Entry.{Entry, Key, At, Any, IsEntry}
 
 -- any stands after 15 (profile)
@@ -28,4 +29,4 @@ StandsAfter (f ∷ g ∷ es) e = StandsAfter (g ∷ es) e
 pub record IsCertificate (first last : ℕ) (es : List Entry) : Type 0 where
   pub each : AllByRecursion (IsEntry first last) es
   pub rising : IsRising es
-  pub few : length es ≤ 4096
+  pub few : length es ≤ MOST_ENTRIES

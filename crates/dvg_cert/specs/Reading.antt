@@ -1,6 +1,7 @@
 -- The reader's answer, by what a front of the text is. The first and the last word address are those of the ROM that a
 -- text of this version speaks of; the lines that were taken keep them.
-use Rattle.std.specs.Prelude.{◌≡◌, ◌≢◌, ℕ, ◌+◌, ◌<◌, ◌≤◌, ◌⊎◌, List, [], ◌∷◌, ◌++◌, length, false, ◌==◌, Result, Ok, Err}
+use Rattle.std.specs.Prelude.{◌≡◌, ◌≢◌, ℕ, ◌+◌, ◌-◌, ◌<◌, ◌≤◌, ◌⊎◌, List, [], ◌∷◌, ◌++◌, length, false, ◌==◌, Result, Ok, Err}
+use Rattle.dvg_cert.specs.Limits.{MOST_ENTRIES, LONGEST_LINE, LINE_FEED}
 use Rattle.dvg_cert.specs.declared.line.Line.{Line}
 use Rattle.dvg_cert.specs.declared.line.Line.TheVariants as lines
 use Rattle.dvg_cert.specs.declared.fault.CertWhy.{CertWhy}
@@ -13,7 +14,7 @@ use Rattle.dvg_cert.specs.Grammar.{first_line, entry_line, done_line, begun_with
 -- the bytes are a line after the first, without its end (profile)
 abbrev pub IsLine : ℕ → ℕ → Line → List ℕ → Type 0
 IsLine first last (lines.Entry e) bytes = IsEntry first last e × (bytes ≡ entry_line e)
-IsLine first last (lines.Done n) bytes = (n ≤ 4096) × (bytes ≡ done_line n)
+IsLine first last (lines.Done n) bytes = (n ≤ MOST_ENTRIES) × (bytes ≡ done_line n)
 
 -- the lines of a front: none, those to an entry of a ROM from one address to another, or all (profile)
 pub data Taken : Type 0 where
@@ -42,10 +43,10 @@ abbrev pub Without : ℕ → List ℕ → Type 0
 Without c [] = Unit {0}
 Without c (b ∷ bs) = ((b == c) ≡ false) × Without c bs
 
--- what may follow these lines: a line begun, of fewer than 200 bytes, or nothing after all lines (profile)
+-- what may follow these lines: a line begun that has room for its end, or nothing after all lines (profile)
 abbrev pub IsRest : Taken → List ℕ → Type 0
 IsRest (Whole from to es) rest = rest ≡ []
-IsRest taken rest = Without 10 rest × (length rest < 200)
+IsRest taken rest = Without LINE_FEED rest × (length rest < LONGEST_LINE)
 
 -- the whole lines of the text are these, all taken, and the line begun after them is short enough (profile)
 pub record Holds (first last : ℕ) (text : List ℕ) (taken : Taken) (rest : List ℕ) : Type 0 where
@@ -67,14 +68,14 @@ abbrev pub IsWrong : Taken → List ℕ → CertWhy → Type 0
 IsWrong Nothing line Form = line ≢ first_line
 IsWrong (Begun from to es) line Form = (l : Line) → IsLine from to l line → ⊥
 IsWrong (Begun from to es) line Order = (e : Entry) × IsLine from to (lines.Entry e) line × (StandsAfter es e → ⊥)
-IsWrong (Begun from to es) line TooLong = (e : Entry) × IsLine from to (lines.Entry e) line × StandsAfter es e × (length es ≡ 4096)
+IsWrong (Begun from to es) line TooLong = (e : Entry) × IsLine from to (lines.Entry e) line × StandsAfter es e × (length es ≡ MOST_ENTRIES)
 IsWrong (Begun from to es) line Count = (n : ℕ) × IsLine from to (lines.Done n) line × (n ≢ length es)
 IsWrong taken line why = ⊥
 
--- why a byte cannot come after these lines and this rest: after all lines, as the 200th of a line, or as its LF (profile)
+-- why a byte cannot come after these lines and this rest: after all lines, as the last that a line may have, or as its LF (profile)
 abbrev pub Meets : Taken → List ℕ → ℕ → CertWhy → Type 0
 Meets (Whole from to es) rest b why = why ≡ After
-Meets taken rest b why = ((b ≢ 10) × (length rest ≡ 199) × (why ≡ TooLong)) ⊎ ((b ≡ 10) × IsWrong taken rest why)
+Meets taken rest b why = ((b ≢ LINE_FEED) × (length rest ≡ LONGEST_LINE - 1) × (why ≡ TooLong)) ⊎ ((b ≡ LINE_FEED) × IsWrong taken rest why)
 
 -- the line is that of an entry which could still be taken (profile)
 abbrev pub HasEntryAt : ℕ → ℕ → List ℕ → ℕ → Type 0

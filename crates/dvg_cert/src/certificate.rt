@@ -1,26 +1,14 @@
 //! Certificates, and which lists of entries are a certificate's.
 
 ghost use Rattle.std.specs.Prelude.{◌≡◌, ◌↔◌, ◌≤◌, length, take, IsTrue, IfOk, IfErr, ◌≤ℤ◌};
-ghost use Rattle.dvg_cert.specs.Entry.{rom_first, rom_last, IsNumber, IsRange, IsKey, IsEnd, IsBox, IsEntry};
+ghost use Rattle.dvg_words.specs.Values.{asteroids};
+ghost use Rattle.dvg_cert.specs.Entry.{IsNumber, IsRange, IsKey, IsEnd, IsBox, IsEntry};
 ghost use Rattle.dvg_cert.specs.Order.{IsCertificate, StandsAfter, Before, KeyBefore};
 
 use crate::entry::{End, Entry, Key, LitBox};
+use crate::limits::{MOST_DEPTH, MOST_ENTRIES, MOST_NUMBER, MOST_WORDS};
+use dvg_words::{ROM_FIRST, ROM_LAST};
 use std::marker::Model;
-
-/// The first word address of the ROM.
-pub const ROM_FIRST: u16 = 0x800;
-
-/// The last word address of the ROM.
-pub const ROM_LAST: u16 = 0xBFF;
-
-/// The most entries of a certificate.
-pub const MOST_ENTRIES: usize = 4096;
-
-/// The most return places that an entry may claim.
-pub const MOST_DEPTH: u8 = 3;
-
-/// The most words that an entry may claim.
-pub const MOST_WORDS: u32 = 1_000_000;
 
 /// A certificate: its entries, rising by address and key, and within the limits.
 #[derive(Drop)]
@@ -29,7 +17,7 @@ pub struct Cert {
 }
 
 impl Model for Cert {
-    ghost use Rattle.dvg_cert.specs.Entry.{rom_first, rom_last};
+    ghost use Rattle.dvg_words.specs.Values.{asteroids};
     ghost use Rattle.std.specs.Prelude.{List};
     ghost use Rattle.dvg_cert.specs.Entry.{Entry};
     ghost use Rattle.dvg_cert.specs.Order.{IsCertificate};
@@ -38,14 +26,14 @@ impl Model for Cert {
 
     ghost view = { λ s. s.entries.items };
 
-    ghost invariant = { λ s. IsCertificate rom_first rom_last s.entries.items };
+    ghost invariant = { λ s. IsCertificate asteroids.rom_first asteroids.rom_last s.entries.items };
 }
 
 impl Cert {
     /// The certificate with these entries, or the same vector again where they are not a certificate's.
     pub fn from_entries(entries: Vec<Entry>) -> Result<Cert, Vec<Entry>>
-        ensures taken { IfOk result (λ cert. (cert ≡ entries.items) × IsCertificate rom_first rom_last entries.items) }
-        ensures refused { IfErr result (λ same. (same ≡ entries) × (IsCertificate rom_first rom_last entries.items → ⊥)) }
+        ensures taken { IfOk result (λ cert. (cert ≡ entries.items) × IsCertificate asteroids.rom_first asteroids.rom_last entries.items) }
+        ensures refused { IfErr result (λ same. (same ≡ entries) × (IsCertificate asteroids.rom_first asteroids.rom_last entries.items → ⊥)) }
     {
         if is_certificate(&entries) {
             Ok(certificate_of(entries))
@@ -57,7 +45,7 @@ impl Cert {
     /// The entries, in their order.
     pub fn entries(&self) -> &[Entry]
         ensures value { result.now ≡ self.now }
-        ensures certificate { IsCertificate rom_first rom_last self.now }
+        ensures certificate { IsCertificate asteroids.rom_first asteroids.rom_last self.now }
     {
         &self.entries
     }
@@ -65,7 +53,7 @@ impl Cert {
 
 /// The certificate with these entries, which are known to be a certificate's.
 pub fn certificate_of(entries: Vec<Entry>) -> Cert
-    requires { IsCertificate rom_first rom_last entries.items }
+    requires { IsCertificate asteroids.rom_first asteroids.rom_last entries.items }
     ensures { result ≡ entries.items }
 {
     Cert { entries }
@@ -73,7 +61,7 @@ pub fn certificate_of(entries: Vec<Entry>) -> Cert
 
 /// Whether entries are those of a certificate.
 fn is_certificate(entries: &[Entry]) -> bool
-    ensures { IsTrue result ↔ IsCertificate rom_first rom_last entries.now }
+    ensures { IsTrue result ↔ IsCertificate asteroids.rom_first asteroids.rom_last entries.now }
 {
     if entries.len() > MOST_ENTRIES {
         return false;
@@ -121,7 +109,7 @@ fn is_key_before(a: Key, b: Key) -> bool
 
 /// Whether an entry is within the limits of a certificate.
 pub fn is_entry(entry: &Entry) -> bool
-    ensures { IsTrue result ↔ IsEntry rom_first rom_last entry.now }
+    ensures { IsTrue result ↔ IsEntry asteroids.rom_first asteroids.rom_last entry.now }
 {
     ROM_FIRST <= entry.addr
         && entry.addr <= ROM_LAST
@@ -177,5 +165,5 @@ fn is_range(low: &i64, high: &i64) -> bool
 fn is_number(z: i64) -> bool
     ensures { IsTrue result ↔ IsNumber z }
 {
-    -2_000_000_000_000 <= z && z <= 2_000_000_000_000
+    -MOST_NUMBER <= z && z <= MOST_NUMBER
 }

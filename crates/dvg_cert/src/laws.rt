@@ -1,6 +1,6 @@
 //! The laws of texts and of look-ups, proved over the definitions alone.
 
-ghost use Rattle.dvg_cert.specs.Laws.{OneText, OneList, OneAnswer, OpenAnswer, OpenFront, LineNumber, ShortText, FrontRefusal, CutRefusal, OnlyEntry};
+ghost use Rattle.dvg_cert.specs.Laws.{OneText, OneList, OneAnswer, ReadBack, OpenAnswer, OpenFront, LineNumber, ShortText, FrontRefusal, CutRefusal, OnlyEntry};
 
 /// Each list of a certificate has exactly one text.
 pub fn one_text()
@@ -15,6 +15,11 @@ pub fn one_list()
 /// Each text has exactly one answer of the reader, want of memory aside.
 pub fn one_answer()
     ensures { OneAnswer }
+{}
+
+/// The text of a list, as `write_cert` writes it, is read back as that list, want of memory aside.
+pub fn read_back()
+    ensures { ReadBack }
 {}
 
 /// A text whose whole lines were all taken is refused for its end alone, want of memory aside.
@@ -32,7 +37,7 @@ pub fn line_number()
     ensures { LineNumber }
 {}
 
-/// A text whose whole lines were all taken has at most 819,600 bytes, 4098 lines of 200.
+/// A text whose whole lines were all taken has at most 819,600 bytes: 4098 lines of 200, one for each entry and two.
 pub fn short_text()
     ensures { ShortText }
 {}

@@ -7,6 +7,7 @@ mod counted;
 mod entry;
 mod fault;
 pub mod laws;
+mod limits;
 mod line;
 mod line_buffer;
 mod lookup;
@@ -16,12 +17,12 @@ mod taken;
 mod tokens;
 mod writer;
 
-pub use certificate::{
-    Cert, MOST_DEPTH, MOST_ENTRIES, MOST_WORDS, certificate_of, is_entry, is_key,
-};
+pub use certificate::{Cert, certificate_of, is_entry, is_key};
 pub use counted::{Counted, CountedRead, CountedWrite};
 pub use entry::{End, Entry, Key, LitBox};
 pub use fault::{CertFault, CertWhy, WriteFault};
+pub use limits::{MOST_DEPTH, MOST_ENTRIES, MOST_NUMBER, MOST_WORDS};
+pub use line_buffer::push_bytes;
 pub use lookup::{Entries, ListIndex};
 pub use numerals::{read_address, read_key};
 pub use reader::{CertReader, read_cert};

@@ -1,76 +1,29 @@
-//! A line of at most 200 bytes, in place.
+//! Bytes put together in place.
 
-ghost use Rattle.std.specs.Prelude.{◌≡◌, ◌≤◌, ◌<◌, ◌+◌, [], ◌∷◌, ◌++◌, length};
+ghost use Rattle.std.specs.Prelude.{◌≡◌, ◌+◌, ◌≤◌, ◌<◌, ◌∷◌, ◌++◌, length};
+ghost use Rattle.arrayvec.specs.ArrayVec.{array_vec_len};
 
-use std::marker::Model;
+use crate::limits::{LONGEST_LINE, SPACE};
+use arrayvec::ArrayVec;
 
 /// The bytes of a line so far.
-#[derive(Drop)]
-pub struct LineBuffer {
-    bytes: [u8; 200],
-    len: usize,
+pub type LineBuffer = ArrayVec<u8, LONGEST_LINE>;
+
+/// Puts bytes at the end of a buffer that has room for them. Takes no memory.
+pub fn push_bytes<const N: usize>(buffer: &mut ArrayVec<u8, N>, bytes: &[u8])
+    requires { array_vec_len buffer.old + length bytes.now ≤ N }
+    ensures { buffer.new.items ≡ buffer.old.items ++ bytes.now }
+{
+    let fits = buffer.try_extend_from_slice(bytes).is_ok();
+    prove!(fits);
 }
 
-impl Model for LineBuffer {
-    ghost use Rattle.std.specs.Prelude.{ℕ, List, take, ◌≤◌};
-
-    ghost Value = { List ℕ };
-
-    ghost view = { λ s. take s.len s.bytes };
-
-    ghost invariant = { λ s. s.len ≤ 200 };
-}
-
-impl LineBuffer {
-    /// No byte so far.
-    pub fn new() -> Self
-        ensures { result ≡ [] }
-    {
-        LineBuffer {
-            bytes: [0; 200],
-            len: 0,
-        }
-    }
-
-    /// How many bytes.
-    pub fn len(&self) -> usize
-        ensures value { result ≡ length self.now }
-        ensures within { result ≤ 200 }
-    {
-        self.len
-    }
-
-    /// Drops all bytes.
-    pub fn clear(&mut self)
-        ensures { self.new ≡ [] }
-    {
-        self.len = 0;
-    }
-
-    /// The bytes.
-    pub fn as_bytes(&self) -> &[u8]
-        ensures { result.now ≡ self.now }
-    {
-        &self.bytes[..self.len]
-    }
-
-    /// Puts the bytes at the end.
-    pub fn push(&mut self, more: &[u8])
-        requires { length self.old + length more.now ≤ 200 }
-        ensures { self.new ≡ self.old ++ more.now }
-    {
-        let end = self.len + more.len();
-        self.bytes[self.len..end].copy_from_slice(more);
-        self.len = end;
-    }
-
-    /// Puts a space and a token at the end.
-    pub fn push_token(&mut self, token: &[u8])
-        requires { length self.old + length token.now < 200 }
-        ensures value { self.new ≡ self.old ++ 32 ∷ token.now }
-        ensures len { length self.new ≡ length self.old + 1 + length token.now }
-    {
-        self.push(b" ");
-        self.push(token);
-    }
+/// Puts a space and a token at the end of a line that has room for them.
+pub fn push_token(line: &mut LineBuffer, token: &[u8])
+    requires { array_vec_len line.old + length token.now < LONGEST_LINE }
+    ensures value { line.new.items ≡ line.old.items ++ SPACE ∷ token.now }
+    ensures len { array_vec_len line.new ≡ array_vec_len line.old + 1 + length token.now }
+{
+    push_bytes(line, &[SPACE]);
+    push_bytes(line, token);
 }

@@ -4,14 +4,14 @@ ghost use Rattle.std.specs.Prelude.{◌≡◌, ℕ, ◌^◌, ◌<◌, ◌≤◌,
 ghost use Rattle.dvg_cert.specs.Entry.{IsKey};
 ghost use Rattle.dvg_cert.specs.declared.entry.Key.{Key as KeyValue};
 ghost use Rattle.dvg_cert.specs.Grammar.{address_token, key_token};
-ghost use Rattle.dvg_cert.specs.Tokens.{hex_value, natural_in, number_in, key_in, address_in, limit};
+ghost use Rattle.dvg_cert.specs.Private.Tokens.{hex_value, natural_in, number_in, key_in, address_in};
 
 use crate::entry::Key;
-
-const LIMIT: u64 = 2_000_000_000_000;
+use crate::limits::MOST_MAGNITUDE;
+use dvg_words::ADDRESS_END;
 
 /// The address from `first` to `last` that a token spells.
-#[tactic(auto, unfolding(crate::specs::Tokens::address_in))]
+#[tactic(auto, unfolding(crate::specs::Private::Tokens::address_in))]
 pub fn address(token: &[u8], first: u16, last: u16) -> Option<u16>
     ensures { result ≡ address_in first last token.now }
 {
@@ -32,14 +32,14 @@ pub fn address(token: &[u8], first: u16, last: u16) -> Option<u16>
 
 /// The word address that a token spells: three hexadecimal digits in capitals.
 pub fn read_address(token: &[u8]) -> Option<u16>
-    ensures some { IfSome result (λ addr. (addr < 4096) × (token.now ≡ address_token addr)) }
-    ensures none { IfNone result ((addr : ℕ) → addr < 4096 → token.now ≡ address_token addr → ⊥) }
+    ensures some { IfSome result (λ addr. (addr < ADDRESS_END) × (token.now ≡ address_token addr)) }
+    ensures none { IfNone result ((addr : ℕ) → addr < ADDRESS_END → token.now ≡ address_token addr → ⊥) }
 {
-    address(token, 0, 0xFFF)
+    address(token, 0, ADDRESS_END - 1)
 }
 
 /// The key that a token spells, a scale of 0 to 15 or any.
-#[tactic(auto, unfolding(crate::specs::Tokens::key_in))]
+#[tactic(auto, unfolding(crate::specs::Private::Tokens::key_in))]
 pub fn key(token: &[u8]) -> Option<Key>
     ensures { result ≡ key_in token.now }
 {
@@ -71,18 +71,18 @@ fn hex_value(digit: u8) -> u8
 }
 
 /// The number of an end or a box that a token spells.
-#[tactic(auto, unfolding(crate::specs::Tokens::number_in))]
+#[tactic(auto, unfolding(crate::specs::Private::Tokens::number_in))]
 pub fn number(token: &[u8]) -> Option<i64>
-    ensures { result ≡ number_in limit token.now }
+    ensures { result ≡ number_in MOST_MAGNITUDE token.now }
 {
     match token {
         [] => None,
         [b'-', digits @ ..] => {
-            let number = natural(digits, 1, LIMIT)?;
+            let number = natural(digits, 1, MOST_MAGNITUDE)?;
             Some(-(number as i64))
         }
         [_, ..] => {
-            let number = natural(token, 0, LIMIT)?;
+            let number = natural(token, 0, MOST_MAGNITUDE)?;
             Some(number as i64)
         }
     }
@@ -90,7 +90,7 @@ pub fn number(token: &[u8]) -> Option<i64>
 
 /// The number from `low` to `high` that a token spells.
 pub fn natural(token: &[u8], low: u64, high: u64) -> Option<u64>
-    requires { high ≤ limit }
+    requires { high ≤ MOST_MAGNITUDE }
     ensures value { result ≡ natural_in low high token.now }
     ensures within { IfSome result (λ n. n ≤ high) }
 {
@@ -110,7 +110,7 @@ pub fn natural(token: &[u8], low: u64, high: u64) -> Option<u64>
 /// The number of at most 13 digits that a token spells.
 fn digits(token: &[u8]) -> Option<u64>
     ensures some { IfSome result (λ n. (token.now ≡ decimal n) × (n < 10 ^ 13)) }
-    ensures none { IfNone result ((n : ℕ) → n ≤ limit → token.now ≡ decimal n → ⊥) }
+    ensures none { IfNone result ((n : ℕ) → n ≤ MOST_MAGNITUDE → token.now ≡ decimal n → ⊥) }
 {
     if token.len() > 13 {
         return None;

@@ -1,22 +1,20 @@
 //! Reading a certificate, whole or in pieces.
 
 ghost use Rattle.std.specs.Prelude.{◌≡◌, ◌+◌, ◌<◌, ◌==◌, [], ◌++◌, length, position, OnOk, IfNone, IfSome};
-ghost use Rattle.dvg_cert.specs.Entry.{rom_first, rom_last};
+ghost use Rattle.dvg_words.specs.Values.{asteroids};
 ghost use Rattle.dvg_cert.specs.declared.fault.CertWhy.TheVariants.{After};
 ghost use Rattle.dvg_cert.specs.Reading.{IsTaken, IsRest, IsUnended, ReadAnswer};
 ghost use Rattle.dvg_cert.specs.Stream.{Open, FeedsTo, FinishesTo};
-ghost use Rattle.dvg_cert.specs.Progress.{EndsLine, TakesLine, TakesNext, TakesPiece};
+ghost use Rattle.dvg_cert.specs.Private.Progress.{EndsLine, TakesLine, TakesNext, TakesPiece};
 
 use crate::certificate::Cert;
 use crate::fault::{CertFault, CertWhy};
-use crate::line_buffer::LineBuffer;
+use crate::limits::{LINE_FEED, LONGEST_LINE};
+use crate::line_buffer::{LineBuffer, push_bytes};
 use crate::taken::TakenLines;
 use memchr::memchr;
 use std::alloc::Global;
 use std::marker::Model;
-
-/// The most bytes of a line, its end among them.
-const LONGEST_LINE: usize = 200;
 
 /// Reads a certificate in pieces. It keeps the entries and the one line that is begun.
 ///
@@ -29,16 +27,16 @@ pub struct CertReader {
 }
 
 impl Model for CertReader {
-    ghost use Rattle.dvg_cert.specs.Entry.{rom_first, rom_last};
+    ghost use Rattle.dvg_words.specs.Values.{asteroids};
     ghost use Rattle.dvg_cert.specs.Stream.{Stream};
 
     ghost Value = { Stream };
 
-    ghost use Rattle.dvg_cert.specs.Progress.{stream_of, IsProgress};
+    ghost use Rattle.dvg_cert.specs.Private.Progress.{stream_of, IsProgress};
 
-    ghost view = { λ s. stream_of s.refused s.lines s.begun };
+    ghost view = { λ s. stream_of s.refused s.lines s.begun.items };
 
-    ghost invariant = { λ s. IsProgress rom_first rom_last s.refused s.lines s.begun };
+    ghost invariant = { λ s. IsProgress asteroids.rom_first asteroids.rom_last s.refused s.lines s.begun.items };
 }
 
 impl CertReader {
@@ -55,7 +53,7 @@ impl CertReader {
 
     /// Takes a piece, wherever the text was cut. After a refusal every call answers the same one.
     pub fn feed(&mut self, piece: &[u8]) -> Result<(), CertFault>
-        ensures { FeedsTo rom_first rom_last self.old piece.now self.new result }
+        ensures { FeedsTo asteroids.rom_first asteroids.rom_last self.old piece.now self.new result }
     {
         if let Some(fault) = self.refused {
             return Err(fault);
@@ -71,7 +69,7 @@ impl CertReader {
 
     /// The answer to all pieces together.
     pub fn finish(self) -> Result<Cert, CertFault>
-        ensures { FinishesTo rom_first rom_last self result }
+        ensures { FinishesTo asteroids.rom_first asteroids.rom_last self result }
     {
         if let Some(fault) = self.refused {
             return Err(fault);
@@ -82,7 +80,7 @@ impl CertReader {
 
 /// The certificate that a text spells, or why it is refused.
 pub fn read_cert(alloc: Global, text: &[u8]) -> Result<Cert, CertFault>
-    ensures { ReadAnswer rom_first rom_last text.now result }
+    ensures { ReadAnswer asteroids.rom_first asteroids.rom_last text.now result }
 {
     let mut reader = CertReader::new(alloc);
     reader.feed(text)?;
@@ -91,9 +89,9 @@ pub fn read_cert(alloc: Global, text: &[u8]) -> Result<Cert, CertFault>
 
 /// Takes the lines of a piece where they lie, and keeps what is left of it.
 fn take_piece(lines: &mut TakenLines, begun: &mut LineBuffer, piece: &[u8]) -> Result<(), CertFault>
-    requires taken { IsTaken rom_first rom_last lines.old }
-    requires begun { IsRest lines.old begun.old }
-    ensures { TakesPiece rom_first rom_last lines.old begun.old piece.now lines.new begun.new result }
+    requires taken { IsTaken asteroids.rom_first asteroids.rom_last lines.old }
+    requires begun { IsRest lines.old begun.old.items }
+    ensures { TakesPiece asteroids.rom_first asteroids.rom_last lines.old begun.old.items piece.now lines.new begun.new.items result }
 {
     let mut rest = piece;
     while let Some(after) = take_next(lines, begun, rest)? {
@@ -108,9 +106,9 @@ fn take_next<'a>(
     begun: &mut LineBuffer,
     rest: &'a [u8],
 ) -> Result<Option<&'a [u8]>, CertFault>
-    requires taken { IsTaken rom_first rom_last lines.old }
-    requires begun { IsRest lines.old begun.old }
-    ensures { TakesNext (λ x. x.now) rom_first rom_last lines.old begun.old rest.now lines.new begun.new result }
+    requires taken { IsTaken asteroids.rom_first asteroids.rom_last lines.old }
+    requires begun { IsRest lines.old begun.old.items }
+    ensures { TakesNext (λ x. x.now) asteroids.rom_first asteroids.rom_last lines.old begun.old.items rest.now lines.new begun.new.items result }
 {
     let line = lines.line_number();
     if lines.is_whole() {
@@ -122,7 +120,7 @@ fn take_next<'a>(
     let at = match line_end(rest, LONGEST_LINE - begun.len()) {
         Ok(Some(at)) => at,
         Ok(None) => {
-            begun.push(rest);
+            push_bytes(begun, rest);
             return Ok(None);
         }
         Err(why) => return Err(CertFault { line, why }),
@@ -150,15 +148,15 @@ fn fault_after(line: u32, rest: &[u8]) -> Option<CertFault>
 /// Takes the line of what was begun and of these bytes. A whole line of the piece is read where it lies.
 fn take_begun(lines: &mut TakenLines, begun: &mut LineBuffer, front: &[u8]) -> Result<(), CertWhy>
     requires open { IsUnended lines.old }
-    requires short { length begun.old + length front.now < 200 }
-    ensures line { TakesLine rom_first rom_last lines.old (begun.old ++ front.now) lines.new result }
-    ensures empty { OnOk result (begun.new ≡ []) }
+    requires short { length begun.old.items + length front.now < LONGEST_LINE }
+    ensures line { TakesLine asteroids.rom_first asteroids.rom_last lines.old (begun.old.items ++ front.now) lines.new result }
+    ensures empty { OnOk result (begun.new.items ≡ []) }
 {
-    if begun.len() == 0 {
+    if begun.is_empty() {
         return lines.take_line(front);
     }
-    begun.push(front);
-    lines.take_line(begun.as_bytes())?;
+    push_bytes(begun, front);
+    lines.take_line(begun.as_slice())?;
     begun.clear();
     Ok(())
 }
@@ -179,7 +177,7 @@ fn line_end(rest: &[u8], room: usize) -> Result<Option<usize>, CertWhy>
 
 /// The place of the first LF.
 fn line_feed_at(bytes: &[u8]) -> Option<usize>
-    ensures { result ≡ position (λ b. b == 10) bytes.now }
+    ensures { result ≡ position (λ b. b == LINE_FEED) bytes.now }
 {
-    memchr(b'\n', bytes)
+    memchr(LINE_FEED, bytes)
 }

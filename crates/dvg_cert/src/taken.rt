@@ -2,15 +2,18 @@
 
 ghost use Rattle.std.specs.Prelude.{◌≡◌, ◌↔◌, IsTrue, IfOk, IfErr, Ok, Err};
 ghost use Rattle.dvg_cert.specs.declared.fault.CertWhy.TheVariants.{Unended};
-ghost use Rattle.dvg_cert.specs.Entry.{rom_first, rom_last, IsEntry};
+ghost use Rattle.dvg_words.specs.Values.{asteroids};
+ghost use Rattle.dvg_cert.specs.Entry.{IsEntry};
 ghost use Rattle.dvg_cert.specs.Order.{IsCertificate};
 ghost use Rattle.dvg_cert.specs.Reading.{Nothing, Whole, IsUnended, IsTaken, line_number};
-ghost use Rattle.dvg_cert.specs.Progress.{TakesEntry, TakesLine, TakesLater};
+ghost use Rattle.dvg_cert.specs.Private.Progress.{TakesEntry, TakesLine, TakesLater};
 
-use crate::certificate::{Cert, MOST_ENTRIES, ROM_FIRST, ROM_LAST, certificate_of, stands_after};
+use crate::certificate::{Cert, certificate_of, stands_after};
 use crate::entry::Entry;
 use crate::fault::{CertFault, CertWhy};
+use crate::limits::MOST_ENTRIES;
 use crate::line::{Line, line_of};
+use dvg_words::{ROM_FIRST, ROM_LAST};
 use std::alloc::Global;
 use std::marker::Model;
 
@@ -30,16 +33,16 @@ pub struct TakenLines {
 }
 
 impl Model for TakenLines {
-    ghost use Rattle.dvg_cert.specs.Entry.{rom_first, rom_last};
+    ghost use Rattle.dvg_words.specs.Values.{asteroids};
     ghost use Rattle.dvg_cert.specs.Reading.{Taken};
 
     ghost Value = { Taken };
 
-    ghost use Rattle.dvg_cert.specs.Progress.{taken_of, IsStaged};
+    ghost use Rattle.dvg_cert.specs.Private.Progress.{taken_of, IsStaged};
 
-    ghost view = { λ s. taken_of rom_first rom_last s.stage s.entries.items };
+    ghost view = { λ s. taken_of asteroids.rom_first asteroids.rom_last s.stage s.entries.items };
 
-    ghost invariant = { λ s. IsStaged rom_first rom_last s.stage s.entries.items };
+    ghost invariant = { λ s. IsStaged asteroids.rom_first asteroids.rom_last s.stage s.entries.items };
 }
 
 impl TakenLines {
@@ -78,7 +81,7 @@ impl TakenLines {
     /// Takes a line, which comes without its end.
     pub fn take_line(&mut self, line: &[u8]) -> Result<(), CertWhy>
         requires { IsUnended self.old }
-        ensures { TakesLine rom_first rom_last self.old line.now self.new result }
+        ensures { TakesLine asteroids.rom_first asteroids.rom_last self.old line.now self.new result }
     {
         match self.stage {
             Stage::First => {
@@ -98,7 +101,7 @@ impl TakenLines {
 
     /// The certificate, where the last line was taken.
     pub fn finish(self) -> Result<Cert, CertFault>
-        ensures whole { IfOk result (λ cert. (self ≡ Whole rom_first rom_last cert) × IsCertificate rom_first rom_last cert) }
+        ensures whole { IfOk result (λ cert. (self ≡ Whole asteroids.rom_first asteroids.rom_last cert) × IsCertificate asteroids.rom_first asteroids.rom_last cert) }
         ensures unended { IfErr result (λ f. IsUnended self × (f.line ≡ line_number self) × (f.why ≡ Unended)) }
     {
         let line = self.line_number();
@@ -114,8 +117,8 @@ impl TakenLines {
 
 /// Takes a line after the first, and answers which line comes next.
 fn take_later(entries: &mut Vec<Entry>, line: &[u8]) -> Result<Stage, CertWhy>
-    requires { IsCertificate rom_first rom_last entries.old.items }
-    ensures { TakesLater rom_first rom_last entries.old.items line.now entries.new.items result }
+    requires { IsCertificate asteroids.rom_first asteroids.rom_last entries.old.items }
+    ensures { TakesLater asteroids.rom_first asteroids.rom_last entries.old.items line.now entries.new.items result }
 {
     match line_of(line, ROM_FIRST, ROM_LAST) {
         None => Err(CertWhy::Form),
@@ -134,9 +137,9 @@ fn take_later(entries: &mut Vec<Entry>, line: &[u8]) -> Result<Stage, CertWhy>
 
 /// Takes an entry where it stands after the last one and there is room. An `Err` changes nothing.
 fn take_entry(entries: &mut Vec<Entry>, entry: Entry) -> Result<(), CertWhy>
-    requires taken { IsCertificate rom_first rom_last entries.old.items }
-    requires entry { IsEntry rom_first rom_last entry }
-    ensures { TakesEntry rom_first rom_last entries.old.items entry entries.new.items result }
+    requires taken { IsCertificate asteroids.rom_first asteroids.rom_last entries.old.items }
+    requires entry { IsEntry asteroids.rom_first asteroids.rom_last entry }
+    ensures { TakesEntry asteroids.rom_first asteroids.rom_last entries.old.items entry entries.new.items result }
 {
     if !stands_after(entries, &entry) {
         return Err(CertWhy::Order);

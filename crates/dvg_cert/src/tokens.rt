@@ -2,10 +2,10 @@
 
 ghost use Rattle.std.specs.Prelude.{◌≡◌, ◌≤◌, ◌==◌, [], ◌∷◌, IfSome, IfNone, length, position};
 ghost use Rattle.std.specs.List.{slice_split};
-ghost use Rattle.dvg_cert.specs.Tokens.{Reads, natural_in, number_in, key_in, address_in, the_token, by_token, end_at, box_at, entry_at, limit};
+ghost use Rattle.dvg_cert.specs.Private.Tokens.{Reads, natural_in, number_in, key_in, address_in, the_token, by_token, end_at, box_at, entry_at};
 
-use crate::certificate::{MOST_DEPTH, MOST_WORDS};
 use crate::entry::{End, Entry, Key, LitBox};
+use crate::limits::{MOST_DEPTH, MOST_MAGNITUDE, MOST_WORDS, SPACE};
 use crate::numerals::{address, key, natural, number};
 use std::marker::Model;
 
@@ -20,22 +20,22 @@ impl<'a> Model for Tokens<'a> {
 
     ghost Value = { List (List ℕ) };
 
-    ghost use Rattle.dvg_cert.specs.Tokens.{tokens_left};
+    ghost use Rattle.dvg_cert.specs.Private.Tokens.{tokens_left};
 
     ghost view = { λ s. tokens_left s.rest };
 }
 
 impl<'a> Tokens<'a> {
     /// The tokens of a line.
-    #[tactic(auto, unfolding(crate::specs::Tokens::tokens_left))]
+    #[tactic(auto, unfolding(crate::specs::Private::Tokens::tokens_left))]
     pub fn new(line: &'a [u8]) -> Self
-        ensures { result ≡ slice_split (λ b. b == 32) line.now }
+        ensures { result ≡ slice_split (λ b. b == SPACE) line.now }
     {
         Tokens { rest: Some(line) }
     }
 
     /// The next token.
-    #[tactic(auto, unfolding(crate::specs::Tokens::tokens_left))]
+    #[tactic(auto, unfolding(crate::specs::Private::Tokens::tokens_left))]
     fn next_token(&mut self) -> Option<&'a [u8]>
         ensures some { IfSome result (λ token. self.old ≡ token.now ∷ self.new) }
         ensures none { IfNone result (self.old ≡ []) }
@@ -54,7 +54,7 @@ impl<'a> Tokens<'a> {
     }
 
     /// Takes this token.
-    #[tactic(auto, unfolding(crate::specs::Tokens::bind, crate::specs::Tokens::the_token))]
+    #[tactic(auto, unfolding(crate::specs::Private::Tokens::the_token))]
     pub fn expect(&mut self, expected: &[u8]) -> Option<()>
         ensures { Reads result self.new (the_token expected.now self.old) }
     {
@@ -63,9 +63,9 @@ impl<'a> Tokens<'a> {
     }
 
     /// Takes a number from `low` to `high`.
-    #[tactic(auto, unfolding(crate::specs::Tokens::bind, crate::specs::Tokens::by_token))]
+    #[tactic(auto, unfolding(crate::specs::Private::Tokens::by_token))]
     pub fn natural(&mut self, low: u64, high: u64) -> Option<u64>
-        requires { high ≤ limit }
+        requires { high ≤ MOST_MAGNITUDE }
         ensures value { Reads result self.new (by_token (natural_in low high) self.old) }
         ensures within { IfSome result (λ n. n ≤ high) }
     {
@@ -73,15 +73,15 @@ impl<'a> Tokens<'a> {
     }
 
     /// Takes a number of an end or a box.
-    #[tactic(auto, unfolding(crate::specs::Tokens::bind, crate::specs::Tokens::by_token))]
+    #[tactic(auto, unfolding(crate::specs::Private::Tokens::by_token))]
     fn number(&mut self) -> Option<i64>
-        ensures { Reads result self.new (by_token (number_in limit) self.old) }
+        ensures { Reads result self.new (by_token (number_in MOST_MAGNITUDE) self.old) }
     {
         number(self.next_token()?)
     }
 
     /// Takes a scale, or any.
-    #[tactic(auto, unfolding(crate::specs::Tokens::bind, crate::specs::Tokens::by_token))]
+    #[tactic(auto, unfolding(crate::specs::Private::Tokens::by_token))]
     fn key(&mut self) -> Option<Key>
         ensures { Reads result self.new (by_token key_in self.old) }
     {
@@ -89,7 +89,7 @@ impl<'a> Tokens<'a> {
     }
 
     /// Takes an address from `first` to `last`.
-    #[tactic(auto, unfolding(crate::specs::Tokens::bind, crate::specs::Tokens::by_token))]
+    #[tactic(auto, unfolding(crate::specs::Private::Tokens::by_token))]
     fn address(&mut self, first: u16, last: u16) -> Option<u16>
         ensures { Reads result self.new (by_token (address_in first last) self.old) }
     {
@@ -97,7 +97,7 @@ impl<'a> Tokens<'a> {
     }
 
     /// Takes an end.
-    #[tactic(auto, unfolding(crate::specs::Tokens::bind, crate::specs::Tokens::end_at))]
+    #[tactic(auto, unfolding(crate::specs::Private::Tokens::end_at))]
     fn end(&mut self) -> Option<End>
         ensures { Reads result self.new (end_at self.old) }
     {
@@ -119,7 +119,7 @@ impl<'a> Tokens<'a> {
     }
 
     /// Takes a box.
-    #[tactic(auto, unfolding(crate::specs::Tokens::bind, crate::specs::Tokens::box_at))]
+    #[tactic(auto, unfolding(crate::specs::Private::Tokens::box_at))]
     fn lit(&mut self) -> Option<LitBox>
         ensures { Reads result self.new (box_at self.old) }
     {
@@ -144,7 +144,7 @@ impl<'a> Tokens<'a> {
     }
 
     /// Takes an entry of a ROM from word address `first` to `last`.
-    #[tactic(auto, unfolding(crate::specs::Tokens::bind, crate::specs::Tokens::entry_at))]
+    #[tactic(auto, unfolding(crate::specs::Private::Tokens::entry_at))]
     pub fn entry(&mut self, first: u16, last: u16) -> Option<Entry>
         ensures { Reads result self.new (entry_at first last self.old) }
     {
@@ -173,7 +173,7 @@ impl<'a> Tokens<'a> {
     }
 
     /// Whether no token is left.
-    #[tactic(auto, unfolding(crate::specs::Tokens::tokens_left))]
+    #[tactic(auto, unfolding(crate::specs::Private::Tokens::tokens_left))]
     pub fn is_empty(&self) -> bool
         ensures { result ≡ (length self.now == 0) }
     {
@@ -183,7 +183,7 @@ impl<'a> Tokens<'a> {
 
 /// The place of the first space.
 fn space_at(bytes: &[u8]) -> Option<usize>
-    ensures { result ≡ position (λ b. b == 32) bytes.now }
+    ensures { result ≡ position (λ b. b == SPACE) bytes.now }
 {
-    bytes.iter().position(|b| *b == b' ')
+    bytes.iter().position(|b| *b == SPACE)
 }

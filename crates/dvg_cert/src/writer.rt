@@ -4,15 +4,19 @@ ghost use Rattle.std.specs.Prelude.{◌≡◌, ◌<◌, ◌≤◌, ◌+◌, ◌�
 ghost use Rattle.std.specs.Fmt.{signed_decimal, digit_glyph};
 ghost use Rattle.std.specs.Io.KnownBytes.{Appends};
 ghost use Rattle.dvg_cert.specs.Devices.{count_after, AppendsFront};
-ghost use Rattle.dvg_cert.specs.Entry.{rom_first, rom_last, IsNumber, IsKey, IsEnd, IsBox, IsEntry};
+ghost use Rattle.arrayvec.specs.ArrayVec.{array_vec_len};
+ghost use Rattle.dvg_words.specs.Values.{asteroids};
+ghost use Rattle.dvg_cert.specs.Entry.{IsNumber, IsKey, IsEnd, IsBox, IsEntry};
 ghost use Rattle.dvg_cert.specs.Grammar.{address_token, key_token, end_tokens, box_tokens, entry_line, done_line, ended, text_of};
-ghost use Rattle.dvg_cert.specs.Writing.{spaced};
+ghost use Rattle.dvg_cert.specs.Private.Writing.{spaced};
 
 use crate::certificate::Cert;
 use crate::counted::CountedWrite;
 use crate::entry::{End, Entry, Key, LitBox};
 use crate::fault::WriteFault;
-use crate::line_buffer::LineBuffer;
+use crate::limits::{LINE_FEED, LONGEST_LINE, MOST_ENTRIES, MOST_WORDS, SPACE};
+use crate::line_buffer::{LineBuffer, push_bytes, push_token};
+use dvg_words::ADDRESS_END;
 use itoa::Buffer;
 
 /// Writes all of the bytes, by as many writes as it takes, and nothing else. Takes no memory.
@@ -53,105 +57,105 @@ pub fn write_cert<W: CountedWrite>(cert: &Cert, out: &mut W) -> Result<(), Write
     let entries = cert.entries();
     for i in 0..entries.len() {
         spell_entry(&mut line, &entries[i]);
-        write_bytes(line.as_bytes(), out)?;
+        write_bytes(line.as_slice(), out)?;
     }
     spell_done(&mut line, entries.len() as u32);
-    write_bytes(line.as_bytes(), out)
+    write_bytes(line.as_slice(), out)
 }
 
 fn spell_entry(line: &mut LineBuffer, entry: &Entry)
-    requires { IsEntry rom_first rom_last entry.now }
-    ensures { line.new ≡ ended (entry_line entry.now) }
+    requires { IsEntry asteroids.rom_first asteroids.rom_last entry.now }
+    ensures { line.new.items ≡ ended (entry_line entry.now) }
 {
     line.clear();
-    line.push(b"shape");
+    push_bytes(line, b"shape");
     push_address(line, entry.addr);
     push_key(line, entry.key);
-    line.push_token(b"end");
+    push_token(line, b"end");
     push_end(line, entry.stop);
-    line.push_token(b"box");
+    push_token(line, b"box");
     push_box(line, &entry.lit);
-    line.push_token(b"depth");
+    push_token(line, b"depth");
     push_natural(line, entry.depth as u32);
-    line.push_token(b"words");
+    push_token(line, b"words");
     push_natural(line, entry.words);
-    line.push_token(b"scale");
+    push_token(line, b"scale");
     push_key(line, entry.scale);
-    line.push(b"\n");
+    push_bytes(line, &[LINE_FEED]);
 }
 
 fn spell_done(line: &mut LineBuffer, count: u32)
-    requires { count ≤ 4096 }
-    ensures { line.new ≡ ended (done_line count) }
+    requires { count ≤ MOST_ENTRIES }
+    ensures { line.new.items ≡ ended (done_line count) }
 {
     line.clear();
-    line.push(b"done");
+    push_bytes(line, b"done");
     push_natural(line, count);
-    line.push(b"\n");
+    push_bytes(line, &[LINE_FEED]);
 }
 
 fn push_natural(line: &mut LineBuffer, number: u32)
-    requires number { number ≤ 1000000 }
-    requires room { length line.old ≤ 190 }
-    ensures value { line.new ≡ line.old ++ 32 ∷ decimal number }
-    ensures len { length line.new ≤ length line.old + 8 }
+    requires number { number ≤ MOST_WORDS }
+    requires room { array_vec_len line.old + 8 ≤ LONGEST_LINE }
+    ensures value { line.new.items ≡ line.old.items ++ SPACE ∷ decimal number }
+    ensures len { array_vec_len line.new ≤ array_vec_len line.old + 8 }
 {
     let mut buffer = Buffer::new();
-    line.push_token(buffer.format(number).as_bytes());
+    push_token(line, buffer.format(number).as_bytes());
 }
 
 fn push_number(line: &mut LineBuffer, number: &i64)
     requires number { IsNumber number.now }
-    requires room { length line.old ≤ 180 }
-    ensures value { line.new ≡ line.old ++ 32 ∷ signed_decimal number.now }
-    ensures len { length line.new ≤ length line.old + 15 }
+    requires room { array_vec_len line.old + 15 ≤ LONGEST_LINE }
+    ensures value { line.new.items ≡ line.old.items ++ SPACE ∷ signed_decimal number.now }
+    ensures len { array_vec_len line.new ≤ array_vec_len line.old + 15 }
 {
     let number = *number;
     let mut buffer = Buffer::new();
-    line.push_token(buffer.format(number).as_bytes());
+    push_token(line, buffer.format(number).as_bytes());
 }
 
 fn push_key(line: &mut LineBuffer, key: Key)
     requires key { IsKey key }
-    requires room { length line.old ≤ 190 }
-    ensures value { line.new ≡ line.old ++ 32 ∷ key_token key }
-    ensures len { length line.new ≤ length line.old + 8 }
+    requires room { array_vec_len line.old + 8 ≤ LONGEST_LINE }
+    ensures value { line.new.items ≡ line.old.items ++ SPACE ∷ key_token key }
+    ensures len { array_vec_len line.new ≤ array_vec_len line.old + 8 }
 {
     match key {
         Key::At(n) => push_natural(line, n as u32),
-        Key::Any => line.push_token(b"any"),
+        Key::Any => push_token(line, b"any"),
     }
 }
 
 fn push_end(line: &mut LineBuffer, end: End)
     requires end { IsEnd end }
-    requires room { length line.old ≤ 150 }
-    ensures value { line.new ≡ line.old ++ spaced (end_tokens end) }
-    ensures len { length line.new ≤ length line.old + 34 }
+    requires room { array_vec_len line.old + 34 ≤ LONGEST_LINE }
+    ensures value { line.new.items ≡ line.old.items ++ spaced (end_tokens end) }
+    ensures len { array_vec_len line.new ≤ array_vec_len line.old + 34 }
 {
     match &end {
         End::Rel { x, y } => {
-            line.push_token(b"rel");
+            push_token(line, b"rel");
             push_number(line, x);
             push_number(line, y);
         }
         End::Abs { x, y } => {
-            line.push_token(b"abs");
+            push_token(line, b"abs");
             push_number(line, x);
             push_number(line, y);
         }
-        End::Lost => line.push_token(b"lost"),
+        End::Lost => push_token(line, b"lost"),
     }
 }
 
 fn push_box(line: &mut LineBuffer, lit: &LitBox)
     requires lit { IsBox lit.now }
-    requires room { length line.old ≤ 130 }
-    ensures value { line.new ≡ line.old ++ spaced (box_tokens lit.now) }
-    ensures len { length line.new ≤ length line.old + 60 }
+    requires room { array_vec_len line.old + 60 ≤ LONGEST_LINE }
+    ensures value { line.new.items ≡ line.old.items ++ spaced (box_tokens lit.now) }
+    ensures len { array_vec_len line.new ≤ array_vec_len line.old + 60 }
 {
     match lit {
-        LitBox::Empty => line.push_token(b"none"),
+        LitBox::Empty => push_token(line, b"none"),
         LitBox::Span {
             x_min,
             x_max,
@@ -167,17 +171,17 @@ fn push_box(line: &mut LineBuffer, lit: &LitBox)
 }
 
 fn push_address(line: &mut LineBuffer, addr: u16)
-    requires addr { addr < 4096 }
-    requires room { length line.old ≤ 190 }
-    ensures value { line.new ≡ line.old ++ 32 ∷ address_token addr }
-    ensures len { length line.new ≡ length line.old + 4 }
+    requires addr { addr < ADDRESS_END }
+    requires room { array_vec_len line.old + 4 ≤ LONGEST_LINE }
+    ensures value { line.new.items ≡ line.old.items ++ SPACE ∷ address_token addr }
+    ensures len { array_vec_len line.new ≡ array_vec_len line.old + 4 }
 {
     let token = [
         hex_digit((addr / 256) as u8),
         hex_digit((addr / 16 % 16) as u8),
         hex_digit((addr % 16) as u8),
     ];
-    line.push_token(&token);
+    push_token(line, &token);
 }
 
 fn hex_digit(value: u8) -> u8

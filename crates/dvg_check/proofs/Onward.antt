@@ -15,7 +15,8 @@ use Rattle.dvg_words.specs.declared.instruction.Format.{Format}
 use Rattle.dvg_words.specs.declared.instruction.Format.TheVariants.{Long, Short}
 use Rattle.dvg_words.specs.declared.instruction.Instr.{Instr}
 use Rattle.dvg_words.specs.declared.instruction.Instr.TheVariants.{Draw as Draws, Labs, Halt, Jsrl, Rtsl, Jmpl}
-use Rattle.dvg_cert.specs.Lookup.{same_key, entry_at, or_else, named_entry}
+use Rattle.std.specs.Option.{option_or as or_else}
+use Rattle.dvg_cert.specs.Lookup.{same_key, entry_at, named_entry}
 use Rattle.dvg_cert.specs.declared.entry.End.{End}
 use Rattle.dvg_cert.specs.declared.entry.End.TheVariants.{Lost, Abs, Rel}
 use Rattle.dvg_cert.specs.declared.entry.Entry.{Entry}
@@ -157,7 +158,7 @@ any_fits list to scale f e =
     let l = listed_at list to Any f e in
     record { listed = l.listed; addr = l.addr_is; key = λ g a. subst (λ k. ScaleFits k g) (sym l.key_is) tt }
 
-first_fits : (list : List Entry) (to : ℕ) (scale : Key) (o : Option Entry) (f : Entry) → entry_at list to scale ≡ o → or_else o (entry_at list to Any) ≡ Some f → Named list to scale f
+first_fits : (list : List Entry) (to : ℕ) (scale : Key) (o : Option Entry) (f : Entry) → entry_at list to scale ≡ o → option_or o (entry_at list to Any) ≡ Some f → Named list to scale f
 first_fits list to scale None f e h = any_fits list to scale f h
 first_fits list to scale (Some x) f e h =
     let l = listed_at list to scale f (e ∙ h) in

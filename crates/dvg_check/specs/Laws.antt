@@ -10,9 +10,11 @@ use Rattle.dvg_words.specs.declared.beam.Point.{Point}
 use Rattle.dvg_words.specs.Beam.{InWindow}
 use Rattle.dvg_words.specs.Generator.{Stroke, State, Status, Running, Halted, Reached, start, places, lit_by, next_status}
 use Rattle.dvg_words.specs.Laws.{state_of}
+use Rattle.dvg_words.specs.declared.map.TheConstants.{ADDRESS_END}
 use Rattle.dvg_cert.specs.declared.entry.Key.{Key}
 use Rattle.dvg_cert.specs.declared.entry.End.{End}
 use Rattle.dvg_cert.specs.declared.entry.Entry.{Entry}
+use Rattle.dvg_cert.specs.declared.limits.TheConstants.{MOST_DEPTH}
 use Rattle.dvg_items.specs.declared.item.Kind.{Kind}
 use Rattle.dvg_items.specs.declared.item.Kind.TheVariants.{Shape, Frame}
 use Rattle.dvg_items.specs.declared.item.Item.{Item}
@@ -88,7 +90,7 @@ abbrev pub GoodIsSafe : Type 0
 GoodIsSafe =
     (m : Memory) (w : Window) (list : List Entry) (budget words depth : ℕ)
     → IsMemory m
-    → ((e : Entry) → Contains list e → e.depth ≤ 3)
+    → ((e : Entry) → Contains list e → e.depth ≤ MOST_DEPTH)
     → Good Bound w m.rom list
     → GoodFrame w m.frame list budget words depth
     → Safe m w words depth
@@ -103,7 +105,7 @@ abbrev pub ExactIsExact : Type 0
 ExactIsExact =
     (m : Memory) (w : Window) (list : List Entry) (budget words depth : ℕ)
     → IsMemory m
-    → ((e : Entry) → Contains list e → e.depth ≤ 3)
+    → ((e : Entry) → Contains list e → e.depth ≤ MOST_DEPTH)
     → Good Exact w m.rom list
     → GoodFrame w m.frame list budget words depth
     → HaltsWith m words depth
@@ -146,7 +148,7 @@ OneCount =
 abbrev pub OneVerdict : Type 0
 OneVerdict =
     (mode : Mode) (map : MemoryMap) (w : Window) (rom cert words : List ℕ) (budget : ℕ) (a b : Result Yes Refusal)
-    → map.rom_last < 4096
+    → map.rom_last < ADDRESS_END
     → Verdict mode map w rom cert words budget a → Verdict mode map w rom cert words budget b → NotMemory a → NotMemory b → a ≡ b
 
 -- ---- strokes

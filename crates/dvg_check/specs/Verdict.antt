@@ -8,6 +8,7 @@ use Rattle.dvg_cert.specs.declared.entry.Entry.{Entry}
 use Rattle.dvg_cert.specs.declared.fault.CertWhy.TheVariants.{Memory}
 use Rattle.dvg_cert.specs.Grammar.{Spells}
 use Rattle.dvg_cert.specs.Reading.{ReadAnswer}
+use Rattle.dvg_cert.specs.declared.limits.TheConstants.{MOST_WORDS}
 use Rattle.dvg_check.specs.Rules.{Mode, Good, GoodFrame}
 use Rattle.dvg_check.specs.FirstFault.{FirstShapeFault, FirstFrameFault}
 pub use Rattle.dvg_check.specs.declared.verdict.Yes.{Yes}
@@ -16,7 +17,7 @@ pub use Rattle.dvg_check.specs.declared.verdict.Refusal.TheVariants as refusal
 
 pub record IsBudget (budget : ℕ) : Type 0 where
   pub some : 1 ≤ budget
-  pub few : budget ≤ 1000000
+  pub few : budget ≤ MOST_WORDS
 
 -- lengths and budget are in range
 pub record InRange (map : MemoryMap) (rom frame : List ℕ) (budget : ℕ) : Type 0 where

@@ -3,6 +3,7 @@
 ghost use Rattle.std.specs.Prelude.{◌≡◌, ◌≤◌, [], IfOk, IfErr, IfNone, IfSome, IsTrue, ◌↔◌};
 ghost use Rattle.dvg_words.specs.Beam.{screen};
 ghost use Rattle.dvg_cert.specs.declared.entry.Key.TheVariants.{Any};
+ghost use Rattle.dvg_cert.specs.declared.limits.TheConstants.{MOST_WORDS};
 ghost use Rattle.dvg_items.specs.declared.item.Kind.TheVariants.{Frame};
 ghost use Rattle.dvg_check.specs.Rules.{FrameWhy, FrameKeeps, IsForward, GoodFrame};
 ghost use Rattle.dvg_check.specs.declared.fault.FrameWhy.TheVariants as frame;
@@ -73,7 +74,7 @@ impl Rules for FrameRules {
 
     ghost kind = { Frame };
 
-    ghost valid = { λ r. r.budget ≤ 1000000 };
+    ghost valid = { λ r. r.budget ≤ MOST_WORDS };
 
     ghost scale = { λ _. Any };
 
@@ -114,7 +115,7 @@ pub fn judge_frame<E: Entries>(
     budget: u32,
 ) -> Result<Accepted, FrameFault>
     requires entries { IsSomeCertificate (E.list entries.now) }
-    requires budget { budget ≤ 1000000 }
+    requires budget { budget ≤ MOST_WORDS }
     ensures ok { IfOk result (λ yes. GoodFrame screen frame.now (E.list entries.now) budget yes.words yes.depth) }
     ensures err { IfErr result (FirstFrameFault screen frame.now (E.list entries.now) budget) }
 {
@@ -143,7 +144,7 @@ pub fn check_frame<E: Entries>(
     budget: u32,
 ) -> Result<Accepted, FrameFault>
     requires entries { E.list entries.now ≡ cert.now }
-    requires budget { budget ≤ 1000000 }
+    requires budget { budget ≤ MOST_WORDS }
     ensures ok { IfOk result (λ yes. GoodFrame screen frame.now cert.now budget yes.words yes.depth) }
     ensures err { IfErr result (FirstFrameFault screen frame.now cert.now budget) }
 {

@@ -2,6 +2,7 @@
 
 ghost use Rattle.std.specs.Prelude.{◌≡◌, ◌≤◌, OnOk, IfOk, IfErr};
 ghost use Rattle.dvg_words.specs.Beam.{screen};
+ghost use Rattle.dvg_cert.specs.declared.limits.TheConstants.{MOST_WORDS};
 ghost use Rattle.dvg_check.specs.declared.fault.Mode.TheVariants.{Bound};
 ghost use Rattle.dvg_check.specs.Rules.{Good, GoodFrame};
 ghost use Rattle.dvg_check.specs.FirstFault.{FirstShapeFault, FirstFrameFault};
@@ -63,7 +64,7 @@ impl<'a, E: Entries> JudgedShapes<'a, E> {
     /// words, stores at most so many return places at once, and four at the most, fetches only words of the ROM and the
     /// frame, and draws no lit stroke that leaves 0 to 1023 on either axis. Takes no memory.
     pub fn check_frame(&self, frame: &FrameImage, budget: u32) -> Result<Accepted, FrameFault>
-        requires { budget ≤ 1000000 }
+        requires { budget ≤ MOST_WORDS }
         ensures ok { IfOk result (λ yes. GoodFrame screen frame.now self.now.list budget yes.words yes.depth) }
         ensures err { IfErr result (FirstFrameFault screen frame.now self.now.list budget) }
         ensures safe { IfOk result (λ yes. Safe (record { frame = frame.now; rom = self.now.rom }) screen yes.words yes.depth) }

@@ -3,6 +3,7 @@
 ghost use Rattle.std.specs.Prelude.{◌≡◌, ◌<◌, ◌≤◌, ℕ, IfSome, IfNone};
 ghost use Rattle.dvg_cert.specs.declared.entry.Key.{Key};
 ghost use Rattle.dvg_cert.specs.Entry.{IsKey};
+ghost use Rattle.dvg_cert.specs.declared.limits.TheConstants.{MOST_WORDS};
 ghost use Rattle.dvg_items.specs.declared.item.Kind.{Kind};
 ghost use Rattle.dvg_items.specs.declared.seen.Seen.{Seen};
 ghost use Rattle.dvg_items.specs.Bounds.{IsSoundSeen};
@@ -57,7 +58,7 @@ pub trait Rules {
         requires seen { IsSoundSeen seen.now }
         ensures kept { IfNone result ((why : Self.Why) → keeps self.now seen.now why) }
         ensures parts { IfNone result ((part : Seen) → IsPart part seen.now → (why : Self.Why) → keeps self.now part why) }
-        ensures few { IfNone result (seen.now.after.words ≤ 1000000) }
+        ensures few { IfNone result (seen.now.after.words ≤ MOST_WORDS) }
         ensures broken { IfSome result (λ why. keeps self.now seen.now why → ⊥) }
         ensures lowest { IfSome result (λ why. (other : Self.Why) → order other < order why → keeps self.now seen.now other) };
 }

@@ -5,7 +5,7 @@ ghost use Rattle.std.specs.Prelude.{◌≡◌, ◌≤◌, ◌<◌, ◌+◌, ◌�
 ghost use Rattle.dvg_words.specs.Decoding.{cell_at, word_count, InstrFits};
 ghost use Rattle.dvg_items.specs.declared.known.Effect.TheVariants.{Moves};
 ghost use Rattle.dvg_items.specs.Bounds.{IsNearExtent, IsSoundCursor, IsSoundSeen};
-ghost use Rattle.dvg_words.specs.declared.map.TheConstants.{ADDRESS_END};
+ghost use Rattle.dvg_words.specs.declared.map.TheConstants.{ADDRESS_END, ROM_FIRST, ROM_LAST};
 ghost use Rattle.dvg_check.specs.Private.Runs.{FormattedDraw, Tells, IsRun, IsSize, IsSizeBox, IsSized, IsFew, AreFew, Stands, AllStand, AreRunsFrom, IsFactor, size, moved, multiplied, multiplied_box, run_extent, run_sight};
 
 use crate::cells::ROM_END;
@@ -199,8 +199,8 @@ fn run_at(cell: &Cell, runs: &[Run; 1024], index: u16) -> Run
 
 /// Fills a table of runs with those from each place of a ROM on, beginning at a word address.
 pub fn fill_runs(rom: &RomImage, from: u16, runs: &mut [Run; 1024])
-    requires low { 2048 ≤ from }
-    requires high { from ≤ 3072 }
+    requires low { ROM_FIRST ≤ from }
+    requires high { from ≤ ROM_LAST + 1 }
     requires before { AreRunsFrom rom.now from runs.old }
     ensures { AreRunsFrom rom.now from runs.new }
 {

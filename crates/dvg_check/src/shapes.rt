@@ -1,6 +1,6 @@
 //! The rules of shapes, and the check of all shapes of a certificate.
 
-ghost use Rattle.std.specs.Prelude.{◌≡◌, ◌<◌, ◌≤◌, ◌≤ℤ◌, ◌↔◌, IsTrue, OnOk, IfErr, IfNone, IfSome};
+ghost use Rattle.std.specs.Prelude.{◌+◌, ◌≡◌, ◌<◌, ◌≤◌, ◌≤ℤ◌, ◌↔◌, IsTrue, OnOk, IfErr, IfNone, IfSome};
 ghost use Rattle.dvg_words.specs.Beam.{screen};
 ghost use Rattle.dvg_cert.specs.declared.entry.LitBox.TheVariants.{Span};
 ghost use Rattle.dvg_items.specs.declared.item.Kind.TheVariants.{Shape};
@@ -11,7 +11,7 @@ ghost use Rattle.dvg_check.specs.declared.fault.ShapeWhy.TheVariants as shape;
 ghost use Rattle.dvg_check.specs.Rules.{AtLast, AsClaimed, ShapeKeeps, GoodShape, Good};
 ghost use Rattle.dvg_check.specs.FirstFault.{shape_number, ShapeFaultAt, FirstShapeFault};
 ghost use Rattle.dvg_items.specs.Bounds.{IsClaim, IsSomeCertificate, IsSoundSeen};
-ghost use Rattle.dvg_words.specs.declared.map.TheConstants.{ADDRESS_END};
+ghost use Rattle.dvg_words.specs.declared.map.TheConstants.{ADDRESS_END, ROM_FIRST, ROM_LAST};
 ghost use Rattle.dvg_check.specs.Private.Judging.{EachKept, shape_rules, ShapeBrokenFirst};
 
 use crate::cells::{ROM_END, RomCells};
@@ -182,8 +182,8 @@ fn check_shape<E: Entries>(
 
 /// The word address of the first shape, or that past the ROM where there is none.
 fn first_shape(cert: &Cert) -> u16
-    ensures low { 2048 ≤ result }
-    ensures high { result ≤ 3072 }
+    ensures low { ROM_FIRST ≤ result }
+    ensures high { result ≤ ROM_LAST + 1 }
 {
     match cert.entries().first() {
         None => ROM_END,

@@ -12,7 +12,7 @@ ghost use Rattle.dvg_check.specs.declared.verdict.Refusal.TheVariants as refusal
 
 use crate::fault::{FrameFault, ShapeFault};
 use crate::judged::JudgedShapes;
-use dvg_cert::{Cert, CertFault, ListIndex, read_cert};
+use dvg_cert::{Cert, CertFault, ListIndex, MOST_WORDS, read_cert};
 use dvg_words::{FrameImage, ImageFault, RomImage};
 use std::alloc::Global;
 use thiserror::Error;
@@ -116,7 +116,7 @@ pub fn check(
 {
     let rom = RomImage::from_bytes(rom)?;
     let frame = FrameImage::from_bytes(frame)?;
-    if !(1..=1_000_000).contains(&budget) {
+    if !(1..=MOST_WORDS).contains(&budget) {
         return Err(Refusal::BudgetRange);
     }
     let cert = read_cert(alloc, cert)?;
@@ -127,7 +127,7 @@ pub fn check(
 fn judge(rom: &RomImage, frame: &FrameImage, cert: &Cert, budget: u32) -> Result<Yes, Refusal>
     requires rom { IsRom rom.now }
     requires frame { IsFrame frame.now }
-    requires budget { budget ≤ 1000000 }
+    requires budget { budget ≤ MOST_WORDS }
     ensures verdict { PartsVerdict Bound screen rom.now cert.now frame.now budget result }
     ensures safe { IfOk result (λ yes. Safe (record { frame = frame.now; rom = rom.now }) screen yes.words yes.depth) }
 {

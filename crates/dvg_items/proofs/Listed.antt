@@ -4,7 +4,8 @@ use Rattle.std.proofs.lemmas.Bool.Decides.{nat_tests}
 use Rattle.std.specs.List.{AllByRecursion}
 use Rattle.std.specs.Prelude.{Contains, IfSome, ◌&&◌, ◌==◌, if◌then◌else◌}
 use Rattle.dvg_cert.specs.Entry.{IsEntry}
-use Rattle.dvg_cert.specs.Lookup.{same_key, entry_at, or_else, named_entry}
+use Rattle.std.specs.Option.{option_or}
+use Rattle.dvg_cert.specs.Lookup.{same_key, entry_at, named_entry}
 use Rattle.dvg_cert.specs.declared.entry.Entry.{Entry}
 use Rattle.dvg_cert.specs.declared.entry.Key.{Key}
 use Rattle.dvg_cert.specs.declared.entry.Key.TheVariants.{Any, At}
@@ -39,7 +40,7 @@ listed_at (x ∷ list) addr key f e = by_tests (addr == x.addr) (same_key key x.
     by_tests false b p q g more = later (more g)
 
 -- the entry that is named is in the list
-named_by : (list : List Entry) (to : ℕ) (scale : Key) (o : Option Entry) (f : Entry) → entry_at list to scale ≡ o → or_else o (entry_at list to Any) ≡ Some f → Contains list f
+named_by : (list : List Entry) (to : ℕ) (scale : Key) (o : Option Entry) (f : Entry) → entry_at list to scale ≡ o → option_or o (entry_at list to Any) ≡ Some f → Contains list f
 named_by list to scale None f e h = (listed_at list to Any f h).listed
 named_by list to scale (Some x) f e h = (listed_at list to scale f (e ∙ h)).listed
 

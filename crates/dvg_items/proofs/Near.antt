@@ -14,6 +14,7 @@ use Rattle.dvg_words.specs.declared.instruction.Instr.{Instr}
 use Rattle.dvg_words.specs.declared.instruction.Instr.TheVariants.{Draw as Draws, Labs, Halt, Jsrl, Rtsl, Jmpl}
 use Rattle.dvg_cert.specs.declared.entry.End.{End}
 use Rattle.dvg_cert.specs.declared.entry.End.TheVariants.{Rel, Abs, Lost}
+use Rattle.dvg_cert.specs.declared.limits.TheConstants.{MOST_WORDS}
 use Rattle.dvg_items.specs.Items.{Item, Kind, Shape, Frame, place_after, next_place}
 use Rattle.dvg_items.specs.Seen.{Seen}
 use Rattle.dvg_items.specs.Bounds.{IsNear, IsNearPlace, IsSoundCursor, IsSoundSeen}
@@ -73,7 +74,7 @@ next_near Frame at format (Jmpl to) p lt h e = by_test (nat_lt at to) e
     by_test false f = cc
 
 -- what is known past an item is known where it leads to
-pub step_sound : (kind : Kind) (v : Seen) (p : ℕ) → IsSoundSeen v → v.after.words ≤ 1000000 → next_place kind v.item ≡ Some p → IsSoundCursor (record { at = p; known = v.after })
+pub step_sound : (kind : Kind) (v : Seen) (p : ℕ) → IsSoundSeen v → v.after.words ≤ MOST_WORDS → next_place kind v.item ≡ Some p → IsSoundCursor (record { at = p; known = v.after })
 step_sound kind v p h few goes =
     record {
       at = next_near kind v.item.at v.item.format v.item.instr p h.at h.fields goes;

@@ -10,6 +10,7 @@ use Rattle.dvg_cert.specs.Order.{IsCertificate}
 use Rattle.dvg_cert.specs.declared.entry.End.{End}
 use Rattle.dvg_cert.specs.declared.entry.End.TheVariants.{Rel, Abs, Lost}
 use Rattle.dvg_cert.specs.declared.entry.Entry.{Entry}
+use Rattle.dvg_cert.specs.declared.limits.TheConstants.{MOST_DEPTH, MOST_WORDS}
 use Rattle.dvg_items.specs.Known.{Effect, Sets, Loses, Moves}
 use Rattle.dvg_items.specs.Lit.{LitExtent, Nothing, Between, Anywhere}
 use Rattle.dvg_items.specs.Seen.{Seen}
@@ -22,8 +23,8 @@ pub record IsClaim (e : Entry) : Type 0 where
   pub key : IsKey e.key
   pub stop : IsEnd e.stop
   pub lit : IsBox e.lit
-  pub depth : e.depth ≤ 3
-  pub words : e.words ≤ 1000000
+  pub depth : e.depth ≤ MOST_DEPTH
+  pub words : e.words ≤ MOST_WORDS
   pub scale : IsKey e.scale
   pub addr : e.addr < ADDRESS_END
 
@@ -58,7 +59,7 @@ pub record IsSoundCursor (c : Cursor) : Type 0 where
   pub at : c.at ≤ ADDRESS_END + 2
   pub place : IsNearPlace c.at c.known.place
   pub scale : IsKey c.known.scale
-  pub words : c.known.words ≤ 1000000
+  pub words : c.known.words ≤ MOST_WORDS
   pub depth : c.known.depth ≤ 4
 
 pub record IsSoundSeen (v : Seen) : Type 0 where

@@ -4,6 +4,7 @@ ghost use Rattle.std.specs.Prelude.{◌≡◌, ◌≤◌, ◌<◌, ◌+◌, IfSo
 ghost use Rattle.dvg_words.specs.declared.map.TheConstants.{ADDRESS_END};
 ghost use Rattle.dvg_words.specs.Decoding.{InstrFits};
 ghost use Rattle.dvg_cert.specs.Entry.{IsKey, IsEnd};
+ghost use Rattle.dvg_cert.specs.declared.limits.TheConstants.{MOST_WORDS};
 ghost use Rattle.dvg_items.specs.Known.{callee_at, scale_set, draw_effect, stop_effect, callee_effect, effect_of, place_past, callee_words, depth_under, known_past, start};
 ghost use Rattle.dvg_items.specs.Bounds.{IsNearPlace, IsNearEffect, IsClaim, IsSomeCertificate, IsSoundCursor};
 
@@ -123,7 +124,7 @@ pub fn depth_under(instr: &Instr, callee: &Option<Entry>) -> u8
 fn callee_words(callee: &Option<Entry>) -> u32
     requires { IfSome callee.now IsClaim }
     ensures value { result ≡ callee_words callee.now }
-    ensures few { result ≤ 1000000 }
+    ensures few { result ≤ MOST_WORDS }
 {
     match callee {
         None => 0,

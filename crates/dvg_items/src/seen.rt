@@ -1,6 +1,7 @@
 //! What the rules see of an item.
 
 ghost use Rattle.std.specs.Prelude.{◌≡◌, ◌≤◌, ◌↔◌, IsTrue};
+ghost use Rattle.dvg_cert.specs.declared.limits.TheConstants.{MOST_WORDS};
 ghost use Rattle.dvg_items.specs.Seen.{HasCallee};
 ghost use Rattle.dvg_items.specs.Cursor.{step_past};
 ghost use Rattle.dvg_items.specs.Bounds.{IsSoundSeen, IsSoundStep};
@@ -26,7 +27,7 @@ impl Seen {
     /// Past the item: to where the next one stands, or to what is known after the last.
     pub fn step(&self, kind: Kind) -> Step
         requires seen { IsSoundSeen self.now }
-        requires words { self.now.after.words ≤ 1000000 }
+        requires words { self.now.after.words ≤ MOST_WORDS }
         ensures value { result ≡ step_past kind self.now }
         ensures sound { IsSoundStep result }
     {

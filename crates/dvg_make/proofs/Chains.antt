@@ -3,7 +3,8 @@ use Rattle.std.proofs.Common.{◌≡◌, ℕ, zero, suc, ◌+◌, ◌<◌, ◌�
 use Rattle.std.specs.Prelude.{Bool, true, false, if◌then◌else◌, Contains}
 use Rattle.dvg_words.specs.Memory.{Rom, rom_word}
 use Rattle.dvg_cert.specs.Entry.{IsEntry}
-use Rattle.dvg_cert.specs.Lookup.{is_at, entry_at, or_else}
+use Rattle.std.specs.Option.{option_or as or_else}
+use Rattle.dvg_cert.specs.Lookup.{is_at, entry_at}
 use Rattle.dvg_cert.specs.declared.entry.Entry.{Entry}
 use Rattle.dvg_cert.specs.declared.entry.Key.{Key}
 use Rattle.dvg_cert.proofs.OnlyEntries.{at_holds}
@@ -13,6 +14,7 @@ use Rattle.dvg_items.specs.declared.item.Item.{Item}
 use Rattle.dvg_items.specs.declared.item.Kind.TheVariants.{Shape}
 use Rattle.dvg_items.specs.declared.known.Known.{Known}
 use Rattle.dvg_words.specs.declared.map.TheConstants.{ADDRESS_END}
+use Rattle.dvg_cert.specs.declared.limits.TheConstants.{MOST_WORDS}
 use Rattle.dvg_make.specs.declared.walk.Walk.{Walk}
 use Rattle.dvg_make.specs.Made.{MadeEntry, Made}
 use Rattle.dvg_make.specs.Refusals.{NoneMade}
@@ -65,7 +67,7 @@ module _ (rom : Rom) (roots : List (ℕ × Key)) (done : List Entry) (stack : Li
   pub none_here : NeverAt rom done walk.addr walk.key → NoneMade rom roots
   none_here none made m =
       let f = h.forced made m in
-      let p = chain_pop made 1000001 0 stack walk f.1 in
+      let p = chain_pop made (MOST_WORDS + 1) 0 stack walk f.1 in
       none roots made m f.0 (p.f, p.found_it)
 
   -- the entry that the walk calls for has fewer words, and more than none
@@ -79,7 +81,7 @@ module _ (rom : Rom) (roots : List (ℕ × Key)) (done : List Entry) (stack : Li
     abbrev at_key : Key
     at_key = new.cursor.known.scale
 
-    callee : (made : List Entry) → (m : Made rom roots made) → (p : Popped made 1000001 stack walk 0) → Extends done made → Callee made addr at_key p.f.words
+    callee : (made : List Entry) → (m : Made rom roots made) → (p : Popped made (MOST_WORDS + 1) stack walk 0) → Extends done made → Callee made addr at_key p.f.words
     callee made m p ext =
         let l = listed_at made walk.addr walk.key p.f p.found_it in
         let is = m.each p.f l.listed in
@@ -100,20 +102,20 @@ module _ (rom : Rom) (roots : List (ℕ × Key)) (done : List Entry) (stack : Li
     pub none_deep : IsMaking (stack ++ new ∷ []) addr at_key → NoneMade rom roots
     none_deep making made m =
         let f = h.forced made m in
-        let p = chain_pop made 1000001 0 stack walk f.1 in
+        let p = chain_pop made (MOST_WORDS + 1) 0 stack walk f.1 in
         let c = callee made m p f.0 in
         let found_new : entry_at made new.addr new.key ≡ Some p.f = subst (λ x. entry_at made x new.key ≡ Some p.f) (sym w.same_addr) (subst (λ x. entry_at made walk.addr x ≡ Some p.f) (sym w.same_key) p.found_it) in
-        let ch : Chain made 1000001 (stack ++ new ∷ []) c.g.words = chain_push made 1000001 c.g.words stack new p.f found_new c.less p.chain in
-        let lt = chain_has made 1000001 c.g.words (stack ++ new ∷ []) addr at_key c.g making ch c.there in
+        let ch : Chain made (MOST_WORDS + 1) (stack ++ new ∷ []) c.g.words = chain_push made (MOST_WORDS + 1) c.g.words stack new p.f found_new c.less p.chain in
+        let lt = chain_has made (MOST_WORDS + 1) c.g.words (stack ++ new ∷ []) addr at_key c.g making ch c.there in
         omega (arith, lt)
 
-    pub forced_begun : (made : List Entry) → Made rom roots made → Extends done made × Chain made 1000001 ((stack ++ new ∷ []) ++ start addr at_key ∷ []) 0
+    pub forced_begun : (made : List Entry) → Made rom roots made → Extends done made × Chain made (MOST_WORDS + 1) ((stack ++ new ∷ []) ++ start addr at_key ∷ []) 0
     forced_begun made m =
         let f = h.forced made m in
-        let p = chain_pop made 1000001 0 stack walk f.1 in
+        let p = chain_pop made (MOST_WORDS + 1) 0 stack walk f.1 in
         let c = callee made m p f.0 in
         let found_new : entry_at made new.addr new.key ≡ Some p.f = subst (λ x. entry_at made x new.key ≡ Some p.f) (sym w.same_addr) (subst (λ x. entry_at made walk.addr x ≡ Some p.f) (sym w.same_key) p.found_it) in
-        (f.0, chain_push made 1000001 0 (stack ++ new ∷ []) (start addr at_key) c.g c.there c.some (chain_push made 1000001 c.g.words stack new p.f found_new c.less p.chain))
+        (f.0, chain_push made (MOST_WORDS + 1) 0 (stack ++ new ∷ []) (start addr at_key) c.g c.there c.some (chain_push made (MOST_WORDS + 1) c.g.words stack new p.f found_new c.less p.chain))
 
 -- ---- the stack
 
@@ -157,7 +159,7 @@ apart_push done (v ∷ stack) w h none other = (
 apart_more : (done : List Entry) (stack : List Walk) (e : Entry) → Apart done stack → (IsMaking stack e.addr e.key → ⊥) → Apart (done ++ e ∷ []) stack
 apart_more done [] e h not = tt
 apart_more done (v ∷ stack) e h not = (
-  entry_at-append done (e ∷ []) v.addr v.key ∙ ap (λ o. or_else o (entry_at (e ∷ []) v.addr v.key)) h.0 ∙ by_test (entry_at (e ∷ []) v.addr v.key) refl,
+  entry_at-append done (e ∷ []) v.addr v.key ∙ ap (λ o. option_or o (entry_at (e ∷ []) v.addr v.key)) h.0 ∙ by_test (entry_at (e ∷ []) v.addr v.key) refl,
   h.1,
   apart_more done stack e h.2 (λ m. not (inr m)),
 )
@@ -195,7 +197,7 @@ walks_grow rom a b (v ∷ stack) ext h = (walk_grows rom a b v ext h.0, walks_gr
 -- ---- one entry more
 
 pub extends_more : (done more : List Entry) → Extends done (done ++ more)
-extends_more done more addr key f e = entry_at-append done more addr key ∙ ap (λ o. or_else o (entry_at more addr key)) e
+extends_more done more addr key f e = entry_at-append done more addr key ∙ ap (λ o. option_or o (entry_at more addr key)) e
 
 -- an entry that is found in no other
 find_one : (e : Entry) (addr : ℕ) (key : Key) → ((e.addr ≡ addr) × (e.key ≡ key) → ⊥) → entry_at (e ∷ []) addr key ≡ None
@@ -221,7 +223,7 @@ unique_more (x ∷ done) e u none = by_test (is_at e.addr e.key x) refl none (λ
 
     by_test : (t : Bool) → is_at e.addr e.key x ≡ t → (if t then Some x else entry_at done e.addr e.key) ≡ None → (entry_at done e.addr e.key ≡ None → IsUnique (done ++ e ∷ [])) → IsUnique ((x ∷ done) ++ e ∷ [])
     by_test true q n more = cc n
-    by_test false q n more = (entry_at-append done (e ∷ []) x.addr x.key ∙ ap (λ o. or_else o (entry_at (e ∷ []) x.addr x.key)) u.0 ∙ find_one e x.addr x.key (not_same q), more n)
+    by_test false q n more = (entry_at-append done (e ∷ []) x.addr x.key ∙ ap (λ o. option_or o (entry_at (e ∷ []) x.addr x.key)) u.0 ∙ find_one e x.addr x.key (not_same q), more n)
 
 listed_more : (done : List Entry) (e x : Entry) → Contains (done ++ e ∷ []) x → Contains done x ⊎ (e ≡ x)
 listed_more [] e x (zero, lt, is) = inr is
@@ -263,7 +265,7 @@ module _ (rom : Rom) (roots : List (ℕ × Key)) (done : List Entry) (stack : Li
     found_more : (made : List Entry) → Made rom roots made → Extends (done ++ e ∷ []) made
     found_more made m addr key g q =
         let ext = (h.forced made m).0 in
-        let p = chain_pop made 1000001 0 stack walk (h.forced made m).1 in
+        let p = chain_pop made (MOST_WORDS + 1) 0 stack walk (h.forced made m).1 in
         let pl = listed_at made walk.addr walk.key p.f p.found_it in
         let same : e ≡ p.f = same_made rom done made e p.f ext f.made (m.each p.f pl.listed) (f.addr ∙ sym pl.addr_is) (f.key ∙ sym pl.key_is) in
         by_found (entry_at done addr key) refl ext p.found_it same pl.addr_is pl.key_is
@@ -273,7 +275,7 @@ module _ (rom : Rom) (roots : List (ℕ × Key)) (done : List Entry) (stack : Li
             let y_is : Some y ≡ Some g = sym (extends_more done (e ∷ []) addr key y t) ∙ q in
             ext addr key y t ∙ y_is
         by_found None t ext {x = x} there same a k =
-            let last : entry_at (e ∷ []) addr key ≡ Some g = sym (ap (λ o. or_else o (entry_at (e ∷ []) addr key)) t) ∙ sym (entry_at-append done (e ∷ []) addr key) ∙ q in
+            let last : entry_at (e ∷ []) addr key ≡ Some g = sym (ap (λ o. option_or o (entry_at (e ∷ []) addr key)) t) ∙ sym (entry_at-append done (e ∷ []) addr key) ∙ q in
             let l = listed_at (e ∷ []) addr key g last in
             let is : e ≡ g = only g l.listed in
             let at : walk.addr ≡ addr = sym a ∙ ap (λ (z : Entry). z.addr) (sym same ∙ is) ∙ l.addr_is in
@@ -288,7 +290,7 @@ module _ (rom : Rom) (roots : List (ℕ × Key)) (done : List Entry) (stack : Li
     ends_at =
         let pop = apart_pop done stack walk h.apart in
         let last : entry_at (e ∷ []) walk.addr walk.key ≡ Some e = ap (λ t. if t then Some e else None) (at_holds walk.addr walk.key e f.addr f.key) in
-        entry_at-append done (e ∷ []) walk.addr walk.key ∙ ap (λ o. or_else o (entry_at (e ∷ []) walk.addr walk.key)) pop.none ∙ last
+        entry_at-append done (e ∷ []) walk.addr walk.key ∙ ap (λ o. option_or o (entry_at (e ∷ []) walk.addr walk.key)) pop.none ∙ last
 
     pub present_finished : (addr : ℕ) (key : Key) → IsPresent done (stack ++ walk ∷ []) addr key → IsPresent (done ++ e ∷ []) stack addr key
     present_finished addr key (inl has) = inl (has.0, extends_more done (e ∷ []) addr key has.0 has.1)
@@ -304,7 +306,7 @@ module _ (rom : Rom) (roots : List (ℕ × Key)) (done : List Entry) (stack : Li
         by_found : (o : Option Entry) → entry_at done addr key ≡ o → IsPresent done (stack ++ walk ∷ []) addr key
         by_found (Some x) q = inl (x, q)
         by_found None q =
-            let last : entry_at (e ∷ []) addr key ≡ Some has.0 = sym (ap (λ o. or_else o (entry_at (e ∷ []) addr key)) q) ∙ sym (entry_at-append done (e ∷ []) addr key) ∙ has.1 in
+            let last : entry_at (e ∷ []) addr key ≡ Some has.0 = sym (ap (λ o. option_or o (entry_at (e ∷ []) addr key)) q) ∙ sym (entry_at-append done (e ∷ []) addr key) ∙ has.1 in
             let l = listed_at (e ∷ []) addr key has.0 last in
             let is : e ≡ has.0 = only has.0 l.listed in
             inr (making_last stack walk addr key (sym f.addr ∙ ap (λ (x : Entry). x.addr) is ∙ l.addr_is) (sym f.key ∙ ap (λ (x : Entry). x.key) is ∙ l.key_is))
@@ -326,5 +328,5 @@ module _ (rom : Rom) (roots : List (ℕ × Key)) (done : List Entry) (stack : Li
           unique = unique_more done e h.unique finished_new;
           needed = λ addr key p. needed_grows rom roots done (done ++ e ∷ []) (stack ++ walk ∷ []) stack ext present_finished addr key (h.needed addr key (was_present addr key p));
           room = omega (arith, h.room, long, len);
-          forced = λ made m. let p = chain_pop made 1000001 0 stack walk (h.forced made m).1 in (found_more made m, chain_less made 1000001 p.f.words 0 stack (omega arith) p.chain);
+          forced = λ made m. let p = chain_pop made (MOST_WORDS + 1) 0 stack walk (h.forced made m).1 in (found_more made m, chain_less made (MOST_WORDS + 1) p.f.words 0 stack (omega arith) p.chain);
         }

@@ -2,7 +2,8 @@
 use Rattle.std.proofs.Common.{◌≡◌, ℕ, suc, List, [], ◌∷◌, ◌++◌, Option, Some, None, refl, sym, ap, ◌∙◌, arith}
 use Rattle.std.specs.Prelude.{Bool, true, false, if◌then◌else◌, Contains}
 use Rattle.dvg_words.specs.declared.beam.Point.{Point}
-use Rattle.dvg_cert.specs.Lookup.{is_at, entry_at, named_entry, or_else}
+use Rattle.std.specs.Option.{option_or as or_else}
+use Rattle.dvg_cert.specs.Lookup.{is_at, entry_at, named_entry}
 use Rattle.dvg_cert.specs.declared.entry.Entry.{Entry}
 use Rattle.dvg_cert.specs.declared.entry.Key.{Key}
 use Rattle.dvg_cert.specs.declared.entry.Key.TheVariants.{Any}
@@ -45,7 +46,7 @@ Matched a b key [] = Unit {0}
 Matched a b key (i ∷ earlier) = Matched a b key earlier × SameAt a b (target Shape i.instr) (scale_before (keyed_context a key) earlier)
 
 pub exact_named : (list : List Entry) (to : ℕ) (scale : Key) (e : Entry) → entry_at list to scale ≡ Some e → named_entry list to scale ≡ Some e
-exact_named list to scale e h = ap (λ o. or_else o (entry_at list to Any)) h
+exact_named list to scale e h = ap (λ o. option_or o (entry_at list to Any)) h
 
 callee_same : (a b : List Entry) (t : Option ℕ) (scale : Key) → SameAt a b t scale → callee_at a t scale ≡ callee_at b t scale
 callee_same a b None scale h = refl
@@ -68,10 +69,10 @@ sight_same a b key earlier i h =
 
 -- ---- lists that grow
 
-pub entry_at-append : (l m : List Entry) (addr : ℕ) (key : Key) → entry_at (l ++ m) addr key ≡ or_else (entry_at l addr key) (entry_at m addr key)
+pub entry_at-append : (l m : List Entry) (addr : ℕ) (key : Key) → entry_at (l ++ m) addr key ≡ option_or (entry_at l addr key) (entry_at m addr key)
 entry_at-append [] m addr key = refl
 entry_at-append (x ∷ l) m addr key = by_test (is_at addr key x) (entry_at-append l m addr key)
   where
-    by_test : (t : Bool) → entry_at (l ++ m) addr key ≡ or_else (entry_at l addr key) (entry_at m addr key) → (if t then Some x else entry_at (l ++ m) addr key) ≡ or_else (if t then Some x else entry_at l addr key) (entry_at m addr key)
+    by_test : (t : Bool) → entry_at (l ++ m) addr key ≡ option_or (entry_at l addr key) (entry_at m addr key) → (if t then Some x else entry_at (l ++ m) addr key) ≡ option_or (if t then Some x else entry_at l addr key) (entry_at m addr key)
     by_test true e = refl
     by_test false e = e

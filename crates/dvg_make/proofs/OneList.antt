@@ -7,6 +7,7 @@ use Rattle.dvg_cert.specs.Lookup.{entry_at}
 use Rattle.dvg_cert.specs.declared.entry.Entry.{Entry}
 use Rattle.dvg_cert.specs.declared.entry.Key.{Key}
 use Rattle.dvg_cert.proofs.OnlyEntries.{not_before, before_next, before_later, rising_tail, first_or_later, later}
+use Rattle.dvg_cert.specs.declared.limits.TheConstants.{MOST_WORDS}
 use Rattle.dvg_items.specs.Known.{shape_context, target, callee_at, scale_before}
 use Rattle.dvg_items.specs.declared.item.Kind.TheVariants.{Shape}
 use Rattle.dvg_make.specs.Laws.{OneMade}
@@ -74,7 +75,7 @@ module _ (rom : Rom) (roots : List (ℕ × Key)) (a b : List Entry) (made_a : Ma
       let same : f ≡ has.0 = agree rom a b made_a.each made_b.each f.addr f.key f has.0 (found_listed a f made_a.certificate.rising in_a) has.1 in
       subst (Contains b) (sym same) (listed_at b f.addr f.key has.0 has.1).listed
 
-  there_up_to : (n : ℕ) (f : Entry) → Contains a f → 1000001 ≤ f.words + n → Contains b f
+  there_up_to : (n : ℕ) (f : Entry) → Contains a f → MOST_WORDS + 1 ≤ f.words + n → Contains b f
   there_up_to zero f in_a le =
       let is = listed_entry rom.map.rom_first rom.map.rom_last a f made_a.certificate.each in_a in
       absurd (omega (arith, is.words_high, le))
@@ -87,7 +88,7 @@ module _ (rom : Rom) (roots : List (ℕ × Key)) (a b : List Entry) (made_a : Ma
       (made_a.needed f in_a)
 
   pub all_there : (f : Entry) → Contains a f → Contains b f
-  all_there f in_a = there_up_to 1000001 f in_a (omega arith)
+  all_there f in_a = there_up_to (MOST_WORDS + 1) f in_a (omega arith)
 
 pub one_made : OneMade
 one_made rom roots a b made_a made_b =

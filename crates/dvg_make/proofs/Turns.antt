@@ -11,6 +11,7 @@ use Rattle.dvg_items.specs.Items.{LeadsTo}
 use Rattle.dvg_items.specs.declared.item.Kind.TheVariants.{Shape}
 use Rattle.dvg_items.specs.declared.known.Known.{Known}
 use Rattle.dvg_words.specs.declared.map.TheConstants.{ADDRESS_END}
+use Rattle.dvg_cert.specs.declared.limits.TheConstants.{MOST_ENTRIES, MOST_WORDS}
 use Rattle.dvg_make.specs.declared.walk.Walk.{Walk}
 use Rattle.dvg_make.specs.declared.fault.MakeFault.{MakeFault}
 use Rattle.dvg_make.specs.declared.fault.MakeFault.TheVariants.{Unstraight, Deep, TooLarge, Memory}
@@ -35,7 +36,7 @@ no_more : (done : List Entry) (addr : ℕ) (key : Key) (w : Walk) (a : ℕ) (k :
 no_more done addr key w a k (inl has) = inl has
 no_more done addr key w a k (inr m) = absurd m
 
-pub first_begun : (rom : Rom) (roots : List (ℕ × Key)) (done : List Entry) (addr : ℕ) (key : Key) → Making rom roots done [] → Contains roots (addr, key) → addr < ADDRESS_END → IsKey key → entry_at done addr key ≡ None → length done < 4096 → Making rom roots done (start addr key ∷ [])
+pub first_begun : (rom : Rom) (roots : List (ℕ × Key)) (done : List Entry) (addr : ℕ) (key : Key) → Making rom roots done [] → Contains roots (addr, key) → addr < ADDRESS_END → IsKey key → entry_at done addr key ≡ None → length done < MOST_ENTRIES → Making rom roots done (start addr key ∷ [])
 first_begun rom roots done addr key h root near is none few =
     record {
       entries = h.entries;
@@ -99,7 +100,7 @@ module _ (rom : Rom) (roots : List (ℕ × Key)) (done : List Entry) (stack : Li
           (λ x. ⊎_elim (λ s. inr (subst (λ y. IsCalled rom done ((stack ++ new ∷ []) ++ start addr at_key ∷ []) y k) s.0 (subst (λ (y : Key). IsCalled rom done ((stack ++ new ∷ []) ++ start addr at_key ∷ []) addr y) s.1 called_begun))) (λ b. absurd b) x)
           (making_append (stack ++ new ∷ []) (start addr at_key ∷ []) a k m)
 
-  pub making_begun : (IsMaking (stack ++ new ∷ []) addr at_key → ⊥) → length done + length (stack ++ new ∷ []) < 4096 → Making rom roots done ((stack ++ new ∷ []) ++ start addr at_key ∷ [])
+  pub making_begun : (IsMaking (stack ++ new ∷ []) addr at_key → ⊥) → length done + length (stack ++ new ∷ []) < MOST_ENTRIES → Making rom roots done ((stack ++ new ∷ []) ++ start addr at_key ∷ [])
   making_begun other few =
       let pop = apart_pop done stack walk h.apart in
       let none : entry_at done new.addr new.key ≡ None = subst (λ a. entry_at done a new.key ≡ None) (sym w.same_addr) (subst (λ k. entry_at done walk.addr k ≡ None) (sym w.same_key) pop.none) in
@@ -117,13 +118,13 @@ module _ (rom : Rom) (roots : List (ℕ × Key)) (done : List Entry) (stack : Li
       }
 
   -- a 4097th entry
-  none_large : 4096 ≤ length done + length (stack ++ new ∷ []) → (IsMaking (stack ++ new ∷ []) addr at_key → ⊥) → NoneMade rom roots
+  none_large : MOST_ENTRIES ≤ length done + length (stack ++ new ∷ []) → (IsMaking (stack ++ new ∷ []) addr at_key → ⊥) → NoneMade rom roots
   none_large le other made m =
       let pop = apart_pop done stack walk h.apart in
       let none : entry_at done new.addr new.key ≡ None = subst (λ a. entry_at done a new.key ≡ None) (sym w.same_addr) (subst (λ k. entry_at done walk.addr k ≡ None) (sym w.same_key) pop.none) in
       let not : IsMaking stack new.addr new.key → ⊥ = λ x. pop.other (subst (λ a. IsMaking stack a walk.key) w.same_addr (subst (λ k. IsMaking stack new.addr k) w.same_key x)) in
       let f = forced_begun rom roots done stack walk h new addr w made m in
-      let full = crowded done made 1000001 0 ((stack ++ new ∷ []) ++ start addr at_key ∷ []) h.unique (apart_push done (stack ++ new ∷ []) (start addr at_key) (apart_push done stack new pop.rest none not) w.none other) f.0 f.1 in
+      let full = crowded done made (MOST_WORDS + 1) 0 ((stack ++ new ∷ []) ++ start addr at_key ∷ []) h.unique (apart_push done (stack ++ new ∷ []) (start addr at_key) (apart_push done stack new pop.rest none not) w.none other) f.0 f.1 in
       let long : length ((stack ++ new ∷ []) ++ start addr at_key ∷ []) ≡ length (stack ++ new ∷ []) + 1 = length-append (stack ++ new ∷ []) (start addr at_key ∷ []) in
       omega (arith, le, full, long, m.certificate.few)
 
@@ -143,7 +144,7 @@ module _ (rom : Rom) (roots : List (ℕ × Key)) (done : List Entry) (stack : Li
   pub begun_ok : (begun : List Walk) → IsBegun done pushed begun addr new.cursor.known.scale → Making rom roots done begun
   begun_ok begun b =
       subst (Making rom roots done) (sym (b.stack ∙ ap (λ (s : List Walk). s ++ start addr new.cursor.known.scale ∷ []) e))
-      (making_begun rom roots done stack walk h new addr w (λ m. b.other (subst (λ s. IsMaking s addr new.cursor.known.scale) (sym e) m)) (subst (λ (s : List Walk). length done + length s < 4096) e b.few))
+      (making_begun rom roots done stack walk h new addr w (λ m. b.other (subst (λ s. IsMaking s addr new.cursor.known.scale) (sym e) m)) (subst (λ (s : List Walk). length done + length s < MOST_ENTRIES) e b.few))
 
   pub begun_present : (begun : List Walk) → IsBegun done pushed begun addr new.cursor.known.scale → (a : ℕ) (k : Key) → IsPresent done (stack ++ walk ∷ []) a k → IsPresent done begun a k
   begun_present begun b a k p = subst (λ s. IsPresent done s a k) (sym (b.stack ∙ ap (λ (s : List Walk). s ++ start addr new.cursor.known.scale ∷ []) e)) (present_begun rom roots done stack walk h new addr w a k p)
@@ -165,7 +166,7 @@ first_refused rom roots done addr key h root near none Deep b = absurd b
 first_refused rom roots done addr key h root near none TooLarge b = λ made m.
     let r = m.rooted addr key root in
     let e = listed_entry rom.map.rom_first rom.map.rom_last made r.0 m.certificate.each (listed_at made addr key r.0 r.1).listed in
-    let full = crowded done made 1000001 0 (start addr key ∷ []) h.unique (none, λ x. x, tt) (h.forced made m).0 (r.0, r.1, omega (arith, e.words_high), omega (arith, e.words_low)) in
+    let full = crowded done made (MOST_WORDS + 1) 0 (start addr key ∷ []) h.unique (none, λ x. x, tt) (h.forced made m).0 (r.0, r.1, omega (arith, e.words_high), omega (arith, e.words_low)) in
     omega (arith, full, b.0, m.certificate.few)
 first_refused rom roots done addr key h root near none Memory b = tt
 

@@ -2,6 +2,7 @@
 
 ghost use Rattle.std.specs.Prelude.{◌≡◌, ◌↔◌, ◌+◌, ◌*◌, ◌≤◌, ◌<◌, ◌++◌, ◌∷◌, ℕ, [], None, length, IsTrue, OnOk, IfOk, IfErr, Contains};
 ghost use Rattle.dvg_words.specs.Values.{asteroids};
+ghost use Rattle.dvg_words.specs.declared.map.TheConstants.{ADDRESS_END};
 ghost use Rattle.dvg_words.specs.Memory.{InRom};
 ghost use Rattle.dvg_cert.specs.Entry.{IsKey};
 ghost use Rattle.dvg_cert.specs.declared.entry.Key.{Key as KeyValue};
@@ -86,7 +87,7 @@ fn make_root(
     requires map { rom.now.map ≡ asteroids }
     requires making { Making rom.now roots.now done.old [] }
     requires root { Contains roots.now (addr, key) }
-    requires near { addr < 4096 }
+    requires near { addr < ADDRESS_END }
     requires key { IsKey key }
     requires new { entry_at done.old addr key ≡ None }
     ensures ok { OnOk result (Making rom.now roots.now done.new []) }

@@ -4,7 +4,7 @@ ghost use Rattle.std.specs.Prelude.{◌≡◌, ◌↔◌, ◌<◌, IsTrue, IfOk,
 ghost use Rattle.dvg_words.specs.Values.{asteroids};
 ghost use Rattle.dvg_words.specs.Decoding.{InstrFits};
 ghost use Rattle.dvg_words.specs.declared.map.TheConstants.{ADDRESS_END};
-ghost use Rattle.dvg_cert.specs.Entry.{rom_first, rom_last, IsEntry};
+ghost use Rattle.dvg_cert.specs.Entry.{IsEntry};
 ghost use Rattle.dvg_cert.specs.declared.entry.Entry.{Entry};
 ghost use Rattle.dvg_items.specs.declared.item.Kind.TheVariants.{Shape};
 ghost use Rattle.dvg_items.specs.Seen.{sight_with};
@@ -91,8 +91,8 @@ impl Walk {
 
     /// The entry of the shape after its last item.
     fn finish(&self, known: &Known, lit: LitBox) -> Result<Entry, MakeFault>
-        ensures ok { IfOk result (λ entry. (entry ≡ entry_of self.now.addr self.now.key known.now lit) × IsEntry rom_first rom_last entry) }
-        ensures err { OnErr result (IsEntry rom_first rom_last (entry_of self.now.addr self.now.key known.now lit) → ⊥) }
+        ensures ok { IfOk result (λ entry. (entry ≡ entry_of self.now.addr self.now.key known.now lit) × IsEntry asteroids.rom_first asteroids.rom_last entry) }
+        ensures err { OnErr result (IsEntry asteroids.rom_first asteroids.rom_last (entry_of self.now.addr self.now.key known.now lit) → ⊥) }
     {
         let entry = self.entry(known, lit);
         if is_entry(&entry) {

@@ -5,6 +5,7 @@ use Rattle.dvg_words.specs.declared.instruction.Instr.TheVariants.{Draw as Draws
 use Rattle.dvg_words.specs.declared.instruction.Format.{Format}
 use Rattle.dvg_words.specs.declared.instruction.Cell.TheVariants.{Holds}
 use Rattle.dvg_words.specs.Memory.{Rom, rom_word}
+use Rattle.dvg_words.specs.declared.map.TheConstants.{ADDRESS_END, ROM_LAST}
 use Rattle.dvg_words.specs.Decoding.{word_count, cell_at}
 use Rattle.dvg_words.specs.declared.beam.Point.{Point}
 use Rattle.dvg_words.specs.Beam.{origin, shift, factor}
@@ -113,7 +114,7 @@ pub record Stands (word : ℕ → Option ℕ) (at : ℕ) (run : Run) : Type 0 wh
 -- a run from this place on: maybe not the longest, maybe of no draws
 pub record IsRun (word : ℕ → Option ℕ) (at : ℕ) (run : Run) : Type 0 where
   pub few : run.words ≤ 1025
-  pub near : at < 4096 → at + run.words ≤ 4098
+  pub near : at < ADDRESS_END → at + run.words ≤ ADDRESS_END + 2
   pub sized : IsSized run
   pub stands : Stands word at run
 
@@ -132,7 +133,7 @@ AllStand word from runs = (k : ℕ) (run : Run) → slice_get runs k ≡ Some ru
 
 -- each of these is a run from its place of a ROM on
 pub record AreRunsFrom (rom : Rom) (from : ℕ) (runs : List Run) : Type 0 where
-  pub from_high : from ≤ 3072
+  pub from_high : from ≤ ROM_LAST + 1
   pub few : AreFew runs
   pub stand : AllStand (rom_word rom) from runs
 
@@ -195,5 +196,5 @@ pub record PassesTo {Why : Type 0} (keeps : Seen → Why → Type 0) (word : ℕ
   pub strokes : List FormattedDraw
   pub keeps_over : KeepsOver keeps word strokes at before p after
   pub further : at < p
-  pub near : p ≤ 4098
+  pub near : p ≤ ADDRESS_END + 2
   pub sound : IsSoundCursor (record { at = p; known = after })

@@ -7,6 +7,7 @@ use Rattle.dvg_cert.specs.Entry.{IsEntry}
 use Rattle.dvg_cert.specs.declared.entry.Entry.{Entry}
 use Rattle.dvg_cert.specs.declared.entry.Key.{Key}
 use Rattle.dvg_cert.specs.Lookup.{entry_at}
+use Rattle.dvg_cert.specs.declared.limits.TheConstants.{MOST_ENTRIES, MOST_WORDS}
 use Rattle.dvg_items.specs.Items.{LeadsTo}
 use Rattle.dvg_items.specs.declared.item.Kind.TheVariants.{Shape}
 use Rattle.dvg_items.specs.declared.item.Item.{Item}
@@ -67,18 +68,18 @@ pub record Making (rom : Rom) (roots : List (ℕ × Key)) (done : List Entry) (s
   pub apart : Apart done stack
   pub unique : IsUnique done
   pub needed : (addr : ℕ) (key : Key) → IsPresent done stack addr key → Contains roots (addr, key) ⊎ IsCalled rom done stack addr key
-  pub room : length done + length stack ≤ 4096
-  pub forced : (made : List Entry) → Made rom roots made → Extends done made × Chain made 1000001 stack 0
+  pub room : length done + length stack ≤ MOST_ENTRIES
+  pub forced : (made : List Entry) → Made rom roots made → Extends done made × Chain made (MOST_WORDS + 1) stack 0
 
 -- why a shape is not begun
 abbrev pub NotBegun : List Entry → List Walk → ℕ → Key → MakeFault → Type 0
 NotBegun done stack addr key (Unstraight word) = ⊥
 NotBegun done stack addr key Deep = IsMaking stack addr key
-NotBegun done stack addr key TooLarge = (4096 ≤ length done + length stack) × (IsMaking stack addr key → ⊥)
+NotBegun done stack addr key TooLarge = (MOST_ENTRIES ≤ length done + length stack) × (IsMaking stack addr key → ⊥)
 NotBegun done stack addr key Memory = Unit {0}
 
 -- a shape was begun that was not in the making, where there is room
 pub record IsBegun (done : List Entry) (old new : List Walk) (addr : ℕ) (key : Key) : Type 0 where
   pub stack : new ≡ old ++ start addr key ∷ []
   pub other : IsMaking old addr key → ⊥
-  pub few : length done + length old < 4096
+  pub few : length done + length old < MOST_ENTRIES

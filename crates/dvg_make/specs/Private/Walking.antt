@@ -24,6 +24,7 @@ use Rattle.dvg_items.specs.Cursor.{first_cursor}
 use Rattle.dvg_items.specs.declared.known.Known.{Known}
 use Rattle.dvg_words.specs.declared.map.TheConstants.{ADDRESS_END}
 use Rattle.dvg_cert.specs.declared.entry.LitBox.{LitBox}
+use Rattle.dvg_cert.specs.declared.limits.TheConstants.{MOST_DEPTH, MOST_WORDS}
 use Rattle.dvg_make.specs.declared.walk.Walk.{Walk}
 use Rattle.dvg_make.specs.declared.walk.Progress.{Progress}
 use Rattle.dvg_make.specs.declared.walk.Progress.TheVariants.{Finished, Waiting}
@@ -51,8 +52,8 @@ pub record IsStraight (v : Seen) : Type 0 where
 -- what is asked of an item that is seen, with the entry that it calls
 pub record IsAsked (v : Seen) : Type 0 where
   pub straight : IsStraight v
-  pub deep : depth_under v.item.instr v.callee ≤ 3
-  pub many : v.after.words ≤ 1000000
+  pub deep : depth_under v.item.instr v.callee ≤ MOST_DEPTH
+  pub many : v.after.words ≤ MOST_WORDS
 
 -- past one item that is seen, which is as asked, the least box becomes this one
 pub record Passes (v : Seen) (lit new : LitBox) : Type 0 where

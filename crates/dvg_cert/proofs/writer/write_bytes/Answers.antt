@@ -2,7 +2,7 @@ use Rattle.std.proofs.Common.{◌≡◌, ◌-◌, length, take, drop, ◌++◌, 
 use Rattle.std.proofs.lemmas.Grind.{common_steps}
 use Rattle.std.proofs.Math.Seq.{take-add}
 use Rattle.std.specs.Io.KnownBytes.{Appends}
-use Rattle.dvg_cert.proofs.KnownPieces.{Appends-more}
+use Rattle.std.proofs.KnownBytes.{Appends-trans}
 use Rattle.dvg_cert.proofs.writer.write_bytes.Goals as goal
 
 pub sending-preserved : goal.sending-preserved
@@ -11,7 +11,7 @@ sending-preserved g c =
     let more : Appends (g.W.Write.contents c.sending.out) (g.W.Write.contents c.write_counted.new.self) (take c.in-Ok.taken (drop c.sending.sent c.args.bytes.now)) =
     subst (λ v. Appends (g.W.Write.contents c.sending.out) (g.W.Write.contents c.write_counted.new.self) (take c.in-Ok.taken v)) rest c.in-Ok.ensures.bytes in
     let grown : Appends (g.W.Write.contents c.args.out.now) (g.W.Write.contents c.write_counted.new.self) (take c.sending.sent c.args.bytes.now ++ take c.in-Ok.taken (drop c.sending.sent c.args.bytes.now)) =
-    Appends-more _ (g.W.Write.contents c.sending.out) _ (take c.sending.sent c.args.bytes.now) _ c.sending.invariant.bytes more in
+    Appends-trans _ (g.W.Write.contents c.sending.out) _ (take c.sending.sent c.args.bytes.now) _ c.sending.invariant.bytes more in
     record {
       within = search rules;
       bytes = subst (λ v. Appends (g.W.Write.contents c.args.out.now) (g.W.Write.contents c.write_counted.new.self) v) (sym (take-add c.sending.sent c.in-Ok.taken c.args.bytes.now)) grown;

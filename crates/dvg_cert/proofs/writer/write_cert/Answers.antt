@@ -1,7 +1,8 @@
 use Rattle.std.proofs.Common.{◌≡◌, ◌∙◌, List, ℕ, length, sym, subst, arith, refl}
 use Rattle.std.specs.Io.KnownBytes.{Appends}
 use Rattle.dvg_cert.specs.Grammar.{first_line}
-use Rattle.dvg_cert.proofs.Spelled.{sent_err, text_first, entry_sent, entry_written, done_sent, done_written, on_err, on_ok}
+use Rattle.dvg_cert.proofs.Spelled.{sent_err, text_first, entry_sent, entry_written, done_sent, done_written}
+use Rattle.std.proofs.lemmas.Result.{on_ok_weaker, on_err_weaker}
 use Rattle.dvg_cert.proofs.Refusals.{first_taken}
 use Rattle.dvg_cert.proofs.writer.write_cert.Goals as goal
 
@@ -15,18 +16,18 @@ loop-i-init g c =
 
 pub returns-in_err-write_bytes-2-clause-front : goal.returns-in_err-write_bytes-2-clause-front
 returns-in_err-write_bytes-2-clause-front g c =
-    sent_err c.from_residual-in_err-write_bytes-2.result (entry_sent (g.W.Write.contents c.args.out.now) (g.W.Write.contents c.loop-i.out) (g.W.Write.contents c.write_bytes-in-loop-i.new.out) c.entries-entries.result.now c.args.cert.now c.loop-i.i _ c.as_bytes.result.now c.entries-entries.ensures.value c.loop-i-test.true (c.as_bytes.ensures ∙ c.spell_entry.ensures) c.loop-i.invariant.0 c.in_err-write_bytes-2.ensures.front)
+    sent_err c.from_residual-in_err-write_bytes-2.result (entry_sent (g.W.Write.contents c.args.out.now) (g.W.Write.contents c.loop-i.out) (g.W.Write.contents c.write_bytes-in-loop-i.new.out) c.entries-entries.result.now c.args.cert.now c.loop-i.i _ c.as_slice.result.now c.entries-entries.ensures.value c.loop-i-test.true (c.as_slice.ensures.value ∙ c.spell_entry.ensures) c.loop-i.invariant.0 c.in_err-write_bytes-2.ensures.front)
 
 pub loop-i-preserved : goal.loop-i-preserved
 loop-i-preserved g c =
-    (entry_written (g.W.Write.contents c.args.out.now) (g.W.Write.contents c.loop-i.out) (g.W.Write.contents c.write_bytes-in-loop-i.new.out) c.entries-entries.result.now c.loop-i.i _ c.as_bytes.result.now c.loop-i-test.true (c.as_bytes.ensures ∙ c.spell_entry.ensures) c.loop-i.invariant.0 c.in_ok-write_bytes-2.ensures.ok, c.in_ok-write_bytes-2.ensures.count ∙ c.loop-i.invariant.1)
+    (entry_written (g.W.Write.contents c.args.out.now) (g.W.Write.contents c.loop-i.out) (g.W.Write.contents c.write_bytes-in-loop-i.new.out) c.entries-entries.result.now c.loop-i.i _ c.as_slice.result.now c.loop-i-test.true (c.as_slice.ensures.value ∙ c.spell_entry.ensures) c.loop-i.invariant.0 c.in_ok-write_bytes-2.ensures.ok, c.in_ok-write_bytes-2.ensures.count ∙ c.loop-i.invariant.1)
 
 pub returns-clause-front : goal.returns-clause-front
 returns-clause-front g c =
     let n : c.loop-i.i ≡ length c.entries-entries.result.now = omega arith in
-    on_err c.write_bytes-2.result (done_sent (g.W.Write.contents c.args.out.now) (g.W.Write.contents c.loop-i.out) (g.W.Write.contents c.write_bytes-2.new.out) c.entries-entries.result.now c.args.cert.now c.loop-i.i (length c.entries-entries.result.now) c.as_bytes-2.result.now c.entries-entries.ensures.value n refl (c.as_bytes-2.ensures ∙ c.spell_done.ensures) c.loop-i.invariant.0) c.write_bytes-2.ensures.front
+    on_err_weaker c.write_bytes-2.result (done_sent (g.W.Write.contents c.args.out.now) (g.W.Write.contents c.loop-i.out) (g.W.Write.contents c.write_bytes-2.new.out) c.entries-entries.result.now c.args.cert.now c.loop-i.i (length c.entries-entries.result.now) c.as_slice-2.result.now c.entries-entries.ensures.value n refl (c.as_slice-2.ensures.value ∙ c.spell_done.ensures) c.loop-i.invariant.0) c.write_bytes-2.ensures.front
 
 pub returns-clause-ok : goal.returns-clause-ok
 returns-clause-ok g c =
     let n : c.loop-i.i ≡ length c.entries-entries.result.now = omega arith in
-    on_ok c.write_bytes-2.result (done_written (g.W.Write.contents c.args.out.now) (g.W.Write.contents c.loop-i.out) (g.W.Write.contents c.write_bytes-2.new.out) c.entries-entries.result.now c.args.cert.now c.loop-i.i (length c.entries-entries.result.now) c.as_bytes-2.result.now c.entries-entries.ensures.value n refl (c.as_bytes-2.ensures ∙ c.spell_done.ensures) c.loop-i.invariant.0) c.write_bytes-2.ensures.ok
+    on_ok_weaker c.write_bytes-2.result (done_written (g.W.Write.contents c.args.out.now) (g.W.Write.contents c.loop-i.out) (g.W.Write.contents c.write_bytes-2.new.out) c.entries-entries.result.now c.args.cert.now c.loop-i.i (length c.entries-entries.result.now) c.as_slice-2.result.now c.entries-entries.ensures.value n refl (c.as_slice-2.ensures.value ∙ c.spell_done.ensures) c.loop-i.invariant.0) c.write_bytes-2.ensures.ok

@@ -1,4 +1,5 @@
-use Rattle.std.proofs.Common.{◌-◌}
+use Rattle.std.proofs.Common.{◌-◌, ◌+◌}
+use Rattle.dvg_words.specs.declared.map.TheConstants.{ADDRESS_END}
 use Rattle.dvg_items.specs.Known.{Context}
 use Rattle.dvg_check.specs.Rules.{PlaceKeeps}
 use Rattle.dvg_check.proofs.Loop.{Walked}
@@ -10,4 +11,4 @@ invariant-items g l =
     Walked c (g.C.Cells.words l.cells) l.first (PlaceKeeps g.R.Rules.unmapped g.R.Rules.odd (g.R.Rules.keeps l.rules) c (g.C.Cells.words l.cells)) l.cursor
 
 abbrev pub decreases-items : goal.decreases-items
-decreases-items g l = 4098 - l.cursor.at
+decreases-items g l = ADDRESS_END + 2 - l.cursor.at

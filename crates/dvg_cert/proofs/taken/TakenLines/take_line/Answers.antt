@@ -1,14 +1,11 @@
-use Rattle.std.proofs.Common.{◌≡◌, ◌∙◌, refl, true, false, Bool}
-use Rattle.std.specs.Prelude.{not}
+use Rattle.std.proofs.Common.{◌≡◌, ◌∙◌, sym}
+use Rattle.std.proofs.lemmas.Bool.{not-false}
 use Rattle.std.proofs.lemmas.Slice.Eq.{bytes_eq-Decides}
+use Rattle.dvg_words.specs.Values.{asteroids}
 use Rattle.dvg_cert.proofs.Refusals.{first_at}
 use Rattle.dvg_cert.proofs.taken.TakenLines.take_line.Goals as goal
 
-not_false : (b : Bool) → false ≡ not b → b ≡ true
-not_false true e = refl
-not_false false e = absurd cc
-
 pub returns-else-ne : goal.returns-else-ne
 returns-else-ne c =
-    let same : c.args.line.now ≡ c.as_slice.result.now = (bytes_eq-Decides c.args.line.now c.as_slice.result.now).0 (not_false _ c.if-ne.ensures) in
-    first_at 2048 3071 c.self.inside.stage c.self.inside.entries.items c.args.self.now c.args.line.now c.in-First.is c.self.view_is c.self.invariant (same ∙ c.as_slice.ensures)
+    let same : c.args.line.now ≡ c.as_slice.result.now = (bytes_eq-Decides c.args.line.now c.as_slice.result.now).0 (not-false _ (sym c.if-ne.ensures)) in
+    first_at asteroids.rom_first asteroids.rom_last c.self.inside.stage c.self.inside.entries.items c.args.self.now c.args.line.now c.in-First.is c.self.view_is c.self.invariant (same ∙ c.as_slice.ensures)

@@ -1,7 +1,8 @@
--- Code, not definition: a line is put together token by token. Only private functions cite this.
+-- How a line is put together token by token. No rule stands here.
 use Rattle.std.specs.Prelude.{ℕ, List, [], ◌∷◌, ◌++◌}
+use Rattle.dvg_cert.specs.Limits.{SPACE}
 
 -- tokens with a space in front of each
 abbrev pub spaced : List (List ℕ) → List ℕ
 spaced [] = []
-spaced (t ∷ ts) = 32 ∷ t ++ spaced ts
+spaced (t ∷ ts) = SPACE ∷ t ++ spaced ts

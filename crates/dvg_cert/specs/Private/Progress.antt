@@ -1,5 +1,6 @@
--- Code, not definition: the running state of the reader. No clause of a public function cites this.
+-- The running state of the reader. No rule stands here.
 use Rattle.std.specs.Prelude.{◌≡◌, ◌≢◌, ℕ, ◌+◌, ◌<◌, ◌≤◌, List, [], ◌∷◌, ◌++◌, length, take, drop, Result, Ok, Err, Option, Some, None}
+use Rattle.dvg_cert.specs.Limits.{MOST_ENTRIES, LINE_FEED}
 use Rattle.dvg_cert.specs.declared.line.Line.TheVariants as lines
 use Rattle.dvg_cert.specs.declared.fault.CertWhy.{CertWhy}
 use Rattle.dvg_cert.specs.declared.fault.CertWhy.TheVariants.{Order, Unended, TooLong, Memory}
@@ -41,7 +42,7 @@ IsLineRefused taken line why = IsWrong taken line why
 abbrev pub TakesEntry : ℕ → ℕ → List Entry → Entry → List Entry → Result (Unit {0}) CertWhy → Type 0
 TakesEntry first last old e new (Ok u) = (new ≡ old ++ e ∷ []) × IsCertificate first last new
 TakesEntry first last old e new (Err Order) = (new ≡ old) × (StandsAfter old e → ⊥)
-TakesEntry first last old e new (Err TooLong) = (new ≡ old) × StandsAfter old e × (length old ≡ 4096)
+TakesEntry first last old e new (Err TooLong) = (new ≡ old) × StandsAfter old e × (length old ≡ MOST_ENTRIES)
 TakesEntry first last old e new (Err Memory) = (new ≡ old) × IsCertificate first last (old ++ e ∷ [])
 TakesEntry first last old e new (Err why) = ⊥
 
@@ -59,9 +60,9 @@ TakesLater first last old line new (Err why) = IsCertificate first last new × I
 
 -- where the next line ends, which may have fewer than `room` bytes
 abbrev pub EndsLine : ℕ → List ℕ → Result (Option ℕ) CertWhy → Type 0
-EndsLine room rest (Ok (Some at)) = (rest ≡ take at rest ++ 10 ∷ drop (at + 1) rest) × Without 10 (take at rest) × (at < room) × (at < length rest)
-EndsLine room rest (Ok None) = Without 10 rest × (length rest < room)
-EndsLine room rest (Err why) = (why ≡ TooLong) × (room ≤ length rest) × Without 10 (take room rest)
+EndsLine room rest (Ok (Some at)) = (rest ≡ take at rest ++ LINE_FEED ∷ drop (at + 1) rest) × Without LINE_FEED (take at rest) × (at < room) × (at < length rest)
+EndsLine room rest (Ok None) = Without LINE_FEED rest × (length rest < room)
+EndsLine room rest (Err why) = (why ≡ TooLong) × (room ≤ length rest) × Without LINE_FEED (take room rest)
 
 -- what taking the next line of a piece gives; `bytes` sees what is left as its bytes
 abbrev pub TakesNext : {X : Type 0} → (X → List ℕ) → ℕ → ℕ → Taken → List ℕ → List ℕ → Taken → List ℕ → Result (Option X) CertFault → Type 0

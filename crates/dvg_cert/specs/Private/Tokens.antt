@@ -1,21 +1,18 @@
--- Code, not definition: how the tokens of a line are read from left to right. Only private functions cite this.
+-- How the tokens of a line are read from left to right. No rule stands here.
 use Rattle.std.specs.Prelude.{◌≡◌, ℕ, ◌+◌, ◌-◌, ◌*◌, List, [], ◌∷◌, length, codes, decimal, ℤ, pos, neg_ℤ, ◌&&◌, nat_le, nat_lt, int_le, ◌==◌, if◌then◌else◌, Option, Some, None}
 use Rattle.std.specs.Str.{bytes_eq}
 use Rattle.std.specs.Str.Parse.{digits_value}
-use Rattle.std.specs.Option.{option_map}
+use Rattle.std.specs.Option.{option_map, option_or, option_and_then}
 use Rattle.std.specs.List.{slice_split}
 use Rattle.std.specs.Borrow.{Bor}
+use Rattle.dvg_cert.specs.Limits.{MOST_ENTRIES, MOST_DEPTH, MOST_WORDS, MOST_MAGNITUDE, SPACE}
 use Rattle.dvg_cert.specs.declared.line.Line.{Line}
 use Rattle.dvg_cert.specs.declared.line.Line.TheVariants as lines
 use Rattle.dvg_cert.specs.Entry.{Key, At, Any, End, Rel, Abs, Lost, LitBox, Empty, Span, Entry}
 
-unfoldable pub bind : {A B : Type 0} → Option A → (A → Option B) → Option B
-bind None f = None
-bind (Some x) f = f x
-
 infixl 10 ◌>>=◌
 abbrev pub ◌>>=◌ : {A B : Type 0} → Option A → (A → Option B) → Option B
-◌>>=◌ = bind
+o >>= f = option_and_then f o
 
 -- what a function returned and left is what reading gives
 abbrev pub Reads : {X : Type 0} → Option X → List (List ℕ) → Option (X × List (List ℕ)) → Type 0
@@ -46,7 +43,7 @@ address_in first last token = None
 -- the tokens that are left
 unfoldable pub tokens_left : Option (Bor (List ℕ)) → List (List ℕ)
 tokens_left None = []
-tokens_left (Some rest) = slice_split (λ b. b == 32) rest.now
+tokens_left (Some rest) = slice_split (λ b. b == SPACE) rest.now
 
 abbrev pub token_at : List (List ℕ) → Option (List ℕ × List (List ℕ))
 token_at [] = None
@@ -65,14 +62,11 @@ by_token f tokens = do
   x ← f w.0
   Some (x, w.1)
 
-abbrev pub limit : ℕ
-limit = 2000000000000
-
 -- an end of two numbers
 abbrev pub two_at : (ℤ → ℤ → End) → List (List ℕ) → Option (End × List (List ℕ))
 two_at make tokens = do
-  x ← by_token (number_in limit) tokens
-  y ← by_token (number_in limit) x.1
+  x ← by_token (number_in MOST_MAGNITUDE) tokens
+  y ← by_token (number_in MOST_MAGNITUDE) x.1
   Some (make x.0 y.0, y.1)
 
 unfoldable pub end_at : List (List ℕ) → Option (End × List (List ℕ))
@@ -84,10 +78,10 @@ end_at tokens = do
 -- a box whose first token is this
 abbrev pub span_at : List ℕ → List (List ℕ) → Option (LitBox × List (List ℕ))
 span_at token tokens = do
-  x_min ← number_in limit token
-  x_max ← by_token (number_in limit) tokens
-  y_min ← by_token (number_in limit) x_max.1
-  y_max ← by_token (number_in limit) y_min.1
+  x_min ← number_in MOST_MAGNITUDE token
+  x_max ← by_token (number_in MOST_MAGNITUDE) tokens
+  y_min ← by_token (number_in MOST_MAGNITUDE) x_max.1
+  y_max ← by_token (number_in MOST_MAGNITUDE) y_min.1
   if int_le x_min x_max.0 && int_le y_min.0 y_max.0 then Some (Span x_min x_max.0 y_min.0 y_max.0, y_max.1) else None
 
 unfoldable pub box_at : List (List ℕ) → Option (LitBox × List (List ℕ))
@@ -106,9 +100,9 @@ entry_at first last tokens = do
   s3 ← the_token (codes "box") stop.1
   lit ← box_at s3.1
   s4 ← the_token (codes "depth") lit.1
-  depth ← by_token (natural_in 0 3) s4.1
+  depth ← by_token (natural_in 0 MOST_DEPTH) s4.1
   s5 ← the_token (codes "words") depth.1
-  count ← by_token (natural_in 1 1000000) s5.1
+  count ← by_token (natural_in 1 MOST_WORDS) s5.1
   s6 ← the_token (codes "scale") count.1
   scale ← by_token key_in s6.1
   Some (record { addr = addr.0; key = key.0; stop = stop.0; lit = lit.0; depth = depth.0; words = count.0; scale = scale.0 }, scale.1)
@@ -119,12 +113,8 @@ nothing_left o = o >>= λ x. if length x.1 == 0 then Some x.0 else None
 abbrev pub done_at : List (List ℕ) → Option (ℕ × List (List ℕ))
 done_at tokens = do
   d ← the_token (codes "done") tokens
-  by_token (natural_in 0 4096) d.1
-
-abbrev pub or_else : {X : Type 0} → Option X → Option X → Option X
-or_else None o = o
-or_else (Some x) o = Some x
+  by_token (natural_in 0 MOST_ENTRIES) d.1
 
 -- the whole of the tokens
 unfoldable pub line_in : ℕ → ℕ → List (List ℕ) → Option Line
-line_in first last tokens = or_else (option_map (λ n. lines.Done n) (nothing_left (done_at tokens))) (option_map (λ e. lines.Entry e) (nothing_left (entry_at first last tokens)))
+line_in first last tokens = option_or (option_map (λ n. lines.Done n) (nothing_left (done_at tokens))) (option_map (λ e. lines.Entry e) (nothing_left (entry_at first last tokens)))

@@ -1,0 +1,4 @@
+-- Words of the code's own, which no rule stands on.
+pub mod Tokens
+pub mod Progress
+pub mod Writing
