@@ -3,7 +3,8 @@
 ghost use Rattle.std.specs.Prelude.{◌<◌, ◌≤◌, pos, ◌≤ℤ◌, ◌<ℤ◌};
 
 use anyhow::{Result, bail};
-use dvg_cert::{Cert, Counted, End, Entry, Key, LitBox, read_cert, write_cert};
+use dvg_cert::{Cert, Counted, End, Entry, Key, LitBox, MOST_ENTRIES, read_cert, write_cert};
+use dvg_words::ROM_FIRST;
 use std::alloc::{AllocError, Global};
 
 /// A row of numbers that looks random and is the same in each run.
@@ -34,11 +35,11 @@ impl Numbers {
 
 /// Four keys for each address, with numbers of many lengths.
 fn entry_at(index: u16, numbers: &mut Numbers) -> Entry
-    requires { index < 4096 }
+    requires { index < MOST_ENTRIES }
 {
     let (x, y) = (numbers.size(), -numbers.size());
     Entry {
-        addr: 0x800 + index / 4,
+        addr: ROM_FIRST + index / 4,
         key: Key::At((index % 4) as u8),
         stop: if index % 2 == 0 {
             End::Rel { x, y }
@@ -58,7 +59,7 @@ fn entry_at(index: u16, numbers: &mut Numbers) -> Entry
 }
 
 fn entries_of(alloc: Global, count: u16) -> Result<Vec<Entry>, AllocError>
-    requires { count ≤ 4096 }
+    requires { count ≤ MOST_ENTRIES }
 {
     let mut numbers = Numbers { state: 1 };
     let mut entries = Vec::new(alloc);

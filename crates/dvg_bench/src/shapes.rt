@@ -5,7 +5,7 @@ ghost use Rattle.std.specs.Prelude.{◌<◌, ◌≤◌, ◌+◌, ◌*◌, ℤ, p
 use anyhow::{Result, bail};
 use dvg_cert::{Cert, End, Entry, Key, ListIndex, LitBox};
 use dvg_check::check_shapes;
-use dvg_words::RomImage;
+use dvg_words::{ROM_FIRST, ROM_LAST, RomImage};
 use std::alloc::{AllocError, Global};
 
 /// What the ROM is full of: lit strokes to and fro, with entries for four global scales; dark ones, with entries for `any`;
@@ -16,10 +16,6 @@ pub enum Filling {
     Unscaled,
     Calls,
 }
-
-const FIRST: u16 = 0x800;
-
-const LAST: u16 = 0xBFF;
 
 const RTSL: u16 = 0xD000;
 
@@ -32,11 +28,11 @@ const BACK: u16 = 0xF075;
 /// SVEC by 1, 0 at scale code 0, intensity 0.
 const DARK: u16 = 0xF001;
 
-const CALL_LAST: u16 = 0xC000 + LAST;
+const CALL_LAST: u16 = 0xC000 + ROM_LAST;
 
 fn word_at(filling: Filling, addr: u16) -> u16 {
     match filling {
-        _ if addr == LAST => RTSL,
+        _ if addr == ROM_LAST => RTSL,
         Filling::Draws => if addr % 2 == 0 { FORTH } else { BACK },
         Filling::Unscaled => DARK,
         Filling::Calls => if addr % 16 == 15 { RTSL } else { CALL_LAST },
@@ -45,7 +41,7 @@ fn word_at(filling: Filling, addr: u16) -> u16 {
 
 fn rom_bytes(alloc: Global, filling: Filling) -> Result<Vec<u8>, AllocError> {
     let mut bytes = Vec::new(alloc);
-    for addr in FIRST..=LAST {
+    for addr in ROM_FIRST..=ROM_LAST {
         bytes.extend_from_slice(&word_at(filling, addr).to_le_bytes())?;
     }
     Ok(bytes)
@@ -53,18 +49,18 @@ fn rom_bytes(alloc: Global, filling: Filling) -> Result<Vec<u8>, AllocError> {
 
 /// How many items the shape at an address has before its RTSL.
 fn items_before_end(filling: Filling, addr: u16) -> u16
-    requires { addr ≤ 3071 }
-    ensures { result ≤ 3071 }
+    requires { addr ≤ ROM_LAST }
+    ensures { result ≤ ROM_LAST }
 {
     match filling {
-        Filling::Draws | Filling::Unscaled => LAST - addr,
+        Filling::Draws | Filling::Unscaled => ROM_LAST - addr,
         Filling::Calls => 15 - addr % 16,
     }
 }
 
 /// The entry of the shape of draws at an address: it ends where it began, or one stroke from there.
 fn draws_entry(addr: u16, gscale: u8) -> Entry
-    requires addr { addr ≤ 3071 }
+    requires addr { addr ≤ ROM_LAST }
     requires scale { gscale < 4 }
 {
     let stroke: i64 = if addr % 2 == 0 { 2048 } else { -2048 } * (1 << gscale);
@@ -90,7 +86,7 @@ fn draws_entry(addr: u16, gscale: u8) -> Entry
 
 /// The entry for `any` of the shape of dark draws at an address: a draw at unknown scale loses the place.
 fn unscaled_entry(addr: u16) -> Entry
-    requires { addr ≤ 3071 }
+    requires { addr ≤ ROM_LAST }
 {
     let items = items_before_end(Filling::Unscaled, addr);
     Entry {
@@ -110,7 +106,7 @@ fn unscaled_entry(addr: u16) -> Entry
 
 /// The entry of the shape of calls at an address: each call has two words, the last word's among them.
 fn calls_entry(addr: u16, gscale: u8) -> Entry
-    requires addr { addr ≤ 3071 }
+    requires addr { addr ≤ ROM_LAST }
     requires scale { gscale < 4 }
 {
     let items = items_before_end(Filling::Calls, addr);
@@ -145,7 +141,7 @@ fn entries_of(alloc: Global, filling: Filling, count: u16) -> Result<Vec<Entry>>
     }
     let mut entries = Vec::new(alloc);
     for index in all - count..all {
-        let (addr, gscale) = (FIRST + index / keys, (index % keys) as u8);
+        let (addr, gscale) = (ROM_FIRST + index / keys, (index % keys) as u8);
         entries.push(match filling {
             Filling::Draws => draws_entry(addr, gscale),
             Filling::Unscaled => unscaled_entry(addr),
@@ -173,7 +169,7 @@ pub fn check_entries(alloc: Global, filling: Filling, count: u16, times: u32) ->
     let mut items = 0u64;
     for entry in cert.entries() {
         items = items.saturating_add(
-            1 + u64::from(items_before_end(filling, entry.addr.min(LAST))),
+            1 + u64::from(items_before_end(filling, entry.addr.min(ROM_LAST))),
         );
     }
     Ok(items)

@@ -15,7 +15,7 @@ use Rattle.dvg_words.specs.declared.instruction.Format.{Format}
 use Rattle.dvg_words.specs.declared.instruction.Format.TheVariants.{Long, Short}
 use Rattle.dvg_words.specs.declared.instruction.Instr.{Instr}
 use Rattle.dvg_words.specs.declared.instruction.Instr.TheVariants.{Draw as Draws, Labs, Halt, Jsrl, Rtsl, Jmpl}
-use Rattle.std.specs.Option.{option_or as or_else}
+use Rattle.std.specs.Option.{option_or}
 use Rattle.dvg_cert.specs.Lookup.{same_key, entry_at, named_entry}
 use Rattle.dvg_cert.specs.declared.entry.End.{End}
 use Rattle.dvg_cert.specs.declared.entry.End.TheVariants.{Lost, Abs, Rel}

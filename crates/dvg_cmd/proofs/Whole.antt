@@ -67,18 +67,18 @@ module _ (short_text : ShortText) (front_refusal : FrontRefusal) (n m : ℕ) (n_
   in_range h = record { rom_length = rom_on h.rom_length; frame_length = frame_on h.frame_length; budget_range = h.budget_range }
 
   -- a text whose whole lines were all taken was read whole
-  cert_same : MayStand 2048 3071 cb → cb ≡ c
-  cert_same h = cert.short (let few = short_text 2048 3071 cb (omega arith) h in omega (arith, few, m_past))
+  cert_same : MayStand asteroids.rom_first asteroids.rom_last cb → cb ≡ c
+  cert_same h = cert.short (let few = short_text asteroids.rom_first asteroids.rom_last cb (omega arith) h in omega (arith, few, m_past))
 
-  spelled_same : (list : List Entry) → Spells 2048 3071 list cb → cb ≡ c
-  spelled_same list h = cert_same (Whole 2048 3071 list, [], record { parts = h.1 ∙ sym (append-nil (text_of list)); lines = (refl, refl, h.0); begun = refl })
+  spelled_same : (list : List Entry) → Spells asteroids.rom_first asteroids.rom_last list cb → cb ≡ c
+  spelled_same list h = cert_same (Whole asteroids.rom_first asteroids.rom_last list, [], record { parts = h.1 ∙ sym (append-nil (text_of list)); lines = (refl, refl, h.0); begun = refl })
 
   -- what refuses the front, its end aside, refuses all
-  goes_on : (line : ℕ) (why : CertWhy) → IsRefusal 2048 3071 cb line why → (why ≡ Unended → ⊥) → IsRefusal 2048 3071 c line why
-  goes_on line why h other = subst (λ (x : List ℕ). IsRefusal 2048 3071 x line why) (sym cert.parts) (front_refusal 2048 3071 cb cert.rest (record { line = line; why = why }) h other)
+  goes_on : (line : ℕ) (why : CertWhy) → IsRefusal asteroids.rom_first asteroids.rom_last cb line why → (why ≡ Unended → ⊥) → IsRefusal asteroids.rom_first asteroids.rom_last c line why
+  goes_on line why h other = subst (λ (x : List ℕ). IsRefusal asteroids.rom_first asteroids.rom_last x line why) (sym cert.parts) (front_refusal asteroids.rom_first asteroids.rom_last cb cert.rest (record { line = line; why = why }) h other)
 
-  refused_whole : (line : ℕ) (why : CertWhy) → IsRefusal 2048 3071 cb line why → IsRefusal 2048 3071 c line why
-  refused_whole line Unended h = subst (λ (x : List ℕ). IsRefusal 2048 3071 x line Unended) (cert_same (h.0, h.1, h.2)) h
+  refused_whole : (line : ℕ) (why : CertWhy) → IsRefusal asteroids.rom_first asteroids.rom_last cb line why → IsRefusal asteroids.rom_first asteroids.rom_last c line why
+  refused_whole line Unended h = subst (λ (x : List ℕ). IsRefusal asteroids.rom_first asteroids.rom_last x line Unended) (cert_same (h.0, h.1, h.2)) h
   refused_whole line Form h = goes_on line Form h (λ e. cc)
   refused_whole line Order h = goes_on line Order h (λ e. cc)
   refused_whole line Count h = goes_on line Count h (λ e. cc)
@@ -91,7 +91,7 @@ module _ (short_text : ShortText) (front_refusal : FrontRefusal) (n m : ℕ) (n_
       record {
         in_range = in_range h.in_range;
         list = h.list;
-        spells = subst (λ (x : List ℕ). Spells 2048 3071 h.list x) (spelled_same h.list h.spells) h.spells;
+        spells = subst (λ (x : List ℕ). Spells asteroids.rom_first asteroids.rom_last h.list x) (spelled_same h.list h.spells) h.spells;
         parts = subst (λ (x : List ℕ). PartsVerdict Bound w (rom_of asteroids x) h.list (words_of f) budget v) (rom_same h.in_range.rom_length) (subst (λ (x : List ℕ). PartsVerdict Bound w (rom_of asteroids rb) h.list (words_of x) budget v) (frame_same h.in_range.frame_length) h.parts);
       }
 

@@ -2,6 +2,7 @@
 use Rattle.std.specs.Prelude.{◌≡◌, ℕ, ◌<◌, Bool, true, false, List, ◌++◌, length, codes, Option, IfSome, Result, Err}
 use Rattle.std.specs.Io.KnownBytes.{Appends}
 use Rattle.dvg_words.specs.Values.{asteroids}
+use Rattle.dvg_words.specs.declared.map.TheConstants.{ADDRESS_END}
 use Rattle.dvg_words.specs.Memory.{rom_of, IsRomLength}
 use Rattle.dvg_cert.specs.declared.entry.Entry.{Entry}
 use Rattle.dvg_cert.specs.declared.entry.Key.{Key}
@@ -15,7 +16,7 @@ use Rattle.dvg_cmd.specs.declared.making.MakeRunFault.TheVariants as fault
 
 -- the text is this root's: its address, a slash and its key
 abbrev pub IsRoot : List ℕ → ℕ → Key → Type 0
-IsRoot text addr key = (addr < 4096) × IsKey key × (text ≡ address_token addr ++ codes "/" ++ key_token key)
+IsRoot text addr key = (addr < ADDRESS_END) × IsKey key × (text ≡ address_token addr ++ codes "/" ++ key_token key)
 
 -- ---- which device an answer blames
 

@@ -1,5 +1,5 @@
 -- The report: the line that is written for a verdict. All of it is profile.
-use Rattle.std.specs.Prelude.{ℕ, ◌+◌, ◌-◌, ◌/◌, ◌%◌, nat_lt, List, [], ◌∷◌, ◌++◌, codes, decimal, Result, Ok, Err, if◌then◌else◌}
+use Rattle.std.specs.Prelude.{◌^◌, ℕ, ◌+◌, ◌-◌, ◌/◌, ◌%◌, nat_lt, List, [], ◌∷◌, ◌++◌, codes, decimal, Result, Ok, Err, if◌then◌else◌}
 use Rattle.dvg_words.specs.declared.image.ImageFault.TheVariants.{RomLength, FrameLength}
 use Rattle.dvg_check.specs.declared.verdict.Yes.{Yes}
 use Rattle.dvg_check.specs.declared.verdict.Refusal.{Refusal}
@@ -18,7 +18,7 @@ hex_digit n = if nat_lt n 10 then 48 + n else 65 + (n - 10)
 -- a word address: three hexadecimal digits, or four where they are needed
 abbrev pub hex_address : ℕ → List ℕ
 hex_address n =
-    (if nat_lt n 4096 then [] else hex_digit (n / 4096) ∷ []) ++ hex_digit (n / 256 % 16) ∷ hex_digit (n / 16 % 16) ∷ hex_digit (n % 16) ∷ []
+    (if nat_lt n (16 ^ 3) then [] else hex_digit (n / 16 ^ 3) ∷ []) ++ hex_digit (n / 256 % 16) ∷ hex_digit (n / 16 % 16) ∷ hex_digit (n % 16) ∷ []
 
 -- a certificate's line, counted from 1
 abbrev pub cert_fault_text : CertFault → List ℕ

@@ -13,7 +13,8 @@ mod status;
 mod tests;
 
 pub use dvg_cert::{
-    CertFault, CertWhy, Counted, CountedRead, CountedWrite, Key, WriteFault, write_bytes,
+    CertFault, CertWhy, Counted, CountedRead, CountedWrite, Key, MOST_WORDS, WriteFault,
+    write_bytes,
 };
 pub use dvg_check::{FrameFault, FrameWhy, Refusal, ShapeFault, ShapeWhy, Yes, check};
 pub use dvg_make::{MakeFault, make};

@@ -3,7 +3,7 @@ use Rattle.std.proofs.Common.{◌≡◌, ℕ, zero, suc, ◌+◌, ◌<◌, ◌�
 use Rattle.std.specs.Prelude.{Bool, true, false, if◌then◌else◌, Contains}
 use Rattle.dvg_words.specs.Memory.{Rom, rom_word}
 use Rattle.dvg_cert.specs.Entry.{IsEntry}
-use Rattle.std.specs.Option.{option_or as or_else}
+use Rattle.std.specs.Option.{option_or}
 use Rattle.dvg_cert.specs.Lookup.{is_at, entry_at}
 use Rattle.dvg_cert.specs.declared.entry.Entry.{Entry}
 use Rattle.dvg_cert.specs.declared.entry.Key.{Key}

@@ -2,7 +2,7 @@
 use Rattle.std.proofs.Common.{◌≡◌, ℕ, suc, List, [], ◌∷◌, ◌++◌, Option, Some, None, refl, sym, ap, ◌∙◌, arith}
 use Rattle.std.specs.Prelude.{Bool, true, false, if◌then◌else◌, Contains}
 use Rattle.dvg_words.specs.declared.beam.Point.{Point}
-use Rattle.std.specs.Option.{option_or as or_else}
+use Rattle.std.specs.Option.{option_or}
 use Rattle.dvg_cert.specs.Lookup.{is_at, entry_at, named_entry}
 use Rattle.dvg_cert.specs.declared.entry.Entry.{Entry}
 use Rattle.dvg_cert.specs.declared.entry.Key.{Key}

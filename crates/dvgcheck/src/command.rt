@@ -2,7 +2,7 @@
 
 use clap::error::ErrorKind;
 use clap::{Arg, ArgMatches, Command, Error, value_parser};
-use dvg_cmd::{Key, root_of};
+use dvg_cmd::{Key, MOST_WORDS, root_of};
 use std::alloc::{AllocError, AllocFailed, Global};
 use std::{env, io};
 
@@ -78,7 +78,7 @@ fn check_command<'a>(alloc: Global) -> Result<Command<'a>, AllocError> {
         .long("budget")
         .value_name("N")
         .help("How many words the frame may take at the most")
-        .value_parser(value_parser!(u32).range(1..=1_000_000))
+        .value_parser(value_parser!(u32).range(1..=i64::from(MOST_WORDS)))
         .default_value("20000");
     Command::new(alloc, "check")
         .about("Judges a frame over a vector ROM and its certificate, and prints the report")

@@ -1,4 +1,5 @@
 use Rattle.std.proofs.Common.{sym, subst, ◌∙◌}
+use Rattle.dvg_words.specs.Values.{asteroids}
 use Rattle.dvg_cert.specs.Order.{IsCertificate}
 use Rattle.dvg_make.specs.Made.{Made}
 use Rattle.dvg_make.proofs.Finishing.{is_made, is_certificate}
@@ -6,7 +7,7 @@ use Rattle.dvg_make.proofs.maker.make.Goals as goal
 
 pub certificate_of-requires : goal.certificate_of-requires
 certificate_of-requires c =
-    subst (IsCertificate 2048 3071) (sym c.in_ok-entries.ensures)
+    subst (IsCertificate asteroids.rom_first asteroids.rom_last) (sym c.in_ok-entries.ensures)
     (subst (λ m. IsCertificate m.rom_first m.rom_last c.sort.new.self) c.span-span.ensures.map
     (is_certificate c.args.rom.now c.args.roots.now c.in_ok-done.done c.sort.new.self c.in_ok-done.ensures.ok c.in_ok-sort.ensures.rising c.in_ok-sort.ensures.same c.in_ok-sort.ensures.len))
 
