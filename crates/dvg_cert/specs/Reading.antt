@@ -72,7 +72,8 @@ IsWrong (Begun from to es) line TooLong = (e : Entry) × IsLine from to (lines.E
 IsWrong (Begun from to es) line Count = (n : ℕ) × IsLine from to (lines.Done n) line × (n ≢ length es)
 IsWrong taken line why = ⊥
 
--- why a byte cannot come after these lines and this rest: after all lines, as the last that a line may have, or as its LF (profile)
+-- why a byte cannot come after these lines and this rest: after all lines, as the last byte that a line may have, or
+-- as its LF (profile)
 abbrev pub Meets : Taken → List ℕ → ℕ → CertWhy → Type 0
 Meets (Whole from to es) rest b why = why ≡ After
 Meets taken rest b why = ((b ≢ LINE_FEED) × (length rest ≡ LONGEST_LINE - 1) × (why ≡ TooLong)) ⊎ ((b ≡ LINE_FEED) × IsWrong taken rest why)
