@@ -1,6 +1,6 @@
 -- The items of a shape or of a frame are determined: so a walk to the last one has sight them all, and there is one first
 -- fault at the most.
-use Rattle.std.proofs.Common.{List, Option, length, refl, sym, arith, ap, Some, None, subst, suc, ◌≡◌, ◌+◌, ◌<◌, ◌∷◌, ◌++◌, ◌∙◌, ℕ, ⊎_elim, []}
+use Rattle.std.proofs.Common.{List, Option, length, refl, sym, arith, ap, None, subst, suc, ◌≡◌, ◌+◌, ◌<◌, ◌∷◌, ◌++◌, ◌∙◌, ℕ, ⊎_elim, []}
 use Rattle.std.proofs.lemmas.Bool.{cases_lt}
 use Rattle.std.specs.List.{AllByRecursion}
 use Rattle.std.specs.Prelude.{Contains, ◌==◌, if◌then◌else◌}

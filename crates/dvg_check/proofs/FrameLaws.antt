@@ -35,7 +35,6 @@ use Rattle.dvg_items.specs.declared.item.Kind.TheVariants.{Frame}
 use Rattle.dvg_items.specs.declared.known.Effect.{Effect}
 use Rattle.dvg_items.specs.declared.known.Effect.TheVariants.{Sets, Loses, Moves}
 use Rattle.dvg_items.specs.declared.lit.LitExtent.{LitExtent}
-use Rattle.dvg_items.specs.declared.lit.LitExtent.TheVariants.{Nothing, Anywhere, Between}
 use Rattle.dvg_check.proofs.Onward.{Stands}
 use Rattle.dvg_items.proofs.Lists.{all_append, all_map, all_right}
 use Rattle.dvg_check.proofs.Runs.{reached_on, counts_sum, counts_same, rest_of, Grows, grows, stretch_as}

@@ -1,18 +1,15 @@
 -- What the loop over items keeps, and what follows where it stops.
-use Rattle.std.proofs.Common.{arith, Some, nat_lt, refl, Bool, None, true, false, Option, List, subst, sym, ap, ◌≡◌, ◌+◌, ◌<◌, ◌≤◌, ◌∷◌, ◌∙◌, ℕ, []}
-use Rattle.std.proofs.lemmas.Bool.Decides.{nat_tests}
-use Rattle.std.specs.Prelude.{if◌then◌else◌}
-use Rattle.dvg_words.specs.Decoding.{word_count, InstrFits, cell_at}
+use Rattle.std.proofs.Common.{arith, refl, None, Option, List, subst, sym, ap, ◌≡◌, ◌+◌, ◌∷◌, ◌∙◌, ℕ, []}
+use Rattle.dvg_words.specs.Decoding.{word_count, cell_at}
 use Rattle.dvg_words.specs.declared.instruction.Cell.{Cell}
 use Rattle.dvg_words.specs.declared.instruction.Cell.TheVariants.{Missing, Odd, Holds}
 use Rattle.dvg_words.specs.declared.instruction.Format.{Format}
-use Rattle.dvg_words.specs.declared.instruction.Format.TheVariants.{Short, Long}
 use Rattle.dvg_words.specs.declared.instruction.Instr.{Instr}
-use Rattle.dvg_words.specs.declared.instruction.Instr.TheVariants.{Draw as Draws, Labs, Halt, Jsrl, Rtsl, Jmpl}
+use Rattle.dvg_words.specs.declared.instruction.Instr.TheVariants.{Draw as Draws}
 use Rattle.dvg_cert.specs.declared.entry.Entry.{Entry}
 use Rattle.dvg_cert.specs.declared.entry.Key.{Key}
 use Rattle.dvg_check.specs.FirstFault.{AllBefore, FaultAt}
-use Rattle.dvg_items.specs.Items.{place_after, next_place, LeadsTo}
+use Rattle.dvg_items.specs.Items.{LeadsTo}
 use Rattle.dvg_items.specs.Known.{Context, known_before}
 use Rattle.dvg_check.specs.Private.Runs.{FormattedDraw, KeepsOver, PassesTo}
 use Rattle.dvg_check.specs.Private.Judging.{sight_by, WalksTo, KeepsAll, BreaksFirst}
@@ -20,14 +17,13 @@ use Rattle.dvg_items.specs.Seen.{sight_with, sight}
 use Rattle.dvg_check.specs.Rules.{PlaceKeeps, CellKeeps}
 use Rattle.dvg_items.specs.declared.item.Item.{Item}
 use Rattle.dvg_items.specs.declared.item.Kind.{Kind}
-use Rattle.dvg_items.specs.declared.item.Kind.TheVariants.{Shape, Frame}
 use Rattle.dvg_items.specs.declared.known.Known.{Known}
 use Rattle.dvg_items.specs.declared.seen.Seen.{Seen}
 use Rattle.dvg_items.specs.Bounds.{IsSoundCursor, IsSoundStep}
 use Rattle.dvg_items.specs.declared.cursor.Cursor.{Cursor}
 use Rattle.dvg_items.specs.declared.cursor.Step.{Step}
 use Rattle.dvg_items.specs.declared.cursor.Step.TheVariants.{Onward, Last}
-use Rattle.dvg_items.specs.Cursor.{first_cursor, step_to}
+use Rattle.dvg_items.specs.Cursor.{first_cursor}
 use Rattle.dvg_items.proofs.Stepping.{leads_on, ends_at}
 use Rattle.dvg_check.proofs.Faults.{all_kept}
 

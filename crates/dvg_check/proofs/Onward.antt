@@ -3,7 +3,7 @@ use Rattle.std.proofs.Common.{Option, None, Some, Bool, false, true, refl, nat_l
 use Rattle.std.proofs.lemmas.Bool.Decides.{nat_tests}
 use Rattle.std.proofs.lemmas.Int.{ints}
 use Rattle.std.specs.List.{AllByRecursion}
-use Rattle.std.specs.Prelude.{Contains, ◌≢◌, ◌&&◌, ◌==◌, ℤ, if◌then◌else◌}
+use Rattle.std.specs.Prelude.{Contains, ◌≢◌, ◌==◌, ℤ, if◌then◌else◌}
 use Rattle.dvg_words.specs.Beam.{shift, InWindow, displacement, origin}
 use Rattle.dvg_words.specs.Decoding.{instruction_of, cell_holding, long_cell, cell_of_words, cell_of_format, cell_at, word_count}
 use Rattle.dvg_words.specs.Generator.{Stroke, lit_by, State, next_status, Running, places, after_call}
@@ -16,7 +16,7 @@ use Rattle.dvg_words.specs.declared.instruction.Format.TheVariants.{Long, Short}
 use Rattle.dvg_words.specs.declared.instruction.Instr.{Instr}
 use Rattle.dvg_words.specs.declared.instruction.Instr.TheVariants.{Draw as Draws, Labs, Halt, Jsrl, Rtsl, Jmpl}
 use Rattle.std.specs.Option.{option_or}
-use Rattle.dvg_cert.specs.Lookup.{same_key, entry_at, named_entry}
+use Rattle.dvg_cert.specs.Lookup.{entry_at, named_entry}
 use Rattle.dvg_cert.specs.declared.entry.End.{End}
 use Rattle.dvg_cert.specs.declared.entry.End.TheVariants.{Lost, Abs, Rel}
 use Rattle.dvg_cert.specs.declared.entry.Entry.{Entry}

@@ -1,6 +1,5 @@
 -- Runs: they go on, they are determined, and what is recorded only grows.
 use Rattle.std.proofs.Common.{List, zero, arith, subst, sym, suc, ap, append_assoc, refl, Bool, true, false, nat_lt, length, max, length-append, ◌≡◌, ◌+◌, ◌≤◌, ◌∷◌, ◌++◌, ◌∙◌, ℕ, []}
-use Rattle.std.specs.List.{AllByRecursion}
 use Rattle.dvg_words.specs.Decoding.{cell_at}
 use Rattle.dvg_words.specs.Generator.{Status, Reached, Step, Running, Halted, Fault, State, Stroke, after_call, after_return, after_instruction, lit_by, after_cell, next_status, after_fetch, fetches}
 use Rattle.dvg_words.specs.Memory.{Memory, word_at}

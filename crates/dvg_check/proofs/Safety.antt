@@ -1,6 +1,6 @@
 -- What is safe, state by state.
-use Rattle.std.proofs.Common.{arith, ◌≤◌, ℕ, length}
-use Rattle.dvg_words.specs.Generator.{State, Status, Running, Halted, Fault}
+use Rattle.std.proofs.Common.{arith, ℕ}
+use Rattle.dvg_words.specs.Generator.{Status, Running, Halted, Fault}
 use Rattle.dvg_words.specs.Laws.{state_of, StackWithinMax}
 use Rattle.dvg_words.specs.Beam.{InWindow}
 use Rattle.dvg_words.specs.Memory.{Memory}

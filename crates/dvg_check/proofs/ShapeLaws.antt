@@ -11,15 +11,13 @@ use Rattle.dvg_words.specs.declared.beam.Point.{Point}
 use Rattle.dvg_words.specs.declared.instruction.Cell.{Cell}
 use Rattle.dvg_words.specs.declared.instruction.Cell.TheVariants.{Holds, Missing, Odd}
 use Rattle.dvg_words.specs.declared.instruction.Format.{Format}
-use Rattle.dvg_words.specs.declared.instruction.Format.TheVariants.{Short, Long}
 use Rattle.dvg_words.specs.declared.instruction.Instr.{Instr}
 use Rattle.dvg_words.specs.declared.instruction.Instr.TheVariants.{Rtsl, Jmpl, Draw as Draws, Labs, Halt, Jsrl}
 use Rattle.dvg_cert.specs.declared.entry.Entry.{Entry}
-use Rattle.dvg_cert.specs.declared.entry.Key.{Key}
 use Rattle.dvg_cert.specs.declared.entry.LitBox.{LitBox}
 use Rattle.dvg_check.specs.Behaving.{Behaves, Stretch, LitFits, Counts, PlaceFits, ScaleFits, Returned}
 use Rattle.dvg_items.specs.Items.{LeadsTo, place_after, next_place}
-use Rattle.dvg_items.specs.Known.{Context, callee, depth_before, words_before, callee_at, shape_context, target, scale_before, callee_words, depth_under, place_before, scale_set}
+use Rattle.dvg_items.specs.Known.{Context, callee, depth_before, words_before, shape_context, target, scale_before, callee_words, depth_under, place_before, scale_set}
 use Rattle.dvg_check.specs.Laws.{word_of, OneShape, AllShapes}
 use Rattle.dvg_check.specs.Rules.{GoodShape, CellKeeps, ShapeKeeps, AtLast, Good}
 use Rattle.dvg_items.specs.Seen.{sight, HasCallee}

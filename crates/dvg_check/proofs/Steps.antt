@@ -1,12 +1,11 @@
 -- One item: what stands at a place, and what a draw or a LABS does.
-use Rattle.std.proofs.Common.{arith, Option, None, Some, ap, subst, sym, refl, List, slice_get, length, nat_le, Bool, true, false, nat_lt, pos, ◌≡◌, ◌+◌, ◌-◌, ◌<◌, ◌≤◌, ◌∷◌, ◌++◌, ◌∙◌, ℕ, ⊎_elim}
+use Rattle.std.proofs.Common.{arith, Option, None, Some, ap, subst, sym, refl, List, slice_get, length, nat_le, Bool, true, false, nat_lt, ◌≡◌, ◌+◌, ◌-◌, ◌<◌, ◌≤◌, ◌∷◌, ◌++◌, ◌∙◌, ℕ, ⊎_elim}
 use Rattle.std.proofs.lemmas.Bool.{cases_lt}
 use Rattle.std.proofs.lemmas.Bool.Decides.{nat_tests}
-use Rattle.std.proofs.lemmas.Int.{ints}
 use Rattle.std.proofs.lemmas.Option.{slice_get_past}
 use Rattle.std.specs.List.{AllByRecursion}
-use Rattle.std.specs.Prelude.{◌+ℤ◌, ◌&&◌, if◌then◌else◌}
-use Rattle.dvg_words.specs.Beam.{shift, origin, displacement, labs_place}
+use Rattle.std.specs.Prelude.{◌&&◌, if◌then◌else◌}
+use Rattle.dvg_words.specs.Beam.{shift, displacement, labs_place}
 use Rattle.dvg_words.specs.Decoding.{cell_holding, long_cell, cell_of_format, cell_of_words, format_of, cell_at, word_count}
 use Rattle.dvg_words.specs.Generator.{fetches, places, State, next_status, after_instruction, after_cell, after_fetch, after_draw}
 use Rattle.dvg_words.specs.Memory.{Memory, InRom, InFrame, rom_word, IsMemory, word_at, frame_word}
@@ -29,7 +28,6 @@ use Rattle.dvg_items.specs.declared.item.Item.{Item}
 use Rattle.dvg_items.specs.declared.item.Kind.{Kind}
 use Rattle.dvg_items.specs.declared.item.Kind.TheVariants.{Shape, Frame}
 use Rattle.dvg_items.specs.declared.known.Effect.{Effect}
-use Rattle.dvg_items.specs.declared.known.Effect.TheVariants.{Sets, Loses, Moves}
 
 -- ---- what stands at a place
 

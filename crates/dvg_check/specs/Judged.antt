@@ -1,5 +1,5 @@
 -- Shapes that were judged: a ROM, and the entries by which all its shapes keep all rules.
-use Rattle.std.specs.Prelude.{List, length, ◌≤◌}
+use Rattle.std.specs.Prelude.{List}
 use Rattle.dvg_words.specs.Memory.{Rom, IsRom}
 use Rattle.dvg_words.specs.Beam.{screen}
 use Rattle.dvg_cert.specs.declared.entry.Entry.{Entry}

@@ -1,5 +1,5 @@
 -- The rules on one item, number by number, said as what an item keeps. All of it is profile.
-use Rattle.std.specs.Prelude.{◌≡◌, ◌≢◌, ℕ, ◌+◌, ◌≤◌, ◌<◌, List, ◌∷◌, Option, Some, None, Contains}
+use Rattle.std.specs.Prelude.{◌≡◌, ◌≢◌, ℕ, ◌+◌, ◌≤◌, ◌<◌, List, Option, Some, None, Contains}
 use Rattle.dvg_words.specs.Values.{Window}
 use Rattle.dvg_words.specs.declared.instruction.Instr.TheVariants.{Halt, Rtsl, Jmpl}
 use Rattle.dvg_words.specs.declared.instruction.Instr.{Instr}
@@ -13,7 +13,7 @@ use Rattle.dvg_items.specs.declared.item.Kind.{Kind}
 use Rattle.dvg_items.specs.declared.item.Kind.TheVariants.{Shape, Frame}
 use Rattle.dvg_items.specs.declared.item.Item.{Item}
 use Rattle.dvg_items.specs.Items.{next_place, LeadsTo}
-use Rattle.dvg_items.specs.Known.{Context, shape_context, frame_context, target, callee, place_before, words_before, depth_under, depth_before, known_before}
+use Rattle.dvg_items.specs.Known.{Context, shape_context, frame_context, target, words_before, depth_under, depth_before}
 use Rattle.dvg_items.specs.Seen.{HasCallee, sight}
 use Rattle.dvg_items.specs.Lit.{PlaceKnown, ScaleKnown, LitInWindow, LitInBox}
 pub use Rattle.dvg_items.specs.declared.seen.Seen.{Seen}

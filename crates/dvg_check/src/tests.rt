@@ -1,8 +1,8 @@
 //! Each call once: a shape with a lit stroke and a frame that calls it, accepted and refused.
 
 use crate::{
-    Accepted, FrameFault, FrameWhy, Refusal, ShapeFault, ShapeWhy, Yes, check, check_frame,
-    check_shapes,
+    Accepted, FrameFault, FrameWhy, JudgedShapes, Refusal, ShapeFault, ShapeWhy, Yes, check,
+    check_frame, check_shapes,
 };
 use dvg_cert::{Key, ListIndex, read_cert};
 use dvg_words::{FrameImage, RomImage};
@@ -58,6 +58,38 @@ fn judges_bytes(rt: HostRuntime) {
     ] {
         assert_eq!(rt; check(rt.alloc(), &rom, cert, FRAME, budget), want);
     }
+}
+
+/// What two frames answer over shapes that are judged once: one that calls the shape, and HALT alone.
+#[test]
+fn judges_frames_over_judged_shapes(rt: HostRuntime) -> Result<(), Fail> {
+    let bytes = rom_bytes();
+    let Ok(rom) = RomImage::from_bytes(&bytes) else {
+        return Err(Fail::new("the ROM was refused"));
+    };
+    let cert = read_cert(rt.alloc(), CERT)?;
+    let index = ListIndex::new(&cert);
+    let Ok(shapes) = JudgedShapes::judge(&rom, &cert, &index) else {
+        return Err(Fail::new("a shape was faulty"));
+    };
+    for (words, budget, want) in [
+        (FRAME, 20000, Ok(Accepted { words: 7, depth: 1 })),
+        (&[0xB0, 0xB0], 20000, Ok(Accepted { words: 1, depth: 0 })),
+        (
+            FRAME,
+            6,
+            Err(FrameFault {
+                word: 3,
+                why: FrameWhy::Budget,
+            }),
+        ),
+    ] {
+        let Ok(frame) = FrameImage::from_bytes(words) else {
+            return Err(Fail::new("the frame was refused"));
+        };
+        assert_eq!(rt; shapes.check_frame(&frame, budget), want);
+    }
+    Ok(())
 }
 
 /// What the two halves answer over the index of a certificate.

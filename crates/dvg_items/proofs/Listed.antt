@@ -1,11 +1,10 @@
 -- Entries that are found stand in the list, within the limits of a certificate.
-use Rattle.std.proofs.Common.{Option, None, Some, Bool, false, true, refl, arith, subst, sym, ap, zero, suc, List, ◌≡◌, ◌+◌, ◌<◌, ◌∷◌, ◌∙◌, ℕ, []}
+use Rattle.std.proofs.Common.{Option, None, Some, Bool, false, true, refl, arith, sym, ap, suc, List, ◌≡◌, ◌∷◌, ◌∙◌, ℕ, []}
 use Rattle.std.proofs.lemmas.Bool.Decides.{nat_tests}
-use Rattle.std.specs.List.{AllByRecursion}
 use Rattle.std.specs.Prelude.{Contains, IfSome, ◌&&◌, ◌==◌, if◌then◌else◌}
 use Rattle.dvg_cert.specs.Entry.{IsEntry}
 use Rattle.std.specs.Option.{option_or}
-use Rattle.dvg_cert.specs.Lookup.{same_key, entry_at, named_entry}
+use Rattle.dvg_cert.specs.Lookup.{same_key, entry_at}
 use Rattle.dvg_cert.specs.declared.entry.Entry.{Entry}
 use Rattle.dvg_cert.specs.declared.entry.Key.{Key}
 use Rattle.dvg_cert.specs.declared.entry.Key.TheVariants.{Any, At}

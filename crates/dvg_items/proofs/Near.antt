@@ -1,9 +1,8 @@
 -- Numbers stay small from one item to the next.
-use Rattle.std.proofs.Common.{arith, Some, nat_lt, refl, Bool, None, true, false, Option, ◌≡◌, ◌+◌, ◌<◌, ◌≤◌, ℕ}
+use Rattle.std.proofs.Common.{arith, Some, nat_lt, refl, Bool, None, true, false, ◌≡◌, ◌+◌, ◌<◌, ◌≤◌, ℕ}
 use Rattle.std.proofs.lemmas.Bool.Decides.{nat_tests}
 use Rattle.std.proofs.lemmas.Int.{ints}
-use Rattle.std.specs.Prelude.{if◌then◌else◌, FitsSigned, ◌+ℤ◌}
-use Rattle.std.specs.Int.{w64}
+use Rattle.std.specs.Prelude.{if◌then◌else◌}
 use Rattle.dvg_words.specs.declared.map.TheConstants.{ADDRESS_END}
 use Rattle.dvg_words.specs.Beam.{shift}
 use Rattle.dvg_words.specs.Decoding.{word_count, InstrFits}

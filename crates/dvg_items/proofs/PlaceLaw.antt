@@ -6,8 +6,8 @@ use Rattle.dvg_words.specs.Beam.{shift, origin}
 use Rattle.dvg_words.specs.declared.beam.Point.{Point}
 use Rattle.dvg_cert.specs.declared.entry.End.{End}
 use Rattle.dvg_cert.specs.declared.entry.End.TheVariants.{Rel, Abs, Lost}
-use Rattle.dvg_items.specs.Items.{Item, Kind, Shape, Frame}
-use Rattle.dvg_items.specs.Known.{Context, Effect, Sets, Loses, Moves, callee, effect_of, first_place, place_before, place_moved_by, place_past, scale_before}
+use Rattle.dvg_items.specs.Items.{Kind, Shape, Frame}
+use Rattle.dvg_items.specs.Known.{Effect, Sets, Loses, Moves, callee, effect_of, first_place, place_moved_by, place_past, scale_before}
 use Rattle.dvg_items.specs.Places.{effects, fixed_place, total_move, PlaceFromAll}
 
 moves_on : (k : End) (d e : Point) → place_moved_by k (shift d e) ≡ place_moved_by (place_moved_by k d) e

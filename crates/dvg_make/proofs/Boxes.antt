@@ -1,19 +1,13 @@
 -- The least box.
 use Rattle.std.proofs.Common.{◌≡◌, List, [], ◌∷◌, ◌++◌, refl, subst, sym, arith}
-use Rattle.std.specs.Prelude.{ℤ}
 use Rattle.std.proofs.lemmas.Int.{ints}
 use Rattle.dvg_words.specs.declared.beam.Point.{Point}
-use Rattle.dvg_words.specs.Beam.{shift}
-use Rattle.dvg_cert.specs.declared.entry.End.{End}
-use Rattle.dvg_cert.specs.declared.entry.End.TheVariants.{Rel}
 use Rattle.dvg_cert.specs.declared.entry.LitBox.{LitBox}
 use Rattle.dvg_cert.specs.declared.entry.LitBox.TheVariants.{Empty, Span}
-use Rattle.dvg_items.specs.declared.lit.LitExtent.{LitExtent}
-use Rattle.dvg_items.specs.declared.lit.LitExtent.TheVariants.{Between}
 use Rattle.dvg_items.specs.Lit.{InBox, IsInside}
 use Rattle.dvg_items.proofs.Lists.{all_map}
 use Rattle.dvg_items.proofs.LeastBoxes.{IsSpanning, IsJoined}
-use Rattle.dvg_make.specs.Least.{HoldsAll, IsLeast}
+use Rattle.dvg_make.specs.Least.{IsLeast}
 
 both_inside : (a b : LitBox) → IsInside a b → IsInside b a → a ≡ b
 both_inside Empty Empty h k = refl

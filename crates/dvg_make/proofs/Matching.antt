@@ -1,21 +1,18 @@
 -- Two lists that have the same entries for what items call know the same after them.
-use Rattle.std.proofs.Common.{◌≡◌, ℕ, suc, List, [], ◌∷◌, ◌++◌, Option, Some, None, refl, sym, ap, ◌∙◌, arith}
-use Rattle.std.specs.Prelude.{Bool, true, false, if◌then◌else◌, Contains}
+use Rattle.std.proofs.Common.{◌≡◌, ℕ, List, [], ◌∷◌, ◌++◌, Option, Some, None, refl, sym, ap, ◌∙◌}
+use Rattle.std.specs.Prelude.{Bool, true, false, if◌then◌else◌}
 use Rattle.dvg_words.specs.declared.beam.Point.{Point}
 use Rattle.std.specs.Option.{option_or}
 use Rattle.dvg_cert.specs.Lookup.{is_at, entry_at, named_entry}
 use Rattle.dvg_cert.specs.declared.entry.Entry.{Entry}
 use Rattle.dvg_cert.specs.declared.entry.Key.{Key}
 use Rattle.dvg_cert.specs.declared.entry.Key.TheVariants.{Any}
-use Rattle.dvg_cert.proofs.OnlyEntries.{at_means}
 use Rattle.dvg_items.specs.Known.{Context, target, callee_at, callee, scale_before, known_before, known_past}
 use Rattle.dvg_items.specs.Lit.{extent_of, relative_corners}
 use Rattle.dvg_items.specs.Seen.{sight, sight_with}
 use Rattle.dvg_items.specs.declared.item.Item.{Item}
 use Rattle.dvg_items.specs.declared.item.Kind.TheVariants.{Shape}
 use Rattle.dvg_items.specs.declared.known.Known.{Known}
-use Rattle.dvg_items.specs.declared.seen.Seen.{Seen}
-use Rattle.dvg_items.proofs.Listed.{Listed, listed_at}
 use Rattle.dvg_make.specs.Least.{lit_points}
 use Rattle.dvg_make.specs.Private.Walking.{keyed_context}
 

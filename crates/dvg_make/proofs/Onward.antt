@@ -1,5 +1,5 @@
 -- A shape in the making, item by item.
-use Rattle.std.proofs.Common.{◌≡◌, ℕ, ◌+◌, ◌<◌, List, [], ◌∷◌, ◌++◌, Option, Some, None, refl, sym, ap, ◌∙◌, subst, arith}
+use Rattle.std.proofs.Common.{◌≡◌, ℕ, ◌<◌, List, [], ◌∷◌, ◌++◌, Option, Some, None, refl, sym, ap, ◌∙◌, subst, arith}
 use Rattle.std.specs.Prelude.{Contains, Result, Ok, Err, OnErr, IfSome}
 use Rattle.std.specs.List.{AllByRecursion}
 use Rattle.dvg_words.specs.Decoding.{cell_at, InstrFits}
@@ -19,7 +19,6 @@ use Rattle.dvg_items.specs.declared.item.Item.{Item}
 use Rattle.dvg_items.specs.declared.item.Kind.TheVariants.{Shape}
 use Rattle.dvg_items.specs.declared.known.Known.{Known}
 use Rattle.dvg_items.specs.declared.seen.Seen.{Seen}
-use Rattle.dvg_items.proofs.Near.{IsNearPlace-more, next_further, next_near}
 use Rattle.dvg_items.proofs.Lists.{at_place}
 use Rattle.dvg_items.proofs.Stepping.{leads_on, ends_at}
 use Rattle.dvg_words.specs.declared.map.TheConstants.{ADDRESS_END}
@@ -27,7 +26,7 @@ use Rattle.dvg_cert.specs.declared.entry.LitBox.{LitBox}
 use Rattle.dvg_items.specs.declared.cursor.Cursor.{Cursor}
 use Rattle.dvg_items.specs.declared.cursor.Step.{Step}
 use Rattle.dvg_items.specs.declared.cursor.Step.TheVariants.{Onward, Last}
-use Rattle.dvg_items.specs.Cursor.{step_to, step_past}
+use Rattle.dvg_items.specs.Cursor.{step_past}
 use Rattle.dvg_items.specs.Lit.{relative_corners}
 use Rattle.dvg_make.specs.declared.walk.Walk.{Walk}
 use Rattle.dvg_make.specs.Least.{lit_points, IsLeast}

@@ -2,16 +2,11 @@
 use Rattle.std.specs.Prelude.{List, [], ◌∷◌, ◌++◌}
 use Rattle.std.specs.List.{AllByRecursion}
 use Rattle.dvg_words.specs.declared.beam.Point.{Point}
-use Rattle.dvg_words.specs.Beam.{shift}
-use Rattle.dvg_cert.specs.declared.entry.End.{End}
-use Rattle.dvg_cert.specs.declared.entry.End.TheVariants.{Rel, Abs, Lost}
 use Rattle.dvg_cert.specs.declared.entry.LitBox.{LitBox}
 use Rattle.dvg_items.specs.declared.item.Item.{Item}
 use Rattle.dvg_items.specs.Known.{Context, place_before}
 use Rattle.dvg_items.specs.Seen.{extent}
 use Rattle.dvg_items.specs.Lit.{InBox, IsInside, relative_corners}
-use Rattle.dvg_items.specs.declared.lit.LitExtent.{LitExtent}
-use Rattle.dvg_items.specs.declared.lit.LitExtent.TheVariants.{Nothing, Between, Anywhere}
 
 -- at relative places, both ends of the lit draws and the shifted corners of the boxes that are called (profile)
 abbrev pub lit_points : Context → List Item → List Point

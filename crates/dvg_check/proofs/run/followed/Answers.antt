@@ -4,7 +4,7 @@ use Rattle.dvg_cert.specs.declared.entry.LitBox.{LitBox}
 use Rattle.dvg_check.specs.Private.Runs.{IsSize, IsSizeBox, IsSized, moved, reach}
 use Rattle.dvg_items.specs.Lit.{IsInside}
 use Rattle.dvg_check.specs.declared.run.Run.{Run}
-use Rattle.dvg_check.proofs.Sizes.{IsSize-shift, IsSizeBox-more, IsSizeBox-moved, IsSizeBox-joined, IsNear-sizes, within_most, box_within_most, reach_more, reach_sum, tells_of_more}
+use Rattle.dvg_check.proofs.Sizes.{IsSize-shift, IsSizeBox-more, IsSizeBox-moved, IsSizeBox-joined, within_most, box_within_most, reach_more, reach_sum, tells_of_more}
 use Rattle.dvg_check.proofs.run.followed.Goals as goal
 
 -- the run that follows, seen from the place before the first, both told at one local scale

@@ -1,5 +1,5 @@
 use Rattle.std.proofs.Common.{sym}
-use Rattle.dvg_check.proofs.Loop.{broken, onward, done, passed}
+use Rattle.dvg_check.proofs.Loop.{onward, done, passed}
 use Rattle.dvg_check.proofs.walk.walk.Goals as goal
 
 pub returns-in-Ok-Last-clause-ok : goal.returns-in-Ok-Last-clause-ok
