@@ -100,7 +100,7 @@ pub fn run_make<R: CountedRead, W: CountedWrite>(
     let Ok(bytes) = read_image(rom) else {
         return Err(MakeRunFault::ReadRom);
     };
-    let cert = make_for(alloc, bytes.as_bytes(), roots)?;
+    let cert = make_for(alloc, bytes.as_slice(), roots)?;
     match write_cert(&cert, out) {
         Ok(()) => Ok(()),
         Err(_) => Err(MakeRunFault::Write),

@@ -1,14 +1,14 @@
 //! Reading inputs to their limits.
 
-ghost use Rattle.std.specs.Prelude.{◌≡◌, ◌≤◌, ◌<◌, [], length, take, IfOk, IfSome, is_err};
+ghost use Rattle.std.specs.Prelude.{◌≡◌, ◌≤◌, ◌<◌, length, take, IfOk, IfSome, is_err};
 ghost use Rattle.std.specs.Io.KnownBytes.{Consumes, IsAtEnd};
 ghost use Rattle.dvg_cert.specs.Devices.{count_after};
 ghost use Rattle.dvg_cmd.specs.Private.Reading.{limited, is_failed_read};
 
+use arrayvec::ArrayVec;
 use dvg_cert::CountedRead;
 use std::alloc::Global;
 use std::io;
-use std::marker::Model;
 
 /// Fills the buffer, or less of it where the reader ends before.
 fn fill<R: CountedRead>(reader: &mut R, buf: &mut [u8]) -> io::Result<usize>
@@ -38,57 +38,18 @@ fn read_front<R: CountedRead>(reader: &mut R, buf: &mut [u8]) -> io::Result<usiz
 }
 
 /// The bytes of a ROM or of a frame, up to one past the limit of both, which is 2048.
-#[derive(Drop)]
-pub struct ImageBytes {
-    bytes: [u8; 2049],
-    len: usize,
-}
-
-impl Model for ImageBytes {
-    ghost use Rattle.std.specs.Prelude.{ℕ, ◌≤◌, List, take};
-
-    ghost Value = { List ℕ };
-
-    ghost view = { λ image. take image.len image.bytes };
-
-    ghost invariant = { λ image. image.len ≤ 2049 };
-}
-
-impl ImageBytes {
-    fn new() -> ImageBytes
-        ensures { result ≡ [] }
-    {
-        ImageBytes {
-            bytes: [0; 2049],
-            len: 0,
-        }
-    }
-
-    /// The bytes.
-    pub fn as_bytes(&self) -> &[u8]
-        ensures { result.now ≡ self.now }
-    {
-        &self.bytes[..self.len]
-    }
-
-    /// Reads from the start of what the reader holds.
-    #[tactic(auto, unfolding(crate::specs::Private::Reading::limited))]
-    fn read_from<R: CountedRead>(&mut self, reader: &mut R) -> io::Result<()>
-        ensures bytes { IfOk result (λ _. IfSome (R.remaining reader.old) (λ held. self.new ≡ limited 2049 held)) }
-        ensures count { R.failures reader.new ≡ count_after (is_err result) (R.failures reader.old) }
-    {
-        self.len = read_front(reader, &mut self.bytes)?;
-        Ok(())
-    }
-}
+pub type ImageBytes = ArrayVec<u8, 2049>;
 
 /// The bytes of a ROM or of a frame, up to one past the limit. Takes no memory.
+#[tactic(auto, unfolding(crate::specs::Private::Reading::limited))]
 pub fn read_image<R: CountedRead>(reader: &mut R) -> io::Result<ImageBytes>
-    ensures bytes { IfOk result (λ image. IfSome (R.remaining reader.old) (λ held. image ≡ limited 2049 held)) }
+    ensures bytes { IfOk result (λ image. IfSome (R.remaining reader.old) (λ held. image.items ≡ limited 2049 held)) }
     ensures count { R.failures reader.new ≡ count_after (is_err result) (R.failures reader.old) }
 {
-    let mut image = ImageBytes::new();
-    image.read_from(reader)?;
+    let mut bytes = [0; 2049];
+    let len = read_front(reader, &mut bytes)?;
+    let mut image = ImageBytes::from_array_in((), bytes);
+    image.truncate(len);
     Ok(image)
 }
 

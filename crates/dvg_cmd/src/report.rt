@@ -8,7 +8,8 @@ ghost use Rattle.dvg_cmd.specs.Report.{report_text, verdict_text, accepted_text,
 use crate::making::MakeRunFault;
 use crate::running::RunFault;
 use crate::status::message_of;
-use dvg_cert::{CertFault, Key};
+use arrayvec::ArrayVec;
+use dvg_cert::{CertFault, Key, push_bytes};
 use dvg_check::{FrameFault, Refusal, ShapeFault, Yes};
 use dvg_make::MakeFault;
 use dvg_words::ImageFault;
@@ -18,18 +19,17 @@ use std::marker::Model;
 /// A line of at most 64 bytes, its LF included.
 #[derive(Drop)]
 pub struct Report {
-    bytes: [u8; 64],
-    len: usize,
+    line: ArrayVec<u8, 64>,
 }
 
 impl Model for Report {
-    ghost use Rattle.std.specs.Prelude.{ℕ, ◌≤◌, List, take};
+    ghost use Rattle.std.specs.Prelude.{ℕ, ◌≤◌, List, length};
 
     ghost Value = { List ℕ };
 
-    ghost view = { λ r. take r.len r.bytes };
+    ghost view = { λ r. r.line.items };
 
-    ghost invariant = { λ r. r.len ≤ 64 };
+    ghost invariant = { λ r. length r.line.items ≤ 64 };
 }
 
 impl Report {
@@ -37,8 +37,7 @@ impl Report {
         ensures { result ≡ [] }
     {
         Report {
-            bytes: [0; 64],
-            len: 0,
+            line: ArrayVec::new(),
         }
     }
 
@@ -47,16 +46,14 @@ impl Report {
         ensures bytes { result.now ≡ self.now }
         ensures short { length result.now ≤ 64 }
     {
-        &self.bytes[..self.len]
+        self.line.as_slice()
     }
 
     fn push(&mut self, text: &[u8])
         requires { length self.old + length text.now ≤ 64 }
         ensures { self.new ≡ self.old ++ text.now }
     {
-        let end = self.len + text.len();
-        self.bytes[self.len..end].copy_from_slice(text);
-        self.len = end;
+        push_bytes(&mut self.line, text);
     }
 
     fn push_decimal(&mut self, number: u32)

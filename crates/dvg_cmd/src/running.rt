@@ -136,9 +136,9 @@ pub fn run_check<R1: CountedRead, R2: CountedRead, R3: CountedRead, W: CountedWr
     };
     let verdict = check(
         alloc,
-        rom_bytes.as_bytes(),
+        rom_bytes.as_slice(),
         &cert_bytes,
-        frame_bytes.as_bytes(),
+        frame_bytes.as_slice(),
         budget,
     );
     write_report(&verdict, out)

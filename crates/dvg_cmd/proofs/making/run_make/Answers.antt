@@ -4,12 +4,12 @@ use Rattle.dvg_cmd.proofs.making.run_make.Goals as goal
 
 pub returns-in_err-cert-clause-refused : goal.returns-in_err-cert-clause-refused
 returns-in_err-cert-clause-refused g c =
-    means_told 2049 (omega arith) (g.R.Read.remaining c.args.rom.now) c.in-Ok.bytes c.in-Ok.ensures.bytes c.args.roots.now c.from_residual.result c.in_err-cert.field-0.0 c.from_residual.ensures.1 (rw (c.as_bytes.ensures) at c.in_err-cert.ensures.refused)
+    means_told 2049 (omega arith) (g.R.Read.remaining c.args.rom.now) c.in-Ok.bytes.items c.in-Ok.ensures.bytes c.args.roots.now c.from_residual.result c.in_err-cert.field-0.0 c.from_residual.ensures.1 (rw (c.as_slice.ensures.value) at c.in_err-cert.ensures.refused)
 
 pub returns-in-Ok-write_cert-clause-text : goal.returns-in-Ok-write_cert-clause-text
 returns-in-Ok-write_cert-clause-text g c =
-    makes_text 2049 (omega arith) (g.R.Read.remaining c.args.rom.now) c.in-Ok.bytes c.in-Ok.ensures.bytes c.args.roots.now c.in_ok-cert.cert (rw (c.as_bytes.ensures) at c.in_ok-cert.ensures.ok) (g.W.Write.contents c.args.out.now) (g.W.Write.contents c.write_cert.new.out) c.in-Ok-write_cert.ensures.ok
+    makes_text 2049 (omega arith) (g.R.Read.remaining c.args.rom.now) c.in-Ok.bytes.items c.in-Ok.ensures.bytes c.args.roots.now c.in_ok-cert.cert (rw (c.as_slice.ensures.value) at c.in_ok-cert.ensures.ok) (g.W.Write.contents c.args.out.now) (g.W.Write.contents c.write_cert.new.out) c.in-Ok-write_cert.ensures.ok
 
 pub returns-clause-front : goal.returns-clause-front
 returns-clause-front g c = λ e.
-    makes_front 2049 (omega arith) (g.R.Read.remaining c.args.rom.now) c.in-Ok.bytes c.in-Ok.ensures.bytes c.args.roots.now c.in_ok-cert.cert (rw (c.as_bytes.ensures) at c.in_ok-cert.ensures.ok) (g.W.Write.contents c.args.out.now) (g.W.Write.contents c.write_cert.new.out) c.in-Err.ensures.front
+    makes_front 2049 (omega arith) (g.R.Read.remaining c.args.rom.now) c.in-Ok.bytes.items c.in-Ok.ensures.bytes c.args.roots.now c.in_ok-cert.cert (rw (c.as_slice.ensures.value) at c.in_ok-cert.ensures.ok) (g.W.Write.contents c.args.out.now) (g.W.Write.contents c.write_cert.new.out) c.in-Err.ensures.front
