@@ -18,6 +18,26 @@ const FRAME: &[u8] = &[0x80, 0xA0, 0x00, 0x00, 0x00, 0xC8, 0xB0, 0xB0];
 const CERT: &[u8] =
     b"dvgcert 1\nshape 800 0 end rel 1047552 785408 box 0 1047552 0 785408 depth 0 words 3 scale 0\ndone 1\n";
 
+/// The box of 800, moved by 0,0.
+const CALLED_BOX: LitExtent = LitExtent::Between {
+    from: Point::ORIGIN,
+    to: Point {
+        x: 1047552,
+        y: 785408,
+    },
+};
+
+/// What is known past the call.
+const PAST_CALL: Known = Known {
+    place: End::Abs {
+        x: 1047552,
+        y: 916480,
+    },
+    scale: Key::At(0),
+    words: 6,
+    depth: 1,
+};
+
 /// What the rules see of the item at a cursor.
 fn look(frame: &FrameImage, entries: &ListIndex, cursor: &Cursor) -> Result<Seen, Fail>
     requires entries { IsSomeCertificate entries.now }
@@ -46,24 +66,8 @@ fn goes_over_a_frame(rt: HostRuntime) -> Result<(), Fail> {
         return Err(Fail::new("a LABS is not the last item"));
     };
     let call = look(&frame, &index, &cursor)?;
-    let lit = LitExtent::Between {
-        from: Point::ORIGIN,
-        to: Point {
-            x: 1047552,
-            y: 785408,
-        },
-    };
-    assert_eq!(rt; (cursor.at, call.extent), (2, lit));
-    let known = Known {
-        place: End::Abs {
-            x: 1047552,
-            y: 916480,
-        },
-        scale: Key::At(0),
-        words: 6,
-        depth: 1,
-    };
-    assert_eq!(rt; call.after, known);
+    assert_eq!(rt; (cursor.at, call.extent), (2, CALLED_BOX));
+    assert_eq!(rt; call.after, PAST_CALL);
     assert!(rt; place_known(&call.extent, &call.place) && scale_known(&call.extent));
     assert!(rt; has_callee(target(Kind::Frame, &call.item.instr), &call.callee));
     assert_eq!(rt; depth_under(&call.item.instr, &call.callee), 1);
@@ -77,7 +81,7 @@ fn goes_over_a_frame(rt: HostRuntime) -> Result<(), Fail> {
     assert!(rt; halt.after.words <= 7);
     assert_eq!(rt;
         halt.step(Kind::Frame),
-        Step::Last(Known { words: 7, ..known })
+        Step::Last(Known { words: 7, ..PAST_CALL })
     );
     Ok(())
 }
