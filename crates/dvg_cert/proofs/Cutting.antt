@@ -69,13 +69,13 @@ parts_at c (x ∷ f) ys = let r = parts_at c f ys in (ap (λ (zs : List ℕ). x 
 placed_parts : (c i : ℕ) (f ys xs : List ℕ) → xs ≡ f ++ c ∷ ys → length f ≡ i → Without c f → (xs ≡ take i xs ++ c ∷ drop (i + 1) xs) × Without c (take i xs)
 placed_parts c i f ys xs e n free =
     let p = parts_at c f ys in
-    let front : take i xs ≡ f = ap (λ (k : ℕ). take k xs) (sym n) ∙ ap (take (length f)) e ∙ p.0 in
+    let prefix : take i xs ≡ f = ap (λ (k : ℕ). take k xs) (sym n) ∙ ap (take (length f)) e ∙ p.0 in
     let back : drop (suc i) xs ≡ ys = ap (λ (k : ℕ). drop (suc k) xs) (sym n) ∙ ap (drop (suc (length f))) e ∙ p.1 in
-    (rw (add-one, front, back) e, subst (Without c) (sym front) free)
+    (rw (add-one, prefix, back) e, subst (Without c) (sym prefix) free)
 
--- the same, looked for in the front alone
-pub found_in_front : (c n : ℕ) (xs : List ℕ) (i : ℕ) → n ≤ length xs → position (λ b. b == c) (take n xs) ≡ Some i → (xs ≡ take i xs ++ c ∷ drop (i + 1) xs) × Without c (take i xs) × (i < n)
-found_in_front c n xs i le e =
+-- the same, looked for in the prefix alone
+pub found_in_prefix : (c n : ℕ) (xs : List ℕ) (i : ℕ) → n ≤ length xs → position (λ b. b == c) (take n xs) ≡ Some i → (xs ≡ take i xs ++ c ∷ drop (i + 1) xs) × Without c (take i xs) × (i < n)
+found_in_prefix c n xs i le e =
     let f = found_at c (take n xs) i e in
     let lt : i < n = omega (arith, f.2, length-take-le n xs le) in
     let whole : xs ≡ take i (take n xs) ++ c ∷ (drop (i + 1) (take n xs) ++ drop n xs) =

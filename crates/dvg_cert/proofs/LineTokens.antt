@@ -78,12 +78,12 @@ five a b c d e p q r s t = (p, (q, (r, (s, (t, tt)))))
 
 pub graphics_entry : (first last : ℕ) (e : Entry) → IsEntry first last e → Graphics (entry_tokens e)
 graphics_entry first last e h =
-    let front : Graphics (codes "shape" ∷ address_token e.addr ∷ key_token e.key ∷ codes "end" ∷ end_tokens e.stop) = (five 115 104 97 112 101 (lit< tt) (lit< tt) (lit< tt) (lit< tt) (lit< tt), (graphic_hex e.addr, (graphic_key e.key h.key, ((lit< tt, (lit< tt, (lit< tt, tt))), graphics_end e.stop h.stop)))) in
+    let prefix : Graphics (codes "shape" ∷ address_token e.addr ∷ key_token e.key ∷ codes "end" ∷ end_tokens e.stop) = (five 115 104 97 112 101 (lit< tt) (lit< tt) (lit< tt) (lit< tt) (lit< tt), (graphic_hex e.addr, (graphic_key e.key h.key, ((lit< tt, (lit< tt, (lit< tt, tt))), graphics_end e.stop h.stop)))) in
     let middle : Graphics (codes "box" ∷ box_tokens e.lit) = ((lit< tt, (lit< tt, (lit< tt, tt))), graphics_box e.lit h.lit) in
     let back : Graphics (codes "depth" ∷ decimal e.depth ∷ codes "words" ∷ decimal e.words ∷ codes "scale" ∷ key_token e.scale ∷ []) =
     (five 100 101 112 116 104 (lit< tt) (lit< tt) (lit< tt) (lit< tt) (lit< tt), (graphic_decimal e.depth (omega (arith, h.depth)), (five 119 111 114 100 115 (lit< tt) (lit< tt) (lit< tt) (lit< tt) (lit< tt), (graphic_decimal e.words (omega (arith, h.words_high)), (five 115 99 97 108 101 (lit< tt) (lit< tt) (lit< tt) (lit< tt) (lit< tt), (graphic_key e.scale h.scale, tt)))))) in
     Graphics-append (codes "shape" ∷ address_token e.addr ∷ key_token e.key ∷ codes "end" ∷ end_tokens e.stop ++ codes "box" ∷ box_tokens e.lit) (codes "depth" ∷ decimal e.depth ∷ codes "words" ∷ decimal e.words ∷ codes "scale" ∷ key_token e.scale ∷ [])
-    (Graphics-append (codes "shape" ∷ address_token e.addr ∷ key_token e.key ∷ codes "end" ∷ end_tokens e.stop) (codes "box" ∷ box_tokens e.lit) front middle) back
+    (Graphics-append (codes "shape" ∷ address_token e.addr ∷ key_token e.key ∷ codes "end" ∷ end_tokens e.stop) (codes "box" ∷ box_tokens e.lit) prefix middle) back
 
 split_at_free : (c : ℕ) (xs ys : Text) → Without c xs → slice_split (λ b. b == c) (xs ++ c ∷ ys) ≡ xs ∷ slice_split (λ b. b == c) ys
 split_at_free c [] ys h = slice_split-cons_yes (λ b. b == c) c ys (grind (arith, nat_tests))

@@ -44,12 +44,12 @@ Frees [] = Unit {0}
 Frees (l ∷ ls) = Without LINE_FEED l × Frees ls
 
 -- lines and a tail are other lines and a rest: then they are the first of those lines
-pub lines_front : (ls ms : List (List ℕ)) (tail rest : List ℕ) → Frees ls → Frees ms → Without LINE_FEED rest → lines_text ls ++ tail ≡ lines_text ms ++ rest → (more : List (List ℕ)) × (ms ≡ ls ++ more) × (tail ≡ lines_text more ++ rest)
-lines_front [] ms tail rest h k free e = (ms, refl, e)
-lines_front (l ∷ ls) [] tail rest h k free e = absurd (no_cut l (lines_text ls ++ tail) rest free (sym (append_assoc l (LINE_FEED ∷ lines_text ls) tail) ∙ e))
-lines_front (l ∷ ls) (m ∷ ms) tail rest h k free e =
+pub lines_prefix : (ls ms : List (List ℕ)) (tail rest : List ℕ) → Frees ls → Frees ms → Without LINE_FEED rest → lines_text ls ++ tail ≡ lines_text ms ++ rest → (more : List (List ℕ)) × (ms ≡ ls ++ more) × (tail ≡ lines_text more ++ rest)
+lines_prefix [] ms tail rest h k free e = (ms, refl, e)
+lines_prefix (l ∷ ls) [] tail rest h k free e = absurd (no_cut l (lines_text ls ++ tail) rest free (sym (append_assoc l (LINE_FEED ∷ lines_text ls) tail) ∙ e))
+lines_prefix (l ∷ ls) (m ∷ ms) tail rest h k free e =
     let c = cut_once l (lines_text ls ++ tail) m (lines_text ms ++ rest) h.0 k.0 (sym (append_assoc l (LINE_FEED ∷ lines_text ls) tail) ∙ e ∙ append_assoc m (LINE_FEED ∷ lines_text ms) rest) in
-    let r = lines_front ls ms tail rest h.1 k.1 free c.1 in
+    let r = lines_prefix ls ms tail rest h.1 k.1 free c.1 in
     (r.0, cc (c.0, r.1), r.2)
 
 -- a line says one thing

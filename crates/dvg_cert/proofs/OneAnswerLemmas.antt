@@ -14,7 +14,7 @@ use Rattle.dvg_cert.specs.declared.fault.CertWhy.{CertWhy}
 use Rattle.dvg_cert.specs.declared.fault.CertWhy.TheVariants.{Form, Order, Count, Unended, After, TooLong, Memory}
 use Rattle.dvg_cert.proofs.LineTokens.{line_free, graphics_entry, graphic_decimal}
 use Rattle.dvg_cert.proofs.Lengths.{length_entry, length_done}
-use Rattle.dvg_cert.proofs.LinesOfTexts.{cut_once, no_cut, lines_text, Frees, lines_front, entry_lines, lines_of, lines_once, goes_on, Small, small_taken, wrong_goes, same_entry, not_both}
+use Rattle.dvg_cert.proofs.LinesOfTexts.{cut_once, no_cut, lines_text, Frees, lines_prefix, entry_lines, lines_of, lines_once, goes_on, Small, small_taken, wrong_goes, same_entry, not_both}
 
 first_free : Without LINE_FEED first_line
 first_free = (refl, (refl, (refl, (refl, (refl, (refl, (refl, (refl, (refl, tt)))))))))
@@ -91,14 +91,14 @@ longer (z ∷ a) b [] d x h n e = let s : z ≡ LINE_FEED = cc in absurd (grind 
 longer (z ∷ a) b (y ∷ c) d x h n e = omega (arith, longer a b c d x h.1 n (cc))
 
 -- what may stand, and what is in front of it
-front_of : (first last : ℕ) (front text after : List ℕ) (t u : Taken) (rest rest' : List ℕ) → Holds first last front t rest → Holds first last text u rest' → text ≡ front ++ after → (more : List (List ℕ)) × (lines_of u ≡ lines_of t ++ more) × (rest ++ after ≡ lines_text more ++ rest')
-front_of first last front text after t u rest rest' h k e =
-    lines_front (lines_of t) (lines_of u) (rest ++ after) rest' (taken_free first last t h.lines) (taken_free first last u k.lines) (rest_free u rest' k.begun).0
+prefix_of : (first last : ℕ) (prefix text after : List ℕ) (t u : Taken) (rest rest' : List ℕ) → Holds first last prefix t rest → Holds first last text u rest' → text ≡ prefix ++ after → (more : List (List ℕ)) × (lines_of u ≡ lines_of t ++ more) × (rest ++ after ≡ lines_text more ++ rest')
+prefix_of first last prefix text after t u rest rest' h k e =
+    lines_prefix (lines_of t) (lines_of u) (rest ++ after) rest' (taken_free first last t h.lines) (taken_free first last u k.lines) (rest_free u rest' k.begun).0
     (ap (λ (x : List ℕ). x ++ (rest ++ after)) (sym (taken_lines t)) ∙ sym (append_assoc (text_taken t) rest after) ∙ ap (λ (x : List ℕ). x ++ after) (sym h.parts) ∙ sym e ∙ k.parts ∙ ap (λ (x : List ℕ). x ++ rest') (taken_lines u))
 
 -- a text stands in one way
 pub holds_once : (first last : ℕ) (text : List ℕ) (t u : Taken) (rest rest' : List ℕ) → last < ADDRESS_END → Holds first last text t rest → Holds first last text u rest' → (t ≡ u) × (rest ≡ rest')
-holds_once first last text t u rest rest' small h k = same (front_of first last text text [] t u rest rest' h k (sym (append-nil text)))
+holds_once first last text t u rest rest' small h k = same (prefix_of first last text text [] t u rest rest' h k (sym (append-nil text)))
   where
     same : ((more : List (List ℕ)) × (lines_of u ≡ lines_of t ++ more) × (rest ++ [] ≡ lines_text more ++ rest')) → (t ≡ u) × (rest ≡ rest')
     same ([], l, r) = (lines_once first last t u small h.lines k.lines (sym (l ∙ append-nil (lines_of t))), sym (append-nil rest) ∙ r)
@@ -192,13 +192,13 @@ after_not first last from to es u rest rest' after b small h k r ([], l, e) =
 after_not first last from to es u rest rest' after b small h k r ((m ∷ ms), l, e) = goes_on first last (Whole from to es) u m ms small h k l
 
 -- where a byte cannot stand no text stands
-pub no_meet : (first last : ℕ) (front text after : List ℕ) (t u : Taken) (rest rest' : List ℕ) (b : ℕ) (why : CertWhy) → last < ADDRESS_END → Holds first last front t rest → Holds first last text u rest' → text ≡ front ++ b ∷ after → Meets t rest b why → ⊥
-no_meet first last front text after Nothing u rest rest' b why small h k e m = stops_not first last Nothing u rest rest' after b why small tt k.lines h.begun.0 k.begun m (front_of first last front text (b ∷ after) Nothing u rest rest' h k e)
-no_meet first last front text after (Begun from to es) u rest rest' b why small h k e m = stops_not first last (Begun from to es) u rest rest' after b why small h.lines k.lines h.begun.0 k.begun m (front_of first last front text (b ∷ after) (Begun from to es) u rest rest' h k e)
-no_meet first last front text after (Whole from to es) u rest rest' b why small h k e m = after_not first last from to es u rest rest' after b small h.lines k.lines k.begun (front_of first last front text (b ∷ after) (Whole from to es) u rest rest' h k e)
+pub no_meet : (first last : ℕ) (prefix text after : List ℕ) (t u : Taken) (rest rest' : List ℕ) (b : ℕ) (why : CertWhy) → last < ADDRESS_END → Holds first last prefix t rest → Holds first last text u rest' → text ≡ prefix ++ b ∷ after → Meets t rest b why → ⊥
+no_meet first last prefix text after Nothing u rest rest' b why small h k e m = stops_not first last Nothing u rest rest' after b why small tt k.lines h.begun.0 k.begun m (prefix_of first last prefix text (b ∷ after) Nothing u rest rest' h k e)
+no_meet first last prefix text after (Begun from to es) u rest rest' b why small h k e m = stops_not first last (Begun from to es) u rest rest' after b why small h.lines k.lines h.begun.0 k.begun m (prefix_of first last prefix text (b ∷ after) (Begun from to es) u rest rest' h k e)
+no_meet first last prefix text after (Whole from to es) u rest rest' b why small h k e m = after_not first last from to es u rest rest' after b small h.lines k.lines k.begun (prefix_of first last prefix text (b ∷ after) (Whole from to es) u rest rest' h k e)
 
 abbrev pub Stuck : ℕ → ℕ → List ℕ → ℕ → CertWhy → Type 0
-Stuck first last text line why = (front : List ℕ) × (b : ℕ) × (after : List ℕ) × (taken : Taken) × (rest : List ℕ) × (text ≡ front ++ b ∷ after) × Holds first last front taken rest × Meets taken rest b why × (line ≡ line_number taken)
+Stuck first last text line why = (prefix : List ℕ) × (b : ℕ) × (after : List ℕ) × (taken : Taken) × (rest : List ℕ) × (text ≡ prefix ++ b ∷ after) × Holds first last prefix taken rest × Meets taken rest b why × (line ≡ line_number taken)
 
 abbrev pub Open : ℕ → ℕ → List ℕ → ℕ → Type 0
 Open first last text line = (taken : Taken) × (rest : List ℕ) × Holds first last text taken rest × IsUnended taken × (line ≡ line_number taken)

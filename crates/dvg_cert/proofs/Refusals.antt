@@ -82,7 +82,7 @@ line_fault Memory first last taken line after h u free short w = (no_memory firs
 line_fault Unended first last taken line after h u free short w = absurd (never_unended taken line w)
 line_fault After first last taken line after h u free short w = absurd (never_after taken line w)
 
--- a front of what is free, and the element after it
+-- a prefix of what is free, and the element after it
 next_free : (n : ℕ) (xs : List ℕ) → n < length xs → Without LINE_FEED (take (suc n) xs) → (xs ≡ take n xs ++ get_or xs n 0 ∷ drop (suc n) xs) × Without LINE_FEED (take n xs) × (get_or xs n 0 ≢ LINE_FEED)
 next_free n [] lt h = absurd (omega arith)
 next_free zero (x ∷ xs) lt h = (refl, tt, λ e. absurd (grind (arith, nat_tests)))
@@ -145,10 +145,10 @@ first_at first last Later es taken line s v h l = absurd cc
 first_at first last Ended es taken line s v h l = absurd cc
 
 -- a line whose end has come, and that is refused
-pub line_refused : (why : CertWhy) (first last : ℕ) (taken : Taken) (begun rest front after : List ℕ) → IsTaken first last taken → IsUnended taken → IsRest taken begun → rest ≡ front ++ LINE_FEED ∷ after → Without LINE_FEED front → length front < LONGEST_LINE - length begun → IsLineRefused taken (begun ++ front) why
+pub line_refused : (why : CertWhy) (first last : ℕ) (taken : Taken) (begun rest prefix after : List ℕ) → IsTaken first last taken → IsUnended taken → IsRest taken begun → rest ≡ prefix ++ LINE_FEED ∷ after → Without LINE_FEED prefix → length prefix < LONGEST_LINE - length begun → IsLineRefused taken (begun ++ prefix) why
     → IsRefusal first last (text_taken taken ++ (begun ++ rest)) (line_number taken) why × (why ≢ Unended)
-line_refused why first last taken begun rest front after h u r e free short w =
+line_refused why first last taken begun rest prefix after h u r e free short w =
     let s = rest_is taken begun u r in
-    let f = line_fault why first last taken (begun ++ front) after h u (Without-append LINE_FEED begun front s.0 free) (omega (arith, length-append begun front)) w in
-    let parts : text_taken taken ++ (begun ++ rest) ≡ text_taken taken ++ ((begun ++ front) ++ LINE_FEED ∷ after) = ap (λ (t : List ℕ). text_taken taken ++ t) (ap (λ (t : List ℕ). begun ++ t) e ∙ sym (append_assoc begun front (LINE_FEED ∷ after))) in
+    let f = line_fault why first last taken (begun ++ prefix) after h u (Without-append LINE_FEED begun prefix s.0 free) (omega (arith, length-append begun prefix)) w in
+    let parts : text_taken taken ++ (begun ++ rest) ≡ text_taken taken ++ ((begun ++ prefix) ++ LINE_FEED ∷ after) = ap (λ (t : List ℕ). text_taken taken ++ t) (ap (λ (t : List ℕ). begun ++ t) e ∙ sym (append_assoc begun prefix (LINE_FEED ∷ after))) in
     subst (λ (t : List ℕ). IsRefusal first last t (line_number taken) why × (why ≢ Unended)) (sym parts) f

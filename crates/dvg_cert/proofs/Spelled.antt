@@ -8,7 +8,7 @@ use Rattle.std.specs.Io.KnownBytes.{Appends}
 use Rattle.dvg_cert.specs.Limits.{LINE_FEED, SPACE}
 use Rattle.dvg_cert.specs.Entry.{Entry}
 use Rattle.dvg_cert.specs.Grammar.{entry_line, end_tokens, box_tokens, address_token, key_token, ended, begun_with, text_of, done_line, first_line}
-use Rattle.dvg_cert.specs.Devices.{AppendsFront}
+use Rattle.dvg_cert.specs.Devices.{AppendsPrefix}
 use Rattle.dvg_cert.specs.Private.Writing.{spaced}
 use Rattle.std.proofs.Math.Seq.{take-length, take-append-add}
 use Rattle.dvg_cert.proofs.Rising.{begun_push}
@@ -24,13 +24,13 @@ spaced-append [] vs = refl
 spaced-append (w ∷ ws) vs = ap (λ (t : List ℕ). SPACE ∷ (w ++ t)) (spaced-append ws vs) ∙ ap (λ (t : List ℕ). SPACE ∷ t) (sym (append_assoc w (spaced ws) (spaced vs)))
 
 -- a piece of a text was written in part
-pub sent_part : (old mid new : Option (List ℕ)) (text front piece tail : List ℕ) → text ≡ front ++ (piece ++ tail) → Appends old mid front → AppendsFront mid new piece → AppendsFront old new text
-sent_part old mid new text front piece tail e h s =
+pub sent_part : (old mid new : Option (List ℕ)) (text prefix piece tail : List ℕ) → text ≡ prefix ++ (piece ++ tail) → Appends old mid prefix → AppendsPrefix mid new piece → AppendsPrefix old new text
+sent_part old mid new text prefix piece tail e h s =
     let n : ℕ = s.0 in
-    let parts : take (length front + n) text ≡ front ++ take n piece =
-    ap (take (length front + n)) e ∙ take-append-add front (piece ++ tail) n ∙ ap (λ (t : List ℕ). front ++ t) (take-append-le n piece tail s.1) in
-    let size : length text ≡ length front + (length piece + length tail) = ap length e ∙ length-append front (piece ++ tail) ∙ ap (λ (k : ℕ). length front + k) (length-append piece tail) in
-    (length front + n, omega (arith, size, s.1), subst (λ (t : List ℕ). Appends old new t) (sym parts) (Appends-trans old mid new front (take n piece) h s.2))
+    let parts : take (length prefix + n) text ≡ prefix ++ take n piece =
+    ap (take (length prefix + n)) e ∙ take-append-add prefix (piece ++ tail) n ∙ ap (λ (t : List ℕ). prefix ++ t) (take-append-le n piece tail s.1) in
+    let size : length text ≡ length prefix + (length piece + length tail) = ap length e ∙ length-append prefix (piece ++ tail) ∙ ap (λ (k : ℕ). length prefix + k) (length-append piece tail) in
+    (length prefix + n, omega (arith, size, s.1), subst (λ (t : List ℕ). Appends old new t) (sym parts) (Appends-trans old mid new prefix (take n piece) h s.2))
 
 -- the text of a certificate from an entry on
 pub text_at : (es : List Entry) (i : ℕ) (d : Entry) → i < length es → text_of es ≡ begun_with (take i es) ++ (ended (entry_line (get_or es i d)) ++ (flat_map (λ e. ended (entry_line e)) (drop (suc i) es) ++ ended (done_line (length es))))
@@ -70,12 +70,12 @@ pub sent_err : {X E P : Type 0} (r : Result X E) → P → OnErr r P
 sent_err (Ok x) p = tt
 sent_err (Err e) p = p
 
-pub text_first : (es : List Entry) (old new : Option (List ℕ)) → AppendsFront old new (ended first_line) → AppendsFront old new (text_of es)
+pub text_first : (es : List Entry) (old new : Option (List ℕ)) → AppendsPrefix old new (ended first_line) → AppendsPrefix old new (text_of es)
 text_first es old new s =
     let e : text_of es ≡ ended first_line ++ (flat_map (λ e. ended (entry_line e)) es ++ ended (done_line (length es))) = ap (λ (t : List ℕ). t ++ ended (done_line (length es))) (first_part es) ∙ append_assoc (ended first_line) (flat_map (λ e. ended (entry_line e)) es) (ended (done_line (length es))) in
     sent_part old old new (text_of es) [] (ended first_line) (flat_map (λ e. ended (entry_line e)) es ++ ended (done_line (length es))) e (Appends-nil old) s
 
-pub entry_sent : (old mid new : Option (List ℕ)) (es cert : List Entry) (i : ℕ) (d : Entry) (piece : List ℕ) → es ≡ cert → i < length es → piece ≡ ended (entry_line (get_or es i d)) → Appends old mid (begun_with (take i es)) → AppendsFront mid new piece → AppendsFront old new (text_of cert)
+pub entry_sent : (old mid new : Option (List ℕ)) (es cert : List Entry) (i : ℕ) (d : Entry) (piece : List ℕ) → es ≡ cert → i < length es → piece ≡ ended (entry_line (get_or es i d)) → Appends old mid (begun_with (take i es)) → AppendsPrefix mid new piece → AppendsPrefix old new (text_of cert)
 entry_sent old mid new es cert i d piece same lt p h s =
     let tail : List ℕ = flat_map (λ e. ended (entry_line e)) (drop (suc i) es) ++ ended (done_line (length es)) in
     let e : text_of cert ≡ begun_with (take i es) ++ (piece ++ tail) = ap text_of (sym same) ∙ text_at es i d lt ∙ ap (λ (t : List ℕ). begun_with (take i es) ++ (t ++ tail)) (sym p) in
@@ -88,7 +88,7 @@ entry_written old mid new es i d piece lt p h k =
 all_of : (es cert : List Entry) (i : ℕ) → es ≡ cert → i ≡ length es → take i es ≡ cert
 all_of es cert i same all = ap (λ (n : ℕ). take n es) all ∙ take-length es ∙ same
 
-pub done_sent : (old mid new : Option (List ℕ)) (es cert : List Entry) (i n : ℕ) (piece : List ℕ) → es ≡ cert → i ≡ length es → n ≡ length es → piece ≡ ended (done_line n) → Appends old mid (begun_with (take i es)) → AppendsFront mid new piece → AppendsFront old new (text_of cert)
+pub done_sent : (old mid new : Option (List ℕ)) (es cert : List Entry) (i n : ℕ) (piece : List ℕ) → es ≡ cert → i ≡ length es → n ≡ length es → piece ≡ ended (done_line n) → Appends old mid (begun_with (take i es)) → AppendsPrefix mid new piece → AppendsPrefix old new (text_of cert)
 done_sent old mid new es cert i n piece same all m p h s =
     let a : begun_with cert ≡ begun_with (take i es) = ap begun_with (sym (all_of es cert i same all)) in
     let q : ended (done_line (length cert)) ≡ piece = ap (λ (k : ℕ). ended (done_line k)) (ap length (sym same) ∙ sym m) ∙ sym p in

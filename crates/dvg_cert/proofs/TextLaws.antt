@@ -10,7 +10,7 @@ use Rattle.dvg_cert.specs.declared.fault.CertFault.{CertFault}
 use Rattle.dvg_cert.specs.Entry.{Entry}
 use Rattle.dvg_cert.specs.Grammar.{done_line, begun_with, text_of}
 use Rattle.dvg_cert.specs.Reading.{Taken, Nothing, Begun, Whole, text_taken, line_number, Without, IsTaken, IsRest, Holds, MayStand, IsRefusal, ReadAnswer}
-use Rattle.dvg_cert.specs.Laws.{NotMemory, OneAnswer, ShortText, FrontRefusal, CutRefusal}
+use Rattle.dvg_cert.specs.Laws.{NotMemory, OneAnswer, ShortText, PrefixRefusal, CutRefusal}
 use Rattle.dvg_cert.proofs.Rising.{same_rom}
 use Rattle.dvg_cert.proofs.LinesOfTexts.{lines_text, Frees, entry_lines, lines_of}
 use Rattle.dvg_cert.proofs.OneAnswerLemmas.{taken_free, taken_lines, Shorts, taken_short, rest_free, spelled_once, spelled_fault, fault_once, Stuck, standing_fault}
@@ -22,7 +22,7 @@ same_fault f g p q = made f.line g.line f.why g.why p q
     made : (l m : ℕ) (w v : CertWhy) → l ≡ m → w ≡ v → ◌≡◌ {A = CertFault} (record { line = l; why = w }) (record { line = m; why = v })
     made l m w v p q = cc
 
--- two answers that are not want of memory are one
+-- two answers that are not out of memory are one
 pub answers_once : (first last : ℕ) (text : List ℕ) (a b : Result (List Entry) CertFault) → last < ADDRESS_END → ReadAnswer first last text a → NotMemory a → ReadAnswer first last text b → NotMemory b → a ≡ b
 answers_once first last text (Ok es) (Ok fs) small h n k m = ap Ok (spelled_once first last es fs text small h k)
 answers_once first last text (Ok es) (Err f) small h n k m = absurd (spelled_fault first last es text f.line f.why small h m k)
@@ -121,23 +121,23 @@ short_text = λ first last text small m.
     omega (arith, parts, all, short_lines (lines_of taken) (taken_short first last taken h.lines), few_lines first last taken rest h.lines h.begun)
 
 -- a byte that cannot come stays where it is
-stuck_stays : (why : CertWhy) (first last : ℕ) (front after : List ℕ) (line : ℕ) → Stuck first last front line why → Stuck first last (front ++ after) line why
-stuck_stays why first last front after line s =
+stuck_stays : (why : CertWhy) (first last : ℕ) (prefix after : List ℕ) (line : ℕ) → Stuck first last prefix line why → Stuck first last (prefix ++ after) line why
+stuck_stays why first last prefix after line s =
     (s.0, s.1, s.2 ++ after, s.3, s.4, ap (λ (x : List ℕ). x ++ after) s.5 ∙ append_assoc s.0 (s.1 ∷ s.2) after, s.6, s.7, s.8)
 
 -- so does a refusal, its end aside
-refusal_stays : (why : CertWhy) (first last : ℕ) (front after : List ℕ) (line : ℕ) → IsRefusal first last front line why → why ≢ Unended → IsRefusal first last (front ++ after) line why
-refusal_stays Memory first last front after line h n =
+refusal_stays : (why : CertWhy) (first last : ℕ) (prefix after : List ℕ) (line : ℕ) → IsRefusal first last prefix line why → why ≢ Unended → IsRefusal first last (prefix ++ after) line why
+refusal_stays Memory first last prefix after line h n =
     (h.0, h.1 ++ after, h.2, h.3, ap (λ (x : List ℕ). x ++ after) h.4 ∙ append_assoc (begun_with h.0) h.1 after, h.5)
-refusal_stays Unended first last front after line h n = absurd (n refl)
-refusal_stays Form first last front after line h n = stuck_stays Form first last front after line h
-refusal_stays Order first last front after line h n = stuck_stays Order first last front after line h
-refusal_stays Count first last front after line h n = stuck_stays Count first last front after line h
-refusal_stays After first last front after line h n = stuck_stays After first last front after line h
-refusal_stays TooLong first last front after line h n = stuck_stays TooLong first last front after line h
+refusal_stays Unended first last prefix after line h n = absurd (n refl)
+refusal_stays Form first last prefix after line h n = stuck_stays Form first last prefix after line h
+refusal_stays Order first last prefix after line h n = stuck_stays Order first last prefix after line h
+refusal_stays Count first last prefix after line h n = stuck_stays Count first last prefix after line h
+refusal_stays After first last prefix after line h n = stuck_stays After first last prefix after line h
+refusal_stays TooLong first last prefix after line h n = stuck_stays TooLong first last prefix after line h
 
-pub front_refusal : FrontRefusal
-front_refusal = λ first last front after f h n. refusal_stays f.why first last front after f.line h n
+pub prefix_refusal : PrefixRefusal
+prefix_refusal = λ first last prefix after f h n. refusal_stays f.why first last prefix after f.line h n
 
 -- an open text may stand
 open_stands : (why : CertWhy) (first last : ℕ) (text : List ℕ) (line : ℕ) → IsRefusal first last text line why → why ≡ Unended → MayStand first last text
@@ -152,4 +152,4 @@ open_stands TooLong first last text line h e = absurd cc
 pub cut_refusal : CutRefusal
 cut_refusal = λ first last text piece after new f answer small h never k m.
     let not_end : f.why ≢ Unended = λ e. never (h.1 (open_stands f.why first last (text ++ piece) f.line h.0 e)) in
-    answers_once first last ((text ++ piece) ++ after) answer (Err f) small k m (front_refusal first last (text ++ piece) after f h.0 not_end) never
+    answers_once first last ((text ++ piece) ++ after) answer (Err f) small k m (prefix_refusal first last (text ++ piece) after f h.0 not_end) never

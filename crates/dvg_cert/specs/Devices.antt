@@ -17,6 +17,6 @@ abbrev pub write_failed : {E : Type 0} → Result ℕ E → List ℕ → Bool
 write_failed (Ok n) bytes = (n == 0) && not (length bytes == 0)
 write_failed (Err e) bytes = true
 
--- a front of these bytes was written
-abbrev pub AppendsFront : Option (List ℕ) → Option (List ℕ) → List ℕ → Type 0
-AppendsFront old new bytes = (n : ℕ) × (n ≤ length bytes) × Appends old new (take n bytes)
+-- a prefix of these bytes was written
+abbrev pub AppendsPrefix : Option (List ℕ) → Option (List ℕ) → List ℕ → Type 0
+AppendsPrefix old new bytes = (n : ℕ) × (n ≤ length bytes) × Appends old new (take n bytes)

@@ -25,27 +25,27 @@ abbrev pub NotMemory : Result (List Entry) CertFault → Type 0
 NotMemory (Ok es) = Unit {0}
 NotMemory (Err f) = f.why ≢ Memory
 
--- each text has exactly one answer that is not want of memory
+-- each text has exactly one answer that is not out of memory
 abbrev pub OneAnswer : Type 0
 OneAnswer = (first last : ℕ) (text : List ℕ) → last < ADDRESS_END
     → (answer : Result (List Entry) CertFault) × ReadAnswer first last text answer × NotMemory answer
     × ((other : Result (List Entry) CertFault) → ReadAnswer first last text other → NotMemory other → other ≡ answer)
 
--- what is written is read back: each answer to a list's text that is not want of memory is that list
+-- what is written is read back: each answer to a list's text that is not out of memory is that list
 abbrev pub ReadBack : Type 0
 ReadBack = (first last : ℕ) (es : List Entry) (text : List ℕ) (answer : Result (List Entry) CertFault)
     → last < ADDRESS_END → Spells first last es text → ReadAnswer first last text answer → NotMemory answer
     → answer ≡ Ok es
 
--- a text whose whole lines were all taken is refused for its end alone, want of memory aside
+-- a text whose whole lines were all taken is refused for its end alone, running out of memory aside
 abbrev pub OpenAnswer : Type 0
 OpenAnswer = (first last : ℕ) (text : List ℕ) (f : CertFault) → last < ADDRESS_END → MayStand first last text
     → ReadAnswer first last text (Err f) → f.why ≢ Memory → f.why ≡ Unended
 
--- a front of a text whose whole lines were all taken is such a text
-abbrev pub OpenFront : Type 0
-OpenFront = (first last : ℕ) (front after : List ℕ) → last < ADDRESS_END → MayStand first last (front ++ after)
-    → MayStand first last front
+-- a prefix of a text whose whole lines were all taken is such a text
+abbrev pub OpenPrefix : Type 0
+OpenPrefix = (first last : ℕ) (prefix after : List ℕ) → last < ADDRESS_END → MayStand first last (prefix ++ after)
+    → MayStand first last prefix
 
 -- the number of the line that a text has come to is one plus the number of its LFs
 abbrev pub LineNumber : Type 0
@@ -57,12 +57,12 @@ abbrev pub ShortText : Type 0
 ShortText = (first last : ℕ) (text : List ℕ) → last < ADDRESS_END → MayStand first last text
     → length text ≤ (MOST_ENTRIES + 2) * LONGEST_LINE
 
--- a refusal of a front of a text, its end aside, is a refusal of the text
-abbrev pub FrontRefusal : Type 0
-FrontRefusal = (first last : ℕ) (front after : List ℕ) (f : CertFault) → ReadAnswer first last front (Err f)
-    → f.why ≢ Unended → ReadAnswer first last (front ++ after) (Err f)
+-- a refusal of a prefix of a text, its end aside, is a refusal of the text
+abbrev pub PrefixRefusal : Type 0
+PrefixRefusal = (first last : ℕ) (prefix after : List ℕ) (f : CertFault) → ReadAnswer first last prefix (Err f)
+    → f.why ≢ Unended → ReadAnswer first last (prefix ++ after) (Err f)
 
--- the refusal of a piece is the answer to every text that goes on from it, however it is cut, want of memory aside
+-- the refusal of a piece is the answer to every text that goes on from it, however it is cut, running out of memory aside
 abbrev pub CutRefusal : Type 0
 CutRefusal = (first last : ℕ) (text piece after : List ℕ) (new : Stream) (f : CertFault) (answer : Result (List Entry) CertFault)
     → last < ADDRESS_END → FeedsTo first last (Open text) piece new (Err f) → f.why ≢ Memory

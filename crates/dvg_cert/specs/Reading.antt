@@ -1,4 +1,4 @@
--- The reader's answer, by what a front of the text is. The first and the last word address are those of the ROM that a
+-- The reader's answer, by what a prefix of the text is. The first and the last word address are those of the ROM that a
 -- text of this version speaks of; the lines that were taken keep them.
 use Rattle.std.specs.Prelude.{◌≡◌, ◌≢◌, ℕ, ◌+◌, ◌-◌, ◌<◌, ◌≤◌, ◌⊎◌, List, [], ◌∷◌, ◌++◌, length, false, ◌==◌, Result, Ok, Err}
 use Rattle.dvg_cert.specs.Limits.{MOST_ENTRIES, LONGEST_LINE, LINE_FEED}
@@ -16,7 +16,7 @@ abbrev pub IsLine : ℕ → ℕ → Line → List ℕ → Type 0
 IsLine first last (lines.Entry e) bytes = IsEntry first last e × (bytes ≡ entry_line e)
 IsLine first last (lines.Done n) bytes = (n ≤ MOST_ENTRIES) × (bytes ≡ done_line n)
 
--- the lines of a front: none, those to an entry of a ROM from one address to another, or all (profile)
+-- the lines of a prefix: none, those to an entry of a ROM from one address to another, or all (profile)
 pub data Taken : Type 0 where
   Nothing : Taken
   Begun : ℕ → ℕ → List Entry → Taken
@@ -82,12 +82,12 @@ Meets taken rest b why = ((b ≢ LINE_FEED) × (length rest ≡ LONGEST_LINE - 1
 abbrev pub HasEntryAt : ℕ → ℕ → List ℕ → ℕ → Type 0
 HasEntryAt first last text line = (es : List Entry) × (after : List ℕ) × IsCertificate first last es × (0 < length es) × (text ≡ begun_with es ++ after) × (line ≡ length es + 1)
 
--- a line and a reason to refuse the text: want of memory at an entry's line, the end of an open text, or the first byte
+-- a line and a reason to refuse the text: out of memory at an entry's line, the end of an open text, or the first byte
 -- that cannot come (profile)
 abbrev pub IsRefusal : ℕ → ℕ → List ℕ → ℕ → CertWhy → Type 0
 IsRefusal first last text line Memory = HasEntryAt first last text line
 IsRefusal first last text line Unended = (taken : Taken) × (rest : List ℕ) × Holds first last text taken rest × IsUnended taken × (line ≡ line_number taken)
-IsRefusal first last text line why = (front : List ℕ) × (b : ℕ) × (after : List ℕ) × (taken : Taken) × (rest : List ℕ) × (text ≡ front ++ b ∷ after) × Holds first last front taken rest × Meets taken rest b why × (line ≡ line_number taken)
+IsRefusal first last text line why = (prefix : List ℕ) × (b : ℕ) × (after : List ℕ) × (taken : Taken) × (rest : List ℕ) × (text ≡ prefix ++ b ∷ after) × Holds first last prefix taken rest × Meets taken rest b why × (line ≡ line_number taken)
 
 -- the reader's answer: the list that is spelled, or a refusal (profile)
 abbrev pub ReadAnswer : ℕ → ℕ → List ℕ → Result (List Entry) CertFault → Type 0

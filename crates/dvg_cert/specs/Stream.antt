@@ -10,7 +10,7 @@ pub data Stream : Type 0 where
   Open : List ℕ → Stream
   Refused : CertFault → Stream
 
--- a piece is taken exactly where the whole lines of the bytes so far and the piece can be taken, want of memory aside;
+-- a piece is taken exactly where the whole lines of the bytes so far and the piece can be taken, running out of memory aside;
 -- else the answer is that to the two together, and each later call has it too (profile)
 abbrev pub FeedsTo : ℕ → ℕ → Stream → List ℕ → Stream → Result (Unit {0}) CertFault → Type 0
 FeedsTo first last (Refused f) piece new result = (new ≡ Refused f) × (result ≡ Err f)

@@ -1,6 +1,6 @@
 //! The laws of texts and of look-ups, proved over the definitions alone.
 
-ghost use Rattle.dvg_cert.specs.Laws.{OneText, OneList, OneAnswer, ReadBack, OpenAnswer, OpenFront, LineNumber, ShortText, FrontRefusal, CutRefusal, OnlyEntry};
+ghost use Rattle.dvg_cert.specs.Laws.{OneText, OneList, OneAnswer, ReadBack, OpenAnswer, OpenPrefix, LineNumber, ShortText, PrefixRefusal, CutRefusal, OnlyEntry};
 
 /// Each list of a certificate has exactly one text.
 pub fn one_text()
@@ -12,24 +12,24 @@ pub fn one_list()
     ensures { OneList }
 {}
 
-/// Each text has exactly one answer of the reader, want of memory aside.
+/// Each text has exactly one answer of the reader, running out of memory aside.
 pub fn one_answer()
     ensures { OneAnswer }
 {}
 
-/// The text of a list, as `write_cert` writes it, is read back as that list, want of memory aside.
+/// The text of a list, as `write_cert` writes it, is read back as that list, running out of memory aside.
 pub fn read_back()
     ensures { ReadBack }
 {}
 
-/// A text whose whole lines were all taken is refused for its end alone, want of memory aside.
+/// A text whose whole lines were all taken is refused for its end alone, running out of memory aside.
 pub fn open_answer()
     ensures { OpenAnswer }
 {}
 
-/// A front of a text whose whole lines were all taken is such a text.
-pub fn open_front()
-    ensures { OpenFront }
+/// A prefix of a text whose whole lines were all taken is such a text.
+pub fn open_prefix()
+    ensures { OpenPrefix }
 {}
 
 /// The line that a text has come to is one plus the number of its line ends.
@@ -42,12 +42,12 @@ pub fn short_text()
     ensures { ShortText }
 {}
 
-/// A refusal of a front of a text, its end aside, is a refusal of the text.
-pub fn front_refusal()
-    ensures { FrontRefusal }
+/// A refusal of a prefix of a text, its end aside, is a refusal of the text.
+pub fn prefix_refusal()
+    ensures { PrefixRefusal }
 {}
 
-/// The refusal of a piece is the answer to every text that goes on from it, want of memory aside, however it was cut.
+/// The refusal of a piece is the answer to every text that goes on from it, running out of memory aside, however it was cut.
 pub fn cut_refusal()
     ensures { CutRefusal }
 {}

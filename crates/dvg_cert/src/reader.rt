@@ -146,16 +146,16 @@ fn fault_after(line: u32, rest: &[u8]) -> Option<CertFault>
 }
 
 /// Takes the line of what was begun and of these bytes. A whole line of the piece is read where it lies.
-fn take_begun(lines: &mut TakenLines, begun: &mut LineBuffer, front: &[u8]) -> Result<(), CertWhy>
+fn take_begun(lines: &mut TakenLines, begun: &mut LineBuffer, prefix: &[u8]) -> Result<(), CertWhy>
     requires open { IsUnended lines.old }
-    requires short { length begun.old.items + length front.now < LONGEST_LINE }
-    ensures line { TakesLine asteroids.rom_first asteroids.rom_last lines.old (begun.old.items ++ front.now) lines.new result }
+    requires short { length begun.old.items + length prefix.now < LONGEST_LINE }
+    ensures line { TakesLine asteroids.rom_first asteroids.rom_last lines.old (begun.old.items ++ prefix.now) lines.new result }
     ensures empty { OnOk result (begun.new.items ≡ []) }
 {
     if begun.is_empty() {
-        return lines.take_line(front);
+        return lines.take_line(prefix);
     }
-    push_bytes(begun, front);
+    push_bytes(begun, prefix);
     lines.take_line(begun.as_slice())?;
     begun.clear();
     Ok(())

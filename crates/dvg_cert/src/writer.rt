@@ -3,7 +3,7 @@
 ghost use Rattle.std.specs.Prelude.{◌≡◌, ◌<◌, ◌≤◌, ◌+◌, ◌∷◌, ◌++◌, length, true, decimal, OnOk, OnErr, is_err};
 ghost use Rattle.std.specs.Fmt.{signed_decimal, digit_glyph};
 ghost use Rattle.std.specs.Io.KnownBytes.{Appends};
-ghost use Rattle.dvg_cert.specs.Devices.{count_after, AppendsFront};
+ghost use Rattle.dvg_cert.specs.Devices.{count_after, AppendsPrefix};
 ghost use Rattle.arrayvec.specs.ArrayVec.{array_vec_len};
 ghost use Rattle.dvg_words.specs.Values.{asteroids};
 ghost use Rattle.dvg_cert.specs.Entry.{IsNumber, IsKey, IsEnd, IsBox, IsEntry};
@@ -21,10 +21,10 @@ use itoa::Buffer;
 
 /// Writes all of the bytes, by as many writes as it takes, and nothing else. Takes no memory.
 ///
-/// At the first write that fails it ends with `Device`, and a front of the bytes was written: nothing is sent again.
+/// At the first write that fails it ends with `Device`, and a prefix of the bytes was written: nothing is sent again.
 pub fn write_bytes<W: CountedWrite>(bytes: &[u8], out: &mut W) -> Result<(), WriteFault>
     ensures ok { OnOk result (Appends (W.contents out.old) (W.contents out.new) bytes.now) }
-    ensures front { OnErr result (AppendsFront (W.contents out.old) (W.contents out.new) bytes.now) }
+    ensures prefix { OnErr result (AppendsPrefix (W.contents out.old) (W.contents out.new) bytes.now) }
 
     // An error comes exactly where a write failed in this call.
     ensures count { W.failures out.new ≡ count_after (is_err result) (W.failures out.old) }
@@ -44,10 +44,10 @@ pub fn write_bytes<W: CountedWrite>(bytes: &[u8], out: &mut W) -> Result<(), Wri
 
 /// Writes the text of a certificate, and nothing else. Takes no memory.
 ///
-/// At the first write that fails it ends with `Device`, and a front of the text was written: nothing is sent again.
+/// At the first write that fails it ends with `Device`, and a prefix of the text was written: nothing is sent again.
 pub fn write_cert<W: CountedWrite>(cert: &Cert, out: &mut W) -> Result<(), WriteFault>
     ensures ok { OnOk result (Appends (W.contents out.old) (W.contents out.new) (text_of cert.now)) }
-    ensures front { OnErr result (AppendsFront (W.contents out.old) (W.contents out.new) (text_of cert.now)) }
+    ensures prefix { OnErr result (AppendsPrefix (W.contents out.old) (W.contents out.new) (text_of cert.now)) }
 
     // An error comes exactly where a write failed in this call.
     ensures count { W.failures out.new ≡ count_after (is_err result) (W.failures out.old) }

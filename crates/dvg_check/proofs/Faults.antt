@@ -1,4 +1,4 @@
--- The items of a shape or of a frame are determined: so a walk to the last one has sight them all, and there is one first
+-- The items of a shape or of a frame are determined: so a walk to the last one has met them all, and there is one first
 -- fault at the most.
 use Rattle.std.proofs.Common.{List, Option, length, refl, sym, arith, ap, None, subst, suc, ◌≡◌, ◌+◌, ◌<◌, ◌∷◌, ◌++◌, ◌∙◌, ℕ, ⊎_elim, []}
 use Rattle.std.proofs.lemmas.Bool.{cases_lt}
@@ -38,7 +38,7 @@ module _ (kind : Kind) (word : ℕ → Option ℕ) (first : ℕ) (Why : Type 0) 
     pub fault_or_none : (at : ℕ) (why : Why) → FaultAt order kind word first keeps at why → AllKeep kind word first keeps → ⊥
     fault_or_none at why f all = f.breaks (all f.items at f.leads why)
 
-    -- the fault of fewer items stretch first
+    -- the fault after fewer items comes first
     not_before : (p q : ℕ) (u v : Why) → (f : FaultAt order kind word first keeps p u) → (g : FaultAt order kind word first keeps q v) → length f.items < length g.items → ⊥
     not_before p q u v f g less = f.breaks (shorter kind word first AllKept g.items q g.leads g.before f.items p f.leads less u)
 

@@ -88,7 +88,7 @@ in_box_at : (box : LitBox) (base d : Point) → InBox box d → InBox (box_at bo
 in_box_at Empty base d h = h
 in_box_at (Span x0 x1 y0 y1) base d h = record { left = omega (arith, ints, h.left); right = omega (arith, ints, h.right); bottom = omega (arith, ints, h.bottom); top = omega (arith, ints, h.top) }
 
--- two points that an item extent, sight from where the beam is
+-- what an item lights between two points, seen from where the beam is
 abbrev Both : (Point → Type 0) → Point → Point → Type 0
 Both P a b = P a × P b
 
@@ -117,7 +117,7 @@ box_of_corners Empty p v x0 x1 y0 y1 c h = c.0
 box_of_corners (Span a b d e) p v x0 x1 y0 y1 c h =
     record { left = omega (arith, ints, c.0.left, h.left); right = omega (arith, ints, c.1.right, h.right); bottom = omega (arith, ints, c.0.bottom, h.bottom); top = omega (arith, ints, c.1.top, h.top) }
 
--- what a after_call shape may light, the caller may
+-- what a called shape may light, the caller may
 allowed_up : (w : Window) (inner box : LitBox) (base p : Point) (k : End) → PlaceFits k base p → PlaceKnown (box_extent inner) k → LitInWindow w (box_extent inner) k → LitInBox box (box_extent inner) k → (stroke : Stroke) → LitFits w inner p stroke → LitFits w box base stroke
 allowed_up w inner box base p k h known shown boxed stroke (inl on) = inl on
 allowed_up w Empty box base p k h known shown boxed stroke (inr on) = absurd on.0
@@ -127,7 +127,7 @@ allowed_up w (Span x0 x1 y0 y1) box base p k h known shown boxed stroke (inr on)
     (λ c. inr (box_of_corners (box_at box base) p stroke.from x0 x1 y0 y1 c on.0, box_of_corners (box_at box base) p stroke.to x0 x1 y0 y1 c on.1))
     (lit_points w box base p _ _ k h known shown boxed)
 
--- what a draw extent
+-- what a draw lights
 fits_apart : (base p q d : Point) (k : End) → k ≢ Lost → PlaceFits k base p → PlaceFits (place_moved_by k d) base q → q ≡ shift p d
 fits_apart base p q d (Rel x y) n h g = g ∙ sym (shift_shift base (record { x = x; y = y }) d) ∙ ap (λ v. shift v d) (sym h)
 fits_apart base p q d (Abs x y) n h g = g ∙ ap (λ v. shift v d) (sym h)
@@ -221,7 +221,7 @@ lit_item w c box earlier (Jmpl to) base p q kind f h g = tt
 stands_at : (c : Context) (base : Point) (rs : List ℕ) (earlier : List Item) (p q : ℕ) (s : State) → p ≡ q → Stands c base rs earlier p s → Stands c base rs earlier q s
 stands_at c base rs earlier p q s e st = record { pc = st.pc ∙ e; return_stack = st.return_stack; room = st.room; place = st.place; scale = st.scale }
 
--- where an item callee an entry
+-- where an item calls an entry
 pub called_by : (w : Window) (c : Context) (box : LitBox) (base : Point) (earlier : List Item) (instr : Instr) (f : Entry) (p : Point) → callee c earlier instr ≡ Some f → extent c earlier instr ≡ callee_extent (callee c earlier instr) → Fits w c box earlier instr → PlaceFits (place_before c earlier) base p → Called w box base (place_before c earlier) f p
 called_by w c box base earlier instr f p is same fits agrees =
     let l : extent c earlier instr ≡ box_extent f.lit = same ∙ ap callee_extent is in
@@ -232,7 +232,7 @@ called_by w c box base earlier instr f p is same fits agrees =
       boxed = subst (λ x. LitInBox box x (place_before c earlier)) l fits.boxed;
     }
 
--- what is known after an item that callee an entry
+-- what is known after an item that calls an entry
 pub after_entry : (c : Context) (base : Point) (earlier : List Item) (i : Item) (o : Option Entry) (f : Entry) (p q : Point) (scale : ℕ) → o ≡ Some f → effect c earlier i.instr ≡ callee_effect o → PlaceFits (place_before c earlier) base p → PlaceFits f.stop p q → PlaceFits (place_before c (i ∷ earlier)) base q
 after_entry c base earlier i o f p q scale is same agrees fits =
     let e : place_before c (i ∷ earlier) ≡ place_past (stop_effect f.stop) (place_before c earlier) = ap (λ x. place_past x (place_before c earlier)) (same ∙ ap callee_effect is) in

@@ -276,7 +276,7 @@ module _ (Why : Type 0) (Keeps : Seen → Why → Type 0) (word : ℕ → Option
         sound = record { at = r.near lt; place = IsNearPlace-more (at + 1) (at + run.words) (run_sight run f start first).after.place (omega (arith, more)) near; scale = sound.scale; words = few; depth = sound.depth };
       }
 
--- a run whose sight keeps all rules
+-- a run that keeps all rules, seen as one item
 pub passes : (Why : Type 0) (Keeps : Seen → Why → Type 0) (word : ℕ → Option ℕ) (before : Known) (g f : ℕ) (run : Run) (first : Item) (seen : Seen) → before.scale ≡ At g → seen ≡ run_sight run f before first → IsRun word first.at run → (run.words ≡ 0 → ⊥) → IsFactor run.lowest run.highest g f → first.at < 4096 → IsSoundCursor (record { at = first.at; known = before }) → ((v : Seen) → IsPart v seen → (why : Why) → Keeps v why) → IsNearPlace (first.at + 1) seen.after.place → seen.after.words ≤ 1000000 → PassesTo Keeps word first.at before (first.at + run.words) seen.after
 passes Why Keeps word before g f run first seen scale is r some fits lt sound keeps near few =
     let start : Known = record { place = before.place; scale = At g; words = before.words; depth = before.depth } in

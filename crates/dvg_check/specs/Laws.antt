@@ -144,7 +144,7 @@ OneCount =
     (w : Window) (words : List ℕ) (list : List Entry) (budget count depth count' depth' : ℕ)
     → GoodFrame w words list budget count depth → GoodFrame w words list budget count' depth' → SameCounts count depth count' depth'
 
--- there is one verdict at the most, want of memory aside
+-- there is one verdict at the most, running out of memory aside
 abbrev pub OneVerdict : Type 0
 OneVerdict =
     (mode : Mode) (map : MemoryMap) (w : Window) (rom cert words : List ℕ) (budget : ℕ) (a b : Result Yes Refusal)

@@ -64,7 +64,7 @@ pub fn one_count()
     ensures { OneCount }
 {}
 
-/// There is one verdict at the most, want of memory aside.
+/// There is one verdict at the most, running out of memory aside.
 pub fn one_verdict()
     ensures { OneVerdict }
 {

@@ -4,21 +4,21 @@ use Rattle.std.specs.Prelude.{IfSome, IfErr, IsErrAnd, Result, Ok, Err}
 use Rattle.dvg_words.specs.Memory.{IsRomLength, rom_of}
 use Rattle.dvg_words.specs.Values.{asteroids}
 use Rattle.std.specs.Io.KnownBytes.{Appends}
-use Rattle.dvg_cert.specs.Devices.{AppendsFront}
+use Rattle.dvg_cert.specs.Devices.{AppendsPrefix}
 use Rattle.dvg_cert.specs.Grammar.{text_of}
 use Rattle.dvg_cert.specs.declared.entry.Entry.{Entry}
 use Rattle.dvg_cert.specs.declared.entry.Key.{Key}
 use Rattle.dvg_make.specs.Made.{Made}
 use Rattle.dvg_make.specs.Refusals.{Refuses}
-use Rattle.dvg_cmd.specs.Making.{Makes, MakesText, MakesFront, MakeFaultMeans, MakeRunFault}
+use Rattle.dvg_cmd.specs.Making.{Makes, MakesText, MakesPrefix, MakeFaultMeans, MakeRunFault}
 use Rattle.dvg_cmd.specs.Private.Reading.{limited}
 use Rattle.dvg_cmd.specs.declared.making.MakeRunFault.TheVariants as fault
-use Rattle.dvg_cmd.proofs.Whole.{held_bytes, held_told, front_of_held}
+use Rattle.dvg_cmd.proofs.Whole.{held_bytes, held_told, prefix_of_held}
 
 module _ (n : ℕ) (past : 2049 ≤ n) (rom : Option (List ℕ)) (rb : List ℕ) (read : IfSome rom (λ held. rb ≡ limited n held)) (roots : List (ℕ × Key)) where
   -- what was read is all, where it is a ROM's length
   read_whole : IsRomLength asteroids (length rb) → rb ≡ held_bytes rom rb
-  read_whole h = (front_of_held n rom rb read).short (omega (arith, h, past))
+  read_whole h = (prefix_of_held n rom rb read).short (omega (arith, h, past))
 
   abbrev makes : (list : List Entry) → IsRomLength asteroids (length rb) × Made (rom_of asteroids rb) roots list → Makes rom roots
   makes list h =
@@ -33,13 +33,13 @@ module _ (n : ℕ) (past : 2049 ≤ n) (rom : Option (List ℕ)) (rb : List ℕ)
   pub makes_text : (list : List Entry) → IsRomLength asteroids (length rb) × Made (rom_of asteroids rb) roots list → (old new : Option (List ℕ)) → Appends old new (text_of list) → MakesText rom roots old new
   makes_text list h old new written = (makes list h, written)
 
-  pub makes_front : (list : List Entry) → IsRomLength asteroids (length rb) × Made (rom_of asteroids rb) roots list → (old new : Option (List ℕ)) → AppendsFront old new (text_of list) → MakesFront rom roots old new
-  makes_front list h old new written = (makes list h, written)
+  pub makes_prefix : (list : List Entry) → IsRomLength asteroids (length rb) × Made (rom_of asteroids rb) roots list → (old new : Option (List ℕ)) → AppendsPrefix old new (text_of list) → MakesPrefix rom roots old new
+  makes_prefix list h old new written = (makes list h, written)
 
   means : (f : MakeRunFault) → MakeFaultMeans (Some rb) roots f → MakeFaultMeans rom roots f
   means fault.RomLength h =
       let same : h.0 ≡ rb = h.1 in
-      (held_bytes rom rb, held_told rom rb, λ long. h.2 (subst (λ (x : List ℕ). IsRomLength asteroids (length x)) (sym ((front_of_held n rom rb read).long (omega (arith, long, past))) ∙ sym same) long))
+      (held_bytes rom rb, held_told rom rb, λ long. h.2 (subst (λ (x : List ℕ). IsRomLength asteroids (length x)) (sym ((prefix_of_held n rom rb read).long (omega (arith, long, past))) ∙ sym same) long))
   means (fault.Make f) h =
       let same : h.0 ≡ rb = h.1 in
       let long : IsRomLength asteroids (length rb) = subst (λ (x : List ℕ). IsRomLength asteroids (length x)) same h.2 in

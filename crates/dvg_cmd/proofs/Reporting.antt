@@ -5,8 +5,8 @@ use Rattle.std.specs.Prelude.{IfSome, Result, OnOk, IfOk, Ok, Err, OnErr}
 use Rattle.dvg_words.specs.Beam.{screen}
 use Rattle.dvg_words.specs.Memory.{IsRomLength, IsFrameLength, words_of, rom_of}
 use Rattle.dvg_words.specs.Values.{asteroids}
-use Rattle.dvg_cert.specs.Devices.{AppendsFront}
-use Rattle.dvg_cert.specs.Laws.{ShortText, FrontRefusal}
+use Rattle.dvg_cert.specs.Devices.{AppendsPrefix}
+use Rattle.dvg_cert.specs.Laws.{ShortText, PrefixRefusal}
 use Rattle.dvg_cert.specs.declared.fault.CertWhy.{CertWhy}
 use Rattle.dvg_cert.specs.declared.fault.CertWhy.TheVariants.{Form, Order, Count, Unended, After, TooLong, Memory}
 use Rattle.dvg_check.specs.Safety.{Safe}
@@ -17,14 +17,14 @@ use Rattle.dvg_check.specs.declared.verdict.Refusal.TheVariants as refusal
 use Rattle.dvg_check.specs.declared.verdict.Yes.{Yes}
 use Rattle.dvg_cmd.specs.Report.{report_text}
 use Rattle.dvg_cmd.specs.Private.Reading.{limited}
-use Rattle.dvg_cmd.specs.Runs.{Judges, cert_outcome, outcome_of, Reports, ReportsFront, ReportsSafe}
+use Rattle.dvg_cmd.specs.Runs.{Judges, cert_outcome, outcome_of, Reports, ReportsPrefix, ReportsSafe}
 use Rattle.dvg_cmd.specs.declared.running.Outcome.{Outcome}
 use Rattle.dvg_cmd.specs.declared.running.Outcome.TheVariants.{Accepted}
 use Rattle.dvg_cmd.specs.declared.running.RunFault.{RunFault}
 use Rattle.dvg_cmd.specs.declared.running.RunFault.TheVariants as fault
-use Rattle.dvg_cmd.proofs.Whole.{held_bytes, held_told, verdict_whole, front_of_held}
+use Rattle.dvg_cmd.proofs.Whole.{held_bytes, held_told, verdict_whole, prefix_of_held}
 
-module _ (short_text : ShortText) (front_refusal : FrontRefusal) (n m : ℕ) (n_past : 2049 ≤ n) (m_past : 819601 ≤ m) (rom cert frame_held : Option (List ℕ)) (budget : ℕ) (rb cb fb : List ℕ) (rom_read : IfSome rom (λ held. rb ≡ limited n held)) (cert_read : IfSome cert (λ held. cb ≡ limited m held)) (frame_read : IfSome frame_held (λ held. fb ≡ limited n held)) (v : Result Yes Refusal) (is : Verdict Bound asteroids screen rb cb fb budget v) (old new : Option (List ℕ)) where
+module _ (short_text : ShortText) (prefix_refusal : PrefixRefusal) (n m : ℕ) (n_past : 2049 ≤ n) (m_past : 819601 ≤ m) (rom cert frame_held : Option (List ℕ)) (budget : ℕ) (rb cb fb : List ℕ) (rom_read : IfSome rom (λ held. rb ≡ limited n held)) (cert_read : IfSome cert (λ held. cb ≡ limited m held)) (frame_read : IfSome frame_held (λ held. fb ≡ limited n held)) (v : Result Yes Refusal) (is : Verdict Bound asteroids screen rb cb fb budget v) (old new : Option (List ℕ)) where
   judges : Judges rom cert frame_held budget v
   judges =
       record {
@@ -34,23 +34,23 @@ module _ (short_text : ShortText) (front_refusal : FrontRefusal) (n m : ℕ) (n_
         rom_held = held_told rom rb;
         cert_held = held_told cert cb;
         frame_held = held_told frame_held fb;
-        is = verdict_whole short_text front_refusal n m n_past m_past screen budget rb cb fb (held_bytes rom rb) (held_bytes cert cb) (held_bytes frame_held fb) (front_of_held n rom rb rom_read) (front_of_held m cert cb cert_read) (front_of_held n frame_held fb frame_read) v is;
+        is = verdict_whole short_text prefix_refusal n m n_past m_past screen budget rb cb fb (held_bytes rom rb) (held_bytes cert cb) (held_bytes frame_held fb) (prefix_of_held n rom rb rom_read) (prefix_of_held m cert cb cert_read) (prefix_of_held n frame_held fb frame_read) v is;
       }
 
   pub reports : (answer : Result Outcome RunFault) → OnOk answer (Appends old new (report_text v)) → IfOk answer (λ outcome. outcome ≡ outcome_of v) → IfOk answer (Reports rom cert frame_held budget old new)
   reports (Ok outcome) written outcome_is = record { verdict = v; judges = judges; written = written; outcome_is = outcome_is }
   reports (Err why) written outcome_is = tt
 
-  pub reports_front : (answer : Result Outcome RunFault) → OnErr answer (AppendsFront old new (report_text v)) → answer ≡ Err fault.Write → ReportsFront rom cert frame_held budget old new
-  reports_front (Ok outcome) written e = cc
-  reports_front (Err why) written e = record { verdict = v; judges = judges; written = written }
+  pub reports_prefix : (answer : Result Outcome RunFault) → OnErr answer (AppendsPrefix old new (report_text v)) → answer ≡ Err fault.Write → ReportsPrefix rom cert frame_held budget old new
+  reports_prefix (Ok outcome) written e = cc
+  reports_prefix (Err why) written e = record { verdict = v; judges = judges; written = written }
 
 safe_held : (n : ℕ) → 2049 ≤ n → (rom frame_held : Option (List ℕ)) (rb fb : List ℕ) → IfSome rom (λ held. rb ≡ limited n held) → IfSome frame_held (λ held. fb ≡ limited n held) → IsRomLength asteroids (length rb) → IsFrameLength (length fb) → (words depth : ℕ) → Safe (record { frame = words_of fb; rom = rom_of asteroids rb }) screen words depth → IfSome rom (λ r. IfSome frame_held (λ f. Safe (record { frame = words_of f; rom = rom_of asteroids r }) screen words depth))
 safe_held n past None frame_held rb fb rom_read frame_read rom_long frame_long words depth safe = tt
 safe_held n past (Some r) None rb fb rom_read frame_read rom_long frame_long words depth safe = tt
 safe_held n past (Some r) (Some f) rb fb rom_read frame_read rom_long frame_long words depth safe =
-    let same_rom : rb ≡ r = (front_of_held n (Some r) rb rom_read).short (omega (arith, rom_long, past)) in
-    let same_frame : fb ≡ f = (front_of_held n (Some f) fb frame_read).short (omega (arith, frame_long.few, past)) in
+    let same_rom : rb ≡ r = (prefix_of_held n (Some r) rb rom_read).short (omega (arith, rom_long, past)) in
+    let same_frame : fb ≡ f = (prefix_of_held n (Some f) fb frame_read).short (omega (arith, frame_long.few, past)) in
     subst (λ (x : List ℕ). Safe (record { frame = words_of f; rom = rom_of asteroids x }) screen words depth) same_rom (subst (λ (x : List ℕ). Safe (record { frame = words_of x; rom = rom_of asteroids rb }) screen words depth) same_frame safe)
 
 -- no refusal is reported as accepted

@@ -5,7 +5,7 @@ use Rattle.dvg_words.specs.Memory.{IsRomLength, IsFrameLength, words_of, rom_of}
 use Rattle.dvg_words.specs.Values.{Window, asteroids}
 use Rattle.dvg_words.specs.declared.image.ImageFault.TheVariants.{RomLength, FrameLength}
 use Rattle.dvg_cert.specs.Grammar.{Spells, text_of}
-use Rattle.dvg_cert.specs.Laws.{ShortText, FrontRefusal}
+use Rattle.dvg_cert.specs.Laws.{ShortText, PrefixRefusal}
 use Rattle.dvg_cert.specs.Reading.{MayStand, Whole, IsRefusal}
 use Rattle.dvg_cert.specs.declared.entry.Entry.{Entry}
 use Rattle.dvg_cert.specs.declared.fault.CertWhy.{CertWhy}
@@ -18,25 +18,25 @@ use Rattle.dvg_check.specs.declared.verdict.Yes.{Yes}
 use Rattle.dvg_cmd.specs.Private.Reading.{limited}
 use Rattle.dvg_cmd.proofs.Limits.{limited-short, limited-long, rest_of, limited-parts}
 
--- what was read of an input: a front, which is all of it where it or the input stays below the limit
-pub record FrontOf (n : ℕ) (front held : List ℕ) : Type 0 where
+-- what was read of an input: a prefix, which is all of it where it or the input stays below the limit
+pub record PrefixOf (n : ℕ) (prefix held : List ℕ) : Type 0 where
   pub rest : List ℕ
-  pub parts : held ≡ front ++ rest
-  pub short : length front + 1 ≤ n → front ≡ held
-  pub long : length held + 1 ≤ n → front ≡ held
+  pub parts : held ≡ prefix ++ rest
+  pub short : length prefix + 1 ≤ n → prefix ≡ held
+  pub long : length held + 1 ≤ n → prefix ≡ held
 
 -- all that a reader held, or what was read where it does not tell
 abbrev pub held_bytes : Option (List ℕ) → List ℕ → List ℕ
-held_bytes None front = front
-held_bytes (Some held) front = held
+held_bytes None prefix = prefix
+held_bytes (Some held) prefix = held
 
-pub held_told : (remaining : Option (List ℕ)) (front : List ℕ) → IfSome remaining (λ held. held_bytes remaining front ≡ held)
-held_told None front = tt
-held_told (Some held) front = refl
+pub held_told : (remaining : Option (List ℕ)) (prefix : List ℕ) → IfSome remaining (λ held. held_bytes remaining prefix ≡ held)
+held_told None prefix = tt
+held_told (Some held) prefix = refl
 
-pub front_of_held : (n : ℕ) (remaining : Option (List ℕ)) (front : List ℕ) → IfSome remaining (λ held. front ≡ limited n held) → FrontOf n front (held_bytes remaining front)
-front_of_held n None front h = record { rest = []; parts = sym (append-nil front); short = λ lt. refl; long = λ lt. refl }
-front_of_held n (Some held) front h =
+pub prefix_of_held : (n : ℕ) (remaining : Option (List ℕ)) (prefix : List ℕ) → IfSome remaining (λ held. prefix ≡ limited n held) → PrefixOf n prefix (held_bytes remaining prefix)
+prefix_of_held n None prefix h = record { rest = []; parts = sym (append-nil prefix); short = λ lt. refl; long = λ lt. refl }
+prefix_of_held n (Some held) prefix h =
     record {
       rest = rest_of n held;
       parts = limited-parts n held ∙ ap (λ (x : List ℕ). x ++ rest_of n held) (sym h);
@@ -44,7 +44,7 @@ front_of_held n (Some held) front h =
       long = λ lt. h ∙ limited-long n held lt;
     }
 
-module _ (short_text : ShortText) (front_refusal : FrontRefusal) (n m : ℕ) (n_past : 2049 ≤ n) (m_past : 819601 ≤ m) (w : Window) (budget : ℕ) (rb cb fb r c f : List ℕ) (rom : FrontOf n rb r) (cert : FrontOf m cb c) (frame_is : FrontOf n fb f) where
+module _ (short_text : ShortText) (prefix_refusal : PrefixRefusal) (n m : ℕ) (n_past : 2049 ≤ n) (m_past : 819601 ≤ m) (w : Window) (budget : ℕ) (rb cb fb r c f : List ℕ) (rom : PrefixOf n rb r) (cert : PrefixOf m cb c) (frame_is : PrefixOf n fb f) where
   rom_same : IsRomLength asteroids (length rb) → rb ≡ r
   rom_same h = rom.short (omega (arith, h, n_past))
 
@@ -73,9 +73,9 @@ module _ (short_text : ShortText) (front_refusal : FrontRefusal) (n m : ℕ) (n_
   spelled_same : (list : List Entry) → Spells asteroids.rom_first asteroids.rom_last list cb → cb ≡ c
   spelled_same list h = cert_same (Whole asteroids.rom_first asteroids.rom_last list, [], record { parts = h.1 ∙ sym (append-nil (text_of list)); lines = (refl, refl, h.0); begun = refl })
 
-  -- what refuses the front, its end aside, refuses all
+  -- what refuses the prefix, its end aside, refuses all
   goes_on : (line : ℕ) (why : CertWhy) → IsRefusal asteroids.rom_first asteroids.rom_last cb line why → (why ≡ Unended → ⊥) → IsRefusal asteroids.rom_first asteroids.rom_last c line why
-  goes_on line why h other = subst (λ (x : List ℕ). IsRefusal asteroids.rom_first asteroids.rom_last x line why) (sym cert.parts) (front_refusal asteroids.rom_first asteroids.rom_last cb cert.rest (record { line = line; why = why }) h other)
+  goes_on line why h other = subst (λ (x : List ℕ). IsRefusal asteroids.rom_first asteroids.rom_last x line why) (sym cert.parts) (prefix_refusal asteroids.rom_first asteroids.rom_last cb cert.rest (record { line = line; why = why }) h other)
 
   refused_whole : (line : ℕ) (why : CertWhy) → IsRefusal asteroids.rom_first asteroids.rom_last cb line why → IsRefusal asteroids.rom_first asteroids.rom_last c line why
   refused_whole line Unended h = subst (λ (x : List ℕ). IsRefusal asteroids.rom_first asteroids.rom_last x line Unended) (cert_same (h.0, h.1, h.2)) h

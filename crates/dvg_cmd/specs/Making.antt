@@ -8,7 +8,7 @@ use Rattle.dvg_cert.specs.declared.entry.Entry.{Entry}
 use Rattle.dvg_cert.specs.declared.entry.Key.{Key}
 use Rattle.dvg_cert.specs.Entry.{IsKey}
 use Rattle.dvg_cert.specs.Grammar.{address_token, key_token, text_of}
-use Rattle.dvg_cert.specs.Devices.{AppendsFront}
+use Rattle.dvg_cert.specs.Devices.{AppendsPrefix}
 use Rattle.dvg_make.specs.Made.{Made}
 use Rattle.dvg_make.specs.Refusals.{Refuses}
 pub use Rattle.dvg_cmd.specs.declared.making.MakeRunFault.{MakeRunFault}
@@ -46,9 +46,9 @@ pub record Makes (rom : Option (List ℕ)) (roots : List (ℕ × Key)) : Type 0 
 abbrev pub MakesText : Option (List ℕ) → List (ℕ × Key) → Option (List ℕ) → Option (List ℕ) → Type 0
 MakesText rom roots old new = (m : Makes rom roots) × Appends old new (text_of m.list)
 
--- a front of its text was written, and nothing else
-abbrev pub MakesFront : Option (List ℕ) → List (ℕ × Key) → Option (List ℕ) → Option (List ℕ) → Type 0
-MakesFront rom roots old new = (m : Makes rom roots) × AppendsFront old new (text_of m.list)
+-- a prefix of its text was written, and nothing else
+abbrev pub MakesPrefix : Option (List ℕ) → List (ℕ × Key) → Option (List ℕ) → Option (List ℕ) → Type 0
+MakesPrefix rom roots old new = (m : Makes rom roots) × AppendsPrefix old new (text_of m.list)
 
 -- what a fault says of all bytes that a reader held: a wrong length, or what the maker's refusal says
 abbrev pub MakeFaultMeans : Option (List ℕ) → List (ℕ × Key) → MakeRunFault → Type 0

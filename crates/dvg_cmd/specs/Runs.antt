@@ -4,7 +4,7 @@ use Rattle.std.specs.Io.KnownBytes.{Appends}
 use Rattle.dvg_words.specs.Values.{asteroids}
 use Rattle.dvg_words.specs.Beam.{screen}
 use Rattle.dvg_words.specs.Memory.{words_of, rom_of}
-use Rattle.dvg_cert.specs.Devices.{AppendsFront}
+use Rattle.dvg_cert.specs.Devices.{AppendsPrefix}
 use Rattle.dvg_cert.specs.declared.fault.CertWhy.{CertWhy}
 use Rattle.dvg_cert.specs.declared.fault.CertWhy.TheVariants.{Memory}
 use Rattle.dvg_check.specs.declared.verdict.Yes.{Yes}
@@ -67,11 +67,11 @@ pub record Reports (rom cert frame : Option (List ℕ)) (budget : ℕ) (old new 
   pub written : Appends old new (report_text verdict)
   pub outcome_is : outcome ≡ outcome_of verdict
 
--- a front of the report was written, and nothing else
-pub record ReportsFront (rom cert frame : Option (List ℕ)) (budget : ℕ) (old new : Option (List ℕ)) : Type 0 where
+-- a prefix of the report was written, and nothing else
+pub record ReportsPrefix (rom cert frame : Option (List ℕ)) (budget : ℕ) (old new : Option (List ℕ)) : Type 0 where
   pub verdict : Result Yes Refusal
   pub judges : Judges rom cert frame budget verdict
-  pub written : AppendsFront old new (report_text verdict)
+  pub written : AppendsPrefix old new (report_text verdict)
 
 -- an accepted line was written, and every run over these bytes is safe with its counts
 pub record ReportsSafe (rom frame : Option (List ℕ)) (old new : Option (List ℕ)) : Type 0 where

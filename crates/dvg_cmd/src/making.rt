@@ -8,7 +8,7 @@ ghost use Rattle.dvg_cert.specs.Devices.{count_after};
 ghost use Rattle.dvg_cert.specs.declared.entry.Key.{Key as KeyValue};
 ghost use Rattle.dvg_make.specs.Made.{Made};
 ghost use Rattle.dvg_cmd.specs.Numbers.{make_run_number};
-ghost use Rattle.dvg_cmd.specs.Making.{IsRoot, blames_maker_rom, blames_maker_writer, MakesText, MakesFront, MakeFaultMeans};
+ghost use Rattle.dvg_cmd.specs.Making.{IsRoot, blames_maker_rom, blames_maker_writer, MakesText, MakesPrefix, MakeFaultMeans};
 
 use crate::reading::read_image;
 use crate::running::RunFault;
@@ -18,7 +18,7 @@ use dvg_words::RomImage;
 use std::alloc::Global;
 use thiserror::Error;
 
-/// Why a run of the maker wrote no certificate, or a front of it.
+/// Why a run of the maker wrote no certificate, or a prefix of it.
 #[derive(Clone, Copy, Debug, PartialEq, Eq, Error)]
 pub enum MakeRunFault {
     /// 1: the ROM has a wrong length.
@@ -78,7 +78,7 @@ fn make_for(alloc: Global, bytes: &[u8], roots: &[(u16, Key)]) -> Result<Cert, M
 /// Reads a ROM and writes the certificate of the shapes at these roots, and of all that they call or tail jump to.
 ///
 /// The ROM is read to its end, or to one byte past 2048. The first failed read or write ends the run, and nothing is tried
-/// again. On 1, 60 to 63 and 70 nothing was written, on 73 a front of the certificate.
+/// again. On 1, 60 to 63 and 70 nothing was written, on 73 a prefix of the certificate.
 pub fn run_make<R: CountedRead, W: CountedWrite>(
     alloc: Global,
     rom: &mut R,
@@ -89,9 +89,9 @@ pub fn run_make<R: CountedRead, W: CountedWrite>(
     ensures rom_count { R.failures rom.new ≡ count_after (blames_maker_rom result) (R.failures rom.old) }
     ensures out_count { W.failures out.new ≡ count_after (blames_maker_writer result) (W.failures out.old) }
 
-    // What is written is the text of the list that is made for all bytes that the reader held, or a front of it, or nothing.
+    // What is written is the text of the list that is made for all bytes that the reader held, or a prefix of it, or nothing.
     ensures text { OnOk result (MakesText (R.remaining rom.old) roots.now (W.contents out.old) (W.contents out.new)) }
-    ensures front { result ≡ Err MakeRunFault.Write → MakesFront (R.remaining rom.old) roots.now (W.contents out.old) (W.contents out.new) }
+    ensures prefix { result ≡ Err MakeRunFault.Write → MakesPrefix (R.remaining rom.old) roots.now (W.contents out.old) (W.contents out.new) }
     ensures nothing { IfErr result (λ fault. fault ≢ MakeRunFault.Write → Appends (W.contents out.old) (W.contents out.new) []) }
 
     // 1 comes for a wrong length alone, and 60 to 62 only where no list is made.

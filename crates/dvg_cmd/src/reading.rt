@@ -29,9 +29,9 @@ fn fill<R: CountedRead>(reader: &mut R, buf: &mut [u8]) -> io::Result<usize>
 }
 
 /// Fills the buffer, or less of it where the reader ends before, with the first of the bytes that the reader holds.
-fn read_front<R: CountedRead>(reader: &mut R, buf: &mut [u8]) -> io::Result<usize>
+fn read_prefix<R: CountedRead>(reader: &mut R, buf: &mut [u8]) -> io::Result<usize>
     ensures within { IfOk result (λ n. n ≤ length buf.new) }
-    ensures front { IfOk result (λ n. IfSome (R.remaining reader.old) (λ held. take n buf.new ≡ take (length buf.old) held)) }
+    ensures prefix { IfOk result (λ n. IfSome (R.remaining reader.old) (λ held. take n buf.new ≡ take (length buf.old) held)) }
     ensures count { R.failures reader.new ≡ count_after (is_err result) (R.failures reader.old) }
 {
     fill(reader, buf)
@@ -47,7 +47,7 @@ pub fn read_image<R: CountedRead>(reader: &mut R) -> io::Result<ImageBytes>
     ensures count { R.failures reader.new ≡ count_after (is_err result) (R.failures reader.old) }
 {
     let mut bytes = [0; 2049];
-    let len = read_front(reader, &mut bytes)?;
+    let len = read_prefix(reader, &mut bytes)?;
     let mut image = ImageBytes::from_array_in((), bytes);
     image.truncate(len);
     Ok(image)
@@ -73,7 +73,7 @@ pub fn read_text<R: CountedRead>(
     let Ok(mut bytes) = vec![in alloc; 0u8; most] else {
         return Err(TextFault::Memory);
     };
-    let Ok(len) = read_front(reader, &mut bytes) else {
+    let Ok(len) = read_prefix(reader, &mut bytes) else {
         return Err(TextFault::Read);
     };
     bytes.truncate(len);

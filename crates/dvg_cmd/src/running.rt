@@ -2,15 +2,15 @@
 
 ghost use Rattle.std.specs.Prelude.{◌≡◌, ◌≢◌, [], Ok, Err, IfOk, IfErr, OnOk, OnErr, is_err};
 ghost use Rattle.std.specs.Io.KnownBytes.{Appends};
-ghost use Rattle.dvg_cert.specs.Devices.{count_after, AppendsFront};
+ghost use Rattle.dvg_cert.specs.Devices.{count_after, AppendsPrefix};
 ghost use Rattle.dvg_cmd.specs.Numbers.{run_number};
 ghost use Rattle.dvg_cmd.specs.Report.{report_text};
-ghost use Rattle.dvg_cmd.specs.Runs.{outcome_of, blames_rom, blames_frame, blames_certificate, blames_writer, Reports, ReportsFront, ReportsSafe};
+ghost use Rattle.dvg_cmd.specs.Runs.{outcome_of, blames_rom, blames_frame, blames_certificate, blames_writer, Reports, ReportsPrefix, ReportsSafe};
 
 use crate::reading::{TextFault, read_image, read_text};
 use crate::report::report_of;
 use crate::status::text_of;
-use dvg_cert::laws::{front_refusal, short_text};
+use dvg_cert::laws::{prefix_refusal, short_text};
 use dvg_cert::{CertWhy, CountedRead, CountedWrite, write_bytes};
 use dvg_check::{Refusal, Yes, check};
 use std::alloc::Global;
@@ -23,7 +23,7 @@ pub enum Outcome {
     Accepted,
     /// A refusal.
     Refused,
-    /// A refusal for want of memory for the certificate's entries, 16.
+    /// A refusal because memory ran out for the certificate's entries, 16.
     NoMemory,
 }
 
@@ -79,7 +79,7 @@ fn write_report<W: CountedWrite>(
 ) -> Result<Outcome, RunFault>
     ensures ok { OnOk result (Appends (W.contents out.old) (W.contents out.new) (report_text verdict.now)) }
     ensures outcome { IfOk result (λ outcome. outcome ≡ outcome_of verdict.now) }
-    ensures front { OnErr result (AppendsFront (W.contents out.old) (W.contents out.new) (report_text verdict.now)) }
+    ensures prefix { OnErr result (AppendsPrefix (W.contents out.old) (W.contents out.new) (report_text verdict.now)) }
     ensures fault { IfErr result (λ fault. fault ≡ RunFault.Write) }
     ensures count { W.failures out.new ≡ count_after (is_err result) (W.failures out.old) }
 {
@@ -94,7 +94,7 @@ fn write_report<W: CountedWrite>(
 ///
 /// Each input is read to its end, or to one byte past its limit: 2048 bytes for a ROM and a frame, 1,048,576 for a
 /// certificate. The first failed read or write ends the run, and nothing is tried again. On 70, 71, 72 and 74 nothing
-/// was written, on 73 a front of the report.
+/// was written, on 73 a prefix of the report.
 pub fn run_check<R1: CountedRead, R2: CountedRead, R3: CountedRead, W: CountedWrite>(
     alloc: Global,
     rom: &mut R1,
@@ -109,10 +109,10 @@ pub fn run_check<R1: CountedRead, R2: CountedRead, R3: CountedRead, W: CountedWr
     ensures frame_count { R3.failures frame.new ≡ count_after (blames_frame result) (R3.failures frame.old) }
     ensures out_count { W.failures out.new ≡ count_after (blames_writer result) (W.failures out.old) }
 
-    // What is written is the report of the verdict on all bytes that the readers held, or a front of it, or nothing.
+    // What is written is the report of the verdict on all bytes that the readers held, or a prefix of it, or nothing.
     ensures report { IfOk result (Reports (R1.remaining rom.old) (R2.remaining cert.old) (R3.remaining frame.old) budget
         (W.contents out.old) (W.contents out.new)) }
-    ensures front { result ≡ Err RunFault.Write → ReportsFront (R1.remaining rom.old) (R2.remaining cert.old)
+    ensures prefix { result ≡ Err RunFault.Write → ReportsPrefix (R1.remaining rom.old) (R2.remaining cert.old)
         (R3.remaining frame.old) budget (W.contents out.old) (W.contents out.new) }
     ensures nothing { IfErr result (λ fault. fault ≢ RunFault.Write → Appends (W.contents out.old) (W.contents out.new) []) }
 
@@ -122,7 +122,7 @@ pub fn run_check<R1: CountedRead, R2: CountedRead, R3: CountedRead, W: CountedWr
 {
     // The laws by which what is read to the limits decides the verdict on all bytes.
     short_text();
-    front_refusal();
+    prefix_refusal();
     let Ok(rom_bytes) = read_image(rom) else {
         return Err(RunFault::ReadRom);
     };

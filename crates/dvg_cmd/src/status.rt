@@ -7,7 +7,7 @@ use crate::making::MakeRunFault;
 use crate::running::{Outcome, RunFault};
 use dvg_make::MakeFault;
 
-/// The exit status of a run: 0 accepted, 1 refused, 3 a failed read or write, 4 want of memory.
+/// The exit status of a run: 0 accepted, 1 refused, 3 a failed read or write, 4 out of memory.
 pub fn status_of(end: &Result<Outcome, RunFault>) -> u8
     ensures { result ≡ exit_status end.now }
 {
@@ -40,7 +40,7 @@ pub fn text_of(fault: &RunFault) -> &'static str
     message.strip_prefix("dvgcheck: ").unwrap_or(message)
 }
 
-/// The exit status of a run of the maker: 0 made, 1 refused, 3 a failed read or write, 4 want of memory.
+/// The exit status of a run of the maker: 0 made, 1 refused, 3 a failed read or write, 4 out of memory.
 pub fn make_status_of(end: &Result<(), MakeRunFault>) -> u8
     ensures { result ≡ make_exit_status end.now }
 {

@@ -248,12 +248,12 @@ fn refuses_lengths_and_certificates(rt: HostRuntime) {
     let mut frame = [0u8; 2050];
     frame[1] = 0xB0;
     for (rom_length, cert, frame_length, report) in LENGTHS {
-        let front = frame.get(..*frame_length).unwrap_or(&[]);
+        let prefix = frame.get(..*frame_length).unwrap_or(&[]);
         let (end, line) = run(
             rt.alloc(),
             rom.get(..*rom_length).unwrap_or(&[]),
             cert,
-            front,
+            prefix,
             20000,
         );
         assert!(rt;

@@ -33,7 +33,7 @@ abbrev pub IsProgress : ℕ → ℕ → Option CertFault → Taken → List ℕ 
 IsProgress first last None taken rest = IsTaken first last taken × IsRest taken rest
 IsProgress first last (Some f) taken rest = Unit {0}
 
--- why a whole line after these is refused, want of memory included
+-- why a whole line after these is refused, out of memory included
 abbrev pub IsLineRefused : Taken → List ℕ → CertWhy → Type 0
 IsLineRefused (Begun from to es) line Memory = (e : Entry) × IsLine from to (lines.Entry e) line × IsCertificate from to (es ++ e ∷ [])
 IsLineRefused taken line why = IsWrong taken line why

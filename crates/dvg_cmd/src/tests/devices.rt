@@ -20,8 +20,8 @@ impl Read for SlowReader<'_> {
         }
         self.reads_left -= 1;
         let count = self.rest.len().min(self.most).min(buf.len());
-        let (front, rest) = self.rest.split_at(count);
-        buf[..count].copy_from_slice(front);
+        let (prefix, rest) = self.rest.split_at(count);
+        buf[..count].copy_from_slice(prefix);
         self.rest = rest;
         Ok(count)
     }

@@ -14,7 +14,7 @@ returns-in-Sets-default-clause-near c =
     let fy : SFits w64 c.in-Sets-default.p.y = search rules in
     simp to_z-of_z (IsNear-more 1 (c.args.at + 1) c.in-Sets-default.p (omega arith) p)
 
--- a place that was shift
+-- a place that was moved
 near_place : (at : ℕ) (p d q : Point) → IsNear at p → IsNear 1 d → q ≡ shift p d → IsNear (at + 1) q
 near_place at p d q h k is = subst (IsNear (at + 1)) (sym is) (IsNear-shift at p d h k)
 
