@@ -36,7 +36,7 @@ impl Cert {
         ensures refused { IfErr result (λ same. (same ≡ entries) × (IsCertificate asteroids.rom_first asteroids.rom_last entries.items → ⊥)) }
     {
         if is_certificate(&entries) {
-            Ok(certificate_of(entries))
+            Ok(certificate_unchecked(entries))
         } else {
             Err(entries)
         }
@@ -52,7 +52,7 @@ impl Cert {
 }
 
 /// The certificate with these entries, which are known to be a certificate's.
-pub fn certificate_of(entries: Vec<Entry>) -> Cert
+pub fn certificate_unchecked(entries: Vec<Entry>) -> Cert
     requires { IsCertificate asteroids.rom_first asteroids.rom_last entries.items }
     ensures { result ≡ entries.items }
 {

@@ -17,7 +17,7 @@ mod taken;
 mod tokens;
 mod writer;
 
-pub use certificate::{Cert, certificate_of, is_entry, is_key};
+pub use certificate::{Cert, certificate_unchecked, is_entry, is_key};
 pub use counted::{Counted, CountedRead, CountedWrite};
 pub use entry::{End, Entry, Key, LitBox};
 pub use fault::{CertFault, CertWhy, WriteFault};

@@ -8,7 +8,7 @@ ghost use Rattle.dvg_cert.specs.Order.{IsCertificate};
 ghost use Rattle.dvg_cert.specs.Reading.{Nothing, Whole, IsUnended, IsTaken, line_number};
 ghost use Rattle.dvg_cert.specs.Private.Progress.{TakesEntry, TakesLine, TakesLater};
 
-use crate::certificate::{Cert, certificate_of, stands_after};
+use crate::certificate::{Cert, certificate_unchecked, stands_after};
 use crate::entry::Entry;
 use crate::fault::{CertFault, CertWhy};
 use crate::limits::MOST_ENTRIES;
@@ -106,7 +106,7 @@ impl TakenLines {
     {
         let line = self.line_number();
         match self.stage {
-            Stage::Ended => Ok(certificate_of(self.entries)),
+            Stage::Ended => Ok(certificate_unchecked(self.entries)),
             _ => Err(CertFault {
                 line,
                 why: CertWhy::Unended,

@@ -15,7 +15,7 @@ ghost use Rattle.dvg_make.specs.Private.Making.{IsMaking, IsPresent, NotBegun, I
 use crate::done::Done;
 use crate::fault::MakeFault;
 use crate::walk::{Progress, Walk, advance};
-use dvg_cert::{Cert, Key, MOST_ENTRIES, certificate_of, is_key};
+use dvg_cert::{Cert, Key, MOST_ENTRIES, certificate_unchecked, is_key};
 use dvg_words::RomImage;
 use std::alloc::Global;
 
@@ -170,5 +170,5 @@ pub fn make(alloc: Global, rom: &RomImage, roots: &[(u16, Key)]) -> Result<Cert,
     let mut done = make_all(alloc, rom, roots)?;
     done.sort()?;
     let entries = done.entries(alloc)?;
-    Ok(certificate_of(entries))
+    Ok(certificate_unchecked(entries))
 }
