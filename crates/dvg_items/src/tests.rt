@@ -81,7 +81,10 @@ fn goes_over_a_frame(rt: HostRuntime) -> Result<(), Fail> {
     assert!(rt; halt.after.words <= 7);
     assert_eq!(rt;
         halt.step(Kind::Frame),
-        Step::Last(Known { words: 7, ..PAST_CALL })
+        Step::Last(Known {
+            words: 7,
+            ..PAST_CALL
+        })
     );
     Ok(())
 }
