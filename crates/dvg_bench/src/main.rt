@@ -4,9 +4,10 @@
 //!     dvg_bench draws ENTRIES TIMES
 //!     dvg_bench unscaled ENTRIES TIMES
 //!     dvg_bench calls ENTRIES TIMES
+//!     dvg_bench whole ENTRIES TIMES
 //!
-//! `read` reads the text of so many entries, the others check as many shapes. Two runs that differ in their times
-//! alone differ by the cost of reading or checking.
+//! `read` reads the text of so many entries, the others check as many shapes: `whole` those of `unscaled`, by `check` of the
+//! bytes and the text. Two runs that differ in their times alone differ by the cost of reading or checking.
 #![tactic(auto)]
 
 mod reading;
@@ -14,28 +15,28 @@ mod shapes;
 
 use anyhow::{Context, Result, bail};
 use reading::read_texts;
-use shapes::{Filling, check_entries};
+use shapes::{Filling, check_bytes, check_entries};
 use std::env;
 
 fn main(rt: HostRuntime) -> Result<()> {
     let mut words = env::args(&rt)?.skip(1);
     let input = words
         .next()
-        .context("read, draws, unscaled or calls is missing")?;
+        .context("read, draws, unscaled, calls or whole is missing")?;
     let count: u16 = words.next().context("ENTRIES is missing")?.parse()?;
     let times: u32 = words.next().context("TIMES is missing")?.parse()?;
-    let filling = match input.as_str() {
+    let items = match input.as_str() {
         "read" => {
             let bytes = read_texts(rt.alloc(), count, times)?;
             println!(rt; "{count} entries in {bytes} bytes, read {times} times")?;
             return Ok(());
         }
-        "draws" => Filling::Draws,
-        "unscaled" => Filling::Unscaled,
-        "calls" => Filling::Calls,
-        _ => bail!("the input is read, draws, unscaled or calls"),
+        "draws" => check_entries(rt.alloc(), Filling::Draws, count, times)?,
+        "unscaled" => check_entries(rt.alloc(), Filling::Unscaled, count, times)?,
+        "calls" => check_entries(rt.alloc(), Filling::Calls, count, times)?,
+        "whole" => check_bytes(rt.alloc(), Filling::Unscaled, count, times)?,
+        _ => bail!("the input is read, draws, unscaled, calls or whole"),
     };
-    let items = check_entries(rt.alloc(), filling, count, times)?;
     println!(rt; "{count} shapes of {items} items, checked {times} times")?;
     Ok(())
 }

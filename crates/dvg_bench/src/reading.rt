@@ -69,21 +69,22 @@ fn entries_of(alloc: Global, count: u16) -> Result<Vec<Entry>, AllocError>
     Ok(entries)
 }
 
-fn text_of(alloc: Global, count: u16) -> Result<Vec<u8>> {
+/// The text of a certificate.
+pub fn text_of(alloc: Global, cert: &Cert) -> Result<Vec<u8>> {
+    let mut out = Counted::new(Vec::new(alloc));
+    write_cert(cert, &mut out)?;
+    Ok(out.into_inner())
+}
+
+/// Reads the text of so many entries so many times, and gives its length in bytes.
+pub fn read_texts(alloc: Global, count: u16, times: u32) -> Result<usize> {
     if count > 4096 {
         bail!("a certificate has 4096 entries at the most");
     }
     let Ok(cert) = Cert::from_entries(entries_of(alloc, count)?) else {
         bail!("these are not the entries of a certificate");
     };
-    let mut out = Counted::new(Vec::new(alloc));
-    write_cert(&cert, &mut out)?;
-    Ok(out.into_inner())
-}
-
-/// Reads the text of so many entries so many times, and gives its length in bytes.
-pub fn read_texts(alloc: Global, count: u16, times: u32) -> Result<usize> {
-    let text = text_of(alloc, count)?;
+    let text = text_of(alloc, &cert)?;
     for _ in 0..times {
         let cert = read_cert(alloc, &text)?;
         if cert.entries().len() != count as usize {

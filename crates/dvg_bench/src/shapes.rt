@@ -2,9 +2,10 @@
 
 ghost use Rattle.std.specs.Prelude.{◌<◌, ◌≤◌, ◌+◌, ◌*◌, ℤ, pos, neg_ℤ, ◌≤ℤ◌};
 
+use crate::reading::text_of;
 use anyhow::{Result, bail};
 use dvg_cert::{Cert, End, Entry, Key, ListIndex, LitBox};
-use dvg_check::check_shapes;
+use dvg_check::{check, check_shapes};
 use dvg_words::{ROM_FIRST, ROM_LAST, RomImage};
 use std::alloc::{AllocError, Global};
 
@@ -27,6 +28,9 @@ const BACK: u16 = 0xF075;
 
 /// SVEC by 1, 0 at scale code 0, intensity 0.
 const DARK: u16 = 0xF001;
+
+/// A frame that ends at once.
+const HALT: &[u8] = &[0x00, 0xB0];
 
 const CALL_LAST: u16 = 0xC000 + ROM_LAST;
 
@@ -151,26 +155,49 @@ fn entries_of(alloc: Global, filling: Filling, count: u16) -> Result<Vec<Entry>>
     Ok(entries)
 }
 
-/// Checks the shapes of so many entries so many times, and gives how many items they have together.
-pub fn check_entries(alloc: Global, filling: Filling, count: u16, times: u32) -> Result<u64> {
-    let bytes = rom_bytes(alloc, filling)?;
-    let Ok(rom) = RomImage::from_bytes(&bytes) else {
-        bail!("these are not the bytes of a ROM");
-    };
-    let Ok(cert) = Cert::from_entries(entries_of(alloc, filling, count)?) else {
-        bail!("these are not the entries of a certificate");
-    };
-    let index = ListIndex::new(&cert);
-    for _ in 0..times {
-        if check_shapes(&rom, &cert, &index).is_err() {
-            bail!("a shape was refused");
-        }
+/// The certificate of so many entries.
+fn cert_of(alloc: Global, filling: Filling, count: u16) -> Result<Cert> {
+    match Cert::from_entries(entries_of(alloc, filling, count)?) {
+        Ok(cert) => Ok(cert),
+        Err(_) => bail!("these are not the entries of a certificate"),
     }
+}
+
+/// How many items the shapes of a certificate have together.
+fn items_of(filling: Filling, cert: &Cert) -> u64 {
     let mut items = 0u64;
     for entry in cert.entries() {
         items = items.saturating_add(
             1 + u64::from(items_before_end(filling, entry.addr.min(ROM_LAST))),
         );
     }
-    Ok(items)
+    items
+}
+
+/// Checks the shapes of so many entries so many times, and gives how many items they have together.
+pub fn check_entries(alloc: Global, filling: Filling, count: u16, times: u32) -> Result<u64> {
+    let bytes = rom_bytes(alloc, filling)?;
+    let Ok(rom) = RomImage::from_bytes(&bytes) else {
+        bail!("these are not the bytes of a ROM");
+    };
+    let cert = cert_of(alloc, filling, count)?;
+    let index = ListIndex::new(&cert);
+    for _ in 0..times {
+        if check_shapes(&rom, &cert, &index).is_err() {
+            bail!("a shape was refused");
+        }
+    }
+    Ok(items_of(filling, &cert))
+}
+
+/// Checks the bytes of such a ROM, the text of such a certificate and a frame of HALT alone so many times, and gives how many
+/// items the shapes have together.
+pub fn check_bytes(alloc: Global, filling: Filling, count: u16, times: u32) -> Result<u64> {
+    let rom = rom_bytes(alloc, filling)?;
+    let cert = cert_of(alloc, filling, count)?;
+    let text = text_of(alloc, &cert)?;
+    for _ in 0..times {
+        check(alloc, &rom, &text, HALT, 1)?;
+    }
+    Ok(items_of(filling, &cert))
 }
