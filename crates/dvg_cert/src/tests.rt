@@ -1,7 +1,9 @@
+//! Texts that are read and written, devices that fail, and what faults show.
+
+mod devices;
+
 use crate::*;
 use std::alloc::Global;
-use std::io;
-use std::io::Write;
 use std::process::Abort;
 use std::test::Fail;
 
@@ -204,79 +206,6 @@ fn from_entries(rt: HostRuntime) -> Result<(), Fail> {
     Ok(())
 }
 
-/// A device that takes a few bytes at a time, and fails from some call on: it takes nothing, or answers an error.
-#[derive(Drop)]
-struct Weak {
-    taken: Vec<u8>,
-    most: usize,
-    calls: u32,
-    answers_error: bool,
-}
-
-impl Write for Weak {
-    fn write(&mut self, buf: &[u8]) -> io::Result<usize> {
-        if self.calls == 0 {
-            return if self.answers_error {
-                Err(io::ErrorKind::BrokenPipe.into())
-            } else {
-                Ok(0)
-            };
-        }
-        self.calls -= 1;
-        let n = self.most.min(buf.len());
-        self.taken.extend_from_slice(&buf[..n])?;
-        Ok(n)
-    }
-
-    fn flush(&mut self) -> io::Result<()> {
-        Ok(())
-    }
-}
-
-/// Writes by a device that fails after these calls, and gives its count of failures and the bytes that it took.
-fn written(
-    alloc: Global,
-    cert: &Cert,
-    most: usize,
-    calls: u32,
-    answers_error: bool,
-) -> (bool, u32, Vec<u8>) {
-    let taken = Vec::new(alloc);
-    let mut out = Counted::new(Weak {
-        taken,
-        most,
-        calls,
-        answers_error,
-    });
-    let is_written = write_cert(cert, &mut out).is_ok();
-    let failures = out.failures();
-    (is_written, failures, out.into_inner().taken)
-}
-
-#[test]
-fn weak_devices(rt: HostRuntime) -> Result<(), Fail> {
-    let cert = read_cert(rt.alloc(), ONE_ENTRY)?;
-    for most in [1, 7, 200] {
-        let (is_written, failures, taken) = written(rt.alloc(), &cert, most, 1000, true);
-        assert_eq!(rt; (is_written, failures), (true, 0));
-        assert_eq!(rt; taken.as_slice(), ONE_ENTRY);
-        for calls in 0..3 {
-            for answers_error in [false, true] {
-                let (is_written, failures, taken) = written(
-                    rt.alloc(),
-                    &cert,
-                    most,
-                    calls,
-                    answers_error,
-                );
-                assert_eq!(rt; (is_written, failures), (false, 1));
-                assert!(rt; ONE_ENTRY.starts_with(&taken) && taken.len() < ONE_ENTRY.len());
-            }
-        }
-    }
-    Ok(())
-}
-
 /// The list, where there is memory for it. Where the first allocation is refused, as by tests/refused-memory, this test fails
 /// and tells the refusal, which stays though there is memory again. A text without entries takes no memory.
 #[test]
@@ -289,4 +218,50 @@ fn refused_memory(rt: HostRuntime) {
         Ok(count) => assert_eq!(rt; count, 1),
         Err(fault) => panic!(rt; "refused {} at line {}", fault.why.number(), fault.line),
     }
+}
+
+/// The texts and numbers of the refusals.
+#[test]
+fn shows_faults(rt: HostRuntime) -> Result<(), Fail> {
+    for (why, number, text) in [
+        (CertWhy::Form, 10, "the line is not one of the format"),
+        (
+            CertWhy::Order,
+            11,
+            "the entry does not stand after the entry before it",
+        ),
+        (
+            CertWhy::Count,
+            12,
+            "the number of entries is not that of the last line",
+        ),
+        (
+            CertWhy::Unended,
+            13,
+            "the text ends before the end of its last line",
+        ),
+        (CertWhy::After, 14, "something comes after the last line"),
+        (CertWhy::TooLong, 15, "the line or the list is too long"),
+        (CertWhy::Memory, 16, "there is no memory for the entry"),
+    ] {
+        assert_eq!(rt; why.number(), number);
+        assert_eq!(rt; format!(in rt.alloc(); "{why}")?.as_str(), text);
+        let fault = CertFault { line: 4098, why };
+        let shown = format!(in rt.alloc(); "{fault}")?;
+        assert_eq!(rt; shown.strip_prefix("line 4098: "), Some(text));
+    }
+    assert_eq!(rt; WriteFault::Device.number(), 17);
+    assert_eq!(rt;
+        format!(in rt.alloc(); "{}", WriteFault::Device)?.as_str(),
+        "the writer failed"
+    );
+    for (key, text) in [
+        (Key::At(0), "0"),
+        (Key::At(9), "9"),
+        (Key::At(15), "15"),
+        (Key::Any, "any"),
+    ] {
+        assert_eq!(rt; format!(in rt.alloc(); "{key}")?.as_str(), text);
+    }
+    Ok(())
 }

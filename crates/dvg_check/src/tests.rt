@@ -1,11 +1,11 @@
-//! Each call once: a shape with a lit stroke and a frame that calls it, accepted and refused.
+//! Each call once: a shape with a lit stroke and a frame that calls it, accepted and refused. And what faults show.
 
 use crate::{
     Accepted, FrameFault, FrameWhy, JudgedShapes, Refusal, ShapeFault, ShapeWhy, Yes, check,
     check_frame, check_shapes,
 };
-use dvg_cert::{Key, ListIndex, read_cert};
-use dvg_words::{FrameImage, RomImage};
+use dvg_cert::{CertFault, CertWhy, Key, ListIndex, read_cert};
+use dvg_words::{FrameImage, ImageFault, RomImage};
 use std::alloc::Global;
 use std::test::Fail;
 
@@ -118,5 +118,147 @@ fn judges_halves(rt: HostRuntime) -> Result<(), Fail> {
     assert_eq!(rt; accepted, Ok(Accepted { words: 7, depth: 1 }));
     let refused = halves(rt.alloc(), LOW_BOX)?;
     assert_eq!(rt; refused, Err(LOW_BOX_FAULT));
+    Ok(())
+}
+
+/// The rules of shapes, their numbers and their texts.
+const SHAPE_RULES: &[(ShapeWhy, u8, &str)] = &[
+    (
+        ShapeWhy::Unmapped,
+        20,
+        "a word of the item is outside the ROM",
+    ),
+    (ShapeWhy::Odd, 21, "the item is an odd LABS"),
+    (ShapeWhy::HaltInShape, 22, "the item is HALT"),
+    (ShapeWhy::BeamUnknown, 23, "it lights at a lost place"),
+    (ShapeWhy::ScaleUnknown, 24, "it lights at unknown scale"),
+    (ShapeWhy::OffScreen, 25, "it lights off the screen"),
+    (ShapeWhy::NoEntry, 26, "it calls a shape that has no entry"),
+    (
+        ShapeWhy::TooDeep,
+        27,
+        "more return places are needed than claimed",
+    ),
+    (
+        ShapeWhy::TooManyWords,
+        28,
+        "more words are needed than claimed",
+    ),
+    (
+        ShapeWhy::EndDiffers,
+        29,
+        "the place at the end is not the claimed one",
+    ),
+    (
+        ShapeWhy::ScaleDiffers,
+        30,
+        "the scale at the end is not the claimed one",
+    ),
+    (
+        ShapeWhy::BoxTooSmall,
+        31,
+        "it lights outside the claimed box",
+    ),
+    (
+        ShapeWhy::WordsDiffer,
+        32,
+        "the words are fewer than claimed",
+    ),
+    (ShapeWhy::DepthDiffers, 33, "the depth is less than claimed"),
+];
+
+#[test]
+fn shows_shape_faults(rt: HostRuntime) -> Result<(), Fail> {
+    for &(why, number, text) in SHAPE_RULES {
+        let fault = ShapeFault {
+            addr: 0x8AB,
+            key: Key::Any,
+            word: 0x00C,
+            why,
+        };
+        let refusal = Refusal::Shape(fault);
+        assert_eq!(rt;
+            (why.number(), fault.number(), refusal.number()),
+            (number, number, number)
+        );
+        assert_eq!(rt; format!(in rt.alloc(); "{why}")?.as_str(), text);
+        let shown = format!(in rt.alloc(); "{fault}")?;
+        assert_eq!(rt; shown.strip_prefix("shape 8AB/any at 00C: "), Some(text));
+        assert_eq!(rt;
+            format!(in rt.alloc(); "{refusal}")?.as_str(),
+            shown.as_str()
+        );
+    }
+    Ok(())
+}
+
+/// The rules of frames, their numbers and their texts.
+const FRAME_RULES: &[(FrameWhy, u8, &str)] = &[
+    (
+        FrameWhy::Unmapped,
+        40,
+        "a word of the item is outside the frame",
+    ),
+    (FrameWhy::Odd, 41, "the item is an odd LABS"),
+    (FrameWhy::ReturnInFrame, 42, "the item is RTSL"),
+    (
+        FrameWhy::BackJump,
+        43,
+        "the item is a jump to its own address or a lower one",
+    ),
+    (FrameWhy::BeamUnknown, 44, "it lights at a lost place"),
+    (FrameWhy::ScaleUnknown, 45, "it lights at unknown scale"),
+    (FrameWhy::OffScreen, 46, "it lights off the screen"),
+    (FrameWhy::NoEntry, 47, "it calls a shape that has no entry"),
+    (FrameWhy::Budget, 48, "the words so far are over the budget"),
+];
+
+#[test]
+fn shows_frame_faults(rt: HostRuntime) -> Result<(), Fail> {
+    for &(why, number, text) in FRAME_RULES {
+        let fault = FrameFault { word: 0x0E7, why };
+        let refusal = Refusal::Frame(fault);
+        assert_eq!(rt;
+            (why.number(), fault.number(), refusal.number()),
+            (number, number, number)
+        );
+        assert_eq!(rt; format!(in rt.alloc(); "{why}")?.as_str(), text);
+        let shown = format!(in rt.alloc(); "{fault}")?;
+        assert_eq!(rt; shown.strip_prefix("frame at 0E7: "), Some(text));
+        assert_eq!(rt;
+            format!(in rt.alloc(); "{refusal}")?.as_str(),
+            shown.as_str()
+        );
+    }
+    Ok(())
+}
+
+#[test]
+fn shows_refusals(rt: HostRuntime) -> Result<(), Fail> {
+    let order = CertFault {
+        line: 12,
+        why: CertWhy::Order,
+    };
+    for (refusal, number, text) in [
+        (
+            Refusal::Image(ImageFault::RomLength),
+            1,
+            "the ROM has a wrong length",
+        ),
+        (
+            Refusal::Image(ImageFault::FrameLength),
+            2,
+            "the frame has a wrong length",
+        ),
+        (Refusal::BudgetRange, 49, "the budget is out of range"),
+        (
+            Refusal::Cert(order),
+            11,
+            "certificate line 12: the entry does not stand after the entry before it",
+        ),
+    ] {
+        assert_eq!(rt; refusal.number(), number);
+        assert_eq!(rt; format!(in rt.alloc(); "{refusal}")?.as_str(), text);
+    }
     Ok(())
 }

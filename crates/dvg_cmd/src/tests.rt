@@ -5,8 +5,8 @@ mod making;
 mod rows;
 
 use crate::{
-    Counted, CountedRead, CountedWrite, MakeRunFault, Outcome, RunFault, message_of, run_check,
-    status_of,
+    Counted, CountedRead, CountedWrite, MakeFault, MakeRunFault, Outcome, RunFault, message_of,
+    run_check, status_of,
 };
 use devices::{SlowReader, SlowWriter};
 use rows::{EMPTY, ROWS, Row, STROKE, STROKE_CERT, TEXTS};
@@ -263,97 +263,114 @@ fn refuses_lengths_and_certificates(rt: HostRuntime) {
     }
 }
 
-/// What a run answers where each reader and the writer are slow, and fail after so many calls.
+/// What became of a reader: the failures that were counted, its reads, and the bytes that nobody read.
+type Told = (u32, u32, usize);
+
+fn told_of(reader: Counted<SlowReader>) -> Told {
+    let failures = CountedRead::failures(&reader);
+    let slow = reader.into_inner();
+    (failures, slow.reads(), slow.left())
+}
+
+/// What a run answers over readers of a ROM, a frame and a certificate that give so many bytes a read, and fail at one read
+/// each; and what became of these readers.
 fn run_slow<W: CountedWrite>(
     alloc: Global,
+    inputs: [&[u8]; 3],
     most: usize,
-    reads: [u32; 3],
+    fails_at: [u32; 3],
     out: &mut W,
-) -> (Result<Outcome, RunFault>, [u32; 3]) {
-    let reader = |rest, reads_left| Counted::new(SlowReader {
-        rest,
-        most,
-        reads_left,
-    });
-    let mut rom = reader(ROM, reads[0]);
-    let mut frame = reader(FIRST, reads[1]);
-    let mut cert = reader(EMPTY, reads[2]);
+) -> (Result<Outcome, RunFault>, [Told; 3]) {
+    let mut rom = Counted::new(SlowReader::new(inputs[0], most, fails_at[0]));
+    let mut frame = Counted::new(SlowReader::new(inputs[1], most, fails_at[1]));
+    let mut cert = Counted::new(SlowReader::new(inputs[2], most, fails_at[2]));
     let end = run_check(alloc, &mut rom, &mut cert, &mut frame, 20000, out);
-    (
-        end,
-        [
-            CountedRead::failures(&rom),
-            CountedRead::failures(&frame),
-            CountedRead::failures(&cert),
-        ],
-    )
+    (end, [told_of(rom), told_of(frame), told_of(cert)])
 }
 
 const ACCEPTED: &[u8] = b"accepted shapes=0 words=5 depth=0\n";
 
-const MANY: u32 = 3000;
+const NEVER: u32 = u32::MAX;
 
-#[test]
-fn reads_byte_by_byte(rt: HostRuntime) {
-    let mut out = Counted::new(SlowWriter::new(1, MANY));
-    let (end, failures) = run_slow(rt.alloc(), 1, [MANY; 3], &mut out);
-    assert_eq!(rt; (end, failures), (Ok(Outcome::Accepted), [0; 3]));
-    assert_eq!(rt; CountedWrite::failures(&out), 0);
+/// What becomes of readers that give one byte a read, and never fail.
+fn byte_by_byte(alloc: Global, rom: &[u8], frame: &[u8], cert: &[u8]) -> [Told; 3] {
+    let mut out = Counted::new(SlowWriter::new(64, NEVER));
+    let (_, told) = run_slow(alloc, [rom, frame, cert], 1, [NEVER; 3], &mut out);
+    told
 }
 
+/// Each input is read to its end, which is met once, or to one byte past its limit.
+#[test]
+fn reads_each_byte_once(rt: HostRuntime) -> Result<(), AllocError> {
+    let long = [0; 2100];
+    for (rom_length, frame_length, rom_told, frame_told) in [
+        (0, 0, (0, 1, 0), (0, 1, 0)),
+        (2047, 10, (0, 2048, 0), (0, 11, 0)),
+        (2048, 2048, (0, 2049, 0), (0, 2049, 0)),
+        (2049, 2049, (0, 2049, 0), (0, 2049, 0)),
+        (2060, 2100, (0, 2049, 11), (0, 2049, 51)),
+    ] {
+        let rom = long.get(..rom_length).unwrap_or(&[]);
+        let frame = long.get(..frame_length).unwrap_or(&[]);
+        let told = byte_by_byte(rt.alloc(), rom, frame, EMPTY);
+        assert_eq!(rt; told, [rom_told, frame_told, (0, 18, 0)], "at {rom_length}");
+    }
+    let cert = vec![in rt.alloc(); 0u8; 1_048_600]?;
+    let told = byte_by_byte(rt.alloc(), ROM, FIRST, &cert);
+    assert_eq!(rt; told, [(0, 2049, 0), (0, 11, 0), (0, 1_048_577, 23)]);
+    Ok(())
+}
+
+/// Where a read fails once, nothing is read after it, though the reader would give more, and nothing is written.
 #[test]
 fn ends_at_a_failed_read(rt: HostRuntime) {
-    for (reads, fault, failures) in [
-        ([0, MANY, MANY], RunFault::ReadRom, [1, 0, 0]),
-        ([4, MANY, MANY], RunFault::ReadRom, [1, 0, 0]),
-        ([0, 0, 0], RunFault::ReadRom, [1, 0, 0]),
-        ([MANY, 0, MANY], RunFault::ReadFrame, [0, 1, 0]),
-        ([MANY, 1, 0], RunFault::ReadFrame, [0, 1, 0]),
-        ([MANY, MANY, 0], RunFault::ReadCert, [0, 0, 1]),
-        ([MANY, MANY, 1], RunFault::ReadCert, [0, 0, 1]),
+    for (fails_at, fault, failures, reads) in [
+        ([0, NEVER, NEVER], RunFault::ReadRom, [1, 0, 0], [1, 0, 0]),
+        ([4, NEVER, NEVER], RunFault::ReadRom, [1, 0, 0], [5, 0, 0]),
+        ([0, 0, 0], RunFault::ReadRom, [1, 0, 0], [1, 0, 0]),
+        ([NEVER, 0, NEVER], RunFault::ReadFrame, [0, 1, 0], [5, 1, 0]),
+        ([NEVER, 1, 0], RunFault::ReadFrame, [0, 1, 0], [5, 2, 0]),
+        ([NEVER, NEVER, 0], RunFault::ReadCert, [0, 0, 1], [5, 2, 1]),
+        ([NEVER, NEVER, 1], RunFault::ReadCert, [0, 0, 1], [5, 2, 2]),
     ] {
-        let mut told = SlowWriter::new(64, MANY);
-        let mut out = Counted::new(&mut told);
-        let answer = run_slow(rt.alloc(), 512, reads, &mut out);
-        assert_eq!(rt; answer, (Err(fault), failures), "at {reads:?}");
-        assert_eq!(rt; CountedWrite::failures(&out), 0, "at {reads:?}");
-        assert_eq!(rt; told.told(), b"".as_slice(), "at {reads:?}");
+        let mut slow = SlowWriter::new(64, NEVER);
+        let mut out = Counted::new(&mut slow);
+        let (end, told) = run_slow(rt.alloc(), [ROM, FIRST, EMPTY], 512, fails_at, &mut out);
+        assert_eq!(rt; end, Err(fault), "at {fails_at:?}");
+        assert_eq!(rt; told.map(|told| told.0), failures, "at {fails_at:?}");
+        assert_eq!(rt; told.map(|told| told.1), reads, "at {fails_at:?}");
+        assert_eq!(rt; CountedWrite::failures(&out), 0, "at {fails_at:?}");
+        assert_eq!(rt; slow.writes(), 0, "at {fails_at:?}");
     }
 }
 
+/// Where a write fails once, or takes nothing, nothing is written after it, though the writer would take more.
 #[test]
 fn ends_at_a_failed_write(rt: HostRuntime) {
-    for (most, writes, told_len) in [
-        (1, MANY, 34),
-        (7, MANY, 34),
-        (64, 1, 34),
-        (1, 33, 33),
-        (7, 0, 0),
-        (7, 4, 28),
-        (0, MANY, 0),
+    for (most, fails_at, told_len, writes) in [
+        (1, NEVER, 34, 34),
+        (7, NEVER, 34, 5),
+        (64, 1, 34, 1),
+        (1, 33, 33, 34),
+        (7, 0, 0, 1),
+        (7, 4, 28, 5),
+        (0, NEVER, 0, 1),
     ] {
-        let mut told = SlowWriter::new(most, writes);
-        let mut out = Counted::new(&mut told);
-        let (end, _) = run_slow(rt.alloc(), 512, [MANY; 3], &mut out);
+        let mut slow = SlowWriter::new(most, fails_at);
+        let mut out = Counted::new(&mut slow);
+        let (end, _) = run_slow(rt.alloc(), [ROM, FIRST, EMPTY], 512, [NEVER; 3], &mut out);
         let failures = CountedWrite::failures(&out);
+        let want = match told_len {
+            34 => (Ok(Outcome::Accepted), 0),
+            _ => (Err(RunFault::Write), 1),
+        };
+        assert_eq!(rt; (end, failures), want, "at {most} {fails_at}");
         assert_eq!(rt;
-            told.told(),
+            slow.told(),
             ACCEPTED.get(..told_len).unwrap_or(&[]),
-            "at {most} {writes}"
+            "at {most} {fails_at}"
         );
-        if told_len == 34 {
-            assert_eq!(rt;
-                (end, failures),
-                (Ok(Outcome::Accepted), 0),
-                "at {most} {writes}"
-            );
-        } else {
-            assert_eq!(rt;
-                (end, failures),
-                (Err(RunFault::Write), 1),
-                "at {most} {writes}"
-            );
-        }
+        assert_eq!(rt; slow.writes(), writes, "at {most} {fails_at}");
     }
 }
 
@@ -382,24 +399,43 @@ fn says_how_it_ended(rt: HostRuntime) {
     }
 }
 
+/// The texts and numbers of the faults.
 #[test]
-fn shows_faults_as_messages_do(rt: HostRuntime) -> Result<(), AllocError> {
-    for fault in [
-        RunFault::ReadRom,
-        RunFault::ReadFrame,
-        RunFault::ReadCert,
-        RunFault::Write,
-        RunFault::Memory,
+fn shows_faults(rt: HostRuntime) -> Result<(), AllocError> {
+    for (fault, number, text) in [
+        (RunFault::ReadRom, 70, "cannot read the ROM"),
+        (RunFault::ReadFrame, 71, "cannot read the frame"),
+        (RunFault::ReadCert, 72, "cannot read the certificate"),
+        (RunFault::Write, 73, "cannot write"),
+        (RunFault::Memory, 74, "out of memory"),
     ] {
-        let shown = format!(in rt.alloc(); "dvgcheck: {fault}")?;
-        assert_eq!(rt; shown.as_str(), message_of(&fault));
+        assert_eq!(rt; fault.number(), number);
+        assert_eq!(rt; format!(in rt.alloc(); "{fault}")?.as_str(), text);
     }
-    for (fault, same) in [
-        (MakeRunFault::ReadRom, RunFault::ReadRom),
-        (MakeRunFault::Write, RunFault::Write),
+    let made = |fault| MakeRunFault::Make(fault);
+    for (fault, number, text) in [
+        (MakeRunFault::RomLength, 1, "the ROM has a wrong length"),
+        (
+            made(MakeFault::Unstraight { word: 0x0AB }),
+            60,
+            "the shapes are not straight at 0AB",
+        ),
+        (made(MakeFault::Deep), 61, "the shapes call too deep"),
+        (
+            made(MakeFault::TooLarge),
+            62,
+            "the shapes are too large for a certificate",
+        ),
+        (
+            made(MakeFault::Memory),
+            63,
+            "there is no memory for the certificate",
+        ),
+        (MakeRunFault::ReadRom, 70, "cannot read the ROM"),
+        (MakeRunFault::Write, 73, "cannot write"),
     ] {
-        let shown = format!(in rt.alloc(); "dvgcheck: {fault}")?;
-        assert_eq!(rt; shown.as_str(), message_of(&same));
+        assert_eq!(rt; fault.number(), number);
+        assert_eq!(rt; format!(in rt.alloc(); "{fault}")?.as_str(), text);
     }
     Ok(())
 }
@@ -410,7 +446,7 @@ fn shows_faults_as_messages_do(rt: HostRuntime) -> Result<(), AllocError> {
 fn refused_memory(rt: HostRuntime) {
     let mut rom = [0; 2048];
     rom[..6].copy_from_slice(&[0xFF, 0x92, 0xFF, 0x73, 0x00, 0xD0]);
-    let mut told = SlowWriter::new(64, MANY);
+    let mut told = SlowWriter::new(64, NEVER);
     let end = run_check(
         rt.alloc(),
         &mut Counted::new(rom.as_slice()),

@@ -11,6 +11,12 @@ type Part<'a> = (usize, &'a [u16]);
 
 const STROKE: Part<'static> = (0x800, &[0x92FF, 0x73FF, 0xD000]);
 
+/// The root of most rows.
+const ZERO: (u16, Key) = (0x800, Key::At(0));
+
+/// The same shape where the scale is not known.
+const ANY: (u16, Key) = (0x800, Key::Any);
+
 /// A ROM with these words, and zeros elsewhere.
 fn rom_bytes(parts: &[Part]) -> [u8; 2048] {
     let mut bytes = [0; 2048];
@@ -43,25 +49,24 @@ fn makes(alloc: Global, bytes: &[u8], roots: &[(u16, Key)], text: &str) -> Resul
     }
 }
 
-fn fault_of(alloc: Global, bytes: &[u8], root: (u16, Key)) -> Option<MakeFault> {
+fn fault_of(alloc: Global, bytes: &[u8], roots: &[(u16, Key)]) -> Option<MakeFault> {
     let Ok(rom) = RomImage::from_bytes(bytes) else {
         return None;
     };
-    make(alloc, &rom, &[root]).err()
+    make(alloc, &rom, roots).err()
 }
 
 #[test]
 fn makes_one_shape(rt: HostRuntime) -> Result<(), Fail> {
-    let zero = (0x800, Key::At(0));
     for (part, root, text) in [
         (
             STROKE,
-            zero,
+            ZERO,
             "dvgcert 1\nshape 800 0 end rel 1047552 785408 box 0 1047552 0 785408 depth 0 words 3 scale 0\ndone 1\n",
         ),
         (
             (0x800, &[0xFA70, 0xF672, 0xD000]),
-            zero,
+            ZERO,
             "dvgcert 1\nshape 800 0 end rel 4096 4096 box 0 4096 0 8192 depth 0 words 3 scale 0\ndone 1\n",
         ),
         (
@@ -71,7 +76,7 @@ fn makes_one_shape(rt: HostRuntime) -> Result<(), Fail> {
         ),
         (
             (0x800, &[0xA000, 0x03FF, 0x9000, 0x7001, 0xD000]),
-            zero,
+            ZERO,
             "dvgcert 1\nshape 800 0 end abs 1048576 0 box none depth 0 words 5 scale 0\ndone 1\n",
         ),
     ] {
@@ -139,72 +144,382 @@ fn makes_roots_in_any_order(rt: HostRuntime) -> Result<(), Fail> {
     Ok(())
 }
 
+/// A ROM, roots and the fault that is met first.
+struct Refused {
+    what: &'static str,
+    parts: &'static [Part<'static>],
+    roots: &'static [(u16, Key)],
+    fault: MakeFault,
+}
+
+/// Each cause of 60, and the word that it tells.
+const UNSTRAIGHT: &[Refused] = &[
+    Refused {
+        what: "a missing item past the ROM",
+        parts: &[(0xBFE, &[0xF000, 0xF000])],
+        roots: &[(0xBFE, Key::At(0))],
+        fault: MakeFault::Unstraight { word: 0xC00 },
+    },
+    Refused {
+        what: "a draw whose second word is missing",
+        parts: &[(0xBFE, &[0xF000, 0x9000])],
+        roots: &[(0xBFE, Key::At(0))],
+        fault: MakeFault::Unstraight { word: 0xBFF },
+    },
+    Refused {
+        what: "an odd LABS",
+        parts: &[(0x800, &[0xF000, 0xA400, 0x0000])],
+        roots: &[ZERO],
+        fault: MakeFault::Unstraight { word: 0x801 },
+    },
+    Refused {
+        what: "an odd second word of a LABS",
+        parts: &[(0x800, &[0xF000, 0xA000, 0x0400])],
+        roots: &[ZERO],
+        fault: MakeFault::Unstraight { word: 0x801 },
+    },
+    Refused {
+        what: "a HALT",
+        parts: &[(0x800, &[0xF000, 0x9000, 0x0000, 0xB000])],
+        roots: &[ZERO],
+        fault: MakeFault::Unstraight { word: 0x803 },
+    },
+    // In a list that is made a place is lost at unknown scale alone.
+    Refused {
+        what: "a lit draw at a lost place",
+        parts: &[(0x800, &[0x8400, 0x0000, 0xFA70, 0xD000])],
+        roots: &[ANY],
+        fault: MakeFault::Unstraight { word: 0x802 },
+    },
+    Refused {
+        what: "a lit draw at unknown scale",
+        parts: &[(0x800, &[0xE801, 0x92FF, 0x73FF, 0xD000])],
+        roots: &[ANY],
+        fault: MakeFault::Unstraight { word: 0x801 },
+    },
+    Refused {
+        what: "a root below the ROM, whose scale is over 15 too",
+        parts: &[STROKE],
+        roots: &[(0x7FF, Key::At(16))],
+        fault: MakeFault::Unstraight { word: 0x7FF },
+    },
+    Refused {
+        what: "a root above the ROM",
+        parts: &[STROKE],
+        roots: &[(0xC00, Key::At(0))],
+        fault: MakeFault::Unstraight { word: 0xC00 },
+    },
+    Refused {
+        what: "a root whose scale is over 15",
+        parts: &[(0x802, &[0xB000])],
+        roots: &[(0x802, Key::At(16))],
+        fault: MakeFault::Unstraight { word: 0x802 },
+    },
+    Refused {
+        what: "a call of an address below the ROM",
+        parts: &[(0x800, &[0xC7FF, 0xD000])],
+        roots: &[ZERO],
+        fault: MakeFault::Unstraight { word: 0x7FF },
+    },
+    Refused {
+        what: "a call of an address above the ROM",
+        parts: &[(0x800, &[0xCFFF, 0xD000])],
+        roots: &[ZERO],
+        fault: MakeFault::Unstraight { word: 0xFFF },
+    },
+    Refused {
+        what: "a tail jump to an address below the ROM",
+        parts: &[(0x800, &[0xE000])],
+        roots: &[ZERO],
+        fault: MakeFault::Unstraight { word: 0x000 },
+    },
+];
+
+/// Calls that are too deep, or come back.
+const DEEP: &[Refused] = &[
+    Refused {
+        what: "a shape that calls itself",
+        parts: &[(0x800, &[0xC800, 0xD000])],
+        roots: &[ZERO],
+        fault: MakeFault::Deep,
+    },
+    Refused {
+        what: "a shape that jumps to itself",
+        parts: &[(0x800, &[0xE800])],
+        roots: &[ZERO],
+        fault: MakeFault::Deep,
+    },
+    Refused {
+        what: "two shapes that jump to one another",
+        parts: &[(0x800, &[0xE801, 0xE800])],
+        roots: &[ZERO],
+        fault: MakeFault::Deep,
+    },
+    Refused {
+        what: "four calls in one another",
+        parts: &[(0x800, FOUR_CALLS)],
+        roots: &[ZERO],
+        fault: MakeFault::Deep,
+    },
+    Refused {
+        what: "four calls in one another, the first a tail jump of its caller",
+        parts: &[(0x800, FOUR_CALLS), (0x900, &[0xE800])],
+        roots: &[(0x900, Key::At(0))],
+        fault: MakeFault::Deep,
+    },
+];
+
+/// Four calls in one another, below 800.
+const FOUR_CALLS: &[u16] = &[
+    0xC802, 0xD000, 0xC804, 0xD000, 0xC806, 0xD000, 0xC808, 0xD000, 0xD000,
+];
+
+/// Two faults each: roots and items in order, and what an item needs whole before its shape goes on.
+const FIRST_OF_TWO: &[Refused] = &[
+    Refused {
+        what: "a root with a HALT, then one that calls itself",
+        parts: &[(0x800, &[0xB000]), (0x900, &[0xC900])],
+        roots: &[ZERO, (0x900, Key::At(0))],
+        fault: MakeFault::Unstraight { word: 0x800 },
+    },
+    Refused {
+        what: "a root that calls itself, then one with a HALT",
+        parts: &[(0x800, &[0xB000]), (0x900, &[0xC900])],
+        roots: &[(0x900, Key::At(0)), ZERO],
+        fault: MakeFault::Deep,
+    },
+    Refused {
+        what: "a root that calls itself, then one outside the ROM",
+        parts: &[(0x800, &[0xC800])],
+        roots: &[ZERO, (0x7FF, Key::At(0))],
+        fault: MakeFault::Deep,
+    },
+    Refused {
+        what: "a root outside the ROM, then one that calls itself",
+        parts: &[(0x800, &[0xC800])],
+        roots: &[(0x7FF, Key::At(0)), ZERO],
+        fault: MakeFault::Unstraight { word: 0x7FF },
+    },
+    Refused {
+        what: "a call of itself before a HALT",
+        parts: &[(0x800, &[0xC800, 0xB000])],
+        roots: &[ZERO],
+        fault: MakeFault::Deep,
+    },
+    Refused {
+        what: "a lit draw at unknown scale before a call of itself",
+        parts: &[(0x800, &[0xFA70, 0xC800])],
+        roots: &[ANY],
+        fault: MakeFault::Unstraight { word: 0x800 },
+    },
+    Refused {
+        what: "a HALT in what is called, and one after the call",
+        parts: &[(0x800, &[0xC810, 0xB000]), (0x810, &[0xF000, 0xB000])],
+        roots: &[ZERO],
+        fault: MakeFault::Unstraight { word: 0x811 },
+    },
+    Refused {
+        what: "a HALT before the call of what has one",
+        parts: &[(0x800, &[0xB000, 0xC810]), (0x810, &[0xB000])],
+        roots: &[ZERO],
+        fault: MakeFault::Unstraight { word: 0x800 },
+    },
+    Refused {
+        what: "three calls in one another, before a HALT, and a root of four",
+        parts: &[(0x800, FOUR_CALLS), (0x900, &[0xC804, 0xB000])],
+        roots: &[(0x900, Key::At(0)), ZERO],
+        fault: MakeFault::Unstraight { word: 0x901 },
+    },
+    Refused {
+        what: "four calls in one another, before a HALT",
+        parts: &[(0x800, FOUR_CALLS), (0x801, &[0xB000])],
+        roots: &[ZERO],
+        fault: MakeFault::Deep,
+    },
+    Refused {
+        what: "four calls in one another, of a HALT",
+        parts: &[(0x800, FOUR_CALLS), (0x808, &[0xB000])],
+        roots: &[ZERO],
+        fault: MakeFault::Unstraight { word: 0x808 },
+    },
+    Refused {
+        what: "four calls in one another, the last before a HALT",
+        parts: &[(0x800, FOUR_CALLS), (0x807, &[0xB000])],
+        roots: &[ZERO],
+        fault: MakeFault::Unstraight { word: 0x807 },
+    },
+];
+
 #[test]
 fn refuses_what_no_list_is_made_for(rt: HostRuntime) {
-    let zero = (0x800, Key::At(0));
-    let unstraight = |word: u16| Some(MakeFault::Unstraight { word });
-    for (part, root, fault) in [
-        (STROKE, (0x800, Key::Any), unstraight(0x800)),
-        (STROKE, (0x7FF, Key::At(0)), unstraight(0x7FF)),
-        (STROKE, (0x800, Key::At(16)), unstraight(0x800)),
-        ((0x800, &[0xB000]), zero, unstraight(0x800)),
-        ((0x800, &[0xE000]), zero, unstraight(0)),
-        ((0x800, &[0xC800, 0xD000]), zero, Some(MakeFault::Deep)),
-        (
-            (
-                0x800,
-                &[
-                    0xC802, 0xD000, 0xC804, 0xD000, 0xC806, 0xD000, 0xC808, 0xD000, 0xD000,
-                ],
-            ),
-            zero,
-            Some(MakeFault::Deep),
-        ),
-    ] {
-        assert_eq!(rt; fault_of(rt.alloc(), &rom_bytes(&[part]), root), fault);
+    for table in [UNSTRAIGHT, DEEP, FIRST_OF_TWO] {
+        for row in table {
+            let fault = fault_of(rt.alloc(), &rom_bytes(row.parts), row.roots);
+            assert_eq!(rt; fault, Some(row.fault), "for {}", row.what);
+        }
     }
 }
 
+/// A ROM whose shape at 800 has 148 calls, of 999,998 words together, and then goes on with the words of this part, from
+/// 894 on. Below it stand A00, of 99 calls of B00, and 900, of 99 calls of A00.
+fn large_rom(last: Part) -> [u8; 2048] {
+    rom_bytes(&[
+        // 50 * 19,802 + 49 * 200 + 49 * 2 words
+        (0x800, &[0xC900; 50]),
+        (0x832, &[0xCA00; 49]),
+        (0x863, &[0xCB00; 49]),
+        // 99 * 200 + 1 words
+        (0x900, &[0xCA00; 99]),
+        (0x963, &[0xD000]),
+        // 99 * 2 + 1 words
+        (0xA00, &[0xCB00; 99]),
+        (0xA63, &[0xD000]),
+        (0xB00, &[0xD000]),
+        // A call that is the third of three, and a HALT.
+        (0xB02, &[0xC900, 0xD000, 0xB000]),
+        last,
+    ])
+}
+
+/// What comes of words from 894 on, which begin after 999,998 words.
+const LAST_OF_A_MILLION: &[(&[u16], MakeFault)] = &[
+    // The count passes a million.
+    (&[0xF000, 0xF000, 0xD000], MakeFault::TooLarge),
+    (&[0xCB00, 0xD000], MakeFault::TooLarge),
+    (&[0xCB00, 0xF000, 0xB000], MakeFault::TooLarge),
+    (&[0xCA00, 0xB000], MakeFault::TooLarge),
+    (&[0xEA00], MakeFault::TooLarge),
+    // So it does at an item that is not straight.
+    (
+        &[0xCB00, 0xFA70, 0xD000],
+        MakeFault::Unstraight { word: 0x895 },
+    ),
+    (&[0xCB00, 0xB000], MakeFault::Unstraight { word: 0x895 }),
+    (
+        &[0xCB00, 0xA400, 0x0000],
+        MakeFault::Unstraight { word: 0x895 },
+    ),
+    // And at a call that is too deep, or whose shape calls back.
+    (&[0xCB02, 0xD000], MakeFault::Deep),
+    (&[0xC800, 0xD000], MakeFault::Deep),
+    // What is called is made first.
+    (&[0xCB04, 0xD000], MakeFault::Unstraight { word: 0xB04 }),
+    (&[0xCB00, 0xEBFF], MakeFault::Unstraight { word: 0xBFF }),
+    (&[0xCB00, 0xEC00], MakeFault::Unstraight { word: 0xC00 }),
+];
+
 #[test]
 fn counts_to_a_million(rt: HostRuntime) -> Result<(), Fail> {
-    let rom = rom_bytes(&[
-        (0x800, &[0xC900; 255]),
-        (0x8FF, &[0xD000]),
-        (0x900, &[0xCA00; 255]),
-        (0x9FF, &[0xD000]),
-        (0xA00, &[0xCB00; 255]),
-        (0xAFF, &[0xD000]),
-        (0xB00, &[0xD000]),
-    ]);
-    let large = fault_of(rt.alloc(), &rom, (0x800, Key::At(0)));
-    assert_eq!(rt; large, Some(MakeFault::TooLarge));
-    assert_eq!(rt; large.map(MakeFault::number), Some(62));
+    for &(words, fault) in LAST_OF_A_MILLION {
+        let rom = large_rom((0x894, words));
+        assert_eq!(rt;
+            fault_of(rt.alloc(), &rom, &[ANY]),
+            Some(fault),
+            "with {words:?}"
+        );
+    }
+    let large = [ANY, (0x7FF, Key::At(0))];
+    let rom = large_rom((0x894, &[0xCB00, 0xD000]));
+    assert_eq!(rt;
+        fault_of(rt.alloc(), &rom, &large),
+        Some(MakeFault::TooLarge)
+    );
     makes(
         rt.alloc(),
-        &rom,
-        &[(0x900, Key::At(0))],
-        "dvgcert 1\nshape 900 0 end rel 0 0 box none depth 2 words 130561 scale 0\nshape A00 0 end rel 0 0 box none depth 1 words 511 scale 0\nshape B00 0 end rel 0 0 box none depth 0 words 1 scale 0\ndone 3\n",
+        &large_rom((0x894, &[0xF000, 0xD000])),
+        &[ZERO],
+        "dvgcert 1\nshape 800 0 end rel 0 0 box none depth 3 words 1000000 scale 0\nshape 900 0 end rel 0 0 box none depth 2 words 19801 scale 0\nshape A00 0 end rel 0 0 box none depth 1 words 199 scale 0\nshape B00 0 end rel 0 0 box none depth 0 words 1 scale 0\ndone 4\n",
     )
 }
 
-#[test]
-fn makes_4096_entries_at_the_most(rt: HostRuntime) -> Result<(), Fail> {
-    let bytes = rom_bytes(&[(0x800, &[0xD000; 1024])]);
+/// How many entries are made, where the first roots are so many of 4096 shapes of one RTSL, and then one more comes.
+fn made_after(
+    alloc: Global,
+    count: usize,
+    last: Part,
+    root: (u16, Key),
+) -> Result<Result<usize, MakeFault>, Fail> {
+    let bytes = rom_bytes(&[(0x800, &[0xD000; 1024]), last]);
     let Ok(rom) = RomImage::from_bytes(&bytes) else {
         return Err(Fail::new("the ROM was refused"));
     };
-    let mut roots = Vec::new(rt.alloc());
+    let mut roots = Vec::new(alloc);
     for addr in 0x800..0x900 {
         for scale in 0..16 {
             roots.push((addr, Key::At(scale)))?;
         }
     }
-    let made = make(rt.alloc(), &rom, &roots).map(|cert| cert.entries().len());
-    assert_eq!(rt; made, Ok(4096));
-    roots.push((0x900, Key::At(0)))?;
-    assert_eq!(rt;
-        make(rt.alloc(), &rom, &roots).err(),
-        Some(MakeFault::TooLarge)
-    );
+    roots.truncate(count);
+    roots.push(root)?;
+    Ok(make(alloc, &rom, &roots).map(|cert| cert.entries().len()))
+}
+
+#[test]
+fn makes_4096_entries_at_the_most(rt: HostRuntime) -> Result<(), Fail> {
+    let root = (0x900, Key::At(0));
+    let nothing: Part = (0x900, &[]);
+    for (count, last, root, want) in [
+        (4095, nothing, root, Ok(4096)),
+        (4096, nothing, ZERO, Ok(4096)),
+        (4096, nothing, root, Err(MakeFault::TooLarge)),
+        (
+            4096,
+            nothing,
+            (0x7FF, Key::At(0)),
+            Err(MakeFault::Unstraight { word: 0x7FF }),
+        ),
+        (
+            4096,
+            nothing,
+            (0x900, Key::At(16)),
+            Err(MakeFault::Unstraight { word: 0x900 }),
+        ),
+        // The 4096th entry needs itself, or another one, or calls out of the ROM, or has a fault of its own.
+        (4095, (0x900, &[0xC900]), root, Err(MakeFault::Deep)),
+        (4095, (0x900, &[0xC901]), root, Err(MakeFault::TooLarge)),
+        (4095, (0x900, &[0xC800]), root, Ok(4096)),
+        (4095, (0x900, &[0xC000]), root, Err(MakeFault::TooLarge)),
+        (
+            4094,
+            (0x900, &[0xC000]),
+            root,
+            Err(MakeFault::Unstraight { word: 0x000 }),
+        ),
+        (
+            4095,
+            (0x900, &[0xB000]),
+            root,
+            Err(MakeFault::Unstraight { word: 0x900 }),
+        ),
+    ] {
+        let made = made_after(rt.alloc(), count, last, root)?;
+        assert_eq!(rt; made, want, "after {count} roots");
+    }
+    Ok(())
+}
+
+#[test]
+fn shows_faults(rt: HostRuntime) -> Result<(), Fail> {
+    for (fault, number, text) in [
+        (
+            MakeFault::Unstraight { word: 0x00A },
+            60,
+            "the shapes are not straight at 00A",
+        ),
+        (MakeFault::Deep, 61, "the shapes call too deep"),
+        (
+            MakeFault::TooLarge,
+            62,
+            "the shapes are too large for a certificate",
+        ),
+        (
+            MakeFault::Memory,
+            63,
+            "there is no memory for the certificate",
+        ),
+    ] {
+        assert_eq!(rt; fault.number(), number);
+        assert_eq!(rt; format!(in rt.alloc(); "{fault}")?.as_str(), text);
+    }
     Ok(())
 }

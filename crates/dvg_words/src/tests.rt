@@ -151,15 +151,20 @@ fn refuses_wrong_lengths(rt: HostRuntime) {
         let fault = RomImage::from_bytes(&bytes[..length]).err();
         assert_eq!(rt; fault, Some(ImageFault::RomLength), "at {length}");
     }
-    assert_eq!(rt;
-        (
-            ImageFault::RomLength.number(),
-            ImageFault::FrameLength.number()
-        ),
-        (1, 2)
-    );
     for length in [0usize, 1, 3, 2049, 2050] {
         let fault = FrameImage::from_bytes(&bytes[..length]).err();
         assert_eq!(rt; fault, Some(ImageFault::FrameLength), "at {length}");
     }
+}
+
+#[test]
+fn shows_faults(rt: HostRuntime) -> Result<(), Fail> {
+    for (fault, number, text) in [
+        (ImageFault::RomLength, 1, "the ROM has a wrong length"),
+        (ImageFault::FrameLength, 2, "the frame has a wrong length"),
+    ] {
+        assert_eq!(rt; fault.number(), number);
+        assert_eq!(rt; format!(in rt.alloc(); "{fault}")?.as_str(), text);
+    }
+    Ok(())
 }

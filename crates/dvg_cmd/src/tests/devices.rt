@@ -1,24 +1,48 @@
-//! Readers and writers that are slow, or fail at a chosen call.
+//! Readers and writers that are slow, fail at one chosen call alone, and count their calls.
 
 ghost use Rattle.std.specs.Prelude.{◌≤◌};
 
 use std::io;
 use std::io::{Read, Write};
 
-/// A reader that gives so many bytes a read, and fails after so many reads.
+/// A reader that gives so many bytes a read, fails at one read alone, and works again after that.
 #[derive(Drop)]
 pub struct SlowReader<'a> {
-    pub rest: &'a [u8],
-    pub most: usize,
-    pub reads_left: u32,
+    rest: &'a [u8],
+    most: usize,
+    fails_at: u32,
+    reads: u32,
+}
+
+impl<'a> SlowReader<'a> {
+    /// A reader of these bytes, not read so far.
+    pub fn new(rest: &'a [u8], most: usize, fails_at: u32) -> SlowReader<'a> {
+        SlowReader {
+            rest,
+            most,
+            fails_at,
+            reads: 0,
+        }
+    }
+
+    /// How often it was read.
+    pub fn reads(&self) -> u32 {
+        self.reads
+    }
+
+    /// How many bytes nobody read.
+    pub fn left(&self) -> usize {
+        self.rest.len()
+    }
 }
 
 impl Read for SlowReader<'_> {
     fn read(&mut self, buf: &mut [u8]) -> io::Result<usize> {
-        if self.reads_left == 0 {
+        let read = self.reads;
+        self.reads = read.saturating_add(1);
+        if read == self.fails_at {
             return Err(io::Error::from(io::ErrorKind::Other));
         }
-        self.reads_left -= 1;
         let count = self.rest.len().min(self.most).min(buf.len());
         let (prefix, rest) = self.rest.split_at(count);
         buf[..count].copy_from_slice(prefix);
@@ -27,25 +51,32 @@ impl Read for SlowReader<'_> {
     }
 }
 
-/// A writer that takes so many bytes a write, and fails after so many writes.
+/// A writer that takes so many bytes a write, fails at one write alone, and works again after that.
 #[derive(Drop)]
 pub struct SlowWriter {
     told: [u8; 128],
     len: usize,
     most: usize,
-    writes_left: u32,
+    fails_at: u32,
+    writes: u32,
     ghost fits: { len ≤ 128 },
 }
 
 impl SlowWriter {
     /// A writer that was told nothing so far.
-    pub fn new(most: usize, writes_left: u32) -> SlowWriter {
+    pub fn new(most: usize, fails_at: u32) -> SlowWriter {
         SlowWriter {
             told: [0; 128],
             len: 0,
             most,
-            writes_left,
+            fails_at,
+            writes: 0,
         }
+    }
+
+    /// How often it was written to.
+    pub fn writes(&self) -> u32 {
+        self.writes
     }
 
     /// What was taken so far.
@@ -56,10 +87,11 @@ impl SlowWriter {
 
 impl Write for SlowWriter {
     fn write(&mut self, buf: &[u8]) -> io::Result<usize> {
-        if self.writes_left == 0 {
+        let write = self.writes;
+        self.writes = write.saturating_add(1);
+        if write == self.fails_at {
             return Err(io::Error::from(io::ErrorKind::Other));
         }
-        self.writes_left -= 1;
         let count = buf.len().min(self.most).min(128 - self.len);
         let end = self.len + count;
         self.told[self.len..end].copy_from_slice(&buf[..count]);

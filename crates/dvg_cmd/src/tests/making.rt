@@ -2,7 +2,7 @@
 
 use super::devices::{SlowReader, SlowWriter};
 use super::rows::{EMPTY, STROKE, STROKE_CERT};
-use super::{bytes_of, rom_bytes, run};
+use super::{NEVER, bytes_of, rom_bytes, run};
 use crate::{
     Counted, CountedRead, CountedWrite, MakeFault, MakeRunFault, Outcome, make_report_of,
     make_status_of, root_of, run_make,
@@ -288,36 +288,52 @@ fn refuses_lengths(rt: HostRuntime) {
     }
 }
 
+/// The ROM is read byte by byte, and its end is met once. Where a read or a write fails once, or a write takes nothing,
+/// nothing is read or written after it, though the device works again.
 #[test]
 fn makes_over_weak_devices(rt: HostRuntime) -> Result<(), AllocError> {
     let rom = rom_bytes(rt.alloc(), 0x800, STROKE)?;
-    for (reads_left, most, writes_left, end, told_len) in [
-        (3000, 64, 3000, Ok(()), 17),
-        (3000, 1, 3000, Ok(()), 17),
-        (3000, 1, 12, Err(MakeRunFault::Write), 12),
-        (3000, 0, 3000, Err(MakeRunFault::Write), 0),
-        (4, 64, 3000, Err(MakeRunFault::ReadRom), 0),
-        (0, 64, 0, Err(MakeRunFault::ReadRom), 0),
+    for (read_fails, most, write_fails, end, told_len, calls) in [
+        (NEVER, 1, NEVER, Ok(()), 17, (2049, 17)),
+        (NEVER, 1, 12, Err(MakeRunFault::Write), 12, (2049, 13)),
+        (NEVER, 1, 0, Err(MakeRunFault::Write), 0, (2049, 1)),
+        (NEVER, 0, NEVER, Err(MakeRunFault::Write), 0, (2049, 1)),
+        (2048, 64, NEVER, Err(MakeRunFault::ReadRom), 0, (2049, 0)),
+        (4, 64, NEVER, Err(MakeRunFault::ReadRom), 0, (5, 0)),
+        (0, 64, 0, Err(MakeRunFault::ReadRom), 0, (1, 0)),
     ] {
-        let mut reader = Counted::new(SlowReader {
-            rest: &rom,
-            most: 1,
-            reads_left,
-        });
-        let mut told = SlowWriter::new(most, writes_left);
-        let mut out = Counted::new(&mut told);
+        let mut reader = Counted::new(SlowReader::new(&rom, 1, read_fails));
+        let mut slow = SlowWriter::new(most, write_fails);
+        let mut out = Counted::new(&mut slow);
         let answer = run_make(rt.alloc(), &mut reader, &[], &mut out);
         let failures = (CountedRead::failures(&reader), CountedWrite::failures(&out));
-        assert_eq!(rt; answer, end);
-        assert_eq!(rt; told.told(), EMPTY.get(..told_len).unwrap_or(&[]));
         let blamed = match end {
             Err(MakeRunFault::ReadRom) => (1, 0),
             Err(MakeRunFault::Write) => (0, 1),
             _ => (0, 0),
         };
-        assert_eq!(rt; failures, blamed);
+        assert_eq!(rt;
+            (answer, failures),
+            (end, blamed),
+            "{read_fails} {write_fails}"
+        );
+        assert_eq!(rt; slow.told(), EMPTY.get(..told_len).unwrap_or(&[]));
+        let called = (reader.into_inner().reads(), slow.writes());
+        assert_eq!(rt; called, calls, "{read_fails} {write_fails}");
     }
     Ok(())
+}
+
+/// A ROM that is too long is read to one byte past its limit.
+#[test]
+fn reads_long_roms_to_the_limit(rt: HostRuntime) {
+    let long = [0; 2060];
+    let mut reader = Counted::new(SlowReader::new(&long, 1, NEVER));
+    let mut out = Counted::new(SlowWriter::new(64, NEVER));
+    let end = run_make(rt.alloc(), &mut reader, &[], &mut out);
+    assert_eq!(rt; end, Err(MakeRunFault::RomLength));
+    let slow = reader.into_inner();
+    assert_eq!(rt; (slow.reads(), slow.left()), (2049, 11));
 }
 
 #[test]
@@ -381,7 +397,7 @@ fn says_how_making_ended(rt: HostRuntime) {
 fn refused_memory(rt: HostRuntime) {
     let mut rom = [0; 2048];
     rom[1] = 0xD0;
-    let mut told = SlowWriter::new(128, 3000);
+    let mut told = SlowWriter::new(128, NEVER);
     let end = run_make(
         rt.alloc(),
         &mut Counted::new(rom.as_slice()),
