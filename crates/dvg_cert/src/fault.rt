@@ -56,6 +56,15 @@ pub struct CertFault {
     pub why: CertWhy,
 }
 
+impl CertFault {
+    /// The number of the refusal, 10 to 16.
+    pub fn number(self) -> u8
+        ensures { result ≡ cert_number self.why }
+    {
+        self.why.number()
+    }
+}
+
 /// Why a text was not written.
 #[derive(Clone, Copy, Debug, PartialEq, Eq, Error)]
 pub enum WriteFault {

@@ -244,9 +244,9 @@ fn shows_faults(rt: HostRuntime) -> Result<(), Fail> {
         (CertWhy::TooLong, 15, "the line or the list is too long"),
         (CertWhy::Memory, 16, "there is no memory for the entry"),
     ] {
-        assert_eq!(rt; why.number(), number);
-        assert_eq!(rt; format!(in rt.alloc(); "{why}")?.as_str(), text);
         let fault = CertFault { line: 4098, why };
+        assert_eq!(rt; (why.number(), fault.number()), (number, number));
+        assert_eq!(rt; format!(in rt.alloc(); "{why}")?.as_str(), text);
         let shown = format!(in rt.alloc(); "{fault}")?;
         assert_eq!(rt; shown.strip_prefix("line 4098: "), Some(text));
     }

@@ -54,7 +54,7 @@ impl Refusal {
         match self {
             Refusal::Image(fault) => fault.number(),
             Refusal::BudgetRange => 49,
-            Refusal::Cert(fault) => fault.why.number(),
+            Refusal::Cert(fault) => fault.number(),
             Refusal::Shape(fault) => fault.number(),
             Refusal::Frame(fault) => fault.number(),
         }
