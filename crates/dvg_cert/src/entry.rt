@@ -58,7 +58,8 @@ pub struct Entry {
     pub key: Key,
     /// Where the beam is at its return.
     pub stop: End,
-    /// What it lights before it sets its place by a LABS, relative to the beam at the call.
+    /// What it lights before its place is set, by a LABS of its own or of a shape that it calls, relative to the beam at the
+    /// call.
     pub lit: LitBox,
     /// How many calls stand below it at the most, 0 to 3.
     pub depth: u8,

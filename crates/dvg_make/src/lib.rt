@@ -1,7 +1,7 @@
 //! The maker of certificates: the entries of shapes and of all that they call or tail jump to, with exact counts and the
 //! least boxes.
 //!
-//! [`make`] answers the one list that a ROM and roots ask for, or, running out of memory aside, a fault where there is none.
+//! [`make`] answers the one list that a ROM and roots ask for, or a fault: where they have none, or where memory is out.
 #![tactic(auto)]
 
 mod done;
