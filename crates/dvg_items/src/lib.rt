@@ -19,6 +19,3 @@ pub use item::{Item, Kind, target};
 pub use known::{Effect, Known, callee, depth_under, place_past};
 pub use lit::{LitExtent, lit_in_box, lit_on_screen, place_known, relative_corners, scale_known};
 pub use seen::{Seen, has_callee};
-
-#[cfg(test)]
-mod tests;

@@ -12,8 +12,6 @@ mod image;
 mod instruction;
 pub mod laws;
 mod map;
-#[cfg(test)]
-mod tests;
 
 pub use beam::{Point, displacement, draw_move, factor, labs_place, on_screen, shift};
 pub use decoding::{Fetch, decode, is_long, read_cell};

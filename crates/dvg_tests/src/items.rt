@@ -3,7 +3,7 @@
 ghost use Rattle.std.specs.Prelude.{IfOk};
 ghost use Rattle.dvg_items.specs.Bounds.{IsSomeCertificate, IsSoundCursor, IsSoundSeen};
 
-use crate::{
+use dvg_items::{
     Cursor, Item, Kind, Known, LitExtent, Seen, Step, callee, depth_under, has_callee, is_in_box,
     joined, lit_in_box, lit_on_screen, place_known, relative_corners, scale_known, spanning,
     target,

@@ -2,7 +2,7 @@
 
 ghost use Rattle.dvg_words.specs.Values.{DrawFits};
 
-use crate::{
+use dvg_words::{
     Draw, Format, FrameImage, ImageFault, Instr, Point, RomImage, decode, displacement, draw_move,
     factor, is_long, labs_place, on_screen, shift,
 };

@@ -1,0 +1,8 @@
+//! Tests of the libraries below `dvg_cmd`, through what they give out. They stand in one crate, since a crate that has tests
+//! is proved twice.
+#![tactic(auto)]
+
+#[cfg(test)]
+mod items;
+#[cfg(test)]
+mod words;
