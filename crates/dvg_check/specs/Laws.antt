@@ -81,7 +81,11 @@ OneShape mode =
 
 -- all good shapes behave
 abbrev pub AllShapes : Mode → Type 0
-AllShapes mode = (m : Memory) (w : Window) (list : List Entry) → IsMemory m → Good mode w m.rom list → (e : Entry) → Contains list e → Behaves mode m w e
+AllShapes mode =
+    (m : Memory) (w : Window) (list : List Entry)
+    → IsMemory m
+    → Good mode w m.rom list
+    → (e : Entry) → Contains list e → Behaves mode m w e
 
 -- ---- frames
 
@@ -98,7 +102,8 @@ GoodIsSafe =
 -- at each halt so many words were fetched, and so many return places were stored at once
 abbrev pub HaltsWith : Memory → ℕ → ℕ → Type 0
 HaltsWith m words depth =
-    (place : Point) (scale steps : ℕ) (h : State) → scale ≤ 15 → Reached m steps (Running (start place scale)) (Halted h) → (length h.fetched ≡ words) × (h.max_stack ≡ depth)
+    (place : Point) (scale steps : ℕ) (h : State) → scale ≤ 15 → Reached m steps (Running (start place scale)) (Halted h)
+    → (length h.fetched ≡ words) × (h.max_stack ≡ depth)
 
 -- where the counts of the shapes are exact, so are those of the frame
 abbrev pub ExactIsExact : Type 0
