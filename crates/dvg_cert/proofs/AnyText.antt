@@ -16,12 +16,12 @@ use Rattle.dvg_cert.specs.declared.fault.CertWhy.TheVariants.{Form, Order, Count
 use Rattle.dvg_cert.specs.Entry.{Entry, Key, At, Any}
 use Rattle.dvg_cert.specs.Order.{KeyBefore, Before, StandsAfter}
 use Rattle.dvg_cert.specs.Grammar.{first_line, done_line, begun_with, ended, text_of}
-use Rattle.dvg_cert.specs.Reading.{IsLine, Taken, Nothing, Begun, Whole, text_taken, line_number, Holds, MayStand, IsUnended, Meets, IsRefusal}
+use Rattle.dvg_cert.specs.Reading.{IsLine, Taken, Nothing, Begun, Whole, text_taken, line_number, Holds, MayStand, IsUnended, Meets, StopsAt, IsRefusal}
 use Rattle.dvg_cert.specs.Private.Tokens.{line_in}
 use Rattle.dvg_cert.proofs.LineTokens.{line_takes, line_again, Without-append}
 use Rattle.dvg_cert.proofs.Rising.{certificate_push}
 use Rattle.dvg_cert.proofs.Refusals.{rest_of, rest_is, entry_taken, first_taken, meets_long}
-use Rattle.dvg_cert.proofs.OneAnswerLemmas.{Stuck, stuck_stands}
+use Rattle.dvg_cert.proofs.OneAnswerLemmas.{stuck_stands}
 
 lt_or : (t : Bool) (m n : ℕ) → nat_lt m n ≡ t → (m < n) ⊎ (m < n → ⊥)
 lt_or true m n e = inl (grind (arith, nat_tests))
@@ -131,7 +131,7 @@ one_more first last prefix (Whole from to es) rest b small h = inr (After, refl)
 
 -- the text may stand, or a byte stops it
 abbrev pub Judged : ℕ → ℕ → List ℕ → Type 0
-Judged first last text = MayStand first last text ⊎ ((line : ℕ) × (why : CertWhy) × Stuck first last text line why)
+Judged first last text = MayStand first last text ⊎ ((line : ℕ) × (why : CertWhy) × StopsAt first last text line why)
 
 goes : (first last : ℕ) (prefix text : List ℕ) (taken : Taken) (rest : List ℕ) → last < ADDRESS_END → Holds first last prefix taken rest → Judged first last (prefix ++ text)
 goes first last prefix [] taken rest small h = inl (subst (λ (x : List ℕ). MayStand first last x) (sym (append-nil prefix)) (taken, rest, h))
@@ -152,7 +152,7 @@ open_prefix first last prefix after small h =
       | inr s ↦ absurd (stuck_stands first last (prefix ++ after) s.0 s.1 h.0 h.1 small (longer s.2) h.2)
     ]
   where
-    longer : {line : ℕ} {why : CertWhy} → Stuck first last prefix line why → Stuck first last (prefix ++ after) line why
+    longer : {line : ℕ} {why : CertWhy} → StopsAt first last prefix line why → StopsAt first last (prefix ++ after) line why
     longer s = (s.0, s.1, s.2 ++ after, s.3, s.4, ap (λ (x : List ℕ). x ++ after) s.5 ∙ append_assoc s.0 (s.1 ∷ s.2) after, s.6, s.7, s.8)
 
 never_memory : (taken : Taken) (rest : List ℕ) (b : ℕ) → Meets taken rest b Memory → ⊥
@@ -170,7 +170,7 @@ never_unended (Begun from to es) rest b (inr h) = h.1
 never_unended (Whole from to es) rest b h = let e : Unended ≡ After = h in absurd cc
 
 -- a text that a byte stops is refused
-pub stuck_refusal : (why : CertWhy) (first last : ℕ) (text : List ℕ) (line : ℕ) → Stuck first last text line why → IsRefusal first last text line why × (why ≢ Memory)
+pub stuck_refusal : (why : CertWhy) (first last : ℕ) (text : List ℕ) (line : ℕ) → StopsAt first last text line why → IsRefusal first last text line why × (why ≢ Memory)
 stuck_refusal Memory first last text line s = absurd (never_memory s.3 s.4 s.1 s.7)
 stuck_refusal Unended first last text line s = absurd (never_unended s.3 s.4 s.1 s.7)
 stuck_refusal Form first last text line s = (s, λ e. absurd cc)

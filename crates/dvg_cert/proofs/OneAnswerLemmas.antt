@@ -8,7 +8,7 @@ use Rattle.dvg_cert.specs.Limits.{MOST_ENTRIES, LONGEST_LINE, LINE_FEED, ADDRESS
 use Rattle.dvg_cert.specs.Entry.{Entry, IsEntry}
 use Rattle.dvg_cert.specs.Order.{StandsAfter}
 use Rattle.dvg_cert.specs.Grammar.{entry_line, entry_tokens, first_line, begun_with, text_of, ended, done_line, Spells}
-use Rattle.dvg_cert.specs.Reading.{IsRefusal, IsWrong, Nothing, Begun, Whole, Taken, Without, text_taken, line_number, IsTaken, IsUnended, IsRest, Holds, Meets}
+use Rattle.dvg_cert.specs.Reading.{IsRefusal, EndsOpen, StopsAt, IsWrong, Nothing, Begun, Whole, Taken, Without, text_taken, line_number, IsTaken, IsUnended, IsRest, Holds, Meets}
 use Rattle.dvg_cert.specs.declared.line.Line.TheVariants as lines
 use Rattle.dvg_cert.specs.declared.fault.CertWhy.{CertWhy}
 use Rattle.dvg_cert.specs.declared.fault.CertWhy.TheVariants.{Form, Order, Count, Unended, After, TooLong, Memory}
@@ -197,13 +197,7 @@ no_meet first last prefix text after Nothing u rest rest' b why small h k e m = 
 no_meet first last prefix text after (Begun from to es) u rest rest' b why small h k e m = stops_not first last (Begun from to es) u rest rest' after b why small h.lines k.lines h.begun.0 k.begun m (prefix_of first last prefix text (b ∷ after) (Begun from to es) u rest rest' h k e)
 no_meet first last prefix text after (Whole from to es) u rest rest' b why small h k e m = after_not first last from to es u rest rest' after b small h.lines k.lines k.begun (prefix_of first last prefix text (b ∷ after) (Whole from to es) u rest rest' h k e)
 
-abbrev pub Stuck : ℕ → ℕ → List ℕ → ℕ → CertWhy → Type 0
-Stuck first last text line why = (prefix : List ℕ) × (b : ℕ) × (after : List ℕ) × (taken : Taken) × (rest : List ℕ) × (text ≡ prefix ++ b ∷ after) × Holds first last prefix taken rest × Meets taken rest b why × (line ≡ line_number taken)
-
-abbrev pub Open : ℕ → ℕ → List ℕ → ℕ → Type 0
-Open first last text line = (taken : Taken) × (rest : List ℕ) × Holds first last text taken rest × IsUnended taken × (line ≡ line_number taken)
-
-fault_is : (why : CertWhy) (first last : ℕ) (text : List ℕ) (line : ℕ) → why ≢ Memory → IsRefusal first last text line why → ((why ≡ Unended) × Open first last text line) ⊎ Stuck first last text line why
+fault_is : (why : CertWhy) (first last : ℕ) (text : List ℕ) (line : ℕ) → why ≢ Memory → IsRefusal first last text line why → ((why ≡ Unended) × EndsOpen first last text line) ⊎ StopsAt first last text line why
 fault_is Memory first last text line never h = absurd (never refl)
 fault_is Unended first last text line never h = inl (refl, h)
 fault_is Form first last text line never h = inr h
@@ -213,7 +207,7 @@ fault_is After first last text line never h = inr h
 fault_is TooLong first last text line never h = inr h
 
 -- a text that stands has no byte that cannot
-pub stuck_stands : (first last : ℕ) (text : List ℕ) (line : ℕ) (why : CertWhy) (u : Taken) (rest' : List ℕ) → last < ADDRESS_END → Stuck first last text line why → Holds first last text u rest' → ⊥
+pub stuck_stands : (first last : ℕ) (text : List ℕ) (line : ℕ) (why : CertWhy) (u : Taken) (rest' : List ℕ) → last < ADDRESS_END → StopsAt first last text line why → Holds first last text u rest' → ⊥
 stuck_stands first last text line why u rest' small s k = no_meet first last s.0 text s.2 s.3 u s.4 rest' s.1 why small s.6 k s.5 s.7
 
 compare : (f g a b : List ℕ) (x y : ℕ) → f ++ x ∷ a ≡ g ++ y ∷ b → ((f ≡ g) × (x ≡ y)) ⊎ (((c : List ℕ) × (g ≡ f ++ x ∷ c)) ⊎ ((c : List ℕ) × (f ≡ g ++ y ∷ c)))
@@ -228,7 +222,7 @@ compare (z ∷ f) (w ∷ g) a b x y e =
       | inr (inr r) ↦ inr (inr (r.0, cc (head, r.1)))
     ]
 
-stuck_once : (first last : ℕ) (text : List ℕ) (line line' : ℕ) (why why' : CertWhy) → last < ADDRESS_END → Stuck first last text line why → Stuck first last text line' why' → (line ≡ line') × (why ≡ why')
+stuck_once : (first last : ℕ) (text : List ℕ) (line line' : ℕ) (why why' : CertWhy) → last < ADDRESS_END → StopsAt first last text line why → StopsAt first last text line' why' → (line ≡ line') × (why ≡ why')
 stuck_once first last text line line' why why' small s r =
     elim (compare s.0 r.0 s.2 r.2 s.1 r.1 (sym s.5 ∙ r.5)) [
       | inl q ↦
@@ -253,7 +247,7 @@ fault_once first last text line line' why why' small n n' h k =
       ]
     ]
 
-pub standing_fault : (first last : ℕ) (text : List ℕ) (taken : Taken) (rest : List ℕ) (line : ℕ) (why : CertWhy) → last < ADDRESS_END → Holds first last text taken rest → why ≢ Memory → IsRefusal first last text line why → (why ≡ Unended) × Open first last text line
+pub standing_fault : (first last : ℕ) (text : List ℕ) (taken : Taken) (rest : List ℕ) (line : ℕ) (why : CertWhy) → last < ADDRESS_END → Holds first last text taken rest → why ≢ Memory → IsRefusal first last text line why → (why ≡ Unended) × EndsOpen first last text line
 standing_fault first last text taken rest line why small h n k =
     elim (fault_is why first last text line n k) [
       | inl s ↦ s

@@ -9,11 +9,11 @@ use Rattle.dvg_cert.specs.declared.fault.CertWhy.TheVariants.{Form, Order, Count
 use Rattle.dvg_cert.specs.declared.fault.CertFault.{CertFault}
 use Rattle.dvg_cert.specs.Entry.{Entry}
 use Rattle.dvg_cert.specs.Grammar.{done_line, begun_with, text_of}
-use Rattle.dvg_cert.specs.Reading.{Taken, Nothing, Begun, Whole, text_taken, line_number, Without, IsTaken, IsRest, Holds, MayStand, IsRefusal, ReadAnswer}
+use Rattle.dvg_cert.specs.Reading.{Taken, Nothing, Begun, Whole, text_taken, line_number, Without, IsTaken, IsRest, Holds, MayStand, StopsAt, IsRefusal, ReadAnswer}
 use Rattle.dvg_cert.specs.Laws.{NotMemory, OneAnswer, ShortText, PrefixRefusal, CutRefusal}
 use Rattle.dvg_cert.proofs.Rising.{same_rom}
 use Rattle.dvg_cert.proofs.LinesOfTexts.{lines_text, Frees, entry_lines, lines_of}
-use Rattle.dvg_cert.proofs.OneAnswerLemmas.{taken_free, taken_lines, Shorts, taken_short, rest_free, spelled_once, spelled_fault, fault_once, Stuck, standing_fault}
+use Rattle.dvg_cert.proofs.OneAnswerLemmas.{taken_free, taken_lines, Shorts, taken_short, rest_free, spelled_once, spelled_fault, fault_once, standing_fault}
 use Rattle.dvg_cert.proofs.AnyText.{judged, stuck_refusal}
 
 same_fault : (f g : CertFault) → f.line ≡ g.line → f.why ≡ g.why → f ≡ g
@@ -121,7 +121,7 @@ short_text = λ first last text small m.
     omega (arith, parts, all, short_lines (lines_of taken) (taken_short first last taken h.lines), few_lines first last taken rest h.lines h.begun)
 
 -- a byte that cannot come stays where it is
-stuck_stays : (why : CertWhy) (first last : ℕ) (prefix after : List ℕ) (line : ℕ) → Stuck first last prefix line why → Stuck first last (prefix ++ after) line why
+stuck_stays : (why : CertWhy) (first last : ℕ) (prefix after : List ℕ) (line : ℕ) → StopsAt first last prefix line why → StopsAt first last (prefix ++ after) line why
 stuck_stays why first last prefix after line s =
     (s.0, s.1, s.2 ++ after, s.3, s.4, ap (λ (x : List ℕ). x ++ after) s.5 ∙ append_assoc s.0 (s.1 ∷ s.2) after, s.6, s.7, s.8)
 

@@ -18,7 +18,8 @@ entry_at list addr key = find (is_at addr key) list
 
 -- the entry is in the list at this address and key, and no other is
 abbrev pub IsOnlyAt : List Entry → ℕ → Key → Entry → Type 0
-IsOnlyAt list addr key e = Contains list e × (e.addr ≡ addr) × (e.key ≡ key) × ((f : Entry) → Contains list f → f.addr ≡ addr → f.key ≡ key → f ≡ e)
+IsOnlyAt list addr key e = Contains list e × (e.addr ≡ addr) × (e.key ≡ key)
+    × ((f : Entry) → Contains list f → f.addr ≡ addr → f.key ≡ key → f ≡ e)
 
 -- no entry of the list is at this address and key
 abbrev pub HasNoneAt : List Entry → ℕ → Key → Type 0

@@ -80,14 +80,26 @@ Meets taken rest b why = ((b ≢ LINE_FEED) × (length rest ≡ LONGEST_LINE - 1
 
 -- the line is that of an entry which could still be taken (profile)
 abbrev pub HasEntryAt : ℕ → ℕ → List ℕ → ℕ → Type 0
-HasEntryAt first last text line = (es : List Entry) × (after : List ℕ) × IsCertificate first last es × (0 < length es) × (text ≡ begun_with es ++ after) × (line ≡ length es + 1)
+HasEntryAt first last text line = (es : List Entry) × (after : List ℕ) × IsCertificate first last es × (0 < length es)
+    × (text ≡ begun_with es ++ after) × (line ≡ length es + 1)
+
+-- the text ends at this line, and no last line was taken (profile)
+abbrev pub EndsOpen : ℕ → ℕ → List ℕ → ℕ → Type 0
+EndsOpen first last text line =
+    (taken : Taken) × (rest : List ℕ) × Holds first last text taken rest × IsUnended taken × (line ≡ line_number taken)
+
+-- the first byte that cannot come is at this line (profile)
+abbrev pub StopsAt : ℕ → ℕ → List ℕ → ℕ → CertWhy → Type 0
+StopsAt first last text line why =
+    (prefix : List ℕ) × (b : ℕ) × (after : List ℕ) × (taken : Taken) × (rest : List ℕ) × (text ≡ prefix ++ b ∷ after)
+    × Holds first last prefix taken rest × Meets taken rest b why × (line ≡ line_number taken)
 
 -- a line and a reason to refuse the text: out of memory at an entry's line, the end of an open text, or the first byte
 -- that cannot come (profile)
 abbrev pub IsRefusal : ℕ → ℕ → List ℕ → ℕ → CertWhy → Type 0
 IsRefusal first last text line Memory = HasEntryAt first last text line
-IsRefusal first last text line Unended = (taken : Taken) × (rest : List ℕ) × Holds first last text taken rest × IsUnended taken × (line ≡ line_number taken)
-IsRefusal first last text line why = (prefix : List ℕ) × (b : ℕ) × (after : List ℕ) × (taken : Taken) × (rest : List ℕ) × (text ≡ prefix ++ b ∷ after) × Holds first last prefix taken rest × Meets taken rest b why × (line ≡ line_number taken)
+IsRefusal first last text line Unended = EndsOpen first last text line
+IsRefusal first last text line why = StopsAt first last text line why
 
 -- the reader's answer: the list that is spelled, or a refusal (profile)
 abbrev pub ReadAnswer : ℕ → ℕ → List ℕ → Result (List Entry) CertFault → Type 0

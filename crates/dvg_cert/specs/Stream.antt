@@ -15,7 +15,8 @@ pub data Stream : Type 0 where
 abbrev pub FeedsTo : ℕ → ℕ → Stream → List ℕ → Stream → Result (Unit {0}) CertFault → Type 0
 FeedsTo first last (Refused f) piece new result = (new ≡ Refused f) × (result ≡ Err f)
 FeedsTo first last (Open text) piece new (Ok u) = MayStand first last (text ++ piece) × (new ≡ Open (text ++ piece))
-FeedsTo first last (Open text) piece new (Err f) = ReadAnswer first last (text ++ piece) (Err f) × (MayStand first last (text ++ piece) → f.why ≡ Memory) × (new ≡ Refused f)
+FeedsTo first last (Open text) piece new (Err f) =
+    ReadAnswer first last (text ++ piece) (Err f) × (MayStand first last (text ++ piece) → f.why ≡ Memory) × (new ≡ Refused f)
 
 -- the end: the answer to all bytes, whose only refusal left is that they are not ended (profile)
 abbrev pub FinishesTo : ℕ → ℕ → Stream → Result (List Entry) CertFault → Type 0

@@ -4,7 +4,7 @@ ghost use Rattle.std.specs.Prelude.{◌≡◌, ℕ, ◌^◌, ◌<◌, ◌≤◌,
 ghost use Rattle.dvg_cert.specs.Entry.{IsKey};
 ghost use Rattle.dvg_cert.specs.declared.entry.Key.{Key as KeyValue};
 ghost use Rattle.dvg_cert.specs.Grammar.{address_token, key_token};
-ghost use Rattle.dvg_cert.specs.Private.Tokens.{hex_value, natural_in, number_in, key_in, address_in};
+ghost use Rattle.dvg_cert.specs.Private.Tokens.{hex_value, natural_in, number_in, address_in};
 
 use crate::entry::Key;
 use crate::limits::MOST_MAGNITUDE;
@@ -38,24 +38,16 @@ pub fn read_address(token: &[u8]) -> Option<u16>
     address(token, 0, ADDRESS_END - 1)
 }
 
-/// The key that a token spells, a scale of 0 to 15 or any.
-#[tactic(auto, unfolding(crate::specs::Private::Tokens::key_in))]
-pub fn key(token: &[u8]) -> Option<Key>
-    ensures { result ≡ key_in token.now }
+/// The key that a token spells: the decimal of a scale of 0 to 15, or `any`.
+pub fn read_key(token: &[u8]) -> Option<Key>
+    ensures some { IfSome result (λ key. IsKey key × (token.now ≡ key_token key)) }
+    ensures none { IfNone result ((key : KeyValue) → IsKey key → token.now ≡ key_token key → ⊥) }
 {
     if token == b"any".as_slice() {
         return Some(Key::Any);
     }
     let number = natural(token, 0, 15)?;
     Some(Key::At(number as u8))
-}
-
-/// The key that a token spells: the decimal of a scale of 0 to 15, or `any`.
-pub fn read_key(token: &[u8]) -> Option<Key>
-    ensures some { IfSome result (λ key. IsKey key × (token.now ≡ key_token key)) }
-    ensures none { IfNone result ((key : KeyValue) → IsKey key → token.now ≡ key_token key → ⊥) }
-{
-    key(token)
 }
 
 /// The value of a capital hexadecimal digit, or 16.

@@ -255,6 +255,12 @@ fn shows_faults(rt: HostRuntime) -> Result<(), Fail> {
         format!(in rt.alloc(); "{}", WriteFault::Device)?.as_str(),
         "the writer failed"
     );
+    Ok(())
+}
+
+/// The texts of keys.
+#[test]
+fn shows_keys(rt: HostRuntime) -> Result<(), Fail> {
     for (key, text) in [
         (Key::At(0), "0"),
         (Key::At(9), "9"),

@@ -6,7 +6,7 @@ ghost use Rattle.dvg_cert.specs.Private.Tokens.{Reads, natural_in, number_in, ke
 
 use crate::entry::{End, Entry, Key, LitBox};
 use crate::limits::{MOST_DEPTH, MOST_MAGNITUDE, MOST_WORDS, SPACE};
-use crate::numerals::{address, key, natural, number};
+use crate::numerals::{address, natural, number, read_key};
 use std::marker::Model;
 
 /// The tokens of a line that are left: the bytes after the space that ended the last token taken.
@@ -85,7 +85,7 @@ impl<'a> Tokens<'a> {
     fn key(&mut self) -> Option<Key>
         ensures { Reads result self.new (by_token key_in self.old) }
     {
-        key(self.next_token()?)
+        read_key(self.next_token()?)
     }
 
     /// Takes an address from `first` to `last`.

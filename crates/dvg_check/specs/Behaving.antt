@@ -24,7 +24,8 @@ Counts Exact n claimed = n ≡ claimed
 
 -- From one running state to another, within so many steps and by so many further words. A halt or a fault has no step,
 -- so there is none on the way.
-pub record Stretch (mode : Mode) (m : Memory) (Fetched : ℕ → Type 0) (Lit : Stroke → Type 0) (most deep : ℕ) (from to : State) : Type 0 where
+pub record Stretch
+    (mode : Mode) (m : Memory) (Fetched : ℕ → Type 0) (Lit : Stroke → Type 0) (most deep : ℕ) (from to : State) : Type 0 where
   pub steps : ℕ
   pub reached : Reached m steps (Running from) (Running to)
   pub within : steps ≤ most

@@ -46,7 +46,8 @@ abbrev pub AllBefore : {Why : Type 0} → (List Item → ℕ → Why → Type 0)
 AllBefore {Why} keeps items = AtEachOf (λ earlier p. (why : Why) → keeps earlier p why) items
 
 -- the first place that breaks a rule, and the lowest rule that it breaks
-pub record FaultAt {Why : Type 0} (order : Why → ℕ) (kind : Kind) (word : ℕ → Option ℕ) (first : ℕ) (keeps : List Item → ℕ → Why → Type 0) (at : ℕ) (why : Why) : Type 0 where
+pub record FaultAt {Why : Type 0} (order : Why → ℕ) (kind : Kind) (word : ℕ → Option ℕ) (first : ℕ)
+    (keeps : List Item → ℕ → Why → Type 0) (at : ℕ) (why : Why) : Type 0 where
   pub items : List Item
   pub leads : LeadsTo kind word first items at
   pub before : AllBefore keeps items

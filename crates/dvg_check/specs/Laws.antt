@@ -81,7 +81,11 @@ OneShape mode =
 
 -- all good shapes behave
 abbrev pub AllShapes : Mode → Type 0
-AllShapes mode = (m : Memory) (w : Window) (list : List Entry) → IsMemory m → Good mode w m.rom list → (e : Entry) → Contains list e → Behaves mode m w e
+AllShapes mode =
+    (m : Memory) (w : Window) (list : List Entry)
+    → IsMemory m
+    → Good mode w m.rom list
+    → (e : Entry) → Contains list e → Behaves mode m w e
 
 -- ---- frames
 
@@ -96,9 +100,10 @@ GoodIsSafe =
     → Safe m w words depth
 
 -- at each halt so many words were fetched, and so many return places were stored at once
-abbrev pub HaltsWith : Memory → ℕ → ℕ → Type 0
-HaltsWith m words depth =
-    (place : Point) (scale steps : ℕ) (h : State) → scale ≤ 15 → Reached m steps (Running (start place scale)) (Halted h) → (length h.fetched ≡ words) × (h.max_stack ≡ depth)
+abbrev pub CountsAtHalt : Memory → ℕ → ℕ → Type 0
+CountsAtHalt m words depth =
+    (place : Point) (scale steps : ℕ) (h : State) → scale ≤ 15 → Reached m steps (Running (start place scale)) (Halted h)
+    → (length h.fetched ≡ words) × (h.max_stack ≡ depth)
 
 -- where the counts of the shapes are exact, so are those of the frame
 abbrev pub ExactIsExact : Type 0
@@ -108,7 +113,7 @@ ExactIsExact =
     → ((e : Entry) → Contains list e → e.depth ≤ MOST_DEPTH)
     → Good Exact w m.rom list
     → GoodFrame w m.frame list budget words depth
-    → HaltsWith m words depth
+    → CountsAtHalt m words depth
 
 -- a frame has one first fault at the most
 abbrev pub OneFault : Type 0

@@ -31,9 +31,19 @@ IsSafeStatus m w words depth steps (Running s) = IsSafeState m w words depth ste
 IsSafeStatus m w words depth steps (Halted s) = IsSafeState m w words depth steps s
 IsSafeStatus m w words depth steps (Fault s) = ⊥
 
+-- a run from this place and this scale reaches HALT within so many steps
+abbrev pub HaltsWithin : Memory → ℕ → Point → ℕ → Type 0
+HaltsWithin m words place scale =
+    (steps : ℕ) × (h : State) × (steps ≤ words) × Reached m steps (Running (start place scale)) (Halted h)
+
+-- each state that a run from this place and this scale reaches is safe, and none is a fault
+abbrev pub StaysSafe : Memory → Window → ℕ → ℕ → Point → ℕ → Type 0
+StaysSafe m w words depth place scale =
+    (steps : ℕ) (s : Status) → Reached m steps (Running (start place scale)) s → IsSafeStatus m w words depth steps s
+
 -- From the frame's first word, at any beam place and any global scale, every run reaches HALT within so many steps, and
 -- all is fine on the way.
 pub record Safe (m : Memory) (w : Window) (words depth : ℕ) : Type 0 where
   pub four : depth ≤ 4
-  pub halts : (place : Point) (scale : ℕ) → scale ≤ 15 → (steps : ℕ) × (h : State) × (steps ≤ words) × Reached m steps (Running (start place scale)) (Halted h)
-  pub each : (place : Point) (scale : ℕ) → scale ≤ 15 → (steps : ℕ) (s : Status) → Reached m steps (Running (start place scale)) s → IsSafeStatus m w words depth steps s
+  pub halts : (place : Point) (scale : ℕ) → scale ≤ 15 → HaltsWithin m words place scale
+  pub each : (place : Point) (scale : ℕ) → scale ≤ 15 → StaysSafe m w words depth place scale

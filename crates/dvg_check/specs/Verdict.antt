@@ -27,13 +27,15 @@ pub record InRange (map : MemoryMap) (rom frame : List ℕ) (budget : ℕ) : Typ
 
 -- what the shapes of a list and a frame come to
 abbrev pub PartsVerdict : Mode → Window → Rom → List Entry → List ℕ → ℕ → Result Yes Refusal → Type 0
-PartsVerdict mode w rom list words budget (Ok y) = Good mode w rom list × GoodFrame w words list budget y.words y.depth × (y.shapes ≡ length list)
+PartsVerdict mode w rom list words budget (Ok y) =
+    Good mode w rom list × GoodFrame w words list budget y.words y.depth × (y.shapes ≡ length list)
 PartsVerdict mode w rom list words budget (Err (refusal.Shape f)) = FirstShapeFault mode w rom list f
 PartsVerdict mode w rom list words budget (Err (refusal.Frame f)) = Good mode w rom list × FirstFrameFault w words list budget f
 PartsVerdict mode w rom list words budget (Err r) = ⊥
 
 -- the list that the certificate spells, and what its shapes and the frame come to
-pub record ListVerdict (mode : Mode) (map : MemoryMap) (w : Window) (rom cert words : List ℕ) (budget : ℕ) (answer : Result Yes Refusal) : Type 0 where
+pub record ListVerdict
+    (mode : Mode) (map : MemoryMap) (w : Window) (rom cert words : List ℕ) (budget : ℕ) (answer : Result Yes Refusal) : Type 0 where
   pub in_range : InRange map rom words budget
   pub list : List Entry
   pub spells : Spells map.rom_first map.rom_last list cert
@@ -41,9 +43,12 @@ pub record ListVerdict (mode : Mode) (map : MemoryMap) (w : Window) (rom cert wo
 
 abbrev pub Verdict : Mode → MemoryMap → Window → List ℕ → List ℕ → List ℕ → ℕ → Result Yes Refusal → Type 0
 Verdict mode map w rom cert words budget (Err (refusal.Image RomLength)) = IsRomLength map (length rom) → ⊥
-Verdict mode map w rom cert words budget (Err (refusal.Image FrameLength)) = IsRomLength map (length rom) × (IsFrameLength (length words) → ⊥)
-Verdict mode map w rom cert words budget (Err refusal.BudgetRange) = IsRomLength map (length rom) × IsFrameLength (length words) × (IsBudget budget → ⊥)
-Verdict mode map w rom cert words budget (Err (refusal.Cert f)) = InRange map rom words budget × ReadAnswer map.rom_first map.rom_last cert (Err f)
+Verdict mode map w rom cert words budget (Err (refusal.Image FrameLength)) =
+    IsRomLength map (length rom) × (IsFrameLength (length words) → ⊥)
+Verdict mode map w rom cert words budget (Err refusal.BudgetRange) =
+    IsRomLength map (length rom) × IsFrameLength (length words) × (IsBudget budget → ⊥)
+Verdict mode map w rom cert words budget (Err (refusal.Cert f)) =
+    InRange map rom words budget × ReadAnswer map.rom_first map.rom_last cert (Err f)
 Verdict mode map w rom cert words budget answer = ListVerdict mode map w rom cert words budget answer
 
 -- the answer is not that memory was short for the certificate

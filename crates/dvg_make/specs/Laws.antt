@@ -9,7 +9,8 @@ use Rattle.dvg_cert.specs.declared.entry.Key.TheVariants.{At}
 use Rattle.dvg_cert.specs.declared.entry.LitBox.{LitBox}
 use Rattle.dvg_words.specs.Example.{example_rom}
 use Rattle.dvg_check.specs.Example.{example_list}
-use Rattle.dvg_items.specs.Known.{shape_context, place_before}
+use Rattle.dvg_items.specs.declared.item.Item.{Item}
+use Rattle.dvg_items.specs.Known.{Context, shape_context, place_before}
 use Rattle.dvg_items.specs.Seen.{extent}
 use Rattle.dvg_items.specs.Lit.{LitInWindow}
 use Rattle.dvg_check.specs.Rules.{Good}
@@ -25,9 +26,13 @@ OneLeast = (ps : List Point) (a b : LitBox) → IsLeast ps a → IsLeast ps b �
 abbrev pub OneMade : Type 0
 OneMade = (rom : Rom) (roots : List (ℕ × Key)) (a b : List Entry) → Made rom roots a → Made rom roots b → a ≡ b
 
+-- what an item lights at an absolute place lies in the window
+abbrev pub ItemInWindow : Window → Context → List Item → Item → Type 0
+ItemInWindow w c earlier i = LitInWindow w (extent c earlier i.instr) (place_before c earlier)
+
 -- no lit stroke and no called box at an absolute place leaves the window
 abbrev pub AllInWindow : Window → Rom → List Entry → Type 0
-AllInWindow w rom list = (e : Entry) → Contains list e → EachItem rom e.addr (λ earlier i. LitInWindow w (extent (shape_context list e) earlier i.instr) (place_before (shape_context list e) earlier))
+AllInWindow w rom list = (e : Entry) → Contains list e → EachItem rom e.addr (ItemInWindow w (shape_context list e))
 
 -- a made list is good exactly there, and its counts are then exact
 abbrev pub GoodInWindow : Type 0

@@ -11,7 +11,7 @@ use Rattle.dvg_cert.specs.Lookup.{entry_at}
 use Rattle.dvg_items.specs.Items.{next_place, LeadsTo}
 use Rattle.dvg_items.specs.declared.item.Kind.TheVariants.{Shape}
 use Rattle.dvg_items.specs.declared.item.Item.{Item}
-use Rattle.dvg_items.specs.Known.{shape_context, target, callee, scale_before}
+use Rattle.dvg_items.specs.Known.{Context, shape_context, target, callee, scale_before}
 use Rattle.dvg_check.specs.Rules.{ShapePlaceKeeps, AllKeep}
 use Rattle.dvg_check.specs.declared.fault.ShapeWhy.{ShapeWhy}
 use Rattle.dvg_check.specs.declared.fault.Mode.TheVariants.{Exact}
@@ -26,7 +26,9 @@ HasEntry list addr key = (e : Entry) × (entry_at list addr key ≡ Some e)
 
 -- holds of each item of the shape at an address that is there and not odd, with the items before it (profile)
 abbrev pub EachItem : Rom → ℕ → (List Item → Item → Type 0) → Type 0
-EachItem rom addr P = (earlier : List Item) (i : Item) → LeadsTo Shape (rom_word rom) addr earlier i.at → cell_at (rom_word rom) i.at ≡ Holds i.format i.instr → P earlier i
+EachItem rom addr P =
+    (earlier : List Item) (i : Item) → LeadsTo Shape (rom_word rom) addr earlier i.at
+    → cell_at (rom_word rom) i.at ≡ Holds i.format i.instr → P earlier i
 
 -- holds of all items of the shape at an address, up to the last one (profile)
 abbrev pub AtEnd : Rom → ℕ → (List Item → Type 0) → Type 0
@@ -36,12 +38,16 @@ AtEnd rom addr P = EachItem rom addr (λ earlier i. next_place Shape i ≡ None 
 abbrev pub MadeKeeps : Rom → List Entry → Entry → List Item → ℕ → ShapeWhy → Type 0
 MadeKeeps rom list e earlier p why = (w : Window) → why ≢ shape.OffScreen → ShapePlaceKeeps Exact w rom list e earlier p why
 
+-- a call or a tail jump has an entry with its target as address and the known scale before it as key (profile)
+abbrev pub HasEntryAtScale : List Entry → Context → List Item → Item → Type 0
+HasEntryAtScale list c earlier i = (to : ℕ) → target Shape i.instr ≡ Some to → HasEntry list to (scale_before c earlier)
+
 -- the entry of a shape as it is made (profile)
 pub record MadeEntry (rom : Rom) (list : List Entry) (e : Entry) : Type 0 where
   -- its counts are exact, its end and its scale are what is known there
   pub keeps : AllKeep Shape (rom_word rom) e.addr (MadeKeeps rom list e)
-  -- each call and tail jump has an entry with its target as address and the known scale before it as key
-  pub keyed : EachItem rom e.addr (λ earlier i. (to : ℕ) → target Shape i.instr ≡ Some to → HasEntry list to (scale_before (shape_context list e) earlier))
+  -- each call and tail jump has an entry at the very scale that is known there
+  pub keyed : EachItem rom e.addr (HasEntryAtScale list (shape_context list e))
   -- its box is the least one
   pub box : AtEnd rom e.addr (λ items. IsLeast (lit_points (shape_context list e) items) e.lit)
 

@@ -20,11 +20,12 @@ target_of word = word % 2 ^ 12
 abbrev pub is_long_opcode : ℕ → Bool
 is_long_opcode op = nat_le op 10
 
--- sign and magnitude: a set sign is minus, and minus 0 is 0 (profile)
+-- sign and magnitude: a set sign is minus, and minus 0 is 0 (DVG documentation)
 abbrev pub magnitude_and_sign : ℕ → ℕ → ℤ
 magnitude_and_sign sign magnitude = if sign == 1 then neg_ℤ (pos magnitude) else pos magnitude
 
--- VCTR: first word local scale, Y sign (bit 10) and size (9..0); second intensity, X sign and size; bits 11 are ignored (profile)
+-- VCTR: first word local scale, Y sign (bit 10) and size (9..0); second intensity, X sign and size (DVG documentation);
+-- bits 11 are ignored (profile)
 abbrev pub vctr_draw : ℕ → ℕ → DrawFields
 vctr_draw first second = record {
   dx = magnitude_and_sign (second / 1024 % 2) (second % 1024);
@@ -33,7 +34,8 @@ vctr_draw first second = record {
   bright = opcode second;
 }
 
--- SVEC: Y sign (10) and size (9..8), intensity (7..4), X sign (2) and size (1..0), scale code of bit 11 and twice bit 3 (profile)
+-- SVEC: Y sign (10) and size (9..8), intensity (7..4), X sign (2) and size (1..0) (DVG documentation); scale code of bit 11
+-- and twice bit 3 (profile)
 abbrev pub svec_draw : ℕ → DrawFields
 svec_draw word = record {
   dx = magnitude_and_sign (word / 4 % 2) (256 * (word % 4));
@@ -46,12 +48,16 @@ svec_draw word = record {
 abbrev pub is_plain_labs : ℕ → ℕ → Bool
 is_plain_labs first second = (first / 1024 % 4 == 0) && (second / 1024 % 4 == 0)
 
+-- LABS: Y (bits 9..0 of the first word), global scale (15..12 of the second) and X (9..0) (DVG documentation); none if odd
+abbrev pub labs_of : ℕ → ℕ → Option Instr
+labs_of first second = if is_plain_labs first second then Some (Labs (second % 1024) (first % 1024) (opcode second)) else None
+
 -- the instruction of two words, by the opcode (DVG documentation); none exactly for an odd LABS (profile). The low twelve bits
 -- of HALT and RTSL are ignored (profile)
 unfoldable pub instruction_of : ℕ → ℕ → Option Instr
 instruction_of first second =
     if nat_le (opcode first) 9 then Some (Draw (vctr_draw first second))
-    else if opcode first == 10 then (if is_plain_labs first second then Some (Labs (second % 1024) (first % 1024) (opcode second)) else None)
+    else if opcode first == 10 then labs_of first second
     else if opcode first == 11 then Some Halt
     else if opcode first == 12 then Some (Jsrl (target_of first))
     else if opcode first == 13 then Some Rtsl

@@ -43,7 +43,7 @@ abbrev pub fetches : Option ℕ → ℕ → List ℕ
 fetches None p = p ∷ []
 fetches (Some first) p = places (format_of first) p
 
--- the new strokes of a draw: intensity 0 is dark, every other is lit (profile)
+-- the new strokes of a draw: intensity 0 is dark (DVG documentation), every other counts as lit (profile)
 abbrev pub lit_by : ℕ → Stroke → List Stroke
 lit_by zero stroke = []
 lit_by (suc n) stroke = stroke ∷ []
@@ -58,9 +58,13 @@ after_draw d format s =
       strokes = lit_by d.bright (record { from = s.place; to = to }) ++ s.strokes;
     }
 
+-- the next address is stored, as one more return place
+abbrev pub after_store : State → State
+after_store s = record s { return_stack = (s.pc + 1) ∷ s.return_stack; max_stack = max s.max_stack (length s.return_stack + 1) }
+
 -- a call stores the next address and jumps; there are four return places (DVG documentation), and a fifth store is a fault (profile)
 abbrev pub after_call : Bool → ℕ → State → Status
-after_call true to s = Running (record s { pc = to; return_stack = (s.pc + 1) ∷ s.return_stack; max_stack = max s.max_stack (length s.return_stack + 1) })
+after_call true to s = Running (record (after_store s) { pc = to })
 after_call false to s = Fault s
 
 -- a return takes the last stored address (DVG documentation); with none stored it is a fault (profile)
@@ -101,6 +105,6 @@ abbrev pub Reached : Memory → ℕ → Status → Status → Type 0
 Reached m zero from to = from ≡ to
 Reached m (suc n) from to = (mid : Status) × Step m from mid × Reached m n mid to
 
--- a display starts at word 000, with the beam anywhere, at any global scale, and no return place stored (profile)
+-- a display starts at word 000 (DVG documentation), with the beam anywhere, at any global scale, no return place stored (profile)
 abbrev pub start : Point → ℕ → State
 start place scale = record { pc = 0; place = place; scale = scale; return_stack = []; max_stack = 0; strokes = []; fetched = [] }
