@@ -27,6 +27,3 @@ pub use lookup::{Entries, ListIndex};
 pub use numerals::{read_address, read_key};
 pub use reader::{CertReader, read_cert};
 pub use writer::{write_bytes, write_cert};
-
-#[cfg(test)]
-mod tests;

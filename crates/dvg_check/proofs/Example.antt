@@ -14,7 +14,7 @@ use Rattle.dvg_cert.specs.Order.{IsCertificate}
 use Rattle.dvg_check.specs.Example.{example_entry, example_list, WorkedExample}
 use Rattle.dvg_items.specs.Known.{shape_context, frame_context}
 use Rattle.dvg_check.specs.Rules.{ShapeKeeps, FrameKeeps, ShapePlaceKeeps, FramePlaceKeeps, CellKeeps, AsClaimed, GoodShape, Good, AllKeep}
-use Rattle.dvg_items.specs.Seen.{sight}
+use Rattle.dvg_items.specs.Seen.{seen_at}
 use Rattle.dvg_check.specs.declared.fault.FrameWhy.{FrameWhy}
 use Rattle.dvg_check.specs.declared.fault.FrameWhy.TheVariants as frame
 use Rattle.dvg_check.specs.declared.fault.Mode.{Mode}
@@ -44,7 +44,7 @@ pub return_there : cell_at (rom_word example_rom) 2050 ≡ Holds Short Rtsl
 unfolding cell_at instruction_of
 return_there = refl
 
-draw_keeps : (mode : Mode) (why : ShapeWhy) → ShapeKeeps mode screen example_entry (sight (shape_context example_list example_entry) [] draw_item) why
+draw_keeps : (mode : Mode) (why : ShapeWhy) → ShapeKeeps mode screen example_entry (seen_at (shape_context example_list example_entry) [] draw_item) why
 unfolding displacement
 draw_keeps mode shape.Unmapped = tt
 draw_keeps mode shape.Odd = tt
@@ -66,7 +66,7 @@ as_claimed : (mode : Mode) (n : ℕ) → AsClaimed mode n n
 as_claimed Bound n = tt
 as_claimed Exact n = refl
 
-return_keeps : (mode : Mode) (why : ShapeWhy) → ShapeKeeps mode screen example_entry (sight (shape_context example_list example_entry) (draw_item ∷ []) return_item) why
+return_keeps : (mode : Mode) (why : ShapeWhy) → ShapeKeeps mode screen example_entry (seen_at (shape_context example_list example_entry) (draw_item ∷ []) return_item) why
 unfolding displacement
 return_keeps mode shape.Unmapped = tt
 return_keeps mode shape.Odd = tt
@@ -84,9 +84,9 @@ return_keeps mode shape.WordsDiffer = as_claimed mode 3
 return_keeps mode shape.DepthDiffers = as_claimed mode 0
 
 -- what stands at an item of the shape keeps what the item keeps
-shape_there : (mode : Mode) (earlier : List Item) (i : Item) → cell_at (rom_word example_rom) i.at ≡ Holds i.format i.instr → ((why : ShapeWhy) → ShapeKeeps mode screen example_entry (sight (shape_context example_list example_entry) earlier i) why) → (why : ShapeWhy) → ShapePlaceKeeps mode screen example_rom example_list example_entry earlier i.at why
+shape_there : (mode : Mode) (earlier : List Item) (i : Item) → cell_at (rom_word example_rom) i.at ≡ Holds i.format i.instr → ((why : ShapeWhy) → ShapeKeeps mode screen example_entry (seen_at (shape_context example_list example_entry) earlier i) why) → (why : ShapeWhy) → ShapePlaceKeeps mode screen example_rom example_list example_entry earlier i.at why
 shape_there mode earlier i is kept why =
-    subst (λ cell. CellKeeps shape.Unmapped shape.Odd (λ j. ShapeKeeps mode screen example_entry (sight (shape_context example_list example_entry) earlier j)) i.at cell why) (sym is) (kept why)
+    subst (λ cell. CellKeeps shape.Unmapped shape.Odd (λ j. ShapeKeeps mode screen example_entry (seen_at (shape_context example_list example_entry) earlier j)) i.at cell why) (sym is) (kept why)
 
 shape_good : (mode : Mode) → GoodShape mode screen example_rom example_list example_entry
 shape_good mode =
@@ -120,7 +120,7 @@ halt_there : cell_at (frame_word example_frame) 3 ≡ Holds Short Halt
 unfolding cell_at instruction_of
 halt_there = refl
 
-labs_keeps : (why : FrameWhy) → FrameKeeps screen 20000 (sight (frame_context example_list) [] labs_item) why
+labs_keeps : (why : FrameWhy) → FrameKeeps screen 20000 (seen_at (frame_context example_list) [] labs_item) why
 labs_keeps frame.Unmapped = tt
 labs_keeps frame.Odd = tt
 labs_keeps frame.ReturnInFrame = λ e. cc
@@ -131,7 +131,7 @@ labs_keeps frame.OffScreen = tt
 labs_keeps frame.NoEntry = tt
 labs_keeps frame.Budget = omega arith
 
-call_keeps : (why : FrameWhy) → FrameKeeps screen 20000 (sight (frame_context example_list) (labs_item ∷ []) call_item) why
+call_keeps : (why : FrameWhy) → FrameKeeps screen 20000 (seen_at (frame_context example_list) (labs_item ∷ []) call_item) why
 call_keeps frame.Unmapped = tt
 call_keeps frame.Odd = tt
 call_keeps frame.ReturnInFrame = λ e. cc
@@ -143,7 +143,7 @@ call_keeps frame.OffScreen =
 call_keeps frame.NoEntry = tt
 call_keeps frame.Budget = omega arith
 
-halt_keeps : (why : FrameWhy) → FrameKeeps screen 20000 (sight (frame_context example_list) (call_item ∷ labs_item ∷ []) halt_item) why
+halt_keeps : (why : FrameWhy) → FrameKeeps screen 20000 (seen_at (frame_context example_list) (call_item ∷ labs_item ∷ []) halt_item) why
 halt_keeps frame.Unmapped = tt
 halt_keeps frame.Odd = tt
 halt_keeps frame.ReturnInFrame = λ e. cc
@@ -155,9 +155,9 @@ halt_keeps frame.NoEntry = tt
 halt_keeps frame.Budget = omega arith
 
 -- what stands at an item of the frame keeps what the item keeps
-frame_there : (earlier : List Item) (i : Item) → cell_at (frame_word example_frame) i.at ≡ Holds i.format i.instr → ((why : FrameWhy) → FrameKeeps screen 20000 (sight (frame_context example_list) earlier i) why) → (why : FrameWhy) → FramePlaceKeeps screen example_frame example_list 20000 earlier i.at why
+frame_there : (earlier : List Item) (i : Item) → cell_at (frame_word example_frame) i.at ≡ Holds i.format i.instr → ((why : FrameWhy) → FrameKeeps screen 20000 (seen_at (frame_context example_list) earlier i) why) → (why : FrameWhy) → FramePlaceKeeps screen example_frame example_list 20000 earlier i.at why
 frame_there earlier i is kept why =
-    subst (λ cell. CellKeeps frame.Unmapped frame.Odd (λ j. FrameKeeps screen 20000 (sight (frame_context example_list) earlier j)) i.at cell why) (sym is) (kept why)
+    subst (λ cell. CellKeeps frame.Unmapped frame.Odd (λ j. FrameKeeps screen 20000 (seen_at (frame_context example_list) earlier j)) i.at cell why) (sym is) (kept why)
 
 frame_keeps : AllKeep Frame (frame_word example_frame) 0 (FramePlaceKeeps screen example_frame example_list 20000)
 frame_keeps =

@@ -23,7 +23,7 @@ use Rattle.dvg_items.specs.Items.{LeadsTo}
 use Rattle.dvg_items.specs.Known.{place_past, place_moved_by, place_before, frame_context, depth_under, depth_before, callee, words_before}
 use Rattle.dvg_check.specs.Laws.{GoodIsSafe, ExactIsExact}
 use Rattle.dvg_items.specs.Lit.{LitInBox}
-use Rattle.dvg_items.specs.Seen.{extent, sight}
+use Rattle.dvg_items.specs.Seen.{extent, seen_at}
 use Rattle.dvg_check.specs.Rules.{Good, AllKeep, FramePlaceKeeps, FrameKeeps, CellKeeps, GoodFrame}
 use Rattle.dvg_check.specs.Safety.{Ends, IsSafeStatus, IsSafeState}
 use Rattle.dvg_check.specs.declared.fault.FrameWhy.{FrameWhy}
@@ -151,8 +151,8 @@ safe_status m w words depth n s a r reached =
 -- ---- the whole
 
 module _ (mode : Mode) (m : Memory) (w : Window) (list : List Entry) (budget : ℕ) (mem : IsMemory m) (good : Good mode w m.rom list) (keep : AllKeep Frame (frame_word m.frame) 0 (FramePlaceKeeps w m.frame list budget)) where
-  frame_rule : (earlier : List Item) (i : Item) → LeadsTo Frame (frame_word m.frame) 0 earlier i.at → cell_at (frame_word m.frame) i.at ≡ Holds i.format i.instr → (why : FrameWhy) → FrameKeeps w budget (sight (frame_context list) earlier i) why
-  frame_rule earlier i lead is why = subst (λ c. CellKeeps frame.Unmapped frame.Odd (λ j. FrameKeeps w budget (sight (frame_context list) earlier j)) i.at c why) is (keep earlier i.at lead why)
+  frame_rule : (earlier : List Item) (i : Item) → LeadsTo Frame (frame_word m.frame) 0 earlier i.at → cell_at (frame_word m.frame) i.at ≡ Holds i.format i.instr → (why : FrameWhy) → FrameKeeps w budget (seen_at (frame_context list) earlier i) why
+  frame_rule earlier i lead is why = subst (λ c. CellKeeps frame.Unmapped frame.Odd (λ j. FrameKeeps w budget (seen_at (frame_context list) earlier j)) i.at c why) is (keep earlier i.at lead why)
 
   frame_facts : (earlier : List Item) (i : Item) → LeadsTo Frame (frame_word m.frame) 0 earlier i.at → cell_at (frame_word m.frame) i.at ≡ Holds i.format i.instr → Facts mode m w (frame_context list) Empty (λ q. InFrame m.frame q ⊎ InRom m.rom.map q) earlier i
   frame_facts earlier i lead is =

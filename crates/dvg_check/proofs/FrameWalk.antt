@@ -13,7 +13,7 @@ use Rattle.dvg_cert.specs.declared.entry.Entry.{Entry}
 use Rattle.dvg_items.specs.Items.{place_after, LeadsTo}
 use Rattle.dvg_items.specs.Known.{known_before, frame_context}
 use Rattle.dvg_check.specs.Rules.{IsForward, AllKeep, FramePlaceKeeps, GoodFrame, FrameKeeps, CellKeeps}
-use Rattle.dvg_items.specs.Seen.{sight}
+use Rattle.dvg_items.specs.Seen.{seen_at}
 use Rattle.dvg_check.specs.Private.Judging.{WalksTo}
 use Rattle.dvg_check.specs.declared.fault.FrameWhy.{FrameWhy}
 use Rattle.dvg_check.specs.declared.fault.FrameWhy.TheVariants as frame
@@ -55,5 +55,5 @@ at_halt w words list budget end keeps items at format Halt leads is knows h =
 pub good_frame : (w : Window) (words : List ℕ) (list : List Entry) (budget : ℕ) (end : Known) → WalksTo (frame_context list) (frame_word words) 0 (FramePlaceKeeps w words list budget) end → GoodFrame w words list budget end.words end.depth
 good_frame w words list budget end u = at_halt w words list budget end u.keeps_all u.items u.last.at u.last.format u.last.instr u.leads u.stands u.knows (last_halts u.last.at u.last.format u.last.instr u.ends (kept frame.ReturnInFrame) (kept frame.BackJump))
   where
-    kept : (why : FrameWhy) → FrameKeeps w budget (sight (frame_context list) u.items u.last) why
-    kept why = subst (λ cell. CellKeeps frame.Unmapped frame.Odd (λ i. FrameKeeps w budget (sight (frame_context list) u.items i)) u.last.at cell why) u.stands (u.keeps_all u.items u.last.at u.leads why)
+    kept : (why : FrameWhy) → FrameKeeps w budget (seen_at (frame_context list) u.items u.last) why
+    kept why = subst (λ cell. CellKeeps frame.Unmapped frame.Odd (λ i. FrameKeeps w budget (seen_at (frame_context list) u.items i)) u.last.at cell why) u.stands (u.keeps_all u.items u.last.at u.leads why)

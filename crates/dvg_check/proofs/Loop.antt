@@ -12,8 +12,8 @@ use Rattle.dvg_check.specs.FirstFault.{AllBefore, FaultAt}
 use Rattle.dvg_items.specs.Items.{LeadsTo}
 use Rattle.dvg_items.specs.Known.{Context, known_before}
 use Rattle.dvg_check.specs.Private.Runs.{FormattedDraw, KeepsOver, PassesTo}
-use Rattle.dvg_check.specs.Private.Judging.{sight_by, WalksTo, KeepsAll, BreaksFirst}
-use Rattle.dvg_items.specs.Seen.{sight_with, sight}
+use Rattle.dvg_check.specs.Private.Judging.{seen_by, WalksTo, KeepsAll, BreaksFirst}
+use Rattle.dvg_items.specs.Seen.{seen_with, seen_at}
 use Rattle.dvg_check.specs.Rules.{PlaceKeeps, CellKeeps}
 use Rattle.dvg_items.specs.declared.item.Item.{Item}
 use Rattle.dvg_items.specs.declared.item.Kind.{Kind}
@@ -37,8 +37,8 @@ pub record Walked {Why : Type 0} (c : Context) (word : ℕ → Option ℕ) (firs
   pub knows : cursor.known ≡ known_before c items
   pub sound : IsSoundCursor cursor
 
-pub sight_known : (c : Context) (earlier : List Item) (i : Item) (known : Known) → known ≡ known_before c earlier → sight c earlier i ≡ sight_by c.list c.kind known i
-sight_known c earlier i known is = ap (λ (k : Known). sight_by c.list c.kind k i) (sym is)
+pub seen_known : (c : Context) (earlier : List Item) (i : Item) (known : Known) → known ≡ known_before c earlier → seen_at c earlier i ≡ seen_by c.list c.kind known i
+seen_known c earlier i known is = ap (λ (k : Known). seen_by c.list c.kind k i) (sym is)
 
 module _ (Why : Type 0) (order : Why → ℕ) (missing odd : Why) (Keeps : Seen → Why → Type 0) (kind : Kind) (list : List Entry) (scale : Key) (word : ℕ → Option ℕ) (first : ℕ) where
   abbrev context : Context
@@ -49,7 +49,7 @@ module _ (Why : Type 0) (order : Why → ℕ) (missing odd : Why) (Keeps : Seen 
 
   -- what a cell keeps
   abbrev CellKept : List Item → ℕ → Why → Cell → Type 0
-  CellKept items at why cell = CellKeeps missing odd (λ i. Keeps (sight context items i)) at cell why
+  CellKept items at why cell = CellKeeps missing odd (λ i. Keeps (seen_at context items i)) at cell why
 
   pub begin : (cursor : Cursor) → cursor ≡ first_cursor kind first scale → IsSoundCursor cursor → Walked context word first keeps cursor
   begin cursor is sound =
@@ -87,10 +87,10 @@ module _ (Why : Type 0) (order : Why → ℕ) (missing odd : Why) (Keeps : Seen 
     item = record { at = cursor.at; format = format; instr = instr }
 
     abbrev seen : Seen
-    seen = sight_by list kind cursor.known item
+    seen = seen_by list kind cursor.known item
 
-    same : sight context k.items item ≡ seen
-    same = sight_known context k.items item cursor.known k.knows
+    same : seen_at context k.items item ≡ seen
+    same = seen_known context k.items item cursor.known k.knows
 
     kept_here : (why : Why) → Keeps seen why → keeps k.items cursor.at why
     kept_here why h = subst (CellKept k.items cursor.at why) (sym is) (subst (λ x. Keeps x why) (sym same) h)
@@ -138,8 +138,8 @@ module _ (Why : Type 0) (order : Why → ℕ) (missing odd : Why) (Keeps : Seen 
   over_draws [] at known p after items leads kept knows over = (items, subst (LeadsTo kind word first items) over.0 leads, kept, sym over.1 ∙ knows)
   over_draws (s ∷ rest) at known p after items leads kept knows over =
       let item : Item = record { at = at; format = s.format; instr = Draws s.draw } in
-      let same : sight context items item ≡ sight_with None known item = sight_known context items item known knows in
-      over_draws rest (at + word_count s.format) (sight_with None known item).after p after (item ∷ items) (leads, over.0, refl)
+      let same : seen_at context items item ≡ seen_with None known item = seen_known context items item known knows in
+      over_draws rest (at + word_count s.format) (seen_with None known item).after p after (item ∷ items) (leads, over.0, refl)
       (kept, λ why. subst (CellKept items at why) (sym over.0) (subst (λ (v : Seen). Keeps v why) (sym same) (over.1 why)))
       (ap (λ (v : Seen). v.after) (sym same))
       over.2

@@ -26,8 +26,8 @@ use Rattle.dvg_items.specs.declared.lit.LitExtent.TheVariants.{Nothing, Between,
 use Rattle.dvg_items.specs.Lit.{PlaceKnown, ScaleKnown, LitInWindow, InSpan, LitInBox, draw_extent}
 use Rattle.dvg_check.specs.Private.Judging.{EachKept, shape_rules, frame_rules}
 use Rattle.dvg_items.specs.Bounds.{IsSoundCursor, IsNearPlace}
-use Rattle.dvg_items.specs.Seen.{sight_with, HasCallee}
-use Rattle.dvg_check.specs.Private.Runs.{Run, FormattedDraw, Follow, ScalesWithin, EndsIn, LitIn, LiesIn, IsPart, IsFactor, IsRun, Tells, PassesTo, KeepsOver, count, multiplied, run_extent, run_sight, size, total}
+use Rattle.dvg_items.specs.Seen.{seen_with, HasCallee}
+use Rattle.dvg_check.specs.Private.Runs.{Run, FormattedDraw, Follow, ScalesWithin, EndsIn, LitIn, LiesIn, IsPart, IsFactor, IsRun, Tells, PassesTo, KeepsOver, count, multiplied, run_extent, run_seen, size, total}
 use Rattle.dvg_check.specs.Rules.{AtLast, AsClaimed, IsForward, Mode, ShapeKeeps, FrameKeeps}
 use Rattle.dvg_check.specs.declared.fault.FrameWhy.{FrameWhy}
 use Rattle.dvg_check.specs.declared.fault.FrameWhy.TheVariants as frame
@@ -225,7 +225,7 @@ module _ (Why : Type 0) (Keeps : Seen → Why → Type 0) (word : ℕ → Option
   item p s = record { at = p; format = s.format; instr = Draws s.draw }
 
   -- one draw further
-  step : (p : ℕ) (s : FormattedDraw) (o : Point) (n : ℕ) → run.lowest ≤ s.draw.lscale → s.draw.lscale ≤ run.highest → IsFactor run.lowest run.highest g f → (sight_with None (at_offset o n) (item p s)).after ≡ at_offset (shift o (size run.lowest s.draw)) (n + word_count s.format)
+  step : (p : ℕ) (s : FormattedDraw) (o : Point) (n : ℕ) → run.lowest ≤ s.draw.lscale → s.draw.lscale ≤ run.highest → IsFactor run.lowest run.highest g f → (seen_with None (at_offset o n) (item p s)).after ≡ at_offset (shift o (size run.lowest s.draw)) (n + word_count s.format)
   step p s o n low high is =
       let moves : place_moved_by (place_moved_by place (multiplied o f)) (displacement s.draw g) ≡ place_moved_by place (multiplied (shift o (size run.lowest s.draw)) f) =
       ap (place_moved_by (place_moved_by place (multiplied o f))) (drawn s.draw g run.lowest run.highest f low high is) ∙ moved_on place (multiplied o f) (multiplied (size run.lowest s.draw) f) ∙ ap (place_moved_by place) (sym (multiplied_shift o (size run.lowest s.draw) f)) in
@@ -233,11 +233,11 @@ module _ (Why : Type 0) (Keeps : Seen → Why → Type 0) (word : ℕ → Option
       let deep : max 0 depth ≡ depth = max_zero depth in
       λ i. record { place = moves i; scale = At g; words = counts i; depth = deep i }
 
-  part : (p : ℕ) (s : FormattedDraw) (o : Point) (n : ℕ) → run.lowest ≤ s.draw.lscale → s.draw.lscale ≤ run.highest → IsFactor run.lowest run.highest g f → EndsIn run.lit s.draw.bright o (size run.lowest s.draw) → n + word_count s.format ≤ run.words → IsPart (sight_with None (at_offset o n) (item p s)) (run_sight run f start first)
+  part : (p : ℕ) (s : FormattedDraw) (o : Point) (n : ℕ) → run.lowest ≤ s.draw.lscale → s.draw.lscale ≤ run.highest → IsFactor run.lowest run.highest g f → EndsIn run.lit s.draw.bright o (size run.lowest s.draw) → n + word_count s.format ≤ run.words → IsPart (seen_with None (at_offset o n) (item p s)) (run_seen run f start first)
   part p s o n low high is ends few =
       record { draw = s.draw; draws = refl; alone = refl; few = omega (arith, few); lit = lies_drawn run.lit place g run.lowest run.highest f o s.draw low high is s.draw.bright ends }
 
-  pub over : (rest : List FormattedDraw) (o : Point) (n p q : ℕ) → IsFactor run.lowest run.highest g f → Follow word p rest q → ScalesWithin run.lowest run.highest rest → LitIn run.lit run.lowest o rest → n + count rest ≡ run.words → ((v : Seen) → IsPart v (run_sight run f start first) → (why : Why) → Keeps v why) → KeepsOver Keeps word rest p (at_offset o n) q (at_offset (shift o (total run.lowest rest)) (n + count rest))
+  pub over : (rest : List FormattedDraw) (o : Point) (n p q : ℕ) → IsFactor run.lowest run.highest g f → Follow word p rest q → ScalesWithin run.lowest run.highest rest → LitIn run.lit run.lowest o rest → n + count rest ≡ run.words → ((v : Seen) → IsPart v (run_seen run f start first) → (why : Why) → Keeps v why) → KeepsOver Keeps word rest p (at_offset o n) q (at_offset (shift o (total run.lowest rest)) (n + count rest))
   over [] o n p q is follow scales lit few keeps =
       let same : shift o origin ≡ o = shift_origin o in
       let none : n + 0 ≡ n = omega arith in (follow, λ i. at_offset (sym same i) (sym none i))
@@ -258,30 +258,30 @@ module _ (Why : Type 0) (Keeps : Seen → Why → Type 0) (word : ℕ → Option
       let none : words + 0 ≡ words = omega arith in
       λ i. record { place = still i; scale = At g; words = none i; depth = depth }
 
-  ends : (strokes : List FormattedDraw) → Tells strokes run → at_offset (shift origin (total run.lowest strokes)) (0 + count strokes) ≡ (run_sight run f start first).after
+  ends : (strokes : List FormattedDraw) → Tells strokes run → at_offset (shift origin (total run.lowest strokes)) (0 + count strokes) ≡ (run_seen run f start first).after
   ends strokes t =
       let moves : shift origin (total run.lowest strokes) ≡ run.by = origin_shift (total run.lowest strokes) ∙ sym t.by in
       let counts : 0 + count strokes ≡ run.words = omega (arith, t.words) in
       λ i. at_offset (moves i) (counts i)
 
-  passes_here : (at : ℕ) → IsRun word at run → (run.words ≡ 0 → ⊥) → IsFactor run.lowest run.highest g f → at < 4096 → IsSoundCursor (record { at = at; known = start }) → ((v : Seen) → IsPart v (run_sight run f start first) → (why : Why) → Keeps v why) → IsNearPlace (at + 1) (run_sight run f start first).after.place → (run_sight run f start first).after.words ≤ 1000000 → PassesTo Keeps word at start (at + run.words) (run_sight run f start first).after
+  passes_here : (at : ℕ) → IsRun word at run → (run.words ≡ 0 → ⊥) → IsFactor run.lowest run.highest g f → at < 4096 → IsSoundCursor (record { at = at; known = start }) → ((v : Seen) → IsPart v (run_seen run f start first) → (why : Why) → Keeps v why) → IsNearPlace (at + 1) (run_seen run f start first).after.place → (run_seen run f start first).after.words ≤ 1000000 → PassesTo Keeps word at start (at + run.words) (run_seen run f start first).after
   passes_here at r some is lt sound keeps near few =
       let more : 1 ≤ run.words = grind (arith, some) in
       let over_all = over r.stands.strokes origin 0 at (at + run.words) is r.stands.follow r.stands.tells.scales r.stands.tells.lit (omega (arith, r.stands.tells.words)) keeps in
       record {
         strokes = r.stands.strokes;
-        keeps_over = subst (λ (k : Known). KeepsOver Keeps word r.stands.strokes at k (at + run.words) (run_sight run f start first).after) begins (subst (KeepsOver Keeps word r.stands.strokes at (at_offset origin 0) (at + run.words)) (ends r.stands.strokes r.stands.tells) over_all);
+        keeps_over = subst (λ (k : Known). KeepsOver Keeps word r.stands.strokes at k (at + run.words) (run_seen run f start first).after) begins (subst (KeepsOver Keeps word r.stands.strokes at (at_offset origin 0) (at + run.words)) (ends r.stands.strokes r.stands.tells) over_all);
         further = omega (arith, more);
         near = r.near lt;
-        sound = record { at = r.near lt; place = IsNearPlace-more (at + 1) (at + run.words) (run_sight run f start first).after.place (omega (arith, more)) near; scale = sound.scale; words = few; depth = sound.depth };
+        sound = record { at = r.near lt; place = IsNearPlace-more (at + 1) (at + run.words) (run_seen run f start first).after.place (omega (arith, more)) near; scale = sound.scale; words = few; depth = sound.depth };
       }
 
 -- a run that keeps all rules, seen as one item
-pub passes : (Why : Type 0) (Keeps : Seen → Why → Type 0) (word : ℕ → Option ℕ) (before : Known) (g f : ℕ) (run : Run) (first : Item) (seen : Seen) → before.scale ≡ At g → seen ≡ run_sight run f before first → IsRun word first.at run → (run.words ≡ 0 → ⊥) → IsFactor run.lowest run.highest g f → first.at < 4096 → IsSoundCursor (record { at = first.at; known = before }) → ((v : Seen) → IsPart v seen → (why : Why) → Keeps v why) → IsNearPlace (first.at + 1) seen.after.place → seen.after.words ≤ 1000000 → PassesTo Keeps word first.at before (first.at + run.words) seen.after
+pub passes : (Why : Type 0) (Keeps : Seen → Why → Type 0) (word : ℕ → Option ℕ) (before : Known) (g f : ℕ) (run : Run) (first : Item) (seen : Seen) → before.scale ≡ At g → seen ≡ run_seen run f before first → IsRun word first.at run → (run.words ≡ 0 → ⊥) → IsFactor run.lowest run.highest g f → first.at < 4096 → IsSoundCursor (record { at = first.at; known = before }) → ((v : Seen) → IsPart v seen → (why : Why) → Keeps v why) → IsNearPlace (first.at + 1) seen.after.place → seen.after.words ≤ 1000000 → PassesTo Keeps word first.at before (first.at + run.words) seen.after
 passes Why Keeps word before g f run first seen scale is r some fits lt sound keeps near few =
     let start : Known = record { place = before.place; scale = At g; words = before.words; depth = before.depth } in
     let same : before ≡ start = λ i. record before { scale = scale i } in
-    let seen_is : seen ≡ run_sight run f start first = is ∙ ap (λ (k : Known). run_sight run f k first) same in
+    let seen_is : seen ≡ run_seen run f start first = is ∙ ap (λ (k : Known). run_seen run f k first) same in
     subst (λ (k : Known). PassesTo Keeps word first.at k (first.at + run.words) seen.after) (sym same)
     (subst (λ (v : Seen). PassesTo Keeps word first.at start (first.at + run.words) v.after) (sym seen_is)
     (passes_here Why Keeps word before.place g before.words before.depth f run first first.at r some fits lt

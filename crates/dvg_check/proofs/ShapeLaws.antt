@@ -20,7 +20,7 @@ use Rattle.dvg_items.specs.Items.{LeadsTo, place_after, next_place}
 use Rattle.dvg_items.specs.Known.{Context, callee, depth_before, words_before, shape_context, target, scale_before, callee_words, depth_under, place_before, scale_set}
 use Rattle.dvg_check.specs.Laws.{word_of, OneShape, AllShapes}
 use Rattle.dvg_check.specs.Rules.{GoodShape, CellKeeps, ShapeKeeps, AtLast, Good}
-use Rattle.dvg_items.specs.Seen.{sight, HasCallee}
+use Rattle.dvg_items.specs.Seen.{seen_at, HasCallee}
 use Rattle.dvg_check.specs.declared.fault.Mode.{Mode}
 use Rattle.dvg_check.specs.declared.fault.Mode.TheVariants.{Bound, Exact}
 use Rattle.dvg_check.specs.declared.fault.ShapeWhy.{ShapeWhy}
@@ -78,9 +78,9 @@ module _ (mode : Mode) (m : Memory) (w : Window) (list : List Entry) (e : Entry)
 
   -- what stands at a place keeps
   abbrev Kept : List Item → ℕ → Cell → ShapeWhy → Type 0
-  Kept earlier p cell why = CellKeeps shape.Unmapped shape.Odd (λ j. ShapeKeeps mode w e (sight context earlier j)) p cell why
+  Kept earlier p cell why = CellKeeps shape.Unmapped shape.Odd (λ j. ShapeKeeps mode w e (seen_at context earlier j)) p cell why
 
-  rule : (earlier : List Item) (i : Item) → LeadsTo Shape (rom_word m.rom) e.addr earlier i.at → cell_at (rom_word m.rom) i.at ≡ Holds i.format i.instr → (why : ShapeWhy) → ShapeKeeps mode w e (sight context earlier i) why
+  rule : (earlier : List Item) (i : Item) → LeadsTo Shape (rom_word m.rom) e.addr earlier i.at → cell_at (rom_word m.rom) i.at ≡ Holds i.format i.instr → (why : ShapeWhy) → ShapeKeeps mode w e (seen_at context earlier i) why
   rule earlier i lead is why = subst (λ c. Kept earlier i.at c why) is (keep earlier i.at lead why)
 
   item_fits : (earlier : List Item) (i : Item) → LeadsTo Shape (rom_word m.rom) e.addr earlier i.at → cell_at (rom_word m.rom) i.at ≡ Holds i.format i.instr → Fits w context e.lit earlier i.instr

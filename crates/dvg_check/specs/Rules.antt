@@ -14,7 +14,7 @@ use Rattle.dvg_items.specs.declared.item.Kind.TheVariants.{Shape, Frame}
 use Rattle.dvg_items.specs.declared.item.Item.{Item}
 use Rattle.dvg_items.specs.Items.{next_place, LeadsTo}
 use Rattle.dvg_items.specs.Known.{Context, shape_context, frame_context, target, words_before, depth_under, depth_before}
-use Rattle.dvg_items.specs.Seen.{HasCallee, sight}
+use Rattle.dvg_items.specs.Seen.{HasCallee, seen_at}
 use Rattle.dvg_items.specs.Lit.{PlaceKnown, ScaleKnown, LitInWindow, LitInBox}
 pub use Rattle.dvg_items.specs.declared.seen.Seen.{Seen}
 pub use Rattle.dvg_check.specs.declared.fault.Mode.{Mode}
@@ -76,7 +76,7 @@ CellKeeps missing odd keeps at (Holds format i) why = keeps (record { at = at; f
 
 -- what stands at a place keeps, after these items
 abbrev pub PlaceKeeps : {Why : Type 0} → Why → Why → (Seen → Why → Type 0) → Context → (ℕ → Option ℕ) → List Item → ℕ → Why → Type 0
-PlaceKeeps missing odd keeps c word earlier p why = CellKeeps missing odd (λ i. keeps (sight c earlier i)) p (cell_at word p) why
+PlaceKeeps missing odd keeps c word earlier p why = CellKeeps missing odd (λ i. keeps (seen_at c earlier i)) p (cell_at word p) why
 
 abbrev pub ShapePlaceKeeps : Mode → Window → Rom → List Entry → Entry → List Item → ℕ → ShapeWhy → Type 0
 ShapePlaceKeeps mode w rom list e = PlaceKeeps shape.Unmapped shape.Odd (ShapeKeeps mode w e) (shape_context list e) (rom_word rom)

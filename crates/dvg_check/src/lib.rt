@@ -20,6 +20,3 @@ pub use frames::{Accepted, check_frame};
 pub use judged::JudgedShapes;
 pub use shapes::check_shapes;
 pub use verdict::{Refusal, Yes, check};
-
-#[cfg(test)]
-mod tests;

@@ -6,7 +6,7 @@ ghost use Rattle.dvg_words.specs.Decoding.{cell_at, word_count, InstrFits};
 ghost use Rattle.dvg_items.specs.declared.known.Effect.TheVariants.{Moves};
 ghost use Rattle.dvg_items.specs.Bounds.{IsNearExtent, IsSoundCursor, IsSoundSeen};
 ghost use Rattle.dvg_words.specs.declared.map.TheConstants.{ADDRESS_END, ROM_FIRST, ROM_LAST};
-ghost use Rattle.dvg_check.specs.Private.Runs.{FormattedDraw, Tells, IsRun, IsSize, IsSizeBox, IsSized, IsFew, AreFew, Stands, AllStand, AreRunsFrom, IsFactor, size, moved, multiplied, multiplied_box, run_extent, run_sight};
+ghost use Rattle.dvg_check.specs.Private.Runs.{FormattedDraw, Tells, IsRun, IsSize, IsSizeBox, IsSized, IsFew, AreFew, Stands, AllStand, AreRunsFrom, IsFactor, size, moved, multiplied, multiplied_box, run_extent, run_seen};
 
 use crate::cells::ROM_END;
 use dvg_cert::LitBox;
@@ -256,7 +256,7 @@ pub fn see_run(run: &Run, factor: u16, before: &Known, item: &Item) -> Seen
     requires before { IsSoundCursor (record { at = item.now.at; known = before.now }) }
     requires near { item.now.at < ADDRESS_END }
     requires fields { InstrFits item.now.instr }
-    ensures value { result ≡ run_sight run.now factor before.now item.now }
+    ensures value { result ≡ run_seen run.now factor before.now item.now }
     ensures sound { IsSoundSeen result }
 {
     let effect = Effect::Moves(multiplied(&run.by, factor));

@@ -6,7 +6,7 @@ ghost use Rattle.dvg_words.specs.declared.map.TheConstants.{ADDRESS_END};
 ghost use Rattle.dvg_items.specs.Bounds.{IsSoundCursor, IsSomeCertificate};
 ghost use Rattle.dvg_check.specs.Rules.{PlaceKeeps};
 ghost use Rattle.dvg_check.specs.FirstFault.{FaultAt};
-ghost use Rattle.dvg_check.specs.Private.Judging.{WalksTo, sight_by, KeepsAll, BreaksFirst};
+ghost use Rattle.dvg_check.specs.Private.Judging.{WalksTo, seen_by, KeepsAll, BreaksFirst};
 ghost use Rattle.dvg_check.specs.Private.Runs.{PassesTo};
 
 use crate::cells::Cells;
@@ -30,9 +30,9 @@ fn judge<E: Entries, R: Rules>(
     requires here { IsSoundCursor cursor.now }
     requires near { cursor.now.at < ADDRESS_END }
     requires fields { InstrFits instr.now }
-    ensures kept { IfOk result (KeepsAll (R.keeps rules.now) R.kind (sight_by (E.list entries.now) R.kind cursor.now.known
+    ensures kept { IfOk result (KeepsAll (R.keeps rules.now) R.kind (seen_by (E.list entries.now) R.kind cursor.now.known
         (record { at = cursor.now.at; format = format; instr = instr.now }))) }
-    ensures broken { IfErr result (BreaksFirst R.order (R.keeps rules.now) (sight_by (E.list entries.now) R.kind cursor.now.known
+    ensures broken { IfErr result (BreaksFirst R.order (R.keeps rules.now) (seen_by (E.list entries.now) R.kind cursor.now.known
         (record { at = cursor.now.at; format = format; instr = instr.now }))) }
 {
     let kind = rules.kind();

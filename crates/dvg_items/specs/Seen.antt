@@ -8,8 +8,8 @@ use Rattle.dvg_items.specs.Lit.{LitExtent, extent_of}
 pub use Rattle.dvg_items.specs.declared.seen.Seen.{Seen}
 
 -- of an item that calls this entry: the item, the place before it, what it lights, the entry, and what is known past it
-abbrev pub sight_with : Option Entry → Known → Item → Seen
-sight_with named before i =
+abbrev pub seen_with : Option Entry → Known → Item → Seen
+seen_with named before i =
     record {
       item = i;
       place = before.place;
@@ -19,8 +19,8 @@ sight_with named before i =
     }
 
 -- of the item after these
-abbrev pub sight : Context → List Item → Item → Seen
-sight c earlier i = sight_with (callee c earlier i.instr) (known_before c earlier) i
+abbrev pub seen_at : Context → List Item → Item → Seen
+seen_at c earlier i = seen_with (callee c earlier i.instr) (known_before c earlier) i
 
 -- what an instruction after these items lights
 abbrev pub extent : Context → List Item → Instr → LitExtent

@@ -4,7 +4,7 @@ ghost use Rattle.std.specs.Prelude.{◌≡◌, ◌<◌, IfSome};
 ghost use Rattle.dvg_words.specs.declared.map.TheConstants.{ADDRESS_END};
 ghost use Rattle.dvg_words.specs.Decoding.{InstrFits};
 ghost use Rattle.dvg_cert.specs.Entry.{IsKey};
-ghost use Rattle.dvg_items.specs.Seen.{sight_with};
+ghost use Rattle.dvg_items.specs.Seen.{seen_with};
 ghost use Rattle.dvg_items.specs.Cursor.{first_cursor};
 ghost use Rattle.dvg_items.specs.Bounds.{IsClaim, IsSoundCursor, IsSoundSeen};
 
@@ -47,7 +47,7 @@ impl Cursor {
         requires near { self.now.at < ADDRESS_END }
         requires fields { InstrFits instr.now }
         requires callee { IfSome callee IsClaim }
-        ensures value { result ≡ sight_with callee self.now.known (record { at = self.now.at; format = format; instr = instr.now }) }
+        ensures value { result ≡ seen_with callee self.now.known (record { at = self.now.at; format = format; instr = instr.now }) }
         ensures sound { IsSoundSeen result }
     {
         let item = Item {

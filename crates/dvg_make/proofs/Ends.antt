@@ -14,7 +14,7 @@ use Rattle.dvg_cert.specs.declared.entry.Key.{Key}
 use Rattle.dvg_check.specs.FirstFault.{AllBefore}
 use Rattle.dvg_items.specs.Items.{next_place, LeadsTo}
 use Rattle.dvg_items.specs.Known.{Context, shape_context, target, callee_at, callee, callee_words, scale_before, place_before, words_before, depth_before, depth_under, known_before}
-use Rattle.dvg_items.specs.Seen.{extent, sight, HasCallee}
+use Rattle.dvg_items.specs.Seen.{extent, seen_at, HasCallee}
 use Rattle.dvg_items.proofs.Lists.{all_left, all_right}
 use Rattle.dvg_items.specs.Lit.{InBox, relative_corners}
 use Rattle.dvg_check.specs.Rules.{AtLast, ShapeKeeps, CellKeeps}
@@ -35,9 +35,9 @@ use Rattle.dvg_make.proofs.Matching.{Gathered, gathered, Matched, gathered_same,
 
 -- ---- at an item
 
-rule_at : (rom : Rom) (list : List Entry) (e : Entry) → MadeEntry rom list e → (earlier : List Item) (i : Item) → LeadsTo Shape (rom_word rom) e.addr earlier i.at → cell_at (rom_word rom) i.at ≡ Holds i.format i.instr → (w : Window) (why : ShapeWhy) → why ≢ shape.OffScreen → ShapeKeeps Exact w e (sight (shape_context list e) earlier i) why
+rule_at : (rom : Rom) (list : List Entry) (e : Entry) → MadeEntry rom list e → (earlier : List Item) (i : Item) → LeadsTo Shape (rom_word rom) e.addr earlier i.at → cell_at (rom_word rom) i.at ≡ Holds i.format i.instr → (w : Window) (why : ShapeWhy) → why ≢ shape.OffScreen → ShapeKeeps Exact w e (seen_at (shape_context list e) earlier i) why
 rule_at rom list e made earlier i lead is w why not =
-    subst (λ cell. CellKeeps shape.Unmapped shape.Odd (λ j. ShapeKeeps Exact w e (sight (shape_context list e) earlier j)) i.at cell why) is (made.keeps earlier i.at lead why w not)
+    subst (λ cell. CellKeeps shape.Unmapped shape.Odd (λ j. ShapeKeeps Exact w e (seen_at (shape_context list e) earlier j)) i.at cell why) is (made.keeps earlier i.at lead why w not)
 
 -- what a made entry says of an item that is seen
 pub record Allows (e : Entry) (v : Seen) : Type 0 where
@@ -45,7 +45,7 @@ pub record Allows (e : Entry) (v : Seen) : Type 0 where
   pub deep : depth_under v.item.instr v.callee ≤ e.depth
   pub many : v.after.words ≤ e.words
 
-pub allows_at : (rom : Rom) (list : List Entry) (e : Entry) → MadeEntry rom list e → (earlier : List Item) (i : Item) → LeadsTo Shape (rom_word rom) e.addr earlier i.at → cell_at (rom_word rom) i.at ≡ Holds i.format i.instr → Allows e (sight (shape_context list e) earlier i)
+pub allows_at : (rom : Rom) (list : List Entry) (e : Entry) → MadeEntry rom list e → (earlier : List Item) (i : Item) → LeadsTo Shape (rom_word rom) e.addr earlier i.at → cell_at (rom_word rom) i.at ≡ Holds i.format i.instr → Allows e (seen_at (shape_context list e) earlier i)
 allows_at rom list e made earlier i lead is =
     let k = rule_at rom list e made earlier i lead is screen in
     record {
@@ -108,8 +108,8 @@ module _ (rom : Rom) (list : List Entry) (e : Entry) (made : MadeEntry rom list 
   stands_at items p lead = by_cell (cell_at (rom_word rom) p) refl
     where
       by_cell : (c : Cell) → cell_at (rom_word rom) p ≡ c → (format : Format) × (instr : Instr) × (c ≡ Holds format instr)
-      by_cell Missing q = absurd (subst (λ cell. CellKeeps shape.Unmapped shape.Odd (λ j. ShapeKeeps Exact screen e (sight (shape_context list e) items j)) p cell shape.Unmapped) q (made.keeps items p lead shape.Unmapped screen (λ x. cc x)) refl)
-      by_cell Odd q = absurd (subst (λ cell. CellKeeps shape.Unmapped shape.Odd (λ j. ShapeKeeps Exact screen e (sight (shape_context list e) items j)) p cell shape.Odd) q (made.keeps items p lead shape.Odd screen (λ x. cc x)) refl)
+      by_cell Missing q = absurd (subst (λ cell. CellKeeps shape.Unmapped shape.Odd (λ j. ShapeKeeps Exact screen e (seen_at (shape_context list e) items j)) p cell shape.Unmapped) q (made.keeps items p lead shape.Unmapped screen (λ x. cc x)) refl)
+      by_cell Odd q = absurd (subst (λ cell. CellKeeps shape.Unmapped shape.Odd (λ j. ShapeKeeps Exact screen e (seen_at (shape_context list e) items j)) p cell shape.Odd) q (made.keeps items p lead shape.Odd screen (λ x. cc x)) refl)
       by_cell (Holds format instr) q = (format, instr, refl)
 
   find_last : (n : ℕ) (items : List Item) (p : ℕ) → LeadsTo Shape (rom_word rom) e.addr items p → e.words ≤ words_before (shape_context list e) items + n → Stops rom e.addr
@@ -186,7 +186,7 @@ module _ (rom : Rom) (list : List Entry) (e : Entry) where
     holds : HoldsAll e.lit (relative_corners (extent c earlier i.instr) (place_before c earlier))
     known : AtLast (next_place Shape i) (known_before c (i ∷ earlier) ≡ known_of e)
 
-  kept_at : (earlier : List Item) (i : Item) → AtItem earlier i → (w : Window) (why : ShapeWhy) → why ≢ shape.OffScreen → ShapeKeeps Exact w e (sight c earlier i) why
+  kept_at : (earlier : List Item) (i : Item) → AtItem earlier i → (w : Window) (why : ShapeWhy) → why ≢ shape.OffScreen → ShapeKeeps Exact w e (seen_at c earlier i) why
   kept_at earlier i h w shape.Unmapped not = tt
   kept_at earlier i h w shape.Odd not = tt
   kept_at earlier i h w shape.HaltInShape not = h.fine.straight.no_halt
@@ -204,7 +204,7 @@ module _ (rom : Rom) (list : List Entry) (e : Entry) where
 
   kept_place : (earlier : List Item) (i : Item) → cell_at (rom_word rom) i.at ≡ Holds i.format i.instr → AtItem earlier i → (why : ShapeWhy) → MadeKeeps rom list e earlier i.at why
   kept_place earlier i is h why w not =
-      subst (λ cell. CellKeeps shape.Unmapped shape.Odd (λ j. ShapeKeeps Exact w e (sight c earlier j)) i.at cell why) (sym is) (kept_at earlier i h w why not)
+      subst (λ cell. CellKeeps shape.Unmapped shape.Odd (λ j. ShapeKeeps Exact w e (seen_at c earlier j)) i.at cell why) (sym is) (kept_at earlier i h w why not)
 
   kept_before : (items : List Item) (p : ℕ) → LeadsTo Shape (rom_word rom) e.addr items p → AllFine c items → depth_before c items ≤ e.depth → words_before c items ≤ e.words → HoldsAll e.lit (lit_points c items) → AllBefore (MadeKeeps rom list e) items
   kept_before [] p lead fine deep many holds = tt

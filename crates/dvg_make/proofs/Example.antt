@@ -19,7 +19,7 @@ use Rattle.dvg_items.specs.Items.{next_place}
 use Rattle.dvg_items.specs.Known.{shape_context, target, scale_before}
 use Rattle.dvg_items.specs.Lit.{IsInside}
 use Rattle.dvg_check.specs.Rules.{AllKeep, CellKeeps, ShapeKeeps}
-use Rattle.dvg_items.specs.Seen.{sight}
+use Rattle.dvg_items.specs.Seen.{seen_at}
 use Rattle.dvg_check.specs.declared.fault.Mode.TheVariants.{Exact}
 use Rattle.dvg_check.specs.declared.fault.ShapeWhy.{ShapeWhy}
 use Rattle.dvg_check.specs.declared.fault.ShapeWhy.TheVariants as shape
@@ -74,7 +74,7 @@ any_window v w e seen shape.DepthDiffers not h = h
 
 -- what the example keeps in a window, if a cell stands at a place
 abbrev Kept : List Item → ℕ → ShapeWhy → Window → Cell → Type 0
-Kept earlier p why w cell = CellKeeps shape.Unmapped shape.Odd (λ i. ShapeKeeps Exact w example_entry (sight (shape_context example_list example_entry) earlier i)) p cell why
+Kept earlier p why w cell = CellKeeps shape.Unmapped shape.Odd (λ i. ShapeKeeps Exact w example_entry (seen_at (shape_context example_list example_entry) earlier i)) p cell why
 
 any_cell : (earlier : List Item) (p : ℕ) (why : ShapeWhy) (w : Window) (cell : Cell) → why ≢ shape.OffScreen → Kept earlier p why screen cell → Kept earlier p why w cell
 any_cell earlier p why w Missing not h = h

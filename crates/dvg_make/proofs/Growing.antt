@@ -14,7 +14,7 @@ use Rattle.dvg_make.specs.declared.walk.Walk.{Walk}
 use Rattle.dvg_make.specs.Least.{IsLeast}
 use Rattle.dvg_make.specs.Made.{MadeEntry}
 use Rattle.dvg_make.specs.Private.Walking.{keyed_context, IsStraight, AllFine, KnowsAt, IsWalk, Extends}
-use Rattle.dvg_make.proofs.Matching.{Gathered, Matched, gathered_same, sight_same}
+use Rattle.dvg_make.proofs.Matching.{Gathered, Matched, gathered_same, seen_matched}
 use Rattle.dvg_make.proofs.Ends.{made_ends, ends_made, same_sums, sums_of}
 use Rattle.dvg_make.proofs.Onward.{same_if, matched_fine}
 
@@ -28,7 +28,7 @@ module _ (a b : List Entry) (key : Key) (ext : Extends a b) where
       let m : Matched a b key (i ∷ earlier) = (matched_fine a b key ext earlier h.0, same_if a b _ ext (target Shape i.instr) h.1.keyed) in (
         fine_grows earlier h.0,
         record {
-          straight = subst IsStraight (sight_same a b key earlier i m) h.1.straight;
+          straight = subst IsStraight (seen_matched a b key earlier i m) h.1.straight;
           keyed = λ to t. let f = h.1.keyed to t in (f.0, ap (λ (x : Key). entry_at b to x) (sym (scale_grows earlier h.0)) ∙ ext to _ f.0 f.1);
         },
       )

@@ -9,7 +9,7 @@ use Rattle.dvg_cert.specs.declared.entry.Key.{Key}
 use Rattle.dvg_cert.specs.declared.entry.Key.TheVariants.{Any}
 use Rattle.dvg_items.specs.Known.{Context, target, callee_at, callee, scale_before, known_before, known_past}
 use Rattle.dvg_items.specs.Lit.{extent_of, relative_corners}
-use Rattle.dvg_items.specs.Seen.{sight, sight_with}
+use Rattle.dvg_items.specs.Seen.{seen_at, seen_with}
 use Rattle.dvg_items.specs.declared.item.Item.{Item}
 use Rattle.dvg_items.specs.declared.item.Kind.TheVariants.{Shape}
 use Rattle.dvg_items.specs.declared.known.Known.{Known}
@@ -60,9 +60,9 @@ gathered_same a b key [] h = refl
 gathered_same a b key (i ∷ earlier) h =
     gathered-cons (keyed_context a key) earlier i ∙ both_same (gathered_past i) a b key earlier (target Shape i.instr) (gathered_same a b key earlier h.0) h.1 ∙ sym (gathered-cons (keyed_context b key) earlier i)
 
-pub sight_same : (a b : List Entry) (key : Key) (earlier : List Item) (i : Item) → Matched a b key (i ∷ earlier) → sight (keyed_context a key) earlier i ≡ sight (keyed_context b key) earlier i
-sight_same a b key earlier i h =
-    both_same (λ o g. sight_with o g.known i) a b key earlier (target Shape i.instr) (gathered_same a b key earlier h.0) h.1
+pub seen_matched : (a b : List Entry) (key : Key) (earlier : List Item) (i : Item) → Matched a b key (i ∷ earlier) → seen_at (keyed_context a key) earlier i ≡ seen_at (keyed_context b key) earlier i
+seen_matched a b key earlier i h =
+    both_same (λ o g. seen_with o g.known i) a b key earlier (target Shape i.instr) (gathered_same a b key earlier h.0) h.1
 
 -- ---- lists that grow
 

@@ -13,7 +13,7 @@ use Rattle.dvg_cert.specs.declared.entry.Entry.{Entry}
 use Rattle.dvg_cert.specs.declared.entry.Key.{Key}
 use Rattle.dvg_items.specs.Items.{next_place, LeadsTo}
 use Rattle.dvg_items.specs.Known.{Context, shape_context, target, callee_at, callee, scale_before, known_before}
-use Rattle.dvg_items.specs.Seen.{sight, sight_with}
+use Rattle.dvg_items.specs.Seen.{seen_at, seen_with}
 use Rattle.dvg_items.specs.Bounds.{IsClaim, IsSoundStep}
 use Rattle.dvg_items.specs.declared.item.Item.{Item}
 use Rattle.dvg_items.specs.declared.item.Kind.TheVariants.{Shape}
@@ -34,15 +34,15 @@ use Rattle.dvg_make.specs.Made.{HasEntry, MadeEntry, Made}
 use Rattle.dvg_make.specs.Private.Walking.{keyed_context, entry_of, IsStraight, IsAsked, Passes, AllFine, KnowsAt, IsWalk, Extends, NeverAt, IsCallee, LacksCallee, IsFinished, IsWaiting}
 use Rattle.dvg_make.proofs.Boxes.{one_least}
 use Rattle.dvg_items.proofs.Listed.{listed_at}
-use Rattle.dvg_make.proofs.Matching.{Gathered, gathered, SameAt, Matched, exact_named, gathered_same, sight_same}
+use Rattle.dvg_make.proofs.Matching.{Gathered, gathered, SameAt, Matched, exact_named, gathered_same, seen_matched}
 use Rattle.dvg_make.proofs.Ends.{Allows, allows_at, known_of, stands_at, ends_made, sums_of}
 
 -- ---- one item further
 
-seen_same : (c : Context) (items : List Item) (i : Item) (o : Option Entry) (known : Known) → o ≡ callee c items i.instr → known ≡ known_before c items → sight_with o known i ≡ sight c items i
-seen_same c items i o known e k = ap (λ x. sight_with x known i) e ∙ ap (λ (x : Known). sight_with (callee c items i.instr) x i) k
+seen_same : (c : Context) (items : List Item) (i : Item) (o : Option Entry) (known : Known) → o ≡ callee c items i.instr → known ≡ known_before c items → seen_with o known i ≡ seen_at c items i
+seen_same c items i o known e k = ap (λ x. seen_with x known i) e ∙ ap (λ (x : Known). seen_with (callee c items i.instr) x i) k
 
-knows_more : (c : Context) (items : List Item) (i : Item) (o : Option Entry) (known : Known) (lit new : LitBox) → o ≡ callee c items i.instr → ((to : ℕ) → target Shape i.instr ≡ Some to → HasEntry c.list to (scale_before c items)) → KnowsAt c items known lit → Passes (sight_with o known i) lit new → KnowsAt c (i ∷ items) (sight_with o known i).after new
+knows_more : (c : Context) (items : List Item) (i : Item) (o : Option Entry) (known : Known) (lit new : LitBox) → o ≡ callee c items i.instr → ((to : ℕ) → target Shape i.instr ≡ Some to → HasEntry c.list to (scale_before c items)) → KnowsAt c items known lit → Passes (seen_with o known i) lit new → KnowsAt c (i ∷ items) (seen_with o known i).after new
 knows_more c items i o known lit new e keyed k s =
     let v = seen_same c items i o known e k.known_is in
     record {
@@ -94,13 +94,13 @@ module _ (rom : Rom) (list : List Entry) (w : Walk) where
       not h.0 h.1 h.2
 
   -- the item is not as it is asked
-  none_asked : (items : List Item) (i : Item) (o : Option Entry) → LeadsTo Shape (rom_word rom) w.addr items i.at → cell_at (rom_word rom) i.at ≡ Holds i.format i.instr → KnowsAt c items w.cursor.known w.lit → o ≡ callee c items i.instr → ((to : ℕ) → target Shape i.instr ≡ Some to → HasEntry list to (scale_before c items)) → (IsAsked (sight_with o w.cursor.known i) → ⊥) → NeverAt rom list w.addr w.key
+  none_asked : (items : List Item) (i : Item) (o : Option Entry) → LeadsTo Shape (rom_word rom) w.addr items i.at → cell_at (rom_word rom) i.at ≡ Holds i.format i.instr → KnowsAt c items w.cursor.known w.lit → o ≡ callee c items i.instr → ((to : ℕ) → target Shape i.instr ≡ Some to → HasEntry list to (scale_before c items)) → (IsAsked (seen_with o w.cursor.known i) → ⊥) → NeverAt rom list w.addr w.key
   none_asked items i o lead is k e keyed not roots made m ext has =
       let t = its rom roots made w m has in
       let allows = allows_at rom made t.f t.is items i (lead_of made t items i.at lead) is in
       let match : Matched list made w.key (i ∷ items) = (matched_fine list made w.key ext items k.fine, same_if list made _ ext (target Shape i.instr) keyed) in
-      let v : sight (shape_context made t.f) items i ≡ sight_with o w.cursor.known i = ap (λ (x : Key). sight (keyed_context made x) items i) t.key ∙ sym (sight_same list made w.key items i match) ∙ sym (seen_same c items i o w.cursor.known e k.known_is) in
-      let here : Allows t.f (sight_with o w.cursor.known i) = subst (Allows t.f) v allows in
+      let v : seen_at (shape_context made t.f) items i ≡ seen_with o w.cursor.known i = ap (λ (x : Key). seen_at (keyed_context made x) items i) t.key ∙ sym (seen_matched list made w.key items i match) ∙ sym (seen_same c items i o w.cursor.known e k.known_is) in
+      let here : Allows t.f (seen_with o w.cursor.known i) = subst (Allows t.f) v allows in
       not (record { straight = here.straight; deep = omega (arith, here.deep, t.entry.depth); many = omega (arith, here.many, t.entry.words_high) })
 
   -- the entry is past a limit
@@ -159,12 +159,12 @@ module _ (rom : Rom) (list : List Entry) (from w : Walk) (h : Walking rom list f
       known : IsCalled (keyed_context list w.key) h.walk.items i o
       known = called_now list w.key h.walk.items i w.cursor.known.scale o (ap (λ (k : Known). k.scale) h.walk.knows.known_is) nm
 
-      pub not_asked : (IsAsked (sight_with o w.cursor.known i) → ⊥) → NeverAt rom list from.addr from.key
+      pub not_asked : (IsAsked (seen_with o w.cursor.known i) → ⊥) → NeverAt rom list from.addr from.key
       not_asked not = as_from (none_asked rom list w h.walk.items i o h.walk.leads is h.walk.knows known.is known.keyed not)
 
       -- what the rules see of the instruction here
       abbrev seen : Seen
-      seen = sight_with o w.cursor.known i
+      seen = seen_with o w.cursor.known i
 
       module _ (lit : LitBox) (s : Passes seen w.lit lit) where
         knows_next : KnowsAt (keyed_context list w.key) (i ∷ h.walk.items) seen.after lit

@@ -8,7 +8,7 @@ use Rattle.dvg_words.specs.declared.instruction.Cell.{Cell}
 use Rattle.dvg_words.specs.declared.instruction.Cell.TheVariants.{Missing, Odd, Holds}
 use Rattle.dvg_cert.specs.declared.entry.Entry.{Entry}
 use Rattle.dvg_items.specs.Known.{shape_context}
-use Rattle.dvg_items.specs.Seen.{sight}
+use Rattle.dvg_items.specs.Seen.{seen_at}
 use Rattle.dvg_check.specs.Rules.{AtLast, ShapeKeeps, CellKeeps, ShapePlaceKeeps, Good}
 use Rattle.dvg_check.specs.declared.fault.Mode.{Mode}
 use Rattle.dvg_check.specs.declared.fault.Mode.TheVariants.{Bound, Exact}
@@ -59,7 +59,7 @@ bound_kept w e v shape.DepthDiffers h = last_any _
 module _ (rom : Rom) (list : List Entry) (w : Window) where
   -- what is asked of a cell
   abbrev Kept : Mode → Entry → List Item → ℕ → Cell → ShapeWhy → Type 0
-  Kept mode e earlier p cell why = CellKeeps shape.Unmapped shape.Odd (λ i. ShapeKeeps mode w e (sight (shape_context list e) earlier i)) p cell why
+  Kept mode e earlier p cell why = CellKeeps shape.Unmapped shape.Odd (λ i. ShapeKeeps mode w e (seen_at (shape_context list e) earlier i)) p cell why
 
   bound_cell : (e : Entry) (earlier : List Item) (p : ℕ) (cell : Cell) (why : ShapeWhy) → Kept Exact e earlier p cell why → Kept Bound e earlier p cell why
   bound_cell e earlier p Missing why h = h

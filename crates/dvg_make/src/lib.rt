@@ -13,6 +13,3 @@ mod walk;
 
 pub use fault::MakeFault;
 pub use maker::make;
-
-#[cfg(test)]
-mod tests;

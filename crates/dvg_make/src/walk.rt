@@ -7,7 +7,7 @@ ghost use Rattle.dvg_words.specs.declared.map.TheConstants.{ADDRESS_END};
 ghost use Rattle.dvg_cert.specs.Entry.{IsEntry};
 ghost use Rattle.dvg_cert.specs.declared.entry.Entry.{Entry};
 ghost use Rattle.dvg_items.specs.declared.item.Kind.TheVariants.{Shape};
-ghost use Rattle.dvg_items.specs.Seen.{sight_with};
+ghost use Rattle.dvg_items.specs.Seen.{seen_with};
 ghost use Rattle.dvg_items.specs.Cursor.{step_past};
 ghost use Rattle.dvg_items.specs.Bounds.{IsSoundCursor, IsSoundStep, IsClaim};
 ghost use Rattle.dvg_make.specs.Private.Walking.{start, entry_of, IsStraight, IsAsked, Passes, IsWalk, NeverAt, IsCallee, LacksCallee, Advances};
@@ -68,10 +68,10 @@ impl Walk {
         requires near { self.now.cursor.at < ADDRESS_END }
         requires fields { InstrFits instr.now }
         requires callee { IfSome callee IsClaim }
-        ensures ok { IfOk result (λ past. Passes (sight_with callee self.now.cursor.known (record { at = self.now.cursor.at; format = format; instr = instr.now })) self.now.lit past.1) }
-        ensures step { IfOk result (λ past. past.0 ≡ step_past Shape (sight_with callee self.now.cursor.known (record { at = self.now.cursor.at; format = format; instr = instr.now }))) }
+        ensures ok { IfOk result (λ past. Passes (seen_with callee self.now.cursor.known (record { at = self.now.cursor.at; format = format; instr = instr.now })) self.now.lit past.1) }
+        ensures step { IfOk result (λ past. past.0 ≡ step_past Shape (seen_with callee self.now.cursor.known (record { at = self.now.cursor.at; format = format; instr = instr.now }))) }
         ensures sound { IfOk result (λ past. IsSoundStep past.0) }
-        ensures err { OnErr result (IsAsked (sight_with callee self.now.cursor.known (record { at = self.now.cursor.at; format = format; instr = instr.now })) → ⊥) }
+        ensures err { OnErr result (IsAsked (seen_with callee self.now.cursor.known (record { at = self.now.cursor.at; format = format; instr = instr.now })) → ⊥) }
     {
         let seen = self.cursor.see(format, instr, callee);
         if !is_straight(&seen) {

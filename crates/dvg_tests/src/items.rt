@@ -3,12 +3,12 @@
 ghost use Rattle.std.specs.Prelude.{IfOk};
 ghost use Rattle.dvg_items.specs.Bounds.{IsSomeCertificate, IsSoundCursor, IsSoundSeen};
 
+use dvg_cert::{End, Key, ListIndex, LitBox, read_cert};
 use dvg_items::{
     Cursor, Item, Kind, Known, LitExtent, Seen, Step, callee, depth_under, has_callee, is_in_box,
     joined, lit_in_box, lit_on_screen, place_known, relative_corners, scale_known, spanning,
     target,
 };
-use dvg_cert::{End, Key, ListIndex, LitBox, read_cert};
 use dvg_words::{Cell, Format, FrameImage, Instr, Point, read_cell};
 use std::test::Fail;
 

@@ -3,6 +3,12 @@
 #![tactic(auto)]
 
 #[cfg(test)]
+mod certificates;
+#[cfg(test)]
+mod checking;
+#[cfg(test)]
 mod items;
+#[cfg(test)]
+mod making;
 #[cfg(test)]
 mod words;

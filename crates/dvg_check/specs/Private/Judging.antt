@@ -9,7 +9,7 @@ use Rattle.dvg_items.specs.Items.{next_place, LeadsTo}
 use Rattle.dvg_items.specs.Known.{Context, target, callee_at, known_before}
 use Rattle.dvg_items.specs.declared.known.Known.{Known}
 use Rattle.dvg_items.specs.declared.seen.Seen.{Seen}
-use Rattle.dvg_items.specs.Seen.{sight_with}
+use Rattle.dvg_items.specs.Seen.{seen_with}
 use Rattle.dvg_items.specs.declared.cursor.Step.{Step}
 use Rattle.dvg_items.specs.Cursor.{step_past}
 use Rattle.dvg_items.specs.Bounds.{IsSoundStep}
@@ -19,8 +19,8 @@ use Rattle.dvg_check.specs.declared.fault.ShapeWhy.TheVariants as shape
 use Rattle.dvg_check.specs.declared.fault.FrameWhy.TheVariants as frame
 
 -- what the rules see of an item, by the entries of a list
-abbrev pub sight_by : List Entry → Kind → Known → Item → Seen
-sight_by list kind before i = sight_with (callee_at list (target kind i.instr) before.scale) before i
+abbrev pub seen_by : List Entry → Kind → Known → Item → Seen
+seen_by list kind before i = seen_with (callee_at list (target kind i.instr) before.scale) before i
 
 -- ---- rules in the order in which the code tests them
 

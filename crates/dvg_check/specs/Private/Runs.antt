@@ -21,7 +21,7 @@ use Rattle.dvg_items.specs.declared.lit.LitExtent.{LitExtent}
 use Rattle.dvg_items.specs.declared.lit.LitExtent.TheVariants.{Nothing, Between, Anywhere}
 use Rattle.dvg_items.specs.Lit.{InSpan, InBox}
 use Rattle.dvg_items.specs.declared.seen.Seen.{Seen}
-use Rattle.dvg_items.specs.Seen.{sight_with}
+use Rattle.dvg_items.specs.Seen.{seen_with}
 use Rattle.dvg_items.specs.Bounds.{IsSoundCursor}
 pub use Rattle.dvg_check.specs.declared.run.Run.{Run}
 
@@ -147,8 +147,8 @@ run_extent Empty factor = Nothing
 run_extent (Span x_min x_max y_min y_max) factor = Between (multiplied (record { x = x_min; y = y_min }) factor) (multiplied (record { x = x_max; y = y_max }) factor)
 
 -- the run, seen as one item that calls nothing
-abbrev pub run_sight : Run → ℕ → Known → Item → Seen
-run_sight run factor before i =
+abbrev pub run_seen : Run → ℕ → Known → Item → Seen
+run_seen run factor before i =
     record {
       item = i;
       place = before.place;
@@ -188,8 +188,8 @@ abbrev pub KeepsOver : {Why : Type 0} → (Seen → Why → Type 0) → (ℕ →
 KeepsOver keeps word [] at before p after = (at ≡ p) × (before ≡ after)
 KeepsOver {Why} keeps word (s ∷ rest) at before p after =
     (cell_at word at ≡ Holds s.format (Draws s.draw)) ×
-    ((why : Why) → keeps (sight_with None before (record { at = at; format = s.format; instr = Draws s.draw })) why) ×
-    KeepsOver keeps word rest (at + word_count s.format) (sight_with None before (record { at = at; format = s.format; instr = Draws s.draw })).after p after
+    ((why : Why) → keeps (seen_with None before (record { at = at; format = s.format; instr = Draws s.draw })) why) ×
+    KeepsOver keeps word rest (at + word_count s.format) (seen_with None before (record { at = at; format = s.format; instr = Draws s.draw })).after p after
 
 -- some draws lead from one place to a further one, and keep all rules on the way
 pub record PassesTo {Why : Type 0} (keeps : Seen → Why → Type 0) (word : ℕ → Option ℕ) (at : ℕ) (before : Known) (p : ℕ) (after : Known) : Type 0 where

@@ -16,7 +16,7 @@ use Rattle.dvg_items.specs.declared.item.Kind.TheVariants.{Shape}
 use Rattle.dvg_items.specs.declared.item.Item.{Item}
 use Rattle.dvg_items.specs.Known.{Context, target, callee_at, scale_before, depth_under, known_before}
 use Rattle.dvg_items.specs.Lit.{relative_corners, PlaceKnown, ScaleKnown}
-use Rattle.dvg_items.specs.Seen.{sight}
+use Rattle.dvg_items.specs.Seen.{seen_at}
 use Rattle.dvg_items.specs.declared.seen.Seen.{Seen}
 use Rattle.dvg_items.specs.Bounds.{IsSoundCursor}
 use Rattle.dvg_items.specs.Cursor.{first_cursor}
@@ -61,7 +61,7 @@ pub record Passes (v : Seen) (lit new : LitBox) : Type 0 where
 
 -- the item is straight, and its target has its entry
 pub record IsFine (c : Context) (earlier : List Item) (i : Item) : Type 0 where
-  pub straight : IsStraight (sight c earlier i)
+  pub straight : IsStraight (seen_at c earlier i)
   pub keyed : (to : ℕ) → target Shape i.instr ≡ Some to → HasEntry c.list to (scale_before c earlier)
 
 abbrev pub AllFine : Context → List Item → Type 0

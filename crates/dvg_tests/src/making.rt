@@ -1,7 +1,7 @@
 //! Made certificates by the text of their entries, and refusals.
 
-use crate::{MakeFault, make};
 use dvg_cert::{Key, read_cert};
+use dvg_make::{MakeFault, make};
 use dvg_words::RomImage;
 use std::alloc::Global;
 use std::test::Fail;

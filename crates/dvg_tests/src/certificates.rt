@@ -2,7 +2,7 @@
 
 mod devices;
 
-use crate::*;
+use dvg_cert::*;
 use std::alloc::Global;
 use std::process::Abort;
 use std::test::Fail;

@@ -1,7 +1,7 @@
 //! Devices that count their calls and fail once: each counted call is one call of the device, whatever that answers.
 
 use super::ONE_ENTRY;
-use crate::*;
+use dvg_cert::*;
 use std::alloc::Global;
 use std::io;
 use std::io::{Read, Write};

@@ -1,10 +1,10 @@
 //! Each call once: a shape with a lit stroke and a frame that calls it, accepted and refused. And what faults show.
 
-use crate::{
+use dvg_cert::{CertFault, CertWhy, Key, ListIndex, read_cert};
+use dvg_check::{
     Accepted, FrameFault, FrameWhy, JudgedShapes, Refusal, ShapeFault, ShapeWhy, Yes, check,
     check_frame, check_shapes,
 };
-use dvg_cert::{CertFault, CertWhy, Key, ListIndex, read_cert};
 use dvg_words::{FrameImage, ImageFault, RomImage};
 use std::alloc::Global;
 use std::test::Fail;
