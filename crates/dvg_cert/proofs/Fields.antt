@@ -179,9 +179,9 @@ pub no_address : (token : List ℕ) (o : Option ℕ) → o ≡ address_in 0 4095
 no_address token None e = λ a small is. let again = address_again 0 4095 a (omega arith) (omega arith) (omega (arith, small)) in let found : address_in 0 4095 token ≡ Some a = ap (address_in 0 4095) is ∙ again in cc
 no_address token (Some a) e = tt
 
-pub no_key : (token : List ℕ) → bytes_eq token (codes "any") ≡ false → natural_in 0 15 token ≡ None → (k : Key) → IsKey k → token ≡ key_token k → ⊥
-no_key token any none (At n) h is = let found : natural_in 0 15 token ≡ Some n = natural_some 0 15 n token (omega arith) (omega arith) h is in cc
-no_key token any none Any h is = let same : bytes_eq token (codes "any") ≡ true = bytes_same token (codes "any") is in cc
+pub no_key : (high : ℕ) (token : List ℕ) → 15 ≤ high → high < 2 ^ 64 → bytes_eq token (codes "any") ≡ false → natural_in 0 high token ≡ None → (k : Key) → IsKey k → token ≡ key_token k → ⊥
+no_key high token room small any none (At n) h is = let found : natural_in 0 high token ≡ Some n = natural_some 0 high n token (omega arith) (omega arith) (omega arith) is in cc
+no_key high token room small any none Any h is = let same : bytes_eq token (codes "any") ≡ true = bytes_same token (codes "any") is in cc
 
 pub key_read : (token : List ℕ) (o : Option Key) → IfSome o (λ k. IsKey k × (token ≡ key_token k)) → IfNone o ((k : Key) → IsKey k → token ≡ key_token k → ⊥) → o ≡ key_in token
 key_read token (Some k) some none = sym (ap key_in some.1 ∙ key_again k some.0)
