@@ -15,7 +15,7 @@ use Rattle.dvg_check.specs.declared.fault.Mode.TheVariants.{Bound}
 use Rattle.dvg_check.specs.declared.verdict.Refusal.{Refusal}
 use Rattle.dvg_check.specs.declared.verdict.Refusal.TheVariants as refusal
 use Rattle.dvg_check.specs.declared.verdict.Yes.{Yes}
-use Rattle.dvg_cmd.specs.Private.Reading.{limited}
+use Rattle.dvg_cmd.specs.Private.Reading.{IsPrefix}
 use Rattle.dvg_cmd.proofs.Limits.{limited-short, limited-long, rest_of, limited-parts}
 
 -- what was read of an input: a prefix, which is all of it where it or the input stays below the limit
@@ -34,14 +34,14 @@ pub held_told : (remaining : Option (List ℕ)) (prefix : List ℕ) → IfSome r
 held_told None prefix = tt
 held_told (Some held) prefix = refl
 
-pub prefix_of_held : (n : ℕ) (remaining : Option (List ℕ)) (prefix : List ℕ) → IfSome remaining (λ held. prefix ≡ limited n held) → PrefixOf n prefix (held_bytes remaining prefix)
-prefix_of_held n None prefix h = record { rest = []; parts = sym (append-nil prefix); short = λ lt. refl; long = λ lt. refl }
-prefix_of_held n (Some held) prefix h =
+pub prefix_of_held : (n : ℕ) (reader : Option (List ℕ)) (prefix : List ℕ) → IsPrefix n reader prefix → PrefixOf n prefix (held_bytes reader prefix)
+prefix_of_held n None prefix read = record { rest = []; parts = sym (append-nil prefix); short = λ lt. refl; long = λ lt. refl }
+prefix_of_held n (Some held) prefix read =
     record {
       rest = rest_of n held;
-      parts = limited-parts n held ∙ ap (λ (x : List ℕ). x ++ rest_of n held) (sym h);
-      short = λ lt. h ∙ limited-short n held (omega (arith, ap length h, lt));
-      long = λ lt. h ∙ limited-long n held lt;
+      parts = limited-parts n held ∙ ap (λ (x : List ℕ). x ++ rest_of n held) (sym read.first);
+      short = λ lt. read.first ∙ limited-short n held (omega (arith, ap length read.first, lt));
+      long = λ lt. read.first ∙ limited-long n held lt;
     }
 
 module _ (short_text : ShortText) (prefix_refusal : PrefixRefusal) (n m : ℕ) (n_past : 2049 ≤ n) (m_past : 819601 ≤ m) (w : Window) (budget : ℕ) (rb cb fb r c f : List ℕ) (rom : PrefixOf n rb r) (cert : PrefixOf m cb c) (frame_is : PrefixOf n fb f) where

@@ -20,11 +20,11 @@ IsRoot text addr key = (addr < ADDRESS_END) × IsKey key × (text ≡ address_to
 
 -- ---- which device an answer blames
 
-abbrev pub blames_maker_rom : Result (Unit {0}) MakeRunFault → Bool
+abbrev pub blames_maker_rom : {A : Type 0} → Result A MakeRunFault → Bool
 blames_maker_rom (Err fault.ReadRom) = true
 blames_maker_rom answer = false
 
-abbrev pub blames_maker_writer : Result (Unit {0}) MakeRunFault → Bool
+abbrev pub blames_maker_writer : {A : Type 0} → Result A MakeRunFault → Bool
 blames_maker_writer (Err fault.Write) = true
 blames_maker_writer answer = false
 
@@ -34,25 +34,29 @@ blames_maker_writer answer = false
 abbrev pub Held : Option (List ℕ) → List ℕ → Type 0
 Held reader bytes = IfSome reader (λ held. bytes ≡ held)
 
--- the list that is made for all bytes that a reader held
-pub record Makes (rom : Option (List ℕ)) (roots : List (ℕ × Key)) : Type 0 where
+-- this list is made for all bytes that a reader held
+pub record Makes (rom : Option (List ℕ)) (roots : List (ℕ × Key)) (list : List Entry) : Type 0 where
   pub rom_bytes : List ℕ
   pub held : Held rom rom_bytes
   pub rom_length : IsRomLength asteroids (length rom_bytes)
-  pub list : List Entry
   pub made : Made (rom_of asteroids rom_bytes) roots list
 
--- its text was written, and nothing else
-abbrev pub MakesText : Option (List ℕ) → List (ℕ × Key) → Option (List ℕ) → Option (List ℕ) → Type 0
-MakesText rom roots old new = (m : Makes rom roots) × Appends old new (text_of m.list)
+-- the text of such a list was written, and nothing else
+pub record MakesText (rom : Option (List ℕ)) (roots : List (ℕ × Key)) (old new : Option (List ℕ)) : Type 0 where
+  pub list : List Entry
+  pub makes : Makes rom roots list
+  pub written : Appends old new (text_of list)
 
 -- a prefix of its text was written, and nothing else
-abbrev pub MakesPrefix : Option (List ℕ) → List (ℕ × Key) → Option (List ℕ) → Option (List ℕ) → Type 0
-MakesPrefix rom roots old new = (m : Makes rom roots) × AppendsPrefix old new (text_of m.list)
+pub record MakesPrefix (rom : Option (List ℕ)) (roots : List (ℕ × Key)) (old new : Option (List ℕ)) : Type 0 where
+  pub list : List Entry
+  pub makes : Makes rom roots list
+  pub written : AppendsPrefix old new (text_of list)
 
 -- what a fault says of all bytes that a reader held: a wrong length, or what the maker's refusal says
 abbrev pub MakeFaultMeans : Option (List ℕ) → List (ℕ × Key) → MakeRunFault → Type 0
 MakeFaultMeans rom roots fault.RomLength = (bytes : List ℕ) × Held rom bytes × (IsRomLength asteroids (length bytes) → ⊥)
-MakeFaultMeans rom roots (fault.Make f) = (bytes : List ℕ) × Held rom bytes × IsRomLength asteroids (length bytes) × Refuses (rom_of asteroids bytes) roots f
+MakeFaultMeans rom roots (fault.Make f) = (bytes : List ℕ) × Held rom bytes × IsRomLength asteroids (length bytes)
+    × Refuses (rom_of asteroids bytes) roots f
 MakeFaultMeans rom roots fault.ReadRom = Unit {0}
 MakeFaultMeans rom roots fault.Write = Unit {0}

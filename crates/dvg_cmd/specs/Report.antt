@@ -7,6 +7,7 @@ use Rattle.dvg_check.specs.declared.verdict.Refusal.TheVariants as refusal
 use Rattle.dvg_check.specs.declared.fault.ShapeFault.{ShapeFault}
 use Rattle.dvg_check.specs.declared.fault.FrameFault.{FrameFault}
 use Rattle.dvg_check.specs.FirstFault.{shape_number, frame_number}
+use Rattle.dvg_cert.specs.declared.entry.Key.{Key}
 use Rattle.dvg_cert.specs.declared.fault.CertFault.{CertFault}
 use Rattle.dvg_cert.specs.Numbers.{cert_number}
 use Rattle.dvg_cert.specs.Grammar.{key_token}
@@ -15,18 +16,26 @@ use Rattle.dvg_cert.specs.Grammar.{key_token}
 abbrev pub hex_digit : ℕ → ℕ
 hex_digit n = if nat_lt n 10 then 48 + n else 65 + (n - 10)
 
+-- the last three hexadecimal digits of a number
+abbrev pub three_digits : ℕ → List ℕ
+three_digits n = hex_digit (n / 256 % 16) ∷ hex_digit (n / 16 % 16) ∷ hex_digit (n % 16) ∷ []
+
 -- a word address: three hexadecimal digits, or four where they are needed
 abbrev pub hex_address : ℕ → List ℕ
-hex_address n =
-    (if nat_lt n (16 ^ 3) then [] else hex_digit (n / 16 ^ 3) ∷ []) ++ hex_digit (n / 256 % 16) ∷ hex_digit (n / 16 % 16) ∷ hex_digit (n % 16) ∷ []
+hex_address n = (if nat_lt n (16 ^ 3) then [] else hex_digit (n / 16 ^ 3) ∷ []) ++ three_digits n
 
 -- a certificate's line, counted from 1
 abbrev pub cert_fault_text : CertFault → List ℕ
 cert_fault_text f = decimal (cert_number f.why) ++ codes " certificate line " ++ decimal f.line
 
--- an entry's address and key, and the word address of the first item that breaks a rule
+-- an entry: its address, a slash and its key
+abbrev pub entry_text : ℕ → Key → List ℕ
+entry_text addr key = hex_address addr ++ codes "/" ++ key_token key
+
+-- the entry of the shape, and the word address of the first item that breaks a rule
 abbrev pub shape_fault_text : ShapeFault → List ℕ
-shape_fault_text f = decimal (shape_number f.why) ++ codes " shape " ++ hex_address f.addr ++ codes "/" ++ key_token f.key ++ codes " at " ++ hex_address f.word
+shape_fault_text f =
+    decimal (shape_number f.why) ++ codes " shape " ++ entry_text f.addr f.key ++ codes " at " ++ hex_address f.word
 
 -- the word address of the first item that breaks a rule
 abbrev pub frame_fault_text : FrameFault → List ℕ

@@ -21,19 +21,19 @@ use Rattle.dvg_cmd.specs.declared.running.RunFault.TheVariants as fault
 
 -- ---- which device an answer blames
 
-abbrev pub blames_rom : Result Outcome RunFault → Bool
+abbrev pub blames_rom : {A : Type 0} → Result A RunFault → Bool
 blames_rom (Err fault.ReadRom) = true
 blames_rom answer = false
 
-abbrev pub blames_frame : Result Outcome RunFault → Bool
+abbrev pub blames_frame : {A : Type 0} → Result A RunFault → Bool
 blames_frame (Err fault.ReadFrame) = true
 blames_frame answer = false
 
-abbrev pub blames_certificate : Result Outcome RunFault → Bool
+abbrev pub blames_certificate : {A : Type 0} → Result A RunFault → Bool
 blames_certificate (Err fault.ReadCert) = true
 blames_certificate answer = false
 
-abbrev pub blames_writer : Result Outcome RunFault → Bool
+abbrev pub blames_writer : {A : Type 0} → Result A RunFault → Bool
 blames_writer (Err fault.Write) = true
 blames_writer answer = false
 
@@ -73,8 +73,13 @@ pub record ReportsPrefix (rom cert frame : Option (List ℕ)) (budget : ℕ) (ol
   pub judges : Judges rom cert frame budget verdict
   pub written : AppendsPrefix old new (report_text verdict)
 
+-- every run over all bytes that two readers told is safe with these counts
+abbrev pub SafeOver : Option (List ℕ) → Option (List ℕ) → Yes → Type 0
+SafeOver rom frame y =
+    IfSome rom (λ r. IfSome frame (λ f. Safe (record { frame = words_of f; rom = rom_of asteroids r }) screen y.words y.depth))
+
 -- an accepted line was written, and every run over these bytes is safe with its counts
 pub record ReportsSafe (rom frame : Option (List ℕ)) (old new : Option (List ℕ)) : Type 0 where
   pub yes : Yes
   pub written : Appends old new (report_text (Ok yes))
-  pub safe : IfSome rom (λ r. IfSome frame (λ f. Safe (record { frame = words_of f; rom = rom_of asteroids r }) screen yes.words yes.depth))
+  pub safe : SafeOver rom frame yes

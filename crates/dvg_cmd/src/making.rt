@@ -1,14 +1,12 @@
 //! Running the maker over a reader and a writer.
 
-ghost use Rattle.std.specs.Prelude.{◌≡◌, ◌≢◌, ℕ, [], length, Some, Err, IfOk, IfErr, IfSome, IfNone, OnOk};
+ghost use Rattle.std.specs.Prelude.{◌≡◌, ◌≢◌, ℕ, List, [], Option, Err, IfOk, IfErr, IfSome, IfNone, OnOk};
 ghost use Rattle.std.specs.Io.KnownBytes.{Appends};
-ghost use Rattle.dvg_words.specs.Values.{asteroids};
-ghost use Rattle.dvg_words.specs.Memory.{rom_of, IsRomLength};
 ghost use Rattle.dvg_cert.specs.Devices.{count_after};
 ghost use Rattle.dvg_cert.specs.declared.entry.Key.{Key as KeyValue};
-ghost use Rattle.dvg_make.specs.Made.{Made};
 ghost use Rattle.dvg_cmd.specs.Numbers.{make_run_number};
-ghost use Rattle.dvg_cmd.specs.Making.{IsRoot, blames_maker_rom, blames_maker_writer, MakesText, MakesPrefix, MakeFaultMeans};
+ghost use Rattle.dvg_cmd.specs.Making.{IsRoot, blames_maker_rom, blames_maker_writer, Makes, MakesText, MakesPrefix, MakeFaultMeans};
+ghost use Rattle.dvg_cmd.specs.Private.Reading.{IsPrefix};
 
 use crate::reading::read_image;
 use crate::running::RunFault;
@@ -63,10 +61,10 @@ pub fn root_of(text: &str) -> Option<(u16, Key)>
     Some((addr, key))
 }
 
-/// The certificate for the bytes of a ROM.
-fn make_for(alloc: Global, bytes: &[u8], roots: &[(u16, Key)]) -> Result<Cert, MakeRunFault>
-    ensures ok { IfOk result (λ cert. IsRomLength asteroids (length bytes.now) × Made (rom_of asteroids bytes.now) roots.now cert) }
-    ensures refused { IfErr result (λ fault. MakeFaultMeans (Some bytes.now) roots.now fault) }
+/// The certificate for what was read of a ROM, which is one for all that its reader held.
+fn make_on(alloc: Global, bytes: &[u8], roots: &[(u16, Key)]) -> Result<Cert, MakeRunFault>
+    ensures ok { (rom : Option (List ℕ)) → IsPrefix 2049 rom bytes.now → IfOk result (Makes rom roots.now) }
+    ensures refused { (rom : Option (List ℕ)) → IsPrefix 2049 rom bytes.now → IfErr result (MakeFaultMeans rom roots.now) }
     ensures fault { IfErr result (λ fault. (fault ≢ MakeRunFault.ReadRom) × (fault ≢ MakeRunFault.Write)) }
 {
     let Ok(rom) = RomImage::from_bytes(bytes) else {
@@ -91,7 +89,8 @@ pub fn run_make<R: CountedRead, W: CountedWrite>(
 
     // What is written is the text of the list that is made for all bytes that the reader held, or a prefix of it, or nothing.
     ensures text { OnOk result (MakesText (R.remaining rom.old) roots.now (W.contents out.old) (W.contents out.new)) }
-    ensures prefix { result ≡ Err MakeRunFault.Write → MakesPrefix (R.remaining rom.old) roots.now (W.contents out.old) (W.contents out.new) }
+    ensures prefix { result ≡ Err MakeRunFault.Write → MakesPrefix (R.remaining rom.old) roots.now (W.contents out.old)
+        (W.contents out.new) }
     ensures nothing { IfErr result (λ fault. fault ≢ MakeRunFault.Write → Appends (W.contents out.old) (W.contents out.new) []) }
 
     // 1 comes for a wrong length alone, and 60 to 62 only where no list is made.
@@ -100,7 +99,7 @@ pub fn run_make<R: CountedRead, W: CountedWrite>(
     let Ok(bytes) = read_image(rom) else {
         return Err(MakeRunFault::ReadRom);
     };
-    let cert = make_for(alloc, bytes.as_slice(), roots)?;
+    let cert = make_on(alloc, bytes.as_slice(), roots)?;
     match write_cert(&cert, out) {
         Ok(()) => Ok(()),
         Err(_) => Err(MakeRunFault::Write),

@@ -3,7 +3,7 @@
 ghost use Rattle.std.specs.Prelude.{◌≡◌, ◌≤◌, ◌<◌, length, take, IfOk, IfSome, is_err};
 ghost use Rattle.std.specs.Io.KnownBytes.{Consumes, IsAtEnd};
 ghost use Rattle.dvg_cert.specs.Devices.{count_after};
-ghost use Rattle.dvg_cmd.specs.Private.Reading.{limited, is_failed_read};
+ghost use Rattle.dvg_cmd.specs.Private.Reading.{IsPrefix, is_failed_read};
 
 use arrayvec::ArrayVec;
 use dvg_cert::CountedRead;
@@ -43,7 +43,7 @@ pub type ImageBytes = ArrayVec<u8, 2049>;
 /// The bytes of a ROM or of a frame, up to one past the limit. Takes no memory.
 #[tactic(auto, unfolding(crate::specs::Private::Reading::limited))]
 pub fn read_image<R: CountedRead>(reader: &mut R) -> io::Result<ImageBytes>
-    ensures bytes { IfOk result (λ image. IfSome (R.remaining reader.old) (λ held. image.items ≡ limited 2049 held)) }
+    ensures bytes { IfOk result (λ image. IsPrefix 2049 (R.remaining reader.old) image.items) }
     ensures count { R.failures reader.new ≡ count_after (is_err result) (R.failures reader.old) }
 {
     let mut bytes = [0; 2049];
@@ -67,7 +67,7 @@ pub fn read_text<R: CountedRead>(
     reader: &mut R,
     most: usize,
 ) -> Result<Vec<u8>, TextFault>
-    ensures bytes { IfOk result (λ text. IfSome (R.remaining reader.old) (λ held. text.items ≡ limited most held)) }
+    ensures bytes { IfOk result (λ text. IsPrefix most (R.remaining reader.old) text.items) }
     ensures count { R.failures reader.new ≡ count_after (is_failed_read result) (R.failures reader.old) }
 {
     let Ok(mut bytes) = vec![in alloc; 0u8; most] else {

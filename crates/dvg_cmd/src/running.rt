@@ -1,13 +1,13 @@
 //! Running a check over readers and a writer.
 
-ghost use Rattle.std.specs.Prelude.{◌≡◌, ◌≢◌, [], Ok, Err, IfOk, IfErr, OnOk, OnErr, is_err};
+ghost use Rattle.std.specs.Prelude.{◌≡◌, ◌≢◌, ℕ, false, List, [], Option, Ok, Err, IfOk, IfErr, OnErr, is_err};
 ghost use Rattle.std.specs.Io.KnownBytes.{Appends};
-ghost use Rattle.dvg_cert.specs.Devices.{count_after, AppendsPrefix};
+ghost use Rattle.dvg_cert.specs.Devices.{count_after};
 ghost use Rattle.dvg_cmd.specs.Numbers.{run_number};
-ghost use Rattle.dvg_cmd.specs.Report.{report_text};
-ghost use Rattle.dvg_cmd.specs.Runs.{outcome_of, blames_rom, blames_frame, blames_certificate, blames_writer, Reports, ReportsPrefix, ReportsSafe};
+ghost use Rattle.dvg_cmd.specs.Runs.{outcome_of, blames_rom, blames_frame, blames_certificate, blames_writer, Judges, SafeOver, Reports, ReportsPrefix, ReportsSafe};
+ghost use Rattle.dvg_cmd.specs.Private.Reading.{IsPrefix};
 
-use crate::reading::{TextFault, read_image, read_text};
+use crate::reading::{ImageBytes, TextFault, read_image, read_text};
 use crate::report::report_of;
 use crate::status::text_of;
 use dvg_cert::laws::{prefix_refusal, short_text};
@@ -72,14 +72,73 @@ fn outcome_of(verdict: &Result<Yes, Refusal>) -> Outcome
     }
 }
 
+/// What was read of a ROM, of a frame and of a certificate, each up to one byte past its limit.
+#[derive(Drop)]
+struct Inputs {
+    rom: ImageBytes,
+    frame: ImageBytes,
+    cert: Vec<u8>,
+}
+
+/// Reads a ROM, a frame and a certificate, in this order, up to their limits.
+fn read_inputs<R1: CountedRead, R2: CountedRead, R3: CountedRead>(
+    alloc: Global,
+    rom: &mut R1,
+    cert: &mut R2,
+    frame: &mut R3,
+) -> Result<Inputs, RunFault>
+    ensures rom { IfOk result (λ inputs. IsPrefix 2049 (R1.remaining rom.old) inputs.rom.items) }
+    ensures cert { IfOk result (λ inputs. IsPrefix PAST_CERTIFICATE_LIMIT (R2.remaining cert.old) inputs.cert.items) }
+    ensures frame { IfOk result (λ inputs. IsPrefix 2049 (R3.remaining frame.old) inputs.frame.items) }
+    ensures rom_count { R1.failures rom.new ≡ count_after (blames_rom result) (R1.failures rom.old) }
+    ensures cert_count { R2.failures cert.new ≡ count_after (blames_certificate result) (R2.failures cert.old) }
+    ensures frame_count { R3.failures frame.new ≡ count_after (blames_frame result) (R3.failures frame.old) }
+    ensures fault { blames_writer result ≡ false }
+{
+    let Ok(rom) = read_image(rom) else {
+        return Err(RunFault::ReadRom);
+    };
+    let Ok(frame) = read_image(frame) else {
+        return Err(RunFault::ReadFrame);
+    };
+    match read_text(alloc, cert, PAST_CERTIFICATE_LIMIT) {
+        Ok(cert) => Ok(Inputs { rom, frame, cert }),
+        Err(TextFault::Read) => Err(RunFault::ReadCert),
+        Err(TextFault::Memory) => Err(RunFault::Memory),
+    }
+}
+
+/// The verdict on what was read, which is the one on all that the readers held.
+fn verdict_on(alloc: Global, inputs: &Inputs, budget: u32) -> Result<Yes, Refusal>
+    ensures verdict { (rom cert frame : Option (List ℕ)) → IsPrefix 2049 rom inputs.now.rom.items
+        → IsPrefix PAST_CERTIFICATE_LIMIT cert inputs.now.cert.items → IsPrefix 2049 frame inputs.now.frame.items
+        → Judges rom cert frame budget result }
+    ensures safe { (rom frame : Option (List ℕ)) → IsPrefix 2049 rom inputs.now.rom.items
+        → IsPrefix 2049 frame inputs.now.frame.items → IfOk result (SafeOver rom frame) }
+{
+    // The laws by which what is read to the limits decides the verdict on all bytes.
+    short_text();
+    prefix_refusal();
+    check(
+        alloc,
+        inputs.rom.as_slice(),
+        &inputs.cert,
+        inputs.frame.as_slice(),
+        budget,
+    )
+}
+
 /// Writes the report of a verdict.
 fn write_report<W: CountedWrite>(
     verdict: &Result<Yes, Refusal>,
     out: &mut W,
 ) -> Result<Outcome, RunFault>
-    ensures ok { OnOk result (Appends (W.contents out.old) (W.contents out.new) (report_text verdict.now)) }
-    ensures outcome { IfOk result (λ outcome. outcome ≡ outcome_of verdict.now) }
-    ensures prefix { OnErr result (AppendsPrefix (W.contents out.old) (W.contents out.new) (report_text verdict.now)) }
+    ensures report { (rom cert frame : Option (List ℕ)) (budget : ℕ) → Judges rom cert frame budget verdict.now
+        → IfOk result (Reports rom cert frame budget (W.contents out.old) (W.contents out.new)) }
+    ensures prefix { (rom cert frame : Option (List ℕ)) (budget : ℕ) → Judges rom cert frame budget verdict.now
+        → result ≡ Err RunFault.Write → ReportsPrefix rom cert frame budget (W.contents out.old) (W.contents out.new) }
+    ensures safe { (rom frame : Option (List ℕ)) → IfOk verdict.now (SafeOver rom frame) → result ≡ Ok Outcome.Accepted
+        → ReportsSafe rom frame (W.contents out.old) (W.contents out.new) }
     ensures fault { IfErr result (λ fault. fault ≡ RunFault.Write) }
     ensures count { W.failures out.new ≡ count_after (is_err result) (W.failures out.old) }
 {
@@ -120,26 +179,7 @@ pub fn run_check<R1: CountedRead, R2: CountedRead, R3: CountedRead, W: CountedWr
     ensures safe { result ≡ Ok Outcome.Accepted → ReportsSafe (R1.remaining rom.old) (R3.remaining frame.old)
         (W.contents out.old) (W.contents out.new) }
 {
-    // The laws by which what is read to the limits decides the verdict on all bytes.
-    short_text();
-    prefix_refusal();
-    let Ok(rom_bytes) = read_image(rom) else {
-        return Err(RunFault::ReadRom);
-    };
-    let Ok(frame_bytes) = read_image(frame) else {
-        return Err(RunFault::ReadFrame);
-    };
-    let cert_bytes = match read_text(alloc, cert, PAST_CERTIFICATE_LIMIT) {
-        Ok(bytes) => bytes,
-        Err(TextFault::Read) => return Err(RunFault::ReadCert),
-        Err(TextFault::Memory) => return Err(RunFault::Memory),
-    };
-    let verdict = check(
-        alloc,
-        rom_bytes.as_slice(),
-        &cert_bytes,
-        frame_bytes.as_slice(),
-        budget,
-    );
+    let inputs = read_inputs(alloc, rom, cert, frame)?;
+    let verdict = verdict_on(alloc, &inputs, budget);
     write_report(&verdict, out)
 }

@@ -22,6 +22,14 @@ const KEYS_FALL: &[u8] =
 const LONGEST: &[u8] =
     b"dvgcert 1\nshape BFF any end rel -2000000000000 -2000000000000 box -2000000000000 -2000000000000 -2000000000000 -2000000000000 depth 3 words 1000000 scale any\ndone 1\n";
 
+const FIVE_KEYS: &[u8] = b"dvgcert 1\n\
+shape 800 0 end lost box none depth 0 words 1 scale 0\n\
+shape 800 1 end lost box none depth 0 words 1 scale 0\n\
+shape 800 2 end lost box none depth 0 words 1 scale 0\n\
+shape 800 3 end lost box none depth 0 words 1 scale 0\n\
+shape 800 4 end lost box none depth 0 words 1 scale 0\n\
+done 5\n";
+
 fn refused(line: u32, why: CertWhy) -> Answer {
     Err(CertFault { line, why })
 }
@@ -216,6 +224,16 @@ fn refused_memory(rt: HostRuntime) {
     );
     match fed(&rt, rt.alloc(), LONGEST, 7, 7) {
         Ok(count) => assert_eq!(rt; count, 1),
+        Err(fault) => panic!(rt; "refused {} at line {}", fault.why.number(), fault.line),
+    }
+}
+
+/// Memory is taken as entries come: where the second allocation is refused, as by tests/refused-memory, this test fails and
+/// tells the refusal at a later entry, at which the list grows.
+#[test]
+fn refused_growth(rt: HostRuntime) {
+    match answer_of(read_cert(rt.alloc(), FIVE_KEYS)) {
+        Ok(count) => assert_eq!(rt; count, 5),
         Err(fault) => panic!(rt; "refused {} at line {}", fault.why.number(), fault.line),
     }
 }

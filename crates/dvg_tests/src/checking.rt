@@ -60,6 +60,34 @@ fn judges_bytes(rt: HostRuntime) {
     }
 }
 
+/// 1, 2 and 49 are answered without memory: where the first allocation is refused, as by tests/refused-memory, that is the
+/// test's own after these answers, and this test fails and tells so.
+#[test]
+fn refused_memory(rt: HostRuntime) {
+    let rom = rom_bytes();
+    for (rom, frame, budget, want) in [
+        (
+            &rom[1..],
+            FRAME,
+            20000,
+            Refusal::Image(ImageFault::RomLength),
+        ),
+        (
+            &rom,
+            &FRAME[1..],
+            20000,
+            Refusal::Image(ImageFault::FrameLength),
+        ),
+        (&rom, FRAME, 0, Refusal::BudgetRange),
+        (&rom, FRAME, 1_000_001, Refusal::BudgetRange),
+    ] {
+        assert_eq!(rt; check(rt.alloc(), rom, CERT, frame, budget), Err(want));
+    }
+    if Vec::<u8>::with_capacity(rt.alloc(), 1).is_err() {
+        panic!(rt; "no memory after the answers");
+    }
+}
+
 /// What two frames answer over shapes that are judged once: one that calls the shape, and HALT alone.
 #[test]
 fn judges_frames_over_judged_shapes(rt: HostRuntime) -> Result<(), Fail> {
