@@ -15,3 +15,5 @@ pub mod AnyText
 pub mod TextLaws
 pub mod Pieces
 pub mod OnlyEntries
+pub mod Pairs
+pub mod Hashing

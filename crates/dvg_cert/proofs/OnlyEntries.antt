@@ -1,8 +1,9 @@
 -- A list that rises has one entry at an address and key at the most.
-use Rattle.std.proofs.Common.{◌≡◌, ℕ, zero, suc, Bool, true, false, cond, List, [], ◌∷◌, Option, Some, None, refl, sym, ap, subst, ◌∙◌, arith, inl, inr, ◌⊎◌}
+use Rattle.std.proofs.Common.{◌≡◌, ℕ, zero, suc, Bool, true, false, cond, List, [], ◌∷◌, length, take, get_or, ◌<◌, Option, Some, None, refl, sym, ap, subst, ◌∙◌, arith, inl, inr, ◌⊎◌}
 use Rattle.std.specs.Prelude.{◌==◌, IfSome, IfNone, Contains}
 use Rattle.std.proofs.lemmas.Bool.{and_parts, and_from}
 use Rattle.std.proofs.lemmas.Bool.Decides.{nat_tests}
+use Rattle.std.proofs.lemmas.List.Elements.{Contains-get_or}
 use Rattle.dvg_cert.specs.Entry.{Entry, Key, At, Any}
 use Rattle.dvg_cert.specs.Order.{KeyBefore, Before, IsRising}
 use Rattle.dvg_cert.specs.Lookup.{same_key, is_at, entry_at, IsOnlyAt, HasNoneAt}
@@ -70,6 +71,23 @@ before_later e (g ∷ es) f h c =
       | inl same ↦ subst (λ (x : Entry). Before e x) (sym same) h.0
       | inr d ↦ before_next e g f h.0 (before_later g es f h.1 d)
     ]
+
+not_at : (e f : Entry) → Before e f → is_at f.addr f.key e ≡ false
+not_at e f lt = by (is_at f.addr f.key e) refl
+  where
+    by : (b : Bool) → is_at f.addr f.key e ≡ b → is_at f.addr f.key e ≡ false
+    by false p = p
+    by true p = let r = at_means f.addr f.key e p in absurd (not_before e f (sym r.0) (sym r.1) lt)
+
+-- no entry before one stands at its address and key
+pub new_at : (es : List Entry) (i : ℕ) (d : Entry) → IsRising es → i < length es → entry_at (take i es) (get_or es i d).addr (get_or es i d).key ≡ None
+new_at [] i d h lt = absurd (omega arith)
+new_at (e ∷ es) zero d h lt = refl
+new_at (e ∷ es) (suc i) d h lt =
+    let f = get_or es i d in
+    let listed : Contains es f = Contains-get_or es i d (omega (arith, lt)) in
+    let is : is_at f.addr f.key e ≡ false = not_at e f (before_later e es f h listed) in
+    rw is (new_at es i d (rising_tail e es h) (omega (arith, lt)))
 
 elsewhere : (addr : ℕ) (key : Key) (e f : Entry) → is_at addr key e ≡ false → f ≡ e → f.addr ≡ addr → f.key ≡ key → ⊥
 elsewhere addr key e f is same a k = let yes = at_holds addr key f a k in absurd cc

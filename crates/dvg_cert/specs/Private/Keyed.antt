@@ -1,8 +1,7 @@
 -- Entries among pairs of an address and key with an entry.
 use Rattle.std.specs.Prelude.{◌≡◌, ℕ, List}
 use Rattle.std.specs.List.{All}
-use Rattle.dvg_cert.specs.declared.entry.Entry.{Entry}
-use Rattle.dvg_cert.specs.declared.entry.Key.{Key}
+use Rattle.dvg_cert.specs.Entry.{Entry, Key}
 
 -- the entry stands at its own address and key
 abbrev pub IsOwn : (ℕ × Key) × Entry → Type 0
