@@ -46,34 +46,38 @@ same_yes w words list budget y z g h p q =
     λ i. record { shapes = shapes i; words = s.count_is i; depth = s.depth_is i }
 
 -- the shapes and the frame of one list come to one answer
-same_parts : (mode : Mode) (w : Window) (rom : Rom) (list : List Entry) (words : List ℕ) (budget : ℕ) (a b : Result Yes Refusal) → PartsVerdict mode w rom list words budget a → PartsVerdict mode w rom list words budget b → a ≡ b
-same_parts mode w rom list words budget (Ok y) (Ok z) h k = ap Ok (same_yes w words list budget y z h.1 k.1 h.2 k.2)
-same_parts mode w rom list words budget (Ok y) (Err (refusal.Shape g)) h k = absurd (no_shape_fault mode w rom list g h.0 k)
-same_parts mode w rom list words budget (Ok y) (Err (refusal.Frame g)) h k = absurd (no_fault w words list budget y.words y.depth g h.1 k.1)
-same_parts mode w rom list words budget (Ok y) (Err (refusal.Image g)) h k = absurd k
-same_parts mode w rom list words budget (Ok y) (Err refusal.BudgetRange) h k = absurd k
-same_parts mode w rom list words budget (Ok y) (Err (refusal.Cert g)) h k = absurd k
-same_parts mode w rom list words budget (Err (refusal.Shape f)) (Ok z) h k = absurd (no_shape_fault mode w rom list f k.0 h)
-same_parts mode w rom list words budget (Err (refusal.Shape f)) (Err (refusal.Shape g)) h k = ap (λ x. Err (refusal.Shape x)) (one_shape_fault mode w rom list f g h k)
-same_parts mode w rom list words budget (Err (refusal.Shape f)) (Err (refusal.Frame g)) h k = absurd (no_shape_fault mode w rom list f k.0 h)
-same_parts mode w rom list words budget (Err (refusal.Shape f)) (Err (refusal.Image g)) h k = absurd k
-same_parts mode w rom list words budget (Err (refusal.Shape f)) (Err refusal.BudgetRange) h k = absurd k
-same_parts mode w rom list words budget (Err (refusal.Shape f)) (Err (refusal.Cert g)) h k = absurd k
-same_parts mode w rom list words budget (Err (refusal.Frame f)) (Ok z) h k = absurd (no_fault w words list budget z.words z.depth f k.1 h.1)
-same_parts mode w rom list words budget (Err (refusal.Frame f)) (Err (refusal.Shape g)) h k = absurd (no_shape_fault mode w rom list g h.0 k)
-same_parts mode w rom list words budget (Err (refusal.Frame f)) (Err (refusal.Frame g)) h k = ap (λ x. Err (refusal.Frame x)) (one_fault w words list budget f g h.1 k.1)
-same_parts mode w rom list words budget (Err (refusal.Frame f)) (Err (refusal.Image g)) h k = absurd k
-same_parts mode w rom list words budget (Err (refusal.Frame f)) (Err refusal.BudgetRange) h k = absurd k
-same_parts mode w rom list words budget (Err (refusal.Frame f)) (Err (refusal.Cert g)) h k = absurd k
-same_parts mode w rom list words budget (Err (refusal.Image f)) b h k = absurd h
-same_parts mode w rom list words budget (Err refusal.BudgetRange) b h k = absurd h
-same_parts mode w rom list words budget (Err (refusal.Cert f)) b h k = absurd h
+same_parts : (mode : Mode) (w : Window) (rom : Rom) (list : List Entry) (words : List ℕ) (budget : ℕ) (a b : Result Yes Refusal) → PartsVerdict mode w rom list words budget a → PartsVerdict mode w rom list words budget b → NotMemory a → NotMemory b → a ≡ b
+same_parts mode w rom list words budget (Ok y) (Ok z) h k m n = ap Ok (same_yes w words list budget y z h.1 k.1 h.2 k.2)
+same_parts mode w rom list words budget (Ok y) (Err (refusal.Shape g)) h k m n = absurd (no_shape_fault mode w rom list g h.0 k)
+same_parts mode w rom list words budget (Ok y) (Err (refusal.Frame g)) h k m n = absurd (no_fault w words list budget y.words y.depth g h.1 k.1)
+same_parts mode w rom list words budget (Ok y) (Err (refusal.Image g)) h k m n = absurd k
+same_parts mode w rom list words budget (Ok y) (Err refusal.BudgetRange) h k m n = absurd k
+same_parts mode w rom list words budget (Ok y) (Err (refusal.Cert g)) h k m n = absurd k
+same_parts mode w rom list words budget (Ok y) (Err refusal.IndexMemory) h k m n = absurd n
+same_parts mode w rom list words budget (Err (refusal.Shape f)) (Ok z) h k m n = absurd (no_shape_fault mode w rom list f k.0 h)
+same_parts mode w rom list words budget (Err (refusal.Shape f)) (Err (refusal.Shape g)) h k m n = ap (λ x. Err (refusal.Shape x)) (one_shape_fault mode w rom list f g h k)
+same_parts mode w rom list words budget (Err (refusal.Shape f)) (Err (refusal.Frame g)) h k m n = absurd (no_shape_fault mode w rom list f k.0 h)
+same_parts mode w rom list words budget (Err (refusal.Shape f)) (Err (refusal.Image g)) h k m n = absurd k
+same_parts mode w rom list words budget (Err (refusal.Shape f)) (Err refusal.BudgetRange) h k m n = absurd k
+same_parts mode w rom list words budget (Err (refusal.Shape f)) (Err (refusal.Cert g)) h k m n = absurd k
+same_parts mode w rom list words budget (Err (refusal.Shape f)) (Err refusal.IndexMemory) h k m n = absurd n
+same_parts mode w rom list words budget (Err (refusal.Frame f)) (Ok z) h k m n = absurd (no_fault w words list budget z.words z.depth f k.1 h.1)
+same_parts mode w rom list words budget (Err (refusal.Frame f)) (Err (refusal.Shape g)) h k m n = absurd (no_shape_fault mode w rom list g h.0 k)
+same_parts mode w rom list words budget (Err (refusal.Frame f)) (Err (refusal.Frame g)) h k m n = ap (λ x. Err (refusal.Frame x)) (one_fault w words list budget f g h.1 k.1)
+same_parts mode w rom list words budget (Err (refusal.Frame f)) (Err (refusal.Image g)) h k m n = absurd k
+same_parts mode w rom list words budget (Err (refusal.Frame f)) (Err refusal.BudgetRange) h k m n = absurd k
+same_parts mode w rom list words budget (Err (refusal.Frame f)) (Err (refusal.Cert g)) h k m n = absurd k
+same_parts mode w rom list words budget (Err (refusal.Frame f)) (Err refusal.IndexMemory) h k m n = absurd n
+same_parts mode w rom list words budget (Err (refusal.Image f)) b h k m n = absurd h
+same_parts mode w rom list words budget (Err refusal.BudgetRange) b h k m n = absurd h
+same_parts mode w rom list words budget (Err (refusal.Cert f)) b h k m n = absurd h
+same_parts mode w rom list words budget (Err refusal.IndexMemory) b h k m n = absurd m
 
 module _ (one_list : OneList) (one_answer : OneAnswer) (mode : Mode) (map : MemoryMap) (w : Window) (rom cert words : List ℕ) (budget : ℕ) (small : map.rom_last < 4096) where
-  same_lists : (a b : Result Yes Refusal) → ListVerdict mode map w rom cert words budget a → ListVerdict mode map w rom cert words budget b → a ≡ b
-  same_lists a b h k =
+  same_lists : (a b : Result Yes Refusal) → ListVerdict mode map w rom cert words budget a → ListVerdict mode map w rom cert words budget b → NotMemory a → NotMemory b → a ≡ b
+  same_lists a b h k m n =
       let same : k.list ≡ h.list = one_list map.rom_first map.rom_last k.list h.list cert small k.spells h.spells in
-      same_parts mode w (rom_of map rom) h.list (words_of words) budget a b h.parts (subst (λ (l : List Entry). PartsVerdict mode w (rom_of map rom) l (words_of words) budget b) same k.parts)
+      same_parts mode w (rom_of map rom) h.list (words_of words) budget a b h.parts (subst (λ (l : List Entry). PartsVerdict mode w (rom_of map rom) l (words_of words) budget b) same k.parts) m n
 
   -- a text has one answer
   same_read : (a b : Result (List Entry) CertFault) → ReadAnswer map.rom_first map.rom_last cert a → ReadAnswer map.rom_first map.rom_last cert b → HasMemory a → HasMemory b → a ≡ b
@@ -90,6 +94,7 @@ module _ (one_list : OneList) (one_answer : OneAnswer) (mode : Mode) (map : Memo
   same_verdict (Err (refusal.Image RomLength)) (Err (refusal.Image FrameLength)) h k m n = absurd (h k.0)
   same_verdict (Err (refusal.Image RomLength)) (Err refusal.BudgetRange) h k m n = absurd (h k.0)
   same_verdict (Err (refusal.Image RomLength)) (Err (refusal.Cert g)) h k m n = absurd (h k.0.rom_length)
+  same_verdict (Err (refusal.Image RomLength)) (Err refusal.IndexMemory) h k m n = absurd n
   same_verdict (Err (refusal.Image RomLength)) (Err (refusal.Shape g)) h k m n = absurd (h k.in_range.rom_length)
   same_verdict (Err (refusal.Image RomLength)) (Err (refusal.Frame g)) h k m n = absurd (h k.in_range.rom_length)
   same_verdict (Err (refusal.Image RomLength)) (Ok z) h k m n = absurd (h k.in_range.rom_length)
@@ -97,6 +102,7 @@ module _ (one_list : OneList) (one_answer : OneAnswer) (mode : Mode) (map : Memo
   same_verdict (Err (refusal.Image FrameLength)) (Err (refusal.Image FrameLength)) h k m n = refl
   same_verdict (Err (refusal.Image FrameLength)) (Err refusal.BudgetRange) h k m n = absurd (h.1 k.1)
   same_verdict (Err (refusal.Image FrameLength)) (Err (refusal.Cert g)) h k m n = absurd (h.1 k.0.frame_length)
+  same_verdict (Err (refusal.Image FrameLength)) (Err refusal.IndexMemory) h k m n = absurd n
   same_verdict (Err (refusal.Image FrameLength)) (Err (refusal.Shape g)) h k m n = absurd (h.1 k.in_range.frame_length)
   same_verdict (Err (refusal.Image FrameLength)) (Err (refusal.Frame g)) h k m n = absurd (h.1 k.in_range.frame_length)
   same_verdict (Err (refusal.Image FrameLength)) (Ok z) h k m n = absurd (h.1 k.in_range.frame_length)
@@ -104,6 +110,7 @@ module _ (one_list : OneList) (one_answer : OneAnswer) (mode : Mode) (map : Memo
   same_verdict (Err refusal.BudgetRange) (Err (refusal.Image FrameLength)) h k m n = absurd (k.1 h.1)
   same_verdict (Err refusal.BudgetRange) (Err refusal.BudgetRange) h k m n = refl
   same_verdict (Err refusal.BudgetRange) (Err (refusal.Cert g)) h k m n = absurd (h.2 k.0.budget_range)
+  same_verdict (Err refusal.BudgetRange) (Err refusal.IndexMemory) h k m n = absurd n
   same_verdict (Err refusal.BudgetRange) (Err (refusal.Shape g)) h k m n = absurd (h.2 k.in_range.budget_range)
   same_verdict (Err refusal.BudgetRange) (Err (refusal.Frame g)) h k m n = absurd (h.2 k.in_range.budget_range)
   same_verdict (Err refusal.BudgetRange) (Ok z) h k m n = absurd (h.2 k.in_range.budget_range)
@@ -111,30 +118,35 @@ module _ (one_list : OneList) (one_answer : OneAnswer) (mode : Mode) (map : Memo
   same_verdict (Err (refusal.Cert f)) (Err (refusal.Image FrameLength)) h k m n = absurd (k.1 h.0.frame_length)
   same_verdict (Err (refusal.Cert f)) (Err refusal.BudgetRange) h k m n = absurd (k.2 h.0.budget_range)
   same_verdict (Err (refusal.Cert f)) (Err (refusal.Cert g)) h k m n = ap (λ x. Err (refusal.Cert x)) (same_refusal f g h.1 k.1 m n)
+  same_verdict (Err (refusal.Cert f)) (Err refusal.IndexMemory) h k m n = absurd n
   same_verdict (Err (refusal.Cert f)) (Err (refusal.Shape g)) h k m n = absurd (no_refusal f (Err (refusal.Shape g)) h.1 k m)
   same_verdict (Err (refusal.Cert f)) (Err (refusal.Frame g)) h k m n = absurd (no_refusal f (Err (refusal.Frame g)) h.1 k m)
   same_verdict (Err (refusal.Cert f)) (Ok z) h k m n = absurd (no_refusal f (Ok z) h.1 k m)
+  same_verdict (Err refusal.IndexMemory) b h k m n = absurd m
   same_verdict (Err (refusal.Shape f)) (Err (refusal.Image RomLength)) h k m n = absurd (k h.in_range.rom_length)
   same_verdict (Err (refusal.Shape f)) (Err (refusal.Image FrameLength)) h k m n = absurd (k.1 h.in_range.frame_length)
   same_verdict (Err (refusal.Shape f)) (Err refusal.BudgetRange) h k m n = absurd (k.2 h.in_range.budget_range)
   same_verdict (Err (refusal.Shape f)) (Err (refusal.Cert g)) h k m n = absurd (no_refusal g (Err (refusal.Shape f)) k.1 h n)
-  same_verdict (Err (refusal.Shape f)) (Err (refusal.Shape g)) h k m n = same_lists (Err (refusal.Shape f)) (Err (refusal.Shape g)) h k
-  same_verdict (Err (refusal.Shape f)) (Err (refusal.Frame g)) h k m n = same_lists (Err (refusal.Shape f)) (Err (refusal.Frame g)) h k
-  same_verdict (Err (refusal.Shape f)) (Ok z) h k m n = same_lists (Err (refusal.Shape f)) (Ok z) h k
+  same_verdict (Err (refusal.Shape f)) (Err refusal.IndexMemory) h k m n = absurd n
+  same_verdict (Err (refusal.Shape f)) (Err (refusal.Shape g)) h k m n = same_lists (Err (refusal.Shape f)) (Err (refusal.Shape g)) h k m n
+  same_verdict (Err (refusal.Shape f)) (Err (refusal.Frame g)) h k m n = same_lists (Err (refusal.Shape f)) (Err (refusal.Frame g)) h k m n
+  same_verdict (Err (refusal.Shape f)) (Ok z) h k m n = same_lists (Err (refusal.Shape f)) (Ok z) h k m n
   same_verdict (Err (refusal.Frame f)) (Err (refusal.Image RomLength)) h k m n = absurd (k h.in_range.rom_length)
   same_verdict (Err (refusal.Frame f)) (Err (refusal.Image FrameLength)) h k m n = absurd (k.1 h.in_range.frame_length)
   same_verdict (Err (refusal.Frame f)) (Err refusal.BudgetRange) h k m n = absurd (k.2 h.in_range.budget_range)
   same_verdict (Err (refusal.Frame f)) (Err (refusal.Cert g)) h k m n = absurd (no_refusal g (Err (refusal.Frame f)) k.1 h n)
-  same_verdict (Err (refusal.Frame f)) (Err (refusal.Shape g)) h k m n = same_lists (Err (refusal.Frame f)) (Err (refusal.Shape g)) h k
-  same_verdict (Err (refusal.Frame f)) (Err (refusal.Frame g)) h k m n = same_lists (Err (refusal.Frame f)) (Err (refusal.Frame g)) h k
-  same_verdict (Err (refusal.Frame f)) (Ok z) h k m n = same_lists (Err (refusal.Frame f)) (Ok z) h k
+  same_verdict (Err (refusal.Frame f)) (Err refusal.IndexMemory) h k m n = absurd n
+  same_verdict (Err (refusal.Frame f)) (Err (refusal.Shape g)) h k m n = same_lists (Err (refusal.Frame f)) (Err (refusal.Shape g)) h k m n
+  same_verdict (Err (refusal.Frame f)) (Err (refusal.Frame g)) h k m n = same_lists (Err (refusal.Frame f)) (Err (refusal.Frame g)) h k m n
+  same_verdict (Err (refusal.Frame f)) (Ok z) h k m n = same_lists (Err (refusal.Frame f)) (Ok z) h k m n
   same_verdict (Ok y) (Err (refusal.Image RomLength)) h k m n = absurd (k h.in_range.rom_length)
   same_verdict (Ok y) (Err (refusal.Image FrameLength)) h k m n = absurd (k.1 h.in_range.frame_length)
   same_verdict (Ok y) (Err refusal.BudgetRange) h k m n = absurd (k.2 h.in_range.budget_range)
   same_verdict (Ok y) (Err (refusal.Cert g)) h k m n = absurd (no_refusal g (Ok y) k.1 h n)
-  same_verdict (Ok y) (Err (refusal.Shape g)) h k m n = same_lists (Ok y) (Err (refusal.Shape g)) h k
-  same_verdict (Ok y) (Err (refusal.Frame g)) h k m n = same_lists (Ok y) (Err (refusal.Frame g)) h k
-  same_verdict (Ok y) (Ok z) h k m n = same_lists (Ok y) (Ok z) h k
+  same_verdict (Ok y) (Err refusal.IndexMemory) h k m n = absurd n
+  same_verdict (Ok y) (Err (refusal.Shape g)) h k m n = same_lists (Ok y) (Err (refusal.Shape g)) h k m n
+  same_verdict (Ok y) (Err (refusal.Frame g)) h k m n = same_lists (Ok y) (Err (refusal.Frame g)) h k m n
+  same_verdict (Ok y) (Ok z) h k m n = same_lists (Ok y) (Ok z) h k m n
 
 pub one_verdict : OneList → OneAnswer → OneVerdict
 one_verdict one_list one_answer mode map w rom cert words budget a b small h k m n = same_verdict one_list one_answer mode map w rom cert words budget small a b h k m n

@@ -11,5 +11,6 @@ abbrev pub refusal_number : Refusal → ℕ
 refusal_number (refusal.Image f) = image_number f
 refusal_number refusal.BudgetRange = 49
 refusal_number (refusal.Cert f) = cert_number f.why
+refusal_number refusal.IndexMemory = 50
 refusal_number (refusal.Shape f) = shape_number f.why
 refusal_number (refusal.Frame f) = frame_number f.why

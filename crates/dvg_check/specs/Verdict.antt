@@ -1,5 +1,6 @@
 -- The verdict on the bytes of a ROM, of a certificate and of a frame, under a budget of words: the first that applies of 1,
--- 2, 49, the certificate's refusal, the first fault of the shapes, that of the frame, accepted. All of it is profile.
+-- 2, 49, the certificate's refusal, the first fault of the shapes, that of the frame, accepted; out of memory for the index
+-- may stand in the place of each that comes after the certificate's. All of it is profile.
 use Rattle.std.specs.Prelude.{◌≡◌, ◌≢◌, ℕ, ◌≤◌, List, length, Result, Ok, Err}
 use Rattle.dvg_words.specs.Values.{MemoryMap, Window}
 use Rattle.dvg_words.specs.Memory.{Rom, words_of, rom_of, IsRomLength, IsFrameLength}
@@ -25,12 +26,13 @@ pub record InRange (map : MemoryMap) (rom frame : List ℕ) (budget : ℕ) : Typ
   pub frame_length : IsFrameLength (length frame)
   pub budget_range : IsBudget budget
 
--- what the shapes of a list and a frame come to
+-- what the shapes of a list and a frame come to, or that there was no memory for the index
 abbrev pub PartsVerdict : Mode → Window → Rom → List Entry → List ℕ → ℕ → Result Yes Refusal → Type 0
 PartsVerdict mode w rom list words budget (Ok y) =
     Good mode w rom list × GoodFrame w words list budget y.words y.depth × (y.shapes ≡ length list)
 PartsVerdict mode w rom list words budget (Err (refusal.Shape f)) = FirstShapeFault mode w rom list f
 PartsVerdict mode w rom list words budget (Err (refusal.Frame f)) = Good mode w rom list × FirstFrameFault w words list budget f
+PartsVerdict mode w rom list words budget (Err refusal.IndexMemory) = Unit {0}
 PartsVerdict mode w rom list words budget (Err r) = ⊥
 
 -- the list that the certificate spells, and what its shapes and the frame come to
@@ -51,7 +53,8 @@ Verdict mode map w rom cert words budget (Err (refusal.Cert f)) =
     InRange map rom words budget × ReadAnswer map.rom_first map.rom_last cert (Err f)
 Verdict mode map w rom cert words budget answer = ListVerdict mode map w rom cert words budget answer
 
--- the answer is not that memory was short for the certificate
+-- the answer is not that memory was short for the certificate or its index
 abbrev pub NotMemory : Result Yes Refusal → Type 0
 NotMemory (Err (refusal.Cert f)) = f.why ≢ Memory
+NotMemory (Err refusal.IndexMemory) = ⊥
 NotMemory answer = Unit {0}

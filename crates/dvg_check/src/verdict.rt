@@ -12,9 +12,9 @@ ghost use Rattle.dvg_check.specs.declared.verdict.Refusal.TheVariants as refusal
 
 use crate::fault::{FrameFault, ShapeFault};
 use crate::judged::JudgedShapes;
-use dvg_cert::{Cert, CertFault, ListIndex, MOST_WORDS, read_cert};
+use dvg_cert::{Cert, CertFault, HashIndex, MOST_WORDS, read_cert};
 use dvg_words::{FrameImage, ImageFault, RomImage};
-use std::alloc::Global;
+use std::alloc::{AllocError, Global};
 use thiserror::Error;
 
 /// What is accepted: how many shapes the certificate claims, how many words every run fetches at the most, and how many
@@ -38,6 +38,9 @@ pub enum Refusal {
     /// 10 to 16: the certificate is not one of the format, or there was no memory for it.
     #[error("certificate {0}")]
     Cert(CertFault),
+    /// 50: there was no memory for the index of the certificate's entries.
+    #[error("out of memory for the index")]
+    IndexMemory,
     /// 20 to 31: a shape breaks a rule.
     #[error("{0}")]
     Shape(ShapeFault),
@@ -55,6 +58,7 @@ impl Refusal {
             Refusal::Image(fault) => fault.number(),
             Refusal::BudgetRange => 49,
             Refusal::Cert(fault) => fault.number(),
+            Refusal::IndexMemory => 50,
             Refusal::Shape(fault) => fault.number(),
             Refusal::Frame(fault) => fault.number(),
         }
@@ -74,6 +78,15 @@ impl From<CertFault> for Refusal {
 
     fn from(fault: CertFault) -> Refusal {
         Refusal::Cert(fault)
+    }
+}
+
+/// The one growth that tells no more than that it was refused is that of the index.
+impl From<AllocError> for Refusal {
+    ghost from_gives = { λ _ refusal. refusal ≡ refusals.IndexMemory };
+
+    fn from(_: AllocError) -> Refusal {
+        Refusal::IndexMemory
     }
 }
 
@@ -97,13 +110,14 @@ impl From<FrameFault> for Refusal {
 /// first word is safe.
 ///
 /// `budget` is how many words the frame may take at the most, 1 to 1,000,000. The verdict is exact: the first that
-/// applies of 1, 2, 49, the certificate's refusal (10 to 16), the first fault of its shapes (20 to 31), the frame's first
-/// fault (40 to 48), and the yes. Where it accepts, every run from the frame's first word, at any beam place and any
+/// applies of 1, 2, 49, the certificate's refusal (10 to 16), 50, the first fault of its shapes (20 to 31), the frame's
+/// first fault (40 to 48), and the yes. Where it accepts, every run from the frame's first word, at any beam place and any
 /// global scale, reaches HALT within the answered count of words, stores at most four return places at once, fetches
 /// only words of the ROM and the frame, and draws no lit stroke that leaves 0 to 1023 on either axis.
 ///
-/// Each claimed shape is visited once, and nothing is run. Takes memory for the certificate's entries alone, and none
-/// before 1, 2 and 49 are ruled out; 16 comes only where there was none for an entry that could be taken.
+/// Each claimed shape is visited once, and nothing is run. Takes memory for the certificate's entries and for their index
+/// alone, and none before 1, 2 and 49 are ruled out; 16 comes only where there was none for an entry that could be taken,
+/// and 50 only where the certificate was taken and there was none for its index.
 pub fn check(
     alloc: Global,
     rom: &[u8],
@@ -120,18 +134,24 @@ pub fn check(
         return Err(Refusal::BudgetRange);
     }
     let cert = read_cert(alloc, cert)?;
-    judge(&rom, &frame, &cert, budget)
+    judge(alloc, &rom, &frame, &cert, budget)
 }
 
 /// Judges the shapes of a certificate, and a frame by them.
-fn judge(rom: &RomImage, frame: &FrameImage, cert: &Cert, budget: u32) -> Result<Yes, Refusal>
+fn judge(
+    alloc: Global,
+    rom: &RomImage,
+    frame: &FrameImage,
+    cert: &Cert,
+    budget: u32,
+) -> Result<Yes, Refusal>
     requires rom { IsRom rom.now }
     requires frame { IsFrame frame.now }
     requires budget { budget ≤ MOST_WORDS }
     ensures verdict { PartsVerdict Bound screen rom.now cert.now frame.now budget result }
     ensures safe { IfOk result (λ yes. Safe (record { frame = frame.now; rom = rom.now }) screen yes.words yes.depth) }
 {
-    let entries = ListIndex::new(cert);
+    let entries = HashIndex::new(alloc, cert)?;
     let shapes = JudgedShapes::judge(rom, cert, &entries)?;
     let accepted = shapes.check_frame(frame, budget)?;
     Ok(Yes {
