@@ -7,7 +7,7 @@ pub mod Growing
 pub mod Chains
 pub mod Crowds
 pub mod Turns
-pub mod Pairs
+pub mod InMaking
 pub mod Sorting
 pub mod Roots
 pub mod Finishing

@@ -14,7 +14,7 @@ use Rattle.dvg_cert.specs.Order.{KeyBefore, Before, IsRising}
 use Rattle.dvg_cert.specs.declared.entry.Entry.{Entry}
 use Rattle.dvg_cert.specs.declared.entry.Key.{Key}
 use Rattle.dvg_cert.specs.declared.entry.Key.TheVariants.{At, Any}
-use Rattle.dvg_make.specs.Private.Keyed.{IsOwn, IsKeyed}
+use Rattle.dvg_cert.specs.Private.Keyed.{IsOwn, IsKeyed}
 
 -- the numbers in their order, then any
 pub record IsKeyOrder (cmp : Key → Key → Ordering) : Type 0 where

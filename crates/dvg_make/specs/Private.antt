@@ -1,4 +1,3 @@
 -- Words of the code's own, which no rule stands on.
-pub mod Keyed
 pub mod Walking
 pub mod Making

@@ -20,7 +20,7 @@ impl Model for Done {
     ghost use Rattle.std.specs.Prelude.{List};
     ghost use Rattle.dvg_cert.specs.declared.entry.Entry.{Entry};
     ghost use Rattle.std.specs.Map.{values_of};
-    ghost use Rattle.dvg_make.specs.Private.Keyed.{IsKeyed};
+    ghost use Rattle.dvg_cert.specs.Private.Keyed.{IsKeyed};
 
     ghost Value = { List Entry };
 

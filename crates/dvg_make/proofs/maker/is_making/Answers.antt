@@ -1,5 +1,5 @@
 use Rattle.std.proofs.Common.{rules}
-use Rattle.dvg_make.proofs.Pairs.{making_at}
+use Rattle.dvg_make.proofs.InMaking.{making_at}
 use Rattle.dvg_make.proofs.maker.is_making.Goals as goal
 
 pub returns-then-eq : goal.returns-then-eq

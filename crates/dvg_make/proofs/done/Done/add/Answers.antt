@@ -1,21 +1,20 @@
-use Rattle.std.proofs.Common.{◌∙◌, ◌++◌, ◌∷◌, [], List, ap, sym, subst, refl}
+use Rattle.std.proofs.Common.{◌∙◌, ◌++◌, ◌∷◌, [], List, ap, sym, subst}
 use Rattle.indexmap.proofs.CallerLemmas.{insert_entry-new}
 use Rattle.dvg_cert.specs.declared.entry.Entry.{Entry}
 use Rattle.dvg_cert.specs.Lookup.{entry_at}
-use Rattle.dvg_cert.specs.contracts.entry.KeyPartialEq.TheImpl.{ghosts}
-use Rattle.dvg_make.specs.Private.Keyed.{IsKeyed}
+use Rattle.dvg_cert.specs.Private.Keyed.{IsKeyed}
 use Rattle.std.specs.Map.{values_of}
-use Rattle.dvg_make.proofs.Pairs.{lookup_is, same_key_is, is_at_is, values_of-append, keyed_push}
+use Rattle.dvg_cert.proofs.Pairs.{lookup_is, pair_test, values_of-append, keyed_push}
 use Rattle.dvg_make.proofs.done.Done.add.Goals as goal
 
 pub invariant_of-self-2 : goal.invariant_of-self-2
 invariant_of-self-2 c =
-    let none = lookup_is _ c.args.entry.addr c.args.entry.key (is_at_is ghosts.eq c.args.entry.addr c.args.entry.key (same_key_is ghosts.eq (λ m n. refl) (λ m. refl) (λ n. refl) refl)) c.self.inside.found.entries c.self.invariant ∙ ap (λ (es : List Entry). entry_at es c.args.entry.addr c.args.entry.key) c.self.view_is ∙ c.requires in
+    let none = lookup_is _ c.args.entry.addr c.args.entry.key (pair_test c.args.entry.addr c.args.entry.key) c.self.inside.found.entries c.self.invariant ∙ ap (λ (es : List Entry). entry_at es c.args.entry.addr c.args.entry.key) c.self.view_is ∙ c.requires in
     let grown = c.in_ok-insert.ensures.entries ∙ insert_entry-new _ c.self.inside.found (c.args.entry.addr, c.args.entry.key) c.args.entry none in
     subst IsKeyed (sym grown) (keyed_push c.self.inside.found.entries c.args.entry c.self.invariant)
 
 pub returns-clause-ok : goal.returns-clause-ok
 returns-clause-ok c =
-    let none = lookup_is _ c.args.entry.addr c.args.entry.key (is_at_is ghosts.eq c.args.entry.addr c.args.entry.key (same_key_is ghosts.eq (λ m n. refl) (λ m. refl) (λ n. refl) refl)) c.self.inside.found.entries c.self.invariant ∙ ap (λ (es : List Entry). entry_at es c.args.entry.addr c.args.entry.key) c.self.view_is ∙ c.requires in
+    let none = lookup_is _ c.args.entry.addr c.args.entry.key (pair_test c.args.entry.addr c.args.entry.key) c.self.inside.found.entries c.self.invariant ∙ ap (λ (es : List Entry). entry_at es c.args.entry.addr c.args.entry.key) c.self.view_is ∙ c.requires in
     let grown = c.in_ok-insert.ensures.entries ∙ insert_entry-new _ c.self.inside.found (c.args.entry.addr, c.args.entry.key) c.args.entry none in
     ap values_of grown ∙ values_of-append c.self.inside.found.entries (((c.args.entry.addr, c.args.entry.key), c.args.entry) ∷ []) ∙ ap (λ (l : List Entry). l ++ c.args.entry ∷ []) c.self.view_is

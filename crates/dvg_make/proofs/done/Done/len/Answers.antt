@@ -1,6 +1,6 @@
 use Rattle.std.proofs.Common.{◌∙◌, sym, ap, length, List}
 use Rattle.dvg_cert.specs.declared.entry.Entry.{Entry}
-use Rattle.dvg_make.proofs.Pairs.{length-values_of}
+use Rattle.dvg_cert.proofs.Pairs.{length-values_of}
 use Rattle.dvg_make.proofs.done.Done.len.Goals as goal
 
 pub returns : goal.returns

@@ -4,10 +4,9 @@ use Rattle.std.proofs.lemmas.List.Sorted.{All-permutation}
 use Rattle.std.proofs.lemmas.Map.Keys.{apart_from_distinct}
 use Rattle.dvg_cert.specs.declared.entry.Entry.{Entry}
 use Rattle.dvg_cert.specs.Lookup.{entry_at}
-use Rattle.dvg_cert.specs.contracts.entry.KeyPartialEq.TheImpl.{ghosts}
 use Rattle.dvg_cert.specs.contracts.entry.KeyOrd.TheImpl.{ghosts as orders}
-use Rattle.dvg_make.specs.Private.Keyed.{IsOwn, IsKeyed}
-use Rattle.dvg_make.proofs.Pairs.{lookup_is, same_key_is, is_at_is, length-values_of}
+use Rattle.dvg_cert.specs.Private.Keyed.{IsOwn, IsKeyed}
+use Rattle.dvg_cert.proofs.Pairs.{lookup_is, key_test, pair_test, length-values_of}
 use Rattle.dvg_make.proofs.Sorting.{rising}
 use Rattle.dvg_make.proofs.Turns.{on_ok, on_ok_map}
 use Rattle.dvg_make.proofs.done.Done.sort.Goals as goal
@@ -18,14 +17,14 @@ invariant_of-self c = All-permutation IsOwn c.self.inside.found.entries c.sort_k
 pub returns-clause-rising : goal.returns-clause-rising
 returns-clause-rising c =
     let keyed : IsKeyed c.sort_keys.new.self.entries = All-permutation IsOwn c.self.inside.found.entries c.sort_keys.new.self.entries c.sort_keys.ensures.reordered.0 c.self.invariant in
-    on_ok_map c.sort_keys.result _ _ (λ sorted. rising orders.cmp (record { numbers = λ m n. refl; any_last = λ n. refl }) _ (λ p q. ap (λ b. nat_eq p.0 q.0 && b) (same_key_is ghosts.eq (λ m n. refl) (λ m. refl) (λ n. refl) refl p.1 q.1)) c.sort_keys.new.self.entries sorted (λ i j d lt le. apart_from_distinct _ _ i j d c.sort_keys.ensures.unique lt le) keyed) c.sort_keys.ensures.sorted
+    on_ok_map c.sort_keys.result _ _ (λ sorted. rising orders.cmp (record { numbers = λ m n. refl; any_last = λ n. refl }) _ (λ p q. ap (λ b. nat_eq p.0 q.0 && b) (key_test p.1 q.1)) c.sort_keys.new.self.entries sorted (λ i j d lt le. apart_from_distinct _ _ i j d c.sort_keys.ensures.unique lt le) keyed) c.sort_keys.ensures.sorted
 
 pub returns-clause-same : goal.returns-clause-same
 returns-clause-same c =
     let keyed : IsKeyed c.sort_keys.new.self.entries = All-permutation IsOwn c.self.inside.found.entries c.sort_keys.new.self.entries c.sort_keys.ensures.reordered.0 c.self.invariant in
     on_ok c.sort_keys.result _ (λ addr key.
-    sym (lookup_is _ addr key (is_at_is ghosts.eq addr key (same_key_is ghosts.eq (λ m n. refl) (λ m. refl) (λ n. refl) refl)) c.sort_keys.new.self.entries keyed) ∙ c.sort_keys.ensures.reordered.2 (addr, key)
-    ∙ lookup_is _ addr key (is_at_is ghosts.eq addr key (same_key_is ghosts.eq (λ m n. refl) (λ m. refl) (λ n. refl) refl)) c.self.inside.found.entries c.self.invariant ∙ ap (λ (es : List Entry). entry_at es addr key) c.self.view_is)
+    sym (lookup_is _ addr key (pair_test addr key) c.sort_keys.new.self.entries keyed) ∙ c.sort_keys.ensures.reordered.2 (addr, key)
+    ∙ lookup_is _ addr key (pair_test addr key) c.self.inside.found.entries c.self.invariant ∙ ap (λ (es : List Entry). entry_at es addr key) c.self.view_is)
 
 pub returns-clause-len : goal.returns-clause-len
 returns-clause-len c =
