@@ -100,6 +100,7 @@ module _ (short_text : ShortText) (prefix_refusal : PrefixRefusal) (n m : ℕ) (
   verdict_whole (Err (refusal.Image FrameLength)) h = (rom_on h.0, λ k. h.1 (frame_back k))
   verdict_whole (Err refusal.BudgetRange) h = (rom_on h.0, frame_on h.1, h.2)
   verdict_whole (Err (refusal.Cert g)) h = (in_range h.0, refused_whole g.line g.why h.1)
+  verdict_whole (Err refusal.IndexMemory) h = list_whole (Err refusal.IndexMemory) h
   verdict_whole (Err (refusal.Shape g)) h = list_whole (Err (refusal.Shape g)) h
   verdict_whole (Err (refusal.Frame g)) h = list_whole (Err (refusal.Frame g)) h
   verdict_whole (Ok y) h = list_whole (Ok y) h

@@ -46,6 +46,7 @@ refusal_text (refusal.Image RomLength) = codes "1"
 refusal_text (refusal.Image FrameLength) = codes "2"
 refusal_text refusal.BudgetRange = codes "49"
 refusal_text (refusal.Cert f) = cert_fault_text f
+refusal_text refusal.IndexMemory = codes "50"
 refusal_text (refusal.Shape f) = shape_fault_text f
 refusal_text (refusal.Frame f) = frame_fault_text f
 

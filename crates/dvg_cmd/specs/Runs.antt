@@ -48,6 +48,7 @@ cert_outcome why = Refused
 abbrev pub outcome_of : Result Yes Refusal → Outcome
 outcome_of (Ok y) = Accepted
 outcome_of (Err (refusal.Cert f)) = cert_outcome f.why
+outcome_of (Err refusal.IndexMemory) = NoMemory
 outcome_of (Err r) = Refused
 
 -- the verdict on all bytes that three readers held; a reader that does not tell its bytes held some

@@ -158,6 +158,7 @@ fn push_refusal(report: &mut Report, refusal: &Refusal)
         Refusal::Image(ImageFault::FrameLength) => report.push(b"2"),
         Refusal::BudgetRange => report.push(b"49"),
         Refusal::Cert(fault) => push_cert_fault(report, fault),
+        Refusal::IndexMemory => report.push(b"50"),
         Refusal::Shape(fault) => push_shape_fault(report, fault),
         Refusal::Frame(fault) => push_frame_fault(report, fault),
     }

@@ -23,7 +23,7 @@ pub enum Outcome {
     Accepted,
     /// A refusal.
     Refused,
-    /// A refusal because memory ran out for the certificate's entries, 16.
+    /// A refusal because memory ran out for the certificate's entries, 16, or for their index, 50.
     NoMemory,
 }
 
@@ -68,6 +68,7 @@ fn outcome_of(verdict: &Result<Yes, Refusal>) -> Outcome
     match verdict {
         Ok(_) => Outcome::Accepted,
         Err(Refusal::Cert(fault)) if fault.why == CertWhy::Memory => Outcome::NoMemory,
+        Err(Refusal::IndexMemory) => Outcome::NoMemory,
         Err(_) => Outcome::Refused,
     }
 }
