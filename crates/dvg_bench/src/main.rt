@@ -4,6 +4,7 @@
 //!     dvg_bench draws ENTRIES TIMES
 //!     dvg_bench unscaled ENTRIES TIMES
 //!     dvg_bench calls ENTRIES TIMES
+//!     dvg_bench keys ENTRIES TIMES
 //!     dvg_bench whole ENTRIES TIMES
 //!
 //! `read` reads the text of so many entries, the others check as many shapes: `whole` those of `unscaled`, by `check` of the
@@ -22,7 +23,7 @@ fn main(rt: HostRuntime) -> Result<()> {
     let mut words = env::args(&rt)?.skip(1);
     let input = words
         .next()
-        .context("read, draws, unscaled, calls or whole is missing")?;
+        .context("read, draws, unscaled, calls, keys or whole is missing")?;
     let count: u16 = words.next().context("ENTRIES is missing")?.parse()?;
     let times: u32 = words.next().context("TIMES is missing")?.parse()?;
     let items = match input.as_str() {
@@ -34,8 +35,9 @@ fn main(rt: HostRuntime) -> Result<()> {
         "draws" => check_entries(rt.alloc(), Filling::Draws, count, times)?,
         "unscaled" => check_entries(rt.alloc(), Filling::Unscaled, count, times)?,
         "calls" => check_entries(rt.alloc(), Filling::Calls, count, times)?,
+        "keys" => check_entries(rt.alloc(), Filling::Keys, count, times)?,
         "whole" => check_bytes(rt.alloc(), Filling::Unscaled, count, times)?,
-        _ => bail!("the input is read, draws, unscaled, calls or whole"),
+        _ => bail!("the input is read, draws, unscaled, calls, keys or whole"),
     };
     println!(rt; "{count} shapes of {items} items, checked {times} times")?;
     Ok(())

@@ -4,18 +4,19 @@ ghost use Rattle.std.specs.Prelude.{◌<◌, ◌≤◌, ◌+◌, ◌*◌, ℤ, p
 
 use crate::reading::text_of;
 use anyhow::{Result, bail};
-use dvg_cert::{Cert, End, Entry, Key, ListIndex, LitBox};
+use dvg_cert::{Cert, End, Entry, HashIndex, Key, LitBox};
 use dvg_check::{check, check_shapes};
 use dvg_words::{ROM_FIRST, ROM_LAST, RomImage};
 use std::alloc::{AllocError, Global};
 
 /// What the ROM is full of: lit strokes to and fro, with entries for four global scales; dark ones, with entries for `any`;
-/// or calls of the last word, fifteen before each RTSL, with entries for four global scales.
+/// or calls of the last word, fifteen before each RTSL, with entries for four global scales, or for all sixteen.
 #[derive(Clone, Copy, Debug, PartialEq, Eq)]
 pub enum Filling {
     Draws,
     Unscaled,
     Calls,
+    Keys,
 }
 
 const RTSL: u16 = 0xD000;
@@ -39,7 +40,7 @@ fn word_at(filling: Filling, addr: u16) -> u16 {
         _ if addr == ROM_LAST => RTSL,
         Filling::Draws => if addr % 2 == 0 { FORTH } else { BACK },
         Filling::Unscaled => DARK,
-        Filling::Calls => if addr % 16 == 15 { RTSL } else { CALL_LAST },
+        Filling::Calls | Filling::Keys => if addr % 16 == 15 { RTSL } else { CALL_LAST },
     }
 }
 
@@ -58,14 +59,14 @@ fn items_before_end(filling: Filling, addr: u16) -> u16
 {
     match filling {
         Filling::Draws | Filling::Unscaled => ROM_LAST - addr,
-        Filling::Calls => 15 - addr % 16,
+        Filling::Calls | Filling::Keys => 15 - addr % 16,
     }
 }
 
 /// The entry of the shape of draws at an address: it ends where it began, or one stroke from there.
 fn draws_entry(addr: u16, gscale: u8) -> Entry
     requires addr { addr ≤ ROM_LAST }
-    requires scale { gscale < 4 }
+    requires scale { gscale < 16 }
 {
     let stroke: i64 = if addr % 2 == 0 { 2048 } else { -2048 } * (1 << gscale);
     let items = items_before_end(Filling::Draws, addr);
@@ -111,7 +112,7 @@ fn unscaled_entry(addr: u16) -> Entry
 /// The entry of the shape of calls at an address: each call has two words, the last word's among them.
 fn calls_entry(addr: u16, gscale: u8) -> Entry
     requires addr { addr ≤ ROM_LAST }
-    requires scale { gscale < 4 }
+    requires scale { gscale < 16 }
 {
     let items = items_before_end(Filling::Calls, addr);
     Entry {
@@ -128,11 +129,12 @@ fn calls_entry(addr: u16, gscale: u8) -> Entry
 /// How many entries each word of the ROM has.
 fn keys(filling: Filling) -> u16
     ensures some { 1 ≤ result }
-    ensures few { result ≤ 4 }
+    ensures few { result ≤ 16 }
 {
     match filling {
         Filling::Draws | Filling::Calls => 4,
         Filling::Unscaled => 1,
+        Filling::Keys => 16,
     }
 }
 
@@ -149,7 +151,7 @@ fn entries_of(alloc: Global, filling: Filling, count: u16) -> Result<Vec<Entry>>
         entries.push(match filling {
             Filling::Draws => draws_entry(addr, gscale),
             Filling::Unscaled => unscaled_entry(addr),
-            Filling::Calls => calls_entry(addr, gscale),
+            Filling::Calls | Filling::Keys => calls_entry(addr, gscale),
         })?;
     }
     Ok(entries)
@@ -181,7 +183,7 @@ pub fn check_entries(alloc: Global, filling: Filling, count: u16, times: u32) ->
         bail!("these are not the bytes of a ROM");
     };
     let cert = cert_of(alloc, filling, count)?;
-    let index = ListIndex::new(&cert);
+    let index = HashIndex::new(alloc, &cert)?;
     for _ in 0..times {
         if check_shapes(&rom, &cert, &index).is_err() {
             bail!("a shape was refused");

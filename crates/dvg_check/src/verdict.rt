@@ -81,7 +81,7 @@ impl From<CertFault> for Refusal {
     }
 }
 
-/// The one growth that tells no more than that it was refused is that of the index.
+/// Of all that `check` calls, making the index alone answers an `AllocError`.
 impl From<AllocError> for Refusal {
     ghost from_gives = { λ _ refusal. refusal ≡ refusals.IndexMemory };
 

@@ -6,9 +6,12 @@ mod rows;
 
 use crate::{
     Counted, CountedRead, CountedWrite, MakeFault, MakeRunFault, Outcome, RunFault, message_of,
-    run_check, status_of,
+    report_of, run_check, status_of,
 };
 use devices::{SlowReader, SlowWriter};
+use dvg_cert::{ListIndex, MOST_WORDS, read_cert};
+use dvg_check::{JudgedShapes, Refusal, Yes};
+use dvg_words::{FrameImage, RomImage};
 use rows::{EMPTY, ROWS, Row, STROKE, STROKE_CERT, TEXTS};
 use std::alloc::{AllocError, Global};
 use std::str;
@@ -197,6 +200,79 @@ fn reports_worked_rows(rt: HostRuntime) -> Result<(), AllocError> {
     for row in ROWS {
         let is = row_is_reported(rt.alloc(), row)?;
         assert!(rt; is, "for {}", row.what);
+    }
+    Ok(())
+}
+
+/// The verdict over an index that goes over the entries one by one, where `check` has one that hashes.
+fn judge_by_list(
+    alloc: Global,
+    rom: &[u8],
+    text: &[u8],
+    frame: &[u8],
+    budget: u32,
+) -> Result<Yes, Refusal> {
+    let rom = RomImage::from_bytes(rom)?;
+    let frame = FrameImage::from_bytes(frame)?;
+    if !(1..=MOST_WORDS).contains(&budget) {
+        return Err(Refusal::BudgetRange);
+    }
+    let cert = read_cert(alloc, text)?;
+    let entries = ListIndex::new(&cert);
+    let shapes = JudgedShapes::judge(&rom, &cert, &entries)?;
+    let accepted = shapes.check_frame(&frame, budget)?;
+    Ok(Yes {
+        shapes: cert.entries().len() as u32,
+        words: accepted.words,
+        depth: accepted.depth,
+    })
+}
+
+/// Both indexes lead to the same answers.
+#[test]
+fn reports_worked_rows_by_list(rt: HostRuntime) -> Result<(), AllocError> {
+    for row in ROWS {
+        let rom = rom_bytes(rt.alloc(), row.first, row.words)?;
+        let frame = bytes_of(rt.alloc(), row.frame)?;
+        let verdict = judge_by_list(rt.alloc(), &rom, row.text, &frame, row.budget);
+        let report = report_of(&verdict);
+        assert_eq!(rt;
+            report.as_bytes().strip_suffix(b"\n"),
+            Some(row.report.as_bytes()),
+            "for {}",
+            row.what
+        );
+    }
+    Ok(())
+}
+
+/// The text of entries for words of RTSL: all 16 scales of 800 to 8FF, and scale 0 of 900 if there is to be one more.
+fn text_of_returns(alloc: Global, one_more: bool) -> Result<String, AllocError> {
+    let mut text = format!(in alloc; "dvgcert 1\n")?;
+    for index in 0u32..4096 + u32::from(one_more) {
+        let (addr, scale) = (0x800 + index / 16, index % 16);
+        text.push_str(&format!(in alloc;
+            "shape {addr:03X} {scale} end rel 0 0 box none depth 0 words 1 scale {scale}\n"
+        )?)?;
+    }
+    text.push_str(&format!(in alloc; "done {}\n", 4096 + u32::from(one_more))?)?;
+    Ok(text)
+}
+
+/// As many entries as a certificate may have, the last of which is called; and one more.
+#[test]
+fn reports_full_certificates(rt: HostRuntime) -> Result<(), AllocError> {
+    let rom = rom_bytes(rt.alloc(), 0x800, &[0xD000; 1024])?;
+    let frame = bytes_of(rt.alloc(), &[0xA000, 0xF000, 0xC8FF, 0xB000])?;
+    for (one_more, report) in [
+        (false, "accepted shapes=4096 words=5 depth=1"),
+        (true, "refused 15 certificate line 4098"),
+    ] {
+        let text = text_of_returns(rt.alloc(), one_more)?;
+        let (end, line) = run(rt.alloc(), &rom, text.as_bytes(), &frame, 20000);
+        assert!(rt; is_reported(&end, &line, report), "for {report}");
+        let by_list = judge_by_list(rt.alloc(), &rom, text.as_bytes(), &frame, 20000);
+        assert_eq!(rt; report_of(&by_list).as_bytes(), line.as_slice());
     }
     Ok(())
 }

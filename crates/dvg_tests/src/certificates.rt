@@ -238,6 +238,21 @@ fn refused_growth(rt: HostRuntime) {
     }
 }
 
+/// The index of a list, where there is memory for it. Where the third allocation is refused, the first after those of the list,
+/// as by tests/refused-memory, this test fails and tells so.
+#[test]
+fn refused_index(rt: HostRuntime) -> Result<(), Fail> {
+    let cert = read_cert(rt.alloc(), FIVE_KEYS)?;
+    let Ok(index) = HashIndex::new(rt.alloc(), &cert) else {
+        panic!(rt; "no memory for the index");
+    };
+    for entry in cert.entries() {
+        assert_eq!(rt; index.find(entry.addr, entry.key), Some(*entry));
+    }
+    assert_eq!(rt; index.find(0x800, Key::Any), None);
+    Ok(())
+}
+
 /// The texts and numbers of the refusals.
 #[test]
 fn shows_faults(rt: HostRuntime) -> Result<(), Fail> {

@@ -279,6 +279,7 @@ fn shows_refusals(rt: HostRuntime) -> Result<(), Fail> {
             "the frame has a wrong length",
         ),
         (Refusal::BudgetRange, 49, "the budget is out of range"),
+        (Refusal::IndexMemory, 50, "out of memory for the index"),
         (
             Refusal::Cert(order),
             11,

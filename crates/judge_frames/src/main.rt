@@ -2,7 +2,7 @@
 #![tactic(auto)]
 
 use anyhow::Result;
-use dvg_cert::{ListIndex, read_cert};
+use dvg_cert::{HashIndex, read_cert};
 use dvg_check::JudgedShapes;
 use dvg_words::{FrameImage, RomImage};
 use std::fs;
@@ -11,7 +11,7 @@ fn main(rt: HostRuntime) -> Result<()> {
     let rom_bytes = fs::read(&rt, "arcade.rom")?;
     let rom = RomImage::from_bytes(&rom_bytes)?;
     let cert = read_cert(rt.alloc(), &fs::read(&rt, "arcade.cert")?)?;
-    let entries = ListIndex::new(&cert);
+    let entries = HashIndex::new(rt.alloc(), &cert)?;
     let shapes = JudgedShapes::judge(&rom, &cert, &entries)?;
     for name in ["title.frame", "game.frame"] {
         let bytes = fs::read(&rt, name)?;
