@@ -79,7 +79,7 @@ pub fn text_of(alloc: Global, cert: &Cert) -> Result<Vec<u8>> {
 /// Reads the text of so many entries so many times, and gives its length in bytes.
 pub fn read_texts(alloc: Global, count: u16, times: u32) -> Result<usize> {
     if count > 4096 {
-        bail!("a certificate has 4096 entries at the most");
+        bail!("a certificate has 4096 entries at most");
     }
     let Ok(cert) = Cert::from_entries(entries_of(alloc, count)?) else {
         bail!("these are not the entries of a certificate");

@@ -143,7 +143,7 @@ fn entries_of(alloc: Global, filling: Filling, count: u16) -> Result<Vec<Entry>>
     let keys = keys(filling);
     let all = 1024 * keys;
     if count > all {
-        bail!("the ROM has 4096 entries at the most, unscaled 1024");
+        bail!("the ROM has 4096 entries at most, unscaled 1024");
     }
     let mut entries = Vec::new(alloc);
     for index in all - count..all {

@@ -43,7 +43,7 @@ abbrev pub Frees : List (List ℕ) → Type 0
 Frees [] = Unit {0}
 Frees (l ∷ ls) = Without LINE_FEED l × Frees ls
 
--- lines and a tail are other lines and a rest: then they are the first of those lines
+-- if lines and a tail equal other lines and a rest without LF, the first lines begin the others
 pub lines_prefix : (ls ms : List (List ℕ)) (tail rest : List ℕ) → Frees ls → Frees ms → Without LINE_FEED rest → lines_text ls ++ tail ≡ lines_text ms ++ rest → (more : List (List ℕ)) × (ms ≡ ls ++ more) × (tail ≡ lines_text more ++ rest)
 lines_prefix [] ms tail rest h k free e = (ms, refl, e)
 lines_prefix (l ∷ ls) [] tail rest h k free e = absurd (no_cut l (lines_text ls ++ tail) rest free (sym (append_assoc l (LINE_FEED ∷ lines_text ls) tail) ∙ e))

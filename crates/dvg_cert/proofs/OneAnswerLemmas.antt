@@ -83,7 +83,7 @@ rest_free Nothing rest h = h
 rest_free (Begun from to es) rest h = h
 rest_free (Whole from to es) rest h = subst (λ (r : List ℕ). Without LINE_FEED r × (length r < LONGEST_LINE)) (sym h) (tt, omega arith)
 
--- the longer of two bytes without a line end
+-- a cut at a byte that is not LF, with no LF before it, comes earlier than a cut at an LF
 longer : (a b c d : List ℕ) (x : ℕ) → Without LINE_FEED a → x ≢ LINE_FEED → a ++ x ∷ b ≡ c ++ LINE_FEED ∷ d → length a < length c
 longer [] b [] d x h n e = absurd (n cc)
 longer [] b (y ∷ c) d x h n e = omega arith

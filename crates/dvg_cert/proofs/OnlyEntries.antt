@@ -1,4 +1,4 @@
--- A list that rises has one entry at an address and key at the most.
+-- A list that rises has one entry at an address and key at most.
 use Rattle.std.proofs.Common.{◌≡◌, ℕ, zero, suc, Bool, true, false, cond, List, [], ◌∷◌, length, take, get_or, ◌<◌, Option, Some, None, refl, sym, ap, subst, ◌∙◌, arith, inl, inr, ◌⊎◌}
 use Rattle.std.specs.Prelude.{◌==◌, IfSome, IfNone, Contains}
 use Rattle.std.proofs.lemmas.Bool.{and_parts, and_from}

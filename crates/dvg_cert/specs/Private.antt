@@ -1,4 +1,4 @@
--- Words of the code's own, which no rule stands on.
+-- Definitions for the code alone; no rule uses them.
 pub mod Keyed
 pub mod Tokens
 pub mod Progress

@@ -1,5 +1,5 @@
--- The reader's answer, by what a prefix of the text is. The first and the last word address are those of the ROM that a
--- text of this version speaks of; the lines that were taken keep them.
+-- The reader's answer, stated on prefixes of the text. `first` and `last` bound the addresses of the ROM that a text of this
+-- version speaks of; the lines that were taken carry them.
 use Rattle.std.specs.Prelude.{◌≡◌, ◌≢◌, ℕ, ◌+◌, ◌-◌, ◌<◌, ◌≤◌, ◌⊎◌, List, [], ◌∷◌, ◌++◌, length, false, ◌==◌, Result, Ok, Err}
 use Rattle.dvg_cert.specs.Limits.{MOST_ENTRIES, LONGEST_LINE, LINE_FEED}
 use Rattle.dvg_cert.specs.declared.line.Line.{Line}
@@ -16,7 +16,7 @@ abbrev pub IsLine : ℕ → ℕ → Line → List ℕ → Type 0
 IsLine first last (lines.Entry e) bytes = IsEntry first last e × (bytes ≡ entry_line e)
 IsLine first last (lines.Done n) bytes = (n ≤ MOST_ENTRIES) × (bytes ≡ done_line n)
 
--- the lines of a prefix: none, those to an entry of a ROM from one address to another, or all (profile)
+-- the lines of a prefix: none; the first line and some entries, maybe none, of a ROM at these addresses; or all (profile)
 pub data Taken : Type 0 where
   Nothing : Taken
   Begun : ℕ → ℕ → List Entry → Taken
@@ -72,8 +72,8 @@ IsWrong (Begun from to es) line TooLong = (e : Entry) × IsLine from to (lines.E
 IsWrong (Begun from to es) line Count = (n : ℕ) × IsLine from to (lines.Done n) line × (n ≢ length es)
 IsWrong taken line why = ⊥
 
--- why a byte cannot come after these lines and this rest: after all lines, as the last byte that a line may have, or
--- as its LF (profile)
+-- why a byte is refused after these lines and this rest: it follows the last line, or it is the 200th of its line and not LF,
+-- or it is the LF of a wrong line (profile)
 abbrev pub Meets : Taken → List ℕ → ℕ → CertWhy → Type 0
 Meets (Whole from to es) rest b why = why ≡ After
 Meets taken rest b why = ((b ≢ LINE_FEED) × (length rest ≡ LONGEST_LINE - 1) × (why ≡ TooLong)) ⊎ ((b ≡ LINE_FEED) × IsWrong taken rest why)

@@ -61,9 +61,9 @@ pub struct Entry {
     /// What it lights before its place is set, by a LABS of its own or of a shape that it calls, relative to the beam at the
     /// call.
     pub lit: LitBox,
-    /// How many calls stand below it at the most, 0 to 3.
+    /// How deep calls nest below it, at most, 0 to 3.
     pub depth: u8,
-    /// How many words are fetched at the most from its first word through its return, those of the shapes that it
+    /// How many words are fetched at most from its first word through its return, those of the shapes that it
     /// calls among them: 1 to 1,000,000.
     pub words: u32,
     /// The global scale that it leaves behind.

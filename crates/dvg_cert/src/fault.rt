@@ -11,14 +11,14 @@ pub enum CertWhy {
     /// 10: the line is not one of the format.
     #[error("the line is not one of the format")]
     Form,
-    /// 11: the entry does not stand after the entry before it.
-    #[error("the entry does not stand after the entry before it")]
+    /// 11: an entry is out of order, or repeated.
+    #[error("entries are out of order, or one is repeated")]
     Order,
     /// 12: the last line's number is not the number of entries.
     #[error("the number of entries is not that of the last line")]
     Count,
-    /// 13: the text ends before the end of its last line.
-    #[error("the text ends before the end of its last line")]
+    /// 13: the text ends and no `done` line was taken.
+    #[error("the text ends before a whole `done` line")]
     Unended,
     /// 14: something comes after the last line.
     #[error("something comes after the last line")]

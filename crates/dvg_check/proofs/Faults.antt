@@ -1,5 +1,5 @@
 -- The items of a shape or of a frame are determined: so a walk to the last one has met them all, and there is one first
--- fault at the most.
+-- fault at most.
 use Rattle.std.proofs.Common.{List, Option, length, refl, sym, arith, ap, None, subst, suc, ◌≡◌, ◌+◌, ◌<◌, ◌∷◌, ◌++◌, ◌∙◌, ℕ, ⊎_elim, []}
 use Rattle.std.proofs.lemmas.Bool.{cases_lt}
 use Rattle.std.specs.List.{AllByRecursion}

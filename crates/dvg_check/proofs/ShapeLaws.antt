@@ -52,7 +52,7 @@ arrive mode m w c box base Ok first rs s mem rom facts st (i ∷ earlier) p lead
     let b = over_item mode m w box base Ok rom c first earlier i.at i.format i.instr p rs a.0 mem f.own lead.0 lead.1 lead.2 f.fits (omega arith) f.calls a.2 in
     (b.0, stretch_on mode m Ok (LitFits w box base) (words_before c earlier) _ _ (length rs + depth_before c earlier) _ _ s a.0 b.0 (counts_same mode _ _ (omega arith)) (counts_same mode _ _ (omega arith)) a.1 b.1, b.2)
 
--- one return place fewer is some step
+-- a run that removes a return place takes at least one step
 some_step : (m : Memory) (n : ℕ) (s t : State) (back : ℕ) (rest : List ℕ) → Reached m n (Running s) (Running t) → s.return_stack ≡ back ∷ rest → t.return_stack ≡ rest → 1 ≤ n
 some_step m zero s t back rest r rs e =
     let same : s ≡ t = cc in

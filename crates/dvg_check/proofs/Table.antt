@@ -16,7 +16,7 @@ use Rattle.dvg_check.specs.Private.Runs.{Run, FormattedDraw, Follow, Tells, Stan
 
 -- ---- tables
 
--- what holds of each item, and of a new one at its place, holds of each after the write
+-- what holds of each element, and of a new one at its index, holds of each after the write
 pub set_all : {A : Type 0} (P : ℕ → A → Type 0) (xs : List A) (i : ℕ) (v : A) → P i v → ((k : ℕ) (x : A) → slice_get xs k ≡ Some x → P k x) → (k : ℕ) (x : A) → slice_get (set xs i v) k ≡ Some x → P k x
 set_all P [] i v h all k x e = all k x e
 set_all P (y ∷ xs) zero v h all zero x e = let same : v ≡ x = cc in subst (P 0) same h
@@ -24,17 +24,17 @@ set_all P (y ∷ xs) zero v h all (suc k) x e = all (suc k) x e
 set_all P (y ∷ xs) (suc i) v h all zero x e = all zero x e
 set_all P (y ∷ xs) (suc i) v h all (suc k) x e = set_all (λ n. P (suc n)) xs i v h (λ n. all (suc n)) k x e
 
--- the same, where the place is told by an equal number
+-- the same, where the index is told by an equal number
 pub set_all_at : {A : Type 0} (P : ℕ → A → Type 0) (xs : List A) (i j : ℕ) (v : A) → i ≡ j → P j v → ((k : ℕ) (x : A) → slice_get xs k ≡ Some x → P k x) → (k : ℕ) (x : A) → slice_get (set xs i v) k ≡ Some x → P k x
 set_all_at P xs i j v e h all = set_all P xs i v (subst (λ n. P n v) (sym e) h) all
 
--- what holds at each place of one value holds of each item of as many copies of it
+-- what holds of one value at each index holds of each element of as many copies of it
 pub copies_all : {A : Type 0} (P : ℕ → A → Type 0) (n : ℕ) (v : A) → ((k : ℕ) → k < n → P k v) → (k : ℕ) (x : A) → slice_get (replicate n v) k ≡ Some x → P k x
 copies_all P zero v h k x e = cc
 copies_all P (suc n) v h zero x e = let same : v ≡ x = cc in subst (P 0) same (h 0 (omega arith))
 copies_all P (suc n) v h (suc k) x e = copies_all (λ m. P (suc m)) n v (λ m lt. h (suc m) (omega (arith, lt))) k x e
 
--- the item that a look-up at a sum finds
+-- the element that a look-up at a sum finds
 pub found_at : {A : Type 0} (xs : List A) (at index words : ℕ) (x : A) → at ≡ index + words → true ≡ nat_lt at (length xs) → x ≡ get_or xs at x → slice_get xs (index + words) ≡ Some x
 found_at xs at index words x e inside is =
     subst (λ n. slice_get xs n ≡ Some x) e (slice_get_read xs (length xs) at x refl (grind (arith, nat_tests)) is)

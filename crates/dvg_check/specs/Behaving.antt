@@ -17,7 +17,7 @@ use Rattle.dvg_items.specs.Lit.{InBox}
 use Rattle.dvg_check.specs.Rules.{Mode, Bound, Exact}
 use Rattle.dvg_check.specs.Safety.{Ends}
 
--- a count, and what bounds it or is it
+-- a count against its claim: at most it, or exactly it
 abbrev pub Counts : Mode → ℕ → ℕ → Type 0
 Counts Bound n claimed = n ≤ claimed
 Counts Exact n claimed = n ≡ claimed

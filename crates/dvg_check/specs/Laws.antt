@@ -115,7 +115,7 @@ ExactIsExact =
     → GoodFrame w m.frame list budget words depth
     → CountsAtHalt m words depth
 
--- a frame has one first fault at the most
+-- a frame has one first fault at most
 abbrev pub OneFault : Type 0
 OneFault =
     (w : Window) (words : List ℕ) (list : List Entry) (budget : ℕ) (f g : FrameFault)
@@ -127,7 +127,7 @@ NoFault =
     (w : Window) (words : List ℕ) (list : List Entry) (budget count depth : ℕ) (f : FrameFault)
     → GoodFrame w words list budget count depth → FirstFrameFault w words list budget f → ⊥
 
--- a certificate has one first faulty shape at the most
+-- a certificate has one first faulty shape at most
 abbrev pub OneShapeFault : Type 0
 OneShapeFault =
     (mode : Mode) (w : Window) (rom : Rom) (list : List Entry) (f g : ShapeFault)
@@ -149,7 +149,7 @@ OneCount =
     (w : Window) (words : List ℕ) (list : List Entry) (budget count depth count' depth' : ℕ)
     → GoodFrame w words list budget count depth → GoodFrame w words list budget count' depth' → SameCounts count depth count' depth'
 
--- there is one verdict at the most, running out of memory aside
+-- there is one verdict at most, running out of memory aside
 abbrev pub OneVerdict : Type 0
 OneVerdict =
     (mode : Mode) (map : MemoryMap) (w : Window) (rom cert words : List ℕ) (budget : ℕ) (a b : Result Yes Refusal)
@@ -181,6 +181,6 @@ InEachRun P =
 abbrev pub SafeStrokes : Type 0
 SafeStrokes = InEachRun (λ m w words depth s. (stroke : Stroke) → Contains s.strokes stroke → (p : Point) → IsOn stroke p → InWindow w p)
 
--- at most so many return places are stored, and four at the most
+-- at most so many return places are stored, and four at most
 abbrev pub SafeStack : Type 0
 SafeStack = InEachRun (λ m w words depth s. (length s.return_stack ≤ depth) × (length s.return_stack ≤ 4))

@@ -1,3 +1,3 @@
--- Words of the code's own, which no rule stands on.
+-- Definitions for the code alone; no rule uses them.
 pub mod Judging
 pub mod Runs

@@ -68,7 +68,7 @@ FrameKeeps w budget v frame.OffScreen = LitInWindow w v.extent v.place
 FrameKeeps w budget v frame.NoEntry = HasCallee (target Frame v.item.instr) v.callee
 FrameKeeps w budget v frame.Budget = v.after.words ≤ budget
 
--- what stands at a place keeps: that it is there, that it is not odd, and else what the item keeps
+-- what stands at a place must be there, must not be odd, and must keep the item's rules
 abbrev pub CellKeeps : {Why : Type 0} → Why → Why → (Item → Why → Type 0) → ℕ → Cell → Why → Type 0
 CellKeeps missing odd keeps at Missing why = why ≢ missing
 CellKeeps missing odd keeps at Odd why = why ≢ odd

@@ -42,7 +42,7 @@ StaysSafe m w words depth place scale =
     (steps : ℕ) (s : Status) → Reached m steps (Running (start place scale)) s → IsSafeStatus m w words depth steps s
 
 -- From the frame's first word, at any beam place and any global scale, every run reaches HALT within so many steps, and
--- all is fine on the way.
+-- every state on the way is safe.
 pub record Safe (m : Memory) (w : Window) (words depth : ℕ) : Type 0 where
   pub four : depth ≤ 4
   pub halts : (place : Point) (scale : ℕ) → scale ≤ 15 → HaltsWithin m words place scale

@@ -135,7 +135,7 @@ impl FrameWhy {
     }
 }
 
-/// The first place that breaks a rule, and the first rule that it breaks.
+/// The first item that breaks a rule, by its word address, and the lowest rule that it breaks.
 #[derive(Clone, Copy, Debug, PartialEq, Eq)]
 pub struct Fault<Why> {
     pub at: u16,

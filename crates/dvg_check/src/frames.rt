@@ -18,7 +18,7 @@ use dvg_cert::{Cert, Entries, Key};
 use dvg_items::{Item, Kind, Seen, has_callee, lit_on_screen, place_known, scale_known, target};
 use dvg_words::{FrameImage, Instr, RomImage};
 
-/// What is asked of a frame: how many words it may take at the most.
+/// What is asked of a frame: how many words it may take at most.
 #[derive(Drop)]
 pub struct FrameRules {
     pub budget: u32,
@@ -133,7 +133,7 @@ pub fn judge_frame<E: Entries>(
 
 /// Judges a frame by the entries of a certificate: its words and its depth where it keeps all rules, else its first fault.
 ///
-/// `entries` are those of the certificate. `budget` is how many words the frame may take at the most, up to 1,000,000. The
+/// `entries` are those of the certificate. `budget` is how many words the frame may take at most, up to 1,000,000. The
 /// ROM is the one over which the shapes were accepted; no rule of a frame looks into it. The rules are 40 to 48 (profile).
 /// Takes no memory.
 pub fn check_frame<E: Entries>(

@@ -59,9 +59,9 @@ impl<'a, E: Entries> JudgedShapes<'a, E> {
     /// Judges a frame over these shapes: its words and its depth where it keeps all rules (40 to 48, profile), else its
     /// first fault.
     ///
-    /// `budget` is how many words the frame may take at the most, up to 1,000,000. Where it answers words and depth, every
+    /// `budget` is how many words the frame may take at most, up to 1,000,000. Where it answers words and depth, every
     /// run of the generator from the frame's first word, at any beam place and any global scale, reaches HALT within so many
-    /// words, stores at most so many return places at once, and four at the most, fetches only words of the ROM and the
+    /// words, stores at most so many return places at once, and four at most, fetches only words of the ROM and the
     /// frame, and draws no lit stroke that leaves 0 to 1023 on either axis. Takes no memory.
     pub fn check_frame(&self, frame: &FrameImage, budget: u32) -> Result<Accepted, FrameFault>
         requires { budget ≤ MOST_WORDS }

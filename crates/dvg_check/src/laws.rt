@@ -39,7 +39,7 @@ pub fn exact_is_exact()
     ensures { ExactIsExact }
 {}
 
-/// A frame has one first fault at the most.
+/// A frame has one first fault at most.
 pub fn one_fault()
     ensures { OneFault }
 {}
@@ -49,7 +49,7 @@ pub fn no_fault()
     ensures { NoFault }
 {}
 
-/// A certificate has one first faulty shape at the most.
+/// A certificate has one first faulty shape at most.
 pub fn one_shape_fault()
     ensures { OneShapeFault }
 {}
@@ -64,7 +64,7 @@ pub fn one_count()
     ensures { OneCount }
 {}
 
-/// There is one verdict at the most, running out of memory aside.
+/// There is one verdict at most, running out of memory aside.
 pub fn one_verdict()
     ensures { OneVerdict }
 {

@@ -1,4 +1,4 @@
-//! What is asked of a list of items.
+//! What is asked of items.
 
 ghost use Rattle.std.specs.Prelude.{◌≡◌, ◌<◌, ◌≤◌, ℕ, IfSome, IfNone};
 ghost use Rattle.dvg_cert.specs.declared.entry.Key.{Key};
@@ -25,7 +25,7 @@ pub trait Rules {
 
     ghost kind: { Kind };
 
-    /// What holds of what is asked.
+    /// The limits that these rules are within.
     ghost valid: { Self → Type 0 };
 
     ghost scale: { Self → Key };
@@ -52,7 +52,7 @@ pub trait Rules {
         ensures { result ≡ odd };
 
     /// The first rule that an item breaks. Where it breaks none, no draw that is a part of it does, and the words so far are
-    /// a million at the most.
+    /// a million at most.
     fn first_broken(&self, seen: &Seen) -> Option<Self::Why>
         requires valid { valid self.now }
         requires seen { IsSoundSeen seen.now }

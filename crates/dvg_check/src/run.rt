@@ -1,5 +1,5 @@
-//! Runs of draws, not of the generator: draws that stand one after another. Most shapes consist of a few runs, and one that
-//! is seen to keep all rules is judged as if it were one item.
+//! Runs of draws, not of the generator: draws that stand one after another. Most shapes consist of a few runs, and a run
+//! that is seen to keep all rules is judged as if it were one item.
 
 ghost use Rattle.std.specs.Prelude.{◌≡◌, ◌≤◌, ◌<◌, ◌+◌, ◌≤ℤ◌, ◌*ℤ◌, ℕ, Option, [], ◌∷◌, List, pos, neg_ℤ, IfSome};
 ghost use Rattle.dvg_words.specs.Decoding.{cell_at, word_count, InstrFits};
@@ -14,7 +14,7 @@ use dvg_items::{Effect, Item, Known, LitExtent, Seen, joined, place_past, spanni
 use dvg_words::{Cell, Draw, Format, Instr, Point, RomImage, factor, read_cell, shift};
 
 /// Draws that stand one after another: how many words they have, their lowest and their highest local scale, and how far
-/// they move the beam and a box of what they light (the code's is the least), seen from the place before the first.
+/// they move the beam, and a box that holds what they light (the code makes the least), seen from the place before the first.
 ///
 /// The move and the box are in sizes at the lowest local scale: a draw one local scale higher counts twice its sizes.
 #[derive(Clone, Copy, Debug, PartialEq, Eq)]

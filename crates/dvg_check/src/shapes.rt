@@ -33,7 +33,7 @@ pub struct ShapeRules {
     pub mode: Mode,
 }
 
-/// At the last item, the place after it is the claimed one.
+/// Whether, at the last item, the place after it is the claimed one.
 fn ends_there(entry: &Entry, seen: &Seen) -> bool
     requires { seen.now.item.at < ADDRESS_END }
     ensures { IsTrue result ↔ AtLast (next_place Shape seen.now.item) (seen.now.after.place ≡ entry.now.stop) }
@@ -41,7 +41,7 @@ fn ends_there(entry: &Entry, seen: &Seen) -> bool
     seen.item.next_place(Kind::Shape).is_some() || seen.after.place == entry.stop
 }
 
-/// At the last item, the scale after it is the claimed one.
+/// Whether, at the last item, the scale after it is the claimed one.
 fn leaves_scale(entry: &Entry, seen: &Seen) -> bool
     requires { seen.now.item.at < ADDRESS_END }
     ensures { IsTrue result ↔ AtLast (next_place Shape seen.now.item) (seen.now.after.scale ≡ entry.now.scale) }
@@ -49,7 +49,7 @@ fn leaves_scale(entry: &Entry, seen: &Seen) -> bool
     seen.item.next_place(Kind::Shape).is_some() || seen.after.scale == entry.scale
 }
 
-/// At the last item, the words are as many as claimed, where claims are exact.
+/// Whether, at the last item, the words are as many as claimed, where claims are exact.
 fn words_as_claimed(mode: Mode, entry: &Entry, seen: &Seen) -> bool
     requires { seen.now.item.at < ADDRESS_END }
     ensures { IsTrue result ↔ AtLast (next_place Shape seen.now.item) (AsClaimed mode seen.now.after.words entry.now.words) }
@@ -59,7 +59,7 @@ fn words_as_claimed(mode: Mode, entry: &Entry, seen: &Seen) -> bool
         || seen.after.words == entry.words
 }
 
-/// At the last item, the depth is as claimed, where claims are exact.
+/// Whether, at the last item, the depth is as claimed, where claims are exact.
 fn depth_as_claimed(mode: Mode, entry: &Entry, seen: &Seen) -> bool
     requires { seen.now.item.at < ADDRESS_END }
     ensures { IsTrue result ↔ AtLast (next_place Shape seen.now.item) (AsClaimed mode seen.now.after.depth entry.now.depth) }

@@ -17,8 +17,8 @@ use dvg_words::{FrameImage, ImageFault, RomImage};
 use std::alloc::{AllocError, Global};
 use thiserror::Error;
 
-/// What is accepted: how many shapes the certificate claims, how many words every run fetches at the most, and how many
-/// return places it stores at once at the most.
+/// What is accepted: how many shapes the certificate claims, how many words every run fetches at most, and how many
+/// return places it stores at once at most.
 #[derive(Clone, Copy, Debug, PartialEq, Eq)]
 pub struct Yes {
     pub shapes: u32,
@@ -109,7 +109,7 @@ impl From<FrameFault> for Refusal {
 /// Judges a frame over a vector ROM and its certificate: a yes means that every run of the generator from the frame's
 /// first word is safe.
 ///
-/// `budget` is how many words the frame may take at the most, 1 to 1,000,000. The verdict is exact: the first that
+/// `budget` is how many words the frame may take at most, 1 to 1,000,000. The verdict is exact: the first that
 /// applies of 1, 2, 49, the certificate's refusal (10 to 16), 50, the first fault of its shapes (20 to 31), the frame's
 /// first fault (40 to 48), and the yes. Where it accepts, every run from the frame's first word, at any beam place and any
 /// global scale, reaches HALT within the answered count of words, stores at most four return places at once, fetches

@@ -12,12 +12,12 @@ pub filled : (remaining : Option (List ℕ)) (bytes : List ℕ) (m n : ℕ) → 
 filled None bytes m n e h = tt
 filled (Some held) bytes m n e h = h ∙ limited_is m n held e
 
--- bytes within the limit are all of them
+-- where fewer bytes than the limit were read, they are all
 pub limited-short : (n : ℕ) (held : List ℕ) → length (limited n held) + 1 ≤ n → limited n held ≡ held
 unfolding limited
 limited-short n held short = let all : length held ≤ n = grind (arith, common_steps) in grind (arith, common_steps)
 
--- and none of more are
+-- and where fewer bytes than the limit were held, all of them were read
 pub limited-long : (n : ℕ) (held : List ℕ) → length held + 1 ≤ n → limited n held ≡ held
 unfolding limited
 limited-long n held short = grind (arith, common_steps)

@@ -30,7 +30,7 @@ blames_maker_writer answer = false
 
 -- ---- what is answered
 
--- all bytes that a reader held; a reader that does not tell its bytes held some
+-- all bytes that a reader held; a reader that does not tell its bytes held some bytes, which are not known
 abbrev pub Held : Option (List ℕ) → List ℕ → Type 0
 Held reader bytes = IfSome reader (λ held. bytes ≡ held)
 

@@ -1,2 +1,2 @@
--- Words of the code's own, which no clause of a function that the crate gives out cites.
+-- Definitions for the code alone; no clause of a public call uses them.
 pub mod Reading

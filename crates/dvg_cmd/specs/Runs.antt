@@ -51,7 +51,7 @@ outcome_of (Err (refusal.Cert f)) = cert_outcome f.why
 outcome_of (Err refusal.IndexMemory) = NoMemory
 outcome_of (Err r) = Refused
 
--- the verdict on all bytes that three readers held; a reader that does not tell its bytes held some
+-- the verdict on all bytes that three readers held; a reader that does not tell its bytes held some bytes, which are not known
 pub record Judges (rom cert frame : Option (List ℕ)) (budget : ℕ) (verdict : Result Yes Refusal) : Type 0 where
   pub rom_bytes : List ℕ
   pub cert_bytes : List ℕ

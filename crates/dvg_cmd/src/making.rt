@@ -16,7 +16,7 @@ use dvg_words::RomImage;
 use std::alloc::Global;
 use thiserror::Error;
 
-/// Why a run of the maker wrote no certificate, or a prefix of it.
+/// Why a run of the maker wrote no certificate, or only a prefix of one.
 #[derive(Clone, Copy, Debug, PartialEq, Eq, Error)]
 pub enum MakeRunFault {
     /// 1: the ROM has a wrong length.
@@ -83,7 +83,7 @@ pub fn run_make<R: CountedRead, W: CountedWrite>(
     roots: &[(u16, Key)],
     out: &mut W,
 ) -> Result<(), MakeRunFault>
-    // 70 and 73 come exactly where their device failed in this call, by one more in the device's count.
+    // 70 and 73 come exactly where their device failed in this call, and the device's count then rises by one.
     ensures rom_count { R.failures rom.new ≡ count_after (blames_maker_rom result) (R.failures rom.old) }
     ensures out_count { W.failures out.new ≡ count_after (blames_maker_writer result) (W.failures out.old) }
 
@@ -93,7 +93,7 @@ pub fn run_make<R: CountedRead, W: CountedWrite>(
         (W.contents out.new) }
     ensures nothing { IfErr result (λ fault. fault ≢ MakeRunFault.Write → Appends (W.contents out.old) (W.contents out.new) []) }
 
-    // 1 comes for a wrong length alone, and 60 to 62 only where no list is made.
+    // 1 comes for a wrong length alone, and 60 to 62 only where no made list exists.
     ensures refused { IfErr result (MakeFaultMeans (R.remaining rom.old) roots.now) }
 {
     let Ok(bytes) = read_image(rom) else {

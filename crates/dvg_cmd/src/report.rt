@@ -41,7 +41,7 @@ impl Report {
         }
     }
 
-    /// The bytes of the line, 64 at the most.
+    /// The bytes of the line, 64 at most.
     pub fn as_bytes(&self) -> &[u8]
         ensures bytes { result.now ≡ self.now }
         ensures short { length result.now ≤ 64 }
@@ -72,7 +72,7 @@ impl Report {
     }
 }
 
-/// The line of a verdict, with its LF: 64 bytes at the most. Takes no memory.
+/// The line of a verdict, with its LF: 64 bytes at most. Takes no memory.
 pub fn report_of(verdict: &Result<Yes, Refusal>) -> Report
     ensures text { result ≡ report_text verdict.now }
     ensures short { length result ≤ 64 }
@@ -83,7 +83,7 @@ pub fn report_of(verdict: &Result<Yes, Refusal>) -> Report
     report
 }
 
-/// The line on standard error of a run that made no certificate, with its LF: 64 bytes at the most. Takes no memory.
+/// The line on standard error of a run that made no certificate, with its LF: 64 bytes at most. Takes no memory.
 pub fn make_report_of(fault: &MakeRunFault) -> Report
     ensures text { result ≡ make_message fault.now ++ codes "\n" }
     ensures short { length result ≤ 64 }

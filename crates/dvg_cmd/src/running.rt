@@ -58,7 +58,7 @@ impl RunFault {
     }
 }
 
-/// How many bytes of a certificate are read at the most: one past its limit.
+/// How many bytes of a certificate are read at most: one past its limit.
 const PAST_CERTIFICATE_LIMIT: usize = 1_048_577;
 
 /// What was reported by the line of a verdict.
@@ -163,7 +163,7 @@ pub fn run_check<R1: CountedRead, R2: CountedRead, R3: CountedRead, W: CountedWr
     budget: u32,
     out: &mut W,
 ) -> Result<Outcome, RunFault>
-    // A fault of 70 to 73 comes exactly where its device failed in this call, by one more in the device's count.
+    // A fault of 70 to 73 comes exactly where its device failed in this call, and the device's count then rises by one.
     ensures rom_count { R1.failures rom.new ≡ count_after (blames_rom result) (R1.failures rom.old) }
     ensures cert_count { R2.failures cert.new ≡ count_after (blames_certificate result) (R2.failures cert.old) }
     ensures frame_count { R3.failures frame.new ≡ count_after (blames_frame result) (R3.failures frame.old) }

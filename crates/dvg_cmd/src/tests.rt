@@ -494,7 +494,7 @@ fn shows_faults(rt: HostRuntime) -> Result<(), AllocError> {
         (
             made(MakeFault::Unstraight { word: 0x0AB }),
             60,
-            "the shapes are not straight at 0AB",
+            "no shape can have the item at 0AB",
         ),
         (made(MakeFault::Deep), 61, "the shapes call too deep"),
         (

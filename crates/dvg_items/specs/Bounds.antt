@@ -1,5 +1,5 @@
--- Limits within which the code's numbers stay: no rule stands here. An item moves the place by 2^41 at the most and stands
--- one place further on at the least, so no sum over a shape or a frame leaves 64 bits.
+-- Limits within which the code's numbers stay: no rule stands here. An item moves the place by 2^41 at most and stands
+-- one word further on at least, so no sum over a shape or a frame leaves 64 bits.
 use Rattle.std.specs.Prelude.{ℕ, ◌+◌, ◌*◌, ◌^◌, ◌<◌, ◌≤◌, List, IfSome}
 use Rattle.dvg_words.specs.declared.map.TheConstants.{ADDRESS_END}
 use Rattle.dvg_words.specs.Decoding.{InstrFits}
@@ -34,7 +34,7 @@ IsSomeCertificate list = (first : ℕ) × (last : ℕ) × (last < ADDRESS_END) �
 
 -- ---- places
 
--- so many items move no further
+-- so many items move the place no further than this
 abbrev pub IsNear : ℕ → Point → Type 0
 IsNear n p = IsWithin (2 ^ 41 * n) p
 

@@ -96,7 +96,7 @@ abbrev pub callee_words : Option Entry → ℕ
 callee_words None = 0
 callee_words (Some e) = e.words
 
--- how many return places are stored at once under an item: one more than by the called entry, as many as by a tail jump's
+-- the most return places stored at once under an item: for a call one more than its entry's depth, for a tail jump its entry's
 abbrev pub depth_under : Instr → Option Entry → ℕ
 depth_under i None = 0
 depth_under (Jsrl to) (Some e) = 1 + e.depth

@@ -27,7 +27,7 @@ total_move (Sets p ∷ earlier) = origin
 total_move (Loses ∷ earlier) = origin
 total_move (Moves d ∷ earlier) = shift (total_move earlier) d
 
--- the known place is the one, moved by the other
+-- the known place is the fixed one, moved by the total move
 abbrev pub PlaceFromAll : Type 0
 PlaceFromAll =
     (c : Context) (earlier : List Item)

@@ -20,8 +20,8 @@ pub enum Effect {
     Moves(Point),
 }
 
-/// What is known before an item: the place, the scale (`Any` is unknown), the words so far, and how many return places
-/// were stored at once.
+/// What is known before an item: the place, the scale (`Any` is unknown), the words so far, and the most return
+/// places stored at once.
 #[derive(Clone, Copy, Debug, PartialEq, Eq)]
 pub struct Known {
     pub place: End,
@@ -70,7 +70,7 @@ fn effect_of(instr: &Instr, scale: Key, callee: &Option<Entry>) -> Effect
     }
 }
 
-/// The place past an effect of the item at a word address, which bounds the place before it in the contract alone.
+/// The place past an effect. `at`, the item's word address, serves the contract alone: it bounds the place before the item.
 pub fn place_past(effect: &Effect, place: &End, at: u16) -> End
     requires at { at ≤ ADDRESS_END }
     requires place { IsNearPlace at place.now }

@@ -73,7 +73,7 @@ pub fn extent_of(instr: &Instr, scale: Key, callee: &Option<Entry>) -> LitExtent
     }
 }
 
-/// What is lit is lit at a known place.
+/// Whether what is lit is lit at a known place.
 pub fn place_known(extent: &LitExtent, place: &End) -> bool
     ensures { IsTrue result ↔ PlaceKnown extent.now place.now }
 {
@@ -84,7 +84,7 @@ pub fn place_known(extent: &LitExtent, place: &End) -> bool
     }
 }
 
-/// What is lit is lit at a known scale.
+/// Whether what is lit is lit at a known scale.
 pub fn scale_known(extent: &LitExtent) -> bool
     ensures { IsTrue result ↔ ScaleKnown extent.now }
 {
@@ -120,7 +120,8 @@ fn absolute_corners(extent: &LitExtent, place: &End) -> Option<(Point, Point)>
     }
 }
 
-/// Both corners of what is lit at a relative place, seen from the beam at the call. `None` where nothing is, or elsewhere.
+/// Both corners of what is lit at a relative place, seen from the beam at the call. `None` where nothing is lit, or
+/// the place is not relative.
 pub fn relative_corners(extent: &LitExtent, place: &End) -> Option<(Point, Point)>
     requires place { IsNearPlace ADDRESS_END place.now }
     requires extent { IsNearExtent extent.now }
@@ -139,7 +140,7 @@ fn is_on_screen(p: &Point) -> bool
     on_screen(p.x, p.y)
 }
 
-/// What is lit at an absolute place is on the screen, both corners of it.
+/// Whether what is lit at an absolute place is on the screen, both corners of it.
 pub fn lit_on_screen(extent: &LitExtent, place: &End) -> bool
     requires place { IsNearPlace ADDRESS_END place.now }
     requires extent { IsNearExtent extent.now }
@@ -151,7 +152,7 @@ pub fn lit_on_screen(extent: &LitExtent, place: &End) -> bool
     }
 }
 
-/// What is lit at a relative place is in the box, both corners of it.
+/// Whether what is lit at a relative place is in the box, both corners of it.
 pub fn lit_in_box(lit: &LitBox, extent: &LitExtent, place: &End) -> bool
     requires place { IsNearPlace ADDRESS_END place.now }
     requires extent { IsNearExtent extent.now }

@@ -41,7 +41,7 @@ impl Seen {
     }
 }
 
-/// A call or tail jump names an entry.
+/// Whether a call or tail jump names an entry; true of every other item.
 pub fn has_callee(target: Option<u16>, callee: &Option<Entry>) -> bool
     ensures { IsTrue result ↔ HasCallee target callee.now }
 {

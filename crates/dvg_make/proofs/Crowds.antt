@@ -1,4 +1,4 @@
--- So many different entries need so long a list.
+-- A list that has so many different entries has at least that length.
 use Rattle.std.proofs.Common.{◌≡◌, ℕ, ◌+◌, ◌≤◌, List, [], ◌∷◌, length, Option, Some, None, refl, sym, ap, ◌∙◌, subst, arith, inl, inr}
 use Rattle.std.specs.Prelude.{Bool, true, false, if◌then◌else◌}
 use Rattle.dvg_cert.specs.Lookup.{is_at, entry_at}

@@ -1,4 +1,4 @@
--- A ROM and roots have one made list at the most.
+-- A ROM and roots have one made list at most.
 use Rattle.std.proofs.Common.{◌≡◌, ℕ, zero, suc, ◌+◌, ◌<◌, ◌≤◌, List, [], ◌∷◌, Option, Some, None, refl, sym, ap, ◌∙◌, subst, arith, ⊎_elim}
 use Rattle.std.specs.Prelude.{Contains}
 use Rattle.dvg_words.specs.Memory.{Rom}

@@ -18,11 +18,11 @@ use Rattle.dvg_check.specs.declared.fault.Mode.TheVariants.{Bound, Exact}
 use Rattle.dvg_make.specs.Least.{IsLeast}
 use Rattle.dvg_make.specs.Made.{EachItem, Made}
 
--- points have one least box at the most
+-- points have one least box at most
 abbrev pub OneLeast : Type 0
 OneLeast = (ps : List Point) (a b : LitBox) → IsLeast ps a → IsLeast ps b → a ≡ b
 
--- a ROM and roots have one made list at the most
+-- a ROM and roots have one made list at most
 abbrev pub OneMade : Type 0
 OneMade = (rom : Rom) (roots : List (ℕ × Key)) (a b : List Entry) → Made rom roots a → Made rom roots b → a ≡ b
 

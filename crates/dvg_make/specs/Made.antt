@@ -42,7 +42,7 @@ MadeKeeps rom list e earlier p why = (w : Window) → why ≢ shape.OffScreen �
 abbrev pub HasEntryAtScale : List Entry → Context → List Item → Item → Type 0
 HasEntryAtScale list c earlier i = (to : ℕ) → target Shape i.instr ≡ Some to → HasEntry list to (scale_before c earlier)
 
--- the entry of a shape as it is made (profile)
+-- a made entry: that of a shape, as the maker makes it (profile)
 pub record MadeEntry (rom : Rom) (list : List Entry) (e : Entry) : Type 0 where
   -- its counts are exact, its end and its scale are what is known there
   pub keeps : AllKeep Shape (rom_word rom) e.addr (MadeKeeps rom list e)
@@ -65,7 +65,7 @@ pub record Needs (rom : Rom) (list : List Entry) (e f : Entry) : Type 0 where
 pub record Made (rom : Rom) (roots : List (ℕ × Key)) (list : List Entry) : Type 0 where
   -- it is a certificate's
   pub certificate : IsCertificate rom.map.rom_first rom.map.rom_last list
-  -- each of its entries is as it is made
+  -- each of its entries is a made one
   pub each : (e : Entry) → Contains list e → MadeEntry rom list e
   -- each root has its entry
   pub rooted : (addr : ℕ) (key : Key) → Contains roots (addr, key) → HasEntry list addr key

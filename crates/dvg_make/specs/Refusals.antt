@@ -14,11 +14,11 @@ fault_number Deep = 61
 fault_number TooLarge = 62
 fault_number Memory = 63
 
--- no list at all is made for the ROM and the roots (profile)
+-- no made list exists for the ROM and the roots (profile)
 abbrev pub NoneMade : Rom → List (ℕ × Key) → Type 0
 NoneMade rom roots = (list : List Entry) → Made rom roots list → ⊥
 
--- 60, 61 and 62 say that no list is made, 63 says nothing (profile)
+-- 60, 61 and 62 say that no made list exists, 63 says nothing (profile)
 abbrev pub Refuses : Rom → List (ℕ × Key) → MakeFault → Type 0
 Refuses rom roots Memory = Unit {0}
 Refuses rom roots (Unstraight word) = NoneMade rom roots

@@ -11,7 +11,7 @@ use thiserror::Error;
 pub enum MakeFault {
     /// 60: the item at this word is missing, odd or HALT, or it lights at an unknown place or scale; or the root at this
     /// word is outside the ROM, or has a key over 15.
-    #[error("the shapes are not straight at {word:03X}")]
+    #[error("no shape can have the item at {word:03X}")]
     Unstraight { word: u16 },
     /// 61: a shape needs itself, or its calls go more than three deep.
     #[error("the shapes call too deep")]

@@ -3,17 +3,17 @@
 
 ghost use Rattle.dvg_make.specs.Laws.{OneLeast, OneMade, GoodInWindow, WorkedExampleMade};
 
-/// Points have one least box at the most.
+/// Points have one least box at most.
 pub fn one_least()
     ensures { OneLeast }
 {}
 
-/// A ROM and roots have one made list at the most.
+/// A ROM and roots have one made list at most.
 pub fn one_made()
     ensures { OneMade }
 {}
 
-/// A made list is good exactly where nothing that is lit at an absolute place leaves the window, and its counts are exact.
+/// A made list is good exactly where nothing that is lit at an absolute place leaves the window, and its counts are then exact.
 pub fn good_in_window()
     ensures { GoodInWindow }
 {}

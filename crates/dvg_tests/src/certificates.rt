@@ -201,6 +201,13 @@ fn from_entries(rt: HostRuntime) -> Result<(), Fail> {
     let mut entries = Vec::from_slice(rt.alloc(), cert.entries())?;
     assert_eq!(rt; entries.len(), 1);
     let entry = entries[0];
+    for (depth, want) in [(3, true), (4, false)] {
+        assert_eq!(rt;
+            is_entry(&Entry { depth, ..entry }),
+            want,
+            "at depth {depth}"
+        );
+    }
     entries.push(entry)?;
     let Err(mut same) = Cert::from_entries(entries) else {
         return Err(Fail::new("an entry was taken twice"));
@@ -261,7 +268,7 @@ fn shows_faults(rt: HostRuntime) -> Result<(), Fail> {
         (
             CertWhy::Order,
             11,
-            "the entry does not stand after the entry before it",
+            "entries are out of order, or one is repeated",
         ),
         (
             CertWhy::Count,
@@ -271,7 +278,7 @@ fn shows_faults(rt: HostRuntime) -> Result<(), Fail> {
         (
             CertWhy::Unended,
             13,
-            "the text ends before the end of its last line",
+            "the text ends before a whole `done` line",
         ),
         (CertWhy::After, 14, "something comes after the last line"),
         (CertWhy::TooLong, 15, "the line or the list is too long"),

@@ -283,7 +283,7 @@ fn shows_refusals(rt: HostRuntime) -> Result<(), Fail> {
         (
             Refusal::Cert(order),
             11,
-            "certificate line 12: the entry does not stand after the entry before it",
+            "certificate line 12: entries are out of order, or one is repeated",
         ),
     ] {
         assert_eq!(rt; refusal.number(), number);

@@ -389,7 +389,7 @@ const LAST_OF_A_MILLION: &[(&[u16], MakeFault)] = &[
     (&[0xCB00, 0xF000, 0xB000], MakeFault::TooLarge),
     (&[0xCA00, 0xB000], MakeFault::TooLarge),
     (&[0xEA00], MakeFault::TooLarge),
-    // So it does at an item that is not straight.
+    // So it does at an item that no shape can have.
     (
         &[0xCB00, 0xFA70, 0xD000],
         MakeFault::Unstraight { word: 0x895 },
@@ -504,7 +504,7 @@ fn shows_faults(rt: HostRuntime) -> Result<(), Fail> {
         (
             MakeFault::Unstraight { word: 0x00A },
             60,
-            "the shapes are not straight at 00A",
+            "no shape can have the item at 00A",
         ),
         (MakeFault::Deep, 61, "the shapes call too deep"),
         (

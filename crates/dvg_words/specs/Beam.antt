@@ -22,7 +22,7 @@ shift p d = record { x = p.x +ℤ d.x; y = p.y +ℤ d.y }
 unfoldable pub displacement : DrawFields → ℕ → Point
 displacement d global = record { x = d.dx *ℤ pos (factor d.lscale global); y = d.dy *ℤ pos (factor d.lscale global) }
 
--- where a LABS sets the beam: its fields are screen places (DVG documentation), in units of 1/1024 (profile)
+-- where a LABS sets the beam: its fields are screen places, here in units of 1/1024 (profile)
 abbrev pub labs_place : ℕ → ℕ → Point
 labs_place x y = record { x = pos (1024 * x); y = pos (1024 * y) }
 

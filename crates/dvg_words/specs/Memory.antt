@@ -8,7 +8,7 @@ words_of [] = []
 words_of (low ∷ []) = []
 words_of (low ∷ high ∷ bytes) = (low + 256 * high) ∷ words_of bytes
 
--- the length in bytes of a ROM: two for each of its addresses (profile)
+-- the length in bytes of a ROM: two for each of its addresses
 abbrev pub IsRomLength : MemoryMap → ℕ → Type 0
 IsRomLength map n = n + 2 * map.rom_first ≡ 2 * (map.rom_last + 1)
 

@@ -9,7 +9,7 @@ pub record DrawFields : Type 0 where
   pub lscale : ℕ
   pub bright : ℕ
 
--- sizes have ten bits and a sign, a local scale is an opcode of VCTR, an intensity has four bits (DVG documentation)
+-- sizes have ten bits and a sign, a local scale is 0 to 9 as VCTR's opcode, an intensity has four bits (DVG documentation)
 pub record DrawFits (d : DrawFields) : Type 0 where
   pub dx_low : negsuc 1022 ≤ℤ d.dx
   pub dx_high : d.dx ≤ℤ pos 1023
@@ -33,7 +33,7 @@ pub record IsMap (map : MemoryMap) : Type 0 where
   pub ordered : map.rom_first ≤ map.rom_last
   pub inside : map.rom_last ≤ 0xBFF
 
--- a part of the screen, in screen places, ends included
+-- a part of the screen, in screen places, ends included (profile)
 pub record Window : Type 0 where
   pub x_min : ℕ
   pub x_max : ℕ

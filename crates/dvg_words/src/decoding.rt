@@ -98,7 +98,7 @@ fn cell_of(format: Format, instr: Option<Instr>) -> Cell
     }
 }
 
-/// What stands at a word address: it is missing where one of its words is, before it may be odd.
+/// What stands at a word address: it is missing where one of its words is, even if the first makes it an odd LABS.
 #[tactic(auto, unfolding(crate::specs::Decoding::cell_at))]
 pub fn read_cell<F: Fetch>(words: &F, addr: u16) -> Cell
     ensures value { result ≡ cell_at (F.words words.now) addr }

@@ -37,7 +37,7 @@ impl ImageFault {
 /// How many bytes a ROM has, two for each of its addresses.
 const ROM_BYTES: usize = 2 * (ROM_LAST as usize + 1 - ROM_FIRST as usize);
 
-/// How many bytes a frame has at the most.
+/// How many bytes a frame has at most.
 const MOST_FRAME_BYTES: usize = 2 * RAM_WORDS as usize;
 
 /// The word of this number among the bytes, the low byte first (Asteroids schematics).

@@ -11,9 +11,9 @@ use std::{env, io};
 pub enum Usage {
     /// Help was asked for, or a word is wrong.
     Clap(Error),
-    /// A word is no UTF-8.
+    /// A word is not UTF-8.
     Unreadable,
-    /// A word in the place of a root is none.
+    /// A word given as a root is not one.
     BadRoot,
     OutOfMemory,
 }
@@ -77,7 +77,7 @@ fn check_command<'a>(alloc: Global) -> Result<Command<'a>, AllocError> {
     let budget = Arg::new(alloc, "budget")
         .long("budget")
         .value_name("N")
-        .help("How many words the frame may take at the most")
+        .help("How many words the frame may take at most")
         .value_parser(value_parser!(u32).range(1..=i64::from(MOST_WORDS)))
         .default_value("20000");
     Command::new(alloc, "check")

@@ -45,7 +45,7 @@ fn make(rt: &HostRuntime, words: &MakeWords) -> Result<(), MakeRunFault> {
     )
 }
 
-/// Says a line of ASCII on standard error, and ends it where it has no LF. Where that can't be written either, the exit
+/// Says a line of ASCII on standard error, with exactly one LF at its end. Where that can't be written either, the exit
 /// status alone tells.
 fn say(rt: &HostRuntime, line: &[u8]) {
     let text = str::from_utf8(line).unwrap_or("");

@@ -14,7 +14,7 @@ infixl 10 ◌>>=◌
 abbrev pub ◌>>=◌ : {A B : Type 0} → Option A → (A → Option B) → Option B
 o >>= f = option_and_then f o
 
--- what a function returned and left is what reading gives
+-- the result and the tokens left are those that reading gives
 abbrev pub Reads : {X : Type 0} → Option X → List (List ℕ) → Option (X × List (List ℕ)) → Type 0
 Reads None rest read = read ≡ None
 Reads (Some x) rest read = read ≡ Some (x, rest)

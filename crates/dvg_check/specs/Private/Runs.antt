@@ -86,7 +86,7 @@ abbrev pub IsSizeBox : ℕ → LitBox → Type 0
 IsSizeBox most Empty = Unit {0}
 IsSizeBox most (Span x_min x_max y_min y_max) = IsSize most (record { x = x_min; y = y_min }) × IsSize most (record { x = x_max; y = y_max })
 
--- how far so many words reach at the most, each 1023 at local scale 9, in sizes at this local scale: 1025 words reach 536870400 at the most
+-- how far so many words reach at most, each 1023 at local scale 9, in sizes at this local scale: 1025 words reach 536870400 at most
 abbrev pub reach : ℕ → ℕ → ℕ
 reach lowest words = 1023 * 2 ^ (9 - lowest) * words
 
@@ -120,7 +120,7 @@ pub record IsRun (word : ℕ → Option ℕ) (at : ℕ) (run : Run) : Type 0 whe
 
 -- ---- the runs from each place on
 
--- the run at this place of the table ends with the table at the latest
+-- the run at this index of the table ends at most one word past the table
 pub record IsFew (index : ℕ) (run : Run) : Type 0 where
   pub few : run.words + index ≤ 1025
   pub sized : IsSized run

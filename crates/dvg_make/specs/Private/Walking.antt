@@ -30,7 +30,7 @@ use Rattle.dvg_make.specs.declared.walk.Progress.TheVariants.{Finished, Waiting}
 use Rattle.dvg_make.specs.Least.{lit_points, IsLeast}
 use Rattle.dvg_make.specs.Made.{HasEntry, MadeEntry, Made}
 
--- what the items of a shape stand in that starts at this key
+-- the context of the items of a shape that starts at this key
 abbrev pub keyed_context : List Entry → Key → Context
 keyed_context list key = record { kind = Shape; list = list; scale = key }
 
@@ -54,12 +54,12 @@ pub record IsAsked (v : Seen) : Type 0 where
   pub deep : depth_under v.item.instr v.callee ≤ MOST_DEPTH
   pub many : v.after.words ≤ MOST_WORDS
 
--- past one item that is seen, which is as asked, the least box becomes this one
+-- passing an item leaves the least box so; the item is as asked
 pub record Passes (v : Seen) (lit new : LitBox) : Type 0 where
   pub grows : (ps : List Point) → IsLeast ps lit → IsLeast (relative_corners v.extent v.place ++ ps) new
   pub asked : IsAsked v
 
--- the item is straight, and its target has its entry
+-- the item is as asked, and its target has its entry
 pub record IsFine (c : Context) (earlier : List Item) (i : Item) : Type 0 where
   pub straight : IsStraight (seen_at c earlier i)
   pub keyed : (to : ℕ) → target Shape i.instr ≡ Some to → HasEntry c.list to (scale_before c earlier)
