@@ -9,8 +9,6 @@ mod reading;
 mod report;
 mod running;
 mod status;
-#[cfg(test)]
-mod tests;
 
 pub use dvg_cert::{
     CertFault, CertWhy, Counted, CountedRead, CountedWrite, Key, MOST_WORDS, WriteFault,

@@ -159,43 +159,6 @@ fn lines(rt: HostRuntime) -> Result<(), Fail> {
 }
 
 #[test]
-fn most_entries(rt: HostRuntime) -> Result<(), Fail> {
-    let mut text = Vec::from_slice(rt.alloc(), b"dvgcert 1\n")?;
-    for addr in 0x800..0xC00 {
-        for key in ["0", "8", "9", "15"] {
-            let line = format!(in rt.alloc();
-                "shape {addr:X} {key} end lost box none depth 0 words 1 scale any\n"
-            )?;
-            text.extend_from_slice(line.as_bytes())?;
-        }
-    }
-    let rows: [(&[u8], Answer); 7] = [
-        (b"done 4096\n", Ok(4096)),
-        (b"done 4095\n", refused(4098, CertWhy::Count)),
-        (b"done 4097\n", refused(4098, CertWhy::Form)),
-        (
-            b"shape BFF 16 end lost box none depth 0 words 1 scale 0\n",
-            refused(4098, CertWhy::Form),
-        ),
-        (
-            b"shape BFF 14 end lost box none depth 0 words 1 scale 0\n",
-            refused(4098, CertWhy::Order),
-        ),
-        (
-            b"shape BFF any end lost box none depth 0 words 1 scale 0\n",
-            refused(4098, CertWhy::TooLong),
-        ),
-        (b"", refused(4098, CertWhy::Unended)),
-    ];
-    for (end, want) in rows {
-        let mut whole = Vec::from_slice(rt.alloc(), &text)?;
-        whole.extend_from_slice(end)?;
-        assert_eq!(rt; answer_of(read_cert(rt.alloc(), &whole)), want);
-    }
-    Ok(())
-}
-
-#[test]
 fn from_entries(rt: HostRuntime) -> Result<(), Fail> {
     let cert = read_cert(rt.alloc(), ONE_ENTRY)?;
     let mut entries = Vec::from_slice(rt.alloc(), cert.entries())?;

@@ -1,6 +1,6 @@
 //! Each call once: a shape with a lit stroke and a frame that calls it, accepted and refused. And what faults show.
 
-use dvg_cert::{CertFault, CertWhy, Key, ListIndex, read_cert};
+use dvg_cert::{CertFault, CertWhy, HashIndex, Key, ListIndex, read_cert};
 use dvg_check::{
     Accepted, FrameFault, FrameWhy, JudgedShapes, Refusal, ShapeFault, ShapeWhy, Yes, check,
     check_frame, check_shapes,
@@ -88,36 +88,30 @@ fn refused_memory(rt: HostRuntime) {
     }
 }
 
-/// What two frames answer over shapes that are judged once: one that calls the shape, and HALT alone.
-#[test]
-fn judges_frames_over_judged_shapes(rt: HostRuntime) -> Result<(), Fail> {
-    let bytes = rom_bytes();
-    let Ok(rom) = RomImage::from_bytes(&bytes) else {
-        return Err(Fail::new("the ROM was refused"));
+/// Judges the shapes of a vector ROM once, then frame after frame over them, and says whether all frames are safe.
+fn are_safe(alloc: Global, rom: &[u8], text: &[u8], frames: &[&[u8]]) -> Result<bool, Refusal> {
+    let rom = RomImage::from_bytes(rom)?;
+    let cert = read_cert(alloc, text)?;
+    let Ok(entries) = HashIndex::new(alloc, &cert) else {
+        return Err(Refusal::IndexMemory);
     };
-    let cert = read_cert(rt.alloc(), CERT)?;
-    let index = ListIndex::new(&cert);
-    let Ok(shapes) = JudgedShapes::judge(&rom, &cert, &index) else {
-        return Err(Fail::new("a shape was faulty"));
-    };
-    for (words, budget, want) in [
-        (FRAME, 20000, Ok(Accepted { words: 7, depth: 1 })),
-        (&[0xB0, 0xB0], 20000, Ok(Accepted { words: 1, depth: 0 })),
-        (
-            FRAME,
-            6,
-            Err(FrameFault {
-                word: 3,
-                why: FrameWhy::Budget,
-            }),
-        ),
-    ] {
-        let Ok(frame) = FrameImage::from_bytes(words) else {
-            return Err(Fail::new("the frame was refused"));
-        };
-        assert_eq!(rt; shapes.check_frame(&frame, budget), want);
+    let shapes = JudgedShapes::judge(&rom, &cert, &entries)?;
+    for bytes in frames {
+        let frame = FrameImage::from_bytes(bytes)?;
+        if shapes.check_frame(&frame, 20_000).is_err() {
+            return Ok(false);
+        }
     }
-    Ok(())
+    Ok(true)
+}
+
+/// A frame that calls the shape, HALT alone, and a frame that draws before it sets its place.
+#[test]
+fn judges_frames_over_judged_shapes(rt: HostRuntime) {
+    let frames: [&[u8]; 3] = [FRAME, &[0xB0, 0xB0], &[0x00, 0x70, 0x00, 0x70, 0x00, 0xB0]];
+    let rom = rom_bytes();
+    assert_eq!(rt; are_safe(rt.alloc(), &rom, CERT, &frames[..2]), Ok(true));
+    assert_eq!(rt; are_safe(rt.alloc(), &rom, CERT, &frames), Ok(false));
 }
 
 /// What the two halves answer over the index of a certificate.

@@ -1,5 +1,4 @@
-//! Tests of the libraries below `dvg_cmd`, through what they give out. They stand in one crate, since a crate that has tests
-//! is proved twice.
+//! Tests of the libraries, through what they give out. They stand in one crate, since a crate that has tests is proved twice.
 #![tactic(auto)]
 
 #[cfg(test)]
@@ -10,5 +9,9 @@ mod checking;
 mod items;
 #[cfg(test)]
 mod making;
+#[cfg(test)]
+mod rows;
+#[cfg(test)]
+mod running;
 #[cfg(test)]
 mod words;

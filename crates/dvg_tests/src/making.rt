@@ -85,65 +85,6 @@ fn makes_one_shape(rt: HostRuntime) -> Result<(), Fail> {
     Ok(())
 }
 
-#[test]
-fn makes_all_that_is_needed(rt: HostRuntime) -> Result<(), Fail> {
-    let calls = rom_bytes(&[(
-        0x800,
-        &[0xC802, 0xD000, 0xC804, 0xD000, 0xC806, 0xD000, 0xD000],
-    )]);
-    makes(
-        rt.alloc(),
-        &calls,
-        &[(0x800, Key::At(0))],
-        "dvgcert 1\nshape 800 0 end rel 0 0 box none depth 3 words 7 scale 0\nshape 802 0 end rel 0 0 box none depth 2 words 5 scale 0\nshape 804 0 end rel 0 0 box none depth 1 words 3 scale 0\nshape 806 0 end rel 0 0 box none depth 0 words 1 scale 0\ndone 4\n",
-    )?;
-    makes(rt.alloc(), &calls, &[], "dvgcert 1\ndone 0\n")
-}
-
-#[test]
-fn makes_calls_twice_and_tail_jumps(rt: HostRuntime) -> Result<(), Fail> {
-    let zero = (0x800, Key::At(0));
-    makes(
-        rt.alloc(),
-        &rom_bytes(&[(0x800, &[0xC803, 0xC803, 0xD000, 0xD000])]),
-        &[zero],
-        "dvgcert 1\nshape 800 0 end rel 0 0 box none depth 1 words 5 scale 0\nshape 803 0 end rel 0 0 box none depth 0 words 1 scale 0\ndone 2\n",
-    )?;
-    makes(
-        rt.alloc(),
-        &rom_bytes(&[(0x800, &[0xE801, 0xD000])]),
-        &[zero],
-        "dvgcert 1\nshape 800 0 end rel 0 0 box none depth 0 words 2 scale 0\nshape 801 0 end rel 0 0 box none depth 0 words 1 scale 0\ndone 2\n",
-    )
-}
-
-/// A call at a known scale has an entry at that scale, though there is one for any scale.
-#[test]
-fn makes_exact_keys(rt: HostRuntime) -> Result<(), Fail> {
-    makes(
-        rt.alloc(),
-        &rom_bytes(&[(0x800, &[0xA000, 0x0000, 0xC804, 0xD000, 0xD000])]),
-        &[(0x804, Key::Any), (0x800, Key::Any)],
-        "dvgcert 1\nshape 800 any end abs 0 0 box none depth 1 words 5 scale 0\nshape 804 0 end rel 0 0 box none depth 0 words 1 scale 0\nshape 804 any end rel 0 0 box none depth 0 words 1 scale any\ndone 3\n",
-    )
-}
-
-#[test]
-fn makes_roots_in_any_order(rt: HostRuntime) -> Result<(), Fail> {
-    let stroke = rom_bytes(&[STROKE]);
-    let zero = (0x800, Key::At(0));
-    let fifteen = (0x800, Key::At(15));
-    for roots in [[zero, fifteen], [fifteen, zero]] {
-        makes(
-            rt.alloc(),
-            &stroke,
-            &roots,
-            "dvgcert 1\nshape 800 0 end rel 1047552 785408 box 0 1047552 0 785408 depth 0 words 3 scale 0\nshape 800 15 end rel 523776 392704 box 0 523776 0 392704 depth 0 words 3 scale 15\ndone 2\n",
-        )?;
-    }
-    Ok(())
-}
-
 /// A ROM, roots and the fault that is met first.
 struct Refused {
     what: &'static str,
