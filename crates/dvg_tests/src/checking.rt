@@ -3,7 +3,7 @@
 use dvg_cert::{CertFault, CertWhy, Key, ListIndex, read_cert};
 use dvg_check::{
     Accepted, FrameFault, FrameWhy, JudgedShapes, Refusal, ShapeFault, ShapeWhy, Yes, check,
-    check_frame, check_shapes,
+    check_frame, check_parts, check_shapes, images_of,
 };
 use dvg_words::{FrameImage, ImageFault, RomImage};
 use std::alloc::Global;
@@ -86,6 +86,93 @@ fn refused_memory(rt: HostRuntime) {
     if Vec::<u8>::with_capacity(rt.alloc(), 1).is_err() {
         panic!(rt; "no memory after the answers");
     }
+}
+
+/// Words of a ROM at 800, a certificate, a frame, and the answer.
+type PartsRow = (
+    &'static [u8],
+    &'static [u8],
+    &'static [u8],
+    Result<Yes, Refusal>,
+);
+
+/// A stroke by 1023,767 and RTSL.
+const STROKE: &[u8] = &[0xFF, 0x92, 0xFF, 0x73, 0x00, 0xD0];
+
+const HALT: &[u8] = &[0x00, 0xB0];
+
+fn yes(shapes: u32, words: u32, depth: u8) -> Result<Yes, Refusal> {
+    Ok(Yes {
+        shapes,
+        words,
+        depth,
+    })
+}
+
+/// A fault of the shape of a stroke, at a word address.
+fn stroke_fault(why: ShapeWhy, word: u16) -> Result<Yes, Refusal> {
+    Err(Refusal::Shape(ShapeFault {
+        addr: 0x800,
+        key: Key::At(0),
+        word,
+        why,
+    }))
+}
+
+/// The stroke called; no shape at all; four calls in one another; and one claim too few, in turn.
+fn parts_rows() -> [PartsRow; 7] {
+    [
+        (STROKE, CERT, FRAME, yes(1, 7, 1)),
+        (STROKE, b"dvgcert 1\ndone 0\n", HALT, yes(0, 1, 0)),
+        (
+            &[
+                0x02, 0xC8, 0x00, 0xD0, 0x04, 0xC8, 0x00, 0xD0, 0x06, 0xC8, 0x00, 0xD0, 0x00, 0xD0,
+            ],
+            b"dvgcert 1\nshape 800 0 end rel 0 0 box none depth 3 words 7 scale 0\nshape 802 0 end rel 0 0 box none depth 2 words 5 scale 0\nshape 804 0 end rel 0 0 box none depth 1 words 3 scale 0\nshape 806 0 end rel 0 0 box none depth 0 words 1 scale 0\ndone 4\n",
+            &[0x00, 0xA0, 0x00, 0x00, 0x00, 0xC8, 0x00, 0xB0],
+            yes(4, 11, 4),
+        ),
+        (
+            STROKE,
+            LOW_BOX,
+            HALT,
+            stroke_fault(ShapeWhy::BoxTooSmall, 0x800),
+        ),
+        (
+            STROKE,
+            b"dvgcert 1\nshape 800 0 end rel 1047552 785407 box 0 1047552 0 785408 depth 0 words 3 scale 0\ndone 1\n",
+            HALT,
+            stroke_fault(ShapeWhy::EndDiffers, 0x802),
+        ),
+        (
+            STROKE,
+            b"dvgcert 1\nshape 800 0 end rel 1047552 785408 box 0 1047552 0 785408 depth 0 words 3 scale 1\ndone 1\n",
+            HALT,
+            stroke_fault(ShapeWhy::ScaleDiffers, 0x802),
+        ),
+        (
+            STROKE,
+            b"dvgcert 1\nshape 800 0 end rel 1047552 785408 box 0 1047552 0 785408 depth 0 words 2 scale 0\ndone 1\n",
+            HALT,
+            stroke_fault(ShapeWhy::TooManyWords, 0x802),
+        ),
+    ]
+}
+
+/// Images and entries that a caller has already.
+#[test]
+fn judges_parts(rt: HostRuntime) -> Result<(), Fail> {
+    for (words, text, frame, want) in parts_rows() {
+        let mut bytes = [0; 2048];
+        bytes[..words.len()].copy_from_slice(words);
+        let Ok(images) = images_of(&bytes, frame, 20000) else {
+            return Err(Fail::new("the images were refused"));
+        };
+        let cert = read_cert(rt.alloc(), text)?;
+        let answer = check_parts(rt.alloc(), &images.rom, &images.frame, &cert, 20000);
+        assert_eq!(rt; answer, want);
+    }
+    Ok(())
 }
 
 /// What two frames answer over shapes that are judged once: one that calls the shape, and HALT alone.
