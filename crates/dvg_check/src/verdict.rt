@@ -1,11 +1,11 @@
 //! The verdict on bytes.
 
-ghost use Rattle.std.specs.Prelude.{◌≡◌, ◌≤◌, ℕ, List, Err, OnOk, IfOk, IfErr};
+ghost use Rattle.std.specs.Prelude.{◌≡◌, ◌≤◌, OnOk, IfOk, IfErr};
 ghost use Rattle.dvg_words.specs.Values.{asteroids};
 ghost use Rattle.dvg_words.specs.Memory.{words_of, rom_of};
 ghost use Rattle.dvg_words.specs.Beam.{screen};
 ghost use Rattle.dvg_check.specs.Rules.{Bound};
-ghost use Rattle.dvg_check.specs.Verdict.{InRange, PartsVerdict, Verdict};
+ghost use Rattle.dvg_check.specs.Verdict.{InRange, RangeRefusal, PartsVerdict, Verdict};
 ghost use Rattle.dvg_check.specs.Numbers.{refusal_number};
 ghost use Rattle.dvg_check.specs.Safety.{Safe};
 ghost use Rattle.dvg_check.specs.declared.verdict.Refusal.TheVariants as refusals;
@@ -121,8 +121,7 @@ pub fn images_of<'a>(rom: &'a [u8], frame: &'a [u8], budget: u32) -> Result<Imag
     ensures range { OnOk result (InRange asteroids rom.now frame.now budget) }
     ensures rom { IfOk result (λ images. images.rom ≡ rom_of asteroids rom.now) }
     ensures frame { IfOk result (λ images. images.frame ≡ words_of frame.now) }
-    ensures refused { IfErr result (λ refusal. (cert : List ℕ)
-        → Verdict Bound asteroids screen rom.now cert frame.now budget (Err refusal)) }
+    ensures refused { IfErr result (RangeRefusal asteroids rom.now frame.now budget) }
 {
     let rom = RomImage::from_bytes(rom)?;
     let frame = FrameImage::from_bytes(frame)?;
