@@ -9,9 +9,8 @@ use crate::{
     report_of, run_check, status_of,
 };
 use devices::{SlowReader, SlowWriter};
-use dvg_cert::{ListIndex, MOST_WORDS, read_cert};
-use dvg_check::{JudgedShapes, Refusal, Yes};
-use dvg_words::{FrameImage, RomImage};
+use dvg_cert::{ListIndex, read_cert};
+use dvg_check::{JudgedShapes, Refusal, Yes, images_of};
 use rows::{EMPTY, ROWS, Row, STROKE, STROKE_CERT, TEXTS};
 use std::alloc::{AllocError, Global};
 use std::str;
@@ -21,6 +20,25 @@ const ROM: &[u8] = &[0; 2048];
 /// A frame that draws from 1,1 to 0,0.
 const FIRST: &[u8] = &[0x01, 0xA0, 0x01, 0x00, 0x01, 0x94, 0x01, 0x74, 0x00, 0xB0];
 
+/// What a run answers over readers that give so many bytes a read, and its line.
+fn run_by(
+    alloc: Global,
+    most: usize,
+    inputs: [&[u8]; 3],
+    budget: u32,
+) -> (Result<Outcome, RunFault>, Vec<u8>) {
+    let mut line = Vec::new(alloc);
+    let end = run_check(
+        alloc,
+        &mut Counted::new(SlowReader::new(inputs[0], most, NEVER)),
+        &mut Counted::new(SlowReader::new(inputs[1], most, NEVER)),
+        &mut Counted::new(SlowReader::new(inputs[2], most, NEVER)),
+        budget,
+        &mut Counted::new(&mut line),
+    );
+    (end, line)
+}
+
 /// What a run over memory answers, and its line.
 fn run(
     alloc: Global,
@@ -29,16 +47,7 @@ fn run(
     frame: &[u8],
     budget: u32,
 ) -> (Result<Outcome, RunFault>, Vec<u8>) {
-    let mut line = Vec::new(alloc);
-    let end = run_check(
-        alloc,
-        &mut Counted::new(rom),
-        &mut Counted::new(cert),
-        &mut Counted::new(frame),
-        budget,
-        &mut Counted::new(&mut line),
-    );
-    (end, line)
+    run_by(alloc, usize::MAX, [rom, cert, frame], budget)
 }
 
 /// Words as bytes, the low byte first.
@@ -188,18 +197,16 @@ fn is_reported(end: &Result<Outcome, RunFault>, line: &[u8], report: &str) -> bo
     *end == Ok(outcome) && line.strip_suffix(b"\n") == Some(report.as_bytes())
 }
 
-fn row_is_reported(alloc: Global, row: &Row) -> Result<bool, AllocError> {
-    let rom = rom_bytes(alloc, row.first, row.words)?;
-    let frame = bytes_of(alloc, row.frame)?;
-    let (end, line) = run(alloc, &rom, row.text, &frame, row.budget);
-    Ok(is_reported(&end, &line, row.report))
-}
-
+/// Each row, over readers that give all at once, and one byte a read.
 #[test]
 fn reports_worked_rows(rt: HostRuntime) -> Result<(), AllocError> {
     for row in ROWS {
-        let is = row_is_reported(rt.alloc(), row)?;
-        assert!(rt; is, "for {}", row.what);
+        let rom = rom_bytes(rt.alloc(), row.first, row.words)?;
+        let frame = bytes_of(rt.alloc(), row.frame)?;
+        for most in [usize::MAX, 1] {
+            let (end, line) = run_by(rt.alloc(), most, [&rom, row.text, &frame], row.budget);
+            assert!(rt; is_reported(&end, &line, row.report), "for {}", row.what);
+        }
     }
     Ok(())
 }
@@ -212,15 +219,11 @@ fn judge_by_list(
     frame: &[u8],
     budget: u32,
 ) -> Result<Yes, Refusal> {
-    let rom = RomImage::from_bytes(rom)?;
-    let frame = FrameImage::from_bytes(frame)?;
-    if !(1..=MOST_WORDS).contains(&budget) {
-        return Err(Refusal::BudgetRange);
-    }
+    let images = images_of(rom, frame, budget)?;
     let cert = read_cert(alloc, text)?;
     let entries = ListIndex::new(&cert);
-    let shapes = JudgedShapes::judge(&rom, &cert, &entries)?;
-    let accepted = shapes.check_frame(&frame, budget)?;
+    let shapes = JudgedShapes::judge(&images.rom, &cert, &entries)?;
+    let accepted = shapes.check_frame(&images.frame, budget)?;
     Ok(Yes {
         shapes: cert.entries().len() as u32,
         words: accepted.words,
@@ -375,7 +378,8 @@ fn byte_by_byte(alloc: Global, rom: &[u8], frame: &[u8], cert: &[u8]) -> [Told; 
     told
 }
 
-/// Each input is read to its end, which is met once, or to one byte past its limit.
+/// Each input is read to its end, which is met once, or to one byte past its limit; a certificate that is refused no further
+/// than its first piece here, but as far as the others where the ROM was refused before it.
 #[test]
 fn reads_each_byte_once(rt: HostRuntime) -> Result<(), AllocError> {
     let long = [0; 2100];
@@ -393,7 +397,9 @@ fn reads_each_byte_once(rt: HostRuntime) -> Result<(), AllocError> {
     }
     let cert = vec![in rt.alloc(); 0u8; 1_048_600]?;
     let told = byte_by_byte(rt.alloc(), ROM, FIRST, &cert);
-    assert_eq!(rt; told, [(0, 2049, 0), (0, 11, 0), (0, 1_048_577, 23)]);
+    assert_eq!(rt; told, [(0, 2049, 0), (0, 11, 0), (0, 4096, 1_044_504)]);
+    let told = byte_by_byte(rt.alloc(), &[], FIRST, &cert);
+    assert_eq!(rt; told, [(0, 1, 0), (0, 11, 0), (0, 1_048_577, 23)]);
     Ok(())
 }
 
