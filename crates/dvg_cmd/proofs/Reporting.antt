@@ -1,5 +1,5 @@
 -- The verdict on what was read is the one on all, and what is reported of it, over plain values.
-use Rattle.std.proofs.Common.{Option, List, [], None, Some, arith, subst, length, ◌≡◌, ◌≤◌, ℕ}
+use Rattle.std.proofs.Common.{Option, List, [], None, Some, arith, subst, ◌≡◌, ℕ}
 use Rattle.std.specs.Prelude.{Result, IfOk, Ok, Err}
 use Rattle.dvg_words.specs.Beam.{screen}
 use Rattle.dvg_words.specs.Memory.{words_of, rom_of}

@@ -1,6 +1,6 @@
 -- The verdict on the first bytes of inputs is the verdict on all of them.
 use Rattle.std.proofs.Common.{append-nil, List, length, Option, None, Some, refl, arith, ap, subst, sym, ◌≡◌, ◌+◌, ◌≤◌, ◌++◌, ◌∙◌, ℕ, []}
-use Rattle.std.specs.Prelude.{IfSome, Result, Err, Ok}
+use Rattle.std.specs.Prelude.{IfSome, Result, Err}
 use Rattle.dvg_words.specs.Memory.{IsRomLength, IsFrameLength, words_of, rom_of}
 use Rattle.dvg_words.specs.Values.{Window, asteroids}
 use Rattle.dvg_words.specs.declared.image.ImageFault.TheVariants.{RomLength, FrameLength}

@@ -1,7 +1,7 @@
 use Rattle.std.proofs.Common.{◌≡◌, ◌++◌, ◌≤◌, length, arith, take}
 use Rattle.std.proofs.KnownBytes.{Consumes-trans}
 use Rattle.std.proofs.lemmas.Grind.{common_steps}
-use Rattle.dvg_cmd.proofs.Pieces.{fed_on, fed_more, fed_refused, finished}
+use Rattle.dvg_cmd.proofs.Pieces.{fed_on, fed_more, fed_refused}
 use Rattle.dvg_cmd.proofs.reading.read_certificate.Goals as goal
 
 pub returns-in-Err-clause-answer : goal.returns-in-Err-clause-answer

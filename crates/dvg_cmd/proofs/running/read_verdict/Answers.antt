@@ -1,4 +1,4 @@
-use Rattle.std.proofs.Common.{List, Option, Ok, Err, ℕ}
+use Rattle.std.proofs.Common.{Ok, Err}
 use Rattle.std.specs.Prelude.{IfOk}
 use Rattle.dvg_words.specs.Beam.{screen}
 use Rattle.dvg_words.specs.Memory.{words_of, rom_of}
