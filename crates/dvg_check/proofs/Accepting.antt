@@ -17,7 +17,7 @@ use Rattle.dvg_check.specs.Safety.{Safe}
 use Rattle.dvg_check.specs.Judged.{Shapes, IsJudged}
 use Rattle.dvg_check.specs.declared.fault.FrameFault.{FrameFault}
 use Rattle.dvg_check.specs.declared.frames.Accepted.{Accepted}
-use Rattle.dvg_check.specs.Verdict.{PartsVerdict, ListVerdict, Verdict, NotMemory}
+use Rattle.dvg_check.specs.Verdict.{RangeRefusal, PartsVerdict, ListVerdict, Verdict, NotMemory}
 use Rattle.dvg_check.specs.declared.fault.Mode.{Mode}
 use Rattle.dvg_check.specs.declared.fault.Mode.TheVariants.{Bound}
 use Rattle.dvg_check.specs.declared.verdict.Refusal.{Refusal}
@@ -36,6 +36,15 @@ safe_of_good w frame rom list budget words depth some is_frame is_rom good good_
 pub safe_over : (shapes : Shapes) (frame : List ℕ) (budget : ℕ) (answer : Result Accepted FrameFault) → IsJudged shapes → IsFrame frame → IfOk answer (λ yes. GoodFrame screen frame shapes.list budget yes.words yes.depth) → IfOk answer (λ yes. Safe (record { frame = frame; rom = shapes.rom }) screen yes.words yes.depth)
 safe_over shapes frame budget (Ok a) h is_frame good = safe_of_good screen frame shapes.rom shapes.list budget a.words a.depth h.list is_frame h.rom h.good good
 safe_over shapes frame budget (Err f) h is_frame good = tt
+
+-- what is out of range is refused, whatever the certificate
+pub out_of_range : (mode : Mode) (map : MemoryMap) (w : Window) (rom cert words : List ℕ) (budget : ℕ) (r : Refusal) → RangeRefusal map rom words budget r → Verdict mode map w rom cert words budget (Err r)
+out_of_range mode map w rom cert words budget (refusal.Image f) h = h
+out_of_range mode map w rom cert words budget refusal.BudgetRange h = h
+out_of_range mode map w rom cert words budget (refusal.Cert f) h = absurd h
+out_of_range mode map w rom cert words budget refusal.IndexMemory h = absurd h
+out_of_range mode map w rom cert words budget (refusal.Shape f) h = absurd h
+out_of_range mode map w rom cert words budget (refusal.Frame f) h = absurd h
 
 -- ---- one verdict
 

@@ -26,6 +26,15 @@ pub record InRange (map : MemoryMap) (rom frame : List ℕ) (budget : ℕ) : Typ
   pub frame_length : IsFrameLength (length frame)
   pub budget_range : IsBudget budget
 
+-- lengths or budget are not in range: the first that applies of 1, 2 and 49
+abbrev pub RangeRefusal : MemoryMap → List ℕ → List ℕ → ℕ → Refusal → Type 0
+RangeRefusal map rom words budget (refusal.Image RomLength) = IsRomLength map (length rom) → ⊥
+RangeRefusal map rom words budget (refusal.Image FrameLength) =
+    IsRomLength map (length rom) × (IsFrameLength (length words) → ⊥)
+RangeRefusal map rom words budget refusal.BudgetRange =
+    IsRomLength map (length rom) × IsFrameLength (length words) × (IsBudget budget → ⊥)
+RangeRefusal map rom words budget r = ⊥
+
 -- what the shapes of a list and a frame come to, or that there was no memory for the index
 abbrev pub PartsVerdict : Mode → Window → Rom → List Entry → List ℕ → ℕ → Result Yes Refusal → Type 0
 PartsVerdict mode w rom list words budget (Ok y) =
@@ -44,11 +53,8 @@ pub record ListVerdict
   pub parts : PartsVerdict mode w (rom_of map rom) list (words_of words) budget answer
 
 abbrev pub Verdict : Mode → MemoryMap → Window → List ℕ → List ℕ → List ℕ → ℕ → Result Yes Refusal → Type 0
-Verdict mode map w rom cert words budget (Err (refusal.Image RomLength)) = IsRomLength map (length rom) → ⊥
-Verdict mode map w rom cert words budget (Err (refusal.Image FrameLength)) =
-    IsRomLength map (length rom) × (IsFrameLength (length words) → ⊥)
-Verdict mode map w rom cert words budget (Err refusal.BudgetRange) =
-    IsRomLength map (length rom) × IsFrameLength (length words) × (IsBudget budget → ⊥)
+Verdict mode map w rom cert words budget (Err (refusal.Image f)) = RangeRefusal map rom words budget (refusal.Image f)
+Verdict mode map w rom cert words budget (Err refusal.BudgetRange) = RangeRefusal map rom words budget refusal.BudgetRange
 Verdict mode map w rom cert words budget (Err (refusal.Cert f)) =
     InRange map rom words budget × ReadAnswer map.rom_first map.rom_last cert (Err f)
 Verdict mode map w rom cert words budget answer = ListVerdict mode map w rom cert words budget answer

@@ -19,4 +19,4 @@ pub use fault::{FrameFault, FrameWhy, Mode, ShapeFault, ShapeWhy};
 pub use frames::{Accepted, check_frame};
 pub use judged::JudgedShapes;
 pub use shapes::check_shapes;
-pub use verdict::{Refusal, Yes, check};
+pub use verdict::{Images, Refusal, Yes, check, check_parts, images_of};

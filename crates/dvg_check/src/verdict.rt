@@ -1,11 +1,11 @@
 //! The verdict on bytes.
 
-ghost use Rattle.std.specs.Prelude.{◌≡◌, ◌≤◌, IfOk};
+ghost use Rattle.std.specs.Prelude.{◌≡◌, ◌≤◌, OnOk, IfOk, IfErr};
 ghost use Rattle.dvg_words.specs.Values.{asteroids};
-ghost use Rattle.dvg_words.specs.Memory.{words_of, rom_of, IsFrame, IsRom};
+ghost use Rattle.dvg_words.specs.Memory.{words_of, rom_of};
 ghost use Rattle.dvg_words.specs.Beam.{screen};
 ghost use Rattle.dvg_check.specs.Rules.{Bound};
-ghost use Rattle.dvg_check.specs.Verdict.{PartsVerdict, Verdict};
+ghost use Rattle.dvg_check.specs.Verdict.{InRange, RangeRefusal, PartsVerdict, Verdict};
 ghost use Rattle.dvg_check.specs.Numbers.{refusal_number};
 ghost use Rattle.dvg_check.specs.Safety.{Safe};
 ghost use Rattle.dvg_check.specs.declared.verdict.Refusal.TheVariants as refusals;
@@ -106,6 +106,31 @@ impl From<FrameFault> for Refusal {
     }
 }
 
+/// A vector ROM and a frame.
+#[derive(Drop)]
+pub struct Images<'a> {
+    pub rom: RomImage<'a>,
+    pub frame: FrameImage<'a>,
+}
+
+/// The images of a vector ROM and of a frame, where their lengths and the budget are in range: the verdict's first step.
+///
+/// `budget` is how many words the frame may take at most, 1 to 1,000,000. What is refused, by the first that applies of 1, 2
+/// and 49, is so whatever the certificate. Takes no memory.
+pub fn images_of<'a>(rom: &'a [u8], frame: &'a [u8], budget: u32) -> Result<Images<'a>, Refusal>
+    ensures range { OnOk result (InRange asteroids rom.now frame.now budget) }
+    ensures rom { IfOk result (λ images. images.rom ≡ rom_of asteroids rom.now) }
+    ensures frame { IfOk result (λ images. images.frame ≡ words_of frame.now) }
+    ensures refused { IfErr result (RangeRefusal asteroids rom.now frame.now budget) }
+{
+    let rom = RomImage::from_bytes(rom)?;
+    let frame = FrameImage::from_bytes(frame)?;
+    if !(1..=MOST_WORDS).contains(&budget) {
+        return Err(Refusal::BudgetRange);
+    }
+    Ok(Images { rom, frame })
+}
+
 /// Judges a frame over a vector ROM and its certificate: a yes means that every run of the generator from the frame's
 /// first word is safe.
 ///
@@ -128,26 +153,24 @@ pub fn check(
     ensures verdict { Verdict Bound asteroids screen rom.now cert.now frame.now budget result }
     ensures safe { IfOk result (λ yes. Safe (record { frame = words_of frame.now; rom = rom_of asteroids rom.now }) screen yes.words yes.depth) }
 {
-    let rom = RomImage::from_bytes(rom)?;
-    let frame = FrameImage::from_bytes(frame)?;
-    if !(1..=MOST_WORDS).contains(&budget) {
-        return Err(Refusal::BudgetRange);
-    }
+    let images = images_of(rom, frame, budget)?;
     let cert = read_cert(alloc, cert)?;
-    judge(alloc, &rom, &frame, &cert, budget)
+    check_parts(alloc, &images.rom, &images.frame, &cert, budget)
 }
 
-/// Judges the shapes of a certificate, and a frame by them.
-fn judge(
+/// Judges a frame over a vector ROM and the entries of its certificate, as [`check`] does from the shapes on.
+///
+/// `budget` is how many words the frame may take at most, up to 1,000,000. The answer is exact: the first that applies of 50,
+/// the first fault of the shapes (20 to 31), the frame's first fault (40 to 48), and the yes, and what is accepted is safe in
+/// just the sense of `check`. Takes memory for the index of the entries alone; 50 comes only where there was none.
+pub fn check_parts(
     alloc: Global,
     rom: &RomImage,
     frame: &FrameImage,
     cert: &Cert,
     budget: u32,
 ) -> Result<Yes, Refusal>
-    requires rom { IsRom rom.now }
-    requires frame { IsFrame frame.now }
-    requires budget { budget ≤ MOST_WORDS }
+    requires { budget ≤ MOST_WORDS }
     ensures verdict { PartsVerdict Bound screen rom.now cert.now frame.now budget result }
     ensures safe { IfOk result (λ yes. Safe (record { frame = frame.now; rom = rom.now }) screen yes.words yes.depth) }
 {

@@ -1,21 +1,22 @@
 -- The verdict on the first bytes of inputs is the verdict on all of them.
 use Rattle.std.proofs.Common.{append-nil, List, length, Option, None, Some, refl, arith, ap, subst, sym, ◌≡◌, ◌+◌, ◌≤◌, ◌++◌, ◌∙◌, ℕ, []}
-use Rattle.std.specs.Prelude.{IfSome, Result, Err, Ok}
+use Rattle.std.specs.Prelude.{IfSome, Result, Err}
 use Rattle.dvg_words.specs.Memory.{IsRomLength, IsFrameLength, words_of, rom_of}
 use Rattle.dvg_words.specs.Values.{Window, asteroids}
 use Rattle.dvg_words.specs.declared.image.ImageFault.TheVariants.{RomLength, FrameLength}
-use Rattle.dvg_cert.specs.Grammar.{Spells, text_of}
-use Rattle.dvg_cert.specs.Laws.{ShortText, PrefixRefusal}
-use Rattle.dvg_cert.specs.Reading.{MayStand, Whole, IsRefusal}
+use Rattle.dvg_cert.specs.Laws.{PrefixRefusal}
+use Rattle.dvg_cert.specs.Reading.{IsRefusal, ReadAnswer}
 use Rattle.dvg_cert.specs.declared.entry.Entry.{Entry}
+use Rattle.dvg_cert.specs.declared.fault.CertFault.{CertFault}
 use Rattle.dvg_cert.specs.declared.fault.CertWhy.{CertWhy}
 use Rattle.dvg_cert.specs.declared.fault.CertWhy.TheVariants.{Form, Order, Count, Unended, After, TooLong, Memory}
-use Rattle.dvg_check.specs.Verdict.{InRange, PartsVerdict, ListVerdict, Verdict}
+use Rattle.dvg_check.specs.Verdict.{InRange, RangeRefusal, PartsVerdict}
 use Rattle.dvg_check.specs.declared.fault.Mode.TheVariants.{Bound}
 use Rattle.dvg_check.specs.declared.verdict.Refusal.{Refusal}
 use Rattle.dvg_check.specs.declared.verdict.Refusal.TheVariants as refusal
 use Rattle.dvg_check.specs.declared.verdict.Yes.{Yes}
 use Rattle.dvg_cmd.specs.Private.Reading.{IsPrefix}
+use Rattle.dvg_cmd.specs.Runs.{NeedsEnd, ReadsText}
 use Rattle.dvg_cmd.proofs.Limits.{limited-short, limited-long, rest_of, limited-parts}
 
 -- what was read of an input: a prefix, which is all of it where it or the input stays below the limit
@@ -44,7 +45,7 @@ prefix_of_held n (Some held) prefix read =
       long = λ lt. read.first ∙ limited-long n held lt;
     }
 
-module _ (short_text : ShortText) (prefix_refusal : PrefixRefusal) (n m : ℕ) (n_past : 2049 ≤ n) (m_past : 819601 ≤ m) (w : Window) (budget : ℕ) (rb cb fb r c f : List ℕ) (rom : PrefixOf n rb r) (cert : PrefixOf m cb c) (frame_is : PrefixOf n fb f) where
+module _ (n : ℕ) (n_past : 2049 ≤ n) (budget : ℕ) (rb fb r f : List ℕ) (rom : PrefixOf n rb r) (frame_is : PrefixOf n fb f) where
   rom_same : IsRomLength asteroids (length rb) → rb ≡ r
   rom_same h = rom.short (omega (arith, h, n_past))
 
@@ -63,44 +64,46 @@ module _ (short_text : ShortText) (prefix_refusal : PrefixRefusal) (n m : ℕ) (
   frame_on : IsFrameLength (length fb) → IsFrameLength (length f)
   frame_on h = subst (λ (x : List ℕ). IsFrameLength (length x)) (frame_same h) h
 
-  in_range : InRange asteroids rb fb budget → InRange asteroids r f budget
+  pub in_range : InRange asteroids rb fb budget → InRange asteroids r f budget
   in_range h = record { rom_length = rom_on h.rom_length; frame_length = frame_on h.frame_length; budget_range = h.budget_range }
 
-  -- a text whose whole lines were all taken was read whole
-  cert_same : MayStand asteroids.rom_first asteroids.rom_last cb → cb ≡ c
-  cert_same h = cert.short (let few = short_text asteroids.rom_first asteroids.rom_last cb (omega arith) h in omega (arith, few, m_past))
+  pub range_whole : (refused : Refusal) → RangeRefusal asteroids rb fb budget refused → RangeRefusal asteroids r f budget refused
+  range_whole (refusal.Image RomLength) h = λ k. h (rom_back k)
+  range_whole (refusal.Image FrameLength) h = (rom_on h.0, λ k. h.1 (frame_back k))
+  range_whole refusal.BudgetRange h = (rom_on h.0, frame_on h.1, h.2)
+  range_whole (refusal.Cert g) h = absurd h
+  range_whole refusal.IndexMemory h = absurd h
+  range_whole (refusal.Shape g) h = absurd h
+  range_whole (refusal.Frame g) h = absurd h
 
-  spelled_same : (list : List Entry) → Spells asteroids.rom_first asteroids.rom_last list cb → cb ≡ c
-  spelled_same list h = cert_same (Whole asteroids.rom_first asteroids.rom_last list, [], record { parts = h.1 ∙ sym (append-nil (text_of list)); lines = (refl, refl, h.0); begun = refl })
+  pub parts_whole : (w : Window) (list : List Entry) (v : Result Yes Refusal) → InRange asteroids rb fb budget → PartsVerdict Bound w (rom_of asteroids rb) list (words_of fb) budget v → PartsVerdict Bound w (rom_of asteroids r) list (words_of f) budget v
+  parts_whole w list v range h =
+      subst (λ (x : List ℕ). PartsVerdict Bound w (rom_of asteroids x) list (words_of f) budget v) (rom_same range.rom_length) (subst (λ (x : List ℕ). PartsVerdict Bound w (rom_of asteroids rb) list (words_of x) budget v) (frame_same range.frame_length) h)
 
+-- ---- what was read of a text
+
+-- what follows what was read of it
+pub record TextOf (prefix held : List ℕ) (answer : Result (List Entry) CertFault) : Type 0 where
+  pub rest : List ℕ
+  pub parts : held ≡ prefix ++ rest
+  pub whole : NeedsEnd answer → prefix ≡ held
+
+pub text_of_held : (old new : Option (List ℕ)) (answer : Result (List Entry) CertFault) (text : ReadsText old new answer) → TextOf text.bytes (held_bytes old text.bytes) answer
+text_of_held None new answer text = record { rest = []; parts = sym (append-nil text.bytes); whole = λ e. refl }
+text_of_held (Some held) None answer text = absurd text.read
+text_of_held (Some held) (Some left) answer text =
+    record { rest = left; parts = text.read; whole = λ e. sym (text.read ∙ ap (λ (x : List ℕ). text.bytes ++ x) (text.end e) ∙ append-nil text.bytes) }
+
+module _ (prefix_refusal : PrefixRefusal) (cb c : List ℕ) where
   -- what refuses the prefix, its end aside, refuses all
-  goes_on : (line : ℕ) (why : CertWhy) → IsRefusal asteroids.rom_first asteroids.rom_last cb line why → (why ≡ Unended → ⊥) → IsRefusal asteroids.rom_first asteroids.rom_last c line why
-  goes_on line why h other = subst (λ (x : List ℕ). IsRefusal asteroids.rom_first asteroids.rom_last x line why) (sym cert.parts) (prefix_refusal asteroids.rom_first asteroids.rom_last cb cert.rest (record { line = line; why = why }) h other)
+  goes_on : (g : CertFault) → TextOf cb c (Err g) → ReadAnswer asteroids.rom_first asteroids.rom_last cb (Err g) → (g.why ≡ Unended → ⊥) → ReadAnswer asteroids.rom_first asteroids.rom_last c (Err g)
+  goes_on g text h other = subst (λ (x : List ℕ). ReadAnswer asteroids.rom_first asteroids.rom_last x (Err g)) (sym text.parts) (prefix_refusal asteroids.rom_first asteroids.rom_last cb text.rest g h other)
 
-  refused_whole : (line : ℕ) (why : CertWhy) → IsRefusal asteroids.rom_first asteroids.rom_last cb line why → IsRefusal asteroids.rom_first asteroids.rom_last c line why
-  refused_whole line Unended h = subst (λ (x : List ℕ). IsRefusal asteroids.rom_first asteroids.rom_last x line Unended) (cert_same (h.0, h.1, h.2)) h
-  refused_whole line Form h = goes_on line Form h (λ e. cc)
-  refused_whole line Order h = goes_on line Order h (λ e. cc)
-  refused_whole line Count h = goes_on line Count h (λ e. cc)
-  refused_whole line After h = goes_on line After h (λ e. cc)
-  refused_whole line TooLong h = goes_on line TooLong h (λ e. cc)
-  refused_whole line Memory h = goes_on line Memory h (λ e. cc)
-
-  list_whole : (v : Result Yes Refusal) → ListVerdict Bound asteroids w rb cb fb budget v → ListVerdict Bound asteroids w r c f budget v
-  list_whole v h =
-      record {
-        in_range = in_range h.in_range;
-        list = h.list;
-        spells = subst (λ (x : List ℕ). Spells asteroids.rom_first asteroids.rom_last h.list x) (spelled_same h.list h.spells) h.spells;
-        parts = subst (λ (x : List ℕ). PartsVerdict Bound w (rom_of asteroids x) h.list (words_of f) budget v) (rom_same h.in_range.rom_length) (subst (λ (x : List ℕ). PartsVerdict Bound w (rom_of asteroids rb) h.list (words_of x) budget v) (frame_same h.in_range.frame_length) h.parts);
-      }
-
-  pub verdict_whole : (v : Result Yes Refusal) → Verdict Bound asteroids w rb cb fb budget v → Verdict Bound asteroids w r c f budget v
-  verdict_whole (Err (refusal.Image RomLength)) h = λ k. h (rom_back k)
-  verdict_whole (Err (refusal.Image FrameLength)) h = (rom_on h.0, λ k. h.1 (frame_back k))
-  verdict_whole (Err refusal.BudgetRange) h = (rom_on h.0, frame_on h.1, h.2)
-  verdict_whole (Err (refusal.Cert g)) h = (in_range h.0, refused_whole g.line g.why h.1)
-  verdict_whole (Err refusal.IndexMemory) h = list_whole (Err refusal.IndexMemory) h
-  verdict_whole (Err (refusal.Shape g)) h = list_whole (Err (refusal.Shape g)) h
-  verdict_whole (Err (refusal.Frame g)) h = list_whole (Err (refusal.Frame g)) h
-  verdict_whole (Ok y) h = list_whole (Ok y) h
+  pub refused_whole : (line : ℕ) (why : CertWhy) → TextOf cb c (Err (record { line = line; why = why })) → IsRefusal asteroids.rom_first asteroids.rom_last cb line why → IsRefusal asteroids.rom_first asteroids.rom_last c line why
+  refused_whole line Unended text h = subst (λ (x : List ℕ). IsRefusal asteroids.rom_first asteroids.rom_last x line Unended) (text.whole refl) h
+  refused_whole line Form text h = goes_on (record { line = line; why = Form }) text h (λ e. cc)
+  refused_whole line Order text h = goes_on (record { line = line; why = Order }) text h (λ e. cc)
+  refused_whole line Count text h = goes_on (record { line = line; why = Count }) text h (λ e. cc)
+  refused_whole line After text h = goes_on (record { line = line; why = After }) text h (λ e. cc)
+  refused_whole line TooLong text h = goes_on (record { line = line; why = TooLong }) text h (λ e. cc)
+  refused_whole line Memory text h = goes_on (record { line = line; why = Memory }) text h (λ e. cc)

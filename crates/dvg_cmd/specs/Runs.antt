@@ -1,12 +1,15 @@
 -- What a run says of the bytes that its readers held, and what it writes. All of it is profile.
-use Rattle.std.specs.Prelude.{◌≡◌, ℕ, Bool, true, false, List, Option, IfSome, Result, Ok, Err}
-use Rattle.std.specs.Io.KnownBytes.{Appends}
+use Rattle.std.specs.Prelude.{◌≡◌, ◌<◌, ◌≤◌, ℕ, Bool, true, false, List, length, Option, IfSome, Result, Ok, Err}
+use Rattle.std.specs.Io.KnownBytes.{Appends, Consumes, IsAtEnd}
 use Rattle.dvg_words.specs.Values.{asteroids}
 use Rattle.dvg_words.specs.Beam.{screen}
 use Rattle.dvg_words.specs.Memory.{words_of, rom_of}
 use Rattle.dvg_cert.specs.Devices.{AppendsPrefix}
 use Rattle.dvg_cert.specs.declared.fault.CertWhy.{CertWhy}
-use Rattle.dvg_cert.specs.declared.fault.CertWhy.TheVariants.{Memory}
+use Rattle.dvg_cert.specs.declared.fault.CertWhy.TheVariants.{Unended, Memory}
+use Rattle.dvg_cert.specs.declared.fault.CertFault.{CertFault}
+use Rattle.dvg_cert.specs.declared.entry.Entry.{Entry}
+use Rattle.dvg_cert.specs.Reading.{ReadAnswer}
 use Rattle.dvg_check.specs.declared.verdict.Yes.{Yes}
 use Rattle.dvg_check.specs.declared.verdict.Refusal.{Refusal}
 use Rattle.dvg_check.specs.declared.verdict.Refusal.TheVariants as refusal
@@ -37,6 +40,40 @@ abbrev pub blames_writer : {A : Type 0} → Result A RunFault → Bool
 blames_writer (Err fault.Write) = true
 blames_writer answer = false
 
+-- ---- how far inputs are read
+
+-- how many bytes are read at most: one past the limit of a ROM and of a frame, and one past that of a certificate
+abbrev pub MOST_IMAGE_READ : ℕ
+MOST_IMAGE_READ = 2049
+
+abbrev pub MOST_TEXT_READ : ℕ
+MOST_TEXT_READ = 1048577
+
+-- a reader was read to its end, or so many bytes of it, and no further
+pub record IsReadTo (most : ℕ) (old new : Option (List ℕ)) : Type 0 where
+  pub bytes : List ℕ
+  pub read : Consumes old new bytes
+  pub few : length bytes ≤ most
+  pub end : length bytes < most → IsAtEnd new
+
+-- the answer to a text can't be known before its end
+abbrev pub NeedsEnd : Result (List Entry) CertFault → Type 0
+NeedsEnd (Ok entries) = Unit {0}
+NeedsEnd (Err f) = f.why ≡ Unended
+
+-- what was read of a text has this answer, and was all of it where the answer needs the end
+pub record ReadsText (old new : Option (List ℕ)) (answer : Result (List Entry) CertFault) : Type 0 where
+  pub bytes : List ℕ
+  pub read : Consumes old new bytes
+  pub few : length bytes ≤ MOST_TEXT_READ
+  pub is : ReadAnswer asteroids.rom_first asteroids.rom_last bytes answer
+  pub end : NeedsEnd answer → IsAtEnd new
+
+-- the certificate was read to its end or to one byte past its limit, or so far that its own refusal was known
+abbrev pub IsReadFor : Result Yes Refusal → Option (List ℕ) → Option (List ℕ) → Type 0
+IsReadFor (Err (refusal.Cert f)) old new = ReadsText old new (Err f)
+IsReadFor verdict old new = IsReadTo MOST_TEXT_READ old new
+
 -- ---- what is written
 
 -- the outcome of a refused certificate
@@ -61,10 +98,12 @@ pub record Judges (rom cert frame : Option (List ℕ)) (budget : ℕ) (verdict :
   pub frame_held : IfSome frame (λ held. frame_bytes ≡ held)
   pub is : Verdict Bound asteroids screen rom_bytes cert_bytes frame_bytes budget verdict
 
--- the report of this verdict was written, and nothing else
-pub record Reports (rom cert frame : Option (List ℕ)) (budget : ℕ) (old new : Option (List ℕ)) (outcome : Outcome) : Type 0 where
+-- the report of this verdict was written, and nothing else; `left` is what the certificate's reader still holds
+pub record Reports
+    (rom cert left frame : Option (List ℕ)) (budget : ℕ) (old new : Option (List ℕ)) (outcome : Outcome) : Type 0 where
   pub verdict : Result Yes Refusal
   pub judges : Judges rom cert frame budget verdict
+  pub read : IsReadFor verdict cert left
   pub written : Appends old new (report_text verdict)
   pub outcome_is : outcome ≡ outcome_of verdict
 

@@ -1,12 +1,14 @@
 //! Reading inputs to their limits.
 
-ghost use Rattle.std.specs.Prelude.{◌≡◌, ◌≤◌, ◌<◌, length, take, IfOk, IfSome, is_err};
+ghost use Rattle.std.specs.Prelude.{◌≡◌, ◌≤◌, ◌<◌, length, take, IfOk, OnOk, IfSome, is_err};
 ghost use Rattle.std.specs.Io.KnownBytes.{Consumes, IsAtEnd};
 ghost use Rattle.dvg_cert.specs.Devices.{count_after};
-ghost use Rattle.dvg_cmd.specs.Private.Reading.{IsPrefix, is_failed_read};
+ghost use Rattle.dvg_cmd.specs.Runs.{MOST_IMAGE_READ, IsReadTo, ReadsText};
+ghost use Rattle.dvg_cmd.specs.Private.Reading.{IsPrefix};
 
 use arrayvec::ArrayVec;
-use dvg_cert::CountedRead;
+use dvg_cert::laws::short_text;
+use dvg_cert::{Cert, CertFault, CertReader, CountedRead};
 use std::alloc::Global;
 use std::io;
 
@@ -32,6 +34,7 @@ fn fill<R: CountedRead>(reader: &mut R, buf: &mut [u8]) -> io::Result<usize>
 fn read_prefix<R: CountedRead>(reader: &mut R, buf: &mut [u8]) -> io::Result<usize>
     ensures within { IfOk result (λ n. n ≤ length buf.new) }
     ensures prefix { IfOk result (λ n. IfSome (R.remaining reader.old) (λ held. take n buf.new ≡ take (length buf.old) held)) }
+    ensures read { OnOk result (IsReadTo (length buf.old) (R.remaining reader.old) (R.remaining reader.new)) }
     ensures count { R.failures reader.new ≡ count_after (is_err result) (R.failures reader.old) }
 {
     fill(reader, buf)
@@ -43,7 +46,8 @@ pub type ImageBytes = ArrayVec<u8, 2049>;
 /// The bytes of a ROM or of a frame, up to one past the limit. Takes no memory.
 #[tactic(auto, unfolding(crate::specs::Private::Reading::limited))]
 pub fn read_image<R: CountedRead>(reader: &mut R) -> io::Result<ImageBytes>
-    ensures bytes { IfOk result (λ image. IsPrefix 2049 (R.remaining reader.old) image.items) }
+    ensures bytes { IfOk result (λ image. IsPrefix MOST_IMAGE_READ (R.remaining reader.old) image.items) }
+    ensures read { OnOk result (IsReadTo MOST_IMAGE_READ (R.remaining reader.old) (R.remaining reader.new)) }
     ensures count { R.failures reader.new ≡ count_after (is_err result) (R.failures reader.old) }
 {
     let mut bytes = [0; 2049];
@@ -53,29 +57,43 @@ pub fn read_image<R: CountedRead>(reader: &mut R) -> io::Result<ImageBytes>
     Ok(image)
 }
 
-/// Why a text was not read.
-#[derive(Clone, Copy, Debug, PartialEq, Eq)]
-pub enum TextFault {
-    Read,
-    Memory,
+/// How many bytes of a certificate are read at once. A piece that is not full is the last.
+const PIECE: usize = 4096;
+
+/// Reads to the end, or so many bytes, and keeps none of them.
+pub fn skip<R: CountedRead>(reader: &mut R, most: usize) -> io::Result<()>
+    ensures read { OnOk result (IsReadTo most (R.remaining reader.old) (R.remaining reader.new)) }
+    ensures count { R.failures reader.new ≡ count_after (is_err result) (R.failures reader.old) }
+{
+    let mut piece = [0; PIECE];
+    let mut left = most;
+    'skipping: while left > 0 {
+        let room = left.min(PIECE);
+        let len = fill(reader, &mut piece[..room])?;
+        left = if len == room { left - room } else { 0 };
+    }
+    Ok(())
 }
 
-/// The bytes of a text, up to so many.
-#[tactic(auto, unfolding(crate::specs::Private::Reading::limited))]
-pub fn read_text<R: CountedRead>(
+/// The answer to the certificate that a reader holds. It is read piece by piece, up to its end or its refusal.
+pub fn read_certificate<R: CountedRead>(
     alloc: Global,
-    reader: &mut R,
-    most: usize,
-) -> Result<Vec<u8>, TextFault>
-    ensures bytes { IfOk result (λ text. IsPrefix most (R.remaining reader.old) text.items) }
-    ensures count { R.failures reader.new ≡ count_after (is_failed_read result) (R.failures reader.old) }
+    source: &mut R,
+) -> io::Result<Result<Cert, CertFault>>
+    ensures answer { IfOk result (ReadsText (R.remaining source.old) (R.remaining source.new)) }
+    ensures count { R.failures source.new ≡ count_after (is_err result) (R.failures source.old) }
 {
-    let Ok(mut bytes) = vec![in alloc; 0u8; most] else {
-        return Err(TextFault::Memory);
-    };
-    let Ok(len) = read_prefix(reader, &mut bytes) else {
-        return Err(TextFault::Read);
-    };
-    bytes.truncate(len);
-    Ok(bytes)
+    // The law by which a text that may still be taken is short, so that there are few pieces.
+    short_text();
+    let mut reader = CertReader::new(alloc);
+    let mut piece = [0; PIECE];
+    let mut len = PIECE;
+    'feeding: while len == PIECE {
+        len = fill(source, &mut piece)?;
+        match reader.feed(&piece[..len]) {
+            Ok(()) => {}
+            Err(fault) => return Ok(Err(fault)),
+        }
+    }
+    Ok(reader.finish())
 }

@@ -1,19 +1,22 @@
 //! Running a check over readers and a writer.
 
-ghost use Rattle.std.specs.Prelude.{◌≡◌, ◌≢◌, ℕ, false, List, [], Option, Ok, Err, IfOk, IfErr, OnErr, is_err};
+ghost use Rattle.std.specs.Prelude.{◌≡◌, ◌≢◌, ℕ, List, Option, Ok, Err, IfOk, IfErr, OnOk, OnErr, is_err};
 ghost use Rattle.std.specs.Io.KnownBytes.{Appends};
-ghost use Rattle.dvg_cert.specs.Devices.{count_after};
+ghost use Rattle.dvg_cert.specs.Devices.{AppendsPrefix, count_after};
+ghost use Rattle.dvg_cmd.specs.Report.{report_text};
 ghost use Rattle.dvg_cmd.specs.Numbers.{run_number};
-ghost use Rattle.dvg_cmd.specs.Runs.{outcome_of, blames_rom, blames_frame, blames_certificate, blames_writer, Judges, SafeOver, Reports, ReportsPrefix, ReportsSafe};
+ghost use Rattle.dvg_cmd.specs.Runs.{outcome_of, blames_rom, blames_frame, blames_certificate, blames_writer};
+ghost use Rattle.dvg_cmd.specs.Runs.{MOST_IMAGE_READ, IsReadTo, IsReadFor, Judges, SafeOver, Reports, ReportsPrefix, ReportsSafe};
 ghost use Rattle.dvg_cmd.specs.Private.Reading.{IsPrefix};
 
-use crate::reading::{ImageBytes, TextFault, read_image, read_text};
+use crate::reading::{read_certificate, read_image, skip};
 use crate::report::report_of;
 use crate::status::text_of;
-use dvg_cert::laws::{prefix_refusal, short_text};
+use dvg_cert::laws::prefix_refusal;
 use dvg_cert::{CertWhy, CountedRead, CountedWrite, write_bytes};
-use dvg_check::{Refusal, Yes, check};
+use dvg_check::{Refusal, Yes, check_parts, images_of};
 use std::alloc::Global;
+use std::io;
 use thiserror::Error;
 
 /// What was reported.
@@ -27,7 +30,7 @@ pub enum Outcome {
     NoMemory,
 }
 
-/// Why a run ended before its report was written. The numbers are 70 to 74, in this order.
+/// Why a run ended before its report was written, or never began. The numbers are 70 to 74, in this order.
 #[derive(Clone, Copy, Debug, PartialEq, Eq, Error)]
 #[error("{}", text_of(self))]
 pub enum RunFault {
@@ -39,7 +42,7 @@ pub enum RunFault {
     ReadCert,
     /// 73: the writer failed, or took no byte.
     Write,
-    /// 74: there was no room for the certificate's bytes.
+    /// 74: out of memory before the run. `run_check` never answers it: its own refusals for want of memory are outcomes.
     Memory,
 }
 
@@ -73,60 +76,37 @@ fn outcome_of(verdict: &Result<Yes, Refusal>) -> Outcome
     }
 }
 
-/// What was read of a ROM, of a frame and of a certificate, each up to one byte past its limit.
-#[derive(Drop)]
-struct Inputs {
-    rom: ImageBytes,
-    frame: ImageBytes,
-    cert: Vec<u8>,
-}
-
-/// Reads a ROM, a frame and a certificate, in this order, up to their limits.
-fn read_inputs<R1: CountedRead, R2: CountedRead, R3: CountedRead>(
+/// The verdict on the bytes of a ROM and of a frame and on the certificate that a reader holds. Where the ROM, the frame or the
+/// budget is refused, the certificate is read all the same, and kept nowhere.
+fn read_verdict<R: CountedRead>(
     alloc: Global,
-    rom: &mut R1,
-    cert: &mut R2,
-    frame: &mut R3,
-) -> Result<Inputs, RunFault>
-    ensures rom { IfOk result (λ inputs. IsPrefix 2049 (R1.remaining rom.old) inputs.rom.items) }
-    ensures cert { IfOk result (λ inputs. IsPrefix PAST_CERTIFICATE_LIMIT (R2.remaining cert.old) inputs.cert.items) }
-    ensures frame { IfOk result (λ inputs. IsPrefix 2049 (R3.remaining frame.old) inputs.frame.items) }
-    ensures rom_count { R1.failures rom.new ≡ count_after (blames_rom result) (R1.failures rom.old) }
-    ensures cert_count { R2.failures cert.new ≡ count_after (blames_certificate result) (R2.failures cert.old) }
-    ensures frame_count { R3.failures frame.new ≡ count_after (blames_frame result) (R3.failures frame.old) }
-    ensures fault { blames_writer result ≡ false }
+    rom: &[u8],
+    cert: &mut R,
+    frame: &[u8],
+    budget: u32,
+) -> io::Result<Result<Yes, Refusal>>
+    ensures verdict { (rom_held frame_held : Option (List ℕ)) → IsPrefix MOST_IMAGE_READ rom_held rom.now
+        → IsPrefix MOST_IMAGE_READ frame_held frame.now
+        → IfOk result (Judges rom_held (R.remaining cert.old) frame_held budget) }
+    ensures safe { (rom_held frame_held : Option (List ℕ)) → IsPrefix MOST_IMAGE_READ rom_held rom.now
+        → IsPrefix MOST_IMAGE_READ frame_held frame.now
+        → IfOk result (λ verdict. IfOk verdict (SafeOver rom_held frame_held)) }
+    ensures read { IfOk result (λ verdict. IsReadFor verdict (R.remaining cert.old) (R.remaining cert.new)) }
+    ensures count { R.failures cert.new ≡ count_after (is_err result) (R.failures cert.old) }
 {
-    let Ok(rom) = read_image(rom) else {
-        return Err(RunFault::ReadRom);
-    };
-    let Ok(frame) = read_image(frame) else {
-        return Err(RunFault::ReadFrame);
-    };
-    match read_text(alloc, cert, PAST_CERTIFICATE_LIMIT) {
-        Ok(cert) => Ok(Inputs { rom, frame, cert }),
-        Err(TextFault::Read) => Err(RunFault::ReadCert),
-        Err(TextFault::Memory) => Err(RunFault::Memory),
-    }
-}
-
-/// The verdict on what was read, which is the one on all that the readers held.
-fn verdict_on(alloc: Global, inputs: &Inputs, budget: u32) -> Result<Yes, Refusal>
-    ensures verdict { (rom cert frame : Option (List ℕ)) → IsPrefix 2049 rom inputs.now.rom.items
-        → IsPrefix PAST_CERTIFICATE_LIMIT cert inputs.now.cert.items → IsPrefix 2049 frame inputs.now.frame.items
-        → Judges rom cert frame budget result }
-    ensures safe { (rom frame : Option (List ℕ)) → IsPrefix 2049 rom inputs.now.rom.items
-        → IsPrefix 2049 frame inputs.now.frame.items → IfOk result (SafeOver rom frame) }
-{
-    // The laws by which what is read to the limits decides the verdict on all bytes.
-    short_text();
+    // The law by which the refusal of what was read is that of the whole text.
     prefix_refusal();
-    check(
-        alloc,
-        inputs.rom.as_slice(),
-        &inputs.cert,
-        inputs.frame.as_slice(),
-        budget,
-    )
+    let images = match images_of(rom, frame, budget) {
+        Ok(images) => images,
+        Err(refusal) => {
+            skip(cert, PAST_CERTIFICATE_LIMIT)?;
+            return Ok(Err(refusal));
+        }
+    };
+    match read_certificate(alloc, cert)? {
+        Ok(list) => Ok(check_parts(alloc, &images.rom, &images.frame, &list, budget)),
+        Err(fault) => Ok(Err(Refusal::Cert(fault))),
+    }
 }
 
 /// Writes the report of a verdict.
@@ -134,10 +114,9 @@ fn write_report<W: CountedWrite>(
     verdict: &Result<Yes, Refusal>,
     out: &mut W,
 ) -> Result<Outcome, RunFault>
-    ensures report { (rom cert frame : Option (List ℕ)) (budget : ℕ) → Judges rom cert frame budget verdict.now
-        → IfOk result (Reports rom cert frame budget (W.contents out.old) (W.contents out.new)) }
-    ensures prefix { (rom cert frame : Option (List ℕ)) (budget : ℕ) → Judges rom cert frame budget verdict.now
-        → result ≡ Err RunFault.Write → ReportsPrefix rom cert frame budget (W.contents out.old) (W.contents out.new) }
+    ensures ok { IfOk result (λ outcome. outcome ≡ outcome_of verdict.now) }
+    ensures written { OnOk result (Appends (W.contents out.old) (W.contents out.new) (report_text verdict.now)) }
+    ensures prefix { OnErr result (AppendsPrefix (W.contents out.old) (W.contents out.new) (report_text verdict.now)) }
     ensures safe { (rom frame : Option (List ℕ)) → IfOk verdict.now (SafeOver rom frame) → result ≡ Ok Outcome.Accepted
         → ReportsSafe rom frame (W.contents out.old) (W.contents out.new) }
     ensures fault { IfErr result (λ fault. fault ≡ RunFault.Write) }
@@ -153,8 +132,9 @@ fn write_report<W: CountedWrite>(
 /// Reads a ROM, a frame and a certificate, in this order, and writes the report of the verdict on them.
 ///
 /// Each input is read to its end, or to one byte past its limit: 2048 bytes for a ROM and a frame, 1,048,576 for a
-/// certificate. The first failed read or write ends the run, and nothing is tried again. On 70, 71, 72 and 74 nothing
-/// was written, on 73 a prefix of the report.
+/// certificate; the certificate only until its own refusal is known. It is read piece by piece, and its entries alone are
+/// kept. The first failed read or write ends the run, and nothing is tried again. On 70, 71 and 72 nothing was written, on 73
+/// a prefix of the report. 74 never comes.
 pub fn run_check<R1: CountedRead, R2: CountedRead, R3: CountedRead, W: CountedWrite>(
     alloc: Global,
     rom: &mut R1,
@@ -168,19 +148,35 @@ pub fn run_check<R1: CountedRead, R2: CountedRead, R3: CountedRead, W: CountedWr
     ensures cert_count { R2.failures cert.new ≡ count_after (blames_certificate result) (R2.failures cert.old) }
     ensures frame_count { R3.failures frame.new ≡ count_after (blames_frame result) (R3.failures frame.old) }
     ensures out_count { W.failures out.new ≡ count_after (blames_writer result) (W.failures out.old) }
+    ensures no_memory { result ≢ Err RunFault.Memory }
 
-    // What is written is the report of the verdict on all bytes that the readers held, or a prefix of it, or nothing.
-    ensures report { IfOk result (Reports (R1.remaining rom.old) (R2.remaining cert.old) (R3.remaining frame.old) budget
-        (W.contents out.old) (W.contents out.new)) }
+    // With an outcome the ROM and the frame were read to their end or to one byte past their limit, whatever was known by
+    // then. After a failed read no other device is touched.
+    ensures rom_read { OnOk result (IsReadTo MOST_IMAGE_READ (R1.remaining rom.old) (R1.remaining rom.new)) }
+    ensures frame_read { OnOk result (IsReadTo MOST_IMAGE_READ (R3.remaining frame.old) (R3.remaining frame.new)) }
+    ensures frame_unread { result ≡ Err RunFault.ReadRom → frame.new ≡ frame.old }
+    ensures cert_unread { IfErr result (λ fault. fault ≢ RunFault.ReadCert → fault ≢ RunFault.Write → cert.new ≡ cert.old) }
+    ensures nothing { IfErr result (λ fault. fault ≢ RunFault.Write → out.new ≡ out.old) }
+
+    // What is written is the report of the verdict on all bytes that the readers held, or a prefix of it. The certificate was
+    // read as far as the ROM, or so far that its own refusal was known.
+    ensures report { IfOk result (Reports (R1.remaining rom.old) (R2.remaining cert.old) (R2.remaining cert.new)
+        (R3.remaining frame.old) budget (W.contents out.old) (W.contents out.new)) }
     ensures prefix { result ≡ Err RunFault.Write → ReportsPrefix (R1.remaining rom.old) (R2.remaining cert.old)
         (R3.remaining frame.old) budget (W.contents out.old) (W.contents out.new) }
-    ensures nothing { IfErr result (λ fault. fault ≢ RunFault.Write → Appends (W.contents out.old) (W.contents out.new) []) }
 
     // What is accepted is safe, with the counts of the line that was written.
     ensures safe { result ≡ Ok Outcome.Accepted → ReportsSafe (R1.remaining rom.old) (R3.remaining frame.old)
         (W.contents out.old) (W.contents out.new) }
 {
-    let inputs = read_inputs(alloc, rom, cert, frame)?;
-    let verdict = verdict_on(alloc, &inputs, budget);
+    let Ok(rom) = read_image(rom) else {
+        return Err(RunFault::ReadRom);
+    };
+    let Ok(frame) = read_image(frame) else {
+        return Err(RunFault::ReadFrame);
+    };
+    let Ok(verdict) = read_verdict(alloc, rom.as_slice(), cert, frame.as_slice(), budget) else {
+        return Err(RunFault::ReadCert);
+    };
     write_report(&verdict, out)
 }

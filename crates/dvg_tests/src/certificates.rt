@@ -208,11 +208,11 @@ fn refused_growth(rt: HostRuntime) {
     }
 }
 
-/// The index of a list, where there is memory for it. Where the third allocation is refused, the first after those of the list,
+/// The index of a list, where there is memory for it. Where the second allocation is refused, the first after that of the list,
 /// as by tests/refused-memory, this test fails and tells so.
 #[test]
 fn refused_index(rt: HostRuntime) -> Result<(), Fail> {
-    let cert = read_cert(rt.alloc(), FIVE_KEYS)?;
+    let cert = read_cert(rt.alloc(), ONE_ENTRY)?;
     let Ok(index) = HashIndex::new(rt.alloc(), &cert) else {
         panic!(rt; "no memory for the index");
     };

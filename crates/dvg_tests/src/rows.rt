@@ -1,11 +1,11 @@
-//! Worked rows, judged over both indexes. The reports were found by hand.
+//! Worked rows, judged over both indexes and by runs. The reports were found by hand.
 
-use dvg_cert::{ListIndex, MOST_WORDS, read_cert};
-use dvg_check::{JudgedShapes, Refusal, Yes, check};
-use dvg_cmd::{Report, report_of};
-use dvg_words::{FrameImage, RomImage};
+use crate::running::NEVER;
+use crate::running::devices::SlowReader;
+use dvg_cert::{Counted, ListIndex, read_cert};
+use dvg_check::{JudgedShapes, Refusal, Yes, check, check_parts, images_of};
+use dvg_cmd::{report_of, run_check};
 use std::alloc::Global;
-use std::str;
 use std::test::Fail;
 
 /// The certificate without entries.
@@ -372,7 +372,7 @@ fn text_of(alloc: Global, entries: &str) -> Result<String, Fail> {
     Ok(format!(in alloc; "dvgcert 1\n{entries}done {count}\n")?)
 }
 
-/// The verdict over an index that goes over the entries one by one, where `check` has one that hashes.
+/// The verdict over an index that searches the list, where `check_parts` has one that hashes.
 fn judge_by_list(
     alloc: Global,
     rom: &[u8],
@@ -380,15 +380,11 @@ fn judge_by_list(
     frame: &[u8],
     budget: u32,
 ) -> Result<Yes, Refusal> {
-    let rom = RomImage::from_bytes(rom)?;
-    let frame = FrameImage::from_bytes(frame)?;
-    if !(1..=MOST_WORDS).contains(&budget) {
-        return Err(Refusal::BudgetRange);
-    }
+    let images = images_of(rom, frame, budget)?;
     let cert = read_cert(alloc, text)?;
     let entries = ListIndex::new(&cert);
-    let shapes = JudgedShapes::judge(&rom, &cert, &entries)?;
-    let accepted = shapes.check_frame(&frame, budget)?;
+    let shapes = JudgedShapes::judge(&images.rom, &cert, &entries)?;
+    let accepted = shapes.check_frame(&images.frame, budget)?;
     Ok(Yes {
         shapes: cert.entries().len() as u32,
         words: accepted.words,
@@ -396,13 +392,35 @@ fn judge_by_list(
     })
 }
 
-/// The line of a report, without its LF.
-fn line_of(report: &Report) -> Option<&str> {
-    str::from_utf8(report.as_bytes().strip_suffix(b"\n")?).ok()
+/// The verdict on images and entries that are at hand.
+fn judge_parts(
+    alloc: Global,
+    rom: &[u8],
+    text: &[u8],
+    frame: &[u8],
+    budget: u32,
+) -> Result<Yes, Refusal> {
+    let images = images_of(rom, frame, budget)?;
+    let cert = read_cert(alloc, text)?;
+    check_parts(alloc, &images.rom, &images.frame, &cert, budget)
 }
 
-/// Whether both indexes lead to this report.
-fn is_reported_over_both(
+/// What a run writes over readers of one byte a read.
+fn run_byte_by_byte(alloc: Global, rom: &[u8], text: &[u8], frame: &[u8], budget: u32) -> Vec<u8> {
+    let mut line = Vec::new(alloc);
+    let _ = run_check(
+        alloc,
+        &mut Counted::new(SlowReader::new(rom, 1, NEVER)),
+        &mut Counted::new(SlowReader::new(text, 1, NEVER)),
+        &mut Counted::new(SlowReader::new(frame, 1, NEVER)),
+        budget,
+        &mut Counted::new(&mut line),
+    );
+    line
+}
+
+/// Whether this is the report over both indexes, of `check` and of a run.
+fn is_reported(
     alloc: Global,
     rom: &[u8],
     text: &[u8],
@@ -411,11 +429,14 @@ fn is_reported_over_both(
     report: &str,
 ) -> bool {
     let verdict = check(alloc, rom, text, frame, budget);
-    let by_list = judge_by_list(alloc, rom, text, frame, budget);
-    verdict == by_list && line_of(&report_of(&verdict)) == Some(report)
+    let line = run_byte_by_byte(alloc, rom, text, frame, budget);
+    verdict == judge_parts(alloc, rom, text, frame, budget)
+        && verdict == judge_by_list(alloc, rom, text, frame, budget)
+        && report_of(&verdict).as_bytes() == line.as_slice()
+        && line.strip_suffix(b"\n") == Some(report.as_bytes())
 }
 
-/// Whether both indexes lead to the report of a row. A row is what it shows; `rom`, a word address and the words from there
+/// Whether a row's report is that of its inputs. A row is what it shows; `rom`, a word address and the words from there
 /// on; the entries; `frame` and its words; `budget`, where it is not 20,000; and the report.
 fn row_is_reported(alloc: Global, row: &str) -> Result<bool, Fail> {
     let mut rom = Vec::new(alloc);
@@ -434,11 +455,11 @@ fn row_is_reported(alloc: Global, row: &str) -> Result<bool, Fail> {
     let text = text_of(alloc, &entries)?;
     let report = row.lines().last().unwrap_or("");
     let text = text.as_bytes();
-    Ok(is_reported_over_both(alloc, &rom, text, &frame, budget, report))
+    Ok(is_reported(alloc, &rom, text, &frame, budget, report))
 }
 
 #[test]
-fn judges_rows_over_both_indexes(rt: HostRuntime) -> Result<(), Fail> {
+fn judges_rows(rt: HostRuntime) -> Result<(), Fail> {
     for row in ROWS.split("\n\n") {
         let is = row_is_reported(rt.alloc(), row)?;
         assert!(rt; is, "for {row}");
@@ -472,7 +493,7 @@ fn judges_full_certificates(rt: HostRuntime) -> Result<(), Fail> {
         (true, "refused 15 certificate line 4098"),
     ] {
         let text = text_of_returns(rt.alloc(), one_more)?;
-        let is = is_reported_over_both(rt.alloc(), &rom, text.as_bytes(), &frame, 20000, report);
+        let is = is_reported(rt.alloc(), &rom, text.as_bytes(), &frame, 20000, report);
         assert!(rt; is, "for {report}");
     }
     Ok(())

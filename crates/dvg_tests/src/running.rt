@@ -1,6 +1,6 @@
-//! Rows: what is reported of inputs, and what a failing device leaves.
+//! How far inputs are read, and what a failing device or refused memory leaves.
 
-mod devices;
+pub mod devices;
 mod making;
 
 use crate::rows::{EMPTY, STROKE_CERT};
@@ -44,7 +44,7 @@ fn run_slow<W: CountedWrite>(
 
 const ACCEPTED: &[u8] = b"accepted shapes=0 words=5 depth=0\n";
 
-const NEVER: u32 = u32::MAX;
+pub const NEVER: u32 = u32::MAX;
 
 /// What becomes of readers that give one byte a read, and never fail.
 fn byte_by_byte(alloc: Global, rom: &[u8], frame: &[u8], cert: &[u8]) -> [Told; 3] {
@@ -53,7 +53,8 @@ fn byte_by_byte(alloc: Global, rom: &[u8], frame: &[u8], cert: &[u8]) -> [Told; 
     told
 }
 
-/// Each input is read to its end, which is met once, or to one byte past its limit.
+/// Each input is read to its end, which is met once, or to one byte past its limit; a certificate that is refused no further
+/// than its first piece here, but as far as the others where the ROM was refused before it.
 #[test]
 fn reads_each_byte_once(rt: HostRuntime) -> Result<(), AllocError> {
     let long = [0; 2100];
@@ -71,7 +72,9 @@ fn reads_each_byte_once(rt: HostRuntime) -> Result<(), AllocError> {
     }
     let cert = vec![in rt.alloc(); 0u8; 1_048_600]?;
     let told = byte_by_byte(rt.alloc(), ROM, FIRST, &cert);
-    assert_eq!(rt; told, [(0, 2049, 0), (0, 11, 0), (0, 1_048_577, 23)]);
+    assert_eq!(rt; told, [(0, 2049, 0), (0, 11, 0), (0, 4096, 1_044_504)]);
+    let told = byte_by_byte(rt.alloc(), &[], FIRST, &cert);
+    assert_eq!(rt; told, [(0, 1, 0), (0, 11, 0), (0, 1_048_577, 23)]);
     Ok(())
 }
 

@@ -1,0 +1,31 @@
+use Rattle.std.proofs.Common.{◌≡◌, ◌++◌, ◌≤◌, length, arith, take}
+use Rattle.std.proofs.KnownBytes.{Consumes-trans}
+use Rattle.std.proofs.lemmas.Grind.{common_steps}
+use Rattle.dvg_cmd.proofs.Pieces.{fed_on, fed_more, fed_refused}
+use Rattle.dvg_cmd.proofs.reading.read_certificate.Goals as goal
+
+pub returns-in-Err-clause-answer : goal.returns-in-Err-clause-answer
+returns-in-Err-clause-answer g c =
+    let before = c.feeding.invariant.text in
+    let piece = take c.in_ok-len.len c.fill.new.buf in
+    let long : length piece ≤ 4096 = grind (arith, common_steps) in
+    fed_refused _ _ _ before.0 piece c.feeding.reader _ c.in-Err.fault before.1 before.2 before.3 c.in_ok-len.ensures.bytes long c.in-Err.ensures
+
+pub feeding-smaller : goal.feeding-smaller
+feeding-smaller g c =
+    let before = c.feeding.invariant.text in
+    let piece = take c.in_ok-len.len c.fill.new.buf in
+    let fed = fed_on c.short_text.ensures before.0 piece c.feeding.reader _ _ before.1 c.in-Ok.ensures in
+    let long : length piece ≡ c.in_ok-len.len = grind (arith, common_steps) in
+    fed_more before.0 piece c.feeding.reader _ c.feeding.len c.in_ok-len.len before.1 fed.0 fed.1 long (grind (arith, common_steps))
+
+pub feeding-preserved : goal.feeding-preserved
+feeding-preserved g c =
+    let before = c.feeding.invariant.text in
+    let piece = take c.in_ok-len.len c.fill.new.buf in
+    let fed = fed_on c.short_text.ensures before.0 piece c.feeding.reader _ _ before.1 c.in-Ok.ensures in
+    record {
+      piece = grind (arith, common_steps);
+      text = (before.0 ++ piece, fed.0, Consumes-trans _ _ _ before.0 piece before.2 c.in_ok-len.ensures.bytes, fed.1, λ lt. grind (arith, common_steps));
+      counts = grind (arith, common_steps);
+    }
