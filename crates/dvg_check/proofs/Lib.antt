@@ -14,3 +14,4 @@ pub mod Accepting
 pub mod Listed
 pub mod Safety
 pub mod Example
+pub mod TailLaws
