@@ -15,3 +15,6 @@ pub mod Listed
 pub mod Safety
 pub mod Example
 pub mod TailLaws
+pub mod TailSizes
+pub mod TailSteps
+pub mod TailRows

@@ -118,6 +118,7 @@ IsNearBox n (Span x_min x_max y_min y_max) =
 
 -- so many items, of which none calls a shape of more words than an entry may have, come to no more than this
 pub record IsSmall (n : ℕ) (e : Entry) : Type 0 where
+  pub key : IsKey e.key
   pub stop : IsNearPlace n e.stop
   pub scale : IsKey e.scale
   pub words : e.words ≤ (MOST_WORDS + 2) * n
