@@ -4,10 +4,6 @@ pub mod Onward
 pub mod ShapeLaws
 pub mod FrameLaws
 pub mod Faults
-pub mod Passing
-pub mod Table
-pub mod Scaling
-pub mod Sizes
 pub mod Loop
 pub mod FrameWalk
 pub mod Accepting

@@ -11,7 +11,6 @@ mod judged;
 mod keys;
 pub mod laws;
 mod rules;
-mod run;
 mod shapes;
 mod tail;
 mod tails;

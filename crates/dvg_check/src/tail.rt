@@ -31,7 +31,13 @@ fn stop_over(place: &End, stop: &End) -> End
         (_, End::Abs { x, y }) => End::Abs { x: *x, y: *y },
         (_, End::Lost) | (End::Lost, End::Rel { .. }) => End::Lost,
         (End::Abs { x: left, y: bottom }, End::Rel { x, y }) => {
-            let p = shift(&Point { x: *left, y: *bottom }, &Point { x: *x, y: *y });
+            let p = shift(
+                &Point {
+                    x: *left,
+                    y: *bottom,
+                },
+                &Point { x: *x, y: *y },
+            );
             End::Abs { x: p.x, y: p.y }
         }
         (End::Rel { x: dx, y: dy }, End::Rel { x, y }) => {
@@ -55,8 +61,20 @@ fn moved(lit: &LitBox, by: &Point) -> LitBox
             y_min,
             y_max,
         } => {
-            let low = shift(&Point { x: *x_min, y: *y_min }, by);
-            let high = shift(&Point { x: *x_max, y: *y_max }, by);
+            let low = shift(
+                &Point {
+                    x: *x_min,
+                    y: *y_min,
+                },
+                by,
+            );
+            let high = shift(
+                &Point {
+                    x: *x_max,
+                    y: *y_max,
+                },
+                by,
+            );
             LitBox::Span {
                 x_min: low.x,
                 x_max: high.x,
@@ -199,7 +217,8 @@ fn is_inside(part: &LitBox, whole: &LitBox) -> bool
                 y_min: bottom,
                 y_max: top,
             },
-        ) => is_range_inside(x_min, x_max, left, right) && is_range_inside(y_min, y_max, bottom, top),
+        ) => is_range_inside(x_min, x_max, left, right)
+            && is_range_inside(y_min, y_max, bottom, top),
     }
 }
 

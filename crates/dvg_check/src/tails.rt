@@ -221,12 +221,7 @@ fn make_all<E: Entries>(
 }
 
 /// The index of the first entry whose shape the tails don't show to be good, or how many entries there are.
-pub fn first_doubtful<E: Entries>(
-    mode: Mode,
-    rom: &RomImage,
-    entries: &E,
-    list: &[Entry],
-) -> usize
+pub fn first_doubtful<E: Entries>(mode: Mode, rom: &RomImage, entries: &E, list: &[Entry]) -> usize
     requires list { E.list entries.now ≡ list.now }
     requires certificate { IsSomeCertificate list.now }
     ensures few { result ≤ length list.now }

@@ -33,14 +33,14 @@ entries-preserved g c =
       few = c.entries.invariant.few;
       tails = c.make_all.ensures;
       good = λ k past le lt.
-        ⊎_elim
-        (λ (less : k < c.entries.left).
-        let same : k ≡ c.entries.left - 1 = omega (arith, le, less, c.entries-test.true) in
-        subst (λ (j : ℕ). GoodShape c.args.mode screen c.args.rom.now (g.E.Entries.list c.args.entries.now) (get_or c.args.list.now j past)) (sym same)
-        (subst (GoodShape c.args.mode screen c.args.rom.now (g.E.Entries.list c.args.entries.now)) (get_or_default c.args.list.now (c.entries.left - 1) none past (omega (arith, c.entries.invariant.before, c.entries-test.true)))
-        (c.if-not-shows.ensures c.args.rom.now (g.E.Entries.list c.args.entries.now) c.make_all.ensures refl)))
-        (λ (more : c.entries.left ≤ k). c.entries.invariant.good k past more lt)
-        (cases_lt k c.entries.left);
+          ⊎_elim
+          (λ (less : k < c.entries.left).
+          let same : k ≡ c.entries.left - 1 = omega (arith, le, less, c.entries-test.true) in
+          subst (λ (j : ℕ). GoodShape c.args.mode screen c.args.rom.now (g.E.Entries.list c.args.entries.now) (get_or c.args.list.now j past)) (sym same)
+          (subst (GoodShape c.args.mode screen c.args.rom.now (g.E.Entries.list c.args.entries.now)) (get_or_default c.args.list.now (c.entries.left - 1) none past (omega (arith, c.entries.invariant.before, c.entries-test.true)))
+          (c.if-not-shows.ensures c.args.rom.now (g.E.Entries.list c.args.entries.now) c.make_all.ensures refl)))
+          (λ (more : c.entries.left ≤ k). c.entries.invariant.good k past more lt)
+          (cases_lt k c.entries.left);
     }
 
 pub returns-clause-good : goal.returns-clause-good

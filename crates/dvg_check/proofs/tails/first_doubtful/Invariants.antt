@@ -13,7 +13,7 @@ invariant-entries g l = record {
   before : l.left ≤ length l.list;
   few : l.doubtful ≤ length l.list;
   tails : AreTails screen l.rom (g.E.Entries.list l.entries) l.tails.slots;
-  good : (k : ℕ) (past : Entry) → l.left ≤ k → k < l.doubtful → GoodShape l.mode screen l.rom (g.E.Entries.list l.entries) (get_or l.list k past)
+  good : (k : ℕ) (past : Entry) → l.left ≤ k → k < l.doubtful → GoodShape l.mode screen l.rom (g.E.Entries.list l.entries) (get_or l.list k past);
 }
 
 abbrev pub decreases-entries : goal.decreases-entries

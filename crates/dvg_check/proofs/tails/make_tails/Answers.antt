@@ -8,7 +8,7 @@ use Rattle.dvg_check.proofs.tails.make_tails.Goals.{then-has+in-Some, then-has+i
 pub loop-index-preserved : goal.loop-index-preserved
 loop-index-preserved g c =
     elim c.if-has.branch [
-      then-has+in-Some w ↦ record { tails = subst (λ (t : Tails). AreTails screen c.args.rom.now (g.E.Entries.list c.args.entries.now) t.slots) (sym w.tails-is) (w.keep.ensures c.args.rom.now (g.E.Entries.list c.args.entries.now) c.loop-index.invariant.tails w.in-Some.ensures) }
+      | then-has+in-Some w ↦ record { tails = subst (λ (t : Tails). AreTails screen c.args.rom.now (g.E.Entries.list c.args.entries.now) t.slots) (sym w.tails-is) (w.keep.ensures c.args.rom.now (g.E.Entries.list c.args.entries.now) c.loop-index.invariant.tails w.in-Some.ensures) }
       | then-has+in_default-tail_at w ↦ record { tails = subst (λ (t : Tails). AreTails screen c.args.rom.now (g.E.Entries.list c.args.entries.now) t.slots) (sym w.tails-is) c.loop-index.invariant.tails }
       | else-has w ↦ record { tails = subst (λ (t : Tails). AreTails screen c.args.rom.now (g.E.Entries.list c.args.entries.now) t.slots) (sym w.tails-is) c.loop-index.invariant.tails }
     ]
