@@ -164,7 +164,8 @@ pub fn last_item<E: Entries>(entries: &E, item: &Item, key: Key) -> Option<Entry
     requires key { IsKey key }
     requires fields { InstrFits item.now.instr }
     ensures value { IfSome result (λ first. first ≡ last_item (E.list entries.now) key first.lit item.now) }
-    ensures stands { IfSome result (λ first. (rom : Rom) → cell_at (rom_word rom) item.now.at ≡ Holds item.now.format item.now.instr →
+    ensures stands { IfSome result (λ first. (rom : Rom) →
+        cell_at (rom_word rom) item.now.at ≡ Holds item.now.format item.now.instr →
         MayStandFirst rom (E.list entries.now) key first.lit item.now) }
     ensures small { IfSome result (IsSmall 1) }
 {

@@ -24,14 +24,14 @@ use dvg_words::{Cell, Instr, ROM_FIRST, ROM_LAST, RomImage, read_cell};
 /// How many words a ROM has.
 const ROM_WORDS: usize = ROM_LAST as usize + 1 - ROM_FIRST as usize;
 
-/// How many tails are kept: those at three places that stand one after another, 17 at each.
-const SLOTS: usize = 51;
+/// How many tails are kept: one for each key, at three places that stand one after another.
+const SLOTS: usize = 3 * KEYS as usize;
 
 /// The tails that were made last. Each tells its own address and key, so one that is left from a further place is not taken
 /// for that of a nearer one.
 #[derive(Drop)]
 pub struct Tails {
-    pub slots: [Option<Entry>; 51],
+    pub slots: [Option<Entry>; SLOTS],
 }
 
 /// Where the tail at an address and a key is kept.
@@ -43,13 +43,14 @@ fn slot_of(at: u16, key: Key) -> usize
 }
 
 /// The tail at an address and a key, if it was made.
-fn tail_kept(tails: &Tails, at: u16, key: Key) -> Option<Entry>
+fn tail_kept<'a>(tails: &'a Tails, at: u16, key: Key) -> Option<&'a Entry>
     requires { IsKey key }
-    ensures addr { IfSome result (λ tail. tail.addr ≡ at) }
-    ensures key { IfSome result (λ tail. tail.key ≡ key) }
-    ensures tail { (rom : Rom) (list : List Entry) → AreTails screen rom list tails.now.slots → IfSome result (IsTail screen rom list) }
+    ensures addr { IfSome result (λ tail. tail.now.addr ≡ at) }
+    ensures key { IfSome result (λ tail. tail.now.key ≡ key) }
+    ensures tail { (rom : Rom) (list : List Entry) → AreTails screen rom list tails.now.slots →
+        IfSome result (λ tail. IsTail screen rom list tail.now) }
 {
-    let tail = tails.slots[slot_of(at, key)]?;
+    let tail = tails.slots[slot_of(at, key)].as_ref()?;
     if tail.addr == at && tail.key == key {
         Some(tail)
     } else {
@@ -75,7 +76,7 @@ fn tail_at<E: Entries>(
 {
     let first = last_item(entries, item, key)?;
     match item.next_place(Kind::Shape) {
-        Some(next) => after_item(&first, &tail_kept(tails, next, first.scale)?),
+        Some(next) => after_item(&first, tail_kept(tails, next, first.scale)?),
         None => Some(first),
     }
 }
@@ -83,7 +84,8 @@ fn tail_at<E: Entries>(
 /// Keeps a tail, in the place of the one that was kept where it belongs.
 fn keep(tails: &mut Tails, tail: Entry)
     requires { IsKey tail.key }
-    ensures { (rom : Rom) (list : List Entry) → AreTails screen rom list tails.old.slots → IsTail screen rom list tail → AreTails screen rom list tails.new.slots }
+    ensures { (rom : Rom) (list : List Entry) → AreTails screen rom list tails.old.slots → IsTail screen rom list tail →
+        AreTails screen rom list tails.new.slots }
 {
     tails.slots[slot_of(tail.addr, tail.key)] = Some(tail);
 }
@@ -111,10 +113,11 @@ fn make_tails<E: Entries>(rom: &RomImage, entries: &E, at: u16, keys: Keys, tail
 /// Whether the tail at an entry's address and key was made, and shows that the entry is good.
 fn shows(mode: Mode, tails: &Tails, entry: &Entry) -> bool
     requires { IsKey entry.now.key }
-    ensures { (rom : Rom) (list : List Entry) → AreTails screen rom list tails.now.slots → IsTrue result → GoodShape mode screen rom list entry.now }
+    ensures { (rom : Rom) (list : List Entry) → AreTails screen rom list tails.now.slots → IsTrue result →
+        GoodShape mode screen rom list entry.now }
 {
     match tail_kept(tails, entry.addr, entry.key) {
-        Some(tail) => claims_less(mode, entry, &tail),
+        Some(tail) => claims_less(mode, entry, tail),
         None => false,
     }
 }
@@ -171,6 +174,24 @@ fn need(needed: &mut Needed, at: u16, more: Keys) {
     }
 }
 
+/// Needs what the tails that are needed at a word address need behind them.
+fn need_behind<E: Entries>(rom: &RomImage, entries: &E, at: u16, needed: &mut Needed)
+    requires entries { IsSomeCertificate (E.list entries.now) }
+    requires near { at < ADDRESS_END }
+{
+    let keys = keys_needed(needed, at);
+    if keys.is_empty() {
+        return;
+    }
+    let Cell::Holds { format, instr } = read_cell(rom, at) else {
+        return;
+    };
+    let item = Item { at, format, instr };
+    if let Some(next) = item.next_place(Kind::Shape) {
+        need(needed, next, keys_behind(entries, &instr, keys));
+    }
+}
+
 /// Which tails the entries of a list need: those at their own addresses and keys, and what these need, one after another.
 fn needed_by<E: Entries>(rom: &RomImage, entries: &E, list: &[Entry]) -> Needed
     requires entries { IsSomeCertificate (E.list entries.now) }
@@ -183,15 +204,7 @@ fn needed_by<E: Entries>(rom: &RomImage, entries: &E, list: &[Entry]) -> Needed
         need(&mut needed, entry.addr, Keys::one(entry.key));
     }
     for at in ROM_FIRST..ROM_END {
-        let keys = keys_needed(&needed, at);
-        if !keys.is_empty() {
-            if let Cell::Holds { format, instr } = read_cell(rom, at) {
-                let item = Item { at, format, instr };
-                if let Some(next) = item.next_place(Kind::Shape) {
-                    need(&mut needed, next, keys_behind(entries, &instr, keys));
-                }
-            }
-        }
+        need_behind(rom, entries, at, &mut needed);
     }
     needed
 }
@@ -228,7 +241,9 @@ pub fn first_doubtful<E: Entries>(mode: Mode, rom: &RomImage, entries: &E, list:
     ensures good { AllByRecursion (GoodShape mode screen rom.now list.now) (take result list.now) }
 {
     let needed = needed_by(rom, entries, list);
-    let mut tails = Tails { slots: [None; 51] };
+    let mut tails = Tails {
+        slots: [None; SLOTS],
+    };
     let mut at = ROM_END;
     let mut doubtful = list.len();
     let mut left = list.len();

@@ -5,4 +5,4 @@ use Rattle.dvg_check.proofs.tails.shows.Goals as goal
 pub returns-in-Some : goal.returns-in-Some
 returns-in-Some c =
     λ rom list tails yes.
-    weaker_claim c.args.mode screen rom list c.args.entry.now c.in-Some.tail (c.claims_less.ensures yes) ((c.in-Some.ensures.tail rom list tails).good c.args.mode)
+    weaker_claim c.args.mode screen rom list c.args.entry.now c.in-Some.tail.now (c.claims_less.ensures yes) ((c.in-Some.ensures.tail rom list tails).good c.args.mode)
