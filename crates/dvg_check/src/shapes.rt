@@ -205,8 +205,8 @@ fn check_shapes_in<E: Entries>(
 /// Judges each entry's shape, in the order of the certificate, its counts as bounds: the first faulty entry is answered,
 /// with the first item of its shape that breaks a rule, and the lowest rule that this item breaks (20 to 31, profile).
 ///
-/// `entries` are those of the certificate. Nothing is run, and nothing is allocated. It takes time for one tail for each word
-/// and key, for one comparison for each entry, and for one walk over the items of the shape that is answered.
+/// `entries` are those of the certificate. Nothing is run, and nothing is allocated. It takes the time of one tail for each word
+/// and key at most, of one comparison for each entry, and of a walk over the items of the shape that is answered.
 pub fn check_shapes<E: Entries>(rom: &RomImage, cert: &Cert, entries: &E) -> Result<(), ShapeFault>
     requires { E.list entries.now ≡ cert.now }
     ensures ok { OnOk result (Good Bound screen rom.now cert.now) }
