@@ -1,5 +1,5 @@
 -- Tails: what an item and the shape behind it come to, told as the entry that would be claimed for both. No rule stands here.
-use Rattle.std.specs.Prelude.{◌≡◌, ◌≢◌, ◌+◌, ◌-◌, ◌*◌, ◌≤◌, max, ◌+ℤ◌, ℕ, List, [], Option, Some, None, slice_index_or}
+use Rattle.std.specs.Prelude.{◌≡◌, ◌≢◌, ◌+◌, ◌-◌, ◌*◌, ◌≤◌, max, ◌+ℤ◌, ℕ, List, Option, Some, None, slice_index_or}
 use Rattle.dvg_words.specs.Values.{Window}
 use Rattle.dvg_words.specs.declared.beam.Point.{Point}
 use Rattle.dvg_words.specs.declared.map.TheConstants.{ADDRESS_END}

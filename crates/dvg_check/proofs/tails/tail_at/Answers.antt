@@ -1,4 +1,4 @@
-use Rattle.std.proofs.Common.{arith, sym, ap, Some, None, ◌≡◌, ◌+◌, ◌-◌, ◌≤◌, ◌∙◌}
+use Rattle.std.proofs.Common.{arith, sym, ap, Some, ◌≡◌, ◌+◌, ◌-◌, ◌≤◌, ◌∙◌}
 use Rattle.dvg_words.specs.Beam.{screen}
 use Rattle.dvg_words.specs.declared.map.TheConstants.{ADDRESS_END}
 use Rattle.dvg_cert.specs.declared.entry.Entry.{Entry}
