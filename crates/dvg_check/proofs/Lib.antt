@@ -4,13 +4,13 @@ pub mod Onward
 pub mod ShapeLaws
 pub mod FrameLaws
 pub mod Faults
-pub mod Passing
-pub mod Table
-pub mod Scaling
-pub mod Sizes
 pub mod Loop
 pub mod FrameWalk
 pub mod Accepting
 pub mod Listed
 pub mod Safety
 pub mod Example
+pub mod TailLaws
+pub mod TailSizes
+pub mod TailSteps
+pub mod TailRows

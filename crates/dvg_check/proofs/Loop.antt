@@ -1,19 +1,17 @@
 -- What the loop over items keeps, and what follows where it stops.
-use Rattle.std.proofs.Common.{arith, refl, None, Option, List, subst, sym, ap, ◌≡◌, ◌+◌, ◌∷◌, ◌∙◌, ℕ, []}
-use Rattle.dvg_words.specs.Decoding.{word_count, cell_at}
+use Rattle.std.proofs.Common.{arith, refl, Option, List, subst, sym, ap, ◌≡◌, ◌∷◌, ◌∙◌, ℕ, []}
+use Rattle.dvg_words.specs.Decoding.{cell_at}
 use Rattle.dvg_words.specs.declared.instruction.Cell.{Cell}
 use Rattle.dvg_words.specs.declared.instruction.Cell.TheVariants.{Missing, Odd, Holds}
 use Rattle.dvg_words.specs.declared.instruction.Format.{Format}
 use Rattle.dvg_words.specs.declared.instruction.Instr.{Instr}
-use Rattle.dvg_words.specs.declared.instruction.Instr.TheVariants.{Draw as Draws}
 use Rattle.dvg_cert.specs.declared.entry.Entry.{Entry}
 use Rattle.dvg_cert.specs.declared.entry.Key.{Key}
 use Rattle.dvg_check.specs.FirstFault.{AllBefore, FaultAt}
 use Rattle.dvg_items.specs.Items.{LeadsTo}
 use Rattle.dvg_items.specs.Known.{Context, known_before}
-use Rattle.dvg_check.specs.Private.Runs.{FormattedDraw, KeepsOver, PassesTo}
 use Rattle.dvg_check.specs.Private.Judging.{seen_by, WalksTo, KeepsAll, BreaksFirst}
-use Rattle.dvg_items.specs.Seen.{seen_with, seen_at}
+use Rattle.dvg_items.specs.Seen.{seen_at}
 use Rattle.dvg_check.specs.Rules.{PlaceKeeps, CellKeeps}
 use Rattle.dvg_items.specs.declared.item.Item.{Item}
 use Rattle.dvg_items.specs.declared.item.Kind.{Kind}
@@ -131,20 +129,3 @@ module _ (Why : Type 0) (order : Why → ℕ) (missing odd : Why) (Keeps : Seen 
           ends = end.0;
           knows = known_on known end.1;
         }
-
-  -- ---- over draws that were judged as one
-
-  over_draws : (strokes : List FormattedDraw) (at : ℕ) (known : Known) (p : ℕ) (after : Known) (items : List Item) → LeadsTo kind word first items at → AllBefore keeps items → known ≡ known_before context items → KeepsOver Keeps word strokes at known p after → (on : List Item) × LeadsTo kind word first on p × AllBefore keeps on × (after ≡ known_before context on)
-  over_draws [] at known p after items leads kept knows over = (items, subst (LeadsTo kind word first items) over.0 leads, kept, sym over.1 ∙ knows)
-  over_draws (s ∷ rest) at known p after items leads kept knows over =
-      let item : Item = record { at = at; format = s.format; instr = Draws s.draw } in
-      let same : seen_at context items item ≡ seen_with None known item = seen_known context items item known knows in
-      over_draws rest (at + word_count s.format) (seen_with None known item).after p after (item ∷ items) (leads, over.0, refl)
-      (kept, λ why. subst (CellKept items at why) (sym over.0) (subst (λ (v : Seen). Keeps v why) (sym same) (over.1 why)))
-      (ap (λ (v : Seen). v.after) (sym same))
-      over.2
-
-  pub passed : (cursor next : Cursor) → Walked context word first keeps cursor → PassesTo Keeps word cursor.at cursor.known next.at next.known → Walked context word first keeps next
-  passed cursor next k over =
-      let on = over_draws over.strokes cursor.at cursor.known next.at next.known k.items k.leads k.kept k.knows over.keeps_over in
-      record { items = on.0; leads = on.1; kept = on.2; knows = on.3; sound = over.sound }

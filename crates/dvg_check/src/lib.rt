@@ -8,10 +8,12 @@ mod cells;
 mod fault;
 mod frames;
 mod judged;
+mod keys;
 pub mod laws;
 mod rules;
-mod run;
 mod shapes;
+mod tail;
+mod tails;
 mod verdict;
 mod walk;
 

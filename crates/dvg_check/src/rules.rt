@@ -7,7 +7,6 @@ ghost use Rattle.dvg_cert.specs.declared.limits.TheConstants.{MOST_WORDS};
 ghost use Rattle.dvg_items.specs.declared.item.Kind.{Kind};
 ghost use Rattle.dvg_items.specs.declared.seen.Seen.{Seen};
 ghost use Rattle.dvg_items.specs.Bounds.{IsSoundSeen};
-ghost use Rattle.dvg_check.specs.Private.Runs.{IsPart};
 
 use dvg_cert::Key;
 use dvg_items::{Kind, Seen};
@@ -51,13 +50,11 @@ pub trait Rules {
     fn odd(&self) -> Self::Why
         ensures { result ≡ odd };
 
-    /// The first rule that an item breaks. Where it breaks none, no draw that is a part of it does, and the words so far are
-    /// a million at most.
+    /// The first rule that an item breaks. Where it breaks none, the words so far are a million at most.
     fn first_broken(&self, seen: &Seen) -> Option<Self::Why>
         requires valid { valid self.now }
         requires seen { IsSoundSeen seen.now }
         ensures kept { IfNone result ((why : Self.Why) → keeps self.now seen.now why) }
-        ensures parts { IfNone result ((part : Seen) → IsPart part seen.now → (why : Self.Why) → keeps self.now part why) }
         ensures few { IfNone result (seen.now.after.words ≤ MOST_WORDS) }
         ensures broken { IfSome result (λ why. keeps self.now seen.now why → ⊥) }
         ensures lowest { IfSome result (λ why. (other : Self.Why) → order other < order why → keeps self.now seen.now other) };

@@ -1,6 +1,6 @@
 //! The rules of shapes, and the check of all shapes of a certificate.
 
-ghost use Rattle.std.specs.Prelude.{◌+◌, ◌≡◌, ◌<◌, ◌≤◌, ◌≤ℤ◌, ◌↔◌, IsTrue, OnOk, IfErr, IfNone, IfSome};
+ghost use Rattle.std.specs.Prelude.{◌≡◌, ◌<◌, ◌≤◌, ◌≤ℤ◌, ◌↔◌, IsTrue, OnOk, IfErr, IfNone, IfSome};
 ghost use Rattle.dvg_words.specs.Beam.{screen};
 ghost use Rattle.dvg_cert.specs.declared.entry.LitBox.TheVariants.{Span};
 ghost use Rattle.dvg_items.specs.declared.item.Kind.TheVariants.{Shape};
@@ -11,13 +11,12 @@ ghost use Rattle.dvg_check.specs.declared.fault.ShapeWhy.TheVariants as shape;
 ghost use Rattle.dvg_check.specs.Rules.{AtLast, AsClaimed, ShapeKeeps, GoodShape, Good};
 ghost use Rattle.dvg_check.specs.FirstFault.{shape_number, ShapeFaultAt, FirstShapeFault};
 ghost use Rattle.dvg_items.specs.Bounds.{IsClaim, IsSomeCertificate, IsSoundSeen};
-ghost use Rattle.dvg_words.specs.declared.map.TheConstants.{ADDRESS_END, ROM_FIRST, ROM_LAST};
+ghost use Rattle.dvg_words.specs.declared.map.TheConstants.{ADDRESS_END};
 ghost use Rattle.dvg_check.specs.Private.Judging.{EachKept, shape_rules, ShapeBrokenFirst};
 
-use crate::cells::{ROM_END, RomCells};
 use crate::fault::{Mode, ShapeFault, ShapeWhy};
 use crate::rules::Rules;
-use crate::run::{Run, fill_runs};
+use crate::tails::first_doubtful;
 use crate::walk::walk;
 use dvg_cert::{Cert, Entries, Entry, Key};
 use dvg_items::{
@@ -155,21 +154,21 @@ impl Rules for ShapeRules {
 /// Judges the shape of one entry.
 fn check_shape<E: Entries>(
     mode: Mode,
-    cells: &RomCells,
+    rom: &RomImage,
     entries: &E,
     entry: &Entry,
 ) -> Result<(), ShapeFault>
     requires entries { IsSomeCertificate (E.list entries.now) }
     requires entry { IsClaim entry.now }
-    ensures ok { OnOk result (GoodShape mode screen cells.now (E.list entries.now) entry.now) }
-    ensures err { IfErr result (λ fault. ShapeFaultAt mode screen cells.now (E.list entries.now) entry.now fault.word fault.why) }
+    ensures ok { OnOk result (GoodShape mode screen rom.now (E.list entries.now) entry.now) }
+    ensures err { IfErr result (λ fault. ShapeFaultAt mode screen rom.now (E.list entries.now) entry.now fault.word fault.why) }
     ensures place { IfErr result (λ fault. (fault.addr ≡ entry.now.addr) × (fault.key ≡ entry.now.key)) }
 {
     let rules = ShapeRules {
         entry: *entry,
         mode,
     };
-    match walk(cells, entries, &rules, entry.addr) {
+    match walk(rom, entries, &rules, entry.addr) {
         Ok(_) => Ok(()),
         Err(fault) => Err(ShapeFault {
             addr: entry.addr,
@@ -180,32 +179,25 @@ fn check_shape<E: Entries>(
     }
 }
 
-/// The word address of the first shape, or that past the ROM where there is none.
-fn first_shape(cert: &Cert) -> u16
-    ensures low { ROM_FIRST ≤ result }
-    ensures high { result ≤ ROM_LAST + 1 }
-{
-    match cert.entries().first() {
-        None => ROM_END,
-        Some(entry) => entry.addr,
-    }
-}
-
-/// Judges each entry's shape, in the order of the certificate, in a mode.
+/// Judges each entry's shape, in the order of the certificate, in a mode: by tails as far as these show them to be good, and
+/// from there on item by item.
 fn check_shapes_in<E: Entries>(
     mode: Mode,
-    cells: &RomCells,
+    rom: &RomImage,
     cert: &Cert,
     entries: &E,
 ) -> Result<(), ShapeFault>
     requires { E.list entries.now ≡ cert.now }
-    ensures ok { OnOk result (Good mode screen cells.now cert.now) }
-    ensures err { IfErr result (FirstShapeFault mode screen cells.now cert.now) }
+    ensures ok { OnOk result (Good mode screen rom.now cert.now) }
+    ensures err { IfErr result (FirstShapeFault mode screen rom.now cert.now) }
 {
-    for entry in cert.entries() {
-        if let Err(fault) = check_shape(mode, cells, entries, entry) {
+    let list = cert.entries();
+    let mut index = first_doubtful(mode, rom, entries, list);
+    'entries: while index < list.len() {
+        if let Err(fault) = check_shape(mode, rom, entries, &list[index]) {
             return Err(fault);
         }
+        index += 1;
     }
     Ok(())
 }
@@ -213,16 +205,12 @@ fn check_shapes_in<E: Entries>(
 /// Judges each entry's shape, in the order of the certificate, its counts as bounds: the first faulty entry is answered,
 /// with the first item of its shape that breaks a rule, and the lowest rule that this item breaks (20 to 31, profile).
 ///
-/// `entries` are those of the certificate. Each shape is visited once, and nothing is run. Nothing is allocated;
-/// the table of runs takes 64 KiB of the stack.
+/// `entries` are those of the certificate. Nothing is run, and nothing is allocated. It takes the time of one tail for each word
+/// and key at most, of one comparison for each entry, and of a walk over the items of the shape that is answered.
 pub fn check_shapes<E: Entries>(rom: &RomImage, cert: &Cert, entries: &E) -> Result<(), ShapeFault>
     requires { E.list entries.now ≡ cert.now }
     ensures ok { OnOk result (Good Bound screen rom.now cert.now) }
     ensures err { IfErr result (FirstShapeFault Bound screen rom.now cert.now) }
 {
-    let from = first_shape(cert);
-    let mut runs = [Run::NONE; 1024];
-    fill_runs(rom, from, &mut runs);
-    let cells = RomCells::new(rom, from, &runs);
-    check_shapes_in(Mode::Bound, &cells, cert, entries)
+    check_shapes_in(Mode::Bound, rom, cert, entries)
 }

@@ -1,20 +1,18 @@
 //! The one loop over the items of a shape or of a frame.
 
-ghost use Rattle.std.specs.Prelude.{◌≡◌, ◌<◌, IfOk, IfErr, IfSome};
+ghost use Rattle.std.specs.Prelude.{◌≡◌, ◌<◌, IfOk, IfErr};
 ghost use Rattle.dvg_words.specs.Decoding.{InstrFits};
 ghost use Rattle.dvg_words.specs.declared.map.TheConstants.{ADDRESS_END};
 ghost use Rattle.dvg_items.specs.Bounds.{IsSoundCursor, IsSomeCertificate};
 ghost use Rattle.dvg_check.specs.Rules.{PlaceKeeps};
 ghost use Rattle.dvg_check.specs.FirstFault.{FaultAt};
 ghost use Rattle.dvg_check.specs.Private.Judging.{WalksTo, seen_by, KeepsAll, BreaksFirst};
-ghost use Rattle.dvg_check.specs.Private.Runs.{PassesTo};
 
 use crate::cells::Cells;
 use crate::fault::Fault;
 use crate::rules::Rules;
-use crate::run::{run_factor, see_run};
-use dvg_cert::{Entries, Key};
-use dvg_items::{Cursor, Item, Known, Step, callee, target};
+use dvg_cert::Entries;
+use dvg_items::{Cursor, Known, Step, callee, target};
 use dvg_words::{Cell, Format, Instr};
 
 /// Judges the instruction at a cursor: the first rule that it breaks, or where it leads.
@@ -42,34 +40,6 @@ fn judge<E: Entries, R: Rules>(
         Some(why) => Err(why),
         None => Ok(seen.step(kind)),
     }
-}
-
-/// Judges at once the run of draws that begins with an item: where the next item stands, and what is known there.
-/// `None` where no run is known there, where the scale is unknown, or where this doesn't show that each draw keeps all
-/// rules.
-fn pass_run<C: Cells, R: Rules>(cells: &C, rules: &R, before: &Known, item: &Item) -> Option<Cursor>
-    requires rules { R.valid rules.now }
-    requires before { IsSoundCursor (record { at = item.now.at; known = before.now }) }
-    requires near { item.now.at < ADDRESS_END }
-    requires fields { InstrFits item.now.instr }
-    ensures { IfSome result (λ next. PassesTo (R.keeps rules.now) (C.words cells.now) item.now.at before.now next.at next.known) }
-{
-    let Key::At(gscale) = before.scale else {
-        return None;
-    };
-    let run = cells.run(item.at);
-    if run.words == 0 {
-        return None;
-    }
-    let factor = run_factor(&run, gscale)?;
-    let seen = see_run(&run, factor, before, item);
-    if rules.first_broken(&seen).is_some() {
-        return None;
-    }
-    Some(Cursor {
-        at: item.at + run.words,
-        known: seen.after,
-    })
 }
 
 /// Goes over the items from the first place on, up to the first that breaks a rule or the last.
@@ -108,11 +78,6 @@ pub fn walk<C: Cells, E: Entries, R: Rules>(
             }
             Cell::Holds { format, instr } => (format, instr),
         };
-        let item = Item { at, format, instr };
-        if let Some(next) = pass_run(cells, rules, &here.known, &item) {
-            cursor = next;
-            continue;
-        }
         match judge(rules, entries, &here, format, &instr) {
             Err(why) => return Err(Fault { at, why }),
             Ok(Step::Last(known)) => return Ok(known),

@@ -9,7 +9,7 @@ pub record Same (a b : List Item) (p q : ℕ) : Type 0 where
   pub items : a ≡ b
   pub place : p ≡ q
 
-item_same : (i j : Item) → i.at ≡ j.at → Holds i.format i.instr ≡ Holds j.format j.instr → i ≡ j
+pub item_same : (i j : Item) → i.at ≡ j.at → Holds i.format i.instr ≡ Holds j.format j.instr → i ≡ j
 item_same i j a e =
     let l : i.format ≡ j.format = cc in
     let k : i.instr ≡ j.instr = cc in

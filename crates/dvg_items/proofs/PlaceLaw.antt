@@ -10,7 +10,7 @@ use Rattle.dvg_items.specs.Items.{Kind, Shape, Frame}
 use Rattle.dvg_items.specs.Known.{Effect, Sets, Loses, Moves, callee, effect_of, first_place, place_moved_by, place_past, scale_before}
 use Rattle.dvg_items.specs.Places.{effects, fixed_place, total_move, PlaceFromAll}
 
-moves_on : (k : End) (d e : Point) → place_moved_by k (shift d e) ≡ place_moved_by (place_moved_by k d) e
+pub moves_on : (k : End) (d e : Point) → place_moved_by k (shift d e) ≡ place_moved_by (place_moved_by k d) e
 moves_on (Rel x y) d e =
     let a : x +ℤ (d.x +ℤ e.x) ≡ (x +ℤ d.x) +ℤ e.x = omega (arith, ints) in
     let b : y +ℤ (d.y +ℤ e.y) ≡ (y +ℤ d.y) +ℤ e.y = omega (arith, ints) in

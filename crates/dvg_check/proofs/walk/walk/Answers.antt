@@ -1,5 +1,5 @@
 use Rattle.std.proofs.Common.{sym}
-use Rattle.dvg_check.proofs.Loop.{onward, done, passed}
+use Rattle.dvg_check.proofs.Loop.{onward, done}
 use Rattle.dvg_check.proofs.walk.walk.Goals as goal
 
 pub returns-in-Ok-Last-clause-ok : goal.returns-in-Ok-Last-clause-ok
@@ -9,7 +9,3 @@ returns-in-Ok-Last-clause-ok g c =
 pub items-preserved : goal.items-preserved
 items-preserved g c =
     onward _ g.R.Rules.order g.R.Rules.unmapped g.R.Rules.odd (g.R.Rules.keeps c.args.rules.now) g.R.Rules.kind (g.E.Entries.list c.args.entries.now) (g.R.Rules.scale c.args.rules.now) (g.C.Cells.words c.args.cells.now) c.args.first c.items.cursor c.in-Holds.format c.in-Holds.instr c.items.invariant (sym c.in-Holds.ensures.value) c.in-Ok-Onward.field-0 c.in-Ok-Onward.next c.in-Ok-Onward.field-0-is c.in-Ok-Onward.ensures.kept
-
-pub items-preserved-in-Some : goal.items-preserved-in-Some
-items-preserved-in-Some g c =
-    passed _ g.R.Rules.order g.R.Rules.unmapped g.R.Rules.odd (g.R.Rules.keeps c.args.rules.now) g.R.Rules.kind (g.E.Entries.list c.args.entries.now) (g.R.Rules.scale c.args.rules.now) (g.C.Cells.words c.args.cells.now) c.args.first c.items.cursor c.in-Some.next c.items.invariant c.in-Some.ensures

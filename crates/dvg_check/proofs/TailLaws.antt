@@ -1,0 +1,343 @@
+-- A weaker claim of a good shape is good, and so is an item before a good tail.
+use Rattle.std.proofs.Common.{arith, List, Option, None, Some, refl, sym, ap, subst, inl, inr, max, pos, ⊎_elim, ◌≡◌, ◌⊎◌, ◌+◌, ◌≤◌, ◌∷◌, ◌∙◌, ℕ, ◌+ℤ◌, []}
+use Rattle.std.proofs.lemmas.Int.{ints}
+use Rattle.dvg_words.specs.Decoding.{cell_at, word_count}
+use Rattle.dvg_words.specs.Memory.{Rom, rom_word}
+use Rattle.dvg_words.specs.Values.{Window}
+use Rattle.dvg_words.specs.declared.beam.Point.{Point}
+use Rattle.dvg_words.specs.declared.instruction.Cell.{Cell}
+use Rattle.dvg_words.specs.declared.instruction.Cell.TheVariants.{Holds, Missing, Odd}
+use Rattle.dvg_cert.specs.declared.entry.End.{End}
+use Rattle.dvg_cert.specs.declared.entry.End.TheVariants.{Rel, Abs, Lost}
+use Rattle.dvg_cert.specs.declared.entry.Entry.{Entry}
+use Rattle.dvg_cert.specs.declared.entry.Key.{Key}
+use Rattle.dvg_cert.specs.declared.entry.LitBox.{LitBox}
+use Rattle.dvg_cert.specs.declared.entry.LitBox.TheVariants.{Empty, Span}
+use Rattle.dvg_items.specs.Items.{LeadsTo, next_place}
+use Rattle.dvg_items.specs.Known.{Context, known_before, known_past, place_past, callee_words, depth_under, target, callee_at, effect_of}
+use Rattle.dvg_items.specs.Lit.{PlaceKnown, ScaleKnown, LitInWindow, LitInBox, InBox, IsInside}
+use Rattle.dvg_items.specs.Seen.{seen_at}
+use Rattle.dvg_items.specs.declared.item.Item.{Item}
+use Rattle.dvg_items.specs.declared.item.Kind.TheVariants.{Shape}
+use Rattle.dvg_items.specs.declared.known.Known.{Known}
+use Rattle.dvg_items.specs.declared.lit.LitExtent.{LitExtent}
+use Rattle.dvg_items.specs.declared.lit.LitExtent.TheVariants.{Nothing, Between, Anywhere}
+use Rattle.dvg_items.specs.declared.known.Effect.{Effect}
+use Rattle.dvg_items.specs.declared.known.Effect.TheVariants.{Sets, Loses, Moves}
+use Rattle.dvg_items.specs.declared.seen.Seen.{Seen}
+use Rattle.dvg_items.proofs.Leading.{item_same, too_long}
+use Rattle.dvg_items.proofs.PlaceLaw.{moves_on}
+use Rattle.dvg_check.specs.Behaving.{Counts}
+use Rattle.dvg_check.specs.Private.Judging.{seen_by}
+use Rattle.dvg_check.specs.Private.Tails.{ClaimsLess, known_at_end, claimed, place_over, known_over, first_seen, MayStandAt, MayStandFirst, IsBehind, last_item, after_item}
+use Rattle.dvg_check.specs.Rules.{AtLast, AsClaimed, CellKeeps, ShapeKeeps, ShapePlaceKeeps, GoodShape}
+use Rattle.dvg_check.specs.declared.fault.Mode.{Mode}
+use Rattle.dvg_check.specs.declared.fault.Mode.TheVariants.{Bound, Exact}
+use Rattle.dvg_check.specs.declared.fault.ShapeWhy.{ShapeWhy}
+use Rattle.dvg_check.specs.declared.fault.ShapeWhy.TheVariants as shape
+use Rattle.dvg_check.proofs.Runs.{counts_le}
+
+-- ---- rules of a weaker claim
+
+at_last : (o : Option ℕ) (P Q : Type 0) → (P → Q) → AtLast o P → AtLast o Q
+at_last None P Q f h = f h
+at_last (Some next) P Q f h = tt
+
+as_claimed : (mode : Mode) (n a b : ℕ) → Counts mode a b → AsClaimed mode n a → AsClaimed mode n b
+as_claimed Bound n a b le h = tt
+as_claimed Exact n a b is h = h ∙ is
+
+-- what keeps all rules there keeps all of others, whatever stands at the place
+cell_keeps : (K L : Item → ShapeWhy → Type 0) (p : ℕ) (cell : Cell) → ((i : Item) → ((why : ShapeWhy) → K i why) → (why : ShapeWhy) → L i why) → ((why : ShapeWhy) → CellKeeps shape.Unmapped shape.Odd K p cell why) → (why : ShapeWhy) → CellKeeps shape.Unmapped shape.Odd L p cell why
+cell_keeps K L p Missing f h = h
+cell_keeps K L p Odd f h = h
+cell_keeps K L p (Holds format instr) f h = f (record { at = p; format = format; instr = instr }) h
+
+in_more : (part whole : LitBox) (p : Point) → IsInside part whole → InBox part p → InBox whole p
+in_more Empty whole p inside h = absurd h
+in_more (Span a b c d) Empty p inside h = inside
+in_more (Span a b c d) (Span e f g k) p inside h =
+    record { left = omega (arith, ints, h.left, inside.0); right = omega (arith, ints, h.right, inside.1); bottom = omega (arith, ints, h.bottom, inside.2); top = omega (arith, ints, h.top, inside.3) }
+
+-- what has no corners has them in every box and in every window
+nothing_in_box : (box : LitBox) (place : End) → LitInBox box Nothing place
+nothing_in_box box (Rel x y) = tt
+nothing_in_box box (Abs x y) = tt
+nothing_in_box box Lost = tt
+
+anywhere_in_box : (box : LitBox) (place : End) → LitInBox box Anywhere place
+anywhere_in_box box (Rel x y) = tt
+anywhere_in_box box (Abs x y) = tt
+anywhere_in_box box Lost = tt
+
+nothing_in_window : (w : Window) (place : End) → LitInWindow w Nothing place
+nothing_in_window w (Rel x y) = tt
+nothing_in_window w (Abs x y) = tt
+nothing_in_window w Lost = tt
+
+pub lit_in_more : (part whole : LitBox) (lit : LitExtent) (place : End) → IsInside part whole → LitInBox part lit place → LitInBox whole lit place
+lit_in_more part whole Nothing place inside h = nothing_in_box whole place
+lit_in_more part whole Anywhere place inside h = anywhere_in_box whole place
+lit_in_more part whole (Between a b) (Rel x y) inside h = (in_more part whole _ inside h.0, (in_more part whole _ inside h.1.0, tt))
+lit_in_more part whole (Between a b) (Abs x y) inside h = tt
+lit_in_more part whole (Between a b) Lost inside h = tt
+
+less_keeps : (mode : Mode) (w : Window) (e strong : Entry) (v : Seen) → ClaimsLess mode e strong → ((why : ShapeWhy) → ShapeKeeps mode w strong v why) → (why : ShapeWhy) → ShapeKeeps mode w e v why
+less_keeps mode w e strong v c h shape.Unmapped = tt
+less_keeps mode w e strong v c h shape.Odd = tt
+less_keeps mode w e strong v c h shape.HaltInShape = h shape.HaltInShape
+less_keeps mode w e strong v c h shape.BeamUnknown = h shape.BeamUnknown
+less_keeps mode w e strong v c h shape.ScaleUnknown = h shape.ScaleUnknown
+less_keeps mode w e strong v c h shape.OffScreen = h shape.OffScreen
+less_keeps mode w e strong v c h shape.NoEntry = h shape.NoEntry
+less_keeps mode w e strong v c h shape.TooDeep = let le : depth_under v.item.instr v.callee ≤ strong.depth = h shape.TooDeep in omega (arith, le, counts_le mode strong.depth e.depth c.depth)
+less_keeps mode w e strong v c h shape.TooManyWords = let le : v.after.words ≤ strong.words = h shape.TooManyWords in omega (arith, le, counts_le mode strong.words e.words c.words)
+less_keeps mode w e strong v c h shape.EndDiffers = at_last (next_place Shape v.item) (v.after.place ≡ strong.stop) (v.after.place ≡ e.stop) (λ is. is ∙ sym c.stop) (h shape.EndDiffers)
+less_keeps mode w e strong v c h shape.ScaleDiffers = at_last (next_place Shape v.item) (v.after.scale ≡ strong.scale) (v.after.scale ≡ e.scale) (λ is. is ∙ sym c.scale) (h shape.ScaleDiffers)
+less_keeps mode w e strong v c h shape.BoxTooSmall = lit_in_more strong.lit e.lit v.extent v.place c.lit (h shape.BoxTooSmall)
+less_keeps mode w e strong v c h shape.WordsDiffer = at_last (next_place Shape v.item) (AsClaimed mode v.after.words strong.words) (AsClaimed mode v.after.words e.words) (as_claimed mode v.after.words strong.words e.words c.words) (h shape.WordsDiffer)
+less_keeps mode w e strong v c h shape.DepthDiffers = at_last (next_place Shape v.item) (AsClaimed mode v.after.depth strong.depth) (AsClaimed mode v.after.depth e.depth) (as_claimed mode v.after.depth strong.depth e.depth c.depth) (h shape.DepthDiffers)
+
+-- what an item of a shape keeps of a claim
+abbrev Kept : Mode → Window → List Entry → Entry → Key → List Item → Item → ShapeWhy → Type 0
+Kept mode w list e key earlier i = ShapeKeeps mode w e (seen_at (record { kind = Shape; list = list; scale = key }) earlier i)
+
+-- a weaker claim of a good shape is good
+pub weaker_claim : (mode : Mode) (w : Window) (rom : Rom) (list : List Entry) (e strong : Entry) → ClaimsLess mode e strong → GoodShape mode w rom list strong → GoodShape mode w rom list e
+weaker_claim mode w rom list e strong c good earlier p lead why =
+    cell_keeps (Kept mode w list strong strong.key earlier) (Kept mode w list e e.key earlier) p (cell_at (rom_word rom) p) on (good earlier p there) why
+  where
+    there : LeadsTo Shape (rom_word rom) strong.addr earlier p
+    there = subst (λ (a : ℕ). LeadsTo Shape (rom_word rom) a earlier p) c.addr lead
+
+    on : (i : Item) → ((x : ShapeWhy) → Kept mode w list strong strong.key earlier i x) → (x : ShapeWhy) → Kept mode w list e e.key earlier i x
+    on i h = less_keeps mode w e strong (seen_at (record { kind = Shape; list = list; scale = e.key }) earlier i) c (λ x. subst (λ (k : Key). Kept mode w list strong k earlier i x) (sym c.key) (h x))
+
+-- ---- rules behind what is known
+
+-- what is lit from a place lies where it may
+record MayLight (w : Window) (whole : LitBox) (lit : LitExtent) (place : End) : Type 0 where
+  known : PlaceKnown lit place
+  shown : LitInWindow w lit place
+  boxed : LitInBox whole lit place
+
+-- what is lit at a relative place in a tail's box lies, from where the tail stands, where it may
+lit_over : (w : Window) (whole box : LitBox) (lit : LitExtent) (place second : End) → MayStandAt w whole box place → PlaceKnown lit second → ScaleKnown lit → LitInWindow w lit second → LitInBox box lit second → MayLight w whole lit (place_over place second)
+lit_over w whole box Nothing place second m known scale shown boxed = record { known = tt; shown = nothing_in_window w (place_over place second); boxed = nothing_in_box whole (place_over place second) }
+lit_over w whole box Anywhere place second m known scale shown boxed = absurd scale
+lit_over w whole box (Between a b) place Lost m known scale shown boxed = absurd (known refl)
+lit_over w whole box (Between a b) place (Abs x y) m known scale shown boxed = record { known = known; shown = shown; boxed = tt }
+lit_over w whole Empty (Between a b) place (Rel x y) m known scale shown boxed = absurd boxed.0
+lit_over w whole (Span l r d t) (Between a b) Lost (Rel x y) m known scale shown boxed = absurd m
+lit_over w whole (Span l r d t) (Between a b) (Abs u v) (Rel x y) m known scale shown boxed =
+    record {
+      known = λ is. cc;
+      shown = (
+        record { left = omega (arith, ints, m.0.left, boxed.0.left); right = omega (arith, ints, m.1.right, boxed.0.right); bottom = omega (arith, ints, m.0.bottom, boxed.0.bottom); top = omega (arith, ints, m.1.top, boxed.0.top) },
+        (record { left = omega (arith, ints, m.0.left, boxed.1.0.left); right = omega (arith, ints, m.1.right, boxed.1.0.right); bottom = omega (arith, ints, m.0.bottom, boxed.1.0.bottom); top = omega (arith, ints, m.1.top, boxed.1.0.top) }, tt),
+      );
+      boxed = tt;
+    }
+lit_over w Empty (Span l r d t) (Between a b) (Rel u v) (Rel x y) m known scale shown boxed = absurd m
+lit_over w (Span l' r' d' t') (Span l r d t) (Between a b) (Rel u v) (Rel x y) m known scale shown boxed =
+    record {
+      known = λ is. cc;
+      shown = tt;
+      boxed = (
+        record { left = omega (arith, ints, m.0, boxed.0.left); right = omega (arith, ints, m.1, boxed.0.right); bottom = omega (arith, ints, m.2, boxed.0.bottom); top = omega (arith, ints, m.3, boxed.0.top) },
+        (record { left = omega (arith, ints, m.0, boxed.1.0.left); right = omega (arith, ints, m.1, boxed.1.0.right); bottom = omega (arith, ints, m.2, boxed.1.0.bottom); top = omega (arith, ints, m.3, boxed.1.0.top) }, tt),
+      );
+    }
+
+-- the rules of a tail's item, seen from where the tail stands
+abbrev seen_over : Known → Seen → Seen
+seen_over first v = record { item = v.item; place = place_over first.place v.place; extent = v.extent; callee = v.callee; after = known_over first v.after }
+
+sum_as_claimed : (mode : Mode) (n a b : ℕ) → AsClaimed mode n a → AsClaimed mode (n + b) (a + b)
+sum_as_claimed Bound n a b h = tt
+sum_as_claimed Exact n a b h = ap (λ (x : ℕ). x + b) h
+
+max_as_claimed : (mode : Mode) (n a b : ℕ) → AsClaimed mode n a → AsClaimed mode (max n b) (max a b)
+max_as_claimed Bound n a b h = tt
+max_as_claimed Exact n a b h = ap (λ (x : ℕ). max x b) h
+
+over_keeps : (mode : Mode) (w : Window) (addr : ℕ) (key : Key) (box : LitBox) (first : Known) (tail : Entry) (v : Seen) → MayStandAt w box tail.lit first.place → ((why : ShapeWhy) → ShapeKeeps mode w tail v why) → (why : ShapeWhy) → ShapeKeeps mode w (claimed addr key box (known_over first (known_at_end tail))) (seen_over first v) why
+over_keeps mode w addr key box first tail v m h = keeps
+  where
+    lit : MayLight w box v.extent (place_over first.place v.place)
+    lit = lit_over w box tail.lit v.extent first.place v.place m (h shape.BeamUnknown) (h shape.ScaleUnknown) (h shape.OffScreen) (h shape.BoxTooSmall)
+
+    keeps : (why : ShapeWhy) → ShapeKeeps mode w (claimed addr key box (known_over first (known_at_end tail))) (seen_over first v) why
+    keeps shape.Unmapped = tt
+    keeps shape.Odd = tt
+    keeps shape.HaltInShape = h shape.HaltInShape
+    keeps shape.BeamUnknown = lit.known
+    keeps shape.ScaleUnknown = h shape.ScaleUnknown
+    keeps shape.OffScreen = lit.shown
+    keeps shape.NoEntry = h shape.NoEntry
+    keeps shape.TooDeep = let le : depth_under v.item.instr v.callee ≤ tail.depth = h shape.TooDeep in omega (arith, le)
+    keeps shape.TooManyWords = let le : v.after.words ≤ tail.words = h shape.TooManyWords in omega (arith, le)
+    keeps shape.EndDiffers = at_last (next_place Shape v.item) (v.after.place ≡ tail.stop) _ (ap (place_over first.place)) (h shape.EndDiffers)
+    keeps shape.ScaleDiffers = h shape.ScaleDiffers
+    keeps shape.BoxTooSmall = lit.boxed
+    keeps shape.WordsDiffer = at_last (next_place Shape v.item) (AsClaimed mode v.after.words tail.words) _ (sum_as_claimed mode v.after.words tail.words first.words) (h shape.WordsDiffer)
+    keeps shape.DepthDiffers = at_last (next_place Shape v.item) (AsClaimed mode v.after.depth tail.depth) _ (max_as_claimed mode v.after.depth tail.depth first.depth) (h shape.DepthDiffers)
+
+-- ---- what is known behind what is known
+
+effect_over : (f : Effect) (place second : End) → place_past f (place_over place second) ≡ place_over place (place_past f second)
+effect_over (Sets p) place second = refl
+effect_over Loses place second = refl
+effect_over (Moves d) place (Rel x y) = sym (moves_on place (record { x = x; y = y }) d)
+effect_over (Moves d) place (Abs x y) = refl
+effect_over (Moves d) place Lost = refl
+
+past_over : (i : Item) (callee : Option Entry) (first second : Known) → known_past i callee (known_over first second) ≡ known_over first (known_past i callee second)
+past_over i callee first second =
+    let place = effect_over (effect_of i.instr second.scale callee) first.place second.place in
+    let scale = (known_past i callee second).scale in
+    let words : word_count i.format + callee_words callee + (second.words + first.words) ≡ word_count i.format + callee_words callee + second.words + first.words = omega arith in
+    let depth : max (depth_under i.instr callee) (max second.depth first.depth) ≡ max (max (depth_under i.instr callee) second.depth) first.depth = omega arith in
+    λ x. record { place = place x; scale = scale; words = words x; depth = depth x }
+
+seen_by_over : (list : List Entry) (first second : Known) (i : Item) → seen_by list Shape (known_over first second) i ≡ seen_over first (seen_by list Shape second i)
+seen_by_over list first second i =
+    let v : Seen = seen_by list Shape (known_over first second) i in
+    ap (λ (after : Known). record v { after = after }) (past_over i (callee_at list (target Shape i.instr) second.scale) first second)
+
+over_origin : (place : End) → place ≡ place_over place (Rel (pos 0) (pos 0))
+over_origin (Rel x y) =
+    let a : x ≡ x +ℤ pos 0 = omega (arith, ints) in
+    let b : y ≡ y +ℤ pos 0 = omega (arith, ints) in
+    λ i. Rel (a i) (b i)
+over_origin (Abs x y) =
+    let a : x ≡ x +ℤ pos 0 = omega (arith, ints) in
+    let b : y ≡ y +ℤ pos 0 = omega (arith, ints) in
+    λ i. Abs (a i) (b i)
+over_origin Lost = refl
+
+-- nothing is added where the second part has no item
+over_none : (first : Known) (key : Key) → first.scale ≡ key → first ≡ known_over first (record { place = Rel (pos 0) (pos 0); scale = key; words = 0; depth = 0 })
+over_none first key is =
+    let place = over_origin first.place in
+    let words : first.words ≡ 0 + first.words = omega arith in
+    let depth : first.depth ≡ max 0 first.depth = omega arith in
+    λ x. record { place = place x; scale = is x; words = words x; depth = depth x }
+
+-- ---- the items of a shape: the first, and those of the tail
+
+module _ (rom : Rom) (list : List Entry) (key : Key) (i : Item) (tail : Entry) (is : cell_at (rom_word rom) i.at ≡ Holds i.format i.instr) (next : next_place Shape i ≡ Some tail.addr) (scale : tail.key ≡ (first_seen list key i).after.scale) where
+  abbrev whole : Context
+  whole = record { kind = Shape; list = list; scale = key }
+
+  abbrev behind : Context
+  behind = record { kind = Shape; list = list; scale = tail.key }
+
+  abbrev past : Known
+  past = (first_seen list key i).after
+
+  -- the items behind the first lead there from the tail's address
+  record Split (earlier : List Item) (p : ℕ) : Type 0 where
+    rest : List Item
+    leads : LeadsTo Shape (rom_word rom) tail.addr rest p
+    knows : known_before whole earlier ≡ known_over past (known_before behind rest)
+
+  -- before the first item, or behind it
+  abbrev Place : List Item → ℕ → Type 0
+  Place earlier p = ((earlier ≡ []) × (p ≡ i.at)) ⊎ Split earlier p
+
+  knows_on : (earlier rest : List Item) (j : Item) → known_before whole earlier ≡ known_over past (known_before behind rest) → seen_at whole earlier j ≡ seen_over past (seen_at behind rest j)
+  knows_on earlier rest j knows =
+      ap (λ (k : Known). seen_by list Shape k j) knows ∙ seen_by_over list past (known_before behind rest) j
+
+  split : (earlier : List Item) (p : ℕ) → LeadsTo Shape (rom_word rom) i.at earlier p → Place earlier p
+  split [] p lead = inl (refl, lead)
+  split (j ∷ earlier) p lead = ⊎_elim at_first further (split earlier j.at lead.0)
+    where
+      at_first : (earlier ≡ []) × (j.at ≡ i.at) → Place (j ∷ earlier) p
+      at_first h =
+          let same : j ≡ i = item_same j i h.1 (sym lead.1 ∙ ap (cell_at (rom_word rom)) h.1 ∙ is) in
+          let goes : Some p ≡ Some tail.addr = sym lead.2 ∙ ap (next_place Shape) same ∙ next in
+          let items : j ∷ earlier ≡ i ∷ [] = cc (same, h.0) in
+          inr (record { rest = []; leads = cc goes; knows = ap (known_before whole) items ∙ over_none past tail.key (sym scale) })
+
+      further : Split earlier j.at → Place (j ∷ earlier) p
+      further s =
+          inr (record {
+            rest = j ∷ s.rest;
+            leads = (s.leads, lead.1, lead.2);
+            knows = ap (λ (v : Seen). v.after) (knows_on earlier s.rest j s.knows);
+          })
+
+-- ---- the laws
+
+same_count : (mode : Mode) (n : ℕ) → AsClaimed mode n n
+same_count Bound n = tt
+same_count Exact n = refl
+
+known_first : (lit : LitExtent) → PlaceKnown lit (Rel (pos 0) (pos 0))
+known_first Nothing = tt
+known_first (Between a b) = λ is. cc
+known_first Anywhere = λ is. cc
+
+shown_first : (w : Window) (lit : LitExtent) → LitInWindow w lit (Rel (pos 0) (pos 0))
+shown_first w Nothing = tt
+shown_first w (Between a b) = tt
+shown_first w Anywhere = tt
+
+at_end : (o : Option ℕ) (P : Known → Type 0) (here end : Known) → (o ≡ None → end ≡ here) → P here → AtLast o (P end)
+at_end None P here end is h = subst P (sym (is refl)) h
+at_end (Some p) P here end is h = tt
+
+first_keeps : (mode : Mode) (w : Window) (rom : Rom) (list : List Entry) (key : Key) (box : LitBox) (i : Item) (end : Known) → MayStandFirst rom list key box i → (first_seen list key i).after.words ≤ end.words → (first_seen list key i).after.depth ≤ end.depth → (next_place Shape i ≡ None → end ≡ (first_seen list key i).after) → (why : ShapeWhy) → Kept mode w list (claimed i.at key box end) key [] i why
+first_keeps mode w rom list key box i end m words depth ends = keeps
+  where
+    last : (P : Known → Type 0) → P (first_seen list key i).after → AtLast (next_place Shape i) (P end)
+    last P h = at_end (next_place Shape i) P (first_seen list key i).after end ends h
+
+    keeps : (why : ShapeWhy) → Kept mode w list (claimed i.at key box end) key [] i why
+    keeps shape.Unmapped = tt
+    keeps shape.Odd = tt
+    keeps shape.HaltInShape = m.goes_on
+    keeps shape.BeamUnknown = known_first (first_seen list key i).extent
+    keeps shape.ScaleUnknown = m.scale_known
+    keeps shape.OffScreen = shown_first w (first_seen list key i).extent
+    keeps shape.NoEntry = m.named
+    keeps shape.TooDeep = omega (arith, depth)
+    keeps shape.TooManyWords = words
+    keeps shape.EndDiffers = last (λ (k : Known). (first_seen list key i).after.place ≡ k.place) refl
+    keeps shape.ScaleDiffers = last (λ (k : Known). (first_seen list key i).after.scale ≡ k.scale) refl
+    keeps shape.BoxTooSmall = m.boxed
+    keeps shape.WordsDiffer = last (λ (k : Known). AsClaimed mode (first_seen list key i).after.words k.words) (same_count mode (first_seen list key i).after.words)
+    keeps shape.DepthDiffers = last (λ (k : Known). AsClaimed mode (first_seen list key i).after.depth k.depth) (same_count mode (first_seen list key i).after.depth)
+
+-- what the first item keeps, its place keeps
+first_place_keeps : (mode : Mode) (w : Window) (rom : Rom) (list : List Entry) (e : Entry) (i : Item) → cell_at (rom_word rom) i.at ≡ Holds i.format i.instr → ((why : ShapeWhy) → ShapeKeeps mode w e (first_seen list e.key i) why) → (earlier : List Item) (p : ℕ) → earlier ≡ [] → p ≡ i.at → (why : ShapeWhy) → ShapePlaceKeeps mode w rom list e earlier p why
+first_place_keeps mode w rom list e i is h earlier p none at why =
+    subst (λ (x : List Item). ShapePlaceKeeps mode w rom list e x p why) (sym none)
+    (subst (λ (x : ℕ). ShapePlaceKeeps mode w rom list e [] x why) (sym at)
+    (subst (λ (c : Cell). CellKeeps shape.Unmapped shape.Odd (λ j. ShapeKeeps mode w e (first_seen list e.key j)) i.at c why) (sym is) (h why)))
+
+-- an item before a good tail is good
+pub item_before_tail : (mode : Mode) (w : Window) (rom : Rom) (list : List Entry) (key : Key) (box : LitBox) (i : Item) (tail : Entry) → MayStandFirst rom list key box i → IsBehind w list key box i tail → GoodShape mode w rom list tail → GoodShape mode w rom list (after_item list key box i tail)
+item_before_tail mode w rom list key box i tail m b good earlier p lead why = ⊎_elim at_first further (split rom list key i tail m.there b.next b.scale earlier p lead)
+  where
+    no_last : next_place Shape i ≡ None → known_over (first_seen list key i).after (known_at_end tail) ≡ (first_seen list key i).after
+    no_last none = let no : Some tail.addr ≡ None = sym b.next ∙ none in cc no
+
+    at_first : (earlier ≡ []) × (p ≡ i.at) → ShapePlaceKeeps mode w rom list (after_item list key box i tail) earlier p why
+    at_first h = first_place_keeps mode w rom list (after_item list key box i tail) i m.there (first_keeps mode w rom list key box i (known_over (first_seen list key i).after (known_at_end tail)) m (omega arith) (omega arith) no_last) earlier p h.0 h.1 why
+
+    further : Split rom list key i tail m.there b.next b.scale earlier p → ShapePlaceKeeps mode w rom list (after_item list key box i tail) earlier p why
+    further s = cell_keeps (Kept mode w list tail tail.key s.rest) (Kept mode w list (after_item list key box i tail) key earlier) p (cell_at (rom_word rom) p) on (good s.rest p s.leads) why
+      where
+        on : (j : Item) → ((x : ShapeWhy) → Kept mode w list tail tail.key s.rest j x) → (x : ShapeWhy) → Kept mode w list (after_item list key box i tail) key earlier j x
+        on j h x =
+            subst (λ (v : Seen). ShapeKeeps mode w (after_item list key box i tail) v x) (sym (knows_on rom list key i tail m.there b.next b.scale earlier s.rest j s.knows))
+            (over_keeps mode w i.at key box (first_seen list key i).after tail (seen_at (record { kind = Shape; list = list; scale = tail.key }) s.rest j) b.lit h x)
+
+-- an item that ends a shape is good alone
+pub last_item_good : (mode : Mode) (w : Window) (rom : Rom) (list : List Entry) (key : Key) (box : LitBox) (i : Item) → MayStandFirst rom list key box i → next_place Shape i ≡ None → GoodShape mode w rom list (last_item list key box i)
+last_item_good mode w rom list key box i m last [] p lead why =
+    first_place_keeps mode w rom list (last_item list key box i) i m.there (first_keeps mode w rom list key box i (first_seen list key i).after m (omega arith) (omega arith) (λ none. refl)) [] p refl lead why
+last_item_good mode w rom list key box i m last (j ∷ earlier) p lead why = absurd (too_long Shape (rom_word rom) i.at [] i refl m.there last (j ∷ earlier) p lead (omega arith))

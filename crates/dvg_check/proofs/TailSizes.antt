@@ -1,0 +1,84 @@
+-- A tail's numbers stay small.
+use Rattle.std.proofs.Common.{arith, ◌≤◌, ◌+◌, ◌*◌, ◌^◌, ℕ, ℤ, pos, neg_ℤ}
+use Rattle.std.proofs.lemmas.Int.{ints}
+use Rattle.dvg_words.specs.Beam.{IsWithin, shift}
+use Rattle.dvg_words.specs.declared.beam.Point.{Point}
+use Rattle.dvg_cert.specs.declared.entry.End.{End}
+use Rattle.dvg_cert.specs.declared.entry.End.TheVariants.{Rel, Abs, Lost}
+use Rattle.dvg_cert.specs.declared.entry.Entry.{Entry}
+use Rattle.dvg_cert.specs.declared.entry.LitBox.{LitBox}
+use Rattle.dvg_cert.specs.declared.entry.LitBox.TheVariants.{Empty, Span}
+use Rattle.dvg_items.specs.Lit.{InBox, IsInside}
+use Rattle.dvg_items.specs.Bounds.{IsNear, IsNearPlace}
+use Rattle.dvg_items.proofs.Near.{IsNear-shift, IsNear-more, IsNearPlace-more}
+use Rattle.dvg_check.specs.Private.Tails.{IsNearBox, IsSmall, place_over, moved}
+
+-- ---- boxes
+
+-- the greatest box within a bound
+abbrev wall : ℕ → LitBox
+wall n = Span (neg_ℤ (pos n)) (pos n) (neg_ℤ (pos n)) (pos n)
+
+in_wall : (n : ℕ) (p : Point) → IsWithin n p → InBox (wall n) p
+in_wall n p h = record { left = h.left; right = h.right; bottom = h.down; top = h.up }
+
+inside_wall : (n : ℕ) (box : LitBox) → IsNearBox n box → IsInside box (wall (2 ^ 41 * n))
+inside_wall n Empty h = tt
+inside_wall n (Span x_min x_max y_min y_max) h = (h.0.left, h.1.right, h.0.down, h.1.up)
+
+-- a box inside the greatest one, that has this point
+near_by_point : (n : ℕ) (p : Point) (box : LitBox) → IsNear n p → InBox box p → IsInside box (wall (2 ^ 41 * n)) → IsNearBox n box
+near_by_point n p Empty h i w = tt
+near_by_point n p (Span x_min x_max y_min y_max) h i w = (
+  record { left = w.0; right = omega (arith, ints, i.left, h.right); down = w.2; up = omega (arith, ints, i.bottom, h.up) },
+  record { left = omega (arith, ints, i.right, h.left); right = w.1; down = omega (arith, ints, i.top, h.down); up = w.3 },
+)
+
+-- a box inside the greatest one, that has this part
+near_by_part : (n : ℕ) (x_min x_max y_min y_max : ℤ) (box : LitBox) → IsNearBox n (Span x_min x_max y_min y_max) → IsInside (Span x_min x_max y_min y_max) box → IsInside box (wall (2 ^ 41 * n)) → IsNearBox n box
+near_by_part n x_min x_max y_min y_max Empty h i w = tt
+near_by_part n x_min x_max y_min y_max (Span left right bottom top) h i w = (
+  record { left = w.0; right = omega (arith, ints, i.0, h.0.right); down = w.2; up = omega (arith, ints, i.2, h.0.up) },
+  record { left = omega (arith, ints, i.1, h.1.left); right = w.1; down = omega (arith, ints, i.3, h.1.down); up = w.3 },
+)
+
+pub IsNearBox-spanning : (n : ℕ) (p q : Point) (box : LitBox) → IsNear n p → IsNear n q → InBox box p → ((other : LitBox) → InBox other p → InBox other q → IsInside box other) → IsNearBox n box
+IsNearBox-spanning n p q box h k i least = near_by_point n p box h i (least (wall (2 ^ 41 * n)) (in_wall (2 ^ 41 * n) p h) (in_wall (2 ^ 41 * n) q k))
+
+nothing_inside : (n : ℕ) (box : LitBox) → IsInside box Empty → IsNearBox n box
+nothing_inside n Empty h = tt
+nothing_inside n (Span x_min x_max y_min y_max) h = absurd h
+
+pub IsNearBox-joined : (n : ℕ) (first second box : LitBox) → IsNearBox n first → IsNearBox n second → IsInside first box → IsInside second box → ((other : LitBox) → IsInside first other → IsInside second other → IsInside box other) → IsNearBox n box
+IsNearBox-joined n Empty Empty box h k i j least = nothing_inside n box (least Empty tt tt)
+IsNearBox-joined n Empty (Span a b c d) box h k i j least = near_by_part n a b c d box k j (least (wall (2 ^ 41 * n)) tt (inside_wall n (Span a b c d) k))
+IsNearBox-joined n (Span a b c d) second box h k i j least =
+    near_by_part n a b c d box h i (least (wall (2 ^ 41 * n)) (inside_wall n (Span a b c d) h) (inside_wall n second k))
+
+pub IsNearBox-more : (m n : ℕ) (box : LitBox) → m ≤ n → IsNearBox m box → IsNearBox n box
+IsNearBox-more m n Empty le h = tt
+IsNearBox-more m n (Span a b c d) le h = (IsNear-more m n _ le h.0, IsNear-more m n _ le h.1)
+
+pub IsNearBox-moved : (n : ℕ) (box : LitBox) (d : Point) → IsNearBox n box → IsNear 1 d → IsNearBox (n + 1) (moved box d)
+IsNearBox-moved n Empty d h k = tt
+IsNearBox-moved n (Span x_min x_max y_min y_max) d h k =
+    (IsNear-shift n (record { x = x_min; y = y_min }) d h.0 k, IsNear-shift n (record { x = x_max; y = y_max }) d h.1 k)
+
+-- ---- places
+
+shift_near : (n : ℕ) (p d : Point) → IsNear 1 p → IsNear n d → IsNear (n + 1) (shift p d)
+shift_near n p d h k =
+    record { left = omega (arith, ints, h.left, k.left); right = omega (arith, ints, h.right, k.right); down = omega (arith, ints, h.down, k.down); up = omega (arith, ints, h.up, k.up) }
+
+pub IsNearPlace-over : (n : ℕ) (place stop : End) → IsNearPlace 1 place → IsNearPlace n stop → IsNearPlace (n + 1) (place_over place stop)
+IsNearPlace-over n (Rel a b) (Rel x y) h k = shift_near n (record { x = a; y = b }) (record { x = x; y = y }) h k
+IsNearPlace-over n (Abs a b) (Rel x y) h k = shift_near n (record { x = a; y = b }) (record { x = x; y = y }) h k
+IsNearPlace-over n Lost (Rel x y) h k = tt
+IsNearPlace-over n place (Abs x y) h k = IsNearPlace-more n (n + 1) (Abs x y) (omega arith) k
+IsNearPlace-over n place Lost h k = tt
+
+-- ---- tails
+
+pub IsSmall-more : (m n : ℕ) (e : Entry) → m ≤ n → IsSmall m e → IsSmall n e
+IsSmall-more m n e le h =
+    record { key = h.key; stop = IsNearPlace-more m n e.stop le h.stop; scale = h.scale; words = omega (arith, h.words, le); depth = h.depth; lit = IsNearBox-more m n e.lit le h.lit }

@@ -1,0 +1,18 @@
+use Rattle.std.proofs.Common.{sym, subst, pos}
+use Rattle.dvg_cert.specs.declared.entry.End.TheVariants.{Rel}
+use Rattle.dvg_items.specs.declared.lit.LitExtent.{LitExtent}
+use Rattle.dvg_items.specs.Lit.{InBox, LitInBox}
+use Rattle.dvg_items.specs.Bounds.{IsNearExtent}
+use Rattle.dvg_items.proofs.Points.{origin_shift}
+use Rattle.dvg_check.proofs.TailSizes.{IsNearBox-spanning}
+use Rattle.dvg_check.proofs.tail.box_of.Goals as goal
+
+pub returns-in-Between-clause-lit : goal.returns-in-Between-clause-lit
+returns-in-Between-clause-lit c =
+    subst (λ (lit : LitExtent). LitInBox c.spanning.result lit (Rel (pos 0) (pos 0))) (sym c.in-Between.is)
+    (subst (InBox c.spanning.result) (sym (origin_shift c.in-Between.from)) c.spanning.ensures.first, (subst (InBox c.spanning.result) (sym (origin_shift c.in-Between.to)) c.spanning.ensures.second, tt))
+
+pub returns-in-Between-clause-near : goal.returns-in-Between-clause-near
+returns-in-Between-clause-near c =
+    let near = subst IsNearExtent c.in-Between.is c.requires in
+    IsNearBox-spanning 1 c.in-Between.from c.in-Between.to c.spanning.result near.0 near.1 c.spanning.ensures.first c.spanning.ensures.least

@@ -1,0 +1,18 @@
+use Rattle.std.proofs.Common.{rules, subst, sym, w64, ◌+◌, ◌≡◌}
+use Rattle.std.proofs.lemmas.Int.{to_z-of_z}
+use mir.Val.{SFits}
+use Rattle.dvg_words.specs.declared.beam.Point.{Point}
+use Rattle.dvg_items.specs.Bounds.{IsNear}
+use Rattle.dvg_check.specs.Private.Tails.{IsNearBox, moved}
+use Rattle.dvg_check.proofs.TailSizes.{IsNearBox-moved}
+use Rattle.dvg_check.proofs.tail.lit_over.Goals as goal
+
+pub returns-in-Rel-default-clause-near : goal.returns-in-Rel-default-clause-near
+returns-in-Rel-default-clause-near c =
+    λ n near.
+    let by : Point = record { x = c.in-Rel-default.x; y = c.in-Rel-default.y } in
+    let fx : SFits w64 c.in-Rel-default.x = search rules in
+    let fy : SFits w64 c.in-Rel-default.y = search rules in
+    let is : c.moved.result ≡ moved c.args.lit.now by = simp to_z-of_z at c.moved.ensures in
+    let d : IsNear 1 by = rw c.in-Rel-default.is-0 at c.requires.place in
+    subst (IsNearBox (n + 1)) (sym is) (IsNearBox-moved n c.args.lit.now by near d)

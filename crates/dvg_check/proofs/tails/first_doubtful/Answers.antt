@@ -1,0 +1,50 @@
+use Rattle.std.proofs.Common.{arith, List, pos, refl, sym, subst, get_or, take, ◌≡◌, ◌-◌, ◌≤◌, ◌<◌, ℕ, ⊎_elim}
+use Rattle.std.proofs.lemmas.Bool.{cases_lt}
+use Rattle.std.proofs.lemmas.List.{get_or_default}
+use Rattle.std.specs.List.{AllByRecursion}
+use Rattle.dvg_words.specs.Beam.{screen}
+use Rattle.dvg_cert.specs.declared.entry.End.TheVariants.{Rel}
+use Rattle.dvg_cert.specs.declared.entry.Entry.{Entry}
+use Rattle.dvg_cert.specs.declared.entry.Key.TheVariants.{At}
+use Rattle.dvg_cert.specs.declared.entry.LitBox.TheVariants.{Empty}
+use Rattle.dvg_check.specs.Rules.{GoodShape}
+use Rattle.dvg_check.proofs.TailRows.{all_take, claim_at, none_kept}
+use Rattle.dvg_check.proofs.tails.first_doubtful.Goals as goal
+
+-- what stands for an entry past the end
+abbrev none : Entry
+none = record { addr = 0; key = At 0; stop = Rel (pos 0) (pos 0); lit = Empty; depth = 0; words = 0; scale = At 0 }
+
+pub entries-init : goal.entries-init
+entries-init g c =
+    record {
+      near = omega arith;
+      before = omega arith;
+      few = omega arith;
+      tails = none_kept screen c.args.rom.now (g.E.Entries.list c.args.entries.now) 51;
+      good = λ k past le lt. absurd (omega (arith, le, lt));
+    }
+
+pub entries-preserved : goal.entries-preserved
+entries-preserved g c =
+    record {
+      near = omega (arith, (claim_at c.args.list.now (c.entries.left - 1) none c.requires.certificate (omega (arith, c.entries.invariant.before, c.entries-test.true))).addr);
+      before = omega (arith, c.entries.invariant.before);
+      few = c.entries.invariant.few;
+      tails = c.make_all.ensures;
+      good = λ k past le lt.
+          ⊎_elim
+          (λ (less : k < c.entries.left).
+          let same : k ≡ c.entries.left - 1 = omega (arith, le, less, c.entries-test.true) in
+          subst (λ (j : ℕ). GoodShape c.args.mode screen c.args.rom.now (g.E.Entries.list c.args.entries.now) (get_or c.args.list.now j past)) (sym same)
+          (subst (GoodShape c.args.mode screen c.args.rom.now (g.E.Entries.list c.args.entries.now)) (get_or_default c.args.list.now (c.entries.left - 1) none past (omega (arith, c.entries.invariant.before, c.entries-test.true)))
+          (c.if-not-shows.ensures c.args.rom.now (g.E.Entries.list c.args.entries.now) c.make_all.ensures refl)))
+          (λ (more : c.entries.left ≤ k). c.entries.invariant.good k past more lt)
+          (cases_lt k c.entries.left);
+    }
+
+pub returns-clause-good : goal.returns-clause-good
+returns-clause-good g c =
+    subst (λ (l : List Entry). AllByRecursion (GoodShape c.args.mode screen c.args.rom.now l) (take c.entries.doubtful c.args.list.now)) c.requires.list
+    (all_take (GoodShape c.args.mode screen c.args.rom.now (g.E.Entries.list c.args.entries.now)) c.args.list.now c.entries.doubtful c.entries.invariant.few
+    (λ k past lt. c.entries.invariant.good k past (omega (arith, c.entries-test.false)) lt))

@@ -1,0 +1,135 @@
+-- Tails: what an item and the shape behind it come to, told as the entry that would be claimed for both. No rule stands here.
+use Rattle.std.specs.Prelude.{◌≡◌, ◌≢◌, ◌+◌, ◌-◌, ◌*◌, ◌≤◌, max, ◌+ℤ◌, ℕ, List, Option, Some, None, slice_index_or}
+use Rattle.dvg_words.specs.Values.{Window}
+use Rattle.dvg_words.specs.declared.beam.Point.{Point}
+use Rattle.dvg_words.specs.declared.map.TheConstants.{ADDRESS_END}
+use Rattle.dvg_words.specs.Memory.{Rom, rom_word}
+use Rattle.dvg_words.specs.Beam.{InWindow}
+use Rattle.dvg_words.specs.declared.instruction.Instr.TheVariants.{Halt}
+use Rattle.dvg_words.specs.declared.instruction.Cell.TheVariants.{Holds}
+use Rattle.dvg_words.specs.Decoding.{cell_at}
+use Rattle.dvg_cert.specs.Entry.{IsKey}
+use Rattle.dvg_cert.specs.declared.entry.Key.{Key}
+use Rattle.dvg_cert.specs.declared.entry.End.{End}
+use Rattle.dvg_cert.specs.declared.entry.End.TheVariants.{Rel, Abs, Lost}
+use Rattle.dvg_cert.specs.declared.entry.LitBox.{LitBox}
+use Rattle.dvg_cert.specs.declared.entry.LitBox.TheVariants.{Empty, Span}
+use Rattle.dvg_cert.specs.declared.entry.Entry.{Entry}
+use Rattle.dvg_cert.specs.declared.limits.TheConstants.{MOST_WORDS}
+use Rattle.dvg_items.specs.declared.item.Kind.TheVariants.{Shape}
+use Rattle.dvg_items.specs.declared.item.Item.{Item}
+use Rattle.dvg_items.specs.declared.known.Known.{Known}
+use Rattle.dvg_items.specs.Items.{next_place}
+use Rattle.dvg_items.specs.Known.{place_past, stop_effect, start, target}
+use Rattle.dvg_items.specs.Lit.{ScaleKnown, LitInBox, IsInside}
+use Rattle.dvg_items.specs.Seen.{HasCallee}
+use Rattle.dvg_items.specs.Bounds.{IsNear, IsNearPlace}
+use Rattle.dvg_check.specs.Rules.{Mode, Seen, GoodShape}
+use Rattle.dvg_check.specs.Behaving.{Counts}
+use Rattle.dvg_check.specs.Private.Judging.{seen_by}
+
+-- ---- what is claimed
+
+-- the one entry claims of a shape no more than the other: a box that holds its box, and counts that are no smaller
+pub record ClaimsLess (mode : Mode) (e strong : Entry) : Type 0 where
+  pub addr : e.addr ≡ strong.addr
+  pub key : e.key ≡ strong.key
+  pub stop : e.stop ≡ strong.stop
+  pub lit : IsInside strong.lit e.lit
+  pub depth : Counts mode strong.depth e.depth
+  pub words : Counts mode strong.words e.words
+  pub scale : e.scale ≡ strong.scale
+
+-- what an entry claims is known at its end
+abbrev pub known_at_end : Entry → Known
+known_at_end e = record { place = e.stop; scale = e.scale; words = e.words; depth = e.depth }
+
+-- the entry that claims it
+abbrev pub claimed : ℕ → Key → LitBox → Known → Entry
+claimed addr key lit end =
+    record { addr = addr; key = key; stop = end.place; lit = lit; depth = end.depth; words = end.words; scale = end.scale }
+
+-- ---- an item and what stands behind it
+
+-- the place past a part of a shape that ends so, from this place: as past a call
+abbrev pub place_over : End → End → End
+place_over place stop = place_past (stop_effect stop) place
+
+-- what is known after both parts of a shape, from what is known after the first and, of a shape that starts there, after the
+-- second
+abbrev pub known_over : Known → Known → Known
+known_over first second =
+    record {
+      place = place_over first.place second.place;
+      scale = second.scale;
+      words = second.words + first.words;
+      depth = max second.depth first.depth;
+    }
+
+-- the first item of a shape at this key, as the rules see it
+abbrev pub first_seen : List Entry → Key → Item → Seen
+first_seen list key i = seen_by list Shape (start Shape key) i
+
+abbrev pub moved : LitBox → Point → LitBox
+moved Empty d = Empty
+moved (Span x_min x_max y_min y_max) d = Span (x_min +ℤ d.x) (x_max +ℤ d.x) (y_min +ℤ d.y) (y_max +ℤ d.y)
+
+-- both corners are in the window
+abbrev pub BoxInWindow : Window → LitBox → Type 0
+BoxInWindow w Empty = Unit {0}
+BoxInWindow w (Span x_min x_max y_min y_max) =
+    InWindow w (record { x = x_min; y = y_min }) × InWindow w (record { x = x_max; y = y_max })
+
+-- from this place, a shape's box may stand: at a relative place inside the whole box, at an absolute one in the window
+abbrev pub MayStandAt : Window → LitBox → LitBox → End → Type 0
+MayStandAt w whole Empty place = Unit {0}
+MayStandAt w whole (Span l r b t) (Rel x y) = IsInside (moved (Span l r b t) (record { x = x; y = y })) whole
+MayStandAt w whole (Span l r b t) (Abs x y) = BoxInWindow w (moved (Span l r b t) (record { x = x; y = y }))
+MayStandAt w whole (Span l r b t) Lost = ⊥
+
+-- the item stands in a ROM, is no HALT, lights nothing at unknown scale and only what lies in the box, and calls no entry
+-- that is missing
+pub record MayStandFirst (rom : Rom) (list : List Entry) (key : Key) (box : LitBox) (i : Item) : Type 0 where
+  pub there : cell_at (rom_word rom) i.at ≡ Holds i.format i.instr
+  pub goes_on : i.instr ≢ Halt
+  pub scale_known : ScaleKnown (first_seen list key i).extent
+  pub named : HasCallee (target Shape i.instr) (first_seen list key i).callee
+  pub boxed : LitInBox box (first_seen list key i).extent (first_seen list key i).place
+
+-- the tail stands behind the item, at the scale that the item leaves, and may light what it does from there
+pub record IsBehind (w : Window) (list : List Entry) (key : Key) (box : LitBox) (i : Item) (tail : Entry) : Type 0 where
+  pub next : next_place Shape i ≡ Some tail.addr
+  pub scale : tail.key ≡ (first_seen list key i).after.scale
+  pub lit : MayStandAt w box tail.lit (first_seen list key i).after.place
+
+-- the entry of an item alone, and of an item and the tail behind it
+abbrev pub last_item : List Entry → Key → LitBox → Item → Entry
+last_item list key box i = claimed i.at key box (first_seen list key i).after
+
+abbrev pub after_item : List Entry → Key → LitBox → Item → Entry → Entry
+after_item list key box i tail = claimed i.at key box (known_over (first_seen list key i).after (known_at_end tail))
+
+-- ---- tails, and how large their numbers are
+
+abbrev pub IsNearBox : ℕ → LitBox → Type 0
+IsNearBox n Empty = Unit {0}
+IsNearBox n (Span x_min x_max y_min y_max) =
+    IsNear n (record { x = x_min; y = y_min }) × IsNear n (record { x = x_max; y = y_max })
+
+-- so many items, of which none calls a shape of more words than an entry may have, come to no more than this
+pub record IsSmall (n : ℕ) (e : Entry) : Type 0 where
+  pub key : IsKey e.key
+  pub stop : IsNearPlace n e.stop
+  pub scale : IsKey e.scale
+  pub words : e.words ≤ (MOST_WORDS + 2) * n
+  pub depth : e.depth ≤ 4
+  pub lit : IsNearBox n e.lit
+
+-- a good shape from this address and key on, whatever the mode, as small as the items that may stand there are few
+pub record IsTail (w : Window) (rom : Rom) (list : List Entry) (tail : Entry) : Type 0 where
+  pub good : (mode : Mode) → GoodShape mode w rom list tail
+  pub small : IsSmall (ADDRESS_END + 2 - tail.addr) tail
+
+-- all that stand in these slots are tails
+abbrev pub AreTails : Window → Rom → List Entry → List (Option Entry) → Type 0
+AreTails w rom list slots = (k : ℕ) (tail : Entry) → slice_index_or slots k None ≡ Some tail → IsTail w rom list tail

@@ -1,0 +1,71 @@
+//! Sets of keys.
+
+ghost use Rattle.std.specs.Prelude.{◌≡◌, ◌<◌};
+ghost use Rattle.dvg_cert.specs.Entry.{IsKey};
+
+use dvg_cert::Key;
+
+/// How many keys there are: the sixteen global scales, and `Any`.
+pub const KEYS: u8 = 17;
+
+/// The number of a key among all, from 0 on.
+pub fn key_index(key: Key) -> u8
+    requires { IsKey key }
+    ensures { result < 17 }
+{
+    match key {
+        Key::At(scale) => scale,
+        Key::Any => 16,
+    }
+}
+
+/// The key of a number.
+pub fn key_of(index: u8) -> Key
+    requires { index < 17 }
+    ensures { IsKey result }
+{
+    if index == 16 {
+        Key::Any
+    } else {
+        Key::At(index)
+    }
+}
+
+/// Some of the keys.
+#[derive(Clone, Copy, Debug, PartialEq, Eq)]
+pub struct Keys {
+    /// The bit of each key's number.
+    bits: u32,
+}
+
+impl Keys {
+    /// No key.
+    pub const NONE: Keys = Keys { bits: 0 };
+
+    /// One key alone.
+    pub fn one(key: Key) -> Keys
+        requires { IsKey key }
+    {
+        Keys {
+            bits: 1 << key_index(key),
+        }
+    }
+
+    /// These keys and others.
+    pub fn with(self, others: Keys) -> Keys {
+        Keys {
+            bits: self.bits | others.bits,
+        }
+    }
+
+    pub fn is_empty(self) -> bool {
+        self.bits == 0
+    }
+
+    /// Whether the key of a number is among them.
+    pub fn has(self, index: u8) -> bool
+        requires { index < 17 }
+    {
+        self.bits & (1 << index) != 0
+    }
+}

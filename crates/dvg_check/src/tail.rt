@@ -1,0 +1,240 @@
+//! Tails: what the shape from a place on comes to, made of an item and the tail behind it.
+//!
+//! What a shape does from a place on depends on that place and the scale alone. So a tail is an entry: the one that would be
+//! claimed, exactly, for the shape that starts there.
+
+ghost use Rattle.std.specs.Prelude.{◌≡◌, ◌+◌, ◌<◌, ◌≤◌, ◌≤ℤ◌, ◌↔◌, ℕ, pos, IfSome, IsTrue};
+ghost use Rattle.dvg_words.specs.Decoding.{InstrFits, cell_at};
+ghost use Rattle.dvg_words.specs.Memory.{Rom, rom_word};
+ghost use Rattle.dvg_words.specs.declared.instruction.Cell.TheVariants.{Holds};
+ghost use Rattle.dvg_words.specs.declared.map.TheConstants.{ADDRESS_END};
+ghost use Rattle.dvg_words.specs.Beam.{screen};
+ghost use Rattle.dvg_cert.specs.Entry.{IsKey};
+ghost use Rattle.dvg_cert.specs.declared.entry.End.TheVariants.{Rel};
+ghost use Rattle.dvg_cert.specs.declared.entry.LitBox.{LitBox};
+ghost use Rattle.dvg_items.specs.Lit.{IsInside, ScaleKnown, LitInBox};
+ghost use Rattle.dvg_items.specs.Bounds.{IsNear, IsNearPlace, IsNearExtent, IsSomeCertificate};
+ghost use Rattle.dvg_check.specs.Private.Tails.{ClaimsLess, known_at_end, claimed, place_over, known_over, moved, BoxInWindow, MayStandAt, MayStandFirst, last_item, IsNearBox, IsSmall};
+
+use crate::fault::Mode;
+use dvg_cert::{End, Entries, Entry, Key, LitBox};
+use dvg_items::{Cursor, Item, Kind, LitExtent, callee, has_callee, joined, spanning, target};
+use dvg_words::{Instr, Point, on_screen, shift};
+
+/// Where a shape ends, seen from the item before it, past which is this place.
+fn stop_over(place: &End, stop: &End) -> End
+    requires place { IsNearPlace 1 place.now }
+    requires stop { IsNearPlace (ADDRESS_END + 2) stop.now }
+    ensures { result ≡ place_over place.now stop.now }
+{
+    match (place, stop) {
+        (_, End::Abs { x, y }) => End::Abs { x: *x, y: *y },
+        (_, End::Lost) | (End::Lost, End::Rel { .. }) => End::Lost,
+        (End::Abs { x: left, y: bottom }, End::Rel { x, y }) => {
+            let p = shift(
+                &Point {
+                    x: *left,
+                    y: *bottom,
+                },
+                &Point { x: *x, y: *y },
+            );
+            End::Abs { x: p.x, y: p.y }
+        }
+        (End::Rel { x: dx, y: dy }, End::Rel { x, y }) => {
+            let p = shift(&Point { x: *dx, y: *dy }, &Point { x: *x, y: *y });
+            End::Rel { x: p.x, y: p.y }
+        }
+    }
+}
+
+/// A box, moved.
+fn moved(lit: &LitBox, by: &Point) -> LitBox
+    requires lit { IsNearBox (ADDRESS_END + 2) lit.now }
+    requires by { IsNear 1 by.now }
+    ensures { result ≡ moved lit.now by.now }
+{
+    match lit {
+        LitBox::Empty => LitBox::Empty,
+        LitBox::Span {
+            x_min,
+            x_max,
+            y_min,
+            y_max,
+        } => {
+            let low = shift(
+                &Point {
+                    x: *x_min,
+                    y: *y_min,
+                },
+                by,
+            );
+            let high = shift(
+                &Point {
+                    x: *x_max,
+                    y: *y_max,
+                },
+                by,
+            );
+            LitBox::Span {
+                x_min: low.x,
+                x_max: high.x,
+                y_min: low.y,
+                y_max: high.y,
+            }
+        }
+    }
+}
+
+/// Whether both corners of a box are on the screen.
+fn is_on_screen(lit: &LitBox) -> bool
+    ensures { IsTrue result → BoxInWindow screen lit.now }
+{
+    match lit {
+        LitBox::Empty => true,
+        LitBox::Span {
+            x_min,
+            x_max,
+            y_min,
+            y_max,
+        } => on_screen(*x_min, *y_min) && on_screen(*x_max, *y_max),
+    }
+}
+
+/// The part that a shape has in the box of what is lit from the item before it on, past which is this place: `None` where
+/// it may not light there what it does.
+fn lit_over(place: &End, lit: &LitBox) -> Option<LitBox>
+    requires place { IsNearPlace 1 place.now }
+    requires lit { IsNearBox (ADDRESS_END + 2) lit.now }
+    ensures part { IfSome result (λ part. (whole : LitBox) → IsInside part whole → MayStandAt screen whole lit.now place.now) }
+    ensures near { IfSome result (λ part. (n : ℕ) → IsNearBox n lit.now → IsNearBox (n + 1) part) }
+{
+    match (place, lit) {
+        (_, LitBox::Empty) => Some(LitBox::Empty),
+        (End::Lost, _) => None,
+        (End::Rel { x, y }, _) => Some(moved(lit, &Point { x: *x, y: *y })),
+        (End::Abs { x, y }, _) => {
+            if is_on_screen(&moved(lit, &Point { x: *x, y: *y })) {
+                Some(LitBox::Empty)
+            } else {
+                None
+            }
+        }
+    }
+}
+
+/// An item, told as an entry, and the tail behind it: `None` where the tail may not light there what it does.
+pub fn after_item(item: &Entry, tail: &Entry) -> Option<Entry>
+    requires item { IsSmall 1 item.now }
+    requires tail { IsSmall (ADDRESS_END + 2) tail.now }
+    ensures value { IfSome result (λ whole. whole ≡ claimed item.now.addr item.now.key whole.lit
+        (known_over (known_at_end item.now) (known_at_end tail.now))) }
+    ensures item { IfSome result (λ whole. IsInside item.now.lit whole.lit) }
+    ensures tail { IfSome result (λ whole. MayStandAt screen whole.lit tail.now.lit item.now.stop) }
+    ensures small { IfSome result (λ whole. (n : ℕ) → IsSmall n tail.now → IsSmall (n + 1) whole) }
+{
+    let part = lit_over(&item.stop, &tail.lit)?;
+    Some(Entry {
+        addr: item.addr,
+        key: item.key,
+        stop: stop_over(&item.stop, &tail.stop),
+        lit: joined(&item.lit, &part),
+        depth: tail.depth.max(item.depth),
+        words: tail.words + item.words,
+        scale: tail.scale,
+    })
+}
+
+/// What is lit as a box, seen from the place before it: `None` where the scale is unknown.
+fn box_of(extent: &LitExtent) -> Option<LitBox>
+    requires { IsNearExtent extent.now }
+    ensures scale { IfSome result (λ lit. ScaleKnown extent.now) }
+    ensures lit { IfSome result (λ lit. LitInBox lit extent.now (Rel (pos 0) (pos 0))) }
+    ensures near { IfSome result (IsNearBox 1) }
+{
+    match extent {
+        LitExtent::Nothing => Some(LitBox::Empty),
+        LitExtent::Between { from, to } => Some(spanning(from, to)),
+        LitExtent::Anywhere => None,
+    }
+}
+
+/// An item at the start of a shape at a key, told as the entry of it alone: `None` where it may not stand there.
+pub fn last_item<E: Entries>(entries: &E, item: &Item, key: Key) -> Option<Entry>
+    requires entries { IsSomeCertificate (E.list entries.now) }
+    requires key { IsKey key }
+    requires fields { InstrFits item.now.instr }
+    ensures value { IfSome result (λ first. first ≡ last_item (E.list entries.now) key first.lit item.now) }
+    ensures stands { IfSome result (λ first. (rom : Rom) →
+        cell_at (rom_word rom) item.now.at ≡ Holds item.now.format item.now.instr →
+        MayStandFirst rom (E.list entries.now) key first.lit item.now) }
+    ensures small { IfSome result (IsSmall 1) }
+{
+    if matches!(item.instr, Instr::Halt) {
+        return None;
+    }
+    let target = target(Kind::Shape, &item.instr);
+    let callee = callee(entries, target, key);
+    if !has_callee(target, &callee) {
+        return None;
+    }
+    // What is seen of the first item doesn't depend on where it stands.
+    let seen = Cursor::start(Kind::Shape, 0, key).see(item.format, &item.instr, callee);
+    let lit = box_of(&seen.extent)?;
+    Some(Entry {
+        addr: item.at,
+        key,
+        stop: seen.after.place,
+        lit,
+        depth: seen.after.depth,
+        words: seen.after.words,
+        scale: seen.after.scale,
+    })
+}
+
+/// Whether the one range is a part of the other.
+fn is_range_inside(low: &i64, high: &i64, from: &i64, to: &i64) -> bool
+    ensures { IsTrue result ↔ (from.now ≤ℤ low.now) × (high.now ≤ℤ to.now) }
+{
+    from <= low && high <= to
+}
+
+/// Whether the one box is a part of the other.
+fn is_inside(part: &LitBox, whole: &LitBox) -> bool
+    ensures { IsTrue result → IsInside part.now whole.now }
+{
+    match (part, whole) {
+        (LitBox::Empty, _) => true,
+        (_, LitBox::Empty) => false,
+        (
+            LitBox::Span {
+                x_min,
+                x_max,
+                y_min,
+                y_max,
+            },
+            LitBox::Span {
+                x_min: left,
+                x_max: right,
+                y_min: bottom,
+                y_max: top,
+            },
+        ) => is_range_inside(x_min, x_max, left, right)
+            && is_range_inside(y_min, y_max, bottom, top),
+    }
+}
+
+/// Whether an entry claims no more than the tail at its address and key does.
+pub fn claims_less(mode: Mode, entry: &Entry, tail: &Entry) -> bool
+    requires addr { entry.now.addr ≡ tail.now.addr }
+    requires key { entry.now.key ≡ tail.now.key }
+    ensures { IsTrue result → ClaimsLess mode entry.now tail.now }
+{
+    let counts = match mode {
+        Mode::Bound => tail.words <= entry.words && tail.depth <= entry.depth,
+        Mode::Exact => tail.words == entry.words && tail.depth == entry.depth,
+    };
+    counts
+        && entry.stop == tail.stop
+        && entry.scale == tail.scale
+        && is_inside(&tail.lit, &entry.lit)
+}

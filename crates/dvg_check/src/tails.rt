@@ -1,0 +1,260 @@
+//! The pass of tails, from the ROM's last word up to the first entry: which entries it shows to be good.
+
+ghost use Rattle.std.specs.Prelude.{◌≡◌, ◌<◌, ◌≤◌, IfSome, IsTrue, List, length, take};
+ghost use Rattle.std.specs.List.{AllByRecursion};
+ghost use Rattle.dvg_words.specs.Decoding.{InstrFits, cell_at};
+ghost use Rattle.dvg_words.specs.Memory.{Rom, rom_word};
+ghost use Rattle.dvg_words.specs.declared.instruction.Cell.TheVariants.{Holds};
+ghost use Rattle.dvg_words.specs.declared.map.TheConstants.{ADDRESS_END};
+ghost use Rattle.dvg_words.specs.Beam.{screen};
+ghost use Rattle.dvg_cert.specs.Entry.{IsKey};
+ghost use Rattle.dvg_items.specs.Bounds.{IsSomeCertificate};
+ghost use Rattle.dvg_cert.specs.declared.entry.Entry.{Entry};
+ghost use Rattle.dvg_check.specs.Rules.{GoodShape};
+ghost use Rattle.dvg_check.specs.Private.Tails.{IsTail, AreTails};
+
+use crate::cells::ROM_END;
+use crate::fault::Mode;
+use crate::keys::{KEYS, Keys, key_index, key_of};
+use crate::tail::{after_item, claims_less, last_item};
+use dvg_cert::{Entries, Entry, Key};
+use dvg_items::{Item, Kind, callee};
+use dvg_words::{Cell, Instr, ROM_FIRST, ROM_LAST, RomImage, read_cell};
+
+/// How many words a ROM has.
+const ROM_WORDS: usize = ROM_LAST as usize + 1 - ROM_FIRST as usize;
+
+/// How many tails are kept: one for each key, at three places that stand one after another.
+const SLOTS: usize = 3 * KEYS as usize;
+
+/// The tails that were made last. Each tells its own address and key, so one that is left from a further place is not taken
+/// for that of a nearer one.
+#[derive(Drop)]
+pub struct Tails {
+    pub slots: [Option<Entry>; SLOTS],
+}
+
+/// Where the tail at an address and a key is kept.
+fn slot_of(at: u16, key: Key) -> usize
+    requires { IsKey key }
+    ensures { result < 51 }
+{
+    usize::from(at % 3) * usize::from(KEYS) + usize::from(key_index(key))
+}
+
+/// The tail at an address and a key, if it was made.
+fn tail_kept<'a>(tails: &'a Tails, at: u16, key: Key) -> Option<&'a Entry>
+    requires { IsKey key }
+    ensures addr { IfSome result (λ tail. tail.now.addr ≡ at) }
+    ensures key { IfSome result (λ tail. tail.now.key ≡ key) }
+    ensures tail { (rom : Rom) (list : List Entry) → AreTails screen rom list tails.now.slots →
+        IfSome result (λ tail. IsTail screen rom list tail.now) }
+{
+    let tail = tails.slots[slot_of(at, key)].as_ref()?;
+    if tail.addr == at && tail.key == key {
+        Some(tail)
+    } else {
+        None
+    }
+}
+
+/// The tail that begins with an item at a key. The ROM, in which the item stands, serves the contract alone.
+fn tail_at<E: Entries>(
+    rom: &RomImage,
+    entries: &E,
+    item: &Item,
+    key: Key,
+    tails: &Tails,
+) -> Option<Entry>
+    requires entries { IsSomeCertificate (E.list entries.now) }
+    requires key { IsKey key }
+    requires there { cell_at (rom_word rom.now) item.now.at ≡ Holds item.now.format item.now.instr }
+    requires near { item.now.at < ADDRESS_END }
+    requires fields { InstrFits item.now.instr }
+    requires tails { AreTails screen rom.now (E.list entries.now) tails.now.slots }
+    ensures { IfSome result (IsTail screen rom.now (E.list entries.now)) }
+{
+    let first = last_item(entries, item, key)?;
+    match item.next_place(Kind::Shape) {
+        Some(next) => after_item(&first, tail_kept(tails, next, first.scale)?),
+        None => Some(first),
+    }
+}
+
+/// Keeps a tail, in the place of the one that was kept where it belongs.
+fn keep(tails: &mut Tails, tail: Entry)
+    requires { IsKey tail.key }
+    ensures { (rom : Rom) (list : List Entry) → AreTails screen rom list tails.old.slots → IsTail screen rom list tail →
+        AreTails screen rom list tails.new.slots }
+{
+    tails.slots[slot_of(tail.addr, tail.key)] = Some(tail);
+}
+
+/// Makes the tails at a place, at these keys, those at the places behind it being made.
+fn make_tails<E: Entries>(rom: &RomImage, entries: &E, at: u16, keys: Keys, tails: &mut Tails)
+    requires entries { IsSomeCertificate (E.list entries.now) }
+    requires near { at < ADDRESS_END }
+    requires tails { AreTails screen rom.now (E.list entries.now) tails.old.slots }
+    ensures { AreTails screen rom.now (E.list entries.now) tails.new.slots }
+{
+    let Cell::Holds { format, instr } = read_cell(rom, at) else {
+        return;
+    };
+    let item = Item { at, format, instr };
+    for index in 0..KEYS {
+        if keys.has(index) {
+            if let Some(tail) = tail_at(rom, entries, &item, key_of(index), tails) {
+                keep(tails, tail);
+            }
+        }
+    }
+}
+
+/// Whether the tail at an entry's address and key was made, and shows that the entry is good.
+fn shows(mode: Mode, tails: &Tails, entry: &Entry) -> bool
+    requires { IsKey entry.now.key }
+    ensures { (rom : Rom) (list : List Entry) → AreTails screen rom list tails.now.slots → IsTrue result →
+        GoodShape mode screen rom list entry.now }
+{
+    match tail_kept(tails, entry.addr, entry.key) {
+        Some(tail) => claims_less(mode, entry, tail),
+        None => false,
+    }
+}
+
+/// The keys that an entry's shapes leave behind, called at these.
+fn keys_left<E: Entries>(entries: &E, to: u16, keys: Keys) -> Keys
+    requires { IsSomeCertificate (E.list entries.now) }
+{
+    let mut left = Keys::NONE;
+    for index in 0..KEYS {
+        if keys.has(index) {
+            if let Some(entry) = callee(entries, Some(to), key_of(index)) {
+                left = left.with(Keys::one(entry.scale));
+            }
+        }
+    }
+    left
+}
+
+/// The keys at which the tail behind an instruction is needed, where its own is at these.
+fn keys_behind<E: Entries>(entries: &E, instr: &Instr, keys: Keys) -> Keys
+    requires entries { IsSomeCertificate (E.list entries.now) }
+    requires fields { InstrFits instr.now }
+{
+    match instr {
+        Instr::Labs { gscale, .. } => Keys::one(Key::At(*gscale)),
+        Instr::Jsrl { to } => keys_left(entries, *to, keys),
+        _ => keys,
+    }
+}
+
+/// The keys at which tails are needed, for each word of a ROM. Nothing rests on it: where a tail isn't made, the entries that
+/// need it aren't shown to be good.
+#[derive(Drop)]
+pub struct Needed {
+    pub keys: [Keys; ROM_WORDS],
+}
+
+/// The keys that are needed at a word address.
+fn keys_needed(needed: &Needed, at: u16) -> Keys {
+    // Before the first word the difference wraps, to past the last.
+    let index = at.wrapping_sub(ROM_FIRST);
+    match needed.keys.get(usize::from(index)) {
+        Some(keys) => *keys,
+        None => Keys::NONE,
+    }
+}
+
+/// Needs more keys at a word address.
+fn need(needed: &mut Needed, at: u16, more: Keys) {
+    let index = at.wrapping_sub(ROM_FIRST);
+    if let Some(keys) = needed.keys.get_mut(usize::from(index)) {
+        *keys = keys.with(more);
+    }
+}
+
+/// Needs what the tails that are needed at a word address need behind them.
+fn need_behind<E: Entries>(rom: &RomImage, entries: &E, at: u16, needed: &mut Needed)
+    requires entries { IsSomeCertificate (E.list entries.now) }
+    requires near { at < ADDRESS_END }
+{
+    let keys = keys_needed(needed, at);
+    if keys.is_empty() {
+        return;
+    }
+    let Cell::Holds { format, instr } = read_cell(rom, at) else {
+        return;
+    };
+    let item = Item { at, format, instr };
+    if let Some(next) = item.next_place(Kind::Shape) {
+        need(needed, next, keys_behind(entries, &instr, keys));
+    }
+}
+
+/// Which tails the entries of a list need: those at their own addresses and keys, and what these need, one after another.
+fn needed_by<E: Entries>(rom: &RomImage, entries: &E, list: &[Entry]) -> Needed
+    requires entries { IsSomeCertificate (E.list entries.now) }
+    requires list { IsSomeCertificate list.now }
+{
+    let mut needed = Needed {
+        keys: [Keys::NONE; ROM_WORDS],
+    };
+    for entry in list {
+        need(&mut needed, entry.addr, Keys::one(entry.key));
+    }
+    for at in ROM_FIRST..ROM_END {
+        need_behind(rom, entries, at, &mut needed);
+    }
+    needed
+}
+
+/// Makes the tails at each place from the last one of a range up to the first, at the keys that are needed.
+fn make_all<E: Entries>(
+    rom: &RomImage,
+    entries: &E,
+    needed: &Needed,
+    from: u16,
+    to: u16,
+    tails: &mut Tails,
+)
+    requires entries { IsSomeCertificate (E.list entries.now) }
+    requires to { to ≤ ADDRESS_END }
+    requires tails { AreTails screen rom.now (E.list entries.now) tails.old.slots }
+    ensures { AreTails screen rom.now (E.list entries.now) tails.new.slots }
+{
+    let mut at = to;
+    'places: while from < at {
+        at -= 1;
+        let keys = keys_needed(needed, at);
+        if !keys.is_empty() {
+            make_tails(rom, entries, at, keys, tails);
+        }
+    }
+}
+
+/// The index of the first entry whose shape the tails don't show to be good, or how many entries there are.
+pub fn first_doubtful<E: Entries>(mode: Mode, rom: &RomImage, entries: &E, list: &[Entry]) -> usize
+    requires list { E.list entries.now ≡ list.now }
+    requires certificate { IsSomeCertificate list.now }
+    ensures few { result ≤ length list.now }
+    ensures good { AllByRecursion (GoodShape mode screen rom.now list.now) (take result list.now) }
+{
+    let needed = needed_by(rom, entries, list);
+    let mut tails = Tails {
+        slots: [None; SLOTS],
+    };
+    let mut at = ROM_END;
+    let mut doubtful = list.len();
+    let mut left = list.len();
+    'entries: while left > 0 {
+        left -= 1;
+        let entry = &list[left];
+        make_all(rom, entries, &needed, entry.addr, at, &mut tails);
+        at = entry.addr;
+        if !shows(mode, &tails, entry) {
+            doubtful = left;
+        }
+    }
+    doubtful
+}
