@@ -4,6 +4,7 @@ pub mod Digits
 pub mod Fields
 pub mod EntryTokens
 pub mod LineTokens
+pub mod Taking
 pub mod Rising
 pub mod Refusals
 pub mod LinesOfTexts
