@@ -3,6 +3,7 @@ use Rattle.std.proofs.Common.{◌≡◌, ◌≢◌, ℕ, suc, ◌+◌, ◌*◌, 
 use Rattle.std.specs.Prelude.{codes, decimal, pos, neg_ℤ, ◌==◌, ◌&&◌, nat_le, nat_lt}
 use Rattle.std.specs.Prelude.{IfSome, IfNone}
 use Rattle.std.specs.Borrow.{Bor}
+use Rattle.std.proofs.Math.Seq.{take-append_seam}
 use Rattle.std.proofs.Common.{zero, get_or, drop-cons, drop_of_length-le}
 use Rattle.std.specs.Option.{option_map}
 use Rattle.std.specs.Str.{bytes_eq}
@@ -80,6 +81,14 @@ reads_none {X} f bytes never = let p = parts_of bytes in rw p.cut_is (none_of p 
     none_of p (Some x) e = absurd (never p.word p.rest p.left x p.whole p.after e)
 
 -- ---- words
+
+pub word_found : (n : ℕ) (bytes word prefix rest : Text) → prefix ≡ take n bytes → rest ≡ drop n bytes → prefix ≡ word → bytes ≡ word ++ rest
+word_found n bytes word prefix rest is after same = sym (take-append-drop n bytes) ∙ rw (← is, ← after, same) refl
+
+pub word_not_found : (n : ℕ) (bytes word prefix : Text) (r : Bool) → prefix ≡ take n bytes → length word ≡ n → (prefix ≡ word → r ≡ true) → r ≡ false → (rest : Text) → bytes ≡ word ++ rest → ⊥
+word_not_found n bytes word prefix r is len found other rest e =
+    let same : prefix ≡ word = is ∙ ap (λ (k : ℕ). take k bytes) (sym len) ∙ ap (take (length word)) e ∙ take-append_seam word rest in
+    let yes : r ≡ true = found same in cc
 
 pub word_taken : (word bytes after : Text) (left : List Text) → Without SPACE word → bytes ≡ word ++ after → after_token after ≡ Some left → cut bytes ≡ word ∷ left
 word_taken word bytes after left free e is = ap cut e ∙ cut_again word after left free is

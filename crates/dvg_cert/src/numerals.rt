@@ -86,27 +86,29 @@ fn natural(token: &[u8], low: u64, high: u64) -> Option<u64>
 }
 
 /// The number of at most 13 digits that these bytes begin with, and the bytes after its digits.
+#[inline(always)]
 pub fn leading_number(bytes: &[u8]) -> Option<(u64, &[u8])>
     ensures { LeadsWith (λ rest. rest.now) bytes.now result }
 {
     let mut number: u64 = 0;
     for i in 0..bytes.len() {
-        let byte = bytes[i];
-        if byte < b'0' {
+        let byte = bytes[i] as u64;
+        if byte < b'0' as u64 {
             return digits_taken(bytes, i, number);
         }
-        if byte > b'9' {
+        if byte > b'9' as u64 {
             return digits_taken(bytes, i, number);
         }
         if i == 13 {
             return None;
         }
-        number = number * 10 + (byte - b'0') as u64;
+        number = number * 10 + (byte - b'0' as u64);
     }
     digits_taken(bytes, bytes.len(), number)
 }
 
 /// The number of the first `count` bytes, which are digits, and the bytes after them, where it is spelled so.
+#[inline(always)]
 fn digits_taken(bytes: &[u8], count: usize, number: u64) -> Option<(u64, &[u8])>
     requires digits { AllDigits 10 (take count bytes.now) }
     requires value { number ≡ digits_value 10 (take count bytes.now) }

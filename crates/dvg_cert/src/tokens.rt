@@ -39,7 +39,7 @@ impl<'a> Tokens<'a> {
     /// Takes the next token where it is this word, and answers whether it is. Else no token is taken.
     #[inline(always)]
     #[tactic(auto, unfolding(crate::specs::Private::Tokens::tokens_left))]
-    fn takes(&mut self, word: &[u8]) -> bool
+    fn takes<const N: usize>(&mut self, word: &[u8; N]) -> bool
         requires { Without SPACE word.now }
         ensures yes { IsTrue result → self.old ≡ word.now ∷ self.new }
         ensures no { IsFalse result → (self.new ≡ self.old) × (the_token word.now self.old ≡ None) }
@@ -56,7 +56,7 @@ impl<'a> Tokens<'a> {
     /// Takes this word.
     #[inline(always)]
     #[tactic(auto, unfolding(crate::specs::Private::Tokens::the_token))]
-    pub fn expect(&mut self, word: &[u8]) -> Option<()>
+    pub fn expect<const N: usize>(&mut self, word: &[u8; N]) -> Option<()>
         requires { Without SPACE word.now }
         ensures { Reads result self.new (the_token word.now self.old) }
     {
@@ -64,6 +64,7 @@ impl<'a> Tokens<'a> {
     }
 
     /// Takes a number from `low` to `high`.
+    #[inline(always)]
     #[tactic(auto, unfolding(crate::specs::Private::Tokens::by_token))]
     pub fn natural(&mut self, low: u64, high: u64) -> Option<u64>
         requires { high ≤ MOST_MAGNITUDE }
@@ -210,7 +211,10 @@ impl<'a> Tokens<'a> {
 
 /// What is left after this word, where it is the next token.
 #[inline(always)]
-fn left_after_word<'a>(rest: Option<&'a [u8]>, word: &[u8]) -> Option<Option<&'a [u8]>>
+fn left_after_word<'a, const N: usize>(
+    rest: Option<&'a [u8]>,
+    word: &[u8; N],
+) -> Option<Option<&'a [u8]>>
     requires { Without SPACE word.now }
     ensures some { IfSome result (λ left. tokens_left rest.entry ≡ word.now ∷ tokens_left left) }
     ensures none { IfNone result (the_token word.now (tokens_left rest.entry) ≡ None) }
@@ -220,10 +224,11 @@ fn left_after_word<'a>(rest: Option<&'a [u8]>, word: &[u8]) -> Option<Option<&'a
 
 /// The bytes after this word, where they begin with it.
 #[inline(always)]
-fn after_word<'a>(bytes: &'a [u8], word: &[u8]) -> Option<&'a [u8]>
+fn after_word<'a, const N: usize>(bytes: &'a [u8], word: &[u8; N]) -> Option<&'a [u8]>
     ensures { MatchOption result ((rest : List ℕ) → bytes.now ≢ word.now ++ rest) (λ rest. bytes.now ≡ word.now ++ rest.now) }
 {
-    bytes.strip_prefix(word)
+    let (prefix, rest) = bytes.split_first_chunk::<N>()?;
+    if prefix == word { Some(rest) } else { None }
 }
 
 /// What is left after a token that these bytes follow, or `None` where they go on with it.
