@@ -16,5 +16,6 @@ pub mod AnyText
 pub mod TextLaws
 pub mod Pieces
 pub mod OnlyEntries
+pub mod Searching
 pub mod Pairs
 pub mod Hashing
