@@ -204,7 +204,7 @@ fn reports_worked_rows(rt: HostRuntime) -> Result<(), AllocError> {
     Ok(())
 }
 
-/// The verdict over an index that goes over the entries one by one, where `check` has one that hashes.
+/// The verdict over an index that searches the list of entries, where `check` has one that hashes.
 fn judge_by_list(
     alloc: Global,
     rom: &[u8],
