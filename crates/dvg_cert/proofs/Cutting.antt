@@ -4,7 +4,7 @@ use Rattle.std.specs.Prelude.{◌==◌, position, nat_lt, not}
 use Rattle.std.specs.Prelude.{slice_index}
 use Rattle.memchr.specs.Find.{IsFirstByte, is_byte}
 use Rattle.std.specs.List.{slice_split, onto_first, position_or_len}
-use Rattle.std.proofs.lemmas.List.Splits.{slice_split-cons_no, slice_split_first}
+use Rattle.std.proofs.lemmas.List.Splits.{slice_split-cons_no}
 use Rattle.std.proofs.Common.{zero, add-one, append_assoc}
 use Rattle.std.proofs.lemmas.Bool.{eqb-true}
 use Rattle.std.proofs.lemmas.List.{take-append-drop, length-take-le}
@@ -16,11 +16,6 @@ placed a n i e = grind (arith, nat_tests)
 
 not_placed : (a n : ℕ) → cond (nat_lt a n) (Some a) None ≡ None → n ≤ a
 not_placed a n e = grind (arith, nat_tests)
-
-pub cut_some : (c : ℕ) (xs : List ℕ) (i : ℕ) → position (λ b. b == c) xs ≡ Some i → slice_split (λ b. b == c) xs ≡ take i xs ∷ slice_split (λ b. b == c) (drop (i + 1) xs)
-cut_some c xs i e =
-    let p = placed (position_or_len (λ b. b == c) xs) (length xs) i e in
-    subst (λ (k : ℕ). slice_split (λ b. b == c) xs ≡ take k xs ∷ slice_split (λ b. b == c) (drop (k + 1) xs)) p.0 (slice_split_first (λ b. b == c) xs 0 p.1)
 
 free_step : (t : Bool) (x : ℕ) (xs : List ℕ) (m : ℕ) → length (x ∷ xs) ≤ cond (not t) (1 + m) 0 → (t ≡ false) × (length xs ≤ m)
 free_step true x xs m h = absurd (omega arith)

@@ -6,10 +6,9 @@ use Rattle.std.proofs.lemmas.Bool.Decides.{nat_tests}
 use Rattle.std.specs.Char.{digit_value}
 use Rattle.std.specs.Str.Parse.{AllDigits, digits_value}
 use Rattle.std.proofs.lemmas.Str.{digit_value_digit}
-use Rattle.std.proofs.lemmas.Str.Parse.{IsNumeralModel, digit_from_value, digits_value_short}
+use Rattle.std.proofs.lemmas.Str.Parse.{IsNumeralModel, digits_value_short}
 use Rattle.std.proofs.lemmas.Int.Digits.{digits_value-lt, digits_value_more}
 use Rattle.std.proofs.lemmas.Fmt.{decimal_is_IsNumeral, decimal-digits_value, length-decimal-le}
-use Rattle.std.proofs.Math.Seq.{take-length}
 use Rattle.dvg_cert.specs.Limits.{MOST_MAGNITUDE}
 use Rattle.dvg_cert.proofs.Fields.{first_digit}
 
@@ -18,11 +17,6 @@ own = record { to = λ ds h. h; from = λ ds h. h; same = λ ds h. refl }
 
 pub below : (ds : List ℕ) → AllDigits 10 ds → length ds ≤ 13 → digits_value 10 ds < 10 ^ 13
 below ds h le = digits_value_short own ds 13 h le
-
-digit_at : (ds : List ℕ) (i : ℕ) → i < length ds → AllDigits 10 ds → (48 ≤ get_or ds i 0) × (get_or ds i 0 ≤ 57)
-digit_at [] i lt h = absurd (omega arith)
-digit_at (x ∷ ds) zero lt h = let r = digit_from_value x h.0 in (omega arith, omega arith)
-digit_at (x ∷ ds) (suc i) lt h = digit_at ds i (omega arith) h.1
 
 all_more : (ds : List ℕ) (i : ℕ) → i < length ds → AllDigits 10 (take i ds) → digit_value (get_or ds i 0) < 10 → AllDigits 10 (take (suc i) ds)
 all_more [] i lt h d = absurd (omega arith)
@@ -35,9 +29,6 @@ one_digit ds i c n lt e from to h v =
     let small : digit_value (get_or ds i 0) < 10 = omega arith in
     let m = digits_value_more 10 ds i lt in
     (rw add-one (all_more ds i lt h small), omega (arith, m))
-
-pub not_digit : (ds : List ℕ) (i c n : ℕ) → i < length ds → c ≡ get_or ds i 0 → n ≤ MOST_MAGNITUDE → ds ≡ decimal n → (48 ≤ c) × (c ≤ 57)
-not_digit ds i c n lt e le d = let r = digit_at ds i lt (first_digit ds n (omega arith) d).1 in (omega arith, omega arith)
 
 pub not_long : (ds : List ℕ) (n : ℕ) → n ≤ MOST_MAGNITUDE → ds ≡ decimal n → (length ds ≤ 13) × (0 < length ds)
 not_long ds n le d = let s = first_digit ds n (omega arith) d in (omega (arith, ap length d, length-decimal-le 13 n (omega arith) (omega arith) (omega arith)), s.0)
@@ -66,10 +57,3 @@ spells ds h some z le = sym (decimal-digits_value own ds h some z (omega (arith,
 
 pub same_decimal : (m n : ℕ) → m < 2 ^ 64 → n < 2 ^ 64 → decimal m ≡ decimal n → m ≡ n
 same_decimal m n h k e = sym (decimal_is_IsNumeral m h).1 ∙ ap (digits_value 10) e ∙ (decimal_is_IsNumeral n k).1
-
-pub ends_with : (ds : List ℕ) (i n : ℕ) → i ≡ length ds → AllDigits 10 (take i ds) → n ≡ digits_value 10 (take i ds) → 0 < length ds → (get_or ds 0 0 ≡ 48 → length ds ≡ 1) → length ds ≤ 13 → (ds ≡ decimal n) × (n < 10 ^ 13)
-ends_with ds i n all h v some z le =
-    let whole : take i ds ≡ ds = ap (λ (k : ℕ). take k ds) all ∙ take-length ds in
-    let k : AllDigits 10 ds = subst (λ (xs : List ℕ). AllDigits 10 xs) whole h in
-    let m : digits_value 10 ds ≡ n = ap (digits_value 10) (sym whole) ∙ sym v in
-    (spells ds k some z le ∙ ap decimal m, subst (λ (x : ℕ). x < 10 ^ 13) m (below ds k le))

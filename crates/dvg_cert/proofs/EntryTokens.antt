@@ -111,7 +111,8 @@ le_true x y h = search rules
 true_le : (x y : ℤ) → x ≤ℤ y → int_le x y ≡ true
 true_le x y h = search rules
 
-box_step : (t : Bool) (w : Text) (ws : List Text) (b : LitBox) (rest : List Text) → bytes_eq w (codes "none") ≡ t → cond {A = Option (LitBox × List Text)} t (Some (Empty, ws)) (span_at w ws) ≡ Some (b, rest) → (w ∷ ws ≡ box_tokens b ++ rest) × IsBox b
+box_step : (t : Bool) (w : Text) (ws : List Text) (b : LitBox) (rest : List Text) → bytes_eq w (codes "none") ≡ t → cond {A = Option (LitBox × List Text)} t (Some (Empty, ws)) (span_at (w ∷ ws)) ≡ Some (b, rest) → (w ∷ ws ≡ box_tokens b ++ rest) × IsBox b
+unfolding span_at
 box_step true w ws b rest is h =
     let s = some_pair_parts Empty b ws rest h in
     subst (λ (y : LitBox × List Text). (w ∷ ws ≡ box_tokens y.0 ++ y.1) × IsBox y.0) (pair_is s.0 s.1) (ap (λ (x : Text). x ∷ ws) (same_bytes w (codes "none") is), tt)
@@ -120,14 +121,14 @@ box_step false w ws b rest is h =
     bind_then h0 (λ x1 e1 h1.
     bind_then h1 (λ y0 e2 h2.
     bind_then h2 (λ y1 e3 h3.
-    let g = cond_some {A = LitBox × List Text} (int_le x0 x1.0 && int_le y0.0 y1.0) (Span x0 x1.0 y0.0 y1.0, y1.1) (b, rest) h3 in
-    let t = and_parts (int_le x0 x1.0) (int_le y0.0 y1.0) g.0 in
-    let p0 = number_takes w x0 e0 in
-    let p1 = number_field ws x1.0 x1.1 e1 in
+    let g = cond_some {A = LitBox × List Text} (int_le x0.0 x1.0 && int_le y0.0 y1.0) (Span x0.0 x1.0 y0.0 y1.0, y1.1) (b, rest) h3 in
+    let t = and_parts (int_le x0.0 x1.0) (int_le y0.0 y1.0) g.0 in
+    let p0 = number_field (w ∷ ws) x0.0 x0.1 e0 in
+    let p1 = number_field x0.1 x1.0 x1.1 e1 in
     let p2 = number_field x1.1 y0.0 y0.1 e2 in
     let p3 = number_field y0.1 y1.0 y1.1 e3 in
-    let parts : w ∷ ws ≡ box_tokens (Span x0 x1.0 y0.0 y1.0) ++ y1.1 = rw (p0.0, p1.0, p2.0, p3.0) refl in
-    subst (λ (y : LitBox × List Text). (w ∷ ws ≡ box_tokens y.0 ++ y.1) × IsBox y.0) g.1 (parts, ((p0.1, p1.1, le_true x0 x1.0 t.0), (p2.1, p3.1, le_true y0.0 y1.0 t.1)))))))
+    let parts : w ∷ ws ≡ box_tokens (Span x0.0 x1.0 y0.0 y1.0) ++ y1.1 = p0.0 ∙ ap (λ (vs : List Text). signed_decimal x0.0 ∷ vs) (rw (p1.0, p2.0, p3.0) refl) in
+    subst (λ (y : LitBox × List Text). (w ∷ ws ≡ box_tokens y.0 ++ y.1) × IsBox y.0) g.1 (parts, ((p0.1, p1.1, le_true x0.0 x1.0 t.0), (p2.1, p3.1, le_true y0.0 y1.0 t.1)))))))
 
 box_takes : (ws : List Text) (b : LitBox) (rest : List Text) → box_at ws ≡ Some (b, rest) → (ws ≡ box_tokens b ++ rest) × IsBox b
 unfolding box_at
@@ -146,12 +147,12 @@ not_none true (negsuc n) h is =
 not_none false z h is = refl
 
 box_again : (b : LitBox) (rest : List Text) → IsBox b → box_at (box_tokens b ++ rest) ≡ Some (b, rest)
-unfolding box_at
+unfolding box_at span_at
 box_again Empty rest h = refl
 box_again (Span x0 x1 y0 y1) rest h =
     rw (
       not_none (bytes_eq (signed_decimal x0) (codes "none")) x0 h.0.0 refl,
-      number_again x0 h.0.0,
+      by_again (number_in MOST_MAGNITUDE) (signed_decimal x0) x0 (signed_decimal x1 ∷ signed_decimal y0 ∷ signed_decimal y1 ∷ rest) (number_again x0 h.0.0),
       by_again (number_in MOST_MAGNITUDE) (signed_decimal x1) x1 (signed_decimal y0 ∷ signed_decimal y1 ∷ rest) (number_again x1 h.0.1),
       by_again (number_in MOST_MAGNITUDE) (signed_decimal y0) y0 (signed_decimal y1 ∷ rest) (number_again y0 h.1.0),
       by_again (number_in MOST_MAGNITUDE) (signed_decimal y1) y1 rest (number_again y1 h.1.1),

@@ -17,7 +17,7 @@ use Rattle.std.specs.Str.Parse.{AllDigits}
 use Rattle.dvg_cert.specs.Limits.{MOST_MAGNITUDE, ADDRESS_END}
 use Rattle.dvg_cert.specs.Entry.{Key, At, Any, IsNumber, IsKey}
 use Rattle.dvg_cert.specs.Grammar.{address_token, key_token}
-use Rattle.dvg_cert.specs.Private.Tokens.{◌>>=◌, Reads, natural_in, number_in, key_in, hex_value, address_in, by_token}
+use Rattle.dvg_cert.specs.Private.Tokens.{◌>>=◌, natural_in, number_in, key_in, hex_value, address_in}
 use Rattle.dvg_cert.proofs.NaturalNumbers.{natural_some}
 
 -- the value of a step that did not fail
@@ -182,20 +182,3 @@ no_address token (Some a) e = tt
 pub no_key : (high : ℕ) (token : List ℕ) → 15 ≤ high → high < 2 ^ 64 → bytes_eq token (codes "any") ≡ false → natural_in 0 high token ≡ None → (k : Key) → IsKey k → token ≡ key_token k → ⊥
 no_key high token room small any none (At n) h is = let found : natural_in 0 high token ≡ Some n = natural_some 0 high n token (omega arith) (omega arith) (omega arith) is in cc
 no_key high token room small any none Any h is = let same : bytes_eq token (codes "any") ≡ true = bytes_same token (codes "any") is in cc
-
-pub key_read : (token : List ℕ) (o : Option Key) → IfSome o (λ k. IsKey k × (token ≡ key_token k)) → IfNone o ((k : Key) → IsKey k → token ≡ key_token k → ⊥) → o ≡ key_in token
-key_read token (Some k) some none = sym (ap key_in some.1 ∙ key_again k some.0)
-key_read token None some none = by_reading (key_in token) refl
-  where
-    by_reading : (r : Option Key) → key_in token ≡ r → None ≡ key_in token
-    by_reading None e = sym e
-    by_reading (Some k) e = let t = key_takes token k e in absurd (none k t.1 t.0)
-
--- the key of a first token that was read
-pub key_at : (o : Option Key) (token : List ℕ) (rest ws : List (List ℕ)) → ws ≡ token ∷ rest → o ≡ key_in token → Reads o rest (by_token key_in ws)
-unfolding by_token
-key_at o token rest ws taken is = subst (λ (xs : List (List ℕ)). Reads o rest (by_token key_in xs)) (sym taken) (of_read o (key_in token) is refl)
-  where
-    of_read : (o r : Option Key) → o ≡ r → key_in token ≡ r → Reads o rest (by_token key_in (token ∷ rest))
-    of_read None r e f = let none : key_in token ≡ None = f ∙ sym e in rw none refl
-    of_read (Some k) r e f = let some : key_in token ≡ Some k = f ∙ sym e in rw some refl

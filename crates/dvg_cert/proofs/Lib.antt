@@ -4,6 +4,7 @@ pub mod Digits
 pub mod Fields
 pub mod EntryTokens
 pub mod LineTokens
+pub mod Taking
 pub mod Rising
 pub mod Refusals
 pub mod LinesOfTexts
@@ -15,5 +16,6 @@ pub mod AnyText
 pub mod TextLaws
 pub mod Pieces
 pub mod OnlyEntries
+pub mod Searching
 pub mod Pairs
 pub mod Hashing

@@ -39,7 +39,7 @@ Graphics-append : (ws vs : List Text) → Graphics ws → Graphics vs → Graphi
 Graphics-append [] vs h k = k
 Graphics-append (w ∷ ws) vs h k = (h.0, Graphics-append ws vs h.1 k)
 
-graphic_without : (c : ℕ) (w : Text) → c ≤ SPACE → Graphic w → Without c w
+pub graphic_without : (c : ℕ) (w : Text) → c ≤ SPACE → Graphic w → Without c w
 graphic_without c [] le h = tt
 graphic_without c (b ∷ bs) le h = (grind (arith, nat_tests), graphic_without c bs le h.1)
 
@@ -85,7 +85,7 @@ graphics_entry first last e h =
     Graphics-append (codes "shape" ∷ address_token e.addr ∷ key_token e.key ∷ codes "end" ∷ end_tokens e.stop ++ codes "box" ∷ box_tokens e.lit) (codes "depth" ∷ decimal e.depth ∷ codes "words" ∷ decimal e.words ∷ codes "scale" ∷ key_token e.scale ∷ [])
     (Graphics-append (codes "shape" ∷ address_token e.addr ∷ key_token e.key ∷ codes "end" ∷ end_tokens e.stop) (codes "box" ∷ box_tokens e.lit) prefix middle) back
 
-split_at_free : (c : ℕ) (xs ys : Text) → Without c xs → slice_split (λ b. b == c) (xs ++ c ∷ ys) ≡ xs ∷ slice_split (λ b. b == c) ys
+pub split_at_free : (c : ℕ) (xs ys : Text) → Without c xs → slice_split (λ b. b == c) (xs ++ c ∷ ys) ≡ xs ∷ slice_split (λ b. b == c) ys
 split_at_free c [] ys h = slice_split-cons_yes (λ b. b == c) c ys (grind (arith, nat_tests))
 split_at_free c (x ∷ xs) ys h = slice_split-cons_no (λ b. b == c) x (xs ++ c ∷ ys) h.0 ∙ ap (onto_first x) (split_at_free c xs ys h.1)
 
@@ -110,9 +110,9 @@ some_left {X} (Some p) x e =
     let g = cond_some {A = X} (length p.1 == 0) p.0 x e in
     ap Some (pair_is g.1 (nil_from_length p.1 (eqb-true (length p.1) 0 g.0)))
 
-either : (o : Option ℕ) (p : Option Entry) (l : Line) → option_or (option_map (λ n. lines.Done n) o) (option_map (λ e. lines.Entry e) p) ≡ Some l → ((n : ℕ) × (o ≡ Some n) × (lines.Done n ≡ l)) ⊎ ((e : Entry) × (p ≡ Some e) × (lines.Entry e ≡ l))
-either (Some n) p l e = inl (n, refl, cc)
-either None (Some x) l e = inr (x, refl, cc)
+either : (o : Option ℕ) (p : Option Entry) (l : Line) → option_or (option_map (λ e. lines.Entry e) p) (option_map (λ n. lines.Done n) o) ≡ Some l → ((n : ℕ) × (o ≡ Some n) × (lines.Done n ≡ l)) ⊎ ((e : Entry) × (p ≡ Some e) × (lines.Entry e ≡ l))
+either (Some n) None l e = inl (n, refl, cc)
+either o (Some x) l e = inr (x, refl, cc)
 either None None l e = absurd cc
 
 pub line_takes : (first last : ℕ) (bytes : Text) (l : Line) → last < ADDRESS_END → line_in first last (slice_split (λ b. b == SPACE) bytes) ≡ Some l → IsLine first last l bytes
@@ -133,7 +133,7 @@ line_takes first last bytes l small e =
     ]
 
 pub line_again : (first last : ℕ) (bytes : Text) (l : Line) → last < ADDRESS_END → IsLine first last l bytes → line_in first last (slice_split (λ b. b == SPACE) bytes) ≡ Some l
-unfolding line_in the_token
+unfolding line_in the_token entry_at
 line_again first last bytes (lines.Done n) small h =
     let tokens : slice_split (λ b. b == SPACE) bytes ≡ codes "done" ∷ decimal n ∷ [] = ap (slice_split (λ b. b == SPACE)) h.1 ∙ split_join (codes "done") (decimal n ∷ []) (lit< tt, (lit< tt, (lit< tt, (lit< tt, tt)))) (graphic_decimal n (omega (arith, h.0)), tt) in
     let got : by_token (natural_in 0 MOST_ENTRIES) (decimal n ∷ []) ≡ Some (n, []) = by_again (natural_in 0 MOST_ENTRIES) (decimal n) n [] (natural_some 0 MOST_ENTRIES n (decimal n) (omega (arith, h.0)) (omega arith) h.0 refl) in

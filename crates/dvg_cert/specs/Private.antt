@@ -1,5 +1,6 @@
 -- Definitions for the code alone; no rule uses them.
 pub mod Keyed
 pub mod Tokens
+pub mod Searching
 pub mod Progress
 pub mod Writing

@@ -31,11 +31,11 @@ pub fn line_of(line: &[u8], first: u16, last: u16) -> Option<Line>
 fn read_line(line: &[u8], first: u16, last: u16) -> Option<Line>
     ensures { result ≡ line_in first last (slice_split (λ b. b == SPACE) line.now) }
 {
-    if let Some(count) = whole_done(line) {
-        return Some(Line::Done(count));
+    if let Some(entry) = whole_entry(line, first, last) {
+        return Some(Line::Entry(entry));
     }
-    let entry = whole_entry(line, first, last)?;
-    Some(Line::Entry(entry))
+    let count = whole_done(line)?;
+    Some(Line::Done(count))
 }
 
 /// The number of entries, where the whole line says it.

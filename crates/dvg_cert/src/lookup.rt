@@ -2,7 +2,9 @@
 
 ghost use Rattle.std.specs.Prelude.{◌≡◌, List};
 ghost use Rattle.dvg_cert.specs.declared.entry.Entry.{Entry};
-ghost use Rattle.dvg_cert.specs.Lookup.{entry_at, named_entry};
+ghost use Rattle.dvg_cert.specs.Order.{IsRising};
+ghost use Rattle.dvg_cert.specs.Lookup.{entry_at, named_entry, is_at};
+ghost use Rattle.dvg_cert.specs.Private.Searching.{stands_before, lower_key};
 
 use crate::certificate::Cert;
 use crate::entry::{Entry, Key};
@@ -29,7 +31,7 @@ pub trait Entries {
     }
 }
 
-/// An index that goes over the entries one by one. Takes no memory.
+/// An index that finds an entry by binary search in the certificate's order. Takes no memory.
 #[derive(Drop)]
 pub struct ListIndex<'a> {
     cert: &'a Cert,
@@ -61,12 +63,44 @@ impl<'a> Entries for ListIndex<'a> {
     }
 }
 
-/// The first of these entries at an address with a key.
+/// The entry at an address with a key, of entries that rise.
 fn find_in(entries: &[Entry], addr: u16, key: Key) -> Option<Entry>
+    requires { IsRising entries.now }
     ensures { result ≡ entry_at entries.now addr key }
 {
-    entries
-        .iter()
-        .copied()
-        .find(|entry| addr == entry.addr && key == entry.key)
+    let at = entries.partition_point(|entry| stands_before(entry, addr, key));
+    if at == entries.len() {
+        return None;
+    }
+    let entry = entries[at];
+    if is_at(&entry, addr, key) {
+        Some(entry)
+    } else {
+        None
+    }
+}
+
+/// Whether an entry is at an address with a key.
+fn is_at(entry: &Entry, addr: u16, key: Key) -> bool
+    ensures { result ≡ is_at addr key entry.now }
+{
+    addr == entry.addr && key == entry.key
+}
+
+/// Whether an entry stands before those at an address with a key.
+fn stands_before(entry: &Entry, addr: u16, key: Key) -> bool
+    ensures { result ≡ stands_before addr key entry.now }
+{
+    entry.addr < addr || (entry.addr == addr && is_lower(entry.key, key))
+}
+
+/// Whether a key stands before another.
+fn is_lower(key: Key, other: Key) -> bool
+    ensures { result ≡ lower_key key other }
+{
+    match (key, other) {
+        (Key::At(m), Key::At(n)) => m < n,
+        (Key::At(_), Key::Any) => true,
+        (Key::Any, _) => false,
+    }
 }

@@ -1,10 +1,11 @@
 //! The values of single tokens.
 
-ghost use Rattle.std.specs.Prelude.{◌≡◌, ℕ, ◌^◌, ◌<◌, ◌≤◌, ◌↔◌, decimal, length, slice_index, IsTrue, IfSome, IfNone};
+ghost use Rattle.std.specs.Prelude.{◌≡◌, ℕ, ◌<◌, ◌≤◌, [], ◌∷◌, length, take, drop, IfSome, IfNone};
+ghost use Rattle.std.specs.Str.Parse.{AllDigits, digits_value};
 ghost use Rattle.dvg_cert.specs.Entry.{IsKey};
 ghost use Rattle.dvg_cert.specs.declared.entry.Key.{Key as KeyValue};
 ghost use Rattle.dvg_cert.specs.Grammar.{address_token, key_token};
-ghost use Rattle.dvg_cert.specs.Private.Tokens.{hex_value, natural_in, number_in, address_in};
+ghost use Rattle.dvg_cert.specs.Private.Tokens.{hex_value, natural_in, address_in, NoDigitFirst, LeadsWith};
 
 use crate::entry::Key;
 use crate::limits::MOST_MAGNITUDE;
@@ -12,13 +13,21 @@ use dvg_words::ADDRESS_END;
 
 /// The address from `first` to `last` that a token spells.
 #[tactic(auto, unfolding(crate::specs::Private::Tokens::address_in))]
-pub fn address(token: &[u8], first: u16, last: u16) -> Option<u16>
+fn address(token: &[u8], first: u16, last: u16) -> Option<u16>
     ensures { result ≡ address_in first last token.now }
 {
     let [a, b, c] = token else {
         return None;
     };
-    let (a, b, c) = (hex_value(*a), hex_value(*b), hex_value(*c));
+    address_of(*a, *b, *c, first, last)
+}
+
+/// The address from `first` to `last` that three digits spell.
+#[tactic(auto, unfolding(crate::specs::Private::Tokens::address_in))]
+pub fn address_of(a: u8, b: u8, c: u8, first: u16, last: u16) -> Option<u16>
+    ensures { result ≡ address_in first last (a ∷ b ∷ c ∷ []) }
+{
+    let (a, b, c) = (hex_value(a), hex_value(b), hex_value(c));
     if a > 15 || b > 15 || c > 15 {
         return None;
     }
@@ -62,77 +71,57 @@ fn hex_value(digit: u8) -> u8
     }
 }
 
-/// The number of an end or a box that a token spells.
-#[tactic(auto, unfolding(crate::specs::Private::Tokens::number_in))]
-pub fn number(token: &[u8]) -> Option<i64>
-    ensures { result ≡ number_in MOST_MAGNITUDE token.now }
-{
-    match token {
-        [] => None,
-        [b'-', digits @ ..] => {
-            let number = natural(digits, 1, MOST_MAGNITUDE)?;
-            Some(-(number as i64))
-        }
-        [_, ..] => {
-            let number = natural(token, 0, MOST_MAGNITUDE)?;
-            Some(number as i64)
-        }
-    }
-}
-
 /// The number from `low` to `high` that a token spells.
-pub fn natural(token: &[u8], low: u64, high: u64) -> Option<u64>
+fn natural(token: &[u8], low: u64, high: u64) -> Option<u64>
     requires { high ≤ MOST_MAGNITUDE }
     ensures value { result ≡ natural_in low high token.now }
     ensures within { IfSome result (λ n. n ≤ high) }
 {
-    let number = match digits(token) {
-        Some(number) => number,
-        None => return None,
-    };
-    if number < low {
-        return None;
+    let (number, after) = leading_number(token)?;
+    if low <= number && number <= high && after.is_empty() {
+        Some(number)
+    } else {
+        None
     }
-    if high < number {
-        return None;
-    }
-    Some(number)
 }
 
-/// The number of at most 13 digits that a token spells.
-fn digits(token: &[u8]) -> Option<u64>
-    ensures some { IfSome result (λ n. (token.now ≡ decimal n) × (n < 10 ^ 13)) }
-    ensures none { IfNone result ((n : ℕ) → n ≤ MOST_MAGNITUDE → token.now ≡ decimal n → ⊥) }
+/// The number of at most 13 digits that these bytes begin with, and the bytes after its digits.
+#[inline(always)]
+pub fn leading_number(bytes: &[u8]) -> Option<(u64, &[u8])>
+    ensures { LeadsWith (λ rest. rest.now) bytes.now result }
 {
-    if token.len() > 13 {
-        return None;
-    }
-    if token.is_empty() {
-        return None;
-    }
     let mut number: u64 = 0;
-    for i in 0..token.len() {
-        let byte = token[i];
-        if byte < b'0' {
+    for i in 0..bytes.len() {
+        let byte = bytes[i] as u64;
+        if byte < b'0' as u64 {
+            return digits_taken(bytes, i, number);
+        }
+        if byte > b'9' as u64 {
+            return digits_taken(bytes, i, number);
+        }
+        if i == 13 {
             return None;
         }
-        if byte > b'9' {
-            return None;
-        }
-        number = number * 10 + (byte - b'0') as u64;
+        number = number * 10 + (byte - b'0' as u64);
     }
-    if !has_no_leading_zero(token) {
-        return None;
-    }
-    Some(number)
+    digits_taken(bytes, bytes.len(), number)
 }
 
-fn has_no_leading_zero(digits: &[u8]) -> bool
-    requires { 0 < length digits.now }
-    ensures { IsTrue result ↔ (slice_index digits.now 0 ≡ 48 → length digits.now ≡ 1) }
+/// The number of the first `count` bytes, which are digits, and the bytes after them, where it is spelled so.
+#[inline(always)]
+fn digits_taken(bytes: &[u8], count: usize, number: u64) -> Option<(u64, &[u8])>
+    requires digits { AllDigits 10 (take count bytes.now) }
+    requires value { number ≡ digits_value 10 (take count bytes.now) }
+    requires few { count ≤ 13 }
+    requires within { count ≤ length bytes.now }
+    requires all { NoDigitFirst (drop count bytes.now) }
+    ensures { LeadsWith (λ rest. rest.now) bytes.now result }
 {
-    if digits[0] != b'0' {
-        return true;
+    if count == 0 {
+        return None;
     }
-    digits.len() == 1
+    if bytes[0] == b'0' && count > 1 {
+        return None;
+    }
+    Some((number, &bytes[count..]))
 }

@@ -1,12 +1,14 @@
 //! The tokens of a line, with one space between.
 
-ghost use Rattle.std.specs.Prelude.{◌≡◌, ◌≤◌, ◌==◌, [], ◌∷◌, IfSome, IfNone, length, position};
+ghost use Rattle.std.specs.Prelude.{◌≡◌, ◌≢◌, ℕ, ◌≤◌, ◌==◌, List, ◌∷◌, ◌++◌, None, IfSome, IfNone, MatchOption, IsTrue, IsFalse, length};
 ghost use Rattle.std.specs.List.{slice_split};
-ghost use Rattle.dvg_cert.specs.Private.Tokens.{Reads, natural_in, number_in, key_in, address_in, the_token, by_token, end_at, box_at, entry_at};
+ghost use Rattle.std.specs.Option.{option_map};
+ghost use Rattle.dvg_cert.specs.Reading.{Without};
+ghost use Rattle.dvg_cert.specs.Private.Tokens.{Reads, natural_in, number_in, key_in, address_in, the_token, by_token, end_at, span_at, box_at, entry_at, tokens_left, after_token};
 
 use crate::entry::{End, Entry, Key, LitBox};
 use crate::limits::{MOST_DEPTH, MOST_MAGNITUDE, MOST_WORDS, SPACE};
-use crate::numerals::{address, natural, number, read_key};
+use crate::numerals::{address_of, leading_number};
 use std::marker::Model;
 
 /// The tokens of a line that are left: the bytes after the space that ended the last token taken.
@@ -34,42 +36,47 @@ impl<'a> Tokens<'a> {
         Tokens { rest: Some(line) }
     }
 
-    /// The next token.
+    /// Takes the next token where it is this word, and answers whether it is. Else no token is taken.
+    #[inline(always)]
     #[tactic(auto, unfolding(crate::specs::Private::Tokens::tokens_left))]
-    fn next_token(&mut self) -> Option<&'a [u8]>
-        ensures some { IfSome result (λ token. self.old ≡ token.now ∷ self.new) }
-        ensures none { IfNone result (self.old ≡ []) }
+    fn takes<const N: usize>(&mut self, word: &[u8; N]) -> bool
+        requires { Without SPACE word.now }
+        ensures yes { IsTrue result → self.old ≡ word.now ∷ self.new }
+        ensures no { IsFalse result → (self.new ≡ self.old) × (the_token word.now self.old ≡ None) }
     {
-        let rest = self.rest?;
-        match space_at(rest) {
-            None => {
-                self.rest = None;
-                Some(rest)
+        match left_after_word(self.rest, word) {
+            Some(left) => {
+                self.rest = left;
+                true
             }
-            Some(at) => {
-                self.rest = Some(&rest[at + 1..]);
-                Some(&rest[..at])
-            }
+            None => false,
         }
     }
 
-    /// Takes this token.
+    /// Takes this word.
+    #[inline(always)]
     #[tactic(auto, unfolding(crate::specs::Private::Tokens::the_token))]
-    pub fn expect(&mut self, expected: &[u8]) -> Option<()>
-        ensures { Reads result self.new (the_token expected.now self.old) }
+    pub fn expect<const N: usize>(&mut self, word: &[u8; N]) -> Option<()>
+        requires { Without SPACE word.now }
+        ensures { Reads result self.new (the_token word.now self.old) }
     {
-        let token = self.next_token()?;
-        if token == expected { Some(()) } else { None }
+        if self.takes(word) { Some(()) } else { None }
     }
 
     /// Takes a number from `low` to `high`.
+    #[inline(always)]
     #[tactic(auto, unfolding(crate::specs::Private::Tokens::by_token))]
     pub fn natural(&mut self, low: u64, high: u64) -> Option<u64>
         requires { high ≤ MOST_MAGNITUDE }
         ensures value { Reads result self.new (by_token (natural_in low high) self.old) }
         ensures within { IfSome result (λ n. n ≤ high) }
     {
-        natural(self.next_token()?, low, high)
+        let (number, after) = leading_number(self.rest?)?;
+        self.rest = past_token(after)?;
+        if number < low || high < number {
+            return None;
+        }
+        Some(number)
     }
 
     /// Takes a number of an end or a box.
@@ -77,7 +84,14 @@ impl<'a> Tokens<'a> {
     fn number(&mut self) -> Option<i64>
         ensures { Reads result self.new (by_token (number_in MOST_MAGNITUDE) self.old) }
     {
-        number(self.next_token()?)
+        let bytes = self.rest?;
+        if let Some(digits) = after_word(bytes, b"-") {
+            self.rest = Some(digits);
+            let number = self.natural(1, MOST_MAGNITUDE)?;
+            return Some(-(number as i64));
+        }
+        let number = self.natural(0, MOST_MAGNITUDE)?;
+        Some(number as i64)
     }
 
     /// Takes a scale, or any.
@@ -85,7 +99,11 @@ impl<'a> Tokens<'a> {
     fn key(&mut self) -> Option<Key>
         ensures { Reads result self.new (by_token key_in self.old) }
     {
-        read_key(self.next_token()?)
+        if self.takes(b"any") {
+            return Some(Key::Any);
+        }
+        let number = self.natural(0, 15)?;
+        Some(Key::At(number as u8))
     }
 
     /// Takes an address from `first` to `last`.
@@ -93,7 +111,11 @@ impl<'a> Tokens<'a> {
     fn address(&mut self, first: u16, last: u16) -> Option<u16>
         ensures { Reads result self.new (by_token (address_in first last) self.old) }
     {
-        address(self.next_token()?, first, last)
+        let [a, b, c, after @ ..] = self.rest? else {
+            return None;
+        };
+        self.rest = past_token(after)?;
+        address_of(*a, *b, *c, first, last)
     }
 
     /// Takes an end.
@@ -101,16 +123,15 @@ impl<'a> Tokens<'a> {
     fn end(&mut self) -> Option<End>
         ensures { Reads result self.new (end_at self.old) }
     {
-        let token = self.next_token()?;
-        if token == b"lost".as_slice() {
+        if self.takes(b"lost") {
             return Some(End::Lost);
         }
-        if token == b"rel".as_slice() {
+        if self.takes(b"rel") {
             let x = self.number()?;
             let y = self.number()?;
             return Some(End::Rel { x, y });
         }
-        if token == b"abs".as_slice() {
+        if self.takes(b"abs") {
             let x = self.number()?;
             let y = self.number()?;
             return Some(End::Abs { x, y });
@@ -123,11 +144,18 @@ impl<'a> Tokens<'a> {
     fn lit(&mut self) -> Option<LitBox>
         ensures { Reads result self.new (box_at self.old) }
     {
-        let token = self.next_token()?;
-        if token == b"none".as_slice() {
+        if self.takes(b"none") {
             return Some(LitBox::Empty);
         }
-        let x_min = number(token)?;
+        self.span()
+    }
+
+    /// Takes a box of four numbers.
+    #[tactic(auto, unfolding(crate::specs::Private::Tokens::span_at))]
+    fn span(&mut self) -> Option<LitBox>
+        ensures { Reads result self.new (span_at self.old) }
+    {
+        let x_min = self.number()?;
         let x_max = self.number()?;
         let y_min = self.number()?;
         let y_max = self.number()?;
@@ -181,9 +209,37 @@ impl<'a> Tokens<'a> {
     }
 }
 
-/// The place of the first space.
-fn space_at(bytes: &[u8]) -> Option<usize>
-    ensures { result ≡ position (λ b. b == SPACE) bytes.now }
+/// What is left after this word, where it is the next token.
+#[inline(always)]
+fn left_after_word<'a, const N: usize>(
+    rest: Option<&'a [u8]>,
+    word: &[u8; N],
+) -> Option<Option<&'a [u8]>>
+    requires { Without SPACE word.now }
+    ensures some { IfSome result (λ left. tokens_left rest.entry ≡ word.now ∷ tokens_left left) }
+    ensures none { IfNone result (the_token word.now (tokens_left rest.entry) ≡ None) }
 {
-    bytes.iter().position(|b| *b == SPACE)
+    past_token(after_word(rest?, word)?)
+}
+
+/// The bytes after this word, where they begin with it.
+#[inline(always)]
+fn after_word<'a, const N: usize>(bytes: &'a [u8], word: &[u8; N]) -> Option<&'a [u8]>
+    ensures { MatchOption result ((rest : List ℕ) → bytes.now ≢ word.now ++ rest) (λ rest. bytes.now ≡ word.now ++ rest.now) }
+{
+    let (prefix, rest) = bytes.split_first_chunk::<N>()?;
+    if prefix == word { Some(rest) } else { None }
+}
+
+/// What is left after a token that these bytes follow, or `None` where they go on with it.
+#[inline(always)]
+#[tactic(auto, unfolding(crate::specs::Private::Tokens::tokens_left))]
+fn past_token(after: &[u8]) -> Option<Option<&[u8]>>
+    ensures { option_map tokens_left result ≡ after_token after.now }
+{
+    match after {
+        [] => Some(None),
+        [b' ', rest @ ..] => Some(Some(rest)),
+        [_, ..] => None,
+    }
 }

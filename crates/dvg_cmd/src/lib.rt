@@ -1,6 +1,6 @@
 //! Runs of the checker over readers and writers, and the report that they write.
 //!
-//! [`run_check`] reads a ROM, a certificate and a frame, judges them by [`check`] and writes one line, the report of
+//! [`run_check`] reads a ROM, a certificate and a frame, judges them as [`check`] does and writes one line, the report of
 //! the verdict. [`run_make`] reads a ROM and writes the certificate that [`make`](dvg_make::make) makes.
 #![tactic(auto)]
 

@@ -1,6 +1,7 @@
 -- How the tokens of a line are read from left to right. No rule stands here.
-use Rattle.std.specs.Prelude.{◌≡◌, ℕ, ◌+◌, ◌-◌, ◌*◌, List, [], ◌∷◌, length, codes, decimal, ℤ, pos, neg_ℤ, ◌&&◌, nat_le, nat_lt, int_le, ◌==◌, if◌then◌else◌, Option, Some, None}
+use Rattle.std.specs.Prelude.{◌≡◌, ℕ, ◌+◌, ◌-◌, ◌*◌, ◌^◌, ◌<◌, ◌≤◌, List, [], ◌∷◌, ◌++◌, length, codes, decimal, ℤ, pos, neg_ℤ, ◌&&◌, nat_le, nat_lt, int_le, ◌==◌, if◌then◌else◌, Option, Some, None}
 use Rattle.std.specs.Str.{bytes_eq}
+use Rattle.std.specs.Char.{digit_value}
 use Rattle.std.specs.Str.Parse.{digits_value}
 use Rattle.std.specs.Option.{option_map, option_or, option_and_then}
 use Rattle.std.specs.List.{slice_split}
@@ -45,6 +46,21 @@ unfoldable pub tokens_left : Option (Bor (List ℕ)) → List (List ℕ)
 tokens_left None = []
 tokens_left (Some rest) = slice_split (λ b. b == SPACE) rest.now
 
+-- the tokens that are left after one that these bytes follow, where a space or nothing follows it
+abbrev pub after_token : List ℕ → Option (List (List ℕ))
+after_token [] = Some []
+after_token (c ∷ cs) = if c == SPACE then Some (slice_split (λ b. b == SPACE) cs) else None
+
+-- no digit comes first
+abbrev pub NoDigitFirst : List ℕ → Type 0
+NoDigitFirst [] = Unit {0}
+NoDigitFirst (c ∷ cs) = digit_value c < 10 → ⊥
+
+-- a number of at most 13 digits that the bytes begin with, and the bytes after its digits; `see` sees those as bytes
+abbrev pub LeadsWith : {X : Type 0} → (X → List ℕ) → List ℕ → Option (ℕ × X) → Type 0
+LeadsWith see bytes (Some p) = (bytes ≡ decimal p.0 ++ see p.1) × (p.0 < 10 ^ 13) × NoDigitFirst (see p.1)
+LeadsWith see bytes None = (n : ℕ) → (rest : List ℕ) → n ≤ MOST_MAGNITUDE → NoDigitFirst rest → bytes ≡ decimal n ++ rest → ⊥
+
 abbrev pub token_at : List (List ℕ) → Option (List ℕ × List (List ℕ))
 token_at [] = None
 token_at (token ∷ tokens) = Some (token, tokens)
@@ -75,19 +91,19 @@ end_at tokens = do
   if bytes_eq w.0 (codes "lost") then Some (Lost, w.1) else (if bytes_eq w.0 (codes "rel") then two_at (λ x y. Rel x y) w.1
       else (if bytes_eq w.0 (codes "abs") then two_at (λ x y. Abs x y) w.1 else None))
 
--- a box whose first token is this
-abbrev pub span_at : List ℕ → List (List ℕ) → Option (LitBox × List (List ℕ))
-span_at token tokens = do
-  x_min ← number_in MOST_MAGNITUDE token
-  x_max ← by_token (number_in MOST_MAGNITUDE) tokens
+-- a box of four numbers
+unfoldable pub span_at : List (List ℕ) → Option (LitBox × List (List ℕ))
+span_at tokens = do
+  x_min ← by_token (number_in MOST_MAGNITUDE) tokens
+  x_max ← by_token (number_in MOST_MAGNITUDE) x_min.1
   y_min ← by_token (number_in MOST_MAGNITUDE) x_max.1
   y_max ← by_token (number_in MOST_MAGNITUDE) y_min.1
-  if int_le x_min x_max.0 && int_le y_min.0 y_max.0 then Some (Span x_min x_max.0 y_min.0 y_max.0, y_max.1) else None
+  if int_le x_min.0 x_max.0 && int_le y_min.0 y_max.0 then Some (Span x_min.0 x_max.0 y_min.0 y_max.0, y_max.1) else None
 
 unfoldable pub box_at : List (List ℕ) → Option (LitBox × List (List ℕ))
 box_at tokens = do
   w ← token_at tokens
-  if bytes_eq w.0 (codes "none") then Some (Empty, w.1) else span_at w.0 w.1
+  if bytes_eq w.0 (codes "none") then Some (Empty, w.1) else span_at tokens
 
 -- an entry of a ROM from word address first to last
 unfoldable pub entry_at : ℕ → ℕ → List (List ℕ) → Option (Entry × List (List ℕ))
@@ -117,4 +133,4 @@ done_at tokens = do
 
 -- the whole of the tokens
 unfoldable pub line_in : ℕ → ℕ → List (List ℕ) → Option Line
-line_in first last tokens = option_or (option_map (λ n. lines.Done n) (nothing_left (done_at tokens))) (option_map (λ e. lines.Entry e) (nothing_left (entry_at first last tokens)))
+line_in first last tokens = option_or (option_map (λ e. lines.Entry e) (nothing_left (entry_at first last tokens))) (option_map (λ n. lines.Done n) (nothing_left (done_at tokens)))

@@ -1,0 +1,116 @@
+-- Binary search in a list of entries that rises.
+use Rattle.std.proofs.Common.{◌≡◌, ℕ, zero, suc, ◌<◌, ◌≤◌, ◌⊎◌, inl, inr, Bool, true, false, List, [], ◌∷◌, length, get_or, Option, Some, None, refl, sym, ap, subst, ◌∙◌, arith}
+use Rattle.std.specs.Prelude.{◌==◌, nat_lt, ◌&&◌, ◌||◌, Contains, IfSome, IfNone}
+use Rattle.std.specs.List.Sorted.{IsPartitionedBy, IsPartitionPoint}
+use Rattle.std.proofs.lemmas.Bool.Decides.{nat_tests}
+use Rattle.std.proofs.lemmas.List.{get_or_default}
+use Rattle.std.proofs.lemmas.List.Elements.{Contains-get_or}
+use Rattle.dvg_cert.specs.Entry.{Entry, Key, At, Any}
+use Rattle.dvg_cert.specs.Order.{KeyBefore, Before, IsRising}
+use Rattle.dvg_cert.specs.Lookup.{is_at, entry_at, IsOnlyAt, HasNoneAt}
+use Rattle.dvg_cert.specs.Private.Searching.{lower_key, stands_before}
+use Rattle.dvg_cert.proofs.OnlyEntries.{at_means, at_holds, before_next, not_before, rising_tail, before_later, found}
+
+lower_means : (a b : Key) → lower_key a b ≡ true → KeyBefore a b
+lower_means (At m) (At n) h = grind (arith, nat_tests)
+lower_means (At m) Any h = tt
+lower_means Any b h = absurd cc
+
+lower_holds : (a b : Key) → KeyBefore a b → lower_key a b ≡ true
+lower_holds (At m) (At n) h = grind (arith, nat_tests)
+lower_holds (At m) Any h = refl
+lower_holds Any b h = absurd h
+
+-- an entry at an address and key
+abbrev place : ℕ → Key → Entry → Entry
+place addr key d = record { addr = addr; key = key; stop = d.stop; lit = d.lit; depth = d.depth; words = d.words; scale = d.scale }
+
+by_parts : (a b : ℕ) (t : Bool) → (nat_lt a b || (a == b && t)) ≡ true → (a < b) ⊎ ((a ≡ b) × (t ≡ true))
+by_parts a b t h = by (nat_lt a b) refl
+  where
+    by : (l : Bool) → nat_lt a b ≡ l → (a < b) ⊎ ((a ≡ b) × (t ≡ true))
+    by true e = inl (grind (arith, nat_tests))
+    by false e = inr (grind (arith, nat_tests), grind (arith, nat_tests))
+
+before_means : (addr : ℕ) (key : Key) (e f : Entry) → stands_before addr key e ≡ true → f.addr ≡ addr → f.key ≡ key → Before e f
+before_means addr key e f h a k = elim (by_parts e.addr addr (lower_key e.key key) h) [
+  | inl l ↦ inl (omega (arith, a))
+  | inr p ↦ inr (p.0 ∙ sym a, subst (KeyBefore e.key) (sym k) (lower_means e.key key p.1))
+]
+
+before_holds : (addr : ℕ) (key : Key) (e f : Entry) → Before e f → f.addr ≡ addr → f.key ≡ key → stands_before addr key e ≡ true
+before_holds addr key e f (inl l) a k = let lt : e.addr < addr = omega (arith, a) in grind (arith, nat_tests)
+before_holds addr key e f (inr p) a k =
+    let same : e.addr ≡ addr = p.0 ∙ a in
+    let low : lower_key e.key key ≡ true = lower_holds e.key key (subst (KeyBefore e.key) k p.1) in
+    grind (arith, nat_tests)
+
+rising_at : (es : List Entry) (i j : ℕ) (d : Entry) → IsRising es → i < j → j < length es → Before (get_or es i d) (get_or es j d)
+rising_at [] i j d h lt le = absurd (omega arith)
+rising_at (e ∷ es) i zero d h lt le = absurd (omega arith)
+rising_at (e ∷ es) zero (suc j) d h lt le = before_later e es (get_or es j d) h (Contains-get_or es j d (omega arith))
+rising_at (e ∷ es) (suc i) (suc j) d h lt le = rising_at es i j d (rising_tail e es h) (omega arith) (omega arith)
+
+earlier : (es : List Entry) (addr : ℕ) (key : Key) (i j : ℕ) (d f : Entry) → IsRising es → i < j → j < length es → stands_before addr key (get_or es j d) ≡ true → f.addr ≡ addr → f.key ≡ key → stands_before addr key (get_or es i d) ≡ true
+earlier es addr key i j d f h lt le s a k =
+    before_holds addr key (get_or es i d) f (before_next (get_or es i d) (get_or es j d) f (rising_at es i j d h lt le) (before_means addr key (get_or es j d) f s a k)) a k
+
+pub parted : (es : List Entry) (addr : ℕ) (key : Key) → IsRising es → IsPartitionedBy (stands_before addr key) es
+parted es addr key h = λ i j d le lt s. by i j d le lt s (nat_lt i j) refl
+  where
+    by : (i j : ℕ) (d : Entry) → i ≤ j → j < length es → stands_before addr key (get_or es j d) ≡ true → (l : Bool) → nat_lt i j ≡ l → stands_before addr key (get_or es i d) ≡ true
+    by i j d le lt s true l = earlier es addr key i j d (place addr key d) h (grind (arith, nat_tests)) lt s refl refl
+    by i j d le lt s false l = let same : j ≡ i = grind (arith, nat_tests) in subst (λ (k : ℕ). stands_before addr key (get_or es k d) ≡ true) same s
+
+-- what stands at the address and key stands at the place between
+at_place : (es : List Entry) (addr : ℕ) (key : Key) (i : ℕ) (e : Entry) → IsRising es → i ≤ length es → IsPartitionPoint (λ x. stands_before addr key x ≡ true) (λ x. stands_before addr key x ≡ false) es i
+    → Contains es e → e.addr ≡ addr → e.key ≡ key → (i < length es) × (get_or es i e ≡ e)
+at_place es addr key i e h le p (k, lt, is) a b = by (nat_lt k i) (nat_lt i k) refl refl
+  where
+    by : (l m : Bool) → nat_lt k i ≡ l → nat_lt i k ≡ m → (i < length es) × (get_or es i e ≡ e)
+    by true m l n =
+        let s : stands_before addr key e ≡ true = subst (λ (x : Entry). stands_before addr key x ≡ true) is (p.0 k e (omega arith) (grind (arith, nat_tests))) in
+        absurd (not_before e e refl refl (before_means addr key e e s a b))
+    by false true l n =
+        let less : i < k = grind (arith, nat_tests) in
+        let ahead : Before (get_or es i e) e = subst (Before (get_or es i e)) is (rising_at es i k e h less lt) in
+        let s = before_holds addr key (get_or es i e) e ahead a b in
+        let t = p.1 i e (omega arith) (omega arith) in
+        absurd cc
+    by false false l n = let same : k ≡ i = grind (arith, nat_tests) in (omega arith, subst (λ (j : ℕ). get_or es j e ≡ e) same is)
+
+pub nothing_there : (es : List Entry) (addr : ℕ) (key : Key) (i : ℕ) → IsRising es → i ≡ length es → IsPartitionPoint (λ x. stands_before addr key x ≡ true) (λ x. stands_before addr key x ≡ false) es i → None ≡ entry_at es addr key
+nothing_there es addr key i h end p = by (entry_at es addr key) refl
+  where
+    by : (o : Option Entry) → entry_at es addr key ≡ o → None ≡ entry_at es addr key
+    by None e = sym e
+    by (Some f) e =
+        let only : IsOnlyAt es addr key f = subst (λ (o : Option Entry). IfSome o (IsOnlyAt es addr key)) e (found es addr key h).0 in
+        let t = at_place es addr key i f h (omega arith) p only.0 only.1 only.2 in
+        absurd (omega (arith, t.0))
+
+pub other_there : (es : List Entry) (addr : ℕ) (key : Key) (i : ℕ) (d : Entry) → IsRising es → i < length es → IsPartitionPoint (λ x. stands_before addr key x ≡ true) (λ x. stands_before addr key x ≡ false) es i
+    → is_at addr key (get_or es i d) ≡ false → None ≡ entry_at es addr key
+other_there es addr key i d h lt p other = by (entry_at es addr key) refl
+  where
+    by : (o : Option Entry) → entry_at es addr key ≡ o → None ≡ entry_at es addr key
+    by None e = sym e
+    by (Some f) e =
+        let only : IsOnlyAt es addr key f = subst (λ (o : Option Entry). IfSome o (IsOnlyAt es addr key)) e (found es addr key h).0 in
+        let t = at_place es addr key i f h (omega arith) p only.0 only.1 only.2 in
+        let here : get_or es i d ≡ f = get_or_default es i d f lt ∙ t.1 in
+        let yes : is_at addr key (get_or es i d) ≡ true = ap (is_at addr key) here ∙ at_holds addr key f only.1 only.2 in
+        absurd cc
+
+pub this_there : (es : List Entry) (addr : ℕ) (key : Key) (i : ℕ) (d : Entry) → IsRising es → i < length es → is_at addr key (get_or es i d) ≡ true → Some (get_or es i d) ≡ entry_at es addr key
+this_there es addr key i d h lt is = by (entry_at es addr key) refl
+  where
+    by : (o : Option Entry) → entry_at es addr key ≡ o → Some (get_or es i d) ≡ entry_at es addr key
+    by None e =
+        let none : HasNoneAt es addr key = subst (λ (o : Option Entry). IfNone o (HasNoneAt es addr key)) e (found es addr key h).1 in
+        let m = at_means addr key (get_or es i d) is in
+        absurd (none (get_or es i d) (Contains-get_or es i d lt) m.0 m.1)
+    by (Some f) e =
+        let only : IsOnlyAt es addr key f = subst (λ (o : Option Entry). IfSome o (IsOnlyAt es addr key)) e (found es addr key h).0 in
+        let m = at_means addr key (get_or es i d) is in
+        ap Some (only.3 (get_or es i d) (Contains-get_or es i d lt) m.0 m.1) ∙ sym e
