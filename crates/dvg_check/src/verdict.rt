@@ -81,7 +81,7 @@ impl From<CertFault> for Refusal {
     }
 }
 
-/// Of all that `check` calls, making the index alone answers an `AllocError`.
+/// Of all that `check_parts` calls, making the index alone answers an `AllocError`.
 impl From<AllocError> for Refusal {
     ghost from_gives = { λ _ refusal. refusal ≡ refusals.IndexMemory };
 
@@ -140,9 +140,9 @@ pub fn images_of<'a>(rom: &'a [u8], frame: &'a [u8], budget: u32) -> Result<Imag
 /// global scale, reaches HALT within the answered count of words, stores at most four return places at once, fetches
 /// only words of the ROM and the frame, and draws no lit stroke that leaves 0 to 1023 on either axis.
 ///
-/// Each claimed shape is visited once, and nothing is run. Takes memory for the certificate's entries and for their index
-/// alone, and none before 1, 2 and 49 are ruled out; 16 comes only where there was none for an entry that could be taken,
-/// and 50 only where the certificate was taken and there was none for its index.
+/// Nothing is run: what a shape comes to from a word on is worked out once for each scale at which that is needed. Takes memory
+/// for the certificate's entries and for their index alone, and none before 1, 2 and 49 are ruled out; 16 comes only where there
+/// was none for an entry that could be taken, and 50 only where the certificate was taken and there was none for its index.
 pub fn check(
     alloc: Global,
     rom: &[u8],

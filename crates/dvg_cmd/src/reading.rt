@@ -75,7 +75,8 @@ pub fn skip<R: CountedRead>(reader: &mut R, most: usize) -> io::Result<()>
     Ok(())
 }
 
-/// The answer to the certificate that a reader holds. It is read piece by piece, up to its end or its refusal.
+/// The answer to the certificate that a reader holds. It is read piece by piece, up to its end or
+/// through the piece in which it is refused.
 pub fn read_certificate<R: CountedRead>(
     alloc: Global,
     source: &mut R,

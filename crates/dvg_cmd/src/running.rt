@@ -132,9 +132,9 @@ fn write_report<W: CountedWrite>(
 /// Reads a ROM, a frame and a certificate, in this order, and writes the report of the verdict on them.
 ///
 /// Each input is read to its end, or to one byte past its limit: 2048 bytes for a ROM and a frame, 1,048,576 for a
-/// certificate; the certificate only until its own refusal is known. It is read piece by piece, and its entries alone are
-/// kept. The first failed read or write ends the run, and nothing is tried again. On 70, 71 and 72 nothing was written, on 73
-/// a prefix of the report. 74 never comes.
+/// certificate; a certificate that is refused, no further than the piece of 4096 bytes in which that is known. No more is kept
+/// of a certificate than that piece, the line begun and the entries. The first failed read or write ends the run, and nothing
+/// is tried again. On 70, 71 and 72 nothing was written, on 73 a prefix of the report. 74 never comes.
 pub fn run_check<R1: CountedRead, R2: CountedRead, R3: CountedRead, W: CountedWrite>(
     alloc: Global,
     rom: &mut R1,
@@ -151,7 +151,7 @@ pub fn run_check<R1: CountedRead, R2: CountedRead, R3: CountedRead, W: CountedWr
     ensures no_memory { result ≢ Err RunFault.Memory }
 
     // With an outcome the ROM and the frame were read to their end or to one byte past their limit, whatever was known by
-    // then. After a failed read no other device is touched.
+    // then. After a failed read no later device is touched, and by the counts none is called again.
     ensures rom_read { OnOk result (IsReadTo MOST_IMAGE_READ (R1.remaining rom.old) (R1.remaining rom.new)) }
     ensures frame_read { OnOk result (IsReadTo MOST_IMAGE_READ (R3.remaining frame.old) (R3.remaining frame.new)) }
     ensures frame_unread { result ≡ Err RunFault.ReadRom → frame.new ≡ frame.old }

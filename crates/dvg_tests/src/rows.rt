@@ -15,7 +15,72 @@ pub const EMPTY: &[u8] = b"dvgcert 1\ndone 0\n";
 pub const STROKE_CERT: &[u8] =
     b"dvgcert 1\nshape 800 0 end rel 1047552 785408 box 0 1047552 0 785408 depth 0 words 3 scale 0\ndone 1\n";
 
+/// Its certificate with the address in small letters, with -0, with the entry twice, with another count, with no last line, and
+/// with a byte more.
+const SMALL_HEX: &[u8] =
+    b"dvgcert 1\nshape 80a 0 end rel 1047552 785408 box 0 1047552 0 785408 depth 0 words 3 scale 0\ndone 1\n";
+
+const MINUS_ZERO: &[u8] =
+    b"dvgcert 1\nshape 800 0 end rel -0 785408 box 0 1047552 0 785408 depth 0 words 3 scale 0\ndone 1\n";
+
+const TWICE: &[u8] =
+    b"dvgcert 1\nshape 800 0 end rel 1047552 785408 box 0 1047552 0 785408 depth 0 words 3 scale 0\nshape 800 0 end rel 1047552 785408 box 0 1047552 0 785408 depth 0 words 3 scale 0\ndone 2\n";
+
+const DONE_2: &[u8] =
+    b"dvgcert 1\nshape 800 0 end rel 1047552 785408 box 0 1047552 0 785408 depth 0 words 3 scale 0\ndone 2\n";
+
+const NOT_DONE: &[u8] =
+    b"dvgcert 1\nshape 800 0 end rel 1047552 785408 box 0 1047552 0 785408 depth 0 words 3 scale 0\n";
+
+const MORE: &[u8] =
+    b"dvgcert 1\nshape 800 0 end rel 1047552 785408 box 0 1047552 0 785408 depth 0 words 3 scale 0\ndone 1\nx";
+
 const ROWS: &str = "\
+a frame that halts at once
+rom 800
+frame B000
+accepted shapes=0 words=1 depth=0
+
+draws at an unknown place
+rom 800
+frame 7000 7000 B000
+refused 44 frame at 000
+
+a jump forward
+rom 800
+frame E001 B000
+accepted shapes=0 words=2 depth=0
+
+a jump to itself
+rom 800
+frame E000
+refused 43 frame at 000
+
+a jump to the ROM
+rom 800
+frame E800 B000
+refused 40 frame at 800
+
+a stroke from 1,1 to 0,0
+rom 800
+frame A001 0001 9401 7401 B000
+accepted shapes=0 words=5 depth=0
+
+the same one place lower
+rom 800
+frame A001 0000 9401 7401 B000
+refused 46 frame at 002
+
+an odd LABS
+rom 800
+frame A480 0000 B000
+refused 41 frame at 000
+
+a return with nothing stored
+rom 800
+frame D000
+refused 42 frame at 000
+
 a stroke to the screen's right edge
 rom 800 92FF 73FF D000
 shape 800 0 end rel 1047552 785408 box 0 1047552 0 785408 depth 0 words 3 scale 0
@@ -463,6 +528,40 @@ fn judges_rows(rt: HostRuntime) -> Result<(), Fail> {
     for row in ROWS.split("\n\n") {
         let is = row_is_reported(rt.alloc(), row)?;
         assert!(rt; is, "for {row}");
+    }
+    Ok(())
+}
+
+/// A far jump, wrong lengths, and texts that are no certificate's.
+#[test]
+fn judges_bytes_of_any_kind(rt: HostRuntime) -> Result<(), Fail> {
+    let stroke = rom_bytes(rt.alloc(), "800 92FF 73FF D000")?;
+    let mut far = [0u8; 1028];
+    far[..2].copy_from_slice(&[0x01, 0xE2]);
+    far[1026..].copy_from_slice(&[0x00, 0xB0]);
+    let halt: &[u8] = &[0x00, 0xB0];
+    for (rom_length, text, frame, report) in [
+        (
+            2048,
+            EMPTY,
+            far.as_slice(),
+            "accepted shapes=0 words=2 depth=0",
+        ),
+        (2047, EMPTY, halt, "refused 1"),
+        (2048, EMPTY, &[], "refused 2"),
+        (2048, EMPTY, &[0x00, 0xB0, 0x00], "refused 2"),
+        (2048, b"", halt, "refused 13 certificate line 1"),
+        (2048, STROKE_CERT, halt, "accepted shapes=1 words=1 depth=0"),
+        (2048, SMALL_HEX, halt, "refused 10 certificate line 2"),
+        (2048, MINUS_ZERO, halt, "refused 10 certificate line 2"),
+        (2048, TWICE, halt, "refused 11 certificate line 3"),
+        (2048, DONE_2, halt, "refused 12 certificate line 3"),
+        (2048, NOT_DONE, halt, "refused 13 certificate line 3"),
+        (2048, MORE, halt, "refused 14 certificate line 4"),
+    ] {
+        let rom = stroke.get(..rom_length).unwrap_or(&[]);
+        let is = is_reported(rt.alloc(), rom, text, frame, 20000, report);
+        assert!(rt; is, "for {report}");
     }
     Ok(())
 }

@@ -6,8 +6,8 @@ mod making;
 use crate::rows::{EMPTY, STROKE_CERT};
 use devices::{SlowReader, SlowWriter};
 use dvg_cmd::{
-    Counted, CountedRead, CountedWrite, MakeFault, MakeRunFault, Outcome, RunFault, run_check,
-    status_of,
+    Counted, CountedRead, CountedWrite, MakeFault, MakeRunFault, Outcome, RunFault, message_of,
+    run_check, status_of,
 };
 use std::alloc::{AllocError, Global};
 use std::str;
@@ -129,6 +129,31 @@ fn ends_at_a_failed_write(rt: HostRuntime) {
             "at {most} {fails_at}"
         );
         assert_eq!(rt; slow.writes(), writes, "at {most} {fails_at}");
+    }
+}
+
+#[test]
+fn says_how_it_ended(rt: HostRuntime) {
+    for (end, status) in [
+        (Ok(Outcome::Accepted), 0),
+        (Ok(Outcome::Refused), 1),
+        (Ok(Outcome::NoMemory), 4),
+        (Err(RunFault::ReadRom), 3),
+        (Err(RunFault::ReadFrame), 3),
+        (Err(RunFault::ReadCert), 3),
+        (Err(RunFault::Write), 3),
+        (Err(RunFault::Memory), 4),
+    ] {
+        assert_eq!(rt; status_of(&end), status, "at {end:?}");
+    }
+    for (fault, message) in [
+        (RunFault::ReadRom, "dvgcheck: cannot read the ROM"),
+        (RunFault::ReadFrame, "dvgcheck: cannot read the frame"),
+        (RunFault::ReadCert, "dvgcheck: cannot read the certificate"),
+        (RunFault::Write, "dvgcheck: cannot write"),
+        (RunFault::Memory, "dvgcheck: out of memory"),
+    ] {
+        assert_eq!(rt; message_of(&fault), message);
     }
 }
 
