@@ -154,6 +154,8 @@ fn keys_behind<E: Entries>(entries: &E, instr: &Instr, keys: Keys) -> Keys
 #[derive(Drop)]
 pub struct Needed {
     pub keys: [Keys; ROM_WORDS],
+    /// One past the last word address at which some key is needed.
+    pub end: u16,
 }
 
 /// The keys that are needed at a word address.
@@ -171,6 +173,7 @@ fn need(needed: &mut Needed, at: u16, more: Keys) {
     let index = at.wrapping_sub(ROM_FIRST);
     if let Some(keys) = needed.keys.get_mut(usize::from(index)) {
         *keys = keys.with(more);
+        needed.end = needed.end.max(at.saturating_add(1));
     }
 }
 
@@ -199,11 +202,15 @@ fn needed_by<E: Entries>(rom: &RomImage, entries: &E, list: &[Entry]) -> Needed
 {
     let mut needed = Needed {
         keys: [Keys::NONE; ROM_WORDS],
+        end: ROM_FIRST,
     };
     for entry in list {
         need(&mut needed, entry.addr, Keys::one(entry.key));
     }
     for at in ROM_FIRST..ROM_END {
+        if needed.end <= at {
+            break;
+        }
         need_behind(rom, entries, at, &mut needed);
     }
     needed
@@ -244,7 +251,7 @@ pub fn first_doubtful<E: Entries>(mode: Mode, rom: &RomImage, entries: &E, list:
     let mut tails = Tails {
         slots: [None; SLOTS],
     };
-    let mut at = ROM_END;
+    let mut at = needed.end.min(ROM_END);
     let mut doubtful = list.len();
     let mut left = list.len();
     'entries: while left > 0 {
