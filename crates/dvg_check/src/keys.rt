@@ -62,6 +62,18 @@ impl Keys {
         self.bits == 0
     }
 
+    /// The number of the first of them, or one that is no key's.
+    pub fn first(self) -> u8 {
+        self.bits.trailing_zeros() as u8
+    }
+
+    /// Whether none of them has this number or a greater one.
+    pub fn has_none_from(self, index: u8) -> bool
+        requires { index < 17 }
+    {
+        self.bits >> index == 0
+    }
+
     /// Whether the key of a number is among them.
     pub fn has(self, index: u8) -> bool
         requires { index < 17 }

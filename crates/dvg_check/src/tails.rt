@@ -101,7 +101,10 @@ fn make_tails<E: Entries>(rom: &RomImage, entries: &E, at: u16, keys: Keys, tail
         return;
     };
     let item = Item { at, format, instr };
-    for index in 0..KEYS {
+    for index in keys.first()..KEYS {
+        if keys.has_none_from(index) {
+            break;
+        }
         if keys.has(index) {
             if let Some(tail) = tail_at(rom, entries, &item, key_of(index), tails) {
                 keep(tails, tail);
@@ -127,7 +130,10 @@ fn keys_left<E: Entries>(entries: &E, to: u16, keys: Keys) -> Keys
     requires { IsSomeCertificate (E.list entries.now) }
 {
     let mut left = Keys::NONE;
-    for index in 0..KEYS {
+    for index in keys.first()..KEYS {
+        if keys.has_none_from(index) {
+            break;
+        }
         if keys.has(index) {
             if let Some(entry) = callee(entries, Some(to), key_of(index)) {
                 left = left.with(Keys::one(entry.scale));
