@@ -58,6 +58,7 @@ impl Keys {
         }
     }
 
+    /// Whether none is among them.
     pub fn is_empty(self) -> bool {
         self.bits == 0
     }
