@@ -2,6 +2,7 @@
 
 ghost use Rattle.std.specs.Prelude.{◌≡◌, ◌<◌};
 ghost use Rattle.dvg_cert.specs.Entry.{IsKey};
+ghost use Rattle.dvg_check.specs.Private.Tails.{key_number};
 
 use dvg_cert::Key;
 
@@ -11,7 +12,8 @@ pub const KEYS: u8 = 17;
 /// The number of a key among all, from 0 on.
 pub fn key_index(key: Key) -> u8
     requires { IsKey key }
-    ensures { result < 17 }
+    ensures value { result ≡ key_number key }
+    ensures within { result < 17 }
 {
     match key {
         Key::At(scale) => scale,
@@ -22,7 +24,8 @@ pub fn key_index(key: Key) -> u8
 /// The key of a number.
 pub fn key_of(index: u8) -> Key
     requires { index < 17 }
-    ensures { IsKey result }
+    ensures key { IsKey result }
+    ensures number { key_number result ≡ index }
 {
     if index == 16 {
         Key::Any

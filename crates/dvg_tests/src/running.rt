@@ -75,6 +75,10 @@ fn reads_each_byte_once(rt: HostRuntime) -> Result<(), AllocError> {
     assert_eq!(rt; told, [(0, 2049, 0), (0, 11, 0), (0, 4096, 1_044_504)]);
     let told = byte_by_byte(rt.alloc(), &[], FIRST, &cert);
     assert_eq!(rt; told, [(0, 1, 0), (0, 11, 0), (0, 1_048_577, 23)]);
+    // and by pieces of 4096 bytes, where the reader gives as much
+    let mut out = Counted::new(SlowWriter::new(64, NEVER));
+    let (_, [_, _, told]) = run_slow(rt.alloc(), [&[], FIRST, &cert], 4096, [NEVER; 3], &mut out);
+    assert_eq!(rt; told, (0, 257, 23));
     Ok(())
 }
 

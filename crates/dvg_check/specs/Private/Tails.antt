@@ -10,6 +10,7 @@ use Rattle.dvg_words.specs.declared.instruction.Cell.TheVariants.{Holds}
 use Rattle.dvg_words.specs.Decoding.{cell_at}
 use Rattle.dvg_cert.specs.Entry.{IsKey}
 use Rattle.dvg_cert.specs.declared.entry.Key.{Key}
+use Rattle.dvg_cert.specs.declared.entry.Key.TheVariants.{At, Any}
 use Rattle.dvg_cert.specs.declared.entry.End.{End}
 use Rattle.dvg_cert.specs.declared.entry.End.TheVariants.{Rel, Abs, Lost}
 use Rattle.dvg_cert.specs.declared.entry.LitBox.{LitBox}
@@ -108,6 +109,13 @@ last_item list key box i = claimed i.at key box (first_seen list key i).after
 
 abbrev pub after_item : List Entry → Key → LitBox → Item → Entry → Entry
 after_item list key box i tail = claimed i.at key box (known_over (first_seen list key i).after (known_at_end tail))
+
+-- ---- keys
+
+-- the number of a key among all, from 0 on
+abbrev pub key_number : Key → ℕ
+key_number (At scale) = scale
+key_number Any = 16
 
 -- ---- tails, and how large their numbers are
 
