@@ -1,6 +1,8 @@
 //! An index of a certificate that hashes addresses and keys.
 
 ghost use Rattle.std.specs.Prelude.{◌≡◌, IfOk};
+ghost use Rattle.std.specs.Option.{option_copied};
+ghost use Rattle.dvg_cert.specs.Lookup.{entry_at};
 
 use crate::certificate::Cert;
 use crate::entry::{Entry, Key};
@@ -33,6 +35,7 @@ impl HashIndex {
     ///
     /// Takes memory for a copy of each entry and for the table of hashes, all of it before the first entry is put in, and
     /// fails only where that was refused. The hash has a fixed seed: there are at most 17,408 pairs of an address and a key.
+    #[inline(never)]
     pub fn new(alloc: Global, cert: &Cert) -> Result<HashIndex, AllocError>
         ensures { IfOk result (λ index. index ≡ cert.now) }
     {
@@ -43,12 +46,21 @@ impl HashIndex {
         }
         Ok(HashIndex { found })
     }
+
+    /// The entry at an address with a key, where it lies.
+    #[inline(never)]
+    fn entry_of(&self, addr: u16, key: Key) -> Option<&Entry>
+        ensures { option_copied result ≡ entry_at self.now addr key }
+    {
+        self.found.get(&(addr, key))
+    }
 }
 
 impl Entries for HashIndex {
     ghost list = { λ index. index };
 
+    #[inline(always)]
     fn find(&self, addr: u16, key: Key) -> Option<Entry> {
-        self.found.get(&(addr, key)).copied()
+        self.entry_of(addr, key).copied()
     }
 }

@@ -49,6 +49,7 @@ fn whole_done(line: &[u8]) -> Option<u16>
 }
 
 /// The entry, where the whole line says it.
+#[inline(never)]
 fn whole_entry(line: &[u8], first: u16, last: u16) -> Option<Entry>
     ensures { result ≡ nothing_left (entry_at first last (slice_split (λ b. b == SPACE) line.now)) }
 {

@@ -34,6 +34,7 @@ fn is_forward(item: &Item) -> bool
 }
 
 /// The first rule that an item of a frame breaks.
+#[inline(always)]
 fn first_broken(budget: u32, seen: &Seen) -> Option<FrameWhy>
     requires { IsSoundSeen seen.now }
     ensures kept { IfNone result (EachKept (FrameKeeps screen budget seen.now) frame_rules) }
@@ -96,6 +97,7 @@ impl Rules for FrameRules {
         FrameWhy::Odd
     }
 
+    #[inline(always)]
     fn first_broken(&self, seen: &Seen) -> Option<FrameWhy> {
         first_broken(self.budget, seen)
     }

@@ -114,6 +114,7 @@ fn make_tails<E: Entries>(rom: &RomImage, entries: &E, at: u16, keys: Keys, tail
 }
 
 /// Whether the tail at an entry's address and key was made, and shows that the entry is good.
+#[inline(never)]
 fn shows(mode: Mode, tails: &Tails, entry: &Entry) -> bool
     requires { IsKey entry.now.key }
     ensures { (rom : Rom) (list : List Entry) → AreTails screen rom list tails.now.slots → IsTrue result →

@@ -16,6 +16,7 @@ use dvg_items::{Cursor, Known, Step, callee, target};
 use dvg_words::{Cell, Format, Instr};
 
 /// Judges the instruction at a cursor: the first rule that it breaks, or where it leads.
+#[inline(always)]
 fn judge<E: Entries, R: Rules>(
     rules: &R,
     entries: &E,

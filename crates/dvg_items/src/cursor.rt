@@ -42,6 +42,7 @@ impl Cursor {
     }
 
     /// What the rules see of the instruction that stands here, with the entry that it calls.
+    #[inline(always)]
     pub fn see(&self, format: Format, instr: &Instr, callee: Option<Entry>) -> Seen
         requires here { IsSoundCursor self.now }
         requires near { self.now.at < ADDRESS_END }

@@ -25,6 +25,7 @@ pub struct Item {
 impl Item {
     /// Where the item after this one stands, `None` after the last: past its words, or where a frame's jump leads. Nothing
     /// follows HALT, RTSL, a shape's JMPL, or a frame's JMPL to its own place or a lower one (profile).
+    #[inline(always)]
     pub fn next_place(&self, kind: Kind) -> Option<u16>
         requires { self.now.at < ADDRESS_END }
         ensures { result ≡ next_place kind self.now }
@@ -38,6 +39,7 @@ impl Item {
 }
 
 /// Where a call leads, or a shape's tail jump. `None` for every other instruction.
+#[inline(always)]
 pub fn target(kind: Kind, instr: &Instr) -> Option<u16>
     ensures { result ≡ target kind instr.now }
 {

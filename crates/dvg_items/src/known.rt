@@ -56,6 +56,7 @@ fn stop_effect(stop: End) -> Effect
 }
 
 /// What an instruction does to the place, with the entry that it calls.
+#[inline(always)]
 fn effect_of(instr: &Instr, scale: Key, callee: &Option<Entry>) -> Effect
     requires scale { IsKey scale }
     requires callee { IfSome callee.now IsClaim }
@@ -71,6 +72,7 @@ fn effect_of(instr: &Instr, scale: Key, callee: &Option<Entry>) -> Effect
 }
 
 /// The place past an effect. `at`, the item's word address, serves the contract alone: it bounds the place before the item.
+#[inline(always)]
 pub fn place_past(effect: &Effect, place: &End, at: u16) -> End
     requires at { at ≤ ADDRESS_END }
     requires place { IsNearPlace at place.now }
@@ -93,6 +95,7 @@ pub fn place_past(effect: &Effect, place: &End, at: u16) -> End
 }
 
 /// The scale past an instruction.
+#[inline(always)]
 fn scale_past(instr: &Instr, scale: Key, callee: &Option<Entry>) -> Key
     requires scale { IsKey scale }
     requires instr { InstrFits instr.now }
@@ -133,6 +136,7 @@ fn callee_words(callee: &Option<Entry>) -> u32
 }
 
 /// The entry that is named by a target and a known scale, `Any` where it is unknown.
+#[inline(always)]
 pub fn callee<E: Entries>(entries: &E, target: Option<u16>, scale: Key) -> Option<Entry>
     requires { IsSomeCertificate (E.list entries.now) }
     ensures value { result ≡ callee_at (E.list entries.now) target scale }
@@ -162,6 +166,7 @@ impl Known {
     }
 
     /// What is known past an item that calls this entry.
+    #[inline(always)]
     pub fn past(&self, item: &Item, callee: &Option<Entry>) -> Known
         requires before { IsSoundCursor (record { at = item.now.at; known = self.now }) }
         requires callee { IfSome callee.now IsClaim }

@@ -22,6 +22,7 @@ pub enum LitExtent {
 }
 
 /// What a draw lights.
+#[inline(always)]
 fn draw_extent(draw: &Draw, scale: Key) -> LitExtent
     requires { IsKey scale }
     ensures extent { result ≡ draw_extent draw.now.bright draw.now scale }
@@ -40,6 +41,7 @@ fn draw_extent(draw: &Draw, scale: Key) -> LitExtent
 }
 
 /// What a called shape may light.
+#[inline(always)]
 fn box_extent(lit: LitBox) -> LitExtent
     requires { IsBox lit }
     ensures extent { result ≡ box_extent lit }
@@ -60,6 +62,7 @@ fn box_extent(lit: LitBox) -> LitExtent
 }
 
 /// What an instruction lights, with the entry that it calls.
+#[inline(always)]
 pub fn extent_of(instr: &Instr, scale: Key, callee: &Option<Entry>) -> LitExtent
     requires scale { IsKey scale }
     requires callee { IfSome callee.now IsClaim }
@@ -141,6 +144,7 @@ fn is_on_screen(p: &Point) -> bool
 }
 
 /// Whether what is lit at an absolute place is on the screen, both corners of it.
+#[inline(always)]
 pub fn lit_on_screen(extent: &LitExtent, place: &End) -> bool
     requires place { IsNearPlace ADDRESS_END place.now }
     requires extent { IsNearExtent extent.now }

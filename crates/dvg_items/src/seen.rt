@@ -25,6 +25,7 @@ pub struct Seen {
 
 impl Seen {
     /// Past the item: to where the next one stands, or to what is known after the last.
+    #[inline(always)]
     pub fn step(&self, kind: Kind) -> Step
         requires seen { IsSoundSeen self.now }
         requires words { self.now.after.words ≤ MOST_WORDS }

@@ -2,9 +2,9 @@ use Rattle.std.proofs.Common.{◌∙◌, List, ap}
 use Rattle.dvg_cert.specs.Entry.{Entry}
 use Rattle.dvg_cert.specs.Lookup.{entry_at}
 use Rattle.dvg_cert.proofs.Pairs.{lookup_is, pair_test}
-use Rattle.dvg_cert.proofs.hash_index.HashIndexEntries.find.Goals as goal
+use Rattle.dvg_cert.proofs.hash_index.HashIndex.entry_of.Goals as goal
 
 pub returns : goal.returns
 returns c =
-    c.copied.ensures ∙ c.get.ensures.value ∙ lookup_is _ c.args.addr c.args.key (pair_test c.args.addr c.args.key) c.self.inside.found.entries c.self.invariant
+    c.get.ensures.value ∙ lookup_is _ c.args.addr c.args.key (pair_test c.args.addr c.args.key) c.self.inside.found.entries c.self.invariant
     ∙ ap (λ (es : List Entry). entry_at es c.args.addr c.args.key) c.self.view_is
