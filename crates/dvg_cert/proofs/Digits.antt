@@ -12,7 +12,7 @@ use Rattle.std.proofs.lemmas.Fmt.{decimal_is_IsNumeral, decimal-digits_value, le
 use Rattle.dvg_cert.specs.Limits.{MOST_MAGNITUDE}
 use Rattle.dvg_cert.proofs.Fields.{first_digit}
 
-own : IsNumeralModel (λ ds. AllDigits 10 ds) (digits_value 10)
+pub own : IsNumeralModel (λ ds. AllDigits 10 ds) (digits_value 10)
 own = record { to = λ ds h. h; from = λ ds h. h; same = λ ds h. refl }
 
 pub below : (ds : List ℕ) → AllDigits 10 ds → length ds ≤ 13 → digits_value 10 ds < 10 ^ 13

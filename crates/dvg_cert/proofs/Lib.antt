@@ -1,5 +1,7 @@
 pub mod NaturalNumbers
 pub mod Cutting
+pub mod DigitLanes
+pub mod DigitSums
 pub mod Digits
 pub mod Fields
 pub mod EntryTokens

@@ -4,6 +4,7 @@
 
 mod certificate;
 mod counted;
+mod eight_digits;
 mod entry;
 mod fault;
 mod hash_index;

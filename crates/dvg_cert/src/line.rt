@@ -19,6 +19,7 @@ pub enum Line {
 }
 
 /// What a line after the first says, for a ROM from word address `first` to `last`. The line comes without its end.
+#[inline(always)]
 pub fn line_of(line: &[u8], first: u16, last: u16) -> Option<Line>
     requires { last < ADDRESS_END }
     ensures found { IfSome result (λ l. IsLine first last l line.now) }
@@ -28,6 +29,7 @@ pub fn line_of(line: &[u8], first: u16, last: u16) -> Option<Line>
 }
 
 #[tactic(auto, unfolding(crate::specs::Private::Tokens::line_in))]
+#[inline(always)]
 fn read_line(line: &[u8], first: u16, last: u16) -> Option<Line>
     ensures { result ≡ line_in first last (slice_split (λ b. b == SPACE) line.now) }
 {

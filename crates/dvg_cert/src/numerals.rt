@@ -7,6 +7,7 @@ ghost use Rattle.dvg_cert.specs.declared.entry.Key.{Key as KeyValue};
 ghost use Rattle.dvg_cert.specs.Grammar.{address_token, key_token};
 ghost use Rattle.dvg_cert.specs.Private.Tokens.{hex_value, natural_in, address_in, NoDigitFirst, LeadsWith};
 
+use crate::eight_digits::{leading_digits, number_of_digits};
 use crate::entry::Key;
 use crate::limits::MOST_MAGNITUDE;
 use dvg_words::ADDRESS_END;
@@ -24,6 +25,7 @@ fn address(token: &[u8], first: u16, last: u16) -> Option<u16>
 
 /// The address from `first` to `last` that three digits spell.
 #[tactic(auto, unfolding(crate::specs::Private::Tokens::address_in))]
+#[inline(always)]
 pub fn address_of(a: u8, b: u8, c: u8, first: u16, last: u16) -> Option<u16>
     ensures { result ≡ address_in first last (a ∷ b ∷ c ∷ []) }
 {
@@ -60,6 +62,7 @@ pub fn read_key(token: &[u8]) -> Option<Key>
 }
 
 /// The value of a capital hexadecimal digit, or 16.
+#[inline(always)]
 fn hex_value(digit: u8) -> u8
     ensures value { result ≡ hex_value digit }
     ensures within { result ≤ 16 }
@@ -77,7 +80,7 @@ fn natural(token: &[u8], low: u64, high: u64) -> Option<u64>
     ensures value { result ≡ natural_in low high token.now }
     ensures within { IfSome result (λ n. n ≤ high) }
 {
-    let (number, after) = leading_number(token)?;
+    let (number, after) = leading_number_by_digits(token)?;
     if low <= number && number <= high && after.is_empty() {
         Some(number)
     } else {
@@ -88,6 +91,31 @@ fn natural(token: &[u8], low: u64, high: u64) -> Option<u64>
 /// The number of at most 13 digits that these bytes begin with, and the bytes after its digits.
 #[inline(always)]
 pub fn leading_number(bytes: &[u8]) -> Option<(u64, &[u8])>
+    ensures { LeadsWith (λ rest. rest.now) bytes.now result }
+{
+    let Some(window) = bytes.first_chunk::<16>() else {
+        return leading_number_by_digits(bytes);
+    };
+    // Many numbers have one digit.
+    let digit = bytes[0].wrapping_sub(b'0');
+    if digit <= 9 {
+        if bytes[1].wrapping_sub(b'0') > 9 {
+            return digits_taken(bytes, 1, u64::from(digit));
+        }
+    }
+    let count = leading_digits(window);
+    if count == 0 {
+        return None;
+    }
+    if count > 13 {
+        return None;
+    }
+    digits_taken(bytes, count, number_of_digits(bytes, count))
+}
+
+/// The same, digit by digit.
+#[inline(always)]
+pub fn leading_number_by_digits(bytes: &[u8]) -> Option<(u64, &[u8])>
     ensures { LeadsWith (λ rest. rest.now) bytes.now result }
 {
     let mut number: u64 = 0;

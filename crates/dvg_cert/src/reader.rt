@@ -101,6 +101,7 @@ fn take_piece(lines: &mut TakenLines, begun: &mut LineBuffer, piece: &[u8]) -> R
 }
 
 /// Takes the next line of a piece and gives what follows it, or keeps all of the piece where no line ends in it.
+#[inline(always)]
 fn take_next<'a>(
     lines: &mut TakenLines,
     begun: &mut LineBuffer,
@@ -146,6 +147,7 @@ fn fault_after(line: u32, rest: &[u8]) -> Option<CertFault>
 }
 
 /// Takes the line of what was begun and of these bytes. A whole line of the piece is read where it lies.
+#[inline(always)]
 fn take_begun(lines: &mut TakenLines, begun: &mut LineBuffer, prefix: &[u8]) -> Result<(), CertWhy>
     requires open { IsUnended lines.old }
     requires short { length begun.old.items + length prefix.now < LONGEST_LINE }
@@ -162,6 +164,7 @@ fn take_begun(lines: &mut TakenLines, begun: &mut LineBuffer, prefix: &[u8]) -> 
 }
 
 /// The place of the end of the next line, which may have fewer than `room` bytes.
+#[inline(always)]
 fn line_end(rest: &[u8], room: usize) -> Result<Option<usize>, CertWhy>
     ensures { EndsLine room rest.now result }
 {
@@ -176,6 +179,7 @@ fn line_end(rest: &[u8], room: usize) -> Result<Option<usize>, CertWhy>
 }
 
 /// The place of the first LF.
+#[inline(always)]
 fn line_feed_at(bytes: &[u8]) -> Option<usize>
     ensures { result ≡ position (λ b. b == LINE_FEED) bytes.now }
 {

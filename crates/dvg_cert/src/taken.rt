@@ -79,6 +79,7 @@ impl TakenLines {
     }
 
     /// Takes a line, which comes without its end.
+    #[inline(always)]
     pub fn take_line(&mut self, line: &[u8]) -> Result<(), CertWhy>
         requires { IsUnended self.old }
         ensures { TakesLine asteroids.rom_first asteroids.rom_last self.old line.now self.new result }
@@ -116,6 +117,7 @@ impl TakenLines {
 }
 
 /// Takes a line after the first, and answers which line comes next.
+#[inline(always)]
 fn take_later(entries: &mut Vec<Entry>, line: &[u8]) -> Result<Stage, CertWhy>
     requires { IsCertificate asteroids.rom_first asteroids.rom_last entries.old.items }
     ensures { TakesLater asteroids.rom_first asteroids.rom_last entries.old.items line.now entries.new.items result }
@@ -136,6 +138,7 @@ fn take_later(entries: &mut Vec<Entry>, line: &[u8]) -> Result<Stage, CertWhy>
 }
 
 /// Takes an entry where it stands after the last one and there is room. An `Err` changes nothing.
+#[inline(always)]
 fn take_entry(entries: &mut Vec<Entry>, entry: Entry) -> Result<(), CertWhy>
     requires taken { IsCertificate asteroids.rom_first asteroids.rom_last entries.old.items }
     requires entry { IsEntry asteroids.rom_first asteroids.rom_last entry }

@@ -1,5 +1,5 @@
 -- How the tokens of a line are read from left to right. No rule stands here.
-use Rattle.std.specs.Prelude.{◌≡◌, ℕ, ◌+◌, ◌-◌, ◌*◌, ◌^◌, ◌<◌, ◌≤◌, List, [], ◌∷◌, ◌++◌, length, codes, decimal, ℤ, pos, neg_ℤ, ◌&&◌, nat_le, nat_lt, int_le, ◌==◌, if◌then◌else◌, Option, Some, None}
+use Rattle.std.specs.Prelude.{◌≡◌, ◌≢◌, ℕ, ◌+◌, ◌-◌, ◌*◌, ◌^◌, ◌<◌, ◌≤◌, List, [], ◌∷◌, ◌++◌, length, codes, decimal, ℤ, pos, neg_ℤ, ◌&&◌, nat_le, nat_lt, int_le, ◌==◌, if◌then◌else◌, Option, Some, None}
 use Rattle.std.specs.Str.{bytes_eq}
 use Rattle.std.specs.Char.{digit_value}
 use Rattle.std.specs.Str.Parse.{digits_value}
@@ -9,6 +9,8 @@ use Rattle.std.specs.Borrow.{Bor}
 use Rattle.dvg_cert.specs.Limits.{MOST_ENTRIES, MOST_DEPTH, MOST_WORDS, MOST_MAGNITUDE, SPACE}
 use Rattle.dvg_cert.specs.declared.line.Line.{Line}
 use Rattle.dvg_cert.specs.declared.line.Line.TheVariants as lines
+use Rattle.dvg_cert.specs.declared.tokens.Sign.{Sign}
+use Rattle.dvg_cert.specs.declared.tokens.Sign.TheVariants.{Plus, Minus}
 use Rattle.dvg_cert.specs.Entry.{Key, At, Any, End, Rel, Abs, Lost, LitBox, Empty, Span, Entry}
 
 infixl 10 ◌>>=◌
@@ -60,6 +62,11 @@ NoDigitFirst (c ∷ cs) = digit_value c < 10 → ⊥
 abbrev pub LeadsWith : {X : Type 0} → (X → List ℕ) → List ℕ → Option (ℕ × X) → Type 0
 LeadsWith see bytes (Some p) = (bytes ≡ decimal p.0 ++ see p.1) × (p.0 < 10 ^ 13) × NoDigitFirst (see p.1)
 LeadsWith see bytes None = (n : ℕ) → (rest : List ℕ) → n ≤ MOST_MAGNITUDE → NoDigitFirst rest → bytes ≡ decimal n ++ rest → ⊥
+
+-- the bytes are a number's sign and what follows it, which stands for itself where there is no sign
+abbrev pub IsSignOf : Sign → List ℕ → List ℕ → Type 0
+IsSignOf Minus bytes digits = bytes ≡ codes "-" ++ digits
+IsSignOf Plus bytes digits = (digits ≡ bytes) × ((rest : List ℕ) → bytes ≢ codes "-" ++ rest)
 
 abbrev pub token_at : List (List ℕ) → Option (List ℕ × List (List ℕ))
 token_at [] = None

@@ -1,24 +1,37 @@
-use Rattle.std.proofs.Common.{take, arith, refl}
-use Rattle.std.proofs.lemmas.List.{length-take-le}
-use Rattle.dvg_cert.proofs.Digits.{below, one_digit}
-use Rattle.dvg_cert.proofs.Taking.{too_long}
+use Rattle.std.proofs.Common.{refl, arith}
+use Rattle.dvg_cert.proofs.Taking.{no_digits, too_long}
+use Rattle.dvg_cert.proofs.DigitSums.{all_take, window_digits, window_ends, alone}
 use Rattle.dvg_cert.proofs.numerals.leading_number.Goals as goal
 
-pub loop-i-preserved : goal.loop-i-preserved
-loop-i-preserved c =
-    let d = one_digit c.args.bytes.now c.loop-i.i _ c.loop-i.number c.loop-i-test.true refl c.if-byte.false c.if-byte-2.false c.loop-i.invariant.digits c.loop-i.invariant.value in
-    record { few = omega (arith, c.loop-i.invariant.few); digits = d.0; value = d.1 }
+pub returns-then-count-eq0 : goal.returns-then-count-eq0
+returns-then-count-eq0 c =
+    let long = c.in-Some.ensures.variant.0 refl in
+    let few = c.leading_digits-count.ensures.few in
+    let digits = window_digits c.leading_digits-count.result c.args.bytes.now few (rw c.in-Some.ensures.cases.same at c.leading_digits-count.ensures.digits) in
+    let ends = window_ends c.leading_digits-count.result c.args.bytes.now long (omega arith) (rw c.in-Some.ensures.cases.same at (c.leading_digits-count.ensures.end (omega arith))) in
+    no_digits c.leading_digits-count.result c.args.bytes.now c.if-count-eq0.true (omega arith) digits ends
 
-pub returns-then-i-eq13 : goal.returns-then-i-eq13
-returns-then-i-eq13 c = too_long c.args.bytes.now c.loop-i.i c.loop-i-test.true c.if-i-eq13.true
-    (one_digit c.args.bytes.now c.loop-i.i _ c.loop-i.number c.loop-i-test.true refl c.if-byte.false c.if-byte-2.false c.loop-i.invariant.digits c.loop-i.invariant.value).0
+pub returns-then-count-gt13 : goal.returns-then-count-gt13
+returns-then-count-gt13 c =
+    let long = c.in-Some.ensures.variant.0 refl in
+    let digits = window_digits c.leading_digits-count.result c.args.bytes.now c.leading_digits-count.ensures.few (rw c.in-Some.ensures.cases.same at c.leading_digits-count.ensures.digits) in
+    too_long c.args.bytes.now 13 (omega arith) refl (all_take c.leading_digits-count.result 14 c.args.bytes.now (omega arith) digits)
 
-pub overflow_mul-number : goal.overflow_mul-number
-overflow_mul-number c =
-    let b = below (take c.loop-i.i c.args.bytes.now) c.loop-i.invariant.digits (omega (arith, c.loop-i.invariant.few, length-take-le c.loop-i.i c.args.bytes.now (omega arith))) in
-    omega (arith, c.loop-i.invariant.value)
+pub number_of_digits-requires-clause-digits : goal.number_of_digits-requires-clause-digits
+number_of_digits-requires-clause-digits c =
+    window_digits c.leading_digits-count.result c.args.bytes.now c.leading_digits-count.ensures.few (rw c.in-Some.ensures.cases.same at c.leading_digits-count.ensures.digits)
 
-pub overflow_add-number : goal.overflow_add-number
-overflow_add-number c =
-    let b = below (take c.loop-i.i c.args.bytes.now) c.loop-i.invariant.digits (omega (arith, c.loop-i.invariant.few, length-take-le c.loop-i.i c.args.bytes.now (omega arith))) in
-    omega (arith, c.loop-i.invariant.value)
+pub digits_taken-requires-2-clause-digits : goal.digits_taken-requires-2-clause-digits
+digits_taken-requires-2-clause-digits c =
+    window_digits c.leading_digits-count.result c.args.bytes.now c.leading_digits-count.ensures.few (rw c.in-Some.ensures.cases.same at c.leading_digits-count.ensures.digits)
+
+pub digits_taken-requires-2-clause-all : goal.digits_taken-requires-2-clause-all
+digits_taken-requires-2-clause-all c =
+    let long = c.in-Some.ensures.variant.0 refl in
+    window_ends c.leading_digits-count.result c.args.bytes.now long (omega arith) (rw c.in-Some.ensures.cases.same at (c.leading_digits-count.ensures.end (omega arith)))
+
+pub digits_taken-requires-clause-digits : goal.digits_taken-requires-clause-digits
+digits_taken-requires-clause-digits c = (alone c.args.bytes.now (omega (arith, c.in-Some.ensures.variant.0 refl)) (c.type_inv.bytes 0).fits (c.type_inv.bytes 1).fits c.if-digit-le9.true c.if-bytes-gt9.true).0
+
+pub digits_taken-requires-clause-all : goal.digits_taken-requires-clause-all
+digits_taken-requires-clause-all c = (alone c.args.bytes.now (omega (arith, c.in-Some.ensures.variant.0 refl)) (c.type_inv.bytes 0).fits (c.type_inv.bytes 1).fits c.if-digit-le9.true c.if-bytes-gt9.true).1

@@ -2,7 +2,7 @@ use Rattle.std.proofs.Common.{◌∙◌, ap, sym}
 use Rattle.std.specs.Prelude.{codes}
 use Rattle.dvg_cert.specs.Private.Tokens.{the_token}
 use Rattle.dvg_cert.proofs.Taking.{no_end}
-use Rattle.dvg_cert.proofs.tokens.Tokens.end.Goals as goal
+use Rattle.dvg_cert.proofs.tokens.Tokens.take_end.Goals as goal
 
 pub returns : goal.returns
 returns c =

@@ -1,7 +1,7 @@
 use Rattle.std.proofs.Common.{◌∙◌, ap, sym}
 use Rattle.dvg_cert.specs.Private.Tokens.{span_at}
 use Rattle.dvg_cert.proofs.Taking.{not_none}
-use Rattle.dvg_cert.proofs.tokens.Tokens.lit.Goals as goal
+use Rattle.dvg_cert.proofs.tokens.Tokens.take_box.Goals as goal
 
 pub returns : goal.returns
 returns c =
