@@ -25,7 +25,10 @@ key_test (At m) Any = refl
 key_test Any (At n) = refl
 key_test Any Any = refl
 
-pub pair_test : (addr : ℕ) (key : Key) (e : Entry) → nat_eq addr e.addr && ghosts.eq key e.key ≡ is_at addr key e
+abbrev pub pair_eq : (ℕ × Key) → (ℕ × Key) → Bool
+pair_eq p q = nat_eq p.0 q.0 && ghosts.eq p.1 q.1
+
+pub pair_test : (addr : ℕ) (key : Key) (e : Entry) → pair_eq (addr, key) (e.addr, e.key) ≡ is_at addr key e
 pair_test addr key e = ap (λ b. nat_eq addr e.addr && b) (key_test key e.key)
 
 -- ---- one pair more

@@ -7,44 +7,46 @@ ghost use Rattle.dvg_cert.specs.Lookup.{entry_at};
 use crate::certificate::Cert;
 use crate::entry::{Entry, Key};
 use crate::lookup::Entries;
-use indexmap::IndexMap;
+use indexmap::IndexSet;
 use std::alloc::{AllocError, Global};
 use std::marker::Model;
 
 /// An index that hashes the address and the key, so that a look-up takes about as long however many entries there are.
 #[derive(Drop)]
-pub struct HashIndex {
-    found: IndexMap<(u16, Key), Entry>,
+pub struct HashIndex<'a> {
+    cert: &'a Cert,
+    /// The addresses and keys of the entries, in the certificate's order.
+    keys: IndexSet<(u16, Key)>,
 }
 
-impl Model for HashIndex {
-    ghost use Rattle.std.specs.Prelude.{List};
+impl<'a> Model for HashIndex<'a> {
+    ghost use Rattle.std.specs.Prelude.{◌≡◌, List};
     ghost use Rattle.dvg_cert.specs.declared.entry.Entry.{Entry};
-    ghost use Rattle.std.specs.Map.{values_of};
-    ghost use Rattle.dvg_cert.specs.Private.Keyed.{IsKeyed};
+    ghost use Rattle.dvg_cert.specs.Private.Keyed.{own_keys};
 
     ghost Value = { List Entry };
 
-    ghost view = { λ index. values_of index.found.entries };
+    ghost view = { λ index. index.cert.now };
 
-    ghost invariant = { λ index. IsKeyed index.found.entries };
+    ghost invariant = { λ index. index.keys.keys ≡ own_keys index.cert.now };
 }
 
-impl HashIndex {
+impl<'a> HashIndex<'a> {
     /// The index of a certificate.
     ///
-    /// Takes memory for a copy of each entry and for the table of hashes, all of it before the first entry is put in, and
-    /// fails only where that was refused. The hash has a fixed seed: there are at most 17,408 pairs of an address and a key.
+    /// Takes memory for the address and key of each entry and for the table of hashes, all of it before the first is put in,
+    /// and fails only where that was refused. The hash has a fixed seed: there are at most 17,408 pairs of an address and a
+    /// key.
     #[inline(never)]
-    pub fn new(alloc: Global, cert: &Cert) -> Result<HashIndex, AllocError>
+    pub fn new(alloc: Global, cert: &'a Cert) -> Result<HashIndex<'a>, AllocError>
         ensures { IfOk result (λ index. index ≡ cert.now) }
     {
         let entries = cert.entries();
-        let mut found = IndexMap::with_capacity(alloc, entries.len())?;
+        let mut keys = IndexSet::with_capacity(alloc, entries.len())?;
         for entry in entries {
-            found.insert((entry.addr, entry.key), *entry)?;
+            keys.insert((entry.addr, entry.key))?;
         }
-        Ok(HashIndex { found })
+        Ok(HashIndex { cert, keys })
     }
 
     /// The entry at an address with a key, where it lies.
@@ -52,11 +54,12 @@ impl HashIndex {
     fn entry_of(&self, addr: u16, key: Key) -> Option<&Entry>
         ensures { option_copied result ≡ entry_at self.now addr key }
     {
-        self.found.get(&(addr, key))
+        let index = self.keys.get_index_of(&(addr, key))?;
+        Some(&self.cert.entries()[index])
     }
 }
 
-impl Entries for HashIndex {
+impl<'a> Entries for HashIndex<'a> {
     ghost list = { λ index. index };
 
     #[inline(always)]

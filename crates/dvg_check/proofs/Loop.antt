@@ -79,7 +79,7 @@ module _ (Why : Type 0) (order : Why → ℕ) (missing odd : Why) (Keeps : Seen 
         lowest = λ other lt. subst (CellKept k.items cursor.at other) (sym is) (λ e. let o : order other ≡ order odd = ap order e in omega (arith, o, lt));
       }
 
-  -- an item, as the code sees it and as the rules do
+  -- an item, as the code sees it, by a list of entries that is this one, and as the rules do
   module _ (cursor : Cursor) (format : Format) (instr : Instr) (k : Walked context word first keeps cursor) (is : cell_at word cursor.at ≡ Holds format instr) where
     abbrev item : Item
     item = record { at = cursor.at; format = format; instr = instr }
@@ -93,8 +93,9 @@ module _ (Why : Type 0) (order : Why → ℕ) (missing odd : Why) (Keeps : Seen 
     kept_here : (why : Why) → Keeps seen why → keeps k.items cursor.at why
     kept_here why h = subst (CellKept k.items cursor.at why) (sym is) (subst (λ x. Keeps x why) (sym same) h)
 
-    pub broken : (why : Why) → BreaksFirst order Keeps seen why → FaultAt order kind word first keeps cursor.at why
-    broken why b =
+    pub broken : (es : List Entry) (why : Why) → es ≡ list → BreaksFirst order Keeps (seen_by es kind cursor.known item) why → FaultAt order kind word first keeps cursor.at why
+    broken es why es_are breaks =
+        let b = subst (λ (l : List Entry). BreaksFirst order Keeps (seen_by l kind cursor.known item) why) es_are breaks in
         record {
           items = k.items;
           leads = k.leads;
@@ -103,11 +104,15 @@ module _ (Why : Type 0) (order : Why → ℕ) (missing odd : Why) (Keeps : Seen 
           lowest = λ other lt. kept_here other (b.lowest other lt);
         }
 
+    kept_by : (es : List Entry) (step : Step) → es ≡ list → KeepsAll Keeps kind (seen_by es kind cursor.known item) step → KeepsAll Keeps kind seen step
+    kept_by es step es_are h = subst (λ (l : List Entry). KeepsAll Keeps kind (seen_by l kind cursor.known item) step) es_are h
+
     known_on : (after : Known) → after ≡ seen.after → after ≡ known_before context (item ∷ k.items)
     known_on after e = e ∙ ap (λ (x : Seen). x.after) (sym same)
 
-    pub onward : (step : Step) (next : Cursor) → step ≡ Onward next → KeepsAll Keeps kind seen step → Walked context word first keeps next
-    onward step next step_is h =
+    pub onward : (es : List Entry) (step : Step) (next : Cursor) → es ≡ list → step ≡ Onward next → KeepsAll Keeps kind (seen_by es kind cursor.known item) step → Walked context word first keeps next
+    onward es step next es_are step_is keeps_all =
+        let h = kept_by es step es_are keeps_all in
         let on = leads_on kind seen step next step_is h.leads in
         record {
           items = item ∷ k.items;
@@ -117,8 +122,9 @@ module _ (Why : Type 0) (order : Why → ℕ) (missing odd : Why) (Keeps : Seen 
           sound = subst IsSoundStep step_is h.sound;
         }
 
-    pub done : (step : Step) (known : Known) → step ≡ Last known → KeepsAll Keeps kind seen step → WalksTo context word first keeps known
-    done step known step_is h =
+    pub done : (es : List Entry) (step : Step) (known : Known) → es ≡ list → step ≡ Last known → KeepsAll Keeps kind (seen_by es kind cursor.known item) step → WalksTo context word first keeps known
+    done es step known es_are step_is keeps_all =
+        let h = kept_by es step es_are keeps_all in
         let end = ends_at kind seen step known step_is h.leads in
         record {
           keeps_all = all_kept kind word first Why keeps k.items item k.leads is end.0 (k.kept, λ why. kept_here why (h.kept why));

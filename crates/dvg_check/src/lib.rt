@@ -4,6 +4,7 @@
 //! [`check`] takes bytes, and its contract has both halves: the exact verdict, and the safety of every run.
 #![tactic(auto)]
 
+mod callees;
 mod cells;
 mod fault;
 mod frames;

@@ -1,45 +1,74 @@
 //! The one loop over the items of a shape or of a frame.
 
-ghost use Rattle.std.specs.Prelude.{◌≡◌, ◌<◌, IfOk, IfErr};
+ghost use Rattle.std.specs.Prelude.{◌≡◌, ◌<◌, IfSome, IfOk, IfErr};
 ghost use Rattle.dvg_words.specs.Decoding.{InstrFits};
 ghost use Rattle.dvg_words.specs.declared.map.TheConstants.{ADDRESS_END};
-ghost use Rattle.dvg_items.specs.Bounds.{IsSoundCursor, IsSomeCertificate};
+ghost use Rattle.dvg_items.specs.Bounds.{IsClaim, IsSoundCursor, IsSomeCertificate};
+ghost use Rattle.dvg_items.specs.Seen.{seen_with};
 ghost use Rattle.dvg_check.specs.Rules.{PlaceKeeps};
 ghost use Rattle.dvg_check.specs.FirstFault.{FaultAt};
 ghost use Rattle.dvg_check.specs.Private.Judging.{WalksTo, seen_by, KeepsAll, BreaksFirst};
 
+use crate::callees::Callees;
 use crate::cells::Cells;
 use crate::fault::Fault;
 use crate::rules::Rules;
-use dvg_cert::Entries;
-use dvg_items::{Cursor, Known, Step, callee, target};
+use dvg_cert::{Entries, Entry};
+use dvg_items::{Cursor, Known, Step, target};
 use dvg_words::{Cell, Format, Instr};
+
+/// Judges an instruction that calls this entry: the first rule that it breaks, or where it leads.
+#[inline(always)]
+fn judge_calling<R: Rules>(
+    rules: &R,
+    cursor: &Cursor,
+    format: Format,
+    instr: &Instr,
+    callee: Option<Entry>,
+) -> Result<Step, R::Why>
+    requires rules { R.valid rules.now }
+    requires here { IsSoundCursor cursor.now }
+    requires near { cursor.now.at < ADDRESS_END }
+    requires fields { InstrFits instr.now }
+    requires callee { IfSome callee IsClaim }
+    ensures kept { IfOk result (KeepsAll (R.keeps rules.now) R.kind (seen_with callee cursor.now.known
+        (record { at = cursor.now.at; format = format; instr = instr.now }))) }
+    ensures broken { IfErr result (BreaksFirst R.order (R.keeps rules.now) (seen_with callee cursor.now.known
+        (record { at = cursor.now.at; format = format; instr = instr.now }))) }
+{
+    let seen = cursor.see(format, instr, callee);
+    match rules.first_broken(&seen) {
+        Some(why) => Err(why),
+        None => Ok(seen.step(rules.kind())),
+    }
+}
 
 /// Judges the instruction at a cursor: the first rule that it breaks, or where it leads.
 #[inline(always)]
 fn judge<E: Entries, R: Rules>(
     rules: &R,
-    entries: &E,
+    callees: &mut Callees<E>,
     cursor: &Cursor,
     format: Format,
     instr: &Instr,
 ) -> Result<Step, R::Why>
-    requires entries { IsSomeCertificate (E.list entries.now) }
+    requires entries { IsSomeCertificate callees.old }
     requires rules { R.valid rules.now }
     requires here { IsSoundCursor cursor.now }
     requires near { cursor.now.at < ADDRESS_END }
     requires fields { InstrFits instr.now }
-    ensures kept { IfOk result (KeepsAll (R.keeps rules.now) R.kind (seen_by (E.list entries.now) R.kind cursor.now.known
+    ensures kept { IfOk result (KeepsAll (R.keeps rules.now) R.kind (seen_by callees.old R.kind cursor.now.known
         (record { at = cursor.now.at; format = format; instr = instr.now }))) }
-    ensures broken { IfErr result (BreaksFirst R.order (R.keeps rules.now) (seen_by (E.list entries.now) R.kind cursor.now.known
+    ensures broken { IfErr result (BreaksFirst R.order (R.keeps rules.now) (seen_by callees.old R.kind cursor.now.known
         (record { at = cursor.now.at; format = format; instr = instr.now }))) }
+    ensures same { callees.new ≡ callees.old }
 {
-    let kind = rules.kind();
-    let callee = callee(entries, target(kind, instr), cursor.known.scale);
-    let seen = cursor.see(format, instr, callee);
-    match rules.first_broken(&seen) {
-        Some(why) => Err(why),
-        None => Ok(seen.step(kind)),
+    match target(rules.kind(), instr) {
+        Some(to) => {
+            let callee = callees.named(to, cursor.known.scale);
+            judge_calling(rules, cursor, format, instr, callee)
+        }
+        None => judge_calling(rules, cursor, format, instr, None),
     }
 }
 
@@ -60,6 +89,7 @@ pub fn walk<C: Cells, E: Entries, R: Rules>(
         (PlaceKeeps R.unmapped R.odd (R.keeps rules.now)
         (record { kind = R.kind; list = E.list entries.now; scale = R.scale rules.now }) (C.words cells.now)) fault.at fault.why) }
 {
+    let mut callees = Callees::new(entries);
     let mut cursor = Cursor::start(rules.kind(), first, rules.scale());
     'items: loop {
         let here = cursor;
@@ -79,7 +109,7 @@ pub fn walk<C: Cells, E: Entries, R: Rules>(
             }
             Cell::Holds { format, instr } => (format, instr),
         };
-        match judge(rules, entries, &here, format, &instr) {
+        match judge(rules, &mut callees, &here, format, &instr) {
             Err(why) => return Err(Fault { at, why }),
             Ok(Step::Last(known)) => return Ok(known),
             Ok(Step::Onward(next)) => cursor = next,

@@ -1,7 +1,11 @@
--- Entries among pairs of an address and key with an entry.
-use Rattle.std.specs.Prelude.{◌≡◌, ℕ, List}
+-- Addresses and keys of entries, alone and in pairs with an entry.
+use Rattle.std.specs.Prelude.{◌≡◌, ℕ, List, map}
 use Rattle.std.specs.List.{All}
 use Rattle.dvg_cert.specs.Entry.{Entry, Key}
+
+-- the address and key of each entry, in their order
+abbrev pub own_keys : List Entry → List (ℕ × Key)
+own_keys es = map (λ e. (e.addr, e.key)) es
 
 -- the entry stands at its own address and key
 abbrev pub IsOwn : (ℕ × Key) × Entry → Type 0

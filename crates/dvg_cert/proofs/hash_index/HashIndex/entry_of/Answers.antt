@@ -1,10 +1,17 @@
-use Rattle.std.proofs.Common.{◌∙◌, List, ap}
+use Rattle.std.proofs.Common.{◌∙◌, List, Some, get_or, sym, ap}
+use Rattle.std.specs.Option.{option_copied}
 use Rattle.dvg_cert.specs.Entry.{Entry}
 use Rattle.dvg_cert.specs.Lookup.{entry_at}
-use Rattle.dvg_cert.proofs.Pairs.{lookup_is, pair_test}
+use Rattle.dvg_cert.proofs.Hashing.{none_there, at_index}
 use Rattle.dvg_cert.proofs.hash_index.HashIndex.entry_of.Goals as goal
+
+pub returns-in_err-index : goal.returns-in_err-index
+returns-in_err-index c =
+    ap option_copied c.from_residual.ensures ∙ none_there c.args.addr c.args.key c.self.inside.cert.now c.self.inside.keys.keys c.self.invariant (sym c.in_err-index.ensures.found)
+    ∙ ap (λ (es : List Entry). entry_at es c.args.addr c.args.key) c.self.view_is
 
 pub returns : goal.returns
 returns c =
-    c.get.ensures.value ∙ lookup_is _ c.args.addr c.args.key (pair_test c.args.addr c.args.key) c.self.inside.found.entries c.self.invariant
+    ap (λ (es : List Entry). Some (get_or es c.in_ok-index.index _)) c.entries.ensures.value
+    ∙ at_index c.args.addr c.args.key c.self.inside.cert.now c.self.inside.keys.keys c.self.invariant c.in_ok-index.index _ c.in_ok-index.ensures.index
     ∙ ap (λ (es : List Entry). entry_at es c.args.addr c.args.key) c.self.view_is

@@ -1,7 +1,6 @@
 use Rattle.std.proofs.Common.{◌≡◌, take}
-use Rattle.std.specs.Map.{values_of}
-use Rattle.dvg_cert.specs.Private.Keyed.{IsKeyed}
+use Rattle.dvg_cert.specs.Private.Keyed.{own_keys}
 use Rattle.dvg_cert.proofs.hash_index.HashIndex.new.Given as goal
 
 abbrev pub invariant-loop-entry : goal.invariant-loop-entry
-invariant-loop-entry l = IsKeyed l.found.entries × (values_of l.found.entries ≡ take l.entry-index l.entries)
+invariant-loop-entry l = l.keys.keys ≡ own_keys (take l.entry-index l.entries)
