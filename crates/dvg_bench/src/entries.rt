@@ -1,10 +1,10 @@
 //! The entries of a ROM that is full of one thing, reckoned from what that is.
 
-ghost use Rattle.std.specs.Prelude.{◌<◌, ◌≤◌};
+ghost use Rattle.std.specs.Prelude.{◌<◌, ◌≤◌, ◌≤ℤ◌, pos};
 
 use crate::filling::{Filling, NAMED, local_scale};
 use anyhow::{Result, bail};
-use dvg_cert::{Cert, End, Entry, Key, LitBox};
+use dvg_cert::{Cert, End, Entry, Key, LitBox, MOST_NUMBER, MOST_WORDS};
 use dvg_words::{ROM_FIRST, ROM_LAST};
 use std::alloc::Global;
 
@@ -59,7 +59,7 @@ fn stop_of(filling: Filling, addr: u16, key: Key) -> End
     requires { addr ≤ ROM_LAST }
 {
     match filling {
-        Filling::Calls | Filling::Keys => End::Rel { x: 0, y: 0 },
+        Filling::Calls | Filling::Keys | Filling::Everywhere => End::Rel { x: 0, y: 0 },
         Filling::Named => End::Abs { x: 0, y: 0 },
         // One stroke past 512, 512, at effective scale 2 + 15 - 16.
         Filling::Places => End::Abs {
@@ -70,13 +70,15 @@ fn stop_of(filling: Filling, addr: u16, key: Key) -> End
     }
 }
 
-/// What is lit lies between these two on a line to the right.
-fn between(x_min: i64, x_max: i64) -> LitBox {
+/// What is lit lies between these two across, and no further than this up and down.
+fn between(x_min: i64, x_max: i64, height: i64) -> LitBox
+    requires { pos 0 ≤ℤ height }
+{
     LitBox::Span {
         x_min,
         x_max,
-        y_min: 0,
-        y_max: 0,
+        y_min: -height,
+        y_max: height,
     }
 }
 
@@ -86,10 +88,12 @@ fn lit_of(filling: Filling, addr: u16, key: Key) -> LitBox
     match (filling, key) {
         (Filling::Draws | Filling::Jumps, Key::At(gscale)) => {
             let stroke = first_stroke(filling, addr, gscale % 16);
-            between(stroke.min(0), stroke.max(0))
+            between(stroke.min(0), stroke.max(0), 0)
         }
         // Strokes of all local scales are no longer than these.
-        (Filling::Scales, _) => between(-1024, 1024),
+        (Filling::Scales, _) => between(-1024, 1024, 0),
+        (Filling::Everywhere, _) if addr == ROM_LAST => between(-1, 1, 1),
+        (Filling::Everywhere, _) => between(-MOST_NUMBER, MOST_NUMBER, MOST_NUMBER),
         _ => LitBox::Empty,
     }
 }
@@ -99,6 +103,8 @@ fn words_of(filling: Filling, addr: u16) -> u32
     requires { addr ≤ ROM_LAST }
 {
     let words = match filling {
+        Filling::Everywhere if addr == ROM_LAST => 900,
+        Filling::Everywhere => return MOST_WORDS,
         Filling::Draws | Filling::Unscaled | Filling::Places | Filling::Jumps => ROM_LAST + 1
             - addr,
         Filling::Named => 4 * NAMED.saturating_sub(addr) + 3,
@@ -113,6 +119,8 @@ fn depth_of(filling: Filling, addr: u16) -> u8
     match filling {
         Filling::Calls | Filling::Keys if filling.items_before_end(addr) > 0 => 1,
         Filling::Named if addr != NAMED => 1,
+        Filling::Everywhere if addr == ROM_LAST => 2,
+        Filling::Everywhere => 3,
         _ => 0,
     }
 }
@@ -149,7 +157,7 @@ fn keys(filling: Filling) -> u16
         Filling::Unscaled => 1,
         Filling::Draws | Filling::Calls | Filling::Jumps => 4,
         Filling::Scales | Filling::Keys | Filling::Named => 16,
-        Filling::DarkScales | Filling::Places => 17,
+        Filling::DarkScales | Filling::Places | Filling::Everywhere => 17,
     }
 }
 
@@ -161,6 +169,7 @@ pub fn all_entries(filling: Filling) -> u16
     match filling {
         Filling::Scales | Filling::DarkScales => 511 * keys,
         Filling::Places => 256 * keys,
+        Filling::Everywhere => 241 * keys,
         Filling::Named => 1021 * keys + 1,
         _ => 1024 * keys,
     }
@@ -175,6 +184,7 @@ fn address_at(filling: Filling, index: u16) -> u16
     let offset = match filling {
         Filling::Scales | Filling::DarkScales => 2 * place,
         Filling::Places => place / 2 * 8 + place % 2 * 2,
+        Filling::Everywhere if place == 240 => ROM_LAST,
         _ => place,
     };
     (ROM_FIRST + offset).min(ROM_LAST)

@@ -25,11 +25,16 @@ pub enum Filling {
     Keys,
     /// Calls of a LABS before the last word, at all sixteen global scales; what is called has an entry for `any` alone, the last.
     Named,
+    /// Calls of the last word alone, at all sixteen global scales and for `any`, in long lines: each tail that a ROM can have is
+    /// made, and each calls.
+    Everywhere,
     /// Shapes of one lit stroke, each of which jumps to the next, at four global scales.
     Jumps,
 }
 
 const RTSL: u16 = 0xD000;
+
+const CALL_LAST: u16 = 0xC000 + ROM_LAST;
 
 /// SVEC by 1, 0 at scale code 0, intensity 7.
 const FORTH: u16 = 0xF071;
@@ -119,6 +124,7 @@ impl Filling {
             "calls" => Filling::Calls,
             "keys" => Filling::Keys,
             "named" => Filling::Named,
+            "everywhere" => Filling::Everywhere,
             "jumps" => Filling::Jumps,
             _ => bail!("no ROM is full of this"),
         })
@@ -137,6 +143,7 @@ impl Filling {
             Filling::Places => block_word(addr),
             Filling::Calls | Filling::Keys => calls_word(addr),
             Filling::Named => named_word(addr),
+            Filling::Everywhere => CALL_LAST,
             Filling::Jumps => jumps_word(addr),
         }
     }
@@ -156,7 +163,7 @@ impl Filling {
         ensures { result ≤ ROM_LAST }
     {
         match self {
-            Filling::Draws | Filling::Unscaled => ROM_LAST - addr,
+            Filling::Draws | Filling::Unscaled | Filling::Everywhere => ROM_LAST - addr,
             Filling::Scales | Filling::DarkScales => SCALES_END.saturating_sub(addr) / 2,
             Filling::Places => (3 * (ROM_LAST - addr) + 1) / 4,
             Filling::Calls | Filling::Keys => 15 - addr % 16,
