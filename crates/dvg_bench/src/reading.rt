@@ -77,7 +77,7 @@ pub fn text_of(alloc: Global, cert: &Cert) -> Result<Vec<u8>> {
 }
 
 /// Reads the text of so many entries so many times, and gives its length in bytes.
-pub fn read_texts(alloc: Global, count: u16, times: u32) -> Result<usize> {
+pub fn read_texts(alloc: Global, count: u16, times: u32) -> Result<u64> {
     if count > 4096 {
         bail!("a certificate has 4096 entries at most");
     }
@@ -91,5 +91,5 @@ pub fn read_texts(alloc: Global, count: u16, times: u32) -> Result<usize> {
             bail!("an entry was lost");
         }
     }
-    Ok(text.len())
+    Ok(text.len() as u64)
 }

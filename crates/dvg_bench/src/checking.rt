@@ -1,0 +1,134 @@
+//! Checks of shapes, of bytes, of frames and of files, so many times.
+
+ghost use Rattle.std.specs.Prelude.{◌<◌, ◌≤◌};
+
+use crate::entries::{cert_of, items_of};
+use crate::filling::Filling;
+use crate::reading::text_of;
+use anyhow::{Result, bail};
+use dvg_cert::{HashIndex, MOST_WORDS};
+use dvg_check::{JudgedShapes, check, check_shapes};
+use dvg_words::{FrameImage, ROM_LAST, RomImage};
+use std::alloc::{AllocError, Global};
+use std::fs;
+
+/// A frame that ends at once.
+const HALT: &[u8] = &[0x00, 0xB0];
+
+/// A LABS to 2, 0 at global scale 0.
+const START: &[u8] = &[0x00, 0xA0, 0x02, 0x00];
+
+/// How many items a frame has between its LABS and its HALT.
+const FRAME_ITEMS: u16 = 1020;
+
+/// What a frame is full of, over shapes of draws: calls of one shape, of all shapes by turns, or lit strokes to and fro.
+#[derive(Clone, Copy, Debug, PartialEq, Eq)]
+pub enum Frame {
+    OneShape,
+    AllShapes,
+    Strokes,
+}
+
+impl Frame {
+    /// The frame of this name.
+    pub fn of_name(name: &str) -> Result<Frame> {
+        Ok(match name {
+            "one-shape" => Frame::OneShape,
+            "all-shapes" => Frame::AllShapes,
+            "strokes" => Frame::Strokes,
+            _ => bail!("no frame is full of this"),
+        })
+    }
+
+    /// A word of the frame, where so many words of the ROM have entries.
+    fn word_at(self, index: u16, shapes: u16) -> u16
+        requires some { 1 ≤ shapes }
+        requires few { shapes ≤ 1024 }
+    {
+        match self {
+            // A stroke to the left and one back.
+            Frame::OneShape => 0xC000 + ROM_LAST - 2,
+            Frame::AllShapes => 0xC000 + ROM_LAST + 1 - shapes + index % shapes,
+            Frame::Strokes => if index % 2 == 0 { 0xF071 } else { 0xF075 },
+        }
+    }
+
+    fn bytes(self, alloc: Global, shapes: u16) -> Result<Vec<u8>, AllocError>
+        requires some { 1 ≤ shapes }
+        requires few { shapes ≤ 1024 }
+    {
+        let mut bytes = Vec::new(alloc);
+        bytes.extend_from_slice(START)?;
+        for index in 0..FRAME_ITEMS {
+            bytes.extend_from_slice(&self.word_at(index, shapes).to_le_bytes())?;
+        }
+        bytes.extend_from_slice(HALT)?;
+        Ok(bytes)
+    }
+}
+
+/// Checks the shapes of so many entries so many times, and gives how many items they have together.
+pub fn check_entries(alloc: Global, filling: Filling, count: u16, times: u32) -> Result<u64> {
+    let bytes = filling.rom_bytes(alloc)?;
+    let Ok(rom) = RomImage::from_bytes(&bytes) else {
+        bail!("these are not the bytes of a ROM");
+    };
+    let cert = cert_of(alloc, filling, count)?;
+    let index = HashIndex::new(alloc, &cert)?;
+    for _ in 0..times {
+        if check_shapes(&rom, &cert, &index).is_err() {
+            bail!("a shape was refused");
+        }
+    }
+    Ok(items_of(filling, &cert))
+}
+
+/// Checks the bytes of such a ROM, the text of such a certificate and a frame of HALT alone so many times, and gives how many
+/// items the shapes have together.
+pub fn check_bytes(alloc: Global, filling: Filling, count: u16, times: u32) -> Result<u64> {
+    let rom = filling.rom_bytes(alloc)?;
+    let cert = cert_of(alloc, filling, count)?;
+    let text = text_of(alloc, &cert)?;
+    for _ in 0..times {
+        check(alloc, &rom, &text, HALT, 1)?;
+    }
+    Ok(items_of(filling, &cert))
+}
+
+/// Checks a frame over so many entries of draws so many times, and gives how many items it has between its LABS and its HALT.
+pub fn check_frames(alloc: Global, frame: Frame, count: u16, times: u32) -> Result<u64> {
+    if !(16..=4096).contains(&count) {
+        bail!("a frame is checked over 16 to 4096 entries");
+    }
+    let rom = Filling::Draws.rom_bytes(alloc)?;
+    let frame = frame.bytes(alloc, count / 4)?;
+    let (Ok(rom), Ok(frame)) = (RomImage::from_bytes(&rom), FrameImage::from_bytes(&frame)) else {
+        bail!("these are not the bytes of a ROM and of a frame");
+    };
+    let cert = cert_of(alloc, Filling::Draws, count)?;
+    let index = HashIndex::new(alloc, &cert)?;
+    let Ok(shapes) = JudgedShapes::judge(&rom, &cert, &index) else {
+        bail!("a shape was refused");
+    };
+    for _ in 0..times {
+        if shapes.check_frame(&frame, MOST_WORDS).is_err() {
+            bail!("the frame was refused");
+        }
+    }
+    Ok(u64::from(FRAME_ITEMS))
+}
+
+/// Checks what the files `bench.rom`, `bench.cert` and `bench.frame` hold so many times, and gives how many bytes the
+/// certificate has, which has so many entries.
+pub fn check_files(rt: &HostRuntime, count: u16, times: u32) -> Result<u64> {
+    let rom = fs::read(rt, "bench.rom")?;
+    let text = fs::read(rt, "bench.cert")?;
+    let frame = fs::read(rt, "bench.frame")?;
+    for _ in 0..times {
+        let yes = check(rt.alloc(), &rom, &text, &frame, MOST_WORDS)?;
+        if yes.shapes != u32::from(count) {
+            bail!("the certificate has another number of entries");
+        }
+    }
+    Ok(text.len() as u64)
+}
