@@ -1,8 +1,9 @@
 //! An index of a certificate that hashes addresses and keys.
 
-ghost use Rattle.std.specs.Prelude.{◌≡◌, IfOk};
+ghost use Rattle.std.specs.Prelude.{◌≡◌, ◌≤◌, IfOk};
 ghost use Rattle.std.specs.Option.{option_copied};
 ghost use Rattle.dvg_cert.specs.Lookup.{entry_at};
+ghost use Rattle.dvg_cert.specs.Limits.{MOST_ENTRIES};
 
 use crate::certificate::Cert;
 use crate::entry::{Entry, Key};
@@ -10,6 +11,18 @@ use crate::lookup::Entries;
 use indexmap::IndexSet;
 use std::alloc::{AllocError, Global};
 use std::marker::Model;
+
+/// How many pairs of an address and a key there are: each word of a ROM, at sixteen scales and for any.
+const ALL_KEYS: usize = 17_408;
+
+/// For how many keys the table has room. The hash is known to all, so somebody can choose keys that are looked for in the same
+/// few places; with room for so many more keys than there are entries, not many find a place far from there.
+fn room_for(entries: usize) -> usize
+    requires { entries ≤ MOST_ENTRIES }
+    ensures { entries ≤ result }
+{
+    (16 * entries).min(ALL_KEYS)
+}
 
 /// An index that hashes the address and the key, so that a look-up takes about as long however many entries there are.
 #[derive(Drop)]
@@ -34,15 +47,14 @@ impl<'a> Model for HashIndex<'a> {
 impl<'a> HashIndex<'a> {
     /// The index of a certificate.
     ///
-    /// Takes memory for the address and key of each entry and for the table of hashes, all of it before the first is put in,
-    /// and fails only where that was refused. The hash has a fixed seed: there are at most 17,408 pairs of an address and a
-    /// key.
+    /// Takes memory for the addresses and keys of sixteen times as many entries, 17,408 at most, and for the table of their
+    /// hashes, all of it before the first is put in, and fails only where that was refused. The hash has a fixed seed.
     #[inline(never)]
     pub fn new(alloc: Global, cert: &'a Cert) -> Result<HashIndex<'a>, AllocError>
         ensures { IfOk result (λ index. index ≡ cert.now) }
     {
         let entries = cert.entries();
-        let mut keys = IndexSet::with_capacity(alloc, entries.len())?;
+        let mut keys = IndexSet::with_capacity(alloc, room_for(entries.len()))?;
         for entry in entries {
             keys.insert((entry.addr, entry.key))?;
         }
