@@ -13,12 +13,15 @@ ghost use Rattle.dvg_cert.specs.Entry.{IsKey};
 ghost use Rattle.dvg_cert.specs.declared.entry.End.TheVariants.{Rel};
 ghost use Rattle.dvg_cert.specs.declared.entry.LitBox.{LitBox};
 ghost use Rattle.dvg_items.specs.Lit.{IsInside, ScaleKnown, LitInBox};
-ghost use Rattle.dvg_items.specs.Bounds.{IsNear, IsNearPlace, IsNearExtent, IsSomeCertificate};
+ghost use Rattle.dvg_items.specs.declared.item.Kind.TheVariants.{Shape};
+ghost use Rattle.dvg_items.specs.Known.{start};
+ghost use Rattle.dvg_items.specs.Seen.{seen_with};
+ghost use Rattle.dvg_items.specs.Bounds.{IsNear, IsNearPlace, IsNearExtent, IsClaim, IsSomeCertificate};
 ghost use Rattle.dvg_check.specs.Private.Tails.{ClaimsLess, known_at_end, claimed, place_over, known_over, moved, BoxInWindow, MayStandAt, MayStandFirst, last_item, IsNearBox, IsSmall};
 
 use crate::fault::Mode;
 use dvg_cert::{End, Entries, Entry, Key, LitBox};
-use dvg_items::{Cursor, Item, Kind, LitExtent, callee, has_callee, joined, spanning, target};
+use dvg_items::{Cursor, Item, Kind, LitExtent, callee, joined, spanning};
 use dvg_words::{Instr, Point, on_screen, shift};
 
 /// Where a shape ends, seen from the item before it, past which is this place.
@@ -169,14 +172,30 @@ pub fn last_item<E: Entries>(entries: &E, item: &Item, key: Key) -> Option<Entry
         MayStandFirst rom (E.list entries.now) key first.lit item.now) }
     ensures small { IfSome result (IsSmall 1) }
 {
-    if matches!(item.instr, Instr::Halt) {
-        return None;
+    match &item.instr {
+        Instr::Halt => None,
+        Instr::Jsrl { to } | Instr::Jmpl { to } => {
+            let callee = callee(entries, Some(*to), key)?;
+            item_calling(item, key, Some(callee))
+        }
+        // Draws are by themselves, so that their tails are made with no further look at what they are.
+        Instr::Draw(_) => item_calling(item, key, None),
+        Instr::Labs { .. } | Instr::Rtsl => item_calling(item, key, None),
     }
-    let target = target(Kind::Shape, &item.instr);
-    let callee = callee(entries, target, key);
-    if !has_callee(target, &callee) {
-        return None;
-    }
+}
+
+/// The same of an item that calls this entry: `None` where it lights at unknown scale.
+#[inline(always)]
+fn item_calling(item: &Item, key: Key, callee: Option<Entry>) -> Option<Entry>
+    requires key { IsKey key }
+    requires callee { IfSome callee IsClaim }
+    requires fields { InstrFits item.now.instr }
+    ensures value { IfSome result (λ first. first ≡ claimed item.now.at key first.lit (seen_with callee (start Shape key) item.now).after) }
+    ensures scale { IfSome result (λ first. ScaleKnown (seen_with callee (start Shape key) item.now).extent) }
+    ensures boxed { IfSome result (λ first. LitInBox first.lit (seen_with callee (start Shape key) item.now).extent
+        (seen_with callee (start Shape key) item.now).place) }
+    ensures small { IfSome result (IsSmall 1) }
+{
     // What is seen of the first item doesn't depend on where it stands.
     let seen = Cursor::start(Kind::Shape, 0, key).see(item.format, &item.instr, callee);
     let lit = box_of(&seen.extent)?;
