@@ -2,23 +2,22 @@
 use Rattle.std.proofs.Common.{◌≡◌, ◌≢◌, ℕ, ◌+◌, ◌-◌, ◌<◌, ◌≤◌, Bool, true, false, List, [], ◌∷◌, ◌++◌, length, Option, Some, None, refl, sym, ap, subst, ◌∙◌, append_assoc, arith, inl, inr, ◌⊎◌}
 use Rattle.std.specs.Prelude.{◌==◌, nat_lt}
 use Rattle.std.specs.Str.{bytes_eq}
-use Rattle.std.specs.List.{slice_split}
 use Rattle.std.proofs.lemmas.List.{append-nil, length-append}
 use Rattle.std.proofs.lemmas.Bool.{eqb-true}
 use Rattle.std.proofs.lemmas.Bool.Decides.{nat_tests}
 use Rattle.std.proofs.lemmas.Slice.Eq.{bytes_eq-Decides}
 use Rattle.std.proofs.lemmas.Option.{none-some}
 use Rattle.dvg_cert.specs.Limits.{MOST_ENTRIES, LONGEST_LINE, LINE_FEED, SPACE, ADDRESS_END}
-use Rattle.dvg_cert.specs.declared.line.Line.{Line}
-use Rattle.dvg_cert.specs.declared.line.Line.TheVariants as lines
+use Rattle.dvg_cert.specs.Reading.{Line}
+use Rattle.dvg_cert.specs.Reading.{EntryLine, DoneLine}
 use Rattle.dvg_cert.specs.declared.fault.CertWhy.{CertWhy}
 use Rattle.dvg_cert.specs.declared.fault.CertWhy.TheVariants.{Form, Order, Count, Unended, After, TooLong, Memory}
 use Rattle.dvg_cert.specs.Entry.{Entry, Key, At, Any}
 use Rattle.dvg_cert.specs.Order.{KeyBefore, Before, StandsAfter}
 use Rattle.dvg_cert.specs.Grammar.{first_line, done_line, begun_with, ended, text_of}
 use Rattle.dvg_cert.specs.Reading.{IsLine, Taken, Nothing, Begun, Whole, text_taken, line_number, Holds, MayStand, IsUnended, Meets, StopsAt, IsRefusal}
-use Rattle.dvg_cert.specs.Private.Tokens.{line_in}
-use Rattle.dvg_cert.proofs.LineTokens.{line_takes, line_again, Without-append}
+use Rattle.dvg_cert.proofs.Graphics.{Without-append}
+use Rattle.dvg_cert.proofs.WholeLines.{said, line_takes, line_again}
 use Rattle.dvg_cert.proofs.Rising.{certificate_push}
 use Rattle.dvg_cert.proofs.Refusals.{rest_of, rest_is, entry_taken, first_taken, meets_long}
 use Rattle.dvg_cert.proofs.OneAnswerLemmas.{stuck_stands}
@@ -73,7 +72,7 @@ first_end false first last prefix rest b t h lf = inr (Form, inr (lf, λ e. diff
     differs t p q = cc
 
 -- the LF of an entry's line
-entry_end : (first last from to : ℕ) (es : List Entry) (prefix rest : List ℕ) (b : ℕ) (e : Entry) → Holds first last prefix (Begun from to es) rest → b ≡ LINE_FEED → IsLine from to (lines.Entry e) rest → OneMore first last prefix (Begun from to es) rest b
+entry_end : (first last from to : ℕ) (es : List Entry) (prefix rest : List ℕ) (b : ℕ) (e : Entry) → Holds first last prefix (Begun from to es) rest → b ≡ LINE_FEED → IsLine from to (EntryLine e) rest → OneMore first last prefix (Begun from to es) rest b
 entry_end first last from to es prefix rest b e h lf line =
     elim (stands_or es e) [
       | inl s ↦ room (nat_lt (length es) MOST_ENTRIES) refl s
@@ -90,7 +89,7 @@ entry_end first last from to es prefix rest b e h lf line =
         inr (TooLong, inr (lf, (e, line, s, omega (arith, few, least))))
 
 -- the LF of a last line
-done_end : (t : Bool) (first last from to : ℕ) (es : List Entry) (prefix rest : List ℕ) (b n : ℕ) → (n == length es) ≡ t → Holds first last prefix (Begun from to es) rest → b ≡ LINE_FEED → IsLine from to (lines.Done n) rest → OneMore first last prefix (Begun from to es) rest b
+done_end : (t : Bool) (first last from to : ℕ) (es : List Entry) (prefix rest : List ℕ) (b n : ℕ) → (n == length es) ≡ t → Holds first last prefix (Begun from to es) rest → b ≡ LINE_FEED → IsLine from to (DoneLine n) rest → OneMore first last prefix (Begun from to es) rest b
 done_end true first last from to es prefix rest b n t h lf line =
     let same : n ≡ length es = eqb-true n (length es) t in
     let spelled : text_of es ≡ begun_with es ++ ended rest = ap (λ (x : List ℕ). begun_with es ++ ended x) (ap done (sym same) ∙ sym line.1) in
@@ -101,15 +100,15 @@ done_end true first last from to es prefix rest b n t h lf line =
 done_end false first last from to es prefix rest b n t h lf line = inr (Count, inr (lf, (n, line, λ e. absurd (grind (arith, nat_tests)))))
 
 -- the LF of a later line
-later_end : (r : Option Line) (first last from to : ℕ) (es : List Entry) (prefix rest : List ℕ) (b : ℕ) → line_in from to (slice_split (λ b. b == SPACE) rest) ≡ r → to < ADDRESS_END → Holds first last prefix (Begun from to es) rest → b ≡ LINE_FEED → OneMore first last prefix (Begun from to es) rest b
+later_end : (r : Option Line) (first last from to : ℕ) (es : List Entry) (prefix rest : List ℕ) (b : ℕ) → said from to rest ≡ r → to < ADDRESS_END → Holds first last prefix (Begun from to es) rest → b ≡ LINE_FEED → OneMore first last prefix (Begun from to es) rest b
 later_end None first last from to es prefix rest b r small h lf =
     inr (Form, inr (lf, λ l k. none-some l (sym r ∙ line_again from to rest l small k)))
-later_end (Some (lines.Entry e)) first last from to es prefix rest b r small h lf = entry_end first last from to es prefix rest b e h lf (line_takes from to rest (lines.Entry e) small r)
-later_end (Some (lines.Done n)) first last from to es prefix rest b r small h lf = done_end (n == length es) first last from to es prefix rest b n refl h lf (line_takes from to rest (lines.Done n) small r)
+later_end (Some (EntryLine e)) first last from to es prefix rest b r small h lf = entry_end first last from to es prefix rest b e h lf (line_takes from to rest (EntryLine e) small r)
+later_end (Some (DoneLine n)) first last from to es prefix rest b r small h lf = done_end (n == length es) first last from to es prefix rest b n refl h lf (line_takes from to rest (DoneLine n) small r)
 
 at_end : (first last : ℕ) (prefix : List ℕ) (taken : Taken) (rest : List ℕ) (b : ℕ) → last < ADDRESS_END → IsUnended taken → Holds first last prefix taken rest → b ≡ LINE_FEED → OneMore first last prefix taken rest b
 at_end first last prefix Nothing rest b small u h lf = first_end (bytes_eq rest first_line) first last prefix rest b refl h lf
-at_end first last prefix (Begun from to es) rest b small u h lf = later_end (line_in from to (slice_split (λ b. b == SPACE) rest)) first last from to es prefix rest b refl (omega (arith, h.lines.1)) h lf
+at_end first last prefix (Begun from to es) rest b small u h lf = later_end (said from to rest) first last from to es prefix rest b refl (omega (arith, h.lines.1)) h lf
 at_end first last prefix (Whole from to es) rest b small u h lf = absurd u
 
 -- a byte within a line, or its LF

@@ -3,8 +3,7 @@ use Rattle.std.proofs.Common.{◌≡◌, ℕ, suc, ◌+◌, ◌<◌, ◌≤◌, 
 use Rattle.std.specs.Prelude.{◌==◌, position, nat_lt, not}
 use Rattle.std.specs.Prelude.{slice_index}
 use Rattle.memchr.specs.Find.{IsFirstByte, is_byte}
-use Rattle.std.specs.List.{slice_split, onto_first, position_or_len}
-use Rattle.std.proofs.lemmas.List.Splits.{slice_split-cons_no}
+use Rattle.std.specs.List.{position_or_len}
 use Rattle.std.proofs.Common.{zero, add-one, append_assoc}
 use Rattle.std.proofs.lemmas.Bool.{eqb-true}
 use Rattle.std.proofs.lemmas.List.{take-append-drop, length-take-le}
@@ -29,10 +28,6 @@ free c (x ∷ xs) h =
 
 pub free_none : (c : ℕ) (xs : List ℕ) → position (λ b. b == c) xs ≡ None → Without c xs
 free_none c xs e = free c xs (not_placed (position_or_len (λ b. b == c) xs) (length xs) e)
-
-pub split_free : (c : ℕ) (xs : List ℕ) → Without c xs → slice_split (λ b. b == c) xs ≡ xs ∷ []
-split_free c [] h = refl
-split_free c (x ∷ xs) h = slice_split-cons_no (λ b. b == c) x xs h.0 ∙ ap (onto_first x) (split_free c xs h.1)
 
 step_zero : (t : Bool) (m : ℕ) → 0 ≡ cond (not t) (1 + m) 0 → t ≡ true
 step_zero true m e = refl

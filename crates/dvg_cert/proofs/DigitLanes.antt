@@ -10,7 +10,7 @@ use Rattle.std.specs.Char.{digit_value}
 use Rattle.std.specs.Str.Parse.{AllDigits}
 use lib.Lanes.{mask_l, zip2, top}
 use lib.Count.{count_trailing_zeros}
-use Rattle.dvg_cert.specs.Private.Tokens.{NoDigitFirst}
+use Rattle.dvg_cert.specs.Private.Fields.{NoDigitFirst}
 
 -- the byte is no digit
 abbrev pub other : ℕ → Bool

@@ -7,7 +7,7 @@ use Rattle.std.proofs.lemmas.List.{take-take, length-take-le, get_or-take}
 use Rattle.std.proofs.lemmas.Int.Digits.{digits_value_more}
 use Rattle.std.proofs.lemmas.Str.{digit_value_digit}
 use Rattle.std.proofs.lemmas.Str.Parse.{digit_from_value, digits_value_short}
-use Rattle.dvg_cert.specs.Private.Tokens.{NoDigitFirst}
+use Rattle.dvg_cert.specs.Private.Fields.{NoDigitFirst}
 use Rattle.dvg_cert.proofs.Digits.{own}
 use Rattle.dvg_cert.proofs.DigitLanes.{AllBytes}
 

@@ -10,7 +10,7 @@ use Rattle.std.proofs.lemmas.Str.Parse.{IsNumeralModel, digits_value_short}
 use Rattle.std.proofs.lemmas.Int.Digits.{digits_value-lt, digits_value_more}
 use Rattle.std.proofs.lemmas.Fmt.{decimal_is_IsNumeral, decimal-digits_value, length-decimal-le}
 use Rattle.dvg_cert.specs.Limits.{MOST_MAGNITUDE}
-use Rattle.dvg_cert.proofs.Fields.{first_digit}
+use Rattle.dvg_cert.proofs.FieldValues.{first_digit}
 
 pub own : IsNumeralModel (λ ds. AllDigits 10 ds) (digits_value 10)
 own = record { to = λ ds h. h; from = λ ds h. h; same = λ ds h. refl }

@@ -3,10 +3,11 @@ pub mod Cutting
 pub mod DigitLanes
 pub mod DigitSums
 pub mod Digits
-pub mod Fields
-pub mod EntryTokens
-pub mod LineTokens
-pub mod Taking
+pub mod FieldValues
+pub mod Leading
+pub mod Graphics
+pub mod Steps
+pub mod WholeLines
 pub mod Rising
 pub mod Refusals
 pub mod LinesOfTexts

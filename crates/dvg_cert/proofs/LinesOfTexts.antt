@@ -8,12 +8,12 @@ use Rattle.dvg_cert.specs.Entry.{Entry, IsEntry}
 use Rattle.dvg_cert.specs.Order.{IsCertificate, StandsAfter, IsRising}
 use Rattle.dvg_cert.specs.Grammar.{entry_line, first_line, done_line}
 use Rattle.dvg_cert.specs.Reading.{IsWrong, IsLine, Nothing, Begun, Whole, Taken, Without, IsTaken}
-use Rattle.dvg_cert.specs.declared.line.Line.{Line}
-use Rattle.dvg_cert.specs.declared.line.Line.TheVariants as lines
+use Rattle.dvg_cert.specs.Reading.{Line}
+use Rattle.dvg_cert.specs.Reading.{EntryLine, DoneLine}
 use Rattle.dvg_cert.specs.declared.fault.CertWhy.{CertWhy}
 use Rattle.dvg_cert.specs.declared.fault.CertWhy.TheVariants.{Form, Order, Count, Unended, After, TooLong, Memory}
 use Rattle.dvg_cert.proofs.Rising.{same_rom}
-use Rattle.dvg_cert.proofs.LineTokens.{line_again}
+use Rattle.dvg_cert.proofs.WholeLines.{line_again}
 
 Text : Type 0
 Text = List ℕ
@@ -60,12 +60,12 @@ one_line first last bytes l m small h k =
 
 pub one_entry : (first last : ℕ) (x y : Entry) → last < ADDRESS_END → IsEntry first last x → IsEntry first last y → entry_line x ≡ entry_line y → x ≡ y
 one_entry first last x y small h k e =
-    let s : lines.Entry x ≡ lines.Entry y = one_line first last (entry_line x) (lines.Entry x) (lines.Entry y) small (h, refl) (k, e) in
+    let s : EntryLine x ≡ EntryLine y = one_line first last (entry_line x) (EntryLine x) (EntryLine y) small (h, refl) (k, e) in
     cc
 
 pub entry_not_done : (first last : ℕ) (x : Entry) (n : ℕ) → last < ADDRESS_END → IsEntry first last x → n ≤ MOST_ENTRIES → entry_line x ≡ done_line n → ⊥
 entry_not_done first last x n small h k e =
-    let s : lines.Entry x ≡ lines.Done n = one_line first last (entry_line x) (lines.Entry x) (lines.Done n) small (h, refl) (k, e) in
+    let s : EntryLine x ≡ DoneLine n = one_line first last (entry_line x) (EntryLine x) (DoneLine n) small (h, refl) (k, e) in
     absurd cc
 
 -- the lines of entries
@@ -165,7 +165,7 @@ rising_mid (x ∷ y ∷ es) e gs h = rising_mid (y ∷ es) e gs h.1
 -- the line may stand after these
 abbrev pub GoesOn : Taken → List ℕ → Type 0
 GoesOn Nothing line = line ≡ first_line
-GoesOn (Begun from to es) line = ((e : Entry) × IsLine from to (lines.Entry e) line × StandsAfter es e × (length es < MOST_ENTRIES)) ⊎ IsLine from to (lines.Done (length es)) line
+GoesOn (Begun from to es) line = ((e : Entry) × IsLine from to (EntryLine e) line × StandsAfter es e × (length es < MOST_ENTRIES)) ⊎ IsLine from to (DoneLine (length es)) line
 GoesOn (Whole from to es) line = ⊥
 
 -- the addresses of these lines are three digits
@@ -179,7 +179,7 @@ small_taken first last Nothing small h = tt
 small_taken first last (Begun from to es) small h = omega (arith, h.1)
 small_taken first last (Whole from to es) small h = omega (arith, h.1)
 
-goes_entry : (first last : ℕ) (es fs : List Entry) (line : List ℕ) → IsCertificate first last fs → ((e : Entry) × (gs : List Entry) × (fs ≡ es ++ e ∷ gs) × (line ≡ entry_line e)) → (e : Entry) × IsLine first last (lines.Entry e) line × StandsAfter es e × (length es < MOST_ENTRIES)
+goes_entry : (first last : ℕ) (es fs : List Entry) (line : List ℕ) → IsCertificate first last fs → ((e : Entry) × (gs : List Entry) × (fs ≡ es ++ e ∷ gs) × (line ≡ entry_line e)) → (e : Entry) × IsLine first last (EntryLine e) line × StandsAfter es e × (length es < MOST_ENTRIES)
 goes_entry first last es fs line h r =
     let each : AllByRecursion (IsEntry first last) (es ++ r.0 ∷ r.1) = subst (λ (xs : List Entry). AllByRecursion (IsEntry first last) xs) r.2 h.each in
     let rising : IsRising (es ++ r.0 ∷ r.1) = subst (λ (xs : List Entry). IsRising xs) r.2 h.rising in
@@ -225,14 +225,14 @@ goes_on first last (Whole from to es) (Whole from' to' fs) line ms small h k e =
       | inr r ↦ absurd (cc (r.1))
     ]
 
-pub not_both : (first last : ℕ) (e : Entry) (n : ℕ) (line : List ℕ) → last < ADDRESS_END → IsLine first last (lines.Entry e) line → IsLine first last (lines.Done n) line → ⊥
-not_both first last e n line small h k = let s = one_line first last line (lines.Entry e) (lines.Done n) small h k in absurd cc
+pub not_both : (first last : ℕ) (e : Entry) (n : ℕ) (line : List ℕ) → last < ADDRESS_END → IsLine first last (EntryLine e) line → IsLine first last (DoneLine n) line → ⊥
+not_both first last e n line small h k = let s = one_line first last line (EntryLine e) (DoneLine n) small h k in absurd cc
 
-pub same_entry : (first last : ℕ) (e f : Entry) (line : List ℕ) → last < ADDRESS_END → IsLine first last (lines.Entry e) line → IsLine first last (lines.Entry f) line → e ≡ f
-same_entry first last e f line small h k = let s = one_line first last line (lines.Entry e) (lines.Entry f) small h k in cc
+pub same_entry : (first last : ℕ) (e f : Entry) (line : List ℕ) → last < ADDRESS_END → IsLine first last (EntryLine e) line → IsLine first last (EntryLine f) line → e ≡ f
+same_entry first last e f line small h k = let s = one_line first last line (EntryLine e) (EntryLine f) small h k in cc
 
-pub same_count : (first last m n : ℕ) (line : List ℕ) → last < ADDRESS_END → IsLine first last (lines.Done m) line → IsLine first last (lines.Done n) line → m ≡ n
-same_count first last m n line small h k = let s = one_line first last line (lines.Done m) (lines.Done n) small h k in cc
+pub same_count : (first last m n : ℕ) (line : List ℕ) → last < ADDRESS_END → IsLine first last (DoneLine m) line → IsLine first last (DoneLine n) line → m ≡ n
+same_count first last m n line small h k = let s = one_line first last line (DoneLine m) (DoneLine n) small h k in cc
 
 -- what is wrong may not stand
 pub wrong_goes : (why : CertWhy) (t : Taken) (line : List ℕ) → Small t → IsWrong t line why → GoesOn t line → ⊥
@@ -244,8 +244,8 @@ wrong_goes Unended Nothing line small w g = w
 wrong_goes After Nothing line small w g = w
 wrong_goes TooLong Nothing line small w g = w
 wrong_goes Memory Nothing line small w g = w
-wrong_goes Form (Begun from to es) line small w (inl g) = w (lines.Entry g.0) g.1
-wrong_goes Form (Begun from to es) line small w (inr g) = w (lines.Done (length es)) g
+wrong_goes Form (Begun from to es) line small w (inl g) = w (EntryLine g.0) g.1
+wrong_goes Form (Begun from to es) line small w (inr g) = w (DoneLine (length es)) g
 wrong_goes Order (Begun from to es) line small w (inl g) = w.2 (subst (λ (x : Entry). StandsAfter es x) (same_entry from to g.0 w.0 line small g.1 w.1) g.2)
 wrong_goes Order (Begun from to es) line small w (inr g) = not_both from to w.0 (length es) line small w.1 g
 wrong_goes TooLong (Begun from to es) line small w (inl g) = absurd (omega (arith, g.3, w.3))

@@ -6,7 +6,7 @@ use Rattle.std.specs.Str.Parse.{digits_value}
 use Rattle.std.proofs.lemmas.Slice.Eq.{bytes_eq-Decides}
 use Rattle.std.proofs.lemmas.Fmt.{decimal_is_IsNumeral}
 use Rattle.std.proofs.lemmas.Bool.Decides.{nat_tests}
-use Rattle.dvg_cert.specs.Private.Tokens.{natural_in}
+use Rattle.dvg_cert.specs.Private.Fields.{natural_in}
 
 pub natural_some : (low high n : ℕ) (token : List ℕ) → n < 2 ^ 64 → low ≤ n → n ≤ high → token ≡ decimal n → natural_in low high token ≡ Some n
 unfolding natural_in

@@ -9,10 +9,10 @@ use Rattle.dvg_cert.specs.Entry.{Entry, IsEntry}
 use Rattle.dvg_cert.specs.Order.{StandsAfter}
 use Rattle.dvg_cert.specs.Grammar.{entry_line, entry_tokens, first_line, begun_with, text_of, ended, done_line, Spells}
 use Rattle.dvg_cert.specs.Reading.{IsRefusal, EndsOpen, StopsAt, IsWrong, Nothing, Begun, Whole, Taken, Without, text_taken, line_number, IsTaken, IsUnended, IsRest, Holds, Meets}
-use Rattle.dvg_cert.specs.declared.line.Line.TheVariants as lines
+use Rattle.dvg_cert.specs.Reading.{EntryLine, DoneLine}
 use Rattle.dvg_cert.specs.declared.fault.CertWhy.{CertWhy}
 use Rattle.dvg_cert.specs.declared.fault.CertWhy.TheVariants.{Form, Order, Count, Unended, After, TooLong, Memory}
-use Rattle.dvg_cert.proofs.LineTokens.{line_free, graphics_entry, graphic_decimal}
+use Rattle.dvg_cert.proofs.Graphics.{line_free, graphics_entry, graphic_decimal}
 use Rattle.dvg_cert.proofs.Lengths.{length_entry, length_done}
 use Rattle.dvg_cert.proofs.LinesOfTexts.{cut_once, no_cut, lines_text, Frees, lines_prefix, entry_lines, lines_of, lines_once, goes_on, Small, small_taken, wrong_goes, same_entry, not_both}
 
@@ -135,18 +135,18 @@ same_meets (Begun from to es) line Count Unended small h k = absurd k
 same_meets (Begun from to es) line Count After small h k = absurd k
 same_meets (Begun from to es) line Count Memory small h k = absurd k
 same_meets (Begun from to es) line Form Form small h k = refl
-same_meets (Begun from to es) line Form Order small h k = absurd (h (lines.Entry k.0) k.1)
-same_meets (Begun from to es) line Form TooLong small h k = absurd (h (lines.Entry k.0) k.1)
-same_meets (Begun from to es) line Form Count small h k = absurd (h (lines.Done k.0) k.1)
-same_meets (Begun from to es) line Order Form small h k = absurd (k (lines.Entry h.0) h.1)
+same_meets (Begun from to es) line Form Order small h k = absurd (h (EntryLine k.0) k.1)
+same_meets (Begun from to es) line Form TooLong small h k = absurd (h (EntryLine k.0) k.1)
+same_meets (Begun from to es) line Form Count small h k = absurd (h (DoneLine k.0) k.1)
+same_meets (Begun from to es) line Order Form small h k = absurd (k (EntryLine h.0) h.1)
 same_meets (Begun from to es) line Order Order small h k = refl
 same_meets (Begun from to es) line Order TooLong small h k = absurd (h.2 (subst (λ (x : Entry). StandsAfter es x) (same_entry from to k.0 h.0 line small k.1 h.1) k.2))
 same_meets (Begun from to es) line Order Count small h k = absurd (not_both from to h.0 k.0 line small h.1 k.1)
-same_meets (Begun from to es) line TooLong Form small h k = absurd (k (lines.Entry h.0) h.1)
+same_meets (Begun from to es) line TooLong Form small h k = absurd (k (EntryLine h.0) h.1)
 same_meets (Begun from to es) line TooLong Order small h k = absurd (k.2 (subst (λ (x : Entry). StandsAfter es x) (same_entry from to h.0 k.0 line small h.1 k.1) h.2))
 same_meets (Begun from to es) line TooLong TooLong small h k = refl
 same_meets (Begun from to es) line TooLong Count small h k = absurd (not_both from to h.0 k.0 line small h.1 k.1)
-same_meets (Begun from to es) line Count Form small h k = absurd (k (lines.Done h.0) h.1)
+same_meets (Begun from to es) line Count Form small h k = absurd (k (DoneLine h.0) h.1)
 same_meets (Begun from to es) line Count Order small h k = absurd (not_both from to k.0 h.0 line small k.1 h.1)
 same_meets (Begun from to es) line Count TooLong small h k = absurd (not_both from to k.0 h.0 line small k.1 h.1)
 same_meets (Begun from to es) line Count Count small h k = refl

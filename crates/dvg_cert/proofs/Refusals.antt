@@ -12,7 +12,7 @@ use Rattle.dvg_cert.specs.declared.fault.CertWhy.{CertWhy}
 use Rattle.dvg_cert.specs.declared.fault.CertWhy.TheVariants.{Form, Order, Count, Unended, After, TooLong, Memory}
 use Rattle.dvg_cert.specs.declared.taken.Stage.{Stage}
 use Rattle.dvg_cert.specs.declared.taken.Stage.TheVariants.{First, Later, Ended}
-use Rattle.dvg_cert.proofs.LineTokens.{Without-append}
+use Rattle.dvg_cert.proofs.Graphics.{Without-append}
 use Rattle.dvg_cert.proofs.Rising.{begun_push, same_rom}
 
 pub not_whole : (taken : Taken) → ((IsUnended taken → ⊥) → ⊥) → IsUnended taken

@@ -1,6 +1,6 @@
 -- Definitions for the code alone; no rule uses them.
 pub mod Keyed
-pub mod Tokens
+pub mod Fields
 pub mod Searching
 pub mod Progress
 pub mod Writing

@@ -2,8 +2,6 @@
 -- version speaks of; the lines that were taken carry them.
 use Rattle.std.specs.Prelude.{◌≡◌, ◌≢◌, ℕ, ◌+◌, ◌-◌, ◌<◌, ◌≤◌, ◌⊎◌, List, [], ◌∷◌, ◌++◌, length, false, ◌==◌, Result, Ok, Err}
 use Rattle.dvg_cert.specs.Limits.{MOST_ENTRIES, LONGEST_LINE, LINE_FEED}
-use Rattle.dvg_cert.specs.declared.line.Line.{Line}
-use Rattle.dvg_cert.specs.declared.line.Line.TheVariants as lines
 use Rattle.dvg_cert.specs.declared.fault.CertWhy.{CertWhy}
 use Rattle.dvg_cert.specs.declared.fault.CertWhy.TheVariants.{Form, Order, Count, Unended, After, TooLong, Memory}
 use Rattle.dvg_cert.specs.declared.fault.CertFault.{CertFault}
@@ -11,10 +9,15 @@ use Rattle.dvg_cert.specs.Entry.{Entry, IsEntry}
 use Rattle.dvg_cert.specs.Order.{IsCertificate, StandsAfter}
 use Rattle.dvg_cert.specs.Grammar.{first_line, entry_line, done_line, begun_with, text_of, Spells}
 
--- the bytes are a line after the first, without its end (profile)
+-- a line after the first: an entry, or the last one with the number of entries (profile)
+pub data Line : Type 0 where
+  EntryLine : Entry → Line
+  DoneLine : ℕ → Line
+
+-- the bytes are such a line, without its end (profile)
 abbrev pub IsLine : ℕ → ℕ → Line → List ℕ → Type 0
-IsLine first last (lines.Entry e) bytes = IsEntry first last e × (bytes ≡ entry_line e)
-IsLine first last (lines.Done n) bytes = (n ≤ MOST_ENTRIES) × (bytes ≡ done_line n)
+IsLine first last (EntryLine e) bytes = IsEntry first last e × (bytes ≡ entry_line e)
+IsLine first last (DoneLine n) bytes = (n ≤ MOST_ENTRIES) × (bytes ≡ done_line n)
 
 -- the lines of a prefix: none; the first line and some entries, maybe none, of a ROM at these addresses; or all (profile)
 pub data Taken : Type 0 where
@@ -67,9 +70,9 @@ IsUnended taken = Unit {0}
 abbrev pub IsWrong : Taken → List ℕ → CertWhy → Type 0
 IsWrong Nothing line Form = line ≢ first_line
 IsWrong (Begun from to es) line Form = (l : Line) → IsLine from to l line → ⊥
-IsWrong (Begun from to es) line Order = (e : Entry) × IsLine from to (lines.Entry e) line × (StandsAfter es e → ⊥)
-IsWrong (Begun from to es) line TooLong = (e : Entry) × IsLine from to (lines.Entry e) line × StandsAfter es e × (length es ≡ MOST_ENTRIES)
-IsWrong (Begun from to es) line Count = (n : ℕ) × IsLine from to (lines.Done n) line × (n ≢ length es)
+IsWrong (Begun from to es) line Order = (e : Entry) × IsLine from to (EntryLine e) line × (StandsAfter es e → ⊥)
+IsWrong (Begun from to es) line TooLong = (e : Entry) × IsLine from to (EntryLine e) line × StandsAfter es e × (length es ≡ MOST_ENTRIES)
+IsWrong (Begun from to es) line Count = (n : ℕ) × IsLine from to (DoneLine n) line × (n ≢ length es)
 IsWrong taken line why = ⊥
 
 -- why a byte is refused after these lines and this rest: it follows the last line, or it is the 200th of its line and not LF,

@@ -3,7 +3,7 @@
 ghost use Rattle.std.specs.Prelude.{◌≡◌, ◌<◌, ◌≤◌, ◌==◌, ◌+◌, if◌then◌else◌, length, take, drop};
 ghost use Rattle.std.specs.Int.{w64, trailing_zeros};
 ghost use Rattle.std.specs.Str.Parse.{AllDigits, digits_value};
-ghost use Rattle.dvg_cert.specs.Private.Tokens.{NoDigitFirst};
+ghost use Rattle.dvg_cert.specs.Private.Fields.{NoDigitFirst};
 
 use std::simd::prelude::*;
 

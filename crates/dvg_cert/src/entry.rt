@@ -50,22 +50,24 @@ pub enum LitBox {
 }
 
 /// What a certificate claims of the shape at a word address, called at a global scale.
+///
+/// The large fields stand first, so that none of them has a gap before it.
 #[derive(Clone, Copy, Debug, PartialEq, Eq)]
 pub struct Entry {
-    /// The word address of the shape's first word.
-    pub addr: u16,
-    /// The global scale at which it is called, or any.
-    pub key: Key,
     /// Where the beam is at its return.
     pub stop: End,
     /// What it lights before its place is set, by a LABS of its own or of a shape that it calls, relative to the beam at the
     /// call.
     pub lit: LitBox,
-    /// How deep calls nest below it, at most, 0 to 3.
-    pub depth: u8,
     /// How many words are fetched at most from its first word through its return, those of the shapes that it
     /// calls among them: 1 to 1,000,000.
     pub words: u32,
+    /// The word address of the shape's first word.
+    pub addr: u16,
+    /// The global scale at which it is called, or any.
+    pub key: Key,
     /// The global scale that it leaves behind.
     pub scale: Key,
+    /// How deep calls nest below it, at most, 0 to 3.
+    pub depth: u8,
 }

@@ -7,6 +7,7 @@ mod counted;
 mod eight_digits;
 mod entry;
 mod fault;
+mod fields;
 mod hash_index;
 pub mod laws;
 mod limits;
@@ -16,7 +17,6 @@ mod lookup;
 mod numerals;
 mod reader;
 mod taken;
-mod tokens;
 mod writer;
 
 pub use certificate::{Cert, certificate_unchecked, is_entry, is_key};

@@ -5,7 +5,7 @@ ghost use Rattle.std.specs.Str.Parse.{AllDigits, digits_value};
 ghost use Rattle.dvg_cert.specs.Entry.{IsKey};
 ghost use Rattle.dvg_cert.specs.declared.entry.Key.{Key as KeyValue};
 ghost use Rattle.dvg_cert.specs.Grammar.{address_token, key_token};
-ghost use Rattle.dvg_cert.specs.Private.Tokens.{hex_value, natural_in, address_in, NoDigitFirst, LeadsWith};
+ghost use Rattle.dvg_cert.specs.Private.Fields.{hex_value, natural_in, address_in, NoDigitFirst, LeadsWith};
 
 use crate::eight_digits::{leading_digits, number_of_digits};
 use crate::entry::Key;
@@ -13,7 +13,7 @@ use crate::limits::MOST_MAGNITUDE;
 use dvg_words::ADDRESS_END;
 
 /// The address from `first` to `last` that a token spells.
-#[tactic(auto, unfolding(crate::specs::Private::Tokens::address_in))]
+#[tactic(auto, unfolding(crate::specs::Private::Fields::address_in))]
 fn address(token: &[u8], first: u16, last: u16) -> Option<u16>
     ensures { result ≡ address_in first last token.now }
 {
@@ -24,7 +24,7 @@ fn address(token: &[u8], first: u16, last: u16) -> Option<u16>
 }
 
 /// The address from `first` to `last` that three digits spell.
-#[tactic(auto, unfolding(crate::specs::Private::Tokens::address_in))]
+#[tactic(auto, unfolding(crate::specs::Private::Fields::address_in))]
 #[inline(always)]
 pub fn address_of(a: u8, b: u8, c: u8, first: u16, last: u16) -> Option<u16>
     ensures { result ≡ address_in first last (a ∷ b ∷ c ∷ []) }

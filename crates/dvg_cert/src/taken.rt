@@ -12,7 +12,7 @@ use crate::certificate::{Cert, certificate_unchecked, stands_after};
 use crate::entry::Entry;
 use crate::fault::{CertFault, CertWhy};
 use crate::limits::MOST_ENTRIES;
-use crate::line::{Line, line_of};
+use crate::line::{count_of, entry_of};
 use dvg_words::{ROM_FIRST, ROM_LAST};
 use std::alloc::Global;
 use std::marker::Model;
@@ -122,19 +122,17 @@ fn take_later(entries: &mut Vec<Entry>, line: &[u8]) -> Result<Stage, CertWhy>
     requires { IsCertificate asteroids.rom_first asteroids.rom_last entries.old.items }
     ensures { TakesLater asteroids.rom_first asteroids.rom_last entries.old.items line.now entries.new.items result }
 {
-    match line_of(line, ROM_FIRST, ROM_LAST) {
-        None => Err(CertWhy::Form),
-        Some(Line::Entry(entry)) => match take_entry(entries, entry) {
-            Ok(()) => Ok(Stage::Later),
-            Err(why) => Err(why),
-        },
-        Some(Line::Done(count)) => {
-            if count as usize != entries.len() {
-                return Err(CertWhy::Count);
-            }
-            Ok(Stage::Ended)
-        }
+    if let Some(entry) = entry_of(line, ROM_FIRST, ROM_LAST) {
+        take_entry(entries, entry)?;
+        return Ok(Stage::Later);
     }
+    let Some(count) = count_of(line) else {
+        return Err(CertWhy::Form);
+    };
+    if count as usize != entries.len() {
+        return Err(CertWhy::Count);
+    }
+    Ok(Stage::Ended)
 }
 
 /// Takes an entry where it stands after the last one and there is room. An `Err` changes nothing.

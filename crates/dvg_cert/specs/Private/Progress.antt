@@ -1,7 +1,7 @@
 -- The running state of the reader. No rule stands here.
 use Rattle.std.specs.Prelude.{◌≡◌, ◌≢◌, ℕ, ◌+◌, ◌<◌, ◌≤◌, List, [], ◌∷◌, ◌++◌, length, take, drop, Result, Ok, Err, Option, Some, None}
 use Rattle.dvg_cert.specs.Limits.{MOST_ENTRIES, LINE_FEED}
-use Rattle.dvg_cert.specs.declared.line.Line.TheVariants as lines
+use Rattle.dvg_cert.specs.Reading.{EntryLine, DoneLine}
 use Rattle.dvg_cert.specs.declared.fault.CertWhy.{CertWhy}
 use Rattle.dvg_cert.specs.declared.fault.CertWhy.TheVariants.{Order, Unended, TooLong, Memory}
 use Rattle.dvg_cert.specs.declared.fault.CertFault.{CertFault}
@@ -35,7 +35,7 @@ IsProgress first last (Some f) taken rest = Unit {0}
 
 -- why a whole line after these is refused, out of memory included
 abbrev pub IsLineRefused : Taken → List ℕ → CertWhy → Type 0
-IsLineRefused (Begun from to es) line Memory = (e : Entry) × IsLine from to (lines.Entry e) line × IsCertificate from to (es ++ e ∷ [])
+IsLineRefused (Begun from to es) line Memory = (e : Entry) × IsLine from to (EntryLine e) line × IsCertificate from to (es ++ e ∷ [])
 IsLineRefused taken line why = IsWrong taken line why
 
 -- what taking an entry gives

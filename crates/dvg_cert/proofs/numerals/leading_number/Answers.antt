@@ -1,5 +1,5 @@
 use Rattle.std.proofs.Common.{refl, arith}
-use Rattle.dvg_cert.proofs.Taking.{no_digits, too_long}
+use Rattle.dvg_cert.proofs.Leading.{no_digits, too_long}
 use Rattle.dvg_cert.proofs.DigitSums.{all_take, window_digits, window_ends, alone}
 use Rattle.dvg_cert.proofs.numerals.leading_number.Goals as goal
 

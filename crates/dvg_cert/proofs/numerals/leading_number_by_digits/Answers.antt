@@ -1,7 +1,7 @@
 use Rattle.std.proofs.Common.{take, arith, refl}
 use Rattle.std.proofs.lemmas.List.{length-take-le}
 use Rattle.dvg_cert.proofs.Digits.{below, one_digit}
-use Rattle.dvg_cert.proofs.Taking.{too_long}
+use Rattle.dvg_cert.proofs.Leading.{too_long}
 use Rattle.dvg_cert.proofs.numerals.leading_number_by_digits.Goals as goal
 
 pub loop-i-preserved : goal.loop-i-preserved

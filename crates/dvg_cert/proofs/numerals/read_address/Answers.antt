@@ -1,4 +1,4 @@
-use Rattle.dvg_cert.proofs.Fields.{address_found, no_address}
+use Rattle.dvg_cert.proofs.FieldValues.{address_found, no_address}
 use Rattle.dvg_cert.proofs.numerals.read_address.Goals as goal
 
 pub returns-clause-some : goal.returns-clause-some

@@ -1,5 +1,5 @@
 use Rattle.std.proofs.Common.{◌∙◌, sym, rules, arith}
-use Rattle.dvg_cert.proofs.Fields.{natural_takes, no_key}
+use Rattle.dvg_cert.proofs.FieldValues.{natural_takes, no_key}
 use Rattle.dvg_cert.proofs.numerals.read_key.Goals as goal
 
 pub returns-in_err-number-clause-none : goal.returns-in_err-number-clause-none

@@ -1,12 +1,26 @@
-use Rattle.std.proofs.Common.{◌∙◌, ap}
+use Rattle.std.proofs.Common.{◌≡◌, ℕ, List, ◌++◌, length, ◌∙◌, ap, sym, rules}
 use Rattle.dvg_words.specs.Values.{asteroids}
-use Rattle.dvg_cert.specs.declared.line.Line.TheVariants as lines
-use Rattle.dvg_cert.specs.Grammar.{begun_with}
-use Rattle.dvg_cert.specs.Reading.{IsLine}
+use Rattle.dvg_cert.specs.Grammar.{begun_with, done_line, ended}
 use Rattle.dvg_cert.proofs.Refusals.{entry_taken}
+use Rattle.dvg_cert.proofs.WholeLines.{nothing_said}
 use Rattle.dvg_cert.proofs.taken.take_later.Goals as goal
 
-pub returns-in-Ok : goal.returns-in-Ok
-returns-in-Ok c =
-    let l : IsLine asteroids.rom_first asteroids.rom_last (lines.Entry c.in-Some-Entry.entry) c.args.line.now = rw c.in-Some-Entry.field-0-is at c.in-Some-Entry.ensures.found in
-    (c.in-Ok.ensures.1, ap begun_with c.in-Ok.ensures.0 ∙ entry_taken c.args.entries.now.items c.args.line.now c.in-Some-Entry.entry l.1)
+pub returns-in-Some : goal.returns-in-Some
+returns-in-Some c =
+    (c.in_ok-take_entry.ensures.1, ap begun_with c.in_ok-take_entry.ensures.0 ∙ entry_taken c.args.entries.now.items c.args.line.now c.in-Some.entry c.in-Some.ensures.found.1)
+
+pub returns-in_default-count_of : goal.returns-in_default-count_of
+returns-in_default-count_of c = (c.requires, nothing_said asteroids.rom_first asteroids.rom_last c.args.line.now c.in_default.ensures.none c.in_default-count_of.ensures.none)
+
+pub returns-then-count-len : goal.returns-then-count-len
+returns-then-count-len c =
+    let all : c.len.result ≡ length c.args.entries.now.items = search rules in
+    (c.requires, (c.in-Some-count_of.count, c.in-Some-count_of.ensures.found, λ same. c.if-count-len.true (same ∙ sym all)))
+
+pub returns : goal.returns
+returns c =
+    let all : c.len.result ≡ length c.args.entries.now.items = search rules in (
+      c.requires,
+      ap (λ (n : ℕ). begun_with c.args.entries.now.items ++ ended (done_line n)) (sym all ∙ sym c.if-count-len.false)
+          ∙ ap (λ (line : List ℕ). begun_with c.args.entries.now.items ++ ended line) (sym c.in-Some-count_of.ensures.found.1),
+    )

@@ -1,6 +1,6 @@
 -- A field that is read is the field that is spelled, and what is spelled is read again.
-use Rattle.std.proofs.Common.{◌≡◌, ℕ, suc, ◌+◌, ◌*◌, ◌/◌, ◌%◌, ◌^◌, ◌<◌, ◌≤◌, Bool, true, false, cond, ◌&&◌, List, [], ◌∷◌, length, Option, Some, None, IfSome, IfNone, refl, sym, ap, subst, ◌∙◌, arith}
-use Rattle.std.specs.Prelude.{codes, decimal, nat_le, nat_lt, ◌==◌, ℤ, pos, negsuc, neg_ℤ}
+use Rattle.std.proofs.Common.{◌≡◌, ℕ, suc, ◌+◌, ◌*◌, ◌/◌, ◌%◌, ◌^◌, ◌<◌, ◌≤◌, true, false, ◌&&◌, List, [], ◌∷◌, length, Option, Some, None, IfSome, IfNone, refl, sym, ap, subst, ◌∙◌, arith}
+use Rattle.std.specs.Prelude.{codes, decimal, nat_le, nat_lt, pos, neg_ℤ}
 use Rattle.std.specs.Option.{option_map}
 use Rattle.std.specs.Fmt.{signed_decimal, digit_glyph}
 use Rattle.std.specs.Str.{bytes_eq}
@@ -10,14 +10,13 @@ use Rattle.std.proofs.lemmas.Bool.Decides.{nat_tests}
 use Rattle.std.proofs.lemmas.Option.{cond_some}
 use Rattle.std.proofs.Common.{zero}
 use Rattle.std.proofs.lemmas.Int.{ints}
-use Rattle.std.proofs.lemmas.Bool.{eqb-true, and_parts}
+use Rattle.std.proofs.lemmas.Bool.{and_parts}
 use Rattle.std.proofs.lemmas.Fmt.{decimal_is_IsNumeral}
-use Rattle.std.proofs.lemmas.Str.Parse.{digit_from_value}
 use Rattle.std.specs.Str.Parse.{AllDigits}
 use Rattle.dvg_cert.specs.Limits.{MOST_MAGNITUDE, ADDRESS_END}
 use Rattle.dvg_cert.specs.Entry.{Key, At, Any, IsNumber, IsKey}
 use Rattle.dvg_cert.specs.Grammar.{address_token, key_token}
-use Rattle.dvg_cert.specs.Private.Tokens.{◌>>=◌, natural_in, number_in, key_in, hex_value, address_in}
+use Rattle.dvg_cert.specs.Private.Fields.{◌>>=◌, natural_in, hex_value, address_in}
 use Rattle.dvg_cert.proofs.NaturalNumbers.{natural_some}
 
 -- the value of a step that did not fail
@@ -42,79 +41,17 @@ natural_takes low high token n e =
     let to : m ≤ high = grind (arith, nat_tests) in
     (sym (same_bytes (decimal m) token a.0) ∙ ap decimal g.1, subst (λ (k : ℕ). low ≤ k) g.1 from, subst (λ (k : ℕ). k ≤ high) g.1 to)
 
-map_some : {A B : Type 0} (f : A → B) (o : Option A) (y : B) → option_map f o ≡ Some y → (x : A) × (o ≡ Some x) × (f x ≡ y)
+pub map_some : {A B : Type 0} (f : A → B) (o : Option A) (y : B) → option_map f o ≡ Some y → (x : A) × (o ≡ Some x) × (f x ≡ y)
 map_some f None y e = absurd cc
 map_some f (Some x) y e = (x, refl, cc)
 
-negated : (n : ℕ) → 1 ≤ n → n ≤ MOST_MAGNITUDE → (45 ∷ decimal n ≡ signed_decimal (neg_ℤ (pos n))) × IsNumber (neg_ℤ (pos n))
+pub negated : (n : ℕ) → 1 ≤ n → n ≤ MOST_MAGNITUDE → (45 ∷ decimal n ≡ signed_decimal (neg_ℤ (pos n))) × IsNumber (neg_ℤ (pos n))
 negated zero from to = absurd (omega arith)
 negated (suc n) from to = (refl, (omega (arith, ints), omega (arith, ints)))
-
-number_step : (t : Bool) (c : ℕ) (cs : List ℕ) (z : ℤ) → (c == 45) ≡ t → cond t (option_map (λ n. neg_ℤ (pos n)) (natural_in 1 MOST_MAGNITUDE cs)) (option_map pos (natural_in 0 MOST_MAGNITUDE (c ∷ cs))) ≡ Some z → (c ∷ cs ≡ signed_decimal z) × IsNumber z
-number_step true c cs z is e =
-    let m = map_some (λ n. neg_ℤ (pos n)) (natural_in 1 MOST_MAGNITUDE cs) z e in
-    let t = natural_takes 1 MOST_MAGNITUDE cs m.0 m.1 in
-    let g = negated m.0 t.1 t.2 in
-    let c_is : c ≡ 45 = eqb-true c 45 is in
-    subst (λ (y : ℤ). (c ∷ cs ≡ signed_decimal y) × IsNumber y) m.2 (ap (λ (x : ℕ). x ∷ cs) c_is ∙ ap (λ (ds : List ℕ). 45 ∷ ds) t.0 ∙ g.0, g.1)
-number_step false c cs z is e =
-    let m = map_some pos (natural_in 0 MOST_MAGNITUDE (c ∷ cs)) z e in
-    let t = natural_takes 0 MOST_MAGNITUDE (c ∷ cs) m.0 m.1 in
-    subst (λ (y : ℤ). (c ∷ cs ≡ signed_decimal y) × IsNumber y) m.2 (t.0, (omega (arith, ints), omega (arith, ints)))
-
-pub number_takes : (token : List ℕ) (z : ℤ) → number_in MOST_MAGNITUDE token ≡ Some z → (token ≡ signed_decimal z) × IsNumber z
-unfolding number_in
-number_takes [] z e = absurd cc
-number_takes (c ∷ cs) z e = number_step (c == 45) c cs z refl e
 
 -- a decimal begins with a digit
 pub first_digit : (w : List ℕ) (n : ℕ) → n < 2 ^ 64 → w ≡ decimal n → (0 < length w) × AllDigits 10 w
 first_digit w n small e = subst (λ (ds : List ℕ). (0 < length ds) × AllDigits 10 ds) (sym e) (decimal_is_IsNumeral n small).0
-
-plain : (w : List ℕ) (n : ℕ) → n ≤ MOST_MAGNITUDE → w ≡ decimal n → (0 < length w) × AllDigits 10 w → number_in MOST_MAGNITUDE w ≡ Some (pos n)
-unfolding number_in
-plain [] n to e h = absurd (omega (arith, h.0))
-plain (c ∷ cs) n to e h =
-    let r = digit_from_value c h.1.0 in
-    let differs : (c == 45) ≡ false = grind (arith, nat_tests) in
-    let got : natural_in 0 MOST_MAGNITUDE (c ∷ cs) ≡ Some n = natural_some 0 MOST_MAGNITUDE n (c ∷ cs) (omega arith) (omega arith) to e in
-    rw (differs, got) refl
-
-pub number_again : (z : ℤ) → IsNumber z → number_in MOST_MAGNITUDE (signed_decimal z) ≡ Some z
-unfolding number_in
-number_again (pos n) h = plain (decimal n) n (omega (arith, ints)) refl (first_digit (decimal n) n (omega (arith, ints)) refl)
-number_again (negsuc n) h =
-    let got : natural_in 1 MOST_MAGNITUDE (decimal (suc n)) ≡ Some (suc n) = natural_some 1 MOST_MAGNITUDE (suc n) (decimal (suc n)) (omega (arith, ints)) (omega arith) (omega (arith, ints)) refl in
-    rw got refl
-
-key_step : (t : Bool) (token : List ℕ) (k : Key) → bytes_eq token (codes "any") ≡ t → cond t (Some Any) (option_map At (natural_in 0 15 token)) ≡ Some k → (token ≡ key_token k) × IsKey k
-key_step true token k is e = subst (λ (y : Key). (token ≡ key_token y) × IsKey y) (same_key Any k e) (same_bytes token (codes "any") is, tt)
-  where
-    same_key : (a b : Key) → Some a ≡ Some b → a ≡ b
-    same_key a b e = cc
-key_step false token k is e =
-    let m = map_some At (natural_in 0 15 token) k e in
-    let t = natural_takes 0 15 token m.0 m.1 in
-    subst (λ (y : Key). (token ≡ key_token y) × IsKey y) m.2 (t.0, t.2)
-
-pub key_takes : (token : List ℕ) (k : Key) → key_in token ≡ Some k → (token ≡ key_token k) × IsKey k
-unfolding key_in
-key_takes token k e = key_step (bytes_eq token (codes "any")) token k refl e
-
-not_any : (t : Bool) (n : ℕ) → n < 2 ^ 64 → bytes_eq (decimal n) (codes "any") ≡ t → t ≡ false
-not_any true n small is =
-    let h = first_digit (codes "any") n small (sym (same_bytes (decimal n) (codes "any") is)) in
-    let r = digit_from_value 97 h.1.0 in
-    absurd (omega arith)
-not_any false n small is = refl
-
-pub key_again : (k : Key) → IsKey k → key_in (key_token k) ≡ Some k
-unfolding key_in
-key_again (At n) h =
-    let differs : bytes_eq (decimal n) (codes "any") ≡ false = not_any (bytes_eq (decimal n) (codes "any")) n (omega arith) refl in
-    let got : natural_in 0 15 (decimal n) ≡ Some n = natural_some 0 15 n (decimal n) (omega arith) (omega arith) h refl in
-    rw (differs, got) refl
-key_again Any h = refl
 
 glyph_takes : (c : ℕ) → hex_value c < 16 → digit_glyph true (hex_value c) ≡ c
 glyph_takes c h = grind (arith, nat_tests)

@@ -1,0 +1,304 @@
+-- A field that is read from the front of bytes is spelled there, and what is spelled there is read again.
+use Rattle.std.proofs.Common.{◌≡◌, ◌≢◌, ℕ, zero, suc, ◌+◌, ◌-◌, ◌/◌, ◌%◌, ◌^◌, ◌<◌, ◌≤◌, Bool, true, false, cond, ◌&&◌, [], ◌∷◌, ◌++◌, length, map, take, drop, get_or, Option, Some, None, refl, sym, ap, subst, ◌∙◌, arith}
+use Rattle.std.specs.Prelude.{codes, decimal, nat_le, nat_lt, ◌==◌}
+use Rattle.std.specs.Char.{digit_value}
+use Rattle.std.specs.Option.{option_map, option_map_or}
+use Rattle.std.specs.Str.Parse.{AllDigits}
+use Rattle.std.proofs.lemmas.Option.{cond_some, some_pair_parts, none-some, same_Some}
+use Rattle.std.proofs.lemmas.Bool.{and_parts, eqb-true}
+use Rattle.std.proofs.lemmas.Bool.Decides.{nat_tests}
+use Rattle.std.proofs.lemmas.Fmt.{decimal_digit, decimal-digits_of}
+use Rattle.std.specs.Int.Digits.{digits_of}
+use Rattle.std.proofs.lemmas.Int.Digits.{digits_of_step}
+use Rattle.std.proofs.lemmas.List.{take-append-drop, length-append}
+use Rattle.std.proofs.Math.Seq.{take-append_seam}
+use Rattle.std.proofs.lemmas.Str.{digit_value_digit}
+use Rattle.dvg_cert.specs.Limits.{MOST_MAGNITUDE, ADDRESS_END}
+use Rattle.dvg_cert.specs.Entry.{Key, At, Any, IsKey}
+use Rattle.dvg_cert.specs.Grammar.{address_token, key_token}
+use Rattle.dvg_cert.specs.Private.Fields.{Reads, natural_in, address_in, NoDigitFirst, past, digits_off, natural_at, digit_at, address_at, key_at}
+use Rattle.dvg_cert.proofs.NaturalNumbers.{natural_some}
+use Rattle.dvg_cert.proofs.FieldValues.{first_digit, map_some, natural_takes, address_takes, address_again}
+use Rattle.dvg_cert.proofs.Leading.{Text, same_number}
+
+-- ---- texts
+
+past_step : (c : Bool) (t b : ℕ) (text bytes rest : Text) → (b == t) ≡ c → cond c (past text bytes) None ≡ Some rest → (past text bytes ≡ Some rest → bytes ≡ text ++ rest) → b ∷ bytes ≡ t ∷ (text ++ rest)
+past_step true t b text bytes rest is e tail = ap (λ (x : ℕ). x ∷ bytes) (eqb-true b t is) ∙ ap (λ (xs : Text). t ∷ xs) (tail e)
+past_step false t b text bytes rest is e tail = absurd (none-some rest e)
+
+pub past_takes : (text bytes rest : Text) → past text bytes ≡ Some rest → bytes ≡ text ++ rest
+unfolding past
+past_takes [] bytes rest e = same_Some bytes rest e
+past_takes (t ∷ text) [] rest e = absurd (none-some rest e)
+past_takes (t ∷ text) (b ∷ bytes) rest e = past_step (b == t) t b text bytes rest refl e (past_takes text bytes rest)
+
+same_byte : (b : ℕ) → (b == b) ≡ true
+same_byte b = grind (arith, nat_tests)
+
+pub past_again : (text rest : Text) → past text (text ++ rest) ≡ Some rest
+unfolding past
+past_again [] rest = refl
+past_again (t ∷ text) rest = rw (same_byte t, past_again text rest) refl
+
+pub past_is : (text bytes rest : Text) → bytes ≡ text ++ rest → past text bytes ≡ Some rest
+past_is text bytes rest e = ap (past text) e ∙ past_again text rest
+
+pub past_never : (text bytes : Text) → ((rest : Text) → bytes ≢ text ++ rest) → past text bytes ≡ None
+past_never text bytes never = by_answer (past text bytes) refl
+  where
+    by_answer : (o : Option Text) → past text bytes ≡ o → past text bytes ≡ None
+    by_answer None e = e
+    by_answer (Some rest) e = absurd (never rest (past_takes text bytes rest e))
+
+-- the bytes cut where the text would end
+pub past_found : (n : ℕ) (text bytes prefix rest : Text) → prefix ≡ take n bytes → rest ≡ drop n bytes → prefix ≡ text → past text bytes ≡ Some rest
+past_found n text bytes prefix rest is after same = past_is text bytes rest (sym (take-append-drop n bytes) ∙ rw (← is, ← after, same) refl)
+
+pub past_not_found : (n : ℕ) (text bytes prefix : Text) → prefix ≡ take n bytes → length text ≡ n → (prefix ≡ text → ⊥) → past text bytes ≡ None
+past_not_found n text bytes prefix is len other =
+    past_never text bytes (λ rest e. other (is ∙ ap (λ (k : ℕ). take k bytes) (sym len) ∙ ap (take (length text)) e ∙ take-append_seam text rest))
+
+pub past_short : (text bytes : Text) → length bytes < length text → past text bytes ≡ None
+past_short text bytes lt = past_never text bytes (λ rest e. omega (arith, ap length e, length-append text rest))
+
+-- texts that are the same at their front and at their back, with nothing between
+pub halves : (k m : ℕ) (xs ys : Text) → m ≤ k → take k xs ≡ take k ys → drop m xs ≡ drop m ys → xs ≡ ys
+halves k zero xs ys le front back = back
+halves zero (suc m) xs ys le front back = absurd (omega arith)
+halves (suc k) (suc m) [] [] le front back = refl
+halves (suc k) (suc m) [] (y ∷ ys) le front back = absurd cc
+halves (suc k) (suc m) (x ∷ xs) [] le front back = absurd cc
+halves (suc k) (suc m) (x ∷ xs) (y ∷ ys) le front back =
+    let head : x ≡ y = cc in
+    let tail : take k xs ≡ take k ys = cc in
+    ap (λ (z : ℕ). z ∷ xs) head ∙ ap (λ (zs : Text). y ∷ zs) (halves k m xs ys (omega arith) tail back)
+
+-- ---- numbers
+
+off_step : (t : Bool) (c : ℕ) (cs ds rest : Text) → nat_lt (digit_value c) 10 ≡ t → (cs ≡ ds ++ rest) × NoDigitFirst rest
+    → (c ∷ cs ≡ (cond {A = Text × Text} t (c ∷ ds, rest) ([], c ∷ cs)).0 ++ (cond {A = Text × Text} t (c ∷ ds, rest) ([], c ∷ cs)).1) × NoDigitFirst ((cond {A = Text × Text} t (c ∷ ds, rest) ([], c ∷ cs)).1)
+off_step true c cs ds rest is h = (ap (λ (xs : Text). c ∷ xs) h.0, h.1)
+off_step false c cs ds rest is h = (refl, λ lt. let yes : nat_lt (digit_value c) 10 ≡ true = grind (arith, nat_tests) in absurd cc)
+
+pub off_takes : (bytes : Text) → (bytes ≡ (digits_off bytes).0 ++ (digits_off bytes).1) × NoDigitFirst ((digits_off bytes).1)
+unfolding digits_off
+off_takes [] = (refl, tt)
+off_takes (c ∷ cs) = off_step (nat_lt (digit_value c) 10) c cs (digits_off cs).0 (digits_off cs).1 refl (off_takes cs)
+
+pub off_again : (ds rest : Text) → AllDigits 10 ds → NoDigitFirst rest → digits_off (ds ++ rest) ≡ (ds, rest)
+unfolding digits_off
+off_again [] [] all stop = refl
+off_again [] (c ∷ cs) all stop = by_test (nat_lt (digit_value c) 10) refl
+  where
+    by_test : (t : Bool) → nat_lt (digit_value c) 10 ≡ t → digits_off (c ∷ cs) ≡ ([], c ∷ cs)
+    by_test true e = absurd (stop (grind (arith, nat_tests)))
+    by_test false e = rw e refl
+off_again (d ∷ ds) rest all stop =
+    let yes : nat_lt (digit_value d) 10 ≡ true = grind (arith, nat_tests) in
+    rw (yes, off_again ds rest all.1 stop) refl
+
+pub natural_again : (low high n : ℕ) (rest : Text) → n < 2 ^ 64 → low ≤ n → n ≤ high → NoDigitFirst rest → natural_at low high (decimal n ++ rest) ≡ Some (n, rest)
+unfolding natural_at
+natural_again low high n rest small from to stop =
+    rw (off_again (decimal n) rest (first_digit (decimal n) n small refl).1 stop, natural_some low high n (decimal n) small from to refl) refl
+
+pub natural_found : (low high : ℕ) (bytes : Text) (n : ℕ) (rest : Text) → natural_at low high bytes ≡ Some (n, rest) → (bytes ≡ decimal n ++ rest) × (low ≤ n) × (n ≤ high) × NoDigitFirst rest
+unfolding natural_at
+natural_found low high bytes n rest e =
+    let off = off_takes bytes in
+    let m = map_some (λ n. (n, (digits_off bytes).1)) (natural_in low high (digits_off bytes).0) (n, rest) e in
+    let s = some_pair_parts m.0 n ((digits_off bytes).1) rest (ap Some m.2) in
+    let t = natural_takes low high (digits_off bytes).0 m.0 m.1 in
+    (off.0 ∙ rw (t.0, s.0, s.1) refl, subst (λ (k : ℕ). low ≤ k) s.0 t.1, subst (λ (k : ℕ). k ≤ high) s.0 t.2, subst NoDigitFirst s.1 off.1)
+
+natural_never : (low high : ℕ) (bytes : Text) → ((n : ℕ) (rest : Text) → (bytes ≡ decimal n ++ rest) → low ≤ n → n ≤ high → NoDigitFirst rest → ⊥) → natural_at low high bytes ≡ None
+natural_never low high bytes never = by_answer (natural_at low high bytes) refl
+  where
+    by_answer : (o : Option (ℕ × Text)) → natural_at low high bytes ≡ o → natural_at low high bytes ≡ None
+    by_answer None e = e
+    by_answer (Some p) e = let f = natural_found low high bytes p.0 p.1 e in absurd (never p.0 p.1 f.0 f.1 f.2 f.3)
+
+pub natural_is : (low high n : ℕ) (bytes rest : Text) → n < 2 ^ 64 → low ≤ n → n ≤ high → bytes ≡ decimal n ++ rest → NoDigitFirst rest → natural_at low high bytes ≡ Some (n, rest)
+natural_is low high n bytes rest small from to e stop = ap (natural_at low high) e ∙ natural_again low high n rest small from to stop
+
+pub natural_outside : (low high n : ℕ) (bytes rest : Text) → high ≤ MOST_MAGNITUDE → n < 2 ^ 64 → NoDigitFirst rest → bytes ≡ decimal n ++ rest → (low ≤ n → n ≤ high → ⊥) → natural_at low high bytes ≡ None
+natural_outside low high n bytes rest top small stop e outside = natural_never low high bytes (λ m left is from to free.
+    let same = same_number n m bytes rest left small (omega arith) stop free e is in
+    outside (omega (arith, same.0)) (omega (arith, same.0)))
+
+pub natural_none_at : (low high : ℕ) (bytes : Text) → high ≤ MOST_MAGNITUDE → ((n : ℕ) (rest : Text) → n ≤ MOST_MAGNITUDE → NoDigitFirst rest → bytes ≡ decimal n ++ rest → ⊥) → natural_at low high bytes ≡ None
+natural_none_at low high bytes top never = natural_never low high bytes (λ n rest is from to free. never n rest (omega arith) free is)
+
+-- ---- single digits
+
+pub digit_found : (most : ℕ) (bytes : Text) (d : ℕ) (rest : Text) → digit_at most bytes ≡ Some (d, rest) → (bytes ≡ (48 + d) ∷ rest) × (d ≤ most)
+unfolding digit_at
+digit_found most [] d rest e = absurd (none-some (d, rest) e)
+digit_found most (c ∷ cs) d rest e =
+    let g = cond_some {A = ℕ × Text} (nat_le 48 c && nat_le c (48 + most)) (c - 48, cs) (d, rest) e in
+    let a = and_parts (nat_le 48 c) (nat_le c (48 + most)) g.0 in
+    let s = some_pair_parts (c - 48) d cs rest (ap Some g.1) in
+    let from : 48 ≤ c = grind (arith, nat_tests) in
+    let to : c ≤ 48 + most = grind (arith, nat_tests) in
+    let is : c ≡ 48 + d = omega (arith, s.0) in
+    (rw (is, s.1) refl, omega (arith, s.0))
+
+pub digit_again : (most d : ℕ) (rest : Text) → d ≤ most → digit_at most ((48 + d) ∷ rest) ≡ Some (d, rest)
+unfolding digit_at
+digit_again most d rest le =
+    let from : nat_le 48 (48 + d) ≡ true = grind (arith, nat_tests) in
+    let to : nat_le (48 + d) (48 + most) ≡ true = grind (arith, nat_tests) in
+    let back : 48 + d - 48 ≡ d = omega arith in
+    rw (from, to, back) refl
+
+pub no_digit : (most : ℕ) (rest : Text) → most ≤ 9 → NoDigitFirst rest → digit_at most rest ≡ None
+unfolding digit_at
+no_digit most [] le stop = refl
+no_digit most (c ∷ cs) le stop = by_test (nat_le 48 c && nat_le c (48 + most)) refl
+  where
+    by_test : (t : Bool) → (nat_le 48 c && nat_le c (48 + most)) ≡ t → digit_at most (c ∷ cs) ≡ None
+    by_test false e = rw e refl
+    by_test true e =
+        let a = and_parts (nat_le 48 c) (nat_le c (48 + most)) e in
+        let from : 48 ≤ c = grind (arith, nat_tests) in
+        let to : c ≤ 48 + most = grind (arith, nat_tests) in
+        let d = digit_value_digit c (from, omega arith) in
+        absurd (stop (omega (arith, d)))
+
+pub digit_is : (most c : ℕ) (bytes rest : Text) → bytes ≡ c ∷ rest → 48 ≤ c → c ≤ 48 + most → digit_at most bytes ≡ Some (c - 48, rest)
+digit_is most c bytes rest is from to =
+    let spelled : c ≡ 48 + (c - 48) = omega arith in
+    ap (digit_at most) (is ∙ ap (λ (x : ℕ). x ∷ rest) spelled) ∙ digit_again most (c - 48) rest (omega arith)
+
+digit_none : (most : ℕ) (bytes : Text) → ((d : ℕ) (rest : Text) → bytes ≡ (48 + d) ∷ rest → d ≤ most → ⊥) → digit_at most bytes ≡ None
+digit_none most bytes never = by_answer (digit_at most bytes) refl
+  where
+    by_answer : (o : Option (ℕ × Text)) → digit_at most bytes ≡ o → digit_at most bytes ≡ None
+    by_answer None e = e
+    by_answer (Some p) e = let f = digit_found most bytes p.0 p.1 e in absurd (never p.0 p.1 f.0 f.1)
+
+pub digit_other : (most c : ℕ) (bytes rest : Text) → bytes ≡ c ∷ rest → (48 ≤ c → c ≤ 48 + most → ⊥) → digit_at most bytes ≡ None
+digit_other most c bytes rest is outside = digit_none most bytes (λ d left e le.
+    let same : c ≡ 48 + d = ap (λ (xs : Text). get_or xs 0 0) (sym is ∙ e) in
+    outside (omega arith) (omega arith))
+
+pub digit_empty : (most : ℕ) (bytes : Text) → length bytes ≡ 0 → digit_at most bytes ≡ None
+digit_empty most bytes none = digit_none most bytes (λ d left e le. omega (arith, ap length e))
+
+-- ---- addresses
+
+first_three : (bytes : Text) → 3 ≤ length bytes → bytes ≡ get_or bytes 0 0 ∷ get_or bytes 1 0 ∷ get_or bytes 2 0 ∷ drop 3 bytes
+first_three [] le = absurd (omega arith)
+first_three (a ∷ []) le = absurd (omega arith)
+first_three (a ∷ b ∷ []) le = absurd (omega arith)
+first_three (a ∷ b ∷ c ∷ bytes) le = refl
+
+pub address_short : (first last : ℕ) (bytes : Text) → length bytes < 3 → address_at first last bytes ≡ None
+unfolding address_at
+address_short first last [] lt = refl
+address_short first last (a ∷ []) lt = refl
+address_short first last (a ∷ b ∷ []) lt = refl
+address_short first last (a ∷ b ∷ c ∷ bytes) lt = absurd (omega arith)
+
+pub address_read : (first last : ℕ) (bytes : Text) (o : Option ℕ) → 3 ≤ length bytes → o ≡ address_in first last (get_or bytes 0 0 ∷ get_or bytes 1 0 ∷ get_or bytes 2 0 ∷ []) → Reads o (drop 3 bytes) (address_at first last bytes)
+unfolding address_at
+address_read first last bytes (Some v) le is = ap (address_at first last) (first_three bytes le) ∙ ap (option_map (λ (n : ℕ). (n, drop 3 bytes))) (sym is)
+address_read first last bytes None le is = ap (address_at first last) (first_three bytes le) ∙ ap (option_map (λ (n : ℕ). (n, drop 3 bytes))) (sym is)
+
+pub address_found : (first last : ℕ) (bytes : Text) (a : ℕ) (rest : Text) → last < ADDRESS_END → address_at first last bytes ≡ Some (a, rest) → (bytes ≡ address_token a ++ rest) × (first ≤ a) × (a ≤ last)
+unfolding address_at
+address_found first last [] a rest small e = absurd (none-some (a, rest) e)
+address_found first last (x ∷ []) a rest small e = absurd (none-some (a, rest) e)
+address_found first last (x ∷ y ∷ []) a rest small e = absurd (none-some (a, rest) e)
+address_found first last (x ∷ y ∷ z ∷ bytes) a rest small e =
+    let m = map_some (λ n. (n, bytes)) (address_in first last (x ∷ y ∷ z ∷ [])) (a, rest) e in
+    let s = some_pair_parts m.0 a bytes rest (ap Some m.2) in
+    let t = address_takes first last (x ∷ y ∷ z ∷ []) m.0 small m.1 in
+    (ap (λ (xs : Text). xs ++ bytes) t.0 ∙ rw (s.0, s.1) refl, subst (λ (k : ℕ). first ≤ k) s.0 t.1, subst (λ (k : ℕ). k ≤ last) s.0 t.2)
+
+pub address_spelled : (first last a : ℕ) (rest : Text) → last < ADDRESS_END → first ≤ a → a ≤ last → address_at first last (address_token a ++ rest) ≡ Some (a, rest)
+unfolding address_at
+address_spelled first last a rest small from to = rw (address_again first last a small from to) refl
+
+-- ---- choices
+
+-- what came where a choice gave a value
+pub chosen : {A B P : Type 0} (f : A → Option B) (o : Option A) (d : Option B) (y : B) → option_map_or f o d ≡ Some y → ((x : A) → o ≡ Some x → f x ≡ Some y → P) → (o ≡ None → d ≡ Some y → P) → P
+chosen f None d y e here there = there refl e
+chosen f (Some x) d y e here there = here x refl e
+
+pub pair_is : {A B : Type 0} {a x : A} {b y : B} → a ≡ x → b ≡ y → ◌≡◌ {A = A × B} (a, b) (x, y)
+pair_is p q = cc
+
+-- ---- keys
+
+two_digits : (u : ℕ) → u ≤ 5 → decimal (10 + u) ≡ 49 ∷ (48 + u) ∷ []
+two_digits u le =
+    let both = digits_of_step 10 (10 + u) (omega arith) (omega arith) ∙ joined ((10 + u) / 10) ((10 + u) % 10) (omega arith) (omega arith) in
+    decimal-digits_of (10 + u) (omega arith) (omega arith) ∙ ap (map (λ d. 48 + d)) both
+  where
+    one : digits_of 10 1 ≡ 1 ∷ []
+    one = digits_of_step 10 1 (omega arith) (omega arith)
+
+    joined : (a b : ℕ) → a ≡ 1 → b ≡ u → digits_of 10 a ++ (b ∷ []) ≡ 1 ∷ u ∷ []
+    joined a b p q = ap (λ (x : ℕ). digits_of 10 x ++ (b ∷ [])) p ∙ ap (λ (xs : Text). xs ++ (b ∷ [])) one ∙ ap (λ (y : ℕ). 1 ∷ y ∷ []) q
+
+abbrev KeyThen : Text → Key × Text → Type 0
+KeyThen bytes p = (bytes ≡ key_token p.0 ++ p.1) × IsKey p.0
+
+one_spelled : (d : ℕ) (bytes rest : Text) → d ≤ 9 → bytes ≡ (48 + d) ∷ rest → KeyThen bytes (At d, rest)
+one_spelled d bytes rest le is = (is ∙ ap (λ (xs : Text). xs ++ rest) (sym (decimal_digit d (omega arith))), omega arith)
+
+ten_step : (t : Bool) (d : ℕ) (bytes left : Text) (k : Key) (rest : Text) → (d == 1) ≡ t → d ≤ 9 → bytes ≡ (48 + d) ∷ left
+    → cond {A = Option (Key × Text)} t (option_map_or (λ u. Some (At (10 + u.0), u.1)) (digit_at 5 left) (Some (At 1, left))) (Some (At d, left)) ≡ Some (k, rest) → KeyThen bytes (k, rest)
+ten_step false d bytes left k rest is le e h =
+    let s = some_pair_parts (At d) k left rest h in
+    subst (KeyThen bytes) (pair_is s.0 s.1) (one_spelled d bytes left le e)
+ten_step true d bytes left k rest is le e h =
+    let one : d ≡ 1 = eqb-true d 1 is in
+    chosen (λ (u : ℕ × Text). Some (At (10 + u.0), u.1)) (digit_at 5 left) (Some (At 1, left)) (k, rest) h
+    (λ u some made.
+    let f = digit_found 5 left u.0 u.1 some in
+    let s = some_pair_parts (At (10 + u.0)) k u.1 rest made in
+    let whole : bytes ≡ key_token (At (10 + u.0)) ++ u.1 = e ∙ rw (one, f.0, two_digits u.0 f.1) refl in
+    subst (KeyThen bytes) (pair_is s.0 s.1) (whole, omega (arith, f.1)))
+    (λ none made.
+    let s = some_pair_parts (At 1) k left rest made in
+    subst (KeyThen bytes) (pair_is s.0 s.1) (one_spelled 1 bytes left (omega arith) (e ∙ rw one refl)))
+
+pub key_found : (bytes : Text) (k : Key) (rest : Text) → key_at bytes ≡ Some (k, rest) → (bytes ≡ key_token k ++ rest) × IsKey k
+unfolding key_at
+key_found bytes k rest e =
+    chosen (λ (d : ℕ × Text). cond {A = Option (Key × Text)} (d.0 == 1) (option_map_or (λ u. Some (At (10 + u.0), u.1)) (digit_at 5 d.1) (Some (At 1, d.1))) (Some (At d.0, d.1))) (digit_at 9 bytes) (option_map (λ (rest : Text). (Any, rest)) (past (codes "any") bytes)) (k, rest) e
+    (λ d some made. let f = digit_found 9 bytes d.0 d.1 some in ten_step (d.0 == 1) d.0 bytes d.1 k rest refl f.1 f.0 made)
+    (λ none made.
+    let m = map_some (λ (rest : Text). (Any, rest)) (past (codes "any") bytes) (k, rest) made in
+    let s = some_pair_parts Any k m.0 rest (ap Some m.2) in
+    let p = past_takes (codes "any") bytes m.0 m.1 in
+    subst (KeyThen bytes) (pair_is s.0 s.1) (p, tt))
+
+one_again : (t : Bool) (d : ℕ) (rest : Text) → (d == 1) ≡ t → d ≤ 9 → NoDigitFirst rest → key_at ((48 + d) ∷ rest) ≡ Some (At d, rest)
+unfolding key_at
+one_again false d rest is le stop = rw (digit_again 9 d rest le, is) refl
+one_again true d rest is le stop = rw (digit_again 9 d rest le, is, no_digit 5 rest (omega arith) stop, eqb-true d 1 is) refl
+
+two_again : (u : ℕ) (rest : Text) → u ≤ 5 → key_at (49 ∷ (48 + u) ∷ rest) ≡ Some (At (10 + u), rest)
+unfolding key_at
+two_again u rest le =
+    let first : digit_at 9 (49 ∷ (48 + u) ∷ rest) ≡ Some (1, (48 + u) ∷ rest) = digit_again 9 1 ((48 + u) ∷ rest) (omega arith) in
+    rw (first, digit_again 5 u rest le) refl
+
+pub key_spelled : (k : Key) (rest : Text) → IsKey k → NoDigitFirst rest → key_at (key_token k ++ rest) ≡ Some (k, rest)
+unfolding key_at digit_at
+key_spelled (At n) rest h stop = by_size (nat_le n 9) refl
+  where
+    by_size : (t : Bool) → nat_le n 9 ≡ t → key_at (decimal n ++ rest) ≡ Some (At n, rest)
+    by_size true e =
+        let le : n ≤ 9 = grind (arith, nat_tests) in
+        rw (decimal_digit n (omega arith)) (one_again (n == 1) n rest refl le stop)
+    by_size false e =
+        let ge : 10 ≤ n = grind (arith, nat_tests) in
+        let is : n ≡ 10 + (n - 10) = omega arith in
+        subst (λ (m : ℕ). key_at (decimal m ++ rest) ≡ Some (At m, rest)) (sym is) (rw (two_digits (n - 10) (omega arith)) (two_again (n - 10) rest (omega arith)))
+key_spelled Any rest h stop = rw (past_again (codes "any") rest) refl

@@ -1,0 +1,288 @@
+//! The fields of a line, read from left to right with the text that stands between them.
+
+ghost use Rattle.std.specs.Prelude.{◌≡◌, ◌↔◌, ◌-◌, ◌≤◌, [], None, Some, IfSome, IfNone, IsTrue, IsFalse, take, drop};
+ghost use Rattle.std.specs.Option.{option_map};
+ghost use Rattle.std.specs.Str.{bytes_eq};
+ghost use Rattle.dvg_cert.specs.Private.Fields.{Reads, LeadsWith, past, natural_at, digit_at, address_at, key_at, number_at, two_at, end_at, span_at, box_at, entry_at};
+
+use crate::entry::{End, Entry, Key, LitBox};
+use crate::limits::{MOST_DEPTH, MOST_MAGNITUDE, MOST_WORDS};
+use crate::numerals::{address_of, leading_number, leading_number_by_digits};
+use std::marker::Model;
+
+/// What is left to read of a line.
+#[derive(Drop)]
+pub struct Fields<'a> {
+    rest: &'a [u8],
+}
+
+impl<'a> Model for Fields<'a> {
+    ghost use Rattle.std.specs.Prelude.{ℕ, List};
+
+    ghost Value = { List ℕ };
+
+    ghost view = { λ s. s.rest.now };
+}
+
+impl<'a> Fields<'a> {
+    /// The fields of a line.
+    #[inline(always)]
+    pub fn new(line: &'a [u8]) -> Self
+        ensures { result ≡ line.now }
+    {
+        Fields { rest: line }
+    }
+
+    /// Whether nothing is left.
+    #[inline(always)]
+    pub fn is_empty(&self) -> bool
+        ensures { result ≡ bytes_eq self.now [] }
+    {
+        self.rest.is_empty()
+    }
+
+    /// Takes this text where it comes next, and answers whether it does. Else nothing is taken.
+    #[inline(always)]
+    fn takes<const N: usize>(&mut self, text: &[u8; N]) -> bool
+        ensures yes { IsTrue result → past text.now self.old ≡ Some self.new }
+        ensures no { IsFalse result → (self.new ≡ self.old) × (past text.now self.old ≡ None) }
+    {
+        match after_text(self.rest, text) {
+            Some(rest) => {
+                self.rest = rest;
+                true
+            }
+            None => false,
+        }
+    }
+
+    /// Takes this text.
+    #[inline(always)]
+    pub fn text<const N: usize>(&mut self, text: &[u8; N]) -> Option<()>
+        ensures some { IfSome result (λ u. past text.now self.old ≡ Some self.new) }
+        ensures none { IfNone result (past text.now self.old ≡ None) }
+    {
+        if self.takes(text) { Some(()) } else { None }
+    }
+
+    /// Takes a number from `low` to `high`, which was read from what is left.
+    #[inline(always)]
+    fn natural_of(&mut self, read: Option<(u64, &'a [u8])>, low: u64, high: u64) -> Option<u64>
+        requires read { LeadsWith (λ rest. rest.now) self.old read }
+        requires high { high ≤ MOST_MAGNITUDE }
+        ensures value { Reads result self.new (natural_at low high self.old) }
+        ensures within { IfSome result (λ n. n ≤ high) }
+    {
+        let (number, rest) = read?;
+        if number < low || high < number {
+            return None;
+        }
+        self.rest = rest;
+        Some(number)
+    }
+
+    /// Takes a number from `low` to `high`, of few digits most often.
+    #[inline(always)]
+    pub fn natural(&mut self, low: u64, high: u64) -> Option<u64>
+        requires { high ≤ MOST_MAGNITUDE }
+        ensures value { Reads result self.new (natural_at low high self.old) }
+        ensures within { IfSome result (λ n. n ≤ high) }
+    {
+        self.natural_of(leading_number_by_digits(self.rest), low, high)
+    }
+
+    /// Takes a digit from 0 to `most`. Else nothing is taken.
+    #[inline(always)]
+    fn digit(&mut self, most: u8) -> Option<u8>
+        requires { most ≤ 9 }
+        ensures value { Reads result self.new (digit_at most self.old) }
+        ensures within { IfSome result (λ d. d ≤ most) }
+        ensures none { IfNone result (self.new ≡ self.old) }
+    {
+        let (first, rest) = self.rest.split_first()?;
+        if *first < b'0' || b'0' + most < *first {
+            return None;
+        }
+        self.rest = rest;
+        Some(*first - b'0')
+    }
+
+    /// Takes a scale, or any.
+    #[tactic(auto, unfolding(crate::specs::Private::Fields::key_at))]
+    #[inline(always)]
+    fn key(&mut self) -> Option<Key>
+        ensures { Reads result self.new (key_at self.old) }
+    {
+        match self.digit(9) {
+            Some(1) => match self.digit(5) {
+                Some(unit) => Some(Key::At(10 + unit)),
+                None => Some(Key::At(1)),
+            },
+            Some(scale) => Some(Key::At(scale)),
+            None => {
+                self.text(b"any")?;
+                Some(Key::Any)
+            }
+        }
+    }
+
+    /// Takes an address from `first` to `last`.
+    #[inline(always)]
+    fn address(&mut self, first: u16, last: u16) -> Option<u16>
+        ensures { Reads result self.new (address_at first last self.old) }
+    {
+        let [a, b, c, rest @ ..] = self.rest else {
+            return None;
+        };
+        self.rest = rest;
+        address_of(*a, *b, *c, first, last)
+    }
+
+    /// Takes a number of an end or a box.
+    #[tactic(auto, unfolding(crate::specs::Private::Fields::number_at))]
+    #[inline(always)]
+    fn number(&mut self) -> Option<i64>
+        ensures { Reads result self.new (number_at self.old) }
+    {
+        if self.takes(b"0") {
+            return Some(0);
+        }
+        let below_zero = self.takes(b"-");
+        let magnitude = self.natural_of(leading_number(self.rest), 1, MOST_MAGNITUDE)? as i64;
+        Some(if below_zero { -magnitude } else { magnitude })
+    }
+
+    /// Takes two numbers with a space between.
+    #[tactic(auto, unfolding(crate::specs::Private::Fields::two_at))]
+    #[inline(always)]
+    fn two(&mut self) -> Option<(i64, i64)>
+        ensures { Reads result self.new (two_at self.old) }
+    {
+        let x = self.number()?;
+        self.text(b" ")?;
+        let y = self.number()?;
+        Some((x, y))
+    }
+
+    /// Takes an end.
+    #[tactic(auto, unfolding(crate::specs::Private::Fields::end_at))]
+    #[inline(always)]
+    fn end(&mut self) -> Option<End>
+        ensures { Reads result self.new (end_at self.old) }
+    {
+        if self.takes(b"rel ") {
+            let (x, y) = self.two()?;
+            return Some(End::Rel { x, y });
+        }
+        if self.takes(b"abs ") {
+            let (x, y) = self.two()?;
+            return Some(End::Abs { x, y });
+        }
+        self.text(b"lost")?;
+        Some(End::Lost)
+    }
+
+    /// Takes a box of four numbers.
+    #[tactic(auto, unfolding(crate::specs::Private::Fields::span_at))]
+    #[inline(always)]
+    fn span(&mut self) -> Option<LitBox>
+        ensures { Reads result self.new (span_at self.old) }
+    {
+        let (x_min, x_max) = self.two()?;
+        self.text(b" ")?;
+        let (y_min, y_max) = self.two()?;
+        if x_min <= x_max && y_min <= y_max {
+            Some(LitBox::Span {
+                x_min,
+                x_max,
+                y_min,
+                y_max,
+            })
+        } else {
+            None
+        }
+    }
+
+    /// Takes a box.
+    #[tactic(auto, unfolding(crate::specs::Private::Fields::box_at))]
+    #[inline(always)]
+    fn lit(&mut self) -> Option<LitBox>
+        ensures { Reads result self.new (box_at self.old) }
+    {
+        if self.takes(b"none") {
+            return Some(LitBox::Empty);
+        }
+        self.span()
+    }
+
+    /// Takes an entry of a ROM from word address `first` to `last`.
+    #[tactic(auto, unfolding(crate::specs::Private::Fields::entry_at))]
+    #[inline(always)]
+    pub fn entry(&mut self, first: u16, last: u16) -> Option<Entry>
+        ensures { Reads result self.new (entry_at first last self.old) }
+    {
+        self.text(b"shape ")?;
+        let addr = self.address(first, last)?;
+        self.text(b" ")?;
+        let key = self.key()?;
+        self.text(b" end ")?;
+        let stop = self.end()?;
+        self.text(b" box ")?;
+        let lit = self.lit()?;
+        self.text(b" depth ")?;
+        let depth = self.digit(MOST_DEPTH)?;
+        self.text(b" words ")?;
+        let words = self.natural(1, u64::from(MOST_WORDS))? as u32;
+        self.text(b" scale ")?;
+        let scale = self.key()?;
+        Some(Entry {
+            addr,
+            key,
+            stop,
+            lit,
+            depth,
+            words,
+            scale,
+        })
+    }
+}
+
+/// The bytes after this text, where they begin with it.
+#[inline(always)]
+fn after_text<'a, const N: usize>(bytes: &'a [u8], text: &[u8; N]) -> Option<&'a [u8]>
+    ensures { past text.now bytes.now ≡ option_map (λ rest. rest.now) result }
+{
+    let (prefix, rest) = bytes.split_first_chunk::<N>()?;
+    if is_same(prefix, text) {
+        Some(rest)
+    } else {
+        None
+    }
+}
+
+/// Whether two texts are the same. Of five to eight bytes the first four are compared and the last four, as words.
+#[inline(always)]
+fn is_same<const N: usize>(a: &[u8; N], b: &[u8; N]) -> bool
+    ensures { IsTrue result ↔ (a.now ≡ b.now) }
+{
+    if N < 4 || 8 < N {
+        return a == b;
+    }
+    first_four(a) == first_four(b) && last_four(a) == last_four(b)
+}
+
+#[inline(always)]
+fn first_four<const N: usize>(text: &[u8; N]) -> &[u8; 4]
+    requires { 4 ≤ N }
+    ensures { result.now ≡ take 4 text.now }
+{
+    text.first_chunk::<4>().unwrap()
+}
+
+#[inline(always)]
+fn last_four<const N: usize>(text: &[u8; N]) -> &[u8; 4]
+    requires { 4 ≤ N }
+    ensures { result.now ≡ drop (N - 4) text.now }
+{
+    text.last_chunk::<4>().unwrap()
+}
