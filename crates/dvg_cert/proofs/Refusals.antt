@@ -4,8 +4,9 @@ use Rattle.std.proofs.lemmas.List.{append-nil, length-append, length-take-le}
 use Rattle.std.proofs.lemmas.Bool.Decides.{nat_tests}
 use Rattle.dvg_cert.specs.Limits.{LONGEST_LINE, LINE_FEED}
 use Rattle.dvg_cert.specs.Entry.{Entry}
+use Rattle.dvg_cert.specs.Order.{IsCertificate}
 use Rattle.dvg_cert.specs.Grammar.{entry_line, first_line, begun_with, text_of, ended}
-use Rattle.dvg_cert.specs.Reading.{IsRefusal, Nothing, Begun, Whole, Taken, Without, text_taken, line_number, IsTaken, IsUnended, IsRest, Holds, Meets}
+use Rattle.dvg_cert.specs.Reading.{IsRefusal, HasEntryAt, Nothing, Begun, Whole, Taken, Without, text_taken, line_number, IsTaken, IsUnended, IsRest, Holds, Meets}
 use Rattle.dvg_cert.specs.Private.Progress.{IsLineRefused, EndsLine, taken_of, IsStaged}
 use Rattle.dvg_cert.specs.declared.fault.CertFault.{CertFault}
 use Rattle.dvg_cert.specs.declared.fault.CertWhy.{CertWhy}
@@ -152,3 +153,17 @@ line_refused why first last taken begun rest prefix after h u r e free short w =
     let f = line_fault why first last taken (begun ++ prefix) after h u (Without-append LINE_FEED begun prefix s.0 free) (omega (arith, length-append begun prefix)) w in
     let parts : text_taken taken ++ (begun ++ rest) ≡ text_taken taken ++ ((begun ++ prefix) ++ LINE_FEED ∷ after) = ap (λ (t : List ℕ). text_taken taken ++ t) (ap (λ (t : List ℕ). begun ++ t) e ∙ sym (append_assoc begun prefix (LINE_FEED ∷ after))) in
     subst (λ (t : List ℕ). IsRefusal first last t (line_number taken) why × (why ≢ Unended)) (sym parts) f
+
+-- ---- the entry whose line stands first
+
+pub ended_taken : (es new : List Entry) (e : Entry) (bytes after : List ℕ) → bytes ≡ ended (entry_line e) ++ after → new ≡ es ++ e ∷ [] → (begun_with es ++ bytes ≡ begun_with new ++ after) × (length after < length bytes)
+ended_taken es new e bytes after is grown = (
+  ap (λ (xs : List ℕ). begun_with es ++ xs) is ∙ sym (append_assoc (begun_with es) (ended (entry_line e)) after)
+      ∙ ap (λ (xs : List ℕ). xs ++ after) (sym (entry_taken es (entry_line e) e refl)) ∙ ap (λ (n : List Entry). begun_with n ++ after) (sym grown),
+  omega (arith, ap length is, length-append (ended (entry_line e)) after, length-append (entry_line e) (LINE_FEED ∷ [])),
+)
+
+pub ended_refused : (first last : ℕ) (es : List Entry) (e : Entry) (bytes after : List ℕ) → bytes ≡ ended (entry_line e) ++ after → IsCertificate first last (es ++ e ∷ []) → HasEntryAt first last (begun_with es ++ bytes) (length es + 2)
+ended_refused first last es e bytes after is fits =
+    let more = length-append es (e ∷ []) in
+    (es ++ e ∷ [], after, fits, omega (arith, more), (ended_taken es (es ++ e ∷ []) e bytes after is refl).0, omega (arith, more))

@@ -12,9 +12,9 @@ use Rattle.std.proofs.lemmas.Int.{ints}
 use Rattle.std.proofs.lemmas.List.{append-nil}
 use Rattle.std.proofs.lemmas.Option.{cond_some, some_pair_parts, none-some, option_and_then_some}
 use Rattle.std.proofs.lemmas.Str.Parse.{digit_from_value}
-use Rattle.dvg_cert.specs.Limits.{MOST_ENTRIES, MOST_DEPTH, MOST_WORDS, MOST_MAGNITUDE, ADDRESS_END, SPACE}
+use Rattle.dvg_cert.specs.Limits.{MOST_ENTRIES, MOST_DEPTH, MOST_WORDS, MOST_MAGNITUDE, LINE_FEED, ADDRESS_END, SPACE}
 use Rattle.dvg_cert.specs.Entry.{End, Rel, Abs, Lost, LitBox, Empty, Span, Entry, IsNumber, IsEnd, IsBox, IsEntry}
-use Rattle.dvg_cert.specs.Grammar.{address_token, key_token, end_tokens, box_tokens, entry_line, done_line}
+use Rattle.dvg_cert.specs.Grammar.{address_token, key_token, end_tokens, box_tokens, entry_line, done_line, ended}
 use Rattle.dvg_cert.specs.Reading.{Line, EntryLine, DoneLine, IsLine}
 use Rattle.dvg_cert.specs.Private.Fields.{◌>>=◌, NoDigitFirst, past, natural_at, digit_at, number_at, two_at, end_at, span_at, box_at, entry_at, done_at, nothing_left}
 use Rattle.dvg_cert.proofs.FieldValues.{first_digit, map_some, negated, same_bytes}
@@ -60,6 +60,10 @@ entry_joined e =
     ∙ ap before (end_joined e.stop (codes "box") (box_tokens e.lit ++ codes "depth" ∷ last))
     ∙ ap (λ (xs : Text). before (codes "end " ++ (end_text e.stop ++ (codes " " ++ xs)))) (box_joined e.lit (codes "depth") last)
     ∙ rw (append-nil (key_token e.scale)) refl
+
+-- an entry's fields, and what follows its line
+fields_then : (e : Entry) (rest : Text) → fields_text e rest ≡ entry_line e ++ rest
+fields_then e rest = sym (ap (λ (line : Text). line ++ rest) (entry_joined e) ∙ simp append_assoc)
 
 -- ---- numbers
 
@@ -351,6 +355,12 @@ count_again bytes n few is =
     let number : natural_at 0 MOST_ENTRIES (decimal n) ≡ Some (n, []) = ap (natural_at 0 MOST_ENTRIES) (sym (append-nil (decimal n))) ∙ natural_again 0 MOST_ENTRIES n [] (omega (arith, few)) (omega arith) few tt in
     let done : past (codes "done ") bytes ≡ Some (decimal n) = ap (past (codes "done ")) is ∙ past_again (codes "done ") (decimal n) in
     rw (done, number) refl
+
+-- the line of an entry, with its end, that stands first
+pub entry_ended : (first last : ℕ) (bytes : Text) (e : Entry) (rest after : Text) → last < ADDRESS_END → entry_at first last bytes ≡ Some (e, rest) → past (LINE_FEED ∷ []) rest ≡ Some after → IsEntry first last e × (bytes ≡ ended (entry_line e) ++ after)
+entry_ended first last bytes e rest after small h is =
+    let t = entry_found first last bytes e rest small h in
+    (t.1, t.0 ∙ fields_then e rest ∙ ap (λ (xs : Text). entry_line e ++ xs) (past_takes (LINE_FEED ∷ []) rest after is) ∙ sym (append_assoc (entry_line e) (LINE_FEED ∷ []) after))
 
 -- ---- what a line says, and that it says only one thing
 

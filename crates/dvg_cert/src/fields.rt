@@ -33,6 +33,14 @@ impl<'a> Fields<'a> {
         Fields { rest: line }
     }
 
+    /// The bytes that are left.
+    #[inline(always)]
+    pub fn rest(&self) -> &'a [u8]
+        ensures { result.now ≡ self.now }
+    {
+        self.rest
+    }
+
     /// Whether nothing is left.
     #[inline(always)]
     pub fn is_empty(&self) -> bool
@@ -167,7 +175,7 @@ impl<'a> Fields<'a> {
     /// Takes an end.
     #[tactic(auto, unfolding(crate::specs::Private::Fields::end_at))]
     #[inline(always)]
-    fn end(&mut self) -> Option<End>
+    fn read_end(&mut self) -> Option<End>
         ensures { Reads result self.new (end_at self.old) }
     {
         if self.takes(b"rel ") {
@@ -206,13 +214,33 @@ impl<'a> Fields<'a> {
     /// Takes a box.
     #[tactic(auto, unfolding(crate::specs::Private::Fields::box_at))]
     #[inline(always)]
-    fn lit(&mut self) -> Option<LitBox>
+    fn read_lit(&mut self) -> Option<LitBox>
         ensures { Reads result self.new (box_at self.old) }
     {
         if self.takes(b"none") {
             return Some(LitBox::Empty);
         }
         self.span()
+    }
+
+    /// Takes an end, by a function of its own.
+    #[inline(always)]
+    fn end(&mut self) -> Option<End>
+        ensures { Reads result self.new (end_at self.old) }
+    {
+        let (stop, rest) = end_and_rest(self.rest)?;
+        self.rest = rest;
+        Some(stop)
+    }
+
+    /// Takes a box, by a function of its own.
+    #[inline(always)]
+    fn lit(&mut self) -> Option<LitBox>
+        ensures { Reads result self.new (box_at self.old) }
+    {
+        let (lit, rest) = lit_and_rest(self.rest)?;
+        self.rest = rest;
+        Some(lit)
     }
 
     /// Takes an entry of a ROM from word address `first` to `last`.
@@ -245,6 +273,26 @@ impl<'a> Fields<'a> {
             scale,
         })
     }
+}
+
+/// The end that bytes begin with, and the bytes after it. They go by value, so that they stay in registers.
+#[inline(never)]
+fn end_and_rest(bytes: &[u8]) -> Option<(End, &[u8])>
+    ensures { end_at bytes.now ≡ option_map (λ read. (read.0, read.1.now)) result }
+{
+    let mut fields = Fields::new(bytes);
+    let stop = fields.read_end()?;
+    Some((stop, fields.rest))
+}
+
+/// The box that bytes begin with, and the bytes after it.
+#[inline(never)]
+fn lit_and_rest(bytes: &[u8]) -> Option<(LitBox, &[u8])>
+    ensures { box_at bytes.now ≡ option_map (λ read. (read.0, read.1.now)) result }
+{
+    let mut fields = Fields::new(bytes);
+    let lit = fields.read_lit()?;
+    Some((lit, fields.rest))
 }
 
 /// The bytes after this text, where they begin with it.

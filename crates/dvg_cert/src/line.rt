@@ -1,24 +1,36 @@
 //! What a whole line after the first says.
 
-ghost use Rattle.std.specs.Prelude.{◌≡◌, ℕ, ◌<◌, ◌≤◌, IfSome, IfNone};
-ghost use Rattle.dvg_cert.specs.Entry.{Entry as EntryValue};
-ghost use Rattle.dvg_cert.specs.Grammar.{done_line};
+ghost use Rattle.std.specs.Prelude.{◌≡◌, ℕ, ◌<◌, ◌≤◌, ◌++◌, IfSome, IfNone};
+ghost use Rattle.std.specs.Option.{option_map};
+ghost use Rattle.dvg_cert.specs.Entry.{Entry as EntryValue, IsEntry};
+ghost use Rattle.dvg_cert.specs.Grammar.{done_line, ended, entry_line};
 ghost use Rattle.dvg_cert.specs.Reading.{EntryLine, IsLine};
 ghost use Rattle.dvg_cert.specs.Private.Fields.{done_at, entry_at, nothing_left};
 
 use crate::entry::Entry;
 use crate::fields::Fields;
-use crate::limits::MOST_ENTRIES;
+use crate::limits::{LINE_FEED, MOST_ENTRIES};
 use dvg_words::ADDRESS_END;
 
 /// The entry that a line says, for a ROM from word address `first` to `last`. The line comes without its end.
-#[inline(always)]
 pub fn entry_of(line: &[u8], first: u16, last: u16) -> Option<Entry>
     requires { last < ADDRESS_END }
     ensures found { IfSome result (λ e. IsLine first last (EntryLine e) line.now) }
     ensures none { IfNone result ((e : EntryValue) → IsLine first last (EntryLine e) line.now → ⊥) }
 {
     whole_entry(line, first, last)
+}
+
+/// The entry whose line, with its end, bytes begin with, and the bytes after it.
+#[inline(always)]
+pub fn ended_entry(bytes: &[u8], first: u16, last: u16) -> Option<(Entry, &[u8])>
+    requires { last < ADDRESS_END }
+    ensures { IfSome result (λ read. IsEntry first last read.0 × (bytes.now ≡ ended (entry_line read.0) ++ read.1.now)) }
+{
+    let (entry, rest) = leading_entry(bytes, first, last)?;
+    let mut fields = Fields::new(rest);
+    fields.text(&[LINE_FEED])?;
+    Some((entry, fields.rest()))
 }
 
 /// The number of entries that a line says. The line comes without its end.
@@ -39,11 +51,19 @@ fn whole_count(line: &[u8]) -> Option<u16>
     if fields.is_empty() { Some(count) } else { None }
 }
 
-#[inline(never)]
 fn whole_entry(line: &[u8], first: u16, last: u16) -> Option<Entry>
     ensures { result ≡ nothing_left (entry_at first last line.now) }
 {
-    let mut fields = Fields::new(line);
+    let (entry, rest) = leading_entry(line, first, last)?;
+    if rest.is_empty() { Some(entry) } else { None }
+}
+
+/// The entry that bytes begin with, and the bytes after it.
+#[inline(never)]
+fn leading_entry(bytes: &[u8], first: u16, last: u16) -> Option<(Entry, &[u8])>
+    ensures { entry_at first last bytes.now ≡ option_map (λ read. (read.0, read.1.now)) result }
+{
+    let mut fields = Fields::new(bytes);
     let entry = fields.entry(first, last)?;
-    if fields.is_empty() { Some(entry) } else { None }
+    Some((entry, fields.rest()))
 }

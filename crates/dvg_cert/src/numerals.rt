@@ -96,13 +96,6 @@ pub fn leading_number(bytes: &[u8]) -> Option<(u64, &[u8])>
     let Some(window) = bytes.first_chunk::<16>() else {
         return leading_number_by_digits(bytes);
     };
-    // Many numbers have one digit.
-    let digit = bytes[0].wrapping_sub(b'0');
-    if digit <= 9 {
-        if bytes[1].wrapping_sub(b'0') > 9 {
-            return digits_taken(bytes, 1, u64::from(digit));
-        }
-    }
     let count = leading_digits(window);
     if count == 0 {
         return None;

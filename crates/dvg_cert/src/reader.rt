@@ -100,9 +100,32 @@ fn take_piece(lines: &mut TakenLines, begun: &mut LineBuffer, piece: &[u8]) -> R
     Ok(())
 }
 
-/// Takes the next line of a piece and gives what follows it, or keeps all of the piece where no line ends in it.
+/// Takes the next line of a piece and gives what follows it, or keeps all of the piece where no line ends in it. Most lines are
+/// those of entries that can come next, with no need to look for their end first.
 #[inline(always)]
 fn take_next<'a>(
+    lines: &mut TakenLines,
+    begun: &mut LineBuffer,
+    rest: &'a [u8],
+) -> Result<Option<&'a [u8]>, CertFault>
+    requires taken { IsTaken asteroids.rom_first asteroids.rom_last lines.old }
+    requires begun { IsRest lines.old begun.old.items }
+    ensures { TakesNext (λ x. x.now) asteroids.rom_first asteroids.rom_last lines.old begun.old.items rest.now lines.new begun.new.items result }
+{
+    if begun.is_empty() {
+        let line = lines.line_number();
+        match lines.take_first(rest) {
+            Ok(Some(after)) => return Ok(Some(after)),
+            Ok(None) => {}
+            Err(why) => return Err(CertFault { line, why }),
+        }
+    }
+    take_any(lines, begun, rest)
+}
+
+/// The same for any line.
+#[inline(never)]
+fn take_any<'a>(
     lines: &mut TakenLines,
     begun: &mut LineBuffer,
     rest: &'a [u8],

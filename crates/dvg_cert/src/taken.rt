@@ -5,14 +5,14 @@ ghost use Rattle.dvg_cert.specs.declared.fault.CertWhy.TheVariants.{Unended};
 ghost use Rattle.dvg_words.specs.Values.{asteroids};
 ghost use Rattle.dvg_cert.specs.Entry.{IsEntry};
 ghost use Rattle.dvg_cert.specs.Order.{IsCertificate};
-ghost use Rattle.dvg_cert.specs.Reading.{Nothing, Whole, IsUnended, IsTaken, line_number};
-ghost use Rattle.dvg_cert.specs.Private.Progress.{TakesEntry, TakesLine, TakesLater};
+ghost use Rattle.dvg_cert.specs.Reading.{Nothing, Begun, Whole, IsUnended, IsTaken, line_number};
+ghost use Rattle.dvg_cert.specs.Private.Progress.{TakesEntry, TakesFirst, TakesLine, TakesLater};
 
 use crate::certificate::{Cert, certificate_unchecked, stands_after};
 use crate::entry::Entry;
 use crate::fault::{CertFault, CertWhy};
 use crate::limits::MOST_ENTRIES;
-use crate::line::{count_of, entry_of};
+use crate::line::{count_of, ended_entry, entry_of};
 use dvg_words::{ROM_FIRST, ROM_LAST};
 use std::alloc::Global;
 use std::marker::Model;
@@ -100,6 +100,19 @@ impl TakenLines {
         }
     }
 
+    /// Takes the entry whose line, with its end, these bytes begin with, and gives the bytes after it. Takes nothing where no
+    /// such line stands there, or its entry can't come next.
+    #[inline(always)]
+    pub fn take_first<'a>(&mut self, bytes: &'a [u8]) -> Result<Option<&'a [u8]>, CertWhy>
+        ensures { TakesFirst (λ x. x.now) asteroids.rom_first asteroids.rom_last self.old bytes.now self.new result }
+    {
+        match self.stage {
+            Stage::First => Ok(None),
+            Stage::Later => take_first_entry(&mut self.entries, bytes),
+            Stage::Ended => Ok(None),
+        }
+    }
+
     /// The certificate, where the last line was taken.
     pub fn finish(self) -> Result<Cert, CertFault>
         ensures whole { IfOk result (λ cert. (self ≡ Whole asteroids.rom_first asteroids.rom_last cert) × IsCertificate asteroids.rom_first asteroids.rom_last cert) }
@@ -113,6 +126,26 @@ impl TakenLines {
                 why: CertWhy::Unended,
             }),
         }
+    }
+}
+
+/// Takes the entry whose line, with its end, these bytes begin with, where it can come next, and gives the bytes after it.
+#[inline(always)]
+fn take_first_entry<'a>(
+    entries: &mut Vec<Entry>,
+    bytes: &'a [u8],
+) -> Result<Option<&'a [u8]>, CertWhy>
+    requires { IsCertificate asteroids.rom_first asteroids.rom_last entries.old.items }
+    ensures certificate { IsCertificate asteroids.rom_first asteroids.rom_last entries.new.items }
+    ensures takes { TakesFirst (λ x. x.now) asteroids.rom_first asteroids.rom_last (Begun asteroids.rom_first asteroids.rom_last entries.old.items) bytes.now (Begun asteroids.rom_first asteroids.rom_last entries.new.items) result }
+{
+    let Some((entry, after)) = ended_entry(bytes, ROM_FIRST, ROM_LAST) else {
+        return Ok(None);
+    };
+    match take_entry(entries, entry) {
+        Ok(()) => Ok(Some(after)),
+        Err(CertWhy::Memory) => Err(CertWhy::Memory),
+        Err(_) => Ok(None),
     }
 }
 

@@ -10,7 +10,7 @@ use Rattle.dvg_cert.specs.declared.taken.Stage.TheVariants.{First, Later, Ended}
 use Rattle.dvg_cert.specs.Entry.{Entry}
 use Rattle.dvg_cert.specs.Order.{IsCertificate, StandsAfter}
 use Rattle.dvg_cert.specs.Grammar.{ended, begun_with, text_of}
-use Rattle.dvg_cert.specs.Reading.{Taken, Nothing, Begun, Whole, text_taken, IsTaken, Without, IsRest, Holds, IsWrong, IsLine, IsRefusal}
+use Rattle.dvg_cert.specs.Reading.{Taken, Nothing, Begun, Whole, text_taken, line_number, HasEntryAt, IsTaken, Without, IsRest, Holds, IsWrong, IsLine, IsRefusal}
 use Rattle.dvg_cert.specs.Stream.{Stream, Open, Refused}
 
 -- the lines that were taken, by the stage and the entries
@@ -57,6 +57,12 @@ TakesLater first last old line new (Ok First) = ⊥
 TakesLater first last old line new (Ok Later) = IsCertificate first last new × (begun_with new ≡ begun_with old ++ ended line)
 TakesLater first last old line new (Ok Ended) = IsCertificate first last new × (text_of new ≡ begun_with old ++ ended line)
 TakesLater first last old line new (Err why) = IsCertificate first last new × IsLineRefused (Begun first last old) line why
+
+-- what taking the entry does whose line, with its end, stands first; `bytes` sees what is left as its bytes
+abbrev pub TakesFirst : {X : Type 0} → (X → List ℕ) → ℕ → ℕ → Taken → List ℕ → Taken → Result (Option X) CertWhy → Type 0
+TakesFirst bytes first last old rest new (Ok None) = new ≡ old
+TakesFirst bytes first last old rest new (Ok (Some after)) = IsTaken first last new × (text_taken old ++ rest ≡ text_taken new ++ bytes after) × (length (bytes after) < length rest)
+TakesFirst bytes first last old rest new (Err why) = (why ≡ Memory) × HasEntryAt first last (text_taken old ++ rest) (line_number old)
 
 -- where the next line ends, which may have fewer than `room` bytes
 abbrev pub EndsLine : ℕ → List ℕ → Result (Option ℕ) CertWhy → Type 0

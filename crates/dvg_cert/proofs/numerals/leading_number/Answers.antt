@@ -21,17 +21,11 @@ pub number_of_digits-requires-clause-digits : goal.number_of_digits-requires-cla
 number_of_digits-requires-clause-digits c =
     window_digits c.leading_digits-count.result c.args.bytes.now c.leading_digits-count.ensures.few (rw c.in-Some.ensures.cases.same at c.leading_digits-count.ensures.digits)
 
-pub digits_taken-requires-2-clause-digits : goal.digits_taken-requires-2-clause-digits
-digits_taken-requires-2-clause-digits c =
+pub digits_taken-requires-clause-digits : goal.digits_taken-requires-clause-digits
+digits_taken-requires-clause-digits c =
     window_digits c.leading_digits-count.result c.args.bytes.now c.leading_digits-count.ensures.few (rw c.in-Some.ensures.cases.same at c.leading_digits-count.ensures.digits)
 
-pub digits_taken-requires-2-clause-all : goal.digits_taken-requires-2-clause-all
-digits_taken-requires-2-clause-all c =
+pub digits_taken-requires-clause-all : goal.digits_taken-requires-clause-all
+digits_taken-requires-clause-all c =
     let long = c.in-Some.ensures.variant.0 refl in
     window_ends c.leading_digits-count.result c.args.bytes.now long (omega arith) (rw c.in-Some.ensures.cases.same at (c.leading_digits-count.ensures.end (omega arith)))
-
-pub digits_taken-requires-clause-digits : goal.digits_taken-requires-clause-digits
-digits_taken-requires-clause-digits c = (alone c.args.bytes.now (omega (arith, c.in-Some.ensures.variant.0 refl)) (c.type_inv.bytes 0).fits (c.type_inv.bytes 1).fits c.if-digit-le9.true c.if-bytes-gt9.true).0
-
-pub digits_taken-requires-clause-all : goal.digits_taken-requires-clause-all
-digits_taken-requires-clause-all c = (alone c.args.bytes.now (omega (arith, c.in-Some.ensures.variant.0 refl)) (c.type_inv.bytes 0).fits (c.type_inv.bytes 1).fits c.if-digit-le9.true c.if-bytes-gt9.true).1
