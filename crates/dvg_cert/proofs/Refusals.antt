@@ -154,16 +154,20 @@ line_refused why first last taken begun rest prefix after h u r e free short w =
     let parts : text_taken taken ++ (begun ++ rest) ≡ text_taken taken ++ ((begun ++ prefix) ++ LINE_FEED ∷ after) = ap (λ (t : List ℕ). text_taken taken ++ t) (ap (λ (t : List ℕ). begun ++ t) e ∙ sym (append_assoc begun prefix (LINE_FEED ∷ after))) in
     subst (λ (t : List ℕ). IsRefusal first last t (line_number taken) why × (why ≢ Unended)) (sym parts) f
 
--- ---- the entry whose line stands first
+-- ---- entries whose lines stand first
 
-pub ended_taken : (es new : List Entry) (e : Entry) (bytes after : List ℕ) → bytes ≡ ended (entry_line e) ++ after → new ≡ es ++ e ∷ [] → (begun_with es ++ bytes ≡ begun_with new ++ after) × (length after < length bytes)
-ended_taken es new e bytes after is grown = (
-  ap (λ (xs : List ℕ). begun_with es ++ xs) is ∙ sym (append_assoc (begun_with es) (ended (entry_line e)) after)
-      ∙ ap (λ (xs : List ℕ). xs ++ after) (sym (entry_taken es (entry_line e) e refl)) ∙ ap (λ (n : List Entry). begun_with n ++ after) (sym grown),
-  omega (arith, ap length is, length-append (ended (entry_line e)) after, length-append (entry_line e) (LINE_FEED ∷ [])),
-)
+pub ended_taken : (old es new : List Entry) (e : Entry) (bytes rest after : List ℕ) → begun_with old ++ bytes ≡ begun_with es ++ rest → rest ≡ ended (entry_line e) ++ after → new ≡ es ++ e ∷ [] → (begun_with old ++ bytes ≡ begun_with new ++ after) × (length after < length rest)
+ended_taken old es new e bytes rest after so_far is grown =
+    (so_far ∙ ap (λ (xs : List ℕ). begun_with es ++ xs) is ∙ sym (append_assoc (begun_with es) (ended (entry_line e)) after)
+    ∙ ap (λ (xs : List ℕ). xs ++ after) (sym (entry_taken es (entry_line e) e refl)) ∙ ap (λ (n : List Entry). begun_with n ++ after) (sym grown),
+     omega (arith, ap length is, length-append (ended (entry_line e)) after, length-append (entry_line e) (LINE_FEED ∷ [])))
 
-pub ended_refused : (first last : ℕ) (es : List Entry) (e : Entry) (bytes after : List ℕ) → bytes ≡ ended (entry_line e) ++ after → IsCertificate first last (es ++ e ∷ []) → HasEntryAt first last (begun_with es ++ bytes) (length es + 2)
-ended_refused first last es e bytes after is fits =
+pub ended_refused : (first last : ℕ) (old es : List Entry) (e : Entry) (bytes rest after : List ℕ) → begun_with old ++ bytes ≡ begun_with es ++ rest → rest ≡ ended (entry_line e) ++ after → IsCertificate first last (es ++ e ∷ []) → HasEntryAt first last (begun_with old ++ bytes) (length es + 2)
+ended_refused first last old es e bytes rest after so_far is fits =
     let more = length-append es (e ∷ []) in
-    (es ++ e ∷ [], after, fits, omega (arith, more), (ended_taken es (es ++ e ∷ []) e bytes after is refl).0, omega (arith, more))
+    (es ++ e ∷ [], after, fits, omega (arith, more), (ended_taken old es (es ++ e ∷ []) e bytes rest after so_far is refl).0, omega (arith, more))
+
+pub no_rest : (taken : Taken) → IsRest taken []
+no_rest Nothing = (tt, omega arith)
+no_rest (Begun from to es) = (tt, omega arith)
+no_rest (Whole from to es) = refl

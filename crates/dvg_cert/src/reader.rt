@@ -5,7 +5,7 @@ ghost use Rattle.dvg_words.specs.Values.{asteroids};
 ghost use Rattle.dvg_cert.specs.declared.fault.CertWhy.TheVariants.{After};
 ghost use Rattle.dvg_cert.specs.Reading.{IsTaken, IsRest, IsUnended, ReadAnswer};
 ghost use Rattle.dvg_cert.specs.Stream.{Open, FeedsTo, FinishesTo};
-ghost use Rattle.dvg_cert.specs.Private.Progress.{EndsLine, TakesLine, TakesNext, TakesPiece};
+ghost use Rattle.dvg_cert.specs.Private.Progress.{EndsLine, TakesFirstLines, TakesLine, TakesNext, TakesPiece};
 
 use crate::certificate::Cert;
 use crate::fault::{CertFault, CertWhy};
@@ -100,8 +100,8 @@ fn take_piece(lines: &mut TakenLines, begun: &mut LineBuffer, piece: &[u8]) -> R
     Ok(())
 }
 
-/// Takes the next line of a piece and gives what follows it, or keeps all of the piece where no line ends in it. Most lines are
-/// those of entries that can come next, with no need to look for their end first.
+/// Takes the entries that a piece begins with and the next line, and gives what follows them, or keeps what is left of the
+/// piece where no line ends in it. Lines of entries need no search for their end.
 #[inline(always)]
 fn take_next<'a>(
     lines: &mut TakenLines,
@@ -112,18 +112,30 @@ fn take_next<'a>(
     requires begun { IsRest lines.old begun.old.items }
     ensures { TakesNext (λ x. x.now) asteroids.rom_first asteroids.rom_last lines.old begun.old.items rest.now lines.new begun.new.items result }
 {
-    if begun.is_empty() {
-        let line = lines.line_number();
-        match lines.take_first(rest) {
-            Ok(Some(after)) => return Ok(Some(after)),
-            Ok(None) => {}
-            Err(why) => return Err(CertFault { line, why }),
-        }
-    }
-    take_any(lines, begun, rest)
+    let left = if begun.is_empty() {
+        take_first(lines, rest)?
+    } else {
+        rest
+    };
+    take_any(lines, begun, left)
 }
 
-/// The same for any line.
+/// Takes the entries whose lines, each with its end, a piece begins with, as long as they can come next.
+#[inline(always)]
+fn take_first<'a>(lines: &mut TakenLines, rest: &'a [u8]) -> Result<&'a [u8], CertFault>
+    requires { IsTaken asteroids.rom_first asteroids.rom_last lines.old }
+    ensures { TakesFirstLines (λ x. x.now) asteroids.rom_first asteroids.rom_last lines.old rest.now lines.new result }
+{
+    match lines.take_first(rest) {
+        Ok(after) => Ok(after),
+        Err(why) => Err(CertFault {
+            line: lines.line_number(),
+            why,
+        }),
+    }
+}
+
+/// Takes the next line of a piece and gives what follows it, or keeps all of the piece where no line ends in it.
 #[inline(never)]
 fn take_any<'a>(
     lines: &mut TakenLines,

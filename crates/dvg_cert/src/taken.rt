@@ -100,16 +100,16 @@ impl TakenLines {
         }
     }
 
-    /// Takes the entry whose line, with its end, these bytes begin with, and gives the bytes after it. Takes nothing where no
-    /// such line stands there, or its entry can't come next.
+    /// Takes the entries whose lines, each with its end, these bytes begin with, as long as they can come next, and gives the
+    /// bytes after them.
     #[inline(always)]
-    pub fn take_first<'a>(&mut self, bytes: &'a [u8]) -> Result<Option<&'a [u8]>, CertWhy>
+    pub fn take_first<'a>(&mut self, bytes: &'a [u8]) -> Result<&'a [u8], CertWhy>
         ensures { TakesFirst (λ x. x.now) asteroids.rom_first asteroids.rom_last self.old bytes.now self.new result }
     {
         match self.stage {
-            Stage::First => Ok(None),
-            Stage::Later => take_first_entry(&mut self.entries, bytes),
-            Stage::Ended => Ok(None),
+            Stage::First => Ok(bytes),
+            Stage::Later => take_first_entries(&mut self.entries, bytes),
+            Stage::Ended => Ok(bytes),
         }
     }
 
@@ -129,24 +129,22 @@ impl TakenLines {
     }
 }
 
-/// Takes the entry whose line, with its end, these bytes begin with, where it can come next, and gives the bytes after it.
-#[inline(always)]
-fn take_first_entry<'a>(
-    entries: &mut Vec<Entry>,
-    bytes: &'a [u8],
-) -> Result<Option<&'a [u8]>, CertWhy>
+/// Takes the entries whose lines, each with its end, these bytes begin with, as long as they can come next, and gives the bytes
+/// after them.
+fn take_first_entries<'a>(entries: &mut Vec<Entry>, bytes: &'a [u8]) -> Result<&'a [u8], CertWhy>
     requires { IsCertificate asteroids.rom_first asteroids.rom_last entries.old.items }
     ensures certificate { IsCertificate asteroids.rom_first asteroids.rom_last entries.new.items }
     ensures takes { TakesFirst (λ x. x.now) asteroids.rom_first asteroids.rom_last (Begun asteroids.rom_first asteroids.rom_last entries.old.items) bytes.now (Begun asteroids.rom_first asteroids.rom_last entries.new.items) result }
 {
-    let Some((entry, after)) = ended_entry(bytes, ROM_FIRST, ROM_LAST) else {
-        return Ok(None);
-    };
-    match take_entry(entries, entry) {
-        Ok(()) => Ok(Some(after)),
-        Err(CertWhy::Memory) => Err(CertWhy::Memory),
-        Err(_) => Ok(None),
+    let mut rest = bytes;
+    while let Some((entry, after)) = ended_entry(rest, ROM_FIRST, ROM_LAST) {
+        match take_entry(entries, entry) {
+            Ok(()) => rest = after,
+            Err(CertWhy::Memory) => return Err(CertWhy::Memory),
+            Err(_) => return Ok(rest),
+        }
     }
+    Ok(rest)
 }
 
 /// Takes a line after the first, and answers which line comes next.

@@ -58,11 +58,14 @@ TakesLater first last old line new (Ok Later) = IsCertificate first last new × 
 TakesLater first last old line new (Ok Ended) = IsCertificate first last new × (text_of new ≡ begun_with old ++ ended line)
 TakesLater first last old line new (Err why) = IsCertificate first last new × IsLineRefused (Begun first last old) line why
 
--- what taking the entry does whose line, with its end, stands first; `bytes` sees what is left as its bytes
-abbrev pub TakesFirst : {X : Type 0} → (X → List ℕ) → ℕ → ℕ → Taken → List ℕ → Taken → Result (Option X) CertWhy → Type 0
-TakesFirst bytes first last old rest new (Ok None) = new ≡ old
-TakesFirst bytes first last old rest new (Ok (Some after)) = IsTaken first last new × (text_taken old ++ rest ≡ text_taken new ++ bytes after) × (length (bytes after) < length rest)
-TakesFirst bytes first last old rest new (Err why) = (why ≡ Memory) × HasEntryAt first last (text_taken old ++ rest) (line_number old)
+-- what taking the entries does whose lines, each with its end, stand first; `bytes` sees what is left as its bytes
+abbrev pub TakesFirst : {X : Type 0} → (X → List ℕ) → ℕ → ℕ → Taken → List ℕ → Taken → Result X CertWhy → Type 0
+TakesFirst bytes first last old rest new (Ok after) = IsTaken first last new × (text_taken old ++ rest ≡ text_taken new ++ bytes after) × (length (bytes after) ≤ length rest)
+TakesFirst bytes first last old rest new (Err why) = (why ≡ Memory) × HasEntryAt first last (text_taken old ++ rest) (line_number new)
+
+abbrev pub TakesFirstLines : {X : Type 0} → (X → List ℕ) → ℕ → ℕ → Taken → List ℕ → Taken → Result X CertFault → Type 0
+TakesFirstLines bytes first last old rest new (Ok after) = TakesFirst bytes first last old rest new (Ok after)
+TakesFirstLines bytes first last old rest new (Err f) = IsRefusal first last (text_taken old ++ rest) f.line f.why × (f.why ≡ Memory)
 
 -- where the next line ends, which may have fewer than `room` bytes
 abbrev pub EndsLine : ℕ → List ℕ → Result (Option ℕ) CertWhy → Type 0
