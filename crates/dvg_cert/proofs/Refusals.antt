@@ -157,10 +157,11 @@ line_refused why first last taken begun rest prefix after h u r e free short w =
 -- ---- entries whose lines stand first
 
 pub ended_taken : (old es new : List Entry) (e : Entry) (bytes rest after : List ℕ) → begun_with old ++ bytes ≡ begun_with es ++ rest → rest ≡ ended (entry_line e) ++ after → new ≡ es ++ e ∷ [] → (begun_with old ++ bytes ≡ begun_with new ++ after) × (length after < length rest)
-ended_taken old es new e bytes rest after so_far is grown =
-    (so_far ∙ ap (λ (xs : List ℕ). begun_with es ++ xs) is ∙ sym (append_assoc (begun_with es) (ended (entry_line e)) after)
-    ∙ ap (λ (xs : List ℕ). xs ++ after) (sym (entry_taken es (entry_line e) e refl)) ∙ ap (λ (n : List Entry). begun_with n ++ after) (sym grown),
-     omega (arith, ap length is, length-append (ended (entry_line e)) after, length-append (entry_line e) (LINE_FEED ∷ [])))
+ended_taken old es new e bytes rest after so_far is grown = (
+  so_far ∙ ap (λ (xs : List ℕ). begun_with es ++ xs) is ∙ sym (append_assoc (begun_with es) (ended (entry_line e)) after)
+      ∙ ap (λ (xs : List ℕ). xs ++ after) (sym (entry_taken es (entry_line e) e refl)) ∙ ap (λ (n : List Entry). begun_with n ++ after) (sym grown),
+  omega (arith, ap length is, length-append (ended (entry_line e)) after, length-append (entry_line e) (LINE_FEED ∷ [])),
+)
 
 pub ended_refused : (first last : ℕ) (old es : List Entry) (e : Entry) (bytes rest after : List ℕ) → begun_with old ++ bytes ≡ begun_with es ++ rest → rest ≡ ended (entry_line e) ++ after → IsCertificate first last (es ++ e ∷ []) → HasEntryAt first last (begun_with old ++ bytes) (length es + 2)
 ended_refused first last old es e bytes rest after so_far is fits =

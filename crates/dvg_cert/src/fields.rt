@@ -1,6 +1,7 @@
 //! The fields of a line, read from left to right with the text that stands between them.
 
 ghost use Rattle.std.specs.Prelude.{◌≡◌, ◌↔◌, ◌-◌, ◌≤◌, [], None, Some, IfSome, IfNone, IsTrue, IsFalse, take, drop};
+ghost use Rattle.std.specs.Int.{w32, from_le_bytes, to_le_bytes};
 ghost use Rattle.std.specs.Option.{option_map};
 ghost use Rattle.std.specs.Str.{bytes_eq};
 ghost use Rattle.dvg_cert.specs.Private.Fields.{Reads, LeadsWith, past, natural_at, digit_at, address_at, key_at, number_at, two_at, end_at, span_at, box_at, entry_at};
@@ -308,7 +309,7 @@ fn after_text<'a, const N: usize>(bytes: &'a [u8], text: &[u8; N]) -> Option<&'a
     }
 }
 
-/// Whether two texts are the same. Of five to eight bytes the first four are compared and the last four, as words.
+/// Whether two texts are the same. Of five to eight bytes the first four are compared and the last four, each as one word.
 #[inline(always)]
 fn is_same<const N: usize>(a: &[u8; N], b: &[u8; N]) -> bool
     ensures { IsTrue result ↔ (a.now ≡ b.now) }
@@ -316,21 +317,31 @@ fn is_same<const N: usize>(a: &[u8; N], b: &[u8; N]) -> bool
     if N < 4 || 8 < N {
         return a == b;
     }
-    first_four(a) == first_four(b) && last_four(a) == last_four(b)
+    first_word(a) == first_word(b) && last_word(a) == last_word(b)
 }
 
 #[inline(always)]
-fn first_four<const N: usize>(text: &[u8; N]) -> &[u8; 4]
+fn first_word<const N: usize>(text: &[u8; N]) -> u32
     requires { 4 ≤ N }
-    ensures { result.now ≡ take 4 text.now }
+    ensures value { result ≡ from_le_bytes w32 (take 4 text.now) }
+    ensures bytes { to_le_bytes w32 result ≡ take 4 text.now }
 {
-    text.first_chunk::<4>().unwrap()
+    word_of(text.first_chunk::<4>().unwrap())
 }
 
 #[inline(always)]
-fn last_four<const N: usize>(text: &[u8; N]) -> &[u8; 4]
+fn last_word<const N: usize>(text: &[u8; N]) -> u32
     requires { 4 ≤ N }
-    ensures { result.now ≡ drop (N - 4) text.now }
+    ensures value { result ≡ from_le_bytes w32 (drop (N - 4) text.now) }
+    ensures bytes { to_le_bytes w32 result ≡ drop (N - 4) text.now }
 {
-    text.last_chunk::<4>().unwrap()
+    word_of(text.last_chunk::<4>().unwrap())
+}
+
+#[inline(always)]
+fn word_of(bytes: &[u8; 4]) -> u32
+    ensures value { result ≡ from_le_bytes w32 bytes.now }
+    ensures bytes { to_le_bytes w32 result ≡ bytes.now }
+{
+    u32::from_le_bytes(*bytes)
 }
