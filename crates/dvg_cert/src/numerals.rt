@@ -113,17 +113,14 @@ pub fn leading_number_by_digits(bytes: &[u8]) -> Option<(u64, &[u8])>
 {
     let mut number: u64 = 0;
     for i in 0..bytes.len() {
-        let byte = bytes[i] as u64;
-        if byte < b'0' as u64 {
-            return digits_taken(bytes, i, number);
-        }
-        if byte > b'9' as u64 {
+        let digit = bytes[i].wrapping_sub(b'0');
+        if digit > 9 {
             return digits_taken(bytes, i, number);
         }
         if i == 13 {
             return None;
         }
-        number = number * 10 + (byte - b'0' as u64);
+        number = number * 10 + u64::from(digit);
     }
     digits_taken(bytes, bytes.len(), number)
 }

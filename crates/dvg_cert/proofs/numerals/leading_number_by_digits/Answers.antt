@@ -1,17 +1,25 @@
-use Rattle.std.proofs.Common.{take, arith, refl}
+use Rattle.std.proofs.Common.{◌≡◌, ℕ, ◌+◌, ◌*◌, ◌%◌, ◌<◌, ◌≤◌, List, get_or, length, take, arith, refl}
+use Rattle.std.specs.Str.Parse.{AllDigits, digits_value}
 use Rattle.std.proofs.lemmas.List.{length-take-le}
 use Rattle.dvg_cert.proofs.Digits.{below, one_digit}
 use Rattle.dvg_cert.proofs.Leading.{too_long}
 use Rattle.dvg_cert.proofs.numerals.leading_number_by_digits.Goals as goal
 
+-- a byte whose value as a digit was found
+digit_of : (bytes : List ℕ) (i n : ℕ) → i < length bytes → get_or bytes i 0 < 256 → (get_or bytes i 0 + 208) % 256 ≤ 9 → AllDigits 10 (take i bytes) → n ≡ digits_value 10 (take i bytes)
+    → AllDigits 10 (take (i + 1) bytes) × (n * 10 + (get_or bytes i 0 + 208) % 256 ≡ digits_value 10 (take (i + 1) bytes))
+digit_of bytes i n lt byte small all value =
+    let d = one_digit bytes i (get_or bytes i 0) n lt refl (omega arith) (omega arith) all value in
+    (d.0, omega (arith, d.1))
+
 pub loop-i-preserved : goal.loop-i-preserved
 loop-i-preserved c =
-    let d = one_digit c.args.bytes.now c.loop-i.i _ c.loop-i.number c.loop-i-test.true refl c.if-byte.false c.if-byte-2.false c.loop-i.invariant.digits c.loop-i.invariant.value in
-    record { few = omega (arith, c.loop-i.invariant.few); digits = d.0; value = d.1 }
+    let d = digit_of c.args.bytes.now c.loop-i.i c.loop-i.number c.loop-i-test.true (c.type_inv.bytes c.loop-i.i).fits c.if-digit-gt9.false c.loop-i.invariant.digits c.loop-i.invariant.value in
+    record { few = omega (arith, c.loop-i.invariant.few); digits = d.0; value = omega (arith, d.1, c.from.ensures) }
 
 pub returns-then-i-eq13 : goal.returns-then-i-eq13
 returns-then-i-eq13 c = too_long c.args.bytes.now c.loop-i.i c.loop-i-test.true c.if-i-eq13.true
-    (one_digit c.args.bytes.now c.loop-i.i _ c.loop-i.number c.loop-i-test.true refl c.if-byte.false c.if-byte-2.false c.loop-i.invariant.digits c.loop-i.invariant.value).0
+    (digit_of c.args.bytes.now c.loop-i.i c.loop-i.number c.loop-i-test.true (c.type_inv.bytes c.loop-i.i).fits c.if-digit-gt9.false c.loop-i.invariant.digits c.loop-i.invariant.value).0
 
 pub overflow_mul-number : goal.overflow_mul-number
 overflow_mul-number c =
