@@ -1,17 +1,18 @@
 -- A line put together token by token, and a text line by line.
-use Rattle.std.proofs.Common.{◌≡◌, ℕ, suc, ◌+◌, ◌<◌, List, [], ◌∷◌, ◌++◌, length, get_or, take, drop, Option, Result, Ok, Err, refl, sym, ap, subst, ◌∙◌, append_assoc, arith, add-one}
+use Rattle.std.proofs.Common.{◌≡◌, ℕ, ◌+◌, ◌<◌, List, [], ◌∷◌, ◌++◌, length, get_or, take, drop, Option, Result, Ok, Err, refl, sym, ap, subst, ◌∙◌, append_assoc, arith, add-one}
 use Rattle.std.specs.Prelude.{codes, decimal, OnErr}
 use Rattle.std.specs.List.{join_with_byte, flat_map}
-use Rattle.std.proofs.lemmas.List.{append-nil, length-append, take-append-le}
+use Rattle.std.proofs.lemmas.List.{append-nil, length-append, take-append-le, take-append-drop}
 use Rattle.std.proofs.lemmas.List.Concat.{flat_map-append}
 use Rattle.std.specs.Io.KnownBytes.{Appends}
 use Rattle.dvg_cert.specs.Limits.{LINE_FEED, SPACE}
 use Rattle.dvg_cert.specs.Entry.{Entry}
 use Rattle.dvg_cert.specs.Grammar.{entry_line, end_tokens, box_tokens, address_token, key_token, ended, begun_with, text_of, done_line, first_line}
 use Rattle.dvg_cert.specs.Devices.{AppendsPrefix}
-use Rattle.dvg_cert.specs.Private.Writing.{spaced}
+use Rattle.dvg_cert.specs.Private.Writing.{spaced, Buffered}
 use Rattle.std.proofs.Math.Seq.{take-length, take-append-add}
 use Rattle.dvg_cert.proofs.Rising.{begun_push}
+use Rattle.dvg_cert.proofs.Refusals.{first_taken}
 use Rattle.std.proofs.KnownBytes.{Appends-nil, Appends-trans}
 use Rattle.dvg_cert.proofs.ListParts.{cut_at}
 
@@ -24,7 +25,7 @@ spaced-append [] vs = refl
 spaced-append (w ∷ ws) vs = ap (λ (t : List ℕ). SPACE ∷ (w ++ t)) (spaced-append ws vs) ∙ ap (λ (t : List ℕ). SPACE ∷ t) (sym (append_assoc w (spaced ws) (spaced vs)))
 
 -- a piece of a text was written in part
-pub sent_part : (old mid new : Option (List ℕ)) (text prefix piece tail : List ℕ) → text ≡ prefix ++ (piece ++ tail) → Appends old mid prefix → AppendsPrefix mid new piece → AppendsPrefix old new text
+sent_part : (old mid new : Option (List ℕ)) (text prefix piece tail : List ℕ) → text ≡ prefix ++ (piece ++ tail) → Appends old mid prefix → AppendsPrefix mid new piece → AppendsPrefix old new text
 sent_part old mid new text prefix piece tail e h s =
     let n : ℕ = s.0 in
     let parts : take (length prefix + n) text ≡ prefix ++ take n piece =
@@ -32,71 +33,81 @@ sent_part old mid new text prefix piece tail e h s =
     let size : length text ≡ length prefix + (length piece + length tail) = ap length e ∙ length-append prefix (piece ++ tail) ∙ ap (λ (k : ℕ). length prefix + k) (length-append piece tail) in
     (length prefix + n, omega (arith, size, s.1), subst (λ (t : List ℕ). Appends old new t) (sym parts) (Appends-trans old mid new prefix (take n piece) h s.2))
 
--- the text of a certificate from an entry on
-pub text_at : (es : List Entry) (i : ℕ) (d : Entry) → i < length es → text_of es ≡ begun_with (take i es) ++ (ended (entry_line (get_or es i d)) ++ (flat_map (λ e. ended (entry_line e)) (drop (suc i) es) ++ ended (done_line (length es))))
-unfolding begun_with
-text_at es i d lt =
-    let f : Entry → List ℕ = λ x. ended (entry_line x) in
-    let a : flat_map f es ≡ flat_map f (take i es) ++ (f (get_or es i d) ++ flat_map f (drop (suc i) es)) = ap (flat_map f) (cut_at es i d lt).0 ∙ flat_map-append f (take i es) (get_or es i d ∷ drop (suc i) es) in
-    ap (λ (t : List ℕ). (ended first_line ++ t) ++ ended (done_line (length es))) a ∙ again (ended first_line) (flat_map f (take i es)) (f (get_or es i d)) (flat_map f (drop (suc i) es)) (ended (done_line (length es)))
-  where
-    again : (a b c d e : List ℕ) → (a ++ (b ++ (c ++ d))) ++ e ≡ (a ++ b) ++ (c ++ (d ++ e))
-    again a b c d e = simp append_assoc
+-- what was held is sent now, but for the rest
+pub buffered_on : (old mid new : Option (List ℕ)) (held rest text : List ℕ) → Buffered old mid held text → Buffered mid new rest held → Buffered old new rest text
+buffered_on old mid new held rest text h k =
+    (h.0 ++ k.0, Appends-trans old mid new h.0 k.0 h.1 k.1, h.2 ∙ ap (λ (t : List ℕ). h.0 ++ t) k.2 ∙ sym (append_assoc h.0 k.0 rest))
 
--- one more entry was sent
-pub begun_next : (es : List Entry) (i : ℕ) (d : Entry) → i < length es → begun_with (take (i + 1) es) ≡ begun_with (take i es) ++ ended (entry_line (get_or es i d))
+-- more is held
+buffered_more : (old new : Option (List ℕ)) (held line text : List ℕ) → Buffered old new held text → Buffered old new (held ++ line) (text ++ line)
+buffered_more old new held line text h = (h.0, h.1, ap (λ (t : List ℕ). t ++ line) h.2 ∙ append_assoc h.0 held line)
+
+-- all that was held is sent
+pub held_sent : (old mid new : Option (List ℕ)) (held text : List ℕ) → Buffered old mid held text → Appends mid new held → Appends old new text
+held_sent old mid new held text h s = subst (λ (t : List ℕ). Appends old new t) (sym h.2) (Appends-trans old mid new h.0 held h.1 s)
+
+-- what was held is sent in part
+pub held_sent_in_part : (old mid new : Option (List ℕ)) (held text : List ℕ) → Buffered old mid held text → AppendsPrefix mid new held → AppendsPrefix old new text
+held_sent_in_part old mid new held text h s = sent_part old mid new text h.0 held [] (h.2 ∙ ap (λ (t : List ℕ). h.0 ++ t) (sym (append-nil held))) h.1 s
+
+-- the text of a certificate from an entry on
+text_at : (es : List Entry) (i : ℕ) → text_of es ≡ begun_with (take i es) ++ (flat_map (λ e. ended (entry_line e)) (drop i es) ++ ended (done_line (length es)))
+unfolding begun_with
+text_at es i =
+    let f : Entry → List ℕ = λ x. ended (entry_line x) in
+    let a : flat_map f es ≡ flat_map f (take i es) ++ flat_map f (drop i es) = ap (flat_map f) (sym (take-append-drop i es)) ∙ flat_map-append f (take i es) (drop i es) in
+    ap (λ (t : List ℕ). (ended first_line ++ t) ++ ended (done_line (length es))) a ∙ again (ended first_line) (flat_map f (take i es)) (flat_map f (drop i es)) (ended (done_line (length es)))
+  where
+    again : (a b c d : List ℕ) → (a ++ (b ++ c)) ++ d ≡ (a ++ b) ++ (c ++ d)
+    again a b c d = simp append_assoc
+
+-- one more entry
+begun_next : (es : List Entry) (i : ℕ) (d : Entry) → i < length es → begun_with (take (i + 1) es) ≡ begun_with (take i es) ++ ended (entry_line (get_or es i d))
 begun_next es i d lt = rw add-one (ap begun_with (cut_at es i d lt).1) ∙ begun_push (take i es) (get_or es i d)
 
-pub first_part : (es : List Entry) → begun_with es ≡ ended first_line ++ flat_map (λ e. ended (entry_line e)) es
-unfolding begun_with
-first_part es = refl
-
-line_parts : (shape hex key endw : List ℕ) (stop : List (List ℕ)) (boxw : List ℕ) (lit : List (List ℕ)) (d1 d w1 w s1 s : List ℕ)
-    → ((((((((((((shape ++ SPACE ∷ hex) ++ SPACE ∷ key) ++ SPACE ∷ endw) ++ spaced stop) ++ SPACE ∷ boxw) ++ spaced lit) ++ SPACE ∷ d1) ++ SPACE ∷ d) ++ SPACE ∷ w1) ++ SPACE ∷ w) ++ SPACE ∷ s1) ++ SPACE ∷ s) ++ LINE_FEED ∷ []
-    ≡ join_with_byte SPACE (shape ∷ hex ∷ key ∷ endw ∷ ((stop ++ boxw ∷ lit) ++ d1 ∷ d ∷ w1 ∷ w ∷ s1 ∷ s ∷ [])) ++ LINE_FEED ∷ []
-line_parts shape hex key endw stop boxw lit d1 d w1 w s1 s =
+line_parts : (before shape hex key endw : List ℕ) (stop : List (List ℕ)) (boxw : List ℕ) (lit : List (List ℕ)) (d1 d w1 w s1 s : List ℕ)
+    → (((((((((((((before ++ shape) ++ SPACE ∷ hex) ++ SPACE ∷ key) ++ SPACE ∷ endw) ++ spaced stop) ++ SPACE ∷ boxw) ++ spaced lit) ++ SPACE ∷ d1) ++ SPACE ∷ d) ++ SPACE ∷ w1) ++ SPACE ∷ w) ++ SPACE ∷ s1) ++ SPACE ∷ s) ++ LINE_FEED ∷ []
+    ≡ before ++ (join_with_byte SPACE (shape ∷ hex ∷ key ∷ endw ∷ ((stop ++ boxw ∷ lit) ++ d1 ∷ d ∷ w1 ∷ w ∷ s1 ∷ s ∷ [])) ++ LINE_FEED ∷ [])
+line_parts before shape hex key endw stop boxw lit d1 d w1 w s1 s =
     let back : List (List ℕ) = d1 ∷ d ∷ w1 ∷ w ∷ s1 ∷ s ∷ [] in
     let parts : spaced ((stop ++ boxw ∷ lit) ++ back) ≡ (spaced stop ++ SPACE ∷ (boxw ++ spaced lit)) ++ spaced back = spaced-append (stop ++ boxw ∷ lit) back ∙ ap (λ (t : List ℕ). t ++ spaced back) (spaced-append stop (boxw ∷ lit)) in
-    regroup shape (SPACE ∷ hex) (SPACE ∷ key) (SPACE ∷ endw) (spaced stop) (SPACE ∷ boxw) (spaced lit) (SPACE ∷ d1) (SPACE ∷ d) (SPACE ∷ w1) (SPACE ∷ w) (SPACE ∷ s1) (SPACE ∷ s) (LINE_FEED ∷ []) ∙ ap (λ (t : List ℕ). (shape ++ SPACE ∷ (hex ++ SPACE ∷ (key ++ SPACE ∷ (endw ++ t)))) ++ LINE_FEED ∷ []) (sym parts) ∙ ap (λ (t : List ℕ). t ++ LINE_FEED ∷ []) (sym (join_spaced shape (hex ∷ key ∷ endw ∷ ((stop ++ boxw ∷ lit) ++ back))))
+    regroup before shape (SPACE ∷ hex) (SPACE ∷ key) (SPACE ∷ endw) (spaced stop) (SPACE ∷ boxw) (spaced lit) (SPACE ∷ d1) (SPACE ∷ d) (SPACE ∷ w1) (SPACE ∷ w) (SPACE ∷ s1) (SPACE ∷ s) (LINE_FEED ∷ []) ∙ ap (λ (t : List ℕ). before ++ ((shape ++ SPACE ∷ (hex ++ SPACE ∷ (key ++ SPACE ∷ (endw ++ t)))) ++ LINE_FEED ∷ [])) (sym parts) ∙ ap (λ (t : List ℕ). before ++ (t ++ LINE_FEED ∷ [])) (sym (join_spaced shape (hex ∷ key ∷ endw ∷ ((stop ++ boxw ∷ lit) ++ back))))
   where
-    regroup : (a b c d e f g h i j k l m n : List ℕ) → ((((((((((((a ++ b) ++ c) ++ d) ++ e) ++ f) ++ g) ++ h) ++ i) ++ j) ++ k) ++ l) ++ m) ++ n ≡ (a ++ (b ++ (c ++ (d ++ ((e ++ (f ++ g)) ++ (h ++ (i ++ (j ++ (k ++ (l ++ (m ++ []))))))))))) ++ n
-    regroup a b c d e f g h i j k l m n = simp (append_assoc, append-nil)
+    regroup : (z a b c d e f g h i j k l m n : List ℕ) → (((((((((((((z ++ a) ++ b) ++ c) ++ d) ++ e) ++ f) ++ g) ++ h) ++ i) ++ j) ++ k) ++ l) ++ m) ++ n ≡ z ++ ((a ++ (b ++ (c ++ (d ++ ((e ++ (f ++ g)) ++ (h ++ (i ++ (j ++ (k ++ (l ++ (m ++ []))))))))))) ++ n)
+    regroup z a b c d e f g h i j k l m n = simp (append_assoc, append-nil)
 
-pub spelled_entry : (e : Entry) → ((((((((((((codes "shape" ++ SPACE ∷ address_token e.addr) ++ SPACE ∷ key_token e.key) ++ SPACE ∷ codes "end") ++ spaced (end_tokens e.stop)) ++ SPACE ∷ codes "box") ++ spaced (box_tokens e.lit)) ++ SPACE ∷ codes "depth") ++ SPACE ∷ decimal e.depth) ++ SPACE ∷ codes "words") ++ SPACE ∷ decimal e.words) ++ SPACE ∷ codes "scale") ++ SPACE ∷ key_token e.scale) ++ LINE_FEED ∷ [] ≡ ended (entry_line e)
-spelled_entry e = line_parts (codes "shape") (address_token e.addr) (key_token e.key) (codes "end") (end_tokens e.stop) (codes "box") (box_tokens e.lit) (codes "depth") (decimal e.depth) (codes "words") (decimal e.words) (codes "scale") (key_token e.scale)
+pub spelled_entry : (before : List ℕ) (e : Entry) → (((((((((((((before ++ codes "shape") ++ SPACE ∷ address_token e.addr) ++ SPACE ∷ key_token e.key) ++ SPACE ∷ codes "end") ++ spaced (end_tokens e.stop)) ++ SPACE ∷ codes "box") ++ spaced (box_tokens e.lit)) ++ SPACE ∷ codes "depth") ++ SPACE ∷ decimal e.depth) ++ SPACE ∷ codes "words") ++ SPACE ∷ decimal e.words) ++ SPACE ∷ codes "scale") ++ SPACE ∷ key_token e.scale) ++ LINE_FEED ∷ [] ≡ before ++ ended (entry_line e)
+spelled_entry before e = line_parts before (codes "shape") (address_token e.addr) (key_token e.key) (codes "end") (end_tokens e.stop) (codes "box") (box_tokens e.lit) (codes "depth") (decimal e.depth) (codes "words") (decimal e.words) (codes "scale") (key_token e.scale)
 
 -- where an error is returned
 pub sent_err : {X E P : Type 0} (r : Result X E) → P → OnErr r P
 sent_err (Ok x) p = tt
 sent_err (Err e) p = p
 
-pub text_first : (es : List Entry) (old new : Option (List ℕ)) → AppendsPrefix old new (ended first_line) → AppendsPrefix old new (text_of es)
-text_first es old new s =
-    let e : text_of es ≡ ended first_line ++ (flat_map (λ e. ended (entry_line e)) es ++ ended (done_line (length es))) = ap (λ (t : List ℕ). t ++ ended (done_line (length es))) (first_part es) ∙ append_assoc (ended first_line) (flat_map (λ e. ended (entry_line e)) es) (ended (done_line (length es))) in
-    sent_part old old new (text_of es) [] (ended first_line) (flat_map (λ e. ended (entry_line e)) es ++ ended (done_line (length es))) e (Appends-nil old) s
+-- before the first entry
+pub first_held : (old : Option (List ℕ)) (held : List ℕ) → held ≡ ended first_line → Buffered old old held (begun_with [])
+first_held old held h = ([], Appends-nil old, first_taken first_line refl ∙ sym h)
 
-pub entry_sent : (old mid new : Option (List ℕ)) (es cert : List Entry) (i : ℕ) (d : Entry) (piece : List ℕ) → es ≡ cert → i < length es → piece ≡ ended (entry_line (get_or es i d)) → Appends old mid (begun_with (take i es)) → AppendsPrefix mid new piece → AppendsPrefix old new (text_of cert)
-entry_sent old mid new es cert i d piece same lt p h s =
-    let tail : List ℕ = flat_map (λ e. ended (entry_line e)) (drop (suc i) es) ++ ended (done_line (length es)) in
-    let e : text_of cert ≡ begun_with (take i es) ++ (piece ++ tail) = ap text_of (sym same) ∙ text_at es i d lt ∙ ap (λ (t : List ℕ). begun_with (take i es) ++ (t ++ tail)) (sym p) in
-    sent_part old mid new (text_of cert) (begun_with (take i es)) piece tail e h s
+-- one more entry is held
+pub entry_held : (old mid new : Option (List ℕ)) (es : List Entry) (i : ℕ) (d : Entry) (held rest more : List ℕ) → i < length es → more ≡ rest ++ ended (entry_line (get_or es i d)) → Buffered old mid held (begun_with (take i es)) → Buffered mid new rest held → Buffered old new more (begun_with (take (i + 1) es))
+entry_held old mid new es i d held rest more lt m h k =
+    let line : List ℕ = ended (entry_line (get_or es i d)) in
+    let b : Buffered old new (rest ++ line) (begun_with (take i es) ++ line) = buffered_more old new rest line (begun_with (take i es)) (buffered_on old mid new held rest (begun_with (take i es)) h k) in
+    subst (λ (t : List ℕ). Buffered old new t (begun_with (take (i + 1) es))) (sym m) (subst (λ (t : List ℕ). Buffered old new (rest ++ line) t) (sym (begun_next es i d lt)) b)
 
-pub entry_written : (old mid new : Option (List ℕ)) (es : List Entry) (i : ℕ) (d : Entry) (piece : List ℕ) → i < length es → piece ≡ ended (entry_line (get_or es i d)) → Appends old mid (begun_with (take i es)) → Appends mid new piece → Appends old new (begun_with (take (i + 1) es))
-entry_written old mid new es i d piece lt p h k =
-    subst (λ (t : List ℕ). Appends old new t) (ap (λ (t : List ℕ). begun_with (take i es) ++ t) p ∙ sym (begun_next es i d lt)) (Appends-trans old mid new (begun_with (take i es)) piece h k)
+-- the last line is held
+pub done_held : (old mid new : Option (List ℕ)) (es cert : List Entry) (i n : ℕ) (held rest more : List ℕ) → es ≡ cert → i ≡ length es → n ≡ length es → more ≡ rest ++ ended (done_line n) → Buffered old mid held (begun_with (take i es)) → Buffered mid new rest held → Buffered old new more (text_of cert)
+done_held old mid new es cert i n held rest more same all m p h k =
+    let line : List ℕ = ended (done_line n) in
+    let b : Buffered old new (rest ++ line) (begun_with (take i es) ++ line) = buffered_more old new rest line (begun_with (take i es)) (buffered_on old mid new held rest (begun_with (take i es)) h k) in
+    let begun : begun_with (take i es) ≡ begun_with cert = ap begun_with (ap (λ (j : ℕ). take j es) all ∙ take-length es ∙ same) in
+    let last : line ≡ ended (done_line (length cert)) = ap (λ (j : ℕ). ended (done_line j)) (m ∙ ap length same) in
+    let whole : begun_with (take i es) ++ line ≡ text_of cert = ap (λ (t : List ℕ). t ++ line) begun ∙ ap (λ (t : List ℕ). begun_with cert ++ t) last in
+    subst (λ (t : List ℕ). Buffered old new t (text_of cert)) (sym p) (subst (λ (t : List ℕ). Buffered old new (rest ++ line) t) whole b)
 
-all_of : (es cert : List Entry) (i : ℕ) → es ≡ cert → i ≡ length es → take i es ≡ cert
-all_of es cert i same all = ap (λ (n : ℕ). take n es) all ∙ take-length es ∙ same
-
-pub done_sent : (old mid new : Option (List ℕ)) (es cert : List Entry) (i n : ℕ) (piece : List ℕ) → es ≡ cert → i ≡ length es → n ≡ length es → piece ≡ ended (done_line n) → Appends old mid (begun_with (take i es)) → AppendsPrefix mid new piece → AppendsPrefix old new (text_of cert)
-done_sent old mid new es cert i n piece same all m p h s =
-    let a : begun_with cert ≡ begun_with (take i es) = ap begun_with (sym (all_of es cert i same all)) in
-    let q : ended (done_line (length cert)) ≡ piece = ap (λ (k : ℕ). ended (done_line k)) (ap length (sym same) ∙ sym m) ∙ sym p in
-    let e : text_of cert ≡ begun_with (take i es) ++ (piece ++ []) = ap (λ (t : List ℕ). t ++ ended (done_line (length cert))) a ∙ ap (λ (t : List ℕ). begun_with (take i es) ++ t) (q ∙ sym (append-nil piece)) in
-    sent_part old mid new (text_of cert) (begun_with (take i es)) piece [] e h s
-
-pub done_written : (old mid new : Option (List ℕ)) (es cert : List Entry) (i n : ℕ) (piece : List ℕ) → es ≡ cert → i ≡ length es → n ≡ length es → piece ≡ ended (done_line n) → Appends old mid (begun_with (take i es)) → Appends mid new piece → Appends old new (text_of cert)
-done_written old mid new es cert i n piece same all m p h k =
-    let a : begun_with (take i es) ≡ begun_with cert = ap begun_with (all_of es cert i same all) in
-    let q : piece ≡ ended (done_line (length cert)) = p ∙ ap (λ (k : ℕ). ended (done_line k)) (m ∙ ap length same) in
-    subst (λ (t : List ℕ). Appends old new t) (ap (λ (t : List ℕ). t ++ piece) a ∙ ap (λ (t : List ℕ). begun_with cert ++ t) q) (Appends-trans old mid new (begun_with (take i es)) piece h k)
+-- a write failed before the last line was held
+pub begun_in_part : (old mid new : Option (List ℕ)) (es cert : List Entry) (i : ℕ) (held : List ℕ) → es ≡ cert → Buffered old mid held (begun_with (take i es)) → AppendsPrefix mid new held → AppendsPrefix old new (text_of cert)
+begun_in_part old mid new es cert i held same h s =
+    let tail : List ℕ = flat_map (λ e. ended (entry_line e)) (drop i es) ++ ended (done_line (length es)) in
+    let parts : text_of cert ≡ h.0 ++ (held ++ tail) = ap text_of (sym same) ∙ text_at es i ∙ ap (λ (t : List ℕ). t ++ tail) h.2 ∙ append_assoc h.0 held tail in
+    sent_part old mid new (text_of cert) h.0 held tail parts h.1 s

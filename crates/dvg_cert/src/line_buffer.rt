@@ -18,12 +18,12 @@ pub fn push_bytes<const N: usize>(buffer: &mut ArrayVec<u8, N>, bytes: &[u8])
     prove!(fits);
 }
 
-/// Puts a space and a token at the end of a line that has room for them.
-pub fn push_token(line: &mut LineBuffer, token: &[u8])
-    requires { array_vec_len line.old + length token.now < LONGEST_LINE }
-    ensures value { line.new.items ≡ line.old.items ++ SPACE ∷ token.now }
-    ensures len { array_vec_len line.new ≡ array_vec_len line.old + 1 + length token.now }
+/// Puts a space and a token at the end of a buffer that has room for them. Takes no memory.
+pub fn push_token<const N: usize>(buffer: &mut ArrayVec<u8, N>, token: &[u8])
+    requires { array_vec_len buffer.old + length token.now < N }
+    ensures value { buffer.new.items ≡ buffer.old.items ++ SPACE ∷ token.now }
+    ensures len { array_vec_len buffer.new ≡ array_vec_len buffer.old + 1 + length token.now }
 {
-    push_bytes(line, &[SPACE]);
-    push_bytes(line, token);
+    push_bytes(buffer, &[SPACE]);
+    push_bytes(buffer, token);
 }

@@ -8,14 +8,15 @@ ghost use Rattle.arrayvec.specs.ArrayVec.{array_vec_len};
 ghost use Rattle.dvg_words.specs.Values.{asteroids};
 ghost use Rattle.dvg_cert.specs.Entry.{IsNumber, IsKey, IsEnd, IsBox, IsEntry};
 ghost use Rattle.dvg_cert.specs.Grammar.{address_token, key_token, end_tokens, box_tokens, entry_line, done_line, ended, text_of};
-ghost use Rattle.dvg_cert.specs.Private.Writing.{spaced};
+ghost use Rattle.dvg_cert.specs.Private.Writing.{spaced, Buffered};
 
 use crate::certificate::Cert;
 use crate::counted::CountedWrite;
 use crate::entry::{End, Entry, Key, LitBox};
 use crate::fault::WriteFault;
 use crate::limits::{LINE_FEED, LONGEST_LINE, MOST_ENTRIES, MOST_WORDS, SPACE};
-use crate::line_buffer::{LineBuffer, push_bytes, push_token};
+use crate::line_buffer::{push_bytes, push_token};
+use arrayvec::ArrayVec;
 use dvg_words::ADDRESS_END;
 use itoa::Buffer;
 
@@ -42,9 +43,16 @@ pub fn write_bytes<W: CountedWrite>(bytes: &[u8], out: &mut W) -> Result<(), Wri
     Ok(())
 }
 
+/// The bytes of the buffer that puts lines together for a write. It takes so much of the stack.
+const WRITE_BUFFER_LEN: usize = 4096;
+
+/// Lines that were not written so far.
+type WriteBuffer = ArrayVec<u8, WRITE_BUFFER_LEN>;
+
 /// Writes the text of a certificate, and nothing else. Takes no memory.
 ///
-/// At the first write that fails it ends with `Device`, and a prefix of the text was written: nothing is sent again.
+/// Each write is of as many whole lines as surely fit 4096 bytes, and goes on where the writer took a part of them. At the first
+/// write that fails it ends with `Device`, and a prefix of the text was written: nothing is sent again.
 pub fn write_cert<W: CountedWrite>(cert: &Cert, out: &mut W) -> Result<(), WriteFault>
     ensures ok { OnOk result (Appends (W.contents out.old) (W.contents out.new) (text_of cert.now)) }
     ensures prefix { OnErr result (AppendsPrefix (W.contents out.old) (W.contents out.new) (text_of cert.now)) }
@@ -52,136 +60,151 @@ pub fn write_cert<W: CountedWrite>(cert: &Cert, out: &mut W) -> Result<(), Write
     // An error comes exactly where a write failed in this call.
     ensures count { W.failures out.new ≡ count_after (is_err result) (W.failures out.old) }
 {
-    write_bytes(b"dvgcert 1\n", out)?;
-    let mut line = LineBuffer::new();
+    let mut text = WriteBuffer::new();
+    push_bytes(&mut text, b"dvgcert 1\n");
     let entries = cert.entries();
     for i in 0..entries.len() {
-        spell_entry(&mut line, &entries[i]);
-        write_bytes(line.as_slice(), out)?;
+        make_room(&mut text, out)?;
+        push_entry(&mut text, &entries[i]);
     }
-    spell_done(&mut line, entries.len() as u32);
-    write_bytes(line.as_slice(), out)
+    make_room(&mut text, out)?;
+    push_done(&mut text, entries.len() as u32);
+    write_bytes(text.as_slice(), out)
 }
 
-fn spell_entry(line: &mut LineBuffer, entry: &Entry)
-    requires { IsEntry asteroids.rom_first asteroids.rom_last entry.now }
-    ensures { line.new.items ≡ ended (entry_line entry.now) }
+/// Where the next line may not fit, writes what the buffer holds, and empties it.
+fn make_room<W: CountedWrite>(text: &mut WriteBuffer, out: &mut W) -> Result<(), WriteFault>
+    ensures ok { OnOk result (Buffered (W.contents out.old) (W.contents out.new) text.new.items text.old.items) }
+    ensures room { OnOk result (array_vec_len text.new + LONGEST_LINE ≤ WRITE_BUFFER_LEN) }
+    ensures prefix { OnErr result (AppendsPrefix (W.contents out.old) (W.contents out.new) text.old.items) }
+    ensures count { W.failures out.new ≡ count_after (is_err result) (W.failures out.old) }
 {
-    line.clear();
-    push_bytes(line, b"shape");
-    push_address(line, entry.addr);
-    push_key(line, entry.key);
-    push_token(line, b"end");
-    push_end(line, entry.stop);
-    push_token(line, b"box");
-    push_box(line, &entry.lit);
-    push_token(line, b"depth");
-    push_natural(line, entry.depth as u32);
-    push_token(line, b"words");
-    push_natural(line, entry.words);
-    push_token(line, b"scale");
-    push_key(line, entry.scale);
-    push_bytes(line, &[LINE_FEED]);
+    if text.len() > WRITE_BUFFER_LEN - LONGEST_LINE {
+        write_bytes(text.as_slice(), out)?;
+        text.clear();
+    }
+    Ok(())
 }
 
-fn spell_done(line: &mut LineBuffer, count: u32)
-    requires { count ≤ MOST_ENTRIES }
-    ensures { line.new.items ≡ ended (done_line count) }
+fn push_entry(text: &mut WriteBuffer, entry: &Entry)
+    requires entry { IsEntry asteroids.rom_first asteroids.rom_last entry.now }
+    requires room { array_vec_len text.old + LONGEST_LINE ≤ WRITE_BUFFER_LEN }
+    ensures { text.new.items ≡ text.old.items ++ ended (entry_line entry.now) }
 {
-    line.clear();
-    push_bytes(line, b"done");
-    push_natural(line, count);
-    push_bytes(line, &[LINE_FEED]);
+    push_bytes(text, b"shape");
+    push_address(text, entry.addr);
+    push_key(text, entry.key);
+    push_token(text, b"end");
+    push_end(text, entry.stop);
+    push_token(text, b"box");
+    push_box(text, &entry.lit);
+    push_token(text, b"depth");
+    push_natural(text, entry.depth as u32);
+    push_token(text, b"words");
+    push_natural(text, entry.words);
+    push_token(text, b"scale");
+    push_key(text, entry.scale);
+    push_bytes(text, &[LINE_FEED]);
 }
 
-fn push_natural(line: &mut LineBuffer, number: u32)
+fn push_done(text: &mut WriteBuffer, count: u32)
+    requires count { count ≤ MOST_ENTRIES }
+    requires room { array_vec_len text.old + LONGEST_LINE ≤ WRITE_BUFFER_LEN }
+    ensures { text.new.items ≡ text.old.items ++ ended (done_line count) }
+{
+    push_bytes(text, b"done");
+    push_natural(text, count);
+    push_bytes(text, &[LINE_FEED]);
+}
+
+fn push_natural(text: &mut WriteBuffer, number: u32)
     requires number { number ≤ MOST_WORDS }
-    requires room { array_vec_len line.old + 8 ≤ LONGEST_LINE }
-    ensures value { line.new.items ≡ line.old.items ++ SPACE ∷ decimal number }
-    ensures len { array_vec_len line.new ≤ array_vec_len line.old + 8 }
+    requires room { array_vec_len text.old + 8 ≤ WRITE_BUFFER_LEN }
+    ensures value { text.new.items ≡ text.old.items ++ SPACE ∷ decimal number }
+    ensures len { array_vec_len text.new ≤ array_vec_len text.old + 8 }
 {
     let mut buffer = Buffer::new();
-    push_token(line, buffer.format(number).as_bytes());
+    push_token(text, buffer.format(number).as_bytes());
 }
 
-fn push_number(line: &mut LineBuffer, number: &i64)
+fn push_number(text: &mut WriteBuffer, number: &i64)
     requires number { IsNumber number.now }
-    requires room { array_vec_len line.old + 15 ≤ LONGEST_LINE }
-    ensures value { line.new.items ≡ line.old.items ++ SPACE ∷ signed_decimal number.now }
-    ensures len { array_vec_len line.new ≤ array_vec_len line.old + 15 }
+    requires room { array_vec_len text.old + 15 ≤ WRITE_BUFFER_LEN }
+    ensures value { text.new.items ≡ text.old.items ++ SPACE ∷ signed_decimal number.now }
+    ensures len { array_vec_len text.new ≤ array_vec_len text.old + 15 }
 {
     let number = *number;
     let mut buffer = Buffer::new();
-    push_token(line, buffer.format(number).as_bytes());
+    push_token(text, buffer.format(number).as_bytes());
 }
 
-fn push_key(line: &mut LineBuffer, key: Key)
+fn push_key(text: &mut WriteBuffer, key: Key)
     requires key { IsKey key }
-    requires room { array_vec_len line.old + 8 ≤ LONGEST_LINE }
-    ensures value { line.new.items ≡ line.old.items ++ SPACE ∷ key_token key }
-    ensures len { array_vec_len line.new ≤ array_vec_len line.old + 8 }
+    requires room { array_vec_len text.old + 8 ≤ WRITE_BUFFER_LEN }
+    ensures value { text.new.items ≡ text.old.items ++ SPACE ∷ key_token key }
+    ensures len { array_vec_len text.new ≤ array_vec_len text.old + 8 }
 {
     match key {
-        Key::At(n) => push_natural(line, n as u32),
-        Key::Any => push_token(line, b"any"),
+        Key::At(n) => push_natural(text, n as u32),
+        Key::Any => push_token(text, b"any"),
     }
 }
 
-fn push_end(line: &mut LineBuffer, end: End)
+fn push_end(text: &mut WriteBuffer, end: End)
     requires end { IsEnd end }
-    requires room { array_vec_len line.old + 34 ≤ LONGEST_LINE }
-    ensures value { line.new.items ≡ line.old.items ++ spaced (end_tokens end) }
-    ensures len { array_vec_len line.new ≤ array_vec_len line.old + 34 }
+    requires room { array_vec_len text.old + 34 ≤ WRITE_BUFFER_LEN }
+    ensures value { text.new.items ≡ text.old.items ++ spaced (end_tokens end) }
+    ensures len { array_vec_len text.new ≤ array_vec_len text.old + 34 }
 {
     match &end {
         End::Rel { x, y } => {
-            push_token(line, b"rel");
-            push_number(line, x);
-            push_number(line, y);
+            push_token(text, b"rel");
+            push_number(text, x);
+            push_number(text, y);
         }
         End::Abs { x, y } => {
-            push_token(line, b"abs");
-            push_number(line, x);
-            push_number(line, y);
+            push_token(text, b"abs");
+            push_number(text, x);
+            push_number(text, y);
         }
-        End::Lost => push_token(line, b"lost"),
+        End::Lost => push_token(text, b"lost"),
     }
 }
 
-fn push_box(line: &mut LineBuffer, lit: &LitBox)
+fn push_box(text: &mut WriteBuffer, lit: &LitBox)
     requires lit { IsBox lit.now }
-    requires room { array_vec_len line.old + 60 ≤ LONGEST_LINE }
-    ensures value { line.new.items ≡ line.old.items ++ spaced (box_tokens lit.now) }
-    ensures len { array_vec_len line.new ≤ array_vec_len line.old + 60 }
+    requires room { array_vec_len text.old + 60 ≤ WRITE_BUFFER_LEN }
+    ensures value { text.new.items ≡ text.old.items ++ spaced (box_tokens lit.now) }
+    ensures len { array_vec_len text.new ≤ array_vec_len text.old + 60 }
 {
     match lit {
-        LitBox::Empty => push_token(line, b"none"),
+        LitBox::Empty => push_token(text, b"none"),
         LitBox::Span {
             x_min,
             x_max,
             y_min,
             y_max,
         } => {
-            push_number(line, x_min);
-            push_number(line, x_max);
-            push_number(line, y_min);
-            push_number(line, y_max);
+            push_number(text, x_min);
+            push_number(text, x_max);
+            push_number(text, y_min);
+            push_number(text, y_max);
         }
     }
 }
 
-fn push_address(line: &mut LineBuffer, addr: u16)
+fn push_address(text: &mut WriteBuffer, addr: u16)
     requires addr { addr < ADDRESS_END }
-    requires room { array_vec_len line.old + 4 ≤ LONGEST_LINE }
-    ensures value { line.new.items ≡ line.old.items ++ SPACE ∷ address_token addr }
-    ensures len { array_vec_len line.new ≡ array_vec_len line.old + 4 }
+    requires room { array_vec_len text.old + 4 ≤ WRITE_BUFFER_LEN }
+    ensures value { text.new.items ≡ text.old.items ++ SPACE ∷ address_token addr }
+    ensures len { array_vec_len text.new ≡ array_vec_len text.old + 4 }
 {
     let token = [
         hex_digit((addr / 256) as u8),
         hex_digit((addr / 16 % 16) as u8),
         hex_digit((addr % 16) as u8),
     ];
-    push_token(line, &token);
+    push_token(text, &token);
 }
 
 fn hex_digit(value: u8) -> u8
