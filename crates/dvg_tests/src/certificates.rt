@@ -8,7 +8,7 @@ use std::process::Abort;
 use std::test::Fail;
 
 /// What a reader answers: how many entries, or the refusal.
-type Answer = Result<usize, CertFault>;
+pub type Answer = Result<usize, CertFault>;
 
 const ONE_ENTRY: &[u8] =
     b"dvgcert 1\nshape 800 0 end rel 1047552 785408 box 0 1047552 0 785408 depth 0 words 3 scale 0\ndone 1\n";
@@ -34,7 +34,7 @@ fn answer_of(read: Result<Cert, CertFault>) -> Answer {
 }
 
 /// Feeds pieces of one size after a first one. A refusal must stay, whatever comes.
-fn fed(rt: &impl Abort, alloc: Global, text: &[u8], first: usize, size: usize) -> Answer {
+pub fn fed(rt: &impl Abort, alloc: Global, text: &[u8], first: usize, size: usize) -> Answer {
     let mut reader = CertReader::new(alloc);
     let mut rest = text;
     let mut most = first;

@@ -9,40 +9,6 @@ use dvg_cmd::{
 };
 use std::str;
 
-/// The ROM is read byte by byte, and its end is met once. Where a read or a write fails once, or a write takes nothing,
-/// nothing is read or written after it, though the device works again.
-#[test]
-fn makes_over_weak_devices(rt: HostRuntime) {
-    for (read_fails, most, write_fails, end, told_len, calls) in [
-        (NEVER, 1, NEVER, Ok(()), 17, (2049, 17)),
-        (NEVER, 1, 12, Err(MakeRunFault::Write), 12, (2049, 13)),
-        (NEVER, 1, 0, Err(MakeRunFault::Write), 0, (2049, 1)),
-        (NEVER, 0, NEVER, Err(MakeRunFault::Write), 0, (2049, 1)),
-        (2048, 64, NEVER, Err(MakeRunFault::ReadRom), 0, (2049, 0)),
-        (4, 64, NEVER, Err(MakeRunFault::ReadRom), 0, (5, 0)),
-        (0, 64, 0, Err(MakeRunFault::ReadRom), 0, (1, 0)),
-    ] {
-        let mut reader = Counted::new(SlowReader::new(ROM, 1, read_fails));
-        let mut slow = SlowWriter::new(most, write_fails);
-        let mut out = Counted::new(&mut slow);
-        let answer = run_make(rt.alloc(), &mut reader, &[], &mut out);
-        let failures = (CountedRead::failures(&reader), CountedWrite::failures(&out));
-        let blamed = match end {
-            Err(MakeRunFault::ReadRom) => (1, 0),
-            Err(MakeRunFault::Write) => (0, 1),
-            _ => (0, 0),
-        };
-        assert_eq!(rt;
-            (answer, failures),
-            (end, blamed),
-            "{read_fails} {write_fails}"
-        );
-        assert_eq!(rt; slow.told(), EMPTY.get(..told_len).unwrap_or(&[]));
-        let called = (reader.into_inner().reads(), slow.writes());
-        assert_eq!(rt; called, calls, "{read_fails} {write_fails}");
-    }
-}
-
 /// A ROM that is too long is read to one byte past its limit.
 #[test]
 fn reads_long_roms_to_the_limit(rt: HostRuntime) {
