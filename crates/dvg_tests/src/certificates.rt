@@ -164,20 +164,6 @@ fn from_entries(rt: HostRuntime) -> Result<(), Fail> {
     Ok(())
 }
 
-/// The list, where there is memory for it. Where the first allocation is refused, as by tests/refused-memory, this test fails
-/// and tells the refusal, which stays though there is memory again. A text without entries takes no memory.
-#[test]
-fn refused_memory(rt: HostRuntime) {
-    assert_eq!(rt;
-        answer_of(read_cert(rt.alloc(), b"dvgcert 1\ndone 0\n")),
-        Ok(0)
-    );
-    match fed(&rt, rt.alloc(), LONGEST, 7, 7) {
-        Ok(count) => assert_eq!(rt; count, 1),
-        Err(fault) => panic!(rt; "refused {} at line {}", fault.why.number(), fault.line),
-    }
-}
-
 /// The texts and numbers of the refusals.
 #[test]
 fn shows_faults(rt: HostRuntime) -> Result<(), Fail> {

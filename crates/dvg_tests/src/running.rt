@@ -1,16 +1,15 @@
-//! How far inputs are read, and what a failing device or refused memory leaves.
+//! How far inputs are read, and what the statuses and messages of a run are.
 
 pub mod devices;
 mod making;
 
-use crate::rows::{EMPTY, STROKE_CERT};
+use crate::rows::EMPTY;
 use devices::{SlowReader, SlowWriter};
 use dvg_cmd::{
     Counted, CountedRead, CountedWrite, MakeFault, MakeRunFault, Outcome, RunFault, message_of,
     run_check, status_of,
 };
 use std::alloc::{AllocError, Global};
-use std::str;
 
 const ROM: &[u8] = &[0; 2048];
 
@@ -158,26 +157,4 @@ fn shows_faults(rt: HostRuntime) -> Result<(), AllocError> {
         assert_eq!(rt; format!(in rt.alloc(); "{fault}")?.as_str(), text);
     }
     Ok(())
-}
-
-/// The line, where there is memory. Where an allocation is refused, as by tests/refused-memory, this test fails and tells
-/// the status and what was written.
-#[test]
-fn refused_memory(rt: HostRuntime) {
-    let mut rom = [0; 2048];
-    rom[..6].copy_from_slice(&[0xFF, 0x92, 0xFF, 0x73, 0x00, 0xD0]);
-    let mut told = SlowWriter::new(64, NEVER);
-    let end = run_check(
-        rt.alloc(),
-        &mut Counted::new(rom.as_slice()),
-        &mut Counted::new(STROKE_CERT),
-        &mut Counted::new([0x00, 0xB0].as_slice()),
-        20000,
-        &mut Counted::new(&mut told),
-    );
-    let line = str::from_utf8(told.told()).unwrap_or("no text");
-    if end != Ok(Outcome::Accepted) {
-        panic!(rt; "status {}, line '{}'", status_of(&end), line.trim_end());
-    }
-    assert_eq!(rt; line, "accepted shapes=1 words=1 depth=0\n");
 }
