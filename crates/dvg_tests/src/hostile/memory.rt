@@ -113,29 +113,41 @@ fn take_byte(alloc: Global) {
     let _ = Vec::<u8>::with_capacity(alloc, 1);
 }
 
-/// What `dvg_words` and the reports answer, and a `check` that ends before the certificate.
-#[test]
-fn words_and_reports_take_none(rt: HostRuntime) -> Result<(), Fail> {
-    let bytes = four_rom();
-    take_mark(rt.alloc())?;
-    let rom = RomImage::from_bytes(&bytes)?;
-    let frame = FrameImage::from_bytes(FOUR_FRAME)?;
-    assert_eq!(rt;
-        (rom.word(0x800), frame.word(2), frame.words()),
-        (Some(0xC802), Some(0xC800), 4)
-    );
-    assert_eq!(rt;
-        (is_long(0xC802), decode(0xC802, 0)),
-        (false, Some(Instr::Jsrl { to: 0x802 }))
-    );
+fn are_words_right(bytes: &[u8]) -> bool {
+    let (Ok(rom), Ok(frame)) = (
+        RomImage::from_bytes(bytes),
+        FrameImage::from_bytes(FOUR_FRAME),
+    ) else {
+        return false;
+    };
     let draw = Draw {
         dx: 1023,
         dy: 767,
         lscale: 9,
         bright: 7,
     };
-    assert_eq!(rt; displacement(&draw, 0), (1_047_552, 785_408));
-    assert!(rt; on_screen(1_047_552, 785_408));
+    rom.word(0x800) == Some(0xC802)
+        && frame.word(2) == Some(0xC800)
+        && frame.words() == 4
+        && !is_long(0xC802)
+        && decode(0xC802, 0) == Some(Instr::Jsrl { to: 0x802 })
+        && displacement(&draw, 0) == (1_047_552, 785_408)
+        && on_screen(1_047_552, 785_408)
+}
+
+fn are_reports_right() -> bool {
+    status_of(&Err(RunFault::Write)) == 3
+        && message_of(&RunFault::Write) == "dvgcheck: cannot write"
+        && root_of("800/0") == Some(FOUR_ROOT)
+        && make_status_of(&Ok(())) == 0
+        && make_report_of(&MakeRunFault::RomLength).as_bytes() == b"refused 1\n".as_slice()
+}
+
+/// What `dvg_words` and the reports answer, and a `check` that ends before the certificate.
+#[test]
+fn words_and_reports_take_none(rt: HostRuntime) -> Result<(), Fail> {
+    let bytes = four_rom();
+    take_mark(rt.alloc())?;
     for (rom, frame, budget, want) in [
         (&bytes[1..], FOUR_FRAME, 20000, b"refused 1\n".as_slice()),
         (&bytes, &FOUR_FRAME[1..], 20000, b"refused 2\n"),
@@ -145,14 +157,7 @@ fn words_and_reports_take_none(rt: HostRuntime) -> Result<(), Fail> {
         let report = report_of(&check(rt.alloc(), rom, FOUR_CERT, frame, budget));
         assert_eq!(rt; report.as_bytes(), want);
     }
-    assert_eq!(rt; status_of(&Err(RunFault::Write)), 3);
-    assert_eq!(rt; message_of(&RunFault::Write), "dvgcheck: cannot write");
-    assert_eq!(rt; root_of("800/0"), Some(FOUR_ROOT));
-    assert_eq!(rt; make_status_of(&Ok(())), 0);
-    assert_eq!(rt;
-        make_report_of(&MakeRunFault::RomLength).as_bytes(),
-        b"refused 1\n".as_slice()
-    );
+    assert!(rt; are_words_right(&bytes) && are_reports_right());
     take_byte(rt.alloc());
     Ok(())
 }
@@ -194,46 +199,44 @@ fn certificates_take_none(rt: HostRuntime) -> Result<(), Fail> {
     Ok(())
 }
 
-/// Both checkers, over both indexes, and look-ups.
-#[test]
-fn checkers_take_none(rt: HostRuntime) -> Result<(), Fail> {
-    let bytes = four_rom();
-    let cert = read_cert(rt.alloc(), FOUR_CERT)?;
-    let hashed = HashIndex::new(rt.alloc(), &cert)?;
-    take_mark(rt.alloc())?;
-    let images = images_of(&bytes, FOUR_FRAME, 20000)?;
-    let listed = ListIndex::new(&cert);
-    let first = cert.entries().first().copied();
-    assert_eq!(rt;
-        (
-            hashed.find(0x800, Key::At(0)),
-            hashed.named(0x800, Key::Any)
-        ),
-        (first, None)
-    );
-    assert_eq!(rt;
-        (
-            listed.find(0x800, Key::At(0)),
-            listed.named(0x800, Key::Any)
-        ),
-        (first, None)
-    );
-    assert_eq!(rt; check_shapes(&images.rom, &cert, &hashed), Ok(()));
-    assert_eq!(rt; check_shapes(&images.rom, &cert, &listed), Ok(()));
+/// Whether the first of the four entries is found by its scale and not without one.
+fn finds<E: Entries>(entries: &E) -> bool {
+    entries.find(0x800, Key::At(0)).is_some() && entries.named(0x800, Key::Any).is_none()
+}
+
+/// Whether both checkers accept the four shapes and their frame over both indexes. The index that hashes is made before the
+/// mark is taken.
+fn are_accepted(alloc: Global, bytes: &[u8], cert: &Cert) -> Result<bool, Fail> {
+    let hashed = HashIndex::new(alloc, cert)?;
+    take_mark(alloc)?;
+    let Ok(images) = images_of(bytes, FOUR_FRAME, 20000) else {
+        return Ok(false);
+    };
+    let (rom, frame) = (&images.rom, &images.frame);
+    let listed = ListIndex::new(cert);
+    let Ok(shapes) = JudgedShapes::judge(rom, cert, &hashed) else {
+        return Ok(false);
+    };
     let want = Ok(Accepted {
         words: 11,
         depth: 4,
     });
-    assert_eq!(rt;
-        check_frame(&images.rom, &images.frame, &cert, &hashed, 20000),
-        want
-    );
-    assert_eq!(rt;
-        check_frame(&images.rom, &images.frame, &cert, &listed, 20000),
-        want
-    );
-    let shapes = JudgedShapes::judge(&images.rom, &cert, &hashed)?;
-    assert_eq!(rt; shapes.check_frame(&images.frame, 20000), want);
+    Ok(
+        finds(&hashed)
+            && finds(&listed)
+            && check_shapes(rom, cert, &hashed).is_ok()
+            && check_shapes(rom, cert, &listed).is_ok()
+            && shapes.check_frame(frame, 20000) == want
+            && check_frame(rom, frame, cert, &hashed, 20000) == want
+            && check_frame(rom, frame, cert, &listed, 20000) == want,
+    )
+}
+
+/// Both checkers, and look-ups.
+#[test]
+fn checkers_take_none(rt: HostRuntime) -> Result<(), Fail> {
+    let cert = read_cert(rt.alloc(), FOUR_CERT)?;
+    assert!(rt; are_accepted(rt.alloc(), &four_rom(), &cert)?);
     take_byte(rt.alloc());
     Ok(())
 }
