@@ -8,7 +8,7 @@ use std::process::Abort;
 use std::test::Fail;
 
 /// What a reader answers: how many entries, or the refusal.
-type Answer = Result<usize, CertFault>;
+pub type Answer = Result<usize, CertFault>;
 
 const ONE_ENTRY: &[u8] =
     b"dvgcert 1\nshape 800 0 end rel 1047552 785408 box 0 1047552 0 785408 depth 0 words 3 scale 0\ndone 1\n";
@@ -34,7 +34,7 @@ fn answer_of(read: Result<Cert, CertFault>) -> Answer {
 }
 
 /// Feeds pieces of one size after a first one. A refusal must stay, whatever comes.
-fn fed(rt: &impl Abort, alloc: Global, text: &[u8], first: usize, size: usize) -> Answer {
+pub fn fed(rt: &impl Abort, alloc: Global, text: &[u8], first: usize, size: usize) -> Answer {
     let mut reader = CertReader::new(alloc);
     let mut rest = text;
     let mut most = first;
@@ -162,20 +162,6 @@ fn from_entries(rt: HostRuntime) -> Result<(), Fail> {
     same.pop();
     assert!(rt; Cert::from_entries(same).is_ok_and(|cert| cert.entries().len() == 1));
     Ok(())
-}
-
-/// The list, where there is memory for it. Where the first allocation is refused, as by tests/refused-memory, this test fails
-/// and tells the refusal, which stays though there is memory again. A text without entries takes no memory.
-#[test]
-fn refused_memory(rt: HostRuntime) {
-    assert_eq!(rt;
-        answer_of(read_cert(rt.alloc(), b"dvgcert 1\ndone 0\n")),
-        Ok(0)
-    );
-    match fed(&rt, rt.alloc(), LONGEST, 7, 7) {
-        Ok(count) => assert_eq!(rt; count, 1),
-        Err(fault) => panic!(rt; "refused {} at line {}", fault.why.number(), fault.line),
-    }
 }
 
 /// The texts and numbers of the refusals.

@@ -60,34 +60,6 @@ fn judges_bytes(rt: HostRuntime) {
     }
 }
 
-/// 1, 2 and 49 are answered without memory: where the first allocation is refused, as by tests/refused-memory, that is the
-/// test's own after these answers, and this test fails and tells so.
-#[test]
-fn refused_memory(rt: HostRuntime) {
-    let rom = rom_bytes();
-    for (rom, frame, budget, want) in [
-        (
-            &rom[1..],
-            FRAME,
-            20000,
-            Refusal::Image(ImageFault::RomLength),
-        ),
-        (
-            &rom,
-            &FRAME[1..],
-            20000,
-            Refusal::Image(ImageFault::FrameLength),
-        ),
-        (&rom, FRAME, 0, Refusal::BudgetRange),
-        (&rom, FRAME, 1_000_001, Refusal::BudgetRange),
-    ] {
-        assert_eq!(rt; check(rt.alloc(), rom, CERT, frame, budget), Err(want));
-    }
-    if Vec::<u8>::with_capacity(rt.alloc(), 1).is_err() {
-        panic!(rt; "no memory after the answers");
-    }
-}
-
 /// Judges the shapes of a vector ROM once, then frame after frame over them, and says whether all frames are safe.
 fn are_safe(alloc: Global, rom: &[u8], text: &[u8], frames: &[&[u8]]) -> Result<bool, Refusal> {
     let rom = RomImage::from_bytes(rom)?;

@@ -6,6 +6,8 @@ mod certificates;
 #[cfg(test)]
 mod checking;
 #[cfg(test)]
+mod hostile;
+#[cfg(test)]
 mod items;
 #[cfg(test)]
 mod making;

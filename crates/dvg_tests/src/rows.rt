@@ -410,13 +410,58 @@ shape 800 0 end rel 1047552 785408 box 0 1047552 0 785408 depth 0 words 3 scale 
 frame A080 0000 C800 B0B0
 budget 0
 refused 49
+
+two shapes that jump to one another
+rom 800 E801 E800
+shape 800 0 end rel 0 0 box none depth 0 words 1000000 scale 0
+shape 801 0 end rel 0 0 box none depth 0 words 999999 scale 0
+frame B000
+refused 28 shape 801/0 at 801
+
+a shape that hides what it lights by a call
+rom 800 C802 D000 9000 7001 D000
+shape 800 0 end rel 1024 0 box none depth 1 words 5 scale 0
+shape 802 0 end rel 1024 0 box 0 1024 0 0 depth 0 words 3 scale 0
+frame B000
+refused 31 shape 800/0 at 800
+
+the same, and what it calls hides it too
+rom 800 C802 D000 9000 7001 D000
+shape 800 0 end rel 1024 0 box none depth 1 words 5 scale 0
+shape 802 0 end rel 1024 0 box none depth 0 words 3 scale 0
+frame B000
+refused 31 shape 802/0 at 802
+
+calls up to the end of the ROM, each by the greatest number
+rom 800 CBFF*1023 D000
+shape 800 0 end rel 0 0 box none depth 1 words 2047 scale 0
+shape BFF 0 end rel 2000000000000 2000000000000 box none depth 0 words 1 scale 0
+frame B000
+refused 29 shape 800/0 at BFF
+
+the same, with as many words as may be claimed
+rom 800 CBFF*1023 D000
+shape 800 0 end rel 0 0 box none depth 1 words 1000000 scale 0
+shape BFF 0 end rel 2000000000000 2000000000000 box none depth 0 words 1000000 scale 0
+frame B000
+refused 28 shape 800/0 at 800
+
+a call that has no entry and is over the budget
+rom 800
+frame A000 0000 C800 B000
+budget 2
+refused 47 frame at 002
 ";
 
-/// The words of a text as bytes, the low byte first.
+/// The words of a text as bytes, the low byte first. `CBFF*3` is a word three times.
 fn bytes_of(alloc: Global, words: &str) -> Result<Vec<u8>, Fail> {
     let mut bytes = Vec::new(alloc);
     for word in words.split_whitespace() {
-        bytes.extend_from_slice(&u16::from_str_radix(word, 16)?.to_le_bytes())?;
+        let (word, times) = word.split_once('*').unwrap_or((word, "1"));
+        let word = u16::from_str_radix(word, 16)?.to_le_bytes();
+        for _ in 0..times.parse::<u16>()? {
+            bytes.extend_from_slice(&word)?;
+        }
     }
     Ok(bytes)
 }
@@ -485,7 +530,7 @@ fn run_byte_by_byte(alloc: Global, rom: &[u8], text: &[u8], frame: &[u8], budget
 }
 
 /// Whether this is the report over both indexes, of `check` and of a run.
-fn is_reported(
+pub fn is_reported(
     alloc: Global,
     rom: &[u8],
     text: &[u8],
@@ -567,7 +612,7 @@ fn judges_bytes_of_any_kind(rt: HostRuntime) -> Result<(), Fail> {
 }
 
 /// The text of entries for words of RTSL: all 16 scales of 800 to 8FF, and scale 0 of 900 if there is to be one more.
-fn text_of_returns(alloc: Global, one_more: bool) -> Result<String, Fail> {
+pub fn text_of_returns(alloc: Global, one_more: bool) -> Result<String, Fail> {
     let mut text = format!(in alloc; "dvgcert 1\n")?;
     for index in 0u32..4096 + u32::from(one_more) {
         let (addr, scale) = (0x800 + index / 16, index % 16);

@@ -1,16 +1,15 @@
-//! How far inputs are read, and what a failing device or refused memory leaves.
+//! How far inputs are read, and what the statuses and messages of a run are.
 
 pub mod devices;
 mod making;
 
-use crate::rows::{EMPTY, STROKE_CERT};
+use crate::rows::EMPTY;
 use devices::{SlowReader, SlowWriter};
 use dvg_cmd::{
     Counted, CountedRead, CountedWrite, MakeFault, MakeRunFault, Outcome, RunFault, message_of,
     run_check, status_of,
 };
 use std::alloc::{AllocError, Global};
-use std::str;
 
 const ROM: &[u8] = &[0; 2048];
 
@@ -18,7 +17,7 @@ const ROM: &[u8] = &[0; 2048];
 const FIRST: &[u8] = &[0x01, 0xA0, 0x01, 0x00, 0x01, 0x94, 0x01, 0x74, 0x00, 0xB0];
 
 /// What became of a reader: the failures that were counted, its reads, and the bytes that nobody read.
-type Told = (u32, u32, usize);
+pub type Told = (u32, u32, usize);
 
 fn told_of(reader: Counted<SlowReader>) -> Told {
     let failures = CountedRead::failures(&reader);
@@ -26,23 +25,35 @@ fn told_of(reader: Counted<SlowReader>) -> Told {
     (failures, slow.reads(), slow.left())
 }
 
-/// What a run answers over readers of a ROM, a frame and a certificate that give so many bytes a read, and fail at one read
-/// each; and what became of these readers.
-fn run_slow<W: CountedWrite>(
+/// What a run answers over these readers of a ROM, a frame and a certificate; and what became of them.
+pub fn run_over<W: CountedWrite>(
+    alloc: Global,
+    readers: [SlowReader; 3],
+    out: &mut W,
+) -> (Result<Outcome, RunFault>, [Told; 3]) {
+    let [rom, frame, cert] = readers;
+    let mut rom = Counted::new(rom);
+    let mut frame = Counted::new(frame);
+    let mut cert = Counted::new(cert);
+    let end = run_check(alloc, &mut rom, &mut cert, &mut frame, 20000, out);
+    (end, [told_of(rom), told_of(frame), told_of(cert)])
+}
+
+/// The same over readers of these bytes that give so many a read, and fail at one read each.
+pub fn run_slow<W: CountedWrite>(
     alloc: Global,
     inputs: [&[u8]; 3],
     most: usize,
     fails_at: [u32; 3],
     out: &mut W,
 ) -> (Result<Outcome, RunFault>, [Told; 3]) {
-    let mut rom = Counted::new(SlowReader::new(inputs[0], most, fails_at[0]));
-    let mut frame = Counted::new(SlowReader::new(inputs[1], most, fails_at[1]));
-    let mut cert = Counted::new(SlowReader::new(inputs[2], most, fails_at[2]));
-    let end = run_check(alloc, &mut rom, &mut cert, &mut frame, 20000, out);
-    (end, [told_of(rom), told_of(frame), told_of(cert)])
+    let readers = [
+        SlowReader::new(inputs[0], most, fails_at[0]),
+        SlowReader::new(inputs[1], most, fails_at[1]),
+        SlowReader::new(inputs[2], most, fails_at[2]),
+    ];
+    run_over(alloc, readers, out)
 }
-
-const ACCEPTED: &[u8] = b"accepted shapes=0 words=5 depth=0\n";
 
 pub const NEVER: u32 = u32::MAX;
 
@@ -80,60 +91,6 @@ fn reads_each_byte_once(rt: HostRuntime) -> Result<(), AllocError> {
     let (_, [_, _, told]) = run_slow(rt.alloc(), [&[], FIRST, &cert], 4096, [NEVER; 3], &mut out);
     assert_eq!(rt; told, (0, 257, 23));
     Ok(())
-}
-
-/// Where a read fails once, nothing is read after it, though the reader would give more, and nothing is written.
-#[test]
-fn ends_at_a_failed_read(rt: HostRuntime) {
-    for (fails_at, fault, failures, reads) in [
-        ([0, NEVER, NEVER], RunFault::ReadRom, [1, 0, 0], [1, 0, 0]),
-        ([4, NEVER, NEVER], RunFault::ReadRom, [1, 0, 0], [5, 0, 0]),
-        ([0, 0, 0], RunFault::ReadRom, [1, 0, 0], [1, 0, 0]),
-        ([NEVER, 0, NEVER], RunFault::ReadFrame, [0, 1, 0], [5, 1, 0]),
-        ([NEVER, 1, 0], RunFault::ReadFrame, [0, 1, 0], [5, 2, 0]),
-        ([NEVER, NEVER, 0], RunFault::ReadCert, [0, 0, 1], [5, 2, 1]),
-        ([NEVER, NEVER, 1], RunFault::ReadCert, [0, 0, 1], [5, 2, 2]),
-    ] {
-        let mut slow = SlowWriter::new(64, NEVER);
-        let mut out = Counted::new(&mut slow);
-        let (end, told) = run_slow(rt.alloc(), [ROM, FIRST, EMPTY], 512, fails_at, &mut out);
-        assert_eq!(rt; end, Err(fault), "at {fails_at:?}");
-        let [rom, frame, cert] = told;
-        assert_eq!(rt; [rom.0, frame.0, cert.0], failures, "at {fails_at:?}");
-        assert_eq!(rt; [rom.1, frame.1, cert.1], reads, "at {fails_at:?}");
-        assert_eq!(rt; CountedWrite::failures(&out), 0, "at {fails_at:?}");
-        assert_eq!(rt; slow.writes(), 0, "at {fails_at:?}");
-    }
-}
-
-/// Where a write fails once, or takes nothing, nothing is written after it, though the writer would take more.
-#[test]
-fn ends_at_a_failed_write(rt: HostRuntime) {
-    for (most, fails_at, told_len, writes) in [
-        (1, NEVER, 34, 34),
-        (7, NEVER, 34, 5),
-        (64, 1, 34, 1),
-        (1, 33, 33, 34),
-        (7, 0, 0, 1),
-        (7, 4, 28, 5),
-        (0, NEVER, 0, 1),
-    ] {
-        let mut slow = SlowWriter::new(most, fails_at);
-        let mut out = Counted::new(&mut slow);
-        let (end, _) = run_slow(rt.alloc(), [ROM, FIRST, EMPTY], 512, [NEVER; 3], &mut out);
-        let failures = CountedWrite::failures(&out);
-        let want = match told_len {
-            34 => (Ok(Outcome::Accepted), 0),
-            _ => (Err(RunFault::Write), 1),
-        };
-        assert_eq!(rt; (end, failures), want, "at {most} {fails_at}");
-        assert_eq!(rt;
-            slow.told(),
-            ACCEPTED.get(..told_len).unwrap_or(&[]),
-            "at {most} {fails_at}"
-        );
-        assert_eq!(rt; slow.writes(), writes, "at {most} {fails_at}");
-    }
 }
 
 #[test]
@@ -200,26 +157,4 @@ fn shows_faults(rt: HostRuntime) -> Result<(), AllocError> {
         assert_eq!(rt; format!(in rt.alloc(); "{fault}")?.as_str(), text);
     }
     Ok(())
-}
-
-/// The line, where there is memory. Where an allocation is refused, as by tests/refused-memory, this test fails and tells
-/// the status and what was written.
-#[test]
-fn refused_memory(rt: HostRuntime) {
-    let mut rom = [0; 2048];
-    rom[..6].copy_from_slice(&[0xFF, 0x92, 0xFF, 0x73, 0x00, 0xD0]);
-    let mut told = SlowWriter::new(64, NEVER);
-    let end = run_check(
-        rt.alloc(),
-        &mut Counted::new(rom.as_slice()),
-        &mut Counted::new(STROKE_CERT),
-        &mut Counted::new([0x00, 0xB0].as_slice()),
-        20000,
-        &mut Counted::new(&mut told),
-    );
-    let line = str::from_utf8(told.told()).unwrap_or("no text");
-    if end != Ok(Outcome::Accepted) {
-        panic!(rt; "status {}, line '{}'", status_of(&end), line.trim_end());
-    }
-    assert_eq!(rt; line, "accepted shapes=1 words=1 depth=0\n");
 }

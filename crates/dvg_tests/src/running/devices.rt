@@ -12,6 +12,7 @@ pub struct SlowReader<'a> {
     most: usize,
     fails_at: u32,
     reads: u32,
+    is_endless: bool,
 }
 
 impl<'a> SlowReader<'a> {
@@ -22,6 +23,18 @@ impl<'a> SlowReader<'a> {
             most,
             fails_at,
             reads: 0,
+            is_endless: false,
+        }
+    }
+
+    /// A reader that gives these bytes at each read, and neither ends nor fails.
+    pub fn endless(bytes: &'a [u8]) -> SlowReader<'a> {
+        SlowReader {
+            rest: bytes,
+            most: bytes.len(),
+            fails_at: u32::MAX,
+            reads: 0,
+            is_endless: true,
         }
     }
 
@@ -46,7 +59,9 @@ impl Read for SlowReader<'_> {
         let count = self.rest.len().min(self.most).min(buf.len());
         let (prefix, rest) = self.rest.split_at(count);
         buf[..count].copy_from_slice(prefix);
-        self.rest = rest;
+        if !self.is_endless {
+            self.rest = rest;
+        }
         Ok(count)
     }
 }
@@ -54,19 +69,19 @@ impl Read for SlowReader<'_> {
 /// A writer that takes so many bytes a write, fails at one write alone, and works again after that.
 #[derive(Drop)]
 pub struct SlowWriter {
-    told: [u8; 128],
+    told: [u8; 256],
     len: usize,
     most: usize,
     fails_at: u32,
     writes: u32,
-    ghost fits: { len ≤ 128 },
+    ghost fits: { len ≤ 256 },
 }
 
 impl SlowWriter {
     /// A writer that was told nothing so far.
     pub fn new(most: usize, fails_at: u32) -> SlowWriter {
         SlowWriter {
-            told: [0; 128],
+            told: [0; 256],
             len: 0,
             most,
             fails_at,
@@ -92,7 +107,7 @@ impl Write for SlowWriter {
         if write == self.fails_at {
             return Err(io::Error::from(io::ErrorKind::Other));
         }
-        let count = buf.len().min(self.most).min(128 - self.len);
+        let count = buf.len().min(self.most).min(256 - self.len);
         let end = self.len + count;
         self.told[self.len..end].copy_from_slice(&buf[..count]);
         self.len = end;

@@ -1,59 +1,6 @@
-//! What the maker writes over slow and failing devices, and without memory.
+//! The maker's statuses and messages.
 
-use super::devices::{SlowReader, SlowWriter};
-use super::{NEVER, ROM};
-use crate::rows::EMPTY;
-use dvg_cmd::{
-    Counted, CountedRead, CountedWrite, Key, MakeFault, MakeRunFault, make_report_of,
-    make_status_of, run_make,
-};
-use std::str;
-
-/// The ROM is read byte by byte, and its end is met once. Where a read or a write fails once, or a write takes nothing,
-/// nothing is read or written after it, though the device works again.
-#[test]
-fn makes_over_weak_devices(rt: HostRuntime) {
-    for (read_fails, most, write_fails, end, told_len, calls) in [
-        (NEVER, 1, NEVER, Ok(()), 17, (2049, 17)),
-        (NEVER, 1, 12, Err(MakeRunFault::Write), 12, (2049, 13)),
-        (NEVER, 1, 0, Err(MakeRunFault::Write), 0, (2049, 1)),
-        (NEVER, 0, NEVER, Err(MakeRunFault::Write), 0, (2049, 1)),
-        (2048, 64, NEVER, Err(MakeRunFault::ReadRom), 0, (2049, 0)),
-        (4, 64, NEVER, Err(MakeRunFault::ReadRom), 0, (5, 0)),
-        (0, 64, 0, Err(MakeRunFault::ReadRom), 0, (1, 0)),
-    ] {
-        let mut reader = Counted::new(SlowReader::new(ROM, 1, read_fails));
-        let mut slow = SlowWriter::new(most, write_fails);
-        let mut out = Counted::new(&mut slow);
-        let answer = run_make(rt.alloc(), &mut reader, &[], &mut out);
-        let failures = (CountedRead::failures(&reader), CountedWrite::failures(&out));
-        let blamed = match end {
-            Err(MakeRunFault::ReadRom) => (1, 0),
-            Err(MakeRunFault::Write) => (0, 1),
-            _ => (0, 0),
-        };
-        assert_eq!(rt;
-            (answer, failures),
-            (end, blamed),
-            "{read_fails} {write_fails}"
-        );
-        assert_eq!(rt; slow.told(), EMPTY.get(..told_len).unwrap_or(&[]));
-        let called = (reader.into_inner().reads(), slow.writes());
-        assert_eq!(rt; called, calls, "{read_fails} {write_fails}");
-    }
-}
-
-/// A ROM that is too long is read to one byte past its limit.
-#[test]
-fn reads_long_roms_to_the_limit(rt: HostRuntime) {
-    let long = [0; 2060];
-    let mut reader = Counted::new(SlowReader::new(&long, 1, NEVER));
-    let mut out = Counted::new(SlowWriter::new(64, NEVER));
-    let end = run_make(rt.alloc(), &mut reader, &[], &mut out);
-    assert_eq!(rt; end, Err(MakeRunFault::RomLength));
-    let slow = reader.into_inner();
-    assert_eq!(rt; (slow.reads(), slow.left()), (2049, 11));
-}
+use dvg_cmd::{MakeFault, MakeRunFault, make_report_of, make_status_of};
 
 #[test]
 fn says_how_making_ended(rt: HostRuntime) {
@@ -82,33 +29,4 @@ fn says_how_making_ended(rt: HostRuntime) {
             "at {fault:?}"
         );
     }
-}
-
-/// The text, where there is memory. Where an allocation is refused, as by tests/refused-memory, this test fails and tells
-/// the status and the line.
-#[test]
-fn refused_memory(rt: HostRuntime) {
-    let mut rom = [0; 2048];
-    rom[1] = 0xD0;
-    let mut told = SlowWriter::new(128, NEVER);
-    let end = run_make(
-        rt.alloc(),
-        &mut Counted::new(rom.as_slice()),
-        &[(0x800, Key::At(0))],
-        &mut Counted::new(&mut told),
-    );
-    if let Err(fault) = &end {
-        let report = make_report_of(fault);
-        let line = str::from_utf8(report.as_bytes()).unwrap_or("no text");
-        panic!(rt;
-            "status {}, line '{}', {} bytes",
-            make_status_of(&end),
-            line.trim_end(),
-            told.told().len()
-        );
-    }
-    assert_eq!(rt;
-        told.told(),
-        b"dvgcert 1\nshape 800 0 end rel 0 0 box none depth 0 words 1 scale 0\ndone 1\n".as_slice()
-    );
 }
