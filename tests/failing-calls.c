@@ -126,14 +126,15 @@ static void tell(const char *what, int status, const size_t before[2]) {
 // whether this call of such a kind fails, here
 static int fails(const char *of, const char *what, int number) {
   if (!kind || strcmp(kind, of)) return 0;
-  errno = error;
   calls++;
+  errno = error;
   if (failing) return onward;
   size_t before[2] = {streams[0].length, streams[1].length};
   pid_t half = fork();
   if (half < 0) give_up("cannot split");
   if (!half) {
     alarm(60);
+    errno = error;
     return failing = 1;
   }
   int status;
@@ -158,7 +159,14 @@ int open(const char *path, int flags, ...) {
   return file;
 }
 
+static void must_be(int file, int first, int end) {
+  if (file >= first && file < end) return;
+  errno = EBADF;
+  give_up("no file of the program's");
+}
+
 ssize_t read(int file, void *bytes, size_t room) {
+  must_be(file, 0, MOST_FILES);
   if (fails("read", "file", order[file])) return -1;
   ssize_t moved = pread(file, bytes, slow && room ? 1 : room, place[file]);
   if (moved > 0) place[file] += moved;
@@ -166,6 +174,7 @@ ssize_t read(int file, void *bytes, size_t room) {
 }
 
 ssize_t write(int file, const void *bytes, size_t length) {
+  must_be(file, 1, 3);
   if (fails("write", file == 1 ? "output" : "error", 0)) return error ? -1 : 0;
   struct stream *s = &streams[file - 1];
   if (slow && length) length = 1;
@@ -178,6 +187,7 @@ ssize_t write(int file, const void *bytes, size_t length) {
 ssize_t __write(int file, const void *bytes, size_t length) { return write(file, bytes, length); }
 
 int close(int file) {
+  must_be(file, 0, MOST_FILES);
   if (fails("close", "file", order[file])) return -1;
   return syscall(SYS_close, file);
 }
