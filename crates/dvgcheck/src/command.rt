@@ -1,7 +1,8 @@
 //! The command line.
 
+use crate::escaping::{escaped, marked};
 use clap::error::ErrorKind;
-use clap::{Arg, ArgMatches, Command, Error, value_parser};
+use clap::{Arg, ArgMatches, Command, value_parser};
 use dvg_cmd::{Key, MOST_WORDS, root_of};
 use std::alloc::{AllocError, AllocFailed, Global};
 use std::{env, io};
@@ -9,22 +10,15 @@ use std::{env, io};
 /// Why the words of the command line ask for no run.
 #[derive(Drop)]
 pub enum Usage {
-    /// Help was asked for, or a word is wrong.
-    Clap(Error),
+    /// Help was asked for.
+    Help(String),
+    /// A word is wrong, or none was given.
+    Fault(String),
     /// A word is not UTF-8.
     Unreadable,
     /// A word given as a root is not one.
     BadRoot,
     OutOfMemory,
-}
-
-impl From<Error> for Usage {
-    fn from(error: Error) -> Usage {
-        match error.kind() {
-            ErrorKind::OutOfMemory => Usage::OutOfMemory,
-            _ => Usage::Clap(error),
-        }
-    }
 }
 
 impl<T: Drop> From<AllocFailed<T>> for Usage {
@@ -141,9 +135,30 @@ fn make_words<'a>(alloc: Global, make: &ArgMatches<'a>) -> Result<MakeWords<'a>,
     })
 }
 
+/// What `clap` says of words that it doesn't take: what it says of the marked ones, which it takes as little.
+fn told(alloc: Global, words: &[String]) -> Result<Usage, AllocError> {
+    let marked = marked(alloc, words)?;
+    let Some(error) = command(alloc)?.try_get_matches_from(&marked).err() else {
+        return Ok(Usage::Unreadable);
+    };
+    if error.kind() == ErrorKind::OutOfMemory {
+        return Ok(Usage::OutOfMemory);
+    }
+    let text = escaped(alloc, format!(in alloc; "{error}")?.as_str())?;
+    Ok(if error.use_stderr() {
+        Usage::Fault(text)
+    } else {
+        Usage::Help(text)
+    })
+}
+
 /// What the words ask for. All of them are read before a file is opened.
 pub fn read_words<'a>(alloc: Global, words: &'a [String]) -> Result<Request<'a>, Usage> {
-    let matches = command(alloc)?.try_get_matches_from(words)?;
+    let matches = match command(alloc)?.try_get_matches_from(words) {
+        Ok(matches) => matches,
+        Err(error) if error.kind() == ErrorKind::OutOfMemory => return Err(Usage::OutOfMemory),
+        Err(_) => return Err(told(alloc, words)?),
+    };
     match matches.subcommand() {
         Some(("check", check)) => Ok(Request::Check(check_words(check))),
         Some(("make", make)) => Ok(Request::Make(make_words(alloc, make)?)),

@@ -5,6 +5,7 @@
 #![tactic(auto)]
 
 mod command;
+mod escaping;
 
 use command::{CheckWords, MakeWords, Request, Usage, read_words};
 use dvg_cmd::{
@@ -80,8 +81,11 @@ fn tell_usage(rt: &HostRuntime, usage: &Usage) -> u8 {
             2
         }
         Usage::OutOfMemory => tell_check(rt, &Err(RunFault::Memory)),
-        Usage::Clap(error) => match error.print(rt) {
-            _ if error.use_stderr() => 2,
+        Usage::Fault(text) => {
+            let _ = eprint!(rt; "{}", text);
+            2
+        }
+        Usage::Help(text) => match print!(rt; "{}", text) {
             Ok(()) => 0,
             Err(_) => tell_check(rt, &Err(RunFault::Write)),
         },
