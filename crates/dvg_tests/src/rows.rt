@@ -567,7 +567,7 @@ fn judges_bytes_of_any_kind(rt: HostRuntime) -> Result<(), Fail> {
 }
 
 /// The text of entries for words of RTSL: all 16 scales of 800 to 8FF, and scale 0 of 900 if there is to be one more.
-fn text_of_returns(alloc: Global, one_more: bool) -> Result<String, Fail> {
+pub fn text_of_returns(alloc: Global, one_more: bool) -> Result<String, Fail> {
     let mut text = format!(in alloc; "dvgcert 1\n")?;
     for index in 0u32..4096 + u32::from(one_more) {
         let (addr, scale) = (0x800 + index / 16, index % 16);
