@@ -1,6 +1,7 @@
 //! Devices that count their calls and fail once: each counted call is one call of the device, whatever that answers.
 
 use super::ONE_ENTRY;
+use crate::rows::text_of_returns;
 use dvg_cert::*;
 use std::alloc::Global;
 use std::io;
@@ -213,28 +214,81 @@ fn sends_bytes_once(rt: HostRuntime) {
     }
 }
 
+/// Whether writing a certificate to a device that takes so many bytes a write was answered by `Ok`, the failures that were
+/// counted, and the device.
+fn written(alloc: Global, cert: &Cert, most: usize, fails: Fails) -> (bool, u32, Device) {
+    let mut out = Counted::new(fake(alloc, b"", most, fails));
+    let is_sent = write_cert(cert, &mut out).is_ok();
+    let failures = CountedWrite::failures(&out);
+    (is_sent, failures, out.into_inner())
+}
+
 /// A certificate of one entry is written byte by byte, up to the one byte that fails.
 #[test]
 fn sends_a_certificate_once(rt: HostRuntime) -> Result<(), Fail> {
     let cert = read_cert(rt.alloc(), ONE_ENTRY)?;
     for at in 0..=ONE_ENTRY.len() {
         for fails in [Fails::Error(at as u32), Fails::Idle(at as u32)] {
-            let mut out = Counted::new(fake(rt.alloc(), b"", 1, fails));
-            let is_sent = write_cert(&cert, &mut out).is_ok();
-            let failures = CountedWrite::failures(&out);
+            let (is_sent, failures, device) = written(rt.alloc(), &cert, 1, fails);
             let is_whole = at == ONE_ENTRY.len();
             assert_eq!(rt;
                 (is_sent, failures),
                 (is_whole, u32::from(!is_whole)),
                 "{fails:?}"
             );
-            let device = out.into_inner();
             assert_eq!(rt; device.taken.as_slice(), &ONE_ENTRY[..at], "{fails:?}");
             assert_eq!(rt;
                 device.calls as usize,
                 ONE_ENTRY.len().min(at + 1),
                 "{fails:?}"
             );
+        }
+    }
+    Ok(())
+}
+
+/// The first so many lines of a text that has as many.
+fn first_lines(text: &[u8], most: usize) -> &[u8] {
+    let mut lines = 0;
+    for i in 0..text.len() {
+        if lines == most {
+            return &text[..i];
+        }
+        lines = lines.saturating_add(usize::from(text[i] == b'\n'));
+    }
+    text
+}
+
+/// A certificate of 4096 entries takes 61 writes. Each is of 68 lines of entries, but for the last, of 16: 67 of these lines have
+/// 3873 bytes at most, and 68 have 3924 at least, after which another of 200 may not fit 4096. The first has the first line, too.
+/// Where one fails, just the lines of those before it stand.
+#[test]
+fn sends_many_lines_a_write(rt: HostRuntime) -> Result<(), Fail> {
+    let text = text_of_returns(rt.alloc(), false)?;
+    let cert = read_cert(rt.alloc(), text.as_bytes())?;
+    for (most, calls) in [(1, 236_564), (7, 33_825), (4096, 61)] {
+        let (is_sent, failures, device) = written(rt.alloc(), &cert, most, Fails::Never);
+        assert_eq!(rt;
+            (is_sent, failures, device.calls),
+            (true, 0, calls),
+            "{most} a write"
+        );
+        assert!(rt;
+            device.taken.as_slice() == text.as_bytes(),
+            "{most} a write"
+        );
+    }
+    for at in 0..61 {
+        let lines = if at == 0 { 0 } else { 68 * at + 1 };
+        for fails in [Fails::Error(at as u32), Fails::Idle(at as u32)] {
+            let (is_sent, failures, device) = written(rt.alloc(), &cert, 4096, fails);
+            assert_eq!(rt;
+                (is_sent, failures, device.calls as usize),
+                (false, 1, at + 1),
+                "{fails:?}"
+            );
+            let is_prefix = device.taken.as_slice() == first_lines(text.as_bytes(), lines);
+            assert!(rt; is_prefix, "{fails:?}");
         }
     }
     Ok(())
