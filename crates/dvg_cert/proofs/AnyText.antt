@@ -7,7 +7,7 @@ use Rattle.std.proofs.lemmas.Bool.{eqb-true}
 use Rattle.std.proofs.lemmas.Bool.Decides.{nat_tests}
 use Rattle.std.proofs.lemmas.Slice.Eq.{bytes_eq-Decides}
 use Rattle.std.proofs.lemmas.Option.{none-some}
-use Rattle.dvg_cert.specs.Limits.{MOST_ENTRIES, LONGEST_LINE, LINE_FEED, SPACE, ADDRESS_END}
+use Rattle.dvg_cert.specs.Limits.{MOST_ENTRIES, LONGEST_LINE, LINE_FEED, ADDRESS_END}
 use Rattle.dvg_cert.specs.Reading.{Line}
 use Rattle.dvg_cert.specs.Reading.{EntryLine, DoneLine}
 use Rattle.dvg_cert.specs.declared.fault.CertWhy.{CertWhy}

@@ -16,13 +16,8 @@ use Rattle.std.specs.Str.Parse.{AllDigits}
 use Rattle.dvg_cert.specs.Limits.{MOST_MAGNITUDE, ADDRESS_END}
 use Rattle.dvg_cert.specs.Entry.{Key, At, Any, IsNumber, IsKey}
 use Rattle.dvg_cert.specs.Grammar.{address_token, key_token}
-use Rattle.dvg_cert.specs.Private.Fields.{◌>>=◌, natural_in, hex_value, address_in}
+use Rattle.dvg_cert.specs.Private.Fields.{natural_in, hex_value, address_in}
 use Rattle.dvg_cert.proofs.NaturalNumbers.{natural_some}
-
--- the value of a step that did not fail
-pub bind_some : {A B : Type 0} (r : Option A) (f : A → Option B) (y : B) → (r >>= f) ≡ Some y → (x : A) × (r ≡ Some x) × (f x ≡ Some y)
-bind_some None f y e = absurd cc
-bind_some (Some x) f y e = (x, refl, e)
 
 pub same_bytes : (xs ys : List ℕ) → bytes_eq xs ys ≡ true → xs ≡ ys
 same_bytes xs ys = (bytes_eq-Decides xs ys).0

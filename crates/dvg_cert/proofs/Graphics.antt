@@ -1,6 +1,6 @@
 -- Lines: a spelled line has no line end inside.
-use Rattle.std.proofs.Common.{◌≡◌, ℕ, suc, ◌/◌, ◌%◌, ◌^◌, ◌<◌, ◌≤◌, List, [], ◌∷◌, ◌++◌, refl, arith, lit<, lit≤}
-use Rattle.std.specs.Prelude.{codes, decimal, ℤ, pos, negsuc, ◌==◌, true}
+use Rattle.std.proofs.Common.{ℕ, suc, ◌/◌, ◌%◌, ◌^◌, ◌<◌, ◌≤◌, List, [], ◌∷◌, ◌++◌, refl, arith, lit<, lit≤}
+use Rattle.std.specs.Prelude.{codes, decimal, ℤ, pos, negsuc, true}
 use Rattle.std.specs.Fmt.{signed_decimal, digit_glyph}
 use Rattle.std.specs.Str.Parse.{AllDigits}
 use Rattle.std.specs.List.{join_with_byte}

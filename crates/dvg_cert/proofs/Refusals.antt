@@ -167,8 +167,3 @@ pub ended_refused : (first last : ℕ) (old es : List Entry) (e : Entry) (bytes 
 ended_refused first last old es e bytes rest after so_far is fits =
     let more = length-append es (e ∷ []) in
     (es ++ e ∷ [], after, fits, omega (arith, more), (ended_taken old es (es ++ e ∷ []) e bytes rest after so_far is refl).0, omega (arith, more))
-
-pub no_rest : (taken : Taken) → IsRest taken []
-no_rest Nothing = (tt, omega arith)
-no_rest (Begun from to es) = (tt, omega arith)
-no_rest (Whole from to es) = refl

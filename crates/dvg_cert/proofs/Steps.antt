@@ -1,5 +1,5 @@
 -- A field that is read from the front of bytes is spelled there, and what is spelled there is read again.
-use Rattle.std.proofs.Common.{◌≡◌, ◌≢◌, ℕ, zero, suc, ◌+◌, ◌-◌, ◌/◌, ◌%◌, ◌^◌, ◌<◌, ◌≤◌, Bool, true, false, cond, ◌&&◌, [], ◌∷◌, ◌++◌, length, map, take, drop, get_or, Option, Some, None, refl, sym, ap, subst, ◌∙◌, arith}
+use Rattle.std.proofs.Common.{◌≡◌, ◌≢◌, ℕ, ◌+◌, ◌-◌, ◌/◌, ◌%◌, ◌^◌, ◌<◌, ◌≤◌, Bool, true, false, cond, ◌&&◌, [], ◌∷◌, ◌++◌, length, map, take, drop, get_or, Option, Some, None, refl, sym, ap, subst, ◌∙◌, arith}
 use Rattle.std.specs.Prelude.{codes, decimal, nat_le, nat_lt, ◌==◌}
 use Rattle.std.specs.Char.{digit_value}
 use Rattle.std.specs.Option.{option_map, option_map_or}
@@ -61,18 +61,6 @@ past_not_found n text bytes prefix is len other =
 
 pub past_short : (text bytes : Text) → length bytes < length text → past text bytes ≡ None
 past_short text bytes lt = past_never text bytes (λ rest e. omega (arith, ap length e, length-append text rest))
-
--- texts that are the same at their front and at their back, with nothing between
-pub halves : (k m : ℕ) (xs ys : Text) → m ≤ k → take k xs ≡ take k ys → drop m xs ≡ drop m ys → xs ≡ ys
-halves k zero xs ys le front back = back
-halves zero (suc m) xs ys le front back = absurd (omega arith)
-halves (suc k) (suc m) [] [] le front back = refl
-halves (suc k) (suc m) [] (y ∷ ys) le front back = absurd cc
-halves (suc k) (suc m) (x ∷ xs) [] le front back = absurd cc
-halves (suc k) (suc m) (x ∷ xs) (y ∷ ys) le front back =
-    let head : x ≡ y = cc in
-    let tail : take k xs ≡ take k ys = cc in
-    ap (λ (z : ℕ). z ∷ xs) head ∙ ap (λ (zs : Text). y ∷ zs) (halves k m xs ys (omega arith) tail back)
 
 -- ---- numbers
 

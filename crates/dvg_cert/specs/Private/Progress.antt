@@ -1,7 +1,7 @@
 -- The running state of the reader. No rule stands here.
 use Rattle.std.specs.Prelude.{◌≡◌, ◌≢◌, ℕ, ◌+◌, ◌<◌, ◌≤◌, List, [], ◌∷◌, ◌++◌, length, take, drop, Result, Ok, Err, Option, Some, None}
 use Rattle.dvg_cert.specs.Limits.{MOST_ENTRIES, LINE_FEED}
-use Rattle.dvg_cert.specs.Reading.{EntryLine, DoneLine}
+use Rattle.dvg_cert.specs.Reading.{EntryLine}
 use Rattle.dvg_cert.specs.declared.fault.CertWhy.{CertWhy}
 use Rattle.dvg_cert.specs.declared.fault.CertWhy.TheVariants.{Order, Unended, TooLong, Memory}
 use Rattle.dvg_cert.specs.declared.fault.CertFault.{CertFault}

@@ -1,6 +1,6 @@
 use Rattle.std.proofs.Common.{refl, arith}
 use Rattle.dvg_cert.proofs.Leading.{no_digits, too_long}
-use Rattle.dvg_cert.proofs.DigitSums.{all_take, window_digits, window_ends, alone}
+use Rattle.dvg_cert.proofs.DigitSums.{all_take, window_digits, window_ends}
 use Rattle.dvg_cert.proofs.numerals.leading_number.Goals as goal
 
 pub returns-then-count-eq0 : goal.returns-then-count-eq0
