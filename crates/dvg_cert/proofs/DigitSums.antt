@@ -233,11 +233,3 @@ window_ends n xs long lt h =
     let at : get_or (take 16 xs) n 0 ≡ get_or xs n 0 = get_or-take 16 xs n 0 lt in
     let short : NoDigitFirst (get_or (take 16 xs) n 0 ∷ drop (suc n) (take 16 xs)) = subst NoDigitFirst (drop-cons (take 16 xs) n 0 (omega (arith, within))) h in
     rw (drop-cons xs n 0 (omega (arith, within))) (λ d. short (subst (λ (x : ℕ). digit_value x < 10) (sym at) d))
-
-pub alone : (xs : List ℕ) → 1 < length xs → get_or xs 0 0 < 256 → get_or xs 1 0 < 256 → (get_or xs 0 0 + 208) % 256 ≤ 9 → 9 < (get_or xs 1 0 + 208) % 256
-    → AllDigits 10 (take 1 xs) × NoDigitFirst (drop 1 xs)
-alone [] long b0 b1 is other = absurd (omega arith)
-alone (x ∷ []) long b0 b1 is other = absurd (omega arith)
-alone (x ∷ y ∷ xs) long b0 b1 is other =
-    let value = digit_value_digit x (omega arith, omega arith) in
-    ((omega (arith, value), tt), λ h. let r = digit_from_value y h in absurd (omega arith))
