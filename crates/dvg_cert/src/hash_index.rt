@@ -1,6 +1,6 @@
 //! An index of a certificate that hashes addresses and keys.
 
-ghost use Rattle.std.specs.Prelude.{◌≡◌, ◌≤◌, IfOk};
+ghost use Rattle.std.specs.Prelude.{◌≡◌, ◌*◌, ◌≤◌, min, IfOk};
 ghost use Rattle.std.specs.Option.{option_copied};
 ghost use Rattle.dvg_cert.specs.Lookup.{entry_at};
 ghost use Rattle.dvg_cert.specs.Limits.{MOST_ENTRIES};
@@ -19,7 +19,7 @@ const ALL_KEYS: usize = 17_408;
 /// few places; with room for so many more keys than there are entries, not many find a place far from there.
 fn room_for(entries: usize) -> usize
     requires { entries ≤ MOST_ENTRIES }
-    ensures { entries ≤ result }
+    ensures { result ≡ min (16 * entries) ALL_KEYS }
 {
     (16 * entries).min(ALL_KEYS)
 }
