@@ -7,8 +7,8 @@ use crate::filling::Filling;
 use crate::reading::text_of;
 use anyhow::{Result, bail};
 use dvg_cert::{HashIndex, MOST_WORDS};
-use dvg_check::{JudgedShapes, check, check_shapes};
-use dvg_words::{FrameImage, ROM_LAST, RomImage};
+use dvg_check::{JudgedShapes, Mode, check, check_shapes};
+use dvg_words::{FrameImage, ROM_LAST, RomImage, SCREEN};
 use std::alloc::{AllocError, Global};
 use std::fs;
 
@@ -70,13 +70,13 @@ impl Frame {
 /// Checks the shapes of so many entries so many times, and gives how many items they have together.
 pub fn check_entries(alloc: Global, filling: Filling, count: u16, times: u32) -> Result<u64> {
     let bytes = filling.rom_bytes(alloc)?;
-    let Ok(rom) = RomImage::from_bytes(&bytes) else {
+    let cert = cert_of(alloc, filling, count)?;
+    let Ok(rom) = RomImage::from_bytes(&bytes, cert.map()) else {
         bail!("these are not the bytes of a ROM");
     };
-    let cert = cert_of(alloc, filling, count)?;
     let index = HashIndex::new(alloc, &cert)?;
     for _ in 0..times {
-        if check_shapes(&rom, &cert, &index).is_err() {
+        if check_shapes(&rom, &cert, &index, &SCREEN).is_err() {
             bail!("a shape was refused");
         }
     }
@@ -90,7 +90,7 @@ pub fn check_bytes(alloc: Global, filling: Filling, count: u16, times: u32) -> R
     let cert = cert_of(alloc, filling, count)?;
     let text = text_of(alloc, &cert)?;
     for _ in 0..times {
-        check(alloc, &rom, &text, HALT, 1)?;
+        check(alloc, &rom, &text, HALT, 1, SCREEN)?;
     }
     Ok(items_of(filling, &cert))
 }
@@ -102,12 +102,15 @@ pub fn check_frames(alloc: Global, frame: Frame, count: u16, times: u32) -> Resu
     }
     let rom = Filling::Draws.rom_bytes(alloc)?;
     let frame = frame.bytes(alloc, count / 4)?;
-    let (Ok(rom), Ok(frame)) = (RomImage::from_bytes(&rom), FrameImage::from_bytes(&frame)) else {
+    let cert = cert_of(alloc, Filling::Draws, count)?;
+    let (Ok(rom), Ok(frame)) = (
+        RomImage::from_bytes(&rom, cert.map()),
+        FrameImage::from_bytes(&frame),
+    ) else {
         bail!("these are not the bytes of a ROM and of a frame");
     };
-    let cert = cert_of(alloc, Filling::Draws, count)?;
     let index = HashIndex::new(alloc, &cert)?;
-    let Ok(shapes) = JudgedShapes::judge(&rom, &cert, &index) else {
+    let Ok(shapes) = JudgedShapes::judge(&rom, &cert, &index, SCREEN, Mode::Bound) else {
         bail!("a shape was refused");
     };
     for _ in 0..times {
@@ -125,7 +128,7 @@ pub fn check_files(rt: &HostRuntime, count: u16, times: u32) -> Result<u64> {
     let text = fs::read(rt, "bench.cert")?;
     let frame = fs::read(rt, "bench.frame")?;
     for _ in 0..times {
-        let yes = check(rt.alloc(), &rom, &text, &frame, MOST_WORDS)?;
+        let yes = check(rt.alloc(), &rom, &text, &frame, MOST_WORDS, SCREEN)?;
         if yes.shapes != u32::from(count) {
             bail!("the certificate has another number of entries");
         }

@@ -213,7 +213,7 @@ pub fn cert_of(alloc: Global, filling: Filling, count: u16) -> Result<Cert> {
         let addr = address_at(filling, index);
         entries.push(entry_of(filling, addr, key_at(filling, index, addr)))?;
     }
-    match Cert::from_entries(entries) {
+    match Cert::from_entries(entries, (ROM_FIRST, ROM_LAST)) {
         Ok(cert) => Ok(cert),
         Err(_) => bail!("these are not the entries of a certificate"),
     }

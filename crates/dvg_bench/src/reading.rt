@@ -4,7 +4,7 @@ ghost use Rattle.std.specs.Prelude.{◌<◌, ◌≤◌, pos, ◌≤ℤ◌, ◌<�
 
 use anyhow::{Result, bail};
 use dvg_cert::{Cert, Counted, End, Entry, Key, LitBox, MOST_ENTRIES, read_cert, write_cert};
-use dvg_words::ROM_FIRST;
+use dvg_words::{ROM_FIRST, ROM_LAST};
 use std::alloc::{AllocError, Global};
 
 /// A row of numbers that looks random and is the same in each run.
@@ -81,7 +81,7 @@ pub fn read_texts(alloc: Global, count: u16, times: u32) -> Result<u64> {
     if count > 4096 {
         bail!("a certificate has 4096 entries at most");
     }
-    let Ok(cert) = Cert::from_entries(entries_of(alloc, count)?) else {
+    let Ok(cert) = Cert::from_entries(entries_of(alloc, count)?, (ROM_FIRST, ROM_LAST)) else {
         bail!("these are not the entries of a certificate");
     };
     let text = text_of(alloc, &cert)?;

@@ -7,19 +7,21 @@ use Rattle.std.proofs.lemmas.Bool.{eqb-true}
 use Rattle.std.proofs.lemmas.Bool.Decides.{nat_tests}
 use Rattle.std.proofs.lemmas.Slice.Eq.{bytes_eq-Decides}
 use Rattle.std.proofs.lemmas.Option.{none-some}
-use Rattle.dvg_cert.specs.Limits.{MOST_ENTRIES, LONGEST_LINE, LINE_FEED, ADDRESS_END}
+use Rattle.dvg_words.specs.Values.{MemoryMap, asteroids}
+use Rattle.dvg_cert.specs.Limits.{MOST_ENTRIES, LONGEST_LINE, LINE_FEED}
 use Rattle.dvg_cert.specs.Reading.{Line}
 use Rattle.dvg_cert.specs.Reading.{EntryLine, DoneLine}
 use Rattle.dvg_cert.specs.declared.fault.CertWhy.{CertWhy}
 use Rattle.dvg_cert.specs.declared.fault.CertWhy.TheVariants.{Form, Order, Count, Unended, After, TooLong, Memory}
 use Rattle.dvg_cert.specs.Entry.{Entry, Key, At, Any}
 use Rattle.dvg_cert.specs.Order.{KeyBefore, Before, StandsAfter}
-use Rattle.dvg_cert.specs.Grammar.{first_line, done_line, begun_with, ended, text_of}
-use Rattle.dvg_cert.specs.Reading.{IsLine, Taken, Nothing, Begun, Whole, text_taken, line_number, Holds, MayStand, IsUnended, Meets, StopsAt, IsRefusal}
+use Rattle.dvg_cert.specs.Grammar.{first_version_line, second_version_line, done_line, begun_with, ended, text_of}
+use Rattle.dvg_cert.specs.Reading.{IsLine, Taken, Nothing, Versioned, Begun, Whole, text_taken, line_number, Holds, MayStand, IsUnended, Meets, StopsAt, IsRefusal}
 use Rattle.dvg_cert.proofs.Graphics.{Without-append}
 use Rattle.dvg_cert.proofs.WholeLines.{said, line_takes, line_again}
-use Rattle.dvg_cert.proofs.Rising.{certificate_push}
-use Rattle.dvg_cert.proofs.Refusals.{rest_of, rest_is, entry_taken, first_taken, meets_long}
+use Rattle.dvg_cert.proofs.Rising.{certificate_push, no_entry_yet, small_map}
+use Rattle.dvg_cert.proofs.FirstLines.{first_taken, rom_taken, elsewhere_or}
+use Rattle.dvg_cert.proofs.Refusals.{rest_of, rest_is, entry_taken, meets_long}
 use Rattle.dvg_cert.proofs.OneAnswerLemmas.{stuck_stands}
 
 lt_or : (t : Bool) (m n : ℕ) → nat_lt m n ≡ t → (m < n) ⊎ (m < n → ⊥)
@@ -54,68 +56,81 @@ stands_or (f ∷ []) e = before_at (nat_lt f.addr e.addr) (f.addr == e.addr) f e
 stands_or (f ∷ g ∷ es) e = stands_or (g ∷ es) e
 
 -- one more byte: a text that may stand, or why the byte cannot come
-abbrev pub OneMore : ℕ → ℕ → List ℕ → Taken → List ℕ → ℕ → Type 0
-OneMore first last prefix taken rest b = MayStand first last (prefix ++ b ∷ []) ⊎ ((why : CertWhy) × Meets taken rest b why)
+abbrev pub OneMore : List ℕ → Taken → List ℕ → ℕ → Type 0
+OneMore prefix taken rest b = MayStand (prefix ++ b ∷ []) ⊎ ((why : CertWhy) × Meets taken rest b why)
 
 next_parts : (prefix text rest next : List ℕ) (b : ℕ) → prefix ≡ text ++ rest → b ≡ LINE_FEED → next ≡ text ++ ended rest → prefix ++ b ∷ [] ≡ next ++ []
 next_parts prefix text rest next b e lf n =
     ap (λ (x : List ℕ). x ++ b ∷ []) e ∙ append_assoc text rest (b ∷ []) ∙ ap (λ (x : ℕ). text ++ (rest ++ x ∷ [])) lf ∙ sym n ∙ sym (append-nil next)
 
 -- the LF of the first line
-first_end : (t : Bool) (first last : ℕ) (prefix rest : List ℕ) (b : ℕ) → bytes_eq rest first_line ≡ t → Holds first last prefix Nothing rest → b ≡ LINE_FEED → OneMore first last prefix Nothing rest b
-first_end true first last prefix rest b t h lf =
-    let line : rest ≡ first_line = (bytes_eq-Decides rest first_line).0 t in
-    inl (Begun first last [], [], record { parts = next_parts prefix [] rest (begun_with []) b h.parts lf (first_taken rest line); lines = (refl, refl, record { each = tt; rising = tt; few = omega arith }); begun = (tt, omega arith) })
-first_end false first last prefix rest b t h lf = inr (Form, inr (lf, λ e. differs (bytes_eq rest first_line) t ((bytes_eq-Decides rest first_line).1 e)))
+first_end : (t v : Bool) (prefix rest : List ℕ) (b : ℕ) → bytes_eq rest first_version_line ≡ t → bytes_eq rest second_version_line ≡ v → Holds prefix Nothing rest → b ≡ LINE_FEED → OneMore prefix Nothing rest b
+first_end true v prefix rest b t u h lf =
+    let line : rest ≡ first_version_line = (bytes_eq-Decides rest first_version_line).0 t in
+    inl (Begun asteroids [], [], record { parts = next_parts prefix [] rest (begun_with asteroids []) b h.parts lf (first_taken rest line); lines = no_entry_yet asteroids (record { past_frames = omega arith; ordered = omega arith; inside = omega arith }); begun = (tt, omega arith) })
+first_end false true prefix rest b t u h lf =
+    let line : rest ≡ second_version_line = (bytes_eq-Decides rest second_version_line).0 u in
+    inl (Versioned, [], record { parts = next_parts prefix [] rest (ended second_version_line) b h.parts lf (ap ended (sym line)); lines = tt; begun = (tt, omega arith) })
+first_end false false prefix rest b t u h lf =
+    inr (Form, inr (lf, ((λ e. differs (bytes_eq rest first_version_line) t ((bytes_eq-Decides rest first_version_line).1 e)), (λ e. differs (bytes_eq rest second_version_line) u ((bytes_eq-Decides rest second_version_line).1 e)))))
   where
     differs : (t : Bool) → t ≡ false → t ≡ true → ⊥
     differs t p q = cc
 
+-- the LF of the line of a ROM
+rom_end : (prefix rest : List ℕ) (b : ℕ) → Holds prefix Versioned rest → b ≡ LINE_FEED → OneMore prefix Versioned rest b
+rom_end prefix rest b h lf =
+    elim (elsewhere_or rest) [
+      | inl s ↦ inl (Begun s.0 [], [], record { parts = next_parts prefix (ended second_version_line) rest (begun_with s.0 []) b h.parts lf (rom_taken s.0 rest s.1.1 s.2); lines = no_entry_yet s.0 s.1.0; begun = (tt, omega arith) })
+      | inr n ↦ inr (Form, inr (lf, n))
+    ]
+
 -- the LF of an entry's line
-entry_end : (first last from to : ℕ) (es : List Entry) (prefix rest : List ℕ) (b : ℕ) (e : Entry) → Holds first last prefix (Begun from to es) rest → b ≡ LINE_FEED → IsLine from to (EntryLine e) rest → OneMore first last prefix (Begun from to es) rest b
-entry_end first last from to es prefix rest b e h lf line =
+entry_end : (map : MemoryMap) (es : List Entry) (prefix rest : List ℕ) (b : ℕ) (e : Entry) → Holds prefix (Begun map es) rest → b ≡ LINE_FEED → IsLine map.rom_first map.rom_last (EntryLine e) rest → OneMore prefix (Begun map es) rest b
+entry_end map es prefix rest b e h lf line =
     elim (stands_or es e) [
       | inl s ↦ room (nat_lt (length es) MOST_ENTRIES) refl s
       | inr n ↦ inr (Order, inr (lf, (e, line, n)))
     ]
   where
-    room : (t : Bool) → nat_lt (length es) MOST_ENTRIES ≡ t → StandsAfter es e → OneMore first last prefix (Begun from to es) rest b
+    room : (t : Bool) → nat_lt (length es) MOST_ENTRIES ≡ t → StandsAfter es e → OneMore prefix (Begun map es) rest b
     room true t s =
-        let k = certificate_push from to es e h.lines.2 line.0 s (grind (arith, nat_tests)) in
-        inl (Begun from to (es ++ e ∷ []), [], record { parts = next_parts prefix (begun_with es) rest (begun_with (es ++ e ∷ [])) b h.parts lf (entry_taken es rest e line.1); lines = (h.lines.0, h.lines.1, k); begun = (tt, omega arith) })
+        let k = certificate_push map es e h.lines line.0 s (grind (arith, nat_tests)) in
+        inl (Begun map (es ++ e ∷ []), [], record { parts = next_parts prefix (begun_with map es) rest (begun_with map (es ++ e ∷ [])) b h.parts lf (entry_taken map es rest e line.1); lines = k; begun = (tt, omega arith) })
     room false t s =
-        let few = h.lines.2.few in
+        let few = h.lines.few in
         let least : MOST_ENTRIES ≤ length es = grind (arith, nat_tests) in
         inr (TooLong, inr (lf, (e, line, s, omega (arith, few, least))))
 
 -- the LF of a last line
-done_end : (t : Bool) (first last from to : ℕ) (es : List Entry) (prefix rest : List ℕ) (b n : ℕ) → (n == length es) ≡ t → Holds first last prefix (Begun from to es) rest → b ≡ LINE_FEED → IsLine from to (DoneLine n) rest → OneMore first last prefix (Begun from to es) rest b
-done_end true first last from to es prefix rest b n t h lf line =
+done_end : (t : Bool) (map : MemoryMap) (es : List Entry) (prefix rest : List ℕ) (b n : ℕ) → (n == length es) ≡ t → Holds prefix (Begun map es) rest → b ≡ LINE_FEED → IsLine map.rom_first map.rom_last (DoneLine n) rest → OneMore prefix (Begun map es) rest b
+done_end true map es prefix rest b n t h lf line =
     let same : n ≡ length es = eqb-true n (length es) t in
-    let spelled : text_of es ≡ begun_with es ++ ended rest = ap (λ (x : List ℕ). begun_with es ++ ended x) (ap done (sym same) ∙ sym line.1) in
-    inl (Whole from to es, [], record { parts = next_parts prefix (begun_with es) rest (text_of es) b h.parts lf spelled; lines = h.lines; begun = refl })
+    let spelled : text_of map es ≡ begun_with map es ++ ended rest = ap (λ (x : List ℕ). begun_with map es ++ ended x) (ap done (sym same) ∙ sym line.1) in
+    inl (Whole map es, [], record { parts = next_parts prefix (begun_with map es) rest (text_of map es) b h.parts lf spelled; lines = h.lines; begun = refl })
   where
     done : ℕ → List ℕ
     done n = done_line n
-done_end false first last from to es prefix rest b n t h lf line = inr (Count, inr (lf, (n, line, λ e. absurd (grind (arith, nat_tests)))))
+done_end false map es prefix rest b n t h lf line = inr (Count, inr (lf, (n, line, λ e. absurd (grind (arith, nat_tests)))))
 
 -- the LF of a later line
-later_end : (r : Option Line) (first last from to : ℕ) (es : List Entry) (prefix rest : List ℕ) (b : ℕ) → said from to rest ≡ r → to < ADDRESS_END → Holds first last prefix (Begun from to es) rest → b ≡ LINE_FEED → OneMore first last prefix (Begun from to es) rest b
-later_end None first last from to es prefix rest b r small h lf =
-    inr (Form, inr (lf, λ l k. none-some l (sym r ∙ line_again from to rest l small k)))
-later_end (Some (EntryLine e)) first last from to es prefix rest b r small h lf = entry_end first last from to es prefix rest b e h lf (line_takes from to rest (EntryLine e) small r)
-later_end (Some (DoneLine n)) first last from to es prefix rest b r small h lf = done_end (n == length es) first last from to es prefix rest b n refl h lf (line_takes from to rest (DoneLine n) small r)
+later_end : (r : Option Line) (map : MemoryMap) (es : List Entry) (prefix rest : List ℕ) (b : ℕ) → said map.rom_first map.rom_last rest ≡ r → Holds prefix (Begun map es) rest → b ≡ LINE_FEED → OneMore prefix (Begun map es) rest b
+later_end None map es prefix rest b r h lf =
+    inr (Form, inr (lf, λ l k. none-some l (sym r ∙ line_again map.rom_first map.rom_last rest l (small_map map h.lines.map_is) k)))
+later_end (Some (EntryLine e)) map es prefix rest b r h lf = entry_end map es prefix rest b e h lf (line_takes map.rom_first map.rom_last rest (EntryLine e) (small_map map h.lines.map_is) r)
+later_end (Some (DoneLine n)) map es prefix rest b r h lf = done_end (n == length es) map es prefix rest b n refl h lf (line_takes map.rom_first map.rom_last rest (DoneLine n) (small_map map h.lines.map_is) r)
 
-at_end : (first last : ℕ) (prefix : List ℕ) (taken : Taken) (rest : List ℕ) (b : ℕ) → last < ADDRESS_END → IsUnended taken → Holds first last prefix taken rest → b ≡ LINE_FEED → OneMore first last prefix taken rest b
-at_end first last prefix Nothing rest b small u h lf = first_end (bytes_eq rest first_line) first last prefix rest b refl h lf
-at_end first last prefix (Begun from to es) rest b small u h lf = later_end (said from to rest) first last from to es prefix rest b refl (omega (arith, h.lines.1)) h lf
-at_end first last prefix (Whole from to es) rest b small u h lf = absurd u
+at_end : (prefix : List ℕ) (taken : Taken) (rest : List ℕ) (b : ℕ) → IsUnended taken → Holds prefix taken rest → b ≡ LINE_FEED → OneMore prefix taken rest b
+at_end prefix Nothing rest b u h lf = first_end (bytes_eq rest first_version_line) (bytes_eq rest second_version_line) prefix rest b refl refl h lf
+at_end prefix Versioned rest b u h lf = rom_end prefix rest b h lf
+at_end prefix (Begun map es) rest b u h lf = later_end (said map.rom_first map.rom_last rest) map es prefix rest b refl h lf
+at_end prefix (Whole map es) rest b u h lf = absurd u
 
 -- a byte within a line, or its LF
-in_line : (lf full : Bool) (first last : ℕ) (prefix : List ℕ) (taken : Taken) (rest : List ℕ) (b : ℕ) → (b == LINE_FEED) ≡ lf → (length rest == LONGEST_LINE - 1) ≡ full → last < ADDRESS_END → IsUnended taken → Holds first last prefix taken rest → OneMore first last prefix taken rest b
-in_line true full first last prefix taken rest b e f small u h = at_end first last prefix taken rest b small u h (eqb-true b LINE_FEED e)
-in_line false true first last prefix taken rest b e f small u h = inr (TooLong, meets_long taken rest b u (λ x. absurd (grind (arith, nat_tests))) (eqb-true (length rest) (LONGEST_LINE - 1) f))
-in_line false false first last prefix taken rest b e f small u h =
+in_line : (lf full : Bool) (prefix : List ℕ) (taken : Taken) (rest : List ℕ) (b : ℕ) → (b == LINE_FEED) ≡ lf → (length rest == LONGEST_LINE - 1) ≡ full → IsUnended taken → Holds prefix taken rest → OneMore prefix taken rest b
+in_line true full prefix taken rest b e f u h = at_end prefix taken rest b u h (eqb-true b LINE_FEED e)
+in_line false true prefix taken rest b e f u h = inr (TooLong, meets_long taken rest b u (λ x. absurd (grind (arith, nat_tests))) (eqb-true (length rest) (LONGEST_LINE - 1) f))
+in_line false false prefix taken rest b e f u h =
     let s = rest_is taken rest u h.begun in
     let short : length (rest ++ b ∷ []) < LONGEST_LINE = shorter (length rest) (length (rest ++ b ∷ [])) f s.1 (length-append rest (b ∷ [])) in
     inl (taken, rest ++ b ∷ [], record { parts = ap (λ (x : List ℕ). x ++ b ∷ []) h.parts ∙ append_assoc (text_taken taken) rest (b ∷ []); lines = h.lines; begun = rest_of taken (rest ++ b ∷ []) u (Without-append LINE_FEED rest (b ∷ []) s.0 (e, tt)) short })
@@ -123,57 +138,62 @@ in_line false false first last prefix taken rest b e f small u h =
     shorter : (n m : ℕ) → (n == LONGEST_LINE - 1) ≡ false → n < LONGEST_LINE → m ≡ n + 1 → m < LONGEST_LINE
     shorter n m d lt e = grind (arith, nat_tests)
 
-one_more : (first last : ℕ) (prefix : List ℕ) (taken : Taken) (rest : List ℕ) (b : ℕ) → last < ADDRESS_END → Holds first last prefix taken rest → OneMore first last prefix taken rest b
-one_more first last prefix Nothing rest b small h = in_line (b == LINE_FEED) (length rest == LONGEST_LINE - 1) first last prefix Nothing rest b refl refl small tt h
-one_more first last prefix (Begun from to es) rest b small h = in_line (b == LINE_FEED) (length rest == LONGEST_LINE - 1) first last prefix (Begun from to es) rest b refl refl small tt h
-one_more first last prefix (Whole from to es) rest b small h = inr (After, refl)
+one_more : (prefix : List ℕ) (taken : Taken) (rest : List ℕ) (b : ℕ) → Holds prefix taken rest → OneMore prefix taken rest b
+one_more prefix Nothing rest b h = in_line (b == LINE_FEED) (length rest == LONGEST_LINE - 1) prefix Nothing rest b refl refl tt h
+one_more prefix Versioned rest b h = in_line (b == LINE_FEED) (length rest == LONGEST_LINE - 1) prefix Versioned rest b refl refl tt h
+one_more prefix (Begun map es) rest b h = in_line (b == LINE_FEED) (length rest == LONGEST_LINE - 1) prefix (Begun map es) rest b refl refl tt h
+one_more prefix (Whole map es) rest b h = inr (After, refl)
 
 -- the text may stand, or a byte stops it
-abbrev pub Judged : ℕ → ℕ → List ℕ → Type 0
-Judged first last text = MayStand first last text ⊎ ((line : ℕ) × (why : CertWhy) × StopsAt first last text line why)
+abbrev pub Judged : List ℕ → Type 0
+Judged text = MayStand text ⊎ ((line : ℕ) × (why : CertWhy) × StopsAt text line why)
 
-goes : (first last : ℕ) (prefix text : List ℕ) (taken : Taken) (rest : List ℕ) → last < ADDRESS_END → Holds first last prefix taken rest → Judged first last (prefix ++ text)
-goes first last prefix [] taken rest small h = inl (subst (λ (x : List ℕ). MayStand first last x) (sym (append-nil prefix)) (taken, rest, h))
-goes first last prefix (b ∷ text) taken rest small h =
-    elim (one_more first last prefix taken rest b small h) [
-      | inl s ↦ subst (λ (x : List ℕ). Judged first last x) (append_assoc prefix (b ∷ []) text) (goes first last (prefix ++ b ∷ []) text s.0 s.1 small s.2)
+goes : (prefix text : List ℕ) (taken : Taken) (rest : List ℕ) → Holds prefix taken rest → Judged (prefix ++ text)
+goes prefix [] taken rest h = inl (subst (λ (x : List ℕ). MayStand x) (sym (append-nil prefix)) (taken, rest, h))
+goes prefix (b ∷ text) taken rest h =
+    elim (one_more prefix taken rest b h) [
+      | inl s ↦ subst (λ (x : List ℕ). Judged x) (append_assoc prefix (b ∷ []) text) (goes (prefix ++ b ∷ []) text s.0 s.1 s.2)
       | inr m ↦ inr (line_number taken, m.0, (prefix, b, text, taken, rest, refl, h, m.1, refl))
     ]
 
-pub judged : (first last : ℕ) (text : List ℕ) → last < ADDRESS_END → Judged first last text
-judged first last text small = goes first last [] text Nothing [] small (record { parts = refl; lines = tt; begun = (tt, omega arith) })
+pub judged : (text : List ℕ) → Judged text
+judged text = goes [] text Nothing [] (record { parts = refl; lines = tt; begun = (tt, omega arith) })
 
 -- a prefix of a text that may stand
-pub open_prefix : (first last : ℕ) (prefix after : List ℕ) → last < ADDRESS_END → MayStand first last (prefix ++ after) → MayStand first last prefix
-open_prefix first last prefix after small h =
-    elim (judged first last prefix small) [
+pub open_prefix : (prefix after : List ℕ) → MayStand (prefix ++ after) → MayStand prefix
+open_prefix prefix after h =
+    elim (judged prefix) [
       | inl s ↦ s
-      | inr s ↦ absurd (stuck_stands first last (prefix ++ after) s.0 s.1 h.0 h.1 small (longer s.2) h.2)
+      | inr s ↦ absurd (stuck_stands (prefix ++ after) s.0 s.1 h.0 h.1 (longer s.2) h.2)
     ]
   where
-    longer : {line : ℕ} {why : CertWhy} → StopsAt first last prefix line why → StopsAt first last (prefix ++ after) line why
+    longer : {line : ℕ} {why : CertWhy} → StopsAt prefix line why → StopsAt (prefix ++ after) line why
     longer s = (s.0, s.1, s.2 ++ after, s.3, s.4, ap (λ (x : List ℕ). x ++ after) s.5 ∙ append_assoc s.0 (s.1 ∷ s.2) after, s.6, s.7, s.8)
 
 never_memory : (taken : Taken) (rest : List ℕ) (b : ℕ) → Meets taken rest b Memory → ⊥
 never_memory Nothing rest b (inl h) = let e : Memory ≡ TooLong = h.2 in absurd cc
 never_memory Nothing rest b (inr h) = h.1
-never_memory (Begun from to es) rest b (inl h) = let e : Memory ≡ TooLong = h.2 in absurd cc
-never_memory (Begun from to es) rest b (inr h) = h.1
-never_memory (Whole from to es) rest b h = let e : Memory ≡ After = h in absurd cc
+never_memory Versioned rest b (inl h) = let e : Memory ≡ TooLong = h.2 in absurd cc
+never_memory Versioned rest b (inr h) = h.1
+never_memory (Begun map es) rest b (inl h) = let e : Memory ≡ TooLong = h.2 in absurd cc
+never_memory (Begun map es) rest b (inr h) = h.1
+never_memory (Whole map es) rest b h = let e : Memory ≡ After = h in absurd cc
 
 never_unended : (taken : Taken) (rest : List ℕ) (b : ℕ) → Meets taken rest b Unended → ⊥
 never_unended Nothing rest b (inl h) = let e : Unended ≡ TooLong = h.2 in absurd cc
 never_unended Nothing rest b (inr h) = h.1
-never_unended (Begun from to es) rest b (inl h) = let e : Unended ≡ TooLong = h.2 in absurd cc
-never_unended (Begun from to es) rest b (inr h) = h.1
-never_unended (Whole from to es) rest b h = let e : Unended ≡ After = h in absurd cc
+never_unended Versioned rest b (inl h) = let e : Unended ≡ TooLong = h.2 in absurd cc
+never_unended Versioned rest b (inr h) = h.1
+never_unended (Begun map es) rest b (inl h) = let e : Unended ≡ TooLong = h.2 in absurd cc
+never_unended (Begun map es) rest b (inr h) = h.1
+never_unended (Whole map es) rest b h = let e : Unended ≡ After = h in absurd cc
 
 -- a text that a byte stops is refused
-pub stuck_refusal : (why : CertWhy) (first last : ℕ) (text : List ℕ) (line : ℕ) → StopsAt first last text line why → IsRefusal first last text line why × (why ≢ Memory)
-stuck_refusal Memory first last text line s = absurd (never_memory s.3 s.4 s.1 s.7)
-stuck_refusal Unended first last text line s = absurd (never_unended s.3 s.4 s.1 s.7)
-stuck_refusal Form first last text line s = (s, λ e. absurd cc)
-stuck_refusal Order first last text line s = (s, λ e. absurd cc)
-stuck_refusal Count first last text line s = (s, λ e. absurd cc)
-stuck_refusal After first last text line s = (s, λ e. absurd cc)
-stuck_refusal TooLong first last text line s = (s, λ e. absurd cc)
+pub stuck_refusal : (why : CertWhy) (text : List ℕ) (line : ℕ) → StopsAt text line why → IsRefusal text line why × (why ≢ Memory)
+stuck_refusal Memory text line s = absurd (never_memory s.3 s.4 s.1 s.7)
+stuck_refusal Unended text line s = absurd (never_unended s.3 s.4 s.1 s.7)
+stuck_refusal Form text line s = (s, λ e. absurd cc)
+stuck_refusal Order text line s = (s, λ e. absurd cc)
+stuck_refusal Count text line s = (s, λ e. absurd cc)
+stuck_refusal After text line s = (s, λ e. absurd cc)
+stuck_refusal TooLong text line s = (s, λ e. absurd cc)

@@ -5,6 +5,8 @@ use Rattle.std.specs.Char.{digit_value}
 use Rattle.std.specs.Str.Parse.{AllDigits, digits_value}
 use Rattle.std.proofs.lemmas.List.{take-take, length-take-le, get_or-take}
 use Rattle.std.proofs.lemmas.Int.Digits.{digits_value_more}
+use Rattle.std.proofs.lemmas.Nat.{and_block, and_mask}
+use Rattle.std.specs.Int.Bits.{bit_and}
 use Rattle.std.proofs.lemmas.Str.{digit_value_digit}
 use Rattle.std.proofs.lemmas.Str.Parse.{digit_from_value, digits_value_short}
 use Rattle.dvg_cert.specs.Private.Fields.{NoDigitFirst}
@@ -51,27 +53,52 @@ moved_8 a b c d e f g h w A B C D E F G H is = omega arith
 
 -- ---- the number of eight values
 
-abbrev pairs : ℕ → ℕ
-pairs w = (w * 10 % 2 ^ 64 + w / 256) % 2 ^ 64
+-- each value, with ten times the one before it
+abbrev sums : ℕ → ℕ
+sums w = w * 2561 % 2 ^ 64 / 256
 
-pairs_are : (a b c d e f g h w : ℕ) → a < 10 → b < 10 → c < 10 → d < 10 → e < 10 → f < 10 → g < 10 → h < 10 → w ≡ word_of a b c d e f g h
-    → pairs w ≡ word_of (10 * a + b) (10 * b + c) (10 * c + d) (10 * d + e) (10 * e + f) (10 * f + g) (10 * g + h) (10 * h)
-pairs_are a b c d e f g h w A B C D E F G H is = omega arith
+sums_are : (a b c d e f g h w : ℕ) → a < 10 → b < 10 → c < 10 → d < 10 → e < 10 → f < 10 → g < 10 → h < 10 → w ≡ word_of a b c d e f g h
+    → sums w ≡ word_of (10 * a + b) (10 * b + c) (10 * c + d) (10 * d + e) (10 * e + f) (10 * f + g) (10 * g + h) 0
+sums_are a b c d e f g h w A B C D E F G H is = omega arith
 
-lanes_of : (a b c d e f g h w : ℕ) → a < 100 → b < 100 → c < 100 → d < 100 → e < 100 → f < 100 → g < 100 → h < 100 → w ≡ word_of a b c d e f g h
-    → (w % 256 ≡ a) × (w / 65536 % 256 ≡ c) × (w / 2 ^ 32 % 256 ≡ e) × (w / 2 ^ 48 % 256 ≡ g)
-lanes_of a b c d e f g h w A B C D E F G H is = (omega arith, omega arith, omega arith, omega arith)
+-- every second byte
+abbrev Seconds : ℕ
+Seconds = 71777214294589695
+
+low_byte : (x y z : ℕ) → x < 65536 → bit_and (y * 2 ^ 16 + x) (z * 2 ^ 16 + 255) ≡ bit_and y z * 2 ^ 16 + x % 2 ^ 8
+low_byte x y z lt = and_block 16 y z x 255 lt (omega arith) ∙ ap (λ (r : ℕ). bit_and y z * 2 ^ 16 + r) (and_mask x 8)
+
+low_bytes : (x y z u : ℕ) → x < 65536 → y < 65536 → z < 65536 → bit_and (((u * 2 ^ 16 + z) * 2 ^ 16 + y) * 2 ^ 16 + x) Seconds ≡ ((u % 2 ^ 8 * 2 ^ 16 + z % 2 ^ 8) * 2 ^ 16 + y % 2 ^ 8) * 2 ^ 16 + x % 2 ^ 8
+low_bytes x y z u X Y Z = low_byte x ((u * 2 ^ 16 + z) * 2 ^ 16 + y) 1095233372415 X
+    ∙ ap (λ (r : ℕ). r * 2 ^ 16 + x % 2 ^ 8) (low_byte y (u * 2 ^ 16 + z) 16711935 Y
+    ∙ ap (λ (r : ℕ). r * 2 ^ 16 + y % 2 ^ 8) (low_byte z u 255 Z
+    ∙ ap (λ (r : ℕ). r * 2 ^ 16 + z % 2 ^ 8) (and_mask u 8)))
+
+seconds_of : (a b c d e f g h w : ℕ) → a < 256 → b < 256 → c < 256 → d < 256 → e < 256 → f < 256 → g < 256 → h < 256 → w ≡ word_of a b c d e f g h
+    → bit_and w Seconds ≡ word_of a 0 c 0 e 0 g 0
+seconds_of a b c d e f g h w A B C D E F G H is =
+    let parts : w ≡ (((g + 256 * h) * 2 ^ 16 + (e + 256 * f)) * 2 ^ 16 + (c + 256 * d)) * 2 ^ 16 + (a + 256 * b) = omega arith in
+    ap (λ (x : ℕ). bit_and x Seconds) parts ∙ low_bytes (a + 256 * b) (c + 256 * d) (e + 256 * f) (g + 256 * h) (omega arith) (omega arith) (omega arith) ∙ omega arith
+
+-- each pair, with a hundred times the one before it
+abbrev fours : ℕ → ℕ
+fours w = w * 6553601 % 2 ^ 64 / 65536
+
+fours_are : (a c e g w : ℕ) → a < 100 → c < 100 → e < 100 → g < 100 → w ≡ word_of a 0 c 0 e 0 g 0
+    → (fours w % 65536 ≡ 100 * a + c) × (fours w / 2 ^ 32 ≡ 100 * e + g)
+fours_are a c e g w A C E G is = (omega arith, omega arith)
 
 abbrev number : ℕ → ℕ
-number w = (pairs w % 256 * 100 + pairs w / 65536 % 256) * 10000 + (pairs w / 2 ^ 32 % 256 * 100 + pairs w / 2 ^ 48 % 256)
+number w = fours (bit_and (sums w) Seconds) % 65536 * 10000 + fours (bit_and (sums w) Seconds) / 2 ^ 32
 
 number_is : (a b c d e f g h w : ℕ) → a < 10 → b < 10 → c < 10 → d < 10 → e < 10 → f < 10 → g < 10 → h < 10 → w ≡ word_of a b c d e f g h
     → number w ≡ ((10 * a + b) * 100 + (10 * c + d)) * 10000 + ((10 * e + f) * 100 + (10 * g + h))
 number_is a b c d e f g h w A B C D E F G H is =
-    let all = pairs_are a b c d e f g h w A B C D E F G H is in
-    let at = lanes_of (10 * a + b) (10 * b + c) (10 * c + d) (10 * d + e) (10 * e + f) (10 * f + g) (10 * g + h) (10 * h) (pairs w)
+    let all = sums_are a b c d e f g h w A B C D E F G H is in
+    let pairs = seconds_of (10 * a + b) (10 * b + c) (10 * c + d) (10 * d + e) (10 * e + f) (10 * f + g) (10 * g + h) 0 (sums w)
     (omega arith) (omega arith) (omega arith) (omega arith) (omega arith) (omega arith) (omega arith) (omega arith) all in
-    rw (at.0, at.1, at.2, at.3) refl
+    let at = fours_are (10 * a + b) (10 * c + d) (10 * e + f) (10 * g + h) (bit_and (sums w) Seconds) (omega arith) (omega arith) (omega arith) (omega arith) pairs in
+    rw (at.0, at.1) (omega arith)
 
 -- ---- of bytes
 

@@ -45,7 +45,7 @@ graphic_number (negsuc n) h = (lit< tt, graphic_decimal (suc n) (omega (arith, i
 graphic_glyph : (v : ℕ) → SPACE < digit_glyph true v
 graphic_glyph v = grind (arith, nat_tests)
 
-graphic_hex : (a : ℕ) → Graphic (address_token a)
+pub graphic_hex : (a : ℕ) → Graphic (address_token a)
 graphic_hex a = (graphic_glyph (a / 256), (graphic_glyph (a / 16 % 16), (graphic_glyph (a % 16), tt)))
 
 graphic_key : (k : Key) → IsKey k → Graphic (key_token k)

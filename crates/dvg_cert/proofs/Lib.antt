@@ -8,6 +8,7 @@ pub mod Leading
 pub mod Graphics
 pub mod Steps
 pub mod WholeLines
+pub mod FirstLines
 pub mod Rising
 pub mod Refusals
 pub mod LinesOfTexts

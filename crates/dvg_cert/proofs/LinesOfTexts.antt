@@ -3,16 +3,18 @@ use Rattle.std.proofs.Common.{◌≡◌, ℕ, ◌<◌, ◌≤◌, List, [], ◌�
 use Rattle.std.specs.List.{AllByRecursion}
 use Rattle.std.proofs.lemmas.List.{append-nil, length-append}
 use Rattle.std.proofs.lemmas.Bool.Decides.{nat_tests}
+use Rattle.dvg_words.specs.Values.{MemoryMap, IsMap}
 use Rattle.dvg_cert.specs.Limits.{MOST_ENTRIES, LINE_FEED, ADDRESS_END}
 use Rattle.dvg_cert.specs.Entry.{Entry, IsEntry}
 use Rattle.dvg_cert.specs.Order.{IsCertificate, StandsAfter, IsRising}
-use Rattle.dvg_cert.specs.Grammar.{entry_line, first_line, done_line}
-use Rattle.dvg_cert.specs.Reading.{IsWrong, IsLine, Nothing, Begun, Whole, Taken, Without, IsTaken}
+use Rattle.dvg_cert.specs.Grammar.{entry_line, first_version_line, second_version_line, rom_line, heading, done_line}
+use Rattle.dvg_cert.specs.Reading.{IsWrong, IsLine, IsElsewhere, Nothing, Versioned, Begun, Whole, Taken, Without, IsTaken}
 use Rattle.dvg_cert.specs.Reading.{Line}
 use Rattle.dvg_cert.specs.Reading.{EntryLine, DoneLine}
 use Rattle.dvg_cert.specs.declared.fault.CertWhy.{CertWhy}
 use Rattle.dvg_cert.specs.declared.fault.CertWhy.TheVariants.{Form, Order, Count, Unended, After, TooLong, Memory}
-use Rattle.dvg_cert.proofs.Rising.{same_rom}
+use Rattle.dvg_cert.proofs.Rising.{small_map}
+use Rattle.dvg_cert.proofs.FirstLines.{cons_parts, heads_once, first_of, second_of}
 use Rattle.dvg_cert.proofs.WholeLines.{line_again}
 
 Text : Type 0
@@ -75,8 +77,9 @@ entry_lines (e ∷ es) = entry_line e ∷ entry_lines es
 
 abbrev pub lines_of : Taken → List (List ℕ)
 lines_of Nothing = []
-lines_of (Begun from to es) = first_line ∷ entry_lines es
-lines_of (Whole from to es) = first_line ∷ (entry_lines es ++ done_line (length es) ∷ [])
+lines_of Versioned = second_version_line ∷ []
+lines_of (Begun map es) = heading map ++ entry_lines es
+lines_of (Whole map es) = heading map ++ (entry_lines es ++ done_line (length es) ∷ [])
 
 -- what follows is no entry line
 abbrev pub NoEntry : ℕ → ℕ → List (List ℕ) → Type 0
@@ -116,40 +119,61 @@ no_entry_nil first last = λ x ls h e. absurd cc
 no_entry_done : (first last n : ℕ) → last < ADDRESS_END → n ≤ MOST_ENTRIES → NoEntry first last (done_line n ∷ [])
 no_entry_done first last n small few = λ x ls h e. let head : done_line n ≡ entry_line x = cc in entry_not_done first last x n small h few (sym head)
 
-same_begun : (from to from' to' : ℕ) (es fs : List Entry) → from ≡ from' → to ≡ to' → es ≡ fs → Begun from to es ≡ Begun from' to' fs
-same_begun from to from' to' es fs p q r = cc
+same_begun : (map map' : MemoryMap) (es fs : List Entry) → map ≡ map' → es ≡ fs → Begun map es ≡ Begun map' fs
+same_begun map map' es fs p q = cc
 
-same_whole : (from to from' to' : ℕ) (es fs : List Entry) → from ≡ from' → to ≡ to' → es ≡ fs → Whole from to es ≡ Whole from' to' fs
-same_whole from to from' to' es fs p q r = cc
+same_whole : (map map' : MemoryMap) (es fs : List Entry) → map ≡ map' → es ≡ fs → Whole map es ≡ Whole map' fs
+same_whole map map' es fs p q = cc
 
-pub lines_once : (first last : ℕ) (t u : Taken) → last < ADDRESS_END → IsTaken first last t → IsTaken first last u → lines_of t ≡ lines_of u → t ≡ u
-lines_once first last Nothing Nothing small h k e = refl
-lines_once first last Nothing (Begun from' to' fs) small h k e = absurd cc
-lines_once first last Nothing (Whole from' to' fs) small h k e = absurd cc
-lines_once first last (Begun from to es) Nothing small h k e = absurd cc
-lines_once first last (Whole from to es) Nothing small h k e = absurd cc
-lines_once first last (Begun from to es) (Begun from' to' fs) small h k e =
-    let x = same_rom first last from to es h.0 h.1 h.2 in
-    let y = same_rom first last from' to' fs k.0 k.1 k.2 in
-    let tail : entry_lines es ≡ entry_lines fs = cc in
-    same_begun from to from' to' es fs (h.0 ∙ sym k.0) (h.1 ∙ sym k.1) (ends_once first last es fs [] [] small x.each y.each (no_entry_nil first last) (no_entry_nil first last) (append-nil (entry_lines es) ∙ tail ∙ sym (append-nil (entry_lines fs)))).0
-lines_once first last (Begun from to es) (Whole from' to' fs) small h k e =
-    let x = same_rom first last from to es h.0 h.1 h.2 in
-    let y = same_rom first last from' to' fs k.0 k.1 k.2 in
-    let tail : entry_lines es ≡ entry_lines fs ++ done_line (length fs) ∷ [] = cc in
-    let r = ends_once first last es fs [] (done_line (length fs) ∷ []) small x.each y.each (no_entry_nil first last) (no_entry_done first last (length fs) small y.few) (append-nil (entry_lines es) ∙ tail) in
-    absurd (cc (r.1))
-lines_once first last (Whole from to es) (Begun from' to' fs) small h k e =
-    let x = same_rom first last from to es h.0 h.1 h.2 in
-    let y = same_rom first last from' to' fs k.0 k.1 k.2 in
-    let tail : entry_lines es ++ done_line (length es) ∷ [] ≡ entry_lines fs = cc in
-    let r = ends_once first last es fs (done_line (length es) ∷ []) [] small x.each y.each (no_entry_done first last (length es) small x.few) (no_entry_nil first last) (tail ∙ sym (append-nil (entry_lines fs))) in
-    absurd (cc (r.1))
-lines_once first last (Whole from to es) (Whole from' to' fs) small h k e =
-    let x = same_rom first last from to es h.0 h.1 h.2 in
-    let y = same_rom first last from' to' fs k.0 k.1 k.2 in
-    let tail : entry_lines es ++ done_line (length es) ∷ [] ≡ entry_lines fs ++ done_line (length fs) ∷ [] = cc in
-    same_whole from to from' to' es fs (h.0 ∙ sym k.0) (h.1 ∙ sym k.1) (ends_once first last es fs (done_line (length es) ∷ []) (done_line (length fs) ∷ []) small x.each y.each (no_entry_done first last (length es) small x.few) (no_entry_done first last (length fs) small y.few) tail).0
+no_cons : (l : List ℕ) (ls : List (List ℕ)) → [] ≡ l ∷ ls → ⊥
+no_cons l ls e = absurd cc
+
+-- no first lines stand alone
+no_heads : (map : MemoryMap) (xs : List (List ℕ)) → [] ≡ heading map ++ xs → ⊥
+no_heads map xs e =
+    elim (first_of map).1 [
+      | inl f ↦ no_cons first_version_line ((first_of map).0 ++ xs) (e ∙ ap (λ (ls : List (List ℕ)). ls ++ xs) f)
+      | inr f ↦ no_cons second_version_line ((first_of map).0 ++ xs) (e ∙ ap (λ (ls : List (List ℕ)). ls ++ xs) f)
+    ]
+
+-- the first line of version 2 alone is no first lines
+no_version : (map : MemoryMap) (xs : List (List ℕ)) → second_version_line ∷ [] ≡ heading map ++ xs → ⊥
+no_version map xs e = no_cons (rom_line map) xs (second_of map xs [] (sym e)).1
+
+pub lines_once : (t u : Taken) → IsTaken t → IsTaken u → lines_of t ≡ lines_of u → t ≡ u
+lines_once Nothing Nothing h k e = refl
+lines_once Nothing Versioned h k e = absurd (no_cons second_version_line [] e)
+lines_once Nothing (Begun map' fs) h k e = absurd (no_heads map' (entry_lines fs) e)
+lines_once Nothing (Whole map' fs) h k e = absurd (no_heads map' (entry_lines fs ++ done_line (length fs) ∷ []) e)
+lines_once Versioned Nothing h k e = absurd (no_cons second_version_line [] (sym e))
+lines_once Versioned Versioned h k e = refl
+lines_once Versioned (Begun map' fs) h k e = absurd (no_version map' (entry_lines fs) e)
+lines_once Versioned (Whole map' fs) h k e = absurd (no_version map' (entry_lines fs ++ done_line (length fs) ∷ []) e)
+lines_once (Begun map es) Nothing h k e = absurd (no_heads map (entry_lines es) (sym e))
+lines_once (Begun map es) Versioned h k e = absurd (no_version map (entry_lines es) (sym e))
+lines_once (Whole map es) Nothing h k e = absurd (no_heads map (entry_lines es ++ done_line (length es) ∷ []) (sym e))
+lines_once (Whole map es) Versioned h k e = absurd (no_version map (entry_lines es ++ done_line (length es) ∷ []) (sym e))
+lines_once (Begun map es) (Begun map' fs) h k e =
+    let r = heads_once map map' (entry_lines es) (entry_lines fs) h.map_is k.map_is e in
+    let y = subst (λ (m : MemoryMap). IsCertificate m fs) (sym r.0) k in
+    same_begun map map' es fs r.0 (ends_once map.rom_first map.rom_last es fs [] [] (small_map map h.map_is) h.each y.each (no_entry_nil map.rom_first map.rom_last) (no_entry_nil map.rom_first map.rom_last) (append-nil (entry_lines es) ∙ r.1 ∙ sym (append-nil (entry_lines fs)))).0
+lines_once (Begun map es) (Whole map' fs) h k e =
+    let r = heads_once map map' (entry_lines es) (entry_lines fs ++ done_line (length fs) ∷ []) h.map_is k.map_is e in
+    let y = subst (λ (m : MemoryMap). IsCertificate m fs) (sym r.0) k in
+    let small = small_map map h.map_is in
+    let n = ends_once map.rom_first map.rom_last es fs [] (done_line (length fs) ∷ []) small h.each y.each (no_entry_nil map.rom_first map.rom_last) (no_entry_done map.rom_first map.rom_last (length fs) small y.few) (append-nil (entry_lines es) ∙ r.1) in
+    absurd (cc (n.1))
+lines_once (Whole map es) (Begun map' fs) h k e =
+    let r = heads_once map map' (entry_lines es ++ done_line (length es) ∷ []) (entry_lines fs) h.map_is k.map_is e in
+    let y = subst (λ (m : MemoryMap). IsCertificate m fs) (sym r.0) k in
+    let small = small_map map h.map_is in
+    let n = ends_once map.rom_first map.rom_last es fs (done_line (length es) ∷ []) [] small h.each y.each (no_entry_done map.rom_first map.rom_last (length es) small h.few) (no_entry_nil map.rom_first map.rom_last) (r.1 ∙ sym (append-nil (entry_lines fs))) in
+    absurd (cc (n.1))
+lines_once (Whole map es) (Whole map' fs) h k e =
+    let r = heads_once map map' (entry_lines es ++ done_line (length es) ∷ []) (entry_lines fs ++ done_line (length fs) ∷ []) h.map_is k.map_is e in
+    let y = subst (λ (m : MemoryMap). IsCertificate m fs) (sym r.0) k in
+    let small = small_map map h.map_is in
+    same_whole map map' es fs r.0 (ends_once map.rom_first map.rom_last es fs (done_line (length es) ∷ []) (done_line (length fs) ∷ []) small h.each y.each (no_entry_done map.rom_first map.rom_last (length es) small h.few) (no_entry_done map.rom_first map.rom_last (length fs) small y.few) r.1).0
 
 -- a list within a list
 pub each_mid : (first last : ℕ) (es : List Entry) (e : Entry) (gs : List Entry) → AllByRecursion (IsEntry first last) (es ++ e ∷ gs) → IsEntry first last e
@@ -164,65 +188,99 @@ rising_mid (x ∷ y ∷ es) e gs h = rising_mid (y ∷ es) e gs h.1
 
 -- the line may stand after these
 abbrev pub GoesOn : Taken → List ℕ → Type 0
-GoesOn Nothing line = line ≡ first_line
-GoesOn (Begun from to es) line = ((e : Entry) × IsLine from to (EntryLine e) line × StandsAfter es e × (length es < MOST_ENTRIES)) ⊎ IsLine from to (DoneLine (length es)) line
-GoesOn (Whole from to es) line = ⊥
+GoesOn Nothing line = (line ≡ first_version_line) ⊎ (line ≡ second_version_line)
+GoesOn Versioned line = (map : MemoryMap) × IsElsewhere map × (line ≡ rom_line map)
+GoesOn (Begun map es) line = ((e : Entry) × IsLine map.rom_first map.rom_last (EntryLine e) line × StandsAfter es e × (length es < MOST_ENTRIES)) ⊎ IsLine map.rom_first map.rom_last (DoneLine (length es)) line
+GoesOn (Whole map es) line = ⊥
 
 -- the addresses of these lines are three digits
 abbrev pub Small : Taken → Type 0
 Small Nothing = Unit {0}
-Small (Begun from to es) = to < ADDRESS_END
-Small (Whole from to es) = to < ADDRESS_END
+Small Versioned = Unit {0}
+Small (Begun map es) = map.rom_last < ADDRESS_END
+Small (Whole map es) = map.rom_last < ADDRESS_END
 
-pub small_taken : (first last : ℕ) (t : Taken) → last < ADDRESS_END → IsTaken first last t → Small t
-small_taken first last Nothing small h = tt
-small_taken first last (Begun from to es) small h = omega (arith, h.1)
-small_taken first last (Whole from to es) small h = omega (arith, h.1)
+pub small_taken : (t : Taken) → IsTaken t → Small t
+small_taken Nothing h = tt
+small_taken Versioned h = tt
+small_taken (Begun map es) h = small_map map h.map_is
+small_taken (Whole map es) h = small_map map h.map_is
 
-goes_entry : (first last : ℕ) (es fs : List Entry) (line : List ℕ) → IsCertificate first last fs → ((e : Entry) × (gs : List Entry) × (fs ≡ es ++ e ∷ gs) × (line ≡ entry_line e)) → (e : Entry) × IsLine first last (EntryLine e) line × StandsAfter es e × (length es < MOST_ENTRIES)
-goes_entry first last es fs line h r =
-    let each : AllByRecursion (IsEntry first last) (es ++ r.0 ∷ r.1) = subst (λ (xs : List Entry). AllByRecursion (IsEntry first last) xs) r.2 h.each in
+goes_entry : (map : MemoryMap) (es fs : List Entry) (line : List ℕ) → IsCertificate map fs → ((e : Entry) × (gs : List Entry) × (fs ≡ es ++ e ∷ gs) × (line ≡ entry_line e)) → (e : Entry) × IsLine map.rom_first map.rom_last (EntryLine e) line × StandsAfter es e × (length es < MOST_ENTRIES)
+goes_entry map es fs line h r =
+    let each : AllByRecursion (IsEntry map.rom_first map.rom_last) (es ++ r.0 ∷ r.1) = subst (λ (xs : List Entry). AllByRecursion (IsEntry map.rom_first map.rom_last) xs) r.2 h.each in
     let rising : IsRising (es ++ r.0 ∷ r.1) = subst (λ (xs : List Entry). IsRising xs) r.2 h.rising in
     let few : length (es ++ r.0 ∷ r.1) ≤ MOST_ENTRIES = subst (λ (xs : List Entry). length xs ≤ MOST_ENTRIES) r.2 h.few in
-    (r.0, (each_mid first last es r.0 r.1 each, r.3), rising_mid es r.0 r.1 rising, omega (arith, length-append es (r.0 ∷ r.1)))
+    (r.0, (each_mid map.rom_first map.rom_last es r.0 r.1 each, r.3), rising_mid es r.0 r.1 rising, omega (arith, length-append es (r.0 ∷ r.1)))
 
-pub goes_on : (first last : ℕ) (t u : Taken) (line : List ℕ) (ms : List (List ℕ)) → last < ADDRESS_END → IsTaken first last t → IsTaken first last u → lines_of u ≡ lines_of t ++ line ∷ ms → GoesOn t line
-goes_on first last Nothing Nothing line ms small h k e = absurd cc
-goes_on first last Nothing (Begun from' to' fs) line ms small h k e = cc
-goes_on first last Nothing (Whole from' to' fs) line ms small h k e = cc
-goes_on first last (Begun from to es) Nothing line ms small h k e = absurd cc
-goes_on first last (Begun from to es) (Begun from' to' fs) line ms small h k e =
-    let less : to < ADDRESS_END = omega (arith, h.1, small) in
-    let y = same_rom from to from' to' fs (k.0 ∙ sym h.0) (k.1 ∙ sym h.1) k.2 in
-    let tail : entry_lines fs ≡ entry_lines es ++ line ∷ ms = cc in
-    elim (next_of from to es fs [] ms line less h.2.each y.each (no_entry_nil from to) (append-nil (entry_lines fs) ∙ tail)) [
-      | inl r ↦ inl (goes_entry from to es fs line y r)
-      | inr r ↦ absurd (cc (r.1))
+-- the line after nothing
+goes_first : (map : MemoryMap) (xs ms : List (List ℕ)) (line : List ℕ) → heading map ++ xs ≡ line ∷ ms → GoesOn Nothing line
+goes_first map xs ms line e =
+    elim (first_of map).1 [
+      | inl f ↦ inl (sym (cons_parts first_version_line line ((first_of map).0 ++ xs) ms (ap (λ (ls : List (List ℕ)). ls ++ xs) (sym f) ∙ e)).0)
+      | inr f ↦ inr (sym (cons_parts second_version_line line ((first_of map).0 ++ xs) ms (ap (λ (ls : List (List ℕ)). ls ++ xs) (sym f) ∙ e)).0)
     ]
-goes_on first last (Begun from to es) (Whole from' to' fs) line ms small h k e =
-    let less : to < ADDRESS_END = omega (arith, h.1, small) in
-    let y = same_rom from to from' to' fs (k.0 ∙ sym h.0) (k.1 ∙ sym h.1) k.2 in
-    let tail : entry_lines fs ++ done_line (length fs) ∷ [] ≡ entry_lines es ++ line ∷ ms = cc in
-    elim (next_of from to es fs (done_line (length fs) ∷ []) ms line less h.2.each y.each (no_entry_done from to (length fs) less y.few) tail) [
-      | inl r ↦ inl (goes_entry from to es fs line y r)
-      | inr r ↦ let l : done_line (length fs) ≡ line = cc (r.1) in inr (h.2.few, sym l ∙ ap (λ (xs : List Entry). done_line (length xs)) r.0)
+
+-- the line after the first one of version 2
+goes_second : (map : MemoryMap) (xs ms : List (List ℕ)) (line : List ℕ) → IsMap map → heading map ++ xs ≡ second_version_line ∷ line ∷ ms → GoesOn Versioned line
+goes_second map xs ms line is e =
+    let r = second_of map xs (line ∷ ms) e in
+    (map, (is, r.0), (cons_parts line (rom_line map) ms xs r.1).0)
+
+-- the lines after the first ones
+after_heads : (map map' : MemoryMap) (es fs : List Entry) (xs ys ms : List (List ℕ)) (line : List ℕ) → IsCertificate map es → IsCertificate map' fs → heading map' ++ ys ≡ (heading map ++ xs) ++ line ∷ ms → IsCertificate map fs × (ys ≡ xs ++ line ∷ ms)
+after_heads map map' es fs xs ys ms line h k e =
+    let r = heads_once map' map ys (xs ++ line ∷ ms) k.map_is h.map_is (e ∙ append_assoc (heading map) xs (line ∷ ms)) in
+    (subst (λ (m : MemoryMap). IsCertificate m fs) r.0 k, r.1)
+
+none_more : (ls ms : List (List ℕ)) (line : List ℕ) → [] ≡ ls ++ line ∷ ms → ⊥
+none_more [] ms line e = absurd cc
+none_more (l ∷ ls) ms line e = absurd cc
+
+-- one line is not the first lines and one more
+one_more_line : (map : MemoryMap) (xs ms : List (List ℕ)) (line : List ℕ) → second_version_line ∷ [] ≡ (heading map ++ xs) ++ line ∷ ms → ⊥
+one_more_line map xs ms line e = no_version map (xs ++ line ∷ ms) (e ∙ append_assoc (heading map) xs (line ∷ ms))
+
+pub goes_on : (t u : Taken) (line : List ℕ) (ms : List (List ℕ)) → IsTaken t → IsTaken u → lines_of u ≡ lines_of t ++ line ∷ ms → GoesOn t line
+goes_on Nothing Nothing line ms h k e = absurd (no_cons line ms e)
+goes_on Nothing Versioned line ms h k e = inr (sym (cons_parts second_version_line line [] ms e).0)
+goes_on Nothing (Begun map' fs) line ms h k e = goes_first map' (entry_lines fs) ms line e
+goes_on Nothing (Whole map' fs) line ms h k e = goes_first map' (entry_lines fs ++ done_line (length fs) ∷ []) ms line e
+goes_on Versioned Nothing line ms h k e = absurd (no_cons second_version_line (line ∷ ms) e)
+goes_on Versioned Versioned line ms h k e = absurd (no_cons line ms (cons_parts second_version_line second_version_line [] (line ∷ ms) e).1)
+goes_on Versioned (Begun map' fs) line ms h k e = goes_second map' (entry_lines fs) ms line k.map_is e
+goes_on Versioned (Whole map' fs) line ms h k e = goes_second map' (entry_lines fs ++ done_line (length fs) ∷ []) ms line k.map_is e
+goes_on (Begun map es) Nothing line ms h k e = absurd (none_more (lines_of (Begun map es)) ms line e)
+goes_on (Begun map es) Versioned line ms h k e = absurd (one_more_line map (entry_lines es) ms line e)
+goes_on (Begun map es) (Begun map' fs) line ms h k e =
+    let less = small_map map h.map_is in
+    let r = after_heads map map' es fs (entry_lines es) (entry_lines fs) ms line h k e in
+    elim (next_of map.rom_first map.rom_last es fs [] ms line less h.each r.0.each (no_entry_nil map.rom_first map.rom_last) (append-nil (entry_lines fs) ∙ r.1)) [
+      | inl x ↦ inl (goes_entry map es fs line r.0 x)
+      | inr x ↦ absurd (cc (x.1))
     ]
-goes_on first last (Whole from to es) Nothing line ms small h k e = absurd cc
-goes_on first last (Whole from to es) (Begun from' to' fs) line ms small h k e =
-    let less : to < ADDRESS_END = omega (arith, h.1, small) in
-    let y = same_rom from to from' to' fs (k.0 ∙ sym h.0) (k.1 ∙ sym h.1) k.2 in
-    let tail : entry_lines fs ≡ (entry_lines es ++ done_line (length es) ∷ []) ++ line ∷ ms = cc in
-    elim (next_of from to es fs [] (line ∷ ms) (done_line (length es)) less h.2.each y.each (no_entry_nil from to) (append-nil (entry_lines fs) ∙ tail ∙ append_assoc (entry_lines es) (done_line (length es) ∷ []) (line ∷ ms))) [
-      | inl r ↦ let g = goes_entry from to es fs (done_line (length es)) y r in absurd (entry_not_done from to g.0 (length es) less g.1.0 h.2.few (sym g.1.1))
-      | inr r ↦ absurd (cc (r.1))
+goes_on (Begun map es) (Whole map' fs) line ms h k e =
+    let less = small_map map h.map_is in
+    let r = after_heads map map' es fs (entry_lines es) (entry_lines fs ++ done_line (length fs) ∷ []) ms line h k e in
+    elim (next_of map.rom_first map.rom_last es fs (done_line (length fs) ∷ []) ms line less h.each r.0.each (no_entry_done map.rom_first map.rom_last (length fs) less r.0.few) r.1) [
+      | inl x ↦ inl (goes_entry map es fs line r.0 x)
+      | inr x ↦ let l : done_line (length fs) ≡ line = cc (x.1) in inr (h.few, sym l ∙ ap (λ (xs : List Entry). done_line (length xs)) x.0)
     ]
-goes_on first last (Whole from to es) (Whole from' to' fs) line ms small h k e =
-    let less : to < ADDRESS_END = omega (arith, h.1, small) in
-    let y = same_rom from to from' to' fs (k.0 ∙ sym h.0) (k.1 ∙ sym h.1) k.2 in
-    let tail : entry_lines fs ++ done_line (length fs) ∷ [] ≡ (entry_lines es ++ done_line (length es) ∷ []) ++ line ∷ ms = cc in
-    elim (next_of from to es fs (done_line (length fs) ∷ []) (line ∷ ms) (done_line (length es)) less h.2.each y.each (no_entry_done from to (length fs) less y.few) (tail ∙ append_assoc (entry_lines es) (done_line (length es) ∷ []) (line ∷ ms))) [
-      | inl r ↦ let g = goes_entry from to es fs (done_line (length es)) y r in absurd (entry_not_done from to g.0 (length es) less g.1.0 h.2.few (sym g.1.1))
-      | inr r ↦ absurd (cc (r.1))
+goes_on (Whole map es) Nothing line ms h k e = absurd (none_more (lines_of (Whole map es)) ms line e)
+goes_on (Whole map es) Versioned line ms h k e = absurd (one_more_line map (entry_lines es ++ done_line (length es) ∷ []) ms line e)
+goes_on (Whole map es) (Begun map' fs) line ms h k e =
+    let less = small_map map h.map_is in
+    let r = after_heads map map' es fs (entry_lines es ++ done_line (length es) ∷ []) (entry_lines fs) ms line h k e in
+    elim (next_of map.rom_first map.rom_last es fs [] (line ∷ ms) (done_line (length es)) less h.each r.0.each (no_entry_nil map.rom_first map.rom_last) (append-nil (entry_lines fs) ∙ r.1 ∙ append_assoc (entry_lines es) (done_line (length es) ∷ []) (line ∷ ms))) [
+      | inl x ↦ let g = goes_entry map es fs (done_line (length es)) r.0 x in absurd (entry_not_done map.rom_first map.rom_last g.0 (length es) less g.1.0 h.few (sym g.1.1))
+      | inr x ↦ absurd (cc (x.1))
+    ]
+goes_on (Whole map es) (Whole map' fs) line ms h k e =
+    let less = small_map map h.map_is in
+    let r = after_heads map map' es fs (entry_lines es ++ done_line (length es) ∷ []) (entry_lines fs ++ done_line (length fs) ∷ []) ms line h k e in
+    elim (next_of map.rom_first map.rom_last es fs (done_line (length fs) ∷ []) (line ∷ ms) (done_line (length es)) less h.each r.0.each (no_entry_done map.rom_first map.rom_last (length fs) less r.0.few) (r.1 ∙ append_assoc (entry_lines es) (done_line (length es) ∷ []) (line ∷ ms))) [
+      | inl x ↦ let g = goes_entry map es fs (done_line (length es)) r.0 x in absurd (entry_not_done map.rom_first map.rom_last g.0 (length es) less g.1.0 h.few (sym g.1.1))
+      | inr x ↦ absurd (cc (x.1))
     ]
 
 pub not_both : (first last : ℕ) (e : Entry) (n : ℕ) (line : List ℕ) → last < ADDRESS_END → IsLine first last (EntryLine e) line → IsLine first last (DoneLine n) line → ⊥
@@ -236,22 +294,30 @@ same_count first last m n line small h k = let s = one_line first last line (Don
 
 -- what is wrong may not stand
 pub wrong_goes : (why : CertWhy) (t : Taken) (line : List ℕ) → Small t → IsWrong t line why → GoesOn t line → ⊥
-wrong_goes why (Whole from to es) line small w g = g
-wrong_goes Form Nothing line small w g = w g
+wrong_goes why (Whole map es) line small w g = g
+wrong_goes Form Nothing line small w (inl g) = w.0 g
+wrong_goes Form Nothing line small w (inr g) = w.1 g
 wrong_goes Order Nothing line small w g = w
 wrong_goes Count Nothing line small w g = w
 wrong_goes Unended Nothing line small w g = w
 wrong_goes After Nothing line small w g = w
 wrong_goes TooLong Nothing line small w g = w
 wrong_goes Memory Nothing line small w g = w
-wrong_goes Form (Begun from to es) line small w (inl g) = w (EntryLine g.0) g.1
-wrong_goes Form (Begun from to es) line small w (inr g) = w (DoneLine (length es)) g
-wrong_goes Order (Begun from to es) line small w (inl g) = w.2 (subst (λ (x : Entry). StandsAfter es x) (same_entry from to g.0 w.0 line small g.1 w.1) g.2)
-wrong_goes Order (Begun from to es) line small w (inr g) = not_both from to w.0 (length es) line small w.1 g
-wrong_goes TooLong (Begun from to es) line small w (inl g) = absurd (omega (arith, g.3, w.3))
-wrong_goes TooLong (Begun from to es) line small w (inr g) = not_both from to w.0 (length es) line small w.1 g
-wrong_goes Count (Begun from to es) line small w (inl g) = not_both from to g.0 w.0 line small g.1 w.1
-wrong_goes Count (Begun from to es) line small w (inr g) = w.2 (same_count from to w.0 (length es) line small w.1 g)
-wrong_goes Unended (Begun from to es) line small w g = w
-wrong_goes After (Begun from to es) line small w g = w
-wrong_goes Memory (Begun from to es) line small w g = w
+wrong_goes Form Versioned line small w g = w g.0 g.1 g.2
+wrong_goes Order Versioned line small w g = w
+wrong_goes Count Versioned line small w g = w
+wrong_goes Unended Versioned line small w g = w
+wrong_goes After Versioned line small w g = w
+wrong_goes TooLong Versioned line small w g = w
+wrong_goes Memory Versioned line small w g = w
+wrong_goes Form (Begun map es) line small w (inl g) = w (EntryLine g.0) g.1
+wrong_goes Form (Begun map es) line small w (inr g) = w (DoneLine (length es)) g
+wrong_goes Order (Begun map es) line small w (inl g) = w.2 (subst (λ (x : Entry). StandsAfter es x) (same_entry map.rom_first map.rom_last g.0 w.0 line small g.1 w.1) g.2)
+wrong_goes Order (Begun map es) line small w (inr g) = not_both map.rom_first map.rom_last w.0 (length es) line small w.1 g
+wrong_goes TooLong (Begun map es) line small w (inl g) = absurd (omega (arith, g.3, w.3))
+wrong_goes TooLong (Begun map es) line small w (inr g) = not_both map.rom_first map.rom_last w.0 (length es) line small w.1 g
+wrong_goes Count (Begun map es) line small w (inl g) = not_both map.rom_first map.rom_last g.0 w.0 line small g.1 w.1
+wrong_goes Count (Begun map es) line small w (inr g) = w.2 (same_count map.rom_first map.rom_last w.0 (length es) line small w.1 g)
+wrong_goes Unended (Begun map es) line small w g = w
+wrong_goes After (Begun map es) line small w g = w
+wrong_goes Memory (Begun map es) line small w g = w

@@ -3,6 +3,7 @@ use Rattle.std.proofs.Common.{◌≡◌, ℕ, zero, suc, ◌+◌, ◌<◌, ◌�
 use Rattle.std.specs.Prelude.{IsTrue, false}
 use Rattle.std.specs.List.{AllByRecursion}
 use Rattle.std.proofs.lemmas.List.{length-take-le}
+use Rattle.dvg_words.specs.Values.{MemoryMap}
 use Rattle.dvg_cert.specs.Limits.{MOST_ENTRIES}
 use Rattle.dvg_cert.specs.Entry.{Entry, IsEntry}
 use Rattle.dvg_cert.specs.Order.{IsCertificate, IsRising, StandsAfter}
@@ -14,13 +15,13 @@ cut_at [] i d lt = absurd (omega arith)
 cut_at (x ∷ es) zero d lt = (refl, refl)
 cut_at (x ∷ es) (suc i) d lt = let r = cut_at es i d (omega arith) in (ap (λ (t : List Entry). x ∷ t) r.0, ap (λ (t : List Entry). x ∷ t) r.1)
 
-pub not_entry : (first last : ℕ) (es : List Entry) (i : ℕ) (d : Entry) → i < length es → (IsEntry first last (get_or es i d) → IsTrue false) → IsCertificate first last es → IsTrue false
-not_entry first last es i d lt h k = h (each_mid first last (take i es) (get_or es i d) (drop (suc i) es) (subst (λ (xs : List Entry). AllByRecursion (IsEntry first last) xs) (cut_at es i d lt).0 k.each))
+pub not_entry : (map : MemoryMap) (es : List Entry) (i : ℕ) (d : Entry) → i < length es → (IsEntry map.rom_first map.rom_last (get_or es i d) → IsTrue false) → IsCertificate map es → IsTrue false
+not_entry map es i d lt h k = h (each_mid map.rom_first map.rom_last (take i es) (get_or es i d) (drop (suc i) es) (subst (λ (xs : List Entry). AllByRecursion (IsEntry map.rom_first map.rom_last) xs) (cut_at es i d lt).0 k.each))
 
-pub not_rising : (first last : ℕ) (es : List Entry) (i : ℕ) (d : Entry) → i < length es → (StandsAfter (take i es) (get_or es i d) → IsTrue false) → IsCertificate first last es → IsTrue false
-not_rising first last es i d lt h k = h (rising_mid (take i es) (get_or es i d) (drop (suc i) es) (subst (λ (xs : List Entry). IsRising xs) (cut_at es i d lt).0 k.rising))
+pub not_rising : (map : MemoryMap) (es : List Entry) (i : ℕ) (d : Entry) → i < length es → (StandsAfter (take i es) (get_or es i d) → IsTrue false) → IsCertificate map es → IsTrue false
+not_rising map es i d lt h k = h (rising_mid (take i es) (get_or es i d) (drop (suc i) es) (subst (λ (xs : List Entry). IsRising xs) (cut_at es i d lt).0 k.rising))
 
-pub one_further : (first last : ℕ) (es : List Entry) (i : ℕ) (d : Entry) → i < length es → length es ≤ MOST_ENTRIES → IsCertificate first last (take i es) → IsEntry first last (get_or es i d) → StandsAfter (take i es) (get_or es i d) → IsCertificate first last (take (i + 1) es)
-one_further first last es i d lt few h fits s =
-    let k = certificate_push first last (take i es) (get_or es i d) h fits s (omega (arith, length-take-le i es (omega arith))) in
-    rw add-one (subst (λ (xs : List Entry). IsCertificate first last xs) (sym (cut_at es i d lt).1) k)
+pub one_further : (map : MemoryMap) (es : List Entry) (i : ℕ) (d : Entry) → i < length es → length es ≤ MOST_ENTRIES → IsCertificate map (take i es) → IsEntry map.rom_first map.rom_last (get_or es i d) → StandsAfter (take i es) (get_or es i d) → IsCertificate map (take (i + 1) es)
+one_further map es i d lt few h fits s =
+    let k = certificate_push map (take i es) (get_or es i d) h fits s (omega (arith, length-take-le i es (omega arith))) in
+    rw add-one (subst (λ (xs : List Entry). IsCertificate map xs) (sym (cut_at es i d lt).1) k)

@@ -133,4 +133,4 @@ found [] addr key h = (tt, λ f c a k. absurd (omega (arith, c.1)))
 found (e ∷ es) addr key h = found_first addr key e es (is_at addr key e) (entry_at es addr key) refl h (found es addr key (rising_tail e es h))
 
 pub only_entry : OnlyEntry
-only_entry = λ first last es addr key h. found es addr key h.rising
+only_entry = λ map es addr key h. found es addr key h.rising

@@ -4,10 +4,11 @@ use Rattle.std.specs.Prelude.{slice_get}
 use Rattle.std.specs.List.{AllByRecursion, flat_map}
 use Rattle.std.proofs.lemmas.List.{append-nil, length_push}
 use Rattle.std.proofs.lemmas.List.Concat.{flat_map-append}
-use Rattle.dvg_cert.specs.Limits.{MOST_ENTRIES}
+use Rattle.dvg_words.specs.Values.{MemoryMap, IsMap}
+use Rattle.dvg_cert.specs.Limits.{MOST_ENTRIES, ADDRESS_END}
 use Rattle.dvg_cert.specs.Entry.{Entry, IsEntry}
 use Rattle.dvg_cert.specs.Order.{Before, StandsAfter, IsRising, IsCertificate}
-use Rattle.dvg_cert.specs.Grammar.{entry_line, ended, first_line, begun_with}
+use Rattle.dvg_cert.specs.Grammar.{entry_line, ended, heading, begun_with}
 
 last_at : (es : List Entry) (k : ℕ) (f e : Entry) → length es ≡ suc k → slice_get es k ≡ Some f → ((Before f e → StandsAfter es e) × (StandsAfter es e → Before f e))
 last_at [] k f e n h = absurd (omega arith)
@@ -31,16 +32,21 @@ each_push : (first last : ℕ) (es : List Entry) (e : Entry) → AllByRecursion 
 each_push first last [] e h s = (s, tt)
 each_push first last (x ∷ es) e h s = (h.0, each_push first last es e h.1 s)
 
-pub certificate_push : (first last : ℕ) (es : List Entry) (e : Entry) → IsCertificate first last es → IsEntry first last e → StandsAfter es e → length es < MOST_ENTRIES → IsCertificate first last (es ++ e ∷ [])
-certificate_push first last es e h fits s room = record { each = each_push first last es e h.each fits; rising = rising_push es e h.rising s; few = omega (arith, length_push es e) }
+pub certificate_push : (map : MemoryMap) (es : List Entry) (e : Entry) → IsCertificate map es → IsEntry map.rom_first map.rom_last e → StandsAfter es e → length es < MOST_ENTRIES → IsCertificate map (es ++ e ∷ [])
+certificate_push map es e h fits s room = record { map_is = h.map_is; each = each_push map.rom_first map.rom_last es e h.each fits; rising = rising_push es e h.rising s; few = omega (arith, length_push es e) }
+
+-- no entry so far
+pub no_entry_yet : (map : MemoryMap) → IsMap map → IsCertificate map []
+no_entry_yet map is = record { map_is = is; each = tt; rising = tt; few = omega arith }
+
+-- the addresses of a map have three digits
+pub small_map : (map : MemoryMap) → IsMap map → map.rom_last < ADDRESS_END
+small_map map is = omega (arith, is.inside)
 
 -- one more line
-pub begun_push : (es : List Entry) (e : Entry) → begun_with (es ++ e ∷ []) ≡ begun_with es ++ ended (entry_line e)
+pub begun_push : (map : MemoryMap) (es : List Entry) (e : Entry) → begun_with map (es ++ e ∷ []) ≡ begun_with map es ++ ended (entry_line e)
 unfolding begun_with
-begun_push es e =
+begun_push map es e =
     let f : Entry → List ℕ = λ x. ended (entry_line x) in
-    ap (λ (t : List ℕ). ended first_line ++ t) (flat_map-append f es (e ∷ []) ∙ ap (λ (t : List ℕ). flat_map f es ++ t) (append-nil (f e))) ∙ sym (append_assoc (ended first_line) (flat_map f es) (f e))
-
--- the list of a certificate for one ROM is that for a ROM at the same addresses
-pub same_rom : (first last from to : ℕ) (es : List Entry) → from ≡ first → to ≡ last → IsCertificate from to es → IsCertificate first last es
-same_rom first last from to es p q h = subst (λ (x : ℕ). IsCertificate x last es) p (subst (λ (y : ℕ). IsCertificate from y es) q h)
+    let first : List ℕ = flat_map ended (heading map) in
+    ap (λ (t : List ℕ). first ++ t) (flat_map-append f es (e ∷ []) ∙ ap (λ (t : List ℕ). flat_map f es ++ t) (append-nil (f e))) ∙ sym (append_assoc first (flat_map f es) (f e))

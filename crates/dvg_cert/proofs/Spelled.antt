@@ -1,18 +1,19 @@
 -- A line put together token by token, and a text line by line.
-use Rattle.std.proofs.Common.{◌≡◌, ℕ, ◌+◌, ◌<◌, List, [], ◌∷◌, ◌++◌, length, get_or, take, drop, Option, Result, Ok, Err, refl, sym, ap, subst, ◌∙◌, append_assoc, arith, add-one}
+use Rattle.std.proofs.Common.{◌≡◌, true, false, ℕ, ◌+◌, ◌<◌, List, [], ◌∷◌, ◌++◌, length, get_or, take, drop, Option, Result, Ok, Err, refl, sym, ap, subst, ◌∙◌, append_assoc, arith, add-one}
 use Rattle.std.specs.Prelude.{codes, decimal, OnErr}
 use Rattle.std.specs.List.{join_with_byte, flat_map}
 use Rattle.std.proofs.lemmas.List.{append-nil, length-append, take-append-le, take-append-drop}
 use Rattle.std.proofs.lemmas.List.Concat.{flat_map-append}
 use Rattle.std.specs.Io.KnownBytes.{Appends}
+use Rattle.dvg_words.specs.Values.{MemoryMap, is_asteroids}
 use Rattle.dvg_cert.specs.Limits.{LINE_FEED, SPACE}
 use Rattle.dvg_cert.specs.Entry.{Entry}
-use Rattle.dvg_cert.specs.Grammar.{entry_line, end_tokens, box_tokens, address_token, key_token, ended, begun_with, text_of, done_line, first_line}
+use Rattle.dvg_cert.specs.Grammar.{entry_line, end_tokens, box_tokens, address_token, key_token, ended, begun_with, text_of, done_line, first_version_line, second_version_line, rom_line, heading}
 use Rattle.dvg_cert.specs.Devices.{AppendsPrefix}
 use Rattle.dvg_cert.specs.Private.Writing.{spaced, Buffered}
 use Rattle.std.proofs.Math.Seq.{take-length, take-append-add}
 use Rattle.dvg_cert.proofs.Rising.{begun_push}
-use Rattle.dvg_cert.proofs.Refusals.{first_taken}
+use Rattle.dvg_cert.proofs.FirstLines.{asteroids_is, first_taken, rom_taken}
 use Rattle.std.proofs.KnownBytes.{Appends-nil, Appends-trans}
 use Rattle.dvg_cert.proofs.ListParts.{cut_at}
 
@@ -51,19 +52,20 @@ pub held_sent_in_part : (old mid new : Option (List ℕ)) (held text : List ℕ)
 held_sent_in_part old mid new held text h s = sent_part old mid new text h.0 held [] (h.2 ∙ ap (λ (t : List ℕ). h.0 ++ t) (sym (append-nil held))) h.1 s
 
 -- the text of a certificate from an entry on
-text_at : (es : List Entry) (i : ℕ) → text_of es ≡ begun_with (take i es) ++ (flat_map (λ e. ended (entry_line e)) (drop i es) ++ ended (done_line (length es)))
+text_at : (map : MemoryMap) (es : List Entry) (i : ℕ) → text_of map es ≡ begun_with map (take i es) ++ (flat_map (λ e. ended (entry_line e)) (drop i es) ++ ended (done_line (length es)))
 unfolding begun_with
-text_at es i =
+text_at map es i =
     let f : Entry → List ℕ = λ x. ended (entry_line x) in
+    let first : List ℕ = flat_map ended (heading map) in
     let a : flat_map f es ≡ flat_map f (take i es) ++ flat_map f (drop i es) = ap (flat_map f) (sym (take-append-drop i es)) ∙ flat_map-append f (take i es) (drop i es) in
-    ap (λ (t : List ℕ). (ended first_line ++ t) ++ ended (done_line (length es))) a ∙ again (ended first_line) (flat_map f (take i es)) (flat_map f (drop i es)) (ended (done_line (length es)))
+    ap (λ (t : List ℕ). (first ++ t) ++ ended (done_line (length es))) a ∙ again first (flat_map f (take i es)) (flat_map f (drop i es)) (ended (done_line (length es)))
   where
     again : (a b c d : List ℕ) → (a ++ (b ++ c)) ++ d ≡ (a ++ b) ++ (c ++ d)
     again a b c d = simp append_assoc
 
 -- one more entry
-begun_next : (es : List Entry) (i : ℕ) (d : Entry) → i < length es → begun_with (take (i + 1) es) ≡ begun_with (take i es) ++ ended (entry_line (get_or es i d))
-begun_next es i d lt = rw add-one (ap begun_with (cut_at es i d lt).1) ∙ begun_push (take i es) (get_or es i d)
+begun_next : (map : MemoryMap) (es : List Entry) (i : ℕ) (d : Entry) → i < length es → begun_with map (take (i + 1) es) ≡ begun_with map (take i es) ++ ended (entry_line (get_or es i d))
+begun_next map es i d lt = rw add-one (ap (begun_with map) (cut_at es i d lt).1) ∙ begun_push map (take i es) (get_or es i d)
 
 line_parts : (before shape hex key endw : List ℕ) (stop : List (List ℕ)) (boxw : List ℕ) (lit : List (List ℕ)) (d1 d w1 w s1 s : List ℕ)
     → (((((((((((((before ++ shape) ++ SPACE ∷ hex) ++ SPACE ∷ key) ++ SPACE ∷ endw) ++ spaced stop) ++ SPACE ∷ boxw) ++ spaced lit) ++ SPACE ∷ d1) ++ SPACE ∷ d) ++ SPACE ∷ w1) ++ SPACE ∷ w) ++ SPACE ∷ s1) ++ SPACE ∷ s) ++ LINE_FEED ∷ []
@@ -85,29 +87,39 @@ sent_err (Ok x) p = tt
 sent_err (Err e) p = p
 
 -- before the first entry
-pub first_held : (old : Option (List ℕ)) (held : List ℕ) → held ≡ ended first_line → Buffered old old held (begun_with [])
-first_held old held h = ([], Appends-nil old, first_taken first_line refl ∙ sym h)
+pub first_held : (old : Option (List ℕ)) (map : MemoryMap) (held : List ℕ) → held ≡ begun_with map [] → Buffered old old held (begun_with map [])
+first_held old map held h = ([], Appends-nil old, sym h)
+
+-- the lines before the entries
+pub here_held : (map : MemoryMap) (held : List ℕ) → is_asteroids map ≡ true → held ≡ ended first_version_line → held ≡ begun_with map []
+here_held map held is h = h ∙ sym (ap (λ (m : MemoryMap). begun_with m []) (asteroids_is map is) ∙ first_taken first_version_line refl)
+
+pub elsewhere_held : (map : MemoryMap) (held : List ℕ) → is_asteroids map ≡ false → held ≡ (((ended second_version_line ++ codes "rom") ++ SPACE ∷ address_token map.rom_first) ++ SPACE ∷ address_token map.rom_last) ++ LINE_FEED ∷ [] → held ≡ begun_with map []
+elsewhere_held map held is h = h ∙ regroup (ended second_version_line) (codes "rom") (SPACE ∷ address_token map.rom_first) (SPACE ∷ address_token map.rom_last) (LINE_FEED ∷ []) ∙ sym (rom_taken map (rom_line map) is refl)
+  where
+    regroup : (a b c d e : List ℕ) → (((a ++ b) ++ c) ++ d) ++ e ≡ a ++ ((b ++ (c ++ d)) ++ e)
+    regroup a b c d e = simp append_assoc
 
 -- one more entry is held
-pub entry_held : (old mid new : Option (List ℕ)) (es : List Entry) (i : ℕ) (d : Entry) (held rest more : List ℕ) → i < length es → more ≡ rest ++ ended (entry_line (get_or es i d)) → Buffered old mid held (begun_with (take i es)) → Buffered mid new rest held → Buffered old new more (begun_with (take (i + 1) es))
-entry_held old mid new es i d held rest more lt m h k =
+pub entry_held : (old mid new : Option (List ℕ)) (map : MemoryMap) (es : List Entry) (i : ℕ) (d : Entry) (held rest more : List ℕ) → i < length es → more ≡ rest ++ ended (entry_line (get_or es i d)) → Buffered old mid held (begun_with map (take i es)) → Buffered mid new rest held → Buffered old new more (begun_with map (take (i + 1) es))
+entry_held old mid new map es i d held rest more lt m h k =
     let line : List ℕ = ended (entry_line (get_or es i d)) in
-    let b : Buffered old new (rest ++ line) (begun_with (take i es) ++ line) = buffered_more old new rest line (begun_with (take i es)) (buffered_on old mid new held rest (begun_with (take i es)) h k) in
-    subst (λ (t : List ℕ). Buffered old new t (begun_with (take (i + 1) es))) (sym m) (subst (λ (t : List ℕ). Buffered old new (rest ++ line) t) (sym (begun_next es i d lt)) b)
+    let b : Buffered old new (rest ++ line) (begun_with map (take i es) ++ line) = buffered_more old new rest line (begun_with map (take i es)) (buffered_on old mid new held rest (begun_with map (take i es)) h k) in
+    subst (λ (t : List ℕ). Buffered old new t (begun_with map (take (i + 1) es))) (sym m) (subst (λ (t : List ℕ). Buffered old new (rest ++ line) t) (sym (begun_next map es i d lt)) b)
 
 -- the last line is held
-pub done_held : (old mid new : Option (List ℕ)) (es cert : List Entry) (i n : ℕ) (held rest more : List ℕ) → es ≡ cert → i ≡ length es → n ≡ length es → more ≡ rest ++ ended (done_line n) → Buffered old mid held (begun_with (take i es)) → Buffered mid new rest held → Buffered old new more (text_of cert)
-done_held old mid new es cert i n held rest more same all m p h k =
+pub done_held : (old mid new : Option (List ℕ)) (map : MemoryMap) (es cert : List Entry) (i n : ℕ) (held rest more : List ℕ) → es ≡ cert → i ≡ length es → n ≡ length es → more ≡ rest ++ ended (done_line n) → Buffered old mid held (begun_with map (take i es)) → Buffered mid new rest held → Buffered old new more (text_of map cert)
+done_held old mid new map es cert i n held rest more same all m p h k =
     let line : List ℕ = ended (done_line n) in
-    let b : Buffered old new (rest ++ line) (begun_with (take i es) ++ line) = buffered_more old new rest line (begun_with (take i es)) (buffered_on old mid new held rest (begun_with (take i es)) h k) in
-    let begun : begun_with (take i es) ≡ begun_with cert = ap begun_with (ap (λ (j : ℕ). take j es) all ∙ take-length es ∙ same) in
+    let b : Buffered old new (rest ++ line) (begun_with map (take i es) ++ line) = buffered_more old new rest line (begun_with map (take i es)) (buffered_on old mid new held rest (begun_with map (take i es)) h k) in
+    let begun : begun_with map (take i es) ≡ begun_with map cert = ap (begun_with map) (ap (λ (j : ℕ). take j es) all ∙ take-length es ∙ same) in
     let last : line ≡ ended (done_line (length cert)) = ap (λ (j : ℕ). ended (done_line j)) (m ∙ ap length same) in
-    let whole : begun_with (take i es) ++ line ≡ text_of cert = ap (λ (t : List ℕ). t ++ line) begun ∙ ap (λ (t : List ℕ). begun_with cert ++ t) last in
-    subst (λ (t : List ℕ). Buffered old new t (text_of cert)) (sym p) (subst (λ (t : List ℕ). Buffered old new (rest ++ line) t) whole b)
+    let whole : begun_with map (take i es) ++ line ≡ text_of map cert = ap (λ (t : List ℕ). t ++ line) begun ∙ ap (λ (t : List ℕ). begun_with map cert ++ t) last in
+    subst (λ (t : List ℕ). Buffered old new t (text_of map cert)) (sym p) (subst (λ (t : List ℕ). Buffered old new (rest ++ line) t) whole b)
 
 -- a write failed before the last line was held
-pub begun_in_part : (old mid new : Option (List ℕ)) (es cert : List Entry) (i : ℕ) (held : List ℕ) → es ≡ cert → Buffered old mid held (begun_with (take i es)) → AppendsPrefix mid new held → AppendsPrefix old new (text_of cert)
-begun_in_part old mid new es cert i held same h s =
+pub begun_in_part : (old mid new : Option (List ℕ)) (map : MemoryMap) (es cert : List Entry) (i : ℕ) (held : List ℕ) → es ≡ cert → Buffered old mid held (begun_with map (take i es)) → AppendsPrefix mid new held → AppendsPrefix old new (text_of map cert)
+begun_in_part old mid new map es cert i held same h s =
     let tail : List ℕ = flat_map (λ e. ended (entry_line e)) (drop i es) ++ ended (done_line (length es)) in
-    let parts : text_of cert ≡ h.0 ++ (held ++ tail) = ap text_of (sym same) ∙ text_at es i ∙ ap (λ (t : List ℕ). t ++ tail) h.2 ∙ append_assoc h.0 held tail in
-    sent_part old mid new (text_of cert) h.0 held tail parts h.1 s
+    let parts : text_of map cert ≡ h.0 ++ (held ++ tail) = ap (text_of map) (sym same) ∙ text_at map es i ∙ ap (λ (t : List ℕ). t ++ tail) h.2 ∙ append_assoc h.0 held tail in
+    sent_part old mid new (text_of map cert) h.0 held tail parts h.1 s

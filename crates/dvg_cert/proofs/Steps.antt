@@ -1,9 +1,9 @@
 -- A field that is read from the front of bytes is spelled there, and what is spelled there is read again.
-use Rattle.std.proofs.Common.{◌≡◌, ◌≢◌, ℕ, ◌+◌, ◌-◌, ◌/◌, ◌%◌, ◌^◌, ◌<◌, ◌≤◌, Bool, true, false, cond, ◌&&◌, [], ◌∷◌, ◌++◌, length, map, take, drop, get_or, Option, Some, None, refl, sym, ap, subst, ◌∙◌, arith}
+use Rattle.std.proofs.Common.{◌≡◌, ◌≢◌, ℕ, zero, suc, ◌+◌, ◌-◌, ◌/◌, ◌%◌, ◌^◌, ◌<◌, ◌≤◌, Bool, true, false, cond, ◌&&◌, [], ◌∷◌, ◌++◌, length, map, take, drop, get_or, Option, Some, None, refl, sym, ap, subst, ◌∙◌, arith}
 use Rattle.std.specs.Prelude.{codes, decimal, nat_le, nat_lt, ◌==◌}
 use Rattle.std.specs.Char.{digit_value}
 use Rattle.std.specs.Option.{option_map, option_map_or}
-use Rattle.std.specs.Str.Parse.{AllDigits}
+use Rattle.std.specs.Str.Parse.{AllDigits, digits_value}
 use Rattle.std.proofs.lemmas.Option.{cond_some, some_pair_parts, none-some, same_Some}
 use Rattle.std.proofs.lemmas.Bool.{and_parts, eqb-true}
 use Rattle.std.proofs.lemmas.Bool.Decides.{nat_tests}
@@ -19,7 +19,7 @@ use Rattle.dvg_cert.specs.Grammar.{address_token, key_token}
 use Rattle.dvg_cert.specs.Private.Fields.{Reads, natural_in, address_in, NoDigitFirst, past, digits_off, natural_at, digit_at, address_at, key_at}
 use Rattle.dvg_cert.proofs.NaturalNumbers.{natural_some}
 use Rattle.dvg_cert.proofs.FieldValues.{first_digit, map_some, natural_takes, address_takes, address_again}
-use Rattle.dvg_cert.proofs.Leading.{Text, same_number}
+use Rattle.dvg_cert.proofs.Leading.{Text, same_number, digits_lead}
 
 -- ---- texts
 
@@ -117,6 +117,16 @@ natural_outside low high n bytes rest top small stop e outside = natural_never l
 
 pub natural_none_at : (low high : ℕ) (bytes : Text) → high ≤ MOST_MAGNITUDE → ((n : ℕ) (rest : Text) → n ≤ MOST_MAGNITUDE → NoDigitFirst rest → bytes ≡ decimal n ++ rest → ⊥) → natural_at low high bytes ≡ None
 natural_none_at low high bytes top never = natural_never low high bytes (λ n rest is from to free. never n rest (omega arith) free is)
+
+positive : (n : ℕ) (bytes rest : Text) → bytes ≡ decimal n ++ rest → (get_or bytes 0 0 ≡ 48 → ⊥) → 1 ≤ n
+positive zero bytes rest e other = absurd (other (ap (λ (b : Text). get_or b 0 0) (e ∙ ap (λ (xs : Text). xs ++ rest) (decimal_digit 0 (omega arith)))))
+positive (suc n) bytes rest e other = omega arith
+
+pub magnitude_read : (count number : ℕ) (bytes : Text) → AllDigits 10 (take count bytes) → number ≡ digits_value 10 (take count bytes) → 0 < count → count ≤ 13 → count ≤ length bytes → NoDigitFirst (drop count bytes) → (get_or bytes 0 0 ≡ 48 → ⊥) → number ≤ MOST_MAGNITUDE
+    → natural_at 1 MOST_MAGNITUDE bytes ≡ Some (number, drop count bytes)
+magnitude_read count number bytes all value some few within stop other most =
+    let read = digits_lead count number bytes all value few within stop some (λ z. absurd (other z)) in
+    natural_is 1 MOST_MAGNITUDE number bytes (drop count bytes) (omega arith) (positive number bytes (drop count bytes) read.0 other) most read.0 read.2
 
 -- ---- single digits
 

@@ -1,17 +1,18 @@
 -- The laws of texts.
-use Rattle.std.proofs.Common.{◌≡◌, ◌≢◌, ℕ, ◌+◌, ◌*◌, ◌<◌, ◌≤◌, Bool, true, false, cond, List, [], ◌∷◌, ◌++◌, length, Result, Ok, Err, refl, ap, ◌∙◌, append_assoc, arith, inl, inr}
+use Rattle.std.proofs.Common.{◌≡◌, ◌≢◌, ℕ, ◌+◌, ◌*◌, ◌≤◌, Bool, true, false, cond, List, [], ◌∷◌, ◌++◌, length, Result, Ok, Err, refl, ap, ◌∙◌, append_assoc, arith, inl, inr}
 use Rattle.std.specs.Prelude.{◌==◌, count_by}
 use Rattle.std.proofs.lemmas.List.{append-nil, length-append}
 use Rattle.std.proofs.lemmas.List.Recursion.{is_count_by}
-use Rattle.dvg_cert.specs.Limits.{MOST_ENTRIES, LONGEST_LINE, LINE_FEED, ADDRESS_END}
+use Rattle.dvg_cert.specs.Limits.{MOST_ENTRIES, LONGEST_LINE, LINE_FEED}
 use Rattle.dvg_cert.specs.declared.fault.CertWhy.{CertWhy}
 use Rattle.dvg_cert.specs.declared.fault.CertWhy.TheVariants.{Form, Order, Count, Unended, After, TooLong, Memory}
 use Rattle.dvg_cert.specs.declared.fault.CertFault.{CertFault}
 use Rattle.dvg_cert.specs.Entry.{Entry}
-use Rattle.dvg_cert.specs.Grammar.{done_line, begun_with, text_of}
-use Rattle.dvg_cert.specs.Reading.{Taken, Nothing, Begun, Whole, text_taken, line_number, Without, IsTaken, IsRest, Holds, MayStand, StopsAt, IsRefusal, ReadAnswer}
+use Rattle.dvg_cert.specs.Grammar.{heading, done_line, begun_with, text_of}
+use Rattle.dvg_cert.specs.Order.{Certificate}
+use Rattle.dvg_cert.specs.Reading.{Taken, Nothing, Versioned, Begun, Whole, text_taken, line_number, Without, IsTaken, IsRest, Holds, MayStand, StopsAt, IsRefusal, ReadAnswer}
 use Rattle.dvg_cert.specs.Laws.{NotMemory, OneAnswer, ShortText, PrefixRefusal, CutRefusal}
-use Rattle.dvg_cert.proofs.Rising.{same_rom}
+use Rattle.dvg_cert.proofs.FirstLines.{few_heads}
 use Rattle.dvg_cert.proofs.LinesOfTexts.{lines_text, Frees, entry_lines, lines_of}
 use Rattle.dvg_cert.proofs.OneAnswerLemmas.{taken_free, taken_lines, Shorts, taken_short, rest_free, spelled_once, spelled_fault, fault_once, standing_fault}
 use Rattle.dvg_cert.proofs.AnyText.{judged, stuck_refusal}
@@ -23,39 +24,40 @@ same_fault f g p q = made f.line g.line f.why g.why p q
     made l m w v p q = cc
 
 -- two answers that are not out of memory are one
-pub answers_once : (first last : ℕ) (text : List ℕ) (a b : Result (List Entry) CertFault) → last < ADDRESS_END → ReadAnswer first last text a → NotMemory a → ReadAnswer first last text b → NotMemory b → a ≡ b
-answers_once first last text (Ok es) (Ok fs) small h n k m = ap Ok (spelled_once first last es fs text small h k)
-answers_once first last text (Ok es) (Err f) small h n k m = absurd (spelled_fault first last es text f.line f.why small h m k)
-answers_once first last text (Err f) (Ok es) small h n k m = absurd (spelled_fault first last es text f.line f.why small k n h)
-answers_once first last text (Err f) (Err g) small h n k m = let r = fault_once first last text f.line g.line f.why g.why small n m h k in ap Err (same_fault f g r.0 r.1)
+pub answers_once : (text : List ℕ) (a b : Result Certificate CertFault) → ReadAnswer text a → NotMemory a → ReadAnswer text b → NotMemory b → a ≡ b
+answers_once text (Ok c) (Ok d) h n k m = ap Ok (spelled_once c d text h k)
+answers_once text (Ok c) (Err f) h n k m = absurd (spelled_fault c text f.line f.why h m k)
+answers_once text (Err f) (Ok c) h n k m = absurd (spelled_fault c text f.line f.why k n h)
+answers_once text (Err f) (Err g) h n k m = let r = fault_once text f.line g.line f.why g.why n m h k in ap Err (same_fault f g r.0 r.1)
 
 -- the answer to a text that may stand
-standing_answer : (first last : ℕ) (text : List ℕ) (taken : Taken) (rest : List ℕ) → Holds first last text taken rest → (answer : Result (List Entry) CertFault) × ReadAnswer first last text answer × NotMemory answer
-standing_answer first last text Nothing rest h = (Err (record { line = 1; why = Unended }), (Nothing, rest, h, tt, refl), λ e. absurd cc)
-standing_answer first last text (Begun from to es) rest h = (Err (record { line = length es + 2; why = Unended }), (Begun from to es, rest, h, tt, refl), λ e. absurd cc)
-standing_answer first last text (Whole from to es) rest h =
+standing_answer : (text : List ℕ) (taken : Taken) (rest : List ℕ) → Holds text taken rest → (answer : Result Certificate CertFault) × ReadAnswer text answer × NotMemory answer
+standing_answer text Nothing rest h = (Err (record { line = 1; why = Unended }), (Nothing, rest, h, tt, refl), λ e. absurd cc)
+standing_answer text Versioned rest h = (Err (record { line = 2; why = Unended }), (Versioned, rest, h, tt, refl), λ e. absurd cc)
+standing_answer text (Begun map es) rest h = (Err (record { line = line_number (Begun map es); why = Unended }), (Begun map es, rest, h, tt, refl), λ e. absurd cc)
+standing_answer text (Whole map es) rest h =
     let none : rest ≡ [] = h.begun in
-    (Ok es, (same_rom first last from to es h.lines.0 h.lines.1 h.lines.2, h.parts ∙ ap (λ (x : List ℕ). text_of es ++ x) none ∙ append-nil (text_of es)), tt)
+    (Ok (record { map = map; entries = es }), (h.lines, h.parts ∙ ap (λ (x : List ℕ). text_of map es ++ x) none ∙ append-nil (text_of map es)), tt)
 
-some_answer : (first last : ℕ) (text : List ℕ) → last < ADDRESS_END → (answer : Result (List Entry) CertFault) × ReadAnswer first last text answer × NotMemory answer
-some_answer first last text small =
-    elim (judged first last text small) [
-      | inl s ↦ standing_answer first last text s.0 s.1 s.2
-      | inr s ↦ let r = stuck_refusal s.1 first last text s.0 s.2 in (Err (record { line = s.0; why = s.1 }), r.0, r.1)
+some_answer : (text : List ℕ) → (answer : Result Certificate CertFault) × ReadAnswer text answer × NotMemory answer
+some_answer text =
+    elim (judged text) [
+      | inl s ↦ standing_answer text s.0 s.1 s.2
+      | inr s ↦ let r = stuck_refusal s.1 text s.0 s.2 in (Err (record { line = s.0; why = s.1 }), r.0, r.1)
     ]
 
 pub one_answer : OneAnswer
-one_answer = λ first last text small. let a = some_answer first last text small in (a.0, a.1, a.2, λ other h n. answers_once first last text other a.0 small h n a.1 a.2)
+one_answer = λ text. let a = some_answer text in (a.0, a.1, a.2, λ other h n. answers_once text other a.0 h n a.1 a.2)
 
 -- the only refusal of a text that may stand, its end aside
-pub only_memory : (why : CertWhy) (first last : ℕ) (text : List ℕ) (line : ℕ) → last < ADDRESS_END → IsRefusal first last text line why → why ≢ Unended → MayStand first last text → why ≡ Memory
-only_memory Memory first last text line small h n m = refl
-only_memory Unended first last text line small h n m = absurd (n refl)
-only_memory Form first last text line small h n m = absurd (n (standing_fault first last text m.0 m.1 line Form small m.2 (λ e. absurd cc) h).0)
-only_memory Order first last text line small h n m = absurd (n (standing_fault first last text m.0 m.1 line Order small m.2 (λ e. absurd cc) h).0)
-only_memory Count first last text line small h n m = absurd (n (standing_fault first last text m.0 m.1 line Count small m.2 (λ e. absurd cc) h).0)
-only_memory After first last text line small h n m = absurd (n (standing_fault first last text m.0 m.1 line After small m.2 (λ e. absurd cc) h).0)
-only_memory TooLong first last text line small h n m = absurd (n (standing_fault first last text m.0 m.1 line TooLong small m.2 (λ e. absurd cc) h).0)
+pub only_memory : (why : CertWhy) (text : List ℕ) (line : ℕ) → IsRefusal text line why → why ≢ Unended → MayStand text → why ≡ Memory
+only_memory Memory text line h n m = refl
+only_memory Unended text line h n m = absurd (n refl)
+only_memory Form text line h n m = absurd (n (standing_fault text m.0 m.1 line Form m.2 (λ e. absurd cc) h).0)
+only_memory Order text line h n m = absurd (n (standing_fault text m.0 m.1 line Order m.2 (λ e. absurd cc) h).0)
+only_memory Count text line h n m = absurd (n (standing_fault text m.0 m.1 line Count m.2 (λ e. absurd cc) h).0)
+only_memory After text line h n m = absurd (n (standing_fault text m.0 m.1 line After m.2 (λ e. absurd cc) h).0)
+only_memory TooLong text line h n m = absurd (n (standing_fault text m.0 m.1 line TooLong m.2 (λ e. absurd cc) h).0)
 
 -- the line ends of a text
 abbrev pub ends_in : List ℕ → ℕ
@@ -88,13 +90,14 @@ length-entries (e ∷ es) = omega (arith, length-entries es)
 
 length-lines : (taken : Taken) → line_number taken ≡ length (lines_of taken) + 1
 length-lines Nothing = refl
-length-lines (Begun from to es) = omega (arith, length-entries es)
-length-lines (Whole from to es) = omega (arith, length-entries es, length-append (entry_lines es) (done_line (length es) ∷ []))
+length-lines Versioned = refl
+length-lines (Begun map es) = omega (arith, length-entries es, length-append (heading map) (entry_lines es))
+length-lines (Whole map es) = omega (arith, length-entries es, length-append (entry_lines es) (done_line (length es) ∷ []), length-append (heading map) (entry_lines es ++ done_line (length es) ∷ []))
 
-pub line_at : (first last : ℕ) (text : List ℕ) (taken : Taken) (rest : List ℕ) → Holds first last text taken rest → line_number taken ≡ count_by (λ b. b == LINE_FEED) text + 1
-line_at first last text taken rest h =
+pub line_at : (text : List ℕ) (taken : Taken) (rest : List ℕ) → Holds text taken rest → line_number taken ≡ count_by (λ b. b == LINE_FEED) text + 1
+line_at text taken rest h =
     let whole : ends_in text ≡ ends_in (text_taken taken) + ends_in rest = ap ends_in h.parts ∙ ends-append (text_taken taken) rest in
-    let all : ends_in (text_taken taken) ≡ length (lines_of taken) = ap ends_in (taken_lines taken) ∙ ends-lines (lines_of taken) (taken_free first last taken h.lines) in
+    let all : ends_in (text_taken taken) ≡ length (lines_of taken) = ap ends_in (taken_lines taken) ∙ ends-lines (lines_of taken) (taken_free taken h.lines) in
     let counted : ends_in text ≡ count_by (λ b. b == LINE_FEED) text = is_count_by ends_in (λ b. b == LINE_FEED) refl (λ x xs. refl) text in
     omega (arith, counted, whole, all, ends-free rest (rest_free taken rest h.begun).0, length-lines taken)
 
@@ -104,52 +107,53 @@ short_lines [] h = omega arith
 short_lines (l ∷ ls) h = omega (arith, length-append l (LINE_FEED ∷ lines_text ls), h.0, short_lines ls h.1)
 
 -- the lines that were taken, and the line begun after them
-few_lines : (first last : ℕ) (taken : Taken) (rest : List ℕ) → IsTaken first last taken → IsRest taken rest → LONGEST_LINE * length (lines_of taken) + length rest ≤ (MOST_ENTRIES + 2) * LONGEST_LINE
-few_lines first last Nothing rest h r = omega (arith, r.1)
-few_lines first last (Begun from to es) rest h r = omega (arith, length-entries es, h.2.few, r.1)
-few_lines first last (Whole from to es) rest h r =
+few_lines : (taken : Taken) (rest : List ℕ) → IsTaken taken → IsRest taken rest → LONGEST_LINE * length (lines_of taken) + length rest ≤ (MOST_ENTRIES + 3) * LONGEST_LINE
+few_lines Nothing rest h r = omega (arith, r.1)
+few_lines Versioned rest h r = omega (arith, r.1)
+few_lines (Begun map es) rest h r = omega (arith, few_heads map, length-append (heading map) (entry_lines es), length-entries es, h.few, r.1)
+few_lines (Whole map es) rest h r =
     let none : length rest ≡ length {A = ℕ} [] = ap length r in
-    omega (arith, length-entries es, length-append (entry_lines es) (done_line (length es) ∷ []), h.2.few)
+    omega (arith, few_heads map, length-append (heading map) (entry_lines es ++ done_line (length es) ∷ []), length-entries es, length-append (entry_lines es) (done_line (length es) ∷ []), h.few)
 
 pub short_text : ShortText
-short_text = λ first last text small m.
+short_text = λ text m.
     let taken = m.0 in
     let rest = m.1 in
     let h = m.2 in
     let parts : length text ≡ length (text_taken taken) + length rest = ap length h.parts ∙ length-append (text_taken taken) rest in
     let all : length (text_taken taken) ≡ length (lines_text (lines_of taken)) = ap length (taken_lines taken) in
-    omega (arith, parts, all, short_lines (lines_of taken) (taken_short first last taken h.lines), few_lines first last taken rest h.lines h.begun)
+    omega (arith, parts, all, short_lines (lines_of taken) (taken_short taken h.lines), few_lines taken rest h.lines h.begun)
 
 -- a byte that cannot come stays where it is
-stuck_stays : (why : CertWhy) (first last : ℕ) (prefix after : List ℕ) (line : ℕ) → StopsAt first last prefix line why → StopsAt first last (prefix ++ after) line why
-stuck_stays why first last prefix after line s =
+stuck_stays : (why : CertWhy) (prefix after : List ℕ) (line : ℕ) → StopsAt prefix line why → StopsAt (prefix ++ after) line why
+stuck_stays why prefix after line s =
     (s.0, s.1, s.2 ++ after, s.3, s.4, ap (λ (x : List ℕ). x ++ after) s.5 ∙ append_assoc s.0 (s.1 ∷ s.2) after, s.6, s.7, s.8)
 
 -- so does a refusal, its end aside
-refusal_stays : (why : CertWhy) (first last : ℕ) (prefix after : List ℕ) (line : ℕ) → IsRefusal first last prefix line why → why ≢ Unended → IsRefusal first last (prefix ++ after) line why
-refusal_stays Memory first last prefix after line h n =
-    (h.0, h.1 ++ after, h.2, h.3, ap (λ (x : List ℕ). x ++ after) h.4 ∙ append_assoc (begun_with h.0) h.1 after, h.5)
-refusal_stays Unended first last prefix after line h n = absurd (n refl)
-refusal_stays Form first last prefix after line h n = stuck_stays Form first last prefix after line h
-refusal_stays Order first last prefix after line h n = stuck_stays Order first last prefix after line h
-refusal_stays Count first last prefix after line h n = stuck_stays Count first last prefix after line h
-refusal_stays After first last prefix after line h n = stuck_stays After first last prefix after line h
-refusal_stays TooLong first last prefix after line h n = stuck_stays TooLong first last prefix after line h
+refusal_stays : (why : CertWhy) (prefix after : List ℕ) (line : ℕ) → IsRefusal prefix line why → why ≢ Unended → IsRefusal (prefix ++ after) line why
+refusal_stays Memory prefix after line h n =
+    (h.0, h.1, h.2 ++ after, h.3, h.4, ap (λ (x : List ℕ). x ++ after) h.5 ∙ append_assoc (begun_with h.0 h.1) h.2 after, h.6)
+refusal_stays Unended prefix after line h n = absurd (n refl)
+refusal_stays Form prefix after line h n = stuck_stays Form prefix after line h
+refusal_stays Order prefix after line h n = stuck_stays Order prefix after line h
+refusal_stays Count prefix after line h n = stuck_stays Count prefix after line h
+refusal_stays After prefix after line h n = stuck_stays After prefix after line h
+refusal_stays TooLong prefix after line h n = stuck_stays TooLong prefix after line h
 
 pub prefix_refusal : PrefixRefusal
-prefix_refusal = λ first last prefix after f h n. refusal_stays f.why first last prefix after f.line h n
+prefix_refusal = λ prefix after f h n. refusal_stays f.why prefix after f.line h n
 
 -- an open text may stand
-open_stands : (why : CertWhy) (first last : ℕ) (text : List ℕ) (line : ℕ) → IsRefusal first last text line why → why ≡ Unended → MayStand first last text
-open_stands Unended first last text line h e = (h.0, h.1, h.2)
-open_stands Memory first last text line h e = absurd cc
-open_stands Form first last text line h e = absurd cc
-open_stands Order first last text line h e = absurd cc
-open_stands Count first last text line h e = absurd cc
-open_stands After first last text line h e = absurd cc
-open_stands TooLong first last text line h e = absurd cc
+open_stands : (why : CertWhy) (text : List ℕ) (line : ℕ) → IsRefusal text line why → why ≡ Unended → MayStand text
+open_stands Unended text line h e = (h.0, h.1, h.2)
+open_stands Memory text line h e = absurd cc
+open_stands Form text line h e = absurd cc
+open_stands Order text line h e = absurd cc
+open_stands Count text line h e = absurd cc
+open_stands After text line h e = absurd cc
+open_stands TooLong text line h e = absurd cc
 
 pub cut_refusal : CutRefusal
-cut_refusal = λ first last text piece after new f answer small h never k m.
-    let not_end : f.why ≢ Unended = λ e. never (h.1 (open_stands f.why first last (text ++ piece) f.line h.0 e)) in
-    answers_once first last ((text ++ piece) ++ after) answer (Err f) small k m (prefix_refusal first last (text ++ piece) after f h.0 not_end) never
+cut_refusal = λ text piece after new f answer h never k m.
+    let not_end : f.why ≢ Unended = λ e. never (h.1 (open_stands f.why (text ++ piece) f.line h.0 e)) in
+    answers_once ((text ++ piece) ++ after) answer (Err f) k m (prefix_refusal (text ++ piece) after f h.0 not_end) never

@@ -25,7 +25,7 @@ use Rattle.dvg_cert.proofs.Steps.{past_takes, past_again, past_never, natural_fo
 -- ---- what stands around the fields
 
 -- the value of a step that did not fail, for the rest of a proof
-bind_then : {A B P : Type 0} {r : Option A} {f : A → Option B} {y : B} → (r >>= f) ≡ Some y → ((x : A) → r ≡ Some x → f x ≡ Some y → P) → P
+pub bind_then : {A B P : Type 0} {r : Option A} {f : A → Option B} {y : B} → (r >>= f) ≡ Some y → ((x : A) → r ≡ Some x → f x ≡ Some y → P) → P
 bind_then {r} {f} {y} e k = option_and_then_some f r y e k
 
 join_append : (w v : Text) (ws vs : List Text) → join_with_byte SPACE (w ∷ (ws ++ v ∷ vs)) ≡ join_with_byte SPACE (w ∷ ws) ++ SPACE ∷ join_with_byte SPACE (v ∷ vs)
@@ -326,7 +326,7 @@ entry_spelled first last e small h =
       key_spelled e.scale [] h.scale tt,
     ) refl
 
-all_taken : {X : Type 0} (o : Option (X × Text)) (x : X) → nothing_left o ≡ Some x → o ≡ Some (x, [])
+pub all_taken : {X : Type 0} (o : Option (X × Text)) (x : X) → nothing_left o ≡ Some x → o ≡ Some (x, [])
 all_taken None x e = absurd cc
 all_taken {X} (Some p) x e =
     let g = cond_some {A = X} (bytes_eq p.1 []) p.0 x e in

@@ -1,10 +1,11 @@
 -- How a certificate is spelled: a line is its tokens with one space between, and each line ends with LF.
-use Rattle.std.specs.Prelude.{◌≡◌, ℕ, ◌/◌, ◌%◌, List, [], ◌∷◌, ◌++◌, length, codes, decimal, true}
+use Rattle.std.specs.Prelude.{◌≡◌, ℕ, ◌/◌, ◌%◌, List, [], ◌∷◌, ◌++◌, length, codes, decimal, true, if◌then◌else◌}
 use Rattle.std.specs.Fmt.{signed_decimal, digit_glyph}
 use Rattle.std.specs.List.{join_with_byte, flat_map}
+use Rattle.dvg_words.specs.Values.{MemoryMap, is_asteroids}
 use Rattle.dvg_cert.specs.Limits.{LINE_FEED, SPACE}
 use Rattle.dvg_cert.specs.Entry.{Key, At, Any, End, Rel, Abs, Lost, LitBox, Empty, Span, Entry}
-use Rattle.dvg_cert.specs.Order.{IsCertificate}
+use Rattle.dvg_cert.specs.Order.{Certificate, IsCertificate}
 
 -- a word address: three hexadecimal digits in capitals (profile)
 abbrev pub address_token : ℕ → List ℕ
@@ -31,10 +32,22 @@ abbrev pub entry_tokens : Entry → List (List ℕ)
 entry_tokens e = codes "shape" ∷ address_token e.addr ∷ key_token e.key ∷ codes "end" ∷ end_tokens e.stop ++ codes "box" ∷ box_tokens e.lit
     ++ codes "depth" ∷ decimal e.depth ∷ codes "words" ∷ decimal e.words ∷ codes "scale" ∷ key_token e.scale ∷ []
 
--- the lines of a certificate, without their ends (profile)
-abbrev pub first_line : List ℕ
-first_line = codes "dvgcert 1"
+-- the first line: of version 1 for the ROM of Asteroids, of version 2 for a ROM elsewhere (profile)
+abbrev pub first_version_line : List ℕ
+first_version_line = codes "dvgcert 1"
 
+abbrev pub second_version_line : List ℕ
+second_version_line = codes "dvgcert 2"
+
+-- where a ROM lies: the word addresses of its first and its last word (profile)
+abbrev pub rom_line : MemoryMap → List ℕ
+rom_line map = join_with_byte SPACE (codes "rom" ∷ address_token map.rom_first ∷ address_token map.rom_last ∷ [])
+
+-- the lines before the entries, which say the version and where the ROM lies (profile)
+abbrev pub heading : MemoryMap → List (List ℕ)
+heading map = if is_asteroids map then first_version_line ∷ [] else second_version_line ∷ rom_line map ∷ []
+
+-- the other lines of a certificate, without their ends (profile)
 abbrev pub entry_line : Entry → List ℕ
 entry_line e = join_with_byte SPACE (entry_tokens e)
 
@@ -45,14 +58,14 @@ done_line n = join_with_byte SPACE (codes "done" ∷ decimal n ∷ [])
 abbrev pub ended : List ℕ → List ℕ
 ended line = line ++ LINE_FEED ∷ []
 
--- the first line, and a line for each entry (profile)
-unfoldable pub begun_with : List Entry → List ℕ
-begun_with es = ended first_line ++ flat_map (λ e. ended (entry_line e)) es
+-- the first lines, and a line for each entry (profile)
+unfoldable pub begun_with : MemoryMap → List Entry → List ℕ
+begun_with map es = flat_map ended (heading map) ++ flat_map (λ e. ended (entry_line e)) es
 
--- the one spelling of a list: these lines, and a last one with the number of entries (profile)
-abbrev pub text_of : List Entry → List ℕ
-text_of es = begun_with es ++ ended (done_line (length es))
+-- the one spelling of a map and a list: these lines, and a last one with the number of entries (profile)
+abbrev pub text_of : MemoryMap → List Entry → List ℕ
+text_of map es = begun_with map es ++ ended (done_line (length es))
 
--- the text spells the list of a certificate for a ROM from word address `first` to `last` (profile)
-abbrev pub Spells : ℕ → ℕ → List Entry → List ℕ → Type 0
-Spells first last es text = IsCertificate first last es × (text ≡ text_of es)
+-- the text spells this certificate (profile)
+abbrev pub Spells : Certificate → List ℕ → Type 0
+Spells c text = IsCertificate c.map c.entries × (text ≡ text_of c.map c.entries)

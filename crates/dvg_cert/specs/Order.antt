@@ -1,6 +1,7 @@
--- The order of a certificate's entries, and which lists are a certificate's.
-use Rattle.std.specs.Prelude.{◌≡◌, ℕ, ◌<◌, ◌≤◌, ◌⊎◌, List, [], ◌∷◌, length}
+-- The order of a certificate's entries, certificates, and which lists are a certificate's.
+use Rattle.std.specs.Prelude.{◌≡◌, ◌<◌, ◌≤◌, ◌⊎◌, List, [], ◌∷◌, length}
 use Rattle.std.specs.List.{AllByRecursion}
+use Rattle.dvg_words.specs.Values.{MemoryMap, IsMap}
 use Rattle.dvg_cert.specs.Limits.{MOST_ENTRIES}
 use Rattle.dvg_cert.specs.Entry.{Entry, Key, At, Any, IsEntry}
 
@@ -25,8 +26,14 @@ StandsAfter [] e = Unit {0}
 StandsAfter (f ∷ []) e = Before f e
 StandsAfter (f ∷ g ∷ es) e = StandsAfter (g ∷ es) e
 
--- the list of a certificate for a ROM from word address `first` to `last` (profile)
-pub record IsCertificate (first last : ℕ) (es : List Entry) : Type 0 where
-  pub each : AllByRecursion (IsEntry first last) es
+-- a certificate: where the ROM lies that it speaks of, and its entries (profile)
+pub record Certificate : Type 0 where
+  pub map : MemoryMap
+  pub entries : List Entry
+
+-- the entries of a certificate for a ROM at this map (profile)
+pub record IsCertificate (map : MemoryMap) (es : List Entry) : Type 0 where
+  pub map_is : IsMap map
+  pub each : AllByRecursion (IsEntry map.rom_first map.rom_last) es
   pub rising : IsRising es
   pub few : length es ≤ MOST_ENTRIES

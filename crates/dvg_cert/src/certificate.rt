@@ -1,74 +1,92 @@
 //! Certificates, and which lists of entries are a certificate's.
 
 ghost use Rattle.std.specs.Prelude.{◌≡◌, ◌↔◌, ◌≤◌, length, take, IsTrue, IfOk, IfErr, ◌≤ℤ◌};
-ghost use Rattle.dvg_words.specs.Values.{asteroids};
+ghost use Rattle.dvg_words.specs.Values.{IsMap};
 ghost use Rattle.dvg_cert.specs.Entry.{IsNumber, IsRange, IsKey, IsEnd, IsBox, IsEntry};
 ghost use Rattle.dvg_cert.specs.Order.{IsCertificate, StandsAfter, Before, KeyBefore};
 
 use crate::entry::{End, Entry, Key, LitBox};
 use crate::limits::{MOST_DEPTH, MOST_ENTRIES, MOST_NUMBER, MOST_WORDS};
-use dvg_words::{ROM_FIRST, ROM_LAST};
+use dvg_words::RomMap;
 use std::marker::Model;
 
-/// A certificate: its entries, rising by address and key, and within the limits.
+/// A certificate: where the ROM lies that it speaks of, and its entries, rising by address and key, and within the limits.
 #[derive(Drop)]
 pub struct Cert {
+    map: RomMap,
     entries: Vec<Entry>,
 }
 
 impl Model for Cert {
-    ghost use Rattle.dvg_words.specs.Values.{asteroids};
-    ghost use Rattle.std.specs.Prelude.{List};
-    ghost use Rattle.dvg_cert.specs.Entry.{Entry};
-    ghost use Rattle.dvg_cert.specs.Order.{IsCertificate};
+    ghost use Rattle.dvg_cert.specs.Order.{Certificate, IsCertificate};
 
-    ghost Value = { List Entry };
+    ghost Value = { Certificate };
 
-    ghost view = { λ s. s.entries.items };
+    ghost view = { λ s. record { map = s.map; entries = s.entries.items } };
 
-    ghost invariant = { λ s. IsCertificate asteroids.rom_first asteroids.rom_last s.entries.items };
+    ghost invariant = { λ s. IsCertificate s.map s.entries.items };
 }
 
 impl Cert {
-    /// The certificate with these entries, or the same vector again where they are not a certificate's.
-    pub fn from_entries(entries: Vec<Entry>) -> Result<Cert, Vec<Entry>>
-        ensures taken { IfOk result (λ cert. (cert ≡ entries.items) × IsCertificate asteroids.rom_first asteroids.rom_last entries.items) }
-        ensures refused { IfErr result (λ same. (same ≡ entries) × (IsCertificate asteroids.rom_first asteroids.rom_last entries.items → ⊥)) }
+    /// The certificate with these entries for a ROM from word address `rom.0` to `rom.1`, or the same vector again where the ROM
+    /// can't lie there or the entries are not such a certificate's.
+    pub fn from_entries(entries: Vec<Entry>, rom: (u16, u16)) -> Result<Cert, Vec<Entry>>
+        ensures taken { IfOk result (λ cert. (cert ≡ record { map = record { rom_first = rom.0; rom_last = rom.1 }; entries = entries.items })
+            × IsCertificate cert.map cert.entries) }
+        ensures refused { IfErr result (λ same. (same ≡ entries)
+            × (IsCertificate (record { rom_first = rom.0; rom_last = rom.1 }) entries.items → ⊥)) }
     {
-        if is_certificate(&entries) {
-            Ok(certificate_unchecked(entries))
-        } else {
-            Err(entries)
+        match RomMap::new(rom.0, rom.1) {
+            Some(map) if is_certificate(map, &entries) => Ok(certificate_unchecked(map, entries)),
+            _ => Err(entries),
         }
+    }
+
+    /// Where the ROM lies: the word addresses of its first and its last word.
+    pub fn rom(&self) -> (u16, u16)
+        ensures first { result.0 ≡ self.now.map.rom_first }
+        ensures last { result.1 ≡ self.now.map.rom_last }
+        ensures map { IsMap self.now.map }
+    {
+        let Cert { map, .. } = self;
+        (map.first(), map.last())
+    }
+
+    /// Where the ROM lies.
+    pub fn map(&self) -> RomMap
+        ensures value { result ≡ self.now.map }
+        ensures map { IsMap self.now.map }
+    {
+        self.map
     }
 
     /// The entries, in their order.
     pub fn entries(&self) -> &[Entry]
-        ensures value { result.now ≡ self.now }
-        ensures certificate { IsCertificate asteroids.rom_first asteroids.rom_last self.now }
+        ensures value { result.now ≡ self.now.entries }
+        ensures certificate { IsCertificate self.now.map self.now.entries }
     {
         &self.entries
     }
 }
 
-/// The certificate with these entries, which are known to be a certificate's.
-pub fn certificate_unchecked(entries: Vec<Entry>) -> Cert
-    requires { IsCertificate asteroids.rom_first asteroids.rom_last entries.items }
-    ensures { result ≡ entries.items }
+/// The certificate with these entries, which are known to be one's for a ROM at this map.
+pub fn certificate_unchecked(map: RomMap, entries: Vec<Entry>) -> Cert
+    requires { IsCertificate map entries.items }
+    ensures { result ≡ record { map = map; entries = entries.items } }
 {
-    Cert { entries }
+    Cert { map, entries }
 }
 
-/// Whether entries are those of a certificate.
-fn is_certificate(entries: &[Entry]) -> bool
-    ensures { IsTrue result ↔ IsCertificate asteroids.rom_first asteroids.rom_last entries.now }
+/// Whether entries are those of a certificate for a ROM at this map.
+fn is_certificate(map: RomMap, entries: &[Entry]) -> bool
+    ensures { IsTrue result ↔ IsCertificate map entries.now }
 {
     if entries.len() > MOST_ENTRIES {
         return false;
     }
     for i in 0..entries.len() {
         let entry = &entries[i];
-        if !is_entry(entry) {
+        if !is_entry(map, entry) {
             return false;
         }
         if !stands_after(&entries[..i], entry) {
@@ -107,12 +125,12 @@ fn is_key_before(a: Key, b: Key) -> bool
     }
 }
 
-/// Whether an entry is within the limits of a certificate.
-pub fn is_entry(entry: &Entry) -> bool
-    ensures { IsTrue result ↔ IsEntry asteroids.rom_first asteroids.rom_last entry.now }
+/// Whether an entry is within the limits of a certificate for a ROM at this map.
+pub fn is_entry(map: RomMap, entry: &Entry) -> bool
+    ensures { IsTrue result ↔ IsEntry map.rom_first map.rom_last entry.now }
 {
-    ROM_FIRST <= entry.addr
-        && entry.addr <= ROM_LAST
+    map.first() <= entry.addr
+        && entry.addr <= map.last()
         && is_key(entry.key)
         && is_end(entry.stop)
         && is_box(&entry.lit)

@@ -40,34 +40,43 @@ fn number_of_eight(bytes: &[u8; 8], count: usize) -> u64
 {
     // The values of the digits in the highest bytes of a word, below them zeros.
     let values = u64::from_le_bytes(*bytes).wrapping_sub(0x3030_3030_3030_3030) << (64 - 8 * count);
-    // In every second byte two digits are one number.
-    let pairs = values.wrapping_mul(10).wrapping_add(values >> 8);
-    let high = pairs % 256 * 100 + (pairs >> 16) % 256;
-    let low = (pairs >> 32) % 256 * 100 + (pairs >> 48) % 256;
-    high * 10_000 + low
+    // In every second byte two digits are one number, and then in every second two bytes four.
+    let pairs = (values.wrapping_mul(10 * 256 + 1) >> 8) & 0x00FF_00FF_00FF_00FF;
+    let fours = pairs.wrapping_mul(100 * 65_536 + 1) >> 16;
+    fours % 65_536 * 10_000 + (fours >> 32)
 }
 
-/// Eight bytes, from one of these on.
+/// Eight of sixteen bytes, from one of them on.
 #[inline(always)]
-fn eight_at(bytes: &[u8], from: usize) -> &[u8; 8]
-    requires { from + 8 ≤ length bytes.now }
+fn eight_at(bytes: &[u8; 16], from: usize) -> &[u8; 8]
+    requires { from ≤ 8 }
     ensures { result.now ≡ take 8 (drop from bytes.now) }
 {
     bytes[from..].first_chunk::<8>().unwrap()
 }
 
-/// The number that the first `count` of these bytes write, which are digits.
+/// The number that the first `count` of sixteen bytes write, which are digits.
 #[inline(always)]
-pub fn number_of_digits(bytes: &[u8], count: usize) -> u64
+pub fn number_of_digits(bytes: &[u8; 16], count: usize) -> u64
     requires some { 1 ≤ count }
     requires few { count ≤ 16 }
-    requires within { 16 ≤ length bytes.now }
     requires digits { AllDigits 10 (take count bytes.now) }
     ensures { result ≡ digits_value 10 (take count bytes.now) }
 {
     if count <= 8 {
         return number_of_eight(eight_at(bytes, 0), count);
     }
+    number_of_many(bytes, count)
+}
+
+/// The same of more than eight digits. It is no part of what calls it, since such numbers are few.
+#[inline(never)]
+fn number_of_many(bytes: &[u8; 16], count: usize) -> u64
+    requires many { 8 < count }
+    requires few { count ≤ 16 }
+    requires digits { AllDigits 10 (take count bytes.now) }
+    ensures { result ≡ digits_value 10 (take count bytes.now) }
+{
     let before = count - 8;
     let first = number_of_eight(eight_at(bytes, 0), before);
     first * 100_000_000 + number_of_eight(eight_at(bytes, before), 8)

@@ -8,7 +8,7 @@ ghost use Rattle.dvg_cert.specs.Private.Fields.{Reads, LeadsWith, past, natural_
 
 use crate::entry::{End, Entry, Key, LitBox};
 use crate::limits::{MOST_DEPTH, MOST_MAGNITUDE, MOST_WORDS};
-use crate::numerals::{address_of, leading_number, leading_number_by_digits};
+use crate::numerals::{address_of, leading_magnitude, leading_number_by_digits};
 use std::marker::Model;
 
 /// What is left to read of a line.
@@ -137,7 +137,7 @@ impl<'a> Fields<'a> {
 
     /// Takes an address from `first` to `last`.
     #[inline(always)]
-    fn address(&mut self, first: u16, last: u16) -> Option<u16>
+    pub fn address(&mut self, first: u16, last: u16) -> Option<u16>
         ensures { Reads result self.new (address_at first last self.old) }
     {
         let [a, b, c, rest @ ..] = self.rest else {
@@ -145,6 +145,20 @@ impl<'a> Fields<'a> {
         };
         self.rest = rest;
         address_of(*a, *b, *c, first, last)
+    }
+
+    /// Takes a number from 1 on. One of few digits is read in place, so that what is read of it stays in registers.
+    #[inline(always)]
+    fn magnitude(&mut self) -> Option<u64>
+        ensures value { Reads result self.new (natural_at 1 MOST_MAGNITUDE self.old) }
+        ensures within { IfSome result (λ n. n ≤ MOST_MAGNITUDE) }
+    {
+        let (number, rest) = match leading_magnitude(self.rest) {
+            Some(read) => read,
+            None => magnitude_and_rest(self.rest)?,
+        };
+        self.rest = rest;
+        Some(number)
     }
 
     /// Takes a number of an end or a box.
@@ -156,9 +170,10 @@ impl<'a> Fields<'a> {
         if self.takes(b"0") {
             return Some(0);
         }
-        let below_zero = self.takes(b"-");
-        let magnitude = self.natural_of(leading_number(self.rest), 1, MOST_MAGNITUDE)? as i64;
-        Some(if below_zero { -magnitude } else { magnitude })
+        if self.takes(b"-") {
+            return Some(-(self.magnitude()? as i64));
+        }
+        Some(self.magnitude()? as i64)
     }
 
     /// Takes two numbers with a space between.
@@ -175,8 +190,8 @@ impl<'a> Fields<'a> {
 
     /// Takes an end.
     #[tactic(auto, unfolding(crate::specs::Private::Fields::end_at))]
-    #[inline(always)]
-    fn read_end(&mut self) -> Option<End>
+    #[inline(never)]
+    fn end(&mut self) -> Option<End>
         ensures { Reads result self.new (end_at self.old) }
     {
         if self.takes(b"rel ") {
@@ -193,7 +208,7 @@ impl<'a> Fields<'a> {
 
     /// Takes a box of four numbers.
     #[tactic(auto, unfolding(crate::specs::Private::Fields::span_at))]
-    #[inline(always)]
+    #[inline(never)]
     fn span(&mut self) -> Option<LitBox>
         ensures { Reads result self.new (span_at self.old) }
     {
@@ -215,33 +230,13 @@ impl<'a> Fields<'a> {
     /// Takes a box.
     #[tactic(auto, unfolding(crate::specs::Private::Fields::box_at))]
     #[inline(always)]
-    fn read_lit(&mut self) -> Option<LitBox>
+    fn lit(&mut self) -> Option<LitBox>
         ensures { Reads result self.new (box_at self.old) }
     {
         if self.takes(b"none") {
             return Some(LitBox::Empty);
         }
         self.span()
-    }
-
-    /// Takes an end, by a function of its own.
-    #[inline(always)]
-    fn end(&mut self) -> Option<End>
-        ensures { Reads result self.new (end_at self.old) }
-    {
-        let (stop, rest) = end_and_rest(self.rest)?;
-        self.rest = rest;
-        Some(stop)
-    }
-
-    /// Takes a box, by a function of its own.
-    #[inline(always)]
-    fn lit(&mut self) -> Option<LitBox>
-        ensures { Reads result self.new (box_at self.old) }
-    {
-        let (lit, rest) = lit_and_rest(self.rest)?;
-        self.rest = rest;
-        Some(lit)
     }
 
     /// Takes an entry of a ROM from word address `first` to `last`.
@@ -276,24 +271,15 @@ impl<'a> Fields<'a> {
     }
 }
 
-/// The end that bytes begin with, and the bytes after it. They go by value, so that they stay in registers.
+/// The number from 1 on that bytes begin with, of any length, and the bytes after it.
 #[inline(never)]
-fn end_and_rest(bytes: &[u8]) -> Option<(End, &[u8])>
-    ensures { end_at bytes.now ≡ option_map (λ read. (read.0, read.1.now)) result }
+fn magnitude_and_rest(bytes: &[u8]) -> Option<(u64, &[u8])>
+    ensures value { natural_at 1 MOST_MAGNITUDE bytes.now ≡ option_map (λ read. (read.0, read.1.now)) result }
+    ensures within { IfSome result (λ read. read.0 ≤ MOST_MAGNITUDE) }
 {
     let mut fields = Fields::new(bytes);
-    let stop = fields.read_end()?;
-    Some((stop, fields.rest))
-}
-
-/// The box that bytes begin with, and the bytes after it.
-#[inline(never)]
-fn lit_and_rest(bytes: &[u8]) -> Option<(LitBox, &[u8])>
-    ensures { box_at bytes.now ≡ option_map (λ read. (read.0, read.1.now)) result }
-{
-    let mut fields = Fields::new(bytes);
-    let lit = fields.read_lit()?;
-    Some((lit, fields.rest))
+    let number = fields.natural_of(leading_number_by_digits(bytes), 1, MOST_MAGNITUDE)?;
+    Some((number, fields.rest))
 }
 
 /// The bytes after this text, where they begin with it.

@@ -8,12 +8,13 @@ ghost use Rattle.dvg_cert.specs.Limits.{MOST_ENTRIES};
 use crate::certificate::Cert;
 use crate::entry::{Entry, Key};
 use crate::lookup::Entries;
+use dvg_words::MOST_ROM_WORDS;
 use indexmap::IndexSet;
 use std::alloc::{AllocError, Global};
 use std::marker::Model;
 
-/// How many pairs of an address and a key there are: each word of a ROM, at sixteen scales and for any.
-const ALL_KEYS: usize = 17_408;
+/// How many pairs of an address and a key there are: each word of the longest ROM, at sixteen scales and for any.
+const ALL_KEYS: usize = 17 * MOST_ROM_WORDS;
 
 /// For how many keys the table has room. The hash is known to all, so somebody can choose keys that are looked for in the same
 /// few places; with room for so many more keys than there are entries, not many find a place far from there.
@@ -39,19 +40,19 @@ impl<'a> Model for HashIndex<'a> {
 
     ghost Value = { List Entry };
 
-    ghost view = { λ index. index.cert.now };
+    ghost view = { λ index. index.cert.now.entries };
 
-    ghost invariant = { λ index. index.keys.keys ≡ own_keys index.cert.now };
+    ghost invariant = { λ index. index.keys.keys ≡ own_keys index.cert.now.entries };
 }
 
 impl<'a> HashIndex<'a> {
     /// The index of a certificate.
     ///
-    /// Takes memory for the addresses and keys of sixteen times as many entries, 17,408 at most, and for the table of their
+    /// Takes memory for the addresses and keys of sixteen times as many entries, 34,816 at most, and for the table of their
     /// hashes, all of it before the first is put in, and fails only where that was refused. The hash has a fixed seed.
     #[inline(never)]
     pub fn new(alloc: Global, cert: &'a Cert) -> Result<HashIndex<'a>, AllocError>
-        ensures { IfOk result (λ index. index ≡ cert.now) }
+        ensures { IfOk result (λ index. index ≡ cert.now.entries) }
     {
         let entries = cert.entries();
         let mut keys = IndexSet::with_capacity(alloc, room_for(entries.len()))?;

@@ -1,15 +1,15 @@
 //! The laws of texts and of look-ups, proved over the definitions alone.
 
-ghost use Rattle.dvg_cert.specs.Laws.{OneText, OneList, OneAnswer, ReadBack, OpenAnswer, OpenPrefix, LineNumber, ShortText, PrefixRefusal, CutRefusal, OnlyEntry};
+ghost use Rattle.dvg_cert.specs.Laws.{OneText, OneCertificate, OneAnswer, ReadBack, OpenAnswer, OpenPrefix, LineNumber, ShortText, PrefixRefusal, CutRefusal, OnlyEntry};
 
-/// Each list of a certificate has exactly one text.
+/// Each certificate has exactly one text.
 pub fn one_text()
     ensures { OneText }
 {}
 
-/// Each text spells at most one list.
-pub fn one_list()
-    ensures { OneList }
+/// Each text spells at most one certificate.
+pub fn one_certificate()
+    ensures { OneCertificate }
 {}
 
 /// Each text has exactly one answer of the reader, running out of memory aside.
@@ -17,7 +17,7 @@ pub fn one_answer()
     ensures { OneAnswer }
 {}
 
-/// The text of a list, as `write_cert` writes it, is read back as that list, running out of memory aside.
+/// The text of a certificate, as `write_cert` writes it, is read back as that certificate, running out of memory aside.
 pub fn read_back()
     ensures { ReadBack }
 {}
@@ -37,7 +37,7 @@ pub fn line_number()
     ensures { LineNumber }
 {}
 
-/// A text whose whole lines were all taken has at most 819,600 bytes: 4098 lines of 200, one for each entry and two.
+/// A text whose whole lines were all taken has at most 819,800 bytes: 4099 lines of 200, one for each entry and three.
 pub fn short_text()
     ensures { ShortText }
 {}

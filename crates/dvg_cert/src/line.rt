@@ -1,16 +1,27 @@
-//! What a whole line after the first says.
+//! What a whole line says.
 
-ghost use Rattle.std.specs.Prelude.{◌≡◌, ℕ, ◌<◌, ◌≤◌, ◌++◌, IfSome, IfNone};
+ghost use Rattle.std.specs.Prelude.{◌≡◌, ◌≢◌, ℕ, ◌<◌, ◌≤◌, ◌++◌, IfSome, IfNone};
 ghost use Rattle.std.specs.Option.{option_map};
+ghost use Rattle.dvg_words.specs.Values.{MemoryMap};
 ghost use Rattle.dvg_cert.specs.Entry.{Entry as EntryValue, IsEntry};
-ghost use Rattle.dvg_cert.specs.Grammar.{done_line, ended, entry_line};
-ghost use Rattle.dvg_cert.specs.Reading.{EntryLine, IsLine};
-ghost use Rattle.dvg_cert.specs.Private.Fields.{done_at, entry_at, nothing_left};
+ghost use Rattle.dvg_cert.specs.Grammar.{rom_line, done_line, ended, entry_line};
+ghost use Rattle.dvg_cert.specs.Reading.{EntryLine, IsLine, IsElsewhere};
+ghost use Rattle.dvg_cert.specs.Private.Fields.{rom_at, done_at, entry_at, nothing_left};
 
 use crate::entry::Entry;
 use crate::fields::Fields;
 use crate::limits::{LINE_FEED, MOST_ENTRIES};
-use dvg_words::ADDRESS_END;
+use dvg_words::{ADDRESS_END, RomMap};
+
+/// Where a ROM lies, as a line says it, unless that is where the ROM of Asteroids lies. The line comes without its end.
+pub fn elsewhere_of(line: &[u8]) -> Option<RomMap>
+    ensures found { IfSome result (λ map. IsElsewhere map × (line.now ≡ rom_line map)) }
+    ensures none { IfNone result ((map : MemoryMap) → IsElsewhere map → line.now ≢ rom_line map) }
+{
+    let (first, last) = whole_rom(line)?;
+    let map = RomMap::new(first, last)?;
+    if map.is_asteroids() { None } else { Some(map) }
+}
 
 /// The entry that a line says, for a ROM from word address `first` to `last`. The line comes without its end.
 pub fn entry_of(line: &[u8], first: u16, last: u16) -> Option<Entry>
@@ -22,7 +33,7 @@ pub fn entry_of(line: &[u8], first: u16, last: u16) -> Option<Entry>
 }
 
 /// The entry whose line, with its end, bytes begin with, and the bytes after it.
-#[inline(always)]
+#[inline(never)]
 pub fn ended_entry(bytes: &[u8], first: u16, last: u16) -> Option<(Entry, &[u8])>
     requires { last < ADDRESS_END }
     ensures { IfSome result (λ read. IsEntry first last read.0 × (bytes.now ≡ ended (entry_line read.0) ++ read.1.now)) }
@@ -51,6 +62,23 @@ fn whole_count(line: &[u8]) -> Option<u16>
     if fields.is_empty() { Some(count) } else { None }
 }
 
+#[tactic(auto, unfolding(crate::specs::Private::Fields::rom_at))]
+fn whole_rom(line: &[u8]) -> Option<(u16, u16)>
+    ensures { result ≡ nothing_left (rom_at line.now) }
+{
+    let mut fields = Fields::new(line);
+    fields.text(b"rom ")?;
+    let first = fields.address(0, ADDRESS_END - 1)?;
+    fields.text(b" ")?;
+    let last = fields.address(0, ADDRESS_END - 1)?;
+    if fields.is_empty() {
+        Some((first, last))
+    } else {
+        None
+    }
+}
+
+#[inline(never)]
 fn whole_entry(line: &[u8], first: u16, last: u16) -> Option<Entry>
     ensures { result ≡ nothing_left (entry_at first last line.now) }
 {
@@ -59,7 +87,7 @@ fn whole_entry(line: &[u8], first: u16, last: u16) -> Option<Entry>
 }
 
 /// The entry that bytes begin with, and the bytes after it.
-#[inline(never)]
+#[inline(always)]
 fn leading_entry(bytes: &[u8], first: u16, last: u16) -> Option<(Entry, &[u8])>
     ensures { entry_at first last bytes.now ≡ option_map (λ read. (read.0, read.1.now)) result }
 {

@@ -43,13 +43,13 @@ impl<'a> Model for ListIndex<'a> {
 
     ghost Value = { List Entry };
 
-    ghost view = { λ index. index.cert.now };
+    ghost view = { λ index. index.cert.now.entries };
 }
 
 impl<'a> ListIndex<'a> {
     /// The index of a certificate.
     pub fn new(cert: &'a Cert) -> ListIndex<'a>
-        ensures { result ≡ cert.now }
+        ensures { result ≡ cert.now.entries }
     {
         ListIndex { cert }
     }

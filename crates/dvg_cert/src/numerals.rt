@@ -1,11 +1,11 @@
 //! The values of single tokens.
 
-ghost use Rattle.std.specs.Prelude.{◌≡◌, ℕ, ◌<◌, ◌≤◌, [], ◌∷◌, length, take, drop, IfSome, IfNone};
+ghost use Rattle.std.specs.Prelude.{◌≡◌, ℕ, ◌<◌, ◌≤◌, [], ◌∷◌, length, take, drop, decimal, Some, IfSome, IfNone};
 ghost use Rattle.std.specs.Str.Parse.{AllDigits, digits_value};
 ghost use Rattle.dvg_cert.specs.Entry.{IsKey};
 ghost use Rattle.dvg_cert.specs.declared.entry.Key.{Key as KeyValue};
 ghost use Rattle.dvg_cert.specs.Grammar.{address_token, key_token};
-ghost use Rattle.dvg_cert.specs.Private.Fields.{hex_value, natural_in, address_in, NoDigitFirst, LeadsWith};
+ghost use Rattle.dvg_cert.specs.Private.Fields.{hex_value, natural_in, natural_at, address_in, NoDigitFirst, LeadsWith};
 
 use crate::eight_digits::{leading_digits, number_of_digits};
 use crate::entry::Key;
@@ -61,6 +61,15 @@ pub fn read_key(token: &[u8]) -> Option<Key>
     Some(Key::At(number as u8))
 }
 
+/// The number from 0 to `most` that a token spells: a decimal without a leading zero.
+pub fn read_decimal(token: &[u8], most: u16) -> Option<u16>
+    ensures some { IfSome result (λ n. (n ≤ most) × (token.now ≡ decimal n)) }
+    ensures none { IfNone result ((n : ℕ) → n ≤ most → token.now ≡ decimal n → ⊥) }
+{
+    let number = natural(token, 0, u64::from(most))?;
+    Some(number as u16)
+}
+
 /// The value of a capital hexadecimal digit, or 16.
 #[inline(always)]
 fn hex_value(digit: u8) -> u8
@@ -88,25 +97,26 @@ fn natural(token: &[u8], low: u64, high: u64) -> Option<u64>
     }
 }
 
-/// The number of at most 13 digits that these bytes begin with, and the bytes after its digits.
+/// The number from 1 on that these bytes begin with, and the bytes after its digits, where there are sixteen bytes. Of fewer no
+/// number is read.
 #[inline(always)]
-pub fn leading_number(bytes: &[u8]) -> Option<(u64, &[u8])>
-    ensures { LeadsWith (λ rest. rest.now) bytes.now result }
+pub fn leading_magnitude(bytes: &[u8]) -> Option<(u64, &[u8])>
+    ensures read { IfSome result (λ read. natural_at 1 MOST_MAGNITUDE bytes.now ≡ Some (read.0, read.1.now)) }
+    ensures within { IfSome result (λ read. read.0 ≤ MOST_MAGNITUDE) }
 {
-    let Some(window) = bytes.first_chunk::<16>() else {
-        return leading_number_by_digits(bytes);
-    };
+    let window = bytes.first_chunk::<16>()?;
     let count = leading_digits(window);
-    if count == 0 {
+    if count == 0 || 13 < count || bytes[0] == b'0' {
         return None;
     }
-    if count > 13 {
+    let number = number_of_digits(window, count);
+    if number > MOST_MAGNITUDE {
         return None;
     }
-    digits_taken(bytes, count, number_of_digits(bytes, count))
+    Some((number, &bytes[count..]))
 }
 
-/// The same, digit by digit.
+/// The number of at most 13 digits that these bytes begin with, and the bytes after its digits. It is read digit by digit.
 #[inline(always)]
 pub fn leading_number_by_digits(bytes: &[u8]) -> Option<(u64, &[u8])>
     ensures { LeadsWith (λ rest. rest.now) bytes.now result }

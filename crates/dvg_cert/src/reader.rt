@@ -1,7 +1,6 @@
 //! Reading a certificate, whole or in pieces.
 
 ghost use Rattle.std.specs.Prelude.{◌≡◌, ◌+◌, ◌<◌, ◌==◌, [], ◌++◌, length, position, OnOk, IfNone, IfSome};
-ghost use Rattle.dvg_words.specs.Values.{asteroids};
 ghost use Rattle.dvg_cert.specs.declared.fault.CertWhy.TheVariants.{After};
 ghost use Rattle.dvg_cert.specs.Reading.{IsTaken, IsRest, IsUnended, ReadAnswer};
 ghost use Rattle.dvg_cert.specs.Stream.{Open, FeedsTo, FinishesTo};
@@ -27,7 +26,6 @@ pub struct CertReader {
 }
 
 impl Model for CertReader {
-    ghost use Rattle.dvg_words.specs.Values.{asteroids};
     ghost use Rattle.dvg_cert.specs.Stream.{Stream};
 
     ghost Value = { Stream };
@@ -36,7 +34,7 @@ impl Model for CertReader {
 
     ghost view = { λ s. stream_of s.refused s.lines s.begun.items };
 
-    ghost invariant = { λ s. IsProgress asteroids.rom_first asteroids.rom_last s.refused s.lines s.begun.items };
+    ghost invariant = { λ s. IsProgress s.refused s.lines s.begun.items };
 }
 
 impl CertReader {
@@ -53,7 +51,7 @@ impl CertReader {
 
     /// Takes a piece, wherever the text was cut. After a refusal every call answers the same one.
     pub fn feed(&mut self, piece: &[u8]) -> Result<(), CertFault>
-        ensures { FeedsTo asteroids.rom_first asteroids.rom_last self.old piece.now self.new result }
+        ensures { FeedsTo self.old piece.now self.new result }
     {
         if let Some(fault) = self.refused {
             return Err(fault);
@@ -69,7 +67,7 @@ impl CertReader {
 
     /// The answer to all pieces together.
     pub fn finish(self) -> Result<Cert, CertFault>
-        ensures { FinishesTo asteroids.rom_first asteroids.rom_last self result }
+        ensures { FinishesTo self result }
     {
         if let Some(fault) = self.refused {
             return Err(fault);
@@ -80,7 +78,7 @@ impl CertReader {
 
 /// The certificate that a text spells, or why it is refused.
 pub fn read_cert(alloc: Global, text: &[u8]) -> Result<Cert, CertFault>
-    ensures { ReadAnswer asteroids.rom_first asteroids.rom_last text.now result }
+    ensures { ReadAnswer text.now result }
 {
     let mut reader = CertReader::new(alloc);
     reader.feed(text)?;
@@ -89,9 +87,9 @@ pub fn read_cert(alloc: Global, text: &[u8]) -> Result<Cert, CertFault>
 
 /// Takes the lines of a piece where they lie, and keeps what is left of it.
 fn take_piece(lines: &mut TakenLines, begun: &mut LineBuffer, piece: &[u8]) -> Result<(), CertFault>
-    requires taken { IsTaken asteroids.rom_first asteroids.rom_last lines.old }
+    requires taken { IsTaken lines.old }
     requires begun { IsRest lines.old begun.old.items }
-    ensures { TakesPiece asteroids.rom_first asteroids.rom_last lines.old begun.old.items piece.now lines.new begun.new.items result }
+    ensures { TakesPiece lines.old begun.old.items piece.now lines.new begun.new.items result }
 {
     let mut rest = piece;
     while let Some(after) = take_next(lines, begun, rest)? {
@@ -108,9 +106,9 @@ fn take_next<'a>(
     begun: &mut LineBuffer,
     rest: &'a [u8],
 ) -> Result<Option<&'a [u8]>, CertFault>
-    requires taken { IsTaken asteroids.rom_first asteroids.rom_last lines.old }
+    requires taken { IsTaken lines.old }
     requires begun { IsRest lines.old begun.old.items }
-    ensures { TakesNext (λ x. x.now) asteroids.rom_first asteroids.rom_last lines.old begun.old.items rest.now lines.new begun.new.items result }
+    ensures { TakesNext (λ x. x.now) lines.old begun.old.items rest.now lines.new begun.new.items result }
 {
     let left = if begun.is_empty() {
         take_first(lines, rest)?
@@ -123,8 +121,8 @@ fn take_next<'a>(
 /// Takes the entries whose lines, each with its end, a piece begins with, as long as they can come next.
 #[inline(always)]
 fn take_first<'a>(lines: &mut TakenLines, rest: &'a [u8]) -> Result<&'a [u8], CertFault>
-    requires { IsTaken asteroids.rom_first asteroids.rom_last lines.old }
-    ensures { TakesFirstLines (λ x. x.now) asteroids.rom_first asteroids.rom_last lines.old rest.now lines.new result }
+    requires { IsTaken lines.old }
+    ensures { TakesFirstLines (λ x. x.now) lines.old rest.now lines.new result }
 {
     match lines.take_first(rest) {
         Ok(after) => Ok(after),
@@ -142,9 +140,9 @@ fn take_any<'a>(
     begun: &mut LineBuffer,
     rest: &'a [u8],
 ) -> Result<Option<&'a [u8]>, CertFault>
-    requires taken { IsTaken asteroids.rom_first asteroids.rom_last lines.old }
+    requires taken { IsTaken lines.old }
     requires begun { IsRest lines.old begun.old.items }
-    ensures { TakesNext (λ x. x.now) asteroids.rom_first asteroids.rom_last lines.old begun.old.items rest.now lines.new begun.new.items result }
+    ensures { TakesNext (λ x. x.now) lines.old begun.old.items rest.now lines.new begun.new.items result }
 {
     let line = lines.line_number();
     if lines.is_whole() {
@@ -186,7 +184,7 @@ fn fault_after(line: u32, rest: &[u8]) -> Option<CertFault>
 fn take_begun(lines: &mut TakenLines, begun: &mut LineBuffer, prefix: &[u8]) -> Result<(), CertWhy>
     requires open { IsUnended lines.old }
     requires short { length begun.old.items + length prefix.now < LONGEST_LINE }
-    ensures line { TakesLine asteroids.rom_first asteroids.rom_last lines.old (begun.old.items ++ prefix.now) lines.new result }
+    ensures line { TakesLine lines.old (begun.old.items ++ prefix.now) lines.new result }
     ensures empty { OnOk result (begun.new.items ≡ []) }
 {
     if begun.is_empty() {

@@ -1,26 +1,27 @@
 //! The lines of a certificate that were taken: their order, their count and the limits.
 
-ghost use Rattle.std.specs.Prelude.{◌≡◌, ◌↔◌, IsTrue, IfOk, IfErr, Ok, Err};
+ghost use Rattle.std.specs.Prelude.{◌≡◌, ◌↔◌, length, IsTrue, IfOk, IfErr, Ok, Err};
 ghost use Rattle.dvg_cert.specs.declared.fault.CertWhy.TheVariants.{Unended};
-ghost use Rattle.dvg_words.specs.Values.{asteroids};
 ghost use Rattle.dvg_cert.specs.Entry.{IsEntry};
 ghost use Rattle.dvg_cert.specs.Order.{IsCertificate};
+ghost use Rattle.dvg_cert.specs.Grammar.{heading};
 ghost use Rattle.dvg_cert.specs.Reading.{Nothing, Begun, Whole, IsUnended, IsTaken, line_number};
-ghost use Rattle.dvg_cert.specs.Private.Progress.{TakesEntry, TakesFirst, TakesLine, TakesLater};
+ghost use Rattle.dvg_cert.specs.Private.Progress.{StartsWith, TakesEntry, TakesFirst, TakesLine, TakesLater};
 
 use crate::certificate::{Cert, certificate_unchecked, stands_after};
 use crate::entry::Entry;
 use crate::fault::{CertFault, CertWhy};
 use crate::limits::MOST_ENTRIES;
-use crate::line::{count_of, ended_entry, entry_of};
-use dvg_words::{ROM_FIRST, ROM_LAST};
+use crate::line::{count_of, elsewhere_of, ended_entry, entry_of};
+use dvg_words::{ASTEROIDS, RomMap};
 use std::alloc::Global;
 use std::marker::Model;
 
-/// Which line comes next: the first, a later one, or none.
+/// Which line comes next: the first, that of the ROM, a later one, or none.
 #[derive(Clone, Copy, Debug, PartialEq, Eq)]
 pub enum Stage {
     First,
+    Rom,
     Later,
     Ended,
 }
@@ -29,20 +30,21 @@ pub enum Stage {
 #[derive(Drop)]
 pub struct TakenLines {
     stage: Stage,
+    /// Where the ROM lies: where that of Asteroids does, unless a line says otherwise.
+    map: RomMap,
     entries: Vec<Entry>,
 }
 
 impl Model for TakenLines {
-    ghost use Rattle.dvg_words.specs.Values.{asteroids};
     ghost use Rattle.dvg_cert.specs.Reading.{Taken};
 
     ghost Value = { Taken };
 
     ghost use Rattle.dvg_cert.specs.Private.Progress.{taken_of, IsStaged};
 
-    ghost view = { λ s. taken_of asteroids.rom_first asteroids.rom_last s.stage s.entries.items };
+    ghost view = { λ s. taken_of s.map s.entries.items s.stage };
 
-    ghost invariant = { λ s. IsStaged asteroids.rom_first asteroids.rom_last s.stage s.entries.items };
+    ghost invariant = { λ s. IsStaged s.map s.entries.items s.stage };
 }
 
 impl TakenLines {
@@ -52,6 +54,7 @@ impl TakenLines {
     {
         TakenLines {
             stage: Stage::First,
+            map: ASTEROIDS,
             entries: Vec::new(alloc),
         }
     }
@@ -61,8 +64,7 @@ impl TakenLines {
         ensures { IsTrue result ↔ (IsUnended self.now → ⊥) }
     {
         match self.stage {
-            Stage::First => false,
-            Stage::Later => false,
+            Stage::First | Stage::Rom | Stage::Later => false,
             Stage::Ended => true,
         }
     }
@@ -73,8 +75,9 @@ impl TakenLines {
     {
         match self.stage {
             Stage::First => 1,
-            Stage::Later => self.entries.len() as u32 + 2,
-            Stage::Ended => self.entries.len() as u32 + 3,
+            Stage::Rom => 2,
+            Stage::Later => heading(self.map) + self.entries.len() as u32 + 1,
+            Stage::Ended => heading(self.map) + self.entries.len() as u32 + 2,
         }
     }
 
@@ -82,45 +85,43 @@ impl TakenLines {
     #[inline(always)]
     pub fn take_line(&mut self, line: &[u8]) -> Result<(), CertWhy>
         requires { IsUnended self.old }
-        ensures { TakesLine asteroids.rom_first asteroids.rom_last self.old line.now self.new result }
+        ensures { TakesLine self.old line.now self.new result }
     {
         match self.stage {
-            Stage::First => {
-                if line != b"dvgcert 1".as_slice() {
-                    return Err(CertWhy::Form);
+            Stage::First => self.stage = after_first(line)?,
+            Stage::Rom => match elsewhere_of(line) {
+                Some(map) => {
+                    self.map = map;
+                    self.stage = Stage::Later;
                 }
-                self.stage = Stage::Later;
-                Ok(())
-            }
-            Stage::Later => {
-                self.stage = take_later(&mut self.entries, line)?;
-                Ok(())
-            }
-            Stage::Ended => Err(CertWhy::After),
+                None => return Err(CertWhy::Form),
+            },
+            Stage::Later => self.stage = take_later(self.map, &mut self.entries, line)?,
+            Stage::Ended => return Err(CertWhy::After),
         }
+        Ok(())
     }
 
     /// Takes the entries whose lines, each with its end, these bytes begin with, as long as they can come next, and gives the
     /// bytes after them.
     #[inline(always)]
     pub fn take_first<'a>(&mut self, bytes: &'a [u8]) -> Result<&'a [u8], CertWhy>
-        ensures { TakesFirst (λ x. x.now) asteroids.rom_first asteroids.rom_last self.old bytes.now self.new result }
+        ensures { TakesFirst (λ x. x.now) self.old bytes.now self.new result }
     {
         match self.stage {
-            Stage::First => Ok(bytes),
-            Stage::Later => take_first_entries(&mut self.entries, bytes),
-            Stage::Ended => Ok(bytes),
+            Stage::Later => take_first_entries(self.map, &mut self.entries, bytes),
+            Stage::First | Stage::Rom | Stage::Ended => Ok(bytes),
         }
     }
 
     /// The certificate, where the last line was taken.
     pub fn finish(self) -> Result<Cert, CertFault>
-        ensures whole { IfOk result (λ cert. (self ≡ Whole asteroids.rom_first asteroids.rom_last cert) × IsCertificate asteroids.rom_first asteroids.rom_last cert) }
+        ensures whole { IfOk result (λ cert. (self ≡ Whole cert.map cert.entries) × IsCertificate cert.map cert.entries) }
         ensures unended { IfErr result (λ f. IsUnended self × (f.line ≡ line_number self) × (f.why ≡ Unended)) }
     {
         let line = self.line_number();
         match self.stage {
-            Stage::Ended => Ok(certificate_unchecked(self.entries)),
+            Stage::Ended => Ok(certificate_unchecked(self.map, self.entries)),
             _ => Err(CertFault {
                 line,
                 why: CertWhy::Unended,
@@ -131,14 +132,19 @@ impl TakenLines {
 
 /// Takes the entries whose lines, each with its end, these bytes begin with, as long as they can come next, and gives the bytes
 /// after them.
-fn take_first_entries<'a>(entries: &mut Vec<Entry>, bytes: &'a [u8]) -> Result<&'a [u8], CertWhy>
-    requires { IsCertificate asteroids.rom_first asteroids.rom_last entries.old.items }
-    ensures certificate { IsCertificate asteroids.rom_first asteroids.rom_last entries.new.items }
-    ensures takes { TakesFirst (λ x. x.now) asteroids.rom_first asteroids.rom_last (Begun asteroids.rom_first asteroids.rom_last entries.old.items) bytes.now (Begun asteroids.rom_first asteroids.rom_last entries.new.items) result }
+fn take_first_entries<'a>(
+    map: RomMap,
+    entries: &mut Vec<Entry>,
+    bytes: &'a [u8],
+) -> Result<&'a [u8], CertWhy>
+    requires { IsCertificate map entries.old.items }
+    ensures certificate { IsCertificate map entries.new.items }
+    ensures takes { TakesFirst (λ x. x.now) (Begun map entries.old.items) bytes.now (Begun map entries.new.items) result }
 {
+    let (first, last) = (map.first(), map.last());
     let mut rest = bytes;
-    while let Some((entry, after)) = ended_entry(rest, ROM_FIRST, ROM_LAST) {
-        match take_entry(entries, entry) {
+    while let Some((entry, after)) = ended_entry(rest, first, last) {
+        match take_entry(map, entries, entry) {
             Ok(()) => rest = after,
             Err(CertWhy::Memory) => return Err(CertWhy::Memory),
             Err(_) => return Ok(rest),
@@ -147,14 +153,34 @@ fn take_first_entries<'a>(entries: &mut Vec<Entry>, bytes: &'a [u8]) -> Result<&
     Ok(rest)
 }
 
-/// Takes a line after the first, and answers which line comes next.
-#[inline(always)]
-fn take_later(entries: &mut Vec<Entry>, line: &[u8]) -> Result<Stage, CertWhy>
-    requires { IsCertificate asteroids.rom_first asteroids.rom_last entries.old.items }
-    ensures { TakesLater asteroids.rom_first asteroids.rom_last entries.old.items line.now entries.new.items result }
+/// Which line comes after the first one.
+fn after_first(line: &[u8]) -> Result<Stage, CertWhy>
+    ensures { StartsWith line.now result }
 {
-    if let Some(entry) = entry_of(line, ROM_FIRST, ROM_LAST) {
-        take_entry(entries, entry)?;
+    if line == b"dvgcert 1".as_slice() {
+        return Ok(Stage::Later);
+    }
+    if line == b"dvgcert 2".as_slice() {
+        return Ok(Stage::Rom);
+    }
+    Err(CertWhy::Form)
+}
+
+/// How many lines stand before the entries.
+fn heading(map: RomMap) -> u32
+    ensures { result ≡ length (heading map) }
+{
+    if map.is_asteroids() { 1 } else { 2 }
+}
+
+/// Takes a line after the first ones, and answers which line comes next.
+#[inline(always)]
+fn take_later(map: RomMap, entries: &mut Vec<Entry>, line: &[u8]) -> Result<Stage, CertWhy>
+    requires { IsCertificate map entries.old.items }
+    ensures { TakesLater map entries.old.items line.now entries.new.items result }
+{
+    if let Some(entry) = entry_of(line, map.first(), map.last()) {
+        take_entry(map, entries, entry)?;
         return Ok(Stage::Later);
     }
     let Some(count) = count_of(line) else {
@@ -168,10 +194,10 @@ fn take_later(entries: &mut Vec<Entry>, line: &[u8]) -> Result<Stage, CertWhy>
 
 /// Takes an entry where it stands after the last one and there is room. An `Err` changes nothing.
 #[inline(always)]
-fn take_entry(entries: &mut Vec<Entry>, entry: Entry) -> Result<(), CertWhy>
-    requires taken { IsCertificate asteroids.rom_first asteroids.rom_last entries.old.items }
-    requires entry { IsEntry asteroids.rom_first asteroids.rom_last entry }
-    ensures { TakesEntry asteroids.rom_first asteroids.rom_last entries.old.items entry entries.new.items result }
+fn take_entry(map: RomMap, entries: &mut Vec<Entry>, entry: Entry) -> Result<(), CertWhy>
+    requires taken { IsCertificate map entries.old.items }
+    requires entry { IsEntry map.rom_first map.rom_last entry }
+    ensures { TakesEntry map entries.old.items entry entries.new.items result }
 {
     if !stands_after(entries, &entry) {
         return Err(CertWhy::Order);

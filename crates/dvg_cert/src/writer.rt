@@ -1,13 +1,13 @@
 //! Writing a certificate, and bytes. No memory is taken.
 
-ghost use Rattle.std.specs.Prelude.{◌≡◌, ◌<◌, ◌≤◌, ◌+◌, ◌∷◌, ◌++◌, length, true, decimal, OnOk, OnErr, is_err};
+ghost use Rattle.std.specs.Prelude.{◌≡◌, ◌<◌, ◌≤◌, ◌+◌, ◌-◌, [], ◌∷◌, ◌++◌, length, true, decimal, OnOk, OnErr, is_err};
 ghost use Rattle.std.specs.Fmt.{signed_decimal, digit_glyph};
 ghost use Rattle.std.specs.Io.KnownBytes.{Appends};
 ghost use Rattle.dvg_cert.specs.Devices.{count_after, AppendsPrefix};
 ghost use Rattle.arrayvec.specs.ArrayVec.{array_vec_len};
-ghost use Rattle.dvg_words.specs.Values.{asteroids};
+ghost use Rattle.dvg_words.specs.declared.map.TheConstants.{ADDRESS_END};
 ghost use Rattle.dvg_cert.specs.Entry.{IsNumber, IsKey, IsEnd, IsBox, IsEntry};
-ghost use Rattle.dvg_cert.specs.Grammar.{address_token, key_token, end_tokens, box_tokens, entry_line, done_line, ended, text_of};
+ghost use Rattle.dvg_cert.specs.Grammar.{address_token, key_token, end_tokens, box_tokens, entry_line, done_line, ended, begun_with, text_of};
 ghost use Rattle.dvg_cert.specs.Private.Writing.{spaced, Buffered};
 
 use crate::certificate::Cert;
@@ -17,7 +17,7 @@ use crate::fault::WriteFault;
 use crate::limits::{LINE_FEED, LONGEST_LINE, MOST_ENTRIES, MOST_WORDS, SPACE};
 use crate::line_buffer::{push_bytes, push_token};
 use arrayvec::ArrayVec;
-use dvg_words::ADDRESS_END;
+use dvg_words::{ADDRESS_END, RomMap};
 use itoa::Buffer;
 
 /// Writes all of the bytes, by as many writes as it takes, and nothing else. Takes no memory.
@@ -54,14 +54,14 @@ type WriteBuffer = ArrayVec<u8, WRITE_BUFFER_LEN>;
 /// Each write is of as many whole lines as surely fit 4096 bytes, and goes on where the writer took a part of them. At the first
 /// write that fails it ends with `Device`, and a prefix of the text was written: nothing is sent again.
 pub fn write_cert<W: CountedWrite>(cert: &Cert, out: &mut W) -> Result<(), WriteFault>
-    ensures ok { OnOk result (Appends (W.contents out.old) (W.contents out.new) (text_of cert.now)) }
-    ensures prefix { OnErr result (AppendsPrefix (W.contents out.old) (W.contents out.new) (text_of cert.now)) }
+    ensures ok { OnOk result (Appends (W.contents out.old) (W.contents out.new) (text_of cert.now.map cert.now.entries)) }
+    ensures prefix { OnErr result (AppendsPrefix (W.contents out.old) (W.contents out.new) (text_of cert.now.map cert.now.entries)) }
 
     // An error comes exactly where a write failed in this call.
     ensures count { W.failures out.new ≡ count_after (is_err result) (W.failures out.old) }
 {
     let mut text = WriteBuffer::new();
-    push_bytes(&mut text, b"dvgcert 1\n");
+    push_heading(&mut text, cert.map());
     let entries = cert.entries();
     for i in 0..entries.len() {
         make_room(&mut text, out)?;
@@ -86,8 +86,23 @@ fn make_room<W: CountedWrite>(text: &mut WriteBuffer, out: &mut W) -> Result<(),
     Ok(())
 }
 
+/// The lines before the entries.
+fn push_heading(text: &mut WriteBuffer, map: RomMap)
+    requires { text.old.items ≡ [] }
+    ensures { text.new.items ≡ begun_with map [] }
+{
+    if map.is_asteroids() {
+        push_bytes(text, b"dvgcert 1\n");
+    } else {
+        push_bytes(text, b"dvgcert 2\nrom");
+        push_address(text, map.first());
+        push_address(text, map.last());
+        push_bytes(text, &[LINE_FEED]);
+    }
+}
+
 fn push_entry(text: &mut WriteBuffer, entry: &Entry)
-    requires entry { IsEntry asteroids.rom_first asteroids.rom_last entry.now }
+    requires entry { IsEntry 0 (ADDRESS_END - 1) entry.now }
     requires room { array_vec_len text.old + LONGEST_LINE ≤ WRITE_BUFFER_LEN }
     ensures { text.new.items ≡ text.old.items ++ ended (entry_line entry.now) }
 {

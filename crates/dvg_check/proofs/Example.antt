@@ -172,8 +172,9 @@ a_memory = record {
   rom = record { map = record { past_frames = omega arith; ordered = omega arith; inside = omega arith }; filled = omega (arith, length-replicate {A = ℕ} 1021 0) };
 }
 
-a_certificate : IsCertificate asteroids.rom_first asteroids.rom_last example_list
+a_certificate : IsCertificate asteroids example_list
 a_certificate = record {
+  map_is = record { past_frames = omega arith; ordered = omega arith; inside = omega arith };
   each = (
     record {
       addr_low = omega arith;

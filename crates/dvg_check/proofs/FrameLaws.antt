@@ -41,6 +41,7 @@ use Rattle.dvg_check.proofs.Runs.{reached_on, counts_sum, counts_same, rest_of, 
 use Rattle.dvg_items.proofs.Listed.{named_listed}
 use Rattle.dvg_items.proofs.Near.{word_count-some}
 use Rattle.dvg_check.proofs.ShapeLaws.{Facts, all_shapes, arrive}
+use Rattle.dvg_check.proofs.Modes.{in_bound}
 use Rattle.dvg_check.proofs.Steps.{next_there, own, stands}
 
 -- ---- a frame's known place is never relative
@@ -181,11 +182,12 @@ run mode m w list budget words depth mem three good gf p scale =
     halt mode m w (words_before c gf.items) words depth gf.at gf.format origin p scale a.0 (stands Frame m gf.at gf.format Halt mem gf.halts) mine a.2.pc gf.count_is come
 
 pub good_is_safe : GoodIsSafe
-good_is_safe m w list budget words depth mem three good gf =
+good_is_safe mode m w list budget words depth mem three good gf =
+    let bound = in_bound w m.rom list mode good in
     record {
       four = omega (arith, gf.depth_is, depth_before-four list three gf.items);
-      halts = λ p scale g. let r = run Bound m w list budget words depth mem three good gf p scale in (r.n, r.h, r.within, r.reached);
-      each = λ p scale g n s reached. safe_status m w words depth n (start p scale) s (run Bound m w list budget words depth mem three good gf p scale) reached;
+      halts = λ p scale g. let r = run Bound m w list budget words depth mem three bound gf p scale in (r.n, r.h, r.within, r.reached);
+      each = λ p scale g n s reached. safe_status m w words depth n (start p scale) s (run Bound m w list budget words depth mem three bound gf p scale) reached;
     }
 
 -- two halts of one run are the same

@@ -4,6 +4,7 @@ pub mod Onward
 pub mod ShapeLaws
 pub mod FrameLaws
 pub mod Faults
+pub mod Modes
 pub mod Loop
 pub mod FrameWalk
 pub mod Accepting

@@ -32,7 +32,7 @@ example_list = example_entry ∷ []
 -- one return place
 pub record WorkedExample : Type 0 where
   pub memory : IsMemory example_memory
-  pub certificate : IsCertificate asteroids.rom_first asteroids.rom_last example_list
+  pub certificate : IsCertificate asteroids example_list
   pub shapes : Good Bound screen example_rom example_list
   pub exact : Good Exact screen example_rom example_list
   pub frame : GoodFrame screen example_frame example_list 20000 7 1

@@ -1,6 +1,6 @@
--- The laws, over the definitions alone, for every map and window; each says for which mode.
+-- The laws, over the definitions alone, for every map, window and mode, except ExactIsExact, which is for the mode Exact.
 use Rattle.std.specs.Prelude.{◌≡◌, ℕ, ℤ, ◌+◌, ◌<◌, ◌≤◌, ◌⊎◌, ◌≤ℤ◌, length, List, [], ◌∷◌, ◌++◌, Option, Contains, Result}
-use Rattle.dvg_words.specs.Values.{MemoryMap, Window}
+use Rattle.dvg_words.specs.Values.{Window}
 use Rattle.dvg_words.specs.declared.instruction.Instr.TheVariants.{Draw as Draws, Labs}
 use Rattle.dvg_words.specs.declared.instruction.Instr.{Instr}
 use Rattle.dvg_words.specs.declared.instruction.Cell.TheVariants.{Holds}
@@ -10,7 +10,6 @@ use Rattle.dvg_words.specs.declared.beam.Point.{Point}
 use Rattle.dvg_words.specs.Beam.{InWindow}
 use Rattle.dvg_words.specs.Generator.{Stroke, State, Status, Running, Halted, Reached, start, places, lit_by, next_status}
 use Rattle.dvg_words.specs.Laws.{state_of}
-use Rattle.dvg_words.specs.declared.map.TheConstants.{ADDRESS_END}
 use Rattle.dvg_cert.specs.declared.entry.Key.{Key}
 use Rattle.dvg_cert.specs.declared.entry.End.{End}
 use Rattle.dvg_cert.specs.declared.entry.Entry.{Entry}
@@ -20,11 +19,12 @@ use Rattle.dvg_items.specs.declared.item.Kind.TheVariants.{Shape, Frame}
 use Rattle.dvg_items.specs.declared.item.Item.{Item}
 use Rattle.dvg_items.specs.Items.{LeadsTo}
 use Rattle.dvg_items.specs.Known.{Context, scale_before, place_before}
-use Rattle.dvg_check.specs.Rules.{Mode, Bound, Exact, Good, GoodFrame}
+use Rattle.dvg_check.specs.Rules.{Mode, Exact, Good, GoodFrame}
 use Rattle.dvg_check.specs.FirstFault.{ShapeFault, FirstShapeFault, FrameFault, FirstFrameFault}
 use Rattle.dvg_check.specs.Verdict.{Yes, Refusal, Verdict, NotMemory}
 use Rattle.dvg_check.specs.Behaving.{ScaleFits, PlaceFits, Behaves}
 use Rattle.dvg_check.specs.Safety.{Safe}
+pub use Rattle.dvg_check.specs.Safety.{CountsAtHalt}
 
 -- ---- one item
 
@@ -92,18 +92,12 @@ AllShapes mode =
 -- what is good is safe
 abbrev pub GoodIsSafe : Type 0
 GoodIsSafe =
-    (m : Memory) (w : Window) (list : List Entry) (budget words depth : ℕ)
+    (mode : Mode) (m : Memory) (w : Window) (list : List Entry) (budget words depth : ℕ)
     → IsMemory m
     → ((e : Entry) → Contains list e → e.depth ≤ MOST_DEPTH)
-    → Good Bound w m.rom list
+    → Good mode w m.rom list
     → GoodFrame w m.frame list budget words depth
     → Safe m w words depth
-
--- at each halt so many words were fetched, and so many return places were stored at once
-abbrev pub CountsAtHalt : Memory → ℕ → ℕ → Type 0
-CountsAtHalt m words depth =
-    (place : Point) (scale steps : ℕ) (h : State) → scale ≤ 15 → Reached m steps (Running (start place scale)) (Halted h)
-    → (length h.fetched ≡ words) × (h.max_stack ≡ depth)
 
 -- where the counts of the shapes are exact, so are those of the frame
 abbrev pub ExactIsExact : Type 0
@@ -152,9 +146,8 @@ OneCount =
 -- there is one verdict at most, running out of memory aside
 abbrev pub OneVerdict : Type 0
 OneVerdict =
-    (mode : Mode) (map : MemoryMap) (w : Window) (rom cert words : List ℕ) (budget : ℕ) (a b : Result Yes Refusal)
-    → map.rom_last < ADDRESS_END
-    → Verdict mode map w rom cert words budget a → Verdict mode map w rom cert words budget b → NotMemory a → NotMemory b → a ≡ b
+    (mode : Mode) (w : Window) (rom cert words : List ℕ) (budget : ℕ) (a b : Result Yes Refusal)
+    → Verdict mode w rom cert words budget a → Verdict mode w rom cert words budget b → NotMemory a → NotMemory b → a ≡ b
 
 -- ---- strokes
 

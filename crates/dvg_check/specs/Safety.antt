@@ -1,5 +1,5 @@
 -- The safety theorem: what acceptance means for every run of the generator.
-use Rattle.std.specs.Prelude.{ℕ, ◌≤◌, ◌⊎◌, length}
+use Rattle.std.specs.Prelude.{◌≡◌, ℕ, ◌≤◌, ◌⊎◌, length}
 use Rattle.std.specs.List.{AllByRecursion}
 use Rattle.dvg_words.specs.Values.{Window}
 use Rattle.dvg_words.specs.Memory.{Memory, InFrame, InRom}
@@ -47,3 +47,9 @@ pub record Safe (m : Memory) (w : Window) (words depth : ℕ) : Type 0 where
   pub four : depth ≤ 4
   pub halts : (place : Point) (scale : ℕ) → scale ≤ 15 → HaltsWithin m words place scale
   pub each : (place : Point) (scale : ℕ) → scale ≤ 15 → StaysSafe m w words depth place scale
+
+-- at each halt so many words were fetched, and so many return places were stored at once
+abbrev pub CountsAtHalt : Memory → ℕ → ℕ → Type 0
+CountsAtHalt m words depth =
+    (place : Point) (scale steps : ℕ) (h : State) → scale ≤ 15 → Reached m steps (Running (start place scale)) (Halted h)
+    → (length h.fetched ≡ words) × (h.max_stack ≡ depth)

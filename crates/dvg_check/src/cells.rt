@@ -5,10 +5,7 @@ ghost use Rattle.dvg_words.specs.declared.map.TheConstants.{ADDRESS_END};
 ghost use Rattle.dvg_words.specs.Decoding.{cell_at, CellFits, StandsBelow};
 ghost use Rattle.dvg_words.specs.Memory.{rom_word, frame_word};
 
-use dvg_words::{Cell, FrameImage, ROM_LAST, RomImage, read_cell};
-
-/// The word address past the last one of a ROM.
-pub const ROM_END: u16 = ROM_LAST + 1;
+use dvg_words::{Cell, FrameImage, RomImage, read_cell};
 
 /// What stands at word addresses.
 pub trait Cells {

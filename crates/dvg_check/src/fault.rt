@@ -31,8 +31,8 @@ pub enum ShapeWhy {
     /// 24: it lights at unknown scale.
     #[error("it lights at unknown scale")]
     ScaleUnknown,
-    /// 25: it lights off screen.
-    #[error("it lights off the screen")]
+    /// 25: it lights outside the window.
+    #[error("it lights outside the window")]
     OffScreen,
     /// 26: no entry is named by a call or tail jump.
     #[error("it calls a shape that has no entry")]
@@ -105,8 +105,8 @@ pub enum FrameWhy {
     /// 45: it lights at unknown scale.
     #[error("it lights at unknown scale")]
     ScaleUnknown,
-    /// 46: it lights off screen.
-    #[error("it lights off the screen")]
+    /// 46: it lights outside the window.
+    #[error("it lights outside the window")]
     OffScreen,
     /// 47: no entry is named by a call.
     #[error("it calls a shape that has no entry")]

@@ -1,7 +1,6 @@
 //! The rules of frames.
 
 ghost use Rattle.std.specs.Prelude.{◌≡◌, ◌≤◌, [], IfOk, IfErr, IfNone, IfSome, IsTrue, ◌↔◌};
-ghost use Rattle.dvg_words.specs.Beam.{screen};
 ghost use Rattle.dvg_cert.specs.declared.entry.Key.TheVariants.{Any};
 ghost use Rattle.dvg_cert.specs.declared.limits.TheConstants.{MOST_WORDS};
 ghost use Rattle.dvg_items.specs.declared.item.Kind.TheVariants.{Frame};
@@ -15,13 +14,14 @@ use crate::fault::{FrameFault, FrameWhy};
 use crate::rules::Rules;
 use crate::walk::walk;
 use dvg_cert::{Cert, Entries, Key};
-use dvg_items::{Item, Kind, Seen, has_callee, lit_on_screen, place_known, scale_known, target};
-use dvg_words::{FrameImage, Instr, RomImage};
+use dvg_items::{Item, Kind, Seen, has_callee, lit_in_window, place_known, scale_known, target};
+use dvg_words::{FrameImage, Instr, RomImage, Window};
 
-/// What is asked of a frame: how many words it may take at most.
+/// What is asked of a frame: how many words it may take at most, and in which window it may light.
 #[derive(Drop)]
 pub struct FrameRules {
     pub budget: u32,
+    pub window: Window,
 }
 
 fn is_forward(item: &Item) -> bool
@@ -35,10 +35,10 @@ fn is_forward(item: &Item) -> bool
 
 /// The first rule that an item of a frame breaks.
 #[inline(always)]
-fn first_broken(budget: u32, seen: &Seen) -> Option<FrameWhy>
+fn first_broken(budget: u32, window: &Window, seen: &Seen) -> Option<FrameWhy>
     requires { IsSoundSeen seen.now }
-    ensures kept { IfNone result (EachKept (FrameKeeps screen budget seen.now) frame_rules) }
-    ensures broken { IfSome result (FrameBrokenFirst (FrameKeeps screen budget seen.now)) }
+    ensures kept { IfNone result (EachKept (FrameKeeps window.now budget seen.now) frame_rules) }
+    ensures broken { IfSome result (FrameBrokenFirst (FrameKeeps window.now budget seen.now)) }
 {
     if matches!(seen.item.instr, Instr::Rtsl) {
         return Some(FrameWhy::ReturnInFrame);
@@ -52,7 +52,7 @@ fn first_broken(budget: u32, seen: &Seen) -> Option<FrameWhy>
     if !scale_known(&seen.extent) {
         return Some(FrameWhy::ScaleUnknown);
     }
-    if !lit_on_screen(&seen.extent, &seen.place) {
+    if !lit_in_window(window, &seen.extent, &seen.place) {
         return Some(FrameWhy::OffScreen);
     }
     if !has_callee(target(Kind::Frame, &seen.item.instr), &seen.callee) {
@@ -79,7 +79,7 @@ impl Rules for FrameRules {
 
     ghost scale = { λ _. Any };
 
-    ghost keeps = { λ r. FrameKeeps screen r.budget };
+    ghost keeps = { λ r. FrameKeeps r.window r.budget };
 
     fn kind(&self) -> Kind {
         Kind::Frame
@@ -99,7 +99,7 @@ impl Rules for FrameRules {
 
     #[inline(always)]
     fn first_broken(&self, seen: &Seen) -> Option<FrameWhy> {
-        first_broken(self.budget, seen)
+        first_broken(self.budget, &self.window, seen)
     }
 }
 
@@ -115,13 +115,18 @@ pub fn judge_frame<E: Entries>(
     frame: &FrameImage,
     entries: &E,
     budget: u32,
+    window: &Window,
 ) -> Result<Accepted, FrameFault>
     requires entries { IsSomeCertificate (E.list entries.now) }
     requires budget { budget ≤ MOST_WORDS }
-    ensures ok { IfOk result (λ yes. GoodFrame screen frame.now (E.list entries.now) budget yes.words yes.depth) }
-    ensures err { IfErr result (FirstFrameFault screen frame.now (E.list entries.now) budget) }
+    ensures ok { IfOk result (λ yes. GoodFrame window.now frame.now (E.list entries.now) budget yes.words yes.depth) }
+    ensures err { IfErr result (FirstFrameFault window.now frame.now (E.list entries.now) budget) }
 {
-    match walk(frame, entries, &FrameRules { budget }, 0) {
+    let rules = FrameRules {
+        budget,
+        window: *window,
+    };
+    match walk(frame, entries, &rules, 0) {
         Ok(end) => Ok(Accepted {
             words: end.words,
             depth: end.depth,
@@ -139,18 +144,21 @@ pub fn judge_frame<E: Entries>(
 /// ROM is the one over which the shapes were accepted; no rule of a frame looks into it. The rules are 40 to 48 (profile).
 /// Takes no memory.
 pub fn check_frame<E: Entries>(
-    _rom: &RomImage,
+    rom: &RomImage,
     frame: &FrameImage,
     cert: &Cert,
     entries: &E,
     budget: u32,
+    window: &Window,
 ) -> Result<Accepted, FrameFault>
-    requires entries { E.list entries.now ≡ cert.now }
+    requires entries { E.list entries.now ≡ cert.now.entries }
+    requires map { rom.now.map ≡ cert.now.map }
     requires budget { budget ≤ MOST_WORDS }
-    ensures ok { IfOk result (λ yes. GoodFrame screen frame.now cert.now budget yes.words yes.depth) }
-    ensures err { IfErr result (FirstFrameFault screen frame.now cert.now budget) }
+    ensures ok { IfOk result (λ yes. GoodFrame window.now frame.now cert.now.entries budget yes.words yes.depth) }
+    ensures err { IfErr result (FirstFrameFault window.now frame.now cert.now.entries budget) }
 {
+    let _map = rom.map();
     // Its clause says that the list is that of a certificate.
     let _entries = cert.entries();
-    judge_frame(frame, entries, budget)
+    judge_frame(frame, entries, budget, window)
 }

@@ -1,21 +1,21 @@
 //! Shapes that were judged, over which frames are judged.
 
 ghost use Rattle.std.specs.Prelude.{◌≡◌, ◌≤◌, OnOk, IfOk, IfErr};
-ghost use Rattle.dvg_words.specs.Beam.{screen};
 ghost use Rattle.dvg_cert.specs.declared.limits.TheConstants.{MOST_WORDS};
-ghost use Rattle.dvg_check.specs.declared.fault.Mode.TheVariants.{Bound};
+ghost use Rattle.dvg_check.specs.declared.fault.Mode.TheVariants.{Exact};
 ghost use Rattle.dvg_check.specs.Rules.{Good, GoodFrame};
 ghost use Rattle.dvg_check.specs.FirstFault.{FirstShapeFault, FirstFrameFault};
 ghost use Rattle.dvg_check.specs.Safety.{Safe};
+ghost use Rattle.dvg_check.specs.Laws.{CountsAtHalt};
 
-use crate::fault::{FrameFault, ShapeFault};
+use crate::fault::{FrameFault, Mode, ShapeFault};
 use crate::frames::{Accepted, judge_frame};
-use crate::shapes::check_shapes;
+use crate::shapes::check_shapes_in;
 use dvg_cert::{Cert, Entries};
-use dvg_words::{FrameImage, RomImage};
+use dvg_words::{FrameImage, RomImage, Window};
 use std::marker::Model;
 
-/// A vector ROM, all of whose shapes keep all rules by the entries of a certificate.
+/// A vector ROM, all of whose shapes keep all rules by the entries of a certificate, and light in a window.
 ///
 /// The shapes are judged once, and then as many frames as there are: what [`check_frame`](JudgedShapes::check_frame) accepts
 /// is safe.
@@ -23,6 +23,8 @@ use std::marker::Model;
 pub struct JudgedShapes<'a, E: Entries> {
     rom: &'a RomImage<'a>,
     entries: &'a E,
+    window: Window,
+    mode: Mode,
 }
 
 impl<'a, E: Entries> Model for JudgedShapes<'a, E> {
@@ -30,30 +32,40 @@ impl<'a, E: Entries> Model for JudgedShapes<'a, E> {
 
     ghost Value = { Shapes };
 
-    ghost view = { λ s. record { rom = s.rom.now; list = E.list s.entries.now } };
+    ghost view = { λ s. record { rom = s.rom.now; list = E.list s.entries.now; window = s.window; mode = s.mode } };
 
-    ghost invariant = { λ s. IsJudged (record { rom = s.rom.now; list = E.list s.entries.now }) };
+    ghost invariant = { λ s. IsJudged (record { rom = s.rom.now; list = E.list s.entries.now; window = s.window; mode = s.mode }) };
 }
 
 impl<'a, E: Entries> JudgedShapes<'a, E> {
-    /// Judges each entry's shape, as [`check_shapes`] does.
+    /// Judges each entry's shape in a mode, as [`check_shapes`](crate::check_shapes) and
+    /// [`check_shapes_exact`](crate::check_shapes_exact) do.
     ///
-    /// `entries` are those of the certificate. Takes no memory but the stack's.
+    /// `entries` are those of the certificate, and the ROM lies where it says. `window` is the part of the screen that may be
+    /// lit, here and by the frames judged over these shapes. Takes no memory but the stack's.
     pub fn judge(
         rom: &'a RomImage<'a>,
         cert: &Cert,
         entries: &'a E,
+        window: Window,
+        mode: Mode,
     ) -> Result<JudgedShapes<'a, E>, ShapeFault>
-        requires { E.list entries.now ≡ cert.now }
-        ensures ok { IfOk result (λ shapes. shapes ≡ record { rom = rom.now; list = cert.now }) }
-        ensures good { OnOk result (Good Bound screen rom.now cert.now) }
-        ensures err { IfErr result (FirstShapeFault Bound screen rom.now cert.now) }
+        requires entries { E.list entries.now ≡ cert.now.entries }
+        requires map { rom.now.map ≡ cert.now.map }
+        ensures ok { IfOk result (λ shapes. shapes ≡ record { rom = rom.now; list = cert.now.entries; window = window; mode = mode }) }
+        ensures good { OnOk result (Good mode window rom.now cert.now.entries) }
+        ensures err { IfErr result (FirstShapeFault mode window rom.now cert.now.entries) }
     {
         // Their clauses say that the ROM is whole, and that the list is that of a certificate.
-        let _span = rom.span();
+        let _map = rom.map();
         let _entries = cert.entries();
-        check_shapes(rom, cert, entries)?;
-        Ok(JudgedShapes { rom, entries })
+        check_shapes_in(mode, &window, rom, cert, entries)?;
+        Ok(JudgedShapes {
+            rom,
+            entries,
+            window,
+            mode,
+        })
     }
 
     /// Judges a frame over these shapes: its words and its depth where it keeps all rules (40 to 48, profile), else its
@@ -62,15 +74,17 @@ impl<'a, E: Entries> JudgedShapes<'a, E> {
     /// `budget` is how many words the frame may take at most, up to 1,000,000. Where it answers words and depth, every
     /// run of the generator from the frame's first word, at any beam place and any global scale, reaches HALT within so many
     /// words, stores at most so many return places at once, and four at most, fetches only words of the ROM and the
-    /// frame, and draws no lit stroke that leaves 0 to 1023 on either axis. Takes no memory.
+    /// frame, and draws no lit stroke that leaves the window on either axis. Over shapes that were judged in the mode
+    /// [`Exact`](Mode::Exact) it fetches just so many words, and has stored just so many return places at once. Takes no memory.
     pub fn check_frame(&self, frame: &FrameImage, budget: u32) -> Result<Accepted, FrameFault>
         requires { budget ≤ MOST_WORDS }
-        ensures ok { IfOk result (λ yes. GoodFrame screen frame.now self.now.list budget yes.words yes.depth) }
-        ensures err { IfErr result (FirstFrameFault screen frame.now self.now.list budget) }
-        ensures safe { IfOk result (λ yes. Safe (record { frame = frame.now; rom = self.now.rom }) screen yes.words yes.depth) }
+        ensures ok { IfOk result (λ yes. GoodFrame self.now.window frame.now self.now.list budget yes.words yes.depth) }
+        ensures err { IfErr result (FirstFrameFault self.now.window frame.now self.now.list budget) }
+        ensures safe { IfOk result (λ yes. Safe (record { frame = frame.now; rom = self.now.rom }) self.now.window yes.words yes.depth) }
+        ensures exact { self.now.mode ≡ Exact → IfOk result (λ yes. CountsAtHalt (record { frame = frame.now; rom = self.now.rom }) yes.words yes.depth) }
     {
         // Its clause says that the frame is whole.
         let _words = frame.words();
-        judge_frame(frame, self.entries, budget)
+        judge_frame(frame, self.entries, budget, &self.window)
     }
 }

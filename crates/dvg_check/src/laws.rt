@@ -1,11 +1,11 @@
-//! Laws over the definitions alone. All but the worked example are for every map and window; each says for which mode. Each
-//! is the contract of a function that does nothing.
+//! Laws over the definitions alone, for every map, window and mode, except `exact_is_exact`, which is for the mode `Exact`,
+//! and the worked example. Each is the contract of a function that does nothing.
 
-ghost use Rattle.dvg_check.specs.Rules.{Bound, Exact};
+ghost use Rattle.dvg_check.specs.Rules.{Mode};
 ghost use Rattle.dvg_check.specs.Laws.{OneItem, OneShape, AllShapes, GoodIsSafe, ExactIsExact, OneFault, NoFault, OneShapeFault, NoShapeFault, OneCount, OneVerdict, StrokeInWindow, SafeStrokes, SafeStack};
 ghost use Rattle.dvg_check.specs.Example.{WorkedExample};
 
-use dvg_cert::laws::{one_answer, one_list};
+use dvg_cert::laws::{one_answer, one_certificate};
 use dvg_words::laws::stack_within_max;
 
 /// A draw or a LABS leads from a state that agrees with what is known before it to one that agrees with what is known
@@ -16,17 +16,12 @@ pub fn one_item()
 
 /// A good shape behaves where each with fewer words does.
 pub fn one_shape()
-    ensures { OneShape Bound }
+    ensures { (mode : Mode) → OneShape mode }
 {}
 
 /// All good shapes behave.
 pub fn all_shapes()
-    ensures { AllShapes Bound }
-{}
-
-/// All good shapes behave with exactly their counts, where these are exact.
-pub fn all_shapes_exact()
-    ensures { AllShapes Exact }
+    ensures { (mode : Mode) → AllShapes mode }
 {}
 
 /// Where the shapes and a frame are good, the frame is safe.
@@ -68,7 +63,7 @@ pub fn one_count()
 pub fn one_verdict()
     ensures { OneVerdict }
 {
-    one_list();
+    one_certificate();
     one_answer();
 }
 

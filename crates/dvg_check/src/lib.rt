@@ -21,5 +21,7 @@ mod walk;
 pub use fault::{FrameFault, FrameWhy, Mode, ShapeFault, ShapeWhy};
 pub use frames::{Accepted, check_frame};
 pub use judged::JudgedShapes;
-pub use shapes::check_shapes;
-pub use verdict::{Images, Refusal, Yes, check, check_parts, images_of};
+pub use shapes::{check_shapes, check_shapes_exact};
+pub use verdict::{
+    Refusal, Yes, check, check_exact, check_parts, check_parts_exact, check_rom, frame_of,
+};

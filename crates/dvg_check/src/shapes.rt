@@ -1,12 +1,11 @@
 //! The rules of shapes, and the check of all shapes of a certificate.
 
 ghost use Rattle.std.specs.Prelude.{◌≡◌, ◌<◌, ◌≤◌, ◌≤ℤ◌, ◌↔◌, IsTrue, OnOk, IfErr, IfNone, IfSome};
-ghost use Rattle.dvg_words.specs.Beam.{screen};
 ghost use Rattle.dvg_cert.specs.declared.entry.LitBox.TheVariants.{Span};
 ghost use Rattle.dvg_items.specs.declared.item.Kind.TheVariants.{Shape};
 ghost use Rattle.dvg_items.specs.Items.{next_place};
 ghost use Rattle.dvg_items.specs.Lit.{InBox, LitInBox};
-ghost use Rattle.dvg_check.specs.declared.fault.Mode.TheVariants.{Bound};
+ghost use Rattle.dvg_check.specs.declared.fault.Mode.TheVariants.{Bound, Exact};
 ghost use Rattle.dvg_check.specs.declared.fault.ShapeWhy.TheVariants as shape;
 ghost use Rattle.dvg_check.specs.Rules.{AtLast, AsClaimed, ShapeKeeps, GoodShape, Good};
 ghost use Rattle.dvg_check.specs.FirstFault.{shape_number, ShapeFaultAt, FirstShapeFault};
@@ -20,16 +19,18 @@ use crate::tails::first_doubtful;
 use crate::walk::walk;
 use dvg_cert::{Cert, Entries, Entry, Key};
 use dvg_items::{
-    Kind, Seen, depth_under, has_callee, lit_in_box, lit_on_screen, place_known, scale_known,
+    Kind, Seen, depth_under, has_callee, lit_in_box, lit_in_window, place_known, scale_known,
     target,
 };
-use dvg_words::{Instr, RomImage};
+use dvg_words::{Instr, RomImage, Window};
 
-/// What is asked of a shape: what its entry claims, and whether the claimed counts are bounds or exact.
+/// What is asked of a shape: what its entry claims, whether the claimed counts are bounds or exact, and in which window it
+/// may light.
 #[derive(Drop)]
 pub struct ShapeRules {
     pub entry: Entry,
     pub mode: Mode,
+    pub window: Window,
 }
 
 /// Whether, at the last item, the place after it is the claimed one.
@@ -69,10 +70,10 @@ fn depth_as_claimed(mode: Mode, entry: &Entry, seen: &Seen) -> bool
 }
 
 /// The first rule that an item of a shape breaks.
-fn first_broken(mode: Mode, entry: &Entry, seen: &Seen) -> Option<ShapeWhy>
+fn first_broken(mode: Mode, window: &Window, entry: &Entry, seen: &Seen) -> Option<ShapeWhy>
     requires { IsSoundSeen seen.now }
-    ensures kept { IfNone result (EachKept (ShapeKeeps mode screen entry.now seen.now) shape_rules) }
-    ensures broken { IfSome result (ShapeBrokenFirst (ShapeKeeps mode screen entry.now seen.now)) }
+    ensures kept { IfNone result (EachKept (ShapeKeeps mode window.now entry.now seen.now) shape_rules) }
+    ensures broken { IfSome result (ShapeBrokenFirst (ShapeKeeps mode window.now entry.now seen.now)) }
 {
     if matches!(seen.item.instr, Instr::Halt) {
         return Some(ShapeWhy::HaltInShape);
@@ -83,7 +84,7 @@ fn first_broken(mode: Mode, entry: &Entry, seen: &Seen) -> Option<ShapeWhy>
     if !scale_known(&seen.extent) {
         return Some(ShapeWhy::ScaleUnknown);
     }
-    if !lit_on_screen(&seen.extent, &seen.place) {
+    if !lit_in_window(window, &seen.extent, &seen.place) {
         return Some(ShapeWhy::OffScreen);
     }
     if !has_callee(target(Kind::Shape, &seen.item.instr), &seen.callee) {
@@ -128,7 +129,7 @@ impl Rules for ShapeRules {
 
     ghost scale = { λ r. r.entry.key };
 
-    ghost keeps = { λ r. ShapeKeeps r.mode screen r.entry };
+    ghost keeps = { λ r. ShapeKeeps r.mode r.window r.entry };
 
     fn kind(&self) -> Kind {
         Kind::Shape
@@ -147,26 +148,28 @@ impl Rules for ShapeRules {
     }
 
     fn first_broken(&self, seen: &Seen) -> Option<ShapeWhy> {
-        first_broken(self.mode, &self.entry, seen)
+        first_broken(self.mode, &self.window, &self.entry, seen)
     }
 }
 
 /// Judges the shape of one entry.
 fn check_shape<E: Entries>(
     mode: Mode,
+    window: &Window,
     rom: &RomImage,
     entries: &E,
     entry: &Entry,
 ) -> Result<(), ShapeFault>
     requires entries { IsSomeCertificate (E.list entries.now) }
     requires entry { IsClaim entry.now }
-    ensures ok { OnOk result (GoodShape mode screen rom.now (E.list entries.now) entry.now) }
-    ensures err { IfErr result (λ fault. ShapeFaultAt mode screen rom.now (E.list entries.now) entry.now fault.word fault.why) }
+    ensures ok { OnOk result (GoodShape mode window.now rom.now (E.list entries.now) entry.now) }
+    ensures err { IfErr result (λ fault. ShapeFaultAt mode window.now rom.now (E.list entries.now) entry.now fault.word fault.why) }
     ensures place { IfErr result (λ fault. (fault.addr ≡ entry.now.addr) × (fault.key ≡ entry.now.key)) }
 {
     let rules = ShapeRules {
         entry: *entry,
         mode,
+        window: *window,
     };
     match walk(rom, entries, &rules, entry.addr) {
         Ok(_) => Ok(()),
@@ -181,20 +184,21 @@ fn check_shape<E: Entries>(
 
 /// Judges each entry's shape, in the order of the certificate, in a mode: by tails as far as these show them to be good, and
 /// from there on item by item.
-fn check_shapes_in<E: Entries>(
+pub fn check_shapes_in<E: Entries>(
     mode: Mode,
+    window: &Window,
     rom: &RomImage,
     cert: &Cert,
     entries: &E,
 ) -> Result<(), ShapeFault>
-    requires { E.list entries.now ≡ cert.now }
-    ensures ok { OnOk result (Good mode screen rom.now cert.now) }
-    ensures err { IfErr result (FirstShapeFault mode screen rom.now cert.now) }
+    requires { E.list entries.now ≡ cert.now.entries }
+    ensures ok { OnOk result (Good mode window.now rom.now cert.now.entries) }
+    ensures err { IfErr result (FirstShapeFault mode window.now rom.now cert.now.entries) }
 {
     let list = cert.entries();
-    let mut index = first_doubtful(mode, rom, entries, list);
+    let mut index = first_doubtful(mode, window, rom, entries, list);
     'entries: while index < list.len() {
-        if let Err(fault) = check_shape(mode, rom, entries, &list[index]) {
+        if let Err(fault) = check_shape(mode, window, rom, entries, &list[index]) {
             return Err(fault);
         }
         index += 1;
@@ -205,12 +209,35 @@ fn check_shapes_in<E: Entries>(
 /// Judges each entry's shape, in the order of the certificate, its counts as bounds: the first faulty entry is answered,
 /// with the first item of its shape that breaks a rule, and the lowest rule that this item breaks (20 to 31, profile).
 ///
-/// `entries` are those of the certificate. Nothing is run, and nothing is allocated. It takes the time of one tail for each word
-/// and key at most, of one comparison for each entry, and of a walk over the items of the shape that is answered.
-pub fn check_shapes<E: Entries>(rom: &RomImage, cert: &Cert, entries: &E) -> Result<(), ShapeFault>
-    requires { E.list entries.now ≡ cert.now }
-    ensures ok { OnOk result (Good Bound screen rom.now cert.now) }
-    ensures err { IfErr result (FirstShapeFault Bound screen rom.now cert.now) }
+/// `entries` are those of the certificate, and the ROM lies where it says. `window` is the part of the screen that may be lit at
+/// places that the ROM sets. Nothing is run, and nothing is allocated. It takes the time of one tail for each word and key at most, of one comparison for each entry, and of a walk over the items of the
+/// shape that is answered.
+pub fn check_shapes<E: Entries>(
+    rom: &RomImage,
+    cert: &Cert,
+    entries: &E,
+    window: &Window,
+) -> Result<(), ShapeFault>
+    requires entries { E.list entries.now ≡ cert.now.entries }
+    requires map { rom.now.map ≡ cert.now.map }
+    ensures ok { OnOk result (Good Bound window.now rom.now cert.now.entries) }
+    ensures err { IfErr result (FirstShapeFault Bound window.now rom.now cert.now.entries) }
 {
-    check_shapes_in(Mode::Bound, rom, cert, entries)
+    check_shapes_in(Mode::Bound, window, rom, cert, entries)
+}
+
+/// Judges each entry's shape, in the order of the certificate, its counts as exact: as [`check_shapes`] does, and by two rules
+/// more, that at a shape's last item its words and its depth are just as claimed (32 and 33, profile).
+pub fn check_shapes_exact<E: Entries>(
+    rom: &RomImage,
+    cert: &Cert,
+    entries: &E,
+    window: &Window,
+) -> Result<(), ShapeFault>
+    requires entries { E.list entries.now ≡ cert.now.entries }
+    requires map { rom.now.map ≡ cert.now.map }
+    ensures ok { OnOk result (Good Exact window.now rom.now cert.now.entries) }
+    ensures err { IfErr result (FirstShapeFault Exact window.now rom.now cert.now.entries) }
+{
+    check_shapes_in(Mode::Exact, window, rom, cert, entries)
 }

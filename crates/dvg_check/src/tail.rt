@@ -8,7 +8,6 @@ ghost use Rattle.dvg_words.specs.Decoding.{InstrFits, cell_at};
 ghost use Rattle.dvg_words.specs.Memory.{Rom, rom_word};
 ghost use Rattle.dvg_words.specs.declared.instruction.Cell.TheVariants.{Holds};
 ghost use Rattle.dvg_words.specs.declared.map.TheConstants.{ADDRESS_END};
-ghost use Rattle.dvg_words.specs.Beam.{screen};
 ghost use Rattle.dvg_cert.specs.Entry.{IsKey};
 ghost use Rattle.dvg_cert.specs.declared.entry.End.TheVariants.{Rel};
 ghost use Rattle.dvg_cert.specs.declared.entry.LitBox.{LitBox};
@@ -22,7 +21,7 @@ ghost use Rattle.dvg_check.specs.Private.Tails.{ClaimsLess, known_at_end, claime
 use crate::fault::Mode;
 use dvg_cert::{End, Entries, Entry, Key, LitBox};
 use dvg_items::{Cursor, Item, Kind, LitExtent, callee, joined, spanning};
-use dvg_words::{Instr, Point, on_screen, shift};
+use dvg_words::{Instr, Point, Window, in_window, shift};
 
 /// Where a shape ends, seen from the item before it, past which is this place.
 fn stop_over(place: &End, stop: &End) -> End
@@ -88,9 +87,9 @@ fn moved(lit: &LitBox, by: &Point) -> LitBox
     }
 }
 
-/// Whether both corners of a box are on the screen.
-fn is_on_screen(lit: &LitBox) -> bool
-    ensures { IsTrue result → BoxInWindow screen lit.now }
+/// Whether both corners of a box are in the window.
+fn is_in_window(window: &Window, lit: &LitBox) -> bool
+    ensures { IsTrue result → BoxInWindow window.now lit.now }
 {
     match lit {
         LitBox::Empty => true,
@@ -99,16 +98,16 @@ fn is_on_screen(lit: &LitBox) -> bool
             x_max,
             y_min,
             y_max,
-        } => on_screen(*x_min, *y_min) && on_screen(*x_max, *y_max),
+        } => in_window(window, *x_min, *y_min) && in_window(window, *x_max, *y_max),
     }
 }
 
 /// The part that a shape has in the box of what is lit from the item before it on, past which is this place: `None` where
 /// it may not light there what it does.
-fn lit_over(place: &End, lit: &LitBox) -> Option<LitBox>
+fn lit_over(window: &Window, place: &End, lit: &LitBox) -> Option<LitBox>
     requires place { IsNearPlace 1 place.now }
     requires lit { IsNearBox (ADDRESS_END + 2) lit.now }
-    ensures part { IfSome result (λ part. (whole : LitBox) → IsInside part whole → MayStandAt screen whole lit.now place.now) }
+    ensures part { IfSome result (λ part. (whole : LitBox) → IsInside part whole → MayStandAt window.now whole lit.now place.now) }
     ensures near { IfSome result (λ part. (n : ℕ) → IsNearBox n lit.now → IsNearBox (n + 1) part) }
 {
     match (place, lit) {
@@ -116,7 +115,7 @@ fn lit_over(place: &End, lit: &LitBox) -> Option<LitBox>
         (End::Lost, _) => None,
         (End::Rel { x, y }, _) => Some(moved(lit, &Point { x: *x, y: *y })),
         (End::Abs { x, y }, _) => {
-            if is_on_screen(&moved(lit, &Point { x: *x, y: *y })) {
+            if is_in_window(window, &moved(lit, &Point { x: *x, y: *y })) {
                 Some(LitBox::Empty)
             } else {
                 None
@@ -126,16 +125,16 @@ fn lit_over(place: &End, lit: &LitBox) -> Option<LitBox>
 }
 
 /// An item, told as an entry, and the tail behind it: `None` where the tail may not light there what it does.
-pub fn after_item(item: &Entry, tail: &Entry) -> Option<Entry>
+pub fn after_item(window: &Window, item: &Entry, tail: &Entry) -> Option<Entry>
     requires item { IsSmall 1 item.now }
     requires tail { IsSmall (ADDRESS_END + 2) tail.now }
     ensures value { IfSome result (λ whole. whole ≡ claimed item.now.addr item.now.key whole.lit
         (known_over (known_at_end item.now) (known_at_end tail.now))) }
     ensures item { IfSome result (λ whole. IsInside item.now.lit whole.lit) }
-    ensures tail { IfSome result (λ whole. MayStandAt screen whole.lit tail.now.lit item.now.stop) }
+    ensures tail { IfSome result (λ whole. MayStandAt window.now whole.lit tail.now.lit item.now.stop) }
     ensures small { IfSome result (λ whole. (n : ℕ) → IsSmall n tail.now → IsSmall (n + 1) whole) }
 {
-    let part = lit_over(&item.stop, &tail.lit)?;
+    let part = lit_over(window, &item.stop, &tail.lit)?;
     Some(Entry {
         addr: item.addr,
         key: item.key,

@@ -6,23 +6,19 @@ ghost use Rattle.dvg_words.specs.Decoding.{InstrFits, cell_at};
 ghost use Rattle.dvg_words.specs.Memory.{Rom, rom_word};
 ghost use Rattle.dvg_words.specs.declared.instruction.Cell.TheVariants.{Holds};
 ghost use Rattle.dvg_words.specs.declared.map.TheConstants.{ADDRESS_END};
-ghost use Rattle.dvg_words.specs.Beam.{screen};
+ghost use Rattle.dvg_words.specs.Values.{Window};
 ghost use Rattle.dvg_cert.specs.Entry.{IsKey};
 ghost use Rattle.dvg_items.specs.Bounds.{IsSomeCertificate};
 ghost use Rattle.dvg_cert.specs.declared.entry.Entry.{Entry};
 ghost use Rattle.dvg_check.specs.Rules.{GoodShape};
 ghost use Rattle.dvg_check.specs.Private.Tails.{IsTail, AreTails};
 
-use crate::cells::ROM_END;
 use crate::fault::Mode;
 use crate::keys::{KEYS, Keys, key_index, key_of};
 use crate::tail::{after_item, claims_less, last_item};
 use dvg_cert::{Entries, Entry, Key};
 use dvg_items::{Item, Kind, callee};
-use dvg_words::{Cell, Instr, ROM_FIRST, ROM_LAST, RomImage, read_cell};
-
-/// How many words a ROM has.
-const ROM_WORDS: usize = ROM_LAST as usize + 1 - ROM_FIRST as usize;
+use dvg_words::{Cell, Instr, MOST_ROM_WORDS, RomImage, Window, read_cell};
 
 /// How many tails are kept: one for each key, at three places that stand one after another.
 const SLOTS: usize = 3 * KEYS as usize;
@@ -47,8 +43,8 @@ fn tail_kept<'a>(tails: &'a Tails, at: u16, key: Key) -> Option<&'a Entry>
     requires { IsKey key }
     ensures addr { IfSome result (λ tail. tail.now.addr ≡ at) }
     ensures key { IfSome result (λ tail. tail.now.key ≡ key) }
-    ensures tail { (rom : Rom) (list : List Entry) → AreTails screen rom list tails.now.slots →
-        IfSome result (λ tail. IsTail screen rom list tail.now) }
+    ensures tail { (w : Window) (rom : Rom) (list : List Entry) → AreTails w rom list tails.now.slots →
+        IfSome result (λ tail. IsTail w rom list tail.now) }
 {
     let tail = tails.slots[slot_of(at, key)].as_ref()?;
     if tail.addr == at && tail.key == key {
@@ -60,6 +56,7 @@ fn tail_kept<'a>(tails: &'a Tails, at: u16, key: Key) -> Option<&'a Entry>
 
 /// The tail that begins with an item at a key. The ROM, in which the item stands, serves the contract alone.
 fn tail_at<E: Entries>(
+    window: &Window,
     rom: &RomImage,
     entries: &E,
     item: &Item,
@@ -71,12 +68,12 @@ fn tail_at<E: Entries>(
     requires there { cell_at (rom_word rom.now) item.now.at ≡ Holds item.now.format item.now.instr }
     requires near { item.now.at < ADDRESS_END }
     requires fields { InstrFits item.now.instr }
-    requires tails { AreTails screen rom.now (E.list entries.now) tails.now.slots }
-    ensures { IfSome result (IsTail screen rom.now (E.list entries.now)) }
+    requires tails { AreTails window.now rom.now (E.list entries.now) tails.now.slots }
+    ensures { IfSome result (IsTail window.now rom.now (E.list entries.now)) }
 {
     let first = last_item(entries, item, key)?;
     match item.next_place(Kind::Shape) {
-        Some(next) => after_item(&first, tail_kept(tails, next, first.scale)?),
+        Some(next) => after_item(window, &first, tail_kept(tails, next, first.scale)?),
         None => Some(first),
     }
 }
@@ -84,18 +81,25 @@ fn tail_at<E: Entries>(
 /// Keeps a tail, in the place of the one that was kept where it belongs.
 fn keep(tails: &mut Tails, tail: Entry)
     requires { IsKey tail.key }
-    ensures { (rom : Rom) (list : List Entry) → AreTails screen rom list tails.old.slots → IsTail screen rom list tail →
-        AreTails screen rom list tails.new.slots }
+    ensures { (w : Window) (rom : Rom) (list : List Entry) → AreTails w rom list tails.old.slots → IsTail w rom list tail →
+        AreTails w rom list tails.new.slots }
 {
     tails.slots[slot_of(tail.addr, tail.key)] = Some(tail);
 }
 
 /// Makes the tails at a place, at these keys, those at the places behind it being made.
-fn make_tails<E: Entries>(rom: &RomImage, entries: &E, at: u16, keys: Keys, tails: &mut Tails)
+fn make_tails<E: Entries>(
+    window: &Window,
+    rom: &RomImage,
+    entries: &E,
+    at: u16,
+    keys: Keys,
+    tails: &mut Tails,
+)
     requires entries { IsSomeCertificate (E.list entries.now) }
     requires near { at < ADDRESS_END }
-    requires tails { AreTails screen rom.now (E.list entries.now) tails.old.slots }
-    ensures { AreTails screen rom.now (E.list entries.now) tails.new.slots }
+    requires tails { AreTails window.now rom.now (E.list entries.now) tails.old.slots }
+    ensures { AreTails window.now rom.now (E.list entries.now) tails.new.slots }
 {
     let Cell::Holds { format, instr } = read_cell(rom, at) else {
         return;
@@ -106,7 +110,7 @@ fn make_tails<E: Entries>(rom: &RomImage, entries: &E, at: u16, keys: Keys, tail
             break;
         }
         if keys.has(index) {
-            if let Some(tail) = tail_at(rom, entries, &item, key_of(index), tails) {
+            if let Some(tail) = tail_at(window, rom, entries, &item, key_of(index), tails) {
                 keep(tails, tail);
             }
         }
@@ -117,8 +121,8 @@ fn make_tails<E: Entries>(rom: &RomImage, entries: &E, at: u16, keys: Keys, tail
 #[inline(never)]
 fn shows(mode: Mode, tails: &Tails, entry: &Entry) -> bool
     requires { IsKey entry.now.key }
-    ensures { (rom : Rom) (list : List Entry) → AreTails screen rom list tails.now.slots → IsTrue result →
-        GoodShape mode screen rom list entry.now }
+    ensures { (w : Window) (rom : Rom) (list : List Entry) → AreTails w rom list tails.now.slots → IsTrue result →
+        GoodShape mode w rom list entry.now }
 {
     match tail_kept(tails, entry.addr, entry.key) {
         Some(tail) => claims_less(mode, entry, tail),
@@ -160,7 +164,10 @@ fn keys_behind<E: Entries>(entries: &E, instr: &Instr, keys: Keys) -> Keys
 /// need it aren't shown to be good.
 #[derive(Drop)]
 pub struct Needed {
-    pub keys: [Keys; ROM_WORDS],
+    /// The word address of the ROM's first word.
+    pub first: u16,
+    /// The keys at the ROM's words, from its first one on.
+    pub keys: [Keys; MOST_ROM_WORDS],
     /// One past the last word address at which some key is needed.
     pub end: u16,
 }
@@ -168,7 +175,7 @@ pub struct Needed {
 /// The keys that are needed at a word address.
 fn keys_needed(needed: &Needed, at: u16) -> Keys {
     // Before the first word the difference wraps, to past the last.
-    let index = at.wrapping_sub(ROM_FIRST);
+    let index = at.wrapping_sub(needed.first);
     match needed.keys.get(usize::from(index)) {
         Some(keys) => *keys,
         None => Keys::NONE,
@@ -177,7 +184,7 @@ fn keys_needed(needed: &Needed, at: u16) -> Keys {
 
 /// Needs more keys at a word address.
 fn need(needed: &mut Needed, at: u16, more: Keys) {
-    let index = at.wrapping_sub(ROM_FIRST);
+    let index = at.wrapping_sub(needed.first);
     if let Some(keys) = needed.keys.get_mut(usize::from(index)) {
         *keys = keys.with(more);
         needed.end = needed.end.max(at.saturating_add(1));
@@ -207,14 +214,16 @@ fn needed_by<E: Entries>(rom: &RomImage, entries: &E, list: &[Entry]) -> Needed
     requires entries { IsSomeCertificate (E.list entries.now) }
     requires list { IsSomeCertificate list.now }
 {
+    let (first, last) = (rom.map().first(), rom.map().last());
     let mut needed = Needed {
-        keys: [Keys::NONE; ROM_WORDS],
-        end: ROM_FIRST,
+        first,
+        keys: [Keys::NONE; MOST_ROM_WORDS],
+        end: first,
     };
     for entry in list {
         need(&mut needed, entry.addr, Keys::one(entry.key));
     }
-    for at in ROM_FIRST..ROM_END {
+    for at in first..last + 1 {
         if needed.end <= at {
             break;
         }
@@ -225,6 +234,7 @@ fn needed_by<E: Entries>(rom: &RomImage, entries: &E, list: &[Entry]) -> Needed
 
 /// Makes the tails at each place from the last one of a range up to the first, at the keys that are needed.
 fn make_all<E: Entries>(
+    window: &Window,
     rom: &RomImage,
     entries: &E,
     needed: &Needed,
@@ -234,37 +244,43 @@ fn make_all<E: Entries>(
 )
     requires entries { IsSomeCertificate (E.list entries.now) }
     requires to { to ≤ ADDRESS_END }
-    requires tails { AreTails screen rom.now (E.list entries.now) tails.old.slots }
-    ensures { AreTails screen rom.now (E.list entries.now) tails.new.slots }
+    requires tails { AreTails window.now rom.now (E.list entries.now) tails.old.slots }
+    ensures { AreTails window.now rom.now (E.list entries.now) tails.new.slots }
 {
     let mut at = to;
     'places: while from < at {
         at -= 1;
         let keys = keys_needed(needed, at);
         if !keys.is_empty() {
-            make_tails(rom, entries, at, keys, tails);
+            make_tails(window, rom, entries, at, keys, tails);
         }
     }
 }
 
 /// The index of the first entry whose shape the tails don't show to be good, or how many entries there are.
-pub fn first_doubtful<E: Entries>(mode: Mode, rom: &RomImage, entries: &E, list: &[Entry]) -> usize
+pub fn first_doubtful<E: Entries>(
+    mode: Mode,
+    window: &Window,
+    rom: &RomImage,
+    entries: &E,
+    list: &[Entry],
+) -> usize
     requires list { E.list entries.now ≡ list.now }
     requires certificate { IsSomeCertificate list.now }
     ensures few { result ≤ length list.now }
-    ensures good { AllByRecursion (GoodShape mode screen rom.now list.now) (take result list.now) }
+    ensures good { AllByRecursion (GoodShape mode window.now rom.now list.now) (take result list.now) }
 {
     let needed = needed_by(rom, entries, list);
     let mut tails = Tails {
         slots: [None; SLOTS],
     };
-    let mut at = needed.end.min(ROM_END);
+    let mut at = needed.end.min(rom.map().last() + 1);
     let mut doubtful = list.len();
     let mut left = list.len();
     'entries: while left > 0 {
         left -= 1;
         let entry = &list[left];
-        make_all(rom, entries, &needed, entry.addr, at, &mut tails);
+        make_all(window, rom, entries, &needed, entry.addr, at, &mut tails);
         at = entry.addr;
         if !shows(mode, &tails, entry) {
             doubtful = left;

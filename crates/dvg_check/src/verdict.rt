@@ -1,19 +1,18 @@
 //! The verdict on bytes.
 
 ghost use Rattle.std.specs.Prelude.{◌≡◌, ◌≤◌, OnOk, IfOk, IfErr};
-ghost use Rattle.dvg_words.specs.Values.{asteroids};
 ghost use Rattle.dvg_words.specs.Memory.{words_of, rom_of};
-ghost use Rattle.dvg_words.specs.Beam.{screen};
-ghost use Rattle.dvg_check.specs.Rules.{Bound};
-ghost use Rattle.dvg_check.specs.Verdict.{InRange, RangeRefusal, PartsVerdict, Verdict};
+ghost use Rattle.dvg_check.specs.Rules.{Bound, Exact};
+ghost use Rattle.dvg_check.specs.Verdict.{InRange, RangeRefusal, PartsVerdict, RomVerdict, Verdict, SafeOver, CountsOver};
 ghost use Rattle.dvg_check.specs.Numbers.{refusal_number};
 ghost use Rattle.dvg_check.specs.Safety.{Safe};
+ghost use Rattle.dvg_check.specs.Laws.{CountsAtHalt};
 ghost use Rattle.dvg_check.specs.declared.verdict.Refusal.TheVariants as refusals;
 
-use crate::fault::{FrameFault, ShapeFault};
+use crate::fault::{FrameFault, Mode, ShapeFault};
 use crate::judged::JudgedShapes;
 use dvg_cert::{Cert, CertFault, HashIndex, MOST_WORDS, read_cert};
-use dvg_words::{FrameImage, ImageFault, RomImage};
+use dvg_words::{FrameImage, ImageFault, RomImage, Window};
 use std::alloc::{AllocError, Global};
 use thiserror::Error;
 
@@ -41,7 +40,7 @@ pub enum Refusal {
     /// 50: there was no memory for the index of the certificate's entries.
     #[error("out of memory for the index")]
     IndexMemory,
-    /// 20 to 31: a shape breaks a rule.
+    /// 20 to 33: a shape breaks a rule.
     #[error("{0}")]
     Shape(ShapeFault),
     /// 40 to 48: the frame breaks a rule.
@@ -106,80 +105,176 @@ impl From<FrameFault> for Refusal {
     }
 }
 
-/// A vector ROM and a frame.
-#[derive(Drop)]
-pub struct Images<'a> {
-    pub rom: RomImage<'a>,
-    pub frame: FrameImage<'a>,
-}
-
-/// The images of a vector ROM and of a frame, where their lengths and the budget are in range: the verdict's first step.
+/// The image of a frame, where its length and the budget are in range: the verdict's first step.
 ///
-/// `budget` is how many words the frame may take at most, 1 to 1,000,000. What is refused, by the first that applies of 1, 2
-/// and 49, is so whatever the certificate. Takes no memory.
-pub fn images_of<'a>(rom: &'a [u8], frame: &'a [u8], budget: u32) -> Result<Images<'a>, Refusal>
-    ensures range { OnOk result (InRange asteroids rom.now frame.now budget) }
-    ensures rom { IfOk result (λ images. images.rom ≡ rom_of asteroids rom.now) }
-    ensures frame { IfOk result (λ images. images.frame ≡ words_of frame.now) }
-    ensures refused { IfErr result (RangeRefusal asteroids rom.now frame.now budget) }
+/// `budget` is how many words the frame may take at most, 1 to 1,000,000. What is refused, by the first that applies of 2 and 49,
+/// is so whatever the ROM and the certificate. Takes no memory.
+pub fn frame_of(frame: &[u8], budget: u32) -> Result<FrameImage<'_>, Refusal>
+    ensures range { OnOk result (InRange frame.now budget) }
+    ensures frame { IfOk result (λ image. image ≡ words_of frame.now) }
+    ensures refused { IfErr result (RangeRefusal frame.now budget) }
 {
-    let rom = RomImage::from_bytes(rom)?;
     let frame = FrameImage::from_bytes(frame)?;
     if !(1..=MOST_WORDS).contains(&budget) {
         return Err(Refusal::BudgetRange);
     }
-    Ok(Images { rom, frame })
+    Ok(frame)
 }
 
-/// Judges a frame over a vector ROM and its certificate: a yes means that every run of the generator from the frame's
-/// first word is safe.
-///
-/// `budget` is how many words the frame may take at most, 1 to 1,000,000. The verdict is exact: the first that
-/// applies of 1, 2, 49, the certificate's refusal (10 to 16), 50, the first fault of its shapes (20 to 31), the frame's
-/// first fault (40 to 48), and the yes. Where it accepts, every run from the frame's first word, at any beam place and any
-/// global scale, reaches HALT within the answered count of words, stores at most four return places at once, fetches
-/// only words of the ROM and the frame, and draws no lit stroke that leaves 0 to 1023 on either axis.
-///
-/// Nothing is run: what a shape comes to from a word on is worked out once for each scale at which that is needed. Takes memory
-/// for the certificate's entries and for their index alone, and none before 1, 2 and 49 are ruled out; 16 comes only where there
-/// was none for an entry that could be taken, and 50 only where the certificate was taken and there was none for its index.
-pub fn check(
+/// What a ROM, a certificate and a frame come to in a mode.
+fn check_in(
     alloc: Global,
     rom: &[u8],
     cert: &[u8],
     frame: &[u8],
     budget: u32,
+    window: Window,
+    mode: Mode,
 ) -> Result<Yes, Refusal>
-    ensures verdict { Verdict Bound asteroids screen rom.now cert.now frame.now budget result }
-    ensures safe { IfOk result (λ yes. Safe (record { frame = words_of frame.now; rom = rom_of asteroids rom.now }) screen yes.words yes.depth) }
+    ensures verdict { Verdict mode window rom.now cert.now frame.now budget result }
+    ensures safe { IfOk result (λ yes. SafeOver window rom.now cert.now frame.now yes.words yes.depth) }
+    ensures exact { mode ≡ Exact → IfOk result (λ yes. CountsOver rom.now cert.now frame.now yes.words yes.depth) }
 {
-    let images = images_of(rom, frame, budget)?;
+    let frame = frame_of(frame, budget)?;
     let cert = read_cert(alloc, cert)?;
-    check_parts(alloc, &images.rom, &images.frame, &cert, budget)
+    check_rom(alloc, rom, &frame, &cert, budget, window, mode)
 }
 
-/// Judges a frame over a vector ROM and the entries of its certificate, as [`check`] does from the shapes on.
+/// Judges a frame over the bytes of a vector ROM and the entries of its certificate in a mode, as [`check`] and [`check_exact`] do
+/// from the ROM's length on.
 ///
-/// `budget` is how many words the frame may take at most, up to 1,000,000. The answer is exact: the first that applies of 50,
-/// the first fault of the shapes (20 to 31), the frame's first fault (40 to 48), and the yes, and what is accepted is safe in
-/// just the sense of `check`. Takes memory for the index of the entries alone; 50 comes only where there was none.
-pub fn check_parts(
+/// `budget` is how many words the frame may take at most, up to 1,000,000. The answer is exact: 1 where the bytes are not exactly
+/// two for each address of the certificate's map, else that of [`check_parts`] or [`check_parts_exact`]; so is what it takes of
+/// memory, and the theorem.
+pub fn check_rom(
+    alloc: Global,
+    rom: &[u8],
+    frame: &FrameImage,
+    cert: &Cert,
+    budget: u32,
+    window: Window,
+    mode: Mode,
+) -> Result<Yes, Refusal>
+    requires { budget ≤ MOST_WORDS }
+    ensures verdict { RomVerdict mode window rom.now cert.now frame.now budget result }
+    ensures safe { IfOk result (λ yes. Safe (record { frame = frame.now; rom = rom_of cert.now.map rom.now }) window yes.words yes.depth) }
+    ensures exact { mode ≡ Exact → IfOk result (λ yes. CountsAtHalt (record { frame = frame.now; rom = rom_of cert.now.map rom.now }) yes.words yes.depth) }
+{
+    let rom = RomImage::from_bytes(rom, cert.map())?;
+    check_parts_in(alloc, &rom, frame, cert, budget, window, mode)
+}
+
+/// The same from the shapes on.
+fn check_parts_in(
     alloc: Global,
     rom: &RomImage,
     frame: &FrameImage,
     cert: &Cert,
     budget: u32,
+    window: Window,
+    mode: Mode,
 ) -> Result<Yes, Refusal>
-    requires { budget ≤ MOST_WORDS }
-    ensures verdict { PartsVerdict Bound screen rom.now cert.now frame.now budget result }
-    ensures safe { IfOk result (λ yes. Safe (record { frame = frame.now; rom = rom.now }) screen yes.words yes.depth) }
+    requires budget { budget ≤ MOST_WORDS }
+    requires map { rom.now.map ≡ cert.now.map }
+    ensures verdict { PartsVerdict mode window rom.now cert.now.entries frame.now budget result }
+    ensures safe { IfOk result (λ yes. Safe (record { frame = frame.now; rom = rom.now }) window yes.words yes.depth) }
+    ensures exact { mode ≡ Exact → IfOk result (λ yes. CountsAtHalt (record { frame = frame.now; rom = rom.now }) yes.words yes.depth) }
 {
     let entries = HashIndex::new(alloc, cert)?;
-    let shapes = JudgedShapes::judge(rom, cert, &entries)?;
+    let shapes = JudgedShapes::judge(rom, cert, &entries, window, mode)?;
     let accepted = shapes.check_frame(frame, budget)?;
     Ok(Yes {
         shapes: cert.entries().len() as u32,
         words: accepted.words,
         depth: accepted.depth,
     })
+}
+
+/// Judges a frame over a vector ROM and its certificate: a yes means that every run of the generator from the frame's
+/// first word is safe.
+///
+/// `budget` is how many words the frame may take at most, 1 to 1,000,000. The verdict is exact: the first that
+/// applies of 2, 49, the certificate's refusal (10 to 16), 1, 50, the first fault of its shapes (20 to 31), the frame's
+/// first fault (40 to 48), and the yes. The ROM lies where the certificate says. `window` is the part of the screen that may be
+/// lit, `SCREEN` of `dvg_words` for all of it. Where it accepts, every run from the frame's first word, at any beam place and
+/// any global scale, reaches HALT within the answered count of words, stores at most four return places at once, fetches only
+/// words of the ROM and the frame, and draws no lit stroke that leaves the window on either axis.
+///
+/// Nothing is run: what a shape comes to from a word on is worked out once for each scale at which that is needed. Takes memory
+/// for the certificate's entries and for their index alone, and none before 2 and 49 are ruled out; 16 comes only where there
+/// was none for an entry that could be taken, and 50 only where the certificate was taken, the ROM has the length of its map,
+/// and there was none for its index.
+pub fn check(
+    alloc: Global,
+    rom: &[u8],
+    cert: &[u8],
+    frame: &[u8],
+    budget: u32,
+    window: Window,
+) -> Result<Yes, Refusal>
+    ensures verdict { Verdict Bound window rom.now cert.now frame.now budget result }
+    ensures safe { IfOk result (λ yes. SafeOver window rom.now cert.now frame.now yes.words yes.depth) }
+{
+    check_in(alloc, rom, cert, frame, budget, window, Mode::Bound)
+}
+
+/// Judges a frame over a vector ROM and the entries of its certificate, as [`check`] does from the shapes on.
+///
+/// The ROM lies where the certificate says. `budget` is how many words the frame may take at most, up to 1,000,000, `window` the
+/// part of the screen that may be lit. The answer is exact: the first that applies of 50, the first fault of the shapes (20 to
+/// 31), the frame's first fault (40 to 48), and the yes, and what is accepted is safe in just the sense of `check`. Takes memory
+/// for the index of the entries alone; 50 comes only where there was none.
+pub fn check_parts(
+    alloc: Global,
+    rom: &RomImage,
+    frame: &FrameImage,
+    cert: &Cert,
+    budget: u32,
+    window: Window,
+) -> Result<Yes, Refusal>
+    requires budget { budget ≤ MOST_WORDS }
+    requires map { rom.now.map ≡ cert.now.map }
+    ensures verdict { PartsVerdict Bound window rom.now cert.now.entries frame.now budget result }
+    ensures safe { IfOk result (λ yes. Safe (record { frame = frame.now; rom = rom.now }) window yes.words yes.depth) }
+{
+    check_parts_in(alloc, rom, frame, cert, budget, window, Mode::Bound)
+}
+
+/// Judges a frame over a vector ROM and its certificate as [`check`] does, the claimed counts being exact: 32 and 33 come after
+/// the other rules of shapes.
+///
+/// What it accepts is safe, and every run of the generator from the frame's first word has fetched just the answered count of
+/// words at its HALT, and has stored just the answered number of return places at once. The budget stays a bound, and so do
+/// boxes.
+pub fn check_exact(
+    alloc: Global,
+    rom: &[u8],
+    cert: &[u8],
+    frame: &[u8],
+    budget: u32,
+    window: Window,
+) -> Result<Yes, Refusal>
+    ensures verdict { Verdict Exact window rom.now cert.now frame.now budget result }
+    ensures safe { IfOk result (λ yes. SafeOver window rom.now cert.now frame.now yes.words yes.depth) }
+    ensures exact { IfOk result (λ yes. CountsOver rom.now cert.now frame.now yes.words yes.depth) }
+{
+    check_in(alloc, rom, cert, frame, budget, window, Mode::Exact)
+}
+
+/// Judges a frame over a vector ROM and the entries of its certificate, as [`check_exact`] does from the shapes on.
+pub fn check_parts_exact(
+    alloc: Global,
+    rom: &RomImage,
+    frame: &FrameImage,
+    cert: &Cert,
+    budget: u32,
+    window: Window,
+) -> Result<Yes, Refusal>
+    requires budget { budget ≤ MOST_WORDS }
+    requires map { rom.now.map ≡ cert.now.map }
+    ensures verdict { PartsVerdict Exact window rom.now cert.now.entries frame.now budget result }
+    ensures safe { IfOk result (λ yes. Safe (record { frame = frame.now; rom = rom.now }) window yes.words yes.depth) }
+    ensures exact { IfOk result (λ yes. CountsAtHalt (record { frame = frame.now; rom = rom.now }) yes.words yes.depth) }
+{
+    check_parts_in(alloc, rom, frame, cert, budget, window, Mode::Exact)
 }

@@ -1,7 +1,7 @@
 -- What a run of the maker answers, over plain values.
-use Rattle.std.proofs.Common.{Option, List, length, arith, subst, sym, ◌≡◌, ◌∙◌, ap, ℕ}
+use Rattle.std.proofs.Common.{Option, List, length, subst, ◌≡◌, ◌∙◌, ap, ℕ}
 use Rattle.dvg_words.specs.Memory.{Rom, IsRomLength, rom_of}
-use Rattle.dvg_words.specs.Values.{asteroids}
+use Rattle.dvg_words.specs.Values.{MemoryMap, IsMap}
 use Rattle.dvg_cert.specs.declared.entry.Entry.{Entry}
 use Rattle.dvg_cert.specs.declared.entry.Key.{Key}
 use Rattle.dvg_make.specs.Made.{Made}
@@ -10,32 +10,32 @@ use Rattle.dvg_make.specs.declared.fault.MakeFault.{MakeFault}
 use Rattle.dvg_cmd.specs.Making.{Makes, MakeFaultMeans}
 use Rattle.dvg_cmd.specs.Private.Reading.{IsPrefix}
 use Rattle.dvg_cmd.specs.declared.making.MakeRunFault.TheVariants as fault
-use Rattle.dvg_cmd.proofs.Whole.{held_bytes, held_told, prefix_of_held}
+use Rattle.dvg_cmd.proofs.Whole.{held_bytes, held_told, prefix_of_held, rom_same, rom_back}
 
 -- what was read is all, where it is a ROM's length
-read_whole : (rom : Option (List ℕ)) (rb : List ℕ) → IsPrefix 2049 rom rb → IsRomLength asteroids (length rb) → rb ≡ held_bytes rom rb
-read_whole rom rb read h = (prefix_of_held 2049 rom rb read).short (omega (arith, h))
+read_whole : (map : MemoryMap) (is : IsMap map) (rom : Option (List ℕ)) (rb : List ℕ) → IsPrefix 4097 rom rb → IsRomLength map (length rb) → rb ≡ held_bytes rom rb
+read_whole map is rom rb read h = rom_same rb (held_bytes rom rb) (prefix_of_held 4097 rom rb read) map is h
 
-whole_length : (rom : Option (List ℕ)) (rb : List ℕ) → IsPrefix 2049 rom rb → IsRomLength asteroids (length rb) → IsRomLength asteroids (length (held_bytes rom rb))
-whole_length rom rb read h = subst (λ (x : List ℕ). IsRomLength asteroids (length x)) (read_whole rom rb read h) h
+whole_length : (map : MemoryMap) (is : IsMap map) (rom : Option (List ℕ)) (rb : List ℕ) → IsPrefix 4097 rom rb → IsRomLength map (length rb) → IsRomLength map (length (held_bytes rom rb))
+whole_length map is rom rb read h = subst (λ (x : List ℕ). IsRomLength map (length x)) (read_whole map is rom rb read h) h
 
 -- and then the image is that of all
-whole_image : (rom : Option (List ℕ)) (rb : List ℕ) (image : Rom) → IsPrefix 2049 rom rb → IsRomLength asteroids (length rb) × (image ≡ rom_of asteroids rb) → image ≡ rom_of asteroids (held_bytes rom rb)
-whole_image rom rb image read h = h.1 ∙ ap (λ (x : List ℕ). rom_of asteroids x) (read_whole rom rb read h.0)
+whole_image : (map : MemoryMap) (is : IsMap map) (rom : Option (List ℕ)) (rb : List ℕ) (image : Rom) → IsPrefix 4097 rom rb → IsRomLength map (length rb) × (image ≡ rom_of map rb) → image ≡ rom_of map (held_bytes rom rb)
+whole_image map is rom rb image read h = h.1 ∙ ap (λ (x : List ℕ). rom_of map x) (read_whole map is rom rb read h.0)
 
-pub makes : (rom : Option (List ℕ)) (roots : List (ℕ × Key)) (list : List Entry) (rb : List ℕ) (image : Rom) → IsPrefix 2049 rom rb → IsRomLength asteroids (length rb) × (image ≡ rom_of asteroids rb) → Made image roots list → Makes rom roots list
-makes rom roots list rb image read h made =
+pub makes : (map : MemoryMap) (is : IsMap map) (rom : Option (List ℕ)) (roots : List (ℕ × Key)) (list : List Entry) (rb : List ℕ) (image : Rom) → IsPrefix 4097 rom rb → IsRomLength map (length rb) × (image ≡ rom_of map rb) → Made image roots list → Makes rom map roots list
+makes map is rom roots list rb image read h made =
     record {
       rom_bytes = held_bytes rom rb;
       held = held_told rom rb;
-      rom_length = whole_length rom rb read h.0;
-      made = subst (λ (x : Rom). Made x roots list) (whole_image rom rb image read h) made;
+      rom_length = whole_length map is rom rb read h.0;
+      made = subst (λ (x : Rom). Made x roots list) (whole_image map is rom rb image read h) made;
     }
 
-pub wrong_length : (rom : Option (List ℕ)) (roots : List (ℕ × Key)) (rb : List ℕ) → IsPrefix 2049 rom rb → (IsRomLength asteroids (length rb) → ⊥) → MakeFaultMeans rom roots fault.RomLength
-wrong_length rom roots rb read wrong =
-    (held_bytes rom rb, held_told rom rb, λ long. wrong (subst (λ (x : List ℕ). IsRomLength asteroids (length x)) (sym ((prefix_of_held 2049 rom rb read).long (omega (arith, long)))) long))
+pub wrong_length : (map : MemoryMap) (is : IsMap map) (rom : Option (List ℕ)) (roots : List (ℕ × Key)) (rb : List ℕ) → IsPrefix 4097 rom rb → (IsRomLength map (length rb) → ⊥) → MakeFaultMeans rom map roots fault.RomLength
+wrong_length map is rom roots rb read wrong =
+    (held_bytes rom rb, held_told rom rb, λ long. wrong (rom_back rb (held_bytes rom rb) (prefix_of_held 4097 rom rb read) map is long))
 
-pub refuses_all : (rom : Option (List ℕ)) (roots : List (ℕ × Key)) (f : MakeFault) (rb : List ℕ) (image : Rom) → IsPrefix 2049 rom rb → IsRomLength asteroids (length rb) × (image ≡ rom_of asteroids rb) → Refuses image roots f → MakeFaultMeans rom roots (fault.Make f)
-refuses_all rom roots f rb image read h refuses =
-    (held_bytes rom rb, held_told rom rb, whole_length rom rb read h.0, subst (λ (x : Rom). Refuses x roots f) (whole_image rom rb image read h) refuses)
+pub refuses_all : (map : MemoryMap) (is : IsMap map) (rom : Option (List ℕ)) (roots : List (ℕ × Key)) (f : MakeFault) (rb : List ℕ) (image : Rom) → IsPrefix 4097 rom rb → IsRomLength map (length rb) × (image ≡ rom_of map rb) → Refuses image roots f → MakeFaultMeans rom map roots (fault.Make f)
+refuses_all map is rom roots f rb image read h refuses =
+    (held_bytes rom rb, held_told rom rb, whole_length map is rom rb read h.0, subst (λ (x : Rom). Refuses x roots f) (whole_image map is rom rb image read h) refuses)

@@ -7,8 +7,7 @@ use Rattle.std.proofs.Math.Seq.{take-append-add}
 use Rattle.std.specs.Io.KnownBytes.{Consumes, IsAtEnd}
 use Rattle.std.specs.Prelude.{Result, Ok, Err}
 use borrow.Rule.Slice.PartMut.{put_mid, post_of}
-use Rattle.dvg_words.specs.Values.{asteroids}
-use Rattle.dvg_cert.specs.declared.entry.Entry.{Entry}
+use Rattle.dvg_cert.specs.Order.{Certificate}
 use Rattle.dvg_cert.specs.declared.fault.CertFault.{CertFault}
 use Rattle.dvg_cert.specs.declared.fault.CertWhy.{CertWhy}
 use Rattle.dvg_cert.specs.declared.fault.CertWhy.TheVariants.{Unended, Memory}
@@ -69,12 +68,12 @@ all_skipped most left old now h none =
 -- ---- pieces that are fed to a reader of certificates
 
 -- a text that was fed is short
-pub fed_on : ShortText → (text piece : List ℕ) (stream new : Stream) (u : Unit {0}) → stream ≡ Open text → FeedsTo asteroids.rom_first asteroids.rom_last stream piece new (Ok u) → (new ≡ Open (text ++ piece)) × (length (text ++ piece) ≤ 819600)
+pub fed_on : ShortText → (text piece : List ℕ) (stream new : Stream) (u : Unit {0}) → stream ≡ Open text → FeedsTo stream piece new (Ok u) → (new ≡ Open (text ++ piece)) × (length (text ++ piece) ≤ 819800)
 fed_on short_text text piece stream new u is fed =
-    let h : FeedsTo asteroids.rom_first asteroids.rom_last (Open text) piece new (Ok u) = subst (λ (s : Stream). FeedsTo asteroids.rom_first asteroids.rom_last s piece new (Ok u)) is fed in
-    (h.1, let few = short_text asteroids.rom_first asteroids.rom_last (text ++ piece) (omega arith) h.0 in omega (arith, few))
+    let h : FeedsTo (Open text) piece new (Ok u) = subst (λ (s : Stream). FeedsTo s piece new (Ok u)) is fed in
+    (h.1, let few = short_text (text ++ piece) h.0 in omega (arith, few))
 
-pub fed_more : (text piece : List ℕ) (stream new : Stream) (was len : ℕ) → stream ≡ Open text → new ≡ Open (text ++ piece) → length (text ++ piece) ≤ 819600 → length piece ≡ len → 0 < was → (819600 - taken_length new) + len < (819600 - taken_length stream) + was
+pub fed_more : (text piece : List ℕ) (stream new : Stream) (was len : ℕ) → stream ≡ Open text → new ≡ Open (text ++ piece) → length (text ++ piece) ≤ 819800 → length piece ≡ len → 0 < was → (819800 - taken_length new) + len < (819800 - taken_length stream) + was
 fed_more text piece stream new was len is new_is few long some =
     let old_length : taken_length stream ≡ length text = ap taken_length is in
     let new_length : taken_length new ≡ length (text ++ piece) = ap taken_length new_is in
@@ -82,15 +81,15 @@ fed_more text piece stream new was len is new_is few long some =
     omega (arith, old_length, new_length, all, few, long, some)
 
 -- a refusal of a piece is not that of the text's end
-not_at_end : (text : List ℕ) (f : CertFault) → ReadAnswer asteroids.rom_first asteroids.rom_last text (Err f) → (MayStand asteroids.rom_first asteroids.rom_last text → f.why ≡ Memory) → f.why ≡ Unended → ⊥
+not_at_end : (text : List ℕ) (f : CertFault) → ReadAnswer text (Err f) → (MayStand text → f.why ≡ Memory) → f.why ≡ Unended → ⊥
 not_at_end text f h stands e =
-    let ends : EndsOpen asteroids.rom_first asteroids.rom_last text f.line = subst (λ (why : CertWhy). IsRefusal asteroids.rom_first asteroids.rom_last text f.line why) e h in
+    let ends : EndsOpen text f.line = subst (λ (why : CertWhy). IsRefusal text f.line why) e h in
     let memory : f.why ≡ Memory = stands (ends.0, ends.1, ends.2) in
     cc
 
-pub fed_refused : (old mid new : Option (List ℕ)) (text piece : List ℕ) (stream next : Stream) (f : CertFault) → stream ≡ Open text → Consumes old mid text → length text ≤ 819600 → Consumes mid new piece → length piece ≤ 4096 → FeedsTo asteroids.rom_first asteroids.rom_last stream piece next (Err f) → ReadsText old new (Err f)
+pub fed_refused : (old mid new : Option (List ℕ)) (text piece : List ℕ) (stream next : Stream) (f : CertFault) → stream ≡ Open text → Consumes old mid text → length text ≤ 819800 → Consumes mid new piece → length piece ≤ 4096 → FeedsTo stream piece next (Err f) → ReadsText old new (Err f)
 fed_refused old mid new text piece stream next f is before few read long fed =
-    let h : FeedsTo asteroids.rom_first asteroids.rom_last (Open text) piece next (Err f) = subst (λ (s : Stream). FeedsTo asteroids.rom_first asteroids.rom_last s piece next (Err f)) is fed in
+    let h : FeedsTo (Open text) piece next (Err f) = subst (λ (s : Stream). FeedsTo s piece next (Err f)) is fed in
     let all : length (text ++ piece) ≡ length text + length piece = length-append text piece in
     record {
       bytes = text ++ piece;
@@ -100,11 +99,11 @@ fed_refused old mid new text piece stream next f is before few read long fed =
       end = λ e. absurd (not_at_end (text ++ piece) f h.0 h.1 e);
     }
 
-finish_answer : (text : List ℕ) (answer : Result (List Entry) CertFault) → FinishesTo asteroids.rom_first asteroids.rom_last (Open text) answer → ReadAnswer asteroids.rom_first asteroids.rom_last text answer
-finish_answer text (Ok list) h = h
+finish_answer : (text : List ℕ) (answer : Result Certificate CertFault) → FinishesTo (Open text) answer → ReadAnswer text answer
+finish_answer text (Ok c) h = h
 finish_answer text (Err f) h = h.0
 
 -- the answer to all of a text
-pub finished : (old new : Option (List ℕ)) (text : List ℕ) (stream : Stream) (answer : Result (List Entry) CertFault) → stream ≡ Open text → Consumes old new text → length text ≤ 819600 → IsAtEnd new → FinishesTo asteroids.rom_first asteroids.rom_last stream answer → ReadsText old new answer
+pub finished : (old new : Option (List ℕ)) (text : List ℕ) (stream : Stream) (answer : Result Certificate CertFault) → stream ≡ Open text → Consumes old new text → length text ≤ 819800 → IsAtEnd new → FinishesTo stream answer → ReadsText old new answer
 finished old new text stream answer is read few end fed =
-    record { bytes = text; read = read; few = omega (arith, few); is = finish_answer text answer (subst (λ (s : Stream). FinishesTo asteroids.rom_first asteroids.rom_last s answer) is fed); end = λ e. end }
+    record { bytes = text; read = read; few = omega (arith, few); is = finish_answer text answer (subst (λ (s : Stream). FinishesTo s answer) is fed); end = λ e. end }

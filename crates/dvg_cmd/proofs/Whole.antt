@@ -1,17 +1,17 @@
 -- The verdict on the first bytes of inputs is the verdict on all of them.
 use Rattle.std.proofs.Common.{append-nil, List, length, Option, None, Some, refl, arith, ap, subst, sym, ◌≡◌, ◌+◌, ◌≤◌, ◌++◌, ◌∙◌, ℕ, []}
-use Rattle.std.specs.Prelude.{IfSome, Result, Err}
-use Rattle.dvg_words.specs.Memory.{IsRomLength, IsFrameLength, words_of, rom_of}
-use Rattle.dvg_words.specs.Values.{Window, asteroids}
+use Rattle.std.specs.Prelude.{IfSome, Result, Ok, Err}
+use Rattle.dvg_words.specs.Memory.{IsRomLength, IsFrameLength, rom_of}
+use Rattle.dvg_words.specs.Values.{MemoryMap, IsMap, Window}
 use Rattle.dvg_words.specs.declared.image.ImageFault.TheVariants.{RomLength, FrameLength}
 use Rattle.dvg_cert.specs.Laws.{PrefixRefusal}
 use Rattle.dvg_cert.specs.Reading.{IsRefusal, ReadAnswer}
-use Rattle.dvg_cert.specs.declared.entry.Entry.{Entry}
+use Rattle.dvg_cert.specs.Order.{Certificate}
 use Rattle.dvg_cert.specs.declared.fault.CertFault.{CertFault}
 use Rattle.dvg_cert.specs.declared.fault.CertWhy.{CertWhy}
 use Rattle.dvg_cert.specs.declared.fault.CertWhy.TheVariants.{Form, Order, Count, Unended, After, TooLong, Memory}
-use Rattle.dvg_check.specs.Verdict.{InRange, RangeRefusal, PartsVerdict}
-use Rattle.dvg_check.specs.declared.fault.Mode.TheVariants.{Bound}
+use Rattle.dvg_check.specs.Verdict.{InRange, RangeRefusal, PartsVerdict, RomVerdict}
+use Rattle.dvg_check.specs.declared.fault.Mode.{Mode}
 use Rattle.dvg_check.specs.declared.verdict.Refusal.{Refusal}
 use Rattle.dvg_check.specs.declared.verdict.Refusal.TheVariants as refusal
 use Rattle.dvg_check.specs.declared.verdict.Yes.{Yes}
@@ -45,50 +45,62 @@ prefix_of_held n (Some held) prefix read =
       long = λ lt. read.first ∙ limited-long n held lt;
     }
 
-module _ (n : ℕ) (n_past : 2049 ≤ n) (budget : ℕ) (rb fb r f : List ℕ) (rom : PrefixOf n rb r) (frame_is : PrefixOf n fb f) where
-  rom_same : IsRomLength asteroids (length rb) → rb ≡ r
-  rom_same h = rom.short (omega (arith, h, n_past))
-
-  frame_same : IsFrameLength (length fb) → fb ≡ f
-  frame_same h = frame_is.short (omega (arith, h.few, n_past))
-
-  rom_back : IsRomLength asteroids (length r) → IsRomLength asteroids (length rb)
-  rom_back h = subst (λ (x : List ℕ). IsRomLength asteroids (length x)) (sym (rom.long (omega (arith, h, n_past)))) h
+module _ (budget : ℕ) (fb f : List ℕ) (frame_is : PrefixOf 2049 fb f) where
+  pub frame_same : IsFrameLength (length fb) → fb ≡ f
+  frame_same h = frame_is.short (omega (arith, h.few))
 
   frame_back : IsFrameLength (length f) → IsFrameLength (length fb)
-  frame_back h = subst (λ (x : List ℕ). IsFrameLength (length x)) (sym (frame_is.long (omega (arith, h.few, n_past)))) h
-
-  rom_on : IsRomLength asteroids (length rb) → IsRomLength asteroids (length r)
-  rom_on h = subst (λ (x : List ℕ). IsRomLength asteroids (length x)) (rom_same h) h
+  frame_back h = subst (λ (x : List ℕ). IsFrameLength (length x)) (sym (frame_is.long (omega (arith, h.few)))) h
 
   frame_on : IsFrameLength (length fb) → IsFrameLength (length f)
   frame_on h = subst (λ (x : List ℕ). IsFrameLength (length x)) (frame_same h) h
 
-  pub in_range : InRange asteroids rb fb budget → InRange asteroids r f budget
-  in_range h = record { rom_length = rom_on h.rom_length; frame_length = frame_on h.frame_length; budget_range = h.budget_range }
+  pub in_range : InRange fb budget → InRange f budget
+  in_range h = record { frame_length = frame_on h.frame_length; budget_range = h.budget_range }
 
-  pub range_whole : (refused : Refusal) → RangeRefusal asteroids rb fb budget refused → RangeRefusal asteroids r f budget refused
-  range_whole (refusal.Image RomLength) h = λ k. h (rom_back k)
-  range_whole (refusal.Image FrameLength) h = (rom_on h.0, λ k. h.1 (frame_back k))
-  range_whole refusal.BudgetRange h = (rom_on h.0, frame_on h.1, h.2)
+  pub range_whole : (refused : Refusal) → RangeRefusal fb budget refused → RangeRefusal f budget refused
+  range_whole (refusal.Image RomLength) h = absurd h
+  range_whole (refusal.Image FrameLength) h = λ k. h (frame_back k)
+  range_whole refusal.BudgetRange h = (frame_on h.0, h.1)
   range_whole (refusal.Cert g) h = absurd h
   range_whole refusal.IndexMemory h = absurd h
   range_whole (refusal.Shape g) h = absurd h
   range_whole (refusal.Frame g) h = absurd h
 
-  pub parts_whole : (w : Window) (list : List Entry) (v : Result Yes Refusal) → InRange asteroids rb fb budget → PartsVerdict Bound w (rom_of asteroids rb) list (words_of fb) budget v → PartsVerdict Bound w (rom_of asteroids r) list (words_of f) budget v
-  parts_whole w list v range h =
-      subst (λ (x : List ℕ). PartsVerdict Bound w (rom_of asteroids x) list (words_of f) budget v) (rom_same range.rom_length) (subst (λ (x : List ℕ). PartsVerdict Bound w (rom_of asteroids rb) list (words_of x) budget v) (frame_same range.frame_length) h)
+module _ (rb r : List ℕ) (rom : PrefixOf 4097 rb r) (map : MemoryMap) (is : IsMap map) where
+  pub rom_same : IsRomLength map (length rb) → rb ≡ r
+  rom_same h = rom.short (omega (arith, h, is.past_frames, is.inside))
+
+  pub rom_back : IsRomLength map (length r) → IsRomLength map (length rb)
+  rom_back h = subst (λ (x : List ℕ). IsRomLength map (length x)) (sym (rom.long (omega (arith, h, is.past_frames, is.inside)))) h
+
+  pub rom_on : IsRomLength map (length rb) → IsRomLength map (length r)
+  rom_on h = subst (λ (x : List ℕ). IsRomLength map (length x)) (rom_same h) h
+
+-- what the first bytes of a ROM come to by a certificate, all come to
+module _ (rb r : List ℕ) (rom : PrefixOf 4097 rb r) (c : Certificate) (is : IsMap c.map) (mode : Mode) (w : Window) (words : List ℕ) (budget : ℕ) where
+  parts_on : (v : Result Yes Refusal) → IsRomLength c.map (length rb) × PartsVerdict mode w (rom_of c.map rb) c.entries words budget v → IsRomLength c.map (length r) × PartsVerdict mode w (rom_of c.map r) c.entries words budget v
+  parts_on v h = (rom_on rb r rom c.map is h.0, subst (λ (x : List ℕ). PartsVerdict mode w (rom_of c.map x) c.entries words budget v) (rom_same rb r rom c.map is h.0) h.1)
+
+  pub rom_whole : (v : Result Yes Refusal) → RomVerdict mode w rb c words budget v → RomVerdict mode w r c words budget v
+  rom_whole (Err (refusal.Image RomLength)) h = λ k. h (rom_back rb r rom c.map is k)
+  rom_whole (Err (refusal.Image FrameLength)) h = absurd h.1
+  rom_whole (Ok y) h = parts_on (Ok y) h
+  rom_whole (Err refusal.BudgetRange) h = absurd h.1
+  rom_whole (Err (refusal.Cert g)) h = absurd h.1
+  rom_whole (Err refusal.IndexMemory) h = parts_on (Err refusal.IndexMemory) h
+  rom_whole (Err (refusal.Shape g)) h = parts_on (Err (refusal.Shape g)) h
+  rom_whole (Err (refusal.Frame g)) h = parts_on (Err (refusal.Frame g)) h
 
 -- ---- what was read of a text
 
 -- what follows what was read of it
-pub record TextOf (prefix held : List ℕ) (answer : Result (List Entry) CertFault) : Type 0 where
+pub record TextOf (prefix held : List ℕ) (answer : Result Certificate CertFault) : Type 0 where
   pub rest : List ℕ
   pub parts : held ≡ prefix ++ rest
   pub whole : NeedsEnd answer → prefix ≡ held
 
-pub text_of_held : (old new : Option (List ℕ)) (answer : Result (List Entry) CertFault) (text : ReadsText old new answer) → TextOf text.bytes (held_bytes old text.bytes) answer
+pub text_of_held : (old new : Option (List ℕ)) (answer : Result Certificate CertFault) (text : ReadsText old new answer) → TextOf text.bytes (held_bytes old text.bytes) answer
 text_of_held None new answer text = record { rest = []; parts = sym (append-nil text.bytes); whole = λ e. refl }
 text_of_held (Some held) None answer text = absurd text.read
 text_of_held (Some held) (Some left) answer text =
@@ -96,11 +108,11 @@ text_of_held (Some held) (Some left) answer text =
 
 module _ (prefix_refusal : PrefixRefusal) (cb c : List ℕ) where
   -- what refuses the prefix, its end aside, refuses all
-  goes_on : (g : CertFault) → TextOf cb c (Err g) → ReadAnswer asteroids.rom_first asteroids.rom_last cb (Err g) → (g.why ≡ Unended → ⊥) → ReadAnswer asteroids.rom_first asteroids.rom_last c (Err g)
-  goes_on g text h other = subst (λ (x : List ℕ). ReadAnswer asteroids.rom_first asteroids.rom_last x (Err g)) (sym text.parts) (prefix_refusal asteroids.rom_first asteroids.rom_last cb text.rest g h other)
+  goes_on : (g : CertFault) → TextOf cb c (Err g) → ReadAnswer cb (Err g) → (g.why ≡ Unended → ⊥) → ReadAnswer c (Err g)
+  goes_on g text h other = subst (λ (x : List ℕ). ReadAnswer x (Err g)) (sym text.parts) (prefix_refusal cb text.rest g h other)
 
-  pub refused_whole : (line : ℕ) (why : CertWhy) → TextOf cb c (Err (record { line = line; why = why })) → IsRefusal asteroids.rom_first asteroids.rom_last cb line why → IsRefusal asteroids.rom_first asteroids.rom_last c line why
-  refused_whole line Unended text h = subst (λ (x : List ℕ). IsRefusal asteroids.rom_first asteroids.rom_last x line Unended) (text.whole refl) h
+  pub refused_whole : (line : ℕ) (why : CertWhy) → TextOf cb c (Err (record { line = line; why = why })) → IsRefusal cb line why → IsRefusal c line why
+  refused_whole line Unended text h = subst (λ (x : List ℕ). IsRefusal x line Unended) (text.whole refl) h
   refused_whole line Form text h = goes_on (record { line = line; why = Form }) text h (λ e. cc)
   refused_whole line Order text h = goes_on (record { line = line; why = Order }) text h (λ e. cc)
   refused_whole line Count text h = goes_on (record { line = line; why = Count }) text h (λ e. cc)

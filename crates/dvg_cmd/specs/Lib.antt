@@ -1,5 +1,6 @@
 pub mod Report
 pub mod Runs
+pub mod Frames
 pub mod Status
 pub mod Making
 pub mod Numbers

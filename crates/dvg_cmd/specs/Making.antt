@@ -1,7 +1,7 @@
 -- What a run of the maker says of the bytes that its reader held, and what it writes. All of it is profile.
 use Rattle.std.specs.Prelude.{◌≡◌, ℕ, ◌<◌, Bool, true, false, List, ◌++◌, length, codes, Option, IfSome, Result, Err}
 use Rattle.std.specs.Io.KnownBytes.{Appends}
-use Rattle.dvg_words.specs.Values.{asteroids}
+use Rattle.dvg_words.specs.Values.{MemoryMap, IsMap}
 use Rattle.dvg_words.specs.declared.map.TheConstants.{ADDRESS_END}
 use Rattle.dvg_words.specs.Memory.{rom_of, IsRomLength}
 use Rattle.dvg_cert.specs.declared.entry.Entry.{Entry}
@@ -17,6 +17,10 @@ use Rattle.dvg_cmd.specs.declared.making.MakeRunFault.TheVariants as fault
 -- the text is this root's: its address, a slash and its key
 abbrev pub IsRoot : List ℕ → ℕ → Key → Type 0
 IsRoot text addr key = (addr < ADDRESS_END) × IsKey key × (text ≡ address_token addr ++ codes "/" ++ key_token key)
+
+-- the text is this map's: the word addresses of its first and its last word, with a slash between
+abbrev pub IsMapText : List ℕ → MemoryMap → Type 0
+IsMapText text map = IsMap map × (text ≡ address_token map.rom_first ++ codes "/" ++ address_token map.rom_last)
 
 -- ---- which device an answer blames
 
@@ -34,29 +38,29 @@ blames_maker_writer answer = false
 abbrev pub Held : Option (List ℕ) → List ℕ → Type 0
 Held reader bytes = IfSome reader (λ held. bytes ≡ held)
 
--- this list is made for all bytes that a reader held
-pub record Makes (rom : Option (List ℕ)) (roots : List (ℕ × Key)) (list : List Entry) : Type 0 where
+-- this list is made for all bytes that a reader held, of a ROM at this map
+pub record Makes (rom : Option (List ℕ)) (map : MemoryMap) (roots : List (ℕ × Key)) (list : List Entry) : Type 0 where
   pub rom_bytes : List ℕ
   pub held : Held rom rom_bytes
-  pub rom_length : IsRomLength asteroids (length rom_bytes)
-  pub made : Made (rom_of asteroids rom_bytes) roots list
+  pub rom_length : IsRomLength map (length rom_bytes)
+  pub made : Made (rom_of map rom_bytes) roots list
 
 -- the text of such a list was written, and nothing else
-pub record MakesText (rom : Option (List ℕ)) (roots : List (ℕ × Key)) (old new : Option (List ℕ)) : Type 0 where
+pub record MakesText (rom : Option (List ℕ)) (map : MemoryMap) (roots : List (ℕ × Key)) (old new : Option (List ℕ)) : Type 0 where
   pub list : List Entry
-  pub makes : Makes rom roots list
-  pub written : Appends old new (text_of list)
+  pub makes : Makes rom map roots list
+  pub written : Appends old new (text_of map list)
 
 -- a prefix of its text was written, and nothing else
-pub record MakesPrefix (rom : Option (List ℕ)) (roots : List (ℕ × Key)) (old new : Option (List ℕ)) : Type 0 where
+pub record MakesPrefix (rom : Option (List ℕ)) (map : MemoryMap) (roots : List (ℕ × Key)) (old new : Option (List ℕ)) : Type 0 where
   pub list : List Entry
-  pub makes : Makes rom roots list
-  pub written : AppendsPrefix old new (text_of list)
+  pub makes : Makes rom map roots list
+  pub written : AppendsPrefix old new (text_of map list)
 
 -- what a fault says of all bytes that a reader held: a wrong length, or what the maker's refusal says
-abbrev pub MakeFaultMeans : Option (List ℕ) → List (ℕ × Key) → MakeRunFault → Type 0
-MakeFaultMeans rom roots fault.RomLength = (bytes : List ℕ) × Held rom bytes × (IsRomLength asteroids (length bytes) → ⊥)
-MakeFaultMeans rom roots (fault.Make f) = (bytes : List ℕ) × Held rom bytes × IsRomLength asteroids (length bytes)
-    × Refuses (rom_of asteroids bytes) roots f
-MakeFaultMeans rom roots fault.ReadRom = Unit {0}
-MakeFaultMeans rom roots fault.Write = Unit {0}
+abbrev pub MakeFaultMeans : Option (List ℕ) → MemoryMap → List (ℕ × Key) → MakeRunFault → Type 0
+MakeFaultMeans rom map roots fault.RomLength = (bytes : List ℕ) × Held rom bytes × (IsRomLength map (length bytes) → ⊥)
+MakeFaultMeans rom map roots (fault.Make f) = (bytes : List ℕ) × Held rom bytes × IsRomLength map (length bytes)
+    × Refuses (rom_of map bytes) roots f
+MakeFaultMeans rom map roots fault.ReadRom = Unit {0}
+MakeFaultMeans rom map roots fault.Write = Unit {0}

@@ -11,6 +11,12 @@ use Rattle.dvg_cert.specs.declared.entry.Key.{Key}
 use Rattle.dvg_cert.specs.declared.fault.CertFault.{CertFault}
 use Rattle.dvg_cert.specs.Numbers.{cert_number}
 use Rattle.dvg_cert.specs.Grammar.{key_token}
+use Rattle.dvg_make.specs.declared.judging.FrameRefusal.{FrameRefusal}
+use Rattle.dvg_make.specs.declared.judging.FrameRefusal.TheVariants.{Make, NoMemory, Check}
+use Rattle.dvg_make.specs.declared.fault.EntryFault.{EntryFault}
+use Rattle.dvg_make.specs.declared.fault.EntryFault.TheVariants as entry
+use Rattle.dvg_cmd.specs.declared.judging.FrameAnswer.{FrameAnswer}
+use Rattle.dvg_cmd.specs.declared.judging.FrameAnswer.TheVariants.{Judged, Unread}
 
 -- a digit of 0 to 9 or A to F
 abbrev pub hex_digit : ℕ → ℕ
@@ -60,3 +66,32 @@ verdict_text (Err r) = codes "refused " ++ refusal_text r
 -- the whole line
 abbrev pub report_text : Result Yes Refusal → List ℕ
 report_text verdict = verdict_text verdict ++ codes "\n"
+
+-- ---- frames that are judged by their own certificates
+
+-- the word address of the frame's call that needs the entry
+abbrev pub for_frame_text : ℕ → List ℕ
+for_frame_text at = codes " for frame at " ++ hex_address at
+
+-- why the entry is not made that the call at a word address needs
+abbrev pub call_fault_text : ℕ → EntryFault → List ℕ
+call_fault_text at (entry.Unstraight word) = codes "refused 60 at " ++ hex_address word ++ for_frame_text at
+call_fault_text at entry.Deep = codes "refused 61" ++ for_frame_text at
+call_fault_text at entry.TooManyWords = codes "refused 62" ++ for_frame_text at
+call_fault_text at entry.TooManyEntries = codes "refused 62 by entries" ++ for_frame_text at
+call_fault_text at entry.Memory = codes "out of memory"
+
+abbrev pub frame_refusal_text : FrameRefusal → List ℕ
+frame_refusal_text (Make at why) = call_fault_text at why
+frame_refusal_text NoMemory = codes "out of memory"
+frame_refusal_text (Check refusal.IndexMemory) = codes "out of memory"
+frame_refusal_text (Check r) = codes "refused " ++ refusal_text r
+
+abbrev pub answer_text : FrameAnswer → List ℕ
+answer_text (Judged (Ok y)) = accepted_text y
+answer_text (Judged (Err r)) = frame_refusal_text r
+answer_text Unread = codes "cannot read"
+
+-- the line from behind the frame's name on
+abbrev pub frame_line_text : FrameAnswer → List ℕ
+frame_line_text answer = codes ": " ++ answer_text answer ++ codes "\n"

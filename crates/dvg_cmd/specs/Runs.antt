@@ -1,26 +1,30 @@
 -- What a run says of the bytes that its readers held, and what it writes. All of it is profile.
-use Rattle.std.specs.Prelude.{◌≡◌, ◌<◌, ◌≤◌, ℕ, Bool, true, false, List, length, Option, IfSome, Result, Ok, Err}
+use Rattle.std.specs.Prelude.{◌≡◌, ◌<◌, ◌≤◌, ℕ, Bool, true, false, List, [], ◌∷◌, length, decimal, Option, IfSome, Result, Ok, Err}
+use Rattle.std.specs.List.{join_with_byte}
 use Rattle.std.specs.Io.KnownBytes.{Appends, Consumes, IsAtEnd}
-use Rattle.dvg_words.specs.Values.{asteroids}
-use Rattle.dvg_words.specs.Beam.{screen}
-use Rattle.dvg_words.specs.Memory.{words_of, rom_of}
+use Rattle.dvg_words.specs.Values.{Window, IsWindow}
 use Rattle.dvg_cert.specs.Devices.{AppendsPrefix}
 use Rattle.dvg_cert.specs.declared.fault.CertWhy.{CertWhy}
 use Rattle.dvg_cert.specs.declared.fault.CertWhy.TheVariants.{Unended, Memory}
 use Rattle.dvg_cert.specs.declared.fault.CertFault.{CertFault}
-use Rattle.dvg_cert.specs.declared.entry.Entry.{Entry}
+use Rattle.dvg_cert.specs.Order.{Certificate}
 use Rattle.dvg_cert.specs.Reading.{ReadAnswer}
 use Rattle.dvg_check.specs.declared.verdict.Yes.{Yes}
 use Rattle.dvg_check.specs.declared.verdict.Refusal.{Refusal}
 use Rattle.dvg_check.specs.declared.verdict.Refusal.TheVariants as refusal
-use Rattle.dvg_check.specs.declared.fault.Mode.TheVariants.{Bound}
-use Rattle.dvg_check.specs.Verdict.{Verdict}
-use Rattle.dvg_check.specs.Safety.{Safe}
+use Rattle.dvg_check.specs.declared.fault.Mode.{Mode}
+use Rattle.dvg_check.specs.Verdict.{Verdict, SafeOver, CountsOver}
 use Rattle.dvg_cmd.specs.Report.{report_text}
+use Rattle.dvg_cmd.specs.declared.window.TheConstants.{COMMA}
 pub use Rattle.dvg_cmd.specs.declared.running.Outcome.{Outcome}
 pub use Rattle.dvg_cmd.specs.declared.running.Outcome.TheVariants.{Accepted, Refused, NoMemory}
 pub use Rattle.dvg_cmd.specs.declared.running.RunFault.{RunFault}
 use Rattle.dvg_cmd.specs.declared.running.RunFault.TheVariants as fault
+
+-- the text is this window's: its least and its greatest place across, and those up, with commas between
+abbrev pub IsWindowText : List ℕ → Window → Type 0
+IsWindowText text w = IsWindow w
+    × (text ≡ join_with_byte COMMA (decimal w.x_min ∷ decimal w.x_max ∷ decimal w.y_min ∷ decimal w.y_max ∷ []))
 
 -- ---- which device an answer blames
 
@@ -42,9 +46,13 @@ blames_writer answer = false
 
 -- ---- how far inputs are read
 
--- how many bytes are read at most: one past the limit of a ROM and of a frame, and one past that of a certificate
-abbrev pub MOST_IMAGE_READ : ℕ
-MOST_IMAGE_READ = 2049
+-- how many bytes are read at most: one past the length of the longest ROM, one past the limit of a frame, and one past that of a
+-- certificate
+abbrev pub MOST_ROM_READ : ℕ
+MOST_ROM_READ = 4097
+
+abbrev pub MOST_FRAME_READ : ℕ
+MOST_FRAME_READ = 2049
 
 abbrev pub MOST_TEXT_READ : ℕ
 MOST_TEXT_READ = 1048577
@@ -57,16 +65,16 @@ pub record IsReadTo (most : ℕ) (old new : Option (List ℕ)) : Type 0 where
   pub end : length bytes < most → IsAtEnd new
 
 -- the answer to a text can't be known before its end
-abbrev pub NeedsEnd : Result (List Entry) CertFault → Type 0
-NeedsEnd (Ok entries) = Unit {0}
+abbrev pub NeedsEnd : Result Certificate CertFault → Type 0
+NeedsEnd (Ok c) = Unit {0}
 NeedsEnd (Err f) = f.why ≡ Unended
 
 -- what was read of a text has this answer, and was all of it where the answer needs the end
-pub record ReadsText (old new : Option (List ℕ)) (answer : Result (List Entry) CertFault) : Type 0 where
+pub record ReadsText (old new : Option (List ℕ)) (answer : Result Certificate CertFault) : Type 0 where
   pub bytes : List ℕ
   pub read : Consumes old new bytes
   pub few : length bytes ≤ MOST_TEXT_READ
-  pub is : ReadAnswer asteroids.rom_first asteroids.rom_last bytes answer
+  pub is : ReadAnswer bytes answer
   pub end : NeedsEnd answer → IsAtEnd new
 
 -- the certificate was read to its end or to one byte past its limit, or so far that its own refusal was known
@@ -88,38 +96,50 @@ outcome_of (Err (refusal.Cert f)) = cert_outcome f.why
 outcome_of (Err refusal.IndexMemory) = NoMemory
 outcome_of (Err r) = Refused
 
--- the verdict on all bytes that three readers held; a reader that does not tell its bytes held some bytes, which are not known
-pub record Judges (rom cert frame : Option (List ℕ)) (budget : ℕ) (verdict : Result Yes Refusal) : Type 0 where
+-- the verdict on all bytes that three readers held, in a mode and for a window; a reader that does not tell its bytes held
+-- some bytes, which are not known
+pub record Judges (mode : Mode) (w : Window) (rom cert frame : Option (List ℕ)) (budget : ℕ) (verdict : Result Yes Refusal) : Type 0 where
   pub rom_bytes : List ℕ
   pub cert_bytes : List ℕ
   pub frame_bytes : List ℕ
   pub rom_held : IfSome rom (λ held. rom_bytes ≡ held)
   pub cert_held : IfSome cert (λ held. cert_bytes ≡ held)
   pub frame_held : IfSome frame (λ held. frame_bytes ≡ held)
-  pub is : Verdict Bound asteroids screen rom_bytes cert_bytes frame_bytes budget verdict
+  pub is : Verdict mode w rom_bytes cert_bytes frame_bytes budget verdict
 
 -- the report of this verdict was written, and nothing else; `left` is what the certificate's reader still holds
 pub record Reports
-    (rom cert left frame : Option (List ℕ)) (budget : ℕ) (old new : Option (List ℕ)) (outcome : Outcome) : Type 0 where
+    (mode : Mode) (w : Window) (rom cert left frame : Option (List ℕ)) (budget : ℕ) (old new : Option (List ℕ))
+    (outcome : Outcome) : Type 0 where
   pub verdict : Result Yes Refusal
-  pub judges : Judges rom cert frame budget verdict
+  pub judges : Judges mode w rom cert frame budget verdict
   pub read : IsReadFor verdict cert left
   pub written : Appends old new (report_text verdict)
   pub outcome_is : outcome ≡ outcome_of verdict
 
 -- a prefix of the report was written, and nothing else
-pub record ReportsPrefix (rom cert frame : Option (List ℕ)) (budget : ℕ) (old new : Option (List ℕ)) : Type 0 where
+pub record ReportsPrefix
+    (mode : Mode) (w : Window) (rom cert frame : Option (List ℕ)) (budget : ℕ) (old new : Option (List ℕ)) : Type 0 where
   pub verdict : Result Yes Refusal
-  pub judges : Judges rom cert frame budget verdict
+  pub judges : Judges mode w rom cert frame budget verdict
   pub written : AppendsPrefix old new (report_text verdict)
 
--- every run over all bytes that two readers told is safe with these counts
-abbrev pub SafeOver : Option (List ℕ) → Option (List ℕ) → Yes → Type 0
-SafeOver rom frame y =
-    IfSome rom (λ r. IfSome frame (λ f. Safe (record { frame = words_of f; rom = rom_of asteroids r }) screen y.words y.depth))
+-- every run over all bytes that three readers told is safe with these counts
+abbrev pub SafeRead : Window → Option (List ℕ) → Option (List ℕ) → Option (List ℕ) → Yes → Type 0
+SafeRead w rom cert frame y = IfSome rom (λ r. IfSome cert (λ c. IfSome frame (λ f. SafeOver w r c f y.words y.depth)))
 
 -- an accepted line was written, and every run over these bytes is safe with its counts
-pub record ReportsSafe (rom frame : Option (List ℕ)) (old new : Option (List ℕ)) : Type 0 where
+pub record ReportsSafe (w : Window) (rom cert frame : Option (List ℕ)) (old new : Option (List ℕ)) : Type 0 where
   pub yes : Yes
   pub written : Appends old new (report_text (Ok yes))
-  pub safe : SafeOver rom frame yes
+  pub safe : SafeRead w rom cert frame yes
+
+-- every run over all bytes that three readers told has just these counts at its halt
+abbrev pub CountsRead : Option (List ℕ) → Option (List ℕ) → Option (List ℕ) → Yes → Type 0
+CountsRead rom cert frame y = IfSome rom (λ r. IfSome cert (λ c. IfSome frame (λ f. CountsOver r c f y.words y.depth)))
+
+-- an accepted line was written, and every run over these bytes has just its counts
+pub record ReportsCounts (rom cert frame : Option (List ℕ)) (old new : Option (List ℕ)) : Type 0 where
+  pub yes : Yes
+  pub written : Appends old new (report_text (Ok yes))
+  pub counts : CountsRead rom cert frame yes

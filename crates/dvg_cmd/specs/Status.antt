@@ -7,7 +7,12 @@ use Rattle.dvg_cmd.specs.declared.running.RunFault.TheVariants.{ReadRom, ReadFra
 use Rattle.dvg_make.specs.declared.fault.MakeFault.TheVariants as making
 use Rattle.dvg_cmd.specs.declared.making.MakeRunFault.{MakeRunFault}
 use Rattle.dvg_cmd.specs.declared.making.MakeRunFault.TheVariants as maker
-use Rattle.dvg_cmd.specs.Report.{hex_address}
+use Rattle.dvg_cmd.specs.declared.judging.FrameOutcome.{FrameOutcome}
+use Rattle.dvg_cmd.specs.declared.judging.FrameOutcome.TheVariants as frame
+use Rattle.dvg_cmd.specs.declared.making_frames.FramesRunFault.{FramesRunFault}
+use Rattle.dvg_cmd.specs.declared.making_frames.FramesRunFault.TheVariants as frames
+use Rattle.dvg_make.specs.declared.fault.EntryFault.TheVariants as entry
+use Rattle.dvg_cmd.specs.Report.{hex_address, call_fault_text}
 
 -- the exit status of a run
 abbrev pub exit_status : Result Outcome RunFault → ℕ
@@ -48,3 +53,44 @@ make_message (maker.Make making.TooLarge) = codes "refused 62"
 make_message (maker.Make making.Memory) = fault_message Memory
 make_message maker.ReadRom = fault_message ReadRom
 make_message maker.Write = fault_message Write
+
+-- the exit status of a run over frames, which ends with the worst outcome
+abbrev pub frames_exit_status : Result FrameOutcome RunFault → ℕ
+frames_exit_status (Ok frame.Accepted) = 0
+frames_exit_status (Ok frame.Refused) = 1
+frames_exit_status (Ok frame.NoMemory) = 4
+frames_exit_status (Ok frame.Unread) = 3
+frames_exit_status (Err ReadRom) = 3
+frames_exit_status (Err ReadFrame) = 3
+frames_exit_status (Err ReadCert) = 3
+frames_exit_status (Err Write) = 3
+frames_exit_status (Err Memory) = 4
+
+-- the worse of two outcomes
+abbrev pub worse : FrameOutcome → FrameOutcome → FrameOutcome
+worse frame.Unread b = frame.Unread
+worse a frame.Unread = frame.Unread
+worse frame.NoMemory b = frame.NoMemory
+worse a frame.NoMemory = frame.NoMemory
+worse frame.Refused b = frame.Refused
+worse a b = b
+
+-- the line on standard error of a run of the maker for frames that made no certificate, without its LF, from behind the frame's
+-- name on where the fault is a frame's
+abbrev pub frames_message : FramesRunFault → List ℕ
+frames_message (frames.Plain f) = make_message f
+frames_message (frames.FrameLength n) = codes ": refused 2"
+frames_message (frames.Call call why) = codes ": " ++ call_fault_text call.at why
+frames_message frames.ReadFrame = fault_message ReadFrame
+
+-- the exit status of a run of the maker for frames
+abbrev pub make_frames_exit_status : Result (Unit {0}) FramesRunFault → ℕ
+make_frames_exit_status (Ok u) = 0
+make_frames_exit_status (Err (frames.Plain f)) = make_exit_status (Err f)
+make_frames_exit_status (Err (frames.FrameLength n)) = 1
+make_frames_exit_status (Err (frames.Call call (entry.Unstraight word))) = 1
+make_frames_exit_status (Err (frames.Call call entry.Deep)) = 1
+make_frames_exit_status (Err (frames.Call call entry.TooManyWords)) = 1
+make_frames_exit_status (Err (frames.Call call entry.TooManyEntries)) = 1
+make_frames_exit_status (Err (frames.Call call entry.Memory)) = 4
+make_frames_exit_status (Err frames.ReadFrame) = 3

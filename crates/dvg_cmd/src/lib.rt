@@ -4,20 +4,35 @@
 //! the verdict. [`run_make`] reads a ROM and writes the certificate that [`make`](dvg_make::make) makes.
 #![tactic(auto)]
 
+mod judging;
 mod making;
+mod making_frames;
 mod reading;
 mod report;
 mod running;
+mod start;
 mod status;
+mod window;
 
 pub use dvg_cert::{
-    CertFault, CertWhy, Counted, CountedRead, CountedWrite, Key, MOST_WORDS, WriteFault,
-    write_bytes,
+    Cert, CertFault, CertWhy, Counted, CountedRead, CountedWrite, Entries, HashIndex, Key,
+    MOST_WORDS, WriteFault, write_bytes,
 };
-pub use dvg_check::{FrameFault, FrameWhy, Refusal, ShapeFault, ShapeWhy, Yes, check};
-pub use dvg_make::{MakeFault, make};
-pub use dvg_words::ImageFault;
-pub use making::{MakeRunFault, root_of, run_make};
-pub use report::{Report, make_report_of, report_of};
+pub use dvg_check::{
+    FrameFault, FrameWhy, JudgedShapes, Mode, Refusal, ShapeFault, ShapeWhy, Yes, check,
+};
+pub use dvg_make::{
+    EntryFault, FrameCall, FrameRefusal, FramesFault, MakeFault, judge, make, make_for_frames,
+};
+pub use dvg_words::{ASTEROIDS, ImageFault, RomImage, RomMap, SCREEN, Window};
+pub use judging::{
+    FrameAnswer, FrameOutcome, load_cert, load_rom, run_frame, run_frame_over, run_refusal,
+    run_unopened,
+};
+pub use making::{MakeRunFault, map_of, root_of, run_make};
+pub use making_frames::{FramesRunFault, run_make_frames};
+pub use report::{Report, frame_report_of, make_frames_report_of, make_report_of, report_of};
 pub use running::{Outcome, RunFault, run_check};
-pub use status::{make_status_of, message_of, status_of};
+pub use start::start_of;
+pub use status::{frames_status_of, make_frames_status_of, make_status_of, message_of, status_of};
+pub use window::window_of;

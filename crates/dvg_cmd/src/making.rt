@@ -5,14 +5,16 @@ ghost use Rattle.std.specs.Io.KnownBytes.{Appends};
 ghost use Rattle.dvg_cert.specs.Devices.{count_after};
 ghost use Rattle.dvg_cert.specs.declared.entry.Key.{Key as KeyValue};
 ghost use Rattle.dvg_cmd.specs.Numbers.{make_run_number};
-ghost use Rattle.dvg_cmd.specs.Making.{IsRoot, blames_maker_rom, blames_maker_writer, Makes, MakesText, MakesPrefix, MakeFaultMeans};
+ghost use Rattle.dvg_cmd.specs.Making.{IsRoot, IsMapText, blames_maker_rom, blames_maker_writer, Makes, MakesText, MakesPrefix, MakeFaultMeans};
+ghost use Rattle.dvg_cmd.specs.Runs.{MOST_ROM_READ};
 ghost use Rattle.dvg_cmd.specs.Private.Reading.{IsPrefix};
+ghost use Rattle.dvg_words.specs.Values.{MemoryMap};
 
-use crate::reading::read_image;
+use crate::reading::read_rom;
 use crate::running::RunFault;
 use dvg_cert::{Cert, CountedRead, CountedWrite, Key, read_address, read_key, write_cert};
 use dvg_make::{MakeFault, make};
-use dvg_words::RomImage;
+use dvg_words::{RomImage, RomMap};
 use std::alloc::Global;
 use thiserror::Error;
 
@@ -61,25 +63,52 @@ pub fn root_of(text: &str) -> Option<(u16, Key)>
     Some((addr, key))
 }
 
-/// The certificate for what was read of a ROM, which is one for all that its reader held.
-fn make_on(alloc: Global, bytes: &[u8], roots: &[(u16, Key)]) -> Result<Cert, MakeRunFault>
-    ensures ok { (rom : Option (List ℕ)) → IsPrefix 2049 rom bytes.now → IfOk result (Makes rom roots.now) }
-    ensures refused { (rom : Option (List ℕ)) → IsPrefix 2049 rom bytes.now → IfErr result (MakeFaultMeans rom roots.now) }
+/// The map that a word of the command line spells: the word addresses of the ROM's first and last word, each of three hexadecimal
+/// digits in capitals, with a slash between.
+pub fn map_of(text: &str) -> Option<RomMap>
+    ensures some { IfSome result (λ map. IsMapText text.now map) }
+    ensures none { IfNone result ((map : MemoryMap) → IsMapText text.now map → ⊥) }
+{
+    let [a, b, c, b'/', d, e, f] = text.as_bytes() else {
+        return None;
+    };
+    let first = read_address(&[*a, *b, *c])?;
+    let last = read_address(&[*d, *e, *f])?;
+    RomMap::new(first, last)
+}
+
+/// The certificate for what was read of a ROM at this map, which is one for all that its reader held.
+fn make_on(
+    alloc: Global,
+    bytes: &[u8],
+    map: RomMap,
+    roots: &[(u16, Key)],
+) -> Result<Cert, MakeRunFault>
+    ensures ok { (rom : Option (List ℕ)) → IsPrefix MOST_ROM_READ rom bytes.now
+        → IfOk result (λ cert. Makes rom map roots.now cert.entries) }
+    ensures map { IfOk result (λ cert. cert.map ≡ map) }
+    ensures refused { (rom : Option (List ℕ)) → IsPrefix MOST_ROM_READ rom bytes.now
+        → IfErr result (MakeFaultMeans rom map roots.now) }
     ensures fault { IfErr result (λ fault. (fault ≢ MakeRunFault.ReadRom) × (fault ≢ MakeRunFault.Write)) }
 {
-    let Ok(rom) = RomImage::from_bytes(bytes) else {
+    let Ok(rom) = RomImage::from_bytes(bytes, map) else {
         return Err(MakeRunFault::RomLength);
     };
-    make(alloc, &rom, roots).map_err(MakeRunFault::Make)
+    match make(alloc, &rom, roots) {
+        Ok(cert) => Ok(cert),
+        Err(fault) => Err(MakeRunFault::Make(fault)),
+    }
 }
 
 /// Reads a ROM and writes the certificate of the shapes at these roots, and of all that they call or tail jump to.
 ///
-/// The ROM is read to its end, or to one byte past 2048. The first failed read or write ends the run, and nothing is tried
-/// again. On 1, 60 to 63 and 70 nothing was written, on 73 a prefix of the certificate.
+/// The ROM lies where the map says. It is read to its end, or to one byte past 4096, the length of the longest one. The first
+/// failed read or write ends the run, and nothing is tried again. On 1, 60 to 63 and 70 nothing was written, on 73 a prefix of
+/// the certificate.
 pub fn run_make<R: CountedRead, W: CountedWrite>(
     alloc: Global,
     rom: &mut R,
+    map: RomMap,
     roots: &[(u16, Key)],
     out: &mut W,
 ) -> Result<(), MakeRunFault>
@@ -88,18 +117,18 @@ pub fn run_make<R: CountedRead, W: CountedWrite>(
     ensures out_count { W.failures out.new ≡ count_after (blames_maker_writer result) (W.failures out.old) }
 
     // What is written is the text of the list that is made for all bytes that the reader held, or a prefix of it, or nothing.
-    ensures text { OnOk result (MakesText (R.remaining rom.old) roots.now (W.contents out.old) (W.contents out.new)) }
-    ensures prefix { result ≡ Err MakeRunFault.Write → MakesPrefix (R.remaining rom.old) roots.now (W.contents out.old)
+    ensures text { OnOk result (MakesText (R.remaining rom.old) map roots.now (W.contents out.old) (W.contents out.new)) }
+    ensures prefix { result ≡ Err MakeRunFault.Write → MakesPrefix (R.remaining rom.old) map roots.now (W.contents out.old)
         (W.contents out.new) }
     ensures nothing { IfErr result (λ fault. fault ≢ MakeRunFault.Write → Appends (W.contents out.old) (W.contents out.new) []) }
 
     // 1 comes for a wrong length alone, and 60 to 62 only where no made list exists.
-    ensures refused { IfErr result (MakeFaultMeans (R.remaining rom.old) roots.now) }
+    ensures refused { IfErr result (MakeFaultMeans (R.remaining rom.old) map roots.now) }
 {
-    let Ok(bytes) = read_image(rom) else {
+    let Ok(bytes) = read_rom(rom) else {
         return Err(MakeRunFault::ReadRom);
     };
-    let cert = make_on(alloc, bytes.as_slice(), roots)?;
+    let cert = make_on(alloc, bytes.as_slice(), map, roots)?;
     match write_cert(&cert, out) {
         Ok(()) => Ok(()),
         Err(_) => Err(MakeRunFault::Write),

@@ -3,7 +3,7 @@
 ghost use Rattle.std.specs.Prelude.{◌≡◌, ◌≤◌, ◌<◌, length, take, IfOk, OnOk, IfSome, is_err};
 ghost use Rattle.std.specs.Io.KnownBytes.{Consumes, IsAtEnd};
 ghost use Rattle.dvg_cert.specs.Devices.{count_after};
-ghost use Rattle.dvg_cmd.specs.Runs.{MOST_IMAGE_READ, IsReadTo, ReadsText};
+ghost use Rattle.dvg_cmd.specs.Runs.{MOST_ROM_READ, MOST_FRAME_READ, IsReadTo, ReadsText};
 ghost use Rattle.dvg_cmd.specs.Private.Reading.{IsPrefix};
 
 use arrayvec::ArrayVec;
@@ -40,21 +40,36 @@ fn read_prefix<R: CountedRead>(reader: &mut R, buf: &mut [u8]) -> io::Result<usi
     fill(reader, buf)
 }
 
-/// The bytes of a ROM or of a frame, up to one past the limit of both, which is 2048.
-pub type ImageBytes = ArrayVec<u8, 2049>;
-
-/// The bytes of a ROM or of a frame, up to one past the limit. Takes no memory.
+/// The bytes of an image, up to `N` of them. Takes no memory.
 #[tactic(auto, unfolding(crate::specs::Private::Reading::limited))]
-pub fn read_image<R: CountedRead>(reader: &mut R) -> io::Result<ImageBytes>
-    ensures bytes { IfOk result (λ image. IsPrefix MOST_IMAGE_READ (R.remaining reader.old) image.items) }
-    ensures read { OnOk result (IsReadTo MOST_IMAGE_READ (R.remaining reader.old) (R.remaining reader.new)) }
+fn read_image<const N: usize, R: CountedRead>(reader: &mut R) -> io::Result<ArrayVec<u8, N>>
+    ensures bytes { IfOk result (λ image. IsPrefix N (R.remaining reader.old) image.items) }
+    ensures read { OnOk result (IsReadTo N (R.remaining reader.old) (R.remaining reader.new)) }
     ensures count { R.failures reader.new ≡ count_after (is_err result) (R.failures reader.old) }
 {
-    let mut bytes = [0; 2049];
+    let mut bytes = [0; N];
     let len = read_prefix(reader, &mut bytes)?;
-    let mut image = ImageBytes::from_array_in((), bytes);
+    let mut image = ArrayVec::from_array_in((), bytes);
     image.truncate(len);
     Ok(image)
+}
+
+/// The bytes of a ROM, up to one past the length of the longest, which is 4096. Takes no memory.
+pub fn read_rom<R: CountedRead>(reader: &mut R) -> io::Result<ArrayVec<u8, 4097>>
+    ensures bytes { IfOk result (λ image. IsPrefix MOST_ROM_READ (R.remaining reader.old) image.items) }
+    ensures read { OnOk result (IsReadTo MOST_ROM_READ (R.remaining reader.old) (R.remaining reader.new)) }
+    ensures count { R.failures reader.new ≡ count_after (is_err result) (R.failures reader.old) }
+{
+    read_image::<4097, R>(reader)
+}
+
+/// The bytes of a frame, up to one past its limit, which is 2048. Takes no memory.
+pub fn read_frame<R: CountedRead>(reader: &mut R) -> io::Result<ArrayVec<u8, 2049>>
+    ensures bytes { IfOk result (λ image. IsPrefix MOST_FRAME_READ (R.remaining reader.old) image.items) }
+    ensures read { OnOk result (IsReadTo MOST_FRAME_READ (R.remaining reader.old) (R.remaining reader.new)) }
+    ensures count { R.failures reader.new ≡ count_after (is_err result) (R.failures reader.old) }
+{
+    read_image::<2049, R>(reader)
 }
 
 /// How many bytes of a certificate are read at once. A piece that is not full is the last.

@@ -2,16 +2,18 @@
 
 ghost use Rattle.std.specs.Prelude.{◌≡◌, ◌+◌, ◌≤◌, ◌<◌, ◌++◌, [], length, codes, decimal};
 ghost use Rattle.dvg_cert.specs.Grammar.{key_token};
-ghost use Rattle.dvg_cmd.specs.Status.{fault_message, make_message};
-ghost use Rattle.dvg_cmd.specs.Report.{report_text, verdict_text, accepted_text, refusal_text, cert_fault_text, shape_fault_text, frame_fault_text, hex_digit, hex_address};
+ghost use Rattle.dvg_cmd.specs.Status.{fault_message, make_message, frames_message};
+ghost use Rattle.dvg_cmd.specs.Report.{report_text, verdict_text, accepted_text, refusal_text, cert_fault_text, shape_fault_text, frame_fault_text, hex_digit, hex_address, call_fault_text, frame_refusal_text, answer_text, frame_line_text};
 
+use crate::judging::FrameAnswer;
 use crate::making::MakeRunFault;
+use crate::making_frames::FramesRunFault;
 use crate::running::RunFault;
 use crate::status::message_of;
 use arrayvec::ArrayVec;
 use dvg_cert::{CertFault, Key, push_bytes};
 use dvg_check::{FrameFault, Refusal, ShapeFault, Yes};
-use dvg_make::MakeFault;
+use dvg_make::{EntryFault, FrameRefusal, MakeFault};
 use dvg_words::ImageFault;
 use itoa::Buffer;
 use std::marker::Model;
@@ -64,6 +66,16 @@ impl Report {
         self.push(Buffer::new().format(number).as_bytes());
     }
 
+    /// A count behind its label.
+    fn push_count(&mut self, label: &[u8], count: u32)
+        requires { length self.old + length label.now ≤ 54 }
+        ensures text { self.new ≡ self.old ++ label.now ++ decimal count }
+        ensures short { length self.new ≤ length self.old + length label.now + 10 }
+    {
+        self.push(label);
+        self.push_decimal(count);
+    }
+
     fn end_line(&mut self)
         requires { length self.old ≤ 63 }
         ensures { self.new ≡ self.old ++ codes "\n" }
@@ -94,6 +106,30 @@ pub fn make_report_of(fault: &MakeRunFault) -> Report
     report
 }
 
+/// The line of an answer to a frame, from behind the frame's name on, with its LF: 64 bytes at most. Takes no memory.
+pub fn frame_report_of(answer: &FrameAnswer) -> Report
+    ensures text { result ≡ frame_line_text answer.now }
+    ensures short { length result ≤ 64 }
+{
+    let mut report = Report::new();
+    report.push(b": ");
+    push_answer(&mut report, answer);
+    report.end_line();
+    report
+}
+
+/// The line on standard error of a run of the maker for frames that made no certificate, with its LF: 64 bytes at most. Where
+/// the fault is a frame's, it is the line from behind the frame's name on. Takes no memory.
+pub fn make_frames_report_of(fault: &FramesRunFault) -> Report
+    ensures text { result ≡ frames_message fault.now ++ codes "\n" }
+    ensures short { length result ≤ 64 }
+{
+    let mut report = Report::new();
+    push_frames_fault(&mut report, fault);
+    report.end_line();
+    report
+}
+
 fn push_make_fault(report: &mut Report, fault: &MakeRunFault)
     requires { report.old ≡ [] }
     ensures text { report.new ≡ make_message fault.now }
@@ -111,6 +147,70 @@ fn push_make_fault(report: &mut Report, fault: &MakeRunFault)
         MakeRunFault::ReadRom => push_message(report, &RunFault::ReadRom),
         MakeRunFault::Write => push_message(report, &RunFault::Write),
     }
+}
+
+fn push_frames_fault(report: &mut Report, fault: &FramesRunFault)
+    requires { report.old ≡ [] }
+    ensures text { report.new ≡ frames_message fault.now }
+    ensures short { length report.new ≤ 63 }
+{
+    match fault {
+        FramesRunFault::Plain(fault) => push_make_fault(report, fault),
+        FramesRunFault::FrameLength { .. } => report.push(b": refused 2"),
+        FramesRunFault::Call { call, why } => {
+            report.push(b": ");
+            push_call_fault(report, call.at, *why);
+        }
+        FramesRunFault::ReadFrame => push_message(report, &RunFault::ReadFrame),
+    }
+}
+
+fn push_answer(report: &mut Report, answer: &FrameAnswer)
+    requires { length report.old ≤ 2 }
+    ensures text { report.new ≡ report.old ++ answer_text answer.now }
+    ensures short { length report.new ≤ 63 }
+{
+    match answer {
+        FrameAnswer::Judged(Ok(yes)) => push_accepted(report, yes),
+        FrameAnswer::Judged(Err(refusal)) => push_frame_refusal(report, refusal),
+        FrameAnswer::Unread => report.push(b"cannot read"),
+    }
+}
+
+fn push_frame_refusal(report: &mut Report, refusal: &FrameRefusal)
+    requires { length report.old ≤ 2 }
+    ensures text { report.new ≡ report.old ++ frame_refusal_text refusal.now }
+    ensures short { length report.new ≤ 63 }
+{
+    match refusal {
+        FrameRefusal::Make { at, why } => push_call_fault(report, *at, *why),
+        FrameRefusal::NoMemory => report.push(b"out of memory"),
+        FrameRefusal::Check(Refusal::IndexMemory) => report.push(b"out of memory"),
+        FrameRefusal::Check(refusal) => {
+            report.push(b"refused ");
+            push_refusal(report, refusal);
+        }
+    }
+}
+
+/// Why the entry is not made that a frame's call at this word address needs.
+fn push_call_fault(report: &mut Report, at: u16, why: EntryFault)
+    requires { length report.old ≤ 2 }
+    ensures text { report.new ≡ report.old ++ call_fault_text at why }
+    ensures short { length report.new ≤ 63 }
+{
+    match why {
+        EntryFault::Unstraight { word } => {
+            report.push(b"refused 60 at ");
+            push_address(report, word);
+        }
+        EntryFault::Deep => report.push(b"refused 61"),
+        EntryFault::TooManyWords => report.push(b"refused 62"),
+        EntryFault::TooManyEntries => report.push(b"refused 62 by entries"),
+        EntryFault::Memory => return report.push(b"out of memory"),
+    }
+    report.push(b" for frame at ");
+    push_address(report, at);
 }
 
 fn push_message(report: &mut Report, fault: &RunFault)
@@ -136,20 +236,17 @@ fn push_verdict(report: &mut Report, verdict: &Result<Yes, Refusal>)
 }
 
 fn push_accepted(report: &mut Report, yes: &Yes)
-    requires { report.old ≡ [] }
-    ensures text { report.new ≡ accepted_text yes.now }
+    requires { length report.old ≤ 2 }
+    ensures text { report.new ≡ report.old ++ accepted_text yes.now }
     ensures short { length report.new ≤ 63 }
 {
-    report.push(b"accepted shapes=");
-    report.push_decimal(yes.shapes);
-    report.push(b" words=");
-    report.push_decimal(yes.words);
-    report.push(b" depth=");
-    report.push_decimal(u32::from(yes.depth));
+    report.push_count(b"accepted shapes=", yes.shapes);
+    report.push_count(b" words=", yes.words);
+    report.push_count(b" depth=", u32::from(yes.depth));
 }
 
 fn push_refusal(report: &mut Report, refusal: &Refusal)
-    requires { length report.old ≤ 8 }
+    requires { length report.old ≤ 10 }
     ensures text { report.new ≡ report.old ++ refusal_text refusal.now }
     ensures short { length report.new ≤ 63 }
 {
@@ -165,7 +262,7 @@ fn push_refusal(report: &mut Report, refusal: &Refusal)
 }
 
 fn push_cert_fault(report: &mut Report, fault: &CertFault)
-    requires { length report.old ≤ 8 }
+    requires { length report.old ≤ 10 }
     ensures text { report.new ≡ report.old ++ cert_fault_text fault.now }
     ensures short { length report.new ≤ 63 }
 {
@@ -175,7 +272,7 @@ fn push_cert_fault(report: &mut Report, fault: &CertFault)
 }
 
 fn push_shape_fault(report: &mut Report, fault: &ShapeFault)
-    requires { length report.old ≤ 8 }
+    requires { length report.old ≤ 10 }
     ensures text { report.new ≡ report.old ++ shape_fault_text fault.now }
     ensures short { length report.new ≤ 63 }
 {
@@ -189,7 +286,7 @@ fn push_shape_fault(report: &mut Report, fault: &ShapeFault)
 }
 
 fn push_frame_fault(report: &mut Report, fault: &FrameFault)
-    requires { length report.old ≤ 8 }
+    requires { length report.old ≤ 10 }
     ensures text { report.new ≡ report.old ++ frame_fault_text fault.now }
     ensures short { length report.new ≤ 63 }
 {

@@ -2,19 +2,22 @@
 
 ghost use Rattle.std.specs.Prelude.{◌≡◌, ◌≢◌, ℕ, List, Option, Ok, Err, IfOk, IfErr, OnOk, OnErr, is_err};
 ghost use Rattle.std.specs.Io.KnownBytes.{Appends};
+ghost use Rattle.dvg_words.specs.Values.{Window as Places};
+ghost use Rattle.dvg_check.specs.declared.fault.Mode.TheVariants.{Exact};
 ghost use Rattle.dvg_cert.specs.Devices.{AppendsPrefix, count_after};
 ghost use Rattle.dvg_cmd.specs.Report.{report_text};
 ghost use Rattle.dvg_cmd.specs.Numbers.{run_number};
 ghost use Rattle.dvg_cmd.specs.Runs.{outcome_of, blames_rom, blames_frame, blames_certificate, blames_writer};
-ghost use Rattle.dvg_cmd.specs.Runs.{MOST_IMAGE_READ, IsReadTo, IsReadFor, Judges, SafeOver, Reports, ReportsPrefix, ReportsSafe};
+ghost use Rattle.dvg_cmd.specs.Runs.{MOST_ROM_READ, MOST_FRAME_READ, IsReadTo, IsReadFor, Judges, SafeRead, CountsRead, Reports, ReportsPrefix, ReportsSafe, ReportsCounts};
 ghost use Rattle.dvg_cmd.specs.Private.Reading.{IsPrefix};
 
-use crate::reading::{read_certificate, read_image, skip};
+use crate::reading::{read_certificate, read_frame, read_rom, skip};
 use crate::report::report_of;
 use crate::status::text_of;
 use dvg_cert::laws::prefix_refusal;
 use dvg_cert::{CertWhy, CountedRead, CountedWrite, write_bytes};
-use dvg_check::{Refusal, Yes, check_parts, images_of};
+use dvg_check::{Mode, Refusal, Yes, check_rom, frame_of};
+use dvg_words::Window;
 use std::alloc::Global;
 use std::io;
 use thiserror::Error;
@@ -76,7 +79,7 @@ fn outcome_of(verdict: &Result<Yes, Refusal>) -> Outcome
     }
 }
 
-/// The verdict on the bytes of a ROM and of a frame and on the certificate that a reader holds. Where the ROM, the frame or the
+/// The verdict in a mode on the bytes of a ROM and of a frame and on the certificate that a reader holds. Where the frame or the
 /// budget is refused, the certificate is read all the same, and kept nowhere.
 fn read_verdict<R: CountedRead>(
     alloc: Global,
@@ -84,41 +87,48 @@ fn read_verdict<R: CountedRead>(
     cert: &mut R,
     frame: &[u8],
     budget: u32,
+    window: Window,
+    mode: Mode,
 ) -> io::Result<Result<Yes, Refusal>>
-    ensures verdict { (rom_held frame_held : Option (List ℕ)) → IsPrefix MOST_IMAGE_READ rom_held rom.now
-        → IsPrefix MOST_IMAGE_READ frame_held frame.now
-        → IfOk result (Judges rom_held (R.remaining cert.old) frame_held budget) }
-    ensures safe { (rom_held frame_held : Option (List ℕ)) → IsPrefix MOST_IMAGE_READ rom_held rom.now
-        → IsPrefix MOST_IMAGE_READ frame_held frame.now
-        → IfOk result (λ verdict. IfOk verdict (SafeOver rom_held frame_held)) }
+    ensures verdict { (rom_held frame_held : Option (List ℕ)) → IsPrefix MOST_ROM_READ rom_held rom.now
+        → IsPrefix MOST_FRAME_READ frame_held frame.now
+        → IfOk result (Judges mode window rom_held (R.remaining cert.old) frame_held budget) }
+    ensures safe { (rom_held frame_held : Option (List ℕ)) → IsPrefix MOST_ROM_READ rom_held rom.now
+        → IsPrefix MOST_FRAME_READ frame_held frame.now
+        → IfOk result (λ verdict. IfOk verdict (SafeRead window rom_held (R.remaining cert.old) frame_held)) }
+    ensures exact { mode ≡ Exact → (rom_held frame_held : Option (List ℕ)) → IsPrefix MOST_ROM_READ rom_held rom.now
+        → IsPrefix MOST_FRAME_READ frame_held frame.now
+        → IfOk result (λ verdict. IfOk verdict (CountsRead rom_held (R.remaining cert.old) frame_held)) }
     ensures read { IfOk result (λ verdict. IsReadFor verdict (R.remaining cert.old) (R.remaining cert.new)) }
     ensures count { R.failures cert.new ≡ count_after (is_err result) (R.failures cert.old) }
 {
     // The law by which the refusal of what was read is that of the whole text.
     prefix_refusal();
-    let images = match images_of(rom, frame, budget) {
-        Ok(images) => images,
+    let frame = match frame_of(frame, budget) {
+        Ok(frame) => frame,
         Err(refusal) => {
             skip(cert, PAST_CERTIFICATE_LIMIT)?;
             return Ok(Err(refusal));
         }
     };
     match read_certificate(alloc, cert)? {
-        Ok(list) => Ok(check_parts(alloc, &images.rom, &images.frame, &list, budget)),
+        Ok(taken) => Ok(check_rom(alloc, rom, &frame, &taken, budget, window, mode)),
         Err(fault) => Ok(Err(Refusal::Cert(fault))),
     }
 }
 
 /// Writes the report of a verdict.
-fn write_report<W: CountedWrite>(
+pub fn write_report<W: CountedWrite>(
     verdict: &Result<Yes, Refusal>,
     out: &mut W,
 ) -> Result<Outcome, RunFault>
     ensures ok { IfOk result (λ outcome. outcome ≡ outcome_of verdict.now) }
     ensures written { OnOk result (Appends (W.contents out.old) (W.contents out.new) (report_text verdict.now)) }
     ensures prefix { OnErr result (AppendsPrefix (W.contents out.old) (W.contents out.new) (report_text verdict.now)) }
-    ensures safe { (rom frame : Option (List ℕ)) → IfOk verdict.now (SafeOver rom frame) → result ≡ Ok Outcome.Accepted
-        → ReportsSafe rom frame (W.contents out.old) (W.contents out.new) }
+    ensures safe { (w : Places) (rom cert frame : Option (List ℕ)) → IfOk verdict.now (SafeRead w rom cert frame)
+        → result ≡ Ok Outcome.Accepted → ReportsSafe w rom cert frame (W.contents out.old) (W.contents out.new) }
+    ensures exact { (rom cert frame : Option (List ℕ)) → IfOk verdict.now (CountsRead rom cert frame)
+        → result ≡ Ok Outcome.Accepted → ReportsCounts rom cert frame (W.contents out.old) (W.contents out.new) }
     ensures fault { IfErr result (λ fault. fault ≡ RunFault.Write) }
     ensures count { W.failures out.new ≡ count_after (is_err result) (W.failures out.old) }
 {
@@ -131,16 +141,20 @@ fn write_report<W: CountedWrite>(
 
 /// Reads a ROM, a frame and a certificate, in this order, and writes the report of the verdict on them.
 ///
-/// Each input is read to its end, or to one byte past its limit: 2048 bytes for a ROM and a frame, 1,048,576 for a
-/// certificate; a certificate that is refused, no further than the piece of 4096 bytes in which that is known. No more is kept
-/// of a certificate than that piece, the line begun and the entries. The first failed read or write ends the run, and nothing
-/// is tried again. On 70, 71 and 72 nothing was written, on 73 a prefix of the report. 74 never comes.
+/// The ROM lies where the certificate says; `window` is the part of the screen that may be lit, and `mode` says whether the
+/// claimed counts are bounds or exact. Each input is read to its end, or to one byte past its limit: 4096 bytes for a ROM, 2048
+/// for a frame, 1,048,576 for a certificate; a certificate that is refused, no further than the piece of 4096 bytes in which
+/// that is known. No more is kept of a certificate than that piece, the line begun and the entries. The first failed read or
+/// write ends the run, and nothing is tried again. On 70, 71 and 72 nothing was written, on 73 a prefix of the report. 74 never
+/// comes.
 pub fn run_check<R1: CountedRead, R2: CountedRead, R3: CountedRead, W: CountedWrite>(
     alloc: Global,
     rom: &mut R1,
     cert: &mut R2,
     frame: &mut R3,
     budget: u32,
+    window: Window,
+    mode: Mode,
     out: &mut W,
 ) -> Result<Outcome, RunFault>
     // A fault of 70 to 73 comes exactly where its device failed in this call, and the device's count then rises by one.
@@ -152,30 +166,41 @@ pub fn run_check<R1: CountedRead, R2: CountedRead, R3: CountedRead, W: CountedWr
 
     // With an outcome the ROM and the frame were read to their end or to one byte past their limit, whatever was known by
     // then. After a failed read no later device is touched, and by the counts none is called again.
-    ensures rom_read { OnOk result (IsReadTo MOST_IMAGE_READ (R1.remaining rom.old) (R1.remaining rom.new)) }
-    ensures frame_read { OnOk result (IsReadTo MOST_IMAGE_READ (R3.remaining frame.old) (R3.remaining frame.new)) }
+    ensures rom_read { OnOk result (IsReadTo MOST_ROM_READ (R1.remaining rom.old) (R1.remaining rom.new)) }
+    ensures frame_read { OnOk result (IsReadTo MOST_FRAME_READ (R3.remaining frame.old) (R3.remaining frame.new)) }
     ensures frame_unread { result ≡ Err RunFault.ReadRom → frame.new ≡ frame.old }
     ensures cert_unread { IfErr result (λ fault. fault ≢ RunFault.ReadCert → fault ≢ RunFault.Write → cert.new ≡ cert.old) }
     ensures nothing { IfErr result (λ fault. fault ≢ RunFault.Write → out.new ≡ out.old) }
 
     // What is written is the report of the verdict on all bytes that the readers held, or a prefix of it. The certificate was
     // read as far as the ROM, or so far that its own refusal was known.
-    ensures report { IfOk result (Reports (R1.remaining rom.old) (R2.remaining cert.old) (R2.remaining cert.new)
+    ensures report { IfOk result (Reports mode window (R1.remaining rom.old) (R2.remaining cert.old) (R2.remaining cert.new)
         (R3.remaining frame.old) budget (W.contents out.old) (W.contents out.new)) }
-    ensures prefix { result ≡ Err RunFault.Write → ReportsPrefix (R1.remaining rom.old) (R2.remaining cert.old)
+    ensures prefix { result ≡ Err RunFault.Write → ReportsPrefix mode window (R1.remaining rom.old) (R2.remaining cert.old)
         (R3.remaining frame.old) budget (W.contents out.old) (W.contents out.new) }
 
-    // What is accepted is safe, with the counts of the line that was written.
-    ensures safe { result ≡ Ok Outcome.Accepted → ReportsSafe (R1.remaining rom.old) (R3.remaining frame.old)
+    // What is accepted is safe, with the counts of the line that was written, and in the mode `Exact` these are the counts of
+    // each run.
+    ensures safe { result ≡ Ok Outcome.Accepted → ReportsSafe window (R1.remaining rom.old) (R2.remaining cert.old) (R3.remaining frame.old)
         (W.contents out.old) (W.contents out.new) }
+    ensures exact { mode ≡ Exact → result ≡ Ok Outcome.Accepted → ReportsCounts (R1.remaining rom.old) (R2.remaining cert.old)
+        (R3.remaining frame.old) (W.contents out.old) (W.contents out.new) }
 {
-    let Ok(rom) = read_image(rom) else {
+    let Ok(rom) = read_rom(rom) else {
         return Err(RunFault::ReadRom);
     };
-    let Ok(frame) = read_image(frame) else {
+    let Ok(frame) = read_frame(frame) else {
         return Err(RunFault::ReadFrame);
     };
-    let Ok(verdict) = read_verdict(alloc, rom.as_slice(), cert, frame.as_slice(), budget) else {
+    let Ok(verdict) = read_verdict(
+        alloc,
+        rom.as_slice(),
+        cert,
+        frame.as_slice(),
+        budget,
+        window,
+        mode,
+    ) else {
         return Err(RunFault::ReadCert);
     };
     write_report(&verdict, out)

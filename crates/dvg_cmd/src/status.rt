@@ -1,11 +1,13 @@
 //! Exit statuses, and what is said on standard error.
 
 ghost use Rattle.std.specs.Prelude.{◌≡◌, ◌++◌, codes};
-ghost use Rattle.dvg_cmd.specs.Status.{exit_status, fault_message, make_exit_status};
+ghost use Rattle.dvg_cmd.specs.Status.{exit_status, fault_message, make_exit_status, frames_exit_status, make_frames_exit_status};
 
+use crate::judging::FrameOutcome;
 use crate::making::MakeRunFault;
+use crate::making_frames::FramesRunFault;
 use crate::running::{Outcome, RunFault};
-use dvg_make::MakeFault;
+use dvg_make::{EntryFault, MakeFault};
 
 /// The exit status of a run: 0 accepted, 1 refused, 3 a failed read or write, 4 out of memory.
 pub fn status_of(end: &Result<Outcome, RunFault>) -> u8
@@ -49,5 +51,36 @@ pub fn make_status_of(end: &Result<(), MakeRunFault>) -> u8
         Err(MakeRunFault::Make(MakeFault::Memory)) => 4,
         Err(MakeRunFault::RomLength | MakeRunFault::Make(_)) => 1,
         Err(MakeRunFault::ReadRom | MakeRunFault::Write) => 3,
+    }
+}
+
+/// The exit status of a run over frames: 0 where all are accepted, else that of the worst, 1 refused, 4 out of memory, 3 a failed
+/// read or write.
+pub fn frames_status_of(end: &Result<FrameOutcome, RunFault>) -> u8
+    ensures { result ≡ frames_exit_status end.now }
+{
+    match end {
+        Ok(FrameOutcome::Accepted) => 0,
+        Ok(FrameOutcome::Refused) => 1,
+        Ok(FrameOutcome::NoMemory) | Err(RunFault::Memory) => 4,
+        Ok(FrameOutcome::Unread) | Err(_) => 3,
+    }
+}
+
+/// The exit status of a run of the maker for frames: 0 made, 1 refused, 3 a failed read or write, 4 out of memory.
+pub fn make_frames_status_of(end: &Result<(), FramesRunFault>) -> u8
+    ensures { result ≡ make_frames_exit_status end.now }
+{
+    match end {
+        Ok(()) => 0,
+        Err(FramesRunFault::Plain(fault)) => make_status_of(&Err(*fault)),
+        Err(
+            FramesRunFault::Call {
+                why: EntryFault::Memory,
+                ..
+            },
+        ) => 4,
+        Err(FramesRunFault::FrameLength { .. } | FramesRunFault::Call { .. }) => 1,
+        Err(FramesRunFault::ReadFrame) => 3,
     }
 }

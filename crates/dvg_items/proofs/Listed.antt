@@ -49,8 +49,8 @@ named_listed list (Some to) scale f e = named_by list to scale (entry_at list to
 
 pub listed_claim : (list : List Entry) (e : Entry) → IsSomeCertificate list → Contains list e → IsClaim e
 listed_claim list e c h =
-    let is : IsEntry c.0 c.1 e = at_place (IsEntry c.0 c.1) list e c.3.each h in
-    record { key = is.key; stop = is.stop; lit = is.lit; depth = is.depth; words = is.words_high; scale = is.scale; addr = omega (arith, is.addr_high, c.2) }
+    let is : IsEntry c.0.rom_first c.0.rom_last e = at_place (IsEntry c.0.rom_first c.0.rom_last) list e c.1.each h in
+    record { key = is.key; stop = is.stop; lit = is.lit; depth = is.depth; words = is.words_high; scale = is.scale; addr = omega (arith, is.addr_high, c.1.map_is.inside) }
 
 pub named_claim : (list : List Entry) (target : Option ℕ) (scale : Key) (o : Option Entry) → IsSomeCertificate list → o ≡ callee_at list target scale → IfSome o IsClaim
 named_claim list target scale None c e = tt

@@ -7,6 +7,7 @@ use Rattle.dvg_words.specs.declared.beam.Point.{Point}
 use Rattle.dvg_words.specs.Beam.{IsWithin}
 use Rattle.dvg_cert.specs.Entry.{IsKey, IsEnd, IsBox}
 use Rattle.dvg_cert.specs.Order.{IsCertificate}
+use Rattle.dvg_words.specs.Values.{MemoryMap}
 use Rattle.dvg_cert.specs.declared.entry.End.{End}
 use Rattle.dvg_cert.specs.declared.entry.End.TheVariants.{Rel, Abs, Lost}
 use Rattle.dvg_cert.specs.declared.entry.Entry.{Entry}
@@ -30,7 +31,7 @@ pub record IsClaim (e : Entry) : Type 0 where
 
 -- the list is a certificate's, for some ROM
 abbrev pub IsSomeCertificate : List Entry → Type 0
-IsSomeCertificate list = (first : ℕ) × (last : ℕ) × (last < ADDRESS_END) × IsCertificate first last list
+IsSomeCertificate list = (map : MemoryMap) × IsCertificate map list
 
 -- ---- places
 

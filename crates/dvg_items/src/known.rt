@@ -94,9 +94,9 @@ pub fn place_past(effect: &Effect, place: &End, at: u16) -> End
     }
 }
 
-/// The scale past an instruction.
+/// The scale past an instruction, with the entry that it calls.
 #[inline(always)]
-fn scale_past(instr: &Instr, scale: Key, callee: &Option<Entry>) -> Key
+pub fn scale_past(instr: &Instr, scale: Key, callee: &Option<Entry>) -> Key
     requires scale { IsKey scale }
     requires instr { InstrFits instr.now }
     requires callee { IfSome callee.now IsClaim }

@@ -1,7 +1,7 @@
 //! What an item lights, and the tests of where that may be.
 
 ghost use Rattle.std.specs.Prelude.{◌≡◌, ◌↔◌, [], ◌∷◌, IsTrue, IfSome, IfNone};
-ghost use Rattle.dvg_words.specs.Beam.{screen, InWindow};
+ghost use Rattle.dvg_words.specs.Beam.{InWindow};
 ghost use Rattle.dvg_words.specs.declared.map.TheConstants.{ADDRESS_END};
 ghost use Rattle.dvg_cert.specs.Entry.{IsKey, IsBox};
 ghost use Rattle.dvg_items.specs.Lit.{draw_extent, box_extent, callee_extent, extent_of, corners, absolute_corners, relative_corners, PlaceKnown, ScaleKnown, LitInWindow, LitInBox};
@@ -9,7 +9,7 @@ ghost use Rattle.dvg_items.specs.Bounds.{IsNearPlace, IsNear, IsNearExtent, IsCl
 
 use crate::boxes::is_in_box;
 use dvg_cert::{End, Entry, Key, LitBox};
-use dvg_words::{Draw, Instr, Point, draw_move, on_screen, shift};
+use dvg_words::{Draw, Instr, Point, Window, draw_move, in_window, shift};
 
 /// What an item lights, seen from the place before it.
 #[derive(Clone, Copy, Debug, PartialEq, Eq)]
@@ -137,21 +137,21 @@ pub fn relative_corners(extent: &LitExtent, place: &End) -> Option<(Point, Point
     }
 }
 
-fn is_on_screen(p: &Point) -> bool
-    ensures { IsTrue result ↔ InWindow screen p.now }
+fn is_in_window(window: &Window, p: &Point) -> bool
+    ensures { IsTrue result ↔ InWindow window.now p.now }
 {
-    on_screen(p.x, p.y)
+    in_window(window, p.x, p.y)
 }
 
-/// Whether what is lit at an absolute place is on the screen, both corners of it.
+/// Whether what is lit at an absolute place is in the window, both corners of it.
 #[inline(always)]
-pub fn lit_on_screen(extent: &LitExtent, place: &End) -> bool
+pub fn lit_in_window(window: &Window, extent: &LitExtent, place: &End) -> bool
     requires place { IsNearPlace ADDRESS_END place.now }
     requires extent { IsNearExtent extent.now }
-    ensures { IsTrue result ↔ LitInWindow screen extent.now place.now }
+    ensures { IsTrue result ↔ LitInWindow window.now extent.now place.now }
 {
     match absolute_corners(extent, place) {
-        Some((from, to)) => is_on_screen(&from) && is_on_screen(&to),
+        Some((from, to)) => is_in_window(window, &from) && is_in_window(window, &to),
         None => true,
     }
 }

@@ -15,14 +15,13 @@ use Rattle.dvg_items.specs.declared.item.Kind.TheVariants.{Shape}
 use Rattle.dvg_items.specs.declared.known.Known.{Known}
 use Rattle.dvg_cert.specs.declared.limits.TheConstants.{MOST_WORDS}
 use Rattle.dvg_make.specs.declared.walk.Walk.{Walk}
-use Rattle.dvg_make.specs.Made.{MadeEntry, Made}
-use Rattle.dvg_make.specs.Refusals.{NoneMade}
+use Rattle.dvg_make.specs.Made.{MadeEntry}
 use Rattle.dvg_make.specs.Private.Walking.{keyed_context, start, IsWalk, Extends, NeverAt, IsFinished, IsWaiting}
-use Rattle.dvg_make.specs.Private.Making.{IsMaking, AllWalks, Chain, Apart, IsUnique, IsPresent, IsCalled, Making}
+use Rattle.dvg_make.specs.Private.Making.{IsMaking, AllWalks, Chain, Apart, IsUnique, IsPresent, IsCalled, IsGiven, IsAim, NoAim, Making}
 use Rattle.dvg_items.proofs.Listed.{listed_at}
 use Rattle.dvg_make.proofs.Matching.{entry_at-append}
-use Rattle.dvg_make.proofs.Ends.{callee_less}
-use Rattle.dvg_make.proofs.Onward.{listed_entry}
+use Rattle.dvg_make.proofs.Ends.{callee_less, made_some}
+use Rattle.dvg_make.proofs.Merging.{extends_more, listed_append}
 use Rattle.dvg_make.proofs.Growing.{scale_grows, fine_grows, walk_grows, made_grows, same_made}
 
 -- ---- chains of needs
@@ -62,12 +61,12 @@ chain_has made most n (v ∷ stack) addr key g (inr later) h e = chain_has made 
 
 -- ---- no list
 
-module _ (rom : Rom) (roots : List (ℕ × Key)) (done : List Entry) (stack : List Walk) (walk : Walk) (h : Making rom roots done (stack ++ walk ∷ [])) where
-  pub none_here : NeverAt rom done walk.addr walk.key → NoneMade rom roots
+module _ (rom : Rom) (from : List Entry) (root : ℕ × Key) (done : List Entry) (stack : List Walk) (walk : Walk) (h : Making rom from root done (stack ++ walk ∷ [])) where
+  pub none_here : NeverAt rom done walk.addr walk.key → NoAim rom from root
   none_here none made m =
       let f = h.forced made m in
       let p = chain_pop made (MOST_WORDS + 1) 0 stack walk f.1 in
-      none roots made m f.0 (p.f, p.found_it)
+      none made m.all f.0 (p.f, p.found_it)
 
   -- the entry that the walk calls for has fewer words, and more than none
   record Callee (made : List Entry) (addr : ℕ) (key : Key) (most : ℕ) : Type 0 where
@@ -80,10 +79,10 @@ module _ (rom : Rom) (roots : List (ℕ × Key)) (done : List Entry) (stack : Li
     abbrev at_key : Key
     at_key = new.cursor.known.scale
 
-    callee : (made : List Entry) → (m : Made rom roots made) → (p : Popped made (MOST_WORDS + 1) stack walk 0) → Extends done made → Callee made addr at_key p.f.words
+    callee : (made : List Entry) → (m : IsAim rom from root made) → (p : Popped made (MOST_WORDS + 1) stack walk 0) → Extends done made → Callee made addr at_key p.f.words
     callee made m p ext =
         let l = listed_at made walk.addr walk.key p.f p.found_it in
-        let is = m.each p.f l.listed in
+        let is = (m.all p.f l.listed).made in
         let addr_is : new.addr ≡ p.f.addr = w.same_addr ∙ sym l.addr_is in
         let key_is : new.key ≡ p.f.key = w.same_key ∙ sym l.key_is in
         let i : Item = w.item in
@@ -94,11 +93,11 @@ module _ (rom : Rom) (roots : List (ℕ × Key)) (done : List Entry) (stack : Li
         in
         let there : entry_at made addr at_key ≡ Some g.0 = subst (λ (x : Key). entry_at made addr x ≡ Some g.0) scale g.1 in
         let gl = listed_at made addr at_key g.0 there in
-        let some = (listed_entry rom.map.rom_first rom.map.rom_last made g.0 m.certificate.each gl.listed).words_low in
+        let some = made_some rom made g.0 (m.all g.0 gl.listed).made in
         record { g = g.0; there = there; some = omega (arith, some); less = callee_less rom made p.f is w.walk.items i lead w.stands addr g.0 w.target_is g.1 }
 
     -- it is being made already
-    pub none_deep : IsMaking (stack ++ new ∷ []) addr at_key → NoneMade rom roots
+    pub none_deep : IsMaking (stack ++ new ∷ []) addr at_key → NoAim rom from root
     none_deep making made m =
         let f = h.forced made m in
         let p = chain_pop made (MOST_WORDS + 1) 0 stack walk f.1 in
@@ -108,7 +107,7 @@ module _ (rom : Rom) (roots : List (ℕ × Key)) (done : List Entry) (stack : Li
         let lt = chain_has made (MOST_WORDS + 1) c.g.words (stack ++ new ∷ []) addr at_key c.g making ch c.there in
         omega (arith, lt)
 
-    pub forced_begun : (made : List Entry) → Made rom roots made → Extends done made × Chain made (MOST_WORDS + 1) ((stack ++ new ∷ []) ++ start addr at_key ∷ []) 0
+    pub forced_begun : (made : List Entry) → IsAim rom from root made → Extends done made × Chain made (MOST_WORDS + 1) ((stack ++ new ∷ []) ++ start addr at_key ∷ []) 0
     forced_begun made m =
         let f = h.forced made m in
         let p = chain_pop made (MOST_WORDS + 1) 0 stack walk f.1 in
@@ -195,8 +194,9 @@ walks_grow rom a b (v ∷ stack) ext h = (walk_grows rom a b v ext h.0, walks_gr
 
 -- ---- one entry more
 
-pub extends_more : (done more : List Entry) → Extends done (done ++ more)
-extends_more done more addr key f e = entry_at-append done more addr key ∙ ap (λ o. option_or o (entry_at more addr key)) e
+only_listed : (e x : Entry) → Contains (e ∷ []) x → e ≡ x
+only_listed e x (zero, lt, is) = is
+only_listed e x (suc k, lt, is) = absurd (omega (arith, lt))
 
 -- an entry that is found in no other
 find_one : (e : Entry) (addr : ℕ) (key : Key) → ((e.addr ≡ addr) × (e.key ≡ key) → ⊥) → entry_at (e ∷ []) addr key ≡ None
@@ -224,15 +224,9 @@ unique_more (x ∷ done) e u none = by_test (is_at e.addr e.key x) refl none (λ
     by_test true q n more = cc n
     by_test false q n more = (entry_at-append done (e ∷ []) x.addr x.key ∙ ap (λ o. option_or o (entry_at (e ∷ []) x.addr x.key)) u.0 ∙ find_one e x.addr x.key (not_same q), more n)
 
-listed_more : (done : List Entry) (e x : Entry) → Contains (done ++ e ∷ []) x → Contains done x ⊎ (e ≡ x)
-listed_more [] e x (zero, lt, is) = inr is
-listed_more [] e x (suc k, lt, is) = absurd (omega (arith, lt))
-listed_more (y ∷ done) e x (zero, lt, is) = inl (zero, omega arith, is)
-listed_more (y ∷ done) e x (suc k, lt, is) = ⊎_elim (λ c. inl (suc c.0, omega (arith, c.1), c.2)) (λ q. inr q) (listed_more done e x (k, omega (arith, lt), is))
-
 -- ---- who needs what
 
-called_grows : (rom : Rom) (a b : List Entry) (old new : List Walk) → Extends a b → ((addr : ℕ) (key : Key) → IsPresent a old addr key → IsPresent b new addr key) → (addr : ℕ) (key : Key) → IsCalled rom a old addr key → IsCalled rom b new addr key
+pub called_grows : (rom : Rom) (a b : List Entry) (old new : List Walk) → Extends a b → ((addr : ℕ) (key : Key) → IsPresent a old addr key → IsPresent b new addr key) → (addr : ℕ) (key : Key) → IsCalled rom a old addr key → IsCalled rom b new addr key
 called_grows rom a b old new ext present addr key c =
     record {
       from = c.from;
@@ -247,13 +241,13 @@ called_grows rom a b old new ext present addr key c =
       key_is = sym (scale_grows a b c.from_key ext c.earlier c.fine) ∙ c.key_is;
     }
 
-abbrev pub IsNeeded : Rom → List (ℕ × Key) → List Entry → List Walk → ℕ → Key → Type 0
-IsNeeded rom roots done stack addr key = Contains roots (addr, key) ⊎ IsCalled rom done stack addr key
+abbrev pub IsNeeded : Rom → List Entry → ℕ × Key → List Entry → List Walk → ℕ → Key → Type 0
+IsNeeded rom from root done stack addr key = IsGiven from root addr key ⊎ IsCalled rom done stack addr key
 
-pub needed_grows : (rom : Rom) (roots : List (ℕ × Key)) (a b : List Entry) (old new : List Walk) → Extends a b → ((addr : ℕ) (key : Key) → IsPresent a old addr key → IsPresent b new addr key) → (addr : ℕ) (key : Key) → IsNeeded rom roots a old addr key → IsNeeded rom roots b new addr key
-needed_grows rom roots a b old new ext present addr key n = ⊎_elim (λ r. inl r) (λ c. inr (called_grows rom a b old new ext present addr key c)) n
+pub needed_grows : (rom : Rom) (from : List Entry) (root : ℕ × Key) (a b : List Entry) (old new : List Walk) → Extends a b → ((addr : ℕ) (key : Key) → IsPresent a old addr key → IsPresent b new addr key) → (addr : ℕ) (key : Key) → IsNeeded rom from root a old addr key → IsNeeded rom from root b new addr key
+needed_grows rom from root a b old new ext present addr key n = ⊎_elim (λ r. inl r) (λ c. inr (called_grows rom a b old new ext present addr key c)) n
 
-module _ (rom : Rom) (roots : List (ℕ × Key)) (done : List Entry) (stack : List Walk) (walk : Walk) (h : Making rom roots done (stack ++ walk ∷ [])) where
+module _ (rom : Rom) (from : List Entry) (root : ℕ × Key) (done : List Entry) (stack : List Walk) (walk : Walk) (h : Making rom from root done (stack ++ walk ∷ [])) where
   long : length (stack ++ walk ∷ []) ≡ length stack + 1
   long = length-append stack (walk ∷ [])
 
@@ -261,12 +255,12 @@ module _ (rom : Rom) (roots : List (ℕ × Key)) (done : List Entry) (stack : Li
     pub finished_new : entry_at done e.addr e.key ≡ None
     finished_new = subst (λ a. entry_at done a e.key ≡ None) (sym f.addr) (subst (λ k. entry_at done walk.addr k ≡ None) (sym f.key) (apart_pop done stack walk h.apart).none)
 
-    found_more : (made : List Entry) → Made rom roots made → Extends (done ++ e ∷ []) made
+    found_more : (made : List Entry) → IsAim rom from root made → Extends (done ++ e ∷ []) made
     found_more made m addr key g q =
         let ext = (h.forced made m).0 in
         let p = chain_pop made (MOST_WORDS + 1) 0 stack walk (h.forced made m).1 in
         let pl = listed_at made walk.addr walk.key p.f p.found_it in
-        let same : e ≡ p.f = same_made rom done made e p.f ext f.made (m.each p.f pl.listed) (f.addr ∙ sym pl.addr_is) (f.key ∙ sym pl.key_is) in
+        let same : e ≡ p.f = same_made rom done made e p.f ext f.made (m.all p.f pl.listed).made (f.addr ∙ sym pl.addr_is) (f.key ∙ sym pl.key_is) in
         by_found (entry_at done addr key) refl ext p.found_it same pl.addr_is pl.key_is
       where
         by_found : (o : Option Entry) → entry_at done addr key ≡ o → Extends done made → {x : Entry} → entry_at made walk.addr walk.key ≡ Some x → e ≡ x → x.addr ≡ walk.addr → x.key ≡ walk.key → entry_at made addr key ≡ Some g
@@ -314,18 +308,22 @@ module _ (rom : Rom) (roots : List (ℕ × Key)) (done : List Entry) (stack : Li
             only g (zero, lt, is) = is
             only g (suc k, lt, is) = absurd (omega (arith, lt))
 
-    pub making_finished : Making rom roots (done ++ e ∷ []) stack
+    pub making_finished : Making rom from root (done ++ e ∷ []) stack
     making_finished =
         let ext = extends_more done (e ∷ []) in
         let pop = apart_pop done stack walk h.apart in
         let len : length (done ++ e ∷ []) ≡ length done + 1 = length-append done (e ∷ []) in
         record {
-          entries = λ x c. ⊎_elim (λ c. h.entries x c) (λ q. subst (IsEntry rom.map.rom_first rom.map.rom_last) q f.entry) (listed_more done e x c);
-          made = λ x c. ⊎_elim (λ c. made_grows rom done (done ++ e ∷ []) x ext (h.made x c)) (λ q. subst (MadeEntry rom (done ++ e ∷ [])) q (made_grows rom done (done ++ e ∷ []) e ext f.made)) (listed_more done e x c);
+          is_done = record {
+            entries = λ x c. ⊎_elim (λ c. h.is_done.entries x c) (λ c. subst (IsEntry rom.map.rom_first rom.map.rom_last) (only_listed e x c) f.entry) (listed_append done (e ∷ []) x c);
+            made = λ x c. ⊎_elim (λ c. made_grows rom done (done ++ e ∷ []) x ext (h.is_done.made x c)) (λ c. subst (MadeEntry rom (done ++ e ∷ [])) (only_listed e x c) (made_grows rom done (done ++ e ∷ []) e ext f.made)) (listed_append done (e ∷ []) x c);
+            unique = unique_more done e h.is_done.unique finished_new;
+            room = omega (arith, h.room, long, len);
+          };
+          extends = λ a k x q. ext a k x (h.extends a k x q);
           walks = walks_grow rom done (done ++ e ∷ []) stack ext (walks_pop rom done stack (walk ∷ []) h.walks);
           apart = apart_more done stack e pop.rest (λ m. pop.other (subst (λ a. IsMaking stack a walk.key) f.addr (subst (λ k. IsMaking stack e.addr k) f.key m)));
-          unique = unique_more done e h.unique finished_new;
-          needed = λ addr key p. needed_grows rom roots done (done ++ e ∷ []) (stack ++ walk ∷ []) stack ext present_finished addr key (h.needed addr key (was_present addr key p));
+          needed = λ addr key p. needed_grows rom from root done (done ++ e ∷ []) (stack ++ walk ∷ []) stack ext present_finished addr key (h.needed addr key (was_present addr key p));
           room = omega (arith, h.room, long, len);
           forced = λ made m. let p = chain_pop made (MOST_WORDS + 1) 0 stack walk (h.forced made m).1 in (found_more made m, chain_less made (MOST_WORDS + 1) p.f.words 0 stack (omega arith) p.chain);
         }

@@ -30,6 +30,7 @@ use Rattle.dvg_items.proofs.Near.{word_count-some}
 use Rattle.dvg_make.specs.Least.{lit_points, HoldsAll, IsLeast}
 use Rattle.dvg_make.specs.Made.{HasEntry, EachItem, AtEnd, MadeKeeps, MadeEntry}
 use Rattle.dvg_make.specs.Private.Walking.{keyed_context, IsStraight, IsFine, AllFine}
+pub use Rattle.dvg_make.specs.Private.Covering.{known_of}
 use Rattle.dvg_make.proofs.Boxes.{one_least}
 use Rattle.dvg_make.proofs.Matching.{Gathered, gathered, Matched, gathered_same, exact_named}
 
@@ -65,15 +66,12 @@ callee_less rom list e made earlier i lead is to g t h =
 
 -- ---- at the end
 
-abbrev pub known_of : Entry → Known
-known_of e = record { place = e.stop; scale = e.scale; words = e.words; depth = e.depth }
-
 -- what a made entry says at the end of its items
 pub record Sums (list : List Entry) (items : List Item) (e : Entry) : Type 0 where
   pub known : known_before (shape_context list e) items ≡ known_of e
   pub box : IsLeast (lit_points (shape_context list e) items) e.lit
 
-at_last : (o : Option ℕ) (P : Type 0) → o ≡ None → AtLast o P → P
+pub at_last : (o : Option ℕ) (P : Type 0) → o ≡ None → AtLast o P → P
 at_last None P e h = h
 at_last (Some p) P e h = cc
 
@@ -165,9 +163,16 @@ made_ends rom list e made =
       fine = (all_fine rom list e made s.items s.i.at s.leads, fine_at rom list e made s.items s.i s.leads s.is);
     }
 
+-- a made entry has words
+pub made_some : (rom : Rom) (list : List Entry) (e : Entry) → MadeEntry rom list e → 1 ≤ e.words
+made_some rom list e made =
+    let h = made_ends rom list e made in
+    let words : words_before (shape_context list e) (h.i ∷ h.items) ≡ e.words = ap (λ (k : Known). k.words) h.sums.known in
+    omega (arith, words, word_count-some h.i.format)
+
 -- ---- and the other way round
 
-has_callee : (list : List Entry) (o : Option ℕ) (scale : Key) → ((to : ℕ) → o ≡ Some to → HasEntry list to scale) → HasCallee o (callee_at list o scale)
+pub has_callee : (list : List Entry) (o : Option ℕ) (scale : Key) → ((to : ℕ) → o ≡ Some to → HasEntry list to scale) → HasCallee o (callee_at list o scale)
 has_callee list None scale h = tt
 has_callee list (Some to) scale h = let f = h to refl in subst (λ x. HasCallee (Some to) x) (sym (exact_named list to scale f.0 f.1)) tt
 

@@ -130,7 +130,7 @@ example_made = record { certificate = example_good.certificate; each = each; roo
 none_made : Made example_rom [] []
 none_made =
     record {
-      certificate = record { each = tt; rising = tt; few = omega arith };
+      certificate = record { map_is = record { past_frames = omega arith; ordered = omega arith; inside = omega arith }; each = tt; rising = tt; few = omega arith };
       each = λ e c. absurd (omega (arith, c.1));
       rooted = λ addr key c. absurd (omega (arith, c.1));
       needed = λ f c. absurd (omega (arith, c.1));

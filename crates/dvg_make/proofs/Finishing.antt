@@ -1,33 +1,28 @@
 -- The list that is made, in the order of a certificate.
-use Rattle.std.proofs.Common.{◌≡◌, ℕ, List, [], length, Option, Some, None, refl, sym, ap, ◌∙◌, subst, arith, inl, inr, ⊎_elim}
-use Rattle.std.specs.Prelude.{Contains, IfSome, IfNone}
+use Rattle.std.proofs.Common.{◌≡◌, ℕ, List, [], length, Some, sym, ap, ◌∙◌, subst, arith, inl, inr, ⊎_elim}
+use Rattle.std.specs.Prelude.{Contains}
+use Rattle.dvg_words.specs.Values.{IsMap}
 use Rattle.dvg_words.specs.Memory.{Rom, rom_word}
 use Rattle.dvg_cert.specs.Entry.{IsEntry}
 use Rattle.dvg_cert.specs.Order.{IsRising, IsCertificate}
-use Rattle.dvg_cert.specs.Lookup.{entry_at, IsOnlyAt, HasNoneAt}
+use Rattle.dvg_cert.specs.Lookup.{entry_at}
 use Rattle.dvg_cert.specs.declared.entry.Entry.{Entry}
 use Rattle.dvg_cert.specs.declared.entry.Key.{Key}
-use Rattle.dvg_cert.proofs.OnlyEntries.{found}
 use Rattle.dvg_items.specs.Items.{LeadsTo}
 use Rattle.dvg_items.specs.Known.{shape_context, callee_at, scale_before}
 use Rattle.dvg_items.specs.declared.item.Kind.TheVariants.{Shape}
 use Rattle.dvg_make.specs.Made.{HasEntry, Needs, Made}
+use Rattle.dvg_make.specs.Frames.{IsAskedFor, FramesMade}
 use Rattle.dvg_make.specs.Private.Walking.{keyed_context, Extends}
-use Rattle.dvg_make.specs.Private.Making.{IsPresent, IsCalled, Making}
+use Rattle.dvg_make.specs.Private.Making.{IsPresent, IsCalled}
+use Rattle.dvg_make.specs.Private.Framing.{AllFramed}
 use Rattle.dvg_items.proofs.Listed.{listed_at}
 use Rattle.dvg_items.proofs.Lists.{all_listed}
-use Rattle.dvg_make.proofs.Matching.{exact_named}
+use Rattle.dvg_make.proofs.Matching.{exact_named, found_listed}
 use Rattle.dvg_make.proofs.Growing.{scale_grows, made_grows}
+use Rattle.dvg_make.proofs.Framing.{calls_grow, calls_shrink}
 
--- in a rising list each entry is found
-pub found_listed : (list : List Entry) (e : Entry) → IsRising list → Contains list e → entry_at list e.addr e.key ≡ Some e
-found_listed list e rises c = by_found (entry_at list e.addr e.key) refl (found list e.addr e.key rises)
-  where
-    by_found : (o : Option Entry) → entry_at list e.addr e.key ≡ o → IfSome o (IsOnlyAt list e.addr e.key) × IfNone o (HasNoneAt list e.addr e.key) → o ≡ Some e
-    by_found (Some g) q h = ap Some (sym (h.0.3 e c refl refl))
-    by_found None q h = absurd (h.1 e c refl refl)
-
-module _ (rom : Rom) (roots : List (ℕ × Key)) (done list : List Entry) (h : Making rom roots done []) (rises : IsRising list) (same : (addr : ℕ) (key : Key) → entry_at list addr key ≡ entry_at done addr key) (long : length list ≡ length done) where
+module _ (rom : Rom) (roots : List (ℕ × Key)) (frames : List (List ℕ)) (done list : List Entry) (h : AllFramed rom roots frames done) (rises : IsRising list) (same : (addr : ℕ) (key : Key) → entry_at list addr key ≡ entry_at done addr key) (long : length list ≡ length done) where
   ext : Extends done list
   ext addr key e q = same addr key ∙ q
 
@@ -37,8 +32,8 @@ module _ (rom : Rom) (roots : List (ℕ × Key)) (done list : List Entry) (h : M
   done_listed : (e : Entry) → Contains list e → Contains done e
   done_listed e c = (listed_at done e.addr e.key e (was_done e c)).listed
 
-  pub is_certificate : IsCertificate rom.map.rom_first rom.map.rom_last list
-  is_certificate = record { each = all_listed (IsEntry rom.map.rom_first rom.map.rom_last) list (λ e c. h.entries e (done_listed e c)); rising = rises; few = omega (arith, h.room, long) }
+  pub is_certificate : IsMap rom.map → IsCertificate rom.map list
+  is_certificate is = record { map_is = is; each = all_listed (IsEntry rom.map.rom_first rom.map.rom_last) list (λ e c. h.collected.is_done.entries e (done_listed e c)); rising = rises; few = omega (arith, h.collected.is_done.room, long) }
 
   needs_it : (f : Entry) → Contains list f → IsCalled rom done [] f.addr f.key → (e : Entry) × Contains list e × Needs rom list e f
   needs_it f listed_f c = by_present c.present
@@ -60,11 +55,34 @@ module _ (rom : Rom) (roots : List (ℕ × Key)) (done list : List Entry) (h : M
             },
           )
 
-  pub is_made : ((addr : ℕ) (key : Key) → Contains roots (addr, key) → HasEntry done addr key) → Made rom roots list
-  is_made rooted =
+  asked_has : (addr : ℕ) (key : Key) → IsAskedFor roots frames list addr key → HasEntry list addr key
+  asked_has addr key (inl r) = let x = h.rooted addr key r in (x.0, ext addr key x.0 x.1)
+  asked_has addr key (inr c) = let x = h.has_calls c.0 c.1 addr key (calls_shrink c.0 done list ext (h.has_calls c.0 c.1) addr key c.2) in (x.0, ext addr key x.0 x.1)
+
+  asked_grows : (addr : ℕ) (key : Key) → IsAskedFor roots frames done addr key → IsAskedFor roots frames list addr key
+  asked_grows addr key (inl r) = inl r
+  asked_grows addr key (inr c) = inr (c.0, c.1, calls_grow c.0 done list ext (h.has_calls c.0 c.1) addr key c.2)
+
+  pub is_made : IsMap rom.map → FramesMade rom roots frames list
+  is_made is =
       record {
-        certificate = is_certificate;
-        each = λ e c. made_grows rom done list e ext (h.made e (done_listed e c));
-        rooted = λ addr key r. let x = rooted addr key r in (x.0, ext addr key x.0 x.1);
-        needed = λ f c. ⊎_elim (λ r. inl r) (λ n. inr (needs_it f c n)) (h.needed f.addr f.key (inl (f, was_done f c)));
+        certificate = is_certificate is;
+        each = λ e c. made_grows rom done list e ext (h.collected.is_done.made e (done_listed e c));
+        rooted = asked_has;
+        needed = λ f c. ⊎_elim (λ r. inl (asked_grows f.addr f.key (h.asked_for f.addr f.key r))) (λ n. inr (needs_it f c n)) (h.collected.needed f.addr f.key (f, was_done f c));
       }
+
+-- where no frame is asked for, the list is that of the roots
+pub made_roots : (rom : Rom) (roots : List (ℕ × Key)) (list : List Entry) → FramesMade rom roots [] list → Made rom roots list
+made_roots rom roots list m = record { certificate = m.certificate; each = m.each; rooted = λ addr key r. m.rooted addr key (inl r); needed = λ f c. ⊎_elim (λ a. inl (root_of f.addr f.key a)) (λ n. inr n) (m.needed f c) }
+  where
+    root_of : (addr : ℕ) (key : Key) → IsAskedFor roots [] list addr key → Contains roots (addr, key)
+    root_of addr key (inl r) = r
+    root_of addr key (inr c) = absurd (omega (arith, c.1.1))
+
+pub roots_made : (rom : Rom) (roots : List (ℕ × Key)) (list : List Entry) → Made rom roots list → FramesMade rom roots [] list
+roots_made rom roots list m = record { certificate = m.certificate; each = m.each; rooted = has; needed = λ f c. ⊎_elim (λ r. inl (inl r)) (λ n. inr n) (m.needed f c) }
+  where
+    has : (addr : ℕ) (key : Key) → IsAskedFor roots [] list addr key → HasEntry list addr key
+    has addr key (inl r) = m.rooted addr key r
+    has addr key (inr c) = absurd (omega (arith, c.1.1))

@@ -44,7 +44,7 @@ module _ (a b : List Entry) (key : Key) (ext : Extends a b) where
 
 pub walk_grows : (rom : Rom) (a b : List Entry) (w : Walk) → Extends a b → IsWalk rom a w → IsWalk rom b w
 walk_grows rom a b w ext h =
-    record { items = h.items; leads = h.leads; knows = knows_grows a b w.key ext h.items w.cursor.known w.lit h.knows; sound = h.sound }
+    record { items = h.items; leads = h.leads; knows = knows_grows a b w.key ext h.items w.cursor.known w.lit h.knows; sound = h.sound; shallow = h.shallow; keyed = h.keyed }
 
 pub made_grows : (rom : Rom) (a b : List Entry) (e : Entry) → Extends a b → MadeEntry rom a e → MadeEntry rom b e
 made_grows rom a b e ext made =

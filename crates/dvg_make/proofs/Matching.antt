@@ -1,9 +1,11 @@
 -- Two lists that have the same entries for what items call know the same after them.
 use Rattle.std.proofs.Common.{◌≡◌, ℕ, List, [], ◌∷◌, ◌++◌, Option, Some, None, refl, sym, ap, ◌∙◌}
-use Rattle.std.specs.Prelude.{Bool, true, false, if◌then◌else◌}
+use Rattle.std.specs.Prelude.{Bool, true, false, if◌then◌else◌, Contains, IfSome, IfNone}
 use Rattle.dvg_words.specs.declared.beam.Point.{Point}
 use Rattle.std.specs.Option.{option_or}
-use Rattle.dvg_cert.specs.Lookup.{is_at, entry_at, named_entry}
+use Rattle.dvg_cert.specs.Lookup.{is_at, entry_at, named_entry, IsOnlyAt, HasNoneAt}
+use Rattle.dvg_cert.specs.Order.{IsRising}
+use Rattle.dvg_cert.proofs.OnlyEntries.{found}
 use Rattle.dvg_cert.specs.declared.entry.Entry.{Entry}
 use Rattle.dvg_cert.specs.declared.entry.Key.{Key}
 use Rattle.dvg_cert.specs.declared.entry.Key.TheVariants.{Any}
@@ -73,3 +75,13 @@ entry_at-append (x ∷ l) m addr key = by_test (is_at addr key x) (entry_at-appe
     by_test : (t : Bool) → entry_at (l ++ m) addr key ≡ option_or (entry_at l addr key) (entry_at m addr key) → (if t then Some x else entry_at (l ++ m) addr key) ≡ option_or (if t then Some x else entry_at l addr key) (entry_at m addr key)
     by_test true e = refl
     by_test false e = e
+
+-- ---- rising lists
+
+-- in a rising list each entry is found
+pub found_listed : (list : List Entry) (e : Entry) → IsRising list → Contains list e → entry_at list e.addr e.key ≡ Some e
+found_listed list e rises c = by_found (entry_at list e.addr e.key) refl (found list e.addr e.key rises)
+  where
+    by_found : (o : Option Entry) → entry_at list e.addr e.key ≡ o → IfSome o (IsOnlyAt list e.addr e.key) × IfNone o (HasNoneAt list e.addr e.key) → o ≡ Some e
+    by_found (Some g) q h = ap Some (sym (h.0.3 e c refl refl))
+    by_found None q h = absurd (h.1 e c refl refl)

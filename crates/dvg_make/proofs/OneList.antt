@@ -11,13 +11,12 @@ use Rattle.dvg_cert.specs.declared.limits.TheConstants.{MOST_WORDS}
 use Rattle.dvg_items.specs.Known.{shape_context, target, callee_at, scale_before}
 use Rattle.dvg_items.specs.declared.item.Kind.TheVariants.{Shape}
 use Rattle.dvg_make.specs.Laws.{OneMade}
-use Rattle.dvg_make.specs.Made.{HasEntry, Needs, Made}
+use Rattle.dvg_make.specs.Made.{HasEntry, Needs, MadeFor}
 use Rattle.dvg_items.proofs.Listed.{listed_at}
-use Rattle.dvg_make.proofs.Matching.{Gathered, gathered_same, exact_named}
+use Rattle.dvg_make.proofs.Matching.{Gathered, gathered_same, exact_named, found_listed}
 use Rattle.dvg_make.proofs.Ends.{callee_less}
 use Rattle.dvg_make.proofs.Agreeing.{agree, matched_made}
 use Rattle.dvg_make.proofs.Onward.{listed_entry}
-use Rattle.dvg_make.proofs.Finishing.{found_listed}
 
 -- ---- rising lists with the same entries are one
 
@@ -44,13 +43,13 @@ same_rising (x ∷ a) (y ∷ b) rises rises' h k =
 
 -- ---- each entry of the one list is in the other
 
-target_of : (list : List Entry) (o : Option ℕ) (scale : Key) (f : Entry) → callee_at list o scale ≡ Some f → ((to : ℕ) → o ≡ Some to → HasEntry list to scale) → (to : ℕ) × (o ≡ Some to) × (entry_at list to scale ≡ Some f)
+pub target_of : (list : List Entry) (o : Option ℕ) (scale : Key) (f : Entry) → callee_at list o scale ≡ Some f → ((to : ℕ) → o ≡ Some to → HasEntry list to scale) → (to : ℕ) × (o ≡ Some to) × (entry_at list to scale ≡ Some f)
 target_of list None scale f e h = cc
 target_of list (Some to) scale f e h =
     let g = h to refl in
     (to, refl, g.1 ∙ sym (exact_named list to scale g.0 g.1) ∙ e)
 
-module _ (rom : Rom) (roots : List (ℕ × Key)) (a b : List Entry) (made_a : Made rom roots a) (made_b : Made rom roots b) where
+module _ (rom : Rom) (P Q : ℕ → Key → Type 0) (a b : List Entry) (made_a : MadeFor rom P a) (made_b : MadeFor rom Q b) (asked : (addr : ℕ) (key : Key) → P addr key → HasEntry b addr key) where
   needs_less : (e f : Entry) → Contains a e → Needs rom a e f → f.words < e.words
   needs_less e f in_a n =
       let made = made_a.each e in_a in
@@ -80,7 +79,7 @@ module _ (rom : Rom) (roots : List (ℕ × Key)) (a b : List Entry) (made_a : Ma
       let is = listed_entry rom.map.rom_first rom.map.rom_last a f made_a.certificate.each in_a in
       absurd (omega (arith, is.words_high, le))
   there_up_to (suc n) f in_a le =
-      ⊎_elim (λ root. in_both f in_a (made_b.rooted f.addr f.key root))
+      ⊎_elim (λ root. in_both f in_a (asked f.addr f.key root))
       (λ c.
       let less = needs_less c.0 f c.1 c.2 in
       let in_b = there_up_to n c.0 c.1 (omega (arith, less, le)) in
@@ -90,6 +89,11 @@ module _ (rom : Rom) (roots : List (ℕ × Key)) (a b : List Entry) (made_a : Ma
   pub all_there : (f : Entry) → Contains a f → Contains b f
   all_there f in_a = there_up_to (MOST_WORDS + 1) f in_a (omega arith)
 
+-- lists that are made for the same are one
+pub one_made_for : (rom : Rom) (P Q : ℕ → Key → Type 0) (a b : List Entry) → MadeFor rom P a → MadeFor rom Q b → ((addr : ℕ) (key : Key) → P addr key → HasEntry b addr key) → ((addr : ℕ) (key : Key) → Q addr key → HasEntry a addr key) → a ≡ b
+one_made_for rom P Q a b made_a made_b to_b to_a =
+    same_rising a b made_a.certificate.rising made_b.certificate.rising (all_there rom P Q a b made_a made_b to_b) (all_there rom Q P b a made_b made_a to_a)
+
 pub one_made : OneMade
 one_made rom roots a b made_a made_b =
-    same_rising a b made_a.certificate.rising made_b.certificate.rising (all_there rom roots a b made_a made_b) (all_there rom roots b a made_b made_a)
+    one_made_for rom (λ addr key. Contains roots (addr, key)) (λ addr key. Contains roots (addr, key)) a b made_a made_b made_b.rooted made_a.rooted

@@ -30,12 +30,11 @@ use Rattle.dvg_items.specs.Cursor.{step_past}
 use Rattle.dvg_items.specs.Lit.{relative_corners}
 use Rattle.dvg_make.specs.declared.walk.Walk.{Walk}
 use Rattle.dvg_make.specs.Least.{lit_points, IsLeast}
-use Rattle.dvg_make.specs.Made.{HasEntry, MadeEntry, Made}
+use Rattle.dvg_make.specs.Made.{HasEntry, IsMade, AllMade}
 use Rattle.dvg_make.specs.Private.Walking.{keyed_context, entry_of, IsStraight, IsAsked, Passes, AllFine, KnowsAt, IsWalk, Extends, NeverAt, IsCallee, LacksCallee, IsFinished, IsWaiting}
-use Rattle.dvg_make.proofs.Boxes.{one_least}
 use Rattle.dvg_items.proofs.Listed.{listed_at}
-use Rattle.dvg_make.proofs.Matching.{Gathered, gathered, SameAt, Matched, exact_named, gathered_same, seen_matched}
-use Rattle.dvg_make.proofs.Ends.{Allows, allows_at, known_of, stands_at, ends_made, sums_of}
+use Rattle.dvg_make.proofs.Matching.{SameAt, Matched, exact_named, seen_matched}
+use Rattle.dvg_make.proofs.Ends.{Allows, allows_at, stands_at, ends_made}
 
 -- ---- one item further
 
@@ -68,16 +67,15 @@ record Its (rom : Rom) (made : List Entry) (w : Walk) : Type 0 where
   f : Entry
   addr : f.addr ≡ w.addr
   key : f.key ≡ w.key
-  is : MadeEntry rom made f
-  entry : IsEntry rom.map.rom_first rom.map.rom_last f
+  is : IsMade rom made f
 
 pub listed_entry : (first last : ℕ) (list : List Entry) (e : Entry) → AllByRecursion (IsEntry first last) list → Contains list e → IsEntry first last e
 listed_entry first last list e all c = at_place (IsEntry first last) list e all c
 
-its : (rom : Rom) (roots : List (ℕ × Key)) (made : List Entry) (w : Walk) → Made rom roots made → HasEntry made w.addr w.key → Its rom made w
-its rom roots made w m h =
+its : (rom : Rom) (made : List Entry) (w : Walk) → AllMade rom made → HasEntry made w.addr w.key → Its rom made w
+its rom made w all h =
     let l = listed_at made w.addr w.key h.0 h.1 in
-    record { f = h.0; addr = l.addr_is; key = l.key_is; is = m.each h.0 l.listed; entry = listed_entry rom.map.rom_first rom.map.rom_last made h.0 m.certificate.each l.listed }
+    record { f = h.0; addr = l.addr_is; key = l.key_is; is = all h.0 l.listed }
 
 module _ (rom : Rom) (list : List Entry) (w : Walk) where
   abbrev c : Context
@@ -88,33 +86,20 @@ module _ (rom : Rom) (list : List Entry) (w : Walk) where
 
   -- nothing stands where the walk stands
   none_there : (items : List Item) → LeadsTo Shape (rom_word rom) w.addr items w.cursor.at → ((format : Format) (i : Instr) → cell_at (rom_word rom) w.cursor.at ≡ Holds format i → ⊥) → NeverAt rom list w.addr w.key
-  none_there items lead not roots made m ext has =
-      let t = its rom roots made w m has in
-      let h = stands_at rom made t.f t.is items w.cursor.at (lead_of made t items w.cursor.at lead) in
+  none_there items lead not made all ext has =
+      let t = its rom made w all has in
+      let h = stands_at rom made t.f t.is.made items w.cursor.at (lead_of made t items w.cursor.at lead) in
       not h.0 h.1 h.2
 
   -- the item is not as it is asked
   none_asked : (items : List Item) (i : Item) (o : Option Entry) → LeadsTo Shape (rom_word rom) w.addr items i.at → cell_at (rom_word rom) i.at ≡ Holds i.format i.instr → KnowsAt c items w.cursor.known w.lit → o ≡ callee c items i.instr → ((to : ℕ) → target Shape i.instr ≡ Some to → HasEntry list to (scale_before c items)) → (IsAsked (seen_with o w.cursor.known i) → ⊥) → NeverAt rom list w.addr w.key
-  none_asked items i o lead is k e keyed not roots made m ext has =
-      let t = its rom roots made w m has in
-      let allows = allows_at rom made t.f t.is items i (lead_of made t items i.at lead) is in
+  none_asked items i o lead is k e keyed not made all ext has =
+      let t = its rom made w all has in
+      let allows = allows_at rom made t.f t.is.made items i (lead_of made t items i.at lead) is in
       let match : Matched list made w.key (i ∷ items) = (matched_fine list made w.key ext items k.fine, same_if list made _ ext (target Shape i.instr) keyed) in
       let v : seen_at (shape_context made t.f) items i ≡ seen_with o w.cursor.known i = ap (λ (x : Key). seen_at (keyed_context made x) items i) t.key ∙ sym (seen_matched list made w.key items i match) ∙ sym (seen_same c items i o w.cursor.known e k.known_is) in
       let here : Allows t.f (seen_with o w.cursor.known i) = subst (Allows t.f) v allows in
-      not (record { straight = here.straight; deep = omega (arith, here.deep, t.entry.depth); many = omega (arith, here.many, t.entry.words_high) })
-
-  -- the entry is past a limit
-  none_says : (known : Known) (lit : LitBox) (items : List Item) (i : Item) → LeadsTo Shape (rom_word rom) w.addr items i.at → cell_at (rom_word rom) i.at ≡ Holds i.format i.instr → next_place Shape i ≡ None → KnowsAt c (i ∷ items) known lit → (IsEntry rom.map.rom_first rom.map.rom_last (entry_of w.addr w.key known lit) → ⊥) → NeverAt rom list w.addr w.key
-  none_says known lit items i lead is last k not roots made m ext has =
-      let t = its rom roots made w m has in
-      let sums = sums_of rom made t.f t.is items i (lead_of made t items i.at lead) is last in
-      let all : gathered (shape_context made t.f) (i ∷ items) ≡ gathered c (i ∷ items) = ap (λ (x : Key). gathered (keyed_context made x) (i ∷ items)) t.key ∙ sym (gathered_same list made w.key (i ∷ items) (matched_fine list made w.key ext (i ∷ items) k.fine)) in
-      let known_is : known_of t.f ≡ known = sym sums.known ∙ ap (λ (x : Gathered). x.known) all ∙ sym k.known_is in
-      let lit_is : t.f.lit ≡ lit = one_least (lit_points c (i ∷ items)) t.f.lit lit (subst (λ l. IsLeast l t.f.lit) (ap (λ (x : Gathered). x.lit) all) sums.box) k.least in
-      let addr_is : t.f.addr ≡ w.addr = t.addr in
-      let key_is : t.f.key ≡ w.key = t.key in
-      let same : t.f ≡ entry_of w.addr w.key known lit = λ x. record { addr = addr_is x; key = key_is x; stop = (known_is x).place; lit = lit_is x; depth = (known_is x).depth; words = (known_is x).words; scale = (known_is x).scale } in
-      not (subst (IsEntry rom.map.rom_first rom.map.rom_last) same t.entry)
+      not (record { straight = here.straight; deep = omega (arith, here.deep, t.is.depth); many = omega (arith, here.many, t.is.words) })
 
 -- ---- the walk
 
@@ -181,27 +166,26 @@ module _ (rom : Rom) (list : List Entry) (from w : Walk) (h : Walking rom list f
                 leads = (h.walk.leads, is, on.0);
                 knows = subst (λ (k : Known). KnowsAt (keyed_context list w.key) (i ∷ h.walk.items) k lit) (sym on.1) knows_next;
                 sound = subst IsSoundStep step_is sound;
+                shallow = omega (arith, ap (λ (k : Known). k.depth) on.1, s.asked.deep, h.walk.shallow);
+                keyed = h.walk.keyed;
               };
             }
 
         module _ (step : Step) (last : Known) (step_is : step ≡ Last last) (goes : step ≡ step_past Shape seen) where
-          end : (next_place Shape i ≡ None) × (last ≡ seen.after)
+          pub end : (next_place Shape i ≡ None) × (last ≡ seen.after)
           end = ends_at Shape seen step last step_is goes
 
-          knows_last : KnowsAt (keyed_context list w.key) (i ∷ h.walk.items) last lit
+          pub knows_last : KnowsAt (keyed_context list w.key) (i ∷ h.walk.items) last lit
           knows_last = subst (λ (k : Known). KnowsAt (keyed_context list w.key) (i ∷ h.walk.items) k lit) (sym end.1) knows_next
 
-          pub not_ended : (IsEntry rom.map.rom_first rom.map.rom_last (entry_of w.addr w.key last lit) → ⊥) → NeverAt rom list from.addr from.key
-          not_ended not = as_from (none_says rom list w last lit h.walk.items i h.walk.leads is end.0 knows_last not)
-
-          pub finished : (e : Entry) → e ≡ entry_of w.addr w.key last lit → IsEntry rom.map.rom_first rom.map.rom_last e → IsFinished rom list from e
-          finished e same entry =
-              let made : MadeEntry rom list (entry_of w.addr w.key last lit) = ends_made rom list (entry_of w.addr w.key last lit) (record { items = h.walk.items; i = i; leads = h.walk.leads; is = is; last = end.0; sums = record { known = sym knows_last.known_is; box = knows_last.least }; fine = knows_last.fine }) in
+          -- the entry of the shape
+          pub finished : IsEntry rom.map.rom_first rom.map.rom_last (entry_of w.addr w.key last lit) → IsFinished rom list from (entry_of w.addr w.key last lit)
+          finished entry =
               record {
-                addr = ap (λ (x : Entry). x.addr) same ∙ h.addr;
-                key = ap (λ (x : Entry). x.key) same ∙ h.key;
+                addr = h.addr;
+                key = h.key;
                 entry = entry;
-                made = subst (MadeEntry rom list) (sym same) made;
+                made = ends_made rom list (entry_of w.addr w.key last lit) (record { items = h.walk.items; i = i; leads = h.walk.leads; is = is; last = end.0; sums = record { known = sym knows_last.known_is; box = knows_last.least }; fine = knows_last.fine });
               }
 
 pub on_err : {T E : Type 0} (r : Result T E) (P : Type 0) → P → OnErr r P

@@ -1,5 +1,5 @@
 -- A made list is good where nothing that is lit at an absolute place leaves the window.
-use Rattle.std.proofs.Common.{◌≡◌, ◌≢◌, ℕ, List, Option, Some, None, refl, sym, subst, ◌⊎◌, inl, inr, ⊎_elim}
+use Rattle.std.proofs.Common.{◌≡◌, ◌≢◌, ℕ, List, refl, sym, subst, ◌⊎◌, inl, inr, ⊎_elim}
 use Rattle.std.specs.Prelude.{Contains}
 use Rattle.dvg_words.specs.Decoding.{cell_at}
 use Rattle.dvg_words.specs.Memory.{Rom, rom_word}
@@ -9,15 +9,15 @@ use Rattle.dvg_words.specs.declared.instruction.Cell.TheVariants.{Missing, Odd, 
 use Rattle.dvg_cert.specs.declared.entry.Entry.{Entry}
 use Rattle.dvg_items.specs.Known.{shape_context}
 use Rattle.dvg_items.specs.Seen.{seen_at}
-use Rattle.dvg_check.specs.Rules.{AtLast, ShapeKeeps, CellKeeps, ShapePlaceKeeps, Good}
+use Rattle.dvg_check.specs.Rules.{ShapeKeeps, CellKeeps, ShapePlaceKeeps, Good}
 use Rattle.dvg_check.specs.declared.fault.Mode.{Mode}
 use Rattle.dvg_check.specs.declared.fault.Mode.TheVariants.{Bound, Exact}
 use Rattle.dvg_check.specs.declared.fault.ShapeWhy.{ShapeWhy}
 use Rattle.dvg_check.specs.declared.fault.ShapeWhy.TheVariants as shape
 use Rattle.dvg_items.specs.declared.item.Item.{Item}
-use Rattle.dvg_items.specs.declared.seen.Seen.{Seen}
 use Rattle.dvg_make.specs.Laws.{AllInWindow, GoodInWindow}
 use Rattle.dvg_make.specs.Made.{MadeEntry}
+use Rattle.dvg_check.proofs.Modes.{in_bound}
 
 is_off_screen : (why : ShapeWhy) → (why ≡ shape.OffScreen) ⊎ (why ≢ shape.OffScreen)
 is_off_screen shape.Unmapped = inr (λ q. cc q)
@@ -35,39 +35,10 @@ is_off_screen shape.BoxTooSmall = inr (λ q. cc q)
 is_off_screen shape.WordsDiffer = inr (λ q. cc q)
 is_off_screen shape.DepthDiffers = inr (λ q. cc q)
 
-last_any : (o : Option ℕ) → AtLast o (Unit {0})
-last_any None = tt
-last_any (Some p) = tt
-
--- what is kept with exact counts is kept with bounds
-bound_kept : (w : Window) (e : Entry) (v : Seen) (why : ShapeWhy) → ShapeKeeps Exact w e v why → ShapeKeeps Bound w e v why
-bound_kept w e v shape.Unmapped h = h
-bound_kept w e v shape.Odd h = h
-bound_kept w e v shape.HaltInShape h = h
-bound_kept w e v shape.BeamUnknown h = h
-bound_kept w e v shape.ScaleUnknown h = h
-bound_kept w e v shape.OffScreen h = h
-bound_kept w e v shape.NoEntry h = h
-bound_kept w e v shape.TooDeep h = h
-bound_kept w e v shape.TooManyWords h = h
-bound_kept w e v shape.EndDiffers h = h
-bound_kept w e v shape.ScaleDiffers h = h
-bound_kept w e v shape.BoxTooSmall h = h
-bound_kept w e v shape.WordsDiffer h = last_any _
-bound_kept w e v shape.DepthDiffers h = last_any _
-
 module _ (rom : Rom) (list : List Entry) (w : Window) where
   -- what is asked of a cell
   abbrev Kept : Mode → Entry → List Item → ℕ → Cell → ShapeWhy → Type 0
   Kept mode e earlier p cell why = CellKeeps shape.Unmapped shape.Odd (λ i. ShapeKeeps mode w e (seen_at (shape_context list e) earlier i)) p cell why
-
-  bound_cell : (e : Entry) (earlier : List Item) (p : ℕ) (cell : Cell) (why : ShapeWhy) → Kept Exact e earlier p cell why → Kept Bound e earlier p cell why
-  bound_cell e earlier p Missing why h = h
-  bound_cell e earlier p Odd why h = h
-  bound_cell e earlier p (Holds format i) why h = bound_kept w e _ why h
-
-  pub in_bound : Good Exact w rom list → Good Bound w rom list
-  in_bound good e c earlier p lead why = bound_cell e earlier p (cell_at (rom_word rom) p) why (good e c earlier p lead why)
 
   pub in_window : (mode : Mode) → Good mode w rom list → AllInWindow w rom list
   in_window mode good e c earlier i lead is = subst (λ cell. Kept mode e earlier i.at cell shape.OffScreen) is (good e c earlier i.at lead shape.OffScreen)
@@ -82,6 +53,6 @@ module _ (rom : Rom) (list : List Entry) (w : Window) where
 
 pub good_in_window : GoodInWindow
 good_in_window rom roots list w made = (
-  (in_window rom list w Bound, λ all. in_bound rom list w (in_exact rom list w made.each all)),
+  (in_window rom list w Bound, λ all. in_bound w rom list Exact (in_exact rom list w made.each all)),
   (in_window rom list w Exact, in_exact rom list w made.each),
 )

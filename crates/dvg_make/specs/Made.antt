@@ -1,5 +1,5 @@
 -- What the maker makes: the list of entries that a ROM and roots ask for. All of it is profile.
-use Rattle.std.specs.Prelude.{◌≡◌, ◌≢◌, ℕ, ◌⊎◌, List, ◌∷◌, Some, None, Contains}
+use Rattle.std.specs.Prelude.{◌≡◌, ◌≢◌, ℕ, ◌≤◌, ◌⊎◌, List, ◌∷◌, Some, None, Contains}
 use Rattle.dvg_words.specs.Values.{Window}
 use Rattle.dvg_words.specs.Memory.{Rom, rom_word}
 use Rattle.dvg_words.specs.declared.instruction.Cell.TheVariants.{Holds}
@@ -7,6 +7,7 @@ use Rattle.dvg_words.specs.Decoding.{cell_at}
 use Rattle.dvg_cert.specs.declared.entry.Entry.{Entry}
 use Rattle.dvg_cert.specs.declared.entry.Key.{Key}
 use Rattle.dvg_cert.specs.Order.{IsCertificate}
+use Rattle.dvg_cert.specs.declared.limits.TheConstants.{MOST_DEPTH, MOST_WORDS}
 use Rattle.dvg_cert.specs.Lookup.{entry_at}
 use Rattle.dvg_items.specs.Items.{next_place, LeadsTo}
 use Rattle.dvg_items.specs.declared.item.Kind.TheVariants.{Shape}
@@ -30,7 +31,7 @@ EachItem rom addr P =
     (earlier : List Item) (i : Item) → LeadsTo Shape (rom_word rom) addr earlier i.at
     → cell_at (rom_word rom) i.at ≡ Holds i.format i.instr → P earlier i
 
--- holds of all items of the shape at an address, up to the last one (profile)
+-- holds of all items of the shape at an address, up to and with the last one (profile)
 abbrev pub AtEnd : Rom → ℕ → (List Item → Type 0) → Type 0
 AtEnd rom addr P = EachItem rom addr (λ earlier i. next_place Shape i ≡ None → P (i ∷ earlier))
 
@@ -42,7 +43,7 @@ MadeKeeps rom list e earlier p why = (w : Window) → why ≢ shape.OffScreen �
 abbrev pub HasEntryAtScale : List Entry → Context → List Item → Item → Type 0
 HasEntryAtScale list c earlier i = (to : ℕ) → target Shape i.instr ≡ Some to → HasEntry list to (scale_before c earlier)
 
--- a made entry: that of a shape, as the maker makes it (profile)
+-- the entry that a shape needs: exact counts, end and scale, the least box, and an entry for each call at the very scale (profile)
 pub record MadeEntry (rom : Rom) (list : List Entry) (e : Entry) : Type 0 where
   -- its counts are exact, its end and its scale are what is known there
   pub keeps : AllKeep Shape (rom_word rom) e.addr (MadeKeeps rom list e)
@@ -50,6 +51,20 @@ pub record MadeEntry (rom : Rom) (list : List Entry) (e : Entry) : Type 0 where
   pub keyed : EachItem rom e.addr (HasEntryAtScale list (shape_context list e))
   -- its box is the least one
   pub box : AtEnd rom e.addr (λ items. IsLeast (lit_points (shape_context list e) items) e.lit)
+
+-- the entry is a made one, and its counts are within the limits (profile)
+pub record IsMade (rom : Rom) (list : List Entry) (e : Entry) : Type 0 where
+  pub made : MadeEntry rom list e
+  pub words : e.words ≤ MOST_WORDS
+  pub depth : e.depth ≤ MOST_DEPTH
+
+-- each entry of the list is (profile)
+abbrev pub AllMade : Rom → List Entry → Type 0
+AllMade rom list = (e : Entry) → Contains list e → IsMade rom list e
+
+-- no list of made entries has one at this address and key (profile)
+abbrev pub Barred : Rom → ℕ → Key → Type 0
+Barred rom addr key = (list : List Entry) → AllMade rom list → HasEntry list addr key → ⊥
 
 -- ---- the list
 
@@ -61,13 +76,17 @@ pub record Needs (rom : Rom) (list : List Entry) (e f : Entry) : Type 0 where
   pub stands : cell_at (rom_word rom) item.at ≡ Holds item.format item.instr
   pub callee_is : callee (shape_context list e) earlier item.instr ≡ Some f
 
--- the list that a ROM and roots ask for (profile)
-pub record Made (rom : Rom) (roots : List (ℕ × Key)) (list : List Entry) : Type 0 where
+-- the list that is made for a ROM and for the addresses and keys that are asked for (profile)
+pub record MadeFor (rom : Rom) (IsAsked : ℕ → Key → Type 0) (list : List Entry) : Type 0 where
   -- it is a certificate's
-  pub certificate : IsCertificate rom.map.rom_first rom.map.rom_last list
+  pub certificate : IsCertificate rom.map list
   -- each of its entries is a made one
   pub each : (e : Entry) → Contains list e → MadeEntry rom list e
-  -- each root has its entry
-  pub rooted : (addr : ℕ) (key : Key) → Contains roots (addr, key) → HasEntry list addr key
-  -- each entry is a root's, or another one needs it
-  pub needed : (f : Entry) → Contains list f → Contains roots (f.addr, f.key) ⊎ ((e : Entry) × Contains list e × Needs rom list e f)
+  -- what is asked for has its entry
+  pub rooted : (addr : ℕ) (key : Key) → IsAsked addr key → HasEntry list addr key
+  -- each entry is asked for, or another one needs it
+  pub needed : (f : Entry) → Contains list f → IsAsked f.addr f.key ⊎ ((e : Entry) × Contains list e × Needs rom list e f)
+
+-- the list that a ROM and roots ask for (profile)
+abbrev pub Made : Rom → List (ℕ × Key) → List Entry → Type 0
+Made rom roots list = MadeFor rom (λ addr key. Contains roots (addr, key)) list

@@ -1,3 +1,5 @@
 -- Definitions for the code alone; no rule uses them.
 pub mod Walking
 pub mod Making
+pub mod Covering
+pub mod Framing

@@ -1,10 +1,48 @@
 //! Why no certificate is made.
 
-ghost use Rattle.std.specs.Prelude.{◌≡◌};
-ghost use Rattle.dvg_make.specs.Refusals.{fault_number, Memory};
+ghost use Rattle.std.specs.Prelude.{◌≡◌, None};
+ghost use Rattle.dvg_make.specs.Refusals.{fault_number, make_fault_of, Memory};
+ghost use Rattle.dvg_make.specs.declared.fault.MakeFault.TheVariants as make;
 
 use std::alloc::{AllocError, AllocFailed};
 use thiserror::Error;
+
+/// Why an entry is not made that a certificate needs: 60 to 63, of which 62 has two cases.
+#[derive(Clone, Copy, Debug, PartialEq, Eq, Error)]
+pub enum EntryFault {
+    /// 60: the item at this word is missing, odd or HALT, or it lights at an unknown place or scale; or the root at this
+    /// word is outside the ROM, or has a key over 15.
+    #[error("no shape can have the item at {word:03X}")]
+    Unstraight { word: u16 },
+    /// 61: a shape needs itself, or its calls go more than three deep.
+    #[error("the shapes call too deep")]
+    Deep,
+    /// 62: a shape has more than 1,000,000 words.
+    #[error("a shape has too many words")]
+    TooManyWords,
+    /// 62: there would be more than 4,096 entries.
+    #[error("there are too many entries")]
+    TooManyEntries,
+    /// 63: there was no memory.
+    #[error("there is no memory for the certificate")]
+    Memory,
+}
+
+impl From<AllocError> for EntryFault {
+    ghost from_gives = { λ _ fault. fault ≡ Memory };
+
+    fn from(_error: AllocError) -> EntryFault {
+        EntryFault::Memory
+    }
+}
+
+impl<T: Drop> From<AllocFailed<T>> for EntryFault {
+    ghost from_gives = { λ _ fault. fault ≡ Memory };
+
+    fn from(_error: AllocFailed<T>) -> EntryFault {
+        EntryFault::Memory
+    }
+}
 
 /// Why no certificate is made. The numbers are 60 to 63, in this order.
 #[derive(Clone, Copy, Debug, PartialEq, Eq, Error)]
@@ -16,7 +54,7 @@ pub enum MakeFault {
     /// 61: a shape needs itself, or its calls go more than three deep.
     #[error("the shapes call too deep")]
     Deep,
-    /// 62: an entry is past a limit of certificates, or there are too many.
+    /// 62: a shape has more than 1,000,000 words, or there are more than 4,096 entries.
     #[error("the shapes are too large for a certificate")]
     TooLarge,
     /// 63: there was no memory.
@@ -38,18 +76,49 @@ impl MakeFault {
     }
 }
 
-impl From<AllocError> for MakeFault {
-    ghost from_gives = { λ _ fault. fault ≡ Memory };
+impl From<EntryFault> for MakeFault {
+    ghost from_gives = { λ why fault. fault ≡ make_fault_of why };
 
-    fn from(_error: AllocError) -> MakeFault {
-        MakeFault::Memory
+    fn from(why: EntryFault) -> MakeFault {
+        match why {
+            EntryFault::Unstraight { word } => MakeFault::Unstraight { word },
+            EntryFault::Deep => MakeFault::Deep,
+            EntryFault::TooManyWords | EntryFault::TooManyEntries => MakeFault::TooLarge,
+            EntryFault::Memory => MakeFault::Memory,
+        }
     }
 }
 
-impl<T: Drop> From<AllocFailed<T>> for MakeFault {
-    ghost from_gives = { λ _ fault. fault ≡ Memory };
+/// A call of one of several frames: which frame, counted from 0, and the word address of the call.
+#[derive(Clone, Copy, Debug, PartialEq, Eq)]
+pub struct FrameCall {
+    pub frame: usize,
+    pub at: u16,
+}
 
-    fn from(_error: AllocFailed<T>) -> MakeFault {
-        MakeFault::Memory
+/// Why no certificate is made for frames: the call whose entry is not made, none where it is a root's or memory was
+/// out after all calls, and why not.
+#[derive(Clone, Copy, Debug, PartialEq, Eq)]
+pub struct FramesFault {
+    pub call: Option<FrameCall>,
+    pub why: EntryFault,
+}
+
+impl From<EntryFault> for FramesFault {
+    ghost from_gives = { λ why fault. fault ≡ record { call = None; why = why } };
+
+    fn from(why: EntryFault) -> FramesFault {
+        FramesFault { call: None, why }
+    }
+}
+
+impl From<AllocError> for FramesFault {
+    ghost from_gives = { λ _ fault. fault ≡ record { call = None; why = Memory } };
+
+    fn from(_error: AllocError) -> FramesFault {
+        FramesFault {
+            call: None,
+            why: EntryFault::Memory,
+        }
     }
 }

@@ -1,15 +1,20 @@
 //! The maker of certificates: the entries of shapes and of all that they call or tail jump to, with exact counts and the
 //! least boxes.
 //!
-//! [`make`] answers the one list that a ROM and roots ask for, or a fault: where they have none, or where memory is out.
+//! [`make_for_frames`] answers the one list that a ROM, roots and frames ask for, or a fault: where they have none, or where
+//! memory is out; [`make`] does so for roots alone. [`judge`] judges a frame by its own certificate.
 #![tactic(auto)]
 
 mod done;
 mod fault;
+mod frames;
+mod judging;
 pub mod laws;
 mod least;
 mod maker;
+mod shapes;
 mod walk;
 
-pub use fault::MakeFault;
-pub use maker::make;
+pub use fault::{EntryFault, FrameCall, FramesFault, MakeFault};
+pub use judging::{FrameRefusal, judge};
+pub use maker::{make, make_for_frames};

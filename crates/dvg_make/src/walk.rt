@@ -1,21 +1,20 @@
 //! One shape, item by item.
 
-ghost use Rattle.std.specs.Prelude.{◌≡◌, ◌↔◌, ◌<◌, IsTrue, IfOk, IfErr, IfSome, OnErr, Contains};
-ghost use Rattle.dvg_words.specs.Values.{asteroids};
+ghost use Rattle.std.specs.Prelude.{◌≡◌, ◌↔◌, ◌<◌, IsTrue, IfOk, IfErr, IfSome, OnErr};
+ghost use Rattle.dvg_words.specs.Values.{IsMap};
 ghost use Rattle.dvg_words.specs.Decoding.{InstrFits};
 ghost use Rattle.dvg_words.specs.declared.map.TheConstants.{ADDRESS_END};
-ghost use Rattle.dvg_cert.specs.Entry.{IsEntry};
-ghost use Rattle.dvg_cert.specs.declared.entry.Entry.{Entry};
 ghost use Rattle.dvg_items.specs.declared.item.Kind.TheVariants.{Shape};
 ghost use Rattle.dvg_items.specs.Seen.{seen_with};
 ghost use Rattle.dvg_items.specs.Cursor.{step_past};
 ghost use Rattle.dvg_items.specs.Bounds.{IsSoundCursor, IsSoundStep, IsClaim};
 ghost use Rattle.dvg_make.specs.Private.Walking.{start, entry_of, IsStraight, IsAsked, Passes, IsWalk, NeverAt, IsCallee, LacksCallee, Advances};
+ghost use Rattle.dvg_make.specs.Private.Making.{IsDone};
 
 use crate::done::Done;
-use crate::fault::MakeFault;
+use crate::fault::EntryFault;
 use crate::least::boxed;
-use dvg_cert::{Entry, Key, LitBox, MOST_DEPTH, MOST_WORDS, is_entry};
+use dvg_cert::{Entry, Key, LitBox, MOST_DEPTH, MOST_WORDS};
 use dvg_items::{Cursor, Kind, Known, Seen, Step, depth_under, place_known, scale_known, target};
 use dvg_words::{Cell, Format, Instr, RomImage, read_cell};
 
@@ -63,7 +62,7 @@ impl Walk {
         format: Format,
         instr: &Instr,
         callee: Option<Entry>,
-    ) -> Result<(Step, LitBox), MakeFault>
+    ) -> Result<(Step, LitBox), EntryFault>
         requires here { IsSoundCursor self.now.cursor }
         requires near { self.now.cursor.at < ADDRESS_END }
         requires fields { InstrFits instr.now }
@@ -75,31 +74,18 @@ impl Walk {
     {
         let seen = self.cursor.see(format, instr, callee);
         if !is_straight(&seen) {
-            return Err(MakeFault::Unstraight {
+            return Err(EntryFault::Unstraight {
                 word: self.cursor.at,
             });
         }
         if depth_under(instr, &callee) > MOST_DEPTH {
-            return Err(MakeFault::Deep);
+            return Err(EntryFault::Deep);
         }
         if seen.after.words > MOST_WORDS {
-            return Err(MakeFault::TooLarge);
+            return Err(EntryFault::TooManyWords);
         }
         let lit = boxed(&self.lit, &seen.extent, &seen.place);
         Ok((seen.step(Kind::Shape), lit))
-    }
-
-    /// The entry of the shape after its last item.
-    fn finish(&self, known: &Known, lit: LitBox) -> Result<Entry, MakeFault>
-        ensures ok { IfOk result (λ entry. (entry ≡ entry_of self.now.addr self.now.key known.now lit) × IsEntry asteroids.rom_first asteroids.rom_last entry) }
-        ensures err { OnErr result (IsEntry asteroids.rom_first asteroids.rom_last (entry_of self.now.addr self.now.key known.now lit) → ⊥) }
-    {
-        let entry = self.entry(known, lit);
-        if is_entry(&entry) {
-            Ok(entry)
-        } else {
-            Err(MakeFault::TooLarge)
-        }
     }
 }
 
@@ -135,10 +121,10 @@ fn look_up(done: &Done, instr: &Instr, scale: Key) -> Result<Option<Entry>, u16>
 }
 
 /// Takes items up to the end of the shape, or to one that needs an entry.
-pub fn advance(rom: &RomImage, done: &Done, from: Walk) -> Result<Progress, MakeFault>
-    requires map { rom.now.map ≡ asteroids }
+pub fn advance(rom: &RomImage, done: &Done, from: Walk) -> Result<Progress, EntryFault>
+    requires map { IsMap rom.now.map }
     requires walk { IsWalk rom.now done.now from }
-    requires entries { (e : Entry) → Contains done.now e → IsEntry rom.now.map.rom_first rom.now.map.rom_last e }
+    requires done { IsDone rom.now done.now }
     ensures ok { IfOk result (Advances rom.now done.now from) }
     ensures err { OnErr result (NeverAt rom.now done.now from.addr from.key) }
 {
@@ -155,10 +141,10 @@ pub fn advance(rom: &RomImage, done: &Done, from: Walk) -> Result<Progress, Make
                 lit,
                 ..walk
             },
-            Step::Last(known) => return Ok(Progress::Finished(walk.finish(&known, lit)?)),
+            Step::Last(known) => return Ok(Progress::Finished(walk.entry(&known, lit))),
         }
     }
-    Err(MakeFault::Unstraight {
+    Err(EntryFault::Unstraight {
         word: walk.cursor.at,
     })
 }

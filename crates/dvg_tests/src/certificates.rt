@@ -2,8 +2,9 @@
 
 mod devices;
 
+use crate::expecting::{expect, expect_same, expect_shown, expect_shown_after};
 use dvg_cert::*;
-use std::alloc::Global;
+use std::alloc::{AllocError, Global};
 use std::process::Abort;
 use std::test::Fail;
 
@@ -12,6 +13,13 @@ pub type Answer = Result<usize, CertFault>;
 
 const ONE_ENTRY: &[u8] =
     b"dvgcert 1\nshape 800 0 end rel 1047552 785408 box 0 1047552 0 785408 depth 0 words 3 scale 0\ndone 1\n";
+
+/// The same for a ROM at 400 to 7FF, and an entry past that.
+const AT_400: &[u8] =
+    b"dvgcert 2\nrom 400 7FF\nshape 400 0 end rel 1047552 785408 box 0 1047552 0 785408 depth 0 words 3 scale 0\ndone 1\n";
+
+const PAST_7FF: &[u8] =
+    b"dvgcert 2\nrom 400 7FF\nshape 800 0 end rel 0 0 box none depth 0 words 3 scale 0\ndone 1\n";
 
 const TWICE: &[u8] =
     b"dvgcert 1\nshape 800 0 end rel 1047552 785408 box 0 1047552 0 785408 depth 0 words 3 scale 0\nshape 800 0 end rel 1047552 785408 box 0 1047552 0 785408 depth 0 words 3 scale 0\ndone 2\n";
@@ -33,6 +41,13 @@ fn answer_of(read: Result<Cert, CertFault>) -> Answer {
     }
 }
 
+/// Whether a reader that was refused answers the same to what comes after it, and at its end.
+fn is_refused_for_good(reader: CertReader, fault: CertFault) -> bool {
+    let mut reader = reader;
+    let fed = reader.feed(b"done 0\n");
+    fed == Err(fault) && answer_of(reader.finish()) == Err(fault)
+}
+
 /// Feeds pieces of one size after a first one. A refusal must stay, whatever comes.
 pub fn fed(rt: &impl Abort, alloc: Global, text: &[u8], first: usize, size: usize) -> Answer {
     let mut reader = CertReader::new(alloc);
@@ -41,8 +56,7 @@ pub fn fed(rt: &impl Abort, alloc: Global, text: &[u8], first: usize, size: usiz
     for _ in 0..=text.len() {
         let (piece, after) = rest.split_at(most.min(rest.len()));
         if let Err(fault) = reader.feed(piece) {
-            assert_eq!(rt; reader.feed(b"done 0\n"), Err(fault));
-            assert_eq!(rt; answer_of(reader.finish()), Err(fault));
+            expect(rt, is_refused_for_good(reader, fault), &fault);
             return Err(fault);
         }
         rest = after;
@@ -51,23 +65,74 @@ pub fn fed(rt: &impl Abort, alloc: Global, text: &[u8], first: usize, size: usiz
     answer_of(reader.finish())
 }
 
+/// Whether this is the text that is written of a certificate.
+pub fn is_written(alloc: Global, cert: &Cert, text: &[u8]) -> bool {
+    let mut out = Counted::new(Vec::new(alloc));
+    write_cert(cert, &mut out).is_ok() && out.into_inner().as_slice() == text
+}
+
+/// Whether a text is refused, or is that of the certificate that it spells.
+fn is_read_back(alloc: Global, text: &[u8]) -> bool {
+    match read_cert(alloc, text) {
+        Ok(cert) => is_written(alloc, &cert, text),
+        Err(_) => true,
+    }
+}
+
 /// The answers to a text, cut everywhere, and its bytes again where it is taken.
-fn check_row(rt: &impl Abort, alloc: Global, text: &[u8], want: Answer) -> Result<(), Fail> {
-    assert_eq!(rt; answer_of(read_cert(alloc, text)), want);
-    assert_eq!(rt; fed(rt, alloc, text, 1, 1), want);
+fn check_row(rt: &impl Abort, alloc: Global, text: &[u8], want: Answer) {
+    expect_same(
+        rt,
+        &answer_of(read_cert(alloc, text)),
+        &want,
+        &"in one piece",
+    );
+    expect_same(rt, &fed(rt, alloc, text, 1, 1), &want, &"byte by byte");
     for at in 0..=text.len() {
-        assert_eq!(rt; fed(rt, alloc, text, at, text.len()), want, "cut at {at}");
+        expect_same(rt, &fed(rt, alloc, text, at, text.len()), &want, &at);
     }
-    if let Ok(cert) = read_cert(alloc, text) {
-        let mut out = Counted::new(Vec::new(alloc));
-        write_cert(&cert, &mut out)?;
-        assert_eq!(rt; out.into_inner().as_slice(), text);
+    expect(rt, is_read_back(alloc, text), &want);
+}
+
+/// Where the ROM lies of which a text speaks.
+fn rom_of(alloc: Global, text: &[u8]) -> Option<(u16, u16)> {
+    let cert = read_cert(alloc, text).ok()?;
+    Some(cert.rom())
+}
+
+/// Texts of version 2: the line of the ROM, addresses of its map, and lines counted from the first.
+#[test]
+fn texts_of_other_maps(rt: HostRuntime) {
+    let rows: [(&[u8], Answer); 16] = [
+        (b"dvgcert 2\nrom 400 7FF\ndone 0\n", Ok(0)),
+        (b"dvgcert 2\nrom 400 BFF\ndone 0\n", Ok(0)),
+        (b"dvgcert 2\nrom BFF BFF\ndone 0\n", Ok(0)),
+        (AT_400, Ok(1)),
+        (b"dvgcert 2", refused(1, CertWhy::Unended)),
+        (b"dvgcert 2\n", refused(2, CertWhy::Unended)),
+        (b"dvgcert 2\nrom 400 7FF\n", refused(3, CertWhy::Unended)),
+        (b"dvgcert 2\nrom 800 BFF\n", refused(2, CertWhy::Form)),
+        (b"dvgcert 2\nrom 7FF 400\n", refused(2, CertWhy::Form)),
+        (b"dvgcert 2\nrom 3FF 7FF\n", refused(2, CertWhy::Form)),
+        (b"dvgcert 2\nrom 400 C00\n", refused(2, CertWhy::Form)),
+        (b"dvgcert 2\nrom 400 7ff\n", refused(2, CertWhy::Form)),
+        (b"dvgcert 3\n", refused(1, CertWhy::Form)),
+        (b"dvgcert 1\nrom 400 7FF\n", refused(2, CertWhy::Form)),
+        (PAST_7FF, refused(3, CertWhy::Form)),
+        (
+            b"dvgcert 2\nrom 400 7FF\ndone 0\nx",
+            refused(4, CertWhy::After),
+        ),
+    ];
+    for (text, want) in rows {
+        check_row(&rt, rt.alloc(), text, want);
     }
-    Ok(())
+    let ends = (rom_of(rt.alloc(), AT_400), rom_of(rt.alloc(), ONE_ENTRY));
+    assert_eq!(rt; ends, (Some((0x400, 0x7FF)), Some((0x800, 0xBFF))));
 }
 
 #[test]
-fn whole_texts(rt: HostRuntime) -> Result<(), Fail> {
+fn whole_texts(rt: HostRuntime) {
     let rows: [(&[u8], Answer); 15] = [
         (b"dvgcert 1\ndone 0\n", Ok(0)),
         (ONE_ENTRY, Ok(1)),
@@ -75,7 +140,7 @@ fn whole_texts(rt: HostRuntime) -> Result<(), Fail> {
         (b"", refused(1, CertWhy::Unended)),
         (b"dvgcert 1", refused(1, CertWhy::Unended)),
         (b"dvgcert 1\n", refused(2, CertWhy::Unended)),
-        (b"dvgcert 2\ndone 0\n", refused(1, CertWhy::Form)),
+        (b"dvgcert 2\ndone 0\n", refused(2, CertWhy::Form)),
         (b"dvgcert 1\ndone 0", refused(2, CertWhy::Unended)),
         (b"dvgcert 1\ndone 00\n", refused(2, CertWhy::Form)),
         (b"dvgcert 1\ndone 1\n", refused(2, CertWhy::Count)),
@@ -86,21 +151,27 @@ fn whole_texts(rt: HostRuntime) -> Result<(), Fail> {
         (b"dvgcert 1\r\ndone 0\r\n", refused(1, CertWhy::Form)),
     ];
     for (text, want) in rows {
-        check_row(&rt, rt.alloc(), text, want)?;
+        check_row(&rt, rt.alloc(), text, want);
     }
+}
+
+/// Lines of 200 and of 199 bytes, with and without an end.
+#[test]
+fn long_lines(rt: HostRuntime) {
     let mut line = [b'a'; 200];
-    check_row(&rt, rt.alloc(), &line, refused(1, CertWhy::TooLong))?;
-    check_row(&rt, rt.alloc(), &line[..199], refused(1, CertWhy::Unended))?;
+    check_row(&rt, rt.alloc(), &line, refused(1, CertWhy::TooLong));
+    check_row(&rt, rt.alloc(), &line[..199], refused(1, CertWhy::Unended));
     line[199] = b'\n';
-    check_row(&rt, rt.alloc(), &line, refused(1, CertWhy::Form))?;
+    check_row(&rt, rt.alloc(), &line, refused(1, CertWhy::Form));
+}
+
+/// A text that ends within its entry, in pieces of seven bytes.
+#[test]
+fn unended_texts(rt: HostRuntime) {
     for at in 0..ONE_ENTRY.len() - 7 {
-        assert_eq!(rt;
-            fed(&rt, rt.alloc(), &ONE_ENTRY[..at], 7, 7).is_err(),
-            true,
-            "{at} bytes"
-        );
+        let answer = fed(&rt, rt.alloc(), &ONE_ENTRY[..at], 7, 7);
+        expect(&rt, answer.is_err(), &at);
     }
-    Ok(())
 }
 
 /// Lines of entries that are taken.
@@ -131,21 +202,23 @@ const WRONG_LINES: &[&[u8]] = &[
     b"shape 800 0 end lost box none depth 0 words 1 scale 0 ",
 ];
 
-/// The answer to a text with this second line.
-fn check_line(rt: &impl Abort, alloc: Global, line: &[u8], want: Answer) -> Result<(), Fail> {
+/// A text with this second line.
+fn text_with(alloc: Global, line: &[u8]) -> Result<Vec<u8>, AllocError> {
     let mut text = Vec::from_slice(alloc, b"dvgcert 1\n")?;
     text.extend_from_slice(line)?;
     text.push(b'\n')?;
-    check_row(rt, alloc, &text, want)
+    Ok(text)
 }
 
 #[test]
-fn lines(rt: HostRuntime) -> Result<(), Fail> {
+fn lines(rt: HostRuntime) -> Result<(), AllocError> {
     for line in TAKEN_LINES {
-        check_line(&rt, rt.alloc(), line, refused(3, CertWhy::Unended))?;
+        let text = text_with(rt.alloc(), line)?;
+        check_row(&rt, rt.alloc(), &text, refused(3, CertWhy::Unended));
     }
     for line in WRONG_LINES {
-        check_line(&rt, rt.alloc(), line, refused(2, CertWhy::Form))?;
+        let text = text_with(rt.alloc(), line)?;
+        check_row(&rt, rt.alloc(), &text, refused(2, CertWhy::Form));
     }
     Ok(())
 }
@@ -156,62 +229,61 @@ fn from_entries(rt: HostRuntime) -> Result<(), Fail> {
     let cert = read_cert(rt.alloc(), ONE_ENTRY)?;
     let mut entries = Vec::from_slice(rt.alloc(), cert.entries())?;
     entries.extend_from_slice(cert.entries())?;
-    let Err(mut same) = Cert::from_entries(entries) else {
+    let Err(mut same) = Cert::from_entries(entries, cert.rom()) else {
         return Err(Fail::new("an entry was taken twice"));
     };
     same.pop();
-    assert!(rt; Cert::from_entries(same).is_ok_and(|cert| cert.entries().len() == 1));
+    let Err(same) = Cert::from_entries(same, (0x400, 0x7FF)) else {
+        return Err(Fail::new("an address of another map was taken"));
+    };
+    let Err(same) = Cert::from_entries(same, (0xBFF, 0x800)) else {
+        return Err(Fail::new("a map was taken with its ends swapped"));
+    };
+    assert!(rt; Cert::from_entries(same, cert.rom()).is_ok_and(|cert| cert.entries().len() == 1));
     Ok(())
 }
 
-/// The texts and numbers of the refusals.
+/// The refusals, their numbers and their texts.
+const FAULTS: &[(CertWhy, u8, &str)] = &[
+    (CertWhy::Form, 10, "the line is not one of the format"),
+    (
+        CertWhy::Order,
+        11,
+        "entries are out of order, or one is repeated",
+    ),
+    (
+        CertWhy::Count,
+        12,
+        "the number of entries is not that of the last line",
+    ),
+    (
+        CertWhy::Unended,
+        13,
+        "the text ends before a whole `done` line",
+    ),
+    (CertWhy::After, 14, "something comes after the last line"),
+    (CertWhy::TooLong, 15, "the line or the list is too long"),
+    (CertWhy::Memory, 16, "there is no memory for the entry"),
+];
+
 #[test]
-fn shows_faults(rt: HostRuntime) -> Result<(), Fail> {
-    for (why, number, text) in [
-        (CertWhy::Form, 10, "the line is not one of the format"),
-        (
-            CertWhy::Order,
-            11,
-            "entries are out of order, or one is repeated",
-        ),
-        (
-            CertWhy::Count,
-            12,
-            "the number of entries is not that of the last line",
-        ),
-        (
-            CertWhy::Unended,
-            13,
-            "the text ends before a whole `done` line",
-        ),
-        (CertWhy::After, 14, "something comes after the last line"),
-        (CertWhy::TooLong, 15, "the line or the list is too long"),
-        (CertWhy::Memory, 16, "there is no memory for the entry"),
-    ] {
+fn shows_faults(rt: HostRuntime) -> Result<(), AllocError> {
+    for &(why, number, text) in FAULTS {
         let fault = CertFault { line: 4098, why };
-        assert_eq!(rt; (why.number(), fault.number()), (number, number));
-        assert_eq!(rt; format!(in rt.alloc(); "{why}")?.as_str(), text);
-        let shown = format!(in rt.alloc(); "{fault}")?;
-        assert_eq!(rt; shown.strip_prefix("line 4098: "), Some(text));
+        let numbers = (why.number(), fault.number());
+        expect_same(&rt, &numbers, &(number, number), &text);
+        expect_shown(&rt, rt.alloc(), &why, text)?;
+        expect_shown_after(&rt, rt.alloc(), &fault, "line 4098: ", text)?;
     }
     assert_eq!(rt; WriteFault::Device.number(), 17);
-    assert_eq!(rt;
-        format!(in rt.alloc(); "{}", WriteFault::Device)?.as_str(),
-        "the writer failed"
-    );
-    Ok(())
+    expect_shown(&rt, rt.alloc(), &WriteFault::Device, "the writer failed")
 }
 
 /// The texts of keys.
 #[test]
-fn shows_keys(rt: HostRuntime) -> Result<(), Fail> {
-    for (key, text) in [
-        (Key::At(0), "0"),
-        (Key::At(9), "9"),
-        (Key::At(15), "15"),
-        (Key::Any, "any"),
-    ] {
-        assert_eq!(rt; format!(in rt.alloc(); "{key}")?.as_str(), text);
-    }
-    Ok(())
+fn shows_keys(rt: HostRuntime) -> Result<(), AllocError> {
+    expect_shown(&rt, rt.alloc(), &Key::At(0), "0")?;
+    expect_shown(&rt, rt.alloc(), &Key::At(9), "9")?;
+    expect_shown(&rt, rt.alloc(), &Key::At(15), "15")?;
+    expect_shown(&rt, rt.alloc(), &Key::Any, "any")
 }

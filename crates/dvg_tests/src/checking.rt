@@ -1,13 +1,13 @@
 //! Each call once: a shape with a lit stroke and a frame that calls it, accepted and refused. And what faults show.
 
+use crate::expecting::{expect_same, expect_shown, expect_shown_after};
 use dvg_cert::{CertFault, CertWhy, HashIndex, Key, ListIndex, read_cert};
 use dvg_check::{
-    Accepted, FrameFault, FrameWhy, JudgedShapes, Refusal, ShapeFault, ShapeWhy, Yes, check,
+    Accepted, FrameFault, FrameWhy, JudgedShapes, Mode, Refusal, ShapeFault, ShapeWhy, Yes, check,
     check_frame, check_shapes,
 };
-use dvg_words::{FrameImage, ImageFault, RomImage};
-use std::alloc::Global;
-use std::test::Fail;
+use dvg_words::{FrameImage, ImageFault, RomImage, SCREEN};
+use std::alloc::{AllocError, Global};
 
 const CERT: &[u8] =
     b"dvgcert 1\nshape 800 0 end rel 1047552 785408 box 0 1047552 0 785408 depth 0 words 3 scale 0\ndone 1\n";
@@ -33,41 +33,45 @@ fn rom_bytes() -> [u8; 2048] {
     bytes
 }
 
+/// Certificates, budgets and what is answered of the ROM and the frame.
+const VERDICTS: &[(&[u8], u32, Result<Yes, Refusal>)] = &[
+    (
+        CERT,
+        20000,
+        Ok(Yes {
+            shapes: 1,
+            words: 7,
+            depth: 1,
+        }),
+    ),
+    (
+        CERT,
+        6,
+        Err(Refusal::Frame(FrameFault {
+            word: 3,
+            why: FrameWhy::Budget,
+        })),
+    ),
+    (LOW_BOX, 20000, Err(Refusal::Shape(LOW_BOX_FAULT))),
+];
+
 #[test]
 fn judges_bytes(rt: HostRuntime) {
     let rom = rom_bytes();
-    for (cert, budget, want) in [
-        (
-            CERT,
-            20000,
-            Ok(Yes {
-                shapes: 1,
-                words: 7,
-                depth: 1,
-            }),
-        ),
-        (
-            CERT,
-            6,
-            Err(Refusal::Frame(FrameFault {
-                word: 3,
-                why: FrameWhy::Budget,
-            })),
-        ),
-        (LOW_BOX, 20000, Err(Refusal::Shape(LOW_BOX_FAULT))),
-    ] {
-        assert_eq!(rt; check(rt.alloc(), &rom, cert, FRAME, budget), want);
+    for &(cert, budget, want) in VERDICTS {
+        let verdict = check(rt.alloc(), &rom, cert, FRAME, budget, SCREEN);
+        expect_same(&rt, &verdict, &want, &budget);
     }
 }
 
 /// Judges the shapes of a vector ROM once, then frame after frame over them, and says whether all frames are safe.
 fn are_safe(alloc: Global, rom: &[u8], text: &[u8], frames: &[&[u8]]) -> Result<bool, Refusal> {
-    let rom = RomImage::from_bytes(rom)?;
     let cert = read_cert(alloc, text)?;
+    let rom = RomImage::from_bytes(rom, cert.map())?;
     let Ok(entries) = HashIndex::new(alloc, &cert) else {
         return Err(Refusal::IndexMemory);
     };
-    let shapes = JudgedShapes::judge(&rom, &cert, &entries)?;
+    let shapes = JudgedShapes::judge(&rom, &cert, &entries, SCREEN, Mode::Bound)?;
     for bytes in frames {
         let frame = FrameImage::from_bytes(bytes)?;
         if shapes.check_frame(&frame, 20_000).is_err() {
@@ -82,37 +86,35 @@ fn are_safe(alloc: Global, rom: &[u8], text: &[u8], frames: &[&[u8]]) -> Result<
 fn judges_frames_over_judged_shapes(rt: HostRuntime) {
     let frames: [&[u8]; 3] = [FRAME, &[0xB0, 0xB0], &[0x00, 0x70, 0x00, 0x70, 0x00, 0xB0]];
     let rom = rom_bytes();
-    assert_eq!(rt; are_safe(rt.alloc(), &rom, CERT, &frames[..2]), Ok(true));
-    assert_eq!(rt; are_safe(rt.alloc(), &rom, CERT, &frames), Ok(false));
+    let are_first_safe = are_safe(rt.alloc(), &rom, CERT, &frames[..2]);
+    expect_same(&rt, &are_first_safe, &Ok(true), &"the first two");
+    let are_all_safe = are_safe(rt.alloc(), &rom, CERT, &frames);
+    expect_same(&rt, &are_all_safe, &Ok(false), &"all three");
 }
 
-/// What the two halves answer over the index of a certificate.
-fn halves(alloc: Global, text: &[u8]) -> Result<Result<Accepted, ShapeFault>, Fail> {
+/// The fault that the half of the shapes finds over the index of a certificate.
+fn shape_fault(alloc: Global, text: &[u8]) -> Option<ShapeFault> {
+    let cert = read_cert(alloc, text).ok()?;
     let bytes = rom_bytes();
-    let Ok(rom) = RomImage::from_bytes(&bytes) else {
-        return Err(Fail::new("the ROM was refused"));
-    };
-    let Ok(frame) = FrameImage::from_bytes(FRAME) else {
-        return Err(Fail::new("the frame was refused"));
-    };
-    let cert = read_cert(alloc, text)?;
-    let index = ListIndex::new(&cert);
-    if let Err(fault) = check_shapes(&rom, &cert, &index) {
-        return Ok(Err(fault));
-    }
-    match check_frame(&rom, &frame, &cert, &index, 20000) {
-        Ok(accepted) => Ok(Ok(accepted)),
-        Err(_) => Err(Fail::new("the frame was faulty")),
-    }
+    let rom = RomImage::from_bytes(&bytes, cert.map()).ok()?;
+    check_shapes(&rom, &cert, &ListIndex::new(&cert), &SCREEN).err()
+}
+
+/// What the half of the frame answers over the same, where it has no fault.
+fn frame_counts(alloc: Global, text: &[u8]) -> Option<Accepted> {
+    let cert = read_cert(alloc, text).ok()?;
+    let bytes = rom_bytes();
+    let rom = RomImage::from_bytes(&bytes, cert.map()).ok()?;
+    let frame = FrameImage::from_bytes(FRAME).ok()?;
+    check_frame(&rom, &frame, &cert, &ListIndex::new(&cert), 20000, &SCREEN).ok()
 }
 
 #[test]
-fn judges_halves(rt: HostRuntime) -> Result<(), Fail> {
-    let accepted = halves(rt.alloc(), CERT)?;
-    assert_eq!(rt; accepted, Ok(Accepted { words: 7, depth: 1 }));
-    let refused = halves(rt.alloc(), LOW_BOX)?;
-    assert_eq!(rt; refused, Err(LOW_BOX_FAULT));
-    Ok(())
+fn judges_halves(rt: HostRuntime) {
+    assert!(rt; shape_fault(rt.alloc(), CERT).is_none());
+    assert_eq!(rt; shape_fault(rt.alloc(), LOW_BOX), Some(LOW_BOX_FAULT));
+    let counts = frame_counts(rt.alloc(), CERT);
+    assert_eq!(rt; counts, Some(Accepted { words: 7, depth: 1 }));
 }
 
 /// The rules of shapes, their numbers and their texts.
@@ -126,7 +128,7 @@ const SHAPE_RULES: &[(ShapeWhy, u8, &str)] = &[
     (ShapeWhy::HaltInShape, 22, "the item is HALT"),
     (ShapeWhy::BeamUnknown, 23, "it lights at a lost place"),
     (ShapeWhy::ScaleUnknown, 24, "it lights at unknown scale"),
-    (ShapeWhy::OffScreen, 25, "it lights off the screen"),
+    (ShapeWhy::OffScreen, 25, "it lights outside the window"),
     (ShapeWhy::NoEntry, 26, "it calls a shape that has no entry"),
     (
         ShapeWhy::TooDeep,
@@ -162,7 +164,7 @@ const SHAPE_RULES: &[(ShapeWhy, u8, &str)] = &[
 ];
 
 #[test]
-fn shows_shape_faults(rt: HostRuntime) -> Result<(), Fail> {
+fn shows_shape_faults(rt: HostRuntime) -> Result<(), AllocError> {
     for &(why, number, text) in SHAPE_RULES {
         let fault = ShapeFault {
             addr: 0x8AB,
@@ -171,17 +173,11 @@ fn shows_shape_faults(rt: HostRuntime) -> Result<(), Fail> {
             why,
         };
         let refusal = Refusal::Shape(fault);
-        assert_eq!(rt;
-            (why.number(), fault.number(), refusal.number()),
-            (number, number, number)
-        );
-        assert_eq!(rt; format!(in rt.alloc(); "{why}")?.as_str(), text);
-        let shown = format!(in rt.alloc(); "{fault}")?;
-        assert_eq!(rt; shown.strip_prefix("shape 8AB/any at 00C: "), Some(text));
-        assert_eq!(rt;
-            format!(in rt.alloc(); "{refusal}")?.as_str(),
-            shown.as_str()
-        );
+        let numbers = [why.number(), fault.number(), refusal.number()];
+        expect_same(&rt, &numbers, &[number; 3], &text);
+        expect_shown(&rt, rt.alloc(), &why, text)?;
+        expect_shown_after(&rt, rt.alloc(), &fault, "shape 8AB/any at 00C: ", text)?;
+        expect_shown_after(&rt, rt.alloc(), &refusal, "shape 8AB/any at 00C: ", text)?;
     }
     Ok(())
 }
@@ -202,58 +198,54 @@ const FRAME_RULES: &[(FrameWhy, u8, &str)] = &[
     ),
     (FrameWhy::BeamUnknown, 44, "it lights at a lost place"),
     (FrameWhy::ScaleUnknown, 45, "it lights at unknown scale"),
-    (FrameWhy::OffScreen, 46, "it lights off the screen"),
+    (FrameWhy::OffScreen, 46, "it lights outside the window"),
     (FrameWhy::NoEntry, 47, "it calls a shape that has no entry"),
     (FrameWhy::Budget, 48, "the words so far are over the budget"),
 ];
 
 #[test]
-fn shows_frame_faults(rt: HostRuntime) -> Result<(), Fail> {
+fn shows_frame_faults(rt: HostRuntime) -> Result<(), AllocError> {
     for &(why, number, text) in FRAME_RULES {
         let fault = FrameFault { word: 0x0E7, why };
         let refusal = Refusal::Frame(fault);
-        assert_eq!(rt;
-            (why.number(), fault.number(), refusal.number()),
-            (number, number, number)
-        );
-        assert_eq!(rt; format!(in rt.alloc(); "{why}")?.as_str(), text);
-        let shown = format!(in rt.alloc(); "{fault}")?;
-        assert_eq!(rt; shown.strip_prefix("frame at 0E7: "), Some(text));
-        assert_eq!(rt;
-            format!(in rt.alloc(); "{refusal}")?.as_str(),
-            shown.as_str()
-        );
+        let numbers = [why.number(), fault.number(), refusal.number()];
+        expect_same(&rt, &numbers, &[number; 3], &text);
+        expect_shown(&rt, rt.alloc(), &why, text)?;
+        expect_shown_after(&rt, rt.alloc(), &fault, "frame at 0E7: ", text)?;
+        expect_shown_after(&rt, rt.alloc(), &refusal, "frame at 0E7: ", text)?;
     }
     Ok(())
 }
 
+/// The other refusals, their numbers and their texts.
+const REFUSALS: &[(Refusal, u8, &str)] = &[
+    (
+        Refusal::Image(ImageFault::RomLength),
+        1,
+        "the ROM has a wrong length",
+    ),
+    (
+        Refusal::Image(ImageFault::FrameLength),
+        2,
+        "the frame has a wrong length",
+    ),
+    (Refusal::BudgetRange, 49, "the budget is out of range"),
+    (Refusal::IndexMemory, 50, "out of memory for the index"),
+    (
+        Refusal::Cert(CertFault {
+            line: 12,
+            why: CertWhy::Order,
+        }),
+        11,
+        "certificate line 12: entries are out of order, or one is repeated",
+    ),
+];
+
 #[test]
-fn shows_refusals(rt: HostRuntime) -> Result<(), Fail> {
-    let order = CertFault {
-        line: 12,
-        why: CertWhy::Order,
-    };
-    for (refusal, number, text) in [
-        (
-            Refusal::Image(ImageFault::RomLength),
-            1,
-            "the ROM has a wrong length",
-        ),
-        (
-            Refusal::Image(ImageFault::FrameLength),
-            2,
-            "the frame has a wrong length",
-        ),
-        (Refusal::BudgetRange, 49, "the budget is out of range"),
-        (Refusal::IndexMemory, 50, "out of memory for the index"),
-        (
-            Refusal::Cert(order),
-            11,
-            "certificate line 12: entries are out of order, or one is repeated",
-        ),
-    ] {
+fn shows_refusals(rt: HostRuntime) -> Result<(), AllocError> {
+    for &(refusal, number, text) in REFUSALS {
         assert_eq!(rt; refusal.number(), number);
-        assert_eq!(rt; format!(in rt.alloc(); "{refusal}")?.as_str(), text);
+        expect_shown(&rt, rt.alloc(), &refusal, text)?;
     }
     Ok(())
 }

@@ -6,6 +6,10 @@ mod certificates;
 #[cfg(test)]
 mod checking;
 #[cfg(test)]
+mod expecting;
+#[cfg(test)]
+mod frames;
+#[cfg(test)]
 mod hostile;
 #[cfg(test)]
 mod items;

@@ -1,9 +1,13 @@
 //! Made certificates by the text of their entries, and refusals.
 
-use dvg_cert::{Key, read_cert};
+use crate::certificates::is_written;
+use crate::expecting::{expect, expect_same, expect_shown};
+use dvg_cert::{Cert, Key, ListIndex, read_cert};
+use dvg_check::{ShapeWhy, check_shapes_exact};
 use dvg_make::{MakeFault, make};
-use dvg_words::RomImage;
-use std::alloc::Global;
+use dvg_words::{ASTEROIDS, ImageFault, RomImage, RomMap, SCREEN};
+use std::alloc::{AllocError, Global};
+use std::process::Abort;
 use std::test::Fail;
 
 /// Words at a word address.
@@ -33,53 +37,100 @@ fn rom_bytes(parts: &[Part]) -> [u8; 2048] {
     bytes
 }
 
-/// The entries that are made are those of the text.
+/// The entries that are made are those of the text, and their counts are exact. The checker accepts them but where they light
+/// off the screen.
 fn makes(alloc: Global, bytes: &[u8], roots: &[(u16, Key)], text: &str) -> Result<(), Fail> {
-    let Ok(rom) = RomImage::from_bytes(bytes) else {
+    let Ok(rom) = RomImage::from_bytes(bytes, ASTEROIDS) else {
         return Err(Fail::new("the ROM was refused"));
     };
     let Ok(cert) = make(alloc, &rom, roots) else {
         return Err(Fail::new("nothing was made"));
     };
     let wanted = read_cert(alloc, text.as_bytes())?;
-    if cert.entries() == wanted.entries() {
-        Ok(())
-    } else {
-        Err(Fail::new("other entries were made"))
+    if cert.entries() != wanted.entries() || cert.rom() != wanted.rom() {
+        return Err(Fail::new("other entries were made"));
+    }
+    match check_shapes_exact(&rom, &cert, &ListIndex::new(&cert), &SCREEN) {
+        Err(fault) if fault.why != ShapeWhy::OffScreen => {
+            Err(Fail::new("what was made was refused"))
+        }
+        _ => Ok(()),
     }
 }
 
-fn fault_of(alloc: Global, bytes: &[u8], roots: &[(u16, Key)]) -> Option<MakeFault> {
-    let Ok(rom) = RomImage::from_bytes(bytes) else {
-        return None;
-    };
-    make(alloc, &rom, roots).err()
+/// What is made of these bytes as a ROM at a map.
+fn made(
+    alloc: Global,
+    bytes: &[u8],
+    map: RomMap,
+    roots: &[(u16, Key)],
+) -> Result<Result<Cert, MakeFault>, ImageFault> {
+    let rom = RomImage::from_bytes(bytes, map)?;
+    Ok(make(alloc, &rom, roots))
 }
+
+fn fault_of(alloc: Global, bytes: &[u8], map: RomMap, roots: &[(u16, Key)]) -> Option<MakeFault> {
+    match made(alloc, bytes, map, roots) {
+        Ok(Err(fault)) => Some(fault),
+        _ => None,
+    }
+}
+
+/// Whether this text is written of what is made.
+fn is_made(alloc: Global, bytes: &[u8], map: RomMap, roots: &[(u16, Key)], text: &[u8]) -> bool {
+    match made(alloc, bytes, map, roots) {
+        Ok(Ok(cert)) => is_written(alloc, &cert, text),
+        _ => false,
+    }
+}
+
+/// The certificate of the stroke in a ROM at 400 to 7FF.
+const AT_400: &[u8] =
+    b"dvgcert 2\nrom 400 7FF\nshape 400 0 end rel 1047552 785408 box 0 1047552 0 785408 depth 0 words 3 scale 0\ndone 1\n";
+
+/// The stroke's bytes as a ROM at 400 to 7FF, and roots below and above it.
+#[test]
+fn makes_for_another_map(rt: HostRuntime) -> Result<(), Fail> {
+    let bytes = rom_bytes(&[STROKE]);
+    let Some(map) = RomMap::new(0x400, 0x7FF) else {
+        return Err(Fail::new("the map was refused"));
+    };
+    let is = is_made(rt.alloc(), &bytes, map, &[(0x400, Key::At(0))], AT_400);
+    expect(&rt, is, &AT_400);
+    for &word in [0x3FF, 0x800].as_slice() {
+        let fault = fault_of(rt.alloc(), &bytes, map, &[(word, Key::At(0))]);
+        expect_same(&rt, &fault, &Some(MakeFault::Unstraight { word }), &word);
+    }
+    Ok(())
+}
+
+/// Words at an address, a root and the certificate of what is made.
+const ONE_SHAPE: &[(Part, (u16, Key), &str)] = &[
+    (
+        STROKE,
+        ZERO,
+        "dvgcert 1\nshape 800 0 end rel 1047552 785408 box 0 1047552 0 785408 depth 0 words 3 scale 0\ndone 1\n",
+    ),
+    (
+        (0x800, &[0xFA70, 0xF672, 0xD000]),
+        ZERO,
+        "dvgcert 1\nshape 800 0 end rel 4096 4096 box 0 4096 0 8192 depth 0 words 3 scale 0\ndone 1\n",
+    ),
+    (
+        (0x800, &[0xA064, 0x0190, 0xD000]),
+        ANY,
+        "dvgcert 1\nshape 800 any end abs 409600 102400 box none depth 0 words 3 scale 0\ndone 1\n",
+    ),
+    (
+        (0x800, &[0xA000, 0x03FF, 0x9000, 0x7001, 0xD000]),
+        ZERO,
+        "dvgcert 1\nshape 800 0 end abs 1048576 0 box none depth 0 words 5 scale 0\ndone 1\n",
+    ),
+];
 
 #[test]
 fn makes_one_shape(rt: HostRuntime) -> Result<(), Fail> {
-    for (part, root, text) in [
-        (
-            STROKE,
-            ZERO,
-            "dvgcert 1\nshape 800 0 end rel 1047552 785408 box 0 1047552 0 785408 depth 0 words 3 scale 0\ndone 1\n",
-        ),
-        (
-            (0x800, &[0xFA70, 0xF672, 0xD000]),
-            ZERO,
-            "dvgcert 1\nshape 800 0 end rel 4096 4096 box 0 4096 0 8192 depth 0 words 3 scale 0\ndone 1\n",
-        ),
-        (
-            (0x800, &[0xA064, 0x0190, 0xD000]),
-            (0x800, Key::Any),
-            "dvgcert 1\nshape 800 any end abs 409600 102400 box none depth 0 words 3 scale 0\ndone 1\n",
-        ),
-        (
-            (0x800, &[0xA000, 0x03FF, 0x9000, 0x7001, 0xD000]),
-            ZERO,
-            "dvgcert 1\nshape 800 0 end abs 1048576 0 box none depth 0 words 5 scale 0\ndone 1\n",
-        ),
-    ] {
+    for &(part, root, text) in ONE_SHAPE {
         makes(rt.alloc(), &rom_bytes(&[part]), &[root], text)?;
     }
     Ok(())
@@ -291,14 +342,18 @@ const FIRST_OF_TWO: &[Refused] = &[
     },
 ];
 
+fn check_faults(rt: &impl Abort, alloc: Global, table: &[Refused]) {
+    for row in table {
+        let fault = fault_of(alloc, &rom_bytes(row.parts), ASTEROIDS, row.roots);
+        expect_same(rt, &fault, &Some(row.fault), &row.what);
+    }
+}
+
 #[test]
 fn refuses_what_no_list_is_made_for(rt: HostRuntime) {
-    for table in [UNSTRAIGHT, DEEP, FIRST_OF_TWO] {
-        for row in table {
-            let fault = fault_of(rt.alloc(), &rom_bytes(row.parts), row.roots);
-            assert_eq!(rt; fault, Some(row.fault), "for {}", row.what);
-        }
-    }
+    check_faults(&rt, rt.alloc(), UNSTRAIGHT);
+    check_faults(&rt, rt.alloc(), DEEP);
+    check_faults(&rt, rt.alloc(), FIRST_OF_TWO);
 }
 
 /// A ROM whose shape at 800 has 148 calls, of 999,998 words together, and then goes on with the words of this part, from
@@ -350,21 +405,19 @@ const LAST_OF_A_MILLION: &[(&[u16], MakeFault)] = &[
 ];
 
 #[test]
-fn counts_to_a_million(rt: HostRuntime) -> Result<(), Fail> {
+fn refuses_more_than_a_million_words(rt: HostRuntime) {
     for &(words, fault) in LAST_OF_A_MILLION {
         let rom = large_rom((0x894, words));
-        assert_eq!(rt;
-            fault_of(rt.alloc(), &rom, &[ANY]),
-            Some(fault),
-            "with {words:?}"
-        );
+        let told = fault_of(rt.alloc(), &rom, ASTEROIDS, &[ANY]);
+        expect_same(&rt, &told, &Some(fault), &words);
     }
-    let large = [ANY, (0x7FF, Key::At(0))];
     let rom = large_rom((0x894, &[0xCB00, 0xD000]));
-    assert_eq!(rt;
-        fault_of(rt.alloc(), &rom, &large),
-        Some(MakeFault::TooLarge)
-    );
+    let told = fault_of(rt.alloc(), &rom, ASTEROIDS, &[ANY, (0x7FF, Key::At(0))]);
+    assert_eq!(rt; told, Some(MakeFault::TooLarge));
+}
+
+#[test]
+fn counts_to_a_million(rt: HostRuntime) -> Result<(), Fail> {
     makes(
         rt.alloc(),
         &large_rom((0x894, &[0xF000, 0xD000])),
@@ -373,17 +426,12 @@ fn counts_to_a_million(rt: HostRuntime) -> Result<(), Fail> {
     )
 }
 
-/// How many entries are made, where the first roots are so many of 4096 shapes of one RTSL, and then one more comes.
-fn made_after(
+/// So many roots, of 4096 shapes of one RTSL, and then this one.
+fn roots_before(
     alloc: Global,
     count: usize,
-    last: Part,
     root: (u16, Key),
-) -> Result<Result<usize, MakeFault>, Fail> {
-    let bytes = rom_bytes(&[(0x800, &[0xD000; 1024]), last]);
-    let Ok(rom) = RomImage::from_bytes(&bytes) else {
-        return Err(Fail::new("the ROM was refused"));
-    };
+) -> Result<Vec<(u16, Key)>, AllocError> {
     let mut roots = Vec::new(alloc);
     for addr in 0x800..0x900 {
         for scale in 0..16 {
@@ -392,75 +440,93 @@ fn made_after(
     }
     roots.truncate(count);
     roots.push(root)?;
-    Ok(make(alloc, &rom, &roots).map(|cert| cert.entries().len()))
+    Ok(roots)
 }
 
+/// How many entries are made, where the ROM is full of RTSL but for these words.
+fn count_made(alloc: Global, last: Part, roots: &[(u16, Key)]) -> Option<Result<usize, MakeFault>> {
+    let bytes = rom_bytes(&[(0x800, &[0xD000; 1024]), last]);
+    match made(alloc, &bytes, ASTEROIDS, roots) {
+        Ok(Ok(cert)) => Some(Ok(cert.entries().len())),
+        Ok(Err(fault)) => Some(Err(fault)),
+        Err(_) => None,
+    }
+}
+
+/// The root of 900.
+const LAST: (u16, Key) = (0x900, Key::At(0));
+
+/// How many roots come before the last one, the words at 900, the last root, and how many entries are made.
+const MOST_ENTRIES: &[(usize, &[u16], (u16, Key), Result<usize, MakeFault>)] = &[
+    (4095, &[], LAST, Ok(4096)),
+    (4096, &[], ZERO, Ok(4096)),
+    (4096, &[], LAST, Err(MakeFault::TooLarge)),
+    (
+        4096,
+        &[],
+        (0x7FF, Key::At(0)),
+        Err(MakeFault::Unstraight { word: 0x7FF }),
+    ),
+    (
+        4096,
+        &[],
+        (0x900, Key::At(16)),
+        Err(MakeFault::Unstraight { word: 0x900 }),
+    ),
+    // The 4096th entry needs itself, or another one, or calls out of the ROM, or has a fault of its own.
+    (4095, &[0xC900], LAST, Err(MakeFault::Deep)),
+    (4095, &[0xC901], LAST, Err(MakeFault::TooLarge)),
+    (4095, &[0xC800], LAST, Ok(4096)),
+    (4095, &[0xC000], LAST, Err(MakeFault::TooLarge)),
+    (
+        4094,
+        &[0xC000],
+        LAST,
+        Err(MakeFault::Unstraight { word: 0x000 }),
+    ),
+    (
+        4095,
+        &[0xB000],
+        LAST,
+        Err(MakeFault::Unstraight { word: 0x900 }),
+    ),
+];
+
 #[test]
-fn makes_4096_entries_at_the_most(rt: HostRuntime) -> Result<(), Fail> {
-    let root = (0x900, Key::At(0));
-    let nothing: Part = (0x900, &[]);
-    for (count, last, root, want) in [
-        (4095, nothing, root, Ok(4096)),
-        (4096, nothing, ZERO, Ok(4096)),
-        (4096, nothing, root, Err(MakeFault::TooLarge)),
-        (
-            4096,
-            nothing,
-            (0x7FF, Key::At(0)),
-            Err(MakeFault::Unstraight { word: 0x7FF }),
-        ),
-        (
-            4096,
-            nothing,
-            (0x900, Key::At(16)),
-            Err(MakeFault::Unstraight { word: 0x900 }),
-        ),
-        // The 4096th entry needs itself, or another one, or calls out of the ROM, or has a fault of its own.
-        (4095, (0x900, &[0xC900]), root, Err(MakeFault::Deep)),
-        (4095, (0x900, &[0xC901]), root, Err(MakeFault::TooLarge)),
-        (4095, (0x900, &[0xC800]), root, Ok(4096)),
-        (4095, (0x900, &[0xC000]), root, Err(MakeFault::TooLarge)),
-        (
-            4094,
-            (0x900, &[0xC000]),
-            root,
-            Err(MakeFault::Unstraight { word: 0x000 }),
-        ),
-        (
-            4095,
-            (0x900, &[0xB000]),
-            root,
-            Err(MakeFault::Unstraight { word: 0x900 }),
-        ),
-    ] {
-        let made = made_after(rt.alloc(), count, last, root)?;
-        assert_eq!(rt; made, want, "after {count} roots");
+fn makes_4096_entries_at_the_most(rt: HostRuntime) -> Result<(), AllocError> {
+    for &(count, words, root, want) in MOST_ENTRIES {
+        let roots = roots_before(rt.alloc(), count, root)?;
+        let told = count_made(rt.alloc(), (0x900, words), &roots);
+        expect_same(&rt, &told, &Some(want), &(count, words));
     }
     Ok(())
 }
 
+/// The faults, their numbers and their texts.
+const FAULTS: &[(MakeFault, u8, &str)] = &[
+    (
+        MakeFault::Unstraight { word: 0x00A },
+        60,
+        "no shape can have the item at 00A",
+    ),
+    (MakeFault::Deep, 61, "the shapes call too deep"),
+    (
+        MakeFault::TooLarge,
+        62,
+        "the shapes are too large for a certificate",
+    ),
+    (
+        MakeFault::Memory,
+        63,
+        "there is no memory for the certificate",
+    ),
+];
+
 #[test]
-fn shows_faults(rt: HostRuntime) -> Result<(), Fail> {
-    for (fault, number, text) in [
-        (
-            MakeFault::Unstraight { word: 0x00A },
-            60,
-            "no shape can have the item at 00A",
-        ),
-        (MakeFault::Deep, 61, "the shapes call too deep"),
-        (
-            MakeFault::TooLarge,
-            62,
-            "the shapes are too large for a certificate",
-        ),
-        (
-            MakeFault::Memory,
-            63,
-            "there is no memory for the certificate",
-        ),
-    ] {
+fn shows_faults(rt: HostRuntime) -> Result<(), AllocError> {
+    for &(fault, number, text) in FAULTS {
         assert_eq!(rt; fault.number(), number);
-        assert_eq!(rt; format!(in rt.alloc(); "{fault}")?.as_str(), text);
+        expect_shown(&rt, rt.alloc(), &fault, text)?;
     }
     Ok(())
 }

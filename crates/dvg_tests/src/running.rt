@@ -3,11 +3,12 @@
 pub mod devices;
 mod making;
 
+use crate::expecting::{expect, expect_same, expect_shown};
 use crate::rows::EMPTY;
 use devices::{SlowReader, SlowWriter};
 use dvg_cmd::{
-    Counted, CountedRead, CountedWrite, MakeFault, MakeRunFault, Outcome, RunFault, message_of,
-    run_check, status_of,
+    Counted, CountedRead, CountedWrite, Mode, Outcome, RunFault, SCREEN, Window, message_of,
+    run_check, status_of, window_of,
 };
 use std::alloc::{AllocError, Global};
 
@@ -35,7 +36,16 @@ pub fn run_over<W: CountedWrite>(
     let mut rom = Counted::new(rom);
     let mut frame = Counted::new(frame);
     let mut cert = Counted::new(cert);
-    let end = run_check(alloc, &mut rom, &mut cert, &mut frame, 20000, out);
+    let end = run_check(
+        alloc,
+        &mut rom,
+        &mut cert,
+        &mut frame,
+        20000,
+        SCREEN,
+        Mode::Bound,
+        out,
+    );
     (end, [told_of(rom), told_of(frame), told_of(cert)])
 }
 
@@ -64,97 +74,141 @@ fn byte_by_byte(alloc: Global, rom: &[u8], frame: &[u8], cert: &[u8]) -> [Told; 
     told
 }
 
-/// Each input is read to its end, which is met once, or to one byte past its limit; a certificate that is refused no further
-/// than its first piece here, but as far as the others where the ROM was refused before it.
+/// Lengths of a ROM and a frame of zeros, and what becomes of their readers.
+const LENGTHS: &[(usize, usize, Told, Told)] = &[
+    (0, 0, (0, 1, 0), (0, 1, 0)),
+    (2047, 10, (0, 2048, 0), (0, 11, 0)),
+    (2048, 2048, (0, 2049, 0), (0, 2049, 0)),
+    (2049, 2049, (0, 2050, 0), (0, 2049, 0)),
+    (4096, 2049, (0, 4097, 0), (0, 2049, 0)),
+    (4110, 2100, (0, 4097, 13), (0, 2049, 51)),
+];
+
+/// A ROM and a frame are read to their end, which is met once, or to one byte past their limit.
 #[test]
-fn reads_each_byte_once(rt: HostRuntime) -> Result<(), AllocError> {
-    let long = [0; 2100];
-    for (rom_length, frame_length, rom_told, frame_told) in [
-        (0, 0, (0, 1, 0), (0, 1, 0)),
-        (2047, 10, (0, 2048, 0), (0, 11, 0)),
-        (2048, 2048, (0, 2049, 0), (0, 2049, 0)),
-        (2049, 2049, (0, 2049, 0), (0, 2049, 0)),
-        (2060, 2100, (0, 2049, 11), (0, 2049, 51)),
-    ] {
+fn reads_each_byte_once(rt: HostRuntime) {
+    let long = [0; 4110];
+    for &(rom_length, frame_length, rom_told, frame_told) in LENGTHS {
         let rom = long.get(..rom_length).unwrap_or(&[]);
         let frame = long.get(..frame_length).unwrap_or(&[]);
         let told = byte_by_byte(rt.alloc(), rom, frame, EMPTY);
-        assert_eq!(rt; told, [rom_told, frame_told, (0, 18, 0)], "at {rom_length}");
+        expect_same(&rt, &told, &[rom_told, frame_told, (0, 18, 0)], &rom_length);
     }
+}
+
+/// So is a certificate; one that is refused is read no further than its first piece here, but as far as the others where the
+/// frame was refused before it.
+#[test]
+fn reads_certificates_once(rt: HostRuntime) -> Result<(), AllocError> {
     let cert = vec![in rt.alloc(); 0u8; 1_048_600]?;
     let told = byte_by_byte(rt.alloc(), ROM, FIRST, &cert);
-    assert_eq!(rt; told, [(0, 2049, 0), (0, 11, 0), (0, 4096, 1_044_504)]);
-    let told = byte_by_byte(rt.alloc(), &[], FIRST, &cert);
-    assert_eq!(rt; told, [(0, 1, 0), (0, 11, 0), (0, 1_048_577, 23)]);
+    let want = [(0, 2049, 0), (0, 11, 0), (0, 4096, 1_044_504)];
+    expect_same(&rt, &told, &want, &"a frame that draws");
+    let told = byte_by_byte(rt.alloc(), ROM, &[], &cert);
+    let want = [(0, 2049, 0), (0, 1, 0), (0, 1_048_577, 23)];
+    expect_same(&rt, &told, &want, &"no frame");
     // and by pieces of 4096 bytes, where the reader gives as much
     let mut out = Counted::new(SlowWriter::new(64, NEVER));
-    let (_, [_, _, told]) = run_slow(rt.alloc(), [&[], FIRST, &cert], 4096, [NEVER; 3], &mut out);
-    assert_eq!(rt; told, (0, 257, 23));
+    let (_, told) = run_slow(rt.alloc(), [ROM, &[], &cert], 4096, [NEVER; 3], &mut out);
+    assert_eq!(rt; told[2], (0, 257, 23));
     Ok(())
 }
 
-#[test]
-fn says_how_it_ended(rt: HostRuntime) {
-    for (end, status) in [
-        (Ok(Outcome::Accepted), 0),
-        (Ok(Outcome::Refused), 1),
-        (Ok(Outcome::NoMemory), 4),
-        (Err(RunFault::ReadRom), 3),
-        (Err(RunFault::ReadFrame), 3),
-        (Err(RunFault::ReadCert), 3),
-        (Err(RunFault::Write), 3),
-        (Err(RunFault::Memory), 4),
-    ] {
-        assert_eq!(rt; status_of(&end), status, "at {end:?}");
-    }
-    for (fault, message) in [
-        (RunFault::ReadRom, "dvgcheck: cannot read the ROM"),
-        (RunFault::ReadFrame, "dvgcheck: cannot read the frame"),
-        (RunFault::ReadCert, "dvgcheck: cannot read the certificate"),
-        (RunFault::Write, "dvgcheck: cannot write"),
-        (RunFault::Memory, "dvgcheck: out of memory"),
-    ] {
-        assert_eq!(rt; message_of(&fault), message);
-    }
-}
+/// Ends of runs, and their statuses.
+const STATUSES: &[(Result<Outcome, RunFault>, u8)] = &[
+    (Ok(Outcome::Accepted), 0),
+    (Ok(Outcome::Refused), 1),
+    (Ok(Outcome::NoMemory), 4),
+    (Err(RunFault::ReadRom), 3),
+    (Err(RunFault::ReadFrame), 3),
+    (Err(RunFault::ReadCert), 3),
+    (Err(RunFault::Write), 3),
+    (Err(RunFault::Memory), 4),
+];
 
-/// The texts and numbers of the faults.
+/// Faults of runs, their numbers, their texts and their messages.
+const FAULTS: &[(RunFault, u8, &str, &str)] = &[
+    (
+        RunFault::ReadRom,
+        70,
+        "cannot read the ROM",
+        "dvgcheck: cannot read the ROM",
+    ),
+    (
+        RunFault::ReadFrame,
+        71,
+        "cannot read the frame",
+        "dvgcheck: cannot read the frame",
+    ),
+    (
+        RunFault::ReadCert,
+        72,
+        "cannot read the certificate",
+        "dvgcheck: cannot read the certificate",
+    ),
+    (
+        RunFault::Write,
+        73,
+        "cannot write",
+        "dvgcheck: cannot write",
+    ),
+    (
+        RunFault::Memory,
+        74,
+        "out of memory",
+        "dvgcheck: out of memory",
+    ),
+];
+
 #[test]
-fn shows_faults(rt: HostRuntime) -> Result<(), AllocError> {
-    for (fault, number, text) in [
-        (RunFault::ReadRom, 70, "cannot read the ROM"),
-        (RunFault::ReadFrame, 71, "cannot read the frame"),
-        (RunFault::ReadCert, 72, "cannot read the certificate"),
-        (RunFault::Write, 73, "cannot write"),
-        (RunFault::Memory, 74, "out of memory"),
-    ] {
-        assert_eq!(rt; fault.number(), number);
-        assert_eq!(rt; format!(in rt.alloc(); "{fault}")?.as_str(), text);
+fn says_how_it_ended(rt: HostRuntime) -> Result<(), AllocError> {
+    for (end, status) in STATUSES {
+        expect_same(&rt, &status_of(end), status, end);
     }
-    let made = |fault| MakeRunFault::Make(fault);
-    for (fault, number, text) in [
-        (MakeRunFault::RomLength, 1, "the ROM has a wrong length"),
-        (
-            made(MakeFault::Unstraight { word: 0x0AB }),
-            60,
-            "no shape can have the item at 0AB",
-        ),
-        (made(MakeFault::Deep), 61, "the shapes call too deep"),
-        (
-            made(MakeFault::TooLarge),
-            62,
-            "the shapes are too large for a certificate",
-        ),
-        (
-            made(MakeFault::Memory),
-            63,
-            "there is no memory for the certificate",
-        ),
-        (MakeRunFault::ReadRom, 70, "cannot read the ROM"),
-        (MakeRunFault::Write, 73, "cannot write"),
-    ] {
+    for &(fault, number, text, message) in FAULTS {
         assert_eq!(rt; fault.number(), number);
-        assert_eq!(rt; format!(in rt.alloc(); "{fault}")?.as_str(), text);
+        expect_shown(&rt, rt.alloc(), &fault, text)?;
+        expect_same(&rt, &message_of(&fault), &message, &fault);
     }
     Ok(())
+}
+
+/// Windows from words.
+const WINDOWS: &[(&str, (u16, u16, u16, u16))] = &[
+    ("0,1023,0,1023", (0, 1023, 0, 1023)),
+    ("1,1022,128,894", (1, 1022, 128, 894)),
+    ("400,400,100,100", (400, 400, 100, 100)),
+];
+
+/// Words that are none.
+const NO_WINDOWS: &[&str] = &[
+    "0,1024,0,1",
+    "0,1,0,1024",
+    "5,4,0,1",
+    "0,1,5,4",
+    "00,1,0,1",
+    "0,1,0",
+    "0,1,0,1,0",
+    "",
+    ",,,",
+    "0,1,0,",
+    "0, 1,0,1",
+    "+0,1,0,1",
+    "-0,1,0,1",
+    "0,0x1,0,1",
+    "0,1,0,1 ",
+    "0,1,0,65537",
+];
+
+#[test]
+fn reads_windows(rt: HostRuntime) {
+    for &(word, (x_min, x_max, y_min, y_max)) in WINDOWS {
+        let window = Window::new(x_min, x_max, y_min, y_max);
+        let is_right = window.is_some() && window_of(word) == window;
+        expect(&rt, is_right, &word);
+    }
+    assert!(rt; window_of("0,1023,0,1023") == Some(SCREEN));
+    for &word in NO_WINDOWS {
+        expect(&rt, window_of(word).is_none(), &word);
+    }
 }

@@ -2,9 +2,11 @@
 
 ghost use Rattle.dvg_words.specs.Values.{DrawFits};
 
+use crate::expecting::{expect, expect_same, expect_shown};
 use dvg_words::{
-    Draw, Format, FrameImage, ImageFault, Instr, Point, RomImage, decode, displacement, draw_move,
-    factor, is_long, labs_place, on_screen, shift,
+    ASTEROIDS, Draw, Format, FrameImage, ImageFault, Instr, Point, RomImage, RomMap, SCREEN,
+    Window, decode, displacement, draw_move, factor, in_window, is_long, labs_place, on_screen,
+    shift,
 };
 use std::test::Fail;
 
@@ -20,8 +22,8 @@ fn draw(dx: i16, dy: i16, lscale: u8, bright: u8) -> Option<Instr>
 }
 
 #[test]
-fn decodes_the_vectors(rt: HostRuntime) {
-    let vectors = [
+fn decodes_draws(rt: HostRuntime) {
+    for (first, second, instr) in [
         (0x92FF, 0x73FF, draw(1023, 767, 9, 7)),
         (0x9401, 0x7401, draw(-1, -1, 9, 7)),
         (0x0C01, 0xF800, draw(0, -1, 0, 15)),
@@ -29,6 +31,14 @@ fn decodes_the_vectors(rt: HostRuntime) {
         (0xFA70, 0x0000, draw(0, 512, 3, 7)),
         (0xF672, 0x0000, draw(512, -512, 2, 7)),
         (0xFF8F, 0x0000, draw(-768, -768, 5, 8)),
+    ] {
+        expect_same(&rt, &decode(first, second), &instr, &(first, second));
+    }
+}
+
+#[test]
+fn decodes_other_instructions(rt: HostRuntime) {
+    for (first, second, instr) in [
         (
             0xA064,
             0x0190,
@@ -55,116 +65,248 @@ fn decodes_the_vectors(rt: HostRuntime) {
         (0xCABC, 0xFFFF, Some(Instr::Jsrl { to: 0xABC })),
         (0xDFFF, 0xFFFF, Some(Instr::Rtsl)),
         (0xE201, 0xFFFF, Some(Instr::Jmpl { to: 0x201 })),
-    ];
-    for (first, second, instr) in vectors {
-        assert_eq!(rt; decode(first, second), instr, "at {first:04X} {second:04X}");
+    ] {
+        expect_same(&rt, &decode(first, second), &instr, &(first, second));
+    }
+}
+
+const LONG: Draw = Draw {
+    dx: 1023,
+    dy: 767,
+    lscale: 9,
+    bright: 7,
+};
+
+const SHORT: Draw = Draw {
+    dx: -768,
+    dy: -768,
+    lscale: 5,
+    bright: 8,
+};
+
+/// Global scales, and how far the long and the short draw move the beam at them.
+const LONG_MOVES: &[(u8, (i32, i32))] = &[
+    (0, (1047552, 785408)),
+    (15, (523776, 392704)),
+    (6, (1023, 767)),
+];
+
+const SHORT_MOVES: &[(u8, (i32, i32))] = &[
+    (0, (-49152, -49152)),
+    (5, (-768, -768)),
+    (11, (-1536, -1536)),
+];
+
+#[test]
+fn moves_the_beam(rt: HostRuntime) {
+    for &(gscale, by) in LONG_MOVES {
+        expect_same(&rt, &displacement(&LONG, gscale % 16), &by, &gscale);
+    }
+    for &(gscale, by) in SHORT_MOVES {
+        expect_same(&rt, &displacement(&SHORT, gscale % 16), &by, &gscale);
     }
 }
 
 #[test]
-fn moves_the_beam(rt: HostRuntime) {
-    let long = Draw {
-        dx: 1023,
-        dy: 767,
-        lscale: 9,
-        bright: 7,
-    };
-    let short = Draw {
-        dx: -768,
-        dy: -768,
-        lscale: 5,
-        bright: 8,
-    };
-    let rows = [
-        (long, 0, (1047552, 785408)),
-        (long, 15, (523776, 392704)),
-        (long, 6, (1023, 767)),
-        (short, 0, (-49152, -49152)),
-        (short, 5, (-768, -768)),
-        (short, 11, (-1536, -1536)),
-    ];
-    assert_eq!(rt; factor(long.lscale, 15), 512);
+fn sets_and_shifts_places(rt: HostRuntime) {
+    assert_eq!(rt; factor(LONG.lscale, 15), 512);
     let from = labs_place(0, 128);
-    assert_eq!(rt; from, Point { x: 0, y: 131072 });
-    let to = shift(&from, &draw_move(&long, 0));
-    assert_eq!(rt;
-        to,
-        Point {
-            x: 1047552,
-            y: 916480
-        }
-    );
-    for (draw, gscale, by) in rows {
-        assert_eq!(rt; displacement(&draw, gscale), by, "at global scale {gscale}");
-    }
+    let start = Point { x: 0, y: 131072 };
+    expect_same(&rt, &from, &start, &"the place of the LABS");
+    let end = Point {
+        x: 1047552,
+        y: 916480,
+    };
+    let to = shift(&from, &draw_move(&LONG, 0));
+    expect_same(&rt, &to, &end, &"the place after the draw");
 }
+
+/// Places, and whether they are on the screen.
+const SCREEN_PLACES: &[(i64, i64, bool)] = &[
+    (0, 0, true),
+    (1047552, 1047552, true),
+    (1047553, 0, false),
+    (0, 1047553, false),
+    (-1, 0, false),
+    (0, -1, false),
+];
 
 #[test]
 fn knows_the_screen(rt: HostRuntime) {
     assert!(rt; is_long(0xA000) && !is_long(0xB000));
     assert_eq!(rt; (Format::Long.words(), Format::Short.words()), (2, 1));
-    for (x, y, is_on) in [
-        (0, 0, true),
-        (1047552, 1047552, true),
-        (1047553, 0, false),
-        (0, 1047553, false),
-        (-1, 0, false),
-        (0, -1, false),
-    ] {
-        assert_eq!(rt; on_screen(x, y), is_on, "at {x} {y}");
+    for &(x, y, is_on) in SCREEN_PLACES {
+        let is_right = on_screen(x, y) == is_on && in_window(&SCREEN, x, y) == is_on;
+        expect(&rt, is_right, &(x, y));
     }
 }
+
+/// Places, and whether they are in the window from 1 to 2 and from 3 to 5.
+const WINDOW_PLACES: &[(i64, i64, bool)] = &[
+    (1024, 3072, true),
+    (2048, 5120, true),
+    (1023, 3072, false),
+    (2049, 3072, false),
+    (1024, 3071, false),
+    (1024, 5121, false),
+];
+
+const NO_WINDOWS: &[(u16, u16, u16, u16)] = &[
+    (5, 4, 0, 1),
+    (0, 1, 5, 4),
+    (0, 1024, 0, 1),
+    (0, 1, 0, 1024),
+];
+
+fn is_in_a_window(x: i64, y: i64) -> Option<bool> {
+    let window = Window::new(1, 2, 3, 5)?;
+    Some(in_window(&window, x, y))
+}
+
+#[test]
+fn knows_windows(rt: HostRuntime) {
+    for &(x, y, is_in) in WINDOW_PLACES {
+        expect_same(&rt, &is_in_a_window(x, y), &Some(is_in), &(x, y));
+    }
+    expect(&rt, Window::new(0, 1023, 0, 1023) == Some(SCREEN), &SCREEN);
+    for &(x_min, x_max, y_min, y_max) in NO_WINDOWS {
+        let is_none = Window::new(x_min, x_max, y_min, y_max).is_none();
+        expect(&rt, is_none, &(x_min, x_max, y_min, y_max));
+    }
+}
+
+/// Word addresses of Asteroids' ROM with `92FF` as its first word and `1234` as its last, and the words there.
+const ROM_WORDS: &[(u16, Option<u16>)] = &[
+    (0x7FF, None),
+    (0x800, Some(0x92FF)),
+    (0xBFF, Some(0x1234)),
+    (0xC00, None),
+    (0xFFFF, None),
+];
 
 #[test]
 fn reads_images(rt: HostRuntime) -> Result<(), Fail> {
     let mut bytes = [0u8; 2048];
-    bytes[0] = 0xFF;
-    bytes[1] = 0x92;
-    bytes[2046] = 0x34;
-    bytes[2047] = 0x12;
-    let Ok(rom) = RomImage::from_bytes(&bytes) else {
+    bytes[..2].copy_from_slice(&[0xFF, 0x92]);
+    bytes[2046..].copy_from_slice(&[0x34, 0x12]);
+    let Ok(rom) = RomImage::from_bytes(&bytes, ASTEROIDS) else {
         return Err(Fail::from("2048 bytes are a ROM"));
     };
-    for (addr, word) in [
-        (0x7FF, None),
-        (0x800, Some(0x92FF)),
-        (0xBFF, Some(0x1234)),
-        (0xC00, None),
-        (0xFFFF, None),
-    ] {
-        assert_eq!(rt; rom.word(addr), word, "at {addr:03X}");
+    for &(addr, word) in ROM_WORDS {
+        expect_same(&rt, &rom.word(addr), &word, &addr);
     }
-    let Ok(frame) = FrameImage::from_bytes(&bytes[2044..]) else {
+    Ok(())
+}
+
+/// What a frame of four bytes holds.
+#[test]
+fn reads_frames(rt: HostRuntime) -> Result<(), Fail> {
+    let Ok(frame) = FrameImage::from_bytes(&[0x00, 0x00, 0x34, 0x12]) else {
         return Err(Fail::from("four bytes are a frame"));
     };
-    assert_eq!(rt;
-        (frame.words(), frame.word(0), frame.word(1), frame.word(2)),
-        (2, Some(0), Some(0x1234), None)
-    );
+    assert_eq!(rt; frame.words(), 2);
+    let words = [frame.word(0), frame.word(1), frame.word(2)];
+    expect_same(&rt, &words, &[Some(0), Some(0x1234), None], &"the frame");
     Ok(())
+}
+
+/// Word addresses of a ROM's first and last word, and whether these are a map's.
+const MAPS: &[(u16, u16, bool)] = &[
+    (0x400, 0x400, true),
+    (0xBFF, 0xBFF, true),
+    (0x400, 0xBFF, true),
+    (0x800, 0xBFF, true),
+    (0x3FF, 0x7FF, false),
+    (0x400, 0xC00, false),
+    (0x7FF, 0x400, false),
+];
+
+#[test]
+fn takes_maps(rt: HostRuntime) {
+    for &(first, last, is) in MAPS {
+        let map = RomMap::new(first, last);
+        let wanted = if is { Some((first, last)) } else { None };
+        let ends = map.map(|map| (map.first(), map.last()));
+        expect_same(&rt, &ends, &wanted, &first);
+        expect(&rt, (map == Some(ASTEROIDS)) == (first == 0x800), &first);
+    }
+}
+
+/// The words at 3FF, 400 and BFF of a ROM of these bytes, which is told to lie where it does.
+fn words_of(bytes: &[u8], first: u16, last: u16) -> Option<[Option<u16>; 3]> {
+    let map = RomMap::new(first, last)?;
+    let rom = RomImage::from_bytes(bytes, map).ok()?;
+    if rom.map() != map {
+        return None;
+    }
+    Some([rom.word(0x3FF), rom.word(0x400), rom.word(0xBFF)])
+}
+
+/// The refusal of an image of these bytes.
+fn fault_of(bytes: &[u8], first: u16, last: u16) -> Option<ImageFault> {
+    let map = RomMap::new(first, last)?;
+    RomImage::from_bytes(bytes, map).err()
+}
+
+/// The longest and the shortest ROM.
+#[test]
+fn reads_images_of_other_maps(rt: HostRuntime) {
+    let mut bytes = [0u8; 4096];
+    bytes[..2].copy_from_slice(&[0x00, 0xD0]);
+    bytes[4094..].copy_from_slice(&[0x34, 0x12]);
+    let longest = Some([None, Some(0xD000), Some(0x1234)]);
+    expect_same(
+        &rt,
+        &words_of(&bytes, 0x400, 0xBFF),
+        &longest,
+        &"4096 bytes",
+    );
+    let shortest = Some([None, Some(0xD000), None]);
+    expect_same(
+        &rt,
+        &words_of(&bytes[..2], 0x400, 0x400),
+        &shortest,
+        &"2 bytes",
+    );
+    let refused = Some(ImageFault::RomLength);
+    expect_same(
+        &rt,
+        &fault_of(&bytes[1..], 0x400, 0xBFF),
+        &refused,
+        &"4095 bytes",
+    );
+    expect_same(
+        &rt,
+        &fault_of(&bytes[1..2], 0x400, 0x400),
+        &refused,
+        &"1 byte",
+    );
 }
 
 #[test]
 fn refuses_wrong_lengths(rt: HostRuntime) {
     let bytes = [0u8; 2052];
-    for length in [0usize, 2047, 2049] {
-        let fault = RomImage::from_bytes(&bytes[..length]).err();
-        assert_eq!(rt; fault, Some(ImageFault::RomLength), "at {length}");
+    for &length in [0usize, 2047, 2049].as_slice() {
+        let fault = RomImage::from_bytes(&bytes[..length.min(2052)], ASTEROIDS).err();
+        expect_same(&rt, &fault, &Some(ImageFault::RomLength), &length);
     }
-    for length in [0usize, 1, 3, 2049, 2050] {
-        let fault = FrameImage::from_bytes(&bytes[..length]).err();
-        assert_eq!(rt; fault, Some(ImageFault::FrameLength), "at {length}");
+    for &length in [0usize, 1, 3, 2049, 2050].as_slice() {
+        let fault = FrameImage::from_bytes(&bytes[..length.min(2052)]).err();
+        expect_same(&rt, &fault, &Some(ImageFault::FrameLength), &length);
     }
 }
 
+/// The faults of images, their numbers and their texts.
+const FAULTS: &[(ImageFault, u8, &str)] = &[
+    (ImageFault::RomLength, 1, "the ROM has a wrong length"),
+    (ImageFault::FrameLength, 2, "the frame has a wrong length"),
+];
+
 #[test]
 fn shows_faults(rt: HostRuntime) -> Result<(), Fail> {
-    for (fault, number, text) in [
-        (ImageFault::RomLength, 1, "the ROM has a wrong length"),
-        (ImageFault::FrameLength, 2, "the frame has a wrong length"),
-    ] {
+    for &(fault, number, text) in FAULTS {
+        expect_shown(&rt, rt.alloc(), &fault, text)?;
         assert_eq!(rt; fault.number(), number);
-        assert_eq!(rt; format!(in rt.alloc(); "{fault}")?.as_str(), text);
     }
     Ok(())
 }

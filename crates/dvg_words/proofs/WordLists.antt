@@ -1,6 +1,6 @@
 -- The words of a list of bytes, by their places.
 use Rattle.std.proofs.Common.{◌≡◌, ℕ, ◌+◌, ◌*◌, ◌/◌, ◌≤◌, zero, suc, List, [], ◌∷◌, length, get_or, slice_get, Some, refl, arith}
-use Rattle.dvg_words.specs.Values.{asteroids}
+use Rattle.dvg_words.specs.Values.{MemoryMap, IsMap}
 use Rattle.dvg_words.specs.Memory.{words_of, rom_of, IsRom, IsRomLength, IsFrame, IsFrameLength}
 
 -- two bytes to a word
@@ -19,12 +19,12 @@ word_at_place (low ∷ high ∷ bs) (suc i) h =
     let e1 : 2 * suc i + 1 ≡ suc (suc (2 * i + 1)) = omega arith in
     rw (e1, e) (word_at_place bs i (omega arith))
 
--- bytes of the ROM's length fill the ROM of Asteroids
-pub rom_of_is_rom : (bytes : List ℕ) → IsRomLength asteroids (length bytes) → IsRom (rom_of asteroids bytes)
-rom_of_is_rom bytes long =
+-- bytes of a ROM's length fill it
+pub rom_of_is_rom : (map : MemoryMap) (bytes : List ℕ) → IsMap map → IsRomLength map (length bytes) → IsRom (rom_of map bytes)
+rom_of_is_rom map bytes is long =
     record {
-      map = record { past_frames = omega arith; ordered = omega arith; inside = omega arith };
-      filled = omega (arith, length-words_of bytes, long);
+      map = is;
+      filled = omega (arith, length-words_of bytes, long, is.ordered);
     }
 
 -- 2 to 2048 bytes, an even number of them, are a frame

@@ -1,8 +1,8 @@
 //! Where the beam goes. Places are in units of 1/1024 of a screen place, and y grows upwards (profile).
 
-ghost use Rattle.std.specs.Prelude.{◌≡◌, ◌≤◌, ◌↔◌, IsTrue, pos, negsuc, ◌^◌, ◌+ℤ◌, ◌≤ℤ◌, ◌*ℤ◌, FitsSigned};
+ghost use Rattle.std.specs.Prelude.{◌≡◌, ◌≤◌, pos, negsuc, ◌^◌, ◌+ℤ◌, ◌≤ℤ◌, ◌*ℤ◌, FitsSigned};
 ghost use Rattle.std.specs.Int.{w64};
-ghost use Rattle.dvg_words.specs.Beam.{factor, displacement, shift, labs_place, IsWithin, InWindow, screen};
+ghost use Rattle.dvg_words.specs.Beam.{factor, displacement, shift, labs_place, IsWithin};
 
 use crate::instruction::Draw;
 
@@ -87,12 +87,4 @@ pub fn draw_move(draw: &Draw, gscale: u8) -> Point
         x: i64::from(dx),
         y: i64::from(dy),
     }
-}
-
-/// Whether a place, in units of 1/1024 of a screen place, is on the screen: 0 to 1023 on both axes.
-pub fn on_screen(x: i64, y: i64) -> bool
-    ensures { IsTrue result ↔ InWindow screen (record { x = x; y = y }) }
-{
-    const FAR: i64 = 1023 * 1024;
-    0 <= x && x <= FAR && 0 <= y && y <= FAR
 }

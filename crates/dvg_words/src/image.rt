@@ -1,12 +1,12 @@
 //! The bytes of a vector ROM and of a frame, read as words.
 
 ghost use Rattle.std.specs.Prelude.{◌≡◌, ◌≢◌, ◌+◌, ◌*◌, ◌<◌, ◌≤◌, Some, IfSome, IfOk, MatchResult, length, slice_get};
-ghost use Rattle.dvg_words.specs.Values.{asteroids};
+ghost use Rattle.dvg_words.specs.Values.{IsMap};
 ghost use Rattle.dvg_words.specs.Memory.{words_of, rom_of, rom_word, frame_word, IsRom, IsRomLength, IsFrame, IsFrameLength};
 ghost use Rattle.dvg_words.specs.Numbers.{image_number};
 
 use crate::decoding::Fetch;
-use crate::map::{ADDRESS_END, RAM_WORDS, ROM_FIRST, ROM_LAST};
+use crate::map::{ADDRESS_END, RAM_WORDS, RomMap};
 use byteorder::{ByteOrder, LittleEndian};
 use std::marker::Model;
 use thiserror::Error;
@@ -14,7 +14,7 @@ use thiserror::Error;
 /// Why bytes are no image.
 #[derive(Clone, Copy, Debug, PartialEq, Eq, Error)]
 pub enum ImageFault {
-    /// 1: a ROM has exactly 2048 bytes.
+    /// 1: a ROM has exactly two bytes for each of its addresses.
     #[error("the ROM has a wrong length")]
     RomLength,
     /// 2: a frame has 2 to 2048 bytes, an even number.
@@ -34,9 +34,6 @@ impl ImageFault {
     }
 }
 
-/// How many bytes a ROM has, two for each of its addresses.
-const ROM_BYTES: usize = 2 * (ROM_LAST as usize + 1 - ROM_FIRST as usize);
-
 /// How many bytes a frame has at most.
 const MOST_FRAME_BYTES: usize = 2 * RAM_WORDS as usize;
 
@@ -48,47 +45,47 @@ fn word_at(bytes: &[u8], index: u16) -> u16
     LittleEndian::read_u16(&bytes[2 * index as usize..])
 }
 
-/// A vector ROM, at word addresses 800 to BFF (hexadecimal).
+/// A vector ROM, at the word addresses of its map.
 #[derive(Drop)]
 pub struct RomImage<'a> {
     bytes: &'a [u8],
+    map: RomMap,
 }
 
 impl<'a> Model for RomImage<'a> {
     ghost use Rattle.std.specs.Prelude.{length};
-    ghost use Rattle.dvg_words.specs.Values.{asteroids};
+    ghost use Rattle.dvg_words.specs.Values.{IsMap};
     ghost use Rattle.dvg_words.specs.Memory.{Rom, rom_of, IsRomLength};
 
     ghost Value = { Rom };
 
-    ghost view = { λ r. rom_of asteroids r.bytes.now };
+    ghost view = { λ r. rom_of r.map r.bytes.now };
 
-    ghost invariant = { λ r. IsRomLength asteroids (length r.bytes.now) };
+    ghost invariant = { λ r. IsMap r.map × IsRomLength r.map (length r.bytes.now) };
 }
 
 impl<'a> RomImage<'a> {
-    /// The image of these bytes, which it borrows. Refuses 1 where they are not exactly 2048.
-    pub fn from_bytes(bytes: &'a [u8]) -> Result<RomImage<'a>, ImageFault>
+    /// The image of these bytes, which it borrows, for a ROM at this map. Refuses 1 where they are not exactly two for each of its
+    /// addresses.
+    pub fn from_bytes(bytes: &'a [u8], map: RomMap) -> Result<RomImage<'a>, ImageFault>
         ensures image { MatchResult result
-            (λ rom. IsRomLength asteroids (length bytes.now) × (rom ≡ rom_of asteroids bytes.now))
-            (λ fault. (IsRomLength asteroids (length bytes.now) → ⊥) × (fault ≡ ImageFault.RomLength)) }
+            (λ rom. IsRomLength map (length bytes.now) × (rom ≡ rom_of map bytes.now))
+            (λ fault. (IsRomLength map (length bytes.now) → ⊥) × (fault ≡ ImageFault.RomLength)) }
         ensures whole { IfOk result IsRom }
+        ensures map { IsMap map }
     {
-        if bytes.len() != ROM_BYTES {
+        if bytes.len() != 2 * (map.last() - map.first() + 1) as usize {
             return Err(ImageFault::RomLength);
         }
-        Ok(RomImage { bytes })
+        Ok(RomImage { bytes, map })
     }
 
-    /// The word addresses of its first and its last word.
-    pub fn span(&self) -> (u16, u16)
-        ensures first { result.0 ≡ self.now.map.rom_first }
-        ensures last { result.1 ≡ self.now.map.rom_last }
-        ensures map { self.now.map ≡ asteroids }
+    /// Where the ROM lies.
+    pub fn map(&self) -> RomMap
+        ensures value { result ≡ self.now.map }
         ensures rom { IsRom self.now }
     {
-        let _bytes = self.bytes;
-        (ROM_FIRST, ROM_LAST)
+        self.map
     }
 
     /// The word at a word address, `None` outside the ROM.
@@ -97,11 +94,11 @@ impl<'a> RomImage<'a> {
         ensures near { IfSome result (λ _. addr < ADDRESS_END) }
         ensures rom { IsRom self.now }
     {
-        let bytes = self.bytes;
-        if addr < ROM_FIRST || addr > ROM_LAST {
+        let Self { bytes, map } = self;
+        if addr < map.first() || addr > map.last() {
             return None;
         }
-        Some(word_at(bytes, addr - ROM_FIRST))
+        Some(word_at(bytes, addr - map.first()))
     }
 }
 

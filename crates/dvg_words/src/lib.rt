@@ -1,9 +1,9 @@
 //! Words, instructions, memory and beam of Atari's Digital Vector Generator (DVG).
 //!
-//! A vector ROM or a frame is a list of 16-bit words ([`RomImage`], [`FrameImage`]). Words make instructions
-//! ([`decode`], [`read_cell`]), and drawing instructions move the beam ([`displacement`]) over a screen of 1024 by
-//! 1024 places ([`on_screen`]). The generator itself, its states, steps and runs, is no code but the definitions of
-//! `specs/Generator.antt`.
+//! A vector ROM or a frame is a list of 16-bit words ([`RomImage`], [`FrameImage`]), a ROM at the addresses of its
+//! [`RomMap`]. Words make instructions ([`decode`], [`read_cell`]), and drawing instructions move the beam
+//! ([`displacement`]) over a screen of 1024 by 1024 places ([`on_screen`]), or a [`Window`] of it ([`in_window`]). The generator
+//! itself, its states, steps and runs, is no code but the definitions of `specs/Generator.antt`.
 #![tactic(auto)]
 
 mod beam;
@@ -12,9 +12,13 @@ mod image;
 mod instruction;
 pub mod laws;
 mod map;
+mod window;
 
-pub use beam::{Point, displacement, draw_move, factor, labs_place, on_screen, shift};
+pub use beam::{Point, displacement, draw_move, factor, labs_place, shift};
 pub use decoding::{Fetch, decode, is_long, read_cell};
 pub use image::{FrameImage, ImageFault, RomImage};
 pub use instruction::{Cell, Draw, Format, Instr};
-pub use map::{ADDRESS_END, RAM_WORDS, ROM_FIRST, ROM_LAST};
+pub use map::{
+    ADDRESS_END, ASTEROIDS, MEMORY_LAST, MOST_ROM_WORDS, RAM_WORDS, ROM_FIRST, ROM_LAST, RomMap,
+};
+pub use window::{SCREEN, Window, in_window, on_screen};

@@ -1,9 +1,11 @@
 //! The command line.
 
-use crate::escaping::{escaped, marked};
+use crate::escaping::{escaped, marked, shown};
 use clap::error::ErrorKind;
-use clap::{Arg, ArgMatches, Command, value_parser};
-use dvg_cmd::{Key, MOST_WORDS, root_of};
+use clap::{Arg, ArgAction, ArgMatches, Command, value_parser};
+use dvg_cmd::{
+    ASTEROIDS, Key, MOST_WORDS, Mode, RomMap, Window, map_of, root_of, start_of, window_of,
+};
 use std::alloc::{AllocError, AllocFailed, Global};
 use std::{env, io};
 
@@ -16,8 +18,14 @@ pub enum Usage {
     Fault(String),
     /// A word is not UTF-8.
     Unreadable,
+    /// The word given as a map is not one.
+    BadMap,
+    /// The word given as a window is not one.
+    BadWindow,
     /// A word given as a root is not one.
     BadRoot,
+    /// The word given as a start is not one.
+    BadStart,
     OutOfMemory,
 }
 
@@ -36,24 +44,58 @@ impl From<AllocError> for Usage {
 /// What the words ask for.
 #[derive(Drop)]
 pub enum Request<'a> {
+    Frames(FramesWords<'a>),
     Check(CheckWords<'a>),
     Make(MakeWords<'a>),
 }
 
-/// What `check` was asked: the paths of its files, and the budget of words.
+/// A file: its path, and its name as lines show it.
+#[derive(Drop)]
+pub struct Named<'a> {
+    pub path: &'a str,
+    pub name: String,
+}
+
+/// By which certificate frames are judged.
+#[derive(Drop)]
+pub enum Judge<'a> {
+    /// Each by its own, which is made for a ROM that lies there.
+    Own(RomMap),
+    /// All by the one in the file of this path.
+    Given(&'a str),
+}
+
+/// What `frames` was asked: the paths of its files, the certificate, the word address at which each frame starts, if one was
+/// given, the budget of words, and the window.
+#[derive(Drop)]
+pub struct FramesWords<'a> {
+    pub rom: &'a str,
+    pub frames: Vec<Named<'a>>,
+    pub judge: Judge<'a>,
+    pub start: Option<u16>,
+    pub budget: u32,
+    pub window: Window,
+}
+
+/// What `check` was asked: the paths of its files, the budget of words, the window, and whether
+/// counts are bounds or exact.
 #[derive(Drop)]
 pub struct CheckWords<'a> {
     pub rom: &'a str,
     pub cert: &'a str,
     pub frame: &'a str,
     pub budget: u32,
+    pub window: Window,
+    pub mode: Mode,
 }
 
-/// What `make` was asked: the path of its file, and the roots.
+/// What `make` was asked: the path of its ROM, where that lies, the roots, and the frames.
 #[derive(Drop)]
 pub struct MakeWords<'a> {
     pub rom: &'a str,
+    pub map: RomMap,
     pub roots: Vec<(u16, Key)>,
+    pub frames: Vec<Named<'a>>,
 }
 
 /// The words of the command line, the program's name first.
@@ -65,38 +107,93 @@ pub fn words(rt: &HostRuntime) -> Result<Vec<String>, Usage> {
     }
 }
 
-const ROM_HELP: &str = "The vector ROM: 2048 bytes, low byte first";
+const ROM_HELP: &str = "The vector ROM: two bytes for each of its words, low byte first";
 
-fn check_command<'a>(alloc: Global) -> Result<Command<'a>, AllocError> {
-    let budget = Arg::new(alloc, "budget")
+const FRAME_HELP: &str = "The frame: 2 to 2048 bytes of vector RAM, from word 000 on";
+
+fn budget_option<'a>(alloc: Global) -> Arg<'a> {
+    Arg::new(alloc, "budget")
         .long("budget")
         .value_name("N")
         .help("How many words the frame may take at most")
         .value_parser(value_parser!(u32).range(1..=i64::from(MOST_WORDS)))
-        .default_value("20000");
+        .default_value("20000")
+}
+
+fn window_option<'a>(alloc: Global) -> Arg<'a> {
+    Arg::new(alloc, "window")
+        .long("window")
+        .value_name("X0,X1,Y0,Y1")
+        .help("Where the screen may be lit: from X0 to X1 across, from Y0 to Y1 up")
+        .default_value("0,1023,0,1023")
+}
+
+fn map_option<'a>(alloc: Global) -> Arg<'a> {
+    Arg::new(alloc, "rom")
+        .long("rom")
+        .value_name("AAA/BBB")
+        .help("The word addresses of the ROM's first and last word, within 400 to BFF")
+        .default_value("800/BFF")
+}
+
+fn frames_command<'a>(alloc: Global) -> Result<Command<'a>, AllocError> {
+    let cert = Arg::new(alloc, "cert")
+        .long("cert")
+        .value_name("CERT")
+        .help(
+            "Judges all frames by this certificate of the ROM's shapes, which says where the ROM lies",
+        )
+        .conflicts_with("rom")?;
+    let start = Arg::new(alloc, "start")
+        .long("start")
+        .value_name("AAA")
+        .help("Judges each frame as though its word 000 were the jump to this word address");
+    Command::new(alloc, "frames")
+        .about(
+            "Judges frames over a vector ROM, each by a certificate made for it, and prints a line for each",
+        )
+        .arg(needed(alloc, "ROM", ROM_HELP))?
+        .arg(needed(alloc, "FRAME", FRAME_HELP).num_args(1..))?
+        .arg(map_option(alloc))?
+        .arg(cert)?
+        .arg(budget_option(alloc))?
+        .arg(window_option(alloc))?
+        .arg(start)
+}
+
+fn check_command<'a>(alloc: Global) -> Result<Command<'a>, AllocError> {
+    let exact = Arg::new(alloc, "exact")
+        .long("exact")
+        .action(ArgAction::SetTrue)
+        .help("Takes the certificate's words and depths as exact, not as bounds");
     Command::new(alloc, "check")
         .about("Judges a frame over a vector ROM and its certificate, and prints the report")
         .arg(needed(alloc, "ROM", ROM_HELP))?
         .arg(needed(alloc, "CERT", "The certificate of the ROM's shapes"))?
-        .arg(needed(
-            alloc,
-            "FRAME",
-            "The frame: 2 to 2048 bytes of vector RAM, from word 000 on",
-        ))?
-        .arg(budget)
+        .arg(needed(alloc, "FRAME", FRAME_HELP))?
+        .arg(budget_option(alloc))?
+        .arg(window_option(alloc))?
+        .arg(exact)
 }
 
 fn make_command<'a>(alloc: Global) -> Result<Command<'a>, AllocError> {
-    let roots = needed(
-        alloc,
-        "ROOT",
-        "A shape that a program calls: its address, a slash, and a scale of 0 to 15 or any, as 800/0",
-    )
-    .num_args(1..);
+    let roots = Arg::new(alloc, "ROOT")
+        .help(
+            "A shape that a program calls: its address, a slash, and a scale of 0 to 15 or any, as 800/0",
+        )
+        .required_unless_present("frame")?
+        .num_args(1..);
+    let frame = Arg::new(alloc, "frame")
+        .long("frame")
+        .value_name("FRAME")
+        .action(ArgAction::Append)
+        .help("A frame, whose calls are roots, too");
     Command::new(alloc, "make")
         .about("Prints the certificate of shapes of a vector ROM, and of all that they call")
         .arg(needed(alloc, "ROM", ROM_HELP))?
-        .arg(roots)
+        .arg(roots)?
+        .arg(frame)?
+        .arg(map_option(alloc))
 }
 
 fn command<'a>(alloc: Global) -> Result<Command<'a>, AllocError> {
@@ -104,6 +201,7 @@ fn command<'a>(alloc: Global) -> Result<Command<'a>, AllocError> {
         .about("Checks frames and vector ROMs of Atari's Digital Vector Generator")
         .subcommand_required(true)
         .arg_required_else_help(true)
+        .subcommand(frames_command(alloc)?)?
         .subcommand(check_command(alloc)?)?
         .subcommand(make_command(alloc)?)
 }
@@ -112,16 +210,68 @@ fn needed<'a>(alloc: Global, name: &'a str, help: &'a str) -> Arg<'a> {
     Arg::new(alloc, name).required(true).help(help)
 }
 
-fn check_words<'a>(check: &ArgMatches<'a>) -> CheckWords<'a> {
-    CheckWords {
-        rom: check.get_str("ROM").unwrap_or(""),
-        cert: check.get_str("CERT").unwrap_or(""),
-        frame: check.get_str("FRAME").unwrap_or(""),
-        budget: check.get_one::<u32>("budget").unwrap_or(20_000),
+fn window_word<'a>(words: &ArgMatches<'a>) -> Result<Window, Usage> {
+    window_of(words.get_str("window").unwrap_or("")).ok_or(Usage::BadWindow)
+}
+
+fn budget_word<'a>(words: &ArgMatches<'a>) -> u32 {
+    words.get_one::<u32>("budget").unwrap_or(20_000)
+}
+
+fn map_word<'a>(words: &ArgMatches<'a>) -> Result<RomMap, Usage> {
+    match words.get_str("rom") {
+        Some(word) => map_of(word).ok_or(Usage::BadMap),
+        None => Ok(ASTEROIDS),
     }
 }
 
+/// The files that these words name, each with the name that lines show.
+fn files_of<'a>(alloc: Global, paths: Option<&[&'a str]>) -> Result<Vec<Named<'a>>, Usage> {
+    let mut files = Vec::new(alloc);
+    for path in paths.unwrap_or(&[]) {
+        let name = shown(alloc, path)?;
+        files.push(Named { path: *path, name })?;
+    }
+    Ok(files)
+}
+
+fn frames_words<'a>(alloc: Global, frames: &ArgMatches<'a>) -> Result<FramesWords<'a>, Usage> {
+    let map = map_word(frames)?;
+    let window = window_word(frames)?;
+    let start = match frames.get_str("start") {
+        Some(word) => Some(start_of(word).ok_or(Usage::BadStart)?),
+        None => None,
+    };
+    Ok(FramesWords {
+        rom: frames.get_str("ROM").unwrap_or(""),
+        frames: files_of(alloc, frames.get_strs("FRAME"))?,
+        judge: match frames.get_str("cert") {
+            Some(path) => Judge::Given(path),
+            None => Judge::Own(map),
+        },
+        start,
+        budget: budget_word(frames),
+        window,
+    })
+}
+
+fn check_words<'a>(check: &ArgMatches<'a>) -> Result<CheckWords<'a>, Usage> {
+    Ok(CheckWords {
+        rom: check.get_str("ROM").unwrap_or(""),
+        cert: check.get_str("CERT").unwrap_or(""),
+        frame: check.get_str("FRAME").unwrap_or(""),
+        budget: budget_word(check),
+        window: window_word(check)?,
+        mode: if check.get_flag("exact") {
+            Mode::Exact
+        } else {
+            Mode::Bound
+        },
+    })
+}
+
 fn make_words<'a>(alloc: Global, make: &ArgMatches<'a>) -> Result<MakeWords<'a>, Usage> {
+    let map = map_word(make)?;
     let mut roots = Vec::new(alloc);
     for word in make.get_strs("ROOT").unwrap_or(&[]) {
         let Some(root) = root_of(word) else {
@@ -131,7 +281,9 @@ fn make_words<'a>(alloc: Global, make: &ArgMatches<'a>) -> Result<MakeWords<'a>,
     }
     Ok(MakeWords {
         rom: make.get_str("ROM").unwrap_or(""),
+        map,
         roots,
+        frames: files_of(alloc, make.get_strs("frame"))?,
     })
 }
 
@@ -160,7 +312,8 @@ pub fn read_words<'a>(alloc: Global, words: &'a [String]) -> Result<Request<'a>,
         Err(_) => return Err(told(alloc, words)?),
     };
     match matches.subcommand() {
-        Some(("check", check)) => Ok(Request::Check(check_words(check))),
+        Some(("frames", frames)) => Ok(Request::Frames(frames_words(alloc, frames)?)),
+        Some(("check", check)) => Ok(Request::Check(check_words(check)?)),
         Some(("make", make)) => Ok(Request::Make(make_words(alloc, make)?)),
         _ => Err(Usage::Unreadable),
     }

@@ -1,4 +1,4 @@
-//! What `clap` says, with the control characters of the command line's words escaped.
+//! What `clap` says, and the names of files, with the control characters of the command line's words escaped.
 
 use std::alloc::{AllocError, Global};
 
@@ -26,11 +26,27 @@ pub fn escaped(alloc: Global, text: &str) -> Result<String, AllocError> {
     Ok(escaped)
 }
 
+/// A name that the command line gave, for the lines about its file: each control character is as Rust escapes it, LF too.
+pub fn shown(alloc: Global, name: &str) -> Result<String, AllocError> {
+    let mut shown = String::new(alloc);
+    for c in name.chars() {
+        push_shown(&mut shown, c)?;
+    }
+    Ok(shown)
+}
+
 fn push_escaped(text: &mut String, c: char) -> Result<(), AllocError> {
     match c {
         '\n' => text.push(c),
         '\0' => text.push_str("\\n"),
-        _ if c.is_control() => write!(text, "{}", c.escape_default()),
-        _ => text.push(c),
+        _ => push_shown(text, c),
+    }
+}
+
+fn push_shown(text: &mut String, c: char) -> Result<(), AllocError> {
+    if c.is_control() {
+        write!(text, "{}", c.escape_default())
+    } else {
+        text.push(c)
     }
 }

@@ -7,10 +7,13 @@
 mod command;
 mod escaping;
 
-use command::{CheckWords, MakeWords, Request, Usage, read_words};
+use command::{CheckWords, FramesWords, Judge, MakeWords, Named, Request, Usage, read_words};
 use dvg_cmd::{
-    Counted, MakeRunFault, Outcome, RunFault, make_report_of, make_status_of, message_of,
-    run_check, run_make, status_of,
+    Cert, Counted, CountedWrite, Entries, FrameOutcome, FramesRunFault, HashIndex, JudgedShapes,
+    MakeRunFault, Mode, Outcome, Refusal, RomImage, RomMap, RunFault, frames_status_of, load_cert,
+    load_rom, make_frames_report_of, make_frames_status_of, make_report_of, make_status_of,
+    message_of, run_check, run_frame, run_frame_over, run_make, run_make_frames, run_refusal,
+    run_unopened, status_of,
 };
 use std::fs::File;
 use std::process::ExitCode;
@@ -27,6 +30,8 @@ fn check(rt: &HostRuntime, words: &CheckWords) -> Result<Outcome, RunFault> {
         &mut Counted::new(cert),
         &mut Counted::new(frame),
         words.budget,
+        words.window,
+        words.mode,
         &mut Counted::new(io::writer(rt)),
     )
 }
@@ -35,13 +40,130 @@ fn open<F: Drop>(rt: &HostRuntime, path: &str, fault: F) -> Result<File, F> {
     fs::open(rt, path).map_err(|_| fault)
 }
 
+/// Judges each frame by its own certificate, one after another, and answers the worst.
+fn judge_alone<W: CountedWrite>(
+    rt: &HostRuntime,
+    words: &FramesWords,
+    map: RomMap,
+    out: &mut W,
+) -> Result<FrameOutcome, RunFault> {
+    let rom = load_rom(&mut Counted::new(open(rt, words.rom, RunFault::ReadRom)?))?;
+    let mut worst = FrameOutcome::Accepted;
+    for frame in &words.frames {
+        let outcome = match fs::open(rt, frame.path) {
+            Ok(file) => run_frame(
+                rt.alloc(),
+                rom.as_slice(),
+                map,
+                frame.name.as_str(),
+                &mut Counted::new(file),
+                words.start,
+                words.budget,
+                words.window,
+                out,
+            ),
+            Err(_) => run_unopened(frame.name.as_str(), out),
+        };
+        worst = worst.or_worse(outcome?);
+    }
+    Ok(worst)
+}
+
+/// Judges the frames over judged shapes, one after another, and answers the worst.
+fn judge_each_over<E: Entries, W: CountedWrite>(
+    rt: &HostRuntime,
+    words: &FramesWords,
+    shapes: &JudgedShapes<E>,
+    cert: &Cert,
+    out: &mut W,
+) -> Result<FrameOutcome, RunFault> {
+    let mut worst = FrameOutcome::Accepted;
+    for frame in &words.frames {
+        let outcome = match fs::open(rt, frame.path) {
+            Ok(file) => run_frame_over(
+                shapes,
+                cert,
+                frame.name.as_str(),
+                &mut Counted::new(file),
+                words.start,
+                words.budget,
+                out,
+            ),
+            Err(_) => run_unopened(frame.name.as_str(), out),
+        };
+        worst = worst.or_worse(outcome?);
+    }
+    Ok(worst)
+}
+
+/// Judges the shapes of a certificate, and then the frames over them. A refusal comes before any frame is opened.
+fn judge_over<W: CountedWrite>(
+    rt: &HostRuntime,
+    words: &FramesWords,
+    rom: &[u8],
+    cert: &Cert,
+    out: &mut W,
+) -> Result<Result<FrameOutcome, RunFault>, Refusal> {
+    let rom = RomImage::from_bytes(rom, cert.map())?;
+    let entries = HashIndex::new(rt.alloc(), cert)?;
+    let shapes = JudgedShapes::judge(&rom, cert, &entries, words.window, Mode::Bound)?;
+    Ok(judge_each_over(rt, words, &shapes, cert, out))
+}
+
+/// Judges all frames by the certificate in the file of this path, and answers the worst.
+fn judge_given<W: CountedWrite>(
+    rt: &HostRuntime,
+    words: &FramesWords,
+    cert: &str,
+    out: &mut W,
+) -> Result<FrameOutcome, RunFault> {
+    let rom = load_rom(&mut Counted::new(open(rt, words.rom, RunFault::ReadRom)?))?;
+    let file = open(rt, cert, RunFault::ReadCert)?;
+    let judged = match load_cert(rt.alloc(), &mut Counted::new(file))? {
+        Ok(cert) => judge_over(rt, words, rom.as_slice(), &cert, out),
+        Err(fault) => Err(fault.into()),
+    };
+    match judged {
+        Ok(end) => end,
+        Err(refusal) => Ok(run_refusal(&refusal, out)?.into()),
+    }
+}
+
+/// Reads the ROM, and then judges frame after frame, each file being opened when the one before it is closed.
+fn frames(rt: &HostRuntime, words: &FramesWords) -> Result<FrameOutcome, RunFault> {
+    let mut out = Counted::new(io::writer(rt));
+    match words.judge {
+        Judge::Own(map) => judge_alone(rt, words, map, &mut out),
+        Judge::Given(cert) => judge_given(rt, words, cert, &mut out),
+    }
+}
+
 /// Opens the file and runs the maker.
 fn make(rt: &HostRuntime, words: &MakeWords) -> Result<(), MakeRunFault> {
     let rom = open(rt, words.rom, MakeRunFault::ReadRom)?;
     run_make(
         rt.alloc(),
         &mut Counted::new(rom),
+        words.map,
         &words.roots,
+        &mut Counted::new(io::writer(rt)),
+    )
+}
+
+/// Opens the ROM and then the frames, before any is read, and runs the maker.
+fn make_for_frames(rt: &HostRuntime, words: &MakeWords) -> Result<(), FramesRunFault> {
+    let rom = open(rt, words.rom, MakeRunFault::ReadRom)?;
+    let mut frames = Vec::new(rt.alloc());
+    for frame in &words.frames {
+        let file = open(rt, frame.path, FramesRunFault::ReadFrame)?;
+        frames.push(Counted::new(file))?;
+    }
+    run_make_frames(
+        rt.alloc(),
+        &mut Counted::new(rom),
+        words.map,
+        &words.roots,
+        &mut frames,
         &mut Counted::new(io::writer(rt)),
     )
 }
@@ -69,6 +191,29 @@ fn tell_make(rt: &HostRuntime, end: &Result<(), MakeRunFault>) -> u8 {
     make_status_of(end)
 }
 
+/// Tells how a run over frames ended, by a fault's message and the exit status.
+fn tell_frames(rt: &HostRuntime, end: &Result<FrameOutcome, RunFault>) -> u8 {
+    if let Err(fault) = end {
+        say(rt, message_of(fault).as_bytes());
+    }
+    frames_status_of(end)
+}
+
+/// Tells how a run of the maker for frames ended, by a fault's line, which begins with the name of its frame, and the exit
+/// status.
+fn tell_make_frames(rt: &HostRuntime, frames: &[Named], end: &Result<(), FramesRunFault>) -> u8 {
+    if let Err(fault) = end {
+        let report = make_frames_report_of(fault);
+        let text = str::from_utf8(report.as_bytes()).unwrap_or("");
+        let name = match fault.frame().and_then(|frame| frames.get(frame)) {
+            Some(frame) => frame.name.as_str(),
+            None => "",
+        };
+        let _ = eprintln!(rt; "{name}{}", text.trim_end());
+    }
+    make_frames_status_of(end)
+}
+
 /// Tells why no run was asked for, and answers the exit status.
 fn tell_usage(rt: &HostRuntime, usage: &Usage) -> u8 {
     match usage {
@@ -76,8 +221,20 @@ fn tell_usage(rt: &HostRuntime, usage: &Usage) -> u8 {
             say(rt, b"dvgcheck: cannot read the command line");
             2
         }
+        Usage::BadMap => {
+            say(rt, b"dvgcheck: bad map");
+            2
+        }
+        Usage::BadWindow => {
+            say(rt, b"dvgcheck: bad window");
+            2
+        }
         Usage::BadRoot => {
             say(rt, b"dvgcheck: bad root");
+            2
+        }
+        Usage::BadStart => {
+            say(rt, b"dvgcheck: bad start");
             2
         }
         Usage::OutOfMemory => tell_check(rt, &Err(RunFault::Memory)),
@@ -98,8 +255,12 @@ fn run(rt: &HostRuntime) -> u8 {
         Err(usage) => return tell_usage(rt, &usage),
     };
     match read_words(rt.alloc(), &words) {
+        Ok(Request::Frames(words)) => tell_frames(rt, &frames(rt, &words)),
         Ok(Request::Check(words)) => tell_check(rt, &check(rt, &words)),
-        Ok(Request::Make(words)) => tell_make(rt, &make(rt, &words)),
+        Ok(Request::Make(words)) if words.frames.is_empty() => tell_make(rt, &make(rt, &words)),
+        Ok(Request::Make(words)) => {
+            tell_make_frames(rt, &words.frames, &make_for_frames(rt, &words))
+        }
         Err(usage) => tell_usage(rt, &usage),
     }
 }

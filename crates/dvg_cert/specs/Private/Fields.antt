@@ -4,7 +4,7 @@ use Rattle.std.specs.Str.{bytes_eq}
 use Rattle.std.specs.Char.{digit_value}
 use Rattle.std.specs.Str.Parse.{digits_value}
 use Rattle.std.specs.Option.{option_map, option_map_or, option_and_then}
-use Rattle.dvg_cert.specs.Limits.{MOST_ENTRIES, MOST_DEPTH, MOST_WORDS, MOST_MAGNITUDE}
+use Rattle.dvg_cert.specs.Limits.{ADDRESS_END, MOST_ENTRIES, MOST_DEPTH, MOST_WORDS, MOST_MAGNITUDE}
 use Rattle.dvg_cert.specs.Entry.{Key, At, Any, End, Rel, Abs, Lost, LitBox, Empty, Span, Entry}
 
 infixl 10 ◌>>=◌
@@ -116,6 +116,15 @@ entry_at first last bytes = do
   s7 ← past (codes " scale ") count.1
   scale ← key_at s7
   Some (record { addr = addr.0; key = key.0; stop = stop.0; lit = lit.0; depth = depth.0; words = count.0; scale = scale.0 }, scale.1)
+
+-- the first and the last word address of a ROM
+unfoldable pub rom_at : List ℕ → Option ((ℕ × ℕ) × List ℕ)
+rom_at bytes = do
+  s1 ← past (codes "rom ") bytes
+  first ← address_at 0 (ADDRESS_END - 1) s1
+  s2 ← past (codes " ") first.1
+  last ← address_at 0 (ADDRESS_END - 1) s2
+  Some ((first.0, last.0), last.1)
 
 unfoldable pub done_at : List ℕ → Option (ℕ × List ℕ)
 done_at bytes = do

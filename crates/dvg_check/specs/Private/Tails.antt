@@ -31,7 +31,8 @@ use Rattle.dvg_check.specs.Private.Judging.{seen_by}
 
 -- ---- what is claimed
 
--- the one entry claims of a shape no more than the other: a box that holds its box, and counts that are no smaller
+-- the one entry claims of a shape no more than the other: a box that holds its box, and counts that are no smaller, in the mode
+-- Exact the same
 pub record ClaimsLess (mode : Mode) (e strong : Entry) : Type 0 where
   pub addr : e.addr ≡ strong.addr
   pub key : e.key ≡ strong.key

@@ -2,8 +2,9 @@
 use Rattle.std.specs.Prelude.{◌≡◌, ◌⊎◌, ℕ, ◌++◌, ◌+◌, ◌<◌, ◌≤◌, List, [], ◌∷◌, length, Some, None, Contains}
 use Rattle.dvg_words.specs.declared.instruction.Cell.TheVariants.{Holds}
 use Rattle.dvg_words.specs.Decoding.{cell_at}
-use Rattle.dvg_words.specs.Memory.{Rom, rom_word}
-use Rattle.dvg_cert.specs.Entry.{IsEntry}
+use Rattle.dvg_words.specs.Memory.{Rom, rom_word, InRom}
+use Rattle.dvg_cert.specs.Entry.{IsKey, IsEntry}
+use Rattle.dvg_cert.specs.Order.{IsCertificate}
 use Rattle.dvg_cert.specs.declared.entry.Entry.{Entry}
 use Rattle.dvg_cert.specs.declared.entry.Key.{Key}
 use Rattle.dvg_cert.specs.Lookup.{entry_at}
@@ -13,8 +14,8 @@ use Rattle.dvg_items.specs.declared.item.Kind.TheVariants.{Shape}
 use Rattle.dvg_items.specs.declared.item.Item.{Item}
 use Rattle.dvg_items.specs.Known.{target, scale_before}
 use Rattle.dvg_make.specs.declared.walk.Walk.{Walk}
-use Rattle.dvg_make.specs.Made.{HasEntry, MadeEntry, Made}
-use Rattle.dvg_make.specs.Refusals.{MakeFault, Unstraight, Deep, TooLarge, Memory}
+use Rattle.dvg_make.specs.Made.{HasEntry, MadeEntry, AllMade}
+use Rattle.dvg_make.specs.Refusals.{EntryFault, Unstraight, Deep, TooManyWords, TooManyEntries, Memory}
 use Rattle.dvg_make.specs.Private.Walking.{keyed_context, start, AllFine, IsWalk, Extends}
 
 -- a shape with this address and key is in the making
@@ -27,7 +28,7 @@ abbrev pub AllWalks : Rom → List Entry → List Walk → Type 0
 AllWalks rom done [] = Unit {0}
 AllWalks rom done (w ∷ stack) = IsWalk rom done w × AllWalks rom done stack
 
--- a made list has an entry for each of these shapes, each with fewer words than the one before, and more than n
+-- the list has an entry for each of these shapes, the first with fewer words than `most`, each with fewer than the one before, and more than n
 abbrev pub Chain : List Entry → ℕ → List Walk → ℕ → Type 0
 Chain made most [] n = n < most
 Chain made most (w ∷ stack) n = (e : Entry) × (entry_at made w.addr w.key ≡ Some e) × (e.words < most) × Chain made e.words stack n
@@ -59,23 +60,69 @@ pub record IsCalled (rom : Rom) (done : List Entry) (stack : List Walk) (addr : 
   pub target_is : target Shape item.instr ≡ Some addr
   pub key_is : scale_before (keyed_context done from_key) earlier ≡ key
 
--- what holds of the entries that are made and of the shapes in the making: among it that each made list has these entries,
--- and that the words of these shapes fall in it
-pub record Making (rom : Rom) (roots : List (ℕ × Key)) (done : List Entry) (stack : List Walk) : Type 0 where
+-- a list of made entries that has those of the one list, and one for this address and key
+pub record IsAim (rom : Rom) (from : List Entry) (root : ℕ × Key) (made : List Entry) : Type 0 where
+  pub all : AllMade rom made
+  pub extends : Extends from made
+  pub has : HasEntry made root.0 root.1
+
+-- the address and the key are the root's, or the list that was begun with has them
+abbrev pub IsGiven : List Entry → ℕ × Key → ℕ → Key → Type 0
+IsGiven from root addr key = HasEntry from addr key ⊎ ((root.0 ≡ addr) × (root.1 ≡ key))
+
+-- what holds of the entries that are made
+pub record IsDone (rom : Rom) (done : List Entry) : Type 0 where
   pub entries : (e : Entry) → Contains done e → IsEntry rom.map.rom_first rom.map.rom_last e
   pub made : (e : Entry) → Contains done e → MadeEntry rom done e
+  pub unique : IsUnique done
+  pub room : length done ≤ MOST_ENTRIES
+
+-- what holds of the entries that are made and of the shapes in the making, for a root, from the entries that were made before:
+-- among it that each list of made entries that has those, and the root's, has these too, and that the words of these shapes
+-- fall in it
+pub record Making (rom : Rom) (from : List Entry) (root : ℕ × Key) (done : List Entry) (stack : List Walk) : Type 0 where
+  pub is_done : IsDone rom done
+  pub extends : Extends from done
   pub walks : AllWalks rom done stack
   pub apart : Apart done stack
-  pub unique : IsUnique done
-  pub needed : (addr : ℕ) (key : Key) → IsPresent done stack addr key → Contains roots (addr, key) ⊎ IsCalled rom done stack addr key
+  pub needed : (addr : ℕ) (key : Key) → IsPresent done stack addr key → IsGiven from root addr key ⊎ IsCalled rom done stack addr key
   pub room : length done + length stack ≤ MOST_ENTRIES
-  pub forced : (made : List Entry) → Made rom roots made → Extends done made × Chain made (MOST_WORDS + 1) stack 0
+  pub forced : (made : List Entry) → IsAim rom from root made → Extends done made × Chain made (MOST_WORDS + 1) stack 0
+
+-- for some root and some entries that were made before
+abbrev pub IsInMaking : Rom → List Entry → List Walk → Type 0
+IsInMaking rom done stack = (from : List Entry) × (root : ℕ × Key) × Making rom from root done stack
+
+-- for each root and list begun with: if the old lists are in the making for them, so are the new
+abbrev pub StaysMaking : Rom → List Entry → List Walk → List Entry → List Walk → Type 0
+StaysMaking rom old stack new rest = (from : List Entry) (root : ℕ × Key) → Making rom from root old stack → Making rom from root new rest
+
+-- no such list is there
+abbrev pub NoAim : Rom → List Entry → ℕ × Key → Type 0
+NoAim rom from root = (made : List Entry) → IsAim rom from root made → ⊥
+
+-- what a refusal means: there is no such list, or each is too long
+abbrev pub Bars : Rom → List Entry → ℕ × Key → EntryFault → Type 0
+Bars rom from root (Unstraight word) = NoAim rom from root
+Bars rom from root Deep = NoAim rom from root
+Bars rom from root TooManyWords = NoAim rom from root
+Bars rom from root TooManyEntries = (made : List Entry) → IsAim rom from root made → MOST_ENTRIES < length made
+Bars rom from root Memory = Unit {0}
+
+-- for each root and list begun with
+abbrev pub BarsAll : Rom → List Entry → List Walk → EntryFault → Type 0
+BarsAll rom done stack fault = (from : List Entry) (root : ℕ × Key) → Making rom from root done stack → Bars rom from root fault
+
+-- of a root: or it is outside the ROM, or its key is over 15, which is 60 at the root
+abbrev pub BarsRoot : Rom → List Entry → ℕ × Key → EntryFault → Type 0
+BarsRoot rom from root fault = Bars rom from root fault ⊎ ((fault ≡ Unstraight root.0) × (InRom rom.map root.0 × IsKey root.1 → ⊥))
 
 -- why a shape is not begun
-abbrev pub NotBegun : List Entry → List Walk → ℕ → Key → MakeFault → Type 0
+abbrev pub NotBegun : List Entry → List Walk → ℕ → Key → EntryFault → Type 0
 NotBegun done stack addr key (Unstraight word) = ⊥
 NotBegun done stack addr key Deep = IsMaking stack addr key
-NotBegun done stack addr key TooLarge = (MOST_ENTRIES ≤ length done + length stack) × (IsMaking stack addr key → ⊥)
+NotBegun done stack addr key TooManyWords = ⊥
+NotBegun done stack addr key TooManyEntries = (MOST_ENTRIES ≤ length done + length stack) × (IsMaking stack addr key → ⊥)
 NotBegun done stack addr key Memory = Unit {0}
 
 -- a shape was begun that was not in the making, where there is room
@@ -83,3 +130,32 @@ pub record IsBegun (done : List Entry) (old new : List Walk) (addr : ℕ) (key :
   pub stack : new ≡ old ++ start addr key ∷ []
   pub other : IsMaking old addr key → ⊥
   pub few : length done + length old < MOST_ENTRIES
+
+-- ---- what was asked for
+
+-- the list has an entry for each of these
+abbrev pub HasAll : List (ℕ × Key) → List Entry → Type 0
+HasAll asked list = (addr : ℕ) (key : Key) → Contains asked (addr, key) → HasEntry list addr key
+
+-- what is made where these were asked for, one after another
+pub record Collected (rom : Rom) (asked : List (ℕ × Key)) (done : List Entry) : Type 0 where
+  pub is_done : IsDone rom done
+  pub rooted : HasAll asked done
+  pub needed : (addr : ℕ) (key : Key) → HasEntry done addr key → Contains asked (addr, key) ⊎ IsCalled rom done [] addr key
+  pub forced : (made : List Entry) → AllMade rom made → HasAll asked made → Extends done made
+
+-- no certificate of made entries has all that is asked for
+abbrev pub NoneHas : Rom → List (ℕ × Key) → Type 0
+NoneHas rom asked = (list : List Entry) → IsCertificate rom.map list → AllMade rom list → HasAll asked list → ⊥
+
+-- each list of made entries that has is too long for one
+abbrev pub LongHas : Rom → List (ℕ × Key) → Type 0
+LongHas rom asked = (list : List Entry) → AllMade rom list → HasAll asked list → MOST_ENTRIES < length list
+
+-- what a refusal says of that
+abbrev pub BarsRoots : Rom → List (ℕ × Key) → EntryFault → Type 0
+BarsRoots rom asked (Unstraight word) = NoneHas rom asked
+BarsRoots rom asked Deep = NoneHas rom asked
+BarsRoots rom asked TooManyWords = NoneHas rom asked
+BarsRoots rom asked TooManyEntries = LongHas rom asked
+BarsRoots rom asked Memory = Unit {0}

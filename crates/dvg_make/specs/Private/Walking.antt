@@ -28,7 +28,7 @@ use Rattle.dvg_make.specs.declared.walk.Walk.{Walk}
 use Rattle.dvg_make.specs.declared.walk.Progress.{Progress}
 use Rattle.dvg_make.specs.declared.walk.Progress.TheVariants.{Finished, Waiting}
 use Rattle.dvg_make.specs.Least.{lit_points, IsLeast}
-use Rattle.dvg_make.specs.Made.{HasEntry, MadeEntry, Made}
+use Rattle.dvg_make.specs.Made.{HasEntry, MadeEntry, AllMade}
 
 -- the context of the items of a shape that starts at this key
 abbrev pub keyed_context : List Entry → Key → Context
@@ -79,14 +79,16 @@ pub record IsWalk (rom : Rom) (list : List Entry) (w : Walk) : Type 0 where
   pub leads : LeadsTo Shape (rom_word rom) w.addr items w.cursor.at
   pub knows : KnowsAt (keyed_context list w.key) items w.cursor.known w.lit
   pub sound : IsSoundCursor w.cursor
+  pub shallow : w.cursor.known.depth ≤ MOST_DEPTH
+  pub keyed : IsKey w.key
 
 -- the other list has all entries of the one
 abbrev pub Extends : List Entry → List Entry → Type 0
 Extends a b = (addr : ℕ) (key : Key) (e : Entry) → entry_at a addr key ≡ Some e → entry_at b addr key ≡ Some e
 
--- no made list that has the entries of this one has one at this address and key
+-- no list of made entries that has those of this one has one at this address and key
 abbrev pub NeverAt : Rom → List Entry → ℕ → Key → Type 0
-NeverAt rom list addr key = (roots : List (ℕ × Key)) (made : List Entry) → Made rom roots made → Extends list made → HasEntry made addr key → ⊥
+NeverAt rom list addr key = (made : List Entry) → AllMade rom made → Extends list made → HasEntry made addr key → ⊥
 
 -- the entry that an instruction calls, by exact key
 pub record IsCallee (list : List Entry) (i : Instr) (scale : Key) (callee : Option Entry) : Type 0 where

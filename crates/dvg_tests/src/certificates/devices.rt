@@ -1,9 +1,10 @@
 //! Devices that count their calls and fail once: each counted call is one call of the device, whatever that answers.
 
 use super::ONE_ENTRY;
+use crate::expecting::{expect, expect_same};
 use crate::rows::text_of_returns;
 use dvg_cert::*;
-use std::alloc::Global;
+use std::alloc::{AllocError, Global};
 use std::io;
 use std::io::{Read, Write};
 use std::test::Fail;
@@ -42,21 +43,22 @@ fn fake(alloc: Global, rest: &'static [u8], most: usize, fails: Fails) -> Device
 }
 
 impl Device {
-    /// Counts a call of up to so many bytes, and gives how many it may go on with.
-    fn call(&mut self, len: usize) -> io::Result<usize> {
+    /// Counts a call, and gives how many bytes it may go on with.
+    fn call(&mut self) -> io::Result<usize> {
         let call = self.calls;
         self.calls = call.saturating_add(1);
         match self.fails {
             Fails::Error(at) if at == call => Err(io::ErrorKind::Interrupted.into()),
             Fails::Idle(at) if at == call => Ok(0),
-            _ => Ok(len.min(self.most)),
+            _ => Ok(self.most),
         }
     }
 }
 
 impl Read for Device {
     fn read(&mut self, buf: &mut [u8]) -> io::Result<usize> {
-        let count = self.call(buf.len())?.min(buf.len()).min(self.rest.len());
+        let most = self.call()?;
+        let count = self.rest.len().min(most).min(buf.len());
         let (front, rest) = self.rest.split_at(count);
         buf[..count].copy_from_slice(front);
         self.rest = rest;
@@ -66,7 +68,8 @@ impl Read for Device {
 
 impl Write for Device {
     fn write(&mut self, buf: &[u8]) -> io::Result<usize> {
-        let count = self.call(buf.len())?.min(buf.len());
+        let most = self.call()?;
+        let count = buf.len().min(most);
         self.taken.extend_from_slice(&buf[..count])?;
         Ok(count)
     }
@@ -95,25 +98,28 @@ fn read_told(alloc: Global, rest: &'static [u8], most: usize, fails: Fails, read
     (last, failures, reader.into_inner().calls)
 }
 
+/// How many bytes are given a read, how reads fail, how many reads there are of `dvgcert`, and what is told of the last one.
+const READS: &[(usize, Fails, u32, Told)] = &[
+    (9, Fails::Never, 1, (Some(4), 0, 1)),
+    (1, Fails::Never, 1, (Some(1), 0, 1)),
+    (9, Fails::Never, 2, (Some(3), 0, 2)),
+    // At the end of the input.
+    (9, Fails::Never, 3, (Some(0), 0, 3)),
+    // The failed call, and the one after it.
+    (9, Fails::Error(0), 1, (None, 1, 1)),
+    (9, Fails::Error(0), 2, (Some(4), 1, 2)),
+    (1, Fails::Error(1), 2, (None, 1, 2)),
+    (1, Fails::Error(1), 3, (Some(1), 1, 3)),
+];
+
 #[test]
 fn counted_reads_call_once(rt: HostRuntime) {
-    let rows: [(&'static [u8], usize, Fails, u32, Told); 9] = [
-        (b"dvgcert", 9, Fails::Never, 1, (Some(4), 0, 1)),
-        (b"dvgcert", 1, Fails::Never, 1, (Some(1), 0, 1)),
-        (b"dvgcert", 9, Fails::Never, 2, (Some(3), 0, 2)),
-        // At the end of the input.
-        (b"dvgcert", 9, Fails::Never, 3, (Some(0), 0, 3)),
-        (b"", 9, Fails::Never, 1, (Some(0), 0, 1)),
-        // The failed call, and the one after it.
-        (b"dvgcert", 9, Fails::Error(0), 1, (None, 1, 1)),
-        (b"dvgcert", 9, Fails::Error(0), 2, (Some(4), 1, 2)),
-        (b"dvgcert", 1, Fails::Error(1), 2, (None, 1, 2)),
-        (b"dvgcert", 1, Fails::Error(1), 3, (Some(1), 1, 3)),
-    ];
-    for (rest, most, fails, reads, want) in rows {
-        let told = read_told(rt.alloc(), rest, most, fails, reads);
-        assert_eq!(rt; told, want, "{most} a read, {fails:?}, {reads} reads");
+    for &(most, fails, reads, want) in READS {
+        let told = read_told(rt.alloc(), b"dvgcert", most, fails, reads);
+        expect_same(&rt, &told, &want, &(most, fails, reads));
     }
+    let told = read_told(rt.alloc(), b"", 9, Fails::Never, 1);
+    expect_same(&rt, &told, &(Some(0), 0, 1), &"an empty input");
 }
 
 /// Writes four bytes so often, and tells of the last write.
@@ -127,90 +133,132 @@ fn write_told(alloc: Global, most: usize, fails: Fails, writes: u32) -> Told {
     (last, failures, writer.into_inner().calls)
 }
 
+/// How many bytes are taken a write, how writes fail, how many writes there are, and what is told of the last one.
+const WRITES: &[(usize, Fails, u32, Told)] = &[
+    (9, Fails::Never, 1, (Some(4), 0, 1)),
+    (1, Fails::Never, 2, (Some(1), 0, 2)),
+    (9, Fails::Error(0), 1, (None, 1, 1)),
+    (9, Fails::Error(0), 2, (Some(4), 1, 2)),
+    (1, Fails::Error(1), 3, (Some(1), 1, 3)),
+    (9, Fails::Idle(0), 1, (Some(0), 1, 1)),
+    (9, Fails::Idle(0), 2, (Some(4), 1, 2)),
+];
+
 #[test]
 fn counted_writes_call_once(rt: HostRuntime) {
-    for (most, fails, writes, want) in [
-        (9, Fails::Never, 1, (Some(4), 0, 1)),
-        (1, Fails::Never, 2, (Some(1), 0, 2)),
-        (9, Fails::Error(0), 1, (None, 1, 1)),
-        (9, Fails::Error(0), 2, (Some(4), 1, 2)),
-        (1, Fails::Error(1), 3, (Some(1), 1, 3)),
-        (9, Fails::Idle(0), 1, (Some(0), 1, 1)),
-        (9, Fails::Idle(0), 2, (Some(4), 1, 2)),
-    ] {
+    for &(most, fails, writes, want) in WRITES {
         let told = write_told(rt.alloc(), most, fails, writes);
-        assert_eq!(rt; told, want, "{most} a write, {fails:?}, {writes} writes");
+        expect_same(&rt, &told, &want, &(most, fails, writes));
     }
 }
 
-/// A read into a buffer and a write of it, as an empty device and one that takes a byte answer them.
-fn reaches(reader: &mut Counted<Device>, writer: &mut Counted<Device>, buf: &mut [u8]) -> bool {
-    let read = reader.read_counted(buf).ok();
-    let taken = writer.write_counted(buf).ok();
-    read == Some(0) && taken == Some(buf.len().min(1))
+/// Whether a read into a buffer is answered as an empty device does.
+fn reads_none(reader: &mut Counted<Device>, buf: &mut [u8]) -> bool {
+    matches!(reader.read_counted(buf), Ok(0))
+}
+
+/// Whether a write is answered as a device does that takes a byte.
+fn writes_one(writer: &mut Counted<Device>, buf: &[u8]) -> bool {
+    match writer.write_counted(buf) {
+        Ok(taken) => taken == buf.len().min(1),
+        Err(_) => false,
+    }
 }
 
 /// Buffers and pieces of any size reach the device.
 #[test]
-fn counted_calls_of_any_size(rt: HostRuntime) -> Result<(), Fail> {
+fn counted_reads_of_any_size(rt: HostRuntime) -> Result<(), AllocError> {
     let mut reader = Counted::new(fake(rt.alloc(), b"", 0, Fails::Never));
-    let mut writer = Counted::new(fake(rt.alloc(), b"", 1, Fails::Never));
     let mut buf = [0; 4200];
     for len in 0..4200 {
-        let reached = reaches(&mut reader, &mut writer, &mut buf[..len]);
-        assert!(rt; reached, "{len} bytes");
+        expect(&rt, reads_none(&mut reader, &mut buf[..len]), &len);
     }
     let mut long = vec![in rt.alloc(); 0u8; 1_048_577]?;
-    assert!(rt; reaches(&mut reader, &mut writer, &mut long));
-    let calls = (reader.into_inner().calls, writer.into_inner().calls);
-    assert_eq!(rt; calls, (4201, 4201));
+    expect(&rt, reads_none(&mut reader, &mut long), &"a long one");
+    assert_eq!(rt; reader.into_inner().calls, 4201);
     Ok(())
+}
+
+#[test]
+fn counted_writes_of_any_size(rt: HostRuntime) -> Result<(), AllocError> {
+    let mut writer = Counted::new(fake(rt.alloc(), b"", 1, Fails::Never));
+    let long = vec![in rt.alloc(); 0u8; 1_048_577]?;
+    for len in 0..4200 {
+        let piece = long.get(..len).unwrap_or(&[]);
+        expect(&rt, writes_one(&mut writer, piece), &len);
+    }
+    expect(&rt, writes_one(&mut writer, &long), &"a long one");
+    assert_eq!(rt; writer.into_inner().calls, 4201);
+    Ok(())
+}
+
+/// Whether a plain read was done, the failures that were counted, and the calls of the device.
+fn plain_read(alloc: Global, fails: Fails) -> (bool, u32, u32) {
+    let mut reader = Counted::new(fake(alloc, b"dvgcert", 9, fails));
+    let is_done = reader.read(&mut [0; 4]).is_ok();
+    let failures = CountedRead::failures(&reader);
+    (is_done, failures, reader.into_inner().calls)
+}
+
+/// Whether a plain write and a flush were done, the failures that were counted, and the calls and flushes of the device.
+fn plain_write(alloc: Global, fails: Fails) -> ([bool; 2], u32, [u32; 2]) {
+    let mut writer = Counted::new(fake(alloc, b"", 9, fails));
+    let is_written = writer.write(b"done").is_ok();
+    let is_flushed = writer.flush().is_ok();
+    let failures = CountedWrite::failures(&writer);
+    let device = writer.into_inner();
+    let calls = [device.calls, device.flushes];
+    ([is_written, is_flushed], failures, calls)
 }
 
 /// A plain read, write or flush is the device's, and is not counted.
 #[test]
 fn plain_calls_are_the_devices(rt: HostRuntime) {
-    for (fails, is_done) in [(Fails::Never, true), (Fails::Error(0), false)] {
-        let mut reader = Counted::new(fake(rt.alloc(), b"dvgcert", 9, fails));
-        assert_eq!(rt; reader.read(&mut [0; 4]).is_ok(), is_done);
-        let mut writer = Counted::new(fake(rt.alloc(), b"", 9, fails));
-        assert_eq!(rt; writer.write(b"done").is_ok(), is_done);
-        assert_eq!(rt; writer.flush().is_ok(), is_done);
-        let failures = (
-            CountedRead::failures(&reader),
-            CountedWrite::failures(&writer),
+    for &(fails, is_done) in [(Fails::Never, true), (Fails::Error(0), false)].as_slice() {
+        expect_same(
+            &rt,
+            &plain_read(rt.alloc(), fails),
+            &(is_done, 0, 1),
+            &fails,
         );
-        assert_eq!(rt; failures, (0, 0));
-        let (reader, writer) = (reader.into_inner(), writer.into_inner());
-        assert_eq!(rt; (reader.calls, writer.calls, writer.flushes), (1, 1, 1));
+        let written = plain_write(rt.alloc(), fails);
+        expect_same(&rt, &written, &([is_done; 2], 0, [1; 2]), &fails);
     }
 }
 
-/// What a writing answered, what the device took by how many calls, and the failures that were counted.
-type Sent<'a> = (bool, &'a [u8], u32, u32);
+const EMPTY: &[u8] = b"dvgcert 1\ndone 0\n";
+
+/// How many bytes are taken a write of the text without entries, how writes fail, and what then comes of it: whether all was
+/// sent, what was taken, by how many calls, and how many failures were counted.
+const SENDINGS: &[(usize, Fails, bool, &[u8], u32, u32)] = &[
+    (1, Fails::Never, true, EMPTY, 17, 0),
+    (7, Fails::Never, true, EMPTY, 3, 0),
+    (99, Fails::Never, true, EMPTY, 1, 0),
+    (99, Fails::Error(0), false, b"", 1, 1),
+    (7, Fails::Error(1), false, b"dvgcert", 2, 1),
+    (7, Fails::Error(2), false, b"dvgcert 1\ndone", 3, 1),
+    (99, Fails::Idle(0), false, b"", 1, 1),
+    (7, Fails::Idle(1), false, b"dvgcert", 2, 1),
+    (0, Fails::Never, false, b"", 1, 1),
+];
+
+/// Whether sending a text to a device that takes so many bytes a write was answered by `Ok`, the failures that were counted, and
+/// the device.
+fn sent(alloc: Global, text: &[u8], most: usize, fails: Fails) -> (bool, u32, Device) {
+    let mut out = Counted::new(fake(alloc, b"", most, fails));
+    let is_sent = write_bytes(text, &mut out).is_ok();
+    let failures = CountedWrite::failures(&out);
+    (is_sent, failures, out.into_inner())
+}
 
 /// What is sent of this text, and nothing again where a write failed, though the device would take it.
 #[test]
 fn sends_bytes_once(rt: HostRuntime) {
-    let text: &[u8] = b"dvgcert 1\ndone 0\n";
-    let rows: [(usize, Fails, Sent); 9] = [
-        (1, Fails::Never, (true, text, 17, 0)),
-        (7, Fails::Never, (true, text, 3, 0)),
-        (99, Fails::Never, (true, text, 1, 0)),
-        (99, Fails::Error(0), (false, b"", 1, 1)),
-        (7, Fails::Error(1), (false, b"dvgcert", 2, 1)),
-        (7, Fails::Error(2), (false, b"dvgcert 1\ndone", 3, 1)),
-        (99, Fails::Idle(0), (false, b"", 1, 1)),
-        (7, Fails::Idle(1), (false, b"dvgcert", 2, 1)),
-        (0, Fails::Never, (false, b"", 1, 1)),
-    ];
-    for (most, fails, want) in rows {
-        let mut out = Counted::new(fake(rt.alloc(), b"", most, fails));
-        let is_sent = write_bytes(text, &mut out).is_ok();
-        let failures = CountedWrite::failures(&out);
-        let device = out.into_inner();
-        let sent = (is_sent, device.taken.as_slice(), device.calls, failures);
-        assert_eq!(rt; sent, want, "{most} a write, {fails:?}");
+    for &(most, fails, is_whole, taken, calls, failed) in SENDINGS {
+        let (is_sent, failures, device) = sent(rt.alloc(), EMPTY, most, fails);
+        let told = (is_sent, device.calls, failures);
+        expect_same(&rt, &told, &(is_whole, calls, failed), &(most, fails));
+        expect(&rt, device.taken.as_slice() == taken, &(most, fails));
     }
 }
 
@@ -223,72 +271,75 @@ fn written(alloc: Global, cert: &Cert, most: usize, fails: Fails) -> (bool, u32,
     (is_sent, failures, out.into_inner())
 }
 
+/// Whether just the first `len` bytes of a text were taken, by so many calls.
+fn has_taken(device: &Device, text: &[u8], len: usize, calls: usize) -> bool {
+    let taken = device.taken.as_slice();
+    taken.len() == len && text.starts_with(taken) && device.calls as usize == calls
+}
+
 /// A certificate of one entry is written byte by byte, up to the one byte that fails.
 #[test]
-fn sends_a_certificate_once(rt: HostRuntime) -> Result<(), Fail> {
+fn sends_a_certificate_once(rt: HostRuntime) -> Result<(), CertFault> {
     let cert = read_cert(rt.alloc(), ONE_ENTRY)?;
-    for at in 0..=ONE_ENTRY.len() {
-        for fails in [Fails::Error(at as u32), Fails::Idle(at as u32)] {
+    for at in 0..ONE_ENTRY.len() {
+        for &fails in [Fails::Error(at as u32), Fails::Idle(at as u32)].as_slice() {
             let (is_sent, failures, device) = written(rt.alloc(), &cert, 1, fails);
-            let is_whole = at == ONE_ENTRY.len();
-            assert_eq!(rt;
-                (is_sent, failures),
-                (is_whole, u32::from(!is_whole)),
-                "{fails:?}"
-            );
-            assert_eq!(rt; device.taken.as_slice(), &ONE_ENTRY[..at], "{fails:?}");
-            assert_eq!(rt;
-                device.calls as usize,
-                ONE_ENTRY.len().min(at + 1),
-                "{fails:?}"
-            );
+            expect_same(&rt, &(is_sent, failures), &(false, 1), &fails);
+            expect(&rt, has_taken(&device, ONE_ENTRY, at, at + 1), &fails);
         }
+    }
+    let len = ONE_ENTRY.len();
+    for &fails in [Fails::Error(len as u32), Fails::Idle(len as u32)].as_slice() {
+        let (is_sent, failures, device) = written(rt.alloc(), &cert, 1, fails);
+        expect_same(&rt, &(is_sent, failures), &(true, 0), &fails);
+        expect(&rt, has_taken(&device, ONE_ENTRY, len, len), &fails);
     }
     Ok(())
 }
 
-/// The first so many lines of a text that has as many.
-fn first_lines(text: &[u8], most: usize) -> &[u8] {
-    let mut lines = 0;
+/// How many bytes the first so many lines of a text have that has as many.
+fn heading(text: &[u8], most: usize) -> usize {
+    let mut lines = 0usize;
     for i in 0..text.len() {
         if lines == most {
-            return &text[..i];
+            return i;
         }
         lines = lines.saturating_add(usize::from(text[i] == b'\n'));
     }
-    text
+    text.len()
 }
+
+/// How many bytes are taken a write of a certificate of 4096 entries, and how many calls that takes.
+const WHOLE_WRITES: &[(usize, usize)] = &[(1, 236_564), (7, 33_825), (4096, 61)];
 
 /// A certificate of 4096 entries takes 61 writes. Each is of 68 lines of entries, but for the last, of 16: 67 of these lines have
 /// 3873 bytes at most, and 68 have 3924 at least, after which another of 200 may not fit 4096. The first has the first line, too.
-/// Where one fails, just the lines of those before it stand.
 #[test]
 fn sends_many_lines_a_write(rt: HostRuntime) -> Result<(), Fail> {
     let text = text_of_returns(rt.alloc(), false)?;
     let cert = read_cert(rt.alloc(), text.as_bytes())?;
-    for (most, calls) in [(1, 236_564), (7, 33_825), (4096, 61)] {
+    for &(most, calls) in WHOLE_WRITES {
         let (is_sent, failures, device) = written(rt.alloc(), &cert, most, Fails::Never);
-        assert_eq!(rt;
-            (is_sent, failures, device.calls),
-            (true, 0, calls),
-            "{most} a write"
-        );
-        assert!(rt;
-            device.taken.as_slice() == text.as_bytes(),
-            "{most} a write"
-        );
+        expect_same(&rt, &(is_sent, failures), &(true, 0), &most);
+        let is_whole = has_taken(&device, text.as_bytes(), text.len(), calls);
+        expect(&rt, is_whole, &most);
     }
-    for at in 0..61 {
-        let lines = if at == 0 { 0 } else { 68 * at + 1 };
-        for fails in [Fails::Error(at as u32), Fails::Idle(at as u32)] {
+    Ok(())
+}
+
+/// Where one of these writes fails, just the lines of those before it stand.
+#[test]
+fn sends_no_line_after_a_failed_write(rt: HostRuntime) -> Result<(), Fail> {
+    let text = text_of_returns(rt.alloc(), false)?;
+    let cert = read_cert(rt.alloc(), text.as_bytes())?;
+    for at in 0..61u32 {
+        let lines = if at == 0 { 0 } else { 68 * at as usize + 1 };
+        let len = heading(text.as_bytes(), lines);
+        for &fails in [Fails::Error(at), Fails::Idle(at)].as_slice() {
             let (is_sent, failures, device) = written(rt.alloc(), &cert, 4096, fails);
-            assert_eq!(rt;
-                (is_sent, failures, device.calls as usize),
-                (false, 1, at + 1),
-                "{fails:?}"
-            );
-            let is_prefix = device.taken.as_slice() == first_lines(text.as_bytes(), lines);
-            assert!(rt; is_prefix, "{fails:?}");
+            expect_same(&rt, &(is_sent, failures), &(false, 1), &fails);
+            let is_cut = has_taken(&device, text.as_bytes(), len, at as usize + 1);
+            expect(&rt, is_cut, &fails);
         }
     }
     Ok(())

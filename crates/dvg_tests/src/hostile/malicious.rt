@@ -3,14 +3,16 @@
 //! What is swept here in one place is proved of all texts and frames, so one text and one frame are enough. `read_cert` and a
 //! `CertReader` fed in pieces answer as the same definition does for all the bytes, and that has one answer to a text (law
 //! `one_answer`), so they agree on every text, however it is cut (`cut_refusal`). A text that is taken is the only one of its
-//! list (`one_text`, `one_list`), so it is written back as it was (`read_back`). And `check` returns, whatever its bytes.
+//! list (`one_text`, `one_certificate`), so it is written back as it was (`read_back`). And `check` returns, whatever its bytes.
 
 use super::{FOUR_CERT, FOUR_FRAME, four_rom};
-use crate::rows::{STROKE_CERT, is_reported};
-use dvg_cert::{Cert, CertFault, CertReader, Counted, read_cert, write_cert};
-use dvg_check::check;
+use crate::certificates::is_written;
+use crate::expecting::{expect, expect_same};
+use crate::rows::{STROKE_CERT, USUAL, is_reported};
+use dvg_cert::{Cert, CertFault, CertReader, read_cert};
+use dvg_check::{Refusal, Yes, check};
+use dvg_words::SCREEN;
 use std::alloc::Global;
-use std::process::Abort;
 use std::test::Fail;
 
 /// The certificate of a shape that sets its place.
@@ -24,15 +26,9 @@ fn cut_certificates(rt: HostRuntime) -> Result<(), Fail> {
     let mut line = 1u32;
     for at in 0..FOUR_CERT.len() {
         let report = format!(in rt.alloc(); "refused 13 certificate line {line}")?;
-        let is = is_reported(
-            rt.alloc(),
-            &rom,
-            &FOUR_CERT[..at],
-            FOUR_FRAME,
-            20000,
-            &report,
-        );
-        assert!(rt; is, "cut at {at}");
+        let text = &FOUR_CERT[..at];
+        let is = is_reported(rt.alloc(), &rom, text, FOUR_FRAME, &USUAL, &report);
+        expect(&rt, is, &at);
         if FOUR_CERT[at] == b'\n' {
             line = line.saturating_add(1);
         }
@@ -40,24 +36,26 @@ fn cut_certificates(rt: HostRuntime) -> Result<(), Fail> {
     Ok(())
 }
 
-/// The frame that calls them, cut at each place.
+/// The reports on the frame that calls them, cut at each place, from no byte on.
+const CUT_FRAMES: &[&str] = &[
+    "refused 2",
+    "refused 2",
+    "refused 40 frame at 000",
+    "refused 2",
+    "refused 40 frame at 002",
+    "refused 2",
+    "refused 40 frame at 003",
+    "refused 2",
+    "accepted shapes=4 words=11 depth=4",
+];
+
 #[test]
 fn cut_frames(rt: HostRuntime) {
     let rom = four_rom();
-    for (len, report) in [
-        (0, "refused 2"),
-        (1, "refused 2"),
-        (2, "refused 40 frame at 000"),
-        (3, "refused 2"),
-        (4, "refused 40 frame at 002"),
-        (5, "refused 2"),
-        (6, "refused 40 frame at 003"),
-        (7, "refused 2"),
-        (8, "accepted shapes=4 words=11 depth=4"),
-    ] {
+    for len in 0..CUT_FRAMES.len() {
         let frame = FOUR_FRAME.get(..len).unwrap_or(&[]);
-        let is = is_reported(rt.alloc(), &rom, FOUR_CERT, frame, 20000, report);
-        assert!(rt; is, "cut at {len}");
+        let is = is_reported(rt.alloc(), &rom, FOUR_CERT, frame, &USUAL, CUT_FRAMES[len]);
+        expect(&rt, is, &len);
     }
 }
 
@@ -69,39 +67,37 @@ fn read_by_bytes(alloc: Global, text: &[u8]) -> Result<Cert, CertFault> {
     reader.finish()
 }
 
-/// Whether a text is taken. Read whole and byte by byte it has the same answer, and a taken one is written back as it was.
-fn is_taken(rt: &impl Abort, alloc: Global, text: &[u8]) -> Result<bool, Fail> {
+/// Whether a text is taken; `None` where, read whole and byte by byte, it has two answers, or what is taken is not written back
+/// as it was.
+fn is_taken(alloc: Global, text: &[u8]) -> Option<bool> {
     let (whole, fed) = (read_cert(alloc, text), read_by_bytes(alloc, text));
-    let (Ok(whole), Ok(fed)) = (&whole, &fed) else {
-        assert_eq!(rt; whole.err(), fed.err());
-        return Ok(false);
+    let is_right = match (&whole, &fed) {
+        (Ok(whole), Ok(fed)) => { is_written(alloc, whole, text) && is_written(alloc, fed, text) }
+        (Err(whole), Err(fed)) => whole == fed,
+        _ => false,
     };
-    for cert in [whole, fed] {
-        let mut out = Counted::new(Vec::new(alloc));
-        write_cert(cert, &mut out)?;
-        assert_eq!(rt; out.into_inner().as_slice(), text);
-    }
-    Ok(true)
+    if is_right { Some(whole.is_ok()) } else { None }
 }
 
 /// Each byte of a certificate, replaced by each other value. Taken are another address (3 by its first digit, 15 by each other
 /// one), x and y (8 and 5 times 9 each), a depth of 1 to 3, words of 1, 2 and 4 to 9, and a scale of 1 to 9: 159 texts.
 #[test]
-fn changed_certificates(rt: HostRuntime) -> Result<(), Fail> {
+fn changed_certificates(rt: HostRuntime) {
     let mut text = *PLACE_CERT;
     let mut taken = 0u32;
     for at in 0..86 {
         let byte = text[at];
         for other in 0..=255u8 {
             text[at] = other;
-            if other != byte && is_taken(&rt, rt.alloc(), &text)? {
+            let is_taken = is_taken(rt.alloc(), &text);
+            expect(&rt, is_taken.is_some(), &(at, other));
+            if other != byte && is_taken == Some(true) {
                 taken = taken.saturating_add(1);
             }
         }
         text[at] = byte;
     }
     assert_eq!(rt; taken, 159);
-    Ok(())
 }
 
 /// The number that answers a frame of this word and `B000`, over a shape with an entry for scale 0; 0 where it is accepted.
@@ -127,6 +123,14 @@ fn answer_to(word: u16) -> u8 {
     }
 }
 
+/// The number of a verdict's refusal, or 0.
+fn number_of(verdict: Result<Yes, Refusal>) -> u8 {
+    match verdict {
+        Ok(_) => 0,
+        Err(refusal) => refusal.number(),
+    }
+}
+
 /// Each word as the first of a frame.
 #[test]
 fn each_first_word(rt: HostRuntime) {
@@ -135,10 +139,7 @@ fn each_first_word(rt: HostRuntime) {
     for word in 0..=0xFFFFu16 {
         let [low, high] = word.to_le_bytes();
         let frame = [low, high, 0x00, 0xB0];
-        let number = match check(rt.alloc(), &rom, STROKE_CERT, &frame, 20000) {
-            Ok(_) => 0,
-            Err(refusal) => refusal.number(),
-        };
-        assert_eq!(rt; number, answer_to(word), "at {word:04X}");
+        let verdict = check(rt.alloc(), &rom, STROKE_CERT, &frame, 20000, SCREEN);
+        expect_same(&rt, &number_of(verdict), &answer_to(word), &word);
     }
 }

@@ -2,38 +2,54 @@
 //! them refused, from where the test has taken all that it needs itself. Where an allocation is refused, the tests of runs tell
 //! what was answered in the place of their own answer, and fail.
 
+ghost use Rattle.std.specs.Prelude.{◌≡◌};
+
 use super::{FOUR_CERT, FOUR_FRAME, FOUR_REPORT, FOUR_ROOT, four_rom};
 use crate::certificates::fed;
 use crate::rows::{EMPTY, text_of_returns};
 use crate::running::NEVER;
 use crate::running::devices::SlowWriter;
 use dvg_cert::*;
-use dvg_check::{Accepted, JudgedShapes, check, check_frame, check_shapes, images_of};
-use dvg_cmd::{
-    MakeRunFault, Outcome, RunFault, make_report_of, make_status_of, message_of, report_of,
-    root_of, run_check, run_make, status_of,
+use dvg_check::{
+    Accepted, JudgedShapes, Mode, check, check_frame, check_shapes, check_shapes_exact, frame_of,
 };
-use dvg_words::{Draw, FrameImage, Instr, RomImage, decode, displacement, is_long, on_screen};
-use std::alloc::Global;
+use dvg_cmd::{
+    MakeRunFault, Outcome, RunFault, make_report_of, make_status_of, map_of, message_of, report_of,
+    root_of, run_check, run_make, status_of, window_of,
+};
+use dvg_words::{
+    ASTEROIDS, Draw, FrameImage, Instr, RomImage, SCREEN, Window, decode, displacement, in_window,
+    is_long, on_screen,
+};
+use std::alloc::{AllocError, Global};
 use std::process::Abort;
 use std::str;
 use std::test::Fail;
 
 /// Says that the test has taken what it needs: the script refuses no allocation before one of this many bytes.
-fn take_mark(alloc: Global) -> Result<(), Fail> {
+fn take_mark(alloc: Global) -> Result<(), AllocError> {
     let mark = Vec::<u8>::with_capacity(alloc, 1_048_583)?;
     drop(mark);
     Ok(())
 }
 
-/// What `check` and a run answer about a ROM, a frame and a certificate: this report, or what is told.
-fn judge(rt: &impl Abort, alloc: Global, inputs: [&[u8]; 3], own: &[u8]) -> Result<(), Fail> {
+/// A report without the end of its line.
+fn line_of(report: &[u8]) -> &str {
+    str::from_utf8(report).unwrap_or("").trim_end()
+}
+
+/// Stops the test unless `check` answers with this report about a ROM, a frame and a certificate.
+fn judge_bytes(rt: &impl Abort, alloc: Global, inputs: [&[u8]; 3], own: &[u8]) {
     let [rom, frame, cert] = inputs;
-    take_mark(alloc)?;
-    let report = report_of(&check(alloc, rom, cert, frame, 20000));
+    let report = report_of(&check(alloc, rom, cert, frame, 20000, SCREEN));
     if report.as_bytes() != own {
-        panic!(rt; "check: {}", str::from_utf8(report.as_bytes())?.trim_end());
+        panic!(rt; "check: {}", line_of(report.as_bytes()));
     }
+}
+
+/// How a run over a ROM, a frame and a certificate ends, and what it writes.
+fn run_over(alloc: Global, inputs: [&[u8]; 3]) -> (Result<Outcome, RunFault>, SlowWriter) {
+    let [rom, frame, cert] = inputs;
     let mut told = SlowWriter::new(64, NEVER);
     let end = run_check(
         alloc,
@@ -41,22 +57,33 @@ fn judge(rt: &impl Abort, alloc: Global, inputs: [&[u8]; 3], own: &[u8]) -> Resu
         &mut Counted::new(cert),
         &mut Counted::new(frame),
         20000,
+        SCREEN,
+        Mode::Bound,
         &mut Counted::new(&mut told),
     );
+    (end, told)
+}
+
+/// Stops the test unless a run over them writes this report.
+fn judge_by_run(rt: &impl Abort, alloc: Global, inputs: [&[u8]; 3], own: &[u8]) {
+    let (end, told) = run_over(alloc, inputs);
     if told.told() != own {
-        panic!(rt;
-            "status {}: {}",
-            status_of(&end),
-            str::from_utf8(told.told())?.trim_end()
-        );
+        panic!(rt; "status {}: {}", status_of(&end), line_of(told.told()));
     }
-    assert_eq!(rt; end, Ok(Outcome::Accepted));
+    assert!(rt; end == Ok(Outcome::Accepted));
+}
+
+/// What `check` and a run answer about a ROM, a frame and a certificate: this report, or what is told.
+fn judge(rt: &impl Abort, alloc: Global, inputs: [&[u8]; 3], own: &[u8]) -> Result<(), AllocError> {
+    take_mark(alloc)?;
+    judge_bytes(rt, alloc, inputs, own);
+    judge_by_run(rt, alloc, inputs, own);
     Ok(())
 }
 
 /// Their certificate, read in pieces of seven bytes. A refusal stays, though there is memory again.
 #[test]
-fn reads_four(rt: HostRuntime) -> Result<(), Fail> {
+fn reads_four(rt: HostRuntime) -> Result<(), AllocError> {
     take_mark(rt.alloc())?;
     match fed(&rt, rt.alloc(), FOUR_CERT, 7, 7) {
         Ok(count) => assert_eq!(rt; count, 4),
@@ -66,7 +93,7 @@ fn reads_four(rt: HostRuntime) -> Result<(), Fail> {
 }
 
 #[test]
-fn judges_four(rt: HostRuntime) -> Result<(), Fail> {
+fn judges_four(rt: HostRuntime) -> Result<(), AllocError> {
     let inputs = [&four_rom(), FOUR_FRAME, FOUR_CERT];
     judge(&rt, rt.alloc(), inputs, FOUR_REPORT)
 }
@@ -81,30 +108,35 @@ fn judges_full(rt: HostRuntime) -> Result<(), Fail> {
     let text = text_of_returns(rt.alloc(), false)?;
     let frame = [0x00, 0xA0, 0x00, 0xF0, 0xFF, 0xC8, 0x00, 0xB0];
     let own = b"accepted shapes=4096 words=5 depth=1\n";
-    judge(&rt, rt.alloc(), [&rom, &frame, text.as_bytes()], own)
+    judge(&rt, rt.alloc(), [&rom, &frame, text.as_bytes()], own)?;
+    Ok(())
 }
 
-#[test]
-fn makes_four(rt: HostRuntime) -> Result<(), Fail> {
+/// How making the certificate of the four shapes ends, and what it writes.
+fn make_four(alloc: Global) -> (Result<(), MakeRunFault>, SlowWriter) {
     let rom = four_rom();
-    take_mark(rt.alloc())?;
     let mut told = SlowWriter::new(256, NEVER);
     let end = run_make(
-        rt.alloc(),
+        alloc,
         &mut Counted::new(rom.as_slice()),
+        ASTEROIDS,
         &[FOUR_ROOT],
         &mut Counted::new(&mut told),
     );
+    (end, told)
+}
+
+#[test]
+fn makes_four(rt: HostRuntime) -> Result<(), AllocError> {
+    take_mark(rt.alloc())?;
+    let (end, told) = make_four(rt.alloc());
     if let Err(fault) = &end {
         let report = make_report_of(fault);
-        let line = str::from_utf8(report.as_bytes())?.trim_end();
-        panic!(rt;
-            "status {}: {line}, {} bytes",
-            make_status_of(&end),
-            told.told().len()
-        );
+        let line = line_of(report.as_bytes());
+        let status = make_status_of(&end);
+        panic!(rt; "status {status}: {line}, {} bytes", told.told().len());
     }
-    assert_eq!(rt; told.told(), FOUR_CERT);
+    assert!(rt; told.told() == FOUR_CERT);
     Ok(())
 }
 
@@ -115,7 +147,7 @@ fn take_byte(alloc: Global) {
 
 fn are_words_right(bytes: &[u8]) -> bool {
     let (Ok(rom), Ok(frame)) = (
-        RomImage::from_bytes(bytes),
+        RomImage::from_bytes(bytes, ASTEROIDS),
         FrameImage::from_bytes(FOUR_FRAME),
     ) else {
         return false;
@@ -133,46 +165,84 @@ fn are_words_right(bytes: &[u8]) -> bool {
         && decode(0xC802, 0) == Some(Instr::Jsrl { to: 0x802 })
         && displacement(&draw, 0) == (1_047_552, 785_408)
         && on_screen(1_047_552, 785_408)
+        && Window::new(0, 1023, 0, 767).is_some_and(|low| in_window(&low, 1_047_552, 785_408))
 }
 
 fn are_reports_right() -> bool {
     status_of(&Err(RunFault::Write)) == 3
         && message_of(&RunFault::Write) == "dvgcheck: cannot write"
         && root_of("800/0") == Some(FOUR_ROOT)
+        && map_of("800/BFF") == Some(ASTEROIDS)
+        && window_of("0,1023,0,1023") == Some(SCREEN)
         && make_status_of(&Ok(())) == 0
         && make_report_of(&MakeRunFault::RomLength).as_bytes() == b"refused 1\n".as_slice()
 }
 
-/// What `dvg_words` and the reports answer, and a `check` that ends before the certificate.
+/// Whether this is the report on what `check` answers.
+fn is_judged(
+    alloc: Global,
+    rom: &[u8],
+    cert: &[u8],
+    frame: &[u8],
+    budget: u32,
+    report: &[u8],
+) -> bool {
+    report_of(&check(alloc, rom, cert, frame, budget, SCREEN)).as_bytes() == report
+}
+
+/// What `dvg_words` and the reports answer, and a `check` that ends before the first entry.
 #[test]
-fn words_and_reports_take_none(rt: HostRuntime) -> Result<(), Fail> {
-    let bytes = four_rom();
+fn words_and_reports_take_none(rt: HostRuntime) -> Result<(), AllocError> {
+    let rom = four_rom();
+    let frame = FOUR_FRAME;
     take_mark(rt.alloc())?;
-    for (rom, frame, budget, want) in [
-        (&bytes[1..], FOUR_FRAME, 20000, b"refused 1\n".as_slice()),
-        (&bytes, &FOUR_FRAME[1..], 20000, b"refused 2\n"),
-        (&bytes, FOUR_FRAME, 0, b"refused 49\n"),
-        (&bytes, FOUR_FRAME, 1_000_001, b"refused 49\n"),
-    ] {
-        let report = report_of(&check(rt.alloc(), rom, FOUR_CERT, frame, budget));
-        assert_eq!(rt; report.as_bytes(), want);
-    }
-    assert!(rt; are_words_right(&bytes) && are_reports_right());
+    assert!(rt;
+        is_judged(
+            rt.alloc(),
+            &rom,
+            FOUR_CERT,
+            &frame[1..],
+            20000,
+            b"refused 2\n"
+        )
+    );
+    assert!(rt; is_judged(rt.alloc(), &rom, FOUR_CERT, frame, 0, b"refused 49\n"));
+    assert!(rt;
+        is_judged(
+            rt.alloc(),
+            &rom,
+            FOUR_CERT,
+            frame,
+            1_000_001,
+            b"refused 49\n"
+        )
+    );
+    assert!(rt; is_judged(rt.alloc(), &rom[1..], EMPTY, frame, 20000, b"refused 1\n"));
+    assert!(rt; are_words_right(&rom) && are_reports_right());
     take_byte(rt.alloc());
     Ok(())
 }
 
-/// A reader's answer to texts without entries.
-fn read_without_entries(rt: &impl Abort, alloc: Global) {
-    assert!(rt; read_cert(alloc, EMPTY).is_ok());
+/// Whether a reader takes the text without entries, and then refuses a byte, and again.
+fn is_read_without_entries(alloc: Global) -> bool {
     let after = CertFault {
         line: 3,
         why: CertWhy::After,
     };
     let mut reader = CertReader::new(alloc);
-    assert_eq!(rt; reader.feed(EMPTY), Ok(()));
-    assert_eq!(rt; reader.feed(b"x"), Err(after));
-    assert_eq!(rt; reader.finish().err(), Some(after));
+    read_cert(alloc, EMPTY).is_ok()
+        && reader.feed(EMPTY).is_ok()
+        && reader.feed(b"x") == Err(after)
+        && reader.finish().err() == Some(after)
+}
+
+/// Whether the certificate of the four shapes and some bytes are written, by a writer that takes seven bytes a write.
+fn are_sent(cert: &Cert) -> bool {
+    let mut told = SlowWriter::new(7, NEVER);
+    let mut out = Counted::new(&mut told);
+    let is_sent = write_cert(cert, &mut out).is_ok() && write_bytes(b"done", &mut out).is_ok();
+    let failures = CountedWrite::failures(&out);
+    is_sent && failures == 0 && told.told().strip_prefix(FOUR_CERT) == Some(b"done".as_slice())
 }
 
 /// What is read without entries, certificates of lists that stand, and what is written.
@@ -183,18 +253,10 @@ fn certificates_take_none(rt: HostRuntime) -> Result<(), Fail> {
     let mut reversed = Vec::from_slice(rt.alloc(), cert.entries())?;
     reversed.reverse();
     take_mark(rt.alloc())?;
-    read_without_entries(&rt, rt.alloc());
-    assert!(rt; Cert::from_entries(sorted).is_ok());
-    assert!(rt; Cert::from_entries(reversed).is_err());
-    let mut told = SlowWriter::new(7, NEVER);
-    let mut out = Counted::new(&mut told);
-    assert_eq!(rt; write_cert(&cert, &mut out), Ok(()));
-    assert_eq!(rt; write_bytes(b"done", &mut out), Ok(()));
-    assert_eq!(rt; CountedWrite::failures(&out), 0);
-    assert_eq!(rt;
-        told.told().strip_prefix(FOUR_CERT),
-        Some(b"done".as_slice())
-    );
+    assert!(rt; is_read_without_entries(rt.alloc()));
+    assert!(rt; Cert::from_entries(sorted, cert.rom()).is_ok());
+    assert!(rt; Cert::from_entries(reversed, cert.rom()).is_err());
+    assert!(rt; are_sent(&cert));
     take_byte(rt.alloc());
     Ok(())
 }
@@ -204,31 +266,50 @@ fn finds<E: Entries>(entries: &E) -> bool {
     entries.find(0x800, Key::At(0)).is_some() && entries.named(0x800, Key::Any).is_none()
 }
 
-/// Whether both checkers accept the four shapes and their frame over both indexes. The index that hashes is made before the
-/// mark is taken.
-fn are_accepted(alloc: Global, bytes: &[u8], cert: &Cert) -> Result<bool, Fail> {
-    let hashed = HashIndex::new(alloc, cert)?;
-    take_mark(alloc)?;
-    let Ok(images) = images_of(bytes, FOUR_FRAME, 20000) else {
-        return Ok(false);
-    };
-    let (rom, frame) = (&images.rom, &images.frame);
-    let listed = ListIndex::new(cert);
-    let Ok(shapes) = JudgedShapes::judge(rom, cert, &hashed) else {
-        return Ok(false);
-    };
+/// Whether both checkers accept the four shapes and their frame over an index.
+fn are_accepted_by<E: Entries>(rom: &RomImage, frame: &FrameImage, cert: &Cert, entries: &E) -> bool
+    requires entries { E.list entries.now ≡ cert.now.entries }
+    requires map { rom.now.map ≡ cert.now.map }
+{
     let want = Ok(Accepted {
         words: 11,
         depth: 4,
     });
+    finds(entries)
+        && check_shapes(rom, cert, entries, &SCREEN).is_ok()
+        && check_shapes_exact(rom, cert, entries, &SCREEN).is_ok()
+        && check_frame(rom, frame, cert, entries, 20000, &SCREEN) == want
+}
+
+/// Whether the shapes are judged once and the frame is accepted over them.
+fn are_judged(rom: &RomImage, frame: &FrameImage, cert: &Cert, entries: &HashIndex) -> bool
+    requires entries { entries.now ≡ cert.now.entries }
+    requires map { rom.now.map ≡ cert.now.map }
+{
+    let want = Ok(Accepted {
+        words: 11,
+        depth: 4,
+    });
+    match JudgedShapes::judge(rom, cert, entries, SCREEN, Mode::Bound) {
+        Ok(shapes) => shapes.check_frame(frame, 20000) == want,
+        Err(_) => false,
+    }
+}
+
+/// Whether all that is so over both indexes. The index that hashes is made before the mark is taken.
+fn are_accepted(alloc: Global, bytes: &[u8], cert: &Cert) -> Result<bool, Fail> {
+    let hashed = HashIndex::new(alloc, cert)?;
+    take_mark(alloc)?;
+    let (Ok(rom), Ok(frame)) = (
+        RomImage::from_bytes(bytes, cert.map()),
+        frame_of(FOUR_FRAME, 20000),
+    ) else {
+        return Ok(false);
+    };
     Ok(
-        finds(&hashed)
-            && finds(&listed)
-            && check_shapes(rom, cert, &hashed).is_ok()
-            && check_shapes(rom, cert, &listed).is_ok()
-            && shapes.check_frame(frame, 20000) == want
-            && check_frame(rom, frame, cert, &hashed, 20000) == want
-            && check_frame(rom, frame, cert, &listed, 20000) == want,
+        are_accepted_by(&rom, &frame, cert, &hashed)
+            && are_accepted_by(&rom, &frame, cert, &ListIndex::new(cert))
+            && are_judged(&rom, &frame, cert, &hashed),
     )
 }
 

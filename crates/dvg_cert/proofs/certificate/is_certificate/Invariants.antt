@@ -1,7 +1,6 @@
 use Rattle.std.proofs.Common.{take}
-use Rattle.dvg_words.specs.Values.{asteroids}
 use Rattle.dvg_cert.specs.Order.{IsCertificate}
 use Rattle.dvg_cert.proofs.certificate.is_certificate.Given as goal
 
 abbrev pub invariant-loop-i : goal.invariant-loop-i
-invariant-loop-i l = IsCertificate asteroids.rom_first asteroids.rom_last (take l.i l.entries)
+invariant-loop-i l = IsCertificate l.map (take l.i l.entries)

@@ -3,4 +3,4 @@ use Rattle.dvg_cert.specs.Grammar.{text_of}
 use Rattle.dvg_cert.proofs.laws.one_text.Goals as goal
 
 pub returns : goal.returns
-returns c = λ first last es h. (text_of es, (h, refl), λ other k. k.1)
+returns c = λ cert h. (text_of cert.map cert.entries, (h, refl), λ other k. k.1)

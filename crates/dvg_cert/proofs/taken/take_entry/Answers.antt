@@ -1,5 +1,4 @@
 use Rattle.std.proofs.Common.{List, subst, arith, rules}
-use Rattle.dvg_words.specs.Values.{asteroids}
 use Rattle.dvg_cert.specs.Entry.{Entry}
 use Rattle.dvg_cert.specs.Order.{StandsAfter}
 use Rattle.dvg_cert.proofs.Rising.{certificate_push}
@@ -8,11 +7,11 @@ use Rattle.dvg_cert.proofs.taken.take_entry.Goals as goal
 pub returns-in-Ok : goal.returns-in-Ok
 returns-in-Ok c =
     let s : StandsAfter c.args.entries.now.items c.args.entry = subst (λ (es : List Entry). StandsAfter es c.args.entry) c.deref.ensures.value (c.if-not-stands_after.ensures.0 (search rules)) in
-    let k = certificate_push asteroids.rom_first asteroids.rom_last c.args.entries.now.items c.args.entry c.requires.taken c.requires.entry s (omega arith) in
+    let k = certificate_push c.args.map c.args.entries.now.items c.args.entry c.requires.taken c.requires.entry s (omega arith) in
     (c.in-Ok.ensures.items, rw c.in-Ok.ensures.items k)
 
 pub returns-in-Err : goal.returns-in-Err
 returns-in-Err c =
     let s : StandsAfter c.args.entries.now.items c.args.entry = subst (λ (es : List Entry). StandsAfter es c.args.entry) c.deref.ensures.value (c.if-not-stands_after.ensures.0 (search rules)) in
-    let k = certificate_push asteroids.rom_first asteroids.rom_last c.args.entries.now.items c.args.entry c.requires.taken c.requires.entry s (omega arith) in
+    let k = certificate_push c.args.map c.args.entries.now.items c.args.entry c.requires.taken c.requires.entry s (omega arith) in
     (c.in-Err.ensures.items, k)

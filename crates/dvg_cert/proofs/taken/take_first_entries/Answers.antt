@@ -1,5 +1,4 @@
 use Rattle.std.proofs.Common.{Err, refl, arith}
-use Rattle.dvg_words.specs.Values.{asteroids}
 use Rattle.dvg_cert.specs.declared.fault.CertWhy.TheVariants.{Memory}
 use Rattle.dvg_cert.specs.Private.Progress.{TakesEntry}
 use Rattle.dvg_cert.proofs.Refusals.{ended_taken, ended_refused}
@@ -7,10 +6,10 @@ use Rattle.dvg_cert.proofs.taken.take_first_entries.Goals as goal
 
 pub loop-entry-preserved : goal.loop-entry-preserved
 loop-entry-preserved c =
-    let t = ended_taken c.args.entries.now.items c.loop-entry.entries.items c.take_entry.new.entries.items c.in-Some.entry c.args.bytes.now c.loop-entry.rest.now c.in-Some.after.now c.loop-entry.invariant.1 c.in-Some.ensures.1 c.in-Ok.ensures.0 in
+    let t = ended_taken c.args.map c.args.entries.now.items c.loop-entry.entries.items c.take_entry.new.entries.items c.in-Some.entry c.args.bytes.now c.loop-entry.rest.now c.in-Some.after.now c.loop-entry.invariant.1 c.in-Some.ensures.1 c.in-Ok.ensures.0 in
     (c.in-Ok.ensures.1, t.0, omega (arith, t.1, c.loop-entry.invariant.2))
 
 pub returns-in-Err-Memory-clause-takes : goal.returns-in-Err-Memory-clause-takes
 returns-in-Err-Memory-clause-takes c =
-    let refused : TakesEntry asteroids.rom_first asteroids.rom_last c.loop-entry.entries.items c.in-Some.entry c.take_entry.new.entries.items (Err Memory) = rw c.in-Err-Memory.field-0-is at c.in-Err-Memory.ensures in
-    (refl, rw refused.0 (ended_refused asteroids.rom_first asteroids.rom_last c.args.entries.now.items c.loop-entry.entries.items c.in-Some.entry c.args.bytes.now c.loop-entry.rest.now c.in-Some.after.now c.loop-entry.invariant.1 c.in-Some.ensures.1 refused.1))
+    let refused : TakesEntry c.args.map c.loop-entry.entries.items c.in-Some.entry c.take_entry.new.entries.items (Err Memory) = rw c.in-Err-Memory.field-0-is at c.in-Err-Memory.ensures in
+    (refl, rw refused.0 (ended_refused c.args.map c.args.entries.now.items c.loop-entry.entries.items c.in-Some.entry c.args.bytes.now c.loop-entry.rest.now c.in-Some.after.now c.loop-entry.invariant.1 c.in-Some.ensures.1 refused.1))

@@ -1,11 +1,10 @@
 use Rattle.std.proofs.Common.{◌≡◌, ◌++◌, ◌≤◌, length}
-use Rattle.dvg_words.specs.Values.{asteroids}
 use Rattle.dvg_cert.specs.Grammar.{begun_with}
 use Rattle.dvg_cert.specs.Order.{IsCertificate}
 use Rattle.dvg_cert.proofs.taken.take_first_entries.Given as goal
 
 abbrev pub invariant-loop-entry : goal.invariant-loop-entry
-invariant-loop-entry l = IsCertificate asteroids.rom_first asteroids.rom_last l.entries.items × (begun_with l.fn.entries.items ++ l.bytes ≡ begun_with l.entries.items ++ l.rest) × (length l.rest ≤ length l.bytes)
+invariant-loop-entry l = IsCertificate l.map l.entries.items × (begun_with l.map l.fn.entries.items ++ l.bytes ≡ begun_with l.map l.entries.items ++ l.rest) × (length l.rest ≤ length l.bytes)
 
 abbrev pub decreases-loop-entry : goal.decreases-loop-entry
 decreases-loop-entry l = length l.rest

@@ -1,6 +1,5 @@
 use Rattle.dvg_check.proofs.ShapeLaws.{one_shape as law}
-use Rattle.dvg_check.specs.declared.fault.Mode.TheVariants.{Bound}
 use Rattle.dvg_check.proofs.laws.one_shape.Goals as goal
 
 pub returns : goal.returns
-returns c = law Bound
+returns c = law

@@ -1,5 +1,4 @@
 use Rattle.std.proofs.Common.{◌+◌, ap, arith, length, pos}
-use Rattle.dvg_words.specs.Beam.{screen}
 use Rattle.dvg_cert.specs.declared.entry.Key.TheVariants.{At}
 use Rattle.dvg_cert.specs.declared.entry.End.TheVariants.{Rel}
 use Rattle.dvg_cert.specs.declared.entry.LitBox.TheVariants.{Empty}
@@ -13,11 +12,11 @@ none = record { addr = 0; key = At 0; stop = Rel (pos 0) (pos 0); lit = Empty; d
 
 pub returns-in-Err-clause-err : goal.returns-in-Err-clause-err
 returns-in-Err-clause-err g c =
-    faulty c.args.mode screen c.args.rom.now c.args.cert.now c.entries-list.result.now (g.E.Entries.list c.args.entries.now) c.entries.index none c.in-Err.fault c.entries-list.ensures.value c.requires c.entries-test.true c.entries.invariant.good c.in-Err.ensures.err c.in-Err.ensures.place.0 c.in-Err.ensures.place.1
+    faulty c.args.mode c.args.window.now c.args.rom.now c.args.cert.now.entries c.entries-list.result.now (g.E.Entries.list c.args.entries.now) c.entries.index none c.in-Err.fault c.entries-list.ensures.value c.requires c.entries-test.true c.entries.invariant.good c.in-Err.ensures.err c.in-Err.ensures.place.0 c.in-Err.ensures.place.1
 
 pub entries-preserved : goal.entries-preserved
 entries-preserved g c =
     record {
       few = omega (arith, c.entries-test.true, ap length c.entries-list.ensures.value);
-      good = good_more c.args.mode screen c.args.rom.now c.args.cert.now c.entries-list.result.now (g.E.Entries.list c.args.entries.now) c.entries.index (c.entries.index + 1) none c.entries-list.ensures.value c.requires (omega arith) c.entries-test.true c.entries.invariant.good c.in_default.ensures.ok;
+      good = good_more c.args.mode c.args.window.now c.args.rom.now c.args.cert.now.entries c.entries-list.result.now (g.E.Entries.list c.args.entries.now) c.entries.index (c.entries.index + 1) none c.entries-list.ensures.value c.requires (omega arith) c.entries-test.true c.entries.invariant.good c.in_default.ensures.ok;
     }

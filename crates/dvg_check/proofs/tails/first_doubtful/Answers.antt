@@ -2,7 +2,6 @@ use Rattle.std.proofs.Common.{arith, List, pos, refl, sym, subst, get_or, take, 
 use Rattle.std.proofs.lemmas.Bool.{cases_lt}
 use Rattle.std.proofs.lemmas.List.{get_or_default}
 use Rattle.std.specs.List.{AllByRecursion}
-use Rattle.dvg_words.specs.Beam.{screen}
 use Rattle.dvg_cert.specs.declared.entry.End.TheVariants.{Rel}
 use Rattle.dvg_cert.specs.declared.entry.Entry.{Entry}
 use Rattle.dvg_cert.specs.declared.entry.Key.TheVariants.{At}
@@ -21,7 +20,7 @@ entries-init g c =
       near = omega arith;
       before = omega arith;
       few = omega arith;
-      tails = none_kept screen c.args.rom.now (g.E.Entries.list c.args.entries.now) 51;
+      tails = none_kept c.args.window.now c.args.rom.now (g.E.Entries.list c.args.entries.now) 51;
       good = λ k past le lt. absurd (omega (arith, le, lt));
     }
 
@@ -36,15 +35,15 @@ entries-preserved g c =
           ⊎_elim
           (λ (less : k < c.entries.left).
           let same : k ≡ c.entries.left - 1 = omega (arith, le, less, c.entries-test.true) in
-          subst (λ (j : ℕ). GoodShape c.args.mode screen c.args.rom.now (g.E.Entries.list c.args.entries.now) (get_or c.args.list.now j past)) (sym same)
-          (subst (GoodShape c.args.mode screen c.args.rom.now (g.E.Entries.list c.args.entries.now)) (get_or_default c.args.list.now (c.entries.left - 1) none past (omega (arith, c.entries.invariant.before, c.entries-test.true)))
-          (c.if-not-shows.ensures c.args.rom.now (g.E.Entries.list c.args.entries.now) c.make_all.ensures refl)))
+          subst (λ (j : ℕ). GoodShape c.args.mode c.args.window.now c.args.rom.now (g.E.Entries.list c.args.entries.now) (get_or c.args.list.now j past)) (sym same)
+          (subst (GoodShape c.args.mode c.args.window.now c.args.rom.now (g.E.Entries.list c.args.entries.now)) (get_or_default c.args.list.now (c.entries.left - 1) none past (omega (arith, c.entries.invariant.before, c.entries-test.true)))
+          (c.if-not-shows.ensures c.args.window.now c.args.rom.now (g.E.Entries.list c.args.entries.now) c.make_all.ensures refl)))
           (λ (more : c.entries.left ≤ k). c.entries.invariant.good k past more lt)
           (cases_lt k c.entries.left);
     }
 
 pub returns-clause-good : goal.returns-clause-good
 returns-clause-good g c =
-    subst (λ (l : List Entry). AllByRecursion (GoodShape c.args.mode screen c.args.rom.now l) (take c.entries.doubtful c.args.list.now)) c.requires.list
-    (all_take (GoodShape c.args.mode screen c.args.rom.now (g.E.Entries.list c.args.entries.now)) c.args.list.now c.entries.doubtful c.entries.invariant.few
+    subst (λ (l : List Entry). AllByRecursion (GoodShape c.args.mode c.args.window.now c.args.rom.now l) (take c.entries.doubtful c.args.list.now)) c.requires.list
+    (all_take (GoodShape c.args.mode c.args.window.now c.args.rom.now (g.E.Entries.list c.args.entries.now)) c.args.list.now c.entries.doubtful c.entries.invariant.few
     (λ k past lt. c.entries.invariant.good k past (omega (arith, c.entries-test.false)) lt))

@@ -1,5 +1,4 @@
 use Rattle.std.proofs.Common.{◌≤◌, ◌<◌, length, get_or, ℕ}
-use Rattle.dvg_words.specs.Beam.{screen}
 use Rattle.dvg_words.specs.declared.map.TheConstants.{ADDRESS_END}
 use Rattle.dvg_cert.specs.declared.entry.Entry.{Entry}
 use Rattle.dvg_check.specs.Rules.{GoodShape}
@@ -12,8 +11,8 @@ invariant-entries g l = record {
   near : l.at ≤ ADDRESS_END;
   before : l.left ≤ length l.list;
   few : l.doubtful ≤ length l.list;
-  tails : AreTails screen l.rom (g.E.Entries.list l.entries) l.tails.slots;
-  good : (k : ℕ) (past : Entry) → l.left ≤ k → k < l.doubtful → GoodShape l.mode screen l.rom (g.E.Entries.list l.entries) (get_or l.list k past);
+  tails : AreTails l.window l.rom (g.E.Entries.list l.entries) l.tails.slots;
+  good : (k : ℕ) (past : Entry) → l.left ≤ k → k < l.doubtful → GoodShape l.mode l.window l.rom (g.E.Entries.list l.entries) (get_or l.list k past);
 }
 
 abbrev pub decreases-entries : goal.decreases-entries

@@ -1,9 +1,8 @@
 use Rattle.std.proofs.Common.{arith, rules, length, ◌≡◌}
-use Rattle.dvg_words.specs.Beam.{screen}
 use Rattle.dvg_check.proofs.TailRows.{are_set}
 use Rattle.dvg_check.proofs.tails.keep.Goals as goal
 
 pub returns : goal.returns
 returns c =
     let long : length c.args.tails.now.slots ≡ 51 = search rules in
-    λ rom list tails new. are_set screen rom list c.args.tails.now.slots c.slot_of.result c.args.tail (omega (arith, c.slot_of.ensures, long)) tails new
+    λ w rom list tails new. are_set w rom list c.args.tails.now.slots c.slot_of.result c.args.tail (omega (arith, c.slot_of.ensures, long)) tails new

@@ -1,11 +1,10 @@
 use Rattle.std.proofs.Common.{◌-◌, ◌≤◌}
-use Rattle.dvg_words.specs.Beam.{screen}
 use Rattle.dvg_words.specs.declared.map.TheConstants.{ADDRESS_END}
 use Rattle.dvg_check.specs.Private.Tails.{AreTails}
 use Rattle.dvg_check.proofs.tails.make_all.Given as goal
 
 abbrev pub invariant-places : goal.invariant-places
-invariant-places g l = record { near : l.at ≤ ADDRESS_END; tails : AreTails screen l.rom (g.E.Entries.list l.entries) l.tails.slots }
+invariant-places g l = record { near : l.at ≤ ADDRESS_END; tails : AreTails l.window l.rom (g.E.Entries.list l.entries) l.tails.slots }
 
 abbrev pub decreases-places : goal.decreases-places
 decreases-places g l = l.at - l.from

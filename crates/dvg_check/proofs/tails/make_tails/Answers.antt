@@ -1,5 +1,4 @@
 use Rattle.std.proofs.Common.{sym, subst}
-use Rattle.dvg_words.specs.Beam.{screen}
 use Rattle.dvg_check.specs.Private.Tails.{AreTails}
 use Rattle.dvg_check.specs.declared.tails.Tails.{Tails}
 use Rattle.dvg_check.proofs.tails.make_tails.Goals as goal
@@ -8,7 +7,7 @@ use Rattle.dvg_check.proofs.tails.make_tails.Goals.{then-has+in-Some, then-has+i
 pub loop-index-preserved : goal.loop-index-preserved
 loop-index-preserved g c =
     elim c.if-has.branch [
-      | then-has+in-Some w ↦ record { tails = subst (λ (t : Tails). AreTails screen c.args.rom.now (g.E.Entries.list c.args.entries.now) t.slots) (sym w.tails-is) (w.keep.ensures c.args.rom.now (g.E.Entries.list c.args.entries.now) c.loop-index.invariant.tails w.in-Some.ensures) }
-      | then-has+in_default-tail_at w ↦ record { tails = subst (λ (t : Tails). AreTails screen c.args.rom.now (g.E.Entries.list c.args.entries.now) t.slots) (sym w.tails-is) c.loop-index.invariant.tails }
-      | else-has w ↦ record { tails = subst (λ (t : Tails). AreTails screen c.args.rom.now (g.E.Entries.list c.args.entries.now) t.slots) (sym w.tails-is) c.loop-index.invariant.tails }
+      | then-has+in-Some w ↦ record { tails = subst (λ (t : Tails). AreTails c.args.window.now c.args.rom.now (g.E.Entries.list c.args.entries.now) t.slots) (sym w.tails-is) (w.keep.ensures c.args.window.now c.args.rom.now (g.E.Entries.list c.args.entries.now) c.loop-index.invariant.tails w.in-Some.ensures) }
+      | then-has+in_default-tail_at w ↦ record { tails = subst (λ (t : Tails). AreTails c.args.window.now c.args.rom.now (g.E.Entries.list c.args.entries.now) t.slots) (sym w.tails-is) c.loop-index.invariant.tails }
+      | else-has w ↦ record { tails = subst (λ (t : Tails). AreTails c.args.window.now c.args.rom.now (g.E.Entries.list c.args.entries.now) t.slots) (sym w.tails-is) c.loop-index.invariant.tails }
     ]

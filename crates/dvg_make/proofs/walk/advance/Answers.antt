@@ -1,8 +1,7 @@
-use Rattle.std.proofs.Common.{sym, subst, arith, ◌<◌, ◌∙◌}
-use Rattle.dvg_words.specs.declared.map.TheConstants.{ADDRESS_END}
-use Rattle.dvg_cert.specs.Entry.{IsEntry}
-use Rattle.dvg_make.specs.Private.Walking.{entry_of}
-use Rattle.dvg_make.proofs.Onward.{claim_of, waits, nothing_there, not_asked, onward, not_ended, finished, on_err}
+use Rattle.std.proofs.Common.{sym, subst, arith, ◌∙◌}
+use Rattle.dvg_make.specs.Private.Walking.{IsFinished}
+use Rattle.dvg_make.proofs.Onward.{claim_of, waits, nothing_there, not_asked, onward, on_err}
+use Rattle.dvg_make.proofs.Ending.{ended}
 use Rattle.dvg_make.proofs.walk.advance.Goals as goal
 
 pub returns-in-Err-clause-ok : goal.returns-in-Err-clause-ok
@@ -11,7 +10,7 @@ returns-in-Err-clause-ok c =
 
 pub pass-requires-clause-callee : goal.pass-requires-clause-callee
 pass-requires-clause-callee c =
-    claim_of c.args.rom.now c.args.done.now c.in-Holds.instr c.loop-format.walk.cursor.known.scale c.in-Ok.callee (subst (λ m. m.rom_last < ADDRESS_END) (sym c.requires.map) (omega arith)) c.requires.entries c.in-Ok.ensures.ok
+    claim_of c.args.rom.now c.args.done.now c.in-Holds.instr c.loop-format.walk.cursor.known.scale c.in-Ok.callee (omega (arith, c.requires.map.inside)) c.requires.done.entries c.in-Ok.ensures.ok
 
 pub returns-in_err-step-clause-err : goal.returns-in_err-step-clause-err
 returns-in_err-step-clause-err c =
@@ -21,13 +20,10 @@ pub loop-format-preserved : goal.loop-format-preserved
 loop-format-preserved c =
     onward c.args.rom.now c.args.done.now c.args.from c.loop-format.walk c.loop-format.invariant c.in-Holds.format c.in-Holds.instr (sym c.in-Holds.ensures.value) c.in-Ok.callee c.in-Ok.ensures.ok c.in_ok-step.lit c.in_ok-step.ensures.ok c.in_ok-step.step c.in-Onward.cursor c.in-Onward.is c.in_ok-step.ensures.step c.in_ok-step.ensures.sound
 
-pub returns-in_err-finish-in-Last-clause-err : goal.returns-in_err-finish-in-Last-clause-err
-returns-in_err-finish-in-Last-clause-err c =
-    on_err c.from_residual-in_err-finish-in-Last.result _ (not_ended c.args.rom.now c.args.done.now c.args.from c.loop-format.walk c.loop-format.invariant c.in-Holds.format c.in-Holds.instr (sym c.in-Holds.ensures.value) c.in-Ok.callee c.in-Ok.ensures.ok c.in_ok-step.lit c.in_ok-step.ensures.ok c.in_ok-step.step c.in-Last.known c.in-Last.is c.in_ok-step.ensures.step (λ h. c.in_err-finish-in-Last.ensures.err (subst (λ m. IsEntry m.rom_first m.rom_last (entry_of c.loop-format.walk.addr c.loop-format.walk.key c.in-Last.known c.in_ok-step.lit)) c.requires.map h)))
-
 pub returns-in-Last-clause-ok : goal.returns-in-Last-clause-ok
 returns-in-Last-clause-ok c =
-    finished c.args.rom.now c.args.done.now c.args.from c.loop-format.walk c.loop-format.invariant c.in-Holds.format c.in-Holds.instr (sym c.in-Holds.ensures.value) c.in-Ok.callee c.in-Ok.ensures.ok c.in_ok-step.lit c.in_ok-step.ensures.ok c.in_ok-step.step c.in-Last.known c.in-Last.is c.in_ok-step.ensures.step c.in_ok-finish-in-Last.field-0 c.in_ok-finish-in-Last.ensures.ok.0 (subst (λ m. IsEntry m.rom_first m.rom_last c.in_ok-finish-in-Last.field-0) (sym c.requires.map) c.in_ok-finish-in-Last.ensures.ok.1)
+    let claim = claim_of c.args.rom.now c.args.done.now c.in-Holds.instr c.loop-format.walk.cursor.known.scale c.in-Ok.callee (omega (arith, c.requires.map.inside)) c.requires.done.entries c.in-Ok.ensures.ok in
+    subst (IsFinished c.args.rom.now c.args.done.now c.args.from) (sym c.entry.ensures) (ended c.args.rom.now c.args.done.now c.requires.done c.args.from c.loop-format.walk c.loop-format.invariant c.in-Holds.format c.in-Holds.instr (sym c.in-Holds.ensures.value) c.in-Ok.callee c.in-Ok.ensures.ok c.in-Holds.ensures.fields claim c.in_ok-step.lit c.in_ok-step.ensures.ok c.in_ok-step.step c.in-Last.known c.in-Last.is c.in_ok-step.ensures.step)
 
 pub returns-clause-err : goal.returns-clause-err
 returns-clause-err c = nothing_there c.args.rom.now c.args.done.now c.args.from c.loop-format.walk c.loop-format.invariant (λ format i e. c.in_default.not-Holds _ _ (c.read_cell.ensures.value ∙ e))

@@ -7,11 +7,11 @@ use Rattle.dvg_cert.proofs.hash_index.HashIndex.entry_of.Goals as goal
 
 pub returns-in_err-index : goal.returns-in_err-index
 returns-in_err-index c =
-    ap option_copied c.from_residual.ensures ∙ none_there c.args.addr c.args.key c.self.inside.cert.now c.self.inside.keys.keys c.self.invariant (sym c.in_err-index.ensures.found)
+    ap option_copied c.from_residual.ensures ∙ none_there c.args.addr c.args.key c.self.inside.cert.now.entries c.self.inside.keys.keys c.self.invariant (sym c.in_err-index.ensures.found)
     ∙ ap (λ (es : List Entry). entry_at es c.args.addr c.args.key) c.self.view_is
 
 pub returns : goal.returns
 returns c =
     ap (λ (es : List Entry). Some (get_or es c.in_ok-index.index _)) c.entries.ensures.value
-    ∙ at_index c.args.addr c.args.key c.self.inside.cert.now c.self.inside.keys.keys c.self.invariant c.in_ok-index.index _ c.in_ok-index.ensures.index
+    ∙ at_index c.args.addr c.args.key c.self.inside.cert.now.entries c.self.inside.keys.keys c.self.invariant c.in_ok-index.index _ c.in_ok-index.ensures.index
     ∙ ap (λ (es : List Entry). entry_at es c.args.addr c.args.key) c.self.view_is

@@ -3,8 +3,8 @@ use Rattle.dvg_words.specs.Memory.{IsRom}
 use Rattle.dvg_words.proofs.WordLists.{rom_of_is_rom}
 use Rattle.dvg_words.proofs.image.RomImage.word.Goals as goal
 
-pub returns-then-addr-lt-ROM_FIRST-clause-rom : goal.returns-then-addr-lt-ROM_FIRST-clause-rom
-returns-then-addr-lt-ROM_FIRST-clause-rom c = subst IsRom c.self.view_is (rom_of_is_rom c.self.inside.bytes.now c.self.invariant)
-
 pub returns-clause-rom : goal.returns-clause-rom
-returns-clause-rom c = subst IsRom c.self.view_is (rom_of_is_rom c.self.inside.bytes.now c.self.invariant)
+returns-clause-rom c = subst IsRom c.self.view_is (rom_of_is_rom c.self.inside.map c.self.inside.bytes.now c.self.invariant.0 c.self.invariant.1)
+
+pub returns-then-addr-first-clause-rom : goal.returns-then-addr-first-clause-rom
+returns-then-addr-first-clause-rom c = subst IsRom c.self.view_is (rom_of_is_rom c.self.inside.map c.self.inside.bytes.now c.self.invariant.0 c.self.invariant.1)

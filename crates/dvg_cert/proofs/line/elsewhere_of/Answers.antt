@@ -1,0 +1,25 @@
+use Rattle.std.proofs.Common.{◌≡◌, true, false, sym, ap, subst, ◌∙◌}
+use Rattle.dvg_words.specs.Values.{IsMap, is_asteroids}
+use Rattle.dvg_cert.specs.Grammar.{rom_line}
+use Rattle.dvg_cert.proofs.FirstLines.{map_of, rom_found, nowhere_said, other_said, if_none}
+use Rattle.dvg_cert.proofs.line.elsewhere_of.Goals as goal
+
+pub returns-in_err-first-clause-none : goal.returns-in_err-first-clause-none
+returns-in_err-first-clause-none c = if_none c.from_residual.result (nowhere_said c.args.line.now (sym c.in_err-first.was ∙ c.whole_rom.ensures))
+
+pub returns-in_err-map-clause-none : goal.returns-in_err-map-clause-none
+returns-in_err-map-clause-none c = if_none c.from_residual-in_err-map.result (λ map is same.
+    let here : map ≡ map_of (c.in_ok-first.first, c.in_ok-first.last) = other_said c.args.line.now (c.in_ok-first.first, c.in_ok-first.last) (sym c.in_ok-first.was ∙ c.whole_rom.ensures) map is same in
+    c.in_err-map.ensures.none (subst IsMap here is.0))
+
+pub returns-then-is_asteroids-clause-none : goal.returns-then-is_asteroids-clause-none
+returns-then-is_asteroids-clause-none c = λ map is same.
+    let here : map ≡ map_of (c.in_ok-first.first, c.in_ok-first.last) = other_said c.args.line.now (c.in_ok-first.first, c.in_ok-first.last) (sym c.in_ok-first.was ∙ c.whole_rom.ensures) map is same in
+    let so : is_asteroids map ≡ is_asteroids c.in_ok-map.map = ap is_asteroids (here ∙ sym c.in_ok-map.ensures.some.0) in
+    let never : false ≡ true = sym is.1 ∙ so ∙ sym c.if-is_asteroids.ensures in
+    absurd cc
+
+pub returns-else-is_asteroids-clause-found : goal.returns-else-is_asteroids-clause-found
+returns-else-is_asteroids-clause-found c =
+    let line = rom_found c.args.line.now (c.in_ok-first.first, c.in_ok-first.last) (sym c.whole_rom.ensures ∙ c.in_ok-first.was) in
+    ((c.in_ok-map.ensures.some.1, sym c.if-is_asteroids.ensures), line ∙ ap rom_line (sym c.in_ok-map.ensures.some.0))

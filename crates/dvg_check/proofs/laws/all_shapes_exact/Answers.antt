@@ -1,6 +1,0 @@
-use Rattle.dvg_check.proofs.ShapeLaws.{all_shapes as law}
-use Rattle.dvg_check.specs.declared.fault.Mode.TheVariants.{Exact}
-use Rattle.dvg_check.proofs.laws.all_shapes_exact.Goals as goal
-
-pub returns : goal.returns
-returns c = law Exact

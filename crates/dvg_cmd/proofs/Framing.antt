@@ -1,0 +1,62 @@
+-- What a frame comes to, over plain values.
+use Rattle.std.proofs.Common.{◌≡◌, ℕ, ◌+◌, ◌≤◌, List, [], ◌∷◌, Option, None, Some, length, take, drop, ◌++◌, ap, ◌∙◌, refl, subst, sym, arith}
+use Rattle.std.proofs.lemmas.Grind.{common_steps}
+use Rattle.std.specs.Prelude.{Result, Ok, Err, IfOk, IfErr, IfSome}
+use Rattle.dvg_words.specs.Values.{MemoryMap, Window}
+use Rattle.dvg_words.specs.Memory.{words_of, rom_of, IsRomLength, IsFrameLength}
+use Rattle.dvg_words.specs.declared.image.ImageFault.TheVariants.{RomLength, FrameLength}
+use Rattle.dvg_check.specs.Safety.{Safe, CountsAtHalt}
+use Rattle.dvg_check.specs.Verdict.{InRange}
+use Rattle.dvg_check.specs.declared.verdict.Yes.{Yes}
+use Rattle.dvg_check.specs.declared.verdict.Refusal.TheVariants as refusal
+use Rattle.dvg_make.specs.declared.judging.FrameRefusal.{FrameRefusal}
+use Rattle.dvg_make.specs.declared.judging.FrameRefusal.TheVariants.{Make, NoMemory, Check}
+use Rattle.dvg_make.specs.Judging.{AreLeast, FrameRefused}
+use Rattle.dvg_cmd.specs.Runs.{MOST_FRAME_READ}
+use Rattle.dvg_cmd.specs.Frames.{started, jumped, IsReadFrom, ReadsFrame, FrameVerdict, IsRefused}
+use Rattle.dvg_cmd.specs.Private.Reading.{limited, IsPrefix}
+use Rattle.dvg_cmd.proofs.Whole.{held_bytes, held_told, prefix_of_held, frame_same}
+
+first_bytes : (n : ℕ) (reader : Option (List ℕ)) (bytes : List ℕ) → IfSome reader (λ held. bytes ≡ limited n held) → IfSome reader (λ held. bytes ≡ take n held)
+unfolding limited
+first_bytes n reader bytes h = h
+
+all_bytes : (budget : ℕ) (reader : Option (List ℕ)) (bytes : List ℕ) → IsPrefix 2049 reader bytes → IsFrameLength (length bytes) → IfSome reader (λ held. bytes ≡ held)
+all_bytes budget None bytes read h = tt
+all_bytes budget (Some held) bytes read h = frame_same budget bytes held (prefix_of_held 2049 (Some held) bytes read) h
+
+pub read_from : (reader : Option (List ℕ)) (bytes : List ℕ) → IsPrefix 2049 reader bytes → IsReadFrom reader bytes
+read_from reader bytes read = record { first = first_bytes 2049 reader bytes read.first; whole = λ h. all_bytes 0 reader bytes read h }
+
+written_back : (items new : List ℕ) → length new ≡ length items → take (length items) (new ++ drop (length new) items) ≡ new
+written_back items new same = grind (arith, common_steps)
+
+pub reads_frame : (reader : Option (List ℕ)) (start : Option ℕ) (items slice new : List ℕ) → IsPrefix 2049 reader items → slice ≡ items → new ≡ started start slice → length new ≡ length slice
+    → ReadsFrame reader start (take (length items) (new ++ drop (length new) items))
+reads_frame reader start items slice new read same is len =
+    record {
+      read = items;
+      from = read_from reader items read;
+      is = written_back items new (len ∙ ap (λ (x : List ℕ). length x) same) ∙ is ∙ ap (λ (x : List ℕ). started start x) same;
+    }
+
+module _ (rom : List ℕ) (map : MemoryMap) (bytes : List ℕ) (budget : ℕ) (w : Window) (range : InRange bytes budget) (long : IsRomLength map (length rom)) where
+  refused : (r : FrameRefusal) → FrameRefused (rom_of map rom) (words_of bytes) w budget r → IsRefused rom map bytes budget w r
+  refused (Make at why) h = (range, long, h)
+  refused NoMemory h = (range, long, h)
+  refused (Check (refusal.Image RomLength)) h = absurd h
+  refused (Check (refusal.Image FrameLength)) h = absurd h
+  refused (Check refusal.BudgetRange) h = absurd h
+  refused (Check (refusal.Cert f)) h = absurd h
+  refused (Check refusal.IndexMemory) h = (range, long, h)
+  refused (Check (refusal.Shape f)) h = (range, long, h)
+  refused (Check (refusal.Frame f)) h = (range, long, h)
+
+  pub frame_verdict : (v : Result Yes FrameRefusal)
+      → IfOk v (λ yes. Safe (record { frame = words_of bytes; rom = rom_of map rom }) w yes.words yes.depth)
+      → IfOk v (λ yes. CountsAtHalt (record { frame = words_of bytes; rom = rom_of map rom }) yes.words yes.depth)
+      → IfOk v (λ yes. AreLeast (rom_of map rom) (words_of bytes) w yes.words yes.depth)
+      → IfErr v (FrameRefused (rom_of map rom) (words_of bytes) w budget)
+      → FrameVerdict rom map bytes budget w v
+  frame_verdict (Ok y) safe exact least none = record { in_range = range; rom_length = long; safe = safe; exact = exact; least = least }
+  frame_verdict (Err r) safe exact least h = refused r h

@@ -1,0 +1,75 @@
+-- How the text of a window is cut at its commas.
+use Rattle.std.proofs.Common.{◌≡◌, ◌≢◌, ℕ, ◌<◌, ◌≤◌, List, [], ◌∷◌, ◌++◌, length, get_or, Option, Some, None, Bor, refl, sym, subst, arith, ◌∙◌}
+use Rattle.std.specs.Prelude.{decimal, MatchOption, IfNone}
+use Rattle.std.specs.List.{join_with_byte}
+use Rattle.std.proofs.lemmas.Str.Parse.{not_in_digits}
+use Rattle.std.proofs.lemmas.Str.Pattern.{split_after, IsSplitOnceResult}
+use Rattle.dvg_words.specs.Values.{Window, IsWindow}
+use Rattle.dvg_cert.proofs.Digits.{own, same_decimal}
+use Rattle.dvg_cert.proofs.FieldValues.{first_digit}
+use Rattle.dvg_cert.proofs.Leading.{same_number}
+use Rattle.dvg_cmd.specs.Runs.{IsWindowText}
+
+-- no digit is a comma
+no_comma : (n : ℕ) → n ≤ 1023 → (i : ℕ) → i < length (decimal n) → get_or (decimal n) i 0 ≢ 44
+no_comma n le = not_in_digits own (decimal n) 44 (first_digit (decimal n) n (omega (arith, le)) refl).1 (λ r. omega (arith, r.0))
+
+-- what a text that begins with a place and a comma is cut into
+module _ (text : List ℕ) (r : Option (Bor (List ℕ) × Bor (List ℕ))) (cut : IsSplitOnceResult 44 text r) (n : ℕ) (rest : List ℕ) (le : n ≤ 1023) (is : text ≡ decimal n ++ 44 ∷ rest) where
+  parts : MatchOption r ⊥ (λ x. (x.0.now ≡ decimal n) × (x.1.now ≡ rest))
+  parts = split_after 44 text (decimal n) rest r cut (omega arith) is (no_comma n le)
+
+  pub not_uncut : r ≡ None → ⊥
+  not_uncut none = subst (λ (o : Option (Bor (List ℕ) × Bor (List ℕ))). MatchOption o ⊥ (λ x. (x.0.now ≡ decimal n) × (x.1.now ≡ rest))) none parts
+
+  pub cut_parts : (p : Bor (List ℕ) × Bor (List ℕ)) → r ≡ Some p → (p.0.now ≡ decimal n) × (p.1.now ≡ rest)
+  cut_parts p some = subst (λ (o : Option (Bor (List ℕ) × Bor (List ℕ))). MatchOption o ⊥ (λ x. (x.0.now ≡ decimal n) × (x.1.now ≡ rest))) some parts
+
+-- a text begins with one place and a comma at most
+pub same_place : (m n : ℕ) (text r s : List ℕ) → m ≤ 1023 → n ≤ 1023 → text ≡ decimal m ++ 44 ∷ r → text ≡ decimal n ++ 44 ∷ s → (m ≡ n) × (r ≡ s)
+same_place m n text r s le-m le-n is-m is-n =
+    let t = same_number m n text (44 ∷ r) (44 ∷ s) (omega (arith, le-m)) (omega (arith, le-n)) (λ d. omega (arith, d)) (λ d. omega (arith, d)) is-m is-n in
+    let rest : 44 ∷ r ≡ 44 ∷ s = t.1 in
+    (t.0, cc)
+
+-- the places that are read of a window's text, one after another, are the window's
+module _ (text : List ℕ) (w : Window) (h : IsWindowText text w) (a : ℕ) (past_a : List ℕ) (le_a : a ≤ 1023) (is_a : text ≡ decimal a ++ 44 ∷ past_a) where
+  x_min : w.x_min ≤ 1023
+  x_min = omega (arith, h.0.x_ordered, h.0.x_inside)
+
+  y_min : w.y_min ≤ 1023
+  y_min = omega (arith, h.0.y_ordered, h.0.y_inside)
+
+  first : (a ≡ w.x_min) × (past_a ≡ join_with_byte 44 (decimal w.x_max ∷ decimal w.y_min ∷ decimal w.y_max ∷ []))
+  first = same_place a w.x_min text past_a _ le_a x_min is_a h.1
+
+  pub has_second : ((n : ℕ) (rest : List ℕ) → n ≤ 1023 → past_a ≡ decimal n ++ 44 ∷ rest → ⊥) → ⊥
+  has_second none = none w.x_max _ h.0.x_inside first.1
+
+  module _ (b : ℕ) (past_b : List ℕ) (le_b : b ≤ 1023) (is_b : past_a ≡ decimal b ++ 44 ∷ past_b) where
+    second : (b ≡ w.x_max) × (past_b ≡ join_with_byte 44 (decimal w.y_min ∷ decimal w.y_max ∷ []))
+    second = same_place b w.x_max past_a past_b _ le_b h.0.x_inside is_b first.1
+
+    pub has_third : ((n : ℕ) (rest : List ℕ) → n ≤ 1023 → past_b ≡ decimal n ++ 44 ∷ rest → ⊥) → ⊥
+    has_third none = none w.y_min _ y_min second.1
+
+    module _ (c : ℕ) (past_c : List ℕ) (le_c : c ≤ 1023) (is_c : past_b ≡ decimal c ++ 44 ∷ past_c) where
+      third : (c ≡ w.y_min) × (past_c ≡ decimal w.y_max)
+      third = same_place c w.y_min past_b past_c _ le_c y_min is_c second.1
+
+      pub has_fourth : ((n : ℕ) → n ≤ 1023 → past_c ≡ decimal n → ⊥) → ⊥
+      has_fourth none = none w.y_max h.0.y_inside third.1
+
+      pub is_window : (d : ℕ) → d ≤ 1023 → past_c ≡ decimal d → IsWindow (record { x_min = a; x_max = b; y_min = c; y_max = d })
+      is_window d le_d is_d =
+          let fourth : d ≡ w.y_max = same_decimal d w.y_max (omega (arith, le_d)) (omega (arith, h.0.y_inside)) (sym is_d ∙ third.1) in
+          record {
+            x_ordered = omega (arith, first.0, second.0, h.0.x_ordered);
+            x_inside = le_b;
+            y_ordered = omega (arith, third.0, fourth, h.0.y_ordered);
+            y_inside = le_d;
+          }
+
+pub if_none : {A : Type 0} {P Q : Type 0} (o : Option A) → (P → Q) → IfNone o P → IfNone o Q
+if_none None f p = f p
+if_none (Some a) f p = tt

@@ -1,0 +1,8 @@
+use Rattle.dvg_cmd.proofs.Windows.{not_uncut, cut_parts}
+use Rattle.dvg_cmd.proofs.window.place_before_comma.Goals as goal
+
+pub returns-in_err-place-clause-none : goal.returns-in_err-place-clause-none
+returns-in_err-place-clause-none c = rw c.from_residual.ensures (λ n rest le is. not_uncut c.args.text.now c.split_once.result c.split_once.ensures.cases n rest le is c.in_err-place.was)
+
+pub returns-in_err-place_of-clause-none : goal.returns-in_err-place_of-clause-none
+returns-in_err-place_of-clause-none c = rw c.from_residual-in_err-place_of.ensures (λ n rest le is. c.in_err-place_of.ensures.none n le (cut_parts c.args.text.now c.split_once.result c.split_once.ensures.cases n rest le is (c.in_ok-place.place, c.in_ok-place.rest) c.in_ok-place.was).0)

@@ -1,0 +1,130 @@
+-- What a run says of one frame that is judged by its own certificate, or over shapes that were judged, and what it writes. All of
+-- it is profile.
+use Rattle.std.specs.Prelude.{◌≡◌, ◌<◌, ◌+◌, ◌/◌, ◌%◌, ℕ, Bool, true, false, List, ◌∷◌, ◌++◌, take, length, codes, Option, Some, None, IfSome, Result, Ok, Err}
+use Rattle.std.specs.Io.KnownBytes.{Appends}
+use Rattle.dvg_words.specs.Values.{MemoryMap, Window}
+use Rattle.dvg_words.specs.Memory.{words_of, rom_of, IsRomLength, IsFrameLength}
+use Rattle.dvg_words.specs.declared.map.TheConstants.{ADDRESS_END}
+use Rattle.dvg_words.specs.declared.image.ImageFault.TheVariants.{RomLength, FrameLength}
+use Rattle.dvg_cert.specs.Devices.{AppendsPrefix}
+use Rattle.dvg_cert.specs.Grammar.{address_token}
+use Rattle.dvg_check.specs.Safety.{Safe, CountsAtHalt}
+use Rattle.dvg_check.specs.Verdict.{InRange, RangeRefusal}
+use Rattle.dvg_check.specs.declared.verdict.Yes.{Yes}
+use Rattle.dvg_check.specs.declared.verdict.Refusal.{Refusal}
+use Rattle.dvg_check.specs.declared.verdict.Refusal.TheVariants as refusal
+use Rattle.dvg_make.specs.declared.judging.FrameRefusal.{FrameRefusal}
+use Rattle.dvg_make.specs.declared.judging.FrameRefusal.TheVariants.{Make, NoMemory, Check}
+use Rattle.dvg_make.specs.Judging.{AreLeast, FrameRefused}
+use Rattle.dvg_cmd.specs.Report.{frame_line_text}
+use Rattle.dvg_cmd.specs.Runs.{MOST_FRAME_READ, IsReadTo, RunFault}
+pub use Rattle.dvg_cmd.specs.declared.judging.FrameAnswer.{FrameAnswer}
+pub use Rattle.dvg_cmd.specs.declared.judging.FrameAnswer.TheVariants.{Judged, Unread}
+pub use Rattle.dvg_cmd.specs.declared.judging.FrameOutcome.{FrameOutcome}
+pub use Rattle.dvg_cmd.specs.declared.judging.FrameOutcome.TheVariants as outcome
+use Rattle.dvg_make.specs.declared.fault.EntryFault.TheVariants as entry
+
+-- the text is this word address's
+abbrev pub IsStart : List ℕ → ℕ → Type 0
+IsStart text addr = (addr < ADDRESS_END) × (text ≡ address_token addr)
+
+-- the bytes with the jump (JMPL) to a word address in place of their first word, the low byte first
+abbrev pub jumped : ℕ → List ℕ → List ℕ
+jumped to (low ∷ high ∷ rest) = to % 256 ∷ (224 + to / 256 % 16) ∷ rest
+jumped to bytes = bytes
+
+-- the bytes of a frame that is judged: its own, or with a jump to a start in place of word 000
+abbrev pub started : Option ℕ → List ℕ → List ℕ
+started None bytes = bytes
+started (Some to) bytes = jumped to bytes
+
+-- what is judged of the bytes that a reader held: the first of them up to one past the limit, and all where that is a frame's
+-- length, with the start; of a reader that does not tell its bytes, those of some bytes
+pub record IsReadFrom (reader : Option (List ℕ)) (read : List ℕ) : Type 0 where
+  pub first : IfSome reader (λ held. read ≡ take MOST_FRAME_READ held)
+  pub whole : IsFrameLength (length read) → IfSome reader (λ held. read ≡ held)
+
+pub record ReadsFrame (reader : Option (List ℕ)) (start : Option ℕ) (bytes : List ℕ) : Type 0 where
+  pub read : List ℕ
+  pub from : IsReadFrom reader read
+  pub is : bytes ≡ started start read
+
+-- ---- the verdict on bytes
+
+-- every run is safe, with just these counts, and no certificate gets the frame accepted with fewer words or less depth
+pub record IsAccepted (rom : List ℕ) (map : MemoryMap) (bytes : List ℕ) (budget : ℕ) (w : Window) (y : Yes) : Type 0 where
+  pub in_range : InRange bytes budget
+  pub rom_length : IsRomLength map (length rom)
+  pub safe : Safe (record { frame = words_of bytes; rom = rom_of map rom }) w y.words y.depth
+  pub exact : CountsAtHalt (record { frame = words_of bytes; rom = rom_of map rom }) y.words y.depth
+  pub least : AreLeast (rom_of map rom) (words_of bytes) w y.words y.depth
+
+-- the lengths and the budget are in range, and the refusal means what the judge's does
+abbrev pub IsJudgedRefusal : List ℕ → MemoryMap → List ℕ → ℕ → Window → FrameRefusal → Type 0
+IsJudgedRefusal rom map bytes budget w r =
+    InRange bytes budget × IsRomLength map (length rom) × FrameRefused (rom_of map rom) (words_of bytes) w budget r
+
+-- what a refusal means: the first that applies of 2, 49 and 1, or what the judge's does
+abbrev pub IsRefused : List ℕ → MemoryMap → List ℕ → ℕ → Window → FrameRefusal → Type 0
+IsRefused rom map bytes budget w (Check (refusal.Image FrameLength)) = RangeRefusal bytes budget (refusal.Image FrameLength)
+IsRefused rom map bytes budget w (Check refusal.BudgetRange) = RangeRefusal bytes budget refusal.BudgetRange
+IsRefused rom map bytes budget w (Check (refusal.Image RomLength)) = InRange bytes budget × (IsRomLength map (length rom) → ⊥)
+IsRefused rom map bytes budget w r = IsJudgedRefusal rom map bytes budget w r
+
+-- the verdict on a frame's bytes by its own certificate, over a ROM's bytes at this map
+abbrev pub FrameVerdict : List ℕ → MemoryMap → List ℕ → ℕ → Window → Result Yes FrameRefusal → Type 0
+FrameVerdict rom map bytes budget w (Ok y) = IsAccepted rom map bytes budget w y
+FrameVerdict rom map bytes budget w (Err r) = IsRefused rom map bytes budget w r
+
+-- ---- what is written
+
+-- the answer is that the frame could not be read
+abbrev pub is_unread : FrameAnswer → Bool
+is_unread Unread = true
+is_unread (Judged v) = false
+
+abbrev pub refusal_outcome_of : FrameRefusal → FrameOutcome
+refusal_outcome_of NoMemory = outcome.NoMemory
+refusal_outcome_of (Make at entry.Memory) = outcome.NoMemory
+refusal_outcome_of (Check refusal.IndexMemory) = outcome.NoMemory
+refusal_outcome_of r = outcome.Refused
+
+-- the outcome of a line
+abbrev pub frame_outcome_of : FrameAnswer → FrameOutcome
+frame_outcome_of (Judged (Ok y)) = outcome.Accepted
+frame_outcome_of (Judged (Err r)) = refusal_outcome_of r
+frame_outcome_of Unread = outcome.Unread
+
+-- the outcome is that the frame could not be read
+abbrev pub is_unread_outcome : FrameOutcome → Bool
+is_unread_outcome outcome.Unread = true
+is_unread_outcome outcome.Accepted = false
+is_unread_outcome outcome.Refused = false
+is_unread_outcome outcome.NoMemory = false
+
+-- what an answer says of a frame's reader: it failed, or was read to its end or to one byte past the limit, with this verdict
+abbrev pub AnswerMeans : List ℕ → MemoryMap → Option ℕ → ℕ → Window → Option (List ℕ) → Option (List ℕ) → FrameAnswer → Type 0
+AnswerMeans rom map start budget w old new Unread = Unit {0}
+AnswerMeans rom map start budget w old new (Judged v) =
+    IsReadTo MOST_FRAME_READ old new × ((bytes : List ℕ) × ReadsFrame old start bytes × FrameVerdict rom map bytes budget w v)
+
+-- the whole line of an answer
+abbrev pub frame_line : List ℕ → FrameAnswer → List ℕ
+frame_line name answer = name ++ frame_line_text answer
+
+-- the line of an answer was written, and nothing else
+pub record ReportsFrame
+    (rom : List ℕ) (map : MemoryMap) (start : Option ℕ) (budget : ℕ) (w : Window) (name : List ℕ)
+    (frame left : Option (List ℕ)) (old new : Option (List ℕ)) (end : FrameOutcome) : Type 0 where
+  pub answer : FrameAnswer
+  pub means : AnswerMeans rom map start budget w frame left answer
+  pub written : Appends old new (frame_line name answer)
+  pub outcome_is : end ≡ frame_outcome_of answer
+
+-- a prefix of it was written, and nothing else
+pub record ReportsFramePrefix
+    (rom : List ℕ) (map : MemoryMap) (start : Option ℕ) (budget : ℕ) (w : Window) (name : List ℕ)
+    (frame left : Option (List ℕ)) (old new : Option (List ℕ)) : Type 0 where
+  pub answer : FrameAnswer
+  pub means : AnswerMeans rom map start budget w frame left answer
+  pub written : AppendsPrefix old new (frame_line name answer)

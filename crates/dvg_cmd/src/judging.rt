@@ -1,0 +1,276 @@
+//! Running the judge of one frame over a reader and a writer, by the frame's own certificate or over shapes that were judged.
+
+ghost use Rattle.std.specs.Prelude.{◌≡◌, Err, IfOk, IfErr, OnOk, OnErr, is_err};
+ghost use Rattle.std.specs.Io.KnownBytes.{Appends};
+ghost use Rattle.dvg_cert.specs.Devices.{AppendsPrefix, count_after};
+ghost use Rattle.dvg_cmd.specs.Runs.{MOST_ROM_READ, MOST_FRAME_READ, IsReadTo, ReadsText, outcome_of};
+ghost use Rattle.dvg_cmd.specs.Report.{report_text};
+ghost use Rattle.dvg_cmd.specs.Status.{worse};
+ghost use Rattle.dvg_cmd.specs.Frames.{FrameVerdict, ReadsFrame, refusal_outcome_of, frame_outcome_of, frame_line, is_unread_outcome, ReportsFrame, ReportsFramePrefix};
+
+use crate::reading::{read_certificate, read_frame, read_rom};
+use crate::report::frame_report_of;
+use crate::running::{Outcome, RunFault, write_report};
+use crate::start::start_at;
+use arrayvec::ArrayVec;
+use dvg_cert::{Cert, CertFault, CountedRead, CountedWrite, Entries, write_bytes};
+use dvg_check::{JudgedShapes, Refusal, Yes, frame_of};
+use dvg_make::{EntryFault, FrameRefusal, judge};
+use dvg_words::{RomImage, RomMap, Window};
+use std::alloc::Global;
+use std::io;
+
+/// What a line says of a frame.
+#[derive(Clone, Copy, Debug, PartialEq, Eq)]
+pub enum FrameAnswer {
+    /// Its verdict.
+    Judged(Result<Yes, FrameRefusal>),
+    /// It could not be opened or read.
+    Unread,
+}
+
+/// What was reported of one frame, or of several: the worst, in this order.
+#[derive(Clone, Copy, Debug, PartialEq, Eq)]
+pub enum FrameOutcome {
+    /// An accepted line.
+    Accepted,
+    /// A refusal.
+    Refused,
+    /// That memory was out.
+    NoMemory,
+    /// That a frame could not be read.
+    Unread,
+}
+
+impl FrameOutcome {
+    /// The worse of two outcomes.
+    pub fn or_worse(self, other: FrameOutcome) -> FrameOutcome
+        ensures { result ≡ worse self other }
+    {
+        match (self, other) {
+            (FrameOutcome::Unread, _) | (_, FrameOutcome::Unread) => FrameOutcome::Unread,
+            (FrameOutcome::NoMemory, _) | (_, FrameOutcome::NoMemory) => FrameOutcome::NoMemory,
+            (FrameOutcome::Refused, _) | (_, FrameOutcome::Refused) => FrameOutcome::Refused,
+            (FrameOutcome::Accepted, FrameOutcome::Accepted) => FrameOutcome::Accepted,
+        }
+    }
+}
+
+impl From<Outcome> for FrameOutcome {
+    fn from(outcome: Outcome) -> FrameOutcome {
+        match outcome {
+            Outcome::Accepted => FrameOutcome::Accepted,
+            Outcome::Refused => FrameOutcome::Refused,
+            Outcome::NoMemory => FrameOutcome::NoMemory,
+        }
+    }
+}
+
+/// What was reported by the line of a refusal.
+fn refusal_outcome_of(refusal: &FrameRefusal) -> FrameOutcome
+    ensures { result ≡ refusal_outcome_of refusal.now }
+{
+    match refusal {
+        FrameRefusal::NoMemory => FrameOutcome::NoMemory,
+        FrameRefusal::Make {
+            why: EntryFault::Memory,
+            ..
+        } => FrameOutcome::NoMemory,
+        FrameRefusal::Check(Refusal::IndexMemory) => FrameOutcome::NoMemory,
+        FrameRefusal::Make { .. } | FrameRefusal::Check(_) => FrameOutcome::Refused,
+    }
+}
+
+/// What was reported by the line of an answer.
+fn frame_outcome_of(answer: &FrameAnswer) -> FrameOutcome
+    ensures { result ≡ frame_outcome_of answer.now }
+{
+    match answer {
+        FrameAnswer::Judged(Ok(_)) => FrameOutcome::Accepted,
+        FrameAnswer::Judged(Err(refusal)) => refusal_outcome_of(refusal),
+        FrameAnswer::Unread => FrameOutcome::Unread,
+    }
+}
+
+/// The bytes of a ROM, up to one past the length of the longest, which is 4096. Answers 70 where the reader fails. Takes no
+/// memory.
+pub fn load_rom<R: CountedRead>(rom: &mut R) -> Result<ArrayVec<u8, 4097>, RunFault>
+    ensures read { OnOk result (IsReadTo MOST_ROM_READ (R.remaining rom.old) (R.remaining rom.new)) }
+    ensures fault { IfErr result (λ fault. fault ≡ RunFault.ReadRom) }
+    ensures count { R.failures rom.new ≡ count_after (is_err result) (R.failures rom.old) }
+{
+    match read_rom(rom) {
+        Ok(bytes) => Ok(bytes),
+        Err(_) => Err(RunFault::ReadRom),
+    }
+}
+
+/// The answer to the certificate that a reader holds, which is read as [`run_check`](crate::run_check) reads it. Answers 72 where
+/// the reader fails.
+pub fn load_cert<R: CountedRead>(
+    alloc: Global,
+    cert: &mut R,
+) -> Result<Result<Cert, CertFault>, RunFault>
+    ensures answer { IfOk result (ReadsText (R.remaining cert.old) (R.remaining cert.new)) }
+    ensures fault { IfErr result (λ fault. fault ≡ RunFault.ReadCert) }
+    ensures count { R.failures cert.new ≡ count_after (is_err result) (R.failures cert.old) }
+{
+    match read_certificate(alloc, cert) {
+        Ok(answer) => Ok(answer),
+        Err(_) => Err(RunFault::ReadCert),
+    }
+}
+
+/// The bytes of a frame, up to one past its limit, with the jump to its start in place of word 000, if one is given.
+fn read_started<R: CountedRead>(frame: &mut R, start: Option<u16>) -> io::Result<ArrayVec<u8, 2049>>
+    ensures bytes { IfOk result (λ image. ReadsFrame (R.remaining frame.old) start image.items) }
+    ensures read { OnOk result (IsReadTo MOST_FRAME_READ (R.remaining frame.old) (R.remaining frame.new)) }
+    ensures count { R.failures frame.new ≡ count_after (is_err result) (R.failures frame.old) }
+{
+    let mut bytes = read_frame(frame)?;
+    start_at(bytes.as_mut_slice(), start);
+    Ok(bytes)
+}
+
+/// The verdict on the bytes of a frame by its own certificate, over the bytes of a ROM at this map: the first that applies of 2,
+/// 49 and 1, else that of [`judge`].
+fn judge_alone(
+    alloc: Global,
+    rom: &[u8],
+    map: RomMap,
+    frame: &[u8],
+    budget: u32,
+    window: Window,
+) -> Result<Yes, FrameRefusal>
+    ensures { FrameVerdict rom.now map frame.now budget window result }
+{
+    let frame = match frame_of(frame, budget) {
+        Ok(frame) => frame,
+        Err(refusal) => return Err(FrameRefusal::Check(refusal)),
+    };
+    match RomImage::from_bytes(rom, map) {
+        Ok(rom) => judge(alloc, &rom, &frame, budget, window),
+        Err(fault) => Err(FrameRefusal::Check(fault.into())),
+    }
+}
+
+/// The verdict on the bytes of a frame over judged shapes, those of this certificate: the first that applies of 2, 49, the
+/// frame's first fault, and the yes.
+fn judge_over<E: Entries>(
+    shapes: &JudgedShapes<E>,
+    cert: &Cert,
+    frame: &[u8],
+    budget: u32,
+) -> Result<Yes, Refusal> {
+    let frame = frame_of(frame, budget)?;
+    let accepted = shapes.check_frame(&frame, budget)?;
+    Ok(Yes {
+        shapes: cert.entries().len() as u32,
+        words: accepted.words,
+        depth: accepted.depth,
+    })
+}
+
+/// Writes the line of an answer: the name, which has no control characters, a colon and a space, and the report.
+fn write_line<W: CountedWrite>(
+    name: &str,
+    answer: &FrameAnswer,
+    out: &mut W,
+) -> Result<FrameOutcome, RunFault>
+    ensures ok { IfOk result (λ outcome. outcome ≡ frame_outcome_of answer.now) }
+    ensures written { OnOk result (Appends (W.contents out.old) (W.contents out.new) (frame_line name.now answer.now)) }
+    ensures prefix { OnErr result (AppendsPrefix (W.contents out.old) (W.contents out.new) (frame_line name.now answer.now)) }
+    ensures fault { IfErr result (λ fault. fault ≡ RunFault.Write) }
+    ensures count { W.failures out.new ≡ count_after (is_err result) (W.failures out.old) }
+{
+    let report = frame_report_of(answer);
+    let Ok(()) = write_bytes(name.as_bytes(), out) else {
+        return Err(RunFault::Write);
+    };
+    let Ok(()) = write_bytes(report.as_bytes(), out) else {
+        return Err(RunFault::Write);
+    };
+    Ok(frame_outcome_of(answer))
+}
+
+/// Reads a frame, judges it by its own certificate, as [`judge`] does, over the bytes of a ROM at this map, and writes its line.
+///
+/// With a start, which is below 1000 hexadecimal, the frame is judged as though its word 000 were the jump there. The frame is
+/// read to its end, or to one byte past its limit, and nothing is tried again. A frame that can't be read has a line, too; the
+/// answer is 73 alone, where the writer failed, and then a prefix of the line was written.
+pub fn run_frame<R: CountedRead, W: CountedWrite>(
+    alloc: Global,
+    rom: &[u8],
+    map: RomMap,
+    name: &str,
+    frame: &mut R,
+    start: Option<u16>,
+    budget: u32,
+    window: Window,
+    out: &mut W,
+) -> Result<FrameOutcome, RunFault>
+    // The line of an answer is written, or a prefix of it where the writer failed, which alone ends a run.
+    ensures report { IfOk result (ReportsFrame rom.now map start budget window name.now (R.remaining frame.old) (R.remaining frame.new)
+        (W.contents out.old) (W.contents out.new)) }
+    ensures prefix { OnErr result (ReportsFramePrefix rom.now map start budget window name.now (R.remaining frame.old)
+        (R.remaining frame.new) (W.contents out.old) (W.contents out.new)) }
+    ensures fault { IfErr result (λ fault. fault ≡ RunFault.Write) }
+
+    // The frame's count rises by one where it could not be read, and the writer's where the run ends.
+    ensures frame_count { IfOk result (λ outcome. R.failures frame.new ≡ count_after (is_unread_outcome outcome) (R.failures frame.old)) }
+    ensures out_count { W.failures out.new ≡ count_after (is_err result) (W.failures out.old) }
+{
+    let answer = match read_started(frame, start) {
+        Ok(bytes) => {
+            FrameAnswer::Judged(judge_alone(alloc, rom, map, bytes.as_slice(), budget, window))
+        }
+        Err(_) => FrameAnswer::Unread,
+    };
+    write_line(name, &answer, out)
+}
+
+/// Reads a frame, judges it over judged shapes, those of this certificate, and writes its line, as [`run_frame`] does.
+pub fn run_frame_over<E: Entries, R: CountedRead, W: CountedWrite>(
+    shapes: &JudgedShapes<E>,
+    cert: &Cert,
+    name: &str,
+    frame: &mut R,
+    start: Option<u16>,
+    budget: u32,
+    out: &mut W,
+) -> Result<FrameOutcome, RunFault>
+    ensures fault { IfErr result (λ fault. fault ≡ RunFault.Write) }
+    ensures frame_count { IfOk result (λ outcome. R.failures frame.new ≡ count_after (is_unread_outcome outcome) (R.failures frame.old)) }
+    ensures out_count { W.failures out.new ≡ count_after (is_err result) (W.failures out.old) }
+{
+    let answer = match read_started(frame, start) {
+        Ok(bytes) => match judge_over(shapes, cert, bytes.as_slice(), budget) {
+            Ok(yes) => FrameAnswer::Judged(Ok(yes)),
+            Err(refusal) => FrameAnswer::Judged(Err(FrameRefusal::Check(refusal))),
+        },
+        Err(_) => FrameAnswer::Unread,
+    };
+    write_line(name, &answer, out)
+}
+
+/// Writes the line of a frame that could not be opened.
+pub fn run_unopened<W: CountedWrite>(name: &str, out: &mut W) -> Result<FrameOutcome, RunFault>
+    ensures ok { IfOk result (λ outcome. outcome ≡ FrameOutcome.Unread) }
+    ensures written { OnOk result (Appends (W.contents out.old) (W.contents out.new) (frame_line name.now FrameAnswer.Unread)) }
+    ensures prefix { OnErr result (AppendsPrefix (W.contents out.old) (W.contents out.new) (frame_line name.now FrameAnswer.Unread)) }
+    ensures fault { IfErr result (λ fault. fault ≡ RunFault.Write) }
+    ensures count { W.failures out.new ≡ count_after (is_err result) (W.failures out.old) }
+{
+    write_line(name, &FrameAnswer::Unread, out)
+}
+
+/// Writes the line of a refusal that no frame was needed for, as [`run_check`](crate::run_check) does.
+pub fn run_refusal<W: CountedWrite>(refusal: &Refusal, out: &mut W) -> Result<Outcome, RunFault>
+    ensures ok { IfOk result (λ outcome. outcome ≡ outcome_of (Err refusal.now)) }
+    ensures written { OnOk result (Appends (W.contents out.old) (W.contents out.new) (report_text (Err refusal.now))) }
+    ensures prefix { OnErr result (AppendsPrefix (W.contents out.old) (W.contents out.new) (report_text (Err refusal.now))) }
+    ensures fault { IfErr result (λ fault. fault ≡ RunFault.Write) }
+    ensures count { W.failures out.new ≡ count_after (is_err result) (W.failures out.old) }
+{
+    write_report(&Err(*refusal), out)
+}

@@ -1,0 +1,206 @@
+-- Root after root, and frame after frame.
+use Rattle.std.proofs.Common.{◌≡◌, ℕ, zero, suc, ◌<◌, ◌≤◌, List, [], ◌∷◌, ◌++◌, length, take, get_or, Some, None, refl, sym, ap, ◌∙◌, subst, arith, ◌⊎◌, inl, inr, ⊎_elim}
+use Rattle.std.specs.Prelude.{Contains, slice_get}
+use Rattle.dvg_words.specs.Memory.{Rom, InRom}
+use Rattle.dvg_cert.specs.Entry.{IsKey}
+use Rattle.dvg_cert.specs.declared.entry.Entry.{Entry}
+use Rattle.dvg_cert.specs.declared.entry.Key.{Key}
+use Rattle.dvg_items.proofs.Listed.{listed_at}
+use Rattle.dvg_make.specs.Made.{HasEntry, MadeFor, AllMade}
+use Rattle.dvg_make.specs.Frames.{IsAskedFor}
+use Rattle.dvg_make.specs.Refusals.{EntryFault, Unstraight, Deep, TooManyWords, TooManyEntries, Memory, make_fault_of, Refuses, BarsList, NoFramesMade, FramesRefuse}
+use Rattle.dvg_make.specs.Private.Walking.{Extends}
+use Rattle.dvg_make.specs.Private.Making.{IsAim, Making, Bars, BarsRoot, BarsRoots, NoneHas, HasAll, Collected}
+use Rattle.dvg_make.specs.Private.Framing.{HasCalls, IsFramed, BarsHere, BarsCalls, NoneHasCalls, AllFramed}
+use Rattle.dvg_make.proofs.Onward.{listed_entry}
+use Rattle.dvg_make.proofs.Framing.{in_left, in_right, in_either, collected_more, calls_grow, has_calls_grow}
+use Rattle.dvg_make.proofs.Finishing.{roots_made}
+
+-- ---- one element more of what is taken
+
+one_more : {A : Type 0} (xs : List A) (i : ℕ) (d x : A) → i < length xs → Contains (take (suc i) xs) x → Contains (take i xs) x ⊎ (get_or xs i d ≡ x)
+one_more [] i d x lt c = absurd (omega (arith, lt))
+one_more (y ∷ xs) zero d x lt (zero, in_range, is) = inr is
+one_more (y ∷ xs) zero d x lt (suc k, in_range, is) = absurd (omega (arith, in_range))
+one_more (y ∷ xs) (suc i) d x lt (zero, in_range, is) = inl (zero, omega arith, is)
+one_more (y ∷ xs) (suc i) d x lt (suc k, in_range, is) = ⊎_elim (λ c. inl (suc c.0, omega (arith, c.1), c.2)) (λ e. inr e) (one_more xs i d x (omega (arith, lt)) (k, omega (arith, in_range), is))
+
+taken_next : {A : Type 0} (xs : List A) (i : ℕ) (d : A) → i < length xs → take (suc i) xs ≡ take i xs ++ get_or xs i d ∷ []
+taken_next [] i d lt = absurd (omega (arith, lt))
+taken_next (y ∷ xs) zero d lt = refl
+taken_next (y ∷ xs) (suc i) d lt = ap (λ l. y ∷ l) (taken_next xs i d (omega (arith, lt)))
+
+all_taken : {A : Type 0} (xs : List A) (n : ℕ) → length xs ≤ n → take n xs ≡ xs
+all_taken [] zero le = refl
+all_taken [] (suc n) le = refl
+all_taken (x ∷ xs) zero le = absurd (omega (arith, le))
+all_taken (x ∷ xs) (suc n) le = ap (λ l. x ∷ l) (all_taken xs n (omega (arith, le)))
+
+in_taken : {A : Type 0} (xs : List A) (n : ℕ) (x : A) → Contains (take n xs) x → Contains xs x
+in_taken [] zero x c = c
+in_taken [] (suc n) x c = c
+in_taken (y ∷ xs) zero x c = absurd (omega (arith, c.1))
+in_taken (y ∷ xs) (suc n) x (zero, lt, is) = (zero, omega arith, is)
+in_taken (y ∷ xs) (suc n) x (suc k, lt, is) = let c = in_taken xs n x (k, omega (arith, lt), is) in (suc c.0, omega (arith, c.1), c.2)
+
+at_index : {A : Type 0} (xs : List A) (i : ℕ) (d : A) → i < length xs → Contains xs (get_or xs i d)
+at_index [] i d lt = absurd (omega (arith, lt))
+at_index (y ∷ xs) zero d lt = (zero, omega arith, refl)
+at_index (y ∷ xs) (suc i) d lt = let c = at_index xs i d (omega (arith, lt)) in (suc c.0, omega (arith, c.1), c.2)
+
+got : {A : Type 0} (xs : List A) (i : ℕ) (d : A) → i < length xs → slice_get xs i ≡ Some (get_or xs i d)
+got [] i d lt = absurd (omega (arith, lt))
+got (y ∷ xs) zero d lt = refl
+got (y ∷ xs) (suc i) d lt = got xs i d (omega (arith, lt))
+
+-- ---- roots
+
+pub none_collected : (rom : Rom) → Collected rom [] []
+none_collected rom =
+    record {
+      is_done = record { entries = λ e c. absurd (omega (arith, c.1)); made = λ e c. absurd (omega (arith, c.1)); unique = tt; room = omega arith };
+      rooted = λ a k c. absurd (omega (arith, c.1));
+      needed = λ a k h. none_at h.1;
+      forced = λ made all has a k e q. none_at q;
+    }
+  where
+    none_at : {P : Type 0} {e : Entry} → None ≡ Some e → P
+    none_at q = cc q
+
+pub root_collected : (rom : Rom) (roots : List (ℕ × Key)) (i j : ℕ) (d : ℕ × Key) (old new : List Entry) → j ≡ suc i → i < length roots → Collected rom (take i roots) old → Making rom old ((get_or roots i d).0, (get_or roots i d).1) new [] → HasEntry new (get_or roots i d).0 (get_or roots i d).1 → Collected rom (take j roots) new
+root_collected rom roots i j d old new next lt h m has =
+    subst (λ a. Collected rom a new) (sym (ap (λ n. take n roots) next ∙ taken_next roots i d lt)) (collected_more rom (take i roots) old new (get_or roots i d).0 (get_or roots i d).1 h m has)
+
+pub roots_collected : (rom : Rom) (roots : List (ℕ × Key)) (i : ℕ) (done : List Entry) → length roots ≤ i → Collected rom (take i roots) done → Collected rom roots done
+roots_collected rom roots i done le h = subst (λ a. Collected rom a done) (all_taken roots i le) h
+
+module _ (rom : Rom) (roots : List (ℕ × Key)) (i : ℕ) (d : ℕ × Key) (done : List Entry) (lt : i < length roots) (h : Collected rom (take i roots) done) where
+  -- a certificate that has all roots has what is made so far, and this root
+  aims : (list : List Entry) → AllMade rom list → HasAll roots list → IsAim rom done ((get_or roots i d).0, (get_or roots i d).1) list
+  aims list all has =
+      record {
+        all = all;
+        extends = h.forced list all (λ a k c. has a k (in_taken roots i (a, k) c));
+        has = has (get_or roots i d).0 (get_or roots i d).1 (at_index roots i d lt);
+      }
+
+  outside : (InRom rom.map (get_or roots i d).0 × IsKey (get_or roots i d).1 → ⊥) → NoneHas rom roots
+  outside not list cert all has =
+      let r = has (get_or roots i d).0 (get_or roots i d).1 (at_index roots i d lt) in
+      let l = listed_at list (get_or roots i d).0 (get_or roots i d).1 r.0 r.1 in
+      let e = listed_entry rom.map.rom_first rom.map.rom_last list r.0 cert.each l.listed in
+      not ((subst (λ a. rom.map.rom_first ≤ a) l.addr_is e.addr_low, subst (λ a. a ≤ rom.map.rom_last) l.addr_is e.addr_high), subst IsKey l.key_is e.key)
+
+  bars : (why : EntryFault) → Bars rom done ((get_or roots i d).0, (get_or roots i d).1) why → BarsRoots rom roots why
+  bars (Unstraight word) b = λ list cert all has. b list (aims list all has)
+  bars Deep b = λ list cert all has. b list (aims list all has)
+  bars TooManyWords b = λ list cert all has. b list (aims list all has)
+  bars TooManyEntries b = λ list all has. b list (aims list all has)
+  bars Memory b = tt
+
+  pub root_barred : (why : EntryFault) → BarsRoot rom done ((get_or roots i d).0, (get_or roots i d).1) why → BarsRoots rom roots why
+  root_barred why (inl b) = bars why b
+  root_barred why (inr not) = subst (BarsRoots rom roots) (sym not.0) (outside not.1)
+
+-- ---- frames
+
+pub made_all : (rom : Rom) (P : ℕ → Key → Type 0) (list : List Entry) → MadeFor rom P list → AllMade rom list
+made_all rom P list m e c = let is = listed_entry rom.map.rom_first rom.map.rom_last list e m.certificate.each c in record { made = m.each e c; words = is.words_high; depth = is.depth }
+
+pub no_frames : (rom : Rom) (roots : List (ℕ × Key)) (frames : List (List ℕ)) (done : List Entry) → Collected rom roots done → AllFramed rom roots (take 0 frames) done
+no_frames rom roots frames done h =
+    record {
+      rooted = h.rooted;
+      has_calls = λ words c. absurd (none_taken frames words c);
+      asked = roots;
+      asked_for = λ addr key c. inl c;
+      collected = h;
+      forced = λ list all has calls. h.forced list all has;
+    }
+  where
+    none_taken : (xs : List (List ℕ)) (x : List ℕ) → Contains (take 0 xs) x → ⊥
+    none_taken [] x c = omega (arith, c.1)
+    none_taken (y ∷ xs) x c = omega (arith, c.1)
+
+module _ (rom : Rom) (roots : List (ℕ × Key)) (frames : List (List ℕ)) (i : ℕ) (d : List ℕ) (old : List Entry) (lt : i < length frames) (h : AllFramed rom roots (take i frames) old) where
+  abbrev now : List ℕ
+  now = get_or frames i d
+
+  was_taken : (words : List ℕ) → Contains (take i frames) words → Contains (take (suc i) frames) words
+  was_taken words c = subst (λ l. Contains l words) (sym (taken_next frames i d lt)) (in_left (take i frames) (now ∷ []) words c)
+
+  now_taken : Contains (take (suc i) frames) now
+  now_taken = subst (λ l. Contains l now) (sym (taken_next frames i d lt)) (in_right (take i frames) (now ∷ []) now (0, omega arith, refl))
+
+  module _ (new : List Entry) (ext : Extends old new) (f : IsFramed rom now old new) where
+    still_asked : (addr : ℕ) (key : Key) → IsAskedFor roots (take i frames) old addr key → IsAskedFor roots (take (suc i) frames) new addr key
+    still_asked addr key (inl r) = inl r
+    still_asked addr key (inr c) = inr (c.0, was_taken c.0 c.1, calls_grow c.0 old new ext (h.has_calls c.0 c.1) addr key c.2)
+
+    framed_next : AllFramed rom roots (take (suc i) frames) new
+    framed_next =
+        record {
+          rooted = λ addr key r. let x = h.rooted addr key r in (x.0, ext addr key x.0 x.1);
+          has_calls = λ words c. ⊎_elim (λ x. has_calls_grow words old new ext (h.has_calls words x)) (λ e. subst (λ z. HasCalls z new) e f.has_calls) (one_more frames i d words lt c);
+          asked = h.asked ++ f.calls;
+          asked_for = λ addr key c. ⊎_elim (λ x. still_asked addr key (h.asked_for addr key x)) (λ x. inr (now, now_taken, f.calls_are addr key x)) (in_either h.asked f.calls (addr, key) c);
+          collected = f.collected h.asked h.collected;
+          forced = λ list all has calls. f.forced list all (h.forced list all has (λ words c. calls words (was_taken words c))) (calls now now_taken);
+        }
+
+    pub frame_framed : (j : ℕ) → j ≡ suc i → AllFramed rom roots (take j frames) new
+    frame_framed j next = subst (λ n. AllFramed rom roots (take n frames) new) (sym next) framed_next
+
+  -- ---- a call whose entry is not made
+
+  -- a list that has all that is asked for has what is made so far, and the calls of this frame
+  module _ (list : List Entry) (all : AllMade rom list) (has : (addr : ℕ) (key : Key) → IsAskedFor roots frames list addr key → HasEntry list addr key) where
+    has_before : Extends old list
+    has_before = h.forced list all (λ a k r. has a k (inl r)) (λ words c to scale calls. has to scale (inr (words, in_taken frames i words c, calls)))
+
+    has_now : HasCalls now list
+    has_now to scale calls = has to scale (inr (now, at_index frames i d lt, calls))
+
+  none_framed : NoneHasCalls rom now old → NoFramesMade rom roots frames
+  none_framed none list m = let all = made_all rom (IsAskedFor roots frames list) list m in none list all (has_before list all m.rooted) (has_now list all m.rooted)
+
+  list_barred : (why : EntryFault) → BarsCalls rom now old why → BarsList rom roots frames why
+  list_barred (Unstraight word) b = none_framed b
+  list_barred Deep b = none_framed b
+  list_barred TooManyWords b = none_framed b
+  list_barred TooManyEntries b = λ list all has. b list all (has_before list all has) (has_now list all has)
+  list_barred Memory b = tt
+
+  pub frame_refused : (at : ℕ) (why : EntryFault) → BarsHere rom now old at why → FramesRefuse rom roots frames (record { call = Some (record { frame = i; at = at }); why = why })
+  frame_refused at why b = record { list = list_barred why b.0; root = tt; frame = (now, got frames i d lt, b.1, b.2) }
+
+pub frames_framed : (rom : Rom) (roots : List (ℕ × Key)) (frames : List (List ℕ)) (i : ℕ) (done : List Entry) → length frames ≤ i → AllFramed rom roots (take i frames) done → AllFramed rom roots frames done
+frames_framed rom roots frames i done le h = subst (λ f. AllFramed rom roots f done) (all_taken frames i le) h
+
+-- ---- roots that are refused
+
+roots_none : (rom : Rom) (roots : List (ℕ × Key)) (frames : List (List ℕ)) → NoneHas rom roots → NoFramesMade rom roots frames
+roots_none rom roots frames none list m = none list m.certificate (made_all rom (IsAskedFor roots frames list) list m) (λ a k r. m.rooted a k (inl r))
+
+roots_list : (rom : Rom) (roots : List (ℕ × Key)) (frames : List (List ℕ)) (why : EntryFault) → BarsRoots rom roots why → BarsList rom roots frames why
+roots_list rom roots frames (Unstraight word) b = roots_none rom roots frames b
+roots_list rom roots frames Deep b = roots_none rom roots frames b
+roots_list rom roots frames TooManyWords b = roots_none rom roots frames b
+roots_list rom roots frames TooManyEntries b = λ list all has. b list all (λ a k r. has a k (inl r))
+roots_list rom roots frames Memory b = tt
+
+pub roots_refused : (rom : Rom) (roots : List (ℕ × Key)) (frames : List (List ℕ)) (why : EntryFault) → BarsRoots rom roots why → FramesRefuse rom roots frames (record { call = None; why = why })
+roots_refused rom roots frames why b = record { list = roots_list rom roots frames why b; root = roots_list rom roots [] why b; frame = tt }
+
+pub memory_refused : (rom : Rom) (roots : List (ℕ × Key)) (frames : List (List ℕ)) → FramesRefuse rom roots frames (record { call = None; why = Memory })
+memory_refused rom roots frames = record { list = tt; root = tt; frame = tt }
+
+-- what a refusal says where there is no frame
+pub as_make_fault : (rom : Rom) (roots : List (ℕ × Key)) (why : EntryFault) → BarsList rom roots [] why → Refuses rom roots (make_fault_of why)
+as_make_fault rom roots (Unstraight word) b = λ list m. b list (roots_made rom roots list m)
+as_make_fault rom roots Deep b = λ list m. b list (roots_made rom roots list m)
+as_make_fault rom roots TooManyWords b = λ list m. b list (roots_made rom roots list m)
+as_make_fault rom roots TooManyEntries b = λ list m.
+    let long = b list (made_all rom (λ addr key. Contains roots (addr, key)) list m) (roots_made rom roots list m).rooted in
+    omega (arith, long, m.certificate.few)
+as_make_fault rom roots Memory b = tt

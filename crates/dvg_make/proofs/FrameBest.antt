@@ -1,0 +1,273 @@
+-- No certificate does better for a frame than the list that is made for it.
+use Rattle.std.proofs.Common.{◌≡◌, ◌≢◌, ℕ, zero, suc, ◌+◌, ◌<◌, ◌≤◌, List, [], ◌∷◌, Option, Some, None, refl, sym, ap, ◌∙◌, subst, arith, inl, inr, ⊎_elim}
+use Rattle.std.specs.Prelude.{Contains}
+use Rattle.dvg_words.specs.Decoding.{cell_at, word_count}
+use Rattle.dvg_words.specs.Memory.{Rom, rom_word, frame_word}
+use Rattle.dvg_words.specs.Values.{Window}
+use Rattle.dvg_words.specs.declared.instruction.Cell.{Cell}
+use Rattle.dvg_words.specs.declared.instruction.Cell.TheVariants.{Missing, Odd, Holds}
+use Rattle.dvg_cert.specs.Order.{IsCertificate}
+use Rattle.dvg_cert.specs.declared.entry.Entry.{Entry}
+use Rattle.dvg_cert.specs.declared.entry.Key.{Key}
+use Rattle.dvg_cert.specs.declared.limits.TheConstants.{MOST_WORDS}
+use Rattle.dvg_items.specs.Items.{LeadsTo}
+use Rattle.dvg_items.specs.Known.{Context, shape_context, frame_context, target, callee_at, callee, scale_before, place_before, words_before, depth_before, known_before}
+use Rattle.dvg_items.specs.Lit.{LitInWindow}
+use Rattle.dvg_items.specs.Seen.{extent, seen_at, HasCallee}
+use Rattle.dvg_items.specs.declared.item.Item.{Item}
+use Rattle.dvg_items.specs.declared.item.Kind.TheVariants.{Shape, Frame}
+use Rattle.dvg_items.specs.declared.seen.Seen.{Seen}
+use Rattle.dvg_items.proofs.Listed.{listed_at}
+use Rattle.dvg_check.specs.Rules.{ShapeKeeps, FrameKeeps, CellKeeps, FramePlaceKeeps, AllKeep, Good, GoodFrame}
+use Rattle.dvg_check.specs.declared.fault.Mode.TheVariants.{Bound, Exact}
+use Rattle.dvg_check.specs.declared.fault.ShapeWhy.{ShapeWhy}
+use Rattle.dvg_check.specs.declared.fault.ShapeWhy.TheVariants as shape
+use Rattle.dvg_check.specs.declared.fault.FrameWhy.{FrameWhy}
+use Rattle.dvg_check.specs.declared.fault.FrameWhy.TheVariants as frame
+use Rattle.dvg_check.proofs.Modes.{in_bound}
+use Rattle.dvg_make.specs.Laws.{AllInWindow, NoneBetter}
+use Rattle.dvg_make.specs.Made.{Needs, MadeFor, AllMade}
+use Rattle.dvg_make.specs.Frames.{IsKeyed, AllKeyed, FrameCalls, IsAskedFor}
+use Rattle.dvg_make.specs.Private.Covering.{KnowsMore, Covers, HasCover, Upholds}
+use Rattle.dvg_make.proofs.Matching.{exact_named}
+use Rattle.dvg_make.proofs.Ends.{callee_less, has_callee}
+use Rattle.dvg_make.proofs.Onward.{listed_entry}
+use Rattle.dvg_make.proofs.OneList.{target_of}
+use Rattle.dvg_make.proofs.Windows.{in_exact}
+use Rattle.dvg_make.proofs.Knowing.{CalleeRefines, more_after, LightsLess, lights_less}
+use Rattle.dvg_make.proofs.Bettering.{made_ordered, Call, call_of, called, lights, refined, ready_made, tracks}
+
+-- ---- a good list is upheld
+
+other_window : (w v : Window) (e : Entry) (s : Seen) (why : ShapeWhy) → why ≢ shape.OffScreen → ShapeKeeps Bound w e s why → ShapeKeeps Bound v e s why
+other_window w v e s shape.Unmapped not h = h
+other_window w v e s shape.Odd not h = h
+other_window w v e s shape.HaltInShape not h = h
+other_window w v e s shape.BeamUnknown not h = h
+other_window w v e s shape.ScaleUnknown not h = h
+other_window w v e s shape.OffScreen not h = absurd (not refl)
+other_window w v e s shape.NoEntry not h = h
+other_window w v e s shape.TooDeep not h = h
+other_window w v e s shape.TooManyWords not h = h
+other_window w v e s shape.EndDiffers not h = h
+other_window w v e s shape.ScaleDiffers not h = h
+other_window w v e s shape.BoxTooSmall not h = h
+other_window w v e s shape.WordsDiffer not h = h
+other_window w v e s shape.DepthDiffers not h = h
+
+module _ (rom : Rom) (list : List Entry) (w : Window) where
+  abbrev Kept : Window → Entry → List Item → ℕ → Cell → ShapeWhy → Type 0
+  Kept v e earlier p cell why = CellKeeps shape.Unmapped shape.Odd (λ i. ShapeKeeps Bound v e (seen_at (shape_context list e) earlier i)) p cell why
+
+  other_cell : (v : Window) (e : Entry) (earlier : List Item) (p : ℕ) (cell : Cell) (why : ShapeWhy) → why ≢ shape.OffScreen → Kept w e earlier p cell why → Kept v e earlier p cell why
+  other_cell v e earlier p Missing why not h = h
+  other_cell v e earlier p Odd why not h = h
+  other_cell v e earlier p (Holds format i) why not h = other_window w v e (seen_at (shape_context list e) earlier (record { at = p; format = format; instr = i })) why not h
+
+  pub upheld : IsCertificate rom.map list → Good Bound w rom list → Upholds rom list
+  upheld cert good e c = (listed_entry rom.map.rom_first rom.map.rom_last list e cert.each c, λ earlier p lead why v not. other_cell v e earlier p (cell_at (rom_word rom) p) why not (good e c earlier p lead why))
+
+  off_screen : Good Bound w rom list → (e : Entry) → Contains list e → (earlier : List Item) (i : Item) → LeadsTo Shape (rom_word rom) e.addr earlier i.at → cell_at (rom_word rom) i.at ≡ Holds i.format i.instr → LitInWindow w (extent (shape_context list e) earlier i.instr) (place_before (shape_context list e) earlier)
+  off_screen good e c earlier i lead is = subst (λ cell. Kept w e earlier i.at cell shape.OffScreen) is (good e c earlier i.at lead shape.OffScreen)
+
+-- ---- a made list whose roots are covered
+
+module _ (rom : Rom) (list : List Entry) (up : Upholds rom list) (IsAsked : ℕ → Key → Type 0) (made : List Entry) (m : MadeFor rom IsAsked made) where
+  pub all_made : AllMade rom made
+  all_made e c = let is = listed_entry rom.map.rom_first rom.map.rom_last made e m.certificate.each c in record { made = m.each e c; words = is.words_high; depth = is.depth }
+
+  module _ (roots : (addr : ℕ) (key : Key) → IsAsked addr key → HasCover list addr key) where
+    needed_cover : (e f : Entry) → Contains made e → Needs rom made e f → HasCover list e.addr e.key → HasCover list f.addr f.key
+    needed_cover e f in_made n cover =
+        let d : Entry = cover.0 in
+        let k : Key = scale_before (shape_context made e) n.earlier in
+        let t = target_of made (target Shape n.item.instr) k f n.callee_is ((m.each e in_made).keyed n.earlier n.item n.leads n.stands) in
+        let lead : LeadsTo Shape (rom_word rom) d.addr n.earlier n.item.at = subst (λ a. LeadsTo Shape (rom_word rom) a n.earlier n.item.at) (sym cover.2.addr) n.leads in
+        let tracked = tracks rom list up made all_made e in_made d cover.1 cover.2 n.earlier n.item.at lead in
+        let call = called rom list up d cover.1 n.earlier n.item lead n.stands t.0 t.1 k tracked.knows.scale in
+        let l = listed_at made t.0 k f t.2 in
+        (call.g, call.listed, subst (λ a. Covers call.g a f.key) (sym l.addr_is) (subst (λ (z : Key). Covers call.g t.0 z) (sym l.key_is) call.covers))
+
+    needs_less : (e f : Entry) → Contains made e → Needs rom made e f → f.words < e.words
+    needs_less e f in_made n =
+        let t = target_of made (target Shape n.item.instr) (scale_before (shape_context made e) n.earlier) f n.callee_is ((m.each e in_made).keyed n.earlier n.item n.leads n.stands) in
+        callee_less rom made e (m.each e in_made) n.earlier n.item n.leads n.stands t.0 f t.1 t.2
+
+    covered_up_to : (n : ℕ) (f : Entry) → Contains made f → MOST_WORDS + 1 ≤ f.words + n → HasCover list f.addr f.key
+    covered_up_to zero f in_made le = absurd (omega (arith, le, (all_made f in_made).words))
+    covered_up_to (suc n) f in_made le =
+        ⊎_elim (λ a. roots f.addr f.key a) (λ c. let less = needs_less c.0 f c.1 c.2 in needed_cover c.0 f c.1 c.2 (covered_up_to n c.0 c.1 (omega (arith, less, le)))) (m.needed f in_made)
+
+    each_covered : (f : Entry) → Contains made f → HasCover list f.addr f.key
+    each_covered f in_made = covered_up_to (MOST_WORDS + 1) f in_made (omega arith)
+
+    made_in_window : (w : Window) → Good Bound w rom list → AllInWindow w rom made
+    made_in_window w good f in_made earlier i lead is =
+        let cover = each_covered f in_made in
+        let d : Entry = cover.0 in
+        let there : LeadsTo Shape (rom_word rom) d.addr earlier i.at = subst (λ a. LeadsTo Shape (rom_word rom) a earlier i.at) (sym cover.2.addr) lead in
+        let tracked = tracks rom list up made all_made f in_made d cover.1 cover.2 earlier i.at there in
+        let ready = ready_made rom list up made all_made f in_made d cover.1 cover.2 earlier i there is tracked in
+        (lights rom list up d cover.1 f.key made earlier i there is ready).shown w (off_screen rom list w good d cover.1 earlier i there is)
+
+    pub made_good : (w : Window) → Good Bound w rom list → Good Exact w rom made
+    made_good w good = in_exact rom made w m.each (made_in_window w good)
+
+-- ---- along the items of a frame
+
+module _ (rom : Rom) (list : List Entry) (up : Upholds rom list) (words : List ℕ) (w : Window) (budget : ℕ) (keeps : AllKeep Frame (frame_word words) 0 (FramePlaceKeeps w words list budget)) where
+  abbrev c : Context
+  c = frame_context list
+
+  frame_rule : (earlier : List Item) (i : Item) → LeadsTo Frame (frame_word words) 0 earlier i.at → cell_at (frame_word words) i.at ≡ Holds i.format i.instr → (why : FrameWhy) → FrameKeeps w budget (seen_at c earlier i) why
+  frame_rule earlier i lead is why = subst (λ cell. CellKeeps frame.Unmapped frame.Odd (λ j. FrameKeeps w budget (seen_at c earlier j)) i.at cell why) is (keeps earlier i.at lead why)
+
+  -- what a list of made entries knows along them
+  module _ (made : List Entry) (all : AllMade rom made) where
+    abbrev d : Context
+    d = frame_context made
+
+    abbrev Tracks : List Item → Type 0
+    Tracks items = KnowsMore (known_before c items) (known_before d items)
+
+    frame_call : (earlier : List Item) (i : Item) → LeadsTo Frame (frame_word words) 0 earlier i.at → cell_at (frame_word words) i.at ≡ Holds i.format i.instr → Tracks earlier → (to : ℕ) → target Frame i.instr ≡ Some to → Call list to (scale_before c earlier) (scale_before d earlier)
+    frame_call earlier i lead is k to t =
+        call_of list to (scale_before c earlier) (scale_before d earlier) k.scale (subst (λ o. HasCallee o (callee_at list o (scale_before c earlier))) t (frame_rule earlier i lead is frame.NoEntry))
+
+    frame_refines : (earlier : List Item) (i : Item) → LeadsTo Frame (frame_word words) 0 earlier i.at → cell_at (frame_word words) i.at ≡ Holds i.format i.instr → Tracks earlier → IsKeyed made earlier i → CalleeRefines (callee c earlier i.instr) (callee d earlier i.instr)
+    frame_refines earlier i lead is k keyed = by_target (target Frame i.instr) refl
+      where
+        by_target : (o : Option ℕ) → target Frame i.instr ≡ o → CalleeRefines (callee c earlier i.instr) (callee d earlier i.instr)
+        by_target None t =
+            let weak : callee c earlier i.instr ≡ None = ap (λ o. callee_at list o (scale_before c earlier)) t in
+            let strong : callee d earlier i.instr ≡ None = ap (λ o. callee_at made o (scale_before d earlier)) t in
+            subst (λ o. CalleeRefines o (callee d earlier i.instr)) (sym weak) (subst (λ o. CalleeRefines None o) (sym strong) tt)
+        by_target (Some to) t =
+            let call = frame_call earlier i lead is k to t in
+            let f = keyed to t in
+            let weak : callee c earlier i.instr ≡ Some call.g = ap (λ o. callee_at list o (scale_before c earlier)) t ∙ call.is in
+            let strong : callee d earlier i.instr ≡ Some f.0 = ap (λ o. callee_at made o (scale_before d earlier)) t ∙ exact_named made to (scale_before d earlier) f.0 f.1 in
+            let made_f = (all f.0 (listed_at made to (scale_before d earlier) f.0 f.1).listed).made in
+            subst (λ o. CalleeRefines o (callee d earlier i.instr)) (sym weak) (subst (λ o. CalleeRefines (Some call.g) o) (sym strong) (refined rom list up made all to (scale_before d earlier) f.0 f.1 call.g call.listed call.covers, made_ordered rom made f.0 made_f))
+
+    pub frame_tracks : (items : List Item) (p : ℕ) → LeadsTo Frame (frame_word words) 0 items p → AllKeyed made items → Tracks items
+    frame_tracks [] p lead keyed = record { place = tt; scale = tt; words = omega arith; depth = omega arith }
+    frame_tracks (i ∷ earlier) p lead keyed =
+        let k = frame_tracks earlier i.at lead.0 keyed.0 in
+        more_after i (callee c earlier i.instr) (callee d earlier i.instr) (known_before c earlier) (known_before d earlier) k (frame_refines earlier i lead.0 lead.1 k keyed.1)
+
+    -- what a frame calls, the list has an entry for
+    pub frame_cover : (earlier : List Item) (i : Item) → LeadsTo Frame (frame_word words) 0 earlier i.at → cell_at (frame_word words) i.at ≡ Holds i.format i.instr → AllKeyed made earlier → (to : ℕ) → target Frame i.instr ≡ Some to → HasCover list to (scale_before d earlier)
+    frame_cover earlier i lead is keyed to t =
+        let call = frame_call earlier i lead is (frame_tracks earlier i.at lead keyed) to t in
+        (call.g, call.listed, call.covers)
+
+    -- ---- the frame is good by them, where they have an entry for each call
+
+    module _ (keyed : (earlier : List Item) (i : Item) → LeadsTo Frame (frame_word words) 0 earlier i.at → cell_at (frame_word words) i.at ≡ Holds i.format i.instr → IsKeyed made earlier i) where
+      all_keyed : (items : List Item) (p : ℕ) → LeadsTo Frame (frame_word words) 0 items p → AllKeyed made items
+      all_keyed [] p lead = tt
+      all_keyed (i ∷ earlier) p lead = (all_keyed earlier i.at lead.0, keyed earlier i lead.0 lead.1)
+
+      pub along : (items : List Item) (p : ℕ) → LeadsTo Frame (frame_word words) 0 items p → Tracks items
+      along items p lead = frame_tracks items p lead (all_keyed items p lead)
+
+      item_kept : (earlier : List Item) (i : Item) → LeadsTo Frame (frame_word words) 0 earlier i.at → cell_at (frame_word words) i.at ≡ Holds i.format i.instr → (why : FrameWhy) → FrameKeeps w budget (seen_at d earlier i) why
+      item_kept earlier i lead is why = by_rule why
+        where
+          before : Tracks earlier
+          before = along earlier i.at lead
+
+          refines : CalleeRefines (callee c earlier i.instr) (callee d earlier i.instr)
+          refines = frame_refines earlier i lead is before (keyed earlier i lead is)
+
+          after : Tracks (i ∷ earlier)
+          after = more_after i (callee c earlier i.instr) (callee d earlier i.instr) (known_before c earlier) (known_before d earlier) before refines
+
+          less : LightsLess (extent c earlier i.instr) (extent d earlier i.instr) (place_before c earlier) (place_before d earlier)
+          less = lights_less i.instr (callee c earlier i.instr) (callee d earlier i.instr) (known_before c earlier) (known_before d earlier) before refines (frame_rule earlier i lead is frame.BeamUnknown) (frame_rule earlier i lead is frame.ScaleUnknown)
+
+          by_rule : (why : FrameWhy) → FrameKeeps w budget (seen_at d earlier i) why
+          by_rule frame.Unmapped = tt
+          by_rule frame.Odd = tt
+          by_rule frame.ReturnInFrame = frame_rule earlier i lead is frame.ReturnInFrame
+          by_rule frame.BackJump = frame_rule earlier i lead is frame.BackJump
+          by_rule frame.BeamUnknown = less.known
+          by_rule frame.ScaleUnknown = less.scale_known
+          by_rule frame.OffScreen = less.shown w (frame_rule earlier i lead is frame.OffScreen)
+          by_rule frame.NoEntry = has_callee made (target Frame i.instr) (scale_before d earlier) (keyed earlier i lead is)
+          by_rule frame.Budget = let le : words_before c (i ∷ earlier) ≤ budget = frame_rule earlier i lead is frame.Budget in omega (arith, after.words, le)
+
+      -- what is asked of a cell
+      abbrev AtCell : Context → List Item → ℕ → FrameWhy → Cell → Type 0
+      AtCell x earlier p why cell = CellKeeps frame.Unmapped frame.Odd (λ j. FrameKeeps w budget (seen_at x earlier j)) p cell why
+
+      pub frame_kept : AllKeep Frame (frame_word words) 0 (FramePlaceKeeps w words made budget)
+      frame_kept earlier p lead why = by_cell (cell_at (frame_word words) p) refl (keeps earlier p lead why)
+        where
+          by_cell : (cell : Cell) → cell_at (frame_word words) p ≡ cell → AtCell c earlier p why (cell_at (frame_word words) p) → AtCell d earlier p why (cell_at (frame_word words) p)
+          by_cell Missing q h = subst (AtCell d earlier p why) (sym q) (subst (AtCell c earlier p why) q h)
+          by_cell Odd q h = subst (AtCell d earlier p why) (sym q) (subst (AtCell c earlier p why) q h)
+          by_cell (Holds format instr) q h = subst (AtCell d earlier p why) (sym q) (item_kept earlier (record { at = p; format = format; instr = instr }) lead q why)
+
+-- ---- the law
+
+only_frame : (words other : List ℕ) → Contains (words ∷ []) other → words ≡ other
+only_frame words other (zero, lt, is) = is
+only_frame words other (suc k, lt, is) = absurd (omega (arith, lt))
+
+pub none_better : NoneBetter
+none_better rom words w mode list made budget count depth accepted m = (
+  words_before (frame_context made) gf.items + word_count gf.format,
+  depth_before (frame_context made) gf.items,
+  fewer,
+  shallower,
+  record {
+    certificate = m.certificate;
+    good = made_good rom list up (IsAskedFor [] (words ∷ []) made) made m roots w bound;
+    frame = framed;
+  },
+)
+  where
+    gf : GoodFrame w words list budget count depth
+    gf = accepted.frame
+
+    bound : Good Bound w rom list
+    bound = in_bound w rom list mode accepted.good
+
+    up : Upholds rom list
+    up = upheld rom list w accepted.certificate bound
+
+    all : AllMade rom made
+    all = all_made rom list up (IsAskedFor [] (words ∷ []) made) made m
+
+    keyed : (earlier : List Item) (i : Item) → LeadsTo Frame (frame_word words) 0 earlier i.at → cell_at (frame_word words) i.at ≡ Holds i.format i.instr → IsKeyed made earlier i
+    keyed earlier i lead is to t = m.rooted to (scale_before (frame_context made) earlier) (inr (words, (0, omega arith, refl), record { earlier = earlier; item = i; leads = lead; stands = is; target_is = t; scale_is = refl }))
+
+    roots : (addr : ℕ) (key : Key) → IsAskedFor [] (words ∷ []) made addr key → HasCover list addr key
+    roots addr key (inl x) = absurd (omega (arith, x.1))
+    roots addr key (inr x) =
+        let calls : FrameCalls words made addr key = subst (λ z. FrameCalls z made addr key) (sym (only_frame words x.0 x.1)) x.2 in
+        subst (λ (k : Key). HasCover list addr k) calls.scale_is (frame_cover rom list up words w budget gf.keeps made all calls.earlier calls.item calls.leads calls.stands (all_keyed rom list up words w budget gf.keeps made all keyed calls.earlier calls.item.at calls.leads) addr calls.target_is)
+
+    end : KnowsMore (known_before (frame_context list) gf.items) (known_before (frame_context made) gf.items)
+    end = along rom list up words w budget gf.keeps made all keyed gf.items gf.at gf.leads
+
+    fewer : words_before (frame_context made) gf.items + word_count gf.format ≤ count
+    fewer = omega (arith, end.words, gf.count_is)
+
+    shallower : depth_before (frame_context made) gf.items ≤ depth
+    shallower = omega (arith, end.depth, gf.depth_is)
+
+    framed : GoodFrame w words made budget (words_before (frame_context made) gf.items + word_count gf.format) (depth_before (frame_context made) gf.items)
+    framed =
+        record {
+          keeps = frame_kept rom list up words w budget gf.keeps made all keyed;
+          items = gf.items;
+          at = gf.at;
+          format = gf.format;
+          leads = gf.leads;
+          halts = gf.halts;
+          count_is = refl;
+          depth_is = refl;
+        }

@@ -1,0 +1,406 @@
+-- A frame whose calls are made one after another.
+use Rattle.std.proofs.Common.{◌≡◌, ℕ, zero, suc, ◌+◌, ◌<◌, ◌≤◌, List, [], ◌∷◌, ◌++◌, length, unwrap_or, Option, Some, None, refl, sym, ap, ◌∙◌, subst, arith, ◌⊎◌, inl, inr, ⊎_elim, append_assoc}
+use Rattle.std.proofs.lemmas.List.{append-nil}
+use Rattle.std.proofs.lemmas.Bool.{cases_lt}
+use Rattle.std.specs.Prelude.{Contains, IfSome}
+use Rattle.dvg_words.specs.Decoding.{cell_at, InstrFits}
+use Rattle.dvg_words.specs.Memory.{Rom, frame_word}
+use Rattle.dvg_words.specs.declared.map.TheConstants.{ADDRESS_END}
+use Rattle.dvg_words.specs.declared.instruction.Cell.TheVariants.{Holds}
+use Rattle.dvg_words.specs.declared.instruction.Format.{Format}
+use Rattle.dvg_words.specs.declared.instruction.Instr.{Instr}
+use Rattle.dvg_words.specs.declared.instruction.Instr.TheVariants.{Draw as Draws, Labs, Halt, Jsrl, Rtsl, Jmpl}
+use Rattle.dvg_cert.specs.Entry.{IsKey}
+use Rattle.dvg_cert.specs.Lookup.{entry_at}
+use Rattle.dvg_cert.specs.declared.entry.Entry.{Entry}
+use Rattle.dvg_cert.specs.declared.entry.Key.{Key}
+use Rattle.dvg_cert.specs.declared.entry.Key.TheVariants.{Any}
+use Rattle.dvg_cert.specs.declared.limits.TheConstants.{MOST_ENTRIES}
+use Rattle.dvg_items.specs.Items.{LeadsTo, next_place, AtEachOf, AtEveryPlace}
+use Rattle.dvg_items.specs.Bounds.{IsClaim}
+use Rattle.dvg_items.proofs.Near.{next_near}
+use Rattle.dvg_items.specs.Known.{frame_context, target, scale_set, callee_at, scale_before, known_before, known_past}
+use Rattle.dvg_items.specs.declared.item.Item.{Item}
+use Rattle.dvg_items.specs.declared.item.Kind.TheVariants.{Frame}
+use Rattle.dvg_items.specs.declared.known.Known.{Known}
+use Rattle.dvg_items.proofs.Leading.{same_lead, shorter, everywhere}
+use Rattle.dvg_items.proofs.Listed.{listed_at}
+use Rattle.dvg_check.proofs.Modes.{in_bound}
+use Rattle.dvg_make.specs.Made.{HasEntry, AllMade, Barred}
+use Rattle.dvg_make.specs.Frames.{IsKeyed, AllKeyed, FrameCalls}
+use Rattle.dvg_make.specs.Refusals.{EntryFault, Unstraight, Deep, TooManyWords, TooManyEntries, Memory, NoneAccepts, BarsEntry, StopsAt}
+use Rattle.dvg_make.specs.Private.Walking.{Extends}
+use Rattle.dvg_make.specs.Private.Making.{IsAim, NoAim, IsDone, Making, Bars, IsCalled, IsPresent, Collected}
+use Rattle.dvg_make.specs.Private.Framing.{HasCalls, IsCalledBy, BarsTarget, IsFramed, NoneHasCalls, LongHasCalls, BarsHere}
+use Rattle.dvg_make.proofs.Matching.{exact_named}
+use Rattle.dvg_make.proofs.Merging.{extends_more, extends_second, all_merged}
+use Rattle.dvg_make.proofs.Chains.{called_grows}
+use Rattle.dvg_make.proofs.Bettering.{better}
+use Rattle.dvg_make.proofs.FrameBest.{upheld, frame_cover}
+
+-- ---- lists that grow
+
+pub done_made : (rom : Rom) (done : List Entry) → IsDone rom done → AllMade rom done
+done_made rom done h e c = let is = h.entries e c in record { made = h.made e c; words = is.words_high; depth = is.depth }
+
+-- what is known along a frame's items by a list is known by each that has more
+same_next : (a b : List Entry) → Extends a b → (earlier : List Item) (i : Item) → IsKeyed a earlier i → known_before (frame_context a) earlier ≡ known_before (frame_context b) earlier → known_before (frame_context a) (i ∷ earlier) ≡ known_before (frame_context b) (i ∷ earlier)
+same_next a b ext earlier i keyed before = by_target (target Frame i.instr) refl
+  where
+    k : Key
+    k = scale_before (frame_context a) earlier
+
+    j : Key
+    j = scale_before (frame_context b) earlier
+
+    same : k ≡ j
+    same = ap (λ (x : Known). x.scale) before
+
+    past : callee_at a (target Frame i.instr) k ≡ callee_at b (target Frame i.instr) j → known_before (frame_context a) (i ∷ earlier) ≡ known_before (frame_context b) (i ∷ earlier)
+    past e = ap (λ o. known_past i o (known_before (frame_context a) earlier)) e ∙ ap (λ (x : Known). known_past i (callee_at b (target Frame i.instr) j) x) before
+
+    by_target : (o : Option ℕ) → target Frame i.instr ≡ o → known_before (frame_context a) (i ∷ earlier) ≡ known_before (frame_context b) (i ∷ earlier)
+    by_target None t = past (ap (λ o. callee_at a o k) t ∙ sym (ap (λ o. callee_at b o j) t))
+    by_target (Some to) t =
+        let f = keyed to t in
+        let there : entry_at b to j ≡ Some f.0 = ap (λ (z : Key). entry_at b to z) (sym same) ∙ ext to k f.0 f.1 in
+        past (ap (λ o. callee_at a o k) t ∙ exact_named a to k f.0 f.1 ∙ sym (exact_named b to j f.0 there) ∙ sym (ap (λ o. callee_at b o j) t))
+
+known_same : (a b : List Entry) → Extends a b → (items : List Item) → AllKeyed a items → known_before (frame_context a) items ≡ known_before (frame_context b) items
+known_same a b ext [] h = refl
+known_same a b ext (i ∷ earlier) h = same_next a b ext earlier i h.1 (known_same a b ext earlier h.0)
+
+scale_same : (a b : List Entry) → Extends a b → (items : List Item) → AllKeyed a items → scale_before (frame_context a) items ≡ scale_before (frame_context b) items
+scale_same a b ext items h = ap (λ (x : Known). x.scale) (known_same a b ext items h)
+
+keyed_grows : (a b : List Entry) → Extends a b → (items : List Item) → AllKeyed a items → AllKeyed b items
+keyed_grows a b ext [] h = tt
+keyed_grows a b ext (i ∷ earlier) h =
+    (keyed_grows a b ext earlier h.0, λ to t. let f = h.1 to t in (f.0, ap (λ (z : Key). entry_at b to z) (sym (scale_same a b ext earlier h.0)) ∙ ext to _ f.0 f.1))
+
+-- ---- calls
+
+-- a call after items whose calls have their entries
+pub record KeyedCall (words : List ℕ) (list : List Entry) (to : ℕ) (scale : Key) : Type 0 where
+  pub calls : FrameCalls words list to scale
+  pub keyed : AllKeyed list calls.earlier
+
+call_grows : (words : List ℕ) (a b : List Entry) → Extends a b → (to : ℕ) (scale : Key) → KeyedCall words a to scale → KeyedCall words b to scale
+call_grows words a b ext to scale c =
+    record {
+      calls = record { earlier = c.calls.earlier; item = c.calls.item; leads = c.calls.leads; stands = c.calls.stands; target_is = c.calls.target_is; scale_is = sym (scale_same a b ext c.calls.earlier c.keyed) ∙ c.calls.scale_is };
+      keyed = keyed_grows a b ext c.calls.earlier c.keyed;
+    }
+
+-- where each call of a frame has its entry
+module _ (words : List ℕ) (list : List Entry) (has : HasCalls words list) where
+  keyed_at : (earlier : List Item) (i : Item) → LeadsTo Frame (frame_word words) 0 earlier i.at → cell_at (frame_word words) i.at ≡ Holds i.format i.instr → IsKeyed list earlier i
+  keyed_at earlier i lead is to t = has to (scale_before (frame_context list) earlier) (record { earlier = earlier; item = i; leads = lead; stands = is; target_is = t; scale_is = refl })
+
+  keyed_all : (items : List Item) (p : ℕ) → LeadsTo Frame (frame_word words) 0 items p → AllKeyed list items
+  keyed_all [] p lead = tt
+  keyed_all (i ∷ earlier) p lead = (keyed_all earlier i.at lead.0, keyed_at earlier i lead.0 lead.1)
+
+  keyed_call : (to : ℕ) (scale : Key) → FrameCalls words list to scale → KeyedCall words list to scale
+  keyed_call to scale c = record { calls = c; keyed = keyed_all c.earlier c.item.at c.leads }
+
+pub calls_grow : (words : List ℕ) (a b : List Entry) → Extends a b → HasCalls words a → (to : ℕ) (scale : Key) → FrameCalls words a to scale → FrameCalls words b to scale
+calls_grow words a b ext has to scale c = (call_grows words a b ext to scale (keyed_call words a has to scale c)).calls
+
+-- and the other way round
+pub calls_shrink : (words : List ℕ) (a b : List Entry) → Extends a b → HasCalls words a → (to : ℕ) (scale : Key) → FrameCalls words b to scale → FrameCalls words a to scale
+calls_shrink words a b ext has to scale c =
+    record { earlier = c.earlier; item = c.item; leads = c.leads; stands = c.stands; target_is = c.target_is; scale_is = scale_same a b ext c.earlier (keyed_all words a has c.earlier c.item.at c.leads) ∙ c.scale_is }
+
+pub has_calls_grow : (words : List ℕ) (a b : List Entry) → Extends a b → HasCalls words a → HasCalls words b
+has_calls_grow words a b ext has to scale c = let f = has to scale (calls_shrink words a b ext has to scale c) in (f.0, ext to scale f.0 f.1)
+
+-- ---- the items of a frame end
+
+module _ (words : List ℕ) (list : List Entry) where
+  abbrev word : ℕ → Option ℕ
+  word = frame_word words
+
+  abbrev KeyedThere : List Item → ℕ → Type 0
+  KeyedThere earlier p = (format : Format) (instr : Instr) → cell_at word p ≡ Holds format instr → IsKeyed list earlier (record { at = p; format = format; instr = instr })
+
+  same_instr : (format other : Format) (i j : Instr) → Holds format i ≡ Holds other j → i ≡ j
+  same_instr format other i j e = cc e
+
+  there : (earlier : List Item) (i : Item) → cell_at word i.at ≡ Holds i.format i.instr → IsKeyed list earlier i → KeyedThere earlier i.at
+  there earlier i is keyed format instr e to t = keyed to (ap (target Frame) (same_instr i.format format i.instr instr (sym is ∙ e)) ∙ t)
+
+  each_there : (items : List Item) (p : ℕ) → LeadsTo Frame word 0 items p → AllKeyed list items → AtEachOf KeyedThere items
+  each_there [] p lead keyed = tt
+  each_there (i ∷ earlier) p lead keyed = (each_there earlier i.at lead.0 keyed.0, there earlier i lead.1 keyed.1)
+
+  -- nothing leads past a place where nothing stands
+  none_past : (items : List Item) (p : ℕ) → LeadsTo Frame word 0 items p → ((format : Format) (instr : Instr) → cell_at word p ≡ Holds format instr → ⊥) → (earlier : List Item) (q : ℕ) → LeadsTo Frame word 0 earlier q → length items < length earlier → ⊥
+  none_past items p lead not [] q h lt = omega (arith, lt)
+  none_past items p lead not (j ∷ earlier) q h lt =
+      ⊎_elim
+      (λ less. none_past items p lead not earlier j.at h.0 less)
+      (λ le. let s = same_lead Frame word 0 earlier items j.at p h.0 lead (omega (arith, lt, le)) in not j.format j.instr (sym (ap (cell_at word) s.place) ∙ h.1))
+      (cases_lt (length items) (length earlier))
+
+  nothing_there : (items : List Item) (p : ℕ) → LeadsTo Frame word 0 items p → AllKeyed list items → ((format : Format) (instr : Instr) → cell_at word p ≡ Holds format instr → ⊥) → AtEveryPlace Frame word 0 KeyedThere
+  nothing_there items p lead keyed not earlier q h =
+      ⊎_elim
+      (λ less. shorter Frame word 0 KeyedThere items p lead (each_there items p lead keyed) earlier q h less)
+      (λ le. ⊎_elim
+      (λ more. absurd (none_past items p lead not earlier q h more))
+      (λ ge format instr e. absurd (not format instr (sym (ap (cell_at word) (same_lead Frame word 0 earlier items q p h lead (omega (arith, le, ge))).place) ∙ e)))
+      (cases_lt (length items) (length earlier)))
+      (cases_lt (length earlier) (length items))
+
+  has_all : AtEveryPlace Frame word 0 KeyedThere → HasCalls words list
+  has_all all to scale c =
+      let f = all c.earlier c.item.at c.leads c.item.format c.item.instr c.stands to c.target_is in
+      (f.0, ap (λ (z : Key). entry_at list to z) (sym c.scale_is) ∙ f.1)
+
+  -- where the items end
+  pub ends_last : (items : List Item) (i : Item) → LeadsTo Frame word 0 items i.at → cell_at word i.at ≡ Holds i.format i.instr → next_place Frame i ≡ None → AllKeyed list (i ∷ items) → HasCalls words list
+  ends_last items i lead is last keyed = has_all (everywhere Frame word 0 KeyedThere items i lead is last (each_there items i.at lead keyed.0, there items i is keyed.1))
+
+  pub ends_nowhere : (items : List Item) (p : ℕ) → LeadsTo Frame word 0 items p → AllKeyed list items → ((format : Format) (instr : Instr) → cell_at word p ≡ Holds format instr → ⊥) → HasCalls words list
+  ends_nowhere items p lead keyed not = has_all (nothing_there items p lead keyed not)
+
+-- ---- what is asked for, one more
+
+in_one : (x y : ℕ × Key) → Contains (x ∷ []) y → x ≡ y
+in_one x y (zero, lt, is) = is
+in_one x y (suc k, lt, is) = absurd (omega (arith, lt))
+
+pub in_left : {A : Type 0} (a b : List A) (x : A) → Contains a x → Contains (a ++ b) x
+in_left [] b x c = absurd (omega (arith, c.1))
+in_left (y ∷ a) b x (zero, lt, is) = (zero, omega arith, is)
+in_left (y ∷ a) b x (suc k, lt, is) = let c = in_left a b x (k, omega (arith, lt), is) in (suc c.0, omega (arith, c.1), c.2)
+
+pub in_right : {A : Type 0} (a b : List A) (x : A) → Contains b x → Contains (a ++ b) x
+in_right [] b x c = c
+in_right (y ∷ a) b x c = let d = in_right a b x c in (suc d.0, omega (arith, d.1), d.2)
+
+pub in_either : {A : Type 0} (a b : List A) (x : A) → Contains (a ++ b) x → Contains a x ⊎ Contains b x
+in_either [] b x c = inr c
+in_either (y ∷ a) b x (zero, lt, is) = inl (zero, omega arith, is)
+in_either (y ∷ a) b x (suc k, lt, is) = ⊎_elim (λ c. inl (suc c.0, omega (arith, c.1), c.2)) (λ c. inr c) (in_either a b x (k, omega (arith, lt), is))
+
+pub collected_more : (rom : Rom) (asked : List (ℕ × Key)) (old new : List Entry) (addr : ℕ) (key : Key) → Collected rom asked old → Making rom old (addr, key) new [] → HasEntry new addr key → Collected rom (asked ++ (addr, key) ∷ []) new
+collected_more rom asked old new addr key h m has =
+    record {
+      is_done = m.is_done;
+      rooted = λ a k c. ⊎_elim (λ x. let f = h.rooted a k x in (f.0, m.extends a k f.0 f.1)) (λ x. subst (λ (r : ℕ × Key). HasEntry new r.0 r.1) (in_one (addr, key) (a, k) x) has) (in_either asked ((addr, key) ∷ []) (a, k) c);
+      needed = needs;
+      forced = λ made all has_all. (m.forced made (record { all = all; extends = h.forced made all (λ a k c. has_all a k (in_left asked ((addr, key) ∷ []) (a, k) c)); has = has_all addr key (in_right asked ((addr, key) ∷ []) (addr, key) (0, omega arith, refl)) })).0;
+    }
+  where
+    was : (a : ℕ) (k : Key) → IsPresent old [] a k → IsPresent new [] a k
+    was a k (inl x) = inl (x.0, m.extends a k x.0 x.1)
+    was a k (inr b) = absurd b
+
+    needs : (a : ℕ) (k : Key) → HasEntry new a k → Contains (asked ++ (addr, key) ∷ []) (a, k) ⊎ IsCalled rom new [] a k
+    needs a k x =
+        ⊎_elim
+        (λ given. ⊎_elim
+        (λ f. ⊎_elim (λ c. inl (in_left asked ((addr, key) ∷ []) (a, k) c)) (λ c. inr (called_grows rom old new [] [] m.extends was a k c)) (h.needed a k f))
+        (λ s. inl (in_right asked ((addr, key) ∷ []) (a, k) (0, omega arith, λ x. (s.0 x, s.1 x))))
+        given)
+        (λ c. inr c)
+        (m.needed a k (inl x))
+
+-- ---- the walk along a frame
+
+pub record FrameWalk (rom : Rom) (words : List ℕ) (old done : List Entry) (at : ℕ) (scale : Key) : Type 0 where
+  pub is_done : IsDone rom done
+  pub grows : Extends old done
+  pub items : List Item
+  pub leads : LeadsTo Frame (frame_word words) 0 items at
+  pub keyed : AllKeyed done items
+  pub scale_is : scale ≡ scale_before (frame_context done) items
+  pub is_key : IsKey scale
+  pub near : at ≤ ADDRESS_END + 2
+  pub calls : List (ℕ × Key)
+  pub calls_are : (to : ℕ) (key : Key) → Contains calls (to, key) → KeyedCall words done to key
+  pub collected : (asked : List (ℕ × Key)) → Collected rom asked old → Collected rom (asked ++ calls) done
+  pub forced : (list : List Entry) → AllMade rom list → Extends old list → HasCalls words list → Extends done list
+
+pub starts : (rom : Rom) (words : List ℕ) (done : List Entry) → IsDone rom done → FrameWalk rom words done done 0 Any
+starts rom words done h =
+    record {
+      is_done = h;
+      grows = λ a k e q. q;
+      items = [];
+      leads = refl;
+      keyed = tt;
+      scale_is = refl;
+      is_key = tt;
+      near = omega arith;
+      calls = [];
+      calls_are = λ to key c. absurd (omega (arith, c.1));
+      collected = λ asked c. subst (λ a. Collected rom a done) (sym (append-nil asked)) c;
+      forced = λ list all ext has. ext;
+    }
+
+module _ (rom : Rom) (words : List ℕ) (old done : List Entry) (at : ℕ) (scale : Key) (w : FrameWalk rom words old done at scale) (format : Format) (instr : Instr) (is : cell_at (frame_word words) at ≡ Holds format instr) where
+  abbrev item : Item
+  item = record { at = at; format = format; instr = instr }
+
+  module _ (to : ℕ) (t : target Frame instr ≡ Some to) where
+    -- the call by a list that has the entries so far
+    called_by : (list : List Entry) → Extends done list → KeyedCall words list to scale
+    called_by list ext =
+        record {
+          calls = record { earlier = w.items; item = item; leads = w.leads; stands = is; target_is = t; scale_is = sym (scale_same done list ext w.items w.keyed) ∙ sym w.scale_is };
+          keyed = keyed_grows done list ext w.items w.keyed;
+        }
+
+    pub call_made : (new : List Entry) → Making rom done (to, scale) new [] → HasEntry new to scale → FrameWalk rom words old new at scale
+    call_made new m has =
+        record {
+          is_done = m.is_done;
+          grows = λ a k e q. m.extends a k e (w.grows a k e q);
+          items = w.items;
+          leads = w.leads;
+          keyed = keyed_grows done new m.extends w.items w.keyed;
+          scale_is = w.scale_is ∙ scale_same done new m.extends w.items w.keyed;
+          is_key = w.is_key;
+          near = w.near;
+          calls = w.calls ++ (to, scale) ∷ [];
+          calls_are = λ a k c. ⊎_elim (λ x. call_grows words done new m.extends a k (w.calls_are a k x)) (λ x. subst (λ (r : ℕ × Key). KeyedCall words new r.0 r.1) (in_one (to, scale) (a, k) x) (called_by new m.extends)) (in_either w.calls ((to, scale) ∷ []) (a, k) c);
+          collected = λ asked c. subst (λ a. Collected rom a new) (append_assoc asked w.calls ((to, scale) ∷ [])) (collected_more rom (asked ++ w.calls) done new to scale (w.collected asked c) m has);
+          forced = λ list all ext has_calls. let e = w.forced list all ext has_calls in (m.forced list (record { all = all; extends = e; has = has_calls to scale (called_by list e).calls })).0;
+        }
+
+    -- ---- the entry is not made
+
+    stops : (why : EntryFault) → BarsEntry rom to scale why → StopsAt rom words at why
+    stops why b =
+        record {
+          list = done;
+          made = done_made rom done w.is_done;
+          to = to;
+          scale = scale;
+          calls = record { earlier = w.items; item = item; leads = w.leads; stands = is; target_is = t; scale_is = sym w.scale_is };
+          at_is = refl;
+          before = w.keyed;
+          barred = b;
+        }
+
+    module _ (no : NoAim rom done (to, scale)) where
+      none_has : NoneHasCalls rom words old
+      none_has list all ext has_calls = let e = w.forced list all ext has_calls in no list (record { all = all; extends = e; has = has_calls to scale (called_by list e).calls })
+
+      entry_barred : Barred rom to scale
+      entry_barred list all has =
+          let mine = done_made rom done w.is_done in
+          no (done ++ list) (record { all = all_merged rom done list mine all; extends = extends_more done list; has = (has.0, extends_second rom done list mine all to scale has.0 has.1) })
+
+      none_accepts : NoneAccepts rom words
+      none_accepts v mode list budget count depth a =
+          let up = upheld rom list v a.certificate (in_bound v rom list mode a.good) in
+          let cover = frame_cover rom list up words v budget a.frame.keeps done (done_made rom done w.is_done) w.items item w.leads is w.keyed to t in
+          let key : Key = scale_before (frame_context done) w.items in
+          let b = better rom list up cover.0 cover.1 key cover.2.key in
+          entry_barred b.list b.all (b.f, subst (λ (k : Key). entry_at b.list to k ≡ Some b.f) (sym w.scale_is) (subst (λ a. entry_at b.list a key ≡ Some b.f) cover.2.addr b.found_it))
+
+    too_many : ((made : List Entry) → IsAim rom done (to, scale) made → MOST_ENTRIES < length made) → LongHasCalls rom words old
+    too_many long list all ext has_calls = let e = w.forced list all ext has_calls in long list (record { all = all; extends = e; has = has_calls to scale (called_by list e).calls })
+
+    pub call_barred : (why : EntryFault) → Bars rom done (to, scale) why → BarsHere rom words old at why
+    call_barred (Unstraight word) b = (none_has b, stops (Unstraight word) (entry_barred b), none_accepts b)
+    call_barred Deep b = (none_has b, stops Deep (entry_barred b), none_accepts b)
+    call_barred TooManyWords b = (none_has b, stops TooManyWords (entry_barred b), none_accepts b)
+    call_barred TooManyEntries b = (too_many b, stops TooManyEntries tt, tt)
+    call_barred Memory b = (tt, stops Memory tt, tt)
+
+  -- ---- past the item
+
+  -- its entry is made, if it calls one
+  record Called (new : List Entry) (callee : Option Entry) : Type 0 where
+    walk : FrameWalk rom words old new at scale
+    its : IsKeyed new walk.items item
+    callee_is : callee ≡ callee_at new (target Frame instr) (scale_before (frame_context new) walk.items)
+    claim : IfSome callee IsClaim
+
+  called_none : target Frame instr ≡ None → Called done None
+  called_none t = record { walk = w; its = λ to q. let no : None ≡ Some to = sym t ∙ q in cc no; callee_is = sym (ap (λ o. callee_at done o (scale_before (frame_context done) w.items)) t); claim = tt }
+
+  called_some : (last : rom.map.rom_last < ADDRESS_END) (to : ℕ) → target Frame instr ≡ Some to → (new : List Entry) (f : Entry) → Making rom done (to, scale) new [] → entry_at new to scale ≡ Some f → Called new (Some f)
+  called_some last to t new f m found_f =
+      let walk = call_made to t new m (f, found_f) in
+      let there : entry_at new to (scale_before (frame_context new) walk.items) ≡ Some f = subst (λ (k : Key). entry_at new to k ≡ Some f) walk.scale_is found_f in
+      let entry = m.is_done.entries f (listed_at new to scale f found_f).listed in
+      record {
+        walk = walk;
+        its = λ other q. (f, ap (λ o. entry_at new o (scale_before (frame_context new) walk.items)) (some_same other to (sym q ∙ t)) ∙ there);
+        callee_is = sym (ap (λ o. callee_at new o (scale_before (frame_context new) walk.items)) t ∙ exact_named new to (scale_before (frame_context new) walk.items) f there);
+        claim = record { key = entry.key; stop = entry.stop; lit = entry.lit; depth = entry.depth; words = entry.words_high; scale = entry.scale; addr = omega (arith, entry.addr_high, last) };
+      }
+    where
+      some_same : (x y : ℕ) → Some x ≡ Some y → x ≡ y
+      some_same x y q = cc q
+
+  called : rom.map.rom_last < ADDRESS_END → (new : List Entry) (callee : Option Entry) → IsCalledBy rom done instr scale new callee → Called new callee
+  called last new callee c = by_target (target Frame instr) refl
+    where
+      by_target : (o : Option ℕ) → target Frame instr ≡ o → Called new callee
+      by_target None t = let e = c.none t in subst (λ d. Called d callee) (sym e.0) (subst (λ o. Called done o) (sym e.1) (called_none t))
+      by_target (Some to) t = let m = c.some to t in subst (λ o. Called new o) (sym (m.2 ∙ m.1.1)) (called_some last to t new m.1.0 m.0 m.1.1)
+
+  module _ (last : rom.map.rom_last < ADDRESS_END) (new : List Entry) (callee : Option Entry) (c : IsCalledBy rom done instr scale new callee) where
+    pub callee_claim : IfSome callee IsClaim
+    callee_claim = (called last new callee c).claim
+
+    pub goes_on : (past : Key) → past ≡ unwrap_or (scale_set instr callee) scale → IsKey past → at < ADDRESS_END → InstrFits instr → (next : ℕ) → next_place Frame item ≡ Some next → FrameWalk rom words old new next past
+    goes_on past past_is key near fits next goes =
+        let h = called last new callee c in
+        let list_scale : scale ≡ scale_before (frame_context new) h.walk.items = h.walk.scale_is in
+        record {
+          is_done = h.walk.is_done;
+          grows = h.walk.grows;
+          items = item ∷ h.walk.items;
+          leads = (h.walk.leads, is, goes);
+          keyed = (h.walk.keyed, h.its);
+          scale_is = past_is ∙ ap (λ o. unwrap_or (scale_set instr o) scale) h.callee_is ∙ ap (λ (k : Key). unwrap_or (scale_set instr (callee_at new (target Frame instr) (scale_before (frame_context new) h.walk.items))) k) list_scale;
+          is_key = key;
+          near = next_near Frame at format instr next near fits goes;
+          calls = h.walk.calls;
+          calls_are = h.walk.calls_are;
+          collected = h.walk.collected;
+          forced = h.walk.forced;
+        }
+
+    pub at_last : next_place Frame item ≡ None → IsFramed rom words old new
+    at_last ends =
+        let h = called last new callee c in
+        record {
+          has_calls = ends_last words new h.walk.items item h.walk.leads is ends (h.walk.keyed, h.its);
+          calls = h.walk.calls;
+          calls_are = λ to key x. (h.walk.calls_are to key x).calls;
+          collected = h.walk.collected;
+          forced = h.walk.forced;
+        }
+
+    pub all_grow : Extends old new
+    all_grow = (called last new callee c).walk.grows
+
+pub at_nothing : (rom : Rom) (words : List ℕ) (old done : List Entry) (at : ℕ) (scale : Key) → FrameWalk rom words old done at scale → ((format : Format) (instr : Instr) → cell_at (frame_word words) at ≡ Holds format instr → ⊥) → IsFramed rom words old done
+at_nothing rom words old done at scale w not =
+    record {
+      has_calls = ends_nowhere words done w.items at w.leads w.keyed not;
+      calls = w.calls;
+      calls_are = λ to key x. (w.calls_are to key x).calls;
+      collected = w.collected;
+      forced = w.forced;
+    }
+
+pub target_barred : (rom : Rom) (words : List ℕ) (old done : List Entry) (at : ℕ) (scale : Key) → FrameWalk rom words old done at scale → (format : Format) (instr : Instr) → cell_at (frame_word words) at ≡ Holds format instr → (why : EntryFault) → BarsTarget rom done instr scale why → BarsHere rom words old at why
+target_barred rom words old done at scale w format instr is why b = call_barred rom words old done at scale w format instr is b.0 b.1 why b.2
+
+pub target_near : (i : Instr) (to : ℕ) → InstrFits i → target Frame i ≡ Some to → to < ADDRESS_END
+target_near (Draws d) to f e = cc
+target_near (Labs x y g) to f e = cc
+target_near Halt to f e = cc
+target_near (Jsrl t) to f e = let q : t ≡ to = cc in omega (arith, q, f)
+target_near Rtsl to f e = cc
+target_near (Jmpl t) to f e = cc

@@ -1,0 +1,40 @@
+-- Two lists of made entries are one such list.
+use Rattle.std.proofs.Common.{◌≡◌, ℕ, zero, suc, List, [], ◌∷◌, ◌++◌, Option, Some, None, refl, ap, ◌∙◌, arith, ◌⊎◌, inl, inr, ⊎_elim}
+use Rattle.std.specs.Prelude.{Contains}
+use Rattle.std.specs.Option.{option_or}
+use Rattle.dvg_words.specs.Memory.{Rom}
+use Rattle.dvg_cert.specs.Lookup.{entry_at}
+use Rattle.dvg_cert.specs.declared.entry.Entry.{Entry}
+use Rattle.dvg_cert.specs.declared.entry.Key.{Key}
+use Rattle.dvg_make.specs.Private.Walking.{Extends}
+use Rattle.dvg_make.specs.Made.{IsMade, AllMade}
+use Rattle.dvg_make.proofs.Matching.{entry_at-append}
+use Rattle.dvg_make.proofs.Agreeing.{agree}
+use Rattle.dvg_make.proofs.Growing.{made_grows}
+
+pub extends_more : (done more : List Entry) → Extends done (done ++ more)
+extends_more done more addr key f e = entry_at-append done more addr key ∙ ap (λ o. option_or o (entry_at more addr key)) e
+
+pub listed_append : (a b : List Entry) (x : Entry) → Contains (a ++ b) x → Contains a x ⊎ Contains b x
+listed_append [] b x c = inr c
+listed_append (y ∷ a) b x (zero, lt, is) = inl (zero, omega arith, is)
+listed_append (y ∷ a) b x (suc k, lt, is) = ⊎_elim (λ c. inl (suc c.0, omega (arith, c.1), c.2)) (λ c. inr c) (listed_append a b x (k, omega (arith, lt), is))
+
+-- a made entry is one in each list that has more
+pub is_made_grows : (rom : Rom) (a b : List Entry) (e : Entry) → Extends a b → IsMade rom a e → IsMade rom b e
+is_made_grows rom a b e ext h = record { made = made_grows rom a b e ext h.made; words = h.words; depth = h.depth }
+
+module _ (rom : Rom) (a b : List Entry) (all_a : AllMade rom a) (all_b : AllMade rom b) where
+  pub same_found : (addr : ℕ) (key : Key) (e f : Entry) → entry_at a addr key ≡ Some e → entry_at b addr key ≡ Some f → e ≡ f
+  same_found addr key e f p q = agree rom a b (λ x c. (all_a x c).made) (λ x c. (all_b x c).made) addr key e f p q
+
+  pub extends_second : Extends b (a ++ b)
+  extends_second addr key e q = by_found (entry_at a addr key) refl
+    where
+      by_found : (o : Option Entry) → entry_at a addr key ≡ o → entry_at (a ++ b) addr key ≡ Some e
+      by_found None p = entry_at-append a b addr key ∙ ap (λ z. option_or z (entry_at b addr key)) p ∙ q
+      by_found (Some g) p = entry_at-append a b addr key ∙ ap (λ z. option_or z (entry_at b addr key)) p ∙ ap Some (same_found addr key g e p q)
+
+  pub all_merged : AllMade rom (a ++ b)
+  all_merged e c =
+      ⊎_elim (λ h. is_made_grows rom a (a ++ b) e (extends_more a b) (all_a e h)) (λ h. is_made_grows rom b (a ++ b) e extends_second (all_b e h)) (listed_append a b e c)

@@ -1,0 +1,122 @@
+-- A frame judged by the certificate that is made for it.
+use Rattle.std.proofs.Common.{◌≡◌, ℕ, zero, suc, ◌≤◌, max, List, [], ◌∷◌, Option, Some, sym, subst, arith}
+use Rattle.std.specs.Prelude.{◌≢◌, slice_get, Ok, Err, IfSome}
+use Rattle.dvg_words.specs.Decoding.{cell_at}
+use Rattle.dvg_words.specs.Memory.{Rom, frame_word}
+use Rattle.dvg_words.specs.Values.{Window}
+use Rattle.dvg_words.specs.declared.instruction.Cell.{Cell}
+use Rattle.dvg_words.specs.declared.instruction.Cell.TheVariants.{Missing, Odd, Holds}
+use Rattle.dvg_cert.specs.declared.entry.Entry.{Entry}
+use Rattle.dvg_items.specs.Known.{frame_context}
+use Rattle.dvg_items.specs.Seen.{seen_at}
+use Rattle.dvg_items.specs.declared.item.Item.{Item}
+use Rattle.dvg_items.specs.declared.seen.Seen.{Seen}
+use Rattle.dvg_check.specs.Rules.{FrameKeeps, CellKeeps, GoodFrame}
+use Rattle.dvg_check.specs.Verdict.{PartsVerdict}
+use Rattle.dvg_check.specs.declared.verdict.Yes.{Yes}
+use Rattle.dvg_check.specs.declared.fault.Mode.TheVariants.{Exact}
+use Rattle.dvg_check.specs.declared.fault.FrameWhy.{FrameWhy}
+use Rattle.dvg_check.specs.declared.fault.FrameWhy.TheVariants as frame
+use Rattle.dvg_check.specs.declared.verdict.Refusal.{Refusal}
+use Rattle.dvg_check.specs.declared.verdict.Refusal.TheVariants as refusal
+use Rattle.dvg_check.proofs.Faults.{no_fault, no_shape_fault, one_count}
+use Rattle.dvg_make.specs.Frames.{FrameMade}
+use Rattle.dvg_make.specs.Refusals.{EntryFault, Unstraight, Deep, TooManyWords, TooManyEntries, Memory, FrameCall, FramesFault, FramesRefuse, BarsList, BarsFrame, StopsAt}
+use Rattle.dvg_make.specs.Judging.{FrameVerdict, AreLeast, CheckMeans, FrameRefused, FrameRefusal, Make, NoMemory, Check}
+use Rattle.dvg_make.specs.Private.Framing.{MeansOne}
+use Rattle.dvg_make.proofs.FrameBest.{none_better}
+
+-- ---- budgets
+
+raised_rule : (w : Window) (a b : ℕ) (v : Seen) (why : FrameWhy) → a ≤ b → FrameKeeps w a v why → FrameKeeps w b v why
+raised_rule w a b v frame.Unmapped le h = h
+raised_rule w a b v frame.Odd le h = h
+raised_rule w a b v frame.ReturnInFrame le h = h
+raised_rule w a b v frame.BackJump le h = h
+raised_rule w a b v frame.BeamUnknown le h = h
+raised_rule w a b v frame.ScaleUnknown le h = h
+raised_rule w a b v frame.OffScreen le h = h
+raised_rule w a b v frame.NoEntry le h = h
+raised_rule w a b v frame.Budget le h = omega (arith, h, le)
+
+module _ (w : Window) (words : List ℕ) (list : List Entry) where
+  abbrev Kept : ℕ → List Item → ℕ → FrameWhy → Cell → Type 0
+  Kept budget earlier p why cell = CellKeeps frame.Unmapped frame.Odd (λ i. FrameKeeps w budget (seen_at (frame_context list) earlier i)) p cell why
+
+  raised_cell : (a b : ℕ) (earlier : List Item) (p : ℕ) (why : FrameWhy) (cell : Cell) → a ≤ b → Kept a earlier p why cell → Kept b earlier p why cell
+  raised_cell a b earlier p why Missing le h = h
+  raised_cell a b earlier p why Odd le h = h
+  raised_cell a b earlier p why (Holds format i) le h = raised_rule w a b (seen_at (frame_context list) earlier (record { at = p; format = format; instr = i })) why le h
+
+  -- a frame that is good within a budget is so within each greater one
+  raised : (a b count depth : ℕ) → a ≤ b → GoodFrame w words list a count depth → GoodFrame w words list b count depth
+  raised a b count depth le g =
+      record {
+        keeps = λ earlier p lead why. raised_cell a b earlier p why (cell_at (frame_word words) p) le (g.keeps earlier p lead why);
+        items = g.items;
+        at = g.at;
+        format = g.format;
+        leads = g.leads;
+        halts = g.halts;
+        count_is = g.count_is;
+        depth_is = g.depth_is;
+      }
+
+-- ---- the verdict
+
+module _ (rom : Rom) (words : List ℕ) (w : Window) (budget : ℕ) (made : List Entry) (m : FrameMade rom words made) where
+  -- the counts by the made certificate are the least
+  pub judged_least : (y : Yes) → PartsVerdict Exact w rom made words budget (Ok y) → AreLeast rom words w y.words y.depth
+  judged_least y v mode list b n d a =
+      let best = none_better rom words w mode list made b n d a m in
+      let here = raised w words made budget (max budget b) y.words y.depth (omega arith) v.1 in
+      let there = raised w words made b (max budget b) best.0 best.1 (omega arith) best.4.frame in
+      let same = one_count w words made (max budget b) y.words y.depth best.0 best.1 here there in
+      (omega (arith, same.count_is, best.2), omega (arith, same.depth_is, best.3))
+
+  pub judged_refused : (r : Refusal) → PartsVerdict Exact w rom made words budget (Err r) → CheckMeans rom words w budget r
+  judged_refused (refusal.Image f) v = absurd v
+  judged_refused refusal.BudgetRange v = absurd v
+  judged_refused (refusal.Cert f) v = absurd v
+  judged_refused refusal.IndexMemory v = tt
+  judged_refused (refusal.Shape f) v = λ mode list b n d le a. no_shape_fault Exact w rom made f (none_better rom words w mode list made b n d a m).4.good v
+  judged_refused (refusal.Frame f) v = λ mode list b n d le a.
+      let best = none_better rom words w mode list made b n d a m in
+      no_fault w words made budget best.0 best.1 f (raised w words made b budget best.0 best.1 le best.4.frame) v.1
+
+-- what the fault of the maker means, of one frame
+only_frame : (words other : List ℕ) (i : ℕ) → slice_get (words ∷ []) i ≡ Some other → words ≡ other
+only_frame words other zero e = cc e
+only_frame words other (suc i) e = cc e
+
+record Here (rom : Rom) (words : List ℕ) (at : ℕ) (why : EntryFault) : Type 0 where
+  stops : StopsAt rom words at why
+  bars : BarsFrame rom words why
+
+here : (rom : Rom) (words : List ℕ) (fault : FramesFault) (at : ℕ) (why : EntryFault) → FramesRefuse rom [] (words ∷ []) fault → MeansOne fault (Make at why) → Here rom words at why
+here rom words fault at why h e =
+    let call : FrameCall = e.2.0 in
+    let f = subst (λ (o : Option FrameCall). IfSome o (λ call. (other : List ℕ) × (slice_get (words ∷ []) call.frame ≡ Some other) × StopsAt rom other call.at fault.why × BarsFrame rom other fault.why)) e.2.1 h.frame in
+    let same = sym (only_frame words f.0 call.frame f.1) in
+    record {
+      stops = subst (λ x. StopsAt rom words at x) e.0 (subst (λ n. StopsAt rom words n fault.why) e.2.2 (subst (λ x. StopsAt rom x call.at fault.why) same f.2));
+      bars = subst (λ x. BarsFrame rom words x) e.0 (subst (λ x. BarsFrame rom x fault.why) same f.3);
+    }
+
+no_memory : (rom : Rom) (words : List ℕ) (w : Window) (budget at : ℕ) (why : EntryFault) → why ≢ Memory → BarsList rom [] (words ∷ []) why × BarsFrame rom words why → FrameRefused rom words w budget (Make at why)
+no_memory rom words w budget at (Unstraight word) not h = h
+no_memory rom words w budget at Deep not h = h
+no_memory rom words w budget at TooManyWords not h = h
+no_memory rom words w budget at TooManyEntries not h = h
+no_memory rom words w budget at Memory not h = absurd (not (λ i. Memory))
+
+pub made_refused : (rom : Rom) (words : List ℕ) (w : Window) (budget : ℕ) (fault : FramesFault) (r : FrameRefusal) → FramesRefuse rom [] (words ∷ []) fault → MeansOne fault r → FrameRefused rom words w budget r
+made_refused rom words w budget fault (Make at why) h e =
+    no_memory rom words w budget at why e.1 (subst (BarsList rom [] (words ∷ [])) e.0 h.list, (here rom words fault at why h e).bars)
+made_refused rom words w budget fault NoMemory h e = tt
+made_refused rom words w budget fault (Check r) h e = absurd e
+
+pub made_verdict : (rom : Rom) (words : List ℕ) (w : Window) (budget : ℕ) (fault : FramesFault) (r : FrameRefusal) → FramesRefuse rom [] (words ∷ []) fault → MeansOne fault r → FrameVerdict rom words w budget (Err r)
+made_verdict rom words w budget fault (Make at why) h e = (here rom words fault at why h e).stops
+made_verdict rom words w budget fault NoMemory h e = tt
+made_verdict rom words w budget fault (Check r) h e = absurd e

@@ -1,0 +1,425 @@
+-- What the maker makes has only small numbers: a word moves the beam by 1023 * 1024 at most.
+use Rattle.std.proofs.Common.{◌≡◌, ℕ, ℤ, pos, negsuc, neg_ℤ, zero, suc, ◌+◌, ◌-◌, ◌*◌, ◌/◌, ◌%◌, ◌^◌, ◌<◌, ◌≤◌, nat_le, List, [], ◌∷◌, Bool, true, false, Option, Some, None, refl, sym, ap, ◌∙◌, subst, arith}
+use Rattle.std.proofs.Math.IntN.{pos-*ℤ-pos, negsuc-*ℤ-pos}
+use Rattle.std.proofs.Math.Pow.{pow_mono}
+use Rattle.std.proofs.lemmas.Bool.Decides.{nat_tests}
+use Rattle.std.proofs.lemmas.Int.{ints}
+use Rattle.std.proofs.lemmas.Nat.{mul-le}
+use Rattle.std.specs.List.{AllByRecursion}
+use Rattle.std.specs.Prelude.{Contains, IfSome, ◌≤ℤ◌, ◌*ℤ◌, ◌==◌, ◌&&◌, if◌then◌else◌, slice_get}
+use Rattle.dvg_words.specs.Beam.{origin, shift, effective_scale, factor, displacement, labs_place, IsWithin}
+use Rattle.dvg_words.specs.Decoding.{opcode, target_of, is_plain_labs, magnitude_and_sign, vctr_draw, svec_draw, instruction_of, word_count, format_of, cell_holding, cell_of_words, cell_of_format, cell_at}
+use Rattle.dvg_words.specs.Memory.{Rom, rom_word}
+use Rattle.dvg_words.specs.Values.{DrawFields}
+use Rattle.dvg_words.specs.declared.beam.Point.{Point}
+use Rattle.dvg_words.specs.declared.instruction.Cell.{Cell}
+use Rattle.dvg_words.specs.declared.instruction.Cell.TheVariants.{Holds}
+use Rattle.dvg_words.specs.declared.instruction.Format.{Format}
+use Rattle.dvg_words.specs.declared.instruction.Format.TheVariants.{Short, Long}
+use Rattle.dvg_words.specs.declared.instruction.Instr.{Instr}
+use Rattle.dvg_words.specs.declared.instruction.Instr.TheVariants.{Draw as Draws, Labs, Halt, Jsrl, Rtsl, Jmpl}
+use Rattle.dvg_cert.specs.Entry.{IsKey, IsEnd, IsBox, IsEntry}
+use Rattle.dvg_cert.specs.Lookup.{entry_at}
+use Rattle.dvg_cert.specs.declared.entry.End.{End}
+use Rattle.dvg_cert.specs.declared.entry.End.TheVariants.{Rel, Abs, Lost}
+use Rattle.dvg_cert.specs.declared.entry.Entry.{Entry}
+use Rattle.dvg_cert.specs.declared.entry.Key.{Key}
+use Rattle.dvg_cert.specs.declared.entry.Key.TheVariants.{At, Any}
+use Rattle.dvg_cert.specs.declared.entry.LitBox.{LitBox}
+use Rattle.dvg_cert.specs.declared.entry.LitBox.TheVariants.{Empty, Span}
+use Rattle.dvg_cert.specs.declared.limits.TheConstants.{MOST_DEPTH, MOST_WORDS}
+use Rattle.dvg_items.specs.Items.{LeadsTo}
+use Rattle.dvg_items.specs.Known.{Context, shape_context, target, callee_at, callee, callee_words, draw_effect, stop_effect, callee_effect, effect_of, place_moved_by, place_past, scale_before, place_before, words_before, depth_before, known_before}
+use Rattle.dvg_items.specs.Lit.{InBox, IsInside, draw_extent, box_extent, callee_extent, extent_of, relative_corners}
+use Rattle.dvg_items.specs.Seen.{extent}
+use Rattle.dvg_items.specs.declared.item.Item.{Item}
+use Rattle.dvg_items.specs.declared.item.Kind.TheVariants.{Shape}
+use Rattle.dvg_items.specs.declared.known.Effect.{Effect}
+use Rattle.dvg_items.specs.declared.known.Effect.TheVariants.{Sets, Loses, Moves}
+use Rattle.dvg_items.specs.declared.known.Known.{Known}
+use Rattle.dvg_items.specs.declared.lit.LitExtent.{LitExtent}
+use Rattle.dvg_items.specs.declared.lit.LitExtent.TheVariants.{Nothing, Between, Anywhere}
+use Rattle.dvg_items.proofs.Listed.{listed_at}
+use Rattle.dvg_items.proofs.Lists.{all_append, all_map}
+use Rattle.dvg_items.proofs.Near.{word_count-some}
+use Rattle.dvg_make.specs.Least.{lit_points, IsLeast}
+use Rattle.dvg_make.specs.Made.{HasEntry, MadeEntry}
+use Rattle.dvg_make.specs.Private.Walking.{keyed_context, entry_of, AllFine}
+use Rattle.dvg_make.proofs.Matching.{exact_named}
+use Rattle.dvg_make.proofs.Ends.{callee_less, made_ends}
+
+-- ---- points, places and boxes
+
+-- so many words move the place no further than this
+abbrev IsSmall : ℕ → Point → Type 0
+IsSmall n p = IsWithin (1047552 * n) p
+
+abbrev IsSmallPlace : ℕ → End → Type 0
+IsSmallPlace n (Rel x y) = IsSmall n (record { x = x; y = y })
+IsSmallPlace n (Abs x y) = IsSmall n (record { x = x; y = y })
+IsSmallPlace n Lost = Unit {0}
+
+abbrev IsSmallBox : ℕ → LitBox → Type 0
+IsSmallBox n Empty = Unit {0}
+IsSmallBox n (Span x_min x_max y_min y_max) = IsSmall n (record { x = x_min; y = y_min }) × IsSmall n (record { x = x_max; y = y_max })
+
+abbrev IsSmallEffect : ℕ → Effect → Type 0
+IsSmallEffect n (Sets p) = IsSmall n p
+IsSmallEffect n Loses = Unit {0}
+IsSmallEffect n (Moves d) = IsSmall n d
+
+abbrev IsSmallExtent : ℕ → LitExtent → Type 0
+IsSmallExtent n Nothing = Unit {0}
+IsSmallExtent n (Between a b) = IsSmall n a × IsSmall n b
+IsSmallExtent n Anywhere = Unit {0}
+
+-- the numbers of an entry are small for its words
+record IsSmallEntry (e : Entry) : Type 0 where
+  stop : IsSmallPlace e.words e.stop
+  lit : IsSmallBox e.words e.lit
+
+small_origin : (n : ℕ) → IsSmall n origin
+small_origin n = record { left = omega (arith, ints); right = omega (arith, ints); down = omega (arith, ints); up = omega (arith, ints) }
+
+small_more : (m n : ℕ) (p : Point) → m ≤ n → IsSmall m p → IsSmall n p
+small_more m n p le h =
+    record { left = omega (arith, ints, h.left, le); right = omega (arith, ints, h.right, le); down = omega (arith, ints, h.down, le); up = omega (arith, ints, h.up, le) }
+
+small_shift : (m n : ℕ) (p d : Point) → IsSmall m p → IsSmall n d → IsSmall (n + m) (shift p d)
+small_shift m n p d h k =
+    record { left = omega (arith, ints, h.left, k.left); right = omega (arith, ints, h.right, k.right); down = omega (arith, ints, h.down, k.down); up = omega (arith, ints, h.up, k.up) }
+
+effect_more : (m n : ℕ) (e : Effect) → m ≤ n → IsSmallEffect m e → IsSmallEffect n e
+effect_more m n (Sets p) le h = small_more m n p le h
+effect_more m n Loses le h = tt
+effect_more m n (Moves d) le h = small_more m n d le h
+
+extent_more : (m n : ℕ) (lit : LitExtent) → m ≤ n → IsSmallExtent m lit → IsSmallExtent n lit
+extent_more m n Nothing le h = tt
+extent_more m n (Between a b) le h = (small_more m n a le h.0, small_more m n b le h.1)
+extent_more m n Anywhere le h = tt
+
+small_moved : (m n : ℕ) (place : End) (d : Point) → IsSmallPlace m place → IsSmall n d → IsSmallPlace (n + m) (place_moved_by place d)
+small_moved m n (Rel x y) d h k = small_shift m n (record { x = x; y = y }) d h k
+small_moved m n (Abs x y) d h k = small_shift m n (record { x = x; y = y }) d h k
+small_moved m n Lost d h k = tt
+
+small_past : (m n : ℕ) (place : End) (e : Effect) → IsSmallPlace m place → IsSmallEffect n e → IsSmallPlace (n + m) (place_past e place)
+small_past m n place (Sets p) h k = small_more n (n + m) p (omega arith) k
+small_past m n place Loses h k = tt
+small_past m n place (Moves d) h k = small_moved m n place d h k
+
+small_corners : (m n : ℕ) (lit : LitExtent) (place : End) → IsSmallPlace m place → IsSmallExtent n lit → AllByRecursion (IsSmall (n + m)) (relative_corners lit place)
+small_corners m n Nothing (Rel x y) h k = tt
+small_corners m n (Between a b) (Rel x y) h k = (small_shift m n (record { x = x; y = y }) a h k.0, (small_shift m n (record { x = x; y = y }) b h k.1, tt))
+small_corners m n Anywhere (Rel x y) h k = tt
+small_corners m n lit (Abs x y) h k = tt
+small_corners m n lit Lost h k = tt
+
+-- ---- what an instruction says
+
+-- its sizes are ten bits and a sign, and its screen places ten bits
+record IsSmallSize (z : ℤ) : Type 0 where
+  low : neg_ℤ (pos 1023) ≤ℤ z
+  high : z ≤ℤ pos 1023
+
+abbrev IsSmallInstr : Instr → Type 0
+IsSmallInstr (Draws d) = IsSmallSize d.dx × IsSmallSize d.dy
+IsSmallInstr (Labs x y g) = (x ≤ 1023) × (y ≤ 1023)
+IsSmallInstr i = Unit {0}
+
+small_size : (sign magnitude : ℕ) → magnitude ≤ 1023 → IsSmallSize (magnitude_and_sign sign magnitude)
+small_size sign magnitude le = by_test (sign == 1)
+  where
+    by_test : (b : Bool) → IsSmallSize (if b then neg_ℤ (pos magnitude) else pos magnitude)
+    by_test true = record { low = omega (arith, ints, le); high = omega (arith, ints, le) }
+    by_test false = record { low = omega (arith, ints, le); high = omega (arith, ints, le) }
+
+by_opcode : (a b c d e f z : Bool) (v s : DrawFields) (x y g t : ℕ) → IsSmallInstr (Draws v) → IsSmallInstr (Draws s) → IsSmallInstr (Labs x y g) → IfSome (if a then Some (Draws v) else if b then (if z then Some (Labs x y g) else None) else if c then Some Halt else if d then Some (Jsrl t) else if e then Some Rtsl else if f then Some (Jmpl t) else Some (Draws s)) IsSmallInstr
+by_opcode true b c d e f z v s x y g t h k l = h
+by_opcode false true c d e f true v s x y g t h k l = l
+by_opcode false true c d e f false v s x y g t h k l = tt
+by_opcode false false true d e f z v s x y g t h k l = tt
+by_opcode false false false true e f z v s x y g t h k l = tt
+by_opcode false false false false true f z v s x y g t h k l = tt
+by_opcode false false false false false true z v s x y g t h k l = tt
+by_opcode false false false false false false z v s x y g t h k l = k
+
+small_instr : (first second : ℕ) → IfSome (instruction_of first second) IsSmallInstr
+unfolding instruction_of
+small_instr first second =
+    by_opcode (nat_le (opcode first) 9) (opcode first == 10) (opcode first == 11) (opcode first == 12) (opcode first == 13) (opcode first == 14) (is_plain_labs first second) (vctr_draw first second) (svec_draw first) (second % 1024) (first % 1024) (opcode second) (target_of first)
+    (small_size (second / 1024 % 2) (second % 1024) (omega arith), small_size (first / 1024 % 2) (first % 1024) (omega arith))
+    (small_size (first / 4 % 2) (256 * (first % 4)) (omega arith), small_size (first / 1024 % 2) (256 * (first / 256 % 4)) (omega arith))
+    (omega arith, omega arith)
+
+abbrev IsSmallCell : Cell → Type 0
+IsSmallCell (Holds format i) = IsSmallInstr i
+IsSmallCell cell = Unit {0}
+
+small_holding : (format : Format) (o : Option Instr) → IfSome o IsSmallInstr → IsSmallCell (cell_holding format o)
+small_holding format None h = tt
+small_holding format (Some i) h = h
+
+small_cell : (word : ℕ → Option ℕ) (p : ℕ) → IsSmallCell (cell_at word p)
+unfolding cell_at
+small_cell word p = by_words (word p) (word (p + 1))
+  where
+    by_format : (format : Format) (first : ℕ) (o : Option ℕ) → IsSmallCell (cell_of_format format first o)
+    by_format Short first o = small_holding Short (instruction_of first 0) (small_instr first 0)
+    by_format Long first None = tt
+    by_format Long first (Some second) = small_holding Long (instruction_of first second) (small_instr first second)
+
+    by_words : (a b : Option ℕ) → IsSmallCell (cell_of_words a b)
+    by_words None b = tt
+    by_words (Some first) b = by_format (format_of first) first b
+
+small_held : (word : ℕ → Option ℕ) (i : Item) → cell_at word i.at ≡ Holds i.format i.instr → IsSmallInstr i.instr
+small_held word i is = subst IsSmallCell is (small_cell word i.at)
+
+-- ---- what an item does
+
+small_factor : (local global : ℕ) → factor local global ≤ 1024
+small_factor local global = by_test (nat_le (effective_scale local global) 9) refl
+  where
+    by_test : (b : Bool) → nat_le (effective_scale local global) 9 ≡ b → (if b then 2 ^ (effective_scale local global + 1) else 1) ≤ 1024
+    by_test true e = let le : effective_scale local global + 1 ≤ 10 = grind (arith, nat_tests) in pow_mono {i = effective_scale local global + 1} {j = 10} le
+    by_test false e = omega arith
+
+record IsSmallNumber (n : ℕ) (z : ℤ) : Type 0 where
+  low : neg_ℤ (pos (1047552 * n)) ≤ℤ z
+  high : z ≤ℤ pos (1047552 * n)
+
+small_product : (z : ℤ) (f : ℕ) → IsSmallSize z → f ≤ 1024 → IsSmallNumber 1 (z *ℤ pos f)
+small_product (pos a) f h le =
+    let m : a ≤ 1023 = omega (arith, ints, h.high) in
+    let p : a * f ≤ 1023 * 1024 = mul-le a f 1023 1024 m le in
+    subst (IsSmallNumber 1) (sym (pos-*ℤ-pos a f)) (record { low = omega (arith, ints, p); high = omega (arith, ints, p) })
+small_product (negsuc a) f h le =
+    let m : suc a ≤ 1023 = omega (arith, ints, h.low) in
+    let p : suc a * f ≤ 1023 * 1024 = mul-le (suc a) f 1023 1024 m le in
+    subst (IsSmallNumber 1) (sym (negsuc-*ℤ-pos a f)) (record { low = omega (arith, ints, p); high = omega (arith, ints, p) })
+
+small_displacement : (d : DrawFields) (g : ℕ) → IsSmallInstr (Draws d) → IsSmall 1 (displacement d g)
+unfolding displacement
+small_displacement d g h =
+    let x = small_product d.dx (factor d.lscale g) h.0 (small_factor d.lscale g) in
+    let y = small_product d.dy (factor d.lscale g) h.1 (small_factor d.lscale g) in
+    record { left = x.low; right = x.high; down = y.low; up = y.high }
+
+small_labs : (x y : ℕ) → x ≤ 1023 → y ≤ 1023 → IsSmall 1 (labs_place x y)
+small_labs x y h k = record { left = omega (arith, ints, h); right = omega (arith, ints, h); down = omega (arith, ints, k); up = omega (arith, ints, k) }
+
+small_draw : (d : DrawFields) (scale : Key) → IsSmallInstr (Draws d) → IsSmallEffect 1 (draw_effect d scale)
+small_draw d (At g) h = small_displacement d g h
+small_draw d Any h = tt
+
+small_drawn : (bright : ℕ) (d : DrawFields) (scale : Key) → IsSmallInstr (Draws d) → IsSmallExtent 1 (draw_extent bright d scale)
+small_drawn zero d scale h = tt
+small_drawn (suc n) d (At g) h = (small_origin 1, small_displacement d g h)
+small_drawn (suc n) d Any h = tt
+
+small_stop : (n : ℕ) (stop : End) → IsSmallPlace n stop → IsSmallEffect n (stop_effect stop)
+small_stop n (Rel x y) h = h
+small_stop n (Abs x y) h = h
+small_stop n Lost h = tt
+
+small_called : (o : Option Entry) → IfSome o IsSmallEntry → IsSmallEffect (callee_words o) (callee_effect o)
+small_called None h = small_origin 0
+small_called (Some e) h = small_stop e.words e.stop h.stop
+
+small_boxed : (n : ℕ) (box : LitBox) → IsSmallBox n box → IsSmallExtent n (box_extent box)
+small_boxed n Empty h = tt
+small_boxed n (Span a b c d) h = h
+
+small_shown : (o : Option Entry) → IfSome o IsSmallEntry → IsSmallExtent (callee_words o) (callee_extent o)
+small_shown None h = tt
+small_shown (Some e) h = small_boxed e.words e.lit h.lit
+
+small_effect : (n : ℕ) (i : Instr) (scale : Key) (o : Option Entry) → 1 ≤ n → IsSmallInstr i → IfSome o IsSmallEntry → IsSmallEffect (n + callee_words o) (effect_of i scale o)
+small_effect n (Draws d) scale o le h k = effect_more 1 (n + callee_words o) (draw_effect d scale) (omega (arith, le)) (small_draw d scale h)
+small_effect n (Labs x y g) scale o le h k = small_more 1 (n + callee_words o) (labs_place x y) (omega (arith, le)) (small_labs x y h.0 h.1)
+small_effect n Halt scale o le h k = small_origin (n + callee_words o)
+small_effect n Rtsl scale o le h k = small_origin (n + callee_words o)
+small_effect n (Jsrl to) scale o le h k = effect_more (callee_words o) (n + callee_words o) (callee_effect o) (omega arith) (small_called o k)
+small_effect n (Jmpl to) scale o le h k = effect_more (callee_words o) (n + callee_words o) (callee_effect o) (omega arith) (small_called o k)
+
+small_extent : (n : ℕ) (i : Instr) (scale : Key) (o : Option Entry) → 1 ≤ n → IsSmallInstr i → IfSome o IsSmallEntry → IsSmallExtent (n + callee_words o) (extent_of i scale o)
+small_extent n (Draws d) scale o le h k = extent_more 1 (n + callee_words o) (draw_extent d.bright d scale) (omega (arith, le)) (small_drawn d.bright d scale h)
+small_extent n (Labs x y g) scale o le h k = tt
+small_extent n Halt scale o le h k = tt
+small_extent n Rtsl scale o le h k = tt
+small_extent n (Jsrl to) scale o le h k = extent_more (callee_words o) (n + callee_words o) (callee_extent o) (omega arith) (small_shown o k)
+small_extent n (Jmpl to) scale o le h k = extent_more (callee_words o) (n + callee_words o) (callee_extent o) (omega arith) (small_shown o k)
+
+-- ---- along the items
+
+-- the fields of each item, and the entry that it calls, are small
+record IsSmallItem (c : Context) (earlier : List Item) (i : Item) : Type 0 where
+  fields : IsSmallInstr i.instr
+  callee : IfSome (callee c earlier i.instr) IsSmallEntry
+
+abbrev AllSmall : Context → List Item → Type 0
+AllSmall c [] = Unit {0}
+AllSmall c (i ∷ earlier) = AllSmall c earlier × IsSmallItem c earlier i
+
+module _ (list : List Entry) (key : Key) where
+  abbrev c : Context
+  c = keyed_context list key
+
+  place_small : (items : List Item) → AllSmall c items → IsSmallPlace (words_before c items) (place_before c items)
+  place_small [] h = small_origin 0
+  place_small (i ∷ earlier) h =
+      small_past (words_before c earlier) (word_count i.format + callee_words (callee c earlier i.instr)) (place_before c earlier) (effect_of i.instr (scale_before c earlier) (callee c earlier i.instr))
+      (place_small earlier h.0)
+      (small_effect (word_count i.format) i.instr (scale_before c earlier) (callee c earlier i.instr) (word_count-some i.format) h.1.fields h.1.callee)
+
+  points_small : (items : List Item) → AllSmall c items → AllByRecursion (IsSmall (words_before c items)) (lit_points c items)
+  points_small [] h = tt
+  points_small (i ∷ earlier) h =
+      all_append (IsSmall (words_before c (i ∷ earlier))) (relative_corners (extent c earlier i.instr) (place_before c earlier)) (lit_points c earlier)
+      (small_corners (words_before c earlier) (word_count i.format + callee_words (callee c earlier i.instr)) (extent c earlier i.instr) (place_before c earlier)
+      (place_small earlier h.0)
+      (small_extent (word_count i.format) i.instr (scale_before c earlier) (callee c earlier i.instr) (word_count-some i.format) h.1.fields h.1.callee))
+      (all_map (IsSmall (words_before c earlier)) (IsSmall (words_before c (i ∷ earlier))) (lit_points c earlier) (λ p. small_more (words_before c earlier) (words_before c (i ∷ earlier)) p (omega arith)) (points_small earlier h.0))
+
+-- ---- the least box
+
+-- the greatest box within a bound
+abbrev wall : ℕ → LitBox
+wall n = Span (neg_ℤ (pos (1047552 * n))) (pos (1047552 * n)) (neg_ℤ (pos (1047552 * n))) (pos (1047552 * n))
+
+-- its ends are in order
+abbrev IsOrdered : LitBox → Type 0
+IsOrdered Empty = Unit {0}
+IsOrdered (Span x_min x_max y_min y_max) = (x_min ≤ℤ x_max) × (y_min ≤ℤ y_max)
+
+record IsGoodBox (n : ℕ) (box : LitBox) : Type 0 where
+  small : IsSmallBox n box
+  ordered : IsOrdered box
+
+by_point : (n : ℕ) (p : Point) (box : LitBox) → IsSmall n p → InBox box p → IsInside box (wall n) → IsGoodBox n box
+by_point n p Empty h i w = record { small = tt; ordered = tt }
+by_point n p (Span x_min x_max y_min y_max) h i w =
+    record {
+      small = (
+        record { left = w.0; right = omega (arith, ints, i.left, h.right); down = w.2; up = omega (arith, ints, i.bottom, h.up) },
+        record { left = omega (arith, ints, i.right, h.left); right = w.1; down = omega (arith, ints, i.top, h.down); up = w.3 },
+      );
+      ordered = (omega (arith, ints, i.left, i.right), omega (arith, ints, i.bottom, i.top));
+    }
+
+nothing_inside : (n : ℕ) (box : LitBox) → IsInside box Empty → IsGoodBox n box
+nothing_inside n Empty h = record { small = tt; ordered = tt }
+nothing_inside n (Span a b c d) h = absurd h
+
+in_wall : (n : ℕ) (p : Point) → IsSmall n p → InBox (wall n) p
+in_wall n p h = record { left = h.left; right = h.right; bottom = h.down; top = h.up }
+
+least_good : (n : ℕ) (ps : List Point) (box : LitBox) → AllByRecursion (IsSmall n) ps → IsLeast ps box → IsGoodBox n box
+least_good n [] box h k = nothing_inside n box (k.least Empty tt)
+least_good n (p ∷ ps) box h k = by_point n p box h.0 k.holds.0 (k.least (wall n) (all_map (IsSmall n) (InBox (wall n)) (p ∷ ps) (in_wall n) h))
+
+-- ---- made entries
+
+-- a call finds its entry at the very scale
+small_callee : (list : List Entry) (o : Option ℕ) (scale : Key) → ((to : ℕ) → o ≡ Some to → HasEntry list to scale) → ((to : ℕ) (g : Entry) → o ≡ Some to → entry_at list to scale ≡ Some g → IsSmallEntry g) → IfSome (callee_at list o scale) IsSmallEntry
+small_callee list None scale has small = tt
+small_callee list (Some to) scale has small =
+    let f = has to refl in
+    subst (λ (x : Option Entry). IfSome x IsSmallEntry) (sym (exact_named list to scale f.0 f.1)) (small to f.0 refl f.1)
+
+-- the entries that items call are small
+abbrev SmallCalls : Rom → List Entry → ℕ → Key → Type 0
+SmallCalls rom list addr key =
+    (earlier : List Item) (i : Item) → LeadsTo Shape (rom_word rom) addr earlier i.at → cell_at (rom_word rom) i.at ≡ Holds i.format i.instr
+    → (to : ℕ) (g : Entry) → target Shape i.instr ≡ Some to → entry_at list to (scale_before (keyed_context list key) earlier) ≡ Some g → IsSmallEntry g
+
+all_small : (rom : Rom) (list : List Entry) (addr : ℕ) (key : Key) → SmallCalls rom list addr key → (items : List Item) (i : Item) → LeadsTo Shape (rom_word rom) addr items i.at → cell_at (rom_word rom) i.at ≡ Holds i.format i.instr → AllFine (keyed_context list key) (i ∷ items) → AllSmall (keyed_context list key) (i ∷ items)
+all_small rom list addr key calls items i lead is fine =
+    (before items i.at lead fine.0, record { fields = small_held (rom_word rom) i is; callee = small_callee list (target Shape i.instr) (scale_before (keyed_context list key) items) fine.1.keyed (calls items i lead is) })
+  where
+    before : (items : List Item) (p : ℕ) → LeadsTo Shape (rom_word rom) addr items p → AllFine (keyed_context list key) items → AllSmall (keyed_context list key) items
+    before [] p lead fine = tt
+    before (j ∷ earlier) p lead fine =
+        (before earlier j.at lead.0 fine.0, record { fields = small_held (rom_word rom) j lead.1; callee = small_callee list (target Shape j.instr) (scale_before (keyed_context list key) earlier) fine.1.keyed (calls earlier j lead.0 lead.1) })
+
+-- by the number of words
+small_up_to : (rom : Rom) (list : List Entry) → ((e : Entry) → Contains list e → MadeEntry rom list e) → (n : ℕ) (e : Entry) → MadeEntry rom list e → e.words < n → IsSmallEntry e
+small_up_to rom list all zero e made lt = absurd (omega (arith, lt))
+small_up_to rom list all (suc n) e made lt =
+    let h = made_ends rom list e made in
+    let calls : SmallCalls rom list e.addr e.key = λ earlier j l k to g t f. small_up_to rom list all n g (all g (listed_at list to _ g f).listed) (let less : g.words < e.words = callee_less rom list e made earlier j l k to g t f in omega (arith, lt, less)) in
+    let small = all_small rom list e.addr e.key calls h.items h.i h.leads h.is h.fine in
+    let place : IsSmallPlace e.words e.stop = subst (λ (k : Known). IsSmallPlace k.words k.place) h.sums.known (place_small list e.key (h.i ∷ h.items) small) in
+    let many : words_before (shape_context list e) (h.i ∷ h.items) ≡ e.words = ap (λ (k : Known). k.words) h.sums.known in
+    let points = subst (λ n. AllByRecursion (IsSmall n) (lit_points (shape_context list e) (h.i ∷ h.items))) many (points_small list e.key (h.i ∷ h.items) small) in
+    record { stop = place; lit = (least_good e.words (lit_points (shape_context list e) (h.i ∷ h.items)) e.lit points h.sums.box).small }
+
+made_small : (rom : Rom) (list : List Entry) → ((e : Entry) → Contains list e → MadeEntry rom list e) → (e : Entry) → Contains list e → IsSmallEntry e
+made_small rom list all e c = small_up_to rom list all (e.words + 1) e (all e c) (omega arith)
+
+-- ---- within the limits
+
+place_within : (n : ℕ) (place : End) → n ≤ MOST_WORDS → IsSmallPlace n place → IsEnd place
+place_within n (Rel x y) le h = ((omega (arith, ints, le, h.left), omega (arith, ints, le, h.right)), (omega (arith, ints, le, h.down), omega (arith, ints, le, h.up)))
+place_within n (Abs x y) le h = ((omega (arith, ints, le, h.left), omega (arith, ints, le, h.right)), (omega (arith, ints, le, h.down), omega (arith, ints, le, h.up)))
+place_within n Lost le h = tt
+
+box_within : (n : ℕ) (box : LitBox) → n ≤ MOST_WORDS → IsGoodBox n box → IsBox box
+box_within n Empty le h = tt
+box_within n (Span a b c d) le h = (
+  ((omega (arith, ints, le, h.small.0.left), omega (arith, ints, le, h.small.0.right)), (omega (arith, ints, le, h.small.1.left), omega (arith, ints, le, h.small.1.right)), h.ordered.0),
+  ((omega (arith, ints, le, h.small.0.down), omega (arith, ints, le, h.small.0.up)), (omega (arith, ints, le, h.small.1.down), omega (arith, ints, le, h.small.1.up)), h.ordered.1),
+)
+
+-- ---- its address
+
+-- something stands where the items start
+first_stands : (word : ℕ → Option ℕ) (addr : ℕ) (items : List Item) (p : ℕ) (format : Format) (i : Instr) → LeadsTo Shape word addr items p → cell_at word p ≡ Holds format i → (f : Format) × (j : Instr) × (cell_at word addr ≡ Holds f j)
+first_stands word addr [] p format i lead is = (format, i, ap (cell_at word) (sym lead) ∙ is)
+first_stands word addr (j ∷ earlier) p format i lead is = first_stands word addr earlier j.at j.format j.instr lead.0 lead.1
+
+cell_some : (word : ℕ → Option ℕ) (p : ℕ) (format : Format) (i : Instr) → cell_at word p ≡ Holds format i → (w : ℕ) × (word p ≡ Some w)
+unfolding cell_at
+cell_some word p format i is = by_word (word p) refl is
+  where
+    by_word : (o : Option ℕ) → word p ≡ o → cell_of_words o (word (p + 1)) ≡ Holds format i → (w : ℕ) × (word p ≡ Some w)
+    by_word None e f = cc
+    by_word (Some w) e f = (w, e)
+
+in_rom : (rom : Rom) (p w : ℕ) → rom_word rom p ≡ Some w → (rom.map.rom_first ≤ p) × (p ≤ rom.map.rom_last)
+in_rom rom p w e = by_tests (nat_le rom.map.rom_first p) (nat_le p rom.map.rom_last) refl refl e
+  where
+    by_tests : (a b : Bool) → nat_le rom.map.rom_first p ≡ a → nat_le p rom.map.rom_last ≡ b → (if a && b then slice_get rom.words (p - rom.map.rom_first) else None) ≡ Some w → (rom.map.rom_first ≤ p) × (p ≤ rom.map.rom_last)
+    by_tests true true f g h = (grind (arith, nat_tests), grind (arith, nat_tests))
+    by_tests true false f g h = cc
+    by_tests false b f g h = cc
+
+-- ---- what the maker makes is an entry
+
+pub made_is_entry : (rom : Rom) (list : List Entry) → ((e : Entry) → Contains list e → MadeEntry rom list e)
+    → (addr : ℕ) (key : Key) (items : List Item) (i : Item) (lit : LitBox)
+    → LeadsTo Shape (rom_word rom) addr items i.at → cell_at (rom_word rom) i.at ≡ Holds i.format i.instr
+    → AllFine (keyed_context list key) (i ∷ items) → IsLeast (lit_points (keyed_context list key) (i ∷ items)) lit
+    → words_before (keyed_context list key) (i ∷ items) ≤ MOST_WORDS → depth_before (keyed_context list key) (i ∷ items) ≤ MOST_DEPTH
+    → IsKey key → IsKey (scale_before (keyed_context list key) (i ∷ items))
+    → IsEntry rom.map.rom_first rom.map.rom_last (entry_of addr key (known_before (keyed_context list key) (i ∷ items)) lit)
+made_is_entry rom list made addr key items i lit lead is fine least words depth key_is scale_is =
+    let small = all_small rom list addr key (λ earlier j l k to g t f. made_small rom list made g (listed_at list to _ g f).listed) items i lead is fine in
+    let n : ℕ = words_before (keyed_context list key) (i ∷ items) in
+    let box = least_good n (lit_points (keyed_context list key) (i ∷ items)) lit (points_small list key (i ∷ items) small) least in
+    let first = first_stands (rom_word rom) addr items i.at i.format i.instr lead is in
+    let some = cell_some (rom_word rom) addr first.0 first.1 first.2 in
+    let there = in_rom rom addr some.0 some.1 in
+    record {
+      addr_low = there.0;
+      addr_high = there.1;
+      key = key_is;
+      stop = place_within n (place_before (keyed_context list key) (i ∷ items)) words (place_small list key (i ∷ items) small);
+      lit = box_within n lit words box;
+      depth = depth;
+      words_low = omega (arith, word_count-some i.format);
+      words_high = words;
+      scale = scale_is;
+    }

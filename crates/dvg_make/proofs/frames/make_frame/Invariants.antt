@@ -1,0 +1,9 @@
+use Rattle.std.proofs.Common.{◌-◌}
+use Rattle.dvg_make.proofs.Framing.{FrameWalk}
+use Rattle.dvg_make.proofs.frames.make_frame.Given as goal
+
+abbrev pub invariant-loop-format : goal.invariant-loop-format
+invariant-loop-format l = FrameWalk l.rom l.frame l.fn.done l.done l.at l.scale
+
+abbrev pub decreases-loop-format : goal.decreases-loop-format
+decreases-loop-format l = 5000 - l.at

@@ -1,0 +1,42 @@
+-- What the maker makes for frames: the list that a ROM, roots and the calls of frames ask for. All of it is profile.
+use Rattle.std.specs.Prelude.{◌≡◌, ℕ, ◌⊎◌, List, [], ◌∷◌, Some, Contains}
+use Rattle.dvg_words.specs.Memory.{Rom, frame_word}
+use Rattle.dvg_words.specs.Decoding.{cell_at}
+use Rattle.dvg_words.specs.declared.instruction.Cell.TheVariants.{Holds}
+use Rattle.dvg_cert.specs.declared.entry.Entry.{Entry}
+use Rattle.dvg_cert.specs.declared.entry.Key.{Key}
+use Rattle.dvg_items.specs.Items.{LeadsTo}
+use Rattle.dvg_items.specs.declared.item.Item.{Item}
+use Rattle.dvg_items.specs.declared.item.Kind.TheVariants.{Frame}
+use Rattle.dvg_items.specs.Known.{frame_context, target, scale_before}
+use Rattle.dvg_make.specs.Made.{HasEntry, MadeFor}
+
+-- an item of the frame with these words calls this address, at the scale that is known there by the list (profile)
+pub record FrameCalls (words : List ℕ) (list : List Entry) (to : ℕ) (scale : Key) : Type 0 where
+  pub earlier : List Item
+  pub item : Item
+  pub leads : LeadsTo Frame (frame_word words) 0 earlier item.at
+  pub stands : cell_at (frame_word words) item.at ≡ Holds item.format item.instr
+  pub target_is : target Frame item.instr ≡ Some to
+  pub scale_is : scale_before (frame_context list) earlier ≡ scale
+
+-- where the item calls an address, the list has an entry there, at the scale that is known by this list (profile)
+abbrev pub IsKeyed : List Entry → List Item → Item → Type 0
+IsKeyed list earlier i = (to : ℕ) → target Frame i.instr ≡ Some to → HasEntry list to (scale_before (frame_context list) earlier)
+
+-- so for each of these items of a frame (profile)
+abbrev pub AllKeyed : List Entry → List Item → Type 0
+AllKeyed list [] = Unit {0}
+AllKeyed list (i ∷ earlier) = AllKeyed list earlier × IsKeyed list earlier i
+
+-- a root, or what one of the frames calls (profile)
+abbrev pub IsAskedFor : List (ℕ × Key) → List (List ℕ) → List Entry → ℕ → Key → Type 0
+IsAskedFor roots frames list addr key = Contains roots (addr, key) ⊎ ((words : List ℕ) × Contains frames words × FrameCalls words list addr key)
+
+-- the list that a ROM, roots and frames ask for: that of the roots together with what the frames call by this very list (profile)
+abbrev pub FramesMade : Rom → List (ℕ × Key) → List (List ℕ) → List Entry → Type 0
+FramesMade rom roots frames list = MadeFor rom (IsAskedFor roots frames list) list
+
+-- the list of one frame and no roots (profile)
+abbrev pub FrameMade : Rom → List ℕ → List Entry → Type 0
+FrameMade rom words list = FramesMade rom [] (words ∷ []) list

@@ -1,0 +1,53 @@
+-- What a frame comes to by the certificate that is made for it. All of it is profile.
+use Rattle.std.specs.Prelude.{ℕ, ◌≤◌, List, [], ◌∷◌, Result, Ok, Err}
+use Rattle.dvg_words.specs.Memory.{Rom}
+use Rattle.dvg_words.specs.Values.{Window}
+use Rattle.dvg_cert.specs.declared.entry.Entry.{Entry}
+use Rattle.dvg_check.specs.Verdict.{PartsVerdict}
+use Rattle.dvg_check.specs.declared.fault.Mode.{Mode}
+use Rattle.dvg_check.specs.declared.fault.Mode.TheVariants.{Exact}
+use Rattle.dvg_check.specs.declared.verdict.Yes.{Yes}
+use Rattle.dvg_check.specs.declared.verdict.Refusal.{Refusal}
+use Rattle.dvg_check.specs.declared.verdict.Refusal.TheVariants as refusal
+pub use Rattle.dvg_make.specs.declared.judging.FrameRefusal.{FrameRefusal}
+pub use Rattle.dvg_make.specs.declared.judging.FrameRefusal.TheVariants.{Make, NoMemory, Check}
+use Rattle.dvg_make.specs.Frames.{FrameMade}
+use Rattle.dvg_make.specs.Refusals.{Memory, Accepts, BarsList, BarsFrame, StopsAt}
+
+-- no certificate gets the frame accepted in this window with fewer words, or less depth (profile)
+abbrev pub AreLeast : Rom → List ℕ → Window → ℕ → ℕ → Type 0
+AreLeast rom words w count depth =
+    (mode : Mode) (list : List Entry) (budget n d : ℕ) → Accepts rom words w mode list budget n d → (count ≤ n) × (depth ≤ d)
+
+-- no certificate gets the frame accepted within this budget (profile)
+abbrev pub NoneWithin : Rom → List ℕ → Window → ℕ → Type 0
+NoneWithin rom words w most =
+    (mode : Mode) (list : List Entry) (budget n d : ℕ) → budget ≤ most → Accepts rom words w mode list budget n d → ⊥
+
+-- what a refusal by the made certificate means; the checker gives no other one here (profile)
+abbrev pub CheckMeans : Rom → List ℕ → Window → ℕ → Refusal → Type 0
+CheckMeans rom words w budget (refusal.Shape f) = NoneWithin rom words w budget
+CheckMeans rom words w budget (refusal.Frame f) = NoneWithin rom words w budget
+CheckMeans rom words w budget refusal.IndexMemory = Unit {0}
+CheckMeans rom words w budget r = ⊥
+
+-- what a refusal means: no certificate gets the frame accepted; but for 62 by the number of entries, where each list that is
+-- made is too long and another certificate may, and where memory was out (profile)
+abbrev pub FrameRefused : Rom → List ℕ → Window → ℕ → FrameRefusal → Type 0
+FrameRefused rom words w budget (Make at Memory) = ⊥
+FrameRefused rom words w budget (Make at why) = BarsList rom [] (words ∷ []) why × BarsFrame rom words why
+FrameRefused rom words w budget NoMemory = Unit {0}
+FrameRefused rom words w budget (Check r) = CheckMeans rom words w budget r
+
+-- the made list of the frame, and what its shapes and the frame come to by it (profile)
+pub record ByMade (rom : Rom) (words : List ℕ) (w : Window) (budget : ℕ) (answer : Result Yes Refusal) : Type 0 where
+  pub list : List Entry
+  pub made : FrameMade rom words list
+  pub verdict : PartsVerdict Exact w rom list words budget answer
+
+-- the verdict on a frame by its own certificate (profile)
+abbrev pub FrameVerdict : Rom → List ℕ → Window → ℕ → Result Yes FrameRefusal → Type 0
+FrameVerdict rom words w budget (Ok y) = ByMade rom words w budget (Ok y)
+FrameVerdict rom words w budget (Err (Check r)) = ByMade rom words w budget (Err r)
+FrameVerdict rom words w budget (Err (Make at why)) = StopsAt rom words at why
+FrameVerdict rom words w budget (Err NoMemory) = Unit {0}

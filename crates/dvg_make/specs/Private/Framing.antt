@@ -1,0 +1,80 @@
+-- A frame whose calls are made one after another.
+use Rattle.std.specs.Prelude.{◌≡◌, ◌≢◌, ℕ, ◌<◌, ◌⊎◌, ◌++◌, List, [], length, Option, Some, None, Contains}
+use Rattle.dvg_words.specs.Memory.{Rom}
+use Rattle.dvg_words.specs.declared.instruction.Instr.{Instr}
+use Rattle.dvg_cert.specs.Lookup.{entry_at}
+use Rattle.dvg_cert.specs.declared.limits.TheConstants.{MOST_ENTRIES}
+use Rattle.dvg_cert.specs.declared.entry.Entry.{Entry}
+use Rattle.dvg_cert.specs.declared.entry.Key.{Key}
+use Rattle.dvg_items.specs.declared.item.Kind.TheVariants.{Frame}
+use Rattle.dvg_items.specs.Known.{target}
+use Rattle.dvg_make.specs.Made.{HasEntry, AllMade}
+use Rattle.dvg_make.specs.Frames.{FrameCalls, IsAskedFor}
+use Rattle.dvg_make.specs.Judging.{FrameRefusal, Make, NoMemory, Check}
+use Rattle.dvg_make.specs.Refusals.{FrameCall, FramesFault, BarsFrame, StopsAt, EntryFault, Unstraight, Deep, TooManyWords, TooManyEntries, Memory}
+use Rattle.dvg_make.specs.Private.Walking.{Extends}
+use Rattle.dvg_make.specs.Private.Making.{HasAll, Making, Bars, Collected}
+
+-- the list has an entry for each call of the frame with these words
+abbrev pub HasCalls : List ℕ → List Entry → Type 0
+HasCalls words list = (to : ℕ) (scale : Key) → FrameCalls words list to scale → HasEntry list to scale
+
+-- the entry that an instruction of a frame calls at this scale is made, where the one list was made before
+pub record IsCalledBy (rom : Rom) (old : List Entry) (instr : Instr) (scale : Key) (new : List Entry) (callee : Option Entry) : Type 0 where
+  pub none : target Frame instr ≡ None → (new ≡ old) × (callee ≡ None)
+  pub some : (to : ℕ) → target Frame instr ≡ Some to → Making rom old (to, scale) new [] × HasEntry new to scale × (callee ≡ entry_at new to scale)
+
+-- it is not made, and why
+abbrev pub BarsTarget : Rom → List Entry → Instr → Key → EntryFault → Type 0
+BarsTarget rom old instr scale why = (to : ℕ) × (target Frame instr ≡ Some to) × Bars rom old (to, scale) why
+
+-- what is made past a frame, where the one list was made before
+pub record IsFramed (rom : Rom) (words : List ℕ) (old new : List Entry) : Type 0 where
+  pub has_calls : HasCalls words new
+  pub calls : List (ℕ × Key)
+  pub calls_are : (to : ℕ) (scale : Key) → Contains calls (to, scale) → FrameCalls words new to scale
+  pub collected : (asked : List (ℕ × Key)) → Collected rom asked old → Collected rom (asked ++ calls) new
+  pub forced : (list : List Entry) → AllMade rom list → Extends old list → HasCalls words list → Extends new list
+
+-- no list of made entries has these, and an entry for each call of the frame
+abbrev pub NoneHasCalls : Rom → List ℕ → List Entry → Type 0
+NoneHasCalls rom words old = (list : List Entry) → AllMade rom list → Extends old list → HasCalls words list → ⊥
+
+-- each that has is too long for a certificate
+abbrev pub LongHasCalls : Rom → List ℕ → List Entry → Type 0
+LongHasCalls rom words old = (list : List Entry) → AllMade rom list → Extends old list → HasCalls words list → MOST_ENTRIES < length list
+
+-- what a refusal says of that
+abbrev pub BarsCalls : Rom → List ℕ → List Entry → EntryFault → Type 0
+BarsCalls rom words old (Unstraight word) = NoneHasCalls rom words old
+BarsCalls rom words old Deep = NoneHasCalls rom words old
+BarsCalls rom words old TooManyWords = NoneHasCalls rom words old
+BarsCalls rom words old TooManyEntries = LongHasCalls rom words old
+BarsCalls rom words old Memory = Unit {0}
+
+-- and of the call at a place, and of the frame itself
+abbrev pub BarsHere : Rom → List ℕ → List Entry → ℕ → EntryFault → Type 0
+BarsHere rom words old at why = BarsCalls rom words old why × StopsAt rom words at why × BarsFrame rom words why
+
+-- ---- frame after frame
+
+-- an address and a key are asked for by a root, or by the call of a frame
+abbrev pub AreAskedFor : List (ℕ × Key) → List (List ℕ) → List Entry → List (ℕ × Key) → Type 0
+AreAskedFor roots frames list asked = (addr : ℕ) (key : Key) → Contains asked (addr, key) → IsAskedFor roots frames list addr key
+
+-- what is made past so many frames
+pub record AllFramed (rom : Rom) (roots : List (ℕ × Key)) (frames : List (List ℕ)) (done : List Entry) : Type 0 where
+  pub rooted : HasAll roots done
+  pub has_calls : (words : List ℕ) → Contains frames words → HasCalls words done
+  pub asked : List (ℕ × Key)
+  pub asked_for : AreAskedFor roots frames done asked
+  pub collected : Collected rom asked done
+  pub forced : (list : List Entry) → AllMade rom list → HasAll roots list → ((words : List ℕ) → Contains frames words → HasCalls words list) → Extends done list
+
+-- ---- one frame alone
+
+-- a fault, and how it is told of one frame: as memory that is out where it names no call
+abbrev pub MeansOne : FramesFault → FrameRefusal → Type 0
+MeansOne fault (Make at why) = (fault.why ≡ why) × (why ≢ Memory) × ((call : FrameCall) × (fault.call ≡ Some call) × (call.at ≡ at))
+MeansOne fault NoMemory = (fault.call ≡ None) ⊎ (fault.why ≡ Memory)
+MeansOne fault (Check r) = ⊥

@@ -1,0 +1,68 @@
+//! A frame judged by the certificate that is made for it.
+
+ghost use Rattle.std.specs.Prelude.{◌≡◌, ◌≤◌, IfOk, IfErr};
+ghost use Rattle.dvg_cert.specs.declared.limits.TheConstants.{MOST_WORDS};
+ghost use Rattle.dvg_check.specs.Safety.{Safe, CountsAtHalt};
+ghost use Rattle.dvg_make.specs.Refusals.{FramesRefuse};
+ghost use Rattle.dvg_make.specs.Judging.{AreLeast, FrameRefused, FrameVerdict};
+ghost use Rattle.dvg_make.specs.Private.Framing.{MeansOne};
+
+use crate::fault::{EntryFault, FramesFault};
+use crate::maker::make_for_frames;
+use dvg_check::{Refusal, Yes, check_parts_exact};
+use dvg_words::{FrameImage, RomImage, Window};
+use std::alloc::Global;
+use std::slice;
+
+/// Why a frame is not accepted by the certificate that is made for it.
+#[derive(Clone, Copy, Debug, PartialEq, Eq)]
+pub enum FrameRefusal {
+    /// 60 to 62: the entry of the call at this word of the frame is not made.
+    Make { at: u16, why: EntryFault },
+    /// 63: there was no memory for the certificate.
+    NoMemory,
+    /// What the checker says: the first fault of the made shapes, or the frame's, or 50.
+    Check(Refusal),
+}
+
+/// The refusal of a frame for which no certificate was made.
+fn refusal_of(fault: &FramesFault) -> FrameRefusal
+    ensures { MeansOne fault.now result }
+{
+    match (fault.call, fault.why) {
+        (None, _) | (_, EntryFault::Memory) => FrameRefusal::NoMemory,
+        (Some(call), why) => FrameRefusal::Make { at: call.at, why },
+    }
+}
+
+/// Judges a frame over a vector ROM by the certificate that is made for it: no certificate does better.
+///
+/// `budget` is how many words the frame may take at most, up to 1,000,000, `window` the part of the screen that may be lit.
+/// What is accepted is safe, with exact counts, as [`check_parts_exact`] says, and no certificate gets the frame accepted
+/// with fewer words or less depth. The answer is the refusal of [`make_for_frames`] for the first call whose entry is not made,
+/// else that of the checker on the made certificate; it means that no certificate gets the frame accepted, but for 62 by the
+/// number of entries, where another one may, and for 63 and 50, where memory was out. Takes memory for the certificate and
+/// its index.
+pub fn judge(
+    alloc: Global,
+    rom: &RomImage,
+    frame: &FrameImage,
+    budget: u32,
+    window: Window,
+) -> Result<Yes, FrameRefusal>
+    requires { budget ≤ MOST_WORDS }
+    ensures verdict { FrameVerdict rom.now frame.now window budget result }
+    ensures safe { IfOk result (λ yes. Safe (record { frame = frame.now; rom = rom.now }) window yes.words yes.depth) }
+    ensures exact { IfOk result (λ yes. CountsAtHalt (record { frame = frame.now; rom = rom.now }) yes.words yes.depth) }
+    ensures least { IfOk result (λ yes. AreLeast rom.now frame.now window yes.words yes.depth) }
+    ensures refused { IfErr result (FrameRefused rom.now frame.now window budget) }
+{
+    let cert = match make_for_frames(alloc, rom, &[], slice::from_ref(frame)) {
+        Ok(cert) => cert,
+        Err(fault) => return Err(refusal_of(&fault)),
+    };
+    match check_parts_exact(alloc, rom, frame, &cert, budget, window) {
+        Ok(yes) => Ok(yes),
+        Err(refusal) => Err(FrameRefusal::Check(refusal)),
+    }
+}

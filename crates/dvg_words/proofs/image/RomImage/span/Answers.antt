@@ -1,7 +1,0 @@
-use Rattle.std.proofs.Common.{subst}
-use Rattle.dvg_words.specs.Memory.{IsRom}
-use Rattle.dvg_words.proofs.WordLists.{rom_of_is_rom}
-use Rattle.dvg_words.proofs.image.RomImage.span.Goals as goal
-
-pub returns-clause-rom : goal.returns-clause-rom
-returns-clause-rom c = subst IsRom c.self.view_is (rom_of_is_rom c.self.inside.bytes.now c.self.invariant)
