@@ -177,6 +177,22 @@ struct Asked {
     window: Window,
 }
 
+impl Asked {
+    /// Takes a line of a row; the map stands before the ROM.
+    fn take(&mut self, alloc: Global, line: &str) -> Result<(), Fail> {
+        match line.split_once(' ') {
+            Some(("map", words)) => self.map = map_of(words)?,
+            Some(("rom", words)) => self.rom = rom_bytes(alloc, words, self.map)?,
+            Some(("frame", words)) => self.frame = bytes_of(alloc, words)?,
+            Some(("start", word)) => self.start = start_of(word),
+            Some(("budget", words)) => self.budget = words.parse()?,
+            Some(("window", word)) => self.window = read_window(word)?,
+            _ => {}
+        }
+        Ok(())
+    }
+}
+
 /// What a row asks.
 fn read_row(alloc: Global, row: &str) -> Result<Asked, Fail> {
     let mut asked = Asked {
@@ -188,15 +204,7 @@ fn read_row(alloc: Global, row: &str) -> Result<Asked, Fail> {
         window: SCREEN,
     };
     for line in row.lines() {
-        match line.split_once(' ') {
-            Some(("map", words)) => asked.map = map_of(words)?,
-            Some(("rom", words)) => asked.rom = rom_bytes(alloc, words, asked.map)?,
-            Some(("frame", words)) => asked.frame = bytes_of(alloc, words)?,
-            Some(("start", word)) => asked.start = start_of(word),
-            Some(("budget", words)) => asked.budget = words.parse()?,
-            Some(("window", word)) => asked.window = read_window(word)?,
-            _ => {}
-        }
+        asked.take(alloc, line)?;
     }
     Ok(asked)
 }
