@@ -1,5 +1,5 @@
 -- What a frame comes to, over plain values.
-use Rattle.std.proofs.Common.{◌≡◌, ℕ, ◌+◌, ◌≤◌, List, [], ◌∷◌, Option, None, Some, length, take, drop, ◌++◌, ap, ◌∙◌, refl, subst, sym, arith}
+use Rattle.std.proofs.Common.{◌≡◌, ℕ, List, Option, None, Some, length, take, drop, ◌++◌, ap, ◌∙◌, arith}
 use Rattle.std.proofs.lemmas.Grind.{common_steps}
 use Rattle.std.specs.Prelude.{Result, Ok, Err, IfOk, IfErr, IfSome}
 use Rattle.dvg_words.specs.Values.{MemoryMap, Window}
@@ -11,11 +11,10 @@ use Rattle.dvg_check.specs.declared.verdict.Yes.{Yes}
 use Rattle.dvg_check.specs.declared.verdict.Refusal.TheVariants as refusal
 use Rattle.dvg_make.specs.declared.judging.FrameRefusal.{FrameRefusal}
 use Rattle.dvg_make.specs.declared.judging.FrameRefusal.TheVariants.{Make, NoMemory, Check}
-use Rattle.dvg_make.specs.Judging.{AreLeast, FrameRefused}
-use Rattle.dvg_cmd.specs.Runs.{MOST_FRAME_READ}
-use Rattle.dvg_cmd.specs.Frames.{started, jumped, IsReadFrom, ReadsFrame, FrameVerdict, IsRefused}
+use Rattle.dvg_make.specs.Judging.{AreLeast, FrameRefused, FrameVerdict as JudgeVerdict}
+use Rattle.dvg_cmd.specs.Frames.{started, IsReadFrom, ReadsFrame, FrameVerdict, IsRefused, IsJudgedRefusal}
 use Rattle.dvg_cmd.specs.Private.Reading.{limited, IsPrefix}
-use Rattle.dvg_cmd.proofs.Whole.{held_bytes, held_told, prefix_of_held, frame_same}
+use Rattle.dvg_cmd.proofs.Whole.{prefix_of_held, frame_same}
 
 first_bytes : (n : ℕ) (reader : Option (List ℕ)) (bytes : List ℕ) → IfSome reader (λ held. bytes ≡ limited n held) → IfSome reader (λ held. bytes ≡ take n held)
 unfolding limited
@@ -41,22 +40,26 @@ reads_frame reader start items slice new read same is len =
     }
 
 module _ (rom : List ℕ) (map : MemoryMap) (bytes : List ℕ) (budget : ℕ) (w : Window) (range : InRange bytes budget) (long : IsRomLength map (length rom)) where
-  refused : (r : FrameRefusal) → FrameRefused (rom_of map rom) (words_of bytes) w budget r → IsRefused rom map bytes budget w r
-  refused (Make at why) h = (range, long, h)
-  refused NoMemory h = (range, long, h)
-  refused (Check (refusal.Image RomLength)) h = absurd h
-  refused (Check (refusal.Image FrameLength)) h = absurd h
-  refused (Check refusal.BudgetRange) h = absurd h
-  refused (Check (refusal.Cert f)) h = absurd h
-  refused (Check refusal.IndexMemory) h = (range, long, h)
-  refused (Check (refusal.Shape f)) h = (range, long, h)
-  refused (Check (refusal.Frame f)) h = (range, long, h)
+  judged : (r : FrameRefusal) → JudgeVerdict (rom_of map rom) (words_of bytes) w budget (Err r) → FrameRefused (rom_of map rom) (words_of bytes) w budget r → IsJudgedRefusal rom map bytes budget w r
+  judged r own h = record { in_range = range; rom_length = long; by_own = own; means = h }
+
+  refused : (r : FrameRefusal) → JudgeVerdict (rom_of map rom) (words_of bytes) w budget (Err r) → FrameRefused (rom_of map rom) (words_of bytes) w budget r → IsRefused rom map bytes budget w r
+  refused (Make at why) own h = judged (Make at why) own h
+  refused NoMemory own h = judged NoMemory own h
+  refused (Check (refusal.Image RomLength)) own h = absurd h
+  refused (Check (refusal.Image FrameLength)) own h = absurd h
+  refused (Check refusal.BudgetRange) own h = absurd h
+  refused (Check (refusal.Cert f)) own h = absurd h
+  refused (Check refusal.IndexMemory) own h = judged (Check refusal.IndexMemory) own h
+  refused (Check (refusal.Shape f)) own h = judged (Check (refusal.Shape f)) own h
+  refused (Check (refusal.Frame f)) own h = judged (Check (refusal.Frame f)) own h
 
   pub frame_verdict : (v : Result Yes FrameRefusal)
       → IfOk v (λ yes. Safe (record { frame = words_of bytes; rom = rom_of map rom }) w yes.words yes.depth)
       → IfOk v (λ yes. CountsAtHalt (record { frame = words_of bytes; rom = rom_of map rom }) yes.words yes.depth)
       → IfOk v (λ yes. AreLeast (rom_of map rom) (words_of bytes) w yes.words yes.depth)
       → IfErr v (FrameRefused (rom_of map rom) (words_of bytes) w budget)
+      → JudgeVerdict (rom_of map rom) (words_of bytes) w budget v
       → FrameVerdict rom map bytes budget w v
-  frame_verdict (Ok y) safe exact least none = record { in_range = range; rom_length = long; safe = safe; exact = exact; least = least }
-  frame_verdict (Err r) safe exact least h = refused r h
+  frame_verdict (Ok y) safe exact least none own = record { in_range = range; rom_length = long; safe = safe; exact = exact; least = least; by_own = own }
+  frame_verdict (Err r) safe exact least h own = refused r own h

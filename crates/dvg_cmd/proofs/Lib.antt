@@ -2,7 +2,9 @@ pub mod Pieces
 pub mod Limits
 pub mod Whole
 pub mod Reporting
+pub mod SeveralFrames
 pub mod MakerRuns
+pub mod FramesRuns
 pub mod Windows
 pub mod Lines
 pub mod Framing

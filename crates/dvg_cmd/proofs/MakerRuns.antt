@@ -16,11 +16,11 @@ use Rattle.dvg_cmd.proofs.Whole.{held_bytes, held_told, prefix_of_held, rom_same
 read_whole : (map : MemoryMap) (is : IsMap map) (rom : Option (List ℕ)) (rb : List ℕ) → IsPrefix 4097 rom rb → IsRomLength map (length rb) → rb ≡ held_bytes rom rb
 read_whole map is rom rb read h = rom_same rb (held_bytes rom rb) (prefix_of_held 4097 rom rb read) map is h
 
-whole_length : (map : MemoryMap) (is : IsMap map) (rom : Option (List ℕ)) (rb : List ℕ) → IsPrefix 4097 rom rb → IsRomLength map (length rb) → IsRomLength map (length (held_bytes rom rb))
+pub whole_length : (map : MemoryMap) (is : IsMap map) (rom : Option (List ℕ)) (rb : List ℕ) → IsPrefix 4097 rom rb → IsRomLength map (length rb) → IsRomLength map (length (held_bytes rom rb))
 whole_length map is rom rb read h = subst (λ (x : List ℕ). IsRomLength map (length x)) (read_whole map is rom rb read h) h
 
 -- and then the image is that of all
-whole_image : (map : MemoryMap) (is : IsMap map) (rom : Option (List ℕ)) (rb : List ℕ) (image : Rom) → IsPrefix 4097 rom rb → IsRomLength map (length rb) × (image ≡ rom_of map rb) → image ≡ rom_of map (held_bytes rom rb)
+pub whole_image : (map : MemoryMap) (is : IsMap map) (rom : Option (List ℕ)) (rb : List ℕ) (image : Rom) → IsPrefix 4097 rom rb → IsRomLength map (length rb) × (image ≡ rom_of map rb) → image ≡ rom_of map (held_bytes rom rb)
 whole_image map is rom rb image read h = h.1 ∙ ap (λ (x : List ℕ). rom_of map x) (read_whole map is rom rb read h.0)
 
 pub makes : (map : MemoryMap) (is : IsMap map) (rom : Option (List ℕ)) (roots : List (ℕ × Key)) (list : List Entry) (rb : List ℕ) (image : Rom) → IsPrefix 4097 rom rb → IsRomLength map (length rb) × (image ≡ rom_of map rb) → Made image roots list → Makes rom map roots list

@@ -49,7 +49,7 @@ module _ (budget : ℕ) (fb f : List ℕ) (frame_is : PrefixOf 2049 fb f) where
   pub frame_same : IsFrameLength (length fb) → fb ≡ f
   frame_same h = frame_is.short (omega (arith, h.few))
 
-  frame_back : IsFrameLength (length f) → IsFrameLength (length fb)
+  pub frame_back : IsFrameLength (length f) → IsFrameLength (length fb)
   frame_back h = subst (λ (x : List ℕ). IsFrameLength (length x)) (sym (frame_is.long (omega (arith, h.few)))) h
 
   frame_on : IsFrameLength (length fb) → IsFrameLength (length f)

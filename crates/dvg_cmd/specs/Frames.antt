@@ -1,6 +1,6 @@
 -- What a run says of one frame that is judged by its own certificate, or over shapes that were judged, and what it writes. All of
 -- it is profile.
-use Rattle.std.specs.Prelude.{◌≡◌, ◌<◌, ◌+◌, ◌/◌, ◌%◌, ℕ, Bool, true, false, List, ◌∷◌, ◌++◌, take, length, codes, Option, Some, None, IfSome, Result, Ok, Err}
+use Rattle.std.specs.Prelude.{◌≡◌, ◌<◌, ◌+◌, ◌/◌, ◌%◌, ℕ, Bool, true, false, List, ◌∷◌, ◌++◌, take, length, Option, Some, None, IfSome, Result, Ok, Err}
 use Rattle.std.specs.Io.KnownBytes.{Appends}
 use Rattle.dvg_words.specs.Values.{MemoryMap, Window}
 use Rattle.dvg_words.specs.Memory.{words_of, rom_of, IsRomLength, IsFrameLength}
@@ -9,15 +9,18 @@ use Rattle.dvg_words.specs.declared.image.ImageFault.TheVariants.{RomLength, Fra
 use Rattle.dvg_cert.specs.Devices.{AppendsPrefix}
 use Rattle.dvg_cert.specs.Grammar.{address_token}
 use Rattle.dvg_check.specs.Safety.{Safe, CountsAtHalt}
+use Rattle.dvg_check.specs.Judged.{Shapes}
+use Rattle.dvg_check.specs.Rules.{GoodFrame}
+use Rattle.dvg_check.specs.FirstFault.{FirstFrameFault}
+use Rattle.dvg_check.specs.declared.fault.Mode.TheVariants.{Exact}
 use Rattle.dvg_check.specs.Verdict.{InRange, RangeRefusal}
 use Rattle.dvg_check.specs.declared.verdict.Yes.{Yes}
-use Rattle.dvg_check.specs.declared.verdict.Refusal.{Refusal}
 use Rattle.dvg_check.specs.declared.verdict.Refusal.TheVariants as refusal
 use Rattle.dvg_make.specs.declared.judging.FrameRefusal.{FrameRefusal}
 use Rattle.dvg_make.specs.declared.judging.FrameRefusal.TheVariants.{Make, NoMemory, Check}
-use Rattle.dvg_make.specs.Judging.{AreLeast, FrameRefused}
+use Rattle.dvg_make.specs.Judging.{AreLeast, FrameRefused, FrameVerdict as JudgeVerdict}
 use Rattle.dvg_cmd.specs.Report.{frame_line_text}
-use Rattle.dvg_cmd.specs.Runs.{MOST_FRAME_READ, IsReadTo, RunFault}
+use Rattle.dvg_cmd.specs.Runs.{MOST_FRAME_READ, IsReadTo}
 pub use Rattle.dvg_cmd.specs.declared.judging.FrameAnswer.{FrameAnswer}
 pub use Rattle.dvg_cmd.specs.declared.judging.FrameAnswer.TheVariants.{Judged, Unread}
 pub use Rattle.dvg_cmd.specs.declared.judging.FrameOutcome.{FrameOutcome}
@@ -58,11 +61,15 @@ pub record IsAccepted (rom : List ℕ) (map : MemoryMap) (bytes : List ℕ) (bud
   pub safe : Safe (record { frame = words_of bytes; rom = rom_of map rom }) w y.words y.depth
   pub exact : CountsAtHalt (record { frame = words_of bytes; rom = rom_of map rom }) y.words y.depth
   pub least : AreLeast (rom_of map rom) (words_of bytes) w y.words y.depth
+  -- it is the verdict by the frame's own certificate
+  pub by_own : JudgeVerdict (rom_of map rom) (words_of bytes) w budget (Ok y)
 
--- the lengths and the budget are in range, and the refusal means what the judge's does
-abbrev pub IsJudgedRefusal : List ℕ → MemoryMap → List ℕ → ℕ → Window → FrameRefusal → Type 0
-IsJudgedRefusal rom map bytes budget w r =
-    InRange bytes budget × IsRomLength map (length rom) × FrameRefused (rom_of map rom) (words_of bytes) w budget r
+-- the lengths and the budget are in range; it is the verdict by the frame's own certificate, and means what the judge's does
+pub record IsJudgedRefusal (rom : List ℕ) (map : MemoryMap) (bytes : List ℕ) (budget : ℕ) (w : Window) (r : FrameRefusal) : Type 0 where
+  pub in_range : InRange bytes budget
+  pub rom_length : IsRomLength map (length rom)
+  pub by_own : JudgeVerdict (rom_of map rom) (words_of bytes) w budget (Err r)
+  pub means : FrameRefused (rom_of map rom) (words_of bytes) w budget r
 
 -- what a refusal means: the first that applies of 2, 49 and 1, or what the judge's does
 abbrev pub IsRefused : List ℕ → MemoryMap → List ℕ → ℕ → Window → FrameRefusal → Type 0
@@ -75,6 +82,24 @@ IsRefused rom map bytes budget w r = IsJudgedRefusal rom map bytes budget w r
 abbrev pub FrameVerdict : List ℕ → MemoryMap → List ℕ → ℕ → Window → Result Yes FrameRefusal → Type 0
 FrameVerdict rom map bytes budget w (Ok y) = IsAccepted rom map bytes budget w y
 FrameVerdict rom map bytes budget w (Err r) = IsRefused rom map bytes budget w r
+
+-- ---- the verdict over shapes that were judged
+
+-- the frame is good by the list; every run is safe with these counts, and has just these where the shapes are good in exact mode
+pub record IsAcceptedOver (shapes : Shapes) (bytes : List ℕ) (budget : ℕ) (y : Yes) : Type 0 where
+  pub in_range : InRange bytes budget
+  pub good : GoodFrame shapes.window (words_of bytes) shapes.list budget y.words y.depth
+  pub safe : Safe (record { frame = words_of bytes; rom = shapes.rom }) shapes.window y.words y.depth
+  pub exact : shapes.mode ≡ Exact → CountsAtHalt (record { frame = words_of bytes; rom = shapes.rom }) y.words y.depth
+
+-- the verdict on a frame's bytes: the first that applies of 2, 49, the frame's first fault, and the yes, with this count of shapes
+abbrev pub VerdictOver : Shapes → ℕ → List ℕ → ℕ → Result Yes FrameRefusal → Type 0
+VerdictOver shapes count bytes budget (Ok y) = IsAcceptedOver shapes bytes budget y × (y.shapes ≡ count)
+VerdictOver shapes count bytes budget (Err (Check (refusal.Image FrameLength))) = RangeRefusal bytes budget (refusal.Image FrameLength)
+VerdictOver shapes count bytes budget (Err (Check refusal.BudgetRange)) = RangeRefusal bytes budget refusal.BudgetRange
+VerdictOver shapes count bytes budget (Err (Check (refusal.Frame f))) =
+    InRange bytes budget × FirstFrameFault shapes.window (words_of bytes) shapes.list budget f
+VerdictOver shapes count bytes budget (Err r) = ⊥
 
 -- ---- what is written
 
@@ -102,11 +127,12 @@ is_unread_outcome outcome.Accepted = false
 is_unread_outcome outcome.Refused = false
 is_unread_outcome outcome.NoMemory = false
 
--- what an answer says of a frame's reader: it failed, or was read to its end or to one byte past the limit, with this verdict
-abbrev pub AnswerMeans : List ℕ → MemoryMap → Option ℕ → ℕ → Window → Option (List ℕ) → Option (List ℕ) → FrameAnswer → Type 0
-AnswerMeans rom map start budget w old new Unread = Unit {0}
-AnswerMeans rom map start budget w old new (Judged v) =
-    IsReadTo MOST_FRAME_READ old new × ((bytes : List ℕ) × ReadsFrame old start bytes × FrameVerdict rom map bytes budget w v)
+-- what an answer says of a frame's reader: it failed, or was read to its end or to one byte past the limit, with this verdict on the
+-- bytes that are judged
+abbrev pub AnswerMeans : (List ℕ → Result Yes FrameRefusal → Type 0) → Option ℕ → Option (List ℕ) → Option (List ℕ) → FrameAnswer → Type 0
+AnswerMeans IsVerdict start old new Unread = Unit {0}
+AnswerMeans IsVerdict start old new (Judged v) =
+    IsReadTo MOST_FRAME_READ old new × ((bytes : List ℕ) × ReadsFrame old start bytes × IsVerdict bytes v)
 
 -- the whole line of an answer
 abbrev pub frame_line : List ℕ → FrameAnswer → List ℕ
@@ -114,17 +140,17 @@ frame_line name answer = name ++ frame_line_text answer
 
 -- the line of an answer was written, and nothing else
 pub record ReportsFrame
-    (rom : List ℕ) (map : MemoryMap) (start : Option ℕ) (budget : ℕ) (w : Window) (name : List ℕ)
-    (frame left : Option (List ℕ)) (old new : Option (List ℕ)) (end : FrameOutcome) : Type 0 where
+    (IsVerdict : List ℕ → Result Yes FrameRefusal → Type 0) (start : Option ℕ) (name : List ℕ) (frame left : Option (List ℕ))
+    (old new : Option (List ℕ)) (end : FrameOutcome) : Type 0 where
   pub answer : FrameAnswer
-  pub means : AnswerMeans rom map start budget w frame left answer
+  pub means : AnswerMeans IsVerdict start frame left answer
   pub written : Appends old new (frame_line name answer)
   pub outcome_is : end ≡ frame_outcome_of answer
 
 -- a prefix of it was written, and nothing else
 pub record ReportsFramePrefix
-    (rom : List ℕ) (map : MemoryMap) (start : Option ℕ) (budget : ℕ) (w : Window) (name : List ℕ)
-    (frame left : Option (List ℕ)) (old new : Option (List ℕ)) : Type 0 where
+    (IsVerdict : List ℕ → Result Yes FrameRefusal → Type 0) (start : Option ℕ) (name : List ℕ) (frame left : Option (List ℕ))
+    (old new : Option (List ℕ)) : Type 0 where
   pub answer : FrameAnswer
-  pub means : AnswerMeans rom map start budget w frame left answer
+  pub means : AnswerMeans IsVerdict start frame left answer
   pub written : AppendsPrefix old new (frame_line name answer)

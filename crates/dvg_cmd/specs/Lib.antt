@@ -3,5 +3,6 @@ pub mod Runs
 pub mod Frames
 pub mod Status
 pub mod Making
+pub mod MakingFrames
 pub mod Numbers
 pub mod Private

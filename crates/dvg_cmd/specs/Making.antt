@@ -45,16 +45,16 @@ pub record Makes (rom : Option (List ℕ)) (map : MemoryMap) (roots : List (ℕ 
   pub rom_length : IsRomLength map (length rom_bytes)
   pub made : Made (rom_of map rom_bytes) roots list
 
--- the text of such a list was written, and nothing else
-pub record MakesText (rom : Option (List ℕ)) (map : MemoryMap) (roots : List (ℕ × Key)) (old new : Option (List ℕ)) : Type 0 where
+-- the text of a list of which this holds was written, and nothing else
+pub record WritesMade (IsMade : List Entry → Type 0) (map : MemoryMap) (old new : Option (List ℕ)) : Type 0 where
   pub list : List Entry
-  pub makes : Makes rom map roots list
+  pub made : IsMade list
   pub written : Appends old new (text_of map list)
 
 -- a prefix of its text was written, and nothing else
-pub record MakesPrefix (rom : Option (List ℕ)) (map : MemoryMap) (roots : List (ℕ × Key)) (old new : Option (List ℕ)) : Type 0 where
+pub record WritesMadePrefix (IsMade : List Entry → Type 0) (map : MemoryMap) (old new : Option (List ℕ)) : Type 0 where
   pub list : List Entry
-  pub makes : Makes rom map roots list
+  pub made : IsMade list
   pub written : AppendsPrefix old new (text_of map list)
 
 -- what a fault says of all bytes that a reader held: a wrong length, or what the maker's refusal says

@@ -1,10 +1,12 @@
 -- The numbers of runs that failed. All of it is profile.
-use Rattle.std.specs.Prelude.{ℕ}
-use Rattle.dvg_make.specs.Refusals.{fault_number}
+use Rattle.std.specs.Prelude.{ℕ, Option, None, Some}
+use Rattle.dvg_make.specs.Refusals.{fault_number, make_fault_of}
 use Rattle.dvg_cmd.specs.declared.running.RunFault.{RunFault}
 use Rattle.dvg_cmd.specs.declared.running.RunFault.TheVariants.{ReadRom, ReadFrame, ReadCert, Write, Memory}
 use Rattle.dvg_cmd.specs.declared.making.MakeRunFault.{MakeRunFault}
 use Rattle.dvg_cmd.specs.declared.making.MakeRunFault.TheVariants as maker
+use Rattle.dvg_cmd.specs.declared.making_frames.FramesRunFault.{FramesRunFault}
+use Rattle.dvg_cmd.specs.declared.making_frames.FramesRunFault.TheVariants as frames
 
 -- why a run of the checker wrote no report
 abbrev pub run_number : RunFault → ℕ
@@ -20,3 +22,17 @@ make_run_number maker.RomLength = 1
 make_run_number (maker.Make f) = fault_number f
 make_run_number maker.ReadRom = 70
 make_run_number maker.Write = 73
+
+-- why a run of the maker for frames wrote no certificate
+abbrev pub frames_run_number : FramesRunFault → ℕ
+frames_run_number (frames.Plain f) = make_run_number f
+frames_run_number (frames.FrameLength n) = 2
+frames_run_number (frames.Call call why) = fault_number (make_fault_of why)
+frames_run_number frames.ReadFrame = 71
+
+-- the frame that has the fault, counted from 0, where it is known to be one's
+abbrev pub frame_blamed : FramesRunFault → Option ℕ
+frame_blamed (frames.Plain f) = None
+frame_blamed (frames.FrameLength n) = Some n
+frame_blamed (frames.Call call why) = Some call.frame
+frame_blamed frames.ReadFrame = None

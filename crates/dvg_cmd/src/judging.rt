@@ -1,12 +1,12 @@
 //! Running the judge of one frame over a reader and a writer, by the frame's own certificate or over shapes that were judged.
 
-ghost use Rattle.std.specs.Prelude.{◌≡◌, Err, IfOk, IfErr, OnOk, OnErr, is_err};
+ghost use Rattle.std.specs.Prelude.{◌≡◌, Bool, length, take, Err, IfOk, IfErr, IfSome, OnOk, OnErr, is_err};
 ghost use Rattle.std.specs.Io.KnownBytes.{Appends};
 ghost use Rattle.dvg_cert.specs.Devices.{AppendsPrefix, count_after};
 ghost use Rattle.dvg_cmd.specs.Runs.{MOST_ROM_READ, MOST_FRAME_READ, IsReadTo, ReadsText, outcome_of};
 ghost use Rattle.dvg_cmd.specs.Report.{report_text};
 ghost use Rattle.dvg_cmd.specs.Status.{worse};
-ghost use Rattle.dvg_cmd.specs.Frames.{FrameVerdict, ReadsFrame, refusal_outcome_of, frame_outcome_of, frame_line, is_unread_outcome, ReportsFrame, ReportsFramePrefix};
+ghost use Rattle.dvg_cmd.specs.Frames.{FrameVerdict, VerdictOver, ReadsFrame, refusal_outcome_of, frame_outcome_of, frame_line, is_unread_outcome, ReportsFrame, ReportsFramePrefix};
 
 use crate::reading::{read_certificate, read_frame, read_rom};
 use crate::report::frame_report_of;
@@ -94,7 +94,9 @@ fn frame_outcome_of(answer: &FrameAnswer) -> FrameOutcome
 
 /// The bytes of a ROM, up to one past the length of the longest, which is 4096. Answers 70 where the reader fails. Takes no
 /// memory.
+#[tactic(auto, unfolding(crate::specs::Private::Reading::limited))]
 pub fn load_rom<R: CountedRead>(rom: &mut R) -> Result<ArrayVec<u8, 4097>, RunFault>
+    ensures bytes { IfOk result (λ bytes. IfSome (R.remaining rom.old) (λ held. bytes.items ≡ take MOST_ROM_READ held)) }
     ensures read { OnOk result (IsReadTo MOST_ROM_READ (R.remaining rom.old) (R.remaining rom.new)) }
     ensures fault { IfErr result (λ fault. fault ≡ RunFault.ReadRom) }
     ensures count { R.failures rom.new ≡ count_after (is_err result) (R.failures rom.old) }
@@ -161,14 +163,21 @@ fn judge_over<E: Entries>(
     cert: &Cert,
     frame: &[u8],
     budget: u32,
-) -> Result<Yes, Refusal> {
-    let frame = frame_of(frame, budget)?;
-    let accepted = shapes.check_frame(&frame, budget)?;
-    Ok(Yes {
-        shapes: cert.entries().len() as u32,
-        words: accepted.words,
-        depth: accepted.depth,
-    })
+) -> Result<Yes, FrameRefusal>
+    ensures { VerdictOver shapes.now (length cert.now.entries) frame.now budget result }
+{
+    let frame = match frame_of(frame, budget) {
+        Ok(frame) => frame,
+        Err(refusal) => return Err(FrameRefusal::Check(refusal)),
+    };
+    match shapes.check_frame(&frame, budget) {
+        Ok(accepted) => Ok(Yes {
+            shapes: cert.entries().len() as u32,
+            words: accepted.words,
+            depth: accepted.depth,
+        }),
+        Err(fault) => Err(FrameRefusal::Check(Refusal::Frame(fault))),
+    }
 }
 
 /// Writes the line of an answer: the name, which has no control characters, a colon and a space, and the report.
@@ -210,14 +219,15 @@ pub fn run_frame<R: CountedRead, W: CountedWrite>(
     out: &mut W,
 ) -> Result<FrameOutcome, RunFault>
     // The line of an answer is written, or a prefix of it where the writer failed, which alone ends a run.
-    ensures report { IfOk result (ReportsFrame rom.now map start budget window name.now (R.remaining frame.old) (R.remaining frame.new)
-        (W.contents out.old) (W.contents out.new)) }
-    ensures prefix { OnErr result (ReportsFramePrefix rom.now map start budget window name.now (R.remaining frame.old)
-        (R.remaining frame.new) (W.contents out.old) (W.contents out.new)) }
+    ensures report { IfOk result (ReportsFrame (λ bytes. FrameVerdict rom.now map bytes budget window) start name.now
+        (R.remaining frame.old) (R.remaining frame.new) (W.contents out.old) (W.contents out.new)) }
+    ensures prefix { OnErr result (ReportsFramePrefix (λ bytes. FrameVerdict rom.now map bytes budget window) start name.now
+        (R.remaining frame.old) (R.remaining frame.new) (W.contents out.old) (W.contents out.new)) }
     ensures fault { IfErr result (λ fault. fault ≡ RunFault.Write) }
 
-    // The frame's count rises by one where it could not be read, and the writer's where the run ends.
+    // The frame's count rises by one where it could not be read, and by no more where the run ends; the writer's rises there.
     ensures frame_count { IfOk result (λ outcome. R.failures frame.new ≡ count_after (is_unread_outcome outcome) (R.failures frame.old)) }
+    ensures frame_once { (failed : Bool) × (R.failures frame.new ≡ count_after failed (R.failures frame.old)) }
     ensures out_count { W.failures out.new ≡ count_after (is_err result) (W.failures out.old) }
 {
     let answer = match read_started(frame, start) {
@@ -239,15 +249,17 @@ pub fn run_frame_over<E: Entries, R: CountedRead, W: CountedWrite>(
     budget: u32,
     out: &mut W,
 ) -> Result<FrameOutcome, RunFault>
+    ensures report { IfOk result (ReportsFrame (λ bytes. VerdictOver shapes.now (length cert.now.entries) bytes budget) start name.now
+        (R.remaining frame.old) (R.remaining frame.new) (W.contents out.old) (W.contents out.new)) }
+    ensures prefix { OnErr result (ReportsFramePrefix (λ bytes. VerdictOver shapes.now (length cert.now.entries) bytes budget) start name.now
+        (R.remaining frame.old) (R.remaining frame.new) (W.contents out.old) (W.contents out.new)) }
     ensures fault { IfErr result (λ fault. fault ≡ RunFault.Write) }
     ensures frame_count { IfOk result (λ outcome. R.failures frame.new ≡ count_after (is_unread_outcome outcome) (R.failures frame.old)) }
+    ensures frame_once { (failed : Bool) × (R.failures frame.new ≡ count_after failed (R.failures frame.old)) }
     ensures out_count { W.failures out.new ≡ count_after (is_err result) (W.failures out.old) }
 {
     let answer = match read_started(frame, start) {
-        Ok(bytes) => match judge_over(shapes, cert, bytes.as_slice(), budget) {
-            Ok(yes) => FrameAnswer::Judged(Ok(yes)),
-            Err(refusal) => FrameAnswer::Judged(Err(FrameRefusal::Check(refusal))),
-        },
+        Ok(bytes) => FrameAnswer::Judged(judge_over(shapes, cert, bytes.as_slice(), budget)),
         Err(_) => FrameAnswer::Unread,
     };
     write_line(name, &answer, out)

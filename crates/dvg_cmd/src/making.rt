@@ -5,7 +5,7 @@ ghost use Rattle.std.specs.Io.KnownBytes.{Appends};
 ghost use Rattle.dvg_cert.specs.Devices.{count_after};
 ghost use Rattle.dvg_cert.specs.declared.entry.Key.{Key as KeyValue};
 ghost use Rattle.dvg_cmd.specs.Numbers.{make_run_number};
-ghost use Rattle.dvg_cmd.specs.Making.{IsRoot, IsMapText, blames_maker_rom, blames_maker_writer, Makes, MakesText, MakesPrefix, MakeFaultMeans};
+ghost use Rattle.dvg_cmd.specs.Making.{IsRoot, IsMapText, blames_maker_rom, blames_maker_writer, Makes, WritesMade, WritesMadePrefix, MakeFaultMeans};
 ghost use Rattle.dvg_cmd.specs.Runs.{MOST_ROM_READ};
 ghost use Rattle.dvg_cmd.specs.Private.Reading.{IsPrefix};
 ghost use Rattle.dvg_words.specs.Values.{MemoryMap};
@@ -117,9 +117,9 @@ pub fn run_make<R: CountedRead, W: CountedWrite>(
     ensures out_count { W.failures out.new ≡ count_after (blames_maker_writer result) (W.failures out.old) }
 
     // What is written is the text of the list that is made for all bytes that the reader held, or a prefix of it, or nothing.
-    ensures text { OnOk result (MakesText (R.remaining rom.old) map roots.now (W.contents out.old) (W.contents out.new)) }
-    ensures prefix { result ≡ Err MakeRunFault.Write → MakesPrefix (R.remaining rom.old) map roots.now (W.contents out.old)
-        (W.contents out.new) }
+    ensures text { OnOk result (WritesMade (Makes (R.remaining rom.old) map roots.now) map (W.contents out.old) (W.contents out.new)) }
+    ensures prefix { result ≡ Err MakeRunFault.Write → WritesMadePrefix (Makes (R.remaining rom.old) map roots.now) map
+        (W.contents out.old) (W.contents out.new) }
     ensures nothing { IfErr result (λ fault. fault ≢ MakeRunFault.Write → Appends (W.contents out.old) (W.contents out.new) []) }
 
     // 1 comes for a wrong length alone, and 60 to 62 only where no made list exists.

@@ -1,5 +1,18 @@
 //! Running the maker for roots and frames over readers and a writer.
 
+ghost use Rattle.std.specs.Prelude.{◌≡◌, ◌≢◌, ◌⊎◌, List, ℕ, [], Option, Err, IfOk, IfErr, OnOk, OnErr};
+ghost use Rattle.std.specs.Io.KnownBytes.{Appends};
+ghost use Rattle.dvg_words.specs.Memory.{words_of};
+ghost use Rattle.dvg_cert.specs.Devices.{count_after};
+ghost use Rattle.dvg_cmd.specs.Numbers.{frames_run_number, frame_blamed};
+ghost use Rattle.dvg_cmd.specs.Making.{WritesMade, WritesMadePrefix};
+ghost use Rattle.dvg_cmd.specs.MakingFrames.{blames_frames_rom, blames_a_frame, blames_frames_writer, of_each, FailedAfter, EachRead, AreFrames, MakesForFrames, FramesFaultMeans, told_fault};
+ghost use Rattle.dvg_cmd.specs.Private.Reading.{IsPrefix, ArePrefixes, RefusesLengths};
+ghost use Rattle.dvg_cmd.specs.Runs.{MOST_ROM_READ, IsReadTo};
+ghost use Rattle.dvg_cmd.specs.declared.making.MakeRunFault.TheVariants as maker;
+ghost use Rattle.dvg_cmd.specs.declared.making_frames.FramesRunFault.TheVariants as faults;
+ghost use Rattle.dvg_make.specs.declared.fault.MakeFault.TheVariants as making;
+
 use crate::making::MakeRunFault;
 use crate::reading::{read_frame, read_rom};
 use crate::running::RunFault;
@@ -29,7 +42,9 @@ pub enum FramesRunFault {
 
 impl FramesRunFault {
     /// The number of the fault.
-    pub fn number(self) -> u8 {
+    pub fn number(self) -> u8
+        ensures { result ≡ frames_run_number self }
+    {
         match self {
             FramesRunFault::Plain(fault) => fault.number(),
             FramesRunFault::FrameLength { .. } => 2,
@@ -39,7 +54,9 @@ impl FramesRunFault {
     }
 
     /// Which frame has the fault, counted from 0, where it is one's.
-    pub fn frame(self) -> Option<usize> {
+    pub fn frame(self) -> Option<usize>
+        ensures { result ≡ frame_blamed self }
+    {
         match self {
             FramesRunFault::FrameLength { frame } => Some(frame),
             FramesRunFault::Call { call, .. } => Some(call.frame),
@@ -49,12 +66,16 @@ impl FramesRunFault {
 }
 
 impl From<MakeRunFault> for FramesRunFault {
+    ghost from_gives = { λ plain fault. fault ≡ faults.Plain plain };
+
     fn from(fault: MakeRunFault) -> FramesRunFault {
         FramesRunFault::Plain(fault)
     }
 }
 
 impl From<FramesFault> for FramesRunFault {
+    ghost from_gives = { λ refusal fault. fault ≡ told_fault refusal.call refusal.why };
+
     fn from(fault: FramesFault) -> FramesRunFault {
         match fault.call {
             Some(call) => FramesRunFault::Call {
@@ -69,12 +90,16 @@ impl From<FramesFault> for FramesRunFault {
 const NO_MEMORY: FramesRunFault = FramesRunFault::Plain(MakeRunFault::Make(MakeFault::Memory));
 
 impl From<AllocError> for FramesRunFault {
+    ghost from_gives = { λ _ fault. fault ≡ faults.Plain (maker.Make making.Memory) };
+
     fn from(_error: AllocError) -> FramesRunFault {
         NO_MEMORY
     }
 }
 
 impl<T: Drop> From<AllocFailed<T>> for FramesRunFault {
+    ghost from_gives = { λ _ fault. fault ≡ faults.Plain (maker.Make making.Memory) };
+
     fn from(_error: AllocFailed<T>) -> FramesRunFault {
         NO_MEMORY
     }
@@ -87,7 +112,12 @@ type FrameBytes = ArrayVec<u8, 2049>;
 fn read_frames<R: CountedRead>(
     alloc: Global,
     frames: &mut [R],
-) -> Result<Vec<FrameBytes>, FramesRunFault> {
+) -> Result<Vec<FrameBytes>, FramesRunFault>
+    ensures bytes { IfOk result (λ read. ArePrefixes (of_each (λ frame. R.remaining frame) frames.old) (of_each (λ bytes. bytes.items) read.items)) }
+    ensures read { OnOk result (EachRead (of_each (λ frame. R.remaining frame) frames.old) (of_each (λ frame. R.remaining frame) frames.new)) }
+    ensures counts { FailedAfter (blames_a_frame result) (of_each (λ frame. R.failures frame) frames.old) (of_each (λ frame. R.failures frame) frames.new) }
+    ensures fault { IfErr result (λ fault. (fault ≡ FramesRunFault.ReadFrame) ⊎ (fault ≡ FramesRunFault.Plain (maker.Make making.Memory))) }
+{
     let mut read = Vec::new(alloc);
     for frame in frames {
         let Ok(bytes) = read_frame(frame) else {
@@ -99,7 +129,11 @@ fn read_frames<R: CountedRead>(
 }
 
 /// The images of what was read of frames.
-fn images_of(alloc: Global, read: &[FrameBytes]) -> Result<Vec<FrameImage<'_>>, FramesRunFault> {
+fn images_of(alloc: Global, read: &[FrameBytes]) -> Result<Vec<FrameImage<'_>>, FramesRunFault>
+    ensures frames { OnOk result (AreFrames (of_each (λ bytes. bytes.items) read.now)) }
+    ensures images { IfOk result (λ images. images.items ≡ of_each words_of (of_each (λ bytes. bytes.items) read.now)) }
+    ensures refused { IfErr result (RefusesLengths (of_each (λ bytes. bytes.items) read.now)) }
+{
     let mut images = Vec::new(alloc);
     for (frame, bytes) in read.iter().enumerate() {
         let Ok(image) = FrameImage::from_bytes(bytes.as_slice()) else {
@@ -117,7 +151,17 @@ fn make_on(
     map: RomMap,
     roots: &[(u16, Key)],
     frames: &[FrameBytes],
-) -> Result<Cert, FramesRunFault> {
+) -> Result<Cert, FramesRunFault>
+    ensures ok { (held : Option (List ℕ)) (readers : List (Option (List ℕ))) → IsPrefix MOST_ROM_READ held rom.now
+        → ArePrefixes readers (of_each (λ bytes. bytes.items) frames.now)
+        → IfOk result (λ cert. MakesForFrames held map roots.now readers cert.entries) }
+    ensures map { IfOk result (λ cert. cert.map ≡ map) }
+    ensures refused { (held : Option (List ℕ)) (readers : List (Option (List ℕ))) → IsPrefix MOST_ROM_READ held rom.now
+        → ArePrefixes readers (of_each (λ bytes. bytes.items) frames.now)
+        → IfErr result (FramesFaultMeans held map roots.now readers) }
+    ensures fault { IfErr result (λ fault. (fault ≢ FramesRunFault.Plain maker.ReadRom) × (fault ≢ FramesRunFault.ReadFrame)
+        × (fault ≢ FramesRunFault.Plain maker.Write)) }
+{
     let Ok(rom) = RomImage::from_bytes(rom, map) else {
         return Err(MakeRunFault::RomLength.into());
     };
@@ -139,7 +183,30 @@ pub fn run_make_frames<R1: CountedRead, R2: CountedRead, W: CountedWrite>(
     roots: &[(u16, Key)],
     frames: &mut [R2],
     out: &mut W,
-) -> Result<(), FramesRunFault> {
+) -> Result<(), FramesRunFault>
+    // 70, 71 and 73 come exactly where their device failed in this call, and the device's count then rises by one.
+    ensures rom_count { R1.failures rom.new ≡ count_after (blames_frames_rom result) (R1.failures rom.old) }
+    ensures frame_counts { FailedAfter (blames_a_frame result) (of_each (λ frame. R2.failures frame) frames.old)
+        (of_each (λ frame. R2.failures frame) frames.new) }
+    ensures out_count { W.failures out.new ≡ count_after (blames_frames_writer result) (W.failures out.old) }
+
+    // Where a certificate is written, ROM and frames were read to their end or to one byte past their limit, and no further.
+    // Where the ROM's reader failed, no frame was read.
+    ensures rom_read { OnOk result (IsReadTo MOST_ROM_READ (R1.remaining rom.old) (R1.remaining rom.new)) }
+    ensures frames_read { OnOk result (EachRead (of_each (λ frame. R2.remaining frame) frames.old)
+        (of_each (λ frame. R2.remaining frame) frames.new)) }
+    ensures frames_unread { result ≡ Err (FramesRunFault.Plain maker.ReadRom) → frames.new ≡ frames.old }
+
+    // What is written is the text of the list that is made for all bytes that the readers held, or a prefix of it, or nothing.
+    ensures text { OnOk result (WritesMade (MakesForFrames (R1.remaining rom.old) map roots.now
+        (of_each (λ frame. R2.remaining frame) frames.old)) map (W.contents out.old) (W.contents out.new)) }
+    ensures prefix { result ≡ Err (FramesRunFault.Plain maker.Write) → WritesMadePrefix (MakesForFrames (R1.remaining rom.old) map roots.now
+        (of_each (λ frame. R2.remaining frame) frames.old)) map (W.contents out.old) (W.contents out.new) }
+    ensures nothing { IfErr result (λ fault. fault ≢ FramesRunFault.Plain maker.Write → Appends (W.contents out.old) (W.contents out.new) []) }
+
+    // 1 and 2 come for a wrong length alone, and 60 to 62 as the maker refuses.
+    ensures refused { IfErr result (FramesFaultMeans (R1.remaining rom.old) map roots.now (of_each (λ frame. R2.remaining frame) frames.old)) }
+{
     let Ok(bytes) = read_rom(rom) else {
         return Err(MakeRunFault::ReadRom.into());
     };

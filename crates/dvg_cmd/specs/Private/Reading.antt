@@ -1,5 +1,10 @@
 -- What is read of an input, up to its limit.
-use Rattle.std.specs.Prelude.{◌≡◌, ℕ, List, take, length, Option, IfSome}
+use Rattle.std.specs.Prelude.{◌≡◌, ℕ, List, [], ◌∷◌, take, length, Option, IfSome}
+use Rattle.dvg_make.specs.declared.fault.MakeFault.TheVariants as making
+use Rattle.dvg_cmd.specs.Runs.{MOST_FRAME_READ}
+use Rattle.dvg_cmd.specs.declared.making.MakeRunFault.TheVariants as maker
+use Rattle.dvg_cmd.specs.MakingFrames.{FramesRunFault, FirstWrong}
+use Rattle.dvg_cmd.specs.declared.making_frames.FramesRunFault.TheVariants as fault
 use Rattle.dvg_cert.specs.Stream.{Stream, Open, Refused}
 
 -- the first of the bytes, up to a limit
@@ -14,3 +19,15 @@ pub record IsPrefix (most : ℕ) (reader : Option (List ℕ)) (bytes : List ℕ)
 abbrev pub taken_length : Stream → ℕ
 taken_length (Open text) = length text
 taken_length (Refused f) = 0
+
+-- so for each of several readers of frames
+abbrev pub ArePrefixes : List (Option (List ℕ)) → List (List ℕ) → Type 0
+ArePrefixes [] [] = Unit {0}
+ArePrefixes (reader ∷ readers) (bytes ∷ rest) = IsPrefix MOST_FRAME_READ reader bytes × ArePrefixes readers rest
+ArePrefixes readers rest = ⊥
+
+-- what a fault says of what was read of several frames: which is the first of a wrong length, or that memory was out
+abbrev pub RefusesLengths : List (List ℕ) → FramesRunFault → Type 0
+RefusesLengths read (fault.FrameLength n) = FirstWrong read n
+RefusesLengths read (fault.Plain (maker.Make making.Memory)) = Unit {0}
+RefusesLengths read f = ⊥

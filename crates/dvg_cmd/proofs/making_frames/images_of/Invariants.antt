@@ -1,0 +1,8 @@
+use Rattle.std.proofs.Common.{◌≡◌, take}
+use Rattle.dvg_words.specs.Memory.{words_of}
+use Rattle.dvg_cmd.specs.MakingFrames.{of_each, AreFrames}
+use Rattle.dvg_cmd.proofs.making_frames.images_of.Given as goal
+
+abbrev pub invariant-loop-frame : goal.invariant-loop-frame
+invariant-loop-frame l =
+    AreFrames (of_each (λ bytes. bytes.items) (take l.frame l.read)) × (l.images.items ≡ of_each words_of (of_each (λ bytes. bytes.items) (take l.frame l.read)))

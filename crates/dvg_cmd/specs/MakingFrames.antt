@@ -1,0 +1,130 @@
+-- What a run of the maker for frames says of the bytes that its readers held, and what it writes. All of it is profile.
+use Rattle.std.specs.Prelude.{◌≡◌, ℕ, zero, suc, Bool, true, false, List, [], ◌∷◌, ◌++◌, length, Option, None, Some, Result, Err}
+use Rattle.dvg_words.specs.Values.{MemoryMap}
+use Rattle.dvg_words.specs.Memory.{words_of, rom_of, IsRomLength, IsFrameLength}
+use Rattle.dvg_cert.specs.Devices.{count_after}
+use Rattle.dvg_cert.specs.declared.entry.Entry.{Entry}
+use Rattle.dvg_cert.specs.declared.entry.Key.{Key}
+use Rattle.dvg_make.specs.declared.fault.EntryFault.{EntryFault}
+use Rattle.dvg_make.specs.declared.fault.FrameCall.{FrameCall}
+use Rattle.dvg_make.specs.declared.fault.FramesFault.{FramesFault}
+use Rattle.dvg_make.specs.declared.fault.MakeFault.{MakeFault}
+use Rattle.dvg_make.specs.declared.fault.MakeFault.TheVariants as making
+use Rattle.dvg_make.specs.Frames.{FramesMade}
+use Rattle.dvg_make.specs.Refusals.{FramesRefuse, make_fault_of}
+use Rattle.dvg_cmd.specs.Making.{Held}
+use Rattle.dvg_cmd.specs.Runs.{MOST_FRAME_READ, IsReadTo}
+use Rattle.dvg_cmd.specs.declared.making.MakeRunFault.TheVariants as maker
+pub use Rattle.dvg_cmd.specs.declared.making_frames.FramesRunFault.{FramesRunFault}
+use Rattle.dvg_cmd.specs.declared.making_frames.FramesRunFault.TheVariants as fault
+
+-- ---- which device an answer blames
+
+abbrev pub blames_frames_rom : {A : Type 0} → Result A FramesRunFault → Bool
+blames_frames_rom (Err (fault.Plain maker.ReadRom)) = true
+blames_frames_rom answer = false
+
+abbrev pub blames_a_frame : {A : Type 0} → Result A FramesRunFault → Bool
+blames_a_frame (Err fault.ReadFrame) = true
+blames_a_frame answer = false
+
+abbrev pub blames_frames_writer : {A : Type 0} → Result A FramesRunFault → Bool
+blames_frames_writer (Err (fault.Plain maker.Write)) = true
+blames_frames_writer answer = false
+
+-- ---- several readers
+
+-- what each of them is told by, as what it holds, or how many of its calls failed
+abbrev pub of_each : {A B : Type 0} → (A → B) → List A → List B
+of_each told [] = []
+of_each told (reader ∷ readers) = told reader ∷ of_each told readers
+
+-- the count of one of them is that after a call that failed, and the others' are as they were
+pub record OneFailed (old new : List ℕ) : Type 0 where
+  pub before : List ℕ
+  pub count : ℕ
+  pub after : List ℕ
+  pub old_is : old ≡ before ++ count ∷ after
+  pub new_is : new ≡ before ++ count_after true count ∷ after
+
+-- one of them failed, or none
+abbrev pub FailedAfter : Bool → List ℕ → List ℕ → Type 0
+FailedAfter true old new = OneFailed old new
+FailedAfter false old new = new ≡ old
+
+-- each was read to its end, or to one byte past a frame's limit, and no further
+abbrev pub EachRead : List (Option (List ℕ)) → List (Option (List ℕ)) → Type 0
+EachRead [] [] = Unit {0}
+EachRead (old ∷ olds) (new ∷ news) = IsReadTo MOST_FRAME_READ old new × EachRead olds news
+EachRead olds news = ⊥
+
+-- each held these bytes, in this order
+abbrev pub EachHeld : List (Option (List ℕ)) → List (List ℕ) → Type 0
+EachHeld [] [] = Unit {0}
+EachHeld (reader ∷ readers) (bytes ∷ rest) = Held reader bytes × EachHeld readers rest
+EachHeld readers rest = ⊥
+
+-- ---- frames
+
+-- each has a frame's length
+abbrev pub AreFrames : List (List ℕ) → Type 0
+AreFrames [] = Unit {0}
+AreFrames (bytes ∷ rest) = IsFrameLength (length bytes) × AreFrames rest
+
+-- the one at this place, counted from 0, is the first that has not
+abbrev pub FirstWrong : List (List ℕ) → ℕ → Type 0
+FirstWrong [] n = ⊥
+FirstWrong (bytes ∷ rest) zero = IsFrameLength (length bytes) → ⊥
+FirstWrong (bytes ∷ rest) (suc n) = IsFrameLength (length bytes) × FirstWrong rest n
+
+-- all bytes that readers held, of a ROM at this map and of frames
+pub record Inputs (rom : Option (List ℕ)) (map : MemoryMap) (frames : List (Option (List ℕ))) : Type 0 where
+  pub rom_bytes : List ℕ
+  pub frame_bytes : List (List ℕ)
+  pub rom_held : Held rom rom_bytes
+  pub frames_held : EachHeld frames frame_bytes
+  pub rom_length : IsRomLength map (length rom_bytes)
+  pub frame_lengths : AreFrames frame_bytes
+
+-- ---- what is answered
+
+-- this list is made for them
+abbrev pub MakesForFrames : Option (List ℕ) → MemoryMap → List (ℕ × Key) → List (Option (List ℕ)) → List Entry → Type 0
+MakesForFrames rom map roots frames list =
+    (all : Inputs rom map frames) × FramesMade (rom_of map all.rom_bytes) roots (of_each words_of all.frame_bytes) list
+
+-- what the maker's refusal says of them
+abbrev pub RefusesInputs : Option (List ℕ) → MemoryMap → List (ℕ × Key) → List (Option (List ℕ)) → FramesFault → Type 0
+RefusesInputs rom map roots frames refusal =
+    (all : Inputs rom map frames) × FramesRefuse (rom_of map all.rom_bytes) roots (of_each words_of all.frame_bytes) refusal
+
+-- a refusal that names no frame
+abbrev pub RefusesRoots : Option (List ℕ) → MemoryMap → List (ℕ × Key) → List (Option (List ℕ)) → MakeFault → Type 0
+RefusesRoots rom map roots frames making.Memory = Unit {0}
+RefusesRoots rom map roots frames f =
+    (why : EntryFault) × (make_fault_of why ≡ f) × RefusesInputs rom map roots frames (record { call = None; why = why })
+
+-- a ROM of its map's length, and the first frame of a wrong length
+pub record WrongFrame (rom : Option (List ℕ)) (map : MemoryMap) (frames : List (Option (List ℕ))) (frame : ℕ) : Type 0 where
+  pub rom_bytes : List ℕ
+  pub frame_bytes : List (List ℕ)
+  pub rom_held : Held rom rom_bytes
+  pub frames_held : EachHeld frames frame_bytes
+  pub rom_length : IsRomLength map (length rom_bytes)
+  pub wrong : FirstWrong frame_bytes frame
+
+-- what a fault says of all bytes that readers held: the first that applies of 1, 2, and what the maker's refusal says
+abbrev pub FramesFaultMeans : Option (List ℕ) → MemoryMap → List (ℕ × Key) → List (Option (List ℕ)) → FramesRunFault → Type 0
+FramesFaultMeans rom map roots frames (fault.Plain maker.RomLength) =
+    (bytes : List ℕ) × Held rom bytes × (IsRomLength map (length bytes) → ⊥)
+FramesFaultMeans rom map roots frames (fault.Plain (maker.Make f)) = RefusesRoots rom map roots frames f
+FramesFaultMeans rom map roots frames (fault.Plain maker.ReadRom) = Unit {0}
+FramesFaultMeans rom map roots frames (fault.Plain maker.Write) = Unit {0}
+FramesFaultMeans rom map roots frames (fault.FrameLength n) = WrongFrame rom map frames n
+FramesFaultMeans rom map roots frames (fault.Call call why) = RefusesInputs rom map roots frames (record { call = Some call; why = why })
+FramesFaultMeans rom map roots frames fault.ReadFrame = Unit {0}
+
+-- the run's fault that tells why the maker did not make the entry of this call, or of a root
+abbrev pub told_fault : Option FrameCall → EntryFault → FramesRunFault
+told_fault None why = fault.Plain (maker.Make (make_fault_of why))
+told_fault (Some call) why = fault.Call call why
