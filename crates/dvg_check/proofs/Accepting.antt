@@ -1,5 +1,5 @@
 -- What is accepted is safe, and there is one verdict.
-use Rattle.std.proofs.Common.{List, length, sym, subst, ap, refl, ◌≡◌, ◌∙◌, ◌<◌, ℕ}
+use Rattle.std.proofs.Common.{List, length, sym, subst, ap, refl, ◌≡◌, ◌∙◌, ℕ}
 use Rattle.std.specs.Prelude.{Err, Ok, Result, IfOk}
 use Rattle.dvg_words.specs.Memory.{Rom, IsFrame, IsRom, words_of, rom_of}
 use Rattle.dvg_words.specs.Values.{Window}
@@ -16,7 +16,6 @@ use Rattle.dvg_check.specs.Laws.{CountsAtHalt, OneVerdict}
 use Rattle.dvg_check.specs.Rules.{Good, GoodFrame}
 use Rattle.dvg_check.specs.Safety.{Safe}
 use Rattle.dvg_check.specs.Judged.{Shapes, IsJudged}
-use Rattle.dvg_check.specs.declared.fault.FrameFault.{FrameFault}
 use Rattle.dvg_check.specs.declared.frames.Accepted.{Accepted}
 use Rattle.dvg_check.specs.Verdict.{RangeRefusal, PartsVerdict, RomVerdict, CertVerdict, Verdict, NotMemory}
 use Rattle.dvg_check.specs.declared.fault.Mode.{Mode}
@@ -39,12 +38,12 @@ exact_of_good w frame rom list budget words depth some is_frame is_rom good good
     exact_is_exact (record { frame = frame; rom = rom }) w list budget words depth (record { frame = is_frame; rom = is_rom }) (λ e listed. (listed_claim list e some listed).depth) good good_frame
 
 -- an accepted frame over judged shapes is safe
-pub safe_over : (shapes : Shapes) (frame : List ℕ) (budget : ℕ) (answer : Result Accepted FrameFault) → IsJudged shapes → IsFrame frame → IfOk answer (λ yes. GoodFrame shapes.window frame shapes.list budget yes.words yes.depth) → IfOk answer (λ yes. Safe (record { frame = frame; rom = shapes.rom }) shapes.window yes.words yes.depth)
+pub safe_over : {F : Type 0} (shapes : Shapes) (frame : List ℕ) (budget : ℕ) (answer : Result Accepted F) → IsJudged shapes → IsFrame frame → IfOk answer (λ yes. GoodFrame shapes.window frame shapes.list budget yes.words yes.depth) → IfOk answer (λ yes. Safe (record { frame = frame; rom = shapes.rom }) shapes.window yes.words yes.depth)
 safe_over shapes frame budget (Ok a) h is_frame good = safe_of_good shapes.mode shapes.window frame shapes.rom shapes.list budget a.words a.depth h.list is_frame h.rom h.good good
 safe_over shapes frame budget (Err f) h is_frame good = tt
 
 -- and its counts are exact over shapes that were judged so
-pub exact_over : (shapes : Shapes) (frame : List ℕ) (budget : ℕ) (answer : Result Accepted FrameFault) → IsJudged shapes → IsFrame frame → IfOk answer (λ yes. GoodFrame shapes.window frame shapes.list budget yes.words yes.depth) → shapes.mode ≡ Exact → IfOk answer (λ yes. CountsAtHalt (record { frame = frame; rom = shapes.rom }) yes.words yes.depth)
+pub exact_over : {F : Type 0} (shapes : Shapes) (frame : List ℕ) (budget : ℕ) (answer : Result Accepted F) → IsJudged shapes → IsFrame frame → IfOk answer (λ yes. GoodFrame shapes.window frame shapes.list budget yes.words yes.depth) → shapes.mode ≡ Exact → IfOk answer (λ yes. CountsAtHalt (record { frame = frame; rom = shapes.rom }) yes.words yes.depth)
 exact_over shapes frame budget (Ok a) h is_frame good exact = exact_of_good shapes.window frame shapes.rom shapes.list budget a.words a.depth h.list is_frame h.rom (subst (λ mode. Good mode shapes.window shapes.rom shapes.list) exact h.good) good
 exact_over shapes frame budget (Err f) h is_frame good exact = tt
 

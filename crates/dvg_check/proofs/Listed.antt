@@ -1,34 +1,47 @@
 -- The first faulty entry of a list.
 use Rattle.std.proofs.Common.{List, length, take, get_or, drop, suc, arith, zero, refl, ap, slice_index_or, subst, sym, ◌≡◌, ◌<◌, ◌∷◌, ◌++◌, ℕ, []}
 use Rattle.std.specs.List.{AllByRecursion}
-use Rattle.dvg_words.specs.Memory.{Rom}
+use Rattle.dvg_words.specs.Memory.{Rom, rom_word}
 use Rattle.dvg_words.specs.Values.{Window}
 use Rattle.dvg_cert.specs.declared.entry.Entry.{Entry}
-use Rattle.dvg_check.specs.FirstFault.{ShapeFaultAt, FirstShapeFault}
+use Rattle.dvg_check.specs.Finding.{IsFound, ShapeFaultFound, ShapeFinding, FirstShapeFound}
+use Rattle.dvg_items.specs.Known.{known_before, shape_context}
 use Rattle.dvg_check.specs.Rules.{GoodShape}
 use Rattle.dvg_check.specs.declared.fault.Mode.{Mode}
-use Rattle.dvg_check.specs.declared.fault.ShapeFault.{ShapeFault}
 
 split_at : (l : List Entry) (i : ℕ) (d : Entry) → i < length l → l ≡ take i l ++ get_or l i d ∷ drop (suc i) l
 split_at [] i d lt = absurd (omega arith)
 split_at (x ∷ l) zero d lt = refl
 split_at (x ∷ l) (suc i) d lt = ap (λ r. x ∷ r) (split_at l i d (omega arith))
 
-pub faulty : (mode : Mode) (w : Window) (rom : Rom) (list items other : List Entry) (i : ℕ) (d : Entry) (f : ShapeFault) → items ≡ list → other ≡ list → i < length items → AllByRecursion (GoodShape mode w rom list) (take i list)
-    → ShapeFaultAt mode w rom other (slice_index_or items i d) f.word f.why
-    → f.addr ≡ (slice_index_or items i d).addr → f.key ≡ (slice_index_or items i d).key
-    → FirstShapeFault mode w rom list f
-faulty mode w rom list items other i d f same also lt good fault addr key =
+-- the first fault, and what is known there
+found_at : (mode : Mode) (w : Window) (rom : Rom) (list items : List Entry) (i : ℕ) (d : Entry) (f : ShapeFinding) → items ≡ list → i < length items → AllByRecursion (GoodShape mode w rom list) (take i list)
+    → ShapeFaultFound mode w rom list (slice_index_or items i d) f
+    → f.fault.addr ≡ (slice_index_or items i d).addr → f.fault.key ≡ (slice_index_or items i d).key → f.entry ≡ slice_index_or items i d
+    → FirstShapeFound mode w rom list f
+found_at mode w rom list items i d f same lt good found addr key entry =
     record {
-      before = take i list;
-      entry = slice_index_or items i d;
-      after = drop (suc i) list;
-      order_is = subst (λ (l : List Entry). l ≡ take i l ++ slice_index_or items i d ∷ drop (suc i) l) same (split_at items i d lt);
-      good = good;
-      addr = addr;
-      key = key;
-      fault = subst (λ (l : List Entry). ShapeFaultAt mode w rom l (slice_index_or items i d) f.word f.why) also fault;
+      first = record {
+        before = take i list;
+        entry = slice_index_or items i d;
+        after = drop (suc i) list;
+        order_is = subst (λ (l : List Entry). l ≡ take i l ++ slice_index_or items i d ∷ drop (suc i) l) same (split_at items i d lt);
+        good = good;
+        addr = addr;
+        key = key;
+        fault = found.fault;
+      };
+      entry = entry;
+      known = subst (λ e. f.before ≡ known_before (shape_context list e) found.fault.items) (sym entry) found.known;
+      stands = subst (λ e. IsFound (shape_context list e) (rom_word rom) found.fault.items f.fault.word f.found) (sym entry) found.stands;
     }
+
+pub faulty_found : (mode : Mode) (w : Window) (rom : Rom) (list items other : List Entry) (i : ℕ) (d : Entry) (f : ShapeFinding) → items ≡ list → other ≡ list → i < length items → AllByRecursion (GoodShape mode w rom list) (take i list)
+    → ShapeFaultFound mode w rom other (slice_index_or items i d) f
+    → f.fault.addr ≡ (slice_index_or items i d).addr → f.fault.key ≡ (slice_index_or items i d).key → f.entry ≡ slice_index_or items i d
+    → FirstShapeFound mode w rom list f
+faulty_found mode w rom list items other i d f same also lt good found addr key entry =
+    found_at mode w rom list items i d f same lt good (subst (λ (l : List Entry). ShapeFaultFound mode w rom l (slice_index_or items i d) f) also found) addr key entry
 
 -- one good entry more
 take_good : (P : Entry → Type 0) (l : List Entry) (i : ℕ) (d : Entry) → i < length l → AllByRecursion P (take i l) → P (get_or l i d) → AllByRecursion P (take (suc i) l)

@@ -8,6 +8,8 @@ use Rattle.dvg_words.specs.declared.instruction.Instr.{Instr}
 use Rattle.dvg_cert.specs.declared.entry.Entry.{Entry}
 use Rattle.dvg_cert.specs.declared.entry.Key.{Key}
 use Rattle.dvg_check.specs.FirstFault.{AllBefore, FaultAt}
+use Rattle.dvg_check.specs.Finding.{IsFound, FaultFound}
+use Rattle.dvg_check.specs.declared.fault.Found.TheVariants as found
 use Rattle.dvg_items.specs.Items.{LeadsTo}
 use Rattle.dvg_items.specs.Known.{Context, known_before}
 use Rattle.dvg_check.specs.Private.Judging.{seen_by, WalksTo, KeepsAll, BreaksFirst}
@@ -79,6 +81,14 @@ module _ (Why : Type 0) (order : Why → ℕ) (missing odd : Why) (Keeps : Seen 
         lowest = λ other lt. subst (CellKept k.items cursor.at other) (sym is) (λ e. let o : order other ≡ order odd = ap order e in omega (arith, o, lt));
       }
 
+  pub found_missing : (cursor : Cursor) → Walked context word first keeps cursor → cell_at word cursor.at ≡ Missing → FaultFound order context word first keeps cursor.at missing cursor.known found.Missing
+  unfolding at_missing
+  found_missing cursor k is = record { fault = at_missing cursor k is; known = k.knows; stands = is }
+
+  pub found_odd : (cursor : Cursor) → Walked context word first keeps cursor → cell_at word cursor.at ≡ Odd → FaultFound order context word first keeps cursor.at odd cursor.known found.Odd
+  unfolding at_odd
+  found_odd cursor k is = record { fault = at_odd cursor k is; known = k.knows; stands = is }
+
   -- an item, as the code sees it, by a list of entries that is this one, and as the rules do
   module _ (cursor : Cursor) (format : Format) (instr : Instr) (k : Walked context word first keeps cursor) (is : cell_at word cursor.at ≡ Holds format instr) where
     abbrev item : Item
@@ -103,6 +113,15 @@ module _ (Why : Type 0) (order : Why → ℕ) (missing odd : Why) (Keeps : Seen 
           breaks = λ h. b.broken (subst (λ x. Keeps x why) same (subst (CellKept k.items cursor.at why) is h));
           lowest = λ other lt. kept_here other (b.lowest other lt);
         }
+
+    seen_found : (s : Seen) → s ≡ seen → IsFound context word k.items cursor.at (found.Seen s)
+    seen_found s s_is = subst (λ x. IsFound context word k.items cursor.at (found.Seen x)) (sym s_is) (refl, is, sym same)
+
+    pub found_broken : (es : List Entry) (why : Why) (s : Seen) → es ≡ list → BreaksFirst order Keeps (seen_by es kind cursor.known item) why → s ≡ seen_by es kind cursor.known item
+        → FaultFound order context word first keeps cursor.at why cursor.known (found.Seen s)
+    unfolding broken
+    found_broken es why s es_are breaks s_is =
+        record { fault = broken es why es_are breaks; known = k.knows; stands = seen_found s (s_is ∙ ap (λ (l : List Entry). seen_by l kind cursor.known item) es_are) }
 
     kept_by : (es : List Entry) (step : Step) → es ≡ list → KeepsAll Keeps kind (seen_by es kind cursor.known item) step → KeepsAll Keeps kind seen step
     kept_by es step es_are h = subst (λ (l : List Entry). KeepsAll Keeps kind (seen_by l kind cursor.known item) step) es_are h

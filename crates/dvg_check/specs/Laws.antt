@@ -8,7 +8,7 @@ use Rattle.dvg_words.specs.Decoding.{word_count, cell_at}
 use Rattle.dvg_words.specs.Memory.{Memory, Rom, IsMemory, rom_word, frame_word}
 use Rattle.dvg_words.specs.declared.beam.Point.{Point}
 use Rattle.dvg_words.specs.Beam.{InWindow}
-use Rattle.dvg_words.specs.Generator.{Stroke, State, Status, Running, Halted, Reached, start, places, lit_by, next_status}
+use Rattle.dvg_words.specs.Generator.{Stroke, State, Status, Running, Reached, start, places, lit_by, next_status}
 use Rattle.dvg_words.specs.Laws.{state_of}
 use Rattle.dvg_cert.specs.declared.entry.Key.{Key}
 use Rattle.dvg_cert.specs.declared.entry.End.{End}

@@ -1,5 +1,6 @@
 pub mod Rules
 pub mod FirstFault
+pub mod Finding
 pub mod Judged
 pub mod Verdict
 pub mod Numbers

@@ -3,7 +3,8 @@
 ghost use Rattle.std.specs.Prelude.{◌≡◌};
 ghost use Rattle.dvg_check.specs.FirstFault.{shape_number, frame_number};
 
-use dvg_cert::Key;
+use dvg_cert::{Entry, Key};
+use dvg_items::{Known, Seen};
 use thiserror::Error;
 
 /// Whether the words and the depth that a certificate claims are bounds, or exact.
@@ -135,11 +136,22 @@ impl FrameWhy {
     }
 }
 
-/// The first item that breaks a rule, by its word address, and the lowest rule that it breaks.
+/// What stands at a word address: nothing, an odd LABS, or an item, as the rules see it.
+#[derive(Clone, Copy, Debug, PartialEq, Eq)]
+pub enum Found {
+    Missing,
+    Odd,
+    Seen(Seen),
+}
+
+/// The first item that breaks a rule, by its word address, the lowest rule that it breaks, what is known before it, and what
+/// stands there.
 #[derive(Clone, Copy, Debug, PartialEq, Eq)]
 pub struct Fault<Why> {
     pub at: u16,
     pub why: Why,
+    pub before: Known,
+    pub found: Found,
 }
 
 /// The first faulty entry of a certificate, the word address of the first item of its shape that breaks a rule, and the
@@ -177,4 +189,23 @@ impl FrameFault {
     {
         self.why.number()
     }
+}
+
+/// A frame's first fault, what is known before the item that breaks a rule (place, scale, words and depth so far), and what
+/// stands there.
+#[derive(Clone, Copy, Debug, PartialEq, Eq)]
+pub struct FrameFinding {
+    pub fault: FrameFault,
+    pub before: Known,
+    pub found: Found,
+}
+
+/// The first fault of a certificate's shapes, the entry whose shape it is, what is known before the item that breaks a rule
+/// (place, scale, words and depth so far), and what stands there.
+#[derive(Clone, Copy, Debug, PartialEq, Eq)]
+pub struct ShapeFinding {
+    pub fault: ShapeFault,
+    pub entry: Entry,
+    pub before: Known,
+    pub found: Found,
 }

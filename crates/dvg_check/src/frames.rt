@@ -7,10 +7,11 @@ ghost use Rattle.dvg_items.specs.declared.item.Kind.TheVariants.{Frame};
 ghost use Rattle.dvg_check.specs.Rules.{FrameWhy, FrameKeeps, IsForward, GoodFrame};
 ghost use Rattle.dvg_check.specs.declared.fault.FrameWhy.TheVariants as frame;
 ghost use Rattle.dvg_check.specs.FirstFault.{FrameFault, frame_number, FirstFrameFault};
+ghost use Rattle.dvg_check.specs.Finding.{FirstFrameFound};
 ghost use Rattle.dvg_items.specs.Bounds.{IsSomeCertificate, IsSoundSeen};
 ghost use Rattle.dvg_check.specs.Private.Judging.{EachKept, frame_rules, FrameBrokenFirst};
 
-use crate::fault::{FrameFault, FrameWhy};
+use crate::fault::{FrameFault, FrameFinding, FrameWhy};
 use crate::rules::Rules;
 use crate::walk::walk;
 use dvg_cert::{Cert, Entries, Key};
@@ -110,6 +111,38 @@ pub struct Accepted {
     pub depth: u8,
 }
 
+/// Judges a frame by entries: its words and its depth where it keeps all rules, else its first fault and what is known there.
+pub fn find_frame_fault<E: Entries>(
+    frame: &FrameImage,
+    entries: &E,
+    budget: u32,
+    window: &Window,
+) -> Result<Accepted, FrameFinding>
+    requires entries { IsSomeCertificate (E.list entries.now) }
+    requires budget { budget ≤ MOST_WORDS }
+    ensures ok { IfOk result (λ yes. GoodFrame window.now frame.now (E.list entries.now) budget yes.words yes.depth) }
+    ensures err { IfErr result (FirstFrameFound window.now frame.now (E.list entries.now) budget) }
+{
+    let rules = FrameRules {
+        budget,
+        window: *window,
+    };
+    match walk(frame, entries, &rules, 0) {
+        Ok(end) => Ok(Accepted {
+            words: end.words,
+            depth: end.depth,
+        }),
+        Err(fault) => Err(FrameFinding {
+            fault: FrameFault {
+                word: fault.at,
+                why: fault.why,
+            },
+            before: fault.before,
+            found: fault.found,
+        }),
+    }
+}
+
 /// Judges a frame by entries: its words and its depth where it keeps all rules, else its first fault.
 pub fn judge_frame<E: Entries>(
     frame: &FrameImage,
@@ -122,19 +155,9 @@ pub fn judge_frame<E: Entries>(
     ensures ok { IfOk result (λ yes. GoodFrame window.now frame.now (E.list entries.now) budget yes.words yes.depth) }
     ensures err { IfErr result (FirstFrameFault window.now frame.now (E.list entries.now) budget) }
 {
-    let rules = FrameRules {
-        budget,
-        window: *window,
-    };
-    match walk(frame, entries, &rules, 0) {
-        Ok(end) => Ok(Accepted {
-            words: end.words,
-            depth: end.depth,
-        }),
-        Err(fault) => Err(FrameFault {
-            word: fault.at,
-            why: fault.why,
-        }),
+    match find_frame_fault(frame, entries, budget, window) {
+        Ok(accepted) => Ok(accepted),
+        Err(finding) => Err(finding.fault),
     }
 }
 

@@ -5,11 +5,12 @@ ghost use Rattle.dvg_cert.specs.declared.limits.TheConstants.{MOST_WORDS};
 ghost use Rattle.dvg_check.specs.declared.fault.Mode.TheVariants.{Exact};
 ghost use Rattle.dvg_check.specs.Rules.{Good, GoodFrame};
 ghost use Rattle.dvg_check.specs.FirstFault.{FirstShapeFault, FirstFrameFault};
+ghost use Rattle.dvg_check.specs.Finding.{FirstFrameFound};
 ghost use Rattle.dvg_check.specs.Safety.{Safe};
 ghost use Rattle.dvg_check.specs.Laws.{CountsAtHalt};
 
-use crate::fault::{FrameFault, Mode, ShapeFault};
-use crate::frames::{Accepted, judge_frame};
+use crate::fault::{FrameFault, FrameFinding, Mode, ShapeFault};
+use crate::frames::{Accepted, find_frame_fault};
 use crate::shapes::check_shapes_in;
 use dvg_cert::{Cert, Entries};
 use dvg_words::{FrameImage, RomImage, Window};
@@ -68,6 +69,20 @@ impl<'a, E: Entries> JudgedShapes<'a, E> {
         })
     }
 
+    /// Judges a frame over these shapes, as [`check_frame`](JudgedShapes::check_frame) does; with its first fault it answers what
+    /// is known there: place, scale, words and depth before the item that breaks a rule, and what stands there (profile).
+    pub fn find_fault(&self, frame: &FrameImage, budget: u32) -> Result<Accepted, FrameFinding>
+        requires { budget ≤ MOST_WORDS }
+        ensures ok { IfOk result (λ yes. GoodFrame self.now.window frame.now self.now.list budget yes.words yes.depth) }
+        ensures err { IfErr result (FirstFrameFound self.now.window frame.now self.now.list budget) }
+        ensures safe { IfOk result (λ yes. Safe (record { frame = frame.now; rom = self.now.rom }) self.now.window yes.words yes.depth) }
+        ensures exact { self.now.mode ≡ Exact → IfOk result (λ yes. CountsAtHalt (record { frame = frame.now; rom = self.now.rom }) yes.words yes.depth) }
+    {
+        // Its clause says that the frame is whole.
+        let _words = frame.words();
+        find_frame_fault(frame, self.entries, budget, &self.window)
+    }
+
     /// Judges a frame over these shapes: its words and its depth where it keeps all rules (40 to 48, profile), else its
     /// first fault.
     ///
@@ -83,8 +98,9 @@ impl<'a, E: Entries> JudgedShapes<'a, E> {
         ensures safe { IfOk result (λ yes. Safe (record { frame = frame.now; rom = self.now.rom }) self.now.window yes.words yes.depth) }
         ensures exact { self.now.mode ≡ Exact → IfOk result (λ yes. CountsAtHalt (record { frame = frame.now; rom = self.now.rom }) yes.words yes.depth) }
     {
-        // Its clause says that the frame is whole.
-        let _words = frame.words();
-        judge_frame(frame, self.entries, budget, &self.window)
+        match self.find_fault(frame, budget) {
+            Ok(accepted) => Ok(accepted),
+            Err(finding) => Err(finding.fault),
+        }
     }
 }

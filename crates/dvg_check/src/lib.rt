@@ -18,10 +18,12 @@ mod tails;
 mod verdict;
 mod walk;
 
-pub use fault::{FrameFault, FrameWhy, Mode, ShapeFault, ShapeWhy};
+pub use fault::{
+    Found, FrameFault, FrameFinding, FrameWhy, Mode, ShapeFault, ShapeFinding, ShapeWhy,
+};
 pub use frames::{Accepted, check_frame};
 pub use judged::JudgedShapes;
-pub use shapes::{check_shapes, check_shapes_exact};
+pub use shapes::{check_shapes, check_shapes_exact, find_shape_fault};
 pub use verdict::{
     Refusal, Yes, check, check_exact, check_parts, check_parts_exact, check_rom, frame_of,
 };

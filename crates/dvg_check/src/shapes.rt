@@ -8,12 +8,13 @@ ghost use Rattle.dvg_items.specs.Lit.{InBox, LitInBox};
 ghost use Rattle.dvg_check.specs.declared.fault.Mode.TheVariants.{Bound, Exact};
 ghost use Rattle.dvg_check.specs.declared.fault.ShapeWhy.TheVariants as shape;
 ghost use Rattle.dvg_check.specs.Rules.{AtLast, AsClaimed, ShapeKeeps, GoodShape, Good};
-ghost use Rattle.dvg_check.specs.FirstFault.{shape_number, ShapeFaultAt, FirstShapeFault};
+ghost use Rattle.dvg_check.specs.FirstFault.{shape_number, FirstShapeFault};
+ghost use Rattle.dvg_check.specs.Finding.{ShapeFaultFound, FirstShapeFound};
 ghost use Rattle.dvg_items.specs.Bounds.{IsClaim, IsSomeCertificate, IsSoundSeen};
 ghost use Rattle.dvg_words.specs.declared.map.TheConstants.{ADDRESS_END};
 ghost use Rattle.dvg_check.specs.Private.Judging.{EachKept, shape_rules, ShapeBrokenFirst};
 
-use crate::fault::{Mode, ShapeFault, ShapeWhy};
+use crate::fault::{Mode, ShapeFault, ShapeFinding, ShapeWhy};
 use crate::rules::Rules;
 use crate::tails::first_doubtful;
 use crate::walk::walk;
@@ -152,19 +153,20 @@ impl Rules for ShapeRules {
     }
 }
 
-/// Judges the shape of one entry.
-fn check_shape<E: Entries>(
+/// Judges the shape of one entry: its first fault, and what is known there.
+fn find_fault<E: Entries>(
     mode: Mode,
     window: &Window,
     rom: &RomImage,
     entries: &E,
     entry: &Entry,
-) -> Result<(), ShapeFault>
+) -> Result<(), ShapeFinding>
     requires entries { IsSomeCertificate (E.list entries.now) }
     requires entry { IsClaim entry.now }
     ensures ok { OnOk result (GoodShape mode window.now rom.now (E.list entries.now) entry.now) }
-    ensures err { IfErr result (λ fault. ShapeFaultAt mode window.now rom.now (E.list entries.now) entry.now fault.word fault.why) }
-    ensures place { IfErr result (λ fault. (fault.addr ≡ entry.now.addr) × (fault.key ≡ entry.now.key)) }
+    ensures err { IfErr result (λ finding. ShapeFaultFound mode window.now rom.now (E.list entries.now) entry.now finding) }
+    ensures place { IfErr result (λ finding. (finding.fault.addr ≡ entry.now.addr) × (finding.fault.key ≡ entry.now.key)) }
+    ensures entry { IfErr result (λ finding. finding.entry ≡ entry.now) }
 {
     let rules = ShapeRules {
         entry: *entry,
@@ -173,17 +175,48 @@ fn check_shape<E: Entries>(
     };
     match walk(rom, entries, &rules, entry.addr) {
         Ok(_) => Ok(()),
-        Err(fault) => Err(ShapeFault {
-            addr: entry.addr,
-            key: entry.key,
-            word: fault.at,
-            why: fault.why,
+        Err(fault) => Err(ShapeFinding {
+            fault: ShapeFault {
+                addr: entry.addr,
+                key: entry.key,
+                word: fault.at,
+                why: fault.why,
+            },
+            entry: rules.entry,
+            before: fault.before,
+            found: fault.found,
         }),
     }
 }
 
-/// Judges each entry's shape, in the order of the certificate, in a mode: by tails as far as these show them to be good, and
-/// from there on item by item.
+/// Judges each entry's shape, in the order of the certificate, in a mode, as [`check_shapes`] and [`check_shapes_exact`] do; with
+/// the first fault it answers what is known there: the entry, place, scale, words and depth before the item that breaks a rule,
+/// and what stands there (profile).
+///
+/// It goes by tails as far as these show the shapes to be good, and from there on item by item.
+pub fn find_shape_fault<E: Entries>(
+    rom: &RomImage,
+    cert: &Cert,
+    entries: &E,
+    window: &Window,
+    mode: Mode,
+) -> Result<(), ShapeFinding>
+    requires { E.list entries.now ≡ cert.now.entries }
+    ensures ok { OnOk result (Good mode window.now rom.now cert.now.entries) }
+    ensures err { IfErr result (FirstShapeFound mode window.now rom.now cert.now.entries) }
+{
+    let list = cert.entries();
+    let mut index = first_doubtful(mode, window, rom, entries, list);
+    'entries: while index < list.len() {
+        if let Err(finding) = find_fault(mode, window, rom, entries, &list[index]) {
+            return Err(finding);
+        }
+        index += 1;
+    }
+    Ok(())
+}
+
+/// Judges each entry's shape, in the order of the certificate, in a mode: the first fault is answered.
 pub fn check_shapes_in<E: Entries>(
     mode: Mode,
     window: &Window,
@@ -195,15 +228,10 @@ pub fn check_shapes_in<E: Entries>(
     ensures ok { OnOk result (Good mode window.now rom.now cert.now.entries) }
     ensures err { IfErr result (FirstShapeFault mode window.now rom.now cert.now.entries) }
 {
-    let list = cert.entries();
-    let mut index = first_doubtful(mode, window, rom, entries, list);
-    'entries: while index < list.len() {
-        if let Err(fault) = check_shape(mode, window, rom, entries, &list[index]) {
-            return Err(fault);
-        }
-        index += 1;
+    match find_shape_fault(rom, cert, entries, window, mode) {
+        Ok(()) => Ok(()),
+        Err(finding) => Err(finding.fault),
     }
-    Ok(())
 }
 
 /// Judges each entry's shape, in the order of the certificate, its counts as bounds: the first faulty entry is answered,

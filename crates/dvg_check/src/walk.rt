@@ -6,15 +6,15 @@ ghost use Rattle.dvg_words.specs.declared.map.TheConstants.{ADDRESS_END};
 ghost use Rattle.dvg_items.specs.Bounds.{IsClaim, IsSoundCursor, IsSomeCertificate};
 ghost use Rattle.dvg_items.specs.Seen.{seen_with};
 ghost use Rattle.dvg_check.specs.Rules.{PlaceKeeps};
-ghost use Rattle.dvg_check.specs.FirstFault.{FaultAt};
+ghost use Rattle.dvg_check.specs.Finding.{FaultFound};
 ghost use Rattle.dvg_check.specs.Private.Judging.{WalksTo, seen_by, KeepsAll, BreaksFirst};
 
 use crate::callees::Callees;
 use crate::cells::Cells;
-use crate::fault::Fault;
+use crate::fault::{Fault, Found};
 use crate::rules::Rules;
 use dvg_cert::{Entries, Entry};
-use dvg_items::{Cursor, Known, Step, target};
+use dvg_items::{Cursor, Kind, Known, Seen, Step, target};
 use dvg_words::{Cell, Format, Instr};
 
 /// Judges an instruction that calls this entry: the first rule that it breaks, or where it leads.
@@ -72,6 +72,27 @@ fn judge<E: Entries, R: Rules>(
     }
 }
 
+/// What the rules see of the instruction at a cursor.
+fn see<E: Entries>(
+    kind: Kind,
+    callees: &mut Callees<E>,
+    cursor: &Cursor,
+    format: Format,
+    instr: &Instr,
+) -> Seen
+    requires entries { IsSomeCertificate callees.old }
+    requires here { IsSoundCursor cursor.now }
+    requires near { cursor.now.at < ADDRESS_END }
+    requires fields { InstrFits instr.now }
+    ensures { result ≡ seen_by callees.old kind cursor.now.known (record { at = cursor.now.at; format = format; instr = instr.now }) }
+{
+    let scale = cursor.known.scale;
+    match target(kind, instr) {
+        Some(to) => cursor.see(format, instr, callees.named(to, scale)),
+        None => cursor.see(format, instr, None),
+    }
+}
+
 /// Goes over the items from the first place on, up to the first that breaks a rule or the last.
 pub fn walk<C: Cells, E: Entries, R: Rules>(
     cells: &C,
@@ -85,9 +106,10 @@ pub fn walk<C: Cells, E: Entries, R: Rules>(
     ensures ok { IfOk result (λ known. WalksTo (record { kind = R.kind; list = E.list entries.now; scale = R.scale rules.now })
         (C.words cells.now) first (PlaceKeeps R.unmapped R.odd (R.keeps rules.now)
         (record { kind = R.kind; list = E.list entries.now; scale = R.scale rules.now }) (C.words cells.now)) known) }
-    ensures err { IfErr result (λ fault. FaultAt R.order R.kind (C.words cells.now) first
-        (PlaceKeeps R.unmapped R.odd (R.keeps rules.now)
-        (record { kind = R.kind; list = E.list entries.now; scale = R.scale rules.now }) (C.words cells.now)) fault.at fault.why) }
+    ensures err { IfErr result (λ fault. FaultFound R.order (record { kind = R.kind; list = E.list entries.now; scale = R.scale rules.now })
+        (C.words cells.now) first (PlaceKeeps R.unmapped R.odd (R.keeps rules.now)
+        (record { kind = R.kind; list = E.list entries.now; scale = R.scale rules.now }) (C.words cells.now))
+        fault.at fault.why fault.before fault.found) }
 {
     let mut callees = Callees::new(entries);
     let mut cursor = Cursor::start(rules.kind(), first, rules.scale());
@@ -99,18 +121,30 @@ pub fn walk<C: Cells, E: Entries, R: Rules>(
                 return Err(Fault {
                     at,
                     why: rules.unmapped(),
+                    before: here.known,
+                    found: Found::Missing,
                 });
             }
             Cell::Odd => {
                 return Err(Fault {
                     at,
                     why: rules.odd(),
+                    before: here.known,
+                    found: Found::Odd,
                 });
             }
             Cell::Holds { format, instr } => (format, instr),
         };
         match judge(rules, &mut callees, &here, format, &instr) {
-            Err(why) => return Err(Fault { at, why }),
+            Err(why) => {
+                let seen = see(rules.kind(), &mut callees, &here, format, &instr);
+                return Err(Fault {
+                    at,
+                    why,
+                    before: here.known,
+                    found: Found::Seen(seen),
+                });
+            }
             Ok(Step::Last(known)) => return Ok(known),
             Ok(Step::Onward(next)) => cursor = next,
         }

@@ -1,7 +1,7 @@
 use Rattle.std.proofs.Common.{◌-◌, ◌≤◌, length, take}
 use Rattle.std.specs.List.{AllByRecursion}
 use Rattle.dvg_check.specs.Rules.{GoodShape}
-use Rattle.dvg_check.proofs.shapes.check_shapes_in.Given as goal
+use Rattle.dvg_check.proofs.shapes.find_shape_fault.Given as goal
 
 abbrev pub invariant-entries : goal.invariant-entries
 invariant-entries g l = record { few : l.index ≤ length l.cert.entries; good : AllByRecursion (GoodShape l.mode l.window l.rom l.cert.entries) (take l.index l.cert.entries) }

@@ -3,8 +3,8 @@ use Rattle.dvg_cert.specs.declared.entry.Key.TheVariants.{At}
 use Rattle.dvg_cert.specs.declared.entry.End.TheVariants.{Rel}
 use Rattle.dvg_cert.specs.declared.entry.LitBox.TheVariants.{Empty}
 use Rattle.dvg_cert.specs.declared.entry.Entry.{Entry}
-use Rattle.dvg_check.proofs.Listed.{faulty, good_more}
-use Rattle.dvg_check.proofs.shapes.check_shapes_in.Goals as goal
+use Rattle.dvg_check.proofs.Listed.{faulty_found, good_more}
+use Rattle.dvg_check.proofs.shapes.find_shape_fault.Goals as goal
 
 -- what stands for an entry past the end
 abbrev none : Entry
@@ -12,7 +12,7 @@ none = record { addr = 0; key = At 0; stop = Rel (pos 0) (pos 0); lit = Empty; d
 
 pub returns-in-Err-clause-err : goal.returns-in-Err-clause-err
 returns-in-Err-clause-err g c =
-    faulty c.args.mode c.args.window.now c.args.rom.now c.args.cert.now.entries c.entries-list.result.now (g.E.Entries.list c.args.entries.now) c.entries.index none c.in-Err.fault c.entries-list.ensures.value c.requires c.entries-test.true c.entries.invariant.good c.in-Err.ensures.err c.in-Err.ensures.place.0 c.in-Err.ensures.place.1
+    faulty_found c.args.mode c.args.window.now c.args.rom.now c.args.cert.now.entries c.entries-list.result.now (g.E.Entries.list c.args.entries.now) c.entries.index none c.in-Err.finding c.entries-list.ensures.value c.requires c.entries-test.true c.entries.invariant.good c.in-Err.ensures.err c.in-Err.ensures.place.0 c.in-Err.ensures.place.1 c.in-Err.ensures.entry
 
 pub entries-preserved : goal.entries-preserved
 entries-preserved g c =

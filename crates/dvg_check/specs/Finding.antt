@@ -1,0 +1,48 @@
+-- What is known where the first fault is: what stands there, and what is known before it. All of it is profile.
+use Rattle.std.specs.Prelude.{◌≡◌, ℕ, List, Option}
+use Rattle.dvg_words.specs.Values.{Window}
+use Rattle.dvg_words.specs.Memory.{Rom, rom_word, frame_word}
+use Rattle.dvg_words.specs.Decoding.{cell_at}
+use Rattle.dvg_words.specs.declared.instruction.Cell.TheVariants as cell
+use Rattle.dvg_cert.specs.declared.entry.Entry.{Entry}
+use Rattle.dvg_items.specs.declared.item.Item.{Item}
+use Rattle.dvg_items.specs.Known.{Context, known_before, shape_context, frame_context}
+use Rattle.dvg_items.specs.declared.known.Known.{Known}
+use Rattle.dvg_items.specs.Seen.{seen_at}
+use Rattle.dvg_check.specs.Rules.{Mode, ShapePlaceKeeps, FramePlaceKeeps}
+use Rattle.dvg_check.specs.FirstFault.{FaultAt, FirstShapeFault, shape_number, frame_number}
+pub use Rattle.dvg_check.specs.declared.fault.Found.{Found}
+pub use Rattle.dvg_check.specs.declared.fault.Found.TheVariants.{Missing, Odd, Seen}
+pub use Rattle.dvg_check.specs.declared.fault.FrameFinding.{FrameFinding}
+pub use Rattle.dvg_check.specs.declared.fault.ShapeFinding.{ShapeFinding}
+
+-- what stands at a place after these items, as the rules see it
+abbrev pub IsFound : Context → (ℕ → Option ℕ) → List Item → ℕ → Found → Type 0
+IsFound c word items at Missing = cell_at word at ≡ cell.Missing
+IsFound c word items at Odd = cell_at word at ≡ cell.Odd
+IsFound c word items at (Seen seen) =
+    (seen.item.at ≡ at) × (cell_at word at ≡ cell.Holds seen.item.format seen.item.instr) × (seen ≡ seen_at c items seen.item)
+
+-- the first fault, what is known before it by the items that lead there, and what stands there
+pub record FaultFound {Why : Type 0} (order : Why → ℕ) (c : Context) (word : ℕ → Option ℕ) (first : ℕ)
+    (keeps : List Item → ℕ → Why → Type 0) (at : ℕ) (why : Why) (before : Known) (found : Found) : Type 0 where
+  pub fault : FaultAt order c.kind word first keeps at why
+  pub known : before ≡ known_before c fault.items
+  pub stands : IsFound c word fault.items at found
+
+-- those of a frame
+abbrev pub FirstFrameFound : Window → List ℕ → List Entry → ℕ → FrameFinding → Type 0
+FirstFrameFound w words list budget f =
+    FaultFound frame_number (frame_context list) (frame_word words) 0 (FramePlaceKeeps w words list budget) f.fault.word f.fault.why f.before f.found
+
+-- those of an entry's shape
+abbrev pub ShapeFaultFound : Mode → Window → Rom → List Entry → Entry → ShapeFinding → Type 0
+ShapeFaultFound mode w rom list e f =
+    FaultFound shape_number (shape_context list e) (rom_word rom) e.addr (ShapePlaceKeeps mode w rom list e) f.fault.word f.fault.why f.before f.found
+
+-- those of a certificate, and the entry whose shape it is
+pub record FirstShapeFound (mode : Mode) (w : Window) (rom : Rom) (list : List Entry) (f : ShapeFinding) : Type 0 where
+  pub first : FirstShapeFault mode w rom list f.fault
+  pub entry : f.entry ≡ first.entry
+  pub known : f.before ≡ known_before (shape_context list f.entry) first.fault.items
+  pub stands : IsFound (shape_context list f.entry) (rom_word rom) first.fault.items f.fault.word f.found
