@@ -8,6 +8,7 @@ use Rattle.dvg_cert.specs.declared.entry.Entry.{Entry}
 use Rattle.dvg_items.specs.declared.item.Item.{Item}
 use Rattle.dvg_items.specs.Known.{Context, known_before, shape_context, frame_context}
 use Rattle.dvg_items.specs.declared.known.Known.{Known}
+use Rattle.dvg_items.specs.Bounds.{IsSoundSeen}
 use Rattle.dvg_items.specs.Seen.{seen_at}
 use Rattle.dvg_check.specs.Rules.{Mode, ShapePlaceKeeps, FramePlaceKeeps}
 use Rattle.dvg_check.specs.FirstFault.{FaultAt, FirstShapeFault, shape_number, frame_number}
@@ -46,3 +47,9 @@ pub record FirstShapeFound (mode : Mode) (w : Window) (rom : Rom) (list : List E
   pub entry : f.entry ≡ first.entry
   pub known : f.before ≡ known_before (shape_context list f.entry) first.fault.items
   pub stands : IsFound (shape_context list f.entry) (rom_word rom) first.fault.items f.fault.word f.found
+
+-- the numbers of what is seen are within the limits of the code: no rule stands here
+abbrev pub IsSoundFound : Found → Type 0
+IsSoundFound Missing = Unit {0}
+IsSoundFound Odd = Unit {0}
+IsSoundFound (Seen seen) = IsSoundSeen seen

@@ -7,7 +7,7 @@ ghost use Rattle.dvg_items.specs.declared.item.Kind.TheVariants.{Frame};
 ghost use Rattle.dvg_check.specs.Rules.{FrameWhy, FrameKeeps, IsForward, GoodFrame};
 ghost use Rattle.dvg_check.specs.declared.fault.FrameWhy.TheVariants as frame;
 ghost use Rattle.dvg_check.specs.FirstFault.{FrameFault, frame_number, FirstFrameFault};
-ghost use Rattle.dvg_check.specs.Finding.{FirstFrameFound};
+ghost use Rattle.dvg_check.specs.Finding.{FirstFrameFound, IsSoundFound};
 ghost use Rattle.dvg_items.specs.Bounds.{IsSomeCertificate, IsSoundSeen};
 ghost use Rattle.dvg_check.specs.Private.Judging.{EachKept, frame_rules, FrameBrokenFirst};
 
@@ -122,6 +122,7 @@ pub fn find_frame_fault<E: Entries>(
     requires budget { budget ≤ MOST_WORDS }
     ensures ok { IfOk result (λ yes. GoodFrame window.now frame.now (E.list entries.now) budget yes.words yes.depth) }
     ensures err { IfErr result (FirstFrameFound window.now frame.now (E.list entries.now) budget) }
+    ensures sound { IfErr result (λ finding. IsSoundFound finding.found) }
 {
     let rules = FrameRules {
         budget,

@@ -5,7 +5,7 @@ ghost use Rattle.dvg_cert.specs.declared.limits.TheConstants.{MOST_WORDS};
 ghost use Rattle.dvg_check.specs.declared.fault.Mode.TheVariants.{Exact};
 ghost use Rattle.dvg_check.specs.Rules.{Good, GoodFrame};
 ghost use Rattle.dvg_check.specs.FirstFault.{FirstShapeFault, FirstFrameFault};
-ghost use Rattle.dvg_check.specs.Finding.{FirstFrameFound};
+ghost use Rattle.dvg_check.specs.Finding.{FirstFrameFound, IsSoundFound};
 ghost use Rattle.dvg_check.specs.Safety.{Safe};
 ghost use Rattle.dvg_check.specs.Laws.{CountsAtHalt};
 
@@ -69,12 +69,20 @@ impl<'a, E: Entries> JudgedShapes<'a, E> {
         })
     }
 
+    /// The part of the screen that shapes and frames may light.
+    pub fn window(&self) -> Window
+        ensures { result ≡ self.now.window }
+    {
+        self.window
+    }
+
     /// Judges a frame over these shapes, as [`check_frame`](JudgedShapes::check_frame) does; with its first fault it answers what
     /// is known there: place, scale, words and depth before the item that breaks a rule, and what stands there (profile).
     pub fn find_fault(&self, frame: &FrameImage, budget: u32) -> Result<Accepted, FrameFinding>
         requires { budget ≤ MOST_WORDS }
         ensures ok { IfOk result (λ yes. GoodFrame self.now.window frame.now self.now.list budget yes.words yes.depth) }
         ensures err { IfErr result (FirstFrameFound self.now.window frame.now self.now.list budget) }
+        ensures sound { IfErr result (λ finding. IsSoundFound finding.found) }
         ensures safe { IfOk result (λ yes. Safe (record { frame = frame.now; rom = self.now.rom }) self.now.window yes.words yes.depth) }
         ensures exact { self.now.mode ≡ Exact → IfOk result (λ yes. CountsAtHalt (record { frame = frame.now; rom = self.now.rom }) yes.words yes.depth) }
     {

@@ -9,7 +9,7 @@ ghost use Rattle.dvg_check.specs.declared.fault.Mode.TheVariants.{Bound, Exact};
 ghost use Rattle.dvg_check.specs.declared.fault.ShapeWhy.TheVariants as shape;
 ghost use Rattle.dvg_check.specs.Rules.{AtLast, AsClaimed, ShapeKeeps, GoodShape, Good};
 ghost use Rattle.dvg_check.specs.FirstFault.{shape_number, FirstShapeFault};
-ghost use Rattle.dvg_check.specs.Finding.{ShapeFaultFound, FirstShapeFound};
+ghost use Rattle.dvg_check.specs.Finding.{ShapeFaultFound, FirstShapeFound, IsSoundFound};
 ghost use Rattle.dvg_items.specs.Bounds.{IsClaim, IsSomeCertificate, IsSoundSeen};
 ghost use Rattle.dvg_words.specs.declared.map.TheConstants.{ADDRESS_END};
 ghost use Rattle.dvg_check.specs.Private.Judging.{EachKept, shape_rules, ShapeBrokenFirst};
@@ -167,6 +167,7 @@ fn find_fault<E: Entries>(
     ensures err { IfErr result (λ finding. ShapeFaultFound mode window.now rom.now (E.list entries.now) entry.now finding) }
     ensures place { IfErr result (λ finding. (finding.fault.addr ≡ entry.now.addr) × (finding.fault.key ≡ entry.now.key)) }
     ensures entry { IfErr result (λ finding. finding.entry ≡ entry.now) }
+    ensures sound { IfErr result (λ finding. IsSoundFound finding.found) }
 {
     let rules = ShapeRules {
         entry: *entry,
@@ -204,6 +205,7 @@ pub fn find_shape_fault<E: Entries>(
     requires { E.list entries.now ≡ cert.now.entries }
     ensures ok { OnOk result (Good mode window.now rom.now cert.now.entries) }
     ensures err { IfErr result (FirstShapeFound mode window.now rom.now cert.now.entries) }
+    ensures sound { IfErr result (λ finding. IsSoundFound finding.found) }
 {
     let list = cert.entries();
     let mut index = first_doubtful(mode, window, rom, entries, list);

@@ -3,10 +3,10 @@
 ghost use Rattle.std.specs.Prelude.{◌≡◌, ◌<◌, IfSome, IfOk, IfErr};
 ghost use Rattle.dvg_words.specs.Decoding.{InstrFits};
 ghost use Rattle.dvg_words.specs.declared.map.TheConstants.{ADDRESS_END};
-ghost use Rattle.dvg_items.specs.Bounds.{IsClaim, IsSoundCursor, IsSomeCertificate};
+ghost use Rattle.dvg_items.specs.Bounds.{IsClaim, IsSoundCursor, IsSoundSeen, IsSomeCertificate};
 ghost use Rattle.dvg_items.specs.Seen.{seen_with};
 ghost use Rattle.dvg_check.specs.Rules.{PlaceKeeps};
-ghost use Rattle.dvg_check.specs.Finding.{FaultFound};
+ghost use Rattle.dvg_check.specs.Finding.{FaultFound, IsSoundFound};
 ghost use Rattle.dvg_check.specs.Private.Judging.{WalksTo, seen_by, KeepsAll, BreaksFirst};
 
 use crate::callees::Callees;
@@ -84,7 +84,8 @@ fn see<E: Entries>(
     requires here { IsSoundCursor cursor.now }
     requires near { cursor.now.at < ADDRESS_END }
     requires fields { InstrFits instr.now }
-    ensures { result ≡ seen_by callees.old kind cursor.now.known (record { at = cursor.now.at; format = format; instr = instr.now }) }
+    ensures value { result ≡ seen_by callees.old kind cursor.now.known (record { at = cursor.now.at; format = format; instr = instr.now }) }
+    ensures sound { IsSoundSeen result }
 {
     let scale = cursor.known.scale;
     match target(kind, instr) {
@@ -110,6 +111,7 @@ pub fn walk<C: Cells, E: Entries, R: Rules>(
         (C.words cells.now) first (PlaceKeeps R.unmapped R.odd (R.keeps rules.now)
         (record { kind = R.kind; list = E.list entries.now; scale = R.scale rules.now }) (C.words cells.now))
         fault.at fault.why fault.before fault.found) }
+    ensures sound { IfErr result (λ fault. IsSoundFound fault.found) }
 {
     let mut callees = Callees::new(entries);
     let mut cursor = Cursor::start(rules.kind(), first, rules.scale());

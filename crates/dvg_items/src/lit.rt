@@ -110,8 +110,8 @@ fn corners(extent: &LitExtent, x: i64, y: i64) -> Option<(Point, Point)>
     }
 }
 
-/// Both corners of what is lit at an absolute place.
-fn absolute_corners(extent: &LitExtent, place: &End) -> Option<(Point, Point)>
+/// Both corners of what is lit at an absolute place. `None` where nothing is lit, or the place is not absolute.
+pub fn absolute_corners(extent: &LitExtent, place: &End) -> Option<(Point, Point)>
     requires place { IsNearPlace ADDRESS_END place.now }
     requires extent { IsNearExtent extent.now }
     ensures some { IfSome result (λ c. absolute_corners extent.now place.now ≡ c.0 ∷ c.1 ∷ []) }

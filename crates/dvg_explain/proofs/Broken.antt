@@ -1,0 +1,67 @@
+-- The rule that a finding names is broken by what stands there.
+use Rattle.std.proofs.Common.{◌≡◌, ◌≢◌, ℕ, List, refl, ap, ◌∙◌, subst}
+use Rattle.dvg_words.specs.Values.{Window}
+use Rattle.dvg_words.specs.Memory.{frame_word}
+use Rattle.dvg_words.specs.Decoding.{cell_at}
+use Rattle.dvg_words.specs.declared.instruction.Cell.{Cell}
+use Rattle.dvg_words.specs.declared.instruction.Cell.TheVariants as cell
+use Rattle.dvg_cert.specs.declared.entry.Entry.{Entry}
+use Rattle.dvg_items.specs.Known.{frame_context}
+use Rattle.dvg_items.specs.Seen.{seen_at}
+use Rattle.dvg_items.specs.declared.seen.Seen.{Seen as SeenItem}
+use Rattle.dvg_check.specs.declared.fault.FrameFinding.{FrameFinding}
+use Rattle.dvg_check.specs.declared.fault.Found.{Found}
+use Rattle.dvg_check.specs.declared.fault.Found.TheVariants.{Missing, Odd, Seen}
+use Rattle.dvg_check.specs.declared.fault.FrameWhy.{FrameWhy}
+use Rattle.dvg_check.specs.declared.fault.FrameWhy.TheVariants as frame
+use Rattle.dvg_check.specs.Finding.{FirstFrameFound, IsFound}
+use Rattle.dvg_check.specs.Rules.{FrameKeeps, CellKeeps}
+use Rattle.dvg_explain.specs.Private.Breaking.{IsBroken, IsBrokenAt}
+
+-- where only one rule can be broken, it is that one
+only_missing : (why : FrameWhy) → ((why ≢ frame.Unmapped) → ⊥) → why ≡ frame.Unmapped
+only_missing frame.Unmapped h = refl
+only_missing frame.Odd h = absurd (h (λ e. cc))
+only_missing frame.ReturnInFrame h = absurd (h (λ e. cc))
+only_missing frame.BackJump h = absurd (h (λ e. cc))
+only_missing frame.BeamUnknown h = absurd (h (λ e. cc))
+only_missing frame.ScaleUnknown h = absurd (h (λ e. cc))
+only_missing frame.OffScreen h = absurd (h (λ e. cc))
+only_missing frame.NoEntry h = absurd (h (λ e. cc))
+only_missing frame.Budget h = absurd (h (λ e. cc))
+
+only_odd : (why : FrameWhy) → ((why ≢ frame.Odd) → ⊥) → why ≡ frame.Odd
+only_odd frame.Odd h = refl
+only_odd frame.Unmapped h = absurd (h (λ e. cc))
+only_odd frame.ReturnInFrame h = absurd (h (λ e. cc))
+only_odd frame.BackJump h = absurd (h (λ e. cc))
+only_odd frame.BeamUnknown h = absurd (h (λ e. cc))
+only_odd frame.ScaleUnknown h = absurd (h (λ e. cc))
+only_odd frame.OffScreen h = absurd (h (λ e. cc))
+only_odd frame.NoEntry h = absurd (h (λ e. cc))
+only_odd frame.Budget h = absurd (h (λ e. cc))
+
+module _ (w : Window) (words : List ℕ) (list : List Entry) (budget : ℕ) (f : FrameFinding) (h : FirstFrameFound w words list budget f) where
+  -- what the cell at the place does not keep
+  breaks_at : (c : Cell) → cell_at (frame_word words) f.fault.word ≡ c
+      → CellKeeps frame.Unmapped frame.Odd (λ i. FrameKeeps w budget (seen_at (frame_context list) h.fault.items i)) f.fault.word c f.fault.why → ⊥
+  breaks_at c is = subst (λ x. CellKeeps frame.Unmapped frame.Odd (λ i. FrameKeeps w budget (seen_at (frame_context list) h.fault.items i)) f.fault.word x f.fault.why → ⊥) is h.fault.breaks
+
+  module _ (v : SeenItem) (at_is : v.item.at ≡ f.fault.word) (stands : cell_at (frame_word words) f.fault.word ≡ cell.Holds v.item.format v.item.instr)
+      (seen : v ≡ seen_at (frame_context list) h.fault.items v.item) where
+    same_item : v.item ≡ record { at = f.fault.word; format = v.item.format; instr = v.item.instr }
+    same_item = ap (λ at. record { at = at; format = v.item.format; instr = v.item.instr }) at_is
+
+    same_seen : v ≡ seen_at (frame_context list) h.fault.items (record { at = f.fault.word; format = v.item.format; instr = v.item.instr })
+    same_seen = seen ∙ ap (λ i. seen_at (frame_context list) h.fault.items i) same_item
+
+    seen_breaks : FrameKeeps w budget v f.fault.why → ⊥
+    seen_breaks keeps = breaks_at (cell.Holds v.item.format v.item.instr) stands (subst (λ x. FrameKeeps w budget x f.fault.why) same_seen keeps)
+
+  broken_at : (found : Found) → IsFound (frame_context list) (frame_word words) h.fault.items f.fault.word found → IsBrokenAt w budget f found
+  broken_at Missing stands = only_missing f.fault.why (breaks_at cell.Missing stands)
+  broken_at Odd stands = only_odd f.fault.why (breaks_at cell.Odd stands)
+  broken_at (Seen v) stands = seen_breaks v stands.0 stands.1 stands.2
+
+  pub broken : IsBroken w budget f
+  broken = broken_at f.found h.stands

@@ -1,0 +1,17 @@
+-- What a finding says of the rule that is broken.
+use Rattle.std.specs.Prelude.{◌≡◌, ℕ}
+use Rattle.dvg_words.specs.Values.{Window}
+use Rattle.dvg_check.specs.declared.fault.FrameFinding.{FrameFinding}
+use Rattle.dvg_check.specs.declared.fault.Found.{Found}
+use Rattle.dvg_check.specs.declared.fault.Found.TheVariants.{Missing, Odd, Seen}
+use Rattle.dvg_check.specs.declared.fault.FrameWhy.TheVariants as frame
+use Rattle.dvg_check.specs.Rules.{FrameKeeps}
+
+-- the rule is the one for what is missing, the one for an odd LABS, or the item that is there does not keep it
+abbrev pub IsBrokenAt : Window → ℕ → FrameFinding → Found → Type 0
+IsBrokenAt w budget f Missing = f.fault.why ≡ frame.Unmapped
+IsBrokenAt w budget f Odd = f.fault.why ≡ frame.Odd
+IsBrokenAt w budget f (Seen v) = FrameKeeps w budget v f.fault.why → ⊥
+
+abbrev pub IsBroken : Window → ℕ → FrameFinding → Type 0
+IsBroken w budget f = IsBrokenAt w budget f f.found

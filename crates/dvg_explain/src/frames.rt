@@ -1,0 +1,112 @@
+//! Why a frame is refused, in numbers.
+
+ghost use Rattle.std.specs.Prelude.{◌≡◌, ◌≤◌, IfOk, IfErr};
+ghost use Rattle.dvg_cert.specs.declared.limits.TheConstants.{MOST_WORDS};
+ghost use Rattle.dvg_check.specs.Rules.{GoodFrame};
+ghost use Rattle.dvg_check.specs.Finding.{FirstFrameFound, IsSoundFound};
+ghost use Rattle.dvg_check.specs.Safety.{Safe};
+ghost use Rattle.dvg_explain.specs.Causes.{CauseOf};
+ghost use Rattle.dvg_explain.specs.Private.Breaking.{IsBroken};
+
+use crate::leaving::{Leaving, leaves_window};
+use dvg_cert::{Entries, Key};
+use dvg_check::{Accepted, Found, FrameFinding, FrameWhy, JudgedShapes};
+use dvg_items::{Kind, Seen, target};
+use dvg_words::{FrameImage, Instr, Window};
+
+/// Why an item of a frame breaks a rule, in numbers.
+#[derive(Clone, Copy, Debug, PartialEq, Eq)]
+pub enum FrameCause {
+    /// 40: a word of the item is outside the frame.
+    Missing,
+    /// 41: the item is an odd LABS.
+    Odd,
+    /// 42: the item is RTSL.
+    Return,
+    /// 43: the item is a jump to this word address, its own or a lower one.
+    JumpsBack(u16),
+    /// 44: it lights at a lost place.
+    LostPlace,
+    /// 45: it lights at unknown scale.
+    UnknownScale,
+    /// 46: a corner of what it lights leaves the window.
+    Leaves(Leaving),
+    /// 47: it calls this word address at this scale (`Any` where it is unknown), and no entry is named by them.
+    NoEntry { to: u16, scale: Key },
+    /// 48: the words so far are over the budget by so many.
+    OverBudget(u32),
+}
+
+/// A frame's first fault, what is known there, and the rule's own numbers.
+#[derive(Clone, Copy, Debug, PartialEq, Eq)]
+pub struct FrameAccount {
+    pub finding: FrameFinding,
+    pub cause: FrameCause,
+}
+
+/// Why an item that is there breaks a rule.
+fn cause_of_item(seen: &Seen, finding: &FrameFinding, budget: u32, window: &Window) -> FrameCause
+    requires found { finding.now.found ≡ Found.Seen seen.now }
+    requires sound { IsSoundFound finding.now.found }
+    requires broken { IsBroken window.now budget finding.now }
+    ensures { CauseOf window.now budget finding.now result }
+{
+    match finding.fault.why {
+        FrameWhy::Unmapped => FrameCause::Missing,
+        FrameWhy::Odd => FrameCause::Odd,
+        FrameWhy::ReturnInFrame => FrameCause::Return,
+        FrameWhy::BackJump => match seen.item.instr {
+            Instr::Jmpl { to } => FrameCause::JumpsBack(to),
+            _ => unreachable!(),
+        },
+        FrameWhy::BeamUnknown => FrameCause::LostPlace,
+        FrameWhy::ScaleUnknown => FrameCause::UnknownScale,
+        FrameWhy::OffScreen => match leaves_window(window, &seen.extent, &seen.place) {
+            Some(leaving) => FrameCause::Leaves(leaving),
+            None => unreachable!(),
+        },
+        FrameWhy::NoEntry => match target(Kind::Frame, &seen.item.instr) {
+            Some(to) => FrameCause::NoEntry {
+                to,
+                scale: finding.before.scale,
+            },
+            None => unreachable!(),
+        },
+        FrameWhy::Budget => FrameCause::OverBudget(seen.after.words - budget),
+    }
+}
+
+/// Why the item of a finding breaks its rule.
+fn cause_of(finding: &FrameFinding, budget: u32, window: &Window) -> FrameCause
+    requires sound { IsSoundFound finding.now.found }
+    requires broken { IsBroken window.now budget finding.now }
+    ensures { CauseOf window.now budget finding.now result }
+{
+    match &finding.found {
+        Found::Missing => FrameCause::Missing,
+        Found::Odd => FrameCause::Odd,
+        Found::Seen(seen) => cause_of_item(seen, finding, budget, window),
+    }
+}
+
+/// Judges a frame over judged shapes, as [`JudgedShapes::check_frame`] does. With its first fault it answers what is known there,
+/// and the rule's own numbers (profile). `budget` is how many words the frame may take at most, up to 1,000,000. Takes no memory.
+pub fn explain_frame<E: Entries>(
+    shapes: &JudgedShapes<E>,
+    frame: &FrameImage,
+    budget: u32,
+) -> Result<Accepted, FrameAccount>
+    requires { budget ≤ MOST_WORDS }
+    ensures ok { IfOk result (λ yes. GoodFrame shapes.now.window frame.now shapes.now.list budget yes.words yes.depth) }
+    ensures err { IfErr result (λ account. FirstFrameFound shapes.now.window frame.now shapes.now.list budget account.finding) }
+    ensures cause { IfErr result (λ account. CauseOf shapes.now.window budget account.finding account.cause) }
+    ensures safe { IfOk result (λ yes. Safe (record { frame = frame.now; rom = shapes.now.rom }) shapes.now.window yes.words yes.depth) }
+{
+    match shapes.find_fault(frame, budget) {
+        Ok(accepted) => Ok(accepted),
+        Err(finding) => Err(FrameAccount {
+            finding,
+            cause: cause_of(&finding, budget, &shapes.window()),
+        }),
+    }
+}
