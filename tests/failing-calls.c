@@ -15,7 +15,7 @@
 //
 // A line is like `7 read file 3: status 3, output none, error dvgcheck: cannot read the certificate`. The files are numbered as
 // they were opened. A stream is told as `none`, `all` that it should be where nothing fails, `as before` the failed write and a
-// prefix of that, a short line as it is, or `wrong`.
+// prefix of that, a few lines as they are, with ` / ` between two of them, or `wrong`.
 #define _GNU_SOURCE
 #include <errno.h>
 #include <fcntl.h>
@@ -31,7 +31,7 @@
 void *__libc_malloc(size_t);
 void *__libc_realloc(void *, size_t);
 
-enum { MOST_BYTES = 1 << 21, MOST_FILES = 64, MOST_LINE = 120 };
+enum { MOST_BYTES = 1 << 21, MOST_FILES = 64, MOST_TEXT = 400 };
 
 struct stream {
   size_t length;
@@ -96,26 +96,27 @@ __attribute__((destructor)) static void end(void) {
     }
 }
 
-static int is_line(const struct stream *s) {
-  return s->length && s->length < MOST_LINE && memchr(s->bytes, '\n', s->length) == s->bytes + s->length - 1;
+// a stream that has a few lines, as one
+static const char *as_line(const struct stream *s, char room[MOST_TEXT]) {
+  size_t length = 0;
+  for (size_t at = 0; at + 1 < s->length && length + 4 < MOST_TEXT; at++)
+    length += snprintf(room + length, MOST_TEXT - length, s->bytes[at] == '\n' ? " / " : "%c", s->bytes[at]);
+  room[length] = 0;
+  return length + 4 < MOST_TEXT && s->bytes[s->length - 1] == '\n' ? room : "wrong";
 }
 
 // a stream as a line of the log has it; before: its length at the call that failed
-static const char *shown(int i, size_t before, char room[MOST_LINE]) {
+static const char *shown(int i, size_t before, char room[MOST_TEXT]) {
   const struct stream *s = &streams[i], *all = &whole[i];
   int is_prefix = s->length <= all->length && !memcmp(s->bytes, all->bytes, s->length);
   if (is_prefix && s->length && s->length == all->length) return "all";
   if (is_prefix && s->length == before && !strcmp(kind, "write") && all->length) return "as before";
-  if (!s->length) return "none";
-  if (!is_line(s)) return "wrong";
-  memcpy(room, s->bytes, s->length);
-  room[s->length - 1] = 0;
-  return room;
+  return s->length ? as_line(s, room) : "none";
 }
 
 // how the half that was told of a failure ended
 static void tell(const char *what, int status, const size_t before[2]) {
-  char room[2][MOST_LINE], line[4 * MOST_LINE];
+  char room[2][MOST_TEXT], line[4 * MOST_TEXT];
   int ended = WIFEXITED(status);
   int length = snprintf(line, sizeof line, "%d %s: %s %d, output %s, error %s\n", calls, what, ended ? "status" : "signal",
                         ended ? WEXITSTATUS(status) : WTERMSIG(status), shown(0, before[0], room[0]),
