@@ -1,5 +1,5 @@
 -- The rule that a finding names is broken by what stands there.
-use Rattle.std.proofs.Common.{◌≡◌, ◌≢◌, ℕ, List, refl, ap, ◌∙◌, subst}
+use Rattle.std.proofs.Common.{sym, ◌≡◌, ◌≢◌, ℕ, List, refl, ap, ◌∙◌, subst}
 use Rattle.dvg_words.specs.Values.{Window}
 use Rattle.dvg_words.specs.Memory.{frame_word}
 use Rattle.dvg_words.specs.Decoding.{cell_at}
@@ -14,9 +14,15 @@ use Rattle.dvg_check.specs.declared.fault.Found.{Found}
 use Rattle.dvg_check.specs.declared.fault.Found.TheVariants.{Missing, Odd, Seen}
 use Rattle.dvg_check.specs.declared.fault.FrameWhy.{FrameWhy}
 use Rattle.dvg_check.specs.declared.fault.FrameWhy.TheVariants as frame
-use Rattle.dvg_check.specs.Finding.{FirstFrameFound, IsFound}
-use Rattle.dvg_check.specs.Rules.{FrameKeeps, CellKeeps}
-use Rattle.dvg_explain.specs.Private.Breaking.{IsBroken, IsBrokenAt}
+use Rattle.dvg_words.specs.Memory.{Rom, rom_word}
+use Rattle.dvg_items.specs.Known.{shape_context}
+use Rattle.dvg_check.specs.declared.fault.Mode.{Mode}
+use Rattle.dvg_check.specs.declared.fault.ShapeFinding.{ShapeFinding}
+use Rattle.dvg_check.specs.declared.fault.ShapeWhy.{ShapeWhy}
+use Rattle.dvg_check.specs.declared.fault.ShapeWhy.TheVariants as shape
+use Rattle.dvg_check.specs.Finding.{FirstFrameFound, FirstShapeFound, IsFound}
+use Rattle.dvg_check.specs.Rules.{FrameKeeps, ShapeKeeps, ShapePlaceKeeps, CellKeeps}
+use Rattle.dvg_explain.specs.Private.Breaking.{IsBroken, IsBrokenAt, IsShapeBroken, IsShapeBrokenAt}
 
 -- where only one rule can be broken, it is that one
 only_missing : (why : FrameWhy) → ((why ≢ frame.Unmapped) → ⊥) → why ≡ frame.Unmapped
@@ -65,3 +71,63 @@ module _ (w : Window) (words : List ℕ) (list : List Entry) (budget : ℕ) (f :
 
   pub broken : IsBroken w budget f
   broken = broken_at f.found h.stands
+
+-- ---- shapes
+
+shape_missing : (why : ShapeWhy) → ((why ≢ shape.Unmapped) → ⊥) → why ≡ shape.Unmapped
+shape_missing shape.Unmapped h = refl
+shape_missing shape.Odd h = absurd (h (λ e. cc))
+shape_missing shape.HaltInShape h = absurd (h (λ e. cc))
+shape_missing shape.BeamUnknown h = absurd (h (λ e. cc))
+shape_missing shape.ScaleUnknown h = absurd (h (λ e. cc))
+shape_missing shape.OffScreen h = absurd (h (λ e. cc))
+shape_missing shape.NoEntry h = absurd (h (λ e. cc))
+shape_missing shape.TooDeep h = absurd (h (λ e. cc))
+shape_missing shape.TooManyWords h = absurd (h (λ e. cc))
+shape_missing shape.EndDiffers h = absurd (h (λ e. cc))
+shape_missing shape.ScaleDiffers h = absurd (h (λ e. cc))
+shape_missing shape.BoxTooSmall h = absurd (h (λ e. cc))
+shape_missing shape.WordsDiffer h = absurd (h (λ e. cc))
+shape_missing shape.DepthDiffers h = absurd (h (λ e. cc))
+
+shape_odd : (why : ShapeWhy) → ((why ≢ shape.Odd) → ⊥) → why ≡ shape.Odd
+shape_odd shape.Odd h = refl
+shape_odd shape.Unmapped h = absurd (h (λ e. cc))
+shape_odd shape.HaltInShape h = absurd (h (λ e. cc))
+shape_odd shape.BeamUnknown h = absurd (h (λ e. cc))
+shape_odd shape.ScaleUnknown h = absurd (h (λ e. cc))
+shape_odd shape.OffScreen h = absurd (h (λ e. cc))
+shape_odd shape.NoEntry h = absurd (h (λ e. cc))
+shape_odd shape.TooDeep h = absurd (h (λ e. cc))
+shape_odd shape.TooManyWords h = absurd (h (λ e. cc))
+shape_odd shape.EndDiffers h = absurd (h (λ e. cc))
+shape_odd shape.ScaleDiffers h = absurd (h (λ e. cc))
+shape_odd shape.BoxTooSmall h = absurd (h (λ e. cc))
+shape_odd shape.WordsDiffer h = absurd (h (λ e. cc))
+shape_odd shape.DepthDiffers h = absurd (h (λ e. cc))
+
+module _ (mode : Mode) (w : Window) (rom : Rom) (list : List Entry) (f : ShapeFinding) (h : FirstShapeFound mode w rom list f) where
+  shape_breaks_at : (c : Cell) → cell_at (rom_word rom) f.fault.word ≡ c
+      → CellKeeps shape.Unmapped shape.Odd (λ i. ShapeKeeps mode w f.entry (seen_at (shape_context list f.entry) h.first.fault.items i)) f.fault.word c f.fault.why → ⊥
+  shape_breaks_at c is =
+      subst (λ x. CellKeeps shape.Unmapped shape.Odd (λ i. ShapeKeeps mode w f.entry (seen_at (shape_context list f.entry) h.first.fault.items i)) f.fault.word x f.fault.why → ⊥) is
+      (subst (λ e. ShapePlaceKeeps mode w rom list e h.first.fault.items f.fault.word f.fault.why → ⊥) (sym h.entry) h.first.fault.breaks)
+
+  module _ (v : SeenItem) (at_is : v.item.at ≡ f.fault.word) (stands : cell_at (rom_word rom) f.fault.word ≡ cell.Holds v.item.format v.item.instr)
+      (seen : v ≡ seen_at (shape_context list f.entry) h.first.fault.items v.item) where
+    shape_same_item : v.item ≡ record { at = f.fault.word; format = v.item.format; instr = v.item.instr }
+    shape_same_item = ap (λ at. record { at = at; format = v.item.format; instr = v.item.instr }) at_is
+
+    shape_same_seen : v ≡ seen_at (shape_context list f.entry) h.first.fault.items (record { at = f.fault.word; format = v.item.format; instr = v.item.instr })
+    shape_same_seen = seen ∙ ap (λ i. seen_at (shape_context list f.entry) h.first.fault.items i) shape_same_item
+
+    shape_seen_breaks : ShapeKeeps mode w f.entry v f.fault.why → ⊥
+    shape_seen_breaks keeps = shape_breaks_at (cell.Holds v.item.format v.item.instr) stands (subst (λ x. ShapeKeeps mode w f.entry x f.fault.why) shape_same_seen keeps)
+
+  shape_broken_at : (found : Found) → IsFound (shape_context list f.entry) (rom_word rom) h.first.fault.items f.fault.word found → IsShapeBrokenAt mode w f found
+  shape_broken_at Missing stands = shape_missing f.fault.why (shape_breaks_at cell.Missing stands)
+  shape_broken_at Odd stands = shape_odd f.fault.why (shape_breaks_at cell.Odd stands)
+  shape_broken_at (Seen v) stands = shape_seen_breaks v stands.0 stands.1 stands.2
+
+  pub shape_broken : IsShapeBroken mode w f
+  shape_broken = shape_broken_at f.found h.stands

@@ -5,13 +5,15 @@ ghost use Rattle.dvg_cert.specs.declared.limits.TheConstants.{MOST_WORDS};
 ghost use Rattle.dvg_check.specs.Rules.{GoodFrame};
 ghost use Rattle.dvg_check.specs.Finding.{FirstFrameFound, IsSoundFound};
 ghost use Rattle.dvg_check.specs.Safety.{Safe};
+ghost use Rattle.dvg_items.specs.Bounds.{IsSoundSeen};
 ghost use Rattle.dvg_explain.specs.Causes.{CauseOf};
 ghost use Rattle.dvg_explain.specs.Private.Breaking.{IsBroken};
 
-use crate::leaving::{Leaving, leaves_window};
+use crate::breaking::{unnamed_target, window_left};
+use crate::leaving::Leaving;
 use dvg_cert::{Entries, Key};
 use dvg_check::{Accepted, Found, FrameFinding, FrameWhy, JudgedShapes};
-use dvg_items::{Kind, Seen, target};
+use dvg_items::{Kind, Seen};
 use dvg_words::{FrameImage, Instr, Window};
 
 /// Why an item of a frame breaks a rule, in numbers.
@@ -47,7 +49,7 @@ pub struct FrameAccount {
 /// Why an item that is there breaks a rule.
 fn cause_of_item(seen: &Seen, finding: &FrameFinding, budget: u32, window: &Window) -> FrameCause
     requires found { finding.now.found ≡ Found.Seen seen.now }
-    requires sound { IsSoundFound finding.now.found }
+    requires sound { IsSoundSeen seen.now }
     requires broken { IsBroken window.now budget finding.now }
     ensures { CauseOf window.now budget finding.now result }
 {
@@ -61,16 +63,10 @@ fn cause_of_item(seen: &Seen, finding: &FrameFinding, budget: u32, window: &Wind
         },
         FrameWhy::BeamUnknown => FrameCause::LostPlace,
         FrameWhy::ScaleUnknown => FrameCause::UnknownScale,
-        FrameWhy::OffScreen => match leaves_window(window, &seen.extent, &seen.place) {
-            Some(leaving) => FrameCause::Leaves(leaving),
-            None => unreachable!(),
-        },
-        FrameWhy::NoEntry => match target(Kind::Frame, &seen.item.instr) {
-            Some(to) => FrameCause::NoEntry {
-                to,
-                scale: finding.before.scale,
-            },
-            None => unreachable!(),
+        FrameWhy::OffScreen => FrameCause::Leaves(window_left(seen, window)),
+        FrameWhy::NoEntry => FrameCause::NoEntry {
+            to: unnamed_target(Kind::Frame, seen),
+            scale: finding.before.scale,
         },
         FrameWhy::Budget => FrameCause::OverBudget(seen.after.words - budget),
     }

@@ -1,14 +1,14 @@
 //! Which edge a corner of what is lit leaves, and by how much.
 
-ghost use Rattle.std.specs.Prelude.{◌≡◌, ◌*◌, pos, IfSome, IfNone};
+ghost use Rattle.std.specs.Prelude.{◌≡◌, ◌∷◌, [], Contains, IfSome, IfNone};
 ghost use Rattle.dvg_words.specs.declared.map.TheConstants.{ADDRESS_END};
 ghost use Rattle.dvg_words.specs.Beam.{InWindow};
 ghost use Rattle.dvg_items.specs.Bounds.{IsNearPlace, IsNearExtent};
-ghost use Rattle.dvg_items.specs.Lit.{LitInWindow};
-ghost use Rattle.dvg_explain.specs.Leaving.{window_limits, InLimits, IsLeft, LeavesFrom};
+ghost use Rattle.dvg_items.specs.Lit.{LitInWindow, LitInBox, relative_corners};
+ghost use Rattle.dvg_explain.specs.Leaving.{window_limits, InLimits, IsLeft, LeavesFrom, LeavesBox};
 
-use dvg_cert::End;
-use dvg_items::{LitExtent, absolute_corners};
+use dvg_cert::{End, LitBox};
+use dvg_items::{LitExtent, absolute_corners, relative_corners};
 use dvg_words::{Point, Window};
 
 /// An edge of a window.
@@ -27,6 +27,18 @@ pub struct Leaving {
     pub corner: Point,
     pub edge: Edge,
     pub by: u64,
+}
+
+impl Leaving {
+    fn past(corner: &Point, edge: Edge, by: u64) -> Leaving
+        ensures { result ≡ record { corner = corner.now; edge = edge; by = by } }
+    {
+        Leaving {
+            corner: *corner,
+            edge,
+            by,
+        }
+    }
 }
 
 /// The least and the greatest place on both axes, in 1/1024 of a screen place, ends included.
@@ -55,22 +67,30 @@ impl Limits {
         ensures some { IfSome result (λ l. (l.corner ≡ p.now) × IsLeft self.now l) }
         ensures none { IfNone result (InLimits self.now p.now) }
     {
-        let (edge, by) = if p.x < self.x_min {
-            (Edge::Left, self.x_min.abs_diff(p.x))
-        } else if p.x > self.x_max {
-            (Edge::Right, p.x.abs_diff(self.x_max))
-        } else if p.y < self.y_min {
-            (Edge::Bottom, self.y_min.abs_diff(p.y))
-        } else if p.y > self.y_max {
-            (Edge::Top, p.y.abs_diff(self.y_max))
-        } else {
-            return None;
-        };
-        Some(Leaving {
-            corner: *p,
-            edge,
-            by,
-        })
+        if p.x < self.x_min {
+            return Some(Leaving::past(p, Edge::Left, self.x_min.abs_diff(p.x)));
+        }
+        if p.x > self.x_max {
+            return Some(Leaving::past(p, Edge::Right, p.x.abs_diff(self.x_max)));
+        }
+        if p.y < self.y_min {
+            return Some(Leaving::past(p, Edge::Bottom, self.y_min.abs_diff(p.y)));
+        }
+        if p.y > self.y_max {
+            return Some(Leaving::past(p, Edge::Top, p.y.abs_diff(self.y_max)));
+        }
+        None
+    }
+
+    /// The first of two corners that is past an edge.
+    fn first_left(&self, from: &Point, to: &Point) -> Option<Leaving>
+        ensures some { IfSome result (λ l. Contains (from.now ∷ to.now ∷ []) l.corner × IsLeft self.now l) }
+        ensures none { IfNone result (InLimits self.now from.now × InLimits self.now to.now) }
+    {
+        match self.left_by(from) {
+            Some(leaving) => Some(leaving),
+            None => self.left_by(to),
+        }
     }
 }
 
@@ -83,9 +103,43 @@ pub fn leaves_window(window: &Window, extent: &LitExtent, place: &End) -> Option
     ensures none { IfNone result (LitInWindow window.now extent.now place.now) }
 {
     let (from, to) = absolute_corners(extent, place)?;
-    let limits = Limits::of_window(window);
-    match limits.left_by(&from) {
-        Some(leaving) => Some(leaving),
-        None => limits.left_by(&to),
+    Limits::of_window(window).first_left(&from, &to)
+}
+
+/// How a corner of what is lit leaves a box.
+#[derive(Clone, Copy, Debug, PartialEq, Eq)]
+pub enum BoxLeaving {
+    /// The box is empty, and this corner is lit.
+    Empty(Point),
+    /// It is past an edge.
+    Past(Leaving),
+}
+
+/// The first corner of what is lit at a relative place that is not in a box, and how it leaves the box; `None` where all of it is in
+/// the box, or nothing is lit at a relative place.
+pub fn leaves_box(lit: &LitBox, extent: &LitExtent, place: &End) -> Option<BoxLeaving>
+    requires place { IsNearPlace ADDRESS_END place.now }
+    requires extent { IsNearExtent extent.now }
+    ensures some { IfSome result (LeavesBox lit.now (relative_corners extent.now place.now)) }
+    ensures none { IfNone result (LitInBox lit.now extent.now place.now) }
+{
+    let (from, to) = relative_corners(extent, place)?;
+    match lit {
+        LitBox::Empty => Some(BoxLeaving::Empty(from)),
+        LitBox::Span {
+            x_min,
+            x_max,
+            y_min,
+            y_max,
+        } => {
+            let limits = Limits {
+                x_min: *x_min,
+                x_max: *x_max,
+                y_min: *y_min,
+                y_max: *y_max,
+            };
+            let leaving = limits.first_left(&from, &to)?;
+            Some(BoxLeaving::Past(leaving))
+        }
     }
 }
