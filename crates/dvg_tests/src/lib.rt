@@ -8,6 +8,8 @@ mod checking;
 #[cfg(test)]
 mod expecting;
 #[cfg(test)]
+mod explaining;
+#[cfg(test)]
 mod frames;
 #[cfg(test)]
 mod hostile;

@@ -1,0 +1,148 @@
+//! Why frames and shapes are refused: each cause that a short input has, its numbers worked by hand.
+
+use crate::expecting::expect_same;
+use dvg_cert::{End, HashIndex, Key, ListIndex, read_cert};
+use dvg_check::{JudgedShapes, Mode};
+use dvg_explain::{
+    BoxLeaving, Edge, FrameCause, Leaving, ShapeCause, explain_frame, explain_shapes,
+};
+use dvg_words::{FrameImage, Point, RomImage, SCREEN};
+use std::alloc::Global;
+
+/// A ROM with a stroke of one screen place to the right at 800, and RTSL; zeros elsewhere.
+fn rom_bytes() -> [u8; 2048] {
+    let mut bytes = [0; 2048];
+    bytes[..6].copy_from_slice(&[0x00, 0x90, 0x01, 0x70, 0x00, 0xD0]);
+    bytes
+}
+
+/// Frames with a budget of three words and no entry, the word address of the refusal, and its cause.
+const FRAMES: &[(&[u8], u16, FrameCause)] = &[
+    // a LABS whose second word is not there
+    (&[0x00, 0xA2], 0, FrameCause::Missing),
+    // RTSL
+    (&[0x00, 0xD0], 0, FrameCause::Return),
+    // JMPL 000
+    (&[0x00, 0xE0], 0, FrameCause::JumpsBack(0)),
+    // a lit stroke before any LABS
+    (&[0x00, 0x90, 0x01, 0x70], 0, FrameCause::LostPlace),
+    // LABS to 0,512 at global scale 0, and a lit stroke of one screen place to the left
+    (
+        &[0x00, 0xA2, 0x00, 0x00, 0x00, 0x90, 0x01, 0x74],
+        2,
+        FrameCause::Leaves(Leaving {
+            corner: Point {
+                x: -1024,
+                y: 524_288,
+            },
+            edge: Edge::Left,
+            by: 1024,
+        }),
+    ),
+    // the same LABS, and JSRL 800
+    (
+        &[0x00, 0xA2, 0x00, 0x00, 0x00, 0xC8],
+        2,
+        FrameCause::NoEntry {
+            to: 0x800,
+            scale: Key::At(0),
+        },
+    ),
+    // two of it
+    (
+        &[0x00, 0xA2, 0x00, 0x00, 0x00, 0xA2, 0x00, 0x00],
+        2,
+        FrameCause::OverBudget(1),
+    ),
+];
+
+/// What is told of a frame over a certificate without entries.
+fn told_of_frame(alloc: Global, frame: &[u8]) -> Option<(u16, FrameCause)> {
+    let bytes = rom_bytes();
+    let cert = read_cert(alloc, b"dvgcert 1\ndone 0\n").ok()?;
+    let rom = RomImage::from_bytes(&bytes, cert.map()).ok()?;
+    let entries = ListIndex::new(&cert);
+    let shapes = JudgedShapes::judge(&rom, &cert, &entries, SCREEN, Mode::Bound).ok()?;
+    let frame = FrameImage::from_bytes(frame).ok()?;
+    match explain_frame(&shapes, &frame, 3) {
+        Ok(_) => None,
+        Err(account) => Some((account.finding.fault.word, account.cause)),
+    }
+}
+
+#[test]
+fn explains_frames(rt: HostRuntime) {
+    for &(frame, word, cause) in FRAMES {
+        let told = told_of_frame(rt.alloc(), frame);
+        expect_same(&rt, &told, &Some((word, cause)), &word);
+    }
+}
+
+/// Certificates for the ROM, the word address of the refusal, and its cause; the shape ends one place to the right, lights that
+/// far, has three words and leaves scale 0.
+const CERTS: &[(&[u8], u16, ShapeCause)] = &[
+    (
+        b"dvgcert 1\nshape 800 any end rel 1024 0 box 0 1024 0 0 depth 0 words 3 scale any\ndone 1\n",
+        0x800,
+        ShapeCause::UnknownScale,
+    ),
+    (
+        b"dvgcert 1\nshape 800 0 end rel 1024 0 box 0 1024 0 0 depth 0 words 2 scale 0\ndone 1\n",
+        0x802,
+        ShapeCause::TooManyWords(1),
+    ),
+    (
+        b"dvgcert 1\nshape 800 0 end rel 0 0 box 0 1024 0 0 depth 0 words 3 scale 0\ndone 1\n",
+        0x802,
+        ShapeCause::EndDiffers(End::Rel { x: 1024, y: 0 }),
+    ),
+    (
+        b"dvgcert 1\nshape 800 0 end rel 1024 0 box 0 1024 0 0 depth 0 words 3 scale 1\ndone 1\n",
+        0x802,
+        ShapeCause::ScaleDiffers(Key::At(0)),
+    ),
+    (
+        b"dvgcert 1\nshape 800 0 end rel 1024 0 box 0 512 0 0 depth 0 words 3 scale 0\ndone 1\n",
+        0x800,
+        ShapeCause::LeavesBox(BoxLeaving::Past(Leaving {
+            corner: Point { x: 1024, y: 0 },
+            edge: Edge::Right,
+            by: 512,
+        })),
+    ),
+    (
+        b"dvgcert 1\nshape 800 0 end rel 1024 0 box none depth 0 words 3 scale 0\ndone 1\n",
+        0x800,
+        ShapeCause::LeavesBox(BoxLeaving::Empty(Point { x: 0, y: 0 })),
+    ),
+    (
+        b"dvgcert 1\nshape 800 0 end rel 1024 0 box 0 1024 0 0 depth 0 words 4 scale 0\ndone 1\n",
+        0x802,
+        ShapeCause::WordsDiffer(3),
+    ),
+    (
+        b"dvgcert 1\nshape 800 0 end rel 1024 0 box 0 1024 0 0 depth 1 words 3 scale 0\ndone 1\n",
+        0x802,
+        ShapeCause::DepthDiffers(0),
+    ),
+];
+
+/// What is told of the shapes of a certificate, its counts as exact ones.
+fn told_of_shapes(alloc: Global, text: &[u8]) -> Option<(u16, ShapeCause)> {
+    let bytes = rom_bytes();
+    let cert = &read_cert(alloc, text).ok()?;
+    let rom = RomImage::from_bytes(&bytes, cert.map()).ok()?;
+    let entries = HashIndex::new(alloc, cert).ok()?;
+    match explain_shapes(&rom, cert, &entries, &SCREEN, Mode::Exact) {
+        Ok(()) => None,
+        Err(account) => Some((account.finding.fault.word, account.cause)),
+    }
+}
+
+#[test]
+fn explains_shapes(rt: HostRuntime) {
+    for &(text, word, cause) in CERTS {
+        let told = told_of_shapes(rt.alloc(), text);
+        expect_same(&rt, &told, &Some((word, cause)), &word);
+    }
+}
