@@ -1,5 +1,5 @@
 -- Which edge of a window a corner of what is lit is past, and by how much. All of it is profile.
-use Rattle.std.specs.Prelude.{◌≡◌, ℕ, pos, ◌*◌, ◌-ℤ◌, ◌<ℤ◌, unsigned_abs, List, Contains}
+use Rattle.std.specs.Prelude.{◌≡◌, ℕ, pos, ◌*◌, ◌-ℤ◌, ◌<ℤ◌, ◌≤ℤ◌, ◌⊎◌, unsigned_abs, List, [], ◌∷◌}
 use Rattle.dvg_words.specs.Values.{Window}
 use Rattle.dvg_words.specs.declared.beam.Point.{Point}
 use Rattle.dvg_cert.specs.declared.entry.End.{End}
@@ -36,18 +36,31 @@ distance l Top p = unsigned_abs (p.y -ℤ l.y_max)
 abbrev pub InLimits : Limits → Point → Type 0
 InLimits l p = InSpan l.x_min l.x_max l.y_min l.y_max p
 
--- the corner is past the edge by so much
+-- the point is past no edge that comes before this one, in the order left, right, bottom, top
+abbrev pub PastNoneBefore : Limits → Edge → Point → Type 0
+PastNoneBefore l Left p = Unit {0}
+PastNoneBefore l Right p = l.x_min ≤ℤ p.x
+PastNoneBefore l Bottom p = (l.x_min ≤ℤ p.x) × (p.x ≤ℤ l.x_max)
+PastNoneBefore l Top p = (l.x_min ≤ℤ p.x) × (p.x ≤ℤ l.x_max) × (l.y_min ≤ℤ p.y)
+
+-- the edge is the first that the corner is past, and the number by how much
 pub record IsLeft (l : Limits) (leaving : Leaving) : Type 0 where
   pub past : IsPast l leaving.edge leaving.corner
+  pub first : PastNoneBefore l leaving.edge leaving.corner
   pub by : leaving.by ≡ distance l leaving.edge leaving.corner
 
--- a corner of what is lit at an absolute place is past this edge of the window by so much
-abbrev pub LeavesFrom : Window → LitExtent → End → Leaving → Type 0
-LeavesFrom w lit place leaving = Contains (absolute_corners lit place) leaving.corner × IsLeft (window_limits w) leaving
+-- the corner is the first of these that is past an edge
+abbrev pub FirstLeft : Limits → List Point → Leaving → Type 0
+FirstLeft l [] leaving = ⊥
+FirstLeft l (p ∷ rest) leaving = ((leaving.corner ≡ p) × IsLeft l leaving) ⊎ (InLimits l p × FirstLeft l rest leaving)
 
--- one of these corners, where the box is empty, or one that is past this edge of the box by so much
+-- the first corner of what is lit at an absolute place that leaves the window
+abbrev pub LeavesFrom : Window → LitExtent → End → Leaving → Type 0
+LeavesFrom w lit place leaving = FirstLeft (window_limits w) (absolute_corners lit place) leaving
+
+-- the first of these corners where the box is empty, or the first that leaves the box
 abbrev pub LeavesBox : LitBox → List Point → BoxLeaving → Type 0
-LeavesBox Empty corners (left.Empty p) = Contains corners p
+LeavesBox Empty (corner ∷ rest) (left.Empty p) = p ≡ corner
 LeavesBox (Span x_min x_max y_min y_max) corners (left.Past leaving) =
-    Contains corners leaving.corner × IsLeft (record { x_min = x_min; x_max = x_max; y_min = y_min; y_max = y_max }) leaving
+    FirstLeft (record { x_min = x_min; x_max = x_max; y_min = y_min; y_max = y_max }) corners leaving
 LeavesBox lit corners leaving = ⊥

@@ -1,11 +1,11 @@
 //! Which edge a corner of what is lit leaves, and by how much.
 
-ghost use Rattle.std.specs.Prelude.{◌≡◌, ◌∷◌, [], Contains, IfSome, IfNone};
+ghost use Rattle.std.specs.Prelude.{◌≡◌, ◌∷◌, [], IfSome, IfNone};
 ghost use Rattle.dvg_words.specs.declared.map.TheConstants.{ADDRESS_END};
 ghost use Rattle.dvg_words.specs.Beam.{InWindow};
 ghost use Rattle.dvg_items.specs.Bounds.{IsNearPlace, IsNearExtent};
 ghost use Rattle.dvg_items.specs.Lit.{LitInWindow, LitInBox, relative_corners};
-ghost use Rattle.dvg_explain.specs.Leaving.{window_limits, InLimits, IsLeft, LeavesFrom, LeavesBox};
+ghost use Rattle.dvg_explain.specs.Leaving.{window_limits, InLimits, IsLeft, FirstLeft, LeavesFrom, LeavesBox};
 
 use dvg_cert::{End, LitBox};
 use dvg_items::{LitExtent, absolute_corners, relative_corners};
@@ -84,7 +84,7 @@ impl Limits {
 
     /// The first of two corners that is past an edge.
     fn first_left(&self, from: &Point, to: &Point) -> Option<Leaving>
-        ensures some { IfSome result (λ l. Contains (from.now ∷ to.now ∷ []) l.corner × IsLeft self.now l) }
+        ensures some { IfSome result (FirstLeft self.now (from.now ∷ to.now ∷ [])) }
         ensures none { IfNone result (InLimits self.now from.now × InLimits self.now to.now) }
     {
         match self.left_by(from) {
