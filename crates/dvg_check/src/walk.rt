@@ -14,7 +14,7 @@ use crate::cells::Cells;
 use crate::fault::{Fault, Found};
 use crate::rules::Rules;
 use dvg_cert::{Entries, Entry};
-use dvg_items::{Cursor, Kind, Known, Seen, Step, target};
+use dvg_items::{Cursor, Kind, Known, Seen, Step, callee, target};
 use dvg_words::{Cell, Format, Instr};
 
 /// Judges an instruction that calls this entry: the first rule that it breaks, or where it leads.
@@ -72,26 +72,16 @@ fn judge<E: Entries, R: Rules>(
     }
 }
 
-/// What the rules see of the instruction at a cursor.
-fn see<E: Entries>(
-    kind: Kind,
-    callees: &mut Callees<E>,
-    cursor: &Cursor,
-    format: Format,
-    instr: &Instr,
-) -> Seen
-    requires entries { IsSomeCertificate callees.old }
-    requires here { IsSoundCursor cursor.now }
-    requires near { cursor.now.at < ADDRESS_END }
-    requires fields { InstrFits instr.now }
-    ensures value { result ≡ seen_by callees.old kind cursor.now.known (record { at = cursor.now.at; format = format; instr = instr.now }) }
+/// What the rules see of the instruction at a cursor. The loop passes copies, so that it needs no address of what it goes by.
+fn see<E: Entries>(kind: Kind, entries: &E, here: Cursor, format: Format, instr: Instr) -> Seen
+    requires entries { IsSomeCertificate (E.list entries.now) }
+    requires here { IsSoundCursor here }
+    requires near { here.at < ADDRESS_END }
+    requires fields { InstrFits instr }
+    ensures value { result ≡ seen_by (E.list entries.now) kind here.known (record { at = here.at; format = format; instr = instr }) }
     ensures sound { IsSoundSeen result }
 {
-    let scale = cursor.known.scale;
-    match target(kind, instr) {
-        Some(to) => cursor.see(format, instr, callees.named(to, scale)),
-        None => cursor.see(format, instr, None),
-    }
+    here.see(format, &instr, callee(entries, target(kind, &instr), here.known.scale))
 }
 
 /// Goes over the items from the first place on, up to the first that breaks a rule or the last.
@@ -139,7 +129,7 @@ pub fn walk<C: Cells, E: Entries, R: Rules>(
         };
         match judge(rules, &mut callees, &here, format, &instr) {
             Err(why) => {
-                let seen = see(rules.kind(), &mut callees, &here, format, &instr);
+                let seen = see(rules.kind(), entries, here, format, instr);
                 return Err(Fault {
                     at,
                     why,

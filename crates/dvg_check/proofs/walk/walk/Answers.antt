@@ -20,4 +20,4 @@ returns-in-Odd-clause-err g c =
 
 pub returns-in-Err-clause-err : goal.returns-in-Err-clause-err
 returns-in-Err-clause-err g c =
-    found_broken _ g.R.Rules.order g.R.Rules.unmapped g.R.Rules.odd (g.R.Rules.keeps c.args.rules.now) g.R.Rules.kind (g.E.Entries.list c.args.entries.now) (g.R.Rules.scale c.args.rules.now) (g.C.Cells.words c.args.cells.now) c.args.first c.items.cursor c.in-Holds.format c.in-Holds.instr c.items.invariant.1 (sym c.in-Holds.ensures.value) c.items.callees c.in-Err.why c.see-seen.result c.items.invariant.0 c.in-Err.ensures.broken (rw (c.in-Err.ensures.same, c.kind-in-Err.ensures) at c.see-seen.ensures.value)
+    found_broken _ g.R.Rules.order g.R.Rules.unmapped g.R.Rules.odd (g.R.Rules.keeps c.args.rules.now) g.R.Rules.kind (g.E.Entries.list c.args.entries.now) (g.R.Rules.scale c.args.rules.now) (g.C.Cells.words c.args.cells.now) c.args.first c.items.cursor c.in-Holds.format c.in-Holds.instr c.items.invariant.1 (sym c.in-Holds.ensures.value) c.items.callees c.in-Err.why c.see-seen.result c.items.invariant.0 c.in-Err.ensures.broken (rw (sym c.items.invariant.0, c.kind-in-Err.ensures) at c.see-seen.ensures.value)
