@@ -12,7 +12,7 @@ use std::{env, io};
 /// Why the words of the command line ask for no run.
 #[derive(Drop)]
 pub enum Usage {
-    /// Help was asked for.
+    /// Help or the version was asked for.
     Help(String),
     /// A word is wrong, or none was given.
     Fault(String),
@@ -47,6 +47,39 @@ pub enum Request<'a> {
     Frames(FramesWords<'a>),
     Check(CheckWords<'a>),
     Make(MakeWords<'a>),
+}
+
+/// What `--version` says behind the program's name: its version, and with what it is proved.
+const VERSION: &str = "1.0.0\nproved with rattle-kit-13b logic dac8208d650f15bf";
+
+/// A subcommand.
+#[derive(Clone, Copy)]
+enum Task {
+    Frames,
+    Check,
+    Make,
+}
+
+impl Task {
+    const ALL: [Task; 3] = [Task::Frames, Task::Check, Task::Make];
+
+    /// The subcommand with this name.
+    fn named(name: &str) -> Option<Task> {
+        match name {
+            "frames" => Some(Task::Frames),
+            "check" => Some(Task::Check),
+            "make" => Some(Task::Make),
+            _ => None,
+        }
+    }
+
+    fn command<'a>(self, alloc: Global) -> Result<Command<'a>, AllocError> {
+        match self {
+            Task::Frames => frames_command(alloc),
+            Task::Check => check_command(alloc),
+            Task::Make => make_command(alloc),
+        }
+    }
 }
 
 /// A file: its path, and its name as lines show it.
@@ -196,14 +229,26 @@ fn make_command<'a>(alloc: Global) -> Result<Command<'a>, AllocError> {
         .arg(map_option(alloc))
 }
 
-fn command<'a>(alloc: Global) -> Result<Command<'a>, AllocError> {
-    Command::new(alloc, "dvgcheck")
+/// The program's command with these subcommands.
+fn command<'a>(alloc: Global, tasks: &[Task]) -> Result<Command<'a>, AllocError> {
+    let mut command = Command::new(alloc, "dvgcheck")
         .about("Checks frames and vector ROMs of Atari's Digital Vector Generator")
+        .version(VERSION)
         .subcommand_required(true)
-        .arg_required_else_help(true)
-        .subcommand(frames_command(alloc)?)?
-        .subcommand(check_command(alloc)?)?
-        .subcommand(make_command(alloc)?)
+        .arg_required_else_help(true);
+    for task in tasks {
+        command = command.subcommand(task.command(alloc)?)?;
+    }
+    Ok(command)
+}
+
+/// The command for these words, with the one subcommand that the first of them names, since the others would only cost time;
+/// with all where it names none.
+fn command_for<'a>(alloc: Global, words: &[String]) -> Result<Command<'a>, AllocError> {
+    match words.get(1).and_then(|word| Task::named(word.as_str())) {
+        Some(task) => command(alloc, &[task]),
+        None => command(alloc, &Task::ALL),
+    }
 }
 
 fn needed<'a>(alloc: Global, name: &'a str, help: &'a str) -> Arg<'a> {
@@ -290,7 +335,10 @@ fn make_words<'a>(alloc: Global, make: &ArgMatches<'a>) -> Result<MakeWords<'a>,
 /// What `clap` says of words that it doesn't take: what it says of the marked ones, which it takes as little.
 fn told(alloc: Global, words: &[String]) -> Result<Usage, AllocError> {
     let marked = marked(alloc, words)?;
-    let Some(error) = command(alloc)?.try_get_matches_from(&marked).err() else {
+    let Some(error) = command(alloc, &Task::ALL)?
+        .try_get_matches_from(&marked)
+        .err()
+    else {
         return Ok(Usage::Unreadable);
     };
     if error.kind() == ErrorKind::OutOfMemory {
@@ -306,15 +354,18 @@ fn told(alloc: Global, words: &[String]) -> Result<Usage, AllocError> {
 
 /// What the words ask for. All of them are read before a file is opened.
 pub fn read_words<'a>(alloc: Global, words: &'a [String]) -> Result<Request<'a>, Usage> {
-    let matches = match command(alloc)?.try_get_matches_from(words) {
+    let matches = match command_for(alloc, words)?.try_get_matches_from(words) {
         Ok(matches) => matches,
         Err(error) if error.kind() == ErrorKind::OutOfMemory => return Err(Usage::OutOfMemory),
         Err(_) => return Err(told(alloc, words)?),
     };
-    match matches.subcommand() {
-        Some(("frames", frames)) => Ok(Request::Frames(frames_words(alloc, frames)?)),
-        Some(("check", check)) => Ok(Request::Check(check_words(check)?)),
-        Some(("make", make)) => Ok(Request::Make(make_words(alloc, make)?)),
-        _ => Err(Usage::Unreadable),
+    let Some((name, words)) = matches.subcommand() else {
+        return Err(Usage::Unreadable);
+    };
+    match Task::named(name) {
+        Some(Task::Frames) => Ok(Request::Frames(frames_words(alloc, words)?)),
+        Some(Task::Check) => Ok(Request::Check(check_words(words)?)),
+        Some(Task::Make) => Ok(Request::Make(make_words(alloc, words)?)),
+        None => Err(Usage::Unreadable),
     }
 }
