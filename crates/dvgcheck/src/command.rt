@@ -1,6 +1,7 @@
 //! The command line.
 
 use crate::escaping::{escaped, marked, shown};
+use crate::input::Input;
 use clap::error::ErrorKind;
 use clap::{Arg, ArgAction, ArgMatches, Command, value_parser};
 use dvg_cmd::{
@@ -26,6 +27,8 @@ pub enum Usage {
     BadRoot,
     /// The word given as a start is not one.
     BadStart,
+    /// More than one file is to be standard input.
+    StandardInputTwice,
     OutOfMemory,
 }
 
@@ -82,10 +85,10 @@ impl Task {
     }
 }
 
-/// A file: its path, and its name as lines show it.
+/// A file to read, and its name as lines show it.
 #[derive(Drop)]
 pub struct Named<'a> {
-    pub path: &'a str,
+    pub input: Input<'a>,
     pub name: String,
 }
 
@@ -94,15 +97,15 @@ pub struct Named<'a> {
 pub enum Judge<'a> {
     /// Each by its own, which is made for a ROM that lies there.
     Own(RomMap),
-    /// All by the one in the file of this path.
-    Given(&'a str),
+    /// All by this one.
+    Given(Input<'a>),
 }
 
-/// What `frames` was asked: the paths of its files, the certificate, the word address at which each frame starts, if one was
+/// What `frames` was asked: its files, the certificate, the word address at which each frame starts, if one was
 /// given, the budget of words, and the window.
 #[derive(Drop)]
 pub struct FramesWords<'a> {
-    pub rom: &'a str,
+    pub rom: Input<'a>,
     pub frames: Vec<Named<'a>>,
     pub judge: Judge<'a>,
     pub start: Option<u16>,
@@ -110,22 +113,22 @@ pub struct FramesWords<'a> {
     pub window: Window,
 }
 
-/// What `check` was asked: the paths of its files, the budget of words, the window, and whether
+/// What `check` was asked: its files, the budget of words, the window, and whether
 /// counts are bounds or exact.
 #[derive(Drop)]
 pub struct CheckWords<'a> {
-    pub rom: &'a str,
-    pub cert: &'a str,
-    pub frame: &'a str,
+    pub rom: Input<'a>,
+    pub cert: Input<'a>,
+    pub frame: Input<'a>,
     pub budget: u32,
     pub window: Window,
     pub mode: Mode,
 }
 
-/// What `make` was asked: the path of its ROM, where that lies, the roots, and the frames.
+/// What `make` was asked: its ROM, where that lies, the roots, and the frames.
 #[derive(Drop)]
 pub struct MakeWords<'a> {
-    pub rom: &'a str,
+    pub rom: Input<'a>,
     pub map: RomMap,
     pub roots: Vec<(u16, Key)>,
     pub frames: Vec<Named<'a>>,
@@ -139,6 +142,8 @@ pub fn words(rt: &HostRuntime) -> Result<Vec<String>, Usage> {
         Err(_) => Err(Usage::Unreadable),
     }
 }
+
+const INPUT_HELP: &str = "One of the files that are read may be -, which is standard input";
 
 const ROM_HELP: &str = "The vector ROM: two bytes for each of its words, low byte first";
 
@@ -185,6 +190,7 @@ fn frames_command<'a>(alloc: Global) -> Result<Command<'a>, AllocError> {
         .about(
             "Judges frames over a vector ROM, each by a certificate made for it, and prints a line for each",
         )
+        .after_help(INPUT_HELP)
         .arg(needed(alloc, "ROM", ROM_HELP))?
         .arg(needed(alloc, "FRAME", FRAME_HELP).num_args(1..))?
         .arg(map_option(alloc))?
@@ -201,6 +207,7 @@ fn check_command<'a>(alloc: Global) -> Result<Command<'a>, AllocError> {
         .help("Takes the certificate's words and depths as exact, not as bounds");
     Command::new(alloc, "check")
         .about("Judges a frame over a vector ROM and its certificate, and prints the report")
+        .after_help(INPUT_HELP)
         .arg(needed(alloc, "ROM", ROM_HELP))?
         .arg(needed(alloc, "CERT", "The certificate of the ROM's shapes"))?
         .arg(needed(alloc, "FRAME", FRAME_HELP))?
@@ -223,6 +230,7 @@ fn make_command<'a>(alloc: Global) -> Result<Command<'a>, AllocError> {
         .help("A frame, whose calls are roots, too");
     Command::new(alloc, "make")
         .about("Prints the certificate of shapes of a vector ROM, and of all that they call")
+        .after_help(INPUT_HELP)
         .arg(needed(alloc, "ROM", ROM_HELP))?
         .arg(roots)?
         .arg(frame)?
@@ -270,17 +278,46 @@ fn map_word<'a>(words: &ArgMatches<'a>) -> Result<RomMap, Usage> {
     }
 }
 
-/// The files that these words name, each with the name that lines show.
-fn files_of<'a>(alloc: Global, paths: Option<&[&'a str]>) -> Result<Vec<Named<'a>>, Usage> {
-    let mut files = Vec::new(alloc);
-    for path in paths.unwrap_or(&[]) {
-        let name = shown(alloc, path)?;
-        files.push(Named { path: *path, name })?;
+/// The file that this argument names.
+fn file_of<'a>(rt: &HostRuntime, words: &ArgMatches<'a>, name: &str) -> Input<'a> {
+    Input::named(rt, words.get_str(name).unwrap_or(""))
+}
+
+/// The files that this argument names, each with the name that lines show.
+fn files_of<'a>(
+    rt: &HostRuntime,
+    words: &ArgMatches<'a>,
+    name: &str,
+) -> Result<Vec<Named<'a>>, Usage> {
+    let mut files = Vec::new(rt.alloc());
+    for path in words.get_strs(name).unwrap_or(&[]) {
+        let input = Input::named(rt, path);
+        let name = shown(rt.alloc(), path)?;
+        files.push(Named { input, name })?;
     }
     Ok(files)
 }
 
-fn frames_words<'a>(alloc: Global, frames: &ArgMatches<'a>) -> Result<FramesWords<'a>, Usage> {
+/// How many of the files that this argument names are standard input.
+fn standard_inputs<'a>(words: &ArgMatches<'a>, name: &str) -> usize {
+    let files = words.get_strs(name).unwrap_or(&[]);
+    files.iter().filter(|word| **word == "-").count()
+}
+
+/// Refuses words by which more than one of the files that these arguments name is standard input.
+fn one_standard_input<'a>(words: &ArgMatches<'a>, names: &[&str]) -> Result<(), Usage> {
+    let mut given = 0usize;
+    for name in names {
+        given = given.saturating_add(standard_inputs(words, name));
+    }
+    if given > 1 {
+        return Err(Usage::StandardInputTwice);
+    }
+    Ok(())
+}
+
+fn frames_words<'a>(rt: &HostRuntime, frames: &ArgMatches<'a>) -> Result<FramesWords<'a>, Usage> {
+    one_standard_input(frames, &["ROM", "FRAME", "cert"])?;
     let map = map_word(frames)?;
     let window = window_word(frames)?;
     let start = match frames.get_str("start") {
@@ -288,10 +325,10 @@ fn frames_words<'a>(alloc: Global, frames: &ArgMatches<'a>) -> Result<FramesWord
         None => None,
     };
     Ok(FramesWords {
-        rom: frames.get_str("ROM").unwrap_or(""),
-        frames: files_of(alloc, frames.get_strs("FRAME"))?,
+        rom: file_of(rt, frames, "ROM"),
+        frames: files_of(rt, frames, "FRAME")?,
         judge: match frames.get_str("cert") {
-            Some(path) => Judge::Given(path),
+            Some(cert) => Judge::Given(Input::named(rt, cert)),
             None => Judge::Own(map),
         },
         start,
@@ -300,11 +337,12 @@ fn frames_words<'a>(alloc: Global, frames: &ArgMatches<'a>) -> Result<FramesWord
     })
 }
 
-fn check_words<'a>(check: &ArgMatches<'a>) -> Result<CheckWords<'a>, Usage> {
+fn check_words<'a>(rt: &HostRuntime, check: &ArgMatches<'a>) -> Result<CheckWords<'a>, Usage> {
+    one_standard_input(check, &["ROM", "CERT", "FRAME"])?;
     Ok(CheckWords {
-        rom: check.get_str("ROM").unwrap_or(""),
-        cert: check.get_str("CERT").unwrap_or(""),
-        frame: check.get_str("FRAME").unwrap_or(""),
+        rom: file_of(rt, check, "ROM"),
+        cert: file_of(rt, check, "CERT"),
+        frame: file_of(rt, check, "FRAME"),
         budget: budget_word(check),
         window: window_word(check)?,
         mode: if check.get_flag("exact") {
@@ -315,9 +353,10 @@ fn check_words<'a>(check: &ArgMatches<'a>) -> Result<CheckWords<'a>, Usage> {
     })
 }
 
-fn make_words<'a>(alloc: Global, make: &ArgMatches<'a>) -> Result<MakeWords<'a>, Usage> {
+fn make_words<'a>(rt: &HostRuntime, make: &ArgMatches<'a>) -> Result<MakeWords<'a>, Usage> {
+    one_standard_input(make, &["ROM", "frame"])?;
     let map = map_word(make)?;
-    let mut roots = Vec::new(alloc);
+    let mut roots = Vec::new(rt.alloc());
     for word in make.get_strs("ROOT").unwrap_or(&[]) {
         let Some(root) = root_of(word) else {
             return Err(Usage::BadRoot);
@@ -325,10 +364,10 @@ fn make_words<'a>(alloc: Global, make: &ArgMatches<'a>) -> Result<MakeWords<'a>,
         roots.push(root)?;
     }
     Ok(MakeWords {
-        rom: make.get_str("ROM").unwrap_or(""),
+        rom: file_of(rt, make, "ROM"),
         map,
         roots,
-        frames: files_of(alloc, make.get_strs("frame"))?,
+        frames: files_of(rt, make, "frame")?,
     })
 }
 
@@ -353,7 +392,8 @@ fn told(alloc: Global, words: &[String]) -> Result<Usage, AllocError> {
 }
 
 /// What the words ask for. All of them are read before a file is opened.
-pub fn read_words<'a>(alloc: Global, words: &'a [String]) -> Result<Request<'a>, Usage> {
+pub fn read_words<'a>(rt: &HostRuntime, words: &'a [String]) -> Result<Request<'a>, Usage> {
+    let alloc = rt.alloc();
     let matches = match command_for(alloc, words)?.try_get_matches_from(words) {
         Ok(matches) => matches,
         Err(error) if error.kind() == ErrorKind::OutOfMemory => return Err(Usage::OutOfMemory),
@@ -363,9 +403,9 @@ pub fn read_words<'a>(alloc: Global, words: &'a [String]) -> Result<Request<'a>,
         return Err(Usage::Unreadable);
     };
     match Task::named(name) {
-        Some(Task::Frames) => Ok(Request::Frames(frames_words(alloc, words)?)),
-        Some(Task::Check) => Ok(Request::Check(check_words(words)?)),
-        Some(Task::Make) => Ok(Request::Make(make_words(alloc, words)?)),
+        Some(Task::Frames) => Ok(Request::Frames(frames_words(rt, words)?)),
+        Some(Task::Check) => Ok(Request::Check(check_words(rt, words)?)),
+        Some(Task::Make) => Ok(Request::Make(make_words(rt, words)?)),
         None => Err(Usage::Unreadable),
     }
 }

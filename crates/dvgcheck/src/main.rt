@@ -6,6 +6,7 @@
 
 mod command;
 mod escaping;
+mod input;
 
 use command::{CheckWords, FramesWords, Judge, MakeWords, Named, Request, Usage, read_words};
 use dvg_cmd::{
@@ -15,9 +16,9 @@ use dvg_cmd::{
     message_of, run_check, run_frame, run_frame_over, run_make, run_make_frames, run_refusal,
     run_unopened, status_of,
 };
-use std::fs::File;
+use input::{Input, Source};
 use std::process::ExitCode;
-use std::{fs, io, str};
+use std::{io, str};
 
 /// Opens the files in the order ROM, frame, certificate, before any is read, and runs the check.
 fn check(rt: &HostRuntime, words: &CheckWords) -> Result<Outcome, RunFault> {
@@ -36,8 +37,8 @@ fn check(rt: &HostRuntime, words: &CheckWords) -> Result<Outcome, RunFault> {
     )
 }
 
-fn open<F: Drop>(rt: &HostRuntime, path: &str, fault: F) -> Result<File, F> {
-    fs::open(rt, path).map_err(|_| fault)
+fn open<F: Drop>(rt: &HostRuntime, input: Input, fault: F) -> Result<Source, F> {
+    input.open(rt).map_err(|_| fault)
 }
 
 /// Judges each frame by its own certificate, one after another, and answers the worst.
@@ -50,7 +51,7 @@ fn judge_alone<W: CountedWrite>(
     let rom = load_rom(&mut Counted::new(open(rt, words.rom, RunFault::ReadRom)?))?;
     let mut worst = FrameOutcome::Accepted;
     for frame in &words.frames {
-        let outcome = match fs::open(rt, frame.path) {
+        let outcome = match frame.input.open(rt) {
             Ok(file) => run_frame(
                 rt.alloc(),
                 rom.as_slice(),
@@ -79,7 +80,7 @@ fn judge_each_over<E: Entries, W: CountedWrite>(
 ) -> Result<FrameOutcome, RunFault> {
     let mut worst = FrameOutcome::Accepted;
     for frame in &words.frames {
-        let outcome = match fs::open(rt, frame.path) {
+        let outcome = match frame.input.open(rt) {
             Ok(file) => run_frame_over(
                 shapes,
                 cert,
@@ -110,11 +111,11 @@ fn judge_over<W: CountedWrite>(
     Ok(judge_each_over(rt, words, &shapes, cert, out))
 }
 
-/// Judges all frames by the certificate in the file of this path, and answers the worst.
+/// Judges all frames by this certificate, and answers the worst.
 fn judge_given<W: CountedWrite>(
     rt: &HostRuntime,
     words: &FramesWords,
-    cert: &str,
+    cert: Input,
     out: &mut W,
 ) -> Result<FrameOutcome, RunFault> {
     let rom = load_rom(&mut Counted::new(open(rt, words.rom, RunFault::ReadRom)?))?;
@@ -155,7 +156,7 @@ fn make_for_frames(rt: &HostRuntime, words: &MakeWords) -> Result<(), FramesRunF
     let rom = open(rt, words.rom, MakeRunFault::ReadRom)?;
     let mut frames = Vec::new(rt.alloc());
     for frame in &words.frames {
-        let file = open(rt, frame.path, FramesRunFault::ReadFrame)?;
+        let file = open(rt, frame.input, FramesRunFault::ReadFrame)?;
         frames.push(Counted::new(file))?;
     }
     run_make_frames(
@@ -237,6 +238,10 @@ fn tell_usage(rt: &HostRuntime, usage: &Usage) -> u8 {
             say(rt, b"dvgcheck: bad start");
             2
         }
+        Usage::StandardInputTwice => {
+            say(rt, b"dvgcheck: standard input is given twice");
+            2
+        }
         Usage::OutOfMemory => tell_check(rt, &Err(RunFault::Memory)),
         Usage::Fault(text) => {
             let _ = eprint!(rt; "{}", text);
@@ -254,7 +259,7 @@ fn run(rt: &HostRuntime) -> u8 {
         Ok(words) => words,
         Err(usage) => return tell_usage(rt, &usage),
     };
-    match read_words(rt.alloc(), &words) {
+    match read_words(rt, &words) {
         Ok(Request::Frames(words)) => tell_frames(rt, &frames(rt, &words)),
         Ok(Request::Check(words)) => tell_check(rt, &check(rt, &words)),
         Ok(Request::Make(words)) if words.frames.is_empty() => tell_make(rt, &make(rt, &words)),
