@@ -125,13 +125,15 @@ pub struct CheckWords<'a> {
     pub mode: Mode,
 }
 
-/// What `make` was asked: its ROM, where that lies, the roots, and the frames.
+/// What `make` was asked: its ROM, where that lies, the roots, the frames, and the path of the file that the certificate is
+/// written to, standard output if none.
 #[derive(Drop)]
 pub struct MakeWords<'a> {
     pub rom: Input<'a>,
     pub map: RomMap,
     pub roots: Vec<(u16, Key)>,
     pub frames: Vec<Named<'a>>,
+    pub output: Option<&'a str>,
 }
 
 /// The words of the command line, the program's name first.
@@ -228,13 +230,21 @@ fn make_command<'a>(alloc: Global) -> Result<Command<'a>, AllocError> {
         .value_name("FRAME")
         .action(ArgAction::Append)
         .help("A frame, whose calls are roots, too");
+    let output = Arg::new(alloc, "output")
+        .short('o')
+        .long("output")
+        .value_name("FILE")
+        .help(
+            "Writes the certificate to this file, which keeps what it holds until the new one is whole",
+        );
     Command::new(alloc, "make")
         .about("Prints the certificate of shapes of a vector ROM, and of all that they call")
         .after_help(INPUT_HELP)
         .arg(needed(alloc, "ROM", ROM_HELP))?
         .arg(roots)?
         .arg(frame)?
-        .arg(map_option(alloc))
+        .arg(map_option(alloc))?
+        .arg(output)
 }
 
 /// The program's command with these subcommands.
@@ -368,6 +378,7 @@ fn make_words<'a>(rt: &HostRuntime, make: &ArgMatches<'a>) -> Result<MakeWords<'
         map,
         roots,
         frames: files_of(rt, make, "frame")?,
+        output: make.get_str("output").filter(|path| *path != "-"),
     })
 }
 

@@ -7,16 +7,17 @@
 mod command;
 mod escaping;
 mod input;
+mod output;
 
 use command::{CheckWords, FramesWords, Judge, MakeWords, Named, Request, Usage, read_words};
 use dvg_cmd::{
     Cert, Counted, CountedWrite, Entries, FrameOutcome, FramesRunFault, HashIndex, JudgedShapes,
-    MakeRunFault, Mode, Outcome, Refusal, RomImage, RomMap, RunFault, frames_status_of, load_cert,
-    load_rom, make_frames_report_of, make_frames_status_of, make_report_of, make_status_of,
-    message_of, run_check, run_frame, run_frame_over, run_make, run_make_frames, run_refusal,
-    run_unopened, status_of,
+    MakeFault, MakeRunFault, Mode, Outcome, Refusal, RomImage, RomMap, RunFault, frames_status_of,
+    load_cert, load_rom, make_frames_report_of, make_frames_status_of, message_of, run_check,
+    run_frame, run_frame_over, run_make, run_make_frames, run_refusal, run_unopened, status_of,
 };
 use input::{Input, Source};
+use output::Output;
 use std::process::ExitCode;
 use std::{io, str};
 
@@ -139,34 +140,66 @@ fn frames(rt: &HostRuntime, words: &FramesWords) -> Result<FrameOutcome, RunFaul
     }
 }
 
-/// Opens the file and runs the maker.
-fn make(rt: &HostRuntime, words: &MakeWords) -> Result<(), MakeRunFault> {
-    let rom = open(rt, words.rom, MakeRunFault::ReadRom)?;
-    run_make(
-        rt.alloc(),
-        &mut Counted::new(rom),
-        words.map,
-        &words.roots,
-        &mut Counted::new(io::writer(rt)),
-    )
-}
-
-/// Opens the ROM and then the frames, before any is read, and runs the maker.
-fn make_for_frames(rt: &HostRuntime, words: &MakeWords) -> Result<(), FramesRunFault> {
+/// Opens the ROM and then the frames, before any is read, and then the file for the certificate, if one was named, and runs the
+/// maker.
+fn make(rt: &HostRuntime, words: &MakeWords) -> Result<(), FramesRunFault> {
     let rom = open(rt, words.rom, MakeRunFault::ReadRom)?;
     let mut frames = Vec::new(rt.alloc());
     for frame in &words.frames {
         let file = open(rt, frame.input, FramesRunFault::ReadFrame)?;
         frames.push(Counted::new(file))?;
     }
-    run_make_frames(
-        rt.alloc(),
-        &mut Counted::new(rom),
-        words.map,
-        &words.roots,
-        &mut frames,
-        &mut Counted::new(io::writer(rt)),
-    )
+    let mut rom = Counted::new(rom);
+    match words.output {
+        Some(path) => make_file(rt, words, &mut rom, &mut frames, path),
+        None => {
+            let mut out = Counted::new(io::writer(rt));
+            run_maker(rt, words, &mut rom, &mut frames, &mut out)
+        }
+    }
+}
+
+/// Runs the maker over open files, and has the certificate at this path in the end, or, on any fault, what was there.
+fn make_file(
+    rt: &HostRuntime,
+    words: &MakeWords,
+    rom: &mut Counted<Source>,
+    frames: &mut [Counted<Source>],
+    path: &str,
+) -> Result<(), FramesRunFault> {
+    let output = Output::open(rt, path).map_err(|error| unwritten(&error))?;
+    let made = run_maker(rt, words, rom, frames, &mut Counted::new(output.file()));
+    match made {
+        Ok(()) => output.keep(rt).map_err(|error| unwritten(&error)),
+        Err(fault) => {
+            output.discard(rt);
+            Err(fault)
+        }
+    }
+}
+
+/// The fault of a file that could not be written.
+fn unwritten(error: &io::Error) -> FramesRunFault {
+    FramesRunFault::Plain(if error.kind() == io::ErrorKind::OutOfMemory {
+        MakeRunFault::Make(MakeFault::Memory)
+    } else {
+        MakeRunFault::Write
+    })
+}
+
+/// Runs the maker over open files.
+fn run_maker<W: CountedWrite>(
+    rt: &HostRuntime,
+    words: &MakeWords,
+    rom: &mut Counted<Source>,
+    frames: &mut [Counted<Source>],
+    out: &mut W,
+) -> Result<(), FramesRunFault> {
+    if frames.is_empty() {
+        Ok(run_make(rt.alloc(), rom, words.map, &words.roots, out)?)
+    } else {
+        run_make_frames(rt.alloc(), rom, words.map, &words.roots, frames, out)
+    }
 }
 
 /// Says a line of ASCII on standard error, with exactly one LF at its end. Where that can't be written either, the exit
@@ -184,14 +217,6 @@ fn tell_check(rt: &HostRuntime, end: &Result<Outcome, RunFault>) -> u8 {
     status_of(end)
 }
 
-/// Tells how a run of the maker ended, by a fault's line and the exit status.
-fn tell_make(rt: &HostRuntime, end: &Result<(), MakeRunFault>) -> u8 {
-    if let Err(fault) = end {
-        say(rt, make_report_of(fault).as_bytes());
-    }
-    make_status_of(end)
-}
-
 /// Tells how a run over frames ended, by a fault's message and the exit status.
 fn tell_frames(rt: &HostRuntime, end: &Result<FrameOutcome, RunFault>) -> u8 {
     if let Err(fault) = end {
@@ -200,9 +225,9 @@ fn tell_frames(rt: &HostRuntime, end: &Result<FrameOutcome, RunFault>) -> u8 {
     frames_status_of(end)
 }
 
-/// Tells how a run of the maker for frames ended, by a fault's line, which begins with the name of its frame, and the exit
+/// Tells how a run of the maker ended, by a fault's line, which begins with the name of its frame if it is one's, and the exit
 /// status.
-fn tell_make_frames(rt: &HostRuntime, frames: &[Named], end: &Result<(), FramesRunFault>) -> u8 {
+fn tell_make(rt: &HostRuntime, frames: &[Named], end: &Result<(), FramesRunFault>) -> u8 {
     if let Err(fault) = end {
         let report = make_frames_report_of(fault);
         let text = str::from_utf8(report.as_bytes()).unwrap_or("");
@@ -262,10 +287,7 @@ fn run(rt: &HostRuntime) -> u8 {
     match read_words(rt, &words) {
         Ok(Request::Frames(words)) => tell_frames(rt, &frames(rt, &words)),
         Ok(Request::Check(words)) => tell_check(rt, &check(rt, &words)),
-        Ok(Request::Make(words)) if words.frames.is_empty() => tell_make(rt, &make(rt, &words)),
-        Ok(Request::Make(words)) => {
-            tell_make_frames(rt, &words.frames, &make_for_frames(rt, &words))
-        }
+        Ok(Request::Make(words)) => tell_make(rt, &words.frames, &make(rt, &words)),
         Err(usage) => tell_usage(rt, &usage),
     }
 }
