@@ -5,7 +5,8 @@ use crate::input::Input;
 use clap::error::ErrorKind;
 use clap::{Arg, ArgAction, ArgMatches, Command, value_parser};
 use dvg_cmd::{
-    ASTEROIDS, Key, MOST_WORDS, Mode, RomMap, Window, map_of, root_of, start_of, window_of,
+    ASTEROIDS, Key, MOST_WORDS, Mode, RomMap, Rule, Window, map_of, root_of, rule_of, start_of,
+    window_of,
 };
 use std::alloc::{AllocError, AllocFailed, Global};
 use std::{env, io};
@@ -29,6 +30,8 @@ pub enum Usage {
     BadStart,
     /// More than one file is to be standard input.
     StandardInputTwice,
+    /// No rule has the given number.
+    NoSuchNumber,
     OutOfMemory,
 }
 
@@ -50,6 +53,8 @@ pub enum Request<'a> {
     Frames(FramesWords<'a>),
     Check(CheckWords<'a>),
     Make(MakeWords<'a>),
+    /// This rule, all if none.
+    Rules(Option<Rule>),
 }
 
 /// What `--version` says behind the program's name: its version, and with what it is proved.
@@ -61,10 +66,11 @@ enum Task {
     Frames,
     Check,
     Make,
+    Rules,
 }
 
 impl Task {
-    const ALL: [Task; 3] = [Task::Frames, Task::Check, Task::Make];
+    const ALL: [Task; 4] = [Task::Frames, Task::Check, Task::Make, Task::Rules];
 
     /// The subcommand with this name.
     fn named(name: &str) -> Option<Task> {
@@ -72,6 +78,7 @@ impl Task {
             "frames" => Some(Task::Frames),
             "check" => Some(Task::Check),
             "make" => Some(Task::Make),
+            "rules" => Some(Task::Rules),
             _ => None,
         }
     }
@@ -81,6 +88,7 @@ impl Task {
             Task::Frames => frames_command(alloc),
             Task::Check => check_command(alloc),
             Task::Make => make_command(alloc),
+            Task::Rules => rules_command(alloc),
         }
     }
 }
@@ -247,6 +255,22 @@ fn make_command<'a>(alloc: Global) -> Result<Command<'a>, AllocError> {
         .arg(output)
 }
 
+/// What the shortest inputs of rules leave out.
+const SHORTEST_HELP: &str =
+    "Where a shortest input says nothing else, the ROM is 2048 zero bytes, the certificate is `dvgcert 1` LF `done 0` LF, and the
+frame is the word `B000`; words of a ROM stand from 800 on, with zeros around them. For 10 to 16 the ROM is an empty file. For 20 to
+33 the certificate has one entry, the short entry `shape 800 0 end lost box none depth 0 words 1 scale 0` with what is changed in it.";
+
+fn rules_command<'a>(alloc: Global) -> Result<Command<'a>, AllocError> {
+    let number = Arg::new(alloc, "NN")
+        .help("A number: prints its line, its shortest input and what to do, too")
+        .value_parser(value_parser!(u8));
+    Command::new(alloc, "rules")
+        .about("Prints what each number that a line names means")
+        .after_help(SHORTEST_HELP)
+        .arg(number)
+}
+
 /// The program's command with these subcommands.
 fn command<'a>(alloc: Global, tasks: &[Task]) -> Result<Command<'a>, AllocError> {
     let mut command = Command::new(alloc, "dvgcheck")
@@ -382,6 +406,13 @@ fn make_words<'a>(rt: &HostRuntime, make: &ArgMatches<'a>) -> Result<MakeWords<'
     })
 }
 
+fn rule_word<'a>(words: &ArgMatches<'a>) -> Result<Option<Rule>, Usage> {
+    match words.get_one::<u8>("NN") {
+        Some(number) => Ok(Some(rule_of(number).ok_or(Usage::NoSuchNumber)?)),
+        None => Ok(None),
+    }
+}
+
 /// What `clap` says of words that it doesn't take: what it says of the marked ones, which it takes as little.
 fn told(alloc: Global, words: &[String]) -> Result<Usage, AllocError> {
     let marked = marked(alloc, words)?;
@@ -417,6 +448,7 @@ pub fn read_words<'a>(rt: &HostRuntime, words: &'a [String]) -> Result<Request<'
         Some(Task::Frames) => Ok(Request::Frames(frames_words(rt, words)?)),
         Some(Task::Check) => Ok(Request::Check(check_words(rt, words)?)),
         Some(Task::Make) => Ok(Request::Make(make_words(rt, words)?)),
+        Some(Task::Rules) => Ok(Request::Rules(rule_word(words)?)),
         None => Err(Usage::Unreadable),
     }
 }

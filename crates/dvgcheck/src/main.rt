@@ -12,9 +12,10 @@ mod output;
 use command::{CheckWords, FramesWords, Judge, MakeWords, Named, Request, Usage, read_words};
 use dvg_cmd::{
     Cert, Counted, CountedWrite, Entries, FrameOutcome, FramesRunFault, HashIndex, JudgedShapes,
-    MakeFault, MakeRunFault, Mode, Outcome, Refusal, RomImage, RomMap, RunFault, frames_status_of,
-    load_cert, load_rom, make_frames_report_of, make_frames_status_of, message_of, run_check,
-    run_frame, run_frame_over, run_make, run_make_frames, run_refusal, run_unopened, status_of,
+    MakeFault, MakeRunFault, Mode, Outcome, Refusal, RomImage, RomMap, Rule, RunFault, all_rules,
+    frames_status_of, load_cert, load_rom, make_frames_report_of, make_frames_status_of,
+    message_of, run_check, run_frame, run_frame_over, run_make, run_make_frames, run_refusal,
+    run_rule, run_rules, run_unopened, status_of,
 };
 use input::{Input, Source};
 use output::Output;
@@ -202,6 +203,18 @@ fn run_maker<W: CountedWrite>(
     }
 }
 
+/// Writes what is told of this rule, the table of all if none.
+fn rules(rt: &HostRuntime, rule: Option<Rule>) -> Result<(), RunFault> {
+    let mut out = Counted::new(io::writer(rt));
+    match rule {
+        Some(rule) => run_rule(rt.alloc(), &rule, &mut out),
+        None => {
+            let rules = all_rules(rt.alloc()).map_err(|_| RunFault::Memory)?;
+            run_rules(rt.alloc(), &rules, &mut out)
+        }
+    }
+}
+
 /// Says a line of ASCII on standard error, with exactly one LF at its end. Where that can't be written either, the exit
 /// status alone tells.
 fn say(rt: &HostRuntime, line: &[u8]) {
@@ -240,6 +253,14 @@ fn tell_make(rt: &HostRuntime, frames: &[Named], end: &Result<(), FramesRunFault
     make_frames_status_of(end)
 }
 
+/// Tells how the writing of rules ended, by a fault's message and the exit status.
+fn tell_rules(rt: &HostRuntime, end: &Result<(), RunFault>) -> u8 {
+    match end {
+        Ok(()) => 0,
+        Err(fault) => tell_check(rt, &Err(*fault)),
+    }
+}
+
 /// Tells why no run was asked for, and answers the exit status.
 fn tell_usage(rt: &HostRuntime, usage: &Usage) -> u8 {
     match usage {
@@ -267,6 +288,10 @@ fn tell_usage(rt: &HostRuntime, usage: &Usage) -> u8 {
             say(rt, b"dvgcheck: standard input is given twice");
             2
         }
+        Usage::NoSuchNumber => {
+            say(rt, b"dvgcheck: no such number");
+            2
+        }
         Usage::OutOfMemory => tell_check(rt, &Err(RunFault::Memory)),
         Usage::Fault(text) => {
             let _ = eprint!(rt; "{}", text);
@@ -288,6 +313,7 @@ fn run(rt: &HostRuntime) -> u8 {
         Ok(Request::Frames(words)) => tell_frames(rt, &frames(rt, &words)),
         Ok(Request::Check(words)) => tell_check(rt, &check(rt, &words)),
         Ok(Request::Make(words)) => tell_make(rt, &words.frames, &make(rt, &words)),
+        Ok(Request::Rules(rule)) => tell_rules(rt, &rules(rt, rule)),
         Err(usage) => tell_usage(rt, &usage),
     }
 }
