@@ -1,4 +1,5 @@
 pub mod Pieces
+pub mod Tables
 pub mod Limits
 pub mod Whole
 pub mod Reporting

@@ -9,6 +9,8 @@ mod making;
 mod making_frames;
 mod reading;
 mod report;
+mod rule_table;
+mod rules;
 mod running;
 mod start;
 mod status;
@@ -32,6 +34,7 @@ pub use judging::{
 pub use making::{MakeRunFault, map_of, root_of, run_make};
 pub use making_frames::{FramesRunFault, run_make_frames};
 pub use report::{Report, frame_report_of, make_frames_report_of, make_report_of, report_of};
+pub use rules::{Rule, all_rules, rule_of, run_rule, run_rules};
 pub use running::{Outcome, RunFault, run_check};
 pub use start::start_of;
 pub use status::{frames_status_of, make_frames_status_of, make_status_of, message_of, status_of};

@@ -1,10 +1,12 @@
 //! The command line.
 
 use crate::escaping::{escaped, marked, shown};
+use crate::input::Input;
 use clap::error::ErrorKind;
 use clap::{Arg, ArgAction, ArgMatches, Command, value_parser};
 use dvg_cmd::{
-    ASTEROIDS, Key, MOST_WORDS, Mode, RomMap, Window, map_of, root_of, start_of, window_of,
+    ASTEROIDS, Key, MOST_WORDS, Mode, RomMap, Rule, Window, map_of, root_of, rule_of, start_of,
+    window_of,
 };
 use std::alloc::{AllocError, AllocFailed, Global};
 use std::{env, io};
@@ -12,7 +14,7 @@ use std::{env, io};
 /// Why the words of the command line ask for no run.
 #[derive(Drop)]
 pub enum Usage {
-    /// Help was asked for.
+    /// Help or the version was asked for.
     Help(String),
     /// A word is wrong, or none was given.
     Fault(String),
@@ -26,6 +28,10 @@ pub enum Usage {
     BadRoot,
     /// The word given as a start is not one.
     BadStart,
+    /// More than one file is to be standard input.
+    StandardInputTwice,
+    /// No rule has the given number.
+    NoSuchNumber,
     OutOfMemory,
 }
 
@@ -47,12 +53,50 @@ pub enum Request<'a> {
     Frames(FramesWords<'a>),
     Check(CheckWords<'a>),
     Make(MakeWords<'a>),
+    /// This rule, all if none.
+    Rules(Option<Rule>),
 }
 
-/// A file: its path, and its name as lines show it.
+/// What `--version` says behind the program's name: its version, and with what it is proved.
+const VERSION: &str = "1.0.0\nproved with rattle-kit-13b logic dac8208d650f15bf";
+
+/// A subcommand.
+#[derive(Clone, Copy)]
+enum Task {
+    Frames,
+    Check,
+    Make,
+    Rules,
+}
+
+impl Task {
+    const ALL: [Task; 4] = [Task::Frames, Task::Check, Task::Make, Task::Rules];
+
+    /// The subcommand with this name.
+    fn named(name: &str) -> Option<Task> {
+        match name {
+            "frames" => Some(Task::Frames),
+            "check" => Some(Task::Check),
+            "make" => Some(Task::Make),
+            "rules" => Some(Task::Rules),
+            _ => None,
+        }
+    }
+
+    fn command<'a>(self, alloc: Global) -> Result<Command<'a>, AllocError> {
+        match self {
+            Task::Frames => frames_command(alloc),
+            Task::Check => check_command(alloc),
+            Task::Make => make_command(alloc),
+            Task::Rules => rules_command(alloc),
+        }
+    }
+}
+
+/// A file to read, and its name as lines show it.
 #[derive(Drop)]
 pub struct Named<'a> {
-    pub path: &'a str,
+    pub input: Input<'a>,
     pub name: String,
 }
 
@@ -61,15 +105,15 @@ pub struct Named<'a> {
 pub enum Judge<'a> {
     /// Each by its own, which is made for a ROM that lies there.
     Own(RomMap),
-    /// All by the one in the file of this path.
-    Given(&'a str),
+    /// All by this one.
+    Given(Input<'a>),
 }
 
-/// What `frames` was asked: the paths of its files, the certificate, the word address at which each frame starts, if one was
+/// What `frames` was asked: its files, the certificate, the word address at which each frame starts, if one was
 /// given, the budget of words, and the window.
 #[derive(Drop)]
 pub struct FramesWords<'a> {
-    pub rom: &'a str,
+    pub rom: Input<'a>,
     pub frames: Vec<Named<'a>>,
     pub judge: Judge<'a>,
     pub start: Option<u16>,
@@ -77,25 +121,27 @@ pub struct FramesWords<'a> {
     pub window: Window,
 }
 
-/// What `check` was asked: the paths of its files, the budget of words, the window, and whether
+/// What `check` was asked: its files, the budget of words, the window, and whether
 /// counts are bounds or exact.
 #[derive(Drop)]
 pub struct CheckWords<'a> {
-    pub rom: &'a str,
-    pub cert: &'a str,
-    pub frame: &'a str,
+    pub rom: Input<'a>,
+    pub cert: Input<'a>,
+    pub frame: Input<'a>,
     pub budget: u32,
     pub window: Window,
     pub mode: Mode,
 }
 
-/// What `make` was asked: the path of its ROM, where that lies, the roots, and the frames.
+/// What `make` was asked: its ROM, where that lies, the roots, the frames, and the path of the file that the certificate is
+/// written to, standard output if none.
 #[derive(Drop)]
 pub struct MakeWords<'a> {
-    pub rom: &'a str,
+    pub rom: Input<'a>,
     pub map: RomMap,
     pub roots: Vec<(u16, Key)>,
     pub frames: Vec<Named<'a>>,
+    pub output: Option<&'a str>,
 }
 
 /// The words of the command line, the program's name first.
@@ -106,6 +152,8 @@ pub fn words(rt: &HostRuntime) -> Result<Vec<String>, Usage> {
         Err(_) => Err(Usage::Unreadable),
     }
 }
+
+const INPUT_HELP: &str = "One of the files that are read may be -, which is standard input";
 
 const ROM_HELP: &str = "The vector ROM: two bytes for each of its words, low byte first";
 
@@ -152,6 +200,7 @@ fn frames_command<'a>(alloc: Global) -> Result<Command<'a>, AllocError> {
         .about(
             "Judges frames over a vector ROM, each by a certificate made for it, and prints a line for each",
         )
+        .after_help(INPUT_HELP)
         .arg(needed(alloc, "ROM", ROM_HELP))?
         .arg(needed(alloc, "FRAME", FRAME_HELP).num_args(1..))?
         .arg(map_option(alloc))?
@@ -168,6 +217,7 @@ fn check_command<'a>(alloc: Global) -> Result<Command<'a>, AllocError> {
         .help("Takes the certificate's words and depths as exact, not as bounds");
     Command::new(alloc, "check")
         .about("Judges a frame over a vector ROM and its certificate, and prints the report")
+        .after_help(INPUT_HELP)
         .arg(needed(alloc, "ROM", ROM_HELP))?
         .arg(needed(alloc, "CERT", "The certificate of the ROM's shapes"))?
         .arg(needed(alloc, "FRAME", FRAME_HELP))?
@@ -188,22 +238,59 @@ fn make_command<'a>(alloc: Global) -> Result<Command<'a>, AllocError> {
         .value_name("FRAME")
         .action(ArgAction::Append)
         .help("A frame, whose calls are roots, too");
+    let output = Arg::new(alloc, "output")
+        .short('o')
+        .long("output")
+        .value_name("FILE")
+        .help(
+            "Writes the certificate to this file, which keeps what it holds until the new one is whole",
+        );
     Command::new(alloc, "make")
         .about("Prints the certificate of shapes of a vector ROM, and of all that they call")
+        .after_help(INPUT_HELP)
         .arg(needed(alloc, "ROM", ROM_HELP))?
         .arg(roots)?
         .arg(frame)?
-        .arg(map_option(alloc))
+        .arg(map_option(alloc))?
+        .arg(output)
 }
 
-fn command<'a>(alloc: Global) -> Result<Command<'a>, AllocError> {
-    Command::new(alloc, "dvgcheck")
+/// What the shortest inputs of rules leave out.
+const SHORTEST_HELP: &str =
+    "Where a shortest input says nothing else, the ROM is 2048 zero bytes, the certificate is `dvgcert 1` LF `done 0` LF, and the
+frame is the word `B000`; words of a ROM stand from 800 on, with zeros around them. For 10 to 16 the ROM is an empty file. For 20 to
+33 the certificate has one entry, the short entry `shape 800 0 end lost box none depth 0 words 1 scale 0` with what is changed in it.";
+
+fn rules_command<'a>(alloc: Global) -> Result<Command<'a>, AllocError> {
+    let number = Arg::new(alloc, "NN")
+        .help("A number: prints its line, its shortest input and what to do, too")
+        .value_parser(value_parser!(u8));
+    Command::new(alloc, "rules")
+        .about("Prints what each number that a line names means")
+        .after_help(SHORTEST_HELP)
+        .arg(number)
+}
+
+/// The program's command with these subcommands.
+fn command<'a>(alloc: Global, tasks: &[Task]) -> Result<Command<'a>, AllocError> {
+    let mut command = Command::new(alloc, "dvgcheck")
         .about("Checks frames and vector ROMs of Atari's Digital Vector Generator")
+        .version(VERSION)
         .subcommand_required(true)
-        .arg_required_else_help(true)
-        .subcommand(frames_command(alloc)?)?
-        .subcommand(check_command(alloc)?)?
-        .subcommand(make_command(alloc)?)
+        .arg_required_else_help(true);
+    for task in tasks {
+        command = command.subcommand(task.command(alloc)?)?;
+    }
+    Ok(command)
+}
+
+/// The command for these words, with the one subcommand that the first of them names, since the others would only cost time;
+/// with all where it names none.
+fn command_for<'a>(alloc: Global, words: &[String]) -> Result<Command<'a>, AllocError> {
+    match words.get(1).and_then(|word| Task::named(word.as_str())) {
+        Some(task) => command(alloc, &[task]),
+        None => command(alloc, &Task::ALL),
+    }
 }
 
 fn needed<'a>(alloc: Global, name: &'a str, help: &'a str) -> Arg<'a> {
@@ -225,17 +312,46 @@ fn map_word<'a>(words: &ArgMatches<'a>) -> Result<RomMap, Usage> {
     }
 }
 
-/// The files that these words name, each with the name that lines show.
-fn files_of<'a>(alloc: Global, paths: Option<&[&'a str]>) -> Result<Vec<Named<'a>>, Usage> {
-    let mut files = Vec::new(alloc);
-    for path in paths.unwrap_or(&[]) {
-        let name = shown(alloc, path)?;
-        files.push(Named { path: *path, name })?;
+/// The file that this argument names.
+fn file_of<'a>(rt: &HostRuntime, words: &ArgMatches<'a>, name: &str) -> Input<'a> {
+    Input::named(rt, words.get_str(name).unwrap_or(""))
+}
+
+/// The files that this argument names, each with the name that lines show.
+fn files_of<'a>(
+    rt: &HostRuntime,
+    words: &ArgMatches<'a>,
+    name: &str,
+) -> Result<Vec<Named<'a>>, Usage> {
+    let mut files = Vec::new(rt.alloc());
+    for path in words.get_strs(name).unwrap_or(&[]) {
+        let input = Input::named(rt, path);
+        let name = shown(rt.alloc(), path)?;
+        files.push(Named { input, name })?;
     }
     Ok(files)
 }
 
-fn frames_words<'a>(alloc: Global, frames: &ArgMatches<'a>) -> Result<FramesWords<'a>, Usage> {
+/// How many of the files that this argument names are standard input.
+fn standard_inputs<'a>(words: &ArgMatches<'a>, name: &str) -> usize {
+    let files = words.get_strs(name).unwrap_or(&[]);
+    files.iter().filter(|word| **word == "-").count()
+}
+
+/// Refuses words by which more than one of the files that these arguments name is standard input.
+fn one_standard_input<'a>(words: &ArgMatches<'a>, names: &[&str]) -> Result<(), Usage> {
+    let mut given = 0usize;
+    for name in names {
+        given = given.saturating_add(standard_inputs(words, name));
+    }
+    if given > 1 {
+        return Err(Usage::StandardInputTwice);
+    }
+    Ok(())
+}
+
+fn frames_words<'a>(rt: &HostRuntime, frames: &ArgMatches<'a>) -> Result<FramesWords<'a>, Usage> {
+    one_standard_input(frames, &["ROM", "FRAME", "cert"])?;
     let map = map_word(frames)?;
     let window = window_word(frames)?;
     let start = match frames.get_str("start") {
@@ -243,10 +359,10 @@ fn frames_words<'a>(alloc: Global, frames: &ArgMatches<'a>) -> Result<FramesWord
         None => None,
     };
     Ok(FramesWords {
-        rom: frames.get_str("ROM").unwrap_or(""),
-        frames: files_of(alloc, frames.get_strs("FRAME"))?,
+        rom: file_of(rt, frames, "ROM"),
+        frames: files_of(rt, frames, "FRAME")?,
         judge: match frames.get_str("cert") {
-            Some(path) => Judge::Given(path),
+            Some(cert) => Judge::Given(Input::named(rt, cert)),
             None => Judge::Own(map),
         },
         start,
@@ -255,11 +371,12 @@ fn frames_words<'a>(alloc: Global, frames: &ArgMatches<'a>) -> Result<FramesWord
     })
 }
 
-fn check_words<'a>(check: &ArgMatches<'a>) -> Result<CheckWords<'a>, Usage> {
+fn check_words<'a>(rt: &HostRuntime, check: &ArgMatches<'a>) -> Result<CheckWords<'a>, Usage> {
+    one_standard_input(check, &["ROM", "CERT", "FRAME"])?;
     Ok(CheckWords {
-        rom: check.get_str("ROM").unwrap_or(""),
-        cert: check.get_str("CERT").unwrap_or(""),
-        frame: check.get_str("FRAME").unwrap_or(""),
+        rom: file_of(rt, check, "ROM"),
+        cert: file_of(rt, check, "CERT"),
+        frame: file_of(rt, check, "FRAME"),
         budget: budget_word(check),
         window: window_word(check)?,
         mode: if check.get_flag("exact") {
@@ -270,9 +387,10 @@ fn check_words<'a>(check: &ArgMatches<'a>) -> Result<CheckWords<'a>, Usage> {
     })
 }
 
-fn make_words<'a>(alloc: Global, make: &ArgMatches<'a>) -> Result<MakeWords<'a>, Usage> {
+fn make_words<'a>(rt: &HostRuntime, make: &ArgMatches<'a>) -> Result<MakeWords<'a>, Usage> {
+    one_standard_input(make, &["ROM", "frame"])?;
     let map = map_word(make)?;
-    let mut roots = Vec::new(alloc);
+    let mut roots = Vec::new(rt.alloc());
     for word in make.get_strs("ROOT").unwrap_or(&[]) {
         let Some(root) = root_of(word) else {
             return Err(Usage::BadRoot);
@@ -280,17 +398,28 @@ fn make_words<'a>(alloc: Global, make: &ArgMatches<'a>) -> Result<MakeWords<'a>,
         roots.push(root)?;
     }
     Ok(MakeWords {
-        rom: make.get_str("ROM").unwrap_or(""),
+        rom: file_of(rt, make, "ROM"),
         map,
         roots,
-        frames: files_of(alloc, make.get_strs("frame"))?,
+        frames: files_of(rt, make, "frame")?,
+        output: make.get_str("output").filter(|path| *path != "-"),
     })
+}
+
+fn rule_word<'a>(words: &ArgMatches<'a>) -> Result<Option<Rule>, Usage> {
+    match words.get_one::<u8>("NN") {
+        Some(number) => Ok(Some(rule_of(number).ok_or(Usage::NoSuchNumber)?)),
+        None => Ok(None),
+    }
 }
 
 /// What `clap` says of words that it doesn't take: what it says of the marked ones, which it takes as little.
 fn told(alloc: Global, words: &[String]) -> Result<Usage, AllocError> {
     let marked = marked(alloc, words)?;
-    let Some(error) = command(alloc)?.try_get_matches_from(&marked).err() else {
+    let Some(error) = command(alloc, &Task::ALL)?
+        .try_get_matches_from(&marked)
+        .err()
+    else {
         return Ok(Usage::Unreadable);
     };
     if error.kind() == ErrorKind::OutOfMemory {
@@ -305,16 +434,21 @@ fn told(alloc: Global, words: &[String]) -> Result<Usage, AllocError> {
 }
 
 /// What the words ask for. All of them are read before a file is opened.
-pub fn read_words<'a>(alloc: Global, words: &'a [String]) -> Result<Request<'a>, Usage> {
-    let matches = match command(alloc)?.try_get_matches_from(words) {
+pub fn read_words<'a>(rt: &HostRuntime, words: &'a [String]) -> Result<Request<'a>, Usage> {
+    let alloc = rt.alloc();
+    let matches = match command_for(alloc, words)?.try_get_matches_from(words) {
         Ok(matches) => matches,
         Err(error) if error.kind() == ErrorKind::OutOfMemory => return Err(Usage::OutOfMemory),
         Err(_) => return Err(told(alloc, words)?),
     };
-    match matches.subcommand() {
-        Some(("frames", frames)) => Ok(Request::Frames(frames_words(alloc, frames)?)),
-        Some(("check", check)) => Ok(Request::Check(check_words(check)?)),
-        Some(("make", make)) => Ok(Request::Make(make_words(alloc, make)?)),
-        _ => Err(Usage::Unreadable),
+    let Some((name, words)) = matches.subcommand() else {
+        return Err(Usage::Unreadable);
+    };
+    match Task::named(name) {
+        Some(Task::Frames) => Ok(Request::Frames(frames_words(rt, words)?)),
+        Some(Task::Check) => Ok(Request::Check(check_words(rt, words)?)),
+        Some(Task::Make) => Ok(Request::Make(make_words(rt, words)?)),
+        Some(Task::Rules) => Ok(Request::Rules(rule_word(words)?)),
+        None => Err(Usage::Unreadable),
     }
 }

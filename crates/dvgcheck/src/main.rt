@@ -6,18 +6,21 @@
 
 mod command;
 mod escaping;
+mod input;
+mod output;
 
 use command::{CheckWords, FramesWords, Judge, MakeWords, Named, Request, Usage, read_words};
 use dvg_cmd::{
     Cert, Counted, CountedWrite, Entries, FrameOutcome, FramesRunFault, HashIndex, JudgedShapes,
-    MakeRunFault, Mode, Outcome, Refusal, RomImage, RomMap, RunFault, frames_status_of, load_cert,
-    load_rom, make_frames_report_of, make_frames_status_of, make_report_of, make_status_of,
+    MakeFault, MakeRunFault, Mode, Outcome, Refusal, RomImage, RomMap, Rule, RunFault, all_rules,
+    frames_status_of, load_cert, load_rom, make_frames_report_of, make_frames_status_of,
     message_of, run_check, run_frame, run_frame_over, run_make, run_make_frames, run_refusal,
-    run_unopened, status_of,
+    run_rule, run_rules, run_unopened, status_of,
 };
-use std::fs::File;
+use input::{Input, Source};
+use output::Output;
 use std::process::ExitCode;
-use std::{fs, io, str};
+use std::{io, str};
 
 /// Opens the files in the order ROM, frame, certificate, before any is read, and runs the check.
 fn check(rt: &HostRuntime, words: &CheckWords) -> Result<Outcome, RunFault> {
@@ -36,8 +39,8 @@ fn check(rt: &HostRuntime, words: &CheckWords) -> Result<Outcome, RunFault> {
     )
 }
 
-fn open<F: Drop>(rt: &HostRuntime, path: &str, fault: F) -> Result<File, F> {
-    fs::open(rt, path).map_err(|_| fault)
+fn open<F: Drop>(rt: &HostRuntime, input: Input, fault: F) -> Result<Source, F> {
+    input.open(rt).map_err(|_| fault)
 }
 
 /// Judges each frame by its own certificate, one after another, and answers the worst.
@@ -50,7 +53,7 @@ fn judge_alone<W: CountedWrite>(
     let rom = load_rom(&mut Counted::new(open(rt, words.rom, RunFault::ReadRom)?))?;
     let mut worst = FrameOutcome::Accepted;
     for frame in &words.frames {
-        let outcome = match fs::open(rt, frame.path) {
+        let outcome = match frame.input.open(rt) {
             Ok(file) => run_frame(
                 rt.alloc(),
                 rom.as_slice(),
@@ -79,7 +82,7 @@ fn judge_each_over<E: Entries, W: CountedWrite>(
 ) -> Result<FrameOutcome, RunFault> {
     let mut worst = FrameOutcome::Accepted;
     for frame in &words.frames {
-        let outcome = match fs::open(rt, frame.path) {
+        let outcome = match frame.input.open(rt) {
             Ok(file) => run_frame_over(
                 shapes,
                 cert,
@@ -110,11 +113,11 @@ fn judge_over<W: CountedWrite>(
     Ok(judge_each_over(rt, words, &shapes, cert, out))
 }
 
-/// Judges all frames by the certificate in the file of this path, and answers the worst.
+/// Judges all frames by this certificate, and answers the worst.
 fn judge_given<W: CountedWrite>(
     rt: &HostRuntime,
     words: &FramesWords,
-    cert: &str,
+    cert: Input,
     out: &mut W,
 ) -> Result<FrameOutcome, RunFault> {
     let rom = load_rom(&mut Counted::new(open(rt, words.rom, RunFault::ReadRom)?))?;
@@ -138,34 +141,78 @@ fn frames(rt: &HostRuntime, words: &FramesWords) -> Result<FrameOutcome, RunFaul
     }
 }
 
-/// Opens the file and runs the maker.
-fn make(rt: &HostRuntime, words: &MakeWords) -> Result<(), MakeRunFault> {
-    let rom = open(rt, words.rom, MakeRunFault::ReadRom)?;
-    run_make(
-        rt.alloc(),
-        &mut Counted::new(rom),
-        words.map,
-        &words.roots,
-        &mut Counted::new(io::writer(rt)),
-    )
-}
-
-/// Opens the ROM and then the frames, before any is read, and runs the maker.
-fn make_for_frames(rt: &HostRuntime, words: &MakeWords) -> Result<(), FramesRunFault> {
+/// Opens the ROM and then the frames, before any is read, and then the file for the certificate, if one was named, and runs the
+/// maker.
+fn make(rt: &HostRuntime, words: &MakeWords) -> Result<(), FramesRunFault> {
     let rom = open(rt, words.rom, MakeRunFault::ReadRom)?;
     let mut frames = Vec::new(rt.alloc());
     for frame in &words.frames {
-        let file = open(rt, frame.path, FramesRunFault::ReadFrame)?;
+        let file = open(rt, frame.input, FramesRunFault::ReadFrame)?;
         frames.push(Counted::new(file))?;
     }
-    run_make_frames(
-        rt.alloc(),
-        &mut Counted::new(rom),
-        words.map,
-        &words.roots,
-        &mut frames,
-        &mut Counted::new(io::writer(rt)),
-    )
+    let mut rom = Counted::new(rom);
+    match words.output {
+        Some(path) => make_file(rt, words, &mut rom, &mut frames, path),
+        None => {
+            let mut out = Counted::new(io::writer(rt));
+            run_maker(rt, words, &mut rom, &mut frames, &mut out)
+        }
+    }
+}
+
+/// Runs the maker over open files, and has the certificate at this path in the end, or, on any fault, what was there.
+fn make_file(
+    rt: &HostRuntime,
+    words: &MakeWords,
+    rom: &mut Counted<Source>,
+    frames: &mut [Counted<Source>],
+    path: &str,
+) -> Result<(), FramesRunFault> {
+    let output = Output::open(rt, path).map_err(|error| unwritten(&error))?;
+    let made = run_maker(rt, words, rom, frames, &mut Counted::new(output.file()));
+    match made {
+        Ok(()) => output.keep(rt).map_err(|error| unwritten(&error)),
+        Err(fault) => {
+            output.discard(rt);
+            Err(fault)
+        }
+    }
+}
+
+/// The fault of a file that could not be written.
+fn unwritten(error: &io::Error) -> FramesRunFault {
+    FramesRunFault::Plain(if error.kind() == io::ErrorKind::OutOfMemory {
+        MakeRunFault::Make(MakeFault::Memory)
+    } else {
+        MakeRunFault::Write
+    })
+}
+
+/// Runs the maker over open files.
+fn run_maker<W: CountedWrite>(
+    rt: &HostRuntime,
+    words: &MakeWords,
+    rom: &mut Counted<Source>,
+    frames: &mut [Counted<Source>],
+    out: &mut W,
+) -> Result<(), FramesRunFault> {
+    if frames.is_empty() {
+        Ok(run_make(rt.alloc(), rom, words.map, &words.roots, out)?)
+    } else {
+        run_make_frames(rt.alloc(), rom, words.map, &words.roots, frames, out)
+    }
+}
+
+/// Writes what is told of this rule, the table of all if none.
+fn rules(rt: &HostRuntime, rule: Option<Rule>) -> Result<(), RunFault> {
+    let mut out = Counted::new(io::writer(rt));
+    match rule {
+        Some(rule) => run_rule(rt.alloc(), &rule, &mut out),
+        None => {
+            let rules = all_rules(rt.alloc()).map_err(|_| RunFault::Memory)?;
+            run_rules(rt.alloc(), &rules, &mut out)
+        }
+    }
 }
 
 /// Says a line of ASCII on standard error, with exactly one LF at its end. Where that can't be written either, the exit
@@ -183,14 +230,6 @@ fn tell_check(rt: &HostRuntime, end: &Result<Outcome, RunFault>) -> u8 {
     status_of(end)
 }
 
-/// Tells how a run of the maker ended, by a fault's line and the exit status.
-fn tell_make(rt: &HostRuntime, end: &Result<(), MakeRunFault>) -> u8 {
-    if let Err(fault) = end {
-        say(rt, make_report_of(fault).as_bytes());
-    }
-    make_status_of(end)
-}
-
 /// Tells how a run over frames ended, by a fault's message and the exit status.
 fn tell_frames(rt: &HostRuntime, end: &Result<FrameOutcome, RunFault>) -> u8 {
     if let Err(fault) = end {
@@ -199,9 +238,9 @@ fn tell_frames(rt: &HostRuntime, end: &Result<FrameOutcome, RunFault>) -> u8 {
     frames_status_of(end)
 }
 
-/// Tells how a run of the maker for frames ended, by a fault's line, which begins with the name of its frame, and the exit
+/// Tells how a run of the maker ended, by a fault's line, which begins with the name of its frame if it is one's, and the exit
 /// status.
-fn tell_make_frames(rt: &HostRuntime, frames: &[Named], end: &Result<(), FramesRunFault>) -> u8 {
+fn tell_make(rt: &HostRuntime, frames: &[Named], end: &Result<(), FramesRunFault>) -> u8 {
     if let Err(fault) = end {
         let report = make_frames_report_of(fault);
         let text = str::from_utf8(report.as_bytes()).unwrap_or("");
@@ -212,6 +251,14 @@ fn tell_make_frames(rt: &HostRuntime, frames: &[Named], end: &Result<(), FramesR
         let _ = eprintln!(rt; "{name}{}", text.trim_end());
     }
     make_frames_status_of(end)
+}
+
+/// Tells how the writing of rules ended, by a fault's message and the exit status.
+fn tell_rules(rt: &HostRuntime, end: &Result<(), RunFault>) -> u8 {
+    match end {
+        Ok(()) => 0,
+        Err(fault) => tell_check(rt, &Err(*fault)),
+    }
 }
 
 /// Tells why no run was asked for, and answers the exit status.
@@ -237,6 +284,14 @@ fn tell_usage(rt: &HostRuntime, usage: &Usage) -> u8 {
             say(rt, b"dvgcheck: bad start");
             2
         }
+        Usage::StandardInputTwice => {
+            say(rt, b"dvgcheck: standard input is given twice");
+            2
+        }
+        Usage::NoSuchNumber => {
+            say(rt, b"dvgcheck: no such number");
+            2
+        }
         Usage::OutOfMemory => tell_check(rt, &Err(RunFault::Memory)),
         Usage::Fault(text) => {
             let _ = eprint!(rt; "{}", text);
@@ -254,13 +309,11 @@ fn run(rt: &HostRuntime) -> u8 {
         Ok(words) => words,
         Err(usage) => return tell_usage(rt, &usage),
     };
-    match read_words(rt.alloc(), &words) {
+    match read_words(rt, &words) {
         Ok(Request::Frames(words)) => tell_frames(rt, &frames(rt, &words)),
         Ok(Request::Check(words)) => tell_check(rt, &check(rt, &words)),
-        Ok(Request::Make(words)) if words.frames.is_empty() => tell_make(rt, &make(rt, &words)),
-        Ok(Request::Make(words)) => {
-            tell_make_frames(rt, &words.frames, &make_for_frames(rt, &words))
-        }
+        Ok(Request::Make(words)) => tell_make(rt, &words.frames, &make(rt, &words)),
+        Ok(Request::Rules(rule)) => tell_rules(rt, &rules(rt, rule)),
         Err(usage) => tell_usage(rt, &usage),
     }
 }
