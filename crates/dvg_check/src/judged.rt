@@ -3,6 +3,7 @@
 ghost use Rattle.std.specs.Prelude.{◌≡◌, ◌≤◌, OnOk, IfOk, IfErr};
 ghost use Rattle.dvg_cert.specs.declared.limits.TheConstants.{MOST_WORDS};
 ghost use Rattle.dvg_check.specs.declared.fault.Mode.TheVariants.{Exact};
+ghost use Rattle.dvg_items.specs.Bounds.{IsSomeCertificate};
 ghost use Rattle.dvg_check.specs.Rules.{Good, GoodFrame};
 ghost use Rattle.dvg_check.specs.FirstFault.{FirstShapeFault, FirstFrameFault};
 ghost use Rattle.dvg_check.specs.Finding.{FirstFrameFound, IsSoundFound};
@@ -89,6 +90,28 @@ impl<'a, E: Entries> JudgedShapes<'a, E> {
         // Its clause says that the frame is whole.
         let _words = frame.words();
         find_frame_fault(frame, self.entries, budget, &self.window)
+    }
+
+    /// The shapes that are known to be good so in this mode: those that [`judge`](JudgedShapes::judge) took before, say, kept
+    /// with their ROM, their entries and their window. Takes no memory.
+    pub fn unchecked(
+        rom: &'a RomImage<'a>,
+        entries: &'a E,
+        window: Window,
+        mode: Mode,
+    ) -> JudgedShapes<'a, E>
+        requires list { IsSomeCertificate (E.list entries.now) }
+        requires good { Good mode window rom.now (E.list entries.now) }
+        ensures { result ≡ record { rom = rom.now; list = E.list entries.now; window = window; mode = mode } }
+    {
+        // Its clause says that the ROM is whole.
+        let _map = rom.map();
+        JudgedShapes {
+            rom,
+            entries,
+            window,
+            mode,
+        }
     }
 
     /// Judges a frame over these shapes: its words and its depth where it keeps all rules (40 to 48, profile), else its

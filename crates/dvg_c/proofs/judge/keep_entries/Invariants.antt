@@ -1,0 +1,8 @@
+use Rattle.std.proofs.Common.{◌≡◌, take}
+use Rattle.dvg_c.specs.Kept.{kept_list}
+use Rattle.dvg_c.specs.declared.stage.TheConstants.{NOT_JUDGED}
+use Rattle.dvg_c.proofs.judge.keep_entries.Given as goal
+
+-- the entries so far are kept
+abbrev pub invariant-entries : goal.invariant-entries
+invariant-entries l = (kept_list l.i l.kept.entries ≡ take l.i l.entries) × (l.kept.judged ≡ NOT_JUDGED)

@@ -1,0 +1,110 @@
+//! What a judgement comes to, in plain numbers.
+
+ghost use Rattle.std.specs.Prelude.{◌≡◌};
+ghost use Rattle.dvg_c.specs.Told.{told_key, numbered, told_yes, told_refusal, told};
+
+use dvg_cert::Key;
+use dvg_check::{Refusal, Yes};
+
+/// What a judgement comes to. A field that its number doesn't speak of is 0.
+#[repr(C)]
+#[derive(Clone, Copy, Debug, PartialEq, Eq)]
+pub struct Answer {
+    /// With 0: how many shapes the certificate claims.
+    pub shapes: u32,
+    /// With 0: how many words every run fetches at most.
+    pub words: u32,
+    /// With 10 to 16: the certificate's line, counted from 1.
+    pub line: u32,
+    /// With 20 to 33 and 40 to 48: the word address of the first item that breaks a rule.
+    pub word: u16,
+    /// With 20 to 33: the word address of the entry whose shape breaks it.
+    pub shape: u16,
+    /// With 20 to 33: the global scale of that entry, 0 to 15, or 16 for any.
+    pub scale: u8,
+    /// With 0: how many return places every run stores at once at most.
+    pub depth: u8,
+    /// 0 where it is accepted, else the number of the refusal, 80 for a bad window, or 81 where no shapes are judged.
+    pub number: u8,
+}
+
+/// The number of a bad window.
+pub const BAD_WINDOW: u8 = 80;
+
+/// The number of a frame over memory that has no judged shapes.
+pub const NO_SHAPES: u8 = 81;
+
+/// What stands for the key of any scale.
+pub const ANY_SCALE: u8 = 16;
+
+/// A number that stands for a key.
+pub fn scale_of(key: Key) -> u8
+    ensures { result ≡ told_key key }
+{
+    match key {
+        Key::At(scale) => scale,
+        Key::Any => ANY_SCALE,
+    }
+}
+
+/// A number alone.
+pub fn numbered(number: u8) -> Answer
+    ensures { result ≡ numbered number }
+{
+    Answer {
+        shapes: 0,
+        words: 0,
+        line: 0,
+        word: 0,
+        shape: 0,
+        scale: 0,
+        depth: 0,
+        number,
+    }
+}
+
+/// What is accepted.
+pub fn accepted(yes: &Yes) -> Answer
+    ensures { result ≡ told_yes yes.now }
+{
+    Answer {
+        shapes: yes.shapes,
+        words: yes.words,
+        depth: yes.depth,
+        ..numbered(0)
+    }
+}
+
+/// The number of a refusal, and its place.
+pub fn refused(refusal: &Refusal) -> Answer
+    ensures { result ≡ told_refusal refusal.now }
+{
+    let bare = numbered(refusal.number());
+    match refusal {
+        Refusal::Cert(fault) => Answer {
+            line: fault.line,
+            ..bare
+        },
+        Refusal::Shape(fault) => Answer {
+            shape: fault.addr,
+            scale: scale_of(fault.key),
+            word: fault.word,
+            ..bare
+        },
+        Refusal::Frame(fault) => Answer {
+            word: fault.word,
+            ..bare
+        },
+        Refusal::Image(_) | Refusal::BudgetRange | Refusal::IndexMemory => bare,
+    }
+}
+
+/// What a verdict comes to.
+pub fn answer_of(verdict: &Result<Yes, Refusal>) -> Answer
+    ensures { result ≡ told verdict.now }
+{
+    match verdict {
+        Ok(yes) => accepted(yes),
+        Err(refusal) => refused(refusal),
+    }
+}

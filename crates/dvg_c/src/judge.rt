@@ -1,0 +1,153 @@
+//! Shapes are judged once, and kept.
+
+ghost use Rattle.std.specs.Prelude.{◌≡◌, ◌≢◌, ◌≤◌, OnOk, IfErr, length, take};
+ghost use Rattle.dvg_words.specs.Values.{IsWindow};
+ghost use Rattle.dvg_items.specs.Bounds.{IsSomeCertificate};
+ghost use Rattle.dvg_check.specs.declared.fault.Mode.TheVariants.{Bound, Exact};
+ghost use Rattle.dvg_check.specs.Rules.{Good};
+ghost use Rattle.dvg_check.specs.FirstFault.{FirstShapeFault};
+ghost use Rattle.dvg_c.specs.Told.{window_of, numbered};
+ghost use Rattle.dvg_c.specs.Kept.{kept_list};
+ghost use Rattle.dvg_c.specs.Judging.{ShapesVerdict, Keeps, IsJudgement, told_shapes, shapes_of};
+
+use crate::answer::{Answer, BAD_WINDOW, numbered, refused};
+use crate::entry::kept_entry;
+use crate::shapes::{KeptShapes, MOST_ROM_BYTES};
+use crate::stage::{NOT_JUDGED, kept_mode};
+use crate::window::{WindowEnds, window_between};
+use dvg_cert::{Cert, Entry, ListIndex, read_cert};
+use dvg_check::{Mode, Refusal, ShapeFault, check_shapes, check_shapes_exact};
+use dvg_words::{RomImage, Window};
+use std::alloc::Global;
+
+/// What was taken, or the number and the place of a refusal.
+fn shapes_answer(verdict: &Result<Cert, Refusal>) -> Answer
+    ensures { result ≡ told_shapes verdict.now }
+{
+    match verdict {
+        Ok(cert) => Answer {
+            shapes: cert.entries().len() as u32,
+            ..numbered(0)
+        },
+        Err(refusal) => refused(refusal),
+    }
+}
+
+/// Keeps the entries of a certificate.
+fn keep_entries(entries: &[Entry], kept: &mut KeptShapes)
+    requires certificate { IsSomeCertificate entries.now }
+    requires judged { kept.old.judged ≡ NOT_JUDGED }
+    ensures list { kept_list (length entries.now) kept.new.entries ≡ entries.now }
+    ensures judged { kept.new.judged ≡ NOT_JUDGED }
+{
+    'entries: for i in 0..entries.len() {
+        kept.entries[i] = kept_entry(&entries[i]);
+    }
+}
+
+/// Keeps the bytes of a ROM.
+fn keep_rom(rom: &[u8], kept: &mut KeptShapes)
+    requires room { length rom.now ≤ MOST_ROM_BYTES }
+    requires judged { kept.old.judged ≡ NOT_JUDGED }
+    ensures bytes { take (length rom.now) kept.new.rom ≡ rom.now }
+    ensures entries { kept.new.entries ≡ kept.old.entries }
+    ensures judged { kept.new.judged ≡ NOT_JUDGED }
+{
+    'bytes: for i in 0..rom.len() {
+        kept.rom[i] = rom[i];
+    }
+}
+
+/// Judges each entry's shape in a mode.
+fn judge_shapes(mode: Mode, window: &Window, rom: &RomImage, cert: &Cert) -> Result<(), ShapeFault>
+    requires { rom.now.map ≡ cert.now.map }
+    ensures ok { OnOk result (Good mode window.now rom.now cert.now.entries) }
+    ensures err { IfErr result (FirstShapeFault mode window.now rom.now cert.now.entries) }
+{
+    let index = ListIndex::new(cert);
+    match mode {
+        Mode::Bound => check_shapes(rom, cert, &index, window),
+        Mode::Exact => check_shapes_exact(rom, cert, &index, window),
+    }
+}
+
+/// Judges the shapes of a certificate over a ROM, and keeps both where they are good.
+fn judge_and_keep(
+    alloc: Global,
+    rom: &[u8],
+    cert: &[u8],
+    ends: WindowEnds,
+    mode: Mode,
+    kept: &mut KeptShapes,
+) -> Result<Cert, Refusal>
+    requires window { IsWindow (window_of ends) }
+    requires judged { kept.old.judged ≡ NOT_JUDGED }
+    ensures verdict { ShapesVerdict mode (window_of ends) rom.now cert.now result }
+    ensures kept { Keeps mode (window_of ends) rom.now kept.new result }
+{
+    let window = window_between(ends).unwrap();
+    let cert = read_cert(alloc, cert)?;
+    let image = RomImage::from_bytes(rom, cert.map())?;
+    judge_shapes(mode, &window, &image, &cert)?;
+    keep_entries(cert.entries(), kept);
+    keep_rom(rom, kept);
+    kept.count = cert.entries().len() as u32;
+    (kept.rom_first, kept.rom_last) = cert.rom();
+    kept.window = ends;
+    kept.judged = kept_mode(mode);
+    Ok(cert)
+}
+
+/// Judges the shapes of a certificate over a ROM in a mode, for a window that is tested here.
+fn judge_in(
+    alloc: Global,
+    rom: &[u8],
+    cert: &[u8],
+    window: WindowEnds,
+    mode: Mode,
+    kept: &mut KeptShapes,
+) -> Answer
+    ensures window { (IsWindow (window_of window) → ⊥) → (result ≡ numbered BAD_WINDOW) × (kept.new.judged ≡ NOT_JUDGED) }
+    ensures verdict { IsWindow (window_of window) → IsJudgement mode (window_of window) rom.now cert.now kept.new result }
+{
+    kept.judged = NOT_JUDGED;
+    if window_between(window).is_none() {
+        return numbered(BAD_WINDOW);
+    }
+    shapes_answer(&judge_and_keep(alloc, rom, cert, window, mode, kept))
+}
+
+/// Judges the shapes of a certificate over a vector ROM, both as bytes, and keeps what frames are judged by.
+///
+/// `window` is the part of the screen that may be lit, here and by the frames judged over these shapes. The answer is 80 where the
+/// window's ends are not in order or not on the screen, else the first that applies of 10 to 16, 1 and 20 to 31, or 0 and the
+/// number of the shapes. With 0, `kept` has the ROM and the entries; else it has no judged shapes. Takes memory for the
+/// certificate's entries, and gives it back.
+#[unsafe(no_mangle)]
+pub extern "C" fn dvgcheck_judge(
+    alloc: Global,
+    rom: &[u8],
+    cert: &[u8],
+    window: WindowEnds,
+    kept: &mut KeptShapes,
+) -> Answer
+    ensures window { (IsWindow (window_of window) → ⊥) → (result ≡ numbered BAD_WINDOW) × (kept.new.judged ≡ NOT_JUDGED) }
+    ensures verdict { IsWindow (window_of window) → IsJudgement Bound (window_of window) rom.now cert.now kept.new result }
+{
+    judge_in(alloc, rom, cert, window, Mode::Bound, kept)
+}
+
+/// The same with counts as exact: among the rules of shapes are 32 and 33.
+#[unsafe(no_mangle)]
+pub extern "C" fn dvgcheck_judge_exact(
+    alloc: Global,
+    rom: &[u8],
+    cert: &[u8],
+    window: WindowEnds,
+    kept: &mut KeptShapes,
+) -> Answer
+    ensures window { (IsWindow (window_of window) → ⊥) → (result ≡ numbered BAD_WINDOW) × (kept.new.judged ≡ NOT_JUDGED) }
+    ensures verdict { IsWindow (window_of window) → IsJudgement Exact (window_of window) rom.now cert.now kept.new result }
+{
+    judge_in(alloc, rom, cert, window, Mode::Exact, kept)
+}
