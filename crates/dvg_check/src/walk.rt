@@ -106,14 +106,13 @@ pub fn walk<C: Cells, E: Entries, R: Rules>(
     let mut callees = Callees::new(entries);
     let mut cursor = Cursor::start(rules.kind(), first, rules.scale());
     'items: loop {
-        let here = cursor;
-        let at = here.at;
+        let at = cursor.at;
         let (format, instr) = match cells.cell(at) {
             Cell::Missing => {
                 return Err(Fault {
                     at,
                     why: rules.unmapped(),
-                    before: here.known,
+                    before: cursor.known,
                     found: Found::Missing,
                 });
             }
@@ -121,19 +120,19 @@ pub fn walk<C: Cells, E: Entries, R: Rules>(
                 return Err(Fault {
                     at,
                     why: rules.odd(),
-                    before: here.known,
+                    before: cursor.known,
                     found: Found::Odd,
                 });
             }
             Cell::Holds { format, instr } => (format, instr),
         };
-        match judge(rules, &mut callees, &here, format, &instr) {
+        match judge(rules, &mut callees, &cursor, format, &instr) {
             Err(why) => {
-                let seen = see(rules.kind(), entries, here, format, instr);
+                let seen = see(rules.kind(), entries, cursor, format, instr);
                 return Err(Fault {
                     at,
                     why,
-                    before: here.known,
+                    before: cursor.known,
                     found: Found::Seen(seen),
                 });
             }
