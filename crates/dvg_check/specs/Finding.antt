@@ -34,12 +34,14 @@ pub record FaultFound {Why : Type 0} (order : Why → ℕ) (c : Context) (word :
 -- those of a frame
 abbrev pub FirstFrameFound : Window → List ℕ → List Entry → ℕ → FrameFinding → Type 0
 FirstFrameFound w words list budget f =
-    FaultFound frame_number (frame_context list) (frame_word words) 0 (FramePlaceKeeps w words list budget) f.fault.word f.fault.why f.before f.found
+    FaultFound frame_number (frame_context list) (frame_word words) 0 (FramePlaceKeeps w words list budget)
+    f.fault.word f.fault.why f.before f.found
 
 -- those of an entry's shape
 abbrev pub ShapeFaultFound : Mode → Window → Rom → List Entry → Entry → ShapeFinding → Type 0
 ShapeFaultFound mode w rom list e f =
-    FaultFound shape_number (shape_context list e) (rom_word rom) e.addr (ShapePlaceKeeps mode w rom list e) f.fault.word f.fault.why f.before f.found
+    FaultFound shape_number (shape_context list e) (rom_word rom) e.addr (ShapePlaceKeeps mode w rom list e)
+    f.fault.word f.fault.why f.before f.found
 
 -- those of a certificate, and the entry whose shape it is
 pub record FirstShapeFound (mode : Mode) (w : Window) (rom : Rom) (list : List Entry) (f : ShapeFinding) : Type 0 where

@@ -81,7 +81,11 @@ fn see<E: Entries>(kind: Kind, entries: &E, here: Cursor, format: Format, instr:
     ensures value { result ≡ seen_by (E.list entries.now) kind here.known (record { at = here.at; format = format; instr = instr }) }
     ensures sound { IsSoundSeen result }
 {
-    here.see(format, &instr, callee(entries, target(kind, &instr), here.known.scale))
+    here.see(
+        format,
+        &instr,
+        callee(entries, target(kind, &instr), here.known.scale),
+    )
 }
 
 /// Goes over the items from the first place on, up to the first that breaks a rule or the last.

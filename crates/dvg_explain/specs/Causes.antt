@@ -33,10 +33,12 @@ CauseOf w budget f (cause.JumpsBack to) = (f.fault.why ≡ frame.BackJump) × Of
 CauseOf w budget f cause.LostPlace = f.fault.why ≡ frame.BeamUnknown
 CauseOf w budget f cause.UnknownScale = f.fault.why ≡ frame.ScaleUnknown
 -- a corner leaves the window
-CauseOf w budget f (cause.Leaves leaving) = (f.fault.why ≡ frame.OffScreen) × OfSeen f.found (λ v. LeavesFrom w v.extent v.place leaving)
+CauseOf w budget f (cause.Leaves leaving) =
+    (f.fault.why ≡ frame.OffScreen) × OfSeen f.found (λ v. LeavesFrom w v.extent v.place leaving)
 -- the item calls this address at this scale, and no entry is named by them
 CauseOf w budget f (cause.NoEntry to scale) =
-    (f.fault.why ≡ frame.NoEntry) × OfSeen f.found (λ v. (target Frame v.item.instr ≡ Some to) × (v.callee ≡ None)) × (scale ≡ f.before.scale)
+    (f.fault.why ≡ frame.NoEntry) × OfSeen f.found (λ v. (target Frame v.item.instr ≡ Some to) × (v.callee ≡ None))
+    × (scale ≡ f.before.scale)
 -- the words past the item are so many more than the budget
 CauseOf w budget f (cause.OverBudget by) =
     (f.fault.why ≡ frame.Budget) × OfSeen f.found (λ v. (budget < v.after.words) × (by ≡ v.after.words - budget))
@@ -49,10 +51,12 @@ ShapeCauseOf w f shape_cause.Halt = f.fault.why ≡ shape.HaltInShape
 ShapeCauseOf w f shape_cause.LostPlace = f.fault.why ≡ shape.BeamUnknown
 ShapeCauseOf w f shape_cause.UnknownScale = f.fault.why ≡ shape.ScaleUnknown
 -- a corner leaves the window
-ShapeCauseOf w f (shape_cause.Leaves leaving) = (f.fault.why ≡ shape.OffScreen) × OfSeen f.found (λ v. LeavesFrom w v.extent v.place leaving)
+ShapeCauseOf w f (shape_cause.Leaves leaving) =
+    (f.fault.why ≡ shape.OffScreen) × OfSeen f.found (λ v. LeavesFrom w v.extent v.place leaving)
 -- the item calls or tail jumps to this address at this scale, and no entry is named by them
 ShapeCauseOf w f (shape_cause.NoEntry to scale) =
-    (f.fault.why ≡ shape.NoEntry) × OfSeen f.found (λ v. (target Shape v.item.instr ≡ Some to) × (v.callee ≡ None)) × (scale ≡ f.before.scale)
+    (f.fault.why ≡ shape.NoEntry) × OfSeen f.found (λ v. (target Shape v.item.instr ≡ Some to) × (v.callee ≡ None))
+    × (scale ≡ f.before.scale)
 -- so many return places are stored at once under the item, more than the entry claims
 ShapeCauseOf w f (shape_cause.TooDeep depth) =
     (f.fault.why ≡ shape.TooDeep) × OfSeen f.found (λ v. depth ≡ depth_under v.item.instr v.callee) × (f.entry.depth < depth)
@@ -60,10 +64,14 @@ ShapeCauseOf w f (shape_cause.TooDeep depth) =
 ShapeCauseOf w f (shape_cause.TooManyWords by) =
     (f.fault.why ≡ shape.TooManyWords) × OfSeen f.found (λ v. (f.entry.words < v.after.words) × (by ≡ v.after.words - f.entry.words))
 -- what is known past the last item is this, and the entry claims another
-ShapeCauseOf w f (shape_cause.EndDiffers place) = (f.fault.why ≡ shape.EndDiffers) × OfSeen f.found (λ v. place ≡ v.after.place) × (place ≢ f.entry.stop)
-ShapeCauseOf w f (shape_cause.ScaleDiffers scale) = (f.fault.why ≡ shape.ScaleDiffers) × OfSeen f.found (λ v. scale ≡ v.after.scale) × (scale ≢ f.entry.scale)
+ShapeCauseOf w f (shape_cause.EndDiffers place) =
+    (f.fault.why ≡ shape.EndDiffers) × OfSeen f.found (λ v. place ≡ v.after.place) × (place ≢ f.entry.stop)
+ShapeCauseOf w f (shape_cause.ScaleDiffers scale) =
+    (f.fault.why ≡ shape.ScaleDiffers) × OfSeen f.found (λ v. scale ≡ v.after.scale) × (scale ≢ f.entry.scale)
 -- a corner leaves the claimed box
 ShapeCauseOf w f (shape_cause.LeavesBox leaving) =
     (f.fault.why ≡ shape.BoxTooSmall) × OfSeen f.found (λ v. LeavesBox f.entry.lit (relative_corners v.extent v.place) leaving)
-ShapeCauseOf w f (shape_cause.WordsDiffer words) = (f.fault.why ≡ shape.WordsDiffer) × OfSeen f.found (λ v. words ≡ v.after.words) × (words ≢ f.entry.words)
-ShapeCauseOf w f (shape_cause.DepthDiffers depth) = (f.fault.why ≡ shape.DepthDiffers) × OfSeen f.found (λ v. depth ≡ v.after.depth) × (depth ≢ f.entry.depth)
+ShapeCauseOf w f (shape_cause.WordsDiffer words) =
+    (f.fault.why ≡ shape.WordsDiffer) × OfSeen f.found (λ v. words ≡ v.after.words) × (words ≢ f.entry.words)
+ShapeCauseOf w f (shape_cause.DepthDiffers depth) =
+    (f.fault.why ≡ shape.DepthDiffers) × OfSeen f.found (λ v. depth ≡ v.after.depth) × (depth ≢ f.entry.depth)

@@ -18,6 +18,7 @@ pub use cursor::{Cursor, Step};
 pub use item::{Item, Kind, target};
 pub use known::{Effect, Known, callee, depth_under, place_past, scale_past};
 pub use lit::{
-    LitExtent, absolute_corners, lit_in_box, lit_in_window, place_known, relative_corners, scale_known,
+    LitExtent, absolute_corners, lit_in_box, lit_in_window, place_known, relative_corners,
+    scale_known,
 };
 pub use seen::{Seen, has_callee};
