@@ -6,8 +6,9 @@
  *
  * What the functions promise is proved. It rests on what nothing can test, so it is yours to see to:
  *
- * - A pointer and the length after it are those of bytes that can be read, and that nothing writes during the call. It is not
- *   null, also where the length is 0. The other pointers are those of a struct.
+ * - A pointer and the length after it are those of bytes that can be read, that nothing writes during the call, and that lie
+ *   outside the struct that is passed with them. It is not null, also where the length is 0. The other pointers are those of a
+ *   struct.
  * - A `struct dvgcheck_shapes` is all zeros, or has just the bytes that the last dvgcheck_judge or dvgcheck_judge_exact left in
  *   it: nothing else writes into it. It may be copied and moved. While no call writes it, any number of threads may judge frames
  *   over it.
