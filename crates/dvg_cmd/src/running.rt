@@ -45,7 +45,8 @@ pub enum RunFault {
     ReadCert,
     /// 73: the writer failed, or took no byte.
     Write,
-    /// 74: out of memory before the run. `run_check` never answers it: its own refusals for want of memory are outcomes.
+    /// 74: out of memory before the run, or for the text of rules. `run_check` never answers it: its own refusals for want of
+    /// memory are outcomes.
     Memory,
 }
 

@@ -18,21 +18,49 @@ pub enum Usage {
     Help(String),
     /// A word is wrong, or none was given.
     Fault(String),
+    /// `clap` takes the words, but they ask for nothing that there is.
+    Word(WordFault),
+    OutOfMemory,
+}
+
+/// Why words that `clap` takes ask for no run.
+#[derive(Clone, Copy)]
+pub enum WordFault {
     /// A word is not UTF-8.
     Unreadable,
     /// The word given as a map is not one.
-    BadMap,
+    Map,
     /// The word given as a window is not one.
-    BadWindow,
+    Window,
     /// A word given as a root is not one.
-    BadRoot,
-    /// The word given as a start is not one.
-    BadStart,
+    Root,
+    /// A word given as a start is not one.
+    Start,
     /// More than one file is to be standard input.
     StandardInputTwice,
     /// No rule has the given number.
-    NoSuchNumber,
-    OutOfMemory,
+    Number,
+}
+
+impl WordFault {
+    /// The line on standard error, without its LF.
+    pub fn message(self) -> &'static str {
+        match self {
+            WordFault::Unreadable => "dvgcheck: cannot read the command line",
+            WordFault::Map => "dvgcheck: bad map",
+            WordFault::Window => "dvgcheck: bad window",
+            WordFault::Root => "dvgcheck: bad root",
+            WordFault::Start => "dvgcheck: bad start",
+            WordFault::StandardInputTwice => "dvgcheck: standard input is given twice",
+            WordFault::Number => "dvgcheck: no such number",
+        }
+    }
+}
+
+impl From<WordFault> for Usage {
+    fn from(fault: WordFault) -> Usage {
+        Usage::Word(fault)
+    }
 }
 
 impl<T: Drop> From<AllocFailed<T>> for Usage {
@@ -149,7 +177,7 @@ pub fn words(rt: &HostRuntime) -> Result<Vec<String>, Usage> {
     match env::args(rt) {
         Ok(words) => Ok(words.collect(rt.alloc())?),
         Err(error) if error.kind() == io::ErrorKind::OutOfMemory => Err(Usage::OutOfMemory),
-        Err(_) => Err(Usage::Unreadable),
+        Err(_) => Err(Usage::Word(WordFault::Unreadable)),
     }
 }
 
@@ -297,17 +325,17 @@ fn needed<'a>(alloc: Global, name: &'a str, help: &'a str) -> Arg<'a> {
     Arg::new(alloc, name).required(true).help(help)
 }
 
-fn window_word<'a>(words: &ArgMatches<'a>) -> Result<Window, Usage> {
-    window_of(words.get_str("window").unwrap_or("")).ok_or(Usage::BadWindow)
+fn window_word<'a>(words: &ArgMatches<'a>) -> Result<Window, WordFault> {
+    window_of(words.get_str("window").unwrap_or("")).ok_or(WordFault::Window)
 }
 
 fn budget_word<'a>(words: &ArgMatches<'a>) -> u32 {
     words.get_one::<u32>("budget").unwrap_or(20_000)
 }
 
-fn map_word<'a>(words: &ArgMatches<'a>) -> Result<RomMap, Usage> {
+fn map_word<'a>(words: &ArgMatches<'a>) -> Result<RomMap, WordFault> {
     match words.get_str("rom") {
-        Some(word) => map_of(word).ok_or(Usage::BadMap),
+        Some(word) => map_of(word).ok_or(WordFault::Map),
         None => Ok(ASTEROIDS),
     }
 }
@@ -339,13 +367,13 @@ fn standard_inputs<'a>(words: &ArgMatches<'a>, name: &str) -> usize {
 }
 
 /// Refuses words by which more than one of the files that these arguments name is standard input.
-fn one_standard_input<'a>(words: &ArgMatches<'a>, names: &[&str]) -> Result<(), Usage> {
+fn one_standard_input<'a>(words: &ArgMatches<'a>, names: &[&str]) -> Result<(), WordFault> {
     let mut given = 0usize;
     for name in names {
         given = given.saturating_add(standard_inputs(words, name));
     }
     if given > 1 {
-        return Err(Usage::StandardInputTwice);
+        return Err(WordFault::StandardInputTwice);
     }
     Ok(())
 }
@@ -355,7 +383,7 @@ fn frames_words<'a>(rt: &HostRuntime, frames: &ArgMatches<'a>) -> Result<FramesW
     let map = map_word(frames)?;
     let window = window_word(frames)?;
     let start = match frames.get_str("start") {
-        Some(word) => Some(start_of(word).ok_or(Usage::BadStart)?),
+        Some(word) => Some(start_of(word).ok_or(WordFault::Start)?),
         None => None,
     };
     Ok(FramesWords {
@@ -392,10 +420,7 @@ fn make_words<'a>(rt: &HostRuntime, make: &ArgMatches<'a>) -> Result<MakeWords<'
     let map = map_word(make)?;
     let mut roots = Vec::new(rt.alloc());
     for word in make.get_strs("ROOT").unwrap_or(&[]) {
-        let Some(root) = root_of(word) else {
-            return Err(Usage::BadRoot);
-        };
-        roots.push(root)?;
+        roots.push(root_of(word).ok_or(WordFault::Root)?)?;
     }
     Ok(MakeWords {
         rom: file_of(rt, make, "ROM"),
@@ -406,9 +431,9 @@ fn make_words<'a>(rt: &HostRuntime, make: &ArgMatches<'a>) -> Result<MakeWords<'
     })
 }
 
-fn rule_word<'a>(words: &ArgMatches<'a>) -> Result<Option<Rule>, Usage> {
+fn rule_word<'a>(words: &ArgMatches<'a>) -> Result<Option<Rule>, WordFault> {
     match words.get_one::<u8>("NN") {
-        Some(number) => Ok(Some(rule_of(number).ok_or(Usage::NoSuchNumber)?)),
+        Some(number) => Ok(Some(rule_of(number).ok_or(WordFault::Number)?)),
         None => Ok(None),
     }
 }
@@ -420,7 +445,7 @@ fn told(alloc: Global, words: &[String]) -> Result<Usage, AllocError> {
         .try_get_matches_from(&marked)
         .err()
     else {
-        return Ok(Usage::Unreadable);
+        return Ok(Usage::Word(WordFault::Unreadable));
     };
     if error.kind() == ErrorKind::OutOfMemory {
         return Ok(Usage::OutOfMemory);
@@ -442,13 +467,13 @@ pub fn read_words<'a>(rt: &HostRuntime, words: &'a [String]) -> Result<Request<'
         Err(_) => return Err(told(alloc, words)?),
     };
     let Some((name, words)) = matches.subcommand() else {
-        return Err(Usage::Unreadable);
+        return Err(Usage::Word(WordFault::Unreadable));
     };
     match Task::named(name) {
         Some(Task::Frames) => Ok(Request::Frames(frames_words(rt, words)?)),
         Some(Task::Check) => Ok(Request::Check(check_words(rt, words)?)),
         Some(Task::Make) => Ok(Request::Make(make_words(rt, words)?)),
         Some(Task::Rules) => Ok(Request::Rules(rule_word(words)?)),
-        None => Err(Usage::Unreadable),
+        None => Err(Usage::Word(WordFault::Unreadable)),
     }
 }

@@ -264,32 +264,8 @@ fn tell_rules(rt: &HostRuntime, end: &Result<(), RunFault>) -> u8 {
 /// Tells why no run was asked for, and answers the exit status.
 fn tell_usage(rt: &HostRuntime, usage: &Usage) -> u8 {
     match usage {
-        Usage::Unreadable => {
-            say(rt, b"dvgcheck: cannot read the command line");
-            2
-        }
-        Usage::BadMap => {
-            say(rt, b"dvgcheck: bad map");
-            2
-        }
-        Usage::BadWindow => {
-            say(rt, b"dvgcheck: bad window");
-            2
-        }
-        Usage::BadRoot => {
-            say(rt, b"dvgcheck: bad root");
-            2
-        }
-        Usage::BadStart => {
-            say(rt, b"dvgcheck: bad start");
-            2
-        }
-        Usage::StandardInputTwice => {
-            say(rt, b"dvgcheck: standard input is given twice");
-            2
-        }
-        Usage::NoSuchNumber => {
-            say(rt, b"dvgcheck: no such number");
+        Usage::Word(fault) => {
+            say(rt, fault.message().as_bytes());
             2
         }
         Usage::OutOfMemory => tell_check(rt, &Err(RunFault::Memory)),
