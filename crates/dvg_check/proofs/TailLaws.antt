@@ -150,7 +150,7 @@ lit_over w (Span l' r' d' t') (Span l r d t) (Between a b) (Rel u v) (Rel x y) m
     }
 
 -- the rules of a tail's item, seen from where the tail stands
-abbrev seen_over : Known → Seen → Seen
+abbrev pub seen_over : Known → Seen → Seen
 seen_over first v = record { item = v.item; place = place_over first.place v.place; extent = v.extent; callee = v.callee; after = known_over first v.after }
 
 sum_as_claimed : (mode : Mode) (n a b : ℕ) → AsClaimed mode n a → AsClaimed mode (n + b) (a + b)
@@ -200,7 +200,7 @@ past_over i callee first second =
     let depth : max (depth_under i.instr callee) (max second.depth first.depth) ≡ max (max (depth_under i.instr callee) second.depth) first.depth = omega arith in
     λ x. record { place = place x; scale = scale; words = words x; depth = depth x }
 
-seen_by_over : (list : List Entry) (first second : Known) (i : Item) → seen_by list Shape (known_over first second) i ≡ seen_over first (seen_by list Shape second i)
+pub seen_by_over : (list : List Entry) (first second : Known) (i : Item) → seen_by list Shape (known_over first second) i ≡ seen_over first (seen_by list Shape second i)
 seen_by_over list first second i =
     let v : Seen = seen_by list Shape (known_over first second) i in
     ap (λ (after : Known). record v { after = after }) (past_over i (callee_at list (target Shape i.instr) second.scale) first second)
@@ -217,7 +217,7 @@ over_origin (Abs x y) =
 over_origin Lost = refl
 
 -- nothing is added where the second part has no item
-over_none : (first : Known) (key : Key) → first.scale ≡ key → first ≡ known_over first (record { place = Rel (pos 0) (pos 0); scale = key; words = 0; depth = 0 })
+pub over_none : (first : Known) (key : Key) → first.scale ≡ key → first ≡ known_over first (record { place = Rel (pos 0) (pos 0); scale = key; words = 0; depth = 0 })
 over_none first key is =
     let place = over_origin first.place in
     let words : first.words ≡ 0 + first.words = omega arith in

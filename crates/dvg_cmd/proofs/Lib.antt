@@ -9,3 +9,4 @@ pub mod FramesRuns
 pub mod Windows
 pub mod Lines
 pub mod Framing
+pub mod Accounts

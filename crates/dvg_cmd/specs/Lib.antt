@@ -7,3 +7,4 @@ pub mod MakingFrames
 pub mod Numbers
 pub mod Rules
 pub mod Private
+pub mod Explaining

@@ -124,7 +124,10 @@ pub fn load_cert<R: CountedRead>(
 }
 
 /// The bytes of a frame, up to one past its limit, with the jump to its start in place of word 000, if one is given.
-fn read_started<R: CountedRead>(frame: &mut R, start: Option<u16>) -> io::Result<ArrayVec<u8, 2049>>
+pub fn read_started<R: CountedRead>(
+    frame: &mut R,
+    start: Option<u16>,
+) -> io::Result<ArrayVec<u8, 2049>>
     ensures bytes { IfOk result (λ image. ReadsFrame (R.remaining frame.old) start image.items) }
     ensures read { OnOk result (IsReadTo MOST_FRAME_READ (R.remaining frame.old) (R.remaining frame.new)) }
     ensures count { R.failures frame.new ≡ count_after (is_err result) (R.failures frame.old) }
@@ -136,7 +139,7 @@ fn read_started<R: CountedRead>(frame: &mut R, start: Option<u16>) -> io::Result
 
 /// The verdict on the bytes of a frame by its own certificate, over the bytes of a ROM at this map: the first that applies of 2,
 /// 49 and 1, else that of [`judge`].
-fn judge_alone(
+pub fn judge_alone(
     alloc: Global,
     rom: &[u8],
     map: RomMap,
@@ -158,7 +161,7 @@ fn judge_alone(
 
 /// The verdict on the bytes of a frame over judged shapes, those of this certificate: the first that applies of 2, 49, the
 /// frame's first fault, and the yes.
-fn judge_over<E: Entries>(
+pub fn judge_over<E: Entries>(
     shapes: &JudgedShapes<E>,
     cert: &Cert,
     frame: &[u8],
@@ -181,7 +184,7 @@ fn judge_over<E: Entries>(
 }
 
 /// Writes the line of an answer: the name, which has no control characters, a colon and a space, and the report.
-fn write_line<W: CountedWrite>(
+pub fn write_line<W: CountedWrite>(
     name: &str,
     answer: &FrameAnswer,
     out: &mut W,

@@ -4,6 +4,15 @@
 //! the verdict. [`run_make`] reads a ROM and writes the certificate that [`make`](dvg_make::make) makes.
 #![tactic(auto)]
 
+mod account;
+mod account_item;
+mod account_making;
+mod account_numbers;
+mod account_own;
+mod account_text;
+mod account_why;
+mod explaining;
+mod explaining_frames;
 mod judging;
 mod making;
 mod making_frames;
@@ -27,6 +36,10 @@ pub use dvg_make::{
     EntryFault, FrameCall, FrameRefusal, FramesFault, MakeFault, judge, make, make_for_frames,
 };
 pub use dvg_words::{ASTEROIDS, ImageFault, RomImage, RomMap, SCREEN, Window};
+pub use explaining::run_explain_check;
+pub use explaining_frames::{
+    run_explain_frame, run_explain_frame_over, run_explain_refusal, run_explain_unopened,
+};
 pub use judging::{
     FrameAnswer, FrameOutcome, load_cert, load_rom, run_frame, run_frame_over, run_refusal,
     run_unopened,

@@ -15,9 +15,9 @@ use crate::reading::{read_certificate, read_frame, read_rom, skip};
 use crate::report::report_of;
 use crate::status::text_of;
 use dvg_cert::laws::prefix_refusal;
-use dvg_cert::{CertWhy, CountedRead, CountedWrite, write_bytes};
+use dvg_cert::{Cert, CertWhy, CountedRead, CountedWrite, write_bytes};
 use dvg_check::{Mode, Refusal, Yes, check_rom, frame_of};
-use dvg_words::Window;
+use dvg_words::{RomMap, Window};
 use std::alloc::Global;
 use std::io;
 use thiserror::Error;
@@ -80,9 +80,26 @@ fn outcome_of(verdict: &Result<Yes, Refusal>) -> Outcome
     }
 }
 
+/// A verdict, and the certificate that it is by, where one was taken.
+#[derive(Drop)]
+pub struct Judgment {
+    pub verdict: Result<Yes, Refusal>,
+    pub cert: Option<Cert>,
+}
+
+impl Judgment {
+    /// Where the ROM lies, by the certificate.
+    pub fn map(&self) -> Option<RomMap> {
+        match &self.cert {
+            Some(cert) => Some(cert.map()),
+            None => None,
+        }
+    }
+}
+
 /// The verdict in a mode on the bytes of a ROM and of a frame and on the certificate that a reader holds. Where the frame or the
 /// budget is refused, the certificate is read all the same, and kept nowhere.
-fn read_verdict<R: CountedRead>(
+pub fn read_verdict<R: CountedRead>(
     alloc: Global,
     rom: &[u8],
     cert: &mut R,
@@ -90,17 +107,17 @@ fn read_verdict<R: CountedRead>(
     budget: u32,
     window: Window,
     mode: Mode,
-) -> io::Result<Result<Yes, Refusal>>
+) -> io::Result<Judgment>
     ensures verdict { (rom_held frame_held : Option (List ℕ)) → IsPrefix MOST_ROM_READ rom_held rom.now
         → IsPrefix MOST_FRAME_READ frame_held frame.now
-        → IfOk result (Judges mode window rom_held (R.remaining cert.old) frame_held budget) }
+        → IfOk result (λ judged. Judges mode window rom_held (R.remaining cert.old) frame_held budget judged.verdict) }
     ensures safe { (rom_held frame_held : Option (List ℕ)) → IsPrefix MOST_ROM_READ rom_held rom.now
         → IsPrefix MOST_FRAME_READ frame_held frame.now
-        → IfOk result (λ verdict. IfOk verdict (SafeRead window rom_held (R.remaining cert.old) frame_held)) }
+        → IfOk result (λ judged. IfOk judged.verdict (SafeRead window rom_held (R.remaining cert.old) frame_held)) }
     ensures exact { mode ≡ Exact → (rom_held frame_held : Option (List ℕ)) → IsPrefix MOST_ROM_READ rom_held rom.now
         → IsPrefix MOST_FRAME_READ frame_held frame.now
-        → IfOk result (λ verdict. IfOk verdict (CountsRead rom_held (R.remaining cert.old) frame_held)) }
-    ensures read { IfOk result (λ verdict. IsReadFor verdict (R.remaining cert.old) (R.remaining cert.new)) }
+        → IfOk result (λ judged. IfOk judged.verdict (CountsRead rom_held (R.remaining cert.old) frame_held)) }
+    ensures read { IfOk result (λ judged. IsReadFor judged.verdict (R.remaining cert.old) (R.remaining cert.new)) }
     ensures count { R.failures cert.new ≡ count_after (is_err result) (R.failures cert.old) }
 {
     // The law by which the refusal of what was read is that of the whole text.
@@ -109,12 +126,21 @@ fn read_verdict<R: CountedRead>(
         Ok(frame) => frame,
         Err(refusal) => {
             skip(cert, PAST_CERTIFICATE_LIMIT)?;
-            return Ok(Err(refusal));
+            return Ok(Judgment {
+                verdict: Err(refusal),
+                cert: None,
+            });
         }
     };
     match read_certificate(alloc, cert)? {
-        Ok(taken) => Ok(check_rom(alloc, rom, &frame, &taken, budget, window, mode)),
-        Err(fault) => Ok(Err(Refusal::Cert(fault))),
+        Ok(taken) => Ok(Judgment {
+            verdict: check_rom(alloc, rom, &frame, &taken, budget, window, mode),
+            cert: Some(taken),
+        }),
+        Err(fault) => Ok(Judgment {
+            verdict: Err(Refusal::Cert(fault)),
+            cert: None,
+        }),
     }
 }
 
@@ -193,7 +219,7 @@ pub fn run_check<R1: CountedRead, R2: CountedRead, R3: CountedRead, W: CountedWr
     let Ok(frame) = read_frame(frame) else {
         return Err(RunFault::ReadFrame);
     };
-    let Ok(verdict) = read_verdict(
+    let Ok(judged) = read_verdict(
         alloc,
         rom.as_slice(),
         cert,
@@ -204,5 +230,5 @@ pub fn run_check<R1: CountedRead, R2: CountedRead, R3: CountedRead, W: CountedWr
     ) else {
         return Err(RunFault::ReadCert);
     };
-    write_report(&verdict, out)
+    write_report(&judged.verdict, out)
 }

@@ -1,1 +1,9 @@
 pub mod Broken
+pub mod AllItems
+pub mod Walking
+pub mod AllShapes
+pub mod Linking
+pub mod Tracing
+pub mod Coming
+pub mod Complete
+pub mod SameEntry

@@ -1,3 +1,6 @@
 pub mod Leaving
+pub mod Margins
 pub mod Causes
+pub mod Calls
+pub mod Chains
 pub mod Private

@@ -43,15 +43,16 @@ impl Leaving {
 
 /// The least and the greatest place on both axes, in 1/1024 of a screen place, ends included.
 #[derive(Drop)]
-struct Limits {
-    x_min: i64,
-    x_max: i64,
-    y_min: i64,
-    y_max: i64,
+pub struct Limits {
+    pub x_min: i64,
+    pub x_max: i64,
+    pub y_min: i64,
+    pub y_max: i64,
 }
 
 impl Limits {
-    fn of_window(window: &Window) -> Limits
+    /// Those of a window.
+    pub fn of_window(window: &Window) -> Limits
         ensures { result ≡ window_limits window.now }
     {
         Limits {

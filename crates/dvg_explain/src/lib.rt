@@ -3,13 +3,24 @@
 //!
 //! [`explain_frame`] and [`explain_shapes`] judge as the checker does. With the first fault they answer what is known there and a
 //! cause, and their contracts say that each number of it is the rule's own.
+//!
+//! [`frame_calls`] and [`find_chain`] tell what a frame calls and by which calls it comes to a shape, [`frame_extent`] and
+//! [`shapes_extent`] where something may be lit, and [`Margins`] how far that is from the edges of the window.
 #![tactic(auto)]
 
 mod breaking;
+mod calls;
+mod chains;
 mod frames;
+mod items;
 mod leaving;
+mod margins;
+mod reached;
 mod shapes;
 
+pub use calls::{Call, frame_calls, frame_extent, shapes_extent};
+pub use chains::find_chain;
 pub use frames::{FrameAccount, FrameCause, explain_frame};
 pub use leaving::{BoxLeaving, Edge, Leaving, leaves_box, leaves_window};
+pub use margins::Margins;
 pub use shapes::{ShapeAccount, ShapeCause, explain_shapes};

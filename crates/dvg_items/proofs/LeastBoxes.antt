@@ -1,5 +1,5 @@
 -- The least box of two points, and of two boxes.
-use Rattle.std.proofs.Common.{◌≡◌, subst, sym, arith}
+use Rattle.std.proofs.Common.{◌≡◌, subst, sym, arith, List, ◌∷◌}
 use Rattle.std.specs.Prelude.{ℤ, ◌≤ℤ◌}
 use Rattle.std.specs.Int.{int_min, int_max}
 use Rattle.std.proofs.lemmas.Int.{ints, clamps}
@@ -7,6 +7,8 @@ use Rattle.dvg_words.specs.declared.beam.Point.{Point}
 use Rattle.dvg_cert.specs.declared.entry.LitBox.{LitBox}
 use Rattle.dvg_cert.specs.declared.entry.LitBox.TheVariants.{Empty, Span}
 use Rattle.dvg_items.specs.Lit.{InBox, IsInside}
+use Rattle.dvg_items.specs.Least.{IsLeast}
+use Rattle.dvg_items.proofs.Lists.{all_map}
 
 -- from the lower of two ends to the upper of two others
 pub record IsReach (low high a b c d : ℤ) : Type 0 where
@@ -69,3 +71,19 @@ pub joined_is : (a b box : LitBox) (a0 a1 b0 b1 c0 c1 d0 d1 x0 x1 y0 y1 : ℤ) �
 joined_is a b box a0 a1 b0 b1 c0 c1 d0 d1 x0 x1 y0 y1 e f g h k =
     let s : IsJoined (Span a0 a1 b0 b1) (Span c0 c1 d0 d1) (Span x0 x1 y0 y1) = joined_spans a0 a1 b0 b1 c0 c1 d0 d1 x0 x1 y0 y1 h k in
     subst (λ z. IsJoined z b box) (sym e) (subst (λ z. IsJoined (Span a0 a1 b0 b1) z box) (sym f) (subst (IsJoined (Span a0 a1 b0 b1) (Span c0 c1 d0 d1)) (sym g) s))
+
+-- ---- what one box more has
+
+pub in_wider : (a b : LitBox) (p : Point) → IsInside a b → InBox a p → InBox b p
+in_wider Empty b p i h = absurd h
+in_wider (Span x0 x1 y0 y1) Empty p i h = absurd i
+in_wider (Span x0 x1 y0 y1) (Span a0 a1 b0 b1) p i h =
+    record { left = omega (arith, ints, i.0, h.left); right = omega (arith, ints, i.1, h.right); bottom = omega (arith, ints, i.2, h.bottom); top = omega (arith, ints, i.3, h.top) }
+
+-- two points more
+pub two_points : (p q : Point) (lit one new : LitBox) → IsSpanning p q one → IsJoined lit one new → (ps : List Point) → IsLeast ps lit → IsLeast (p ∷ q ∷ ps) new
+two_points p q lit one new s j ps h =
+    record {
+      holds = (in_wider one new p j.second s.first, (in_wider one new q j.second s.second, all_map (InBox lit) (InBox new) ps (λ x. in_wider lit new x j.first) h.holds));
+      least = λ other k. j.least other (h.least other k.1.1) (s.least other k.0 k.1.0);
+    }

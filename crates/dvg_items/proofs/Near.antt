@@ -73,12 +73,13 @@ next_near Frame at format (Jmpl to) p lt h e = by_test (nat_lt at to) e
     by_test false f = cc
 
 -- what is known past an item is known where it leads to
-pub step_sound : (kind : Kind) (v : Seen) (p : ℕ) → IsSoundSeen v → v.after.words ≤ MOST_WORDS → next_place kind v.item ≡ Some p → IsSoundCursor (record { at = p; known = v.after })
-step_sound kind v p h few goes =
+pub step_sound : (kind : Kind) (v : Seen) (p : ℕ) → IsSoundSeen v → next_place kind v.item ≡ Some p → IsSoundCursor (record { at = p; known = v.after })
+step_sound kind v p h goes =
+    let further = next_further kind v.item p goes in
     record {
       at = next_near kind v.item.at v.item.format v.item.instr p h.at h.fields goes;
-      place = IsNearPlace-more (v.item.at + 1) p v.after.place (next_further kind v.item p goes) h.place_after;
+      place = IsNearPlace-more (v.item.at + 1) p v.after.place further h.place_after;
       scale = h.scale_after;
-      words = few;
+      words = omega (arith, h.words_after, further);
       depth = h.depth_after;
     }

@@ -1,5 +1,6 @@
--- Limits within which the code's numbers stay: no rule stands here. An item moves the place by 2^41 at most and stands
--- one word further on at least, so no sum over a shape or a frame leaves 64 bits.
+-- Limits within which the code's numbers stay: no rule stands here. An item moves the place by 2^41 at most, adds the words of an
+-- entry and two more at most, and stands one word further on at least. So no sum over a shape or a frame leaves 64 bits, nor a sum
+-- of words 32.
 use Rattle.std.specs.Prelude.{ℕ, ◌+◌, ◌*◌, ◌^◌, ◌<◌, ◌≤◌, List, IfSome}
 use Rattle.dvg_words.specs.declared.map.TheConstants.{ADDRESS_END}
 use Rattle.dvg_words.specs.Decoding.{InstrFits}
@@ -54,13 +55,17 @@ IsNearExtent Nothing = Unit {0}
 IsNearExtent (Between a b) = IsNear 1 a × IsNear 1 b
 IsNearExtent Anywhere = Unit {0}
 
+-- so many items add no more words than this
+abbrev pub IsFewWords : ℕ → ℕ → Type 0
+IsFewWords n words = words ≤ (MOST_WORDS + 2) * n
+
 -- ---- where a walk stands, and what it sees there
 
 pub record IsSoundCursor (c : Cursor) : Type 0 where
   pub at : c.at ≤ ADDRESS_END + 2
   pub place : IsNearPlace c.at c.known.place
   pub scale : IsKey c.known.scale
-  pub words : c.known.words ≤ MOST_WORDS
+  pub words : IsFewWords c.at c.known.words
   pub depth : c.known.depth ≤ 4
 
 pub record IsSoundSeen (v : Seen) : Type 0 where
@@ -71,6 +76,7 @@ pub record IsSoundSeen (v : Seen) : Type 0 where
   pub callee : IfSome v.callee IsClaim
   pub place_after : IsNearPlace (v.item.at + 1) v.after.place
   pub scale_after : IsKey v.after.scale
+  pub words_after : IsFewWords (v.item.at + 1) v.after.words
   pub depth_after : v.after.depth ≤ 4
 
 abbrev pub IsSoundStep : Step → Type 0

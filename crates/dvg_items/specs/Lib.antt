@@ -2,6 +2,7 @@ pub mod Items
 pub mod Known
 pub mod Lit
 pub mod Seen
+pub mod Least
 pub mod Places
 pub mod Cursor
 pub mod Bounds

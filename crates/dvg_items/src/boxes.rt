@@ -1,7 +1,9 @@
 //! Boxes of what is lit.
 
-ghost use Rattle.std.specs.Prelude.{◌↔◌, ◌≤ℤ◌, IsTrue};
+ghost use Rattle.std.specs.Prelude.{◌↔◌, ◌≤ℤ◌, IsTrue, List, ◌∷◌};
+ghost use Rattle.dvg_words.specs.declared.beam.Point.{Point};
 ghost use Rattle.dvg_items.specs.Lit.{InBox, IsInside};
+ghost use Rattle.dvg_items.specs.Least.{IsLeast};
 ghost use Rattle.dvg_cert.specs.declared.entry.LitBox.{LitBox};
 
 use dvg_cert::LitBox;
@@ -70,4 +72,11 @@ pub fn joined(first: &LitBox, second: &LitBox) -> LitBox
             y_max: (*y_max).max(*top),
         },
     }
+}
+
+/// The least box that also has two points more.
+pub fn widened(lit: &LitBox, p: &Point, q: &Point) -> LitBox
+    ensures { (ps : List Point) → IsLeast ps lit.now → IsLeast (p.now ∷ q.now ∷ ps) result }
+{
+    joined(lit, &spanning(p, q))
 }

@@ -6,7 +6,7 @@ ghost use Rattle.dvg_words.specs.Decoding.{InstrFits};
 ghost use Rattle.dvg_cert.specs.Entry.{IsKey, IsEnd};
 ghost use Rattle.dvg_cert.specs.declared.limits.TheConstants.{MOST_WORDS};
 ghost use Rattle.dvg_items.specs.Known.{callee_at, scale_set, draw_effect, stop_effect, callee_effect, effect_of, place_past, callee_words, depth_under, known_past, start};
-ghost use Rattle.dvg_items.specs.Bounds.{IsNearPlace, IsNearEffect, IsClaim, IsSomeCertificate, IsSoundCursor};
+ghost use Rattle.dvg_items.specs.Bounds.{IsNearPlace, IsNearEffect, IsClaim, IsFewWords, IsSomeCertificate, IsSoundCursor};
 
 use crate::item::{Item, Kind};
 use dvg_cert::{End, Entries, Entry, Key};
@@ -175,6 +175,7 @@ impl Known {
         ensures value { result ≡ known_past item.now callee.now self.now }
         ensures place { IsNearPlace (item.now.at + 1) result.place }
         ensures key { IsKey result.scale }
+        ensures words { IsFewWords (item.now.at + 1) result.words }
         ensures depth { result.depth ≤ 4 }
     {
         let effect = effect_of(&item.instr, self.scale, callee);

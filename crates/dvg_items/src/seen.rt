@@ -1,7 +1,6 @@
 //! What the rules see of an item.
 
-ghost use Rattle.std.specs.Prelude.{◌≡◌, ◌≤◌, ◌↔◌, IsTrue};
-ghost use Rattle.dvg_cert.specs.declared.limits.TheConstants.{MOST_WORDS};
+ghost use Rattle.std.specs.Prelude.{◌≡◌, ◌↔◌, IsTrue};
 ghost use Rattle.dvg_items.specs.Seen.{HasCallee};
 ghost use Rattle.dvg_items.specs.Cursor.{step_past};
 ghost use Rattle.dvg_items.specs.Bounds.{IsSoundSeen, IsSoundStep};
@@ -27,8 +26,7 @@ impl Seen {
     /// Past the item: to where the next one stands, or to what is known after the last.
     #[inline(always)]
     pub fn step(&self, kind: Kind) -> Step
-        requires seen { IsSoundSeen self.now }
-        requires words { self.now.after.words ≤ MOST_WORDS }
+        requires { IsSoundSeen self.now }
         ensures value { result ≡ step_past kind self.now }
         ensures sound { IsSoundStep result }
     {

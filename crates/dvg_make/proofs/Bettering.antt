@@ -32,7 +32,7 @@ use Rattle.dvg_check.specs.Rules.{ShapeKeeps, CellKeeps}
 use Rattle.dvg_check.specs.declared.fault.Mode.TheVariants.{Bound}
 use Rattle.dvg_check.specs.declared.fault.ShapeWhy.{ShapeWhy}
 use Rattle.dvg_check.specs.declared.fault.ShapeWhy.TheVariants as shape
-use Rattle.dvg_make.specs.Least.{lit_points, HoldsAll, IsLeast}
+use Rattle.dvg_items.specs.Least.{lit_points, HoldsAll, IsLeast}
 use Rattle.dvg_make.specs.Made.{HasEntry, MadeEntry, IsMade, AllMade}
 use Rattle.dvg_make.specs.Private.Walking.{keyed_context, entry_of, AllFine, Extends}
 use Rattle.dvg_make.specs.Private.Covering.{Loosens, LoosensPlace, KnowsMore, Refines, Covers, Upholds}

@@ -21,6 +21,7 @@ use Rattle.dvg_make.specs.Private.Making.{IsMaking, AllWalks, Chain, Apart, IsUn
 use Rattle.dvg_items.proofs.Listed.{listed_at}
 use Rattle.dvg_make.proofs.Matching.{entry_at-append}
 use Rattle.dvg_make.proofs.Ends.{callee_less, made_some}
+use Rattle.dvg_make.proofs.Linking.{are_grown, are_popped}
 use Rattle.dvg_make.proofs.Merging.{extends_more, listed_append}
 use Rattle.dvg_make.proofs.Growing.{scale_grows, fine_grows, walk_grows, made_grows, same_made}
 
@@ -323,6 +324,7 @@ module _ (rom : Rom) (from : List Entry) (root : ℕ × Key) (done : List Entry)
           extends = λ a k x q. ext a k x (h.extends a k x q);
           walks = walks_grow rom done (done ++ e ∷ []) stack ext (walks_pop rom done stack (walk ∷ []) h.walks);
           apart = apart_more done stack e pop.rest (λ m. pop.other (subst (λ a. IsMaking stack a walk.key) f.addr (subst (λ k. IsMaking stack e.addr k) f.key m)));
+          linked = are_grown rom done (done ++ e ∷ []) ext root stack (are_popped rom done root stack walk h.linked);
           needed = λ addr key p. needed_grows rom from root done (done ++ e ∷ []) (stack ++ walk ∷ []) stack ext present_finished addr key (h.needed addr key (was_present addr key p));
           room = omega (arith, h.room, long, len);
           forced = λ made m. let p = chain_pop made (MOST_WORDS + 1) 0 stack walk (h.forced made m).1 in (found_more made m, chain_less made (MOST_WORDS + 1) p.f.words 0 stack (omega arith) p.chain);

@@ -13,7 +13,11 @@ use Rattle.dvg_make.specs.Private.Walking.{Extends}
 use Rattle.dvg_make.specs.Private.Making.{IsAim, Making, Bars, BarsRoot, BarsRoots, NoneHas, HasAll, Collected}
 use Rattle.dvg_make.specs.Private.Framing.{HasCalls, IsFramed, BarsHere, BarsCalls, NoneHasCalls, AllFramed}
 use Rattle.dvg_make.proofs.Onward.{listed_entry}
-use Rattle.dvg_make.proofs.Framing.{in_left, in_right, in_either, collected_more, calls_grow, has_calls_grow}
+use Rattle.dvg_make.specs.declared.walk.Walk.{Walk}
+use Rattle.dvg_make.specs.declared.stuck.Stop.{Stop}
+use Rattle.dvg_make.specs.Private.Making.{asked_link, IsToldFrom, IsToldOf}
+use Rattle.dvg_make.specs.Private.Framing.{TellsHere}
+use Rattle.dvg_make.proofs.Framing.{done_made, in_left, in_right, in_either, collected_more, calls_grow, has_calls_grow}
 use Rattle.dvg_make.proofs.Finishing.{roots_made}
 
 -- ---- one element more of what is taken
@@ -102,7 +106,21 @@ module _ (rom : Rom) (roots : List (ℕ × Key)) (i : ℕ) (d : ℕ × Key) (don
   root_barred why (inl b) = bars why b
   root_barred why (inr not) = subst (BarsRoots rom roots) (sym not.0) (outside not.1)
 
+-- what is told of a root
+pub root_told : (rom : Rom) (roots : List (ℕ × Key)) (i : ℕ) (d : ℕ × Key) (done : List Entry) → i < length roots → (chain : List Walk) (stop : Stop) → IsToldFrom rom done ((get_or roots i d).0, (get_or roots i d).1) chain stop → IsToldOf rom roots [] None chain stop
+root_told rom roots i d done lt chain stop b =
+    record { list = b.list; made = done_made rom b.list b.is_done; asked = asked_link (get_or roots i d); named = at_index roots i d lt; tells = b.tells }
+
+-- and told again where there are frames
+pub roots_told : (rom : Rom) (roots : List (ℕ × Key)) (frames : List (List ℕ)) (chain : List Walk) (stop : Stop) → IsToldOf rom roots [] None chain stop → IsToldOf rom roots frames None chain stop
+roots_told rom roots frames chain stop t = record { list = t.list; made = t.made; asked = t.asked; named = t.named; tells = t.tells }
+
 -- ---- frames
+
+-- what is told of a frame's call
+pub call_told : (rom : Rom) (roots : List (ℕ × Key)) (frames : List (List ℕ)) (i : ℕ) (d : List ℕ) → i < length frames → (at : ℕ) (chain : List Walk) (stop : Stop) → TellsHere rom (get_or frames i d) at chain stop → IsToldOf rom roots frames (Some (record { frame = i; at = at })) chain stop
+call_told rom roots frames i d lt at chain stop t =
+    record { list = t.list; made = t.made; asked = asked_link (t.to, t.scale); named = (get_or frames i d, got frames i d lt, (t.calls, t.at_is)); tells = t.tells }
 
 pub made_all : (rom : Rom) (P : ℕ → Key → Type 0) (list : List Entry) → MadeFor rom P list → AllMade rom list
 made_all rom P list m e c = let is = listed_entry rom.map.rom_first rom.map.rom_last list e m.certificate.each c in record { made = m.each e c; words = is.words_high; depth = is.depth }

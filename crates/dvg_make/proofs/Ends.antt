@@ -27,7 +27,7 @@ use Rattle.dvg_items.specs.declared.known.Known.{Known}
 use Rattle.dvg_items.specs.declared.seen.Seen.{Seen}
 use Rattle.dvg_check.proofs.Faults.{all_kept}
 use Rattle.dvg_items.proofs.Near.{word_count-some}
-use Rattle.dvg_make.specs.Least.{lit_points, HoldsAll, IsLeast}
+use Rattle.dvg_items.specs.Least.{lit_points, HoldsAll, IsLeast}
 use Rattle.dvg_make.specs.Made.{HasEntry, EachItem, AtEnd, MadeKeeps, MadeEntry}
 use Rattle.dvg_make.specs.Private.Walking.{keyed_context, IsStraight, IsFine, AllFine}
 pub use Rattle.dvg_make.specs.Private.Covering.{known_of}

@@ -29,7 +29,7 @@ use Rattle.dvg_items.specs.declared.seen.Seen.{Seen}
 use Rattle.dvg_check.proofs.Example.{draw_item, return_item, draw_there, return_there, worked_example as example_good}
 use Rattle.dvg_check.proofs.Faults.{all_kept}
 use Rattle.dvg_make.specs.Laws.{WorkedExampleMade}
-use Rattle.dvg_make.specs.Least.{lit_points, HoldsAll, IsLeast}
+use Rattle.dvg_items.specs.Least.{lit_points, HoldsAll, IsLeast}
 use Rattle.dvg_make.specs.Made.{HasEntry, EachItem, MadeKeeps, MadeEntry, Needs, Made}
 
 -- ---- its items

@@ -31,7 +31,9 @@ use Rattle.dvg_make.specs.Frames.{IsKeyed, AllKeyed, FrameCalls}
 use Rattle.dvg_make.specs.Refusals.{EntryFault, Unstraight, Deep, TooManyWords, TooManyEntries, Memory, NoneAccepts, BarsEntry, StopsAt}
 use Rattle.dvg_make.specs.Private.Walking.{Extends}
 use Rattle.dvg_make.specs.Private.Making.{IsAim, NoAim, IsDone, Making, Bars, IsCalled, IsPresent, Collected}
-use Rattle.dvg_make.specs.Private.Framing.{HasCalls, IsCalledBy, BarsTarget, IsFramed, NoneHasCalls, LongHasCalls, BarsHere}
+use Rattle.dvg_make.specs.Private.Framing.{HasCalls, IsCalledBy, BarsTarget, IsFramed, NoneHasCalls, LongHasCalls, BarsHere, TellsTarget, TellsHere}
+use Rattle.dvg_make.specs.declared.walk.Walk.{Walk}
+use Rattle.dvg_make.specs.declared.stuck.Stop.{Stop}
 use Rattle.dvg_make.proofs.Matching.{exact_named}
 use Rattle.dvg_make.proofs.Merging.{extends_more, extends_second, all_merged}
 use Rattle.dvg_make.proofs.Chains.{called_grows}
@@ -396,6 +398,20 @@ at_nothing rom words old done at scale w not =
 
 pub target_barred : (rom : Rom) (words : List ℕ) (old done : List Entry) (at : ℕ) (scale : Key) → FrameWalk rom words old done at scale → (format : Format) (instr : Instr) → cell_at (frame_word words) at ≡ Holds format instr → (why : EntryFault) → BarsTarget rom done instr scale why → BarsHere rom words old at why
 target_barred rom words old done at scale w format instr is why b = call_barred rom words old done at scale w format instr is b.0 b.1 why b.2
+
+-- what is told of it
+pub target_told : (rom : Rom) (words : List ℕ) (old done : List Entry) (at : ℕ) (scale : Key) → FrameWalk rom words old done at scale → (format : Format) (instr : Instr) → cell_at (frame_word words) at ≡ Holds format instr → (chain : List Walk) (stop : Stop) → TellsTarget rom done instr scale chain stop → TellsHere rom words at chain stop
+unfolding called_by
+target_told rom words old done at scale w format instr is chain stop b =
+    record {
+      list = b.2.list;
+      made = done_made rom b.2.list b.2.is_done;
+      to = b.0;
+      scale = scale;
+      calls = (called_by rom words old done at scale w format instr is b.0 b.1 b.2.list b.2.extends).calls;
+      at_is = refl;
+      tells = b.2.tells;
+    }
 
 pub target_near : (i : Instr) (to : ℕ) → InstrFits i → target Frame i ≡ Some to → to < ADDRESS_END
 target_near (Draws d) to f e = cc

@@ -5,13 +5,13 @@ use Rattle.dvg_items.specs.Items.{LeadsTo}
 use Rattle.dvg_cert.specs.Lookup.{entry_at}
 use Rattle.dvg_cert.specs.declared.entry.Entry.{Entry}
 use Rattle.dvg_cert.specs.declared.entry.Key.{Key}
-use Rattle.dvg_items.specs.Known.{target, scale_before}
+use Rattle.dvg_items.specs.Known.{target, scale_before, known_before}
 use Rattle.dvg_items.specs.declared.item.Item.{Item}
 use Rattle.dvg_items.specs.declared.item.Kind.TheVariants.{Shape}
 use Rattle.dvg_cert.specs.declared.entry.LitBox.{LitBox}
 use Rattle.dvg_items.specs.declared.known.Known.{Known}
 use Rattle.dvg_make.specs.declared.walk.Walk.{Walk}
-use Rattle.dvg_make.specs.Least.{IsLeast}
+use Rattle.dvg_items.specs.Least.{IsLeast}
 use Rattle.dvg_make.specs.Made.{MadeEntry}
 use Rattle.dvg_make.specs.Private.Walking.{keyed_context, IsStraight, AllFine, KnowsAt, IsWalk, Extends}
 use Rattle.dvg_make.proofs.Matching.{Gathered, Matched, gathered_same, seen_matched}
@@ -21,6 +21,9 @@ use Rattle.dvg_make.proofs.Onward.{same_if, matched_fine}
 module _ (a b : List Entry) (key : Key) (ext : Extends a b) where
   pub scale_grows : (items : List Item) → AllFine (keyed_context a key) items → scale_before (keyed_context a key) items ≡ scale_before (keyed_context b key) items
   scale_grows items h = ap (λ (x : Gathered). x.known.scale) (gathered_same a b key items (matched_fine a b key ext items h))
+
+  pub known_grows : (items : List Item) → AllFine (keyed_context a key) items → known_before (keyed_context a key) items ≡ known_before (keyed_context b key) items
+  known_grows items h = ap (λ (x : Gathered). x.known) (gathered_same a b key items (matched_fine a b key ext items h))
 
   pub fine_grows : (items : List Item) → AllFine (keyed_context a key) items → AllFine (keyed_context b key) items
   fine_grows [] h = tt

@@ -4,12 +4,16 @@ pub mod Ends
 pub mod Agreeing
 pub mod Onward
 pub mod Growing
+pub mod Joining
 pub mod Merging
 pub mod Knowing
+pub mod Linking
 pub mod Bettering
 pub mod Chains
 pub mod Crowds
+pub mod Telling
 pub mod Turns
+pub mod Marks
 pub mod InMaking
 pub mod Sorting
 pub mod Finishing
@@ -17,6 +21,7 @@ pub mod OneList
 pub mod Windows
 pub mod FrameBest
 pub mod Small
+pub mod Stacks
 pub mod Ending
 pub mod Framing
 pub mod Collecting

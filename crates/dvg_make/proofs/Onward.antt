@@ -1,6 +1,6 @@
 -- A shape in the making, item by item.
 use Rattle.std.proofs.Common.{◌≡◌, ℕ, ◌<◌, List, [], ◌∷◌, ◌++◌, Option, Some, None, refl, sym, ap, ◌∙◌, subst, arith}
-use Rattle.std.specs.Prelude.{Contains, Result, Ok, Err, OnErr, IfSome}
+use Rattle.std.specs.Prelude.{Contains, IfSome}
 use Rattle.std.specs.List.{AllByRecursion}
 use Rattle.dvg_words.specs.Decoding.{cell_at, InstrFits}
 use Rattle.dvg_words.specs.Memory.{Rom, rom_word}
@@ -29,9 +29,12 @@ use Rattle.dvg_items.specs.declared.cursor.Step.TheVariants.{Onward, Last}
 use Rattle.dvg_items.specs.Cursor.{step_past}
 use Rattle.dvg_items.specs.Lit.{relative_corners}
 use Rattle.dvg_make.specs.declared.walk.Walk.{Walk}
-use Rattle.dvg_make.specs.Least.{lit_points, IsLeast}
+use Rattle.dvg_items.specs.Least.{lit_points, IsLeast}
 use Rattle.dvg_make.specs.Made.{HasEntry, IsMade, AllMade}
-use Rattle.dvg_make.specs.Private.Walking.{keyed_context, entry_of, IsStraight, IsAsked, Passes, AllFine, KnowsAt, IsWalk, Extends, NeverAt, IsCallee, LacksCallee, IsFinished, IsWaiting}
+use Rattle.dvg_make.specs.declared.stuck.Stop.{Stop}
+use Rattle.dvg_make.specs.Accounts.{Link, EntryCause, Reaches, SaysOf, SaysAt, CauseAt}
+use Rattle.dvg_make.specs.declared.account.EntryCause.TheVariants as cause
+use Rattle.dvg_make.specs.Private.Walking.{keyed_context, entry_of, link_of, IsStraight, IsAsked, Passes, AllFine, KnowsAt, IsWalk, Extends, NeverAt, IsCallee, LacksCallee, IsFinished, IsWaiting, IsStopped, IsAbsent}
 use Rattle.dvg_items.proofs.Listed.{listed_at}
 use Rattle.dvg_make.proofs.Matching.{SameAt, Matched, exact_named, seen_matched}
 use Rattle.dvg_make.proofs.Ends.{Allows, allows_at, stands_at, ends_made}
@@ -101,6 +104,60 @@ module _ (rom : Rom) (list : List Entry) (w : Walk) where
       let here : Allows t.f (seen_with o w.cursor.known i) = subst (Allows t.f) v allows in
       not (record { straight = here.straight; deep = omega (arith, here.deep, t.is.depth); many = omega (arith, here.many, t.is.words) })
 
+-- ---- why it stops
+
+-- where a cause says something of an item, it is not as asked
+not_as_asked : (scale : Key) (v : Seen) (why : EntryCause) → SaysOf scale v why → IsAsked v → ⊥
+not_as_asked scale v cause.Halt says a = a.straight.no_halt says
+not_as_asked scale v cause.LostPlace says a = says a.straight.place
+not_as_asked scale v cause.UnknownScale says a = says.1 a.straight.scale
+not_as_asked scale v (cause.Deep to key) says a = omega (arith, says.2, a.deep)
+not_as_asked scale v (cause.TooManyWords words) says a = omega (arith, says.0, says.1, a.many)
+not_as_asked scale v cause.RootOutside says a = says
+not_as_asked scale v cause.Missing says a = says
+not_as_asked scale v cause.Odd says a = says
+not_as_asked scale v (cause.Ring at) says a = says
+not_as_asked scale v cause.TooManyEntries says a = says
+not_as_asked scale v cause.Memory says a = says
+
+-- what a cause says of the item at a place
+said_at : (rom : Rom) (list : List Entry) (chain : List Link) (at : ℕ) (before : Known) (i : Item) (o : Option Entry) (why : EntryCause) → i.at ≡ at → cell_at (rom_word rom) i.at ≡ Holds i.format i.instr → IsCallee list i.instr before.scale o → SaysOf before.scale (seen_with o before i) why → CauseAt rom list chain at before why
+said_at rom list chain at before i o why here is nm says = by_cause why (subst (λ x. SaysOf before.scale (seen_with x before i) why) nm.value says)
+  where
+    seen_so : (why : EntryCause) → SaysOf before.scale (seen_with (callee_at list (target Shape i.instr) before.scale) before i) why → SaysAt rom list at before why
+    seen_so why says = record { item = i; at_is = here; stands = is; keyed = nm.keyed; says = says }
+
+    by_cause : (why : EntryCause) → SaysOf before.scale (seen_with (callee_at list (target Shape i.instr) before.scale) before i) why → CauseAt rom list chain at before why
+    by_cause cause.Halt says = seen_so cause.Halt says
+    by_cause cause.LostPlace says = seen_so cause.LostPlace says
+    by_cause cause.UnknownScale says = seen_so cause.UnknownScale says
+    by_cause (cause.Deep to key) says = seen_so (cause.Deep to key) says
+    by_cause (cause.TooManyWords words) says = seen_so (cause.TooManyWords words) says
+    by_cause cause.RootOutside says = says
+    by_cause cause.Missing says = absurd says
+    by_cause cause.Odd says = absurd says
+    by_cause (cause.Ring at) says = absurd says
+    by_cause cause.TooManyEntries says = absurd says
+    by_cause cause.Memory says = tt
+
+-- nothing stands there
+absent_at : (rom : Rom) (list : List Entry) (chain : List Link) (at : ℕ) (before : Known) (why : EntryCause) → IsAbsent rom at why → CauseAt rom list chain at before why
+absent_at rom list chain at before cause.Missing h = h
+absent_at rom list chain at before cause.Odd h = h
+absent_at rom list chain at before cause.Halt h = absurd h
+absent_at rom list chain at before cause.LostPlace h = absurd h
+absent_at rom list chain at before cause.UnknownScale h = absurd h
+absent_at rom list chain at before (cause.Deep to key) h = absurd h
+absent_at rom list chain at before (cause.TooManyWords words) h = absurd h
+absent_at rom list chain at before cause.RootOutside h = h
+absent_at rom list chain at before (cause.Ring from) h = absurd h
+absent_at rom list chain at before cause.TooManyEntries h = absurd h
+absent_at rom list chain at before cause.Memory h = tt
+
+-- where a walk stands
+pub reached : (rom : Rom) (list : List Entry) (w : Walk) → IsWalk rom list w → Reaches rom list (link_of w) w.cursor.at w.cursor.known
+reached rom list w h = record { items = h.items; leads = h.leads; fine = h.knows.fine; known = h.knows.known_is }
+
 -- ---- the walk
 
 -- the walk so far
@@ -129,8 +186,22 @@ module _ (rom : Rom) (list : List Entry) (from w : Walk) (h : Walking rom list f
   as_from : NeverAt rom list w.addr w.key → NeverAt rom list from.addr from.key
   as_from n = subst (NeverAt rom list from.addr) h.key (subst (λ a. NeverAt rom list a w.key) h.addr n)
 
+  link_from : link_of w ≡ link_of from
+  link_from = (λ j. record { addr = h.addr j; key = h.key j })
+
+  stops_here : (stop : Stop) → stop.cursor ≡ w.cursor → NeverAt rom list from.addr from.key → CauseAt rom list [] w.cursor.at w.cursor.known stop.cause → IsStopped rom list from stop
+  stops_here stop here never why =
+      record {
+        never = never;
+        reaches = subst (λ c. Reaches rom list (link_of from) c.at c.known) (sym here) (subst (λ l. Reaches rom list l w.cursor.at w.cursor.known) link_from (reached rom list w h.walk));
+        cause = subst (λ c. CauseAt rom list [] c.at c.known stop.cause) (sym here) why;
+      }
+
   pub nothing_there : ((format : Format) (i : Instr) → cell_at (rom_word rom) w.cursor.at ≡ Holds format i → ⊥) → NeverAt rom list from.addr from.key
   nothing_there not = as_from (none_there rom list w h.walk.items h.walk.leads not)
+
+  pub stops_absent : (stop : Stop) → stop.cursor ≡ w.cursor → ((format : Format) (i : Instr) → cell_at (rom_word rom) w.cursor.at ≡ Holds format i → ⊥) → IsAbsent rom w.cursor.at stop.cause → IsStopped rom list from stop
+  stops_absent stop here not why = stops_here stop here (nothing_there not) (absent_at rom list [] w.cursor.at w.cursor.known stop.cause why)
 
   module _ (format : Format) (instr : Instr) (is : cell_at (rom_word rom) w.cursor.at ≡ Holds format instr) where
     abbrev i : Item
@@ -144,8 +215,11 @@ module _ (rom : Rom) (list : List Entry) (from w : Walk) (h : Walking rom list f
       known : IsCalled (keyed_context list w.key) h.walk.items i o
       known = called_now list w.key h.walk.items i w.cursor.known.scale o (ap (λ (k : Known). k.scale) h.walk.knows.known_is) nm
 
-      pub not_asked : (IsAsked (seen_with o w.cursor.known i) → ⊥) → NeverAt rom list from.addr from.key
+      not_asked : (IsAsked (seen_with o w.cursor.known i) → ⊥) → NeverAt rom list from.addr from.key
       not_asked not = as_from (none_asked rom list w h.walk.items i o h.walk.leads is h.walk.knows known.is known.keyed not)
+
+      pub stops_said : (stop : Stop) → stop.cursor ≡ w.cursor → SaysOf w.cursor.known.scale (seen_with o w.cursor.known i) stop.cause → IsStopped rom list from stop
+      stops_said stop here says = stops_here stop here (not_asked (not_as_asked w.cursor.known.scale (seen_with o w.cursor.known i) stop.cause says)) (said_at rom list [] w.cursor.at w.cursor.known i o stop.cause refl is nm says)
 
       -- what the rules see of the instruction here
       abbrev seen : Seen
@@ -187,10 +261,6 @@ module _ (rom : Rom) (list : List Entry) (from w : Walk) (h : Walking rom list f
                 entry = entry;
                 made = ends_made rom list (entry_of w.addr w.key last lit) (record { items = h.walk.items; i = i; leads = h.walk.leads; is = is; last = end.0; sums = record { known = sym knows_last.known_is; box = knows_last.least }; fine = knows_last.fine });
               }
-
-pub on_err : {T E : Type 0} (r : Result T E) (P : Type 0) → P → OnErr r P
-on_err (Ok x) P h = tt
-on_err (Err x) P h = h
 
 -- a called entry is within the limits
 pub claim_of : (rom : Rom) (list : List Entry) (i : Instr) (scale : Key) (o : Option Entry) → rom.map.rom_last < ADDRESS_END → ((e : Entry) → Contains list e → IsEntry rom.map.rom_first rom.map.rom_last e) → IsCallee list i scale o → IfSome o IsClaim

@@ -1,6 +1,7 @@
 -- What begins, and what each turn gives.
-use Rattle.std.proofs.Common.{◌≡◌, ℕ, ◌+◌, ◌<◌, ◌≤◌, List, [], ◌∷◌, ◌++◌, length, None, refl, sym, ap, ◌∙◌, subst, arith, inl, inr, ⊎_elim, length-append}
-use Rattle.std.specs.Prelude.{Result, Ok, Err, OnOk, IfErr, IsErrAnd}
+use Rattle.std.proofs.Common.{◌≡◌, ℕ, ◌+◌, ◌<◌, ◌≤◌, List, [], ◌∷◌, ◌++◌, length, slice_get, Some, None, refl, sym, ap, ◌∙◌, subst, arith, inl, inr, ⊎_elim, length-append}
+use Rattle.std.specs.Prelude.{Result, Ok, Err, OnOk, IfErr, IsErrAnd, false}
+use Rattle.std.specs.Result.{is_err}
 use Rattle.std.proofs.lemmas.Int.{ints}
 use Rattle.dvg_words.specs.Memory.{Rom, rom_word}
 use Rattle.dvg_cert.specs.Entry.{IsKey}
@@ -17,13 +18,19 @@ use Rattle.dvg_make.specs.declared.fault.EntryFault.{EntryFault}
 use Rattle.dvg_make.specs.declared.fault.EntryFault.TheVariants.{Unstraight, Deep, TooManyWords, TooManyEntries, Memory}
 use Rattle.dvg_make.specs.Made.{HasEntry}
 use Rattle.dvg_make.specs.Private.Walking.{start, IsWalk, IsWaiting}
-use Rattle.dvg_make.specs.Private.Making.{IsMaking, IsPresent, IsCalled, Chain, IsAim, NoAim, Bars, IsDone, NotBegun, IsBegun, Making}
+use Rattle.dvg_make.specs.Private.Making.{IsMaking, Apart, IsPresent, IsCalled, Chain, IsAim, NoAim, Bars, IsDone, NotBegun, IsBegun, Making}
+use Rattle.dvg_make.specs.Accounts.{EntryCause, CallsAt, Precedes, entry_fault}
+use Rattle.dvg_make.specs.declared.account.EntryCause.TheVariants as cause
+use Rattle.dvg_make.specs.Private.Walking.{link_of}
+use Rattle.dvg_make.proofs.InMaking.{making_slice}
+use Rattle.dvg_make.proofs.Linking.{are_moved, are_pushed}
+use Rattle.dvg_make.proofs.Onward.{reached}
 use Rattle.dvg_make.proofs.Crowds.{crowded}
 use Rattle.dvg_items.proofs.Listed.{listed_at}
 use Rattle.dvg_make.proofs.Ends.{made_some}
 use Rattle.dvg_make.proofs.Chains.{none_deep, forced_begun, apart_pop, apart_push, walks_pop, walks_push, making_append, making_left, making_last, IsNeeded, needed_grows}
 
-start_walk : (rom : Rom) (done : List Entry) (addr : ℕ) (key : Key) → addr < ADDRESS_END → IsKey key → IsWalk rom done (start addr key)
+pub start_walk : (rom : Rom) (done : List Entry) (addr : ℕ) (key : Key) → addr < ADDRESS_END → IsKey key → IsWalk rom done (start addr key)
 start_walk rom done addr key lt is =
     record {
       items = [];
@@ -47,6 +54,7 @@ first_begun rom done addr key h near is none few =
       extends = λ a k e q. q;
       walks = (start_walk rom done addr key near is, tt);
       apart = (none, λ m. m, tt);
+      linked = (refl, tt);
       needed = needs;
       room = omega (arith, few);
       forced = λ made m. (m.extends, first_chain rom done made (addr, key) m);
@@ -100,17 +108,29 @@ module _ (rom : Rom) (from : List Entry) (root : ℕ × Key) (done : List Entry)
           (λ x. ⊎_elim (λ s. inr (subst (λ y. IsCalled rom done ((stack ++ new ∷ []) ++ start addr at_key ∷ []) y k) s.0 (subst (λ (y : Key). IsCalled rom done ((stack ++ new ∷ []) ++ start addr at_key ∷ []) addr y) s.1 called_begun))) (λ b. absurd b) x)
           (making_append (stack ++ new ∷ []) (start addr at_key ∷ []) a k m)
 
-  pub making_begun : (IsMaking (stack ++ new ∷ []) addr at_key → ⊥) → length done + length (stack ++ new ∷ []) < MOST_ENTRIES → Making rom from root done ((stack ++ new ∷ []) ++ start addr at_key ∷ [])
-  making_begun other few =
+  -- the item at which it waits
+  pub calls_it : CallsAt rom new.cursor.at new.cursor.known (link_of (start addr at_key))
+  calls_it = record { item = w.item; at_is = w.at; stands = w.stands; target_is = w.target_is; key_is = refl }
+
+  precedes : Precedes rom done (link_of new) (link_of (start addr at_key))
+  precedes = record { at = new.cursor.at; before = new.cursor.known; reaches = reached rom done new w.walk; calls = calls_it }
+
+  pub apart_moved : Apart done (stack ++ new ∷ [])
+  apart_moved =
       let pop = apart_pop done stack walk h.apart in
       let none : entry_at done new.addr new.key ≡ None = subst (λ a. entry_at done a new.key ≡ None) (sym w.same_addr) (subst (λ k. entry_at done walk.addr k ≡ None) (sym w.same_key) pop.none) in
       let not : IsMaking stack new.addr new.key → ⊥ = λ m. pop.other (subst (λ a. IsMaking stack a walk.key) w.same_addr (subst (λ k. IsMaking stack new.addr k) w.same_key m)) in
+      apart_push done stack new pop.rest none not
+
+  pub making_begun : (IsMaking (stack ++ new ∷ []) addr at_key → ⊥) → length done + length (stack ++ new ∷ []) < MOST_ENTRIES → Making rom from root done ((stack ++ new ∷ []) ++ start addr at_key ∷ [])
+  making_begun other few =
       let long : length ((stack ++ new ∷ []) ++ start addr at_key ∷ []) ≡ length (stack ++ new ∷ []) + 1 = length-append (stack ++ new ∷ []) (start addr at_key ∷ []) in
       record {
         is_done = h.is_done;
         extends = h.extends;
         walks = walks_push rom done (stack ++ new ∷ []) (start addr at_key) (walks_push rom done stack new (walks_pop rom done stack (walk ∷ []) h.walks) w.walk) (start_walk rom done addr at_key w.near w.scale);
-        apart = apart_push done (stack ++ new ∷ []) (start addr at_key) (apart_push done stack new pop.rest none not) w.none other;
+        apart = apart_push done (stack ++ new ∷ []) (start addr at_key) apart_moved w.none other;
+        linked = are_pushed rom done root stack new (start addr at_key) precedes (are_moved rom done root stack walk new (λ j. record { addr = sym w.same_addr j; key = sym w.same_key j }) h.linked);
         needed = needed_begun;
         room = omega (arith, long, few);
         forced = forced_begun rom from root done stack walk h new addr w;
@@ -119,20 +139,23 @@ module _ (rom : Rom) (from : List Entry) (root : ℕ × Key) (done : List Entry)
   -- a 4097th entry
   none_large : MOST_ENTRIES ≤ length done + length (stack ++ new ∷ []) → (IsMaking (stack ++ new ∷ []) addr at_key → ⊥) → (made : List Entry) → IsAim rom from root made → MOST_ENTRIES < length made
   none_large le other made m =
-      let pop = apart_pop done stack walk h.apart in
-      let none : entry_at done new.addr new.key ≡ None = subst (λ a. entry_at done a new.key ≡ None) (sym w.same_addr) (subst (λ k. entry_at done walk.addr k ≡ None) (sym w.same_key) pop.none) in
-      let not : IsMaking stack new.addr new.key → ⊥ = λ x. pop.other (subst (λ a. IsMaking stack a walk.key) w.same_addr (subst (λ k. IsMaking stack new.addr k) w.same_key x)) in
       let f = forced_begun rom from root done stack walk h new addr w made m in
-      let full = crowded done made (MOST_WORDS + 1) 0 ((stack ++ new ∷ []) ++ start addr at_key ∷ []) h.is_done.unique (apart_push done (stack ++ new ∷ []) (start addr at_key) (apart_push done stack new pop.rest none not) w.none other) f.0 f.1 in
+      let full = crowded done made (MOST_WORDS + 1) 0 ((stack ++ new ∷ []) ++ start addr at_key ∷ []) h.is_done.unique (apart_push done (stack ++ new ∷ []) (start addr at_key) apart_moved w.none other) f.0 f.1 in
       let long : length ((stack ++ new ∷ []) ++ start addr at_key ∷ []) ≡ length (stack ++ new ∷ []) + 1 = length-append (stack ++ new ∷ []) (start addr at_key ∷ []) in
       omega (arith, le, full, long)
 
-  pub refuses : (f : EntryFault) → NotBegun done (stack ++ new ∷ []) addr at_key f → Bars rom from root f
-  refuses (Unstraight word) b = absurd b
-  refuses Deep b = none_deep rom from root done stack walk h new addr w b
-  refuses TooManyWords b = absurd b
-  refuses TooManyEntries b = none_large b.0 b.1
-  refuses Memory b = tt
+  pub refuses : (at : ℕ) (why : EntryCause) → NotBegun done (stack ++ new ∷ []) addr at_key why → Bars rom from root (entry_fault at why)
+  refuses at (cause.Ring index) b = none_deep rom from root done stack walk h new addr w (making_slice (stack ++ new ∷ []) index b.0 addr at_key b.1 b.2 b.3)
+  refuses at cause.TooManyEntries b = none_large b.0 b.1
+  refuses at cause.Memory b = tt
+  refuses at cause.RootOutside b = absurd b
+  refuses at cause.Missing b = absurd b
+  refuses at cause.Odd b = absurd b
+  refuses at cause.Halt b = absurd b
+  refuses at cause.LostPlace b = absurd b
+  refuses at cause.UnknownScale b = absurd b
+  refuses at (cause.Deep to key) b = absurd b
+  refuses at (cause.TooManyWords words) b = absurd b
 
 pub as_bar : (rom : Rom) (from : List Entry) (root : ℕ × Key) (f : EntryFault) → NoAim rom from root → Bars rom from root f
 as_bar rom from root (Unstraight word) n = n
@@ -150,22 +173,31 @@ module _ (rom : Rom) (from : List Entry) (root : ℕ × Key) (done : List Entry)
   pub begun_present : (begun : List Walk) → IsBegun done pushed begun addr new.cursor.known.scale → (a : ℕ) (k : Key) → IsPresent done (stack ++ walk ∷ []) a k → IsPresent done begun a k
   begun_present begun b a k p = subst (λ s. IsPresent done s a k) (sym (b.stack ∙ ap (λ (s : List Walk). s ++ start addr new.cursor.known.scale ∷ []) e)) (present_begun rom from root done stack walk h new addr w a k p)
 
-  pub refused : (f : EntryFault) → NotBegun done pushed addr new.cursor.known.scale f → Bars rom from root f
-  refused f b = refuses rom from root done stack walk h new addr w f (subst (λ s. NotBegun done s addr new.cursor.known.scale f) e b)
+  pub refused : (at : ℕ) (why : EntryCause) → NotBegun done pushed addr new.cursor.known.scale why → Bars rom from root (entry_fault at why)
+  refused at why b = refuses rom from root done stack walk h new addr w at why (subst (λ s. NotBegun done s addr new.cursor.known.scale why) e b)
 
 pub first_ok : (rom : Rom) (done : List Entry) (addr : ℕ) (key : Key) → IsDone rom done → addr < ADDRESS_END → IsKey key → entry_at done addr key ≡ None → (old begun : List Walk) → old ≡ [] → IsBegun done old begun addr key → Making rom done (addr, key) done begun
 first_ok rom done addr key h near is none old begun e b0 =
     let b : IsBegun done [] begun addr key = subst (λ s. IsBegun done s begun addr key) e b0 in
     subst (Making rom done (addr, key) done) (sym b.stack) (first_begun rom done addr key h near is none (omega (arith, b.few)))
 
-first_refused : (rom : Rom) (done : List Entry) (addr : ℕ) (key : Key) → IsDone rom done → entry_at done addr key ≡ None → (f : EntryFault) → NotBegun done [] addr key f → Bars rom done (addr, key) f
-first_refused rom done addr key h none (Unstraight word) b = absurd b
-first_refused rom done addr key h none Deep b = absurd b
-first_refused rom done addr key h none TooManyWords b = absurd b
-first_refused rom done addr key h none TooManyEntries b = λ made m.
+first_refused : (rom : Rom) (done : List Entry) (addr : ℕ) (key : Key) → IsDone rom done → entry_at done addr key ≡ None → (at : ℕ) (why : EntryCause) → NotBegun done [] addr key why → Bars rom done (addr, key) (entry_fault at why)
+first_refused rom done addr key h none at cause.TooManyEntries b = λ made m.
     let full = crowded done made (MOST_WORDS + 1) 0 (start addr key ∷ []) h.unique (none, λ x. x, tt) m.extends (first_chain rom done made (addr, key) m) in
     omega (arith, full, b.0)
-first_refused rom done addr key h none Memory b = tt
+first_refused rom done addr key h none at cause.Memory b = tt
+first_refused rom done addr key h none at (cause.Ring from) b = none_there b.1
+  where
+    none_there : {P : Type 0} {w : Walk} → slice_get [] from ≡ Some w → P
+    none_there e = cc e
+first_refused rom done addr key h none at cause.RootOutside b = absurd b
+first_refused rom done addr key h none at cause.Missing b = absurd b
+first_refused rom done addr key h none at cause.Odd b = absurd b
+first_refused rom done addr key h none at cause.Halt b = absurd b
+first_refused rom done addr key h none at cause.LostPlace b = absurd b
+first_refused rom done addr key h none at cause.UnknownScale b = absurd b
+first_refused rom done addr key h none at (cause.Deep to other) b = absurd b
+first_refused rom done addr key h none at (cause.TooManyWords words) b = absurd b
 
 pub on_ok : {T E : Type 0} (r : Result T E) (P : Type 0) → P → OnOk r P
 on_ok (Ok x) P h = h
@@ -174,6 +206,10 @@ on_ok (Err x) P h = tt
 pub on_ok_map : {T E : Type 0} (r : Result T E) (P Q : Type 0) → (P → Q) → OnOk r P → OnOk r Q
 on_ok_map (Ok x) P Q f h = f h
 on_ok_map (Err x) P Q f h = tt
+
+pub not_err : {T E : Type 0} (r : Result T E) (P : Type 0) → is_err r ≡ false → OnOk r P → P
+not_err (Ok x) P f h = h
+not_err (Err x) P f h = cc f
 
 pub if_err_all : {T E : Type 0} (r : Result T E) (P : E → Type 0) → ((x : E) → P x) → IfErr r P
 if_err_all (Ok x) P f = tt
@@ -187,13 +223,13 @@ pub if_err_map : {T E : Type 0} (r : Result T E) (P Q : E → Type 0) → ((x : 
 if_err_map (Ok x) P Q f h = tt
 if_err_map (Err x) P Q f h = f x h
 
-pub first_fault : (rom : Rom) (done : List Entry) (addr : ℕ) (key : Key) → IsDone rom done → entry_at done addr key ≡ None → (old : List Walk) → old ≡ [] → (f : EntryFault) → NotBegun done old addr key f → Bars rom done (addr, key) f
-first_fault rom done addr key h none old e f b = first_refused rom done addr key h none f (subst (λ s. NotBegun done s addr key f) e b)
+pub first_fault : (rom : Rom) (done : List Entry) (addr : ℕ) (key : Key) → IsDone rom done → entry_at done addr key ≡ None → (old : List Walk) → old ≡ [] → (at : ℕ) (why : EntryCause) → NotBegun done old addr key why → Bars rom done (addr, key) (entry_fault at why)
+first_fault rom done addr key h none old e at why b = first_refused rom done addr key h none at why (subst (λ s. NotBegun done s addr key why) e b)
 
 -- an entry that is there already
 pub found_making : (rom : Rom) (done : List Entry) (addr : ℕ) (key : Key) → IsDone rom done → HasEntry done addr key → Making rom done (addr, key) done []
 found_making rom done addr key h has =
-    record { is_done = h; extends = λ a k e q. q; walks = tt; apart = tt; needed = needs; room = omega (arith, h.room); forced = λ made m. (m.extends, omega arith) }
+    record { is_done = h; extends = λ a k e q. q; walks = tt; apart = tt; linked = tt; needed = needs; room = omega (arith, h.room); forced = λ made m. (m.extends, omega arith) }
   where
     needs : (a : ℕ) (k : Key) → IsPresent done [] a k → IsNeeded rom done (addr, key) done [] a k
     needs a k (inl x) = inl (inl x)

@@ -16,7 +16,7 @@ use Rattle.dvg_items.specs.Lit.{LitInWindow}
 use Rattle.dvg_check.specs.Rules.{Good}
 use Rattle.dvg_check.specs.declared.fault.Mode.{Mode}
 use Rattle.dvg_check.specs.declared.fault.Mode.TheVariants.{Bound, Exact}
-use Rattle.dvg_make.specs.Least.{IsLeast}
+use Rattle.dvg_items.specs.Least.{IsLeast}
 use Rattle.dvg_make.specs.Made.{EachItem, Made}
 use Rattle.dvg_make.specs.Frames.{FramesMade, FrameMade}
 use Rattle.dvg_make.specs.Refusals.{Accepts}

@@ -1,7 +1,7 @@
-pub mod Least
 pub mod Made
 pub mod Frames
 pub mod Refusals
+pub mod Accounts
 pub mod Judging
 pub mod Laws
 pub mod Private

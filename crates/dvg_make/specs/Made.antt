@@ -17,7 +17,7 @@ use Rattle.dvg_check.specs.Rules.{ShapePlaceKeeps, AllKeep}
 use Rattle.dvg_check.specs.declared.fault.ShapeWhy.{ShapeWhy}
 use Rattle.dvg_check.specs.declared.fault.Mode.TheVariants.{Exact}
 use Rattle.dvg_check.specs.declared.fault.ShapeWhy.TheVariants as shape
-use Rattle.dvg_make.specs.Least.{lit_points, IsLeast}
+use Rattle.dvg_items.specs.Least.{lit_points, IsLeast}
 
 -- ---- one entry
 

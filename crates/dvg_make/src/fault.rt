@@ -4,7 +4,7 @@ ghost use Rattle.std.specs.Prelude.{◌≡◌, None};
 ghost use Rattle.dvg_make.specs.Refusals.{fault_number, make_fault_of, Memory};
 ghost use Rattle.dvg_make.specs.declared.fault.MakeFault.TheVariants as make;
 
-use std::alloc::{AllocError, AllocFailed};
+use std::alloc::AllocError;
 use thiserror::Error;
 
 /// Why an entry is not made that a certificate needs: 60 to 63, of which 62 has two cases.
@@ -26,22 +26,6 @@ pub enum EntryFault {
     /// 63: there was no memory.
     #[error("there is no memory for the certificate")]
     Memory,
-}
-
-impl From<AllocError> for EntryFault {
-    ghost from_gives = { λ _ fault. fault ≡ Memory };
-
-    fn from(_error: AllocError) -> EntryFault {
-        EntryFault::Memory
-    }
-}
-
-impl<T: Drop> From<AllocFailed<T>> for EntryFault {
-    ghost from_gives = { λ _ fault. fault ≡ Memory };
-
-    fn from(_error: AllocFailed<T>) -> EntryFault {
-        EntryFault::Memory
-    }
 }
 
 /// Why no certificate is made. The numbers are 60 to 63, in this order.
@@ -102,14 +86,6 @@ pub struct FrameCall {
 pub struct FramesFault {
     pub call: Option<FrameCall>,
     pub why: EntryFault,
-}
-
-impl From<EntryFault> for FramesFault {
-    ghost from_gives = { λ why fault. fault ≡ record { call = None; why = why } };
-
-    fn from(why: EntryFault) -> FramesFault {
-        FramesFault { call: None, why }
-    }
 }
 
 impl From<AllocError> for FramesFault {

@@ -5,10 +5,10 @@ ghost use Rattle.dvg_words.specs.declared.map.TheConstants.{ADDRESS_END};
 ghost use Rattle.dvg_words.specs.declared.beam.Point.{Point};
 ghost use Rattle.dvg_items.specs.Lit.{relative_corners};
 ghost use Rattle.dvg_items.specs.Bounds.{IsNearPlace, IsNearExtent};
-ghost use Rattle.dvg_make.specs.Least.{IsLeast};
+ghost use Rattle.dvg_items.specs.Least.{IsLeast};
 
 use dvg_cert::{End, LitBox};
-use dvg_items::{LitExtent, joined, relative_corners, spanning};
+use dvg_items::{LitExtent, relative_corners, widened};
 
 /// The least box that also has what is lit at a relative place.
 pub fn boxed(lit: &LitBox, extent: &LitExtent, place: &End) -> LitBox
@@ -17,7 +17,7 @@ pub fn boxed(lit: &LitBox, extent: &LitExtent, place: &End) -> LitBox
     ensures { (ps : List Point) → IsLeast ps lit.now → IsLeast (relative_corners extent.now place.now ++ ps) result }
 {
     match relative_corners(extent, place) {
-        Some((from, to)) => joined(lit, &spanning(&from, &to)),
+        Some((from, to)) => widened(lit, &from, &to),
         None => *lit,
     }
 }

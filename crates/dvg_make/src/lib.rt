@@ -5,6 +5,7 @@
 //! memory is out; [`make`] does so for roots alone. [`judge`] judges a frame by its own certificate.
 #![tactic(auto)]
 
+mod account;
 mod done;
 mod fault;
 mod frames;
@@ -13,8 +14,12 @@ pub mod laws;
 mod least;
 mod maker;
 mod shapes;
+mod stack;
+mod stuck;
+mod tails;
 mod walk;
 
+pub use account::{EntryCause, Link, MakeAccount, explain_making};
 pub use fault::{EntryFault, FrameCall, FramesFault, MakeFault};
 pub use judging::{FrameRefusal, judge};
 pub use maker::{make, make_for_frames};

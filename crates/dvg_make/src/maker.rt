@@ -1,22 +1,27 @@
 //! The maker: the entries of roots, and of what frames call.
 
-ghost use Rattle.std.specs.Prelude.{◌≡◌, ◌↔◌, ◌≤◌, [], OnOk, IfOk, IfErr, IsTrue};
+ghost use Rattle.std.specs.Prelude.{◌≡◌, ◌↔◌, ◌≤◌, [], None, OnOk, IfOk, IfErr, IsTrue};
 ghost use Rattle.dvg_words.specs.Values.{IsMap};
 ghost use Rattle.dvg_words.specs.Memory.{InRom};
 ghost use Rattle.dvg_cert.specs.Entry.{IsKey};
 ghost use Rattle.dvg_make.specs.Made.{HasEntry, Made};
 ghost use Rattle.dvg_make.specs.Frames.{FramesMade};
 ghost use Rattle.dvg_make.specs.Refusals.{Refuses, FramesRefuse};
-ghost use Rattle.dvg_make.specs.Private.Making.{IsDone, Making, BarsRoot, BarsRoots, Collected};
-ghost use Rattle.dvg_make.specs.Private.Framing.{AllFramed};
+ghost use Rattle.dvg_make.specs.Private.Making.{IsDone, Making, BarsRoot, BarsRoots, Collected, stop_fault, stuck_fault, IsToldFrom, IsToldOf};
+ghost use Rattle.dvg_make.specs.Private.Walking.{AreTails};
+ghost use Rattle.dvg_make.specs.Private.Framing.{AllFramed, IsForSome, MakesFor};
 
+use crate::account::EntryCause;
 use crate::done::Done;
-use crate::fault::{EntryFault, FrameCall, FramesFault, MakeFault};
+use crate::fault::{FrameCall, FramesFault, MakeFault};
 use crate::frames::make_frame;
 use crate::shapes::need;
+use crate::stack::Stack;
+use crate::stuck::{FramesStuck, Stuck};
+use crate::walk::Walk;
 use dvg_cert::{Cert, Key, certificate_unchecked, is_key};
-use dvg_words::{FrameImage, RomImage};
-use std::alloc::Global;
+use dvg_words::{FrameImage, RomImage, RomMap};
+use std::alloc::{AllocError, Global};
 
 /// Whether a certificate may have an entry at this address and key.
 fn can_be_root(rom: &RomImage, addr: u16, key: Key) -> bool
@@ -31,19 +36,25 @@ fn need_root(
     alloc: Global,
     rom: &RomImage,
     done: &mut Done,
+    tails: &mut Done,
     addr: u16,
     key: Key,
-) -> Result<(), EntryFault>
+) -> Result<(), Stuck>
     requires map { IsMap rom.now.map }
     requires done { IsDone rom.now done.old }
+    requires tails { AreTails rom.now done.old tails.old }
     ensures ok { OnOk result (Making rom.now done.old (addr, key) done.new []) }
     ensures has { OnOk result (HasEntry done.new addr key) }
-    ensures err { IfErr result (BarsRoot rom.now done.old (addr, key)) }
+    ensures tails { OnOk result (AreTails rom.now done.new tails.new) }
+    ensures err { IfErr result (λ stuck. BarsRoot rom.now done.old (addr, key) (stop_fault stuck.stop)) }
+    ensures told { IfErr result (λ stuck. IsToldFrom rom.now done.old (addr, key) stuck.chain stuck.stop) }
 {
     if !can_be_root(rom, addr, key) {
-        return Err(EntryFault::Unstraight { word: addr });
+        let stop = Walk::start(addr, key).stop(EntryCause::RootOutside);
+        let chain = Stack::new(alloc);
+        return Err(Stuck { chain, stop });
     }
-    need(alloc, rom, done, addr, key)
+    need(alloc, rom, done, tails, addr, key)
 }
 
 /// Makes the entries of all roots and all that they need.
@@ -52,14 +63,18 @@ fn make_roots(
     rom: &RomImage,
     roots: &[(u16, Key)],
     done: &mut Done,
-) -> Result<(), EntryFault>
+    tails: &mut Done,
+) -> Result<(), Stuck>
     requires map { IsMap rom.now.map }
     requires new { done.old ≡ [] }
+    requires tails { AreTails rom.now done.old tails.old }
+    ensures tails { OnOk result (AreTails rom.now done.new tails.new) }
     ensures ok { OnOk result (Collected rom.now roots.now done.new) }
-    ensures err { IfErr result (BarsRoots rom.now roots.now) }
+    ensures err { IfErr result (λ stuck. BarsRoots rom.now roots.now (stop_fault stuck.stop)) }
+    ensures told { IfErr result (λ stuck. IsToldOf rom.now roots.now [] None stuck.chain stuck.stop) }
 {
     for &(addr, key) in roots {
-        need_root(alloc, rom, done, addr, key)?;
+        need_root(alloc, rom, done, tails, addr, key)?;
     }
     Ok(())
 }
@@ -71,21 +86,24 @@ fn make_calls(
     roots: &[(u16, Key)],
     frames: &[FrameImage],
     done: &mut Done,
-) -> Result<(), FramesFault>
+    tails: &mut Done,
+) -> Result<(), FramesStuck>
     requires map { IsMap rom.now.map }
+    requires tails { AreTails rom.now done.old tails.old }
     requires roots { Collected rom.now roots.now done.old }
     ensures ok { OnOk result (AllFramed rom.now roots.now frames.now done.new) }
-    ensures err { IfErr result (FramesRefuse rom.now roots.now frames.now) }
+    ensures err { IfErr result (λ refusal. FramesRefuse rom.now roots.now frames.now (stuck_fault refusal)) }
+    ensures told { IfErr result (λ refusal. IsToldOf rom.now roots.now frames.now refusal.call refusal.stuck.chain refusal.stuck.stop) }
 {
     for (frame, image) in frames.iter().enumerate() {
-        if let Err(fault) = make_frame(alloc, rom, done, image) {
+        if let Err(fault) = make_frame(alloc, rom, done, tails, image) {
             let call = FrameCall {
                 frame,
                 at: fault.at,
             };
-            return Err(FramesFault {
+            return Err(FramesStuck {
                 call: Some(call),
-                why: fault.why,
+                stuck: fault.stuck,
             });
         }
     }
@@ -93,20 +111,34 @@ fn make_calls(
 }
 
 /// Makes the entries of all roots and frames, and all that they need.
-fn make_all(
+pub fn make_all(
     alloc: Global,
     rom: &RomImage,
     roots: &[(u16, Key)],
     frames: &[FrameImage],
-) -> Result<Done, FramesFault>
+) -> Result<Done, FramesStuck>
     requires map { IsMap rom.now.map }
     ensures ok { IfOk result (AllFramed rom.now roots.now frames.now) }
-    ensures err { IfErr result (FramesRefuse rom.now roots.now frames.now) }
+    ensures err { IfErr result (λ refusal. FramesRefuse rom.now roots.now frames.now (stuck_fault refusal)) }
+    ensures told { IfErr result (λ refusal. IsToldOf rom.now roots.now frames.now refusal.call refusal.stuck.chain refusal.stuck.stop) }
 {
     let mut done = Done::new(alloc);
-    make_roots(alloc, rom, roots, &mut done)?;
-    make_calls(alloc, rom, roots, frames, &mut done)?;
+    let mut tails = Done::new(alloc);
+    make_roots(alloc, rom, roots, &mut done, &mut tails)?;
+    make_calls(alloc, rom, roots, frames, &mut done, &mut tails)?;
     Ok(done)
+}
+
+/// The certificate of the entries that are made, for a ROM at this map.
+pub fn certificate_of(alloc: Global, map: RomMap, mut done: Done) -> Result<Cert, AllocError>
+    requires map { IsMap map }
+    requires done { IsForSome map done }
+    ensures made { IfOk result (λ cert. MakesFor map done cert.entries) }
+    ensures map { IfOk result (λ cert. cert.map ≡ map) }
+{
+    done.sort()?;
+    let entries = done.entries(alloc)?;
+    Ok(certificate_unchecked(map, entries))
 }
 
 /// Makes the certificate of the shapes at these addresses and keys, of those that the frames call, each at the scale that is
@@ -130,10 +162,11 @@ pub fn make_for_frames(
     ensures err { IfErr result (FramesRefuse rom.now roots.now frames.now) }
 {
     let map = rom.map();
-    let mut done = make_all(alloc, rom, roots, frames)?;
-    done.sort()?;
-    let entries = done.entries(alloc)?;
-    Ok(certificate_unchecked(map, entries))
+    let done = match make_all(alloc, rom, roots, frames) {
+        Ok(done) => done,
+        Err(refusal) => return Err(refusal.fault()),
+    };
+    Ok(certificate_of(alloc, map, done)?)
 }
 
 /// Makes the certificate of the shapes at these addresses and keys, and of all that they call or tail jump to: what
@@ -144,7 +177,7 @@ pub fn make_for_frames(
 ///
 /// Refuses 60 to 62 only where there is no such certificate, and 63 where there was no memory. The first fault met is
 /// answered: roots and items in order, an entry that an item needs before the item. A shape is walked once for each scale
-/// at which it is needed.
+/// at which it is needed, and a long one no further than to where it is known what comes.
 pub fn make(alloc: Global, rom: &RomImage, roots: &[(u16, Key)]) -> Result<Cert, MakeFault>
     ensures ok { IfOk result (λ cert. Made rom.now roots.now cert.entries) }
     ensures map { IfOk result (λ cert. cert.map ≡ rom.now.map) }

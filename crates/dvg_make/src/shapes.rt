@@ -1,71 +1,98 @@
 //! One shape after another: each needed entry whole before its caller goes on.
 
-ghost use Rattle.std.specs.Prelude.{◌≡◌, ◌↔◌, ◌+◌, ◌*◌, ◌<◌, ◌++◌, ◌∷◌, ℕ, [], None, length, IsTrue, OnOk, IfErr};
+ghost use Rattle.std.specs.Prelude.{◌≡◌, ◌+◌, ◌*◌, ◌<◌, ◌++◌, ◌∷◌, ℕ, List, [], None, length, OnOk, IfErr};
 ghost use Rattle.dvg_words.specs.Values.{IsMap};
 ghost use Rattle.dvg_words.specs.declared.map.TheConstants.{ADDRESS_END};
 ghost use Rattle.dvg_cert.specs.Entry.{IsKey};
 ghost use Rattle.dvg_cert.specs.declared.entry.Key.{Key as KeyValue};
 ghost use Rattle.dvg_cert.specs.Lookup.{entry_at};
+ghost use Rattle.dvg_make.specs.declared.walk.Walk.{Walk as WalkValue};
 ghost use Rattle.dvg_make.specs.Made.{HasEntry};
-ghost use Rattle.dvg_make.specs.Private.Making.{IsMaking, IsPresent, NotBegun, IsBegun, IsDone, Making, IsInMaking, StaysMaking, Bars, BarsAll};
+ghost use Rattle.dvg_make.specs.Private.Walking.{AreTails};
+ghost use Rattle.dvg_make.specs.Private.Making.{IsPresent, NotBegun, IsBegun, IsDone, Making, IsInMaking, StaysMaking, stop_fault, Bars, BarsAll, IsToldFrom, TellsAll};
 
+use crate::account::EntryCause;
 use crate::done::Done;
-use crate::fault::EntryFault;
+use crate::stack::Stack;
+use crate::stuck::{Stop, Stuck};
+use crate::tails::keep_tails;
 use crate::walk::{Progress, Walk, advance};
-use dvg_cert::{Key, MOST_ENTRIES};
+use dvg_cert::{Entry, Key, MOST_ENTRIES};
 use dvg_words::RomImage;
-use std::alloc::Global;
-
-/// Whether this shape is in the making.
-fn is_making(stack: &[Walk], addr: u16, key: Key) -> bool
-    ensures { IsTrue result ↔ IsMaking stack.now addr key }
-{
-    for walk in stack {
-        if walk.addr == addr && walk.key == key {
-            return true;
-        }
-    }
-    false
-}
+use std::alloc::{AllocError, Global};
 
 /// Begins a shape.
-fn begin(done: &Done, stack: &mut Vec<Walk>, addr: u16, key: Key) -> Result<(), EntryFault>
-    ensures ok { OnOk result (IsBegun done.now stack.old.items stack.new.items addr key) }
-    ensures err { IfErr result (NotBegun done.now stack.old.items addr key) }
+fn begin(done: &Done, stack: &mut Stack, addr: u16, key: Key) -> Result<(), EntryCause>
+    ensures ok { OnOk result (IsBegun done.now stack.old stack.new addr key) }
+    ensures err { IfErr result (NotBegun done.now stack.old addr key) }
+    ensures same { IfErr result (λ cause. stack.new ≡ stack.old) }
 {
-    if is_making(stack, addr, key) {
-        return Err(EntryFault::Deep);
+    if let Some(from) = stack.position(addr, key) {
+        return Err(EntryCause::Ring { from });
     }
     if done.len() >= MOST_ENTRIES || stack.len() >= MOST_ENTRIES - done.len() {
-        return Err(EntryFault::TooManyEntries);
+        return Err(EntryCause::TooManyEntries);
     }
     stack.push(Walk::start(addr, key))?;
     Ok(())
 }
 
-/// One turn: the shape on the top goes as far as it can.
-fn turn(
+/// Adds an entry that was made, and keeps the tails of its shape. `end` is where the walk over the shape ended.
+fn finish(
+    alloc: Global,
     rom: &RomImage,
     done: &mut Done,
-    stack: &mut Vec<Walk>,
-    walk: Walk,
-) -> Result<(), EntryFault>
+    tails: &mut Done,
+    entry: Entry,
+    end: u16,
+) -> Result<(), AllocError>
     requires map { IsMap rom.now.map }
-    requires making { IsInMaking rom.now done.old (stack.old.items ++ walk ∷ []) }
-    ensures ok { OnOk result (StaysMaking rom.now done.old (stack.old.items ++ walk ∷ []) done.new stack.new.items) }
-    ensures less { OnOk result (2 * length done.old + length stack.old.items + 1 < 2 * length done.new + length stack.new.items) }
-    ensures present { OnOk result ((addr : ℕ) (key : KeyValue) → IsPresent done.old (stack.old.items ++ walk ∷ []) addr key → IsPresent done.new stack.new.items addr key) }
-    ensures err { IfErr result (BarsAll rom.now done.old (stack.old.items ++ walk ∷ [])) }
+    requires done { IsDone rom.now done.old }
+    requires tails { AreTails rom.now done.old tails.old }
+    requires key { IsKey entry.key }
+    requires new { entry_at done.old entry.addr entry.key ≡ None }
+    ensures ok { OnOk result (done.new ≡ done.old ++ entry ∷ []) }
+    ensures tails { OnOk result (AreTails rom.now done.new tails.new) }
 {
-    let progress = advance(rom, done, walk)?;
-    match progress {
-        Progress::Finished(entry) => {
-            done.add(entry)?;
+    keep_tails(alloc, rom, done, tails, &entry, end)?;
+    done.add(entry)?;
+    Ok(())
+}
+
+/// One turn: the shape on the top goes as far as it can.
+fn turn(
+    alloc: Global,
+    rom: &RomImage,
+    done: &mut Done,
+    tails: &mut Done,
+    stack: &mut Stack,
+    walk: Walk,
+) -> Result<(), Stop>
+    requires map { IsMap rom.now.map }
+    requires tails { AreTails rom.now done.old tails.old }
+    requires making { IsInMaking rom.now done.old stack.old }
+    requires top { (rest : List WalkValue) × (stack.old ≡ rest ++ walk ∷ []) }
+    ensures ok { OnOk result (StaysMaking rom.now done.old stack.old done.new stack.new) }
+    ensures less { OnOk result (2 * length done.old + length stack.old < 2 * length done.new + length stack.new) }
+    ensures present { OnOk result ((addr : ℕ) (key : KeyValue) → IsPresent done.old stack.old addr key → IsPresent done.new stack.new addr key) }
+    ensures tails { OnOk result (AreTails rom.now done.new tails.new) }
+    ensures err { IfErr result (λ stop. BarsAll rom.now done.old stack.old (stop_fault stop)) }
+    ensures told { IfErr result (TellsAll rom.now done.old stack.old stack.new) }
+{
+    match advance(rom, done, tails, walk)? {
+        Progress::Finished { entry, at } => {
+            if finish(alloc, rom, done, tails, entry, at).is_err() {
+                return Err(walk.stop(EntryCause::Memory));
+            }
+            stack.pop();
             Ok(())
         }
         Progress::Waiting { walk, addr } => {
-            stack.push(walk)?;
-            begin(done, stack, addr, walk.cursor.known.scale)
+            stack.replace_top(walk);
+            match begin(done, stack, addr, walk.cursor.known.scale) {
+                Ok(()) => Ok(()),
+                Err(cause) => Err(walk.stop(cause)),
+            }
         }
     }
 }
@@ -75,22 +102,31 @@ fn make_entry(
     alloc: Global,
     rom: &RomImage,
     done: &mut Done,
+    tails: &mut Done,
     addr: u16,
     key: Key,
-) -> Result<(), EntryFault>
+) -> Result<(), Stuck>
     requires map { IsMap rom.now.map }
     requires done { IsDone rom.now done.old }
+    requires tails { AreTails rom.now done.old tails.old }
     requires near { addr < ADDRESS_END }
     requires key { IsKey key }
     requires new { entry_at done.old addr key ≡ None }
     ensures ok { OnOk result (Making rom.now done.old (addr, key) done.new []) }
     ensures has { OnOk result (HasEntry done.new addr key) }
-    ensures err { IfErr result (Bars rom.now done.old (addr, key)) }
+    ensures tails { OnOk result (AreTails rom.now done.new tails.new) }
+    ensures err { IfErr result (λ stuck. Bars rom.now done.old (addr, key) (stop_fault stuck.stop)) }
+    ensures told { IfErr result (λ stuck. IsToldFrom rom.now done.old (addr, key) stuck.chain stuck.stop) }
 {
-    let mut stack = Vec::new(alloc);
-    begin(done, &mut stack, addr, key)?;
-    while let Some(walk) = stack.pop() {
-        turn(rom, done, &mut stack, walk)?;
+    let mut stack = Stack::new(alloc);
+    if let Err(cause) = begin(done, &mut stack, addr, key) {
+        let stop = Walk::start(addr, key).stop(cause);
+        return Err(Stuck { chain: stack, stop });
+    }
+    while let Some(walk) = stack.top() {
+        if let Err(stop) = turn(alloc, rom, done, tails, &mut stack, walk) {
+            return Err(Stuck { chain: stack, stop });
+        }
     }
     Ok(())
 }
@@ -100,19 +136,23 @@ pub fn need(
     alloc: Global,
     rom: &RomImage,
     done: &mut Done,
+    tails: &mut Done,
     addr: u16,
     key: Key,
-) -> Result<(), EntryFault>
+) -> Result<(), Stuck>
     requires map { IsMap rom.now.map }
     requires done { IsDone rom.now done.old }
+    requires tails { AreTails rom.now done.old tails.old }
     requires near { addr < ADDRESS_END }
     requires key { IsKey key }
     ensures ok { OnOk result (Making rom.now done.old (addr, key) done.new []) }
     ensures has { OnOk result (HasEntry done.new addr key) }
-    ensures err { IfErr result (Bars rom.now done.old (addr, key)) }
+    ensures tails { OnOk result (AreTails rom.now done.new tails.new) }
+    ensures err { IfErr result (λ stuck. Bars rom.now done.old (addr, key) (stop_fault stuck.stop)) }
+    ensures told { IfErr result (λ stuck. IsToldFrom rom.now done.old (addr, key) stuck.chain stuck.stop) }
 {
     if done.find(addr, key).is_some() {
         return Ok(());
     }
-    make_entry(alloc, rom, done, addr, key)
+    make_entry(alloc, rom, done, tails, addr, key)
 }

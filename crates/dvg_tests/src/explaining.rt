@@ -1,10 +1,11 @@
 //! Why frames and shapes are refused: each cause that a short input has, its numbers worked by hand.
 
-use crate::expecting::expect_same;
-use dvg_cert::{End, HashIndex, Key, ListIndex, read_cert};
+use crate::expecting::{expect, expect_same};
+use dvg_cert::{End, Entries, Entry, HashIndex, Key, ListIndex, LitBox, read_cert};
 use dvg_check::{JudgedShapes, Mode};
 use dvg_explain::{
-    BoxLeaving, Edge, FrameCause, Leaving, ShapeCause, explain_frame, explain_shapes,
+    BoxLeaving, Call, Edge, FrameCause, Leaving, Margins, ShapeCause, explain_frame,
+    explain_shapes, find_chain, frame_calls, frame_extent, shapes_extent,
 };
 use dvg_words::{FrameImage, Point, RomImage, SCREEN};
 use std::alloc::Global;
@@ -144,5 +145,173 @@ fn explains_shapes(rt: HostRuntime) {
     for &(text, word, cause) in CERTS {
         let told = told_of_shapes(rt.alloc(), text);
         expect_same(&rt, &told, &Some((word, cause)), &word);
+    }
+}
+
+/// The entry of the ROM's shape at 800.
+const STROKE: Entry = Entry {
+    addr: 0x800,
+    key: Key::At(0),
+    stop: End::Rel { x: 1024, y: 0 },
+    lit: LitBox::Span {
+        x_min: 0,
+        x_max: 1024,
+        y_min: 0,
+        y_max: 0,
+    },
+    depth: 0,
+    words: 3,
+    scale: Key::At(0),
+};
+
+/// Its certificate.
+const STROKE_CERT: &[u8] =
+    b"dvgcert 1\nshape 800 0 end rel 1024 0 box 0 1024 0 0 depth 0 words 3 scale 0\ndone 1\n";
+
+/// LABS to 512,512 at global scale 0, JSRL 800, JSRL 801, JSRL 800, and HALT.
+const CALLING_FRAME: &[u8] = &[
+    0x00, 0xA2, 0x00, 0x02, 0x00, 0xC8, 0x01, 0xC8, 0x00, 0xC8, 0x00, 0xB0,
+];
+
+/// The calls and the extent of a frame over the certificate.
+fn told_of_calls(alloc: Global, frame: &[u8]) -> Option<(Vec<Call>, LitBox)> {
+    let cert = read_cert(alloc, STROKE_CERT).ok()?;
+    let entries = ListIndex::new(&cert);
+    let frame = FrameImage::from_bytes(frame).ok()?;
+    let calls = frame_calls(alloc, &cert, &entries, &frame).ok()?;
+    Some((calls, frame_extent(&cert, &entries, &frame)))
+}
+
+#[test]
+fn tells_calls_and_extent(rt: HostRuntime) {
+    // no entry is at 801, so that call moves nothing and is left out
+    let calls = [
+        Call {
+            at: 2,
+            entry: STROKE,
+        },
+        Call {
+            at: 4,
+            entry: STROKE,
+        },
+    ];
+    let lit = LitBox::Span {
+        x_min: 524_288,
+        x_max: 526_336,
+        y_min: 524_288,
+        y_max: 524_288,
+    };
+    match told_of_calls(rt.alloc(), CALLING_FRAME) {
+        Some((told, extent)) => {
+            expect_same(&rt, &told.as_slice(), &&calls[..], &"calls");
+            expect_same(&rt, &extent, &lit, &"extent");
+        }
+        None => expect(&rt, false, &"calls"),
+    }
+    // the screen ends at 1,047,552
+    let margins = Margins {
+        left: 524_288,
+        right: 521_216,
+        bottom: 524_288,
+        top: 523_264,
+    };
+    let within = |lit| Margins::within(&SCREEN, &lit);
+    expect_same(&rt, &within(lit), &Some(margins), &"margins");
+    expect_same(&rt, &within(LitBox::Empty), &None, &"empty");
+}
+
+/// The least box of what two shapes light at absolute places: LABS to 2,1 at scale 0, a stroke of one place to the right, and RTSL,
+/// at 800, and from the stroke on, at 802.
+fn told_of_shapes_extent(alloc: Global) -> Option<LitBox> {
+    let mut bytes = [0; 2048];
+    bytes[..10].copy_from_slice(&[0x01, 0xA0, 0x02, 0x00, 0x00, 0x90, 0x01, 0x70, 0x00, 0xD0]);
+    let text =
+        b"dvgcert 1\nshape 800 0 end abs 3072 1024 box none depth 0 words 5 scale 0\nshape 802 0 end rel 1024 0 box 0 1024 0 0 depth 0 words 3 scale 0\ndone 2\n";
+    let cert = read_cert(alloc, text).ok()?;
+    let rom = RomImage::from_bytes(&bytes, cert.map()).ok()?;
+    let entries = ListIndex::new(&cert);
+    Some(shapes_extent(&rom, &cert, &entries))
+}
+
+#[test]
+fn tells_extent_of_shapes(rt: HostRuntime) {
+    let lit = LitBox::Span {
+        x_min: 2048,
+        x_max: 3072,
+        y_min: 1024,
+        y_max: 1024,
+    };
+    expect_same(
+        &rt,
+        &told_of_shapes_extent(rt.alloc()),
+        &Some(lit),
+        &"extent",
+    );
+}
+
+/// A ROM with JSRL 802 and RTSL at 800, JMPL 804 at 802, and RTSL at 804 and at 806; zeros elsewhere.
+fn chained_rom_bytes() -> [u8; 2048] {
+    let mut bytes = [0; 2048];
+    bytes[..14].copy_from_slice(&[
+        0x02, 0xC8, 0x00, 0xD0, 0x04, 0xE8, 0x00, 0x00, 0x00, 0xD0, 0x00, 0x00, 0x00, 0xD0,
+    ]);
+    bytes
+}
+
+/// The certificate of its four shapes.
+const CHAINED_CERT: &[u8] = b"dvgcert 1\n\
+shape 800 any end rel 0 0 box none depth 1 words 4 scale any\n\
+shape 802 any end rel 0 0 box none depth 0 words 2 scale any\n\
+shape 804 any end rel 0 0 box none depth 0 words 1 scale any\n\
+shape 806 any end rel 0 0 box none depth 0 words 1 scale any\n\
+done 4\n";
+
+/// Frames, the address of a shape, and the calls by which the frame comes to it: where they stand, and what they call.
+const CHAINS: &[(&[u8], u16, Option<&[(u16, u16)]>)] = &[
+    // JSRL 800 and HALT
+    (
+        &[0x00, 0xC8, 0x00, 0xB0],
+        0x804,
+        Some(&[(0, 0x800), (0x800, 0x802), (0x802, 0x804)]),
+    ),
+    (&[0x00, 0xC8, 0x00, 0xB0], 0x806, None),
+    // JSRL 800, JSRL 804 and HALT
+    (
+        &[0x00, 0xC8, 0x04, 0xC8, 0x00, 0xB0],
+        0x804,
+        Some(&[(1, 0x804)]),
+    ),
+    // HALT
+    (&[0x00, 0xB0], 0x800, None),
+];
+
+/// Where the calls stand by which a frame comes to a shape, and what they call.
+fn told_of_chain(alloc: Global, frame: &[u8], addr: u16) -> Option<Option<Vec<(u16, u16)>>> {
+    let bytes = chained_rom_bytes();
+    let cert = read_cert(alloc, CHAINED_CERT).ok()?;
+    let rom = RomImage::from_bytes(&bytes, cert.map()).ok()?;
+    let entries = HashIndex::new(alloc, &cert).ok()?;
+    let frame = FrameImage::from_bytes(frame).ok()?;
+    let goal = entries.find(addr, Key::Any)?;
+    match find_chain(alloc, &rom, &cert, &entries, &frame, &goal).ok()? {
+        None => Some(None),
+        Some(calls) => {
+            let mut told = Vec::new(alloc);
+            for call in &calls {
+                told.push((call.at, call.entry.addr)).ok()?;
+            }
+            Some(Some(told))
+        }
+    }
+}
+
+#[test]
+fn finds_chains(rt: HostRuntime) {
+    for &(frame, addr, chain) in CHAINS {
+        match told_of_chain(rt.alloc(), frame, addr) {
+            Some(Some(told)) => expect_same(&rt, &Some(told.as_slice()), &chain, &addr),
+            Some(None) => expect_same(&rt, &None, &chain, &addr),
+            None => expect(&rt, false, &addr),
+        }
     }
 }

@@ -11,7 +11,7 @@ use std::process::Abort;
 use std::test::Fail;
 
 /// Words at a word address.
-type Part<'a> = (usize, &'a [u16]);
+pub type Part<'a> = (usize, &'a [u16]);
 
 const STROKE: Part<'static> = (0x800, &[0x92FF, 0x73FF, 0xD000]);
 
@@ -22,7 +22,7 @@ const ZERO: (u16, Key) = (0x800, Key::At(0));
 const ANY: (u16, Key) = (0x800, Key::Any);
 
 /// A ROM with these words, and zeros elsewhere.
-fn rom_bytes(parts: &[Part]) -> [u8; 2048] {
+pub fn rom_bytes(parts: &[Part]) -> [u8; 2048] {
     let mut bytes = [0; 2048];
     for &(addr, words) in parts {
         let mut at = 2 * (addr % 0x400);
@@ -262,7 +262,7 @@ const DEEP: &[Refused] = &[
 ];
 
 /// Four calls in one another, below 800.
-const FOUR_CALLS: &[u16] = &[
+pub const FOUR_CALLS: &[u16] = &[
     0xC802, 0xD000, 0xC804, 0xD000, 0xC806, 0xD000, 0xC808, 0xD000, 0xD000,
 ];
 
@@ -358,7 +358,7 @@ fn refuses_what_no_list_is_made_for(rt: HostRuntime) {
 
 /// A ROM whose shape at 800 has 148 calls, of 999,998 words together, and then goes on with the words of this part, from
 /// 894 on. Below it stand A00, of 99 calls of B00, and 900, of 99 calls of A00.
-fn large_rom(last: Part) -> [u8; 2048] {
+pub fn large_rom(last: Part) -> [u8; 2048] {
     rom_bytes(&[
         // 50 * 19,802 + 49 * 200 + 49 * 2 words
         (0x800, &[0xC900; 50]),

@@ -81,8 +81,17 @@ pub enum Request<'a> {
     Frames(FramesWords<'a>),
     Check(CheckWords<'a>),
     Make(MakeWords<'a>),
+    /// The answer of a command, with an account of it.
+    Explain(Explained<'a>),
     /// This rule, all if none.
     Rules(Option<Rule>),
+}
+
+/// The command whose answer is explained.
+#[derive(Drop)]
+pub enum Explained<'a> {
+    Check(CheckWords<'a>),
+    Frames(FramesWords<'a>),
 }
 
 /// What `--version` says behind the program's name: its version, and with what it is proved.
@@ -94,11 +103,18 @@ enum Task {
     Frames,
     Check,
     Make,
+    Explain,
     Rules,
 }
 
 impl Task {
-    const ALL: [Task; 4] = [Task::Frames, Task::Check, Task::Make, Task::Rules];
+    const ALL: [Task; 5] = [
+        Task::Frames,
+        Task::Check,
+        Task::Make,
+        Task::Explain,
+        Task::Rules,
+    ];
 
     /// The subcommand with this name.
     fn named(name: &str) -> Option<Task> {
@@ -106,6 +122,7 @@ impl Task {
             "frames" => Some(Task::Frames),
             "check" => Some(Task::Check),
             "make" => Some(Task::Make),
+            "explain" => Some(Task::Explain),
             "rules" => Some(Task::Rules),
             _ => None,
         }
@@ -116,6 +133,7 @@ impl Task {
             Task::Frames => frames_command(alloc),
             Task::Check => check_command(alloc),
             Task::Make => make_command(alloc),
+            Task::Explain => explain_command(alloc),
             Task::Rules => rules_command(alloc),
         }
     }
@@ -212,7 +230,12 @@ fn map_option<'a>(alloc: Global) -> Arg<'a> {
         .default_value("800/BFF")
 }
 
-fn frames_command<'a>(alloc: Global) -> Result<Command<'a>, AllocError> {
+/// The command with the words of `frames`, of which this one names what is judged.
+fn frames_arguments<'a>(
+    alloc: Global,
+    command: Command<'a>,
+    frame: Arg<'a>,
+) -> Result<Command<'a>, AllocError> {
     let cert = Arg::new(alloc, "cert")
         .long("cert")
         .value_name("CERT")
@@ -224,18 +247,23 @@ fn frames_command<'a>(alloc: Global) -> Result<Command<'a>, AllocError> {
         .long("start")
         .value_name("AAA")
         .help("Judges each frame as though its word 000 were the jump to this word address");
-    Command::new(alloc, "frames")
-        .about(
-            "Judges frames over a vector ROM, each by a certificate made for it, and prints a line for each",
-        )
+    command
         .after_help(INPUT_HELP)
         .arg(needed(alloc, "ROM", ROM_HELP))?
-        .arg(needed(alloc, "FRAME", FRAME_HELP).num_args(1..))?
+        .arg(frame)?
         .arg(map_option(alloc))?
         .arg(cert)?
         .arg(budget_option(alloc))?
         .arg(window_option(alloc))?
         .arg(start)
+}
+
+fn frames_command<'a>(alloc: Global) -> Result<Command<'a>, AllocError> {
+    let command = Command::new(alloc, "frames").about(
+        "Judges frames over a vector ROM, each by a certificate made for it, and prints a line for each",
+    );
+    let frames = needed(alloc, "FRAME", FRAME_HELP).num_args(1..);
+    frames_arguments(alloc, command, frames)
 }
 
 fn check_command<'a>(alloc: Global) -> Result<Command<'a>, AllocError> {
@@ -281,6 +309,28 @@ fn make_command<'a>(alloc: Global) -> Result<Command<'a>, AllocError> {
         .arg(frame)?
         .arg(map_option(alloc))?
         .arg(output)
+}
+
+/// What stands behind the words of a command that is explained.
+const EXPLAIN_HELP: &str = "The first line is that of the command, and so is the exit status";
+
+fn explain_frames_command<'a>(alloc: Global) -> Result<Command<'a>, AllocError> {
+    let command = Command::new(alloc, "frames").about(
+        "Judges a frame over a vector ROM, by a certificate made for it, and explains the answer",
+    );
+    frames_arguments(alloc, command, needed(alloc, "FRAME", FRAME_HELP))
+}
+
+fn explain_command<'a>(alloc: Global) -> Result<Command<'a>, AllocError> {
+    Command::new(alloc, "explain")
+        .about(
+            "Prints the answer of a command, and an account of it: where, what, why, and what to do",
+        )
+        .after_help(EXPLAIN_HELP)
+        .subcommand_required(true)
+        .arg_required_else_help(true)
+        .subcommand(explain_frames_command(alloc)?)?
+        .subcommand(check_command(alloc)?)
 }
 
 /// What the shortest inputs of rules leave out.
@@ -431,6 +481,14 @@ fn make_words<'a>(rt: &HostRuntime, make: &ArgMatches<'a>) -> Result<MakeWords<'
     })
 }
 
+fn explain_words<'a>(rt: &HostRuntime, explain: &ArgMatches<'a>) -> Result<Explained<'a>, Usage> {
+    match explain.subcommand() {
+        Some(("check", words)) => Ok(Explained::Check(check_words(rt, words)?)),
+        Some(("frames", words)) => Ok(Explained::Frames(frames_words(rt, words)?)),
+        _ => Err(Usage::Word(WordFault::Unreadable)),
+    }
+}
+
 fn rule_word<'a>(words: &ArgMatches<'a>) -> Result<Option<Rule>, WordFault> {
     match words.get_one::<u8>("NN") {
         Some(number) => Ok(Some(rule_of(number).ok_or(WordFault::Number)?)),
@@ -473,6 +531,7 @@ pub fn read_words<'a>(rt: &HostRuntime, words: &'a [String]) -> Result<Request<'
         Some(Task::Frames) => Ok(Request::Frames(frames_words(rt, words)?)),
         Some(Task::Check) => Ok(Request::Check(check_words(rt, words)?)),
         Some(Task::Make) => Ok(Request::Make(make_words(rt, words)?)),
+        Some(Task::Explain) => Ok(Request::Explain(explain_words(rt, words)?)),
         Some(Task::Rules) => Ok(Request::Rules(rule_word(words)?)),
         None => Err(Usage::Word(WordFault::Unreadable)),
     }

@@ -9,13 +9,16 @@ mod escaping;
 mod input;
 mod output;
 
-use command::{CheckWords, FramesWords, Judge, MakeWords, Named, Request, Usage, read_words};
+use command::{
+    CheckWords, Explained, FramesWords, Judge, MakeWords, Named, Request, Usage, read_words,
+};
 use dvg_cmd::{
     Cert, Counted, CountedWrite, Entries, FrameOutcome, FramesRunFault, HashIndex, JudgedShapes,
     MakeFault, MakeRunFault, Mode, Outcome, Refusal, RomImage, RomMap, Rule, RunFault, all_rules,
     frames_status_of, load_cert, load_rom, make_frames_report_of, make_frames_status_of,
-    message_of, run_check, run_frame, run_frame_over, run_make, run_make_frames, run_refusal,
-    run_rule, run_rules, run_unopened, status_of,
+    message_of, run_check, run_explain_check, run_explain_frame, run_explain_frame_over,
+    run_explain_refusal, run_explain_unopened, run_frame, run_frame_over, run_make,
+    run_make_frames, run_refusal, run_rule, run_rules, run_unopened, status_of,
 };
 use input::{Input, Source};
 use output::Output;
@@ -28,6 +31,23 @@ fn check(rt: &HostRuntime, words: &CheckWords) -> Result<Outcome, RunFault> {
     let frame = open(rt, words.frame, RunFault::ReadFrame)?;
     let cert = open(rt, words.cert, RunFault::ReadCert)?;
     run_check(
+        rt.alloc(),
+        &mut Counted::new(rom),
+        &mut Counted::new(cert),
+        &mut Counted::new(frame),
+        words.budget,
+        words.window,
+        words.mode,
+        &mut Counted::new(io::writer(rt)),
+    )
+}
+
+/// Opens the files as [`check`] does, and runs the check with an account.
+fn explain_check(rt: &HostRuntime, words: &CheckWords) -> Result<Outcome, RunFault> {
+    let rom = open(rt, words.rom, RunFault::ReadRom)?;
+    let frame = open(rt, words.frame, RunFault::ReadFrame)?;
+    let cert = open(rt, words.cert, RunFault::ReadCert)?;
+    run_explain_check(
         rt.alloc(),
         &mut Counted::new(rom),
         &mut Counted::new(cert),
@@ -138,6 +158,120 @@ fn frames(rt: &HostRuntime, words: &FramesWords) -> Result<FrameOutcome, RunFaul
     match words.judge {
         Judge::Own(map) => judge_alone(rt, words, map, &mut out),
         Judge::Given(cert) => judge_given(rt, words, cert, &mut out),
+    }
+}
+
+/// Judges each frame by its own certificate, with an account, and answers the worst.
+fn explain_alone<W: CountedWrite>(
+    rt: &HostRuntime,
+    words: &FramesWords,
+    map: RomMap,
+    out: &mut W,
+) -> Result<FrameOutcome, RunFault> {
+    let rom = load_rom(&mut Counted::new(open(rt, words.rom, RunFault::ReadRom)?))?;
+    let mut worst = FrameOutcome::Accepted;
+    for frame in &words.frames {
+        let outcome = match frame.input.open(rt) {
+            Ok(file) => run_explain_frame(
+                rt.alloc(),
+                rom.as_slice(),
+                map,
+                frame.name.as_str(),
+                &mut Counted::new(file),
+                words.start,
+                words.budget,
+                words.window,
+                out,
+            ),
+            Err(_) => run_explain_unopened(rt.alloc(), frame.name.as_str(), out),
+        };
+        worst = worst.or_worse(outcome?);
+    }
+    Ok(worst)
+}
+
+/// Judges the frames over judged shapes, with an account of each, and answers the worst.
+fn explain_each_over<E: Entries, W: CountedWrite>(
+    rt: &HostRuntime,
+    words: &FramesWords,
+    rom: &[u8],
+    shapes: &JudgedShapes<E>,
+    cert: &Cert,
+    out: &mut W,
+) -> Result<FrameOutcome, RunFault> {
+    let mut worst = FrameOutcome::Accepted;
+    for frame in &words.frames {
+        let outcome = match frame.input.open(rt) {
+            Ok(file) => run_explain_frame_over(
+                rt.alloc(),
+                rom,
+                shapes,
+                cert,
+                Mode::Bound,
+                frame.name.as_str(),
+                &mut Counted::new(file),
+                words.start,
+                words.budget,
+                out,
+            ),
+            Err(_) => run_explain_unopened(rt.alloc(), frame.name.as_str(), out),
+        };
+        worst = worst.or_worse(outcome?);
+    }
+    Ok(worst)
+}
+
+/// Judges the shapes of a certificate, and then the frames over them, with an account of each.
+fn explain_over<W: CountedWrite>(
+    rt: &HostRuntime,
+    words: &FramesWords,
+    bytes: &[u8],
+    cert: &Cert,
+    out: &mut W,
+) -> Result<Result<FrameOutcome, RunFault>, Refusal> {
+    let rom = RomImage::from_bytes(bytes, cert.map())?;
+    let entries = HashIndex::new(rt.alloc(), cert)?;
+    let shapes = JudgedShapes::judge(&rom, cert, &entries, words.window, Mode::Bound)?;
+    Ok(explain_each_over(rt, words, bytes, &shapes, cert, out))
+}
+
+/// Judges the frames by this certificate, with an account of each, or of a refusal for which no frame is opened.
+fn explain_given<W: CountedWrite>(
+    rt: &HostRuntime,
+    words: &FramesWords,
+    cert: Input,
+    out: &mut W,
+) -> Result<FrameOutcome, RunFault> {
+    let rom = load_rom(&mut Counted::new(open(rt, words.rom, RunFault::ReadRom)?))?;
+    let file = open(rt, cert, RunFault::ReadCert)?;
+    let answer = load_cert(rt.alloc(), &mut Counted::new(file))?;
+    let cert = answer.as_ref().ok();
+    let judged = match &answer {
+        Ok(cert) => explain_over(rt, words, rom.as_slice(), cert, out),
+        Err(fault) => Err((*fault).into()),
+    };
+    match judged {
+        Ok(end) => end,
+        Err(refusal) => {
+            let outcome = run_explain_refusal(
+                rt.alloc(),
+                rom.as_slice(),
+                cert,
+                words.window,
+                &refusal,
+                out,
+            )?;
+            Ok(outcome.into())
+        }
+    }
+}
+
+/// Reads the ROM, and then judges the frames as [`frames`] does, with an account of each.
+fn explain_frames(rt: &HostRuntime, words: &FramesWords) -> Result<FrameOutcome, RunFault> {
+    let mut out = Counted::new(io::writer(rt));
+    match words.judge {
+        Judge::Own(map) => explain_alone(rt, words, map, &mut out),
+        Judge::Given(cert) => explain_given(rt, words, cert, &mut out),
     }
 }
 
@@ -280,6 +414,14 @@ fn tell_usage(rt: &HostRuntime, usage: &Usage) -> u8 {
     }
 }
 
+/// Runs what is explained, and tells how it ended.
+fn explain(rt: &HostRuntime, explained: &Explained) -> u8 {
+    match explained {
+        Explained::Check(words) => tell_check(rt, &explain_check(rt, words)),
+        Explained::Frames(words) => tell_frames(rt, &explain_frames(rt, words)),
+    }
+}
+
 fn run(rt: &HostRuntime) -> u8 {
     let words = match command::words(rt) {
         Ok(words) => words,
@@ -289,6 +431,7 @@ fn run(rt: &HostRuntime) -> u8 {
         Ok(Request::Frames(words)) => tell_frames(rt, &frames(rt, &words)),
         Ok(Request::Check(words)) => tell_check(rt, &check(rt, &words)),
         Ok(Request::Make(words)) => tell_make(rt, &words.frames, &make(rt, &words)),
+        Ok(Request::Explain(explained)) => explain(rt, &explained),
         Ok(Request::Rules(rule)) => tell_rules(rt, &rules(rt, rule)),
         Err(usage) => tell_usage(rt, &usage),
     }

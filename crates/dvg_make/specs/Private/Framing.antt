@@ -1,6 +1,7 @@
 -- A frame whose calls are made one after another.
 use Rattle.std.specs.Prelude.{◌≡◌, ◌≢◌, ℕ, ◌<◌, ◌⊎◌, ◌++◌, List, [], length, Option, Some, None, Contains}
 use Rattle.dvg_words.specs.Memory.{Rom}
+use Rattle.dvg_words.specs.Values.{MemoryMap}
 use Rattle.dvg_words.specs.declared.instruction.Instr.{Instr}
 use Rattle.dvg_cert.specs.Lookup.{entry_at}
 use Rattle.dvg_cert.specs.declared.limits.TheConstants.{MOST_ENTRIES}
@@ -9,11 +10,13 @@ use Rattle.dvg_cert.specs.declared.entry.Key.{Key}
 use Rattle.dvg_items.specs.declared.item.Kind.TheVariants.{Frame}
 use Rattle.dvg_items.specs.Known.{target}
 use Rattle.dvg_make.specs.Made.{HasEntry, AllMade}
-use Rattle.dvg_make.specs.Frames.{FrameCalls, IsAskedFor}
+use Rattle.dvg_make.specs.Frames.{FrameCalls, IsAskedFor, FramesMade}
 use Rattle.dvg_make.specs.Judging.{FrameRefusal, Make, NoMemory, Check}
 use Rattle.dvg_make.specs.Refusals.{FrameCall, FramesFault, BarsFrame, StopsAt, EntryFault, Unstraight, Deep, TooManyWords, TooManyEntries, Memory}
 use Rattle.dvg_make.specs.Private.Walking.{Extends}
-use Rattle.dvg_make.specs.Private.Making.{HasAll, Making, Bars, Collected}
+use Rattle.dvg_make.specs.declared.walk.Walk.{Walk}
+use Rattle.dvg_make.specs.declared.stuck.Stop.{Stop}
+use Rattle.dvg_make.specs.Private.Making.{HasAll, Making, Bars, Collected, TellsStop, IsToldFrom}
 
 -- the list has an entry for each call of the frame with these words
 abbrev pub HasCalls : List ℕ → List Entry → Type 0
@@ -27,6 +30,10 @@ pub record IsCalledBy (rom : Rom) (old : List Entry) (instr : Instr) (scale : Ke
 -- it is not made, and why
 abbrev pub BarsTarget : Rom → List Entry → Instr → Key → EntryFault → Type 0
 BarsTarget rom old instr scale why = (to : ℕ) × (target Frame instr ≡ Some to) × Bars rom old (to, scale) why
+
+-- what is told of it
+abbrev pub TellsTarget : Rom → List Entry → Instr → Key → List Walk → Stop → Type 0
+TellsTarget rom old instr scale chain stop = (to : ℕ) × (target Frame instr ≡ Some to) × IsToldFrom rom old (to, scale) chain stop
 
 -- what is made past a frame, where the one list was made before
 pub record IsFramed (rom : Rom) (words : List ℕ) (old new : List Entry) : Type 0 where
@@ -56,6 +63,16 @@ BarsCalls rom words old Memory = Unit {0}
 abbrev pub BarsHere : Rom → List ℕ → List Entry → ℕ → EntryFault → Type 0
 BarsHere rom words old at why = BarsCalls rom words old why × StopsAt rom words at why × BarsFrame rom words why
 
+-- what is told of the call at a place, by a list of made entries
+pub record TellsHere (rom : Rom) (words : List ℕ) (at : ℕ) (chain : List Walk) (stop : Stop) : Type 0 where
+  pub list : List Entry
+  pub made : AllMade rom list
+  pub to : ℕ
+  pub scale : Key
+  pub calls : FrameCalls words list to scale
+  pub at_is : calls.item.at ≡ at
+  pub tells : TellsStop rom list (to, scale) chain stop
+
 -- ---- frame after frame
 
 -- an address and a key are asked for by a root, or by the call of a frame
@@ -70,6 +87,15 @@ pub record AllFramed (rom : Rom) (roots : List (ℕ × Key)) (frames : List (Lis
   pub asked_for : AreAskedFor roots frames done asked
   pub collected : Collected rom asked done
   pub forced : (list : List Entry) → AllMade rom list → HasAll roots list → ((words : List ℕ) → Contains frames words → HasCalls words list) → Extends done list
+
+-- the entries are those of a ROM at this map and of some roots and frames
+abbrev pub IsForSome : MemoryMap → List Entry → Type 0
+IsForSome map done = (rom : Rom) × (rom.map ≡ map) × (roots : List (ℕ × Key)) × (frames : List (List ℕ)) × AllFramed rom roots frames done
+
+-- the list is the one that is made for these
+abbrev pub MakesFor : MemoryMap → List Entry → List Entry → Type 0
+MakesFor map done list =
+    (rom : Rom) (roots : List (ℕ × Key)) (frames : List (List ℕ)) → rom.map ≡ map → AllFramed rom roots frames done → FramesMade rom roots frames list
 
 -- ---- one frame alone
 

@@ -1,5 +1,5 @@
 -- A list in the making, and the shapes in the making.
-use Rattle.std.specs.Prelude.{◌≡◌, ◌⊎◌, ℕ, ◌++◌, ◌+◌, ◌<◌, ◌≤◌, List, [], ◌∷◌, length, Some, None, Contains}
+use Rattle.std.specs.Prelude.{◌≡◌, ◌⊎◌, ℕ, ◌++◌, ◌+◌, ◌<◌, ◌≤◌, List, [], ◌∷◌, length, Option, Some, None, Contains, slice_get, map}
 use Rattle.dvg_words.specs.declared.instruction.Cell.TheVariants.{Holds}
 use Rattle.dvg_words.specs.Decoding.{cell_at}
 use Rattle.dvg_words.specs.Memory.{Rom, rom_word, InRom}
@@ -16,7 +16,14 @@ use Rattle.dvg_items.specs.Known.{target, scale_before}
 use Rattle.dvg_make.specs.declared.walk.Walk.{Walk}
 use Rattle.dvg_make.specs.Made.{HasEntry, MadeEntry, AllMade}
 use Rattle.dvg_make.specs.Refusals.{EntryFault, Unstraight, Deep, TooManyWords, TooManyEntries, Memory}
-use Rattle.dvg_make.specs.Private.Walking.{keyed_context, start, AllFine, IsWalk, Extends}
+use Rattle.dvg_make.specs.Refusals.{FrameCall, FramesFault}
+use Rattle.dvg_make.specs.Accounts.{Link, EntryCause, IsLinked, Tells, IsTold, entry_fault}
+pub use Rattle.dvg_make.specs.Accounts.{IsUnique}
+use Rattle.dvg_make.specs.declared.account.EntryCause.TheVariants as cause
+use Rattle.dvg_make.specs.declared.account.MakeAccount.{MakeAccount}
+use Rattle.dvg_make.specs.declared.stuck.Stop.{Stop}
+use Rattle.dvg_make.specs.declared.stuck.FramesStuck.{FramesStuck}
+use Rattle.dvg_make.specs.Private.Walking.{keyed_context, start, link_of, AllFine, IsWalk, Extends}
 
 -- a shape with this address and key is in the making
 abbrev pub IsMaking : List Walk → ℕ → Key → Type 0
@@ -37,11 +44,6 @@ Chain made most (w ∷ stack) n = (e : Entry) × (entry_at made w.addr w.key ≡
 abbrev pub Apart : List Entry → List Walk → Type 0
 Apart done [] = Unit {0}
 Apart done (w ∷ stack) = (entry_at done w.addr w.key ≡ None) × (IsMaking stack w.addr w.key → ⊥) × Apart done stack
-
--- no two entries have the same address and key
-abbrev pub IsUnique : List Entry → Type 0
-IsUnique [] = Unit {0}
-IsUnique (e ∷ done) = (entry_at done e.addr e.key ≡ None) × IsUnique done
 
 -- the list has an entry at this address and key, or its shape is in the making
 abbrev pub IsPresent : List Entry → List Walk → ℕ → Key → Type 0
@@ -77,6 +79,19 @@ pub record IsDone (rom : Rom) (done : List Entry) : Type 0 where
   pub unique : IsUnique done
   pub room : length done ≤ MOST_ENTRIES
 
+-- the addresses and keys of these shapes
+abbrev pub links : List Walk → List Link
+links stack = map link_of stack
+
+-- the address and key of what is asked for
+abbrev pub asked_link : ℕ × Key → Link
+asked_link root = record { addr = root.0; key = root.1 }
+
+-- the first of these shapes is what is asked for, and each calls or tail jumps to the next
+abbrev pub AreLinked : Rom → List Entry → ℕ × Key → List Walk → Type 0
+AreLinked rom done root [] = Unit {0}
+AreLinked rom done root (w ∷ stack) = (link_of w ≡ asked_link root) × IsLinked rom done (link_of w) (links stack)
+
 -- what holds of the entries that are made and of the shapes in the making, for a root, from the entries that were made before:
 -- among it that each list of made entries that has those, and the root's, has these too, and that the words of these shapes
 -- fall in it
@@ -85,6 +100,7 @@ pub record Making (rom : Rom) (from : List Entry) (root : ℕ × Key) (done : Li
   pub extends : Extends from done
   pub walks : AllWalks rom done stack
   pub apart : Apart done stack
+  pub linked : AreLinked rom done root stack
   pub needed : (addr : ℕ) (key : Key) → IsPresent done stack addr key → IsGiven from root addr key ⊎ IsCalled rom done stack addr key
   pub room : length done + length stack ≤ MOST_ENTRIES
   pub forced : (made : List Entry) → IsAim rom from root made → Extends done made × Chain made (MOST_WORDS + 1) stack 0
@@ -113,17 +129,35 @@ Bars rom from root Memory = Unit {0}
 abbrev pub BarsAll : Rom → List Entry → List Walk → EntryFault → Type 0
 BarsAll rom done stack fault = (from : List Entry) (root : ℕ × Key) → Making rom from root done stack → Bars rom from root fault
 
+-- the refusal where the making stops
+abbrev pub stop_fault : Stop → EntryFault
+stop_fault stop = entry_fault stop.cursor.at stop.cause
+
+-- what is told of what is asked for, by a list of made entries
+abbrev pub TellsStop : Rom → List Entry → ℕ × Key → List Walk → Stop → Type 0
+TellsStop rom list root chain stop = Tells rom list (asked_link root) (links chain) stop.cursor.at stop.cursor.known stop.cause
+
+-- for each root and list begun with, by the entries that are made
+abbrev pub TellsAll : Rom → List Entry → List Walk → List Walk → Stop → Type 0
+TellsAll rom done stack chain stop = (from : List Entry) (root : ℕ × Key) → Making rom from root done stack → TellsStop rom done root chain stop
+
+-- by some list of made entries that has those from before
+pub record IsToldFrom (rom : Rom) (from : List Entry) (root : ℕ × Key) (chain : List Walk) (stop : Stop) : Type 0 where
+  pub list : List Entry
+  pub is_done : IsDone rom list
+  pub extends : Extends from list
+  pub tells : TellsStop rom list root chain stop
+
 -- of a root: or it is outside the ROM, or its key is over 15, which is 60 at the root
 abbrev pub BarsRoot : Rom → List Entry → ℕ × Key → EntryFault → Type 0
 BarsRoot rom from root fault = Bars rom from root fault ⊎ ((fault ≡ Unstraight root.0) × (InRom rom.map root.0 × IsKey root.1 → ⊥))
 
 -- why a shape is not begun
-abbrev pub NotBegun : List Entry → List Walk → ℕ → Key → EntryFault → Type 0
-NotBegun done stack addr key (Unstraight word) = ⊥
-NotBegun done stack addr key Deep = IsMaking stack addr key
-NotBegun done stack addr key TooManyWords = ⊥
-NotBegun done stack addr key TooManyEntries = (MOST_ENTRIES ≤ length done + length stack) × (IsMaking stack addr key → ⊥)
-NotBegun done stack addr key Memory = Unit {0}
+abbrev pub NotBegun : List Entry → List Walk → ℕ → Key → EntryCause → Type 0
+NotBegun done stack addr key (cause.Ring from) = (walk : Walk) × (slice_get stack from ≡ Some walk) × (walk.addr ≡ addr) × (walk.key ≡ key)
+NotBegun done stack addr key cause.TooManyEntries = (MOST_ENTRIES ≤ length done + length stack) × (IsMaking stack addr key → ⊥)
+NotBegun done stack addr key cause.Memory = Unit {0}
+NotBegun done stack addr key other = ⊥
 
 -- a shape was begun that was not in the making, where there is room
 pub record IsBegun (done : List Entry) (old new : List Walk) (addr : ℕ) (key : Key) : Type 0 where
@@ -159,3 +193,25 @@ BarsRoots rom asked Deep = NoneHas rom asked
 BarsRoots rom asked TooManyWords = NoneHas rom asked
 BarsRoots rom asked TooManyEntries = LongHas rom asked
 BarsRoots rom asked Memory = Unit {0}
+
+-- ---- what is told of a refusal
+
+abbrev pub IsToldOf : Rom → List (ℕ × Key) → List (List ℕ) → Option FrameCall → List Walk → Stop → Type 0
+IsToldOf rom roots frames call chain stop = IsTold rom roots frames call (links chain) stop.cursor.at stop.cursor.known stop.cause
+
+-- the refusal of a root, or of a frame's call
+abbrev pub stuck_fault : FramesStuck → FramesFault
+stuck_fault refusal = record { call = refusal.call; why = stop_fault refusal.stuck.stop }
+
+-- the account says all that is known of the refusal
+pub record TellsIt (refusal : FramesStuck) (account : MakeAccount) : Type 0 where
+  pub fault : account.fault ≡ stuck_fault refusal
+  pub chain : account.chain.items ≡ links refusal.stuck.chain
+  pub at : account.at ≡ refusal.stuck.stop.cursor.at
+  pub before : account.before ≡ refusal.stuck.stop.cursor.known
+  pub cause : account.cause ≡ refusal.stuck.stop.cause
+
+-- the account says that memory was out
+pub record TellsMemory (account : MakeAccount) : Type 0 where
+  pub fault : account.fault ≡ record { call = None; why = Memory }
+  pub cause : account.cause ≡ cause.Memory

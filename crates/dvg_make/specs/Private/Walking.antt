@@ -1,8 +1,8 @@
 -- A shape in the making.
-use Rattle.std.specs.Prelude.{◌≡◌, ◌≢◌, ℕ, ◌<◌, ◌≤◌, List, [], ◌∷◌, ◌++◌, Option, Some, None}
+use Rattle.std.specs.Prelude.{◌≡◌, ℕ, ◌<◌, ◌≤◌, List, [], ◌++◌, Option, Some, None, Contains}
 use Rattle.dvg_words.specs.declared.instruction.Instr.{Instr}
-use Rattle.dvg_words.specs.declared.instruction.Instr.TheVariants.{Halt}
 use Rattle.dvg_words.specs.declared.instruction.Cell.TheVariants.{Holds}
+use Rattle.dvg_words.specs.declared.instruction.Cell.TheVariants as cell
 use Rattle.dvg_words.specs.Decoding.{cell_at}
 use Rattle.dvg_words.specs.declared.beam.Point.{Point}
 use Rattle.dvg_words.specs.Memory.{Rom, rom_word}
@@ -14,9 +14,8 @@ use Rattle.dvg_cert.specs.Lookup.{entry_at}
 use Rattle.dvg_items.specs.Items.{LeadsTo}
 use Rattle.dvg_items.specs.declared.item.Kind.TheVariants.{Shape}
 use Rattle.dvg_items.specs.declared.item.Item.{Item}
-use Rattle.dvg_items.specs.Known.{Context, target, callee_at, scale_before, depth_under, known_before}
-use Rattle.dvg_items.specs.Lit.{relative_corners, PlaceKnown, ScaleKnown}
-use Rattle.dvg_items.specs.Seen.{seen_at}
+use Rattle.dvg_items.specs.Known.{Context, target, callee_at, depth_under, known_before}
+use Rattle.dvg_items.specs.Lit.{box_extent, relative_corners, PlaceKnown}
 use Rattle.dvg_items.specs.declared.seen.Seen.{Seen}
 use Rattle.dvg_items.specs.Bounds.{IsSoundCursor}
 use Rattle.dvg_items.specs.Cursor.{first_cursor}
@@ -27,12 +26,12 @@ use Rattle.dvg_cert.specs.declared.limits.TheConstants.{MOST_DEPTH, MOST_WORDS}
 use Rattle.dvg_make.specs.declared.walk.Walk.{Walk}
 use Rattle.dvg_make.specs.declared.walk.Progress.{Progress}
 use Rattle.dvg_make.specs.declared.walk.Progress.TheVariants.{Finished, Waiting}
-use Rattle.dvg_make.specs.Least.{lit_points, IsLeast}
+use Rattle.dvg_check.specs.Private.Tails.{known_at_end, known_over}
+use Rattle.dvg_items.specs.Least.{lit_points, IsLeast}
 use Rattle.dvg_make.specs.Made.{HasEntry, MadeEntry, AllMade}
-
--- the context of the items of a shape that starts at this key
-abbrev pub keyed_context : List Entry → Key → Context
-keyed_context list key = record { kind = Shape; list = list; scale = key }
+use Rattle.dvg_make.specs.declared.stuck.Stop.{Stop}
+use Rattle.dvg_make.specs.Accounts.{Link, EntryCause, Missing, Odd, Reaches, CauseAt}
+pub use Rattle.dvg_make.specs.Accounts.{keyed_context, IsStraight, IsFine, AllFine}
 
 -- before the first item
 abbrev pub start : ℕ → Key → Walk
@@ -41,12 +40,6 @@ start addr key = record { addr = addr; key = key; cursor = first_cursor Shape ad
 -- the entry by what is known, and was lit, after the last item
 abbrev pub entry_of : ℕ → Key → Known → LitBox → Entry
 entry_of addr key known lit = record { addr = addr; key = key; stop = known.place; lit = lit; depth = known.depth; words = known.words; scale = known.scale }
-
--- what is asked of an item that is seen: that it is no HALT, and lights only at a known place and scale
-pub record IsStraight (v : Seen) : Type 0 where
-  pub no_halt : v.item.instr ≢ Halt
-  pub place : PlaceKnown v.extent v.place
-  pub scale : ScaleKnown v.extent
 
 -- what is asked of an item that is seen, with the entry that it calls
 pub record IsAsked (v : Seen) : Type 0 where
@@ -58,15 +51,6 @@ pub record IsAsked (v : Seen) : Type 0 where
 pub record Passes (v : Seen) (lit new : LitBox) : Type 0 where
   pub grows : (ps : List Point) → IsLeast ps lit → IsLeast (relative_corners v.extent v.place ++ ps) new
   pub asked : IsAsked v
-
--- the item is as asked, and its target has its entry
-pub record IsFine (c : Context) (earlier : List Item) (i : Item) : Type 0 where
-  pub straight : IsStraight (seen_at c earlier i)
-  pub keyed : (to : ℕ) → target Shape i.instr ≡ Some to → HasEntry c.list to (scale_before c earlier)
-
-abbrev pub AllFine : Context → List Item → Type 0
-AllFine c [] = Unit {0}
-AllFine c (i ∷ earlier) = AllFine c earlier × IsFine c earlier i
 
 -- this is known and was lit after these items, and each is fine
 pub record KnowsAt (c : Context) (items : List Item) (known : Known) (lit : LitBox) : Type 0 where
@@ -100,6 +84,33 @@ pub record LacksCallee (list : List Entry) (i : Instr) (scale : Key) (addr : ℕ
   pub target_is : target Shape i ≡ Some addr
   pub none : entry_at list addr scale ≡ None
 
+-- ---- tails
+
+-- the made entry of the shape from an address and a key on, whether anything calls it or not
+pub record IsTail (rom : Rom) (list : List Entry) (tail : Entry) : Type 0 where
+  pub entry : IsEntry rom.map.rom_first rom.map.rom_last tail
+  pub made : MadeEntry rom list tail
+
+-- all of these are
+abbrev pub AreTails : Rom → List Entry → List Entry → Type 0
+AreTails rom list tails = (tail : Entry) → Contains tails tail → IsTail rom list tail
+
+-- the entry of a shape so far and of a tail behind it: what is known past both, and the least box that also has the tail's
+pub record EndsBy (w : Walk) (tail e : Entry) : Type 0 where
+  pub known : Known
+  pub lit : LitBox
+  pub entry_is : e ≡ entry_of w.addr w.key known lit
+  pub known_is : known ≡ known_over w.cursor.known (known_at_end tail)
+  pub grows : (ps : List Point) → IsLeast ps w.lit → IsLeast (relative_corners (box_extent tail.lit) w.cursor.known.place ++ ps) lit
+  pub place : PlaceKnown (box_extent tail.lit) w.cursor.known.place
+  pub words : known.words ≤ MOST_WORDS
+
+-- that of a shape so far and of the tail that one of these is, where it stands
+pub record EndsByOne (w : Walk) (tails : List Entry) (e : Entry) : Type 0 where
+  pub tail : Entry
+  pub there : entry_at tails w.cursor.at w.cursor.known.scale ≡ Some tail
+  pub ends : EndsBy w tail e
+
 -- ---- how far a shape was made
 
 -- its entry is made
@@ -123,5 +134,21 @@ pub record IsWaiting (rom : Rom) (list : List Entry) (w new : Walk) (addr : ℕ)
   pub scale : IsKey new.cursor.known.scale
 
 abbrev pub Advances : Rom → List Entry → Walk → Progress → Type 0
-Advances rom list w (Finished e) = IsFinished rom list w e
+Advances rom list w (Finished e at) = IsFinished rom list w e
 Advances rom list w (Waiting new addr) = IsWaiting rom list w new addr
+
+-- its address and key
+abbrev pub link_of : Walk → Link
+link_of w = record { addr = w.addr; key = w.key }
+
+-- it stops at an item, and no made list has its entry
+pub record IsStopped (rom : Rom) (list : List Entry) (w : Walk) (stop : Stop) : Type 0 where
+  pub never : NeverAt rom list w.addr w.key
+  pub reaches : Reaches rom list (link_of w) stop.cursor.at stop.cursor.known
+  pub cause : CauseAt rom list [] stop.cursor.at stop.cursor.known stop.cause
+
+-- no item stands at this place of the ROM
+abbrev pub IsAbsent : Rom → ℕ → EntryCause → Type 0
+IsAbsent rom at Missing = cell_at (rom_word rom) at ≡ cell.Missing
+IsAbsent rom at Odd = cell_at (rom_word rom) at ≡ cell.Odd
+IsAbsent rom at cause = ⊥

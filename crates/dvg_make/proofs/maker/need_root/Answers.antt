@@ -1,14 +1,35 @@
-use Rattle.std.proofs.Common.{refl, rules, ◌≡◌, subst, inr}
+use Rattle.std.proofs.Common.{rules, ◌≡◌, ◌∙◌, ap, subst, inr}
+use Rattle.dvg_make.specs.declared.walk.Walk.{Walk}
+use Rattle.dvg_make.specs.Accounts.{RootOutside}
+use Rattle.dvg_make.specs.Private.Making.{stop_fault}
+use Rattle.dvg_words.specs.Memory.{InRom}
+use Rattle.dvg_cert.specs.Entry.{IsKey}
+use Rattle.dvg_make.proofs.Telling.{tells_outside}
 use Rattle.std.specs.Prelude.{IsTrue, false}
 use Rattle.dvg_make.proofs.maker.need_root.Goals as goal
 
 pub returns-then-not-can_be_root-clause-err : goal.returns-then-not-can_be_root-clause-err
 returns-then-not-can_be_root-clause-err c =
     inr (
-      refl,
+      ap stop_fault (c.stop-stop.ensures ∙ ap (λ (w : Walk). record { cursor = w.cursor; cause = RootOutside }) c.start.ensures),
       λ h.
           let t : IsTrue c.can_be_root.result = c.can_be_root.ensures.1 h in
           let e : c.can_be_root.result ≡ false = search rules in
           let b : IsTrue false = subst IsTrue e t in
           cc b,
     )
+
+pub returns-then-not-can_be_root-clause-told : goal.returns-then-not-can_be_root-clause-told
+returns-then-not-can_be_root-clause-told c =
+    let outside : InRom c.args.rom.now.map c.args.addr × IsKey c.args.key → ⊥ = λ h.
+    let t : IsTrue c.can_be_root.result = c.can_be_root.ensures.1 h in
+    let e : c.can_be_root.result ≡ false = search rules in
+    let b : IsTrue false = subst IsTrue e t in
+    cc b
+    in
+    record {
+      list = c.args.done.now;
+      is_done = c.requires.done;
+      extends = λ addr key e q. q;
+      tells = tells_outside c.args.rom.now c.args.done.now c.args.addr c.args.key outside c.new-chain.result c.new-chain.ensures c.stop-stop.result (c.stop-stop.ensures ∙ ap (λ (w : Walk). record { cursor = w.cursor; cause = RootOutside }) c.start.ensures);
+    }

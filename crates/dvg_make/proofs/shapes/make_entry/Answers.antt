@@ -1,30 +1,49 @@
-use Rattle.std.proofs.Common.{rules, ◌≡◌, ◌++◌, ◌∷◌, [], subst}
-use Rattle.dvg_make.specs.Private.Making.{IsPresent, Making}
-use Rattle.dvg_make.proofs.Turns.{first_fault, if_err_same, first_ok, first_present}
+use Rattle.std.proofs.Common.{sym, subst, ap, ◌∙◌}
+use Rattle.dvg_make.specs.declared.walk.Walk.{Walk}
+use Rattle.dvg_make.specs.declared.stuck.Stop.{Stop}
+use Rattle.dvg_make.specs.Private.Making.{Bars, stop_fault}
+use Rattle.dvg_make.proofs.Turns.{first_fault, first_ok, first_present}
+use Rattle.dvg_make.proofs.Telling.{tells_first}
 use Rattle.dvg_make.proofs.shapes.make_entry.Goals as goal
 
-pub returns-in_err-begin-clause-err : goal.returns-in_err-begin-clause-err
-returns-in_err-begin-clause-err c =
-    if_err_same c.from_residual.result c.in_err-begin.field-0.0 _ c.from_residual.ensures.1
-    (first_fault c.args.rom.now c.args.done.now c.args.addr c.args.key c.requires.done c.requires.new c.new-stack.result.items (search rules) c.in_err-begin.field-0.0 c.in_err-begin.ensures.err)
+pub returns-in-Err-clause-err : goal.returns-in-Err-clause-err
+returns-in-Err-clause-err c =
+    subst (λ (stop : Stop). Bars c.args.rom.now c.args.done.now (c.args.addr, c.args.key) (stop_fault stop)) (sym c.stop-stop.ensures)
+    (first_fault c.args.rom.now c.args.done.now c.args.addr c.args.key c.requires.done c.requires.new c.new-stack.result c.new-stack.ensures c.start.result.cursor.at c.in-Err.cause c.in-Err.ensures.err)
+
+pub returns-in-Err-clause-told : goal.returns-in-Err-clause-told
+returns-in-Err-clause-told c =
+    record {
+      list = c.args.done.now;
+      is_done = c.requires.done;
+      extends = λ addr key e q. q;
+      tells = tells_first c.args.rom.now c.args.done.now c.args.addr c.args.key c.requires.done.unique c.requires.new c.new-stack.result c.begin.new.stack c.new-stack.ensures c.in-Err.ensures.same c.stop-stop.result c.in-Err.cause (c.stop-stop.ensures ∙ ap (λ (w : Walk). record { cursor = w.cursor; cause = c.in-Err.cause }) c.start.ensures) c.in-Err.ensures.err;
+    }
 
 pub loop-walk-init : goal.loop-walk-init
 loop-walk-init c =
     record {
-      making = first_ok c.args.rom.now c.args.done.now c.args.addr c.args.key c.requires.done c.requires.near c.requires.key c.requires.new c.new-stack.result.items c.begin.new.stack.items (search rules) c.in_ok-begin.ensures.ok;
-      present = first_present c.args.done.now c.args.addr c.args.key c.new-stack.result.items c.begin.new.stack.items (search rules) c.in_ok-begin.ensures.ok;
+      making = first_ok c.args.rom.now c.args.done.now c.args.addr c.args.key c.requires.done c.requires.near c.requires.key c.requires.new c.new-stack.result c.begin.new.stack c.new-stack.ensures c.in_default.ensures.ok;
+      present = first_present c.args.done.now c.args.addr c.args.key c.new-stack.result c.begin.new.stack c.new-stack.ensures c.in_default.ensures.ok;
+      tails = c.requires.tails;
     }
 
 pub loop-walk-preserved : goal.loop-walk-preserved
 loop-walk-preserved c =
-    let popped : c.loop-walk.stack.items ≡ c.pop.new.self.items ++ c.in-Some.walk ∷ [] = search rules in
     record {
-      making = c.in_ok-turn.ensures.ok c.args.done.now (c.args.addr, c.args.key) (subst (Making c.args.rom.now c.args.done.now (c.args.addr, c.args.key) c.loop-walk.done) popped c.loop-walk.invariant.making);
-      present = c.in_ok-turn.ensures.present c.args.addr c.args.key (subst (λ s. IsPresent c.loop-walk.done s c.args.addr c.args.key) popped c.loop-walk.invariant.present);
+      making = c.in_default-turn.ensures.ok c.args.done.now (c.args.addr, c.args.key) c.loop-walk.invariant.making;
+      present = c.in_default-turn.ensures.present c.args.addr c.args.key c.loop-walk.invariant.present;
+      tails = c.in_default-turn.ensures.tails;
     }
 
-pub returns-in_err-turn-clause-err : goal.returns-in_err-turn-clause-err
-returns-in_err-turn-clause-err c =
-    let popped : c.loop-walk.stack.items ≡ c.pop.new.self.items ++ c.in-Some.walk ∷ [] = search rules in
-    if_err_same c.from_residual-in_err-turn.result c.in_err-turn.field-0.0 _ c.from_residual-in_err-turn.ensures.1
-    (c.in_err-turn.ensures.err c.args.done.now (c.args.addr, c.args.key) (subst (Making c.args.rom.now c.args.done.now (c.args.addr, c.args.key) c.loop-walk.done) popped c.loop-walk.invariant.making))
+pub returns-in-Err-turn-clause-err : goal.returns-in-Err-turn-clause-err
+returns-in-Err-turn-clause-err c = c.in-Err-turn.ensures.err c.args.done.now (c.args.addr, c.args.key) c.loop-walk.invariant.making
+
+pub returns-in-Err-turn-clause-told : goal.returns-in-Err-turn-clause-told
+returns-in-Err-turn-clause-told c =
+    record {
+      list = c.loop-walk.done;
+      is_done = c.loop-walk.invariant.making.is_done;
+      extends = c.loop-walk.invariant.making.extends;
+      tells = c.in-Err-turn.ensures.told c.args.done.now (c.args.addr, c.args.key) c.loop-walk.invariant.making;
+    }

@@ -1,40 +1,79 @@
-use Rattle.std.proofs.Common.{sym, subst}
-use Rattle.dvg_make.specs.Private.Walking.{Advances}
-use Rattle.dvg_make.specs.Private.Making.{IsPresent, Making}
+use Rattle.std.proofs.Common.{◌++◌, ◌∷◌, [], ◌∙◌, sym, subst}
+use Rattle.dvg_make.specs.declared.stuck.Stop.{Stop}
+use Rattle.dvg_make.specs.Private.Walking.{Advances, IsFinished}
+use Rattle.dvg_make.specs.Private.Making.{IsPresent, Making, NotBegun, stop_fault, Bars, TellsStop, BarsAll, TellsAll}
 use Rattle.dvg_make.proofs.Chains.{walks_last, none_here, finished_new, making_finished, present_finished}
-use Rattle.dvg_make.proofs.Turns.{begun_ok, begun_present, refused, as_bar, on_ok_map, if_err_map, if_err_all}
+use Rattle.dvg_make.proofs.Turns.{begun_ok, begun_present, refused, as_bar, not_err, if_err_same}
+use Rattle.dvg_make.proofs.Onward.{reached}
+use Rattle.dvg_make.proofs.Telling.{tells_stopped, tells_memory, tells_not_begun}
 use Rattle.dvg_make.proofs.shapes.turn.Goals as goal
 
 pub advance-requires-clause-walk : goal.advance-requires-clause-walk
-advance-requires-clause-walk c = walks_last c.args.rom.now c.args.done.now c.args.stack.now.items c.args.walk c.requires.making.2.walks
+advance-requires-clause-walk c =
+    let m = subst (Making c.args.rom.now c.requires.making.0 c.requires.making.1 c.args.done.now) c.requires.top.1 c.requires.making.2 in
+    walks_last c.args.rom.now c.args.done.now c.requires.top.0 c.args.walk m.walks
 
-pub advance-requires-clause-done : goal.advance-requires-clause-done
-advance-requires-clause-done c = c.requires.making.2.is_done
+pub returns-in_err-entry-clause-err : goal.returns-in_err-entry-clause-err
+returns-in_err-entry-clause-err c =
+    if_err_same c.from_residual.result c.in_err-entry.field-0.0 (λ stop. BarsAll c.args.rom.now c.args.done.now c.args.stack.now (stop_fault stop)) c.from_residual.ensures.1
+    (λ from root h. as_bar c.args.rom.now from root (stop_fault c.in_err-entry.field-0.0) (none_here c.args.rom.now from root c.args.done.now c.requires.top.0 c.args.walk (subst (Making c.args.rom.now from root c.args.done.now) c.requires.top.1 h) c.in_err-entry.ensures.err.never))
 
-pub returns-in_err-progress-clause-err : goal.returns-in_err-progress-clause-err
-returns-in_err-progress-clause-err c =
-    if_err_all c.from_residual.result _ (λ fault from root h. as_bar c.args.rom.now from root fault (none_here c.args.rom.now from root c.args.done.now c.args.stack.now.items c.args.walk h c.in_err-progress.ensures.err))
+pub returns-in_err-entry-clause-told : goal.returns-in_err-entry-clause-told
+returns-in_err-entry-clause-told c =
+    if_err_same c.from_residual.result c.in_err-entry.field-0.0 (TellsAll c.args.rom.now c.args.done.now c.args.stack.now c.args.stack.now) c.from_residual.ensures.1
+    (λ from root h. subst (λ s. TellsStop c.args.rom.now c.args.done.now root s c.in_err-entry.field-0.0) (sym c.requires.top.1) (tells_stopped c.args.rom.now from root c.args.done.now c.requires.top.0 c.args.walk (subst (Making c.args.rom.now from root c.args.done.now) c.requires.top.1 h) c.in_err-entry.field-0.0 c.in_err-entry.ensures.err))
 
-pub add-requires : goal.add-requires
-add-requires c =
-    finished_new c.args.rom.now c.requires.making.0 c.requires.making.1 c.args.done.now c.args.stack.now.items c.args.walk c.requires.making.2 c.in-Finished.entry (subst (Advances c.args.rom.now c.args.done.now c.args.walk) c.in-Finished.is c.in_ok-progress.ensures.ok)
+pub finish-requires-clause-new : goal.finish-requires-clause-new
+finish-requires-clause-new c =
+    finished_new c.args.rom.now c.requires.making.0 c.requires.making.1 c.args.done.now c.requires.top.0 c.args.walk (subst (Making c.args.rom.now c.requires.making.0 c.requires.making.1 c.args.done.now) c.requires.top.1 c.requires.making.2) c.in-Finished.entry (subst (Advances c.args.rom.now c.args.done.now c.args.walk) c.in-Finished.is c.in_ok-entry.ensures.ok)
 
-pub returns-in_ok-add-in-Finished-clause-ok : goal.returns-in_ok-add-in-Finished-clause-ok
-returns-in_ok-add-in-Finished-clause-ok c =
-    λ from root h. subst (λ d. Making c.args.rom.now from root d c.args.stack.now.items) (sym c.in_ok-add-in-Finished.ensures.ok) (making_finished c.args.rom.now from root c.args.done.now c.args.stack.now.items c.args.walk h c.in-Finished.entry (subst (Advances c.args.rom.now c.args.done.now c.args.walk) c.in-Finished.is c.in_ok-progress.ensures.ok))
+pub finish-requires-clause-done : goal.finish-requires-clause-done
+finish-requires-clause-done c = c.requires.making.2.is_done
 
-pub returns-in_ok-add-in-Finished-clause-present : goal.returns-in_ok-add-in-Finished-clause-present
-returns-in_ok-add-in-Finished-clause-present c =
-    λ addr key p. subst (λ d. IsPresent d c.args.stack.now.items addr key) (sym c.in_ok-add-in-Finished.ensures.ok) (present_finished c.args.rom.now c.requires.making.0 c.requires.making.1 c.args.done.now c.args.stack.now.items c.args.walk c.requires.making.2 c.in-Finished.entry (subst (Advances c.args.rom.now c.args.done.now c.args.walk) c.in-Finished.is c.in_ok-progress.ensures.ok) addr key p)
+pub finish-requires-clause-key : goal.finish-requires-clause-key
+finish-requires-clause-key c =
+    let f : IsFinished c.args.rom.now c.args.done.now c.args.walk c.in-Finished.entry = subst (Advances c.args.rom.now c.args.done.now c.args.walk) c.in-Finished.is c.in_ok-entry.ensures.ok in
+    f.entry.key
 
-pub returns-in_ok-push-in-Waiting-clause-ok : goal.returns-in_ok-push-in-Waiting-clause-ok
-returns-in_ok-push-in-Waiting-clause-ok c =
-    on_ok_map c.begin.result _ _ (λ b from root h. begun_ok c.args.rom.now from root c.args.done.now c.args.stack.now.items c.args.walk h c.in-Waiting.walk c.in-Waiting.addr (subst (Advances c.args.rom.now c.args.done.now c.args.walk) c.in-Waiting.is c.in_ok-progress.ensures.ok) _ c.in_ok-push-in-Waiting.ensures.items c.begin.new.stack.items b) c.begin.ensures.ok
+pub returns-else-is_err-clause-tails : goal.returns-else-is_err-clause-tails
+returns-else-is_err-clause-tails c = not_err c.finish.result _ (sym c.if-is_err.ensures.value) c.finish.ensures.tails
 
-pub returns-in_ok-push-in-Waiting-clause-present : goal.returns-in_ok-push-in-Waiting-clause-present
-returns-in_ok-push-in-Waiting-clause-present c =
-    on_ok_map c.begin.result _ _ (begun_present c.args.rom.now c.requires.making.0 c.requires.making.1 c.args.done.now c.args.stack.now.items c.args.walk c.requires.making.2 c.in-Waiting.walk c.in-Waiting.addr (subst (Advances c.args.rom.now c.args.done.now c.args.walk) c.in-Waiting.is c.in_ok-progress.ensures.ok) _ c.in_ok-push-in-Waiting.ensures.items c.begin.new.stack.items) c.begin.ensures.ok
+pub returns-then-is_err-clause-told : goal.returns-then-is_err-clause-told
+returns-then-is_err-clause-told c =
+    λ from root h.
+    let m = subst (Making c.args.rom.now from root c.args.done.now) c.requires.top.1 h in
+    subst (λ s. TellsStop c.args.rom.now c.args.done.now root s c.stop.result) (sym c.requires.top.1) (tells_memory c.args.rom.now from root c.args.done.now c.requires.top.0 c.args.walk m c.stop.result c.stop.ensures (reached c.args.rom.now c.args.done.now c.args.walk (walks_last c.args.rom.now c.args.done.now c.requires.top.0 c.args.walk m.walks)))
 
-pub returns-in_ok-push-in-Waiting-clause-err : goal.returns-in_ok-push-in-Waiting-clause-err
-returns-in_ok-push-in-Waiting-clause-err c =
-    if_err_map c.begin.result _ _ (λ fault b from root h. refused c.args.rom.now from root c.args.done.now c.args.stack.now.items c.args.walk h c.in-Waiting.walk c.in-Waiting.addr (subst (Advances c.args.rom.now c.args.done.now c.args.walk) c.in-Waiting.is c.in_ok-progress.ensures.ok) _ c.in_ok-push-in-Waiting.ensures.items fault b) c.begin.ensures.err
+pub returns-else-is_err-clause-ok : goal.returns-else-is_err-clause-ok
+returns-else-is_err-clause-ok c =
+    λ from root h.
+    let added = not_err c.finish.result _ (sym c.if-is_err.ensures.value) c.finish.ensures.ok in
+    subst (λ d. Making c.args.rom.now from root d c.pop.new.self) (sym added)
+    (subst (Making c.args.rom.now from root (c.args.done.now ++ c.in-Finished.entry ∷ [])) (sym (c.pop.ensures c.requires.top.0 c.args.walk c.requires.top.1))
+    (making_finished c.args.rom.now from root c.args.done.now c.requires.top.0 c.args.walk (subst (Making c.args.rom.now from root c.args.done.now) c.requires.top.1 h) c.in-Finished.entry (subst (Advances c.args.rom.now c.args.done.now c.args.walk) c.in-Finished.is c.in_ok-entry.ensures.ok)))
+
+pub returns-else-is_err-clause-present : goal.returns-else-is_err-clause-present
+returns-else-is_err-clause-present c =
+    λ addr key p.
+    let added = not_err c.finish.result _ (sym c.if-is_err.ensures.value) c.finish.ensures.ok in
+    subst (λ d. IsPresent d c.pop.new.self addr key) (sym added)
+    (subst (λ s. IsPresent (c.args.done.now ++ c.in-Finished.entry ∷ []) s addr key) (sym (c.pop.ensures c.requires.top.0 c.args.walk c.requires.top.1))
+    (present_finished c.args.rom.now c.requires.making.0 c.requires.making.1 c.args.done.now c.requires.top.0 c.args.walk (subst (Making c.args.rom.now c.requires.making.0 c.requires.making.1 c.args.done.now) c.requires.top.1 c.requires.making.2) c.in-Finished.entry (subst (Advances c.args.rom.now c.args.done.now c.args.walk) c.in-Finished.is c.in_ok-entry.ensures.ok) addr key (subst (λ s. IsPresent c.args.done.now s addr key) c.requires.top.1 p)))
+
+pub returns-in-Ok-clause-ok : goal.returns-in-Ok-clause-ok
+returns-in-Ok-clause-ok c =
+    λ from root h. begun_ok c.args.rom.now from root c.args.done.now c.requires.top.0 c.args.walk (subst (Making c.args.rom.now from root c.args.done.now) c.requires.top.1 h) c.in-Waiting.walk c.in-Waiting.addr (subst (Advances c.args.rom.now c.args.done.now c.args.walk) c.in-Waiting.is c.in_ok-entry.ensures.ok) c.replace_top.new.self (c.replace_top.ensures c.requires.top.0 c.args.walk c.requires.top.1) c.begin.new.stack c.in-Ok.ensures.ok
+
+pub returns-in-Ok-clause-present : goal.returns-in-Ok-clause-present
+returns-in-Ok-clause-present c =
+    λ addr key p. begun_present c.args.rom.now c.requires.making.0 c.requires.making.1 c.args.done.now c.requires.top.0 c.args.walk (subst (Making c.args.rom.now c.requires.making.0 c.requires.making.1 c.args.done.now) c.requires.top.1 c.requires.making.2) c.in-Waiting.walk c.in-Waiting.addr (subst (Advances c.args.rom.now c.args.done.now c.args.walk) c.in-Waiting.is c.in_ok-entry.ensures.ok) c.replace_top.new.self (c.replace_top.ensures c.requires.top.0 c.args.walk c.requires.top.1) c.begin.new.stack c.in-Ok.ensures.ok addr key (subst (λ s. IsPresent c.args.done.now s addr key) c.requires.top.1 p)
+
+pub returns-in-Err-clause-err : goal.returns-in-Err-clause-err
+returns-in-Err-clause-err c =
+    λ from root h. subst (λ (stop : Stop). Bars c.args.rom.now from root (stop_fault stop)) (sym c.stop-in-Err.ensures)
+    (refused c.args.rom.now from root c.args.done.now c.requires.top.0 c.args.walk (subst (Making c.args.rom.now from root c.args.done.now) c.requires.top.1 h) c.in-Waiting.walk c.in-Waiting.addr (subst (Advances c.args.rom.now c.args.done.now c.args.walk) c.in-Waiting.is c.in_ok-entry.ensures.ok) c.replace_top.new.self (c.replace_top.ensures c.requires.top.0 c.args.walk c.requires.top.1) c.in-Waiting.walk.cursor.at c.in-Err.cause c.in-Err.ensures.err)
+
+pub returns-in-Err-clause-told : goal.returns-in-Err-clause-told
+returns-in-Err-clause-told c =
+    λ from root h.
+    tells_not_begun c.args.rom.now from root c.args.done.now c.requires.top.0 c.args.walk (subst (Making c.args.rom.now from root c.args.done.now) c.requires.top.1 h) c.in-Waiting.walk c.in-Waiting.addr (subst (Advances c.args.rom.now c.args.done.now c.args.walk) c.in-Waiting.is c.in_ok-entry.ensures.ok) c.begin.new.stack (c.in-Err.ensures.same ∙ c.replace_top.ensures c.requires.top.0 c.args.walk c.requires.top.1) c.stop-in-Err.result c.in-Err.cause c.stop-in-Err.ensures (subst (λ s. NotBegun c.args.done.now s c.in-Waiting.addr c.in-Waiting.walk.cursor.known.scale c.in-Err.cause) (sym c.in-Err.ensures.same) c.in-Err.ensures.err)

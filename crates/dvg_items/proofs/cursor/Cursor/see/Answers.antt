@@ -13,5 +13,6 @@ returns-clause-sound c =
       callee = c.requires.callee;
       place_after = c.past.ensures.place;
       scale_after = c.past.ensures.key;
+      words_after = c.past.ensures.words;
       depth_after = c.past.ensures.depth;
     }

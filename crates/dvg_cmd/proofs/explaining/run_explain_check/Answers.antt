@@ -1,0 +1,12 @@
+use Rattle.std.proofs.Common.{ℕ, List, Option}
+use Rattle.dvg_cmd.specs.Private.Reading.{IsPrefix}
+use Rattle.dvg_cmd.specs.Runs.{Judges}
+use Rattle.dvg_cmd.proofs.Accounts.{explains}
+use Rattle.dvg_cmd.proofs.explaining.run_explain_check.Goals as goal
+
+pub returns-clause-report : goal.returns-clause-report
+returns-clause-report g c =
+    let over : (rom frame_held : Option (List ℕ)) → IsPrefix 4097 rom c.in-Ok.rom.items → IsPrefix 2049 frame_held c.in-Ok-read_frame.frame.items
+    → Judges c.args.mode c.args.window rom (g.R2.Read.remaining c.args.cert.now) frame_held c.args.budget c.in-Ok-read_verdict.judged.verdict =
+    rw (c.as_slice.ensures.value, c.as_slice-2.ensures.value) at c.in-Ok-read_verdict.ensures.verdict in
+    explains c.write_explained.result _ _ _ _ _ _ _ _ _ c.in-Ok-read_verdict.judged.verdict (over _ _ c.in-Ok.ensures.bytes c.in-Ok-read_frame.ensures.bytes) c.in-Ok-read_verdict.ensures.read c.write_explained.ensures.ok

@@ -1,0 +1,97 @@
+-- What a run writes that explains its answer: the line of the answer, and behind it some account. All of it is profile.
+use Rattle.std.specs.Prelude.{◌≡◌, ◌⊎◌, ℕ, List, ◌++◌, codes, Option, Result, Ok}
+use Rattle.std.specs.Io.KnownBytes.{Appends}
+use Rattle.dvg_words.specs.Values.{Window}
+use Rattle.dvg_cert.specs.Devices.{AppendsPrefix}
+use Rattle.dvg_check.specs.declared.verdict.Yes.{Yes}
+use Rattle.dvg_check.specs.declared.verdict.Refusal.{Refusal}
+use Rattle.dvg_check.specs.declared.fault.Mode.{Mode}
+use Rattle.dvg_make.specs.declared.judging.FrameRefusal.{FrameRefusal}
+use Rattle.dvg_cmd.specs.Report.{report_text}
+use Rattle.dvg_cmd.specs.Status.{worse}
+use Rattle.dvg_cmd.specs.Frames.{FrameAnswer, FrameOutcome, AnswerMeans, frame_outcome_of, frame_line}
+use Rattle.dvg_cmd.specs.declared.judging.FrameOutcome.TheVariants as outcome
+use Rattle.dvg_cmd.specs.Runs.{Outcome, NoMemory, outcome_of, IsReadFor, Judges, SafeRead, CountsRead}
+
+-- what stands in the place of an account where there was no memory for it
+abbrev pub no_account : List ℕ
+no_account = codes "account: out of memory\n"
+
+-- the outcome is the verdict's, or that there was no memory for the account
+abbrev pub IsExplainedOutcome : Result Yes Refusal → List ℕ → Outcome → Type 0
+IsExplainedOutcome verdict account outcome = (outcome ≡ outcome_of verdict) ⊎ ((outcome ≡ NoMemory) × (account ≡ no_account))
+
+-- the report of a verdict and an account were written, and nothing else
+pub record Explained (verdict : Result Yes Refusal) (old new : Option (List ℕ)) (outcome : Outcome) : Type 0 where
+  pub account : List ℕ
+  pub written : Appends old new (report_text verdict ++ account)
+  pub outcome_is : IsExplainedOutcome verdict account outcome
+
+-- a prefix of them was written, and nothing else
+pub record ExplainedPrefix (verdict : Result Yes Refusal) (old new : Option (List ℕ)) : Type 0 where
+  pub account : List ℕ
+  pub written : AppendsPrefix old new (report_text verdict ++ account)
+
+-- this was written of the verdict on all bytes that three readers held; `left` is what the certificate's reader still holds
+pub record Explains
+    (mode : Mode) (w : Window) (rom cert left frame : Option (List ℕ)) (budget : ℕ) (old new : Option (List ℕ))
+    (outcome : Outcome) : Type 0 where
+  pub verdict : Result Yes Refusal
+  pub judges : Judges mode w rom cert frame budget verdict
+  pub read : IsReadFor verdict cert left
+  pub explained : Explained verdict old new outcome
+
+-- and a prefix of it
+pub record ExplainsPrefix
+    (mode : Mode) (w : Window) (rom cert frame : Option (List ℕ)) (budget : ℕ) (old new : Option (List ℕ)) : Type 0 where
+  pub verdict : Result Yes Refusal
+  pub judges : Judges mode w rom cert frame budget verdict
+  pub explained : ExplainedPrefix verdict old new
+
+-- an accepted line and an account were written, and every run over these bytes is safe with the line's counts
+pub record ExplainsSafe (w : Window) (rom cert frame : Option (List ℕ)) (old new : Option (List ℕ)) : Type 0 where
+  pub yes : Yes
+  pub account : List ℕ
+  pub written : Appends old new (report_text (Ok yes) ++ account)
+  pub safe : SafeRead w rom cert frame yes
+
+-- and every run over these bytes has just its counts
+pub record ExplainsCounts (rom cert frame : Option (List ℕ)) (old new : Option (List ℕ)) : Type 0 where
+  pub yes : Yes
+  pub account : List ℕ
+  pub written : Appends old new (report_text (Ok yes) ++ account)
+  pub counts : CountsRead rom cert frame yes
+
+-- ---- a frame
+
+-- the outcome of a frame's answer, or the worse of it and that there was no memory for the account
+abbrev pub IsExplainedFrameOutcome : FrameAnswer → List ℕ → FrameOutcome → Type 0
+IsExplainedFrameOutcome answer account end =
+    (end ≡ frame_outcome_of answer) ⊎ ((end ≡ worse (frame_outcome_of answer) outcome.NoMemory) × (account ≡ no_account))
+
+-- the line of an answer and an account were written, and nothing else
+pub record AnswerExplained (name : List ℕ) (answer : FrameAnswer) (old new : Option (List ℕ)) (end : FrameOutcome) : Type 0 where
+  pub account : List ℕ
+  pub written : Appends old new (frame_line name answer ++ account)
+  pub outcome_is : IsExplainedFrameOutcome answer account end
+
+-- a prefix of them was written, and nothing else
+pub record AnswerExplainedPrefix (name : List ℕ) (answer : FrameAnswer) (old new : Option (List ℕ)) : Type 0 where
+  pub account : List ℕ
+  pub written : AppendsPrefix old new (frame_line name answer ++ account)
+
+-- this was written of the answer to a frame that a reader held
+pub record ExplainsFrame
+    (IsVerdict : List ℕ → Result Yes FrameRefusal → Type 0) (start : Option ℕ) (name : List ℕ) (frame left : Option (List ℕ))
+    (old new : Option (List ℕ)) (end : FrameOutcome) : Type 0 where
+  pub answer : FrameAnswer
+  pub means : AnswerMeans IsVerdict start frame left answer
+  pub explained : AnswerExplained name answer old new end
+
+-- and a prefix of it
+pub record ExplainsFramePrefix
+    (IsVerdict : List ℕ → Result Yes FrameRefusal → Type 0) (start : Option ℕ) (name : List ℕ) (frame left : Option (List ℕ))
+    (old new : Option (List ℕ)) : Type 0 where
+  pub answer : FrameAnswer
+  pub means : AnswerMeans IsVerdict start frame left answer
+  pub explained : AnswerExplainedPrefix name answer old new

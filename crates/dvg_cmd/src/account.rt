@@ -1,0 +1,264 @@
+//! The account of an answer: what is told behind its line.
+
+ghost use Rattle.std.specs.Prelude.{◌≡◌, ◌≤◌};
+ghost use Rattle.dvg_cert.specs.declared.limits.TheConstants.{MOST_WORDS};
+
+use crate::account_item::{ItemAccount, callee_of};
+use crate::account_making::MakingAccount;
+use crate::account_why::{Addresses, OddWords, odd_words};
+use dvg_cert::{Cert, Entries, Entry, HashIndex, LitBox};
+use dvg_check::{JudgedShapes, Mode, Refusal, Yes, frame_of};
+use dvg_explain::{
+    Call, FrameAccount, ShapeAccount, explain_frame, explain_shapes, find_chain, frame_calls,
+    frame_extent, shapes_extent,
+};
+use dvg_items::Kind;
+use dvg_words::{FrameImage, ImageFault, RomImage, RomMap, Window};
+use std::alloc::{AllocError, Global};
+
+/// What was judged: the bytes that were read of a ROM and of a frame, where the ROM lies, if that is known, and the certificate,
+/// where one was taken or made.
+#[derive(Clone, Copy)]
+pub struct Inputs<'a> {
+    pub rom: &'a [u8],
+    pub map: Option<RomMap>,
+    pub cert: Option<&'a Cert>,
+    pub frame: &'a [u8],
+    pub budget: u32,
+    pub window: Window,
+    pub mode: Mode,
+}
+
+/// What an account tells of an answer.
+#[derive(Drop)]
+pub enum Account {
+    /// Of a refusal before any item was looked at.
+    Plain {
+        number: u8,
+        why: PlainWhy,
+    },
+    /// Of an item of a frame.
+    Frame {
+        account: FrameAccount,
+        item: ItemAccount,
+        odd: OddWords,
+        list: Addresses,
+    },
+    /// Of an item of a shape.
+    Shape {
+        account: ShapeAccount,
+        item: ItemAccount,
+        odd: OddWords,
+        list: Addresses,
+        chain: Chain,
+    },
+    /// Of an entry that can't be made.
+    Making(MakingAccount),
+    /// Of what is accepted.
+    Accepted(AcceptedAccount),
+}
+
+/// What is told of what is accepted: its counts and the budget, the calls of the frame, and the least boxes of what its own items
+/// may light and of what the shapes light at absolute places.
+#[derive(Drop)]
+pub struct AcceptedAccount {
+    pub yes: Yes,
+    pub budget: u32,
+    pub window: Window,
+    pub calls: Vec<Call>,
+    pub frame: LitBox,
+    pub shapes: LitBox,
+}
+
+/// How a frame comes to an entry.
+#[derive(Drop)]
+pub enum Chain {
+    /// There is no frame.
+    NoFrame,
+    /// It does not come to it.
+    Unreached,
+    /// By these calls.
+    Calls(Vec<Call>),
+}
+
+/// What is at hand of a refusal before any item was looked at.
+#[derive(Clone, Copy)]
+pub enum PlainWhy {
+    Nothing,
+    /// So many bytes were read of the ROM, whose words have these addresses.
+    RomLength { bytes: usize, list: Addresses },
+    /// So many bytes were read of the frame.
+    FrameLength { bytes: usize },
+    /// The budget.
+    Budget(u32),
+    /// The line of the certificate.
+    Line(u32),
+}
+
+impl<'a> Inputs<'a> {
+    /// What is at hand of a refusal.
+    fn plain_why(&self, refusal: &Refusal) -> PlainWhy {
+        match (refusal, self.map) {
+            (Refusal::Image(ImageFault::RomLength), Some(map)) => PlainWhy::RomLength {
+                bytes: self.rom.len(),
+                list: Addresses::of_map(map),
+            },
+            (Refusal::Image(ImageFault::FrameLength), _) => PlainWhy::FrameLength {
+                bytes: self.frame.len(),
+            },
+            (Refusal::BudgetRange, _) => PlainWhy::Budget(self.budget),
+            (Refusal::Cert(fault), _) => PlainWhy::Line(fault.line),
+            _ => PlainWhy::Nothing,
+        }
+    }
+}
+
+impl Account {
+    /// The account of a verdict on these inputs.
+    pub fn of_verdict(
+        alloc: Global,
+        inputs: &Inputs,
+        verdict: &Result<Yes, Refusal>,
+    ) -> Result<Account, AllocError> {
+        match verdict {
+            Ok(yes) => accepted_account(alloc, inputs, *yes),
+            Err(refusal) => {
+                let plain = Account::Plain {
+                    number: refusal.number(),
+                    why: inputs.plain_why(refusal),
+                };
+                Ok(item_account(alloc, inputs, refusal)?.unwrap_or(plain))
+            }
+        }
+    }
+}
+
+/// The account of what is accepted.
+fn accepted_account(alloc: Global, inputs: &Inputs, yes: Yes) -> Result<Account, AllocError> {
+    let mut account = AcceptedAccount {
+        yes,
+        budget: inputs.budget,
+        window: inputs.window,
+        calls: Vec::new(alloc),
+        frame: LitBox::Empty,
+        shapes: LitBox::Empty,
+    };
+    let Some(cert) = inputs.cert else {
+        return Ok(Account::Accepted(account));
+    };
+    let entries = HashIndex::new(alloc, cert)?;
+    if let Ok(frame) = FrameImage::from_bytes(inputs.frame) {
+        account.calls = frame_calls(alloc, cert, &entries, &frame)?;
+        account.frame = frame_extent(cert, &entries, &frame);
+    }
+    if let Ok(rom) = RomImage::from_bytes(inputs.rom, cert.map()) {
+        account.shapes = shapes_extent(&rom, cert, &entries);
+    }
+    Ok(Account::Accepted(account))
+}
+
+/// The account of the item of a refusal, where it is one of an item.
+fn item_account(
+    alloc: Global,
+    inputs: &Inputs,
+    refusal: &Refusal,
+) -> Result<Option<Account>, AllocError> {
+    let Some(cert) = inputs.cert else {
+        return Ok(None);
+    };
+    let Ok(rom) = RomImage::from_bytes(inputs.rom, cert.map()) else {
+        return Ok(None);
+    };
+    match refusal {
+        Refusal::Shape(_) => shape_account(alloc, inputs, &rom, cert),
+        Refusal::Frame(_) => match frame_of(inputs.frame, inputs.budget) {
+            Ok(frame) => frame_account(alloc, inputs, &rom, cert, &frame),
+            Err(_) => Ok(None),
+        },
+        _ => Ok(None),
+    }
+}
+
+/// The account of the first fault of the shapes.
+fn shape_account(
+    alloc: Global,
+    inputs: &Inputs,
+    rom: &RomImage,
+    cert: &Cert,
+) -> Result<Option<Account>, AllocError> {
+    let entries = HashIndex::new(alloc, cert)?;
+    let Err(account) = explain_shapes(rom, cert, &entries, &inputs.window, inputs.mode) else {
+        return Ok(None);
+    };
+    let finding = account.finding;
+    let at = finding.fault.word;
+    Ok(Some(Account::Shape {
+        account,
+        item: ItemAccount::new(
+            rom,
+            Kind::Shape,
+            finding.entry.addr,
+            at,
+            finding.before,
+            callee_of(&finding.found),
+        ),
+        odd: odd_words(rom, at),
+        list: Addresses::of_map(rom.map()),
+        chain: chain_to(alloc, inputs, rom, cert, &entries, &finding.entry)?,
+    }))
+}
+
+/// How the frame comes to an entry.
+fn chain_to<E: Entries>(
+    alloc: Global,
+    inputs: &Inputs,
+    rom: &RomImage,
+    cert: &Cert,
+    entries: &E,
+    goal: &Entry,
+) -> Result<Chain, AllocError>
+    requires { E.list entries.now ≡ cert.now.entries }
+{
+    let Ok(frame) = FrameImage::from_bytes(inputs.frame) else {
+        return Ok(Chain::NoFrame);
+    };
+    match find_chain(alloc, rom, cert, entries, &frame, goal)? {
+        Some(calls) => Ok(Chain::Calls(calls)),
+        None => Ok(Chain::Unreached),
+    }
+}
+
+/// The account of the frame's first fault.
+fn frame_account(
+    alloc: Global,
+    inputs: &Inputs,
+    rom: &RomImage,
+    cert: &Cert,
+    frame: &FrameImage,
+) -> Result<Option<Account>, AllocError>
+    requires budget { inputs.now.budget ≤ MOST_WORDS }
+    requires map { rom.now.map ≡ cert.now.map }
+{
+    let entries = HashIndex::new(alloc, cert)?;
+    let Ok(shapes) = JudgedShapes::judge(rom, cert, &entries, inputs.window, inputs.mode) else {
+        return Ok(None);
+    };
+    let Err(account) = explain_frame(&shapes, frame, inputs.budget) else {
+        return Ok(None);
+    };
+    let finding = account.finding;
+    let at = finding.fault.word;
+    Ok(Some(Account::Frame {
+        account,
+        item: ItemAccount::new(
+            frame,
+            Kind::Frame,
+            0,
+            at,
+            finding.before,
+            callee_of(&finding.found),
+        ),
+        odd: odd_words(frame, at),
+        list: Addresses::of_frame(frame),
+    }))
+}

@@ -1,0 +1,240 @@
+//! The text of an account, line by line.
+
+use crate::account::{AcceptedAccount, Account, Chain, Inputs, PlainWhy};
+use crate::account_item::push_item;
+use crate::account_making::{push_making, push_making_why};
+use crate::account_numbers::{Claims, Distance, Name, Within};
+use crate::account_why::{Addresses, FrameWhyText, ShapeWhyText};
+use crate::rules::rule_of;
+use dvg_cert::LitBox;
+use dvg_check::{Refusal, Yes};
+use dvg_explain::{Call, Margins};
+use dvg_words::Window;
+use std::alloc::{AllocError, Global};
+use std::fmt;
+
+/// The text of the account of a verdict on these inputs.
+pub fn account_text(
+    alloc: Global,
+    inputs: &Inputs,
+    verdict: &Result<Yes, Refusal>,
+) -> Result<String, AllocError> {
+    match Account::of_verdict(alloc, inputs, verdict) {
+        Ok(account) => text_of(alloc, &account),
+        Err(error) => Err(error),
+    }
+}
+
+/// The text of an account.
+pub fn text_of(alloc: Global, account: &Account) -> Result<String, AllocError> {
+    let mut text = String::new(alloc);
+    push_account(&mut text, account)?;
+    Ok(text)
+}
+
+/// Adds all lines of an account.
+fn push_account(text: &mut String, account: &Account) -> Result<(), AllocError> {
+    match account {
+        Account::Plain { number, why } => {
+            push_rule(text, *number)?;
+            push_plain_why(text, why)?;
+            push_cure(text, *number)
+        }
+        Account::Frame {
+            account,
+            item,
+            odd,
+            list,
+        } => {
+            let number = account.finding.fault.number();
+            let why = FrameWhyText {
+                account,
+                odd: *odd,
+                list: *list,
+            };
+            push_rule(text, number)?;
+            writeln!(text, "why: {why}")?;
+            push_item(text, item)?;
+            push_cure(text, number)
+        }
+        Account::Shape {
+            account,
+            item,
+            odd,
+            list,
+            chain,
+        } => {
+            let number = account.finding.fault.number();
+            let name = Name::of(&account.finding.entry);
+            let why = ShapeWhyText {
+                account,
+                odd: *odd,
+                list: *list,
+            };
+            let claims = Claims(account.finding.entry);
+            push_rule(text, number)?;
+            writeln!(text, "why: {why}")?;
+            push_item(text, item)?;
+            writeln!(text, "entry claims: {claims}")?;
+            push_chain(text, chain, name)?;
+            push_cure(text, number)
+        }
+        Account::Making(making) => {
+            push_rule(text, making.number())?;
+            push_making_why(text, making)?;
+            push_making(text, making)?;
+            push_cure(text, making.number())
+        }
+        Account::Accepted(accepted) => push_accepted(text, accepted),
+    }
+}
+
+/// Adds how the frame comes to the entry of this name.
+fn push_chain(text: &mut String, chain: &Chain, name: Name) -> Result<(), AllocError> {
+    match chain {
+        Chain::NoFrame => Ok(()),
+        Chain::Unreached => { writeln!(text, "chain: none, the frame does not come to {name}") }
+        Chain::Calls(calls) => push_links(text, calls),
+    }
+}
+
+/// Adds the calls by which a frame comes to an entry.
+fn push_links(text: &mut String, calls: &[Call]) -> Result<(), AllocError> {
+    let mut before: Option<Name> = None;
+    for call in calls {
+        let at = call.at;
+        let name = Name::of(&call.entry);
+        match before {
+            Some(caller) => writeln!(text, "chain: {caller} at {at:03X} leads to {name}")?,
+            None => writeln!(text, "chain: frame at {at:03X} leads to {name}")?,
+        }
+        before = Some(name);
+    }
+    Ok(())
+}
+
+/// Adds what a number means.
+fn push_rule(text: &mut String, number: u8) -> Result<(), AllocError> {
+    match rule_of(number) {
+        Some(rule) => {
+            let meaning = rule.meaning;
+            writeln!(text, "rule: {number} {meaning}")
+        }
+        None => Ok(()),
+    }
+}
+
+/// Adds what to do about a number.
+fn push_cure(text: &mut String, number: u8) -> Result<(), AllocError> {
+    match rule_of(number) {
+        Some(rule) => {
+            let cure = rule.cure;
+            writeln!(text, "what to do: {cure}")
+        }
+        None => Ok(()),
+    }
+}
+
+/// Adds what is at hand of a refusal before any item was looked at.
+fn push_plain_why(text: &mut String, why: &PlainWhy) -> Result<(), AllocError> {
+    match why {
+        PlainWhy::Nothing => Ok(()),
+        PlainWhy::RomLength { bytes, list } => push_rom_length(text, *bytes, list),
+        PlainWhy::FrameLength { bytes } if *bytes > MOST_FRAME_BYTES => {
+            writeln!(
+                text,
+                "why: the frame has more than {MOST_FRAME_BYTES} bytes"
+            )
+        }
+        PlainWhy::FrameLength { bytes } => writeln!(text, "why: the frame has {bytes} bytes"),
+        PlainWhy::Budget(budget) => writeln!(text, "why: the budget is {budget}"),
+        PlainWhy::Line(line) => writeln!(text, "certificate line: {line}"),
+    }
+}
+
+/// How many bytes a frame has at most, and the longest ROM. Of a longer one, one more is read.
+const MOST_FRAME_BYTES: usize = 2048;
+
+const MOST_ROM_BYTES: usize = 4096;
+
+fn push_rom_length(text: &mut String, bytes: usize, list: &Addresses) -> Result<(), AllocError> {
+    let needed = list.bytes();
+    if bytes > MOST_ROM_BYTES {
+        write!(text, "why: the ROM has more than {MOST_ROM_BYTES} bytes")?;
+    } else {
+        write!(text, "why: the ROM has {bytes} bytes")?;
+    }
+    writeln!(text, ", and words {list} are {needed} bytes")
+}
+
+/// Adds what is told of what is accepted.
+fn push_accepted(text: &mut String, accepted: &AcceptedAccount) -> Result<(), AllocError> {
+    push_counts(text, &accepted.yes, accepted.budget)?;
+    push_calls(text, &accepted.calls)?;
+    push_lights(text, Lighting::Frame, &accepted.frame, &accepted.window)?;
+    push_lights(text, Lighting::Shapes, &accepted.shapes, &accepted.window)
+}
+
+/// Adds the calls of a frame.
+fn push_calls(text: &mut String, calls: &[Call]) -> Result<(), AllocError> {
+    for call in calls {
+        let at = call.at;
+        let claims = Claims(call.entry);
+        writeln!(text, "call: {at:03X} {claims}")?;
+    }
+    Ok(())
+}
+
+/// What lights.
+#[derive(Clone, Copy)]
+enum Lighting {
+    Frame,
+    Shapes,
+}
+
+impl fmt::Display for Lighting {
+    fn fmt<W: fmt::Write>(&self, f: &mut fmt::Formatter<W>) -> fmt::Result {
+        f.write_str(match self {
+            Lighting::Frame => "frame",
+            Lighting::Shapes => "shapes",
+        })
+    }
+}
+
+/// Adds the box of what lights, and how far it is from each edge of the window.
+fn push_lights(
+    text: &mut String,
+    lighting: Lighting,
+    lit: &LitBox,
+    window: &Window,
+) -> Result<(), AllocError> {
+    let verb = match lighting {
+        Lighting::Frame => "lights",
+        Lighting::Shapes => "light",
+    };
+    let within = Within(*lit);
+    writeln!(text, "{lighting} {verb} within: {within}")?;
+    let Some(margins) = Margins::within(window, lit) else {
+        return Ok(());
+    };
+    let left = Distance(margins.left);
+    let right = Distance(margins.right);
+    let bottom = Distance(margins.bottom);
+    let top = Distance(margins.top);
+    writeln!(
+        text,
+        "{lighting} margins: left {left}, right {right}, bottom {bottom}, top {top}"
+    )
+}
+
+/// Adds the counts of what is accepted beside their limits.
+fn push_counts(text: &mut String, yes: &Yes, budget: u32) -> Result<(), AllocError> {
+    let Yes {
+        shapes,
+        words,
+        depth,
+    } = *yes;
+    writeln!(text, "shapes: {shapes} of 4096")?;
+    writeln!(text, "words: {words} of the budget {budget}")?;
+    writeln!(text, "return places: {depth} of 4")
+}

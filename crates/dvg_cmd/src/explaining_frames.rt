@@ -1,0 +1,220 @@
+//! Running the judge of one frame over a reader and a writer, with an account of the answer.
+
+ghost use Rattle.std.specs.Prelude.{◌≡◌, Bool, length, Err, ◌++◌, IfOk, IfErr, OnOk, OnErr, is_err};
+ghost use Rattle.std.specs.Io.KnownBytes.{Appends};
+ghost use Rattle.dvg_cert.specs.Devices.{AppendsPrefix, count_after};
+ghost use Rattle.dvg_cmd.specs.Frames.{FrameVerdict, VerdictOver, frame_outcome_of, frame_line};
+ghost use Rattle.dvg_cmd.specs.Explaining.{AnswerExplained, AnswerExplainedPrefix, ExplainsFrame, ExplainsFramePrefix, Explained, ExplainedPrefix};
+
+use crate::account::{Account, Inputs, PlainWhy};
+use crate::account_own::{frame_account, own_account_text};
+use crate::account_text::{account_text, text_of};
+use crate::explaining::{NO_ACCOUNT, write_explained};
+use crate::judging::{
+    FrameAnswer, FrameOutcome, judge_alone, judge_over, read_started, write_line,
+};
+use crate::running::{Outcome, RunFault};
+use dvg_cert::{Cert, CountedRead, CountedWrite, Entries, write_bytes};
+use dvg_check::{JudgedShapes, Mode, Refusal, Yes};
+use dvg_make::FrameRefusal;
+use dvg_words::{RomMap, Window};
+use std::alloc::{AllocError, Global};
+
+/// Writes the line of an answer, and then a text.
+fn write_line_and<W: CountedWrite>(
+    name: &str,
+    answer: &FrameAnswer,
+    text: &str,
+    out: &mut W,
+) -> Result<FrameOutcome, RunFault>
+    ensures ok { IfOk result (λ outcome. outcome ≡ frame_outcome_of answer.now) }
+    ensures written { OnOk result (Appends (W.contents out.old) (W.contents out.new) (frame_line name.now answer.now ++ text.now)) }
+    ensures prefix { OnErr result (AppendsPrefix (W.contents out.old) (W.contents out.new) (frame_line name.now answer.now ++ text.now)) }
+    ensures fault { IfErr result (λ fault. fault ≡ RunFault.Write) }
+    ensures count { W.failures out.new ≡ count_after (is_err result) (W.failures out.old) }
+{
+    let outcome = write_line(name, answer, out)?;
+    match write_bytes(text.as_bytes(), out) {
+        Ok(()) => Ok(outcome),
+        Err(_) => Err(RunFault::Write),
+    }
+}
+
+/// Writes the line of an answer, and then its account, or that there was no memory for one.
+fn write_answer<W: CountedWrite>(
+    name: &str,
+    answer: &FrameAnswer,
+    account: &Result<String, AllocError>,
+    out: &mut W,
+) -> Result<FrameOutcome, RunFault>
+    ensures ok { IfOk result (AnswerExplained name.now answer.now (W.contents out.old) (W.contents out.new)) }
+    ensures prefix { OnErr result (AnswerExplainedPrefix name.now answer.now (W.contents out.old) (W.contents out.new)) }
+    ensures fault { IfErr result (λ fault. fault ≡ RunFault.Write) }
+    ensures count { W.failures out.new ≡ count_after (is_err result) (W.failures out.old) }
+{
+    match account {
+        Ok(text) => write_line_and(name, answer, text.as_str(), out),
+        Err(_) => {
+            let outcome = write_line_and(name, answer, NO_ACCOUNT, out)?;
+            Ok(outcome.or_worse(FrameOutcome::NoMemory))
+        }
+    }
+}
+
+/// The text of the account of a frame that can't be read.
+fn unread_text(alloc: Global) -> Result<String, AllocError> {
+    text_of(
+        alloc,
+        &Account::Plain {
+            number: 71,
+            why: PlainWhy::Nothing,
+        },
+    )
+}
+
+/// The text of the account of a verdict over judged shapes.
+fn over_text(
+    alloc: Global,
+    inputs: &Inputs,
+    verdict: &Result<Yes, FrameRefusal>,
+) -> Result<String, AllocError> {
+    match frame_account(alloc, inputs, verdict) {
+        Ok(account) => text_of(alloc, &account),
+        Err(error) => Err(error),
+    }
+}
+
+/// Reads a frame and judges it by its own certificate, as [`run_frame`](crate::run_frame) does, and writes the line that it would
+/// write, and behind it an account of the answer (docs/ACCOUNTS.md).
+///
+/// Once the answer is known the certificate is made and judged by once more, for what the account says. Where there is no memory
+/// for the account, `account: out of memory` stands in its place, and the outcome says so.
+pub fn run_explain_frame<R: CountedRead, W: CountedWrite>(
+    alloc: Global,
+    rom: &[u8],
+    map: RomMap,
+    name: &str,
+    frame: &mut R,
+    start: Option<u16>,
+    budget: u32,
+    window: Window,
+    out: &mut W,
+) -> Result<FrameOutcome, RunFault>
+    // The line of an answer and an account are written, or a prefix of them where the writer failed, which alone ends a run.
+    ensures report { IfOk result (ExplainsFrame (λ bytes. FrameVerdict rom.now map bytes budget window) start name.now
+        (R.remaining frame.old) (R.remaining frame.new) (W.contents out.old) (W.contents out.new)) }
+    ensures prefix { OnErr result (ExplainsFramePrefix (λ bytes. FrameVerdict rom.now map bytes budget window) start name.now
+        (R.remaining frame.old) (R.remaining frame.new) (W.contents out.old) (W.contents out.new)) }
+    ensures fault { IfErr result (λ fault. fault ≡ RunFault.Write) }
+    ensures frame_once { (failed : Bool) × (R.failures frame.new ≡ count_after failed (R.failures frame.old)) }
+    ensures out_count { W.failures out.new ≡ count_after (is_err result) (W.failures out.old) }
+{
+    let (answer, account) = match read_started(frame, start) {
+        Ok(bytes) => {
+            let verdict = judge_alone(alloc, rom, map, bytes.as_slice(), budget, window);
+            let account = own_account_text(
+                alloc,
+                rom,
+                map,
+                bytes.as_slice(),
+                budget,
+                window,
+                &verdict,
+            );
+            (FrameAnswer::Judged(verdict), account)
+        }
+        Err(_) => (FrameAnswer::Unread, unread_text(alloc)),
+    };
+    write_answer(name, &answer, &account, out)
+}
+
+/// Reads a frame, judges it over judged shapes, those of this certificate over the bytes of a ROM, as
+/// [`run_frame_over`](crate::run_frame_over) does, and writes the line that it would write, and behind it an account of the answer,
+/// as [`run_explain_frame`] does. The mode is that of the shapes.
+pub fn run_explain_frame_over<E: Entries, R: CountedRead, W: CountedWrite>(
+    alloc: Global,
+    rom: &[u8],
+    shapes: &JudgedShapes<E>,
+    cert: &Cert,
+    mode: Mode,
+    name: &str,
+    frame: &mut R,
+    start: Option<u16>,
+    budget: u32,
+    out: &mut W,
+) -> Result<FrameOutcome, RunFault>
+    ensures report { IfOk result (ExplainsFrame (λ bytes. VerdictOver shapes.now (length cert.now.entries) bytes budget) start name.now
+        (R.remaining frame.old) (R.remaining frame.new) (W.contents out.old) (W.contents out.new)) }
+    ensures prefix { OnErr result (ExplainsFramePrefix (λ bytes. VerdictOver shapes.now (length cert.now.entries) bytes budget) start name.now
+        (R.remaining frame.old) (R.remaining frame.new) (W.contents out.old) (W.contents out.new)) }
+    ensures fault { IfErr result (λ fault. fault ≡ RunFault.Write) }
+    ensures frame_once { (failed : Bool) × (R.failures frame.new ≡ count_after failed (R.failures frame.old)) }
+    ensures out_count { W.failures out.new ≡ count_after (is_err result) (W.failures out.old) }
+{
+    let (answer, account) = match read_started(frame, start) {
+        Ok(bytes) => {
+            let verdict = judge_over(shapes, cert, bytes.as_slice(), budget);
+            let taken = Some(cert);
+            let inputs = Inputs {
+                rom,
+                map: Some(cert.map()),
+                cert: taken,
+                frame: bytes.as_slice(),
+                budget,
+                window: shapes.window(),
+                mode,
+            };
+            let account = over_text(alloc, &inputs, &verdict);
+            (FrameAnswer::Judged(verdict), account)
+        }
+        Err(_) => (FrameAnswer::Unread, unread_text(alloc)),
+    };
+    write_answer(name, &answer, &account, out)
+}
+
+/// Writes the line of a frame that could not be opened, and behind it an account of that.
+pub fn run_explain_unopened<W: CountedWrite>(
+    alloc: Global,
+    name: &str,
+    out: &mut W,
+) -> Result<FrameOutcome, RunFault>
+    ensures ok { IfOk result (AnswerExplained name.now FrameAnswer.Unread (W.contents out.old) (W.contents out.new)) }
+    ensures prefix { OnErr result (AnswerExplainedPrefix name.now FrameAnswer.Unread (W.contents out.old) (W.contents out.new)) }
+    ensures fault { IfErr result (λ fault. fault ≡ RunFault.Write) }
+    ensures count { W.failures out.new ≡ count_after (is_err result) (W.failures out.old) }
+{
+    write_answer(name, &FrameAnswer::Unread, &unread_text(alloc), out)
+}
+
+/// Writes the line of a refusal that no frame was needed for, as [`run_refusal`](crate::run_refusal) does, and behind it an account:
+/// of the bytes of a ROM and of the certificate, where one was taken.
+pub fn run_explain_refusal<W: CountedWrite>(
+    alloc: Global,
+    rom: &[u8],
+    cert: Option<&Cert>,
+    window: Window,
+    refusal: &Refusal,
+    out: &mut W,
+) -> Result<Outcome, RunFault>
+    ensures ok { IfOk result (Explained (Err refusal.now) (W.contents out.old) (W.contents out.new)) }
+    ensures prefix { OnErr result (ExplainedPrefix (Err refusal.now) (W.contents out.old) (W.contents out.new)) }
+    ensures fault { IfErr result (λ fault. fault ≡ RunFault.Write) }
+    ensures count { W.failures out.new ≡ count_after (is_err result) (W.failures out.old) }
+{
+    let map = match cert {
+        Some(cert) => Some(cert.map()),
+        None => None,
+    };
+    let inputs = Inputs {
+        rom,
+        map,
+        cert,
+        frame: &[],
+        budget: 1,
+        window,
+        mode: Mode::Bound,
+    };
+    let verdict = Err(*refusal);
+    let account = account_text(alloc, &inputs, &verdict);
+    write_explained(&verdict, &account, out)
+}

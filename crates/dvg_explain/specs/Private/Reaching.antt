@@ -1,0 +1,44 @@
+-- The entries that a frame comes to, each with the call by which it was reached first.
+use Rattle.std.specs.Prelude.{◌≡◌, ℕ, ◌<◌, List, [], ◌∷◌, ◌++◌, map, slice_get, is_some, Option, None, Some, IfSome, if◌then◌else◌}
+use Rattle.std.specs.List.{All}
+use Rattle.dvg_words.specs.Memory.{Rom}
+use Rattle.dvg_cert.specs.declared.entry.Entry.{Entry}
+use Rattle.dvg_cert.specs.declared.entry.Key.{Key}
+use Rattle.dvg_cert.specs.Lookup.{entry_at}
+use Rattle.dvg_explain.specs.Calls.{Call}
+use Rattle.dvg_explain.specs.Chains.{FrameCalls, ShapeCalls, IsChain}
+pub use Rattle.dvg_explain.specs.declared.reached.Link.{Link}
+
+-- the link stands at its entry's address and key
+abbrev pub IsLinked : List ((ℕ × Key) × Link) → Type 0
+IsLinked ps = All (λ p. p.0 ≡ (p.1.call.entry.addr, p.1.call.entry.key)) ps
+
+abbrev pub entries_of : List Link → List Entry
+entries_of links = map (λ l. l.call.entry) links
+
+-- one link more, where none has its entry yet
+abbrev pub reach : List Link → Link → List Link
+reach links l = if is_some (entry_at (entries_of links) l.call.entry.addr l.call.entry.key) then links else links ++ l ∷ []
+
+-- one call after another
+abbrev pub reach_all : List Link → Option ℕ → List Call → List Link
+reach_all links from [] = links
+reach_all links from (call ∷ rest) = reach_all (reach links (record { call = call; from = from })) from rest
+
+-- the call is the frame's own, or stands in the shape of the entry of the link at this index
+abbrev pub IsStep : Rom → List ℕ → List Entry → List Link → Option ℕ → Call → Type 0
+IsStep rom words list links None call = FrameCalls words list call
+IsStep rom words list links (Some j) call = (f : Link) × (slice_get links j ≡ Some f) × ShapeCalls rom list f.call.entry call
+
+abbrev pub AllSteps : Rom → List ℕ → List Entry → List Link → Type 0
+AllSteps rom words list links = (k : ℕ) (l : Link) → slice_get links k ≡ Some l → IsStep rom words list links l.from l.call
+
+-- each stands in the shape of an earlier one's entry
+abbrev pub IsBackward : List Link → Type 0
+IsBackward links = (k : ℕ) (l : Link) → slice_get links k ≡ Some l → IfSome l.from (λ j. j < k)
+
+-- these calls lead to the entry of the link at this index, wherever each link is a step
+abbrev pub IsTrace : List Link → ℕ → List Call → Type 0
+IsTrace links last calls =
+    (rom : Rom) (words : List ℕ) (list : List Entry) → AllSteps rom words list links
+    → (l : Link) → slice_get links last ≡ Some l → IsChain rom words list calls l.call.entry

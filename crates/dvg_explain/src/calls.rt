@@ -1,0 +1,60 @@
+//! The calls of a frame, and what its items and a certificate's shapes may light at absolute places.
+
+ghost use Rattle.std.specs.Prelude.{◌≡◌, IfOk};
+ghost use Rattle.dvg_words.specs.Memory.{frame_word};
+ghost use Rattle.dvg_items.specs.Known.{frame_context};
+ghost use Rattle.dvg_explain.specs.Calls.{AreCalls, IsExtent, IsShapesExtent};
+
+use crate::items::{Start, calls_from, extent_from};
+use dvg_cert::{Cert, Entries, Entry, LitBox};
+use dvg_items::joined;
+use dvg_words::{FrameImage, RomImage};
+use std::alloc::{AllocError, Global};
+
+/// A call or tail jump: the word address of its item, and the entry that it names.
+#[derive(Clone, Copy, Debug, PartialEq, Eq)]
+pub struct Call {
+    pub at: u16,
+    pub entry: Entry,
+}
+
+/// The calls among a frame's own items, in their order, each with the entry that it names by the certificate (profile). A call that
+/// names none is left out; an accepted frame has no such call. `entries` are those of the certificate.
+pub fn frame_calls<E: Entries>(
+    alloc: Global,
+    cert: &Cert,
+    entries: &E,
+    frame: &FrameImage,
+) -> Result<Vec<Call>, AllocError>
+    requires { E.list entries.now ≡ cert.now.entries }
+    ensures { IfOk result (λ calls. AreCalls (frame_context cert.now.entries) (frame_word frame.now) 0 calls.items) }
+{
+    // Its clause says that the list is that of a certificate.
+    let _entries = cert.entries();
+    calls_from(alloc, frame, entries, &Start::frame())
+}
+
+/// The least box of what a frame's own items may light at absolute places, in 1/1024 of a screen place: both ends of its lit draws,
+/// and the corners of the boxes that it calls, by the certificate's claims (profile). What these shapes light at absolute places is
+/// no part of it. `entries` are those of the certificate. Takes no memory.
+pub fn frame_extent<E: Entries>(cert: &Cert, entries: &E, frame: &FrameImage) -> LitBox
+    requires { E.list entries.now ≡ cert.now.entries }
+    ensures { IsExtent (frame_context cert.now.entries) (frame_word frame.now) 0 result }
+{
+    // Its clause says that the list is that of a certificate.
+    let _entries = cert.entries();
+    extent_from(frame, entries, &Start::frame())
+}
+
+/// The least box of what the shapes of a certificate's entries light at absolute places, in 1/1024 of a screen place, by the
+/// certificate's claims (profile). `entries` are those of the certificate. Each entry's items are gone over once. Takes no memory.
+pub fn shapes_extent<E: Entries>(rom: &RomImage, cert: &Cert, entries: &E) -> LitBox
+    requires { E.list entries.now ≡ cert.now.entries }
+    ensures { IsShapesExtent rom.now cert.now.entries result }
+{
+    let mut lit = LitBox::Empty;
+    for entry in cert.entries() {
+        lit = joined(&lit, &extent_from(rom, entries, &Start::shape(entry)));
+    }
+    lit
+}

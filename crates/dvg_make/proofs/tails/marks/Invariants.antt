@@ -1,0 +1,14 @@
+use Rattle.std.proofs.Common.{◌-◌}
+use Rattle.dvg_cert.specs.Entry.{IsKey}
+use Rattle.dvg_make.specs.Private.Making.{AllWalks}
+use Rattle.dvg_make.proofs.tails.marks.Given as goal
+
+abbrev pub invariant-loop-format : goal.invariant-loop-format
+invariant-loop-format l =
+    record {
+      walks : AllWalks l.rom l.done l.marks.items;
+      scale : IsKey l.scale;
+    }
+
+abbrev pub decreases-loop-format : goal.decreases-loop-format
+decreases-loop-format l = 5000 - l.at

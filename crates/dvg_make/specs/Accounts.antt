@@ -1,0 +1,185 @@
+-- How a shape that can't be made is come to: the shapes on the way to it, the item in it, and why. All of it is profile.
+use Rattle.std.specs.Prelude.{◌≡◌, ◌≢◌, ℕ, ◌+◌, ◌<◌, ◌≤◌, List, [], ◌∷◌, length, Option, Some, None, Contains, slice_get}
+use Rattle.dvg_words.specs.Memory.{Rom, InRom, rom_word}
+use Rattle.dvg_words.specs.Decoding.{cell_at}
+use Rattle.dvg_words.specs.declared.instruction.Instr.TheVariants as instr
+use Rattle.dvg_words.specs.declared.instruction.Cell.TheVariants as cell
+use Rattle.dvg_cert.specs.Entry.{IsKey}
+use Rattle.dvg_cert.specs.Lookup.{entry_at}
+use Rattle.dvg_cert.specs.declared.entry.Entry.{Entry}
+use Rattle.dvg_cert.specs.declared.entry.Key.{Key}
+use Rattle.dvg_cert.specs.declared.limits.TheConstants.{MOST_DEPTH, MOST_ENTRIES, MOST_WORDS}
+use Rattle.dvg_items.specs.Items.{LeadsTo}
+use Rattle.dvg_items.specs.Known.{Context, start, target, callee_at, scale_before, depth_under, known_before}
+use Rattle.dvg_items.specs.Lit.{PlaceKnown, ScaleKnown}
+use Rattle.dvg_items.specs.Seen.{seen_at, seen_with}
+use Rattle.dvg_items.specs.declared.seen.Seen.{Seen}
+use Rattle.dvg_items.specs.declared.item.Item.{Item}
+use Rattle.dvg_items.specs.declared.item.Kind.TheVariants.{Shape}
+use Rattle.dvg_items.specs.declared.known.Known.{Known}
+use Rattle.dvg_make.specs.Made.{HasEntry, AllMade}
+use Rattle.dvg_make.specs.Frames.{FrameCalls}
+use Rattle.dvg_make.specs.Refusals.{EntryFault, FrameCall}
+use Rattle.dvg_make.specs.declared.fault.EntryFault.TheVariants as fault
+pub use Rattle.dvg_make.specs.declared.account.MakeAccount.{MakeAccount}
+pub use Rattle.dvg_make.specs.declared.account.Link.{Link}
+pub use Rattle.dvg_make.specs.declared.account.EntryCause.{EntryCause}
+pub use Rattle.dvg_make.specs.declared.account.EntryCause.TheVariants.{RootOutside, Missing, Odd, Halt, LostPlace, UnknownScale, Ring, Deep, TooManyWords, TooManyEntries, Memory}
+
+-- ---- items of a shape that a list of entries allows
+
+-- the context of the items of a shape that starts at this key
+abbrev pub keyed_context : List Entry → Key → Context
+keyed_context list key = record { kind = Shape; list = list; scale = key }
+
+-- what is asked of an item that is seen: that it is no HALT, and lights only at a known place and scale (profile)
+pub record IsStraight (v : Seen) : Type 0 where
+  pub no_halt : v.item.instr ≢ instr.Halt
+  pub place : PlaceKnown v.extent v.place
+  pub scale : ScaleKnown v.extent
+
+-- the item is as asked, and its target has its entry at the very scale (profile)
+pub record IsFine (c : Context) (earlier : List Item) (i : Item) : Type 0 where
+  pub straight : IsStraight (seen_at c earlier i)
+  pub keyed : (to : ℕ) → target Shape i.instr ≡ Some to → HasEntry c.list to (scale_before c earlier)
+
+-- so is each of these
+abbrev pub AllFine : Context → List Item → Type 0
+AllFine c [] = Unit {0}
+AllFine c (i ∷ earlier) = AllFine c earlier × IsFine c earlier i
+
+-- ---- from shape to shape
+
+-- fine items of the shape at this address and key lead to a place, and this is known there (profile)
+pub record Reaches (rom : Rom) (list : List Entry) (shape : Link) (at : ℕ) (before : Known) : Type 0 where
+  pub items : List Item
+  pub leads : LeadsTo Shape (rom_word rom) shape.addr items at
+  pub fine : AllFine (keyed_context list shape.key) items
+  pub known : before ≡ known_before (keyed_context list shape.key) items
+
+-- the item at this place calls or tail jumps to the shape's address, and its key is the scale that is known there (profile)
+pub record CallsAt (rom : Rom) (at : ℕ) (before : Known) (shape : Link) : Type 0 where
+  pub item : Item
+  pub at_is : item.at ≡ at
+  pub stands : cell_at (rom_word rom) item.at ≡ cell.Holds item.format item.instr
+  pub target_is : target Shape item.instr ≡ Some shape.addr
+  pub key_is : before.scale ≡ shape.key
+
+-- an item of the one shape calls or tail jumps to the other (profile)
+pub record Precedes (rom : Rom) (list : List Entry) (shape next : Link) : Type 0 where
+  pub at : ℕ
+  pub before : Known
+  pub reaches : Reaches rom list shape at before
+  pub calls : CallsAt rom at before next
+
+-- a shape and those of a chain: each calls or tail jumps to the next
+abbrev pub IsLinked : Rom → List Entry → Link → List Link → Type 0
+IsLinked rom list shape [] = Unit {0}
+IsLinked rom list shape (next ∷ chain) = Precedes rom list shape next × IsLinked rom list next chain
+
+-- the last of them
+abbrev pub last_link : Link → List Link → Link
+last_link shape [] = shape
+last_link shape (next ∷ chain) = last_link next chain
+
+-- ---- why
+
+-- what a cause says of an item that is seen, at the scale before it (profile)
+abbrev pub SaysOf : Key → Seen → EntryCause → Type 0
+SaysOf scale v Halt = v.item.instr ≡ instr.Halt
+-- it lights at a lost place
+SaysOf scale v LostPlace = PlaceKnown v.extent v.place → ⊥
+-- it lights at unknown scale, and not at a lost place
+SaysOf scale v UnknownScale = PlaceKnown v.extent v.place × (ScaleKnown v.extent → ⊥)
+-- under the entry for this address and key, which it calls, more places are stored at once than a certificate allows
+SaysOf scale v (Deep to key) = (target Shape v.item.instr ≡ Some to) × (scale ≡ key) × (MOST_DEPTH < depth_under v.item.instr v.callee)
+-- so many words are fetched up to and with it
+SaysOf scale v (TooManyWords words) = (words ≡ v.after.words) × (MOST_WORDS < words)
+SaysOf scale v cause = ⊥
+
+-- the item at a place says so, seen with the entry of the list that it calls (profile)
+pub record SaysAt (rom : Rom) (list : List Entry) (at : ℕ) (before : Known) (cause : EntryCause) : Type 0 where
+  pub item : Item
+  pub at_is : item.at ≡ at
+  pub stands : cell_at (rom_word rom) item.at ≡ cell.Holds item.format item.instr
+  pub keyed : (to : ℕ) → target Shape item.instr ≡ Some to → HasEntry list to before.scale
+  pub says : SaysOf before.scale (seen_with (callee_at list (target Shape item.instr) before.scale) before item) cause
+
+-- no two entries have the same address and key
+abbrev pub IsUnique : List Entry → Type 0
+IsUnique [] = Unit {0}
+IsUnique (e ∷ list) = (entry_at list e.addr e.key ≡ None) × IsUnique list
+
+-- no two of these shapes are the same, and none has an entry yet
+abbrev pub AreUnmade : List Entry → List Link → Type 0
+AreUnmade list [] = Unit {0}
+AreUnmade list (shape ∷ chain) = (entry_at list shape.addr shape.key ≡ None) × (Contains chain shape → ⊥) × AreUnmade list chain
+
+-- the entries of the list and the shapes in the making are so many that there is no room for one more
+pub record IsFull (list : List Entry) (chain : List Link) : Type 0 where
+  pub unique : IsUnique list
+  pub unmade : AreUnmade list chain
+  pub many : MOST_ENTRIES ≤ length list + length chain
+
+-- what a cause says of a place in the last shape of a chain (profile)
+abbrev pub CauseAt : Rom → List Entry → List Link → ℕ → Known → EntryCause → Type 0
+CauseAt rom list chain at before RootOutside = ⊥
+CauseAt rom list chain at before Missing = cell_at (rom_word rom) at ≡ cell.Missing
+CauseAt rom list chain at before Odd = cell_at (rom_word rom) at ≡ cell.Odd
+-- the item calls the shape of the chain at this index
+CauseAt rom list chain at before (Ring from) = (shape : Link) × (slice_get chain from ≡ Some shape) × CallsAt rom at before shape
+-- the item calls what has no entry yet, and there is no room for it
+CauseAt rom list chain at before TooManyEntries = (shape : Link) × CallsAt rom at before shape × (entry_at list shape.addr shape.key ≡ None) × IsFull list chain
+CauseAt rom list chain at before Memory = Unit {0}
+CauseAt rom list chain at before cause = SaysAt rom list at before cause
+
+-- what a cause says of what is asked for itself, which was not begun (profile)
+abbrev pub CauseOf : Rom → List Entry → Link → EntryCause → Type 0
+CauseOf rom list asked RootOutside = InRom rom.map asked.addr × IsKey asked.key → ⊥
+CauseOf rom list asked TooManyEntries = (entry_at list asked.addr asked.key ≡ None) × IsFull list []
+CauseOf rom list asked Memory = Unit {0}
+CauseOf rom list asked cause = ⊥
+
+-- what is told of an entry that is asked for: the chain begins with it, and by this list its shapes are linked, and what is told
+-- of the place in the last one is so; where there is no chain, it was not begun, and the place is its own (profile)
+abbrev pub Tells : Rom → List Entry → Link → List Link → ℕ → Known → EntryCause → Type 0
+Tells rom list asked [] at before cause = (at ≡ asked.addr) × (before ≡ start Shape asked.key) × CauseOf rom list asked cause
+Tells rom list asked (shape ∷ chain) at before cause =
+    (shape ≡ asked) × IsLinked rom list shape chain × Reaches rom list (last_link shape chain) at before
+    × CauseAt rom list (shape ∷ chain) at before cause
+
+-- ---- what was asked for
+
+-- a root, or what the item of the frame calls that the refusal names, at the scale that is known there by this list (profile)
+abbrev pub IsNamedBy : List (ℕ × Key) → List (List ℕ) → List Entry → Option FrameCall → Link → Type 0
+IsNamedBy roots frames list None asked = Contains roots (asked.addr, asked.key)
+IsNamedBy roots frames list (Some call) asked =
+    (words : List ℕ) × (slice_get frames call.frame ≡ Some words)
+    × ((calls : FrameCalls words list asked.addr asked.key) × (calls.item.at ≡ call.at))
+
+-- all that is told of a refusal: it is so by a list of made entries (profile)
+pub record IsTold (rom : Rom) (roots : List (ℕ × Key)) (frames : List (List ℕ)) (call : Option FrameCall) (chain : List Link) (at : ℕ) (before : Known) (cause : EntryCause) : Type 0 where
+  pub list : List Entry
+  pub made : AllMade rom list
+  pub asked : Link
+  pub named : IsNamedBy roots frames list call asked
+  pub tells : Tells rom list asked chain at before cause
+
+-- unless memory was out
+abbrev pub UnlessMemory : EntryCause → Type 0 → Type 0
+UnlessMemory Memory T = Unit {0}
+UnlessMemory cause T = T
+
+-- what an account tells; where memory was out, nothing (profile)
+abbrev pub IsAccount : Rom → List (ℕ × Key) → List (List ℕ) → MakeAccount → Type 0
+IsAccount rom roots frames a =
+    UnlessMemory a.cause (IsTold rom roots frames a.fault.call a.chain.items a.at a.before a.cause)
+
+-- the refusal by a cause at a place (profile)
+abbrev pub entry_fault : ℕ → EntryCause → EntryFault
+entry_fault at (Ring from) = fault.Deep
+entry_fault at (Deep to key) = fault.Deep
+entry_fault at (TooManyWords words) = fault.TooManyWords
+entry_fault at TooManyEntries = fault.TooManyEntries
+entry_fault at Memory = fault.Memory
+entry_fault at cause = fault.Unstraight at

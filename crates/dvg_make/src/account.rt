@@ -1,0 +1,153 @@
+//! Why an entry can't be made, told in full.
+
+ghost use Rattle.std.specs.Prelude.{◌≡◌, ◌⊎◌, IfOk, IfErr};
+ghost use Rattle.dvg_make.specs.Frames.{FramesMade};
+ghost use Rattle.dvg_make.specs.Refusals.{FramesRefuse};
+ghost use Rattle.dvg_make.specs.Accounts.{entry_fault, Memory, IsAccount};
+ghost use Rattle.dvg_make.specs.Private.Making.{TellsIt, TellsMemory};
+
+use crate::fault::{EntryFault, FramesFault};
+use crate::maker::{certificate_of, make_all};
+use crate::stuck::FramesStuck;
+use dvg_cert::{Cert, Key};
+use dvg_items::{Kind, Known};
+use dvg_words::{FrameImage, RomImage};
+use std::alloc::{AllocError, Global};
+
+/// A shape on the way to a refusal: its word address, and the scale at which it is called, `Any` where it is not known.
+#[derive(Clone, Copy, Debug, PartialEq, Eq)]
+pub struct Link {
+    pub addr: u16,
+    pub key: Key,
+}
+
+/// Why an entry can't be made, in numbers.
+#[derive(Clone, Copy, Debug, PartialEq, Eq)]
+pub enum EntryCause {
+    /// 60: the root is outside the ROM, or its scale is over 15.
+    RootOutside,
+    /// 60: a word of the item is outside the ROM.
+    Missing,
+    /// 60: the item is an odd LABS.
+    Odd,
+    /// 60: the item is HALT.
+    Halt,
+    /// 60: the item lights at a lost place.
+    LostPlace,
+    /// 60: the item lights at unknown scale.
+    UnknownScale,
+    /// 61: the item calls or tail jumps to the shape of the chain at this index, counted from 0, the outermost.
+    Ring { from: usize },
+    /// 61: the item calls the entry for this address and scale, which stores three return places at once already.
+    Deep { to: u16, scale: Key },
+    /// 62: so many words are fetched up to and with the item.
+    TooManyWords { words: u32 },
+    /// 62: the item calls what would be the 4,097th entry.
+    TooManyEntries,
+    /// 63: there was no memory.
+    Memory,
+}
+
+impl EntryCause {
+    /// The refusal by this cause at a word address.
+    pub fn fault(self, at: u16) -> EntryFault
+        ensures { result ≡ entry_fault at self }
+    {
+        match self {
+            EntryCause::RootOutside
+            | EntryCause::Missing
+            | EntryCause::Odd
+            | EntryCause::Halt
+            | EntryCause::LostPlace
+            | EntryCause::UnknownScale => EntryFault::Unstraight { word: at },
+            EntryCause::Ring { .. } | EntryCause::Deep { .. } => EntryFault::Deep,
+            EntryCause::TooManyWords { .. } => EntryFault::TooManyWords,
+            EntryCause::TooManyEntries => EntryFault::TooManyEntries,
+            EntryCause::Memory => EntryFault::Memory,
+        }
+    }
+}
+
+impl From<AllocError> for EntryCause {
+    ghost from_gives = { λ _ cause. cause ≡ Memory };
+
+    fn from(_error: AllocError) -> EntryCause {
+        EntryCause::Memory
+    }
+}
+
+/// A refusal of [`make_for_frames`](crate::make_for_frames) told in full.
+///
+/// The chain has the shapes on the way to the one that can't be made: the first is the root or what the frame calls, and each
+/// calls or tail jumps to the next. In the last of them stands, at `at`, the item by which it can't be made, and `before` is known
+/// there. The chain is empty where the entry that is asked for is not even begun: then `at` is its address, and `before` what is
+/// known before its first item. Where memory was out, only the fault counts.
+#[derive(Drop)]
+pub struct MakeAccount {
+    pub fault: FramesFault,
+    pub chain: Vec<Link>,
+    pub at: u16,
+    pub before: Known,
+    pub cause: EntryCause,
+}
+
+/// What is told where memory was out.
+fn out_of_memory(alloc: Global) -> MakeAccount
+    ensures { TellsMemory result }
+{
+    MakeAccount {
+        fault: FramesFault {
+            call: None,
+            why: EntryFault::Memory,
+        },
+        chain: Vec::new(alloc),
+        at: 0,
+        before: Known::start(Kind::Shape, Key::Any),
+        cause: EntryCause::Memory,
+    }
+}
+
+/// What is told of a refusal.
+fn account_of(alloc: Global, refusal: &FramesStuck) -> MakeAccount
+    ensures { TellsIt refusal.now result ⊎ TellsMemory result }
+{
+    let stop = refusal.stuck.stop;
+    match refusal.stuck.chain.links(alloc) {
+        Ok(chain) => MakeAccount {
+            fault: refusal.fault(),
+            chain,
+            at: stop.cursor.at,
+            before: stop.cursor.known,
+            cause: stop.cause,
+        },
+        Err(_) => out_of_memory(alloc),
+    }
+}
+
+/// Makes what [`make_for_frames`](crate::make_for_frames) makes, or tells in full why not: with its refusal the shapes on the way
+/// to the one that can't be made, the item in it, what is known before it, and the cause in numbers (profile).
+///
+/// All of it is so by the entries that were made so far, and so by each list of made entries that has them. Where memory was out,
+/// also for the account itself, it is 63 and tells no more. Takes memory as `make_for_frames` does, and for the chain.
+pub fn explain_making(
+    alloc: Global,
+    rom: &RomImage,
+    roots: &[(u16, Key)],
+    frames: &[FrameImage],
+) -> Result<Cert, MakeAccount>
+    ensures ok { IfOk result (λ cert. FramesMade rom.now roots.now frames.now cert.entries) }
+    ensures map { IfOk result (λ cert. cert.map ≡ rom.now.map) }
+    ensures err { IfErr result (λ account. FramesRefuse rom.now roots.now frames.now account.fault) }
+    ensures why { IfErr result (λ account. account.fault.why ≡ entry_fault account.at account.cause) }
+    ensures chain { IfErr result (IsAccount rom.now roots.now frames.now) }
+{
+    let map = rom.map();
+    let done = match make_all(alloc, rom, roots, frames) {
+        Ok(done) => done,
+        Err(refusal) => return Err(account_of(alloc, &refusal)),
+    };
+    match certificate_of(alloc, map, done) {
+        Ok(cert) => Ok(cert),
+        Err(_) => Err(out_of_memory(alloc)),
+    }
+}
