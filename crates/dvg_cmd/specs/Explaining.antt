@@ -1,17 +1,20 @@
 -- What a run writes that explains its answer: the line of the answer, and behind it some account. All of it is profile.
-use Rattle.std.specs.Prelude.{◌≡◌, ◌⊎◌, ℕ, List, ◌++◌, codes, Option, Result, Ok}
+use Rattle.std.specs.Prelude.{◌≡◌, ◌⊎◌, ℕ, List, ◌++◌, length, codes, decimal, Option, Result, Ok, Err}
 use Rattle.std.specs.Io.KnownBytes.{Appends}
-use Rattle.dvg_words.specs.Values.{Window}
+use Rattle.dvg_words.specs.Values.{Window, MemoryMap}
+use Rattle.dvg_cert.specs.declared.entry.Entry.{Entry}
+use Rattle.dvg_cert.specs.declared.entry.Key.{Key}
 use Rattle.dvg_cert.specs.Devices.{AppendsPrefix}
 use Rattle.dvg_check.specs.declared.verdict.Yes.{Yes}
 use Rattle.dvg_check.specs.declared.verdict.Refusal.{Refusal}
 use Rattle.dvg_check.specs.declared.fault.Mode.{Mode}
 use Rattle.dvg_make.specs.declared.judging.FrameRefusal.{FrameRefusal}
 use Rattle.dvg_cmd.specs.Report.{report_text}
-use Rattle.dvg_cmd.specs.Status.{worse}
+use Rattle.dvg_cmd.specs.Status.{worse, frames_message}
+use Rattle.dvg_cmd.specs.MakingFrames.{FramesRunFault, MakesForFrames}
 use Rattle.dvg_cmd.specs.Frames.{FrameAnswer, FrameOutcome, AnswerMeans, frame_outcome_of, frame_line}
 use Rattle.dvg_cmd.specs.declared.judging.FrameOutcome.TheVariants as outcome
-use Rattle.dvg_cmd.specs.Runs.{Outcome, NoMemory, outcome_of, IsReadFor, Judges, SafeRead, CountsRead}
+use Rattle.dvg_cmd.specs.Runs.{Outcome, Accepted, Refused, NoMemory, outcome_of, IsReadFor, Judges, SafeRead, CountsRead}
 
 -- what stands in the place of an account where there was no memory for it
 abbrev pub no_account : List ℕ
@@ -95,3 +98,40 @@ pub record ExplainsFramePrefix
   pub answer : FrameAnswer
   pub means : AnswerMeans IsVerdict start frame left answer
   pub explained : AnswerExplainedPrefix name answer old new
+
+-- ---- what the maker comes to
+
+-- the list that is made for all bytes that readers held, of a ROM at this map and of frames, has so many entries
+pub record MakesEntries
+    (rom : Option (List ℕ)) (map : MemoryMap) (roots : List (ℕ × Key)) (frames : List (Option (List ℕ))) (count : ℕ) : Type 0 where
+  pub list : List Entry
+  pub made : MakesForFrames rom map roots frames list
+  pub count_is : count ≡ length list
+
+-- how many entries are made, or what `make` says of why none are
+abbrev pub make_answer_text : Result ℕ FramesRunFault → List ℕ
+make_answer_text (Ok entries) = codes "made entries=" ++ decimal entries
+make_answer_text (Err fault) = frames_message fault
+
+-- the line, from behind the name of the frame on that is to blame
+abbrev pub make_line_text : Result ℕ FramesRunFault → List ℕ
+make_line_text made = make_answer_text made ++ codes "\n"
+
+-- the whole line
+abbrev pub make_line : List ℕ → Result ℕ FramesRunFault → List ℕ
+make_line name made = name ++ make_line_text made
+
+abbrev pub make_outcome_of : Result ℕ FramesRunFault → Outcome
+make_outcome_of (Ok entries) = Accepted
+make_outcome_of (Err fault) = Refused
+
+-- the line and an account were written, and nothing else; the outcome is the line's, or that there was no memory for the account
+pub record MakeExplained (name : List ℕ) (made : Result ℕ FramesRunFault) (old new : Option (List ℕ)) (outcome : Outcome) : Type 0 where
+  pub account : List ℕ
+  pub written : Appends old new (make_line name made ++ account)
+  pub outcome_is : (outcome ≡ make_outcome_of made) ⊎ ((outcome ≡ NoMemory) × (account ≡ no_account))
+
+-- a prefix of them was written, and nothing else
+pub record MakeExplainedPrefix (name : List ℕ) (made : Result ℕ FramesRunFault) (old new : Option (List ℕ)) : Type 0 where
+  pub account : List ℕ
+  pub written : AppendsPrefix old new (make_line name made ++ account)

@@ -56,6 +56,34 @@ pub enum Account {
     Making(MakingAccount),
     /// Of what is accepted.
     Accepted(AcceptedAccount),
+    /// Of a certificate that is made.
+    Made(MadeAccount),
+}
+
+/// What is told of a certificate that is made: how many entries it has, the most words that one of them takes, and the most return
+/// places that one stores at once.
+#[derive(Clone, Copy)]
+pub struct MadeAccount {
+    pub entries: usize,
+    pub words: u32,
+    pub depth: u8,
+}
+
+impl MadeAccount {
+    /// That of this certificate.
+    pub fn of(cert: &Cert) -> MadeAccount {
+        let entries = cert.entries();
+        let mut account = MadeAccount {
+            entries: entries.len(),
+            words: 0,
+            depth: 0,
+        };
+        for entry in entries {
+            account.words = account.words.max(entry.words);
+            account.depth = account.depth.max(entry.depth);
+        }
+        account
+    }
 }
 
 /// What is told of what is accepted: its counts and the budget, the calls of the frame, and the least boxes of what its own items

@@ -1,5 +1,8 @@
 //! The item of an account: where it stands, what it is, what is known before it, and the zeros that lead to it.
 
+ghost use Rattle.std.specs.Prelude.{◌<◌, IfSome};
+ghost use Rattle.dvg_words.specs.declared.map.TheConstants.{ADDRESS_END};
+
 use crate::account_numbers::{Claims, Place, Scale};
 use dvg_cert::Entry;
 use dvg_check::Found;
@@ -35,7 +38,7 @@ pub struct ItemAccount {
     fields: Option<Fields>,
     callee: Option<Entry>,
     before: Known,
-    zeros: Option<Zeros>,
+    way: Way,
 }
 
 impl ItemAccount {
@@ -54,7 +57,7 @@ impl ItemAccount {
             fields: fields_at(words, at),
             callee,
             before,
-            zeros: zeros_to(words, kind, first, at),
+            way: way_to(words, kind, first, at),
         }
     }
 }
@@ -100,37 +103,53 @@ fn are_zeros<F: Fetch>(words: &F, at: u16) -> bool {
     matches!(words_at(words, at), Words::One(0) | Words::Two(0, 0))
 }
 
-/// The zeros that lead to the item at a word address, among the items that begin at another, or that are its own words.
-fn zeros_to<F: Fetch>(words: &F, kind: Kind, first: u16, at: u16) -> Option<Zeros> {
-    let mut here = first;
+/// What leads to an item: the item right before it, and the zeros, where there are some.
+#[derive(Clone, Copy)]
+struct Way {
+    last: Option<Item>,
+    zeros: Option<Zeros>,
+}
+
+/// What leads to the item at a word address, among the items that begin at another. Zeros may be its own words, too.
+fn way_to<F: Fetch>(words: &F, kind: Kind, first: u16, at: u16) -> Way {
+    let mut here = Some(first);
+    let mut last = None;
     let mut before = None;
     let mut from = None;
     for _ in 0..MOST_ITEMS {
-        if here >= at {
+        let Some(item) = item_below(words, here, at) else {
             break;
-        }
-        let Cell::Holds { format, instr } = read_cell(words, here) else {
-            return None;
         };
-        let item = Item {
-            at: here,
-            format,
-            instr,
-        };
-        if !are_zeros(words, here) {
+        if !are_zeros(words, item.at) {
             before = Some(item);
             from = None;
         } else if from.is_none() {
-            from = Some(here);
+            from = Some(item.at);
         }
-        here = item.next_place(kind)?;
+        last = Some(item);
+        here = item.next_place(kind);
     }
     let own = if are_zeros(words, at) { Some(at) } else { None };
-    Some(Zeros {
-        first: from.or(own)?,
+    let zeros = from.or(own).map(|first| Zeros {
+        first,
         last: last_zero(words, at),
         before,
-    })
+    });
+    Way { last, zeros }
+}
+
+/// The item at this word address, where one stands there and the address is below another.
+fn item_below<F: Fetch>(words: &F, here: Option<u16>, end: u16) -> Option<Item>
+    ensures { IfSome result (λ item. item.at < ADDRESS_END) }
+{
+    let at = here?;
+    if at >= end {
+        return None;
+    }
+    match read_cell(words, at) {
+        Cell::Holds { format, instr } => Some(Item { at, format, instr }),
+        _ => None,
+    }
 }
 
 /// The last word of the zeros that lead to the item at a word address: its own last one where it is of zeros, or the one before it.
@@ -147,6 +166,16 @@ fn last_zero<F: Fetch>(words: &F, at: u16) -> u16 {
 struct Fields {
     format: Format,
     instr: Instr,
+}
+
+impl Fields {
+    /// Those of an item.
+    fn of(item: &Item) -> Fields {
+        Fields {
+            format: item.format,
+            instr: item.instr,
+        }
+    }
 }
 
 impl fmt::Display for Fields {
@@ -195,15 +224,34 @@ pub fn push_item(text: &mut String, item: &ItemAccount) -> Result<(), AllocError
     writeln!(text, "item: {at:03X}, processor address {address:04X}")?;
     push_words(text, item.words)?;
     push_instruction(text, item)?;
+    push_way(text, item)?;
     let place = Place(item.before.place);
     let scale = Scale(item.before.scale);
     let words = item.before.words;
     writeln!(text, "place before: {place}")?;
     writeln!(text, "scale before: {scale}")?;
     writeln!(text, "words before: {words}")?;
-    match &item.zeros {
+    match &item.way.zeros {
         Some(zeros) => push_zeros(text, zeros),
         None => Ok(()),
+    }
+}
+
+/// Adds the item that goes on to a missing one, unless it is one of zeros.
+fn push_way(text: &mut String, item: &ItemAccount) -> Result<(), AllocError> {
+    match (item.words, item.way) {
+        (
+            Words::Nothing,
+            Way {
+                last: Some(last),
+                zeros: None,
+            },
+        ) => {
+            let at = last.at;
+            let fields = Fields::of(&last);
+            writeln!(text, "comes from: {at:03X} {fields}")
+        }
+        _ => Ok(()),
     }
 }
 
@@ -240,10 +288,7 @@ fn push_zeros(text: &mut String, zeros: &Zeros) -> Result<(), AllocError> {
     match before {
         Some(item) => {
             let at = item.at;
-            let fields = Fields {
-                format: item.format,
-                instr: item.instr,
-            };
+            let fields = Fields::of(&item);
             writeln!(text, "before zeros: {at:03X} {fields}")
         }
         None => text.push_str("before zeros: none\n"),

@@ -56,7 +56,7 @@ pub fn push_making_why(text: &mut String, making: &MakingAccount) -> Result<(), 
         }
         EntryCause::Odd => writeln!(text, "why: {}", making.odd),
         EntryCause::Halt => writeln!(text, "why: {HALT_IN_SHAPE}"),
-        EntryCause::LostPlace => text.push_str("why: it lights at a lost place\n"),
+        EntryCause::LostPlace => text.push_str("why: it draws lit at a lost place\n"),
         EntryCause::UnknownScale => writeln!(text, "why: {UNKNOWN_SCALE}"),
         EntryCause::Ring { from } => push_ring_why(text, &making.account.chain, from),
         EntryCause::Deep { to, scale } => {

@@ -5,10 +5,16 @@ use crate::account_making::MakingAccount;
 use crate::account_text::text_of;
 use dvg_cert::Cert;
 use dvg_check::{Mode, Yes};
-use dvg_make::{EntryCause, FrameRefusal, explain_making};
+use dvg_make::{EntryCause, EntryFault, FrameRefusal, explain_making};
 use dvg_words::{FrameImage, RomImage, RomMap, Window};
 use std::alloc::{AllocError, Global};
 use std::slice;
+
+/// The account of a frame for whose certificate there was no memory.
+const NO_MEMORY: Account = Account::Plain {
+    number: 63,
+    why: PlainWhy::Nothing,
+};
 
 /// What the maker comes to for a frame.
 #[derive(Drop)]
@@ -46,6 +52,16 @@ fn own_account(
     window: Window,
     verdict: &Result<Yes, FrameRefusal>,
 ) -> Result<Account, AllocError> {
+    if let Err(
+        FrameRefusal::NoMemory
+        | FrameRefusal::Make {
+            why: EntryFault::Memory,
+            ..
+        },
+    ) = verdict
+    {
+        return Ok(NO_MEMORY);
+    }
     let made = match making_of(alloc, rom, map, frame) {
         Ok(Making::Unasked) => None,
         Ok(Making::Made(cert)) => Some(cert),
@@ -112,9 +128,6 @@ pub fn frame_account(
     match verdict {
         Ok(yes) => Account::of_verdict(alloc, inputs, &Ok(*yes)),
         Err(FrameRefusal::Check(refusal)) => Account::of_verdict(alloc, inputs, &Err(*refusal)),
-        Err(_) => Ok(Account::Plain {
-            number: 63,
-            why: PlainWhy::Nothing,
-        }),
+        Err(_) => Ok(NO_MEMORY),
     }
 }

@@ -1,12 +1,12 @@
 //! The text of an account, line by line.
 
-use crate::account::{AcceptedAccount, Account, Chain, Inputs, PlainWhy};
+use crate::account::{AcceptedAccount, Account, Chain, Inputs, MadeAccount, PlainWhy};
 use crate::account_item::push_item;
 use crate::account_making::{push_making, push_making_why};
 use crate::account_numbers::{Claims, Distance, Name, Within};
 use crate::account_why::{Addresses, FrameWhyText, ShapeWhyText};
 use crate::rules::rule_of;
-use dvg_cert::LitBox;
+use dvg_cert::{LitBox, MOST_DEPTH, MOST_ENTRIES, MOST_WORDS};
 use dvg_check::{Refusal, Yes};
 use dvg_explain::{Call, Margins};
 use dvg_words::Window;
@@ -86,6 +86,7 @@ fn push_account(text: &mut String, account: &Account) -> Result<(), AllocError> 
             push_cure(text, making.number())
         }
         Account::Accepted(accepted) => push_accepted(text, accepted),
+        Account::Made(made) => push_made(text, made),
     }
 }
 
@@ -173,6 +174,18 @@ fn push_accepted(text: &mut String, accepted: &AcceptedAccount) -> Result<(), Al
     push_calls(text, &accepted.calls)?;
     push_lights(text, Lighting::Frame, &accepted.frame, &accepted.window)?;
     push_lights(text, Lighting::Shapes, &accepted.shapes, &accepted.window)
+}
+
+/// Adds what is told of a certificate that is made, beside its limits.
+fn push_made(text: &mut String, made: &MadeAccount) -> Result<(), AllocError> {
+    let MadeAccount {
+        entries,
+        words,
+        depth,
+    } = *made;
+    writeln!(text, "entries: {entries} of {MOST_ENTRIES}")?;
+    writeln!(text, "words: at most {words} of {MOST_WORDS}")?;
+    writeln!(text, "return places: at most {depth} of {MOST_DEPTH}")
 }
 
 /// Adds the calls of a frame.

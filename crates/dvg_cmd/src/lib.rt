@@ -13,6 +13,7 @@ mod account_text;
 mod account_why;
 mod explaining;
 mod explaining_frames;
+mod explaining_make;
 mod judging;
 mod making;
 mod making_frames;
@@ -40,13 +41,16 @@ pub use explaining::run_explain_check;
 pub use explaining_frames::{
     run_explain_frame, run_explain_frame_over, run_explain_refusal, run_explain_unopened,
 };
+pub use explaining_make::{MakeAnswer, run_explain_make, write_make_answer};
 pub use judging::{
     FrameAnswer, FrameOutcome, load_cert, load_rom, run_frame, run_frame_over, run_refusal,
     run_unopened,
 };
 pub use making::{MakeRunFault, map_of, root_of, run_make};
 pub use making_frames::{FramesRunFault, run_make_frames};
-pub use report::{Report, frame_report_of, make_frames_report_of, make_report_of, report_of};
+pub use report::{
+    Report, frame_report_of, make_frames_report_of, make_line_of, make_report_of, report_of,
+};
 pub use rules::{Rule, all_rules, rule_of, run_rule, run_rules};
 pub use running::{Outcome, RunFault, run_check};
 pub use start::start_of;

@@ -106,10 +106,10 @@ impl<T: Drop> From<AllocFailed<T>> for FramesRunFault {
 }
 
 /// What was read of a frame.
-type FrameBytes = ArrayVec<u8, 2049>;
+pub type FrameBytes = ArrayVec<u8, 2049>;
 
 /// What is read of each frame.
-fn read_frames<R: CountedRead>(
+pub fn read_frames<R: CountedRead>(
     alloc: Global,
     frames: &mut [R],
 ) -> Result<Vec<FrameBytes>, FramesRunFault>
@@ -129,7 +129,7 @@ fn read_frames<R: CountedRead>(
 }
 
 /// The images of what was read of frames.
-fn images_of(alloc: Global, read: &[FrameBytes]) -> Result<Vec<FrameImage<'_>>, FramesRunFault>
+pub fn images_of(alloc: Global, read: &[FrameBytes]) -> Result<Vec<FrameImage<'_>>, FramesRunFault>
     ensures frames { OnOk result (AreFrames (of_each (λ bytes. bytes.items) read.now)) }
     ensures images { IfOk result (λ images. images.items ≡ of_each words_of (of_each (λ bytes. bytes.items) read.now)) }
     ensures refused { IfErr result (RefusesLengths (of_each (λ bytes. bytes.items) read.now)) }

@@ -2,6 +2,7 @@
 
 ghost use Rattle.std.specs.Prelude.{◌≡◌, ◌+◌, ◌≤◌, ◌<◌, ◌++◌, [], length, codes, decimal};
 ghost use Rattle.dvg_cert.specs.Grammar.{key_token};
+ghost use Rattle.dvg_cmd.specs.Explaining.{make_line_text};
 ghost use Rattle.dvg_cmd.specs.Status.{fault_message, make_message, frames_message};
 ghost use Rattle.dvg_cmd.specs.Report.{report_text, verdict_text, accepted_text, refusal_text, cert_fault_text, shape_fault_text, frame_fault_text, hex_digit, hex_address, call_fault_text, frame_refusal_text, answer_text, frame_line_text};
 
@@ -126,6 +127,21 @@ pub fn make_frames_report_of(fault: &FramesRunFault) -> Report
 {
     let mut report = Report::new();
     push_frames_fault(&mut report, fault);
+    report.end_line();
+    report
+}
+
+/// The line of what the maker comes to, with its LF: how many entries it makes, or the line of why it makes none. 64 bytes at most.
+/// Takes no memory.
+pub fn make_line_of(made: &Result<u32, FramesRunFault>) -> Report
+    ensures text { result ≡ make_line_text made.now }
+    ensures short { length result ≤ 64 }
+{
+    let mut report = Report::new();
+    match made {
+        Ok(entries) => report.push_count(b"made entries=", *entries),
+        Err(fault) => push_frames_fault(&mut report, fault),
+    }
     report.end_line();
     report
 }

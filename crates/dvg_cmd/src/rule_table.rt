@@ -8,7 +8,7 @@ pub const ROM_LENGTH: Rule = Rule {
     line: "refused 1",
     heading: "Shortest input",
     input: "an empty ROM file",
-    cure: "dump the whole vector ROM, and nothing else; see that the certificate is for a ROM that lies there",
+    cure: "dump the whole vector ROM, and nothing else; see that the certificate is for a ROM that lies there, or name its addresses by `--rom`",
 };
 
 pub const FRAME_LENGTH: Rule = Rule {
@@ -107,7 +107,7 @@ pub const SHAPE_ODD_LABS: Rule = Rule {
     line: "refused 21 shape 800/0 at 800",
     heading: "Shortest input (words of the ROM; entry)",
     input: "`A400`",
-    cure: "LABS takes places of 0 to 1023",
+    cure: "give the LABS places of 0 to 1023, which leave bits 11 and 10 of both words clear",
 };
 
 pub const SHAPE_HALT: Rule = Rule {
@@ -143,7 +143,7 @@ pub const SHAPE_OUTSIDE_WINDOW: Rule = Rule {
     line: "refused 25 shape 800/0 at 802",
     heading: "Shortest input (words of the ROM; entry)",
     input: "`A000 0000 F510`; `words 2`",
-    cure: "move the place of the LABS, or draw smaller; claim the least box for what is called",
+    cure: "move the place of the LABS, or draw smaller; claim the least box for what is called; or give a wider `--window`",
 };
 
 pub const SHAPE_NO_ENTRY: Rule = Rule {
@@ -224,7 +224,7 @@ pub const FRAME_MISSING: Rule = Rule {
     line: "refused 40 frame at 000",
     heading: "Shortest input",
     input: "`0000`",
-    cure: "end the list with HALT (`B000`); save enough of vector RAM; jump inside the frame only",
+    cure: "end the list with HALT (`B000`); save enough of vector RAM; jump inside the frame only, and call what is in the ROM",
 };
 
 pub const FRAME_ODD_LABS: Rule = Rule {
@@ -233,7 +233,7 @@ pub const FRAME_ODD_LABS: Rule = Rule {
     line: "refused 41 frame at 000",
     heading: "Shortest input",
     input: "`A400 0000`",
-    cure: "LABS takes places of 0 to 1023",
+    cure: "give the LABS places of 0 to 1023, which leave bits 11 and 10 of both words clear",
 };
 
 pub const FRAME_RETURN: Rule = Rule {
@@ -278,7 +278,7 @@ pub const FRAME_OUTSIDE_WINDOW: Rule = Rule {
     line: "refused 46 frame at 002",
     heading: "Shortest input",
     input: "`A000 0000 F510`",
-    cure: "move the place, or draw a smaller size or scale; claim the least box; dark moves may leave the window",
+    cure: "move the place, or draw a smaller size or scale; claim the least box; or give a wider `--window`; dark moves may leave it",
 };
 
 pub const FRAME_NO_ENTRY: Rule = Rule {
@@ -296,7 +296,7 @@ pub const FRAME_OVER_BUDGET: Rule = Rule {
     line: "refused 48 frame at 000",
     heading: "Shortest input",
     input: "`0000 0000` with `--budget 1`",
-    cure: "shorten the list, claim the least words, or allow more words",
+    cure: "shorten the list, claim the least words, or allow more words by `--budget`",
 };
 
 pub const BUDGET_RANGE: Rule = Rule {
@@ -319,11 +319,11 @@ pub const INDEX_MEMORY: Rule = Rule {
 
 pub const MAKER_NO_SHAPE: Rule = Rule {
     number: 60,
-    meaning: "the item is missing, odd or HALT, or it lights something at unknown scale; or a root has this address, outside the ROM",
+    meaning: "the item is missing, odd or HALT, or it lights something at a lost place or at unknown scale; or a root has this address, outside the ROM",
     line: "refused 60 at C00",
     heading: "Shortest input (words of the ROM; roots)",
     input: "zeros; `800/0`",
-    cure: "end each shape with RTSL, or with JMPL to another shape; name the scales at which a shape is called, in place of `any`",
+    cure: "end each shape with RTSL, or with JMPL to another shape; call what is in the ROM; put a LABS before the call, or name the scales at which the shape is called, in place of `any`",
 };
 
 pub const MAKER_DEPTH: Rule = Rule {

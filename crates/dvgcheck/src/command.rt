@@ -92,6 +92,7 @@ pub enum Request<'a> {
 pub enum Explained<'a> {
     Check(CheckWords<'a>),
     Frames(FramesWords<'a>),
+    Make(MakeWords<'a>),
 }
 
 /// What `--version` says behind the program's name: its version, and with what it is proved.
@@ -282,7 +283,8 @@ fn check_command<'a>(alloc: Global) -> Result<Command<'a>, AllocError> {
         .arg(exact)
 }
 
-fn make_command<'a>(alloc: Global) -> Result<Command<'a>, AllocError> {
+/// The command with the words of `make` that say what is made.
+fn make_arguments<'a>(alloc: Global, command: Command<'a>) -> Result<Command<'a>, AllocError> {
     let roots = Arg::new(alloc, "ROOT")
         .help(
             "A shape that a program calls: its address, a slash, and a scale of 0 to 15 or any, as 800/0",
@@ -294,6 +296,18 @@ fn make_command<'a>(alloc: Global) -> Result<Command<'a>, AllocError> {
         .value_name("FRAME")
         .action(ArgAction::Append)
         .help("A frame, whose calls are roots, too");
+    command
+        .after_help(INPUT_HELP)
+        .arg(needed(alloc, "ROM", ROM_HELP))?
+        .arg(roots)?
+        .arg(frame)?
+        .arg(map_option(alloc))
+}
+
+fn make_command<'a>(alloc: Global) -> Result<Command<'a>, AllocError> {
+    let command = Command::new(alloc, "make").about(
+        "Prints the certificate of shapes of a vector ROM, and of all that they call",
+    );
     let output = Arg::new(alloc, "output")
         .short('o')
         .long("output")
@@ -301,14 +315,7 @@ fn make_command<'a>(alloc: Global) -> Result<Command<'a>, AllocError> {
         .help(
             "Writes the certificate to this file, which keeps what it holds until the new one is whole",
         );
-    Command::new(alloc, "make")
-        .about("Prints the certificate of shapes of a vector ROM, and of all that they call")
-        .after_help(INPUT_HELP)
-        .arg(needed(alloc, "ROM", ROM_HELP))?
-        .arg(roots)?
-        .arg(frame)?
-        .arg(map_option(alloc))?
-        .arg(output)
+    make_arguments(alloc, command)?.arg(output)
 }
 
 /// What stands behind the words of a command that is explained.
@@ -321,6 +328,13 @@ fn explain_frames_command<'a>(alloc: Global) -> Result<Command<'a>, AllocError> 
     frames_arguments(alloc, command, needed(alloc, "FRAME", FRAME_HELP))
 }
 
+fn explain_make_command<'a>(alloc: Global) -> Result<Command<'a>, AllocError> {
+    let command = Command::new(alloc, "make").about(
+        "Explains what certificate is made of shapes of a vector ROM, or why none, and writes none",
+    );
+    make_arguments(alloc, command)
+}
+
 fn explain_command<'a>(alloc: Global) -> Result<Command<'a>, AllocError> {
     Command::new(alloc, "explain")
         .about(
@@ -330,7 +344,8 @@ fn explain_command<'a>(alloc: Global) -> Result<Command<'a>, AllocError> {
         .subcommand_required(true)
         .arg_required_else_help(true)
         .subcommand(explain_frames_command(alloc)?)?
-        .subcommand(check_command(alloc)?)
+        .subcommand(check_command(alloc)?)?
+        .subcommand(explain_make_command(alloc)?)
 }
 
 /// What the shortest inputs of rules leave out.
@@ -465,7 +480,12 @@ fn check_words<'a>(rt: &HostRuntime, check: &ArgMatches<'a>) -> Result<CheckWord
     })
 }
 
-fn make_words<'a>(rt: &HostRuntime, make: &ArgMatches<'a>) -> Result<MakeWords<'a>, Usage> {
+/// What `make` was asked with these words, where its certificate goes to this path.
+fn make_words<'a>(
+    rt: &HostRuntime,
+    make: &ArgMatches<'a>,
+    output: Option<&'a str>,
+) -> Result<MakeWords<'a>, Usage> {
     one_standard_input(make, &["ROM", "frame"])?;
     let map = map_word(make)?;
     let mut roots = Vec::new(rt.alloc());
@@ -477,7 +497,7 @@ fn make_words<'a>(rt: &HostRuntime, make: &ArgMatches<'a>) -> Result<MakeWords<'
         map,
         roots,
         frames: files_of(rt, make, "frame")?,
-        output: make.get_str("output").filter(|path| *path != "-"),
+        output,
     })
 }
 
@@ -485,6 +505,7 @@ fn explain_words<'a>(rt: &HostRuntime, explain: &ArgMatches<'a>) -> Result<Expla
     match explain.subcommand() {
         Some(("check", words)) => Ok(Explained::Check(check_words(rt, words)?)),
         Some(("frames", words)) => Ok(Explained::Frames(frames_words(rt, words)?)),
+        Some(("make", words)) => Ok(Explained::Make(make_words(rt, words, None)?)),
         _ => Err(Usage::Word(WordFault::Unreadable)),
     }
 }
@@ -530,7 +551,10 @@ pub fn read_words<'a>(rt: &HostRuntime, words: &'a [String]) -> Result<Request<'
     match Task::named(name) {
         Some(Task::Frames) => Ok(Request::Frames(frames_words(rt, words)?)),
         Some(Task::Check) => Ok(Request::Check(check_words(rt, words)?)),
-        Some(Task::Make) => Ok(Request::Make(make_words(rt, words)?)),
+        Some(Task::Make) => {
+            let output = words.get_str("output").filter(|path| *path != "-");
+            Ok(Request::Make(make_words(rt, words, output)?))
+        }
         Some(Task::Explain) => Ok(Request::Explain(explain_words(rt, words)?)),
         Some(Task::Rules) => Ok(Request::Rules(rule_word(words)?)),
         None => Err(Usage::Word(WordFault::Unreadable)),

@@ -14,11 +14,12 @@ use command::{
 };
 use dvg_cmd::{
     Cert, Counted, CountedWrite, Entries, FrameOutcome, FramesRunFault, HashIndex, JudgedShapes,
-    MakeFault, MakeRunFault, Mode, Outcome, Refusal, RomImage, RomMap, Rule, RunFault, all_rules,
-    frames_status_of, load_cert, load_rom, make_frames_report_of, make_frames_status_of,
+    MakeAnswer, MakeFault, MakeRunFault, Mode, Outcome, Refusal, RomImage, RomMap, Rule, RunFault,
+    all_rules, frames_status_of, load_cert, load_rom, make_frames_report_of, make_frames_status_of,
     message_of, run_check, run_explain_check, run_explain_frame, run_explain_frame_over,
-    run_explain_refusal, run_explain_unopened, run_frame, run_frame_over, run_make,
-    run_make_frames, run_refusal, run_rule, run_rules, run_unopened, status_of,
+    run_explain_make, run_explain_refusal, run_explain_unopened, run_frame, run_frame_over,
+    run_make, run_make_frames, run_refusal, run_rule, run_rules, run_unopened, status_of,
+    write_make_answer,
 };
 use input::{Input, Source};
 use output::Output;
@@ -275,22 +276,47 @@ fn explain_frames(rt: &HostRuntime, words: &FramesWords) -> Result<FrameOutcome,
     }
 }
 
-/// Opens the ROM and then the frames, before any is read, and then the file for the certificate, if one was named, and runs the
-/// maker.
-fn make(rt: &HostRuntime, words: &MakeWords) -> Result<(), FramesRunFault> {
+/// The ROM and the frames, opened in this order, before any is read.
+fn open_all(
+    rt: &HostRuntime,
+    words: &MakeWords,
+) -> Result<(Counted<Source>, Vec<Counted<Source>>), FramesRunFault> {
     let rom = open(rt, words.rom, MakeRunFault::ReadRom)?;
     let mut frames = Vec::new(rt.alloc());
     for frame in &words.frames {
         let file = open(rt, frame.input, FramesRunFault::ReadFrame)?;
         frames.push(Counted::new(file))?;
     }
-    let mut rom = Counted::new(rom);
+    Ok((Counted::new(rom), frames))
+}
+
+/// Opens the ROM and the frames, and then the file for the certificate, if one was named, and runs the maker.
+fn make(rt: &HostRuntime, words: &MakeWords) -> Result<(), FramesRunFault> {
+    let (mut rom, mut frames) = open_all(rt, words)?;
     match words.output {
         Some(path) => make_file(rt, words, &mut rom, &mut frames, path),
         None => {
             let mut out = Counted::new(io::writer(rt));
             run_maker(rt, words, &mut rom, &mut frames, &mut out)
         }
+    }
+}
+
+/// Opens the files as [`make`] does, and answers what the maker comes to, with an account of it.
+fn make_answer(rt: &HostRuntime, words: &MakeWords) -> Result<MakeAnswer, FramesRunFault> {
+    let (mut rom, mut frames) = open_all(rt, words)?;
+    run_explain_make(rt.alloc(), &mut rom, words.map, &words.roots, &mut frames)
+}
+
+/// Writes what the maker comes to, with an account of it, and answers the exit status.
+fn explain_make(rt: &HostRuntime, words: &MakeWords) -> u8 {
+    match make_answer(rt, words) {
+        Ok(answer) => {
+            let name = name_of(&words.frames, answer.frame());
+            let mut out = Counted::new(io::writer(rt));
+            tell_check(rt, &write_make_answer(name, &answer, &mut out))
+        }
+        Err(fault) => tell_make(rt, &words.frames, &Err(fault)),
     }
 }
 
@@ -372,16 +398,21 @@ fn tell_frames(rt: &HostRuntime, end: &Result<FrameOutcome, RunFault>) -> u8 {
     frames_status_of(end)
 }
 
+/// The name of a frame, or none where no frame is meant.
+fn name_of<'a>(frames: &'a [Named], frame: Option<usize>) -> &'a str {
+    match frame.and_then(|frame| frames.get(frame)) {
+        Some(frame) => frame.name.as_str(),
+        None => "",
+    }
+}
+
 /// Tells how a run of the maker ended, by a fault's line, which begins with the name of its frame if it is one's, and the exit
 /// status.
 fn tell_make(rt: &HostRuntime, frames: &[Named], end: &Result<(), FramesRunFault>) -> u8 {
     if let Err(fault) = end {
         let report = make_frames_report_of(fault);
         let text = str::from_utf8(report.as_bytes()).unwrap_or("");
-        let name = match fault.frame().and_then(|frame| frames.get(frame)) {
-            Some(frame) => frame.name.as_str(),
-            None => "",
-        };
+        let name = name_of(frames, fault.frame());
         let _ = eprintln!(rt; "{name}{}", text.trim_end());
     }
     make_frames_status_of(end)
@@ -419,6 +450,7 @@ fn explain(rt: &HostRuntime, explained: &Explained) -> u8 {
     match explained {
         Explained::Check(words) => tell_check(rt, &explain_check(rt, words)),
         Explained::Frames(words) => tell_frames(rt, &explain_frames(rt, words)),
+        Explained::Make(words) => explain_make(rt, words),
     }
 }
 

@@ -1,0 +1,228 @@
+//! Running the maker over readers, with an account of what comes of it.
+
+ghost use Rattle.std.specs.Prelude.{◌≡◌, ◌≢◌, ◌⊎◌, ◌++◌, Option, List, ℕ, Err, IfOk, IfErr, OnOk, OnErr, is_err};
+ghost use Rattle.std.specs.Io.KnownBytes.{Appends};
+ghost use Rattle.dvg_cert.specs.Devices.{AppendsPrefix, count_after};
+ghost use Rattle.dvg_cmd.specs.Explaining.{MakesEntries, MakeExplained, MakeExplainedPrefix, make_line, make_outcome_of};
+ghost use Rattle.dvg_cmd.specs.MakingFrames.{blames_frames_rom, blames_a_frame, of_each, FailedAfter, EachRead, FramesFaultMeans};
+ghost use Rattle.dvg_cmd.specs.Numbers.{frames_run_number};
+ghost use Rattle.dvg_cmd.specs.Private.Reading.{IsPrefix, ArePrefixes};
+ghost use Rattle.dvg_cmd.specs.Runs.{MOST_ROM_READ, IsReadTo};
+ghost use Rattle.dvg_cmd.specs.declared.making.MakeRunFault.TheVariants as maker;
+
+use crate::account::{Account, MadeAccount, PlainWhy};
+use crate::account_making::MakingAccount;
+use crate::account_text::text_of;
+use crate::account_why::Addresses;
+use crate::explaining::NO_ACCOUNT;
+use crate::making::MakeRunFault;
+use crate::making_frames::{FrameBytes, FramesRunFault, images_of, read_frames};
+use crate::reading::read_rom;
+use crate::report::make_line_of;
+use crate::running::{Outcome, RunFault};
+use dvg_cert::{Cert, CountedRead, CountedWrite, Key, write_bytes};
+use dvg_make::{MakeAccount, explain_making};
+use dvg_words::{RomImage, RomMap};
+use std::alloc::{AllocError, Global};
+
+/// What the maker comes to: how many entries it makes, or why none, and the account of that, unless there was no memory for it.
+#[derive(Drop)]
+pub struct MakeAnswer {
+    pub made: Result<u32, FramesRunFault>,
+    pub account: Result<String, AllocError>,
+}
+
+impl MakeAnswer {
+    /// Which frame is to blame, counted from 0, where one is.
+    pub fn frame(&self) -> Option<usize> {
+        match self.made {
+            Ok(_) => None,
+            Err(fault) => fault.frame(),
+        }
+    }
+}
+
+/// A refusal before anything is made.
+fn unasked(alloc: Global, fault: FramesRunFault, why: PlainWhy) -> MakeAnswer
+    ensures { result.made ≡ Err fault }
+{
+    let account = Account::Plain {
+        number: fault.number(),
+        why,
+    };
+    MakeAnswer {
+        made: Err(fault),
+        account: text_of(alloc, &account),
+    }
+}
+
+/// Why no frames come of what was read of them.
+fn length_why(fault: FramesRunFault, frames: &[FrameBytes]) -> PlainWhy {
+    match fault.frame().and_then(|frame| frames.get(frame)) {
+        Some(bytes) => PlainWhy::FrameLength { bytes: bytes.len() },
+        None => PlainWhy::Nothing,
+    }
+}
+
+/// The text of the account of a refusal of the maker.
+fn refused_text(alloc: Global, rom: &RomImage, account: MakeAccount) -> Result<String, AllocError> {
+    text_of(alloc, &Account::Making(MakingAccount::new(rom, account)))
+}
+
+/// The text of the account of a certificate that is made.
+fn made_text(alloc: Global, cert: &Cert) -> Result<String, AllocError> {
+    text_of(alloc, &Account::Made(MadeAccount::of(cert)))
+}
+
+/// What the maker comes to for what was read of a ROM at this map and of frames.
+fn answer_on(
+    alloc: Global,
+    rom: &[u8],
+    map: RomMap,
+    roots: &[(u16, Key)],
+    frames: &[FrameBytes],
+) -> MakeAnswer
+    ensures made { (held : Option (List ℕ)) (readers : List (Option (List ℕ))) → IsPrefix MOST_ROM_READ held rom.now
+        → ArePrefixes readers (of_each (λ bytes. bytes.items) frames.now)
+        → IfOk result.made (MakesEntries held map roots.now readers) }
+    ensures refused { (held : Option (List ℕ)) (readers : List (Option (List ℕ))) → IsPrefix MOST_ROM_READ held rom.now
+        → ArePrefixes readers (of_each (λ bytes. bytes.items) frames.now)
+        → IfErr result.made (FramesFaultMeans held map roots.now readers) }
+{
+    let Ok(image) = RomImage::from_bytes(rom, map) else {
+        let why = PlainWhy::RomLength {
+            bytes: rom.len(),
+            list: Addresses::of_map(map),
+        };
+        return unasked(alloc, MakeRunFault::RomLength.into(), why);
+    };
+    let images = match images_of(alloc, frames) {
+        Ok(images) => images,
+        Err(fault) => return unasked(alloc, fault, length_why(fault, frames)),
+    };
+    match explain_making(alloc, &image, roots, &images) {
+        Ok(cert) => MakeAnswer {
+            made: Ok(cert.entries().len() as u32),
+            account: made_text(alloc, &cert),
+        },
+        Err(account) => MakeAnswer {
+            made: Err(account.fault.into()),
+            account: refused_text(alloc, &image, account),
+        },
+    }
+}
+
+/// Reads a ROM and frames, as [`run_make_frames`](crate::run_make_frames) does, and makes what that would write; answers how many
+/// entries there are, or why none are made, with an account of it (docs/ACCOUNTS.md). Nothing is written.
+///
+/// The faults are those of `run_make_frames` that have no account: a failed read, and that there was no memory for the making.
+pub fn run_explain_make<R1: CountedRead, R2: CountedRead>(
+    alloc: Global,
+    rom: &mut R1,
+    map: RomMap,
+    roots: &[(u16, Key)],
+    frames: &mut [R2],
+) -> Result<MakeAnswer, FramesRunFault>
+    // 70 and 71 come exactly where their device failed in this call, and the device's count then rises by one; else it is 63.
+    ensures rom_count { R1.failures rom.new ≡ count_after (blames_frames_rom result) (R1.failures rom.old) }
+    ensures frame_counts { FailedAfter (blames_a_frame result) (of_each (λ frame. R2.failures frame) frames.old)
+        (of_each (λ frame. R2.failures frame) frames.new) }
+    ensures fault { IfErr result (λ fault. (fault ≡ FramesRunFault.Plain maker.ReadRom) ⊎ (fault ≡ FramesRunFault.ReadFrame)
+        ⊎ (frames_run_number fault ≡ 63)) }
+
+    // With an answer, ROM and frames were read to their end or to one byte past their limit, and no further. Where the ROM's reader
+    // failed, no frame was read.
+    ensures rom_read { OnOk result (IsReadTo MOST_ROM_READ (R1.remaining rom.old) (R1.remaining rom.new)) }
+    ensures frames_read { OnOk result (EachRead (of_each (λ frame. R2.remaining frame) frames.old)
+        (of_each (λ frame. R2.remaining frame) frames.new)) }
+    ensures frames_unread { result ≡ Err (FramesRunFault.Plain maker.ReadRom) → frames.new ≡ frames.old }
+
+    // So many entries has the list that is made for all bytes that the readers held; 1 and 2 come for a wrong length alone, and 60
+    // to 62 as the maker refuses.
+    ensures made { IfOk result (λ answer. IfOk answer.made (MakesEntries (R1.remaining rom.old) map roots.now
+        (of_each (λ frame. R2.remaining frame) frames.old))) }
+    ensures refused { IfOk result (λ answer. IfErr answer.made (FramesFaultMeans (R1.remaining rom.old) map roots.now
+        (of_each (λ frame. R2.remaining frame) frames.old))) }
+    ensures told { IfOk result (λ answer. IfErr answer.made (λ fault. frames_run_number fault ≢ 63)) }
+{
+    let Ok(bytes) = read_rom(rom) else {
+        return Err(MakeRunFault::ReadRom.into());
+    };
+    let frames = read_frames(alloc, frames)?;
+    let answer = answer_on(alloc, bytes.as_slice(), map, roots, &frames);
+    if let Err(fault) = answer.made {
+        if fault.number() == NO_MEMORY_NUMBER {
+            return Err(fault);
+        }
+    }
+    Ok(answer)
+}
+
+/// The number that the maker's refusal has where memory was out.
+const NO_MEMORY_NUMBER: u8 = 63;
+
+/// Writes the line of what the maker comes to, behind a name.
+fn write_make_line<W: CountedWrite>(
+    name: &str,
+    made: &Result<u32, FramesRunFault>,
+    out: &mut W,
+) -> Result<Outcome, RunFault>
+    ensures ok { IfOk result (λ outcome. outcome ≡ make_outcome_of made.now) }
+    ensures written { OnOk result (Appends (W.contents out.old) (W.contents out.new) (make_line name.now made.now)) }
+    ensures prefix { OnErr result (AppendsPrefix (W.contents out.old) (W.contents out.new) (make_line name.now made.now)) }
+    ensures fault { IfErr result (λ fault. fault ≡ RunFault.Write) }
+    ensures count { W.failures out.new ≡ count_after (is_err result) (W.failures out.old) }
+{
+    let report = make_line_of(made);
+    let Ok(()) = write_bytes(name.as_bytes(), out) else {
+        return Err(RunFault::Write);
+    };
+    let Ok(()) = write_bytes(report.as_bytes(), out) else {
+        return Err(RunFault::Write);
+    };
+    match made {
+        Ok(_) => Ok(Outcome::Accepted),
+        Err(_) => Ok(Outcome::Refused),
+    }
+}
+
+/// Writes the line of what the maker comes to, and then a text.
+fn write_make_line_and<W: CountedWrite>(
+    name: &str,
+    made: &Result<u32, FramesRunFault>,
+    text: &str,
+    out: &mut W,
+) -> Result<Outcome, RunFault>
+    ensures ok { IfOk result (λ outcome. outcome ≡ make_outcome_of made.now) }
+    ensures written { OnOk result (Appends (W.contents out.old) (W.contents out.new) (make_line name.now made.now ++ text.now)) }
+    ensures prefix { OnErr result (AppendsPrefix (W.contents out.old) (W.contents out.new) (make_line name.now made.now ++ text.now)) }
+    ensures fault { IfErr result (λ fault. fault ≡ RunFault.Write) }
+    ensures count { W.failures out.new ≡ count_after (is_err result) (W.failures out.old) }
+{
+    let outcome = write_make_line(name, made, out)?;
+    match write_bytes(text.as_bytes(), out) {
+        Ok(()) => Ok(outcome),
+        Err(_) => Err(RunFault::Write),
+    }
+}
+
+/// Writes the line of an answer of [`run_explain_make`], behind this name, and behind the line its account, or that there was no
+/// memory for one. The name is that of the frame to blame, which has no control characters; it is empty where none is.
+pub fn write_make_answer<W: CountedWrite>(
+    name: &str,
+    answer: &MakeAnswer,
+    out: &mut W,
+) -> Result<Outcome, RunFault>
+    ensures ok { IfOk result (MakeExplained name.now answer.now.made (W.contents out.old) (W.contents out.new)) }
+    ensures prefix { OnErr result (MakeExplainedPrefix name.now answer.now.made (W.contents out.old) (W.contents out.new)) }
+    ensures fault { IfErr result (λ fault. fault ≡ RunFault.Write) }
+    ensures count { W.failures out.new ≡ count_after (is_err result) (W.failures out.old) }
+{
+    match &answer.account {
+        Ok(text) => write_make_line_and(name, &answer.made, text.as_str(), out),
+        Err(_) => {
+            write_make_line_and(name, &answer.made, NO_ACCOUNT, out)?;
+            Ok(Outcome::NoMemory)
+        }
+    }
+}
