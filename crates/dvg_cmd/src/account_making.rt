@@ -66,7 +66,7 @@ pub fn push_making_why(text: &mut String, making: &MakingAccount) -> Result<(), 
             };
             writeln!(
                 text,
-                "why: it calls {name}, below which calls go three deep already"
+                "why: it calls {name}, below which calls go three deep already: with the frame's own they would be five"
             )
         }
         EntryCause::TooManyWords { words } => {
@@ -86,7 +86,7 @@ fn push_ring_why(text: &mut String, chain: &[Link], from: usize) -> Result<(), A
     match chain.get(from) {
         Some(link) => {
             let name = name_of(link);
-            writeln!(text, "why: it calls {name}, which needs it")
+            writeln!(text, "why: it leads to {name}, which needs it")
         }
         None => Ok(()),
     }

@@ -11,10 +11,12 @@ use std::alloc::{AllocError, Global};
 use std::slice;
 
 /// The account of a frame for whose certificate there was no memory.
-const NO_MEMORY: Account = Account::Plain {
-    number: 63,
-    why: PlainWhy::Nothing,
-};
+fn no_memory() -> Account {
+    Account::Plain {
+        number: 63,
+        why: PlainWhy::Nothing,
+    }
+}
 
 /// What the maker comes to for a frame.
 #[derive(Drop)]
@@ -60,7 +62,7 @@ fn own_account(
         },
     ) = verdict
     {
-        return Ok(NO_MEMORY);
+        return Ok(no_memory());
     }
     let made = match making_of(alloc, rom, map, frame) {
         Ok(Making::Unasked) => None,
@@ -128,6 +130,6 @@ pub fn frame_account(
     match verdict {
         Ok(yes) => Account::of_verdict(alloc, inputs, &Ok(*yes)),
         Err(FrameRefusal::Check(refusal)) => Account::of_verdict(alloc, inputs, &Err(*refusal)),
-        Err(_) => Ok(NO_MEMORY),
+        Err(_) => Ok(no_memory()),
     }
 }
