@@ -137,6 +137,7 @@ pub struct Name {
 }
 
 impl Name {
+    /// That of an entry.
     pub fn of(entry: &Entry) -> Name {
         Name {
             addr: entry.addr,

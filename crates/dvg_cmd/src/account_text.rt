@@ -2,11 +2,11 @@
 
 use crate::account::{AcceptedAccount, Account, Chain, Inputs, MadeAccount, PlainWhy};
 use crate::account_item::push_item;
-use crate::account_making::{push_making, push_making_why};
+use crate::account_making::{MakingAccount, push_making, push_making_why};
 use crate::account_numbers::{Claims, Distance, Name, Within};
 use crate::account_why::{Addresses, FrameWhyText, ShapeWhyText};
 use crate::rules::rule_of;
-use dvg_cert::{LitBox, MOST_DEPTH, MOST_ENTRIES, MOST_WORDS};
+use dvg_cert::{Entry, LitBox, MOST_DEPTH, MOST_ENTRIES, MOST_WORDS};
 use dvg_check::{Refusal, Yes};
 use dvg_explain::{Call, Margins};
 use dvg_words::Window;
@@ -35,11 +35,7 @@ pub fn text_of(alloc: Global, account: &Account) -> Result<String, AllocError> {
 /// Adds all lines of an account.
 fn push_account(text: &mut String, account: &Account) -> Result<(), AllocError> {
     match account {
-        Account::Plain { number, why } => {
-            push_rule(text, *number)?;
-            push_plain_why(text, why)?;
-            push_cure(text, *number)
-        }
+        Account::Plain { number, why } => push_plain(text, *number, why),
         Account::Frame {
             account,
             item,
@@ -65,29 +61,43 @@ fn push_account(text: &mut String, account: &Account) -> Result<(), AllocError> 
             chain,
         } => {
             let number = account.finding.fault.number();
-            let name = Name::of(&account.finding.entry);
             let why = ShapeWhyText {
                 account,
                 odd: *odd,
                 list: *list,
             };
-            let claims = Claims(account.finding.entry);
             push_rule(text, number)?;
             writeln!(text, "why: {why}")?;
             push_item(text, item)?;
-            writeln!(text, "entry claims: {claims}")?;
-            push_chain(text, chain, name)?;
+            push_claimed(text, &account.finding.entry, chain)?;
             push_cure(text, number)
         }
-        Account::Making(making) => {
-            push_rule(text, making.number())?;
-            push_making_why(text, making)?;
-            push_making(text, making)?;
-            push_cure(text, making.number())
-        }
+        Account::Making(making) => push_refused(text, making),
         Account::Accepted(accepted) => push_accepted(text, accepted),
         Account::Made(made) => push_made(text, made),
     }
+}
+
+/// Adds what is told of a refusal before any item was looked at.
+fn push_plain(text: &mut String, number: u8, why: &PlainWhy) -> Result<(), AllocError> {
+    push_rule(text, number)?;
+    push_plain_why(text, why)?;
+    push_cure(text, number)
+}
+
+/// Adds what is told of a refusal of the maker.
+fn push_refused(text: &mut String, making: &MakingAccount) -> Result<(), AllocError> {
+    push_rule(text, making.number())?;
+    push_making_why(text, making)?;
+    push_making(text, making)?;
+    push_cure(text, making.number())
+}
+
+/// Adds what an entry claims, and how the frame comes to it.
+fn push_claimed(text: &mut String, entry: &Entry, chain: &Chain) -> Result<(), AllocError> {
+    let claims = Claims(*entry);
+    writeln!(text, "entry claims: {claims}")?;
+    push_chain(text, chain, Name::of(entry))
 }
 
 /// Adds how the frame comes to the entry of this name.

@@ -34,6 +34,7 @@ pub struct Addresses {
 }
 
 impl Addresses {
+    /// Those of a frame's words.
     pub fn of_frame(frame: &FrameImage) -> Addresses {
         Addresses {
             whose: Whose::Frame,
@@ -42,6 +43,7 @@ impl Addresses {
         }
     }
 
+    /// Those of the words of a ROM at this map.
     pub fn of_map(map: RomMap) -> Addresses {
         Addresses {
             whose: Whose::Rom,

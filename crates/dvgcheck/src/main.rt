@@ -400,7 +400,10 @@ fn tell_frames(rt: &HostRuntime, end: &Result<FrameOutcome, RunFault>) -> u8 {
 
 /// The name of a frame, or none where no frame is meant.
 fn name_of<'a>(frames: &'a [Named], frame: Option<usize>) -> &'a str {
-    match frame.and_then(|frame| frames.get(frame)) {
+    let Some(frame) = frame else {
+        return "";
+    };
+    match frames.get(frame) {
         Some(frame) => frame.name.as_str(),
         None => "",
     }
