@@ -192,7 +192,7 @@ effect_over (Moves d) place (Rel x y) = sym (moves_on place (record { x = x; y =
 effect_over (Moves d) place (Abs x y) = refl
 effect_over (Moves d) place Lost = refl
 
-past_over : (i : Item) (callee : Option Entry) (first second : Known) → known_past i callee (known_over first second) ≡ known_over first (known_past i callee second)
+pub past_over : (i : Item) (callee : Option Entry) (first second : Known) → known_past i callee (known_over first second) ≡ known_over first (known_past i callee second)
 past_over i callee first second =
     let place = effect_over (effect_of i.instr second.scale callee) first.place second.place in
     let scale = (known_past i callee second).scale in

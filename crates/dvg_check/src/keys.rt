@@ -1,4 +1,4 @@
-//! Sets of keys.
+//! Keys, their numbers, and sets of them.
 
 ghost use Rattle.std.specs.Prelude.{◌≡◌, ◌<◌};
 ghost use Rattle.dvg_cert.specs.Entry.{IsKey};
@@ -8,6 +8,17 @@ use dvg_cert::Key;
 
 /// How many keys there are: the sixteen global scales, and `Any`.
 pub const KEYS: u8 = 17;
+
+/// How many tails a pass over a ROM keeps: one for each key, at three places that stand one after another.
+pub const SLOTS: usize = 3 * KEYS as usize;
+
+/// Where the tail at a word address and a key is kept, of [`SLOTS`] places.
+pub fn slot_of(at: u16, key: Key) -> usize
+    requires { IsKey key }
+    ensures { result < 51 }
+{
+    usize::from(at % 3) * usize::from(KEYS) + usize::from(key_index(key))
+}
 
 /// The number of a key among all, from 0 on.
 pub fn key_index(key: Key) -> u8

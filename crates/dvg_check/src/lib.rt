@@ -11,6 +11,7 @@ mod frames;
 mod judged;
 mod keys;
 pub mod laws;
+mod needed;
 mod rules;
 mod shapes;
 mod tail;
@@ -23,7 +24,10 @@ pub use fault::{
 };
 pub use frames::{Accepted, check_frame};
 pub use judged::JudgedShapes;
+pub use keys::{KEYS, Keys, SLOTS, key_of, slot_of};
+pub use needed::Needed;
 pub use shapes::{check_shapes, check_shapes_exact, find_shape_fault};
+pub use tail::moved;
 pub use verdict::{
     Refusal, Yes, check, check_exact, check_parts, check_parts_exact, check_rom, frame_of,
 };

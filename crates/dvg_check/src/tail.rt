@@ -50,7 +50,7 @@ fn stop_over(place: &End, stop: &End) -> End
 }
 
 /// A box, moved.
-fn moved(lit: &LitBox, by: &Point) -> LitBox
+pub fn moved(lit: &LitBox, by: &Point) -> LitBox
     requires lit { IsNearBox (ADDRESS_END + 2) lit.now }
     requires by { IsNear 1 by.now }
     ensures { result ≡ moved lit.now by.now }

@@ -14,28 +14,18 @@ ghost use Rattle.dvg_check.specs.Rules.{GoodShape};
 ghost use Rattle.dvg_check.specs.Private.Tails.{IsTail, AreTails};
 
 use crate::fault::Mode;
-use crate::keys::{KEYS, Keys, key_index, key_of};
+use crate::keys::{KEYS, Keys, SLOTS, key_of, slot_of};
+use crate::needed::Needed;
 use crate::tail::{after_item, claims_less, last_item};
 use dvg_cert::{Entries, Entry, Key};
-use dvg_items::{Item, Kind, callee};
-use dvg_words::{Cell, Instr, MOST_ROM_WORDS, RomImage, Window, read_cell};
-
-/// How many tails are kept: one for each key, at three places that stand one after another.
-const SLOTS: usize = 3 * KEYS as usize;
+use dvg_items::{Item, Kind};
+use dvg_words::{Cell, RomImage, Window, read_cell};
 
 /// The tails that were made last. Each tells its own address and key, so one that is left from a further place is not taken
 /// for that of a nearer one.
 #[derive(Drop)]
 pub struct Tails {
     pub slots: [Option<Entry>; SLOTS],
-}
-
-/// Where the tail at an address and a key is kept.
-fn slot_of(at: u16, key: Key) -> usize
-    requires { IsKey key }
-    ensures { result < 51 }
-{
-    usize::from(at % 3) * usize::from(KEYS) + usize::from(key_index(key))
 }
 
 /// The tail at an address and a key, if it was made.
@@ -130,108 +120,6 @@ fn shows(mode: Mode, tails: &Tails, entry: &Entry) -> bool
     }
 }
 
-/// The keys that an entry's shapes leave behind, called at these.
-fn keys_left<E: Entries>(entries: &E, to: u16, keys: Keys) -> Keys
-    requires { IsSomeCertificate (E.list entries.now) }
-{
-    let mut left = Keys::NONE;
-    for index in keys.first()..KEYS {
-        if keys.has_none_from(index) {
-            break;
-        }
-        if keys.has(index) {
-            if let Some(entry) = callee(entries, Some(to), key_of(index)) {
-                left = left.with(Keys::one(entry.scale));
-            }
-        }
-    }
-    left
-}
-
-/// The keys at which the tail behind an instruction is needed, where its own is at these.
-fn keys_behind<E: Entries>(entries: &E, instr: &Instr, keys: Keys) -> Keys
-    requires entries { IsSomeCertificate (E.list entries.now) }
-    requires fields { InstrFits instr.now }
-{
-    match instr {
-        Instr::Labs { gscale, .. } => Keys::one(Key::At(*gscale)),
-        Instr::Jsrl { to } => keys_left(entries, *to, keys),
-        _ => keys,
-    }
-}
-
-/// The keys at which tails are needed, for each word of a ROM. Nothing rests on it: where a tail isn't made, the entries that
-/// need it aren't shown to be good.
-#[derive(Drop)]
-pub struct Needed {
-    /// The word address of the ROM's first word.
-    pub first: u16,
-    /// The keys at the ROM's words, from its first one on.
-    pub keys: [Keys; MOST_ROM_WORDS],
-    /// One past the last word address at which some key is needed.
-    pub end: u16,
-}
-
-/// The keys that are needed at a word address.
-fn keys_needed(needed: &Needed, at: u16) -> Keys {
-    // Before the first word the difference wraps, to past the last.
-    let index = at.wrapping_sub(needed.first);
-    match needed.keys.get(usize::from(index)) {
-        Some(keys) => *keys,
-        None => Keys::NONE,
-    }
-}
-
-/// Needs more keys at a word address.
-fn need(needed: &mut Needed, at: u16, more: Keys) {
-    let index = at.wrapping_sub(needed.first);
-    if let Some(keys) = needed.keys.get_mut(usize::from(index)) {
-        *keys = keys.with(more);
-        needed.end = needed.end.max(at.saturating_add(1));
-    }
-}
-
-/// Needs what the tails that are needed at a word address need behind them.
-fn need_behind<E: Entries>(rom: &RomImage, entries: &E, at: u16, needed: &mut Needed)
-    requires entries { IsSomeCertificate (E.list entries.now) }
-    requires near { at < ADDRESS_END }
-{
-    let keys = keys_needed(needed, at);
-    if keys.is_empty() {
-        return;
-    }
-    let Cell::Holds { format, instr } = read_cell(rom, at) else {
-        return;
-    };
-    let item = Item { at, format, instr };
-    if let Some(next) = item.next_place(Kind::Shape) {
-        need(needed, next, keys_behind(entries, &instr, keys));
-    }
-}
-
-/// Which tails the entries of a list need: those at their own addresses and keys, and what these need, one after another.
-fn needed_by<E: Entries>(rom: &RomImage, entries: &E, list: &[Entry]) -> Needed
-    requires entries { IsSomeCertificate (E.list entries.now) }
-    requires list { IsSomeCertificate list.now }
-{
-    let (first, last) = (rom.map().first(), rom.map().last());
-    let mut needed = Needed {
-        first,
-        keys: [Keys::NONE; MOST_ROM_WORDS],
-        end: first,
-    };
-    for entry in list {
-        need(&mut needed, entry.addr, Keys::one(entry.key));
-    }
-    for at in first..last + 1 {
-        if needed.end <= at {
-            break;
-        }
-        need_behind(rom, entries, at, &mut needed);
-    }
-    needed
-}
-
 /// Makes the tails at each place from the last one of a range up to the first, at the keys that are needed.
 fn make_all<E: Entries>(
     window: &Window,
@@ -250,7 +138,7 @@ fn make_all<E: Entries>(
     let mut at = to;
     'places: while from < at {
         at -= 1;
-        let keys = keys_needed(needed, at);
+        let keys = needed.keys_at(at);
         if !keys.is_empty() {
             make_tails(window, rom, entries, at, keys, tails);
         }
@@ -270,7 +158,7 @@ pub fn first_doubtful<E: Entries>(
     ensures few { result ≤ length list.now }
     ensures good { AllByRecursion (GoodShape mode window.now rom.now list.now) (take result list.now) }
 {
-    let needed = needed_by(rom, entries, list);
+    let needed = Needed::by(rom, entries, list);
     let mut tails = Tails {
         slots: [None; SLOTS],
     };

@@ -7,3 +7,6 @@ pub mod Tracing
 pub mod Coming
 pub mod Complete
 pub mod SameEntry
+pub mod TailPoints
+pub mod TailLaws
+pub mod TailRows

@@ -2,3 +2,4 @@
 pub mod Breaking
 pub mod Walking
 pub mod Reaching
+pub mod Lighting

@@ -1,14 +1,13 @@
-//! The calls of a frame, and what its items and a certificate's shapes may light at absolute places.
+//! The calls of a frame, and what its items may light at absolute places.
 
 ghost use Rattle.std.specs.Prelude.{◌≡◌, IfOk};
 ghost use Rattle.dvg_words.specs.Memory.{frame_word};
 ghost use Rattle.dvg_items.specs.Known.{frame_context};
-ghost use Rattle.dvg_explain.specs.Calls.{AreCalls, IsExtent, IsShapesExtent};
+ghost use Rattle.dvg_explain.specs.Calls.{AreCalls, IsExtent};
 
 use crate::items::{Start, calls_from, extent_from};
 use dvg_cert::{Cert, Entries, Entry, LitBox};
-use dvg_items::joined;
-use dvg_words::{FrameImage, RomImage};
+use dvg_words::FrameImage;
 use std::alloc::{AllocError, Global};
 
 /// A call or tail jump: the word address of its item, and the entry that it names.
@@ -44,17 +43,4 @@ pub fn frame_extent<E: Entries>(cert: &Cert, entries: &E, frame: &FrameImage) ->
     // Its clause says that the list is that of a certificate.
     let _entries = cert.entries();
     extent_from(frame, entries, &Start::frame())
-}
-
-/// The least box of what the shapes of a certificate's entries light at absolute places, in 1/1024 of a screen place, by the
-/// certificate's claims (profile). `entries` are those of the certificate. Each entry's items are gone over once. Takes no memory.
-pub fn shapes_extent<E: Entries>(rom: &RomImage, cert: &Cert, entries: &E) -> LitBox
-    requires { E.list entries.now ≡ cert.now.entries }
-    ensures { IsShapesExtent rom.now cert.now.entries result }
-{
-    let mut lit = LitBox::Empty;
-    for entry in cert.entries() {
-        lit = joined(&lit, &extent_from(rom, entries, &Start::shape(entry)));
-    }
-    lit
 }

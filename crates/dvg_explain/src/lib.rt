@@ -17,10 +17,12 @@ mod leaving;
 mod margins;
 mod reached;
 mod shapes;
+mod tails;
 
-pub use calls::{Call, frame_calls, frame_extent, shapes_extent};
+pub use calls::{Call, frame_calls, frame_extent};
 pub use chains::find_chain;
 pub use frames::{FrameAccount, FrameCause, explain_frame};
 pub use leaving::{BoxLeaving, Edge, Leaving, leaves_box, leaves_window};
 pub use margins::Margins;
 pub use shapes::{ShapeAccount, ShapeCause, explain_shapes};
+pub use tails::shapes_extent;

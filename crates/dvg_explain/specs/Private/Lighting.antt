@@ -1,0 +1,45 @@
+-- What the tails of shapes light, seen from where they stand.
+use Rattle.std.specs.Prelude.{◌≡◌, ◌+◌, ◌-◌, ℕ, List, Option, None, Some, slice_index_or}
+use Rattle.dvg_words.specs.Memory.{Rom, rom_word}
+use Rattle.dvg_words.specs.declared.map.TheConstants.{ADDRESS_END}
+use Rattle.dvg_cert.specs.declared.entry.End.{End}
+use Rattle.dvg_cert.specs.declared.entry.End.TheVariants.{Rel, Abs, Lost}
+use Rattle.dvg_cert.specs.declared.entry.Entry.{Entry}
+use Rattle.dvg_cert.specs.declared.entry.Key.{Key}
+use Rattle.dvg_cert.specs.declared.entry.LitBox.{LitBox}
+use Rattle.dvg_cert.specs.declared.entry.LitBox.TheVariants.{Empty}
+use Rattle.dvg_items.specs.declared.item.Item.{Item}
+use Rattle.dvg_items.specs.declared.item.Kind.TheVariants.{Shape}
+use Rattle.dvg_items.specs.Known.{Context}
+use Rattle.dvg_items.specs.Least.{IsLeast, lit_points, absolute_points}
+use Rattle.dvg_check.specs.Private.Tails.{IsNearBox, moved}
+use Rattle.dvg_explain.specs.Calls.{AreAll}
+pub use Rattle.dvg_explain.specs.declared.tails.Tail.{Tail}
+pub use Rattle.dvg_explain.specs.declared.tails.Lit.{Lit}
+
+-- what a tail with this box at relative places lights from a place: at relative places, and at absolute ones
+abbrev pub relative_part : End → LitBox → LitBox
+relative_part (Rel x y) box = moved box (record { x = x; y = y })
+relative_part (Abs x y) box = Empty
+relative_part Lost box = Empty
+
+abbrev pub absolute_part : End → LitBox → LitBox
+absolute_part (Rel x y) box = Empty
+absolute_part (Abs x y) box = moved box (record { x = x; y = y })
+absolute_part Lost box = Empty
+
+-- the context of the items of a shape that starts at this key
+abbrev pub keyed : List Entry → Key → Context
+keyed list key = record { kind = Shape; list = list; scale = key }
+
+-- the boxes are the least of what all items from the tail's address on light, and no item moves them far
+pub record IsTail (rom : Rom) (list : List Entry) (t : Tail) : Type 0 where
+  pub items : List Item
+  pub all : AreAll Shape (rom_word rom) t.addr items
+  pub relative : IsLeast (lit_points (keyed list t.key) items) t.lit.relative
+  pub absolute : IsLeast (absolute_points (keyed list t.key) items) t.lit.absolute
+  pub near : IsNearBox (ADDRESS_END + 2 - t.addr) t.lit.relative
+
+-- all that stand in these slots are tails
+abbrev pub AreTails : Rom → List Entry → List (Option Tail) → Type 0
+AreTails rom list slots = (k : ℕ) (tail : Tail) → slice_index_or slots k None ≡ Some tail → IsTail rom list tail
