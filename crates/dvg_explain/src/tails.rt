@@ -17,7 +17,7 @@ ghost use Rattle.dvg_items.specs.Least.{IsLeast};
 ghost use Rattle.dvg_items.specs.Lit.{relative_corners};
 ghost use Rattle.dvg_check.specs.Private.Tails.{IsNearBox};
 ghost use Rattle.dvg_explain.specs.Calls.{IsExtent, IsShapesExtent};
-ghost use Rattle.dvg_explain.specs.Private.Lighting.{IsTail, AreTails, relative_part, absolute_part};
+ghost use Rattle.dvg_explain.specs.Private.Lighting.{IsTail, AreTails, AreJoined, relative_part, absolute_part};
 
 use crate::items::{Start, extent_from};
 use dvg_cert::{Cert, End, Entries, Entry, Key, LitBox};
@@ -59,24 +59,29 @@ fn lit_alone(extent: &LitExtent) -> LitBox
     }
 }
 
-/// What is lit behind an item, past which is this place, where a tail with this box at relative places stands there.
-fn lit_behind(place: &End, lit: &LitBox) -> Lit
+/// What an item lights that lights this box alone, and what is lit behind it, where a tail that lights this stands past it, at this
+/// place.
+fn lit_over(alone: &LitBox, place: &End, tail: &Lit) -> Lit
     requires place { IsNearPlace 1 place.now }
-    requires lit { IsNearBox (ADDRESS_END + 2) lit.now }
-    ensures { result ≡ record { relative = relative_part place.now lit.now; absolute = absolute_part place.now lit.now } }
+    requires lit { IsNearBox (ADDRESS_END + 2) tail.now.relative }
+    ensures relative { AreJoined alone.now (relative_part place.now tail.now.relative) result.relative }
+    ensures absolute { AreJoined tail.now.absolute (absolute_part place.now tail.now.relative) result.absolute }
 {
     match place {
         End::Rel { x, y } => Lit {
-            relative: moved(lit, &Point { x: *x, y: *y }),
-            absolute: LitBox::Empty,
+            relative: joined(alone, &moved(&tail.relative, &Point { x: *x, y: *y })),
+            absolute: tail.absolute,
         },
         End::Abs { x, y } => Lit {
-            relative: LitBox::Empty,
-            absolute: moved(lit, &Point { x: *x, y: *y }),
+            relative: *alone,
+            absolute: joined(
+                &tail.absolute,
+                &moved(&tail.relative, &Point { x: *x, y: *y }),
+            ),
         },
         End::Lost => Lit {
-            relative: LitBox::Empty,
-            absolute: LitBox::Empty,
+            relative: *alone,
+            absolute: tail.absolute,
         },
     }
 }
@@ -140,11 +145,7 @@ fn tail_at<E: Entries>(
     let lit = match item.next_place(Kind::Shape) {
         Some(next) => {
             let tail = tails.get(next, seen.after.scale)?;
-            let behind = lit_behind(&seen.after.place, &tail.lit.relative);
-            Lit {
-                relative: joined(&alone, &behind.relative),
-                absolute: joined(&tail.lit.absolute, &behind.absolute),
-            }
+            lit_over(&alone, &seen.after.place, &tail.lit)
         }
         None => Lit {
             relative: alone,

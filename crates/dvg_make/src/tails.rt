@@ -18,12 +18,13 @@ use dvg_items::{Item, Kind, scale_past, target};
 use dvg_words::{Cell, Instr, RomImage, read_cell};
 use std::alloc::{AllocError, Global};
 
-/// How many words lie between two marks.
+/// Of how many words two may be marks.
 const SPACING: u16 = 16;
 
-/// Whether a tail is kept at a word address.
+/// Whether a tail is kept at a word address: at the first two of each sixteen, since an item of two words may go past either of them,
+/// and never past both.
 pub fn is_mark(at: u16) -> bool {
-    at % SPACING == 0
+    at % SPACING < 2
 }
 
 /// Whether a walk from one word address to a later one was so long that the tails at its marks are kept. Most shapes are shorter,

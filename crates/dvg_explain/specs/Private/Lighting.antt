@@ -12,6 +12,7 @@ use Rattle.dvg_items.specs.declared.item.Item.{Item}
 use Rattle.dvg_items.specs.declared.item.Kind.TheVariants.{Shape}
 use Rattle.dvg_items.specs.Known.{Context}
 use Rattle.dvg_items.specs.Least.{IsLeast, lit_points, absolute_points}
+use Rattle.dvg_items.specs.Lit.{IsInside}
 use Rattle.dvg_check.specs.Private.Tails.{IsNearBox, moved}
 use Rattle.dvg_explain.specs.Calls.{AreAll}
 pub use Rattle.dvg_explain.specs.declared.tails.Tail.{Tail}
@@ -27,6 +28,12 @@ abbrev pub absolute_part : End → LitBox → LitBox
 absolute_part (Rel x y) box = Empty
 absolute_part (Abs x y) box = moved box (record { x = x; y = y })
 absolute_part Lost box = Empty
+
+-- the box has both, and is part of each box that has
+pub record AreJoined (a b box : LitBox) : Type 0 where
+  pub first : IsInside a box
+  pub second : IsInside b box
+  pub least : (other : LitBox) → IsInside a other → IsInside b other → IsInside box other
 
 -- the context of the items of a shape that starts at this key
 abbrev pub keyed : List Entry → Key → Context

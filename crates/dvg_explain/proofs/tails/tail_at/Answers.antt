@@ -12,17 +12,16 @@ use Rattle.dvg_items.specs.declared.seen.Seen.{Seen}
 use Rattle.dvg_items.specs.Lit.{relative_corners}
 use Rattle.dvg_items.specs.declared.item.Kind.TheVariants.{Shape}
 use Rattle.dvg_items.specs.declared.known.Known.{Known}
-use Rattle.dvg_items.proofs.LeastBoxes.{IsJoined}
 use Rattle.dvg_items.proofs.Near.{next_near}
 use Rattle.dvg_check.specs.Private.Tails.{first_seen, IsNearBox}
 use Rattle.dvg_check.proofs.TailSizes.{IsNearBox-more}
-use Rattle.dvg_explain.specs.Private.Lighting.{Lit, Tail, relative_part, absolute_part}
+use Rattle.dvg_explain.specs.Private.Lighting.{AreJoined, Lit, Tail, relative_part, absolute_part}
 use Rattle.dvg_explain.proofs.TailLaws.{before, ending, part_near, seen_first}
 use Rattle.dvg_explain.proofs.tails.tail_at.Goals as goal
 use Rattle.dvg_explain.proofs.tails.tail_at.Goals.{in-Some+in_ok-tail-in-Some, in-None}
 
-pub lit_behind-behind-requires-clause-lit : goal.lit_behind-behind-requires-clause-lit
-lit_behind-behind-requires-clause-lit g c =
+pub lit_over-lit-requires-clause-lit : goal.lit_over-lit-requires-clause-lit
+lit_over-lit-requires-clause-lit g c =
     let tail : Tail = c.in_ok-tail-in-Some.tail.now in
     IsNearBox-more (ADDRESS_END + 2 - tail.addr) (ADDRESS_END + 2) tail.lit.relative (omega arith)
     (c.in_ok-tail-in-Some.ensures.tail c.args.rom.now (g.E.Entries.list c.args.entries.now) c.requires.tails).near
@@ -38,26 +37,25 @@ returns-clause-tail g c =
     let after = subst (λ (n : ℕ). IsNearPlace (n + 1) c.see-seen.result.after.place) first_at (c.see-seen.ensures.sound).place_after in
     elim c.match-next_place.branch [
       | in-Some+in_ok-tail-in-Some w ↦
-      let tail : Tail = w.in_ok-tail-in-Some.tail.now in
-      let h = w.in_ok-tail-in-Some.ensures in
-      let goes : next_place Shape i ≡ Some w.in-Some.next = sym c.next_place.ensures ∙ w.in-Some.is in
-      let scale = ap (λ (k : Known). k.scale) same.1 in
-      let place : End = (first_seen list key i).after.place in
-      let at_place : c.see-seen.result.after.place ≡ place = ap (λ (k : Known). k.place) same.1 in
-      let whole : Tail = record { addr = i.at; key = key; lit = c.match-next_place.lit } in
-      let boxes = w.lit_behind-behind.ensures ∙ ap (λ (p : End). record { relative = relative_part p tail.lit.relative; absolute = absolute_part p tail.lit.relative }) at_place in
-      let near : w.in-Some.next ≤ ADDRESS_END + 2 = next_near Shape i.at i.format i.instr w.in-Some.next c.requires.near c.requires.fields goes in
-      before c.args.rom.now list key c.see-seen.result.after.scale i w.in-Some.next c.requires.there goes scale tail whole c.lit_alone-alone.result h.addr h.key (h.tail c.args.rom.now list c.requires.tails) near refl refl lone c.lit_alone-alone.ensures.near
-      (subst (λ (l : Lit). IsJoined c.lit_alone-alone.result (relative_part place tail.lit.relative) l.relative) (sym w.lit-is)
-      (subst (λ (l : Lit). IsJoined c.lit_alone-alone.result l.relative w.joined.result) boxes
-      (record { first = w.joined.ensures.first; second = w.joined.ensures.second; least = w.joined.ensures.least })))
-      (subst (λ (l : Lit). IsJoined tail.lit.absolute (absolute_part place tail.lit.relative) l.absolute) (sym w.lit-is)
-      (subst (λ (l : Lit). IsJoined tail.lit.absolute l.absolute w.joined-in-Some.result) boxes
-      (record { first = w.joined-in-Some.ensures.first; second = w.joined-in-Some.ensures.second; least = w.joined-in-Some.ensures.least })))
-      (λ n h. part_near place tail.lit.relative n (subst (IsNearPlace 1) at_place after) h)
+          let tail : Tail = w.in_ok-tail-in-Some.tail.now in
+          let h = w.in_ok-tail-in-Some.ensures in
+          let goes : next_place Shape i ≡ Some w.in-Some.next = sym c.next_place.ensures ∙ w.in-Some.is in
+          let scale = ap (λ (k : Known). k.scale) same.1 in
+          let place : End = (first_seen list key i).after.place in
+          let at_place : c.see-seen.result.after.place ≡ place = ap (λ (k : Known). k.place) same.1 in
+          let whole : Tail = record { addr = i.at; key = key; lit = c.match-next_place.lit } in
+          let relative = subst (λ (l : Lit). AreJoined c.lit_alone-alone.result (relative_part place tail.lit.relative) l.relative) (sym w.lit-is)
+          (subst (λ (p : End). AreJoined c.lit_alone-alone.result (relative_part p tail.lit.relative) w.lit_over-lit.result.relative) at_place w.lit_over-lit.ensures.relative) in
+          let absolute = subst (λ (l : Lit). AreJoined tail.lit.absolute (absolute_part place tail.lit.relative) l.absolute) (sym w.lit-is)
+          (subst (λ (p : End). AreJoined tail.lit.absolute (absolute_part p tail.lit.relative) w.lit_over-lit.result.absolute) at_place w.lit_over-lit.ensures.absolute) in
+          let near : w.in-Some.next ≤ ADDRESS_END + 2 = next_near Shape i.at i.format i.instr w.in-Some.next c.requires.near c.requires.fields goes in
+          before c.args.rom.now list key c.see-seen.result.after.scale i w.in-Some.next c.requires.there goes scale tail whole c.lit_alone-alone.result h.addr h.key (h.tail c.args.rom.now list c.requires.tails) near refl refl lone c.lit_alone-alone.ensures.near
+          (record { first = relative.first; second = relative.second; least = relative.least })
+          (record { first = absolute.first; second = absolute.second; least = absolute.least })
+          (λ n h. part_near place tail.lit.relative n (subst (IsNearPlace 1) at_place after) h)
       | in-None w ↦
-      ending c.args.rom.now list key i c.requires.there (sym c.next_place.ensures ∙ w.in-None.is) (record { addr = i.at; key = key; lit = c.match-next_place.lit }) c.requires.near refl refl
-      (subst (λ (l : Lit). IsLeast (relative_corners (first_seen list key i).extent (Rel (pos 0) (pos 0))) l.relative) (sym w.lit-is) lone)
-      (subst (λ (l : Lit). IsNearBox 1 l.relative) (sym w.lit-is) c.lit_alone-alone.ensures.near)
-      (ap (λ (l : Lit). l.absolute) w.lit-is)
+          ending c.args.rom.now list key i c.requires.there (sym c.next_place.ensures ∙ w.in-None.is) (record { addr = i.at; key = key; lit = c.match-next_place.lit }) c.requires.near refl refl
+          (subst (λ (l : Lit). IsLeast (relative_corners (first_seen list key i).extent (Rel (pos 0) (pos 0))) l.relative) (sym w.lit-is) lone)
+          (subst (λ (l : Lit). IsNearBox 1 l.relative) (sym w.lit-is) c.lit_alone-alone.ensures.near)
+          (ap (λ (l : Lit). l.absolute) w.lit-is)
     ]
