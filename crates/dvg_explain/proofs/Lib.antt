@@ -7,3 +7,4 @@ pub mod Tracing
 pub mod Coming
 pub mod Complete
 pub mod SameEntry
+pub mod Bearing
