@@ -5,25 +5,34 @@ use crate::account_numbers::Name;
 use crate::account_why::{
     Addresses, HALT_IN_SHAPE, MissingWord, OddWords, UNKNOWN_SCALE, odd_words,
 };
-use dvg_cert::MOST_WORDS;
+use dvg_cert::{Cert, Entries, Key, ListIndex, MOST_WORDS};
+use dvg_explain::{Call, deepest_calls};
 use dvg_items::Kind;
-use dvg_make::{EntryCause, EntryFault, Link, MakeAccount, MakeFault};
+use dvg_make::{EntryCause, EntryFault, Link, MakeAccount, MakeFault, make};
 use dvg_words::RomImage;
-use std::alloc::AllocError;
+use std::alloc::{AllocError, Global};
+use std::slice;
 
-/// A refusal of the maker: what it tells, the item, where there is one, its words, and those of the ROM.
+/// A refusal of the maker: what it tells, the item, where there is one, its words, and those of the ROM; and where calls go too deep,
+/// those below what the item calls.
 #[derive(Drop)]
 pub struct MakingAccount {
     account: MakeAccount,
     item: Option<ItemAccount>,
     odd: OddWords,
     list: Addresses,
+    below: Vec<Call>,
 }
 
 impl MakingAccount {
     /// The account of a refusal over a ROM.
-    pub fn new(rom: &RomImage, account: MakeAccount) -> MakingAccount {
+    pub fn new(
+        alloc: Global,
+        rom: &RomImage,
+        account: MakeAccount,
+    ) -> Result<MakingAccount, AllocError> {
         let at = account.at;
+        let below = calls_below(alloc, rom, account.cause)?;
         let item = account.chain.last().map(|link| ItemAccount::new(
             rom,
             Kind::Shape,
@@ -32,17 +41,45 @@ impl MakingAccount {
             account.before,
             None,
         ));
-        MakingAccount {
+        Ok(MakingAccount {
             account,
             item,
             odd: odd_words(rom, at),
             list: Addresses::of_map(rom.map()),
-        }
+            below,
+        })
     }
 
     /// The number of the refusal.
     pub fn number(&self) -> u8 {
         MakeFault::from(self.account.fault.why).number()
+    }
+}
+
+/// The calls below what an item calls, where calls go too deep by it, by the certificate of that shape alone.
+fn calls_below(alloc: Global, rom: &RomImage, cause: EntryCause) -> Result<Vec<Call>, AllocError> {
+    let EntryCause::Deep { to, scale } = cause else {
+        return Ok(Vec::new(alloc));
+    };
+    match make(alloc, rom, slice::from_ref(&(to, scale))) {
+        Ok(cert) => calls_below_entry(alloc, rom, &cert, to, scale),
+        Err(MakeFault::Memory) => Err(AllocError),
+        Err(_) => Ok(Vec::new(alloc)),
+    }
+}
+
+/// The calls below the entry at this address and scale that go deepest.
+fn calls_below_entry(
+    alloc: Global,
+    rom: &RomImage,
+    cert: &Cert,
+    addr: u16,
+    scale: Key,
+) -> Result<Vec<Call>, AllocError> {
+    let entries = ListIndex::new(cert);
+    match entries.find(addr, scale) {
+        Some(entry) => deepest_calls(alloc, rom, cert, &entries, &entry),
+        None => Ok(Vec::new(alloc)),
     }
 }
 
@@ -107,6 +144,13 @@ pub fn push_making(text: &mut String, making: &MakingAccount) -> Result<(), Allo
     push_links(text, &making.account)?;
     match making.account.cause {
         EntryCause::Ring { from } => push_ring(text, &making.account.chain, from),
+        EntryCause::Deep { to, scale } => {
+            let called = Name {
+                addr: to,
+                key: scale,
+            };
+            push_below(text, called, &making.below)
+        }
         _ => Ok(()),
     }
 }
@@ -141,6 +185,18 @@ fn push_ring(text: &mut String, chain: &[Link], from: usize) -> Result<(), Alloc
     for link in chain.iter().skip(from) {
         let name = name_of(link);
         writeln!(text, "ring: {name}")?;
+    }
+    Ok(())
+}
+
+/// Adds the calls that go deepest below the shape of this name.
+fn push_below(text: &mut String, called: Name, calls: &[Call]) -> Result<(), AllocError> {
+    let mut caller = called;
+    for call in calls {
+        let at = call.at;
+        let name = Name::of(&call.entry);
+        writeln!(text, "below: {caller} at {at:03X} leads to {name}")?;
+        caller = name;
     }
     Ok(())
 }

@@ -5,7 +5,7 @@ use crate::account_making::MakingAccount;
 use crate::account_text::text_of;
 use dvg_cert::Cert;
 use dvg_check::{Mode, Yes};
-use dvg_make::{EntryCause, EntryFault, FrameRefusal, explain_making};
+use dvg_make::{EntryCause, EntryFault, FrameRefusal, MakeAccount, explain_making};
 use dvg_words::{FrameImage, RomImage, RomMap, Window};
 use std::alloc::{AllocError, Global};
 use std::slice;
@@ -37,10 +37,18 @@ fn making_of(alloc: Global, rom: &[u8], map: RomMap, frame: &[u8]) -> Result<Mak
     };
     match explain_making(alloc, &rom, &[], slice::from_ref(&frame)) {
         Ok(cert) => Ok(Making::Made(cert)),
-        Err(account) => match account.cause {
-            EntryCause::Memory => Err(AllocError),
-            _ => Ok(Making::Refused(MakingAccount::new(&rom, account))),
-        },
+        Err(account) => refused(alloc, &rom, account),
+    }
+}
+
+/// The account of a refusal of the maker, but where memory was out.
+fn refused(alloc: Global, rom: &RomImage, account: MakeAccount) -> Result<Making, AllocError> {
+    if account.cause == EntryCause::Memory {
+        return Err(AllocError);
+    }
+    match MakingAccount::new(alloc, rom, account) {
+        Ok(making) => Ok(Making::Refused(making)),
+        Err(error) => Err(error),
     }
 }
 

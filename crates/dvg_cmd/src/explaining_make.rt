@@ -66,7 +66,10 @@ fn length_why(fault: FramesRunFault, frames: &[FrameBytes]) -> PlainWhy {
 
 /// The text of the account of a refusal of the maker.
 fn refused_text(alloc: Global, rom: &RomImage, account: MakeAccount) -> Result<String, AllocError> {
-    text_of(alloc, &Account::Making(MakingAccount::new(rom, account)))
+    match MakingAccount::new(alloc, rom, account) {
+        Ok(making) => text_of(alloc, &Account::Making(making)),
+        Err(error) => Err(error),
+    }
 }
 
 /// The text of the account of a certificate that is made.

@@ -10,3 +10,4 @@ pub mod SameEntry
 pub mod TailPoints
 pub mod TailLaws
 pub mod TailRows
+pub mod Bearing

@@ -53,10 +53,10 @@ module _ (c : Context) (word : ℕ → Option ℕ) (first : ℕ) where
       pub seen_is : v ≡ seen_at c items v.item
       seen_is = s.seen ∙ ap (λ (k : Known). seen_with (callee_at c.list (target c.kind v.item.instr) k.scale) k v.item) w.knows
 
-      here_leads : LeadsTo c.kind word first items v.item.at
+      pub here_leads : LeadsTo c.kind word first items v.item.at
       here_leads = subst (λ p. LeadsTo c.kind word first items p) (sym s.at) w.leads
 
-      here_stands : cell_at word v.item.at ≡ Holds v.item.format v.item.instr
+      pub here_stands : cell_at word v.item.at ≡ Holds v.item.format v.item.instr
       here_stands = ap (cell_at word) s.at ∙ s.stands
 
       pub goes_on : (step : Step) (next : Cursor) → step ≡ Onward next → step ≡ step_past c.kind v → IsSoundStep step → Walked c word first (v.item ∷ items) next

@@ -3,4 +3,5 @@ pub mod Margins
 pub mod Causes
 pub mod Calls
 pub mod Chains
+pub mod Deepest
 pub mod Private

@@ -55,7 +55,7 @@ impl Start {
 }
 
 /// What the rules see of the item at a cursor, `None` where no item stands.
-fn see<F: Fetch, E: Entries>(memory: &F, entries: &E, kind: Kind, here: &Cursor) -> Option<Seen>
+pub fn see<F: Fetch, E: Entries>(memory: &F, entries: &E, kind: Kind, here: &Cursor) -> Option<Seen>
     requires entries { IsSomeCertificate (E.list entries.now) }
     requires here { IsSoundCursor here.now }
     ensures some { IfSome result (IsSeenAt (E.list entries.now) kind (F.words memory.now) here.now) }

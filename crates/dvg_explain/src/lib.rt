@@ -4,13 +4,15 @@
 //! [`explain_frame`] and [`explain_shapes`] judge as the checker does. With the first fault they answer what is known there and a
 //! cause, and their contracts say that each number of it is the rule's own.
 //!
-//! [`frame_calls`] and [`find_chain`] tell what a frame calls and by which calls it comes to a shape, [`frame_extent`] and
-//! [`shapes_extent`] where something may be lit, and [`Margins`] how far that is from the edges of the window.
+//! [`frame_calls`] and [`find_chain`] tell what a frame calls and by which calls it comes to a shape, [`deepest_calls`] which calls
+//! below a shape go deepest, [`frame_extent`] and [`shapes_extent`] where something may be lit, and [`Margins`] how far that is from
+//! the edges of the window.
 #![tactic(auto)]
 
 mod breaking;
 mod calls;
 mod chains;
+mod deepest;
 mod frames;
 mod items;
 mod leaving;
@@ -21,6 +23,7 @@ mod tails;
 
 pub use calls::{Call, frame_calls, frame_extent};
 pub use chains::find_chain;
+pub use deepest::deepest_calls;
 pub use frames::{FrameAccount, FrameCause, explain_frame};
 pub use leaving::{BoxLeaving, Edge, Leaving, leaves_box, leaves_window};
 pub use margins::Margins;

@@ -1,0 +1,9 @@
+use Rattle.std.proofs.Common.{List, Contains, subst, sym, ◌∙◌}
+use Rattle.dvg_cert.specs.declared.entry.Entry.{Entry}
+use Rattle.dvg_items.proofs.Listed.{listed_at}
+use Rattle.dvg_cmd.proofs.account_making.calls_below_entry.Goals as goal
+
+pub deepest_calls-requires-clause-entry : goal.deepest_calls-requires-clause-entry
+deepest_calls-requires-clause-entry c =
+    subst (λ (es : List Entry). Contains es c.in-Some.entry) c.new-entries.ensures
+    (listed_at c.new-entries.result c.args.addr c.args.scale c.in-Some.entry (sym c.find.ensures ∙ c.in-Some.is)).listed
