@@ -4,7 +4,7 @@ use crate::expecting::{expect, expect_same};
 use dvg_cert::{End, Entries, Entry, HashIndex, Key, ListIndex, LitBox, read_cert};
 use dvg_check::{JudgedShapes, Mode};
 use dvg_explain::{
-    BoxLeaving, Call, Edge, FrameCause, Leaving, Margins, ShapeCause, deepest_calls, explain_frame,
+    BoxLeaving, Call, Edge, FrameCause, Leaving, Margins, ShapeCause, explain_frame,
     explain_shapes, find_chain, frame_calls, frame_extent, shapes_extent,
 };
 use dvg_words::{FrameImage, Point, RomImage, SCREEN};
@@ -312,88 +312,6 @@ fn finds_chains(rt: HostRuntime) {
             Some(Some(told)) => expect_same(&rt, &Some(told.as_slice()), &chain, &addr),
             Some(None) => expect_same(&rt, &None, &chain, &addr),
             None => expect(&rt, false, &addr),
-        }
-    }
-}
-
-/// Bytes that a ROM begins with, zeros elsewhere, a certificate, and the calls that go deepest below its entry for 800: where they
-/// stand, and what they call.
-const DEEPEST: &[(&[u8], &[u8], &[(u16, u16)])] = &[
-    // JSRL 804, JSRL 805, JSRL 805 and RTSL; RTSL at 804; JSRL 804 and RTSL at 805
-    (
-        &[
-            0x04, 0xC8, 0x05, 0xC8, 0x05, 0xC8, 0x00, 0xD0, 0x00, 0xD0, 0x04, 0xC8, 0x00, 0xD0,
-        ],
-        b"dvgcert 1\n\
-shape 800 any end rel 0 0 box none depth 2 words 11 scale any\n\
-shape 804 any end rel 0 0 box none depth 0 words 1 scale any\n\
-shape 805 any end rel 0 0 box none depth 1 words 3 scale any\n\
-done 3\n",
-        &[(0x801, 0x805), (0x805, 0x804)],
-    ),
-    // JSRL 802 and RTSL; JMPL 803 at 802; JSRL 805 and RTSL at 803; RTSL at 805
-    (
-        &[
-            0x02, 0xC8, 0x00, 0xD0, 0x03, 0xE8, 0x05, 0xC8, 0x00, 0xD0, 0x00, 0xD0,
-        ],
-        b"dvgcert 1\n\
-shape 800 any end rel 0 0 box none depth 2 words 6 scale any\n\
-shape 802 any end rel 0 0 box none depth 1 words 4 scale any\n\
-shape 803 any end rel 0 0 box none depth 1 words 3 scale any\n\
-shape 805 any end rel 0 0 box none depth 0 words 1 scale any\n\
-done 4\n",
-        &[(0x800, 0x802), (0x802, 0x803), (0x803, 0x805)],
-    ),
-    // JMPL 801 and RTSL, of depth 0
-    (
-        &[0x01, 0xE8, 0x00, 0xD0],
-        b"dvgcert 1\n\
-shape 800 any end rel 0 0 box none depth 0 words 2 scale any\n\
-shape 801 any end rel 0 0 box none depth 0 words 1 scale any\n\
-done 2\n",
-        &[],
-    ),
-    // a claim that no call bears out: JSRL 802 and RTSL, and RTSL
-    (
-        &[0x02, 0xC8, 0x00, 0xD0, 0x00, 0xD0],
-        b"dvgcert 1\n\
-shape 800 any end rel 0 0 box none depth 2 words 3 scale any\n\
-shape 802 any end rel 0 0 box none depth 0 words 1 scale any\n\
-done 2\n",
-        &[],
-    ),
-    // JMPL 801 and JMPL 800, whose claims go round
-    (
-        &[0x01, 0xE8, 0x00, 0xE8],
-        b"dvgcert 1\n\
-shape 800 any end rel 0 0 box none depth 1 words 2 scale any\n\
-shape 801 any end rel 0 0 box none depth 1 words 2 scale any\n\
-done 2\n",
-        &[(0x800, 0x801), (0x801, 0x800)],
-    ),
-];
-
-/// Where the calls stand that go deepest below the entry for 800, and what they call.
-fn told_of_deepest(alloc: Global, head: &[u8], cert: &[u8]) -> Option<Vec<(u16, u16)>> {
-    let mut bytes = [0; 2048];
-    bytes[..head.len()].copy_from_slice(head);
-    let cert = read_cert(alloc, cert).ok()?;
-    let rom = RomImage::from_bytes(&bytes, cert.map()).ok()?;
-    let entries = HashIndex::new(alloc, &cert).ok()?;
-    let entry = cert.entries().first()?;
-    let mut told = Vec::new(alloc);
-    for call in &deepest_calls(alloc, &rom, &cert, &entries, entry).ok()? {
-        told.push((call.at, call.entry.addr)).ok()?;
-    }
-    Some(told)
-}
-
-#[test]
-fn tells_deepest_calls(rt: HostRuntime) {
-    for &(head, cert, calls) in DEEPEST {
-        match told_of_deepest(rt.alloc(), head, cert) {
-            Some(told) => expect_same(&rt, &told.as_slice(), &calls, &cert),
-            None => expect(&rt, false, &cert),
         }
     }
 }
