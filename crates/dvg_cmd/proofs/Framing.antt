@@ -1,9 +1,9 @@
 -- What a frame comes to, over plain values.
-use Rattle.std.proofs.Common.{◌≡◌, ℕ, List, Option, None, Some, length, take, drop, ◌++◌, ap, ◌∙◌, arith}
+use Rattle.std.proofs.Common.{◌≡◌, ℕ, List, Option, None, Some, length, take, drop, ◌++◌, ap, ◌∙◌, subst, arith}
 use Rattle.std.proofs.lemmas.Grind.{common_steps}
 use Rattle.std.specs.Prelude.{Result, Ok, Err, IfOk, IfErr, IfSome}
 use Rattle.dvg_words.specs.Values.{MemoryMap, Window}
-use Rattle.dvg_words.specs.Memory.{words_of, rom_of, IsRomLength, IsFrameLength}
+use Rattle.dvg_words.specs.Memory.{Rom, words_of, rom_of, IsRomLength, IsFrameLength}
 use Rattle.dvg_words.specs.declared.image.ImageFault.TheVariants.{RomLength, FrameLength}
 use Rattle.dvg_check.specs.Safety.{Safe, CountsAtHalt}
 use Rattle.dvg_check.specs.Verdict.{InRange}
@@ -13,6 +13,7 @@ use Rattle.dvg_make.specs.declared.judging.FrameRefusal.{FrameRefusal}
 use Rattle.dvg_make.specs.declared.judging.FrameRefusal.TheVariants.{Make, NoMemory, Check}
 use Rattle.dvg_make.specs.Judging.{AreLeast, FrameRefused, FrameVerdict as JudgeVerdict}
 use Rattle.dvg_cmd.specs.Frames.{started, IsReadFrom, ReadsFrame, FrameVerdict, IsRefused, IsJudgedRefusal}
+use Rattle.dvg_cmd.specs.Private.Judging.{AreImages}
 use Rattle.dvg_cmd.specs.Private.Reading.{limited, IsPrefix}
 use Rattle.dvg_cmd.proofs.Whole.{prefix_of_held, frame_same}
 
@@ -63,3 +64,25 @@ module _ (rom : List ℕ) (map : MemoryMap) (bytes : List ℕ) (budget : ℕ) (w
       → FrameVerdict rom map bytes budget w v
   frame_verdict (Ok y) safe exact least none own = record { in_range = range; rom_length = long; safe = safe; exact = exact; least = least; by_own = own }
   frame_verdict (Err r) safe exact least h own = refused r own h
+
+-- what the judge says of a frame's words over a ROM
+record Said (w : Window) (budget : ℕ) (words : List ℕ) (image : Rom) (v : Result Yes FrameRefusal) : Type 0 where
+  safe : IfOk v (λ yes. Safe (record { frame = words; rom = image }) w yes.words yes.depth)
+  exact : IfOk v (λ yes. CountsAtHalt (record { frame = words; rom = image }) yes.words yes.depth)
+  least : IfOk v (λ yes. AreLeast image words w yes.words yes.depth)
+  refuses : IfErr v (FrameRefused image words w budget)
+  own : JudgeVerdict image words w budget v
+
+-- what the judge says of the images of these bytes
+pub own_verdict : (rom : List ℕ) (map : MemoryMap) (bytes : List ℕ) (budget : ℕ) (w : Window) (words : List ℕ) (image : Rom) → AreImages rom map bytes budget words image
+    → (v : Result Yes FrameRefusal)
+    → IfOk v (λ yes. Safe (record { frame = words; rom = image }) w yes.words yes.depth)
+    → IfOk v (λ yes. CountsAtHalt (record { frame = words; rom = image }) yes.words yes.depth)
+    → IfOk v (λ yes. AreLeast image words w yes.words yes.depth)
+    → IfErr v (FrameRefused image words w budget)
+    → JudgeVerdict image words w budget v
+    → FrameVerdict rom map bytes budget w v
+own_verdict rom map bytes budget w words image a v safe exact least refused own =
+    let said : Said w budget words image v = record { safe = safe; exact = exact; least = least; refuses = refused; own = own } in
+    let all = subst (λ x. Said w budget x (rom_of map rom) v) a.words_are (subst (λ y. Said w budget words y v) a.rom_is said) in
+    frame_verdict rom map bytes budget w a.in_range a.rom_length v all.safe all.exact all.least all.refuses all.own

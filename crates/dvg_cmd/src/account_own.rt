@@ -1,14 +1,16 @@
 //! The account of an answer to a frame that is judged by its own certificate.
 
+ghost use Rattle.dvg_cmd.specs.Frames.{FrameVerdict};
+
 use crate::account::{Account, Inputs, PlainWhy};
 use crate::account_making::MakingAccount;
 use crate::account_text::text_of;
+use crate::judging::images_for;
 use dvg_cert::Cert;
 use dvg_check::{Mode, Yes};
-use dvg_make::{EntryCause, EntryFault, FrameRefusal, MakeAccount, explain_making};
-use dvg_words::{FrameImage, RomImage, RomMap, Window};
+use dvg_make::{EntryFault, FrameRefusal, MakeAccount, explain_judging};
+use dvg_words::{RomImage, RomMap, Window};
 use std::alloc::{AllocError, Global};
-use std::slice;
 
 /// The account of a frame for whose certificate there was no memory.
 fn no_memory() -> Account {
@@ -18,41 +20,65 @@ fn no_memory() -> Account {
     }
 }
 
-/// What the maker comes to for a frame.
+/// What the maker came to for a frame.
 #[derive(Drop)]
 enum Making {
-    /// The ROM or the frame has a wrong length.
+    /// It was not asked: the ROM, the frame or the budget is refused.
     Unasked,
     Made(Cert),
     Refused(MakingAccount),
 }
 
-/// What the maker comes to for the bytes of a frame, over those of a ROM at this map.
-fn making_of(alloc: Global, rom: &[u8], map: RomMap, frame: &[u8]) -> Result<Making, AllocError> {
-    let Ok(rom) = RomImage::from_bytes(rom, map) else {
-        return Ok(Making::Unasked);
-    };
-    let Ok(frame) = FrameImage::from_bytes(frame) else {
-        return Ok(Making::Unasked);
-    };
-    match explain_making(alloc, &rom, &[], slice::from_ref(&frame)) {
+/// The verdict on a frame by its own certificate, and what the maker came to, unless there was no memory for the account of that.
+#[derive(Drop)]
+pub struct OwnVerdict {
+    pub verdict: Result<Yes, FrameRefusal>,
+    making: Result<Making, AllocError>,
+}
+
+/// What the maker came to over a ROM.
+fn making_of(
+    alloc: Global,
+    rom: &RomImage,
+    made: Result<Cert, MakeAccount>,
+) -> Result<Making, AllocError> {
+    match made {
         Ok(cert) => Ok(Making::Made(cert)),
-        Err(account) => refused(alloc, &rom, account),
+        Err(account) => match MakingAccount::new(alloc, rom, account) {
+            Ok(making) => Ok(Making::Refused(making)),
+            Err(error) => Err(error),
+        },
     }
 }
 
-/// The account of a refusal of the maker, but where memory was out.
-fn refused(alloc: Global, rom: &RomImage, account: MakeAccount) -> Result<Making, AllocError> {
-    if account.cause == EntryCause::Memory {
-        return Err(AllocError);
-    }
-    match MakingAccount::new(alloc, rom, account) {
-        Ok(making) => Ok(Making::Refused(making)),
-        Err(error) => Err(error),
+/// Judges the bytes of a frame as [`judge_alone`](crate::judging::judge_alone) does, over those of a ROM at this map, and keeps what
+/// the maker came to.
+pub fn judge_own(
+    alloc: Global,
+    rom: &[u8],
+    map: RomMap,
+    frame: &[u8],
+    budget: u32,
+    window: Window,
+) -> OwnVerdict
+    ensures { FrameVerdict rom.now map frame.now budget window result.verdict }
+{
+    match images_for(rom, map, frame, budget) {
+        Ok((frame, rom)) => {
+            let judged = explain_judging(alloc, &rom, &frame, budget, window);
+            OwnVerdict {
+                verdict: judged.verdict,
+                making: making_of(alloc, &rom, judged.made),
+            }
+        }
+        Err(refusal) => OwnVerdict {
+            verdict: Err(FrameRefusal::Check(refusal)),
+            making: Ok(Making::Unasked),
+        },
     }
 }
 
-/// The account of a verdict on the bytes of a frame, by the certificate that is made for it once more.
+/// The account of a verdict on the bytes of a frame, by its own certificate.
 fn own_account(
     alloc: Global,
     rom: &[u8],
@@ -60,19 +86,9 @@ fn own_account(
     frame: &[u8],
     budget: u32,
     window: Window,
-    verdict: &Result<Yes, FrameRefusal>,
+    own: OwnVerdict,
 ) -> Result<Account, AllocError> {
-    if let Err(
-        FrameRefusal::NoMemory
-        | FrameRefusal::Make {
-            why: EntryFault::Memory,
-            ..
-        },
-    ) = verdict
-    {
-        return Ok(no_memory());
-    }
-    let made = match making_of(alloc, rom, map, frame) {
+    let made = match own.making {
         Ok(Making::Unasked) => None,
         Ok(Making::Made(cert)) => Some(cert),
         Ok(Making::Refused(making)) => return Ok(Account::Making(making)),
@@ -86,7 +102,7 @@ fn own_account(
         frame,
         budget,
         window,
-        verdict,
+        &own.verdict,
     )
 }
 
@@ -121,9 +137,19 @@ pub fn own_account_text(
     frame: &[u8],
     budget: u32,
     window: Window,
-    verdict: &Result<Yes, FrameRefusal>,
+    own: OwnVerdict,
 ) -> Result<String, AllocError> {
-    match own_account(alloc, rom, map, frame, budget, window, verdict) {
+    let account = match own.verdict {
+        Err(
+            FrameRefusal::NoMemory
+            | FrameRefusal::Make {
+                why: EntryFault::Memory,
+                ..
+            },
+        ) => Ok(no_memory()),
+        _ => own_account(alloc, rom, map, frame, budget, window, own),
+    };
+    match account {
         Ok(account) => text_of(alloc, &account),
         Err(error) => Err(error),
     }

@@ -1,14 +1,14 @@
 //! The text of an account, line by line.
 
 use crate::account::{AcceptedAccount, Account, Chain, Inputs, MadeAccount, PlainWhy};
-use crate::account_item::push_item;
+use crate::account_item::{ItemAccount, push_item};
 use crate::account_making::{MakingAccount, push_making, push_making_why};
 use crate::account_numbers::{Claims, Distance, Name, Within};
-use crate::account_why::{Addresses, FrameWhyText, ShapeWhyText};
+use crate::account_why::{Addresses, FrameWhyText, OddWords, ShapeWhyText};
 use crate::rules::rule_of;
 use dvg_cert::{Entry, LitBox, MOST_DEPTH, MOST_ENTRIES, MOST_WORDS};
 use dvg_check::{Refusal, Yes};
-use dvg_explain::{Call, Margins};
+use dvg_explain::{Call, FrameAccount, Margins, ShapeAccount};
 use dvg_words::Window;
 use std::alloc::{AllocError, Global};
 use std::fmt;
@@ -41,41 +41,52 @@ fn push_account(text: &mut String, account: &Account) -> Result<(), AllocError> 
             item,
             odd,
             list,
-        } => {
-            let number = account.finding.fault.number();
-            let why = FrameWhyText {
-                account,
-                odd: *odd,
-                list: *list,
-            };
-            push_rule(text, number)?;
-            writeln!(text, "why: {why}")?;
-            push_item(text, item)?;
-            push_cure(text, number)
-        }
+        } => push_frame(text, account, item, *odd, *list),
         Account::Shape {
             account,
             item,
             odd,
             list,
             chain,
-        } => {
-            let number = account.finding.fault.number();
-            let why = ShapeWhyText {
-                account,
-                odd: *odd,
-                list: *list,
-            };
-            push_rule(text, number)?;
-            writeln!(text, "why: {why}")?;
-            push_item(text, item)?;
-            push_claimed(text, &account.finding.entry, chain)?;
-            push_cure(text, number)
-        }
+        } => push_shape(text, account, item, *odd, *list, chain),
         Account::Making(making) => push_refused(text, making),
         Account::Accepted(accepted) => push_accepted(text, accepted),
         Account::Made(made) => push_made(text, made),
     }
+}
+
+/// Adds what is told of an item of a frame.
+fn push_frame(
+    text: &mut String,
+    account: &FrameAccount,
+    item: &ItemAccount,
+    odd: OddWords,
+    list: Addresses,
+) -> Result<(), AllocError> {
+    let number = account.finding.fault.number();
+    let why = FrameWhyText { account, odd, list };
+    push_rule(text, number)?;
+    writeln!(text, "why: {why}")?;
+    push_item(text, item)?;
+    push_cure(text, number)
+}
+
+/// Adds what is told of an item of a shape, and how the frame comes to the shape.
+fn push_shape(
+    text: &mut String,
+    account: &ShapeAccount,
+    item: &ItemAccount,
+    odd: OddWords,
+    list: Addresses,
+    chain: &Chain,
+) -> Result<(), AllocError> {
+    let number = account.finding.fault.number();
+    let why = ShapeWhyText { account, odd, list };
+    push_rule(text, number)?;
+    writeln!(text, "why: {why}")?;
+    push_item(text, item)?;
+    push_claimed(text, &account.finding.entry, chain)?;
+    push_cure(text, number)
 }
 
 /// Adds what is told of a refusal before any item was looked at.

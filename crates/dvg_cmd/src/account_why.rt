@@ -417,9 +417,7 @@ fn write_claim<W: fmt::Write>(
     cause: ShapeCause,
 ) -> fmt::Result {
     let Entry {
-        stop,
         words: claimed,
-        scale,
         depth,
         ..
     } = *entry;
@@ -434,6 +432,24 @@ fn write_claim<W: fmt::Write>(
                 "{words} words with it, and the entry claims {claimed}: over by {over}"
             )
         }
+        _ => write_end_claim(f, entry, cause),
+    }
+}
+
+/// What of an entry's claims the end of its shape breaks; nothing where the cause is another one.
+fn write_end_claim<W: fmt::Write>(
+    f: &mut fmt::Formatter<W>,
+    entry: &Entry,
+    cause: ShapeCause,
+) -> fmt::Result {
+    let Entry {
+        stop,
+        words: claimed,
+        scale,
+        depth,
+        ..
+    } = *entry;
+    match cause {
         ShapeCause::EndDiffers(end) => {
             let place = Place(end);
             let claim = ClaimedEnd(stop);

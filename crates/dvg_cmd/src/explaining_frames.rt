@@ -7,12 +7,10 @@ ghost use Rattle.dvg_cmd.specs.Frames.{FrameVerdict, VerdictOver, frame_outcome_
 ghost use Rattle.dvg_cmd.specs.Explaining.{AnswerExplained, AnswerExplainedPrefix, ExplainsFrame, ExplainsFramePrefix, Explained, ExplainedPrefix};
 
 use crate::account::{Account, Inputs, PlainWhy};
-use crate::account_own::{frame_account, own_account_text};
+use crate::account_own::{frame_account, judge_own, own_account_text};
 use crate::account_text::{account_text, text_of};
 use crate::explaining::{NO_ACCOUNT, write_explained};
-use crate::judging::{
-    FrameAnswer, FrameOutcome, judge_alone, judge_over, read_started, write_line,
-};
+use crate::judging::{FrameAnswer, FrameOutcome, judge_over, read_started, write_line};
 use crate::running::{Outcome, RunFault};
 use dvg_cert::{Cert, CountedRead, CountedWrite, Entries, write_bytes};
 use dvg_check::{JudgedShapes, Mode, Refusal, Yes};
@@ -87,8 +85,8 @@ fn over_text(
 /// Reads a frame and judges it by its own certificate, as [`run_frame`](crate::run_frame) does, and writes the line that it would
 /// write, and behind it an account of the answer (docs/ACCOUNTS.md).
 ///
-/// Once the answer is known the certificate is made and judged by once more, for what the account says. Where there is no memory
-/// for the account, `account: out of memory` stands in its place, and the outcome says so.
+/// The account is told by the certificate that the frame was judged by. Where there is no memory for the account,
+/// `account: out of memory` stands in its place, and the outcome says so.
 pub fn run_explain_frame<R: CountedRead, W: CountedWrite>(
     alloc: Global,
     rom: &[u8],
@@ -111,16 +109,9 @@ pub fn run_explain_frame<R: CountedRead, W: CountedWrite>(
 {
     let (answer, account) = match read_started(frame, start) {
         Ok(bytes) => {
-            let verdict = judge_alone(alloc, rom, map, bytes.as_slice(), budget, window);
-            let account = own_account_text(
-                alloc,
-                rom,
-                map,
-                bytes.as_slice(),
-                budget,
-                window,
-                &verdict,
-            );
+            let own = judge_own(alloc, rom, map, bytes.as_slice(), budget, window);
+            let verdict = own.verdict;
+            let account = own_account_text(alloc, rom, map, bytes.as_slice(), budget, window, own);
             (FrameAnswer::Judged(verdict), account)
         }
         Err(_) => (FrameAnswer::Unread, unread_text(alloc)),

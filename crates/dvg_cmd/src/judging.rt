@@ -6,6 +6,9 @@ ghost use Rattle.dvg_cert.specs.Devices.{AppendsPrefix, count_after};
 ghost use Rattle.dvg_cmd.specs.Runs.{MOST_ROM_READ, MOST_FRAME_READ, IsReadTo, ReadsText, outcome_of};
 ghost use Rattle.dvg_cmd.specs.Report.{report_text};
 ghost use Rattle.dvg_cmd.specs.Status.{worse};
+ghost use Rattle.dvg_words.specs.Values.{Window as Places};
+ghost use Rattle.dvg_make.specs.declared.judging.FrameRefusal.TheVariants.{Check};
+ghost use Rattle.dvg_cmd.specs.Private.Judging.{AreImages};
 ghost use Rattle.dvg_cmd.specs.Frames.{FrameVerdict, VerdictOver, ReadsFrame, refusal_outcome_of, frame_outcome_of, frame_line, is_unread_outcome, ReportsFrame, ReportsFramePrefix};
 
 use crate::reading::{read_certificate, read_frame, read_rom};
@@ -16,7 +19,7 @@ use arrayvec::ArrayVec;
 use dvg_cert::{Cert, CertFault, CountedRead, CountedWrite, Entries, write_bytes};
 use dvg_check::{JudgedShapes, Refusal, Yes, frame_of};
 use dvg_make::{EntryFault, FrameRefusal, judge};
-use dvg_words::{RomImage, RomMap, Window};
+use dvg_words::{FrameImage, RomImage, RomMap, Window};
 use std::alloc::Global;
 use std::io;
 
@@ -137,6 +140,21 @@ pub fn read_started<R: CountedRead>(
     Ok(bytes)
 }
 
+/// The frame and the ROM of these bytes: answers the first that applies of 2, 49 and 1.
+pub fn images_for<'a>(
+    rom: &'a [u8],
+    map: RomMap,
+    frame: &'a [u8],
+    budget: u32,
+) -> Result<(FrameImage<'a>, RomImage<'a>), Refusal>
+    ensures ok { IfOk result (λ images. AreImages rom.now map frame.now budget images.0 images.1) }
+    ensures err { IfErr result (λ refusal. (w : Places) → FrameVerdict rom.now map frame.now budget w (Err (Check refusal))) }
+{
+    let frame = frame_of(frame, budget)?;
+    let rom = RomImage::from_bytes(rom, map)?;
+    Ok((frame, rom))
+}
+
 /// The verdict on the bytes of a frame by its own certificate, over the bytes of a ROM at this map: the first that applies of 2,
 /// 49 and 1, else that of [`judge`].
 pub fn judge_alone(
@@ -149,13 +167,9 @@ pub fn judge_alone(
 ) -> Result<Yes, FrameRefusal>
     ensures { FrameVerdict rom.now map frame.now budget window result }
 {
-    let frame = match frame_of(frame, budget) {
-        Ok(frame) => frame,
-        Err(refusal) => return Err(FrameRefusal::Check(refusal)),
-    };
-    match RomImage::from_bytes(rom, map) {
-        Ok(rom) => judge(alloc, &rom, &frame, budget, window),
-        Err(fault) => Err(FrameRefusal::Check(fault.into())),
+    match images_for(rom, map, frame, budget) {
+        Ok((frame, rom)) => judge(alloc, &rom, &frame, budget, window),
+        Err(refusal) => Err(FrameRefusal::Check(refusal)),
     }
 }
 

@@ -22,8 +22,7 @@ use Rattle.dvg_check.specs.declared.verdict.Refusal.TheVariants as refusal
 use Rattle.dvg_check.proofs.Faults.{no_fault, no_shape_fault, one_count}
 use Rattle.dvg_make.specs.Frames.{FrameMade}
 use Rattle.dvg_make.specs.Refusals.{EntryFault, Unstraight, Deep, TooManyWords, TooManyEntries, Memory, FrameCall, FramesFault, FramesRefuse, BarsList, BarsFrame, StopsAt}
-use Rattle.dvg_make.specs.Judging.{FrameVerdict, AreLeast, CheckMeans, FrameRefused, FrameRefusal, Make, NoMemory, Check}
-use Rattle.dvg_make.specs.Private.Framing.{MeansOne}
+use Rattle.dvg_make.specs.Judging.{FrameVerdict, AreLeast, CheckMeans, FrameRefused, FrameRefusal, Make, NoMemory, Check, IsRefusalBy}
 use Rattle.dvg_make.proofs.FrameBest.{none_better}
 
 -- ---- budgets
@@ -93,7 +92,7 @@ record Here (rom : Rom) (words : List ℕ) (at : ℕ) (why : EntryFault) : Type 
   stops : StopsAt rom words at why
   bars : BarsFrame rom words why
 
-here : (rom : Rom) (words : List ℕ) (fault : FramesFault) (at : ℕ) (why : EntryFault) → FramesRefuse rom [] (words ∷ []) fault → MeansOne fault (Make at why) → Here rom words at why
+here : (rom : Rom) (words : List ℕ) (fault : FramesFault) (at : ℕ) (why : EntryFault) → FramesRefuse rom [] (words ∷ []) fault → IsRefusalBy fault (Make at why) → Here rom words at why
 here rom words fault at why h e =
     let call : FrameCall = e.2.0 in
     let f = subst (λ (o : Option FrameCall). IfSome o (λ call. (other : List ℕ) × (slice_get (words ∷ []) call.frame ≡ Some other) × StopsAt rom other call.at fault.why × BarsFrame rom other fault.why)) e.2.1 h.frame in
@@ -110,13 +109,13 @@ no_memory rom words w budget at TooManyWords not h = h
 no_memory rom words w budget at TooManyEntries not h = h
 no_memory rom words w budget at Memory not h = absurd (not (λ i. Memory))
 
-pub made_refused : (rom : Rom) (words : List ℕ) (w : Window) (budget : ℕ) (fault : FramesFault) (r : FrameRefusal) → FramesRefuse rom [] (words ∷ []) fault → MeansOne fault r → FrameRefused rom words w budget r
+pub made_refused : (rom : Rom) (words : List ℕ) (w : Window) (budget : ℕ) (fault : FramesFault) (r : FrameRefusal) → FramesRefuse rom [] (words ∷ []) fault → IsRefusalBy fault r → FrameRefused rom words w budget r
 made_refused rom words w budget fault (Make at why) h e =
     no_memory rom words w budget at why e.1 (subst (BarsList rom [] (words ∷ [])) e.0 h.list, (here rom words fault at why h e).bars)
 made_refused rom words w budget fault NoMemory h e = tt
 made_refused rom words w budget fault (Check r) h e = absurd e
 
-pub made_verdict : (rom : Rom) (words : List ℕ) (w : Window) (budget : ℕ) (fault : FramesFault) (r : FrameRefusal) → FramesRefuse rom [] (words ∷ []) fault → MeansOne fault r → FrameVerdict rom words w budget (Err r)
+pub made_verdict : (rom : Rom) (words : List ℕ) (w : Window) (budget : ℕ) (fault : FramesFault) (r : FrameRefusal) → FramesRefuse rom [] (words ∷ []) fault → IsRefusalBy fault r → FrameVerdict rom words w budget (Err r)
 made_verdict rom words w budget fault (Make at why) h e = (here rom words fault at why h e).stops
 made_verdict rom words w budget fault NoMemory h e = tt
 made_verdict rom words w budget fault (Check r) h e = absurd e

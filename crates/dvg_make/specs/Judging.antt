@@ -1,5 +1,5 @@
 -- What a frame comes to by the certificate that is made for it. All of it is profile.
-use Rattle.std.specs.Prelude.{ℕ, ◌≤◌, List, [], ◌∷◌, Result, Ok, Err}
+use Rattle.std.specs.Prelude.{◌≡◌, ◌≢◌, ℕ, ◌≤◌, ◌⊎◌, List, [], ◌∷◌, Some, None, Result, Ok, Err}
 use Rattle.dvg_words.specs.Memory.{Rom}
 use Rattle.dvg_words.specs.Values.{Window}
 use Rattle.dvg_cert.specs.declared.entry.Entry.{Entry}
@@ -12,7 +12,7 @@ use Rattle.dvg_check.specs.declared.verdict.Refusal.TheVariants as refusal
 pub use Rattle.dvg_make.specs.declared.judging.FrameRefusal.{FrameRefusal}
 pub use Rattle.dvg_make.specs.declared.judging.FrameRefusal.TheVariants.{Make, NoMemory, Check}
 use Rattle.dvg_make.specs.Frames.{FrameMade}
-use Rattle.dvg_make.specs.Refusals.{Memory, Accepts, BarsList, BarsFrame, StopsAt}
+use Rattle.dvg_make.specs.Refusals.{Memory, FrameCall, FramesFault, Accepts, BarsList, BarsFrame, StopsAt}
 
 -- no certificate gets the frame accepted in this window with fewer words, or less depth (profile)
 abbrev pub AreLeast : Rom → List ℕ → Window → ℕ → ℕ → Type 0
@@ -51,3 +51,9 @@ FrameVerdict rom words w budget (Ok y) = ByMade rom words w budget (Ok y)
 FrameVerdict rom words w budget (Err (Check r)) = ByMade rom words w budget (Err r)
 FrameVerdict rom words w budget (Err (Make at why)) = StopsAt rom words at why
 FrameVerdict rom words w budget (Err NoMemory) = Unit {0}
+
+-- the refusal of a frame for whose certificate the maker has this fault: that memory is out, too, where it names no call (profile)
+abbrev pub IsRefusalBy : FramesFault → FrameRefusal → Type 0
+IsRefusalBy fault (Make at why) = (fault.why ≡ why) × (why ≢ Memory) × ((call : FrameCall) × (fault.call ≡ Some call) × (call.at ≡ at))
+IsRefusalBy fault NoMemory = (fault.call ≡ None) ⊎ (fault.why ≡ Memory)
+IsRefusalBy fault (Check r) = ⊥

@@ -1,14 +1,17 @@
 //! A frame judged by the certificate that is made for it.
 
-ghost use Rattle.std.specs.Prelude.{◌≡◌, ◌≤◌, IfOk, IfErr};
+ghost use Rattle.std.specs.Prelude.{◌≡◌, ◌≤◌, [], ◌∷◌, Err, IfOk, IfErr};
 ghost use Rattle.dvg_cert.specs.declared.limits.TheConstants.{MOST_WORDS};
 ghost use Rattle.dvg_check.specs.Safety.{Safe, CountsAtHalt};
+ghost use Rattle.dvg_make.specs.Accounts.{entry_fault, IsAccount};
+ghost use Rattle.dvg_make.specs.Frames.{FrameMade};
 ghost use Rattle.dvg_make.specs.Refusals.{FramesRefuse};
-ghost use Rattle.dvg_make.specs.Judging.{AreLeast, FrameRefused, FrameVerdict};
-ghost use Rattle.dvg_make.specs.Private.Framing.{MeansOne};
+ghost use Rattle.dvg_make.specs.Judging.{AreLeast, FrameRefused, FrameVerdict, IsRefusalBy};
 
+use crate::account::{MakeAccount, explain_making};
 use crate::fault::{EntryFault, FramesFault};
 use crate::maker::make_for_frames;
+use dvg_cert::Cert;
 use dvg_check::{Refusal, Yes, check_parts_exact};
 use dvg_words::{FrameImage, RomImage, Window};
 use std::alloc::Global;
@@ -27,11 +30,35 @@ pub enum FrameRefusal {
 
 /// The refusal of a frame for which no certificate was made.
 fn refusal_of(fault: &FramesFault) -> FrameRefusal
-    ensures { MeansOne fault.now result }
+    ensures { IsRefusalBy fault.now result }
 {
     match (fault.call, fault.why) {
         (None, _) | (_, EntryFault::Memory) => FrameRefusal::NoMemory,
         (Some(call), why) => FrameRefusal::Make { at: call.at, why },
+    }
+}
+
+/// The verdict on a frame by the certificate that is made for it.
+fn check_made(
+    alloc: Global,
+    rom: &RomImage,
+    frame: &FrameImage,
+    cert: &Cert,
+    budget: u32,
+    window: Window,
+) -> Result<Yes, FrameRefusal>
+    requires budget { budget ≤ MOST_WORDS }
+    requires map { rom.now.map ≡ cert.now.map }
+    requires made { FrameMade rom.now frame.now cert.now.entries }
+    ensures verdict { FrameVerdict rom.now frame.now window budget result }
+    ensures safe { IfOk result (λ yes. Safe (record { frame = frame.now; rom = rom.now }) window yes.words yes.depth) }
+    ensures exact { IfOk result (λ yes. CountsAtHalt (record { frame = frame.now; rom = rom.now }) yes.words yes.depth) }
+    ensures least { IfOk result (λ yes. AreLeast rom.now frame.now window yes.words yes.depth) }
+    ensures refused { IfErr result (FrameRefused rom.now frame.now window budget) }
+{
+    match check_parts_exact(alloc, rom, frame, cert, budget, window) {
+        Ok(yes) => Ok(yes),
+        Err(refusal) => Err(FrameRefusal::Check(refusal)),
     }
 }
 
@@ -57,12 +84,52 @@ pub fn judge(
     ensures least { IfOk result (λ yes. AreLeast rom.now frame.now window yes.words yes.depth) }
     ensures refused { IfErr result (FrameRefused rom.now frame.now window budget) }
 {
-    let cert = match make_for_frames(alloc, rom, &[], slice::from_ref(frame)) {
-        Ok(cert) => cert,
-        Err(fault) => return Err(refusal_of(&fault)),
-    };
-    match check_parts_exact(alloc, rom, frame, &cert, budget, window) {
-        Ok(yes) => Ok(yes),
-        Err(refusal) => Err(FrameRefusal::Check(refusal)),
+    match make_for_frames(alloc, rom, &[], slice::from_ref(frame)) {
+        Ok(cert) => check_made(alloc, rom, frame, &cert, budget, window),
+        Err(fault) => Err(refusal_of(&fault)),
     }
+}
+
+/// What a frame comes to by its own certificate, and that certificate.
+#[derive(Drop)]
+pub struct JudgedFrame {
+    pub verdict: Result<Yes, FrameRefusal>,
+    /// The certificate, or in full why none was made.
+    pub made: Result<Cert, MakeAccount>,
+}
+
+/// Judges a frame as [`judge`] does, and gives with the verdict what it was come to by: the certificate, or the account of
+/// [`explain_making`].
+///
+/// Where there is no memory for that account, the verdict is 63. Takes memory as `judge` and `explain_making` do.
+pub fn explain_judging(
+    alloc: Global,
+    rom: &RomImage,
+    frame: &FrameImage,
+    budget: u32,
+    window: Window,
+) -> JudgedFrame
+    requires { budget ≤ MOST_WORDS }
+
+    // The verdict is one of `judge`.
+    ensures verdict { FrameVerdict rom.now frame.now window budget result.verdict }
+    ensures safe { IfOk result.verdict (λ yes. Safe (record { frame = frame.now; rom = rom.now }) window yes.words yes.depth) }
+    ensures exact { IfOk result.verdict (λ yes. CountsAtHalt (record { frame = frame.now; rom = rom.now }) yes.words yes.depth) }
+    ensures least { IfOk result.verdict (λ yes. AreLeast rom.now frame.now window yes.words yes.depth) }
+    ensures refused { IfErr result.verdict (FrameRefused rom.now frame.now window budget) }
+
+    // What was made, or why not, is an answer of `explain_making`, and the verdict refuses what is not made by its fault.
+    ensures ok { IfOk result.made (λ cert. FrameMade rom.now frame.now cert.entries) }
+    ensures map { IfOk result.made (λ cert. cert.map ≡ rom.now.map) }
+    ensures err { IfErr result.made (λ account. FramesRefuse rom.now [] (frame.now ∷ []) account.fault) }
+    ensures why { IfErr result.made (λ account. account.fault.why ≡ entry_fault account.at account.cause) }
+    ensures chain { IfErr result.made (IsAccount rom.now [] (frame.now ∷ [])) }
+    ensures by { IfErr result.made (λ account. (refusal : FrameRefusal) × (result.verdict ≡ Err refusal) × IsRefusalBy account.fault refusal) }
+{
+    let made = explain_making(alloc, rom, &[], slice::from_ref(frame));
+    let verdict = match &made {
+        Ok(cert) => check_made(alloc, rom, frame, cert, budget, window),
+        Err(account) => Err(refusal_of(&account.fault)),
+    };
+    JudgedFrame { verdict, made }
 }

@@ -21,5 +21,5 @@ mod walk;
 
 pub use account::{EntryCause, Link, MakeAccount, explain_making};
 pub use fault::{EntryFault, FrameCall, FramesFault, MakeFault};
-pub use judging::{FrameRefusal, judge};
+pub use judging::{FrameRefusal, JudgedFrame, explain_judging, judge};
 pub use maker::{make, make_for_frames};

@@ -1,5 +1,5 @@
 -- A frame whose calls are made one after another.
-use Rattle.std.specs.Prelude.{◌≡◌, ◌≢◌, ℕ, ◌<◌, ◌⊎◌, ◌++◌, List, [], length, Option, Some, None, Contains}
+use Rattle.std.specs.Prelude.{◌≡◌, ℕ, ◌<◌, ◌++◌, List, [], length, Option, Some, None, Contains}
 use Rattle.dvg_words.specs.Memory.{Rom}
 use Rattle.dvg_words.specs.Values.{MemoryMap}
 use Rattle.dvg_words.specs.declared.instruction.Instr.{Instr}
@@ -11,8 +11,7 @@ use Rattle.dvg_items.specs.declared.item.Kind.TheVariants.{Frame}
 use Rattle.dvg_items.specs.Known.{target}
 use Rattle.dvg_make.specs.Made.{HasEntry, AllMade}
 use Rattle.dvg_make.specs.Frames.{FrameCalls, IsAskedFor, FramesMade}
-use Rattle.dvg_make.specs.Judging.{FrameRefusal, Make, NoMemory, Check}
-use Rattle.dvg_make.specs.Refusals.{FrameCall, FramesFault, BarsFrame, StopsAt, EntryFault, Unstraight, Deep, TooManyWords, TooManyEntries, Memory}
+use Rattle.dvg_make.specs.Refusals.{BarsFrame, StopsAt, EntryFault, Unstraight, Deep, TooManyWords, TooManyEntries, Memory}
 use Rattle.dvg_make.specs.Private.Walking.{Extends}
 use Rattle.dvg_make.specs.declared.walk.Walk.{Walk}
 use Rattle.dvg_make.specs.declared.stuck.Stop.{Stop}
@@ -96,11 +95,3 @@ IsForSome map done = (rom : Rom) × (rom.map ≡ map) × (roots : List (ℕ × K
 abbrev pub MakesFor : MemoryMap → List Entry → List Entry → Type 0
 MakesFor map done list =
     (rom : Rom) (roots : List (ℕ × Key)) (frames : List (List ℕ)) → rom.map ≡ map → AllFramed rom roots frames done → FramesMade rom roots frames list
-
--- ---- one frame alone
-
--- a fault, and how it is told of one frame: as memory that is out where it names no call
-abbrev pub MeansOne : FramesFault → FrameRefusal → Type 0
-MeansOne fault (Make at why) = (fault.why ≡ why) × (why ≢ Memory) × ((call : FrameCall) × (fault.call ≡ Some call) × (call.at ≡ at))
-MeansOne fault NoMemory = (fault.call ≡ None) ⊎ (fault.why ≡ Memory)
-MeansOne fault (Check r) = ⊥
