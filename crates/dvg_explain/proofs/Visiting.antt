@@ -172,6 +172,7 @@ module _ (rom : Rom) (list : List Entry) (e : Entry) (old : List Place) where
   abbrev AllOpen : List Call → Cursor → Place → Type 0
   AllOpen calls here place = (call : Call) → CallsFrom rom list place call → IsOpen calls here call
 
+  -- from each place that was visited, and from the shape's start, all is met up to where the walk stands
   pub record Goes (now : List Place) (calls : List Call) (here : Cursor) : Type 0 where
     pub items : List Item
     pub walked : Walked (shape_context list e) (rom_word rom) e.addr items here

@@ -108,8 +108,8 @@ pub fn calls_from<F: Fetch, E: Entries>(
     Ok(calls)
 }
 
-/// The calls of a shape's items, in their order, up to where the shape comes to a place that was visited before, at the same known
-/// scale: from there on it calls what was called from there then. Its own places are visited with that.
+/// The calls of the items of an entry's shape, in their order, up to where it comes to a place that was visited before, at the same
+/// known scale: what it calls from there on, a shape that came by there calls, too. Visits the places that it goes by.
 pub fn new_calls<E: Entries>(
     alloc: Global,
     rom: &RomImage,
