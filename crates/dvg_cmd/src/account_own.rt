@@ -8,7 +8,7 @@ use crate::account_text::text_of;
 use crate::judging::images_for;
 use dvg_cert::Cert;
 use dvg_check::{Mode, Yes};
-use dvg_make::{EntryFault, FrameRefusal, MakeAccount, explain_judging};
+use dvg_make::{EntryCause, FrameRefusal, MakeAccount, explain_judging};
 use dvg_words::{RomImage, RomMap, Window};
 use std::alloc::{AllocError, Global};
 
@@ -25,6 +25,7 @@ fn no_memory() -> Account {
 enum Making {
     /// It was not asked: the ROM, the frame or the budget is refused.
     Unasked,
+    NoMemory,
     Made(Cert),
     Refused(MakingAccount),
 }
@@ -36,6 +37,13 @@ pub struct OwnVerdict {
     making: Result<Making, AllocError>,
 }
 
+impl OwnVerdict {
+    /// What the maker came to.
+    fn into_making(self) -> Result<Making, AllocError> {
+        self.making
+    }
+}
+
 /// What the maker came to over a ROM.
 fn making_of(
     alloc: Global,
@@ -44,10 +52,18 @@ fn making_of(
 ) -> Result<Making, AllocError> {
     match made {
         Ok(cert) => Ok(Making::Made(cert)),
-        Err(account) => match MakingAccount::new(alloc, rom, account) {
-            Ok(making) => Ok(Making::Refused(making)),
-            Err(error) => Err(error),
-        },
+        Err(account) => refused(alloc, rom, account),
+    }
+}
+
+/// A refusal of the maker over a ROM.
+fn refused(alloc: Global, rom: &RomImage, account: MakeAccount) -> Result<Making, AllocError> {
+    if account.cause == EntryCause::Memory {
+        return Ok(Making::NoMemory);
+    }
+    match MakingAccount::new(alloc, rom, account) {
+        Ok(making) => Ok(Making::Refused(making)),
+        Err(error) => Err(error),
     }
 }
 
@@ -88,8 +104,10 @@ fn own_account(
     window: Window,
     own: OwnVerdict,
 ) -> Result<Account, AllocError> {
-    let made = match own.making {
+    let verdict = own.verdict;
+    let made = match own.into_making() {
         Ok(Making::Unasked) => None,
+        Ok(Making::NoMemory) => return Ok(no_memory()),
         Ok(Making::Made(cert)) => Some(cert),
         Ok(Making::Refused(making)) => return Ok(Account::Making(making)),
         Err(error) => return Err(error),
@@ -102,7 +120,7 @@ fn own_account(
         frame,
         budget,
         window,
-        &own.verdict,
+        &verdict,
     )
 }
 
@@ -139,17 +157,7 @@ pub fn own_account_text(
     window: Window,
     own: OwnVerdict,
 ) -> Result<String, AllocError> {
-    let account = match own.verdict {
-        Err(
-            FrameRefusal::NoMemory
-            | FrameRefusal::Make {
-                why: EntryFault::Memory,
-                ..
-            },
-        ) => Ok(no_memory()),
-        _ => own_account(alloc, rom, map, frame, budget, window, own),
-    };
-    match account {
+    match own_account(alloc, rom, map, frame, budget, window, own) {
         Ok(account) => text_of(alloc, &account),
         Err(error) => Err(error),
     }
