@@ -5,22 +5,24 @@ use Rattle.std.proofs.lemmas.Bool.{cases_lt}
 use Rattle.std.proofs.lemmas.Bool.Decides.{nat_tests}
 use Rattle.std.specs.List.{AllByRecursion}
 use Rattle.std.specs.Prelude.{Contains, slice_get, ◌==◌}
-use Rattle.dvg_words.specs.Memory.{Rom, rom_word, frame_word}
+use Rattle.dvg_words.specs.Memory.{Rom, frame_word}
 use Rattle.dvg_cert.specs.declared.entry.Entry.{Entry}
 use Rattle.dvg_cert.specs.declared.entry.Key.{Key}
 use Rattle.dvg_cert.specs.declared.entry.Key.TheVariants.{At, Any}
 use Rattle.dvg_cert.specs.Lookup.{is_at, same_key, entry_at}
-use Rattle.dvg_items.specs.declared.item.Kind.TheVariants.{Frame, Shape}
-use Rattle.dvg_items.specs.Known.{frame_context, shape_context}
+use Rattle.dvg_items.specs.declared.item.Kind.TheVariants.{Frame}
+use Rattle.dvg_items.specs.Known.{frame_context}
 use Rattle.dvg_items.proofs.Lists.{all_map}
 use Rattle.dvg_items.specs.Bounds.{IsClaim, IsSomeCertificate}
 use Rattle.dvg_items.proofs.Listed.{listed_at, listed_claim}
-use Rattle.dvg_explain.specs.Calls.{Call, AreCalls, calls_among}
+use Rattle.dvg_explain.specs.Calls.{Call, AreCalls}
 use Rattle.dvg_explain.specs.Chains.{FrameCalls, ShapeCalls, LeadsOn, IsChain}
 use Rattle.dvg_explain.specs.Private.Reaching.{Link, AllSteps, IsBackward, IsStep, entries_of, reach, reach_all}
+use Rattle.dvg_explain.specs.Private.Visiting.{Place, CallsFrom, IsMet, AreNewCalls}
 use Rattle.dvg_explain.specs.Private.Walking.{Start, context_of}
 use Rattle.dvg_explain.proofs.Linking.{at_still, reach_keeps}
 use Rattle.dvg_explain.proofs.Coming.{calls_hold, is_among, step_named, reach_steps, reach_still, all_steps, all_back}
+use Rattle.dvg_explain.proofs.Visiting.{of_each}
 
 -- ---- what was reached
 
@@ -188,16 +190,17 @@ module _ (rom : Rom) (words : List ℕ) (list : List Entry) where
   none_left (e ∷ es) = let h = none_left es in omega (arith, h)
 
   module _ (goal : Entry) where
-    -- all calls of the frame, and of the shapes of the first entries, none of which is the goal, were reached
-    pub record Comes (links : List Link) (head : ℕ) : Type 0 where
+    -- all calls of the frame, of the shapes of the first entries, none of which is the goal, and from the visited places were reached
+    pub record Comes (links : List Link) (visited : List Place) (head : ℕ) : Type 0 where
       pub steps : AllSteps rom words list links
       pub back : IsBackward links
       pub framed : (call : Call) → FrameCalls words list call → Has links call.entry
       pub shaped : (k : ℕ) (l : Link) → k < head → slice_get links k ≡ Some l → (call : Call) → ShapeCalls rom list l.call.entry call → Has links call.entry
+      pub gone_over : (place : Place) → Contains visited place → (call : Call) → CallsFrom rom list place call → Has links call.entry
       pub missed : (k : ℕ) (l : Link) → k < head → slice_get links k ≡ Some l → l.call.entry ≡ goal → ⊥
       pub counted : left_of links list + length links ≤ length list
 
-    pub begins : (calls : List Call) → AreCalls (frame_context list) (frame_word words) 0 calls → Comes (reach_all [] None calls) 0
+    pub begins : (calls : List Call) → AreCalls (frame_context list) (frame_word words) 0 calls → Comes (reach_all [] None calls) [] 0
     begins calls are =
         let steps = subst (AllByRecursion (FrameCalls words list)) (sym are.2) (calls_hold (frame_context list) (frame_word words) 0 are.0 are.1.stand) in
         let no_steps : AllSteps rom words list [] = λ k l e. cc e in
@@ -209,27 +212,26 @@ module _ (rom : Rom) (words : List ℕ) (list : List Entry) where
           back = all_back [] None calls no_back tt;
           framed = λ call f. is_among (frame_context list) (frame_word words) 0 (λ (x : Call). Has (reach_all [] None calls) x.entry) call f are.0 are.1 (subst (AllByRecursion (λ (x : Call). Has (reach_all [] None calls) x.entry)) are.2 has);
           shaped = λ k l lt. absurd (omega (arith, lt));
+          gone_over = λ place there. absurd (omega (arith, there.1));
           missed = λ k l lt. absurd (omega (arith, lt));
           counted = counts_all [] None calls (length list) steps (omega (arith, none));
         }
 
     -- the first shape that was not gone over is not the goal's, and its calls are reached too
-    module _ (links : List Link) (head : ℕ) (l : Link) (calls : List Call) (h : Comes links head) (is : slice_get links head ≡ Some l) (other : l.call.entry ≡ goal → ⊥)
-        (are : AreCalls (shape_context list l.call.entry) (rom_word rom) l.call.entry.addr calls) where
+    module _ (links : List Link) (old new : List Place) (head : ℕ) (l : Link) (calls : List Call) (h : Comes links old head) (is : slice_get links head ≡ Some l) (other : l.call.entry ≡ goal → ⊥)
+        (are : AreNewCalls rom list l.call.entry old new calls) where
       abbrev all : List Link
       all = reach_all links (Some head) calls
 
       steps : AllByRecursion (IsStep rom words list links (Some head)) calls
-      steps =
-          subst (AllByRecursion (IsStep rom words list links (Some head))) (sym are.2)
-          (all_map (ShapeCalls rom list l.call.entry) (IsStep rom words list links (Some head)) (calls_among (shape_context list l.call.entry) are.0) (λ x s. (l, is, s))
-          (calls_hold (shape_context list l.call.entry) (rom_word rom) l.call.entry.addr are.0 are.1.stand))
+      steps = all_map (ShapeCalls rom list l.call.entry) (IsStep rom words list links (Some head)) calls (λ x s. (l, is, s)) are.own
 
       has : AllByRecursion (λ (x : Call). Has all x.entry) calls
       has = has_calls rom words list links (Some head) calls h.steps steps
 
-      here : (call : Call) → ShapeCalls rom list l.call.entry call → Has all call.entry
-      here call s = is_among (shape_context list l.call.entry) (rom_word rom) l.call.entry.addr (λ (x : Call). Has all x.entry) call s are.0 are.1 (subst (AllByRecursion (λ (x : Call). Has all x.entry)) are.2 has)
+      -- what was met is reached
+      met : (call : Call) → IsMet rom list old calls call → Has all call.entry
+      met call = ⊎_elim (of_each (λ (x : Call). Has all x.entry) calls call has) (λ b. has_all links (Some head) calls call.entry (h.gone_over b.0 b.1 call b.2))
 
       -- the links before are the same
       same_before : (k : ℕ) (x y : Link) → slice_get links k ≡ Some x → slice_get all k ≡ Some y → x ≡ y
@@ -243,36 +245,37 @@ module _ (rom : Rom) (words : List ℕ) (list : List Entry) where
 
       shaped : (k : ℕ) (x : Link) → k < head + 1 → slice_get all k ≡ Some x → (call : Call) → ShapeCalls rom list x.call.entry call → Has all call.entry
       shaped k x lt x_is call s =
-          let old = before k lt in
-          let same = same_before k old.0 x old.1 x_is in
+          let before_k = before k lt in
+          let same = same_before k before_k.0 x before_k.1 x_is in
           let s_old = subst (λ (y : Link). ShapeCalls rom list y.call.entry call) (sym same) s in
           ⊎_elim
-          (λ less. has_all links (Some head) calls call.entry (h.shaped k old.0 less old.1 call s_old))
-          (λ ge. here call (subst (λ (y : Link). ShapeCalls rom list y.call.entry call) (sym (head_is k old.0 old.1 (omega (arith, lt, ge)))) s_old))
+          (λ less. has_all links (Some head) calls call.entry (h.shaped k before_k.0 less before_k.1 call s_old))
+          (λ ge. met call (are.all call (subst (λ (y : Link). ShapeCalls rom list y.call.entry call) (sym (head_is k before_k.0 before_k.1 (omega (arith, lt, ge)))) s_old)))
           (cases_lt k head)
 
       missed : (k : ℕ) (x : Link) → k < head + 1 → slice_get all k ≡ Some x → x.call.entry ≡ goal → ⊥
       missed k x lt x_is g =
-          let old = before k lt in
-          let same = same_before k old.0 x old.1 x_is in
+          let before_k = before k lt in
+          let same = same_before k before_k.0 x before_k.1 x_is in
           ⊎_elim
-          (λ less. h.missed k old.0 less old.1 (ap (λ (y : Link). y.call.entry) same ∙ g))
-          (λ ge. other (ap (λ (y : Link). y.call.entry) (head_is k old.0 old.1 (omega (arith, lt, ge)) ∙ same) ∙ g))
+          (λ less. h.missed k before_k.0 less before_k.1 (ap (λ (y : Link). y.call.entry) same ∙ g))
+          (λ ge. other (ap (λ (y : Link). y.call.entry) (head_is k before_k.0 before_k.1 (omega (arith, lt, ge)) ∙ same) ∙ g))
           (cases_lt k head)
 
-      pub comes_on : Comes all (head + 1)
+      pub comes_on : Comes all new (head + 1)
       comes_on =
           record {
             steps = all_steps rom words list links (Some head) calls h.steps steps;
             back = all_back links (Some head) calls h.back (slice_get_within links head l is);
             framed = λ call f. has_all links (Some head) calls call.entry (h.framed call f);
             shaped = shaped;
+            gone_over = λ place there call c. met call (are.visited place there call c);
             missed = missed;
             counted = counts_all links (Some head) calls (length list) steps h.counted;
           }
 
     -- where all shapes were gone over, no chain leads to the goal
-    module _ (links : List Link) (head : ℕ) (h : Comes links head) (all : (k : ℕ) (l : Link) → slice_get links k ≡ Some l → k < head) where
+    module _ (links : List Link) (visited : List Place) (head : ℕ) (h : Comes links visited head) (all : (k : ℕ) (l : Link) → slice_get links k ≡ Some l → k < head) where
       none_on : (calls : List Call) (e : Entry) → Has links e → LeadsOn rom list e calls goal → ⊥
       none_on [] e has on = h.missed has.0 has.1 (all has.0 has.1 has.2) has.2 (has.3 ∙ on)
       none_on (call ∷ rest) e has on =
@@ -282,31 +285,29 @@ module _ (rom : Rom) (words : List ℕ) (list : List Entry) where
       no_chain [] c = c
       no_chain (call ∷ rest) c = none_on rest call.entry (h.framed call c.0) c.1
 
-    pub none_past : (links : List Link) (head : ℕ) → Comes links head → slice_get links head ≡ None → (calls : List Call) → IsChain rom words list calls goal → ⊥
-    none_past links head h none = no_chain links head h (λ k l is. below links head none k l is)
+    pub none_past : (links : List Link) (visited : List Place) (head : ℕ) → Comes links visited head → slice_get links head ≡ None → (calls : List Call) → IsChain rom words list calls goal → ⊥
+    none_past links visited head h none = no_chain links visited head h (λ k l is. below links head none k l is)
 
-    pub none_at_end : (links : List Link) (head : ℕ) → Comes links head → length list ≤ head → (calls : List Call) → IsChain rom words list calls goal → ⊥
-    none_at_end links head h end = no_chain links head h (λ k l is. omega (arith, slice_get_within links k l is, h.counted, end))
+    pub none_at_end : (links : List Link) (visited : List Place) (head : ℕ) → Comes links visited head → length list ≤ head → (calls : List Call) → IsChain rom words list calls goal → ⊥
+    none_at_end links visited head h end = no_chain links visited head h (λ k l is. omega (arith, slice_get_within links k l is, h.counted, end))
 
     -- as the code has it: the list by which the calls were made, and where the items began
-    pub begun : (list_used : List Entry) (start : Start) (calls : List Call) (old new : List Link) → list_used ≡ list → start ≡ record { kind = Frame; first = 0; scale = Any }
-        → AreCalls (context_of list_used start) (frame_word words) start.first calls → old ≡ [] → new ≡ reach_all old None calls → Comes new 0
-    begun list_used start calls old new same begin are empty is =
+    pub begun : (list_used : List Entry) (start : Start) (calls : List Call) (old new : List Link) (visited : List Place) → list_used ≡ list → start ≡ record { kind = Frame; first = 0; scale = Any }
+        → AreCalls (context_of list_used start) (frame_word words) start.first calls → old ≡ [] → new ≡ reach_all old None calls → visited ≡ [] → Comes new visited 0
+    begun list_used start calls old new visited same begin are empty is none =
         let at_start = subst (λ (s : Start). AreCalls (context_of list_used s) (frame_word words) s.first calls) begin are in
         let of_list = subst (λ (l : List Entry). AreCalls (frame_context l) (frame_word words) 0 calls) same at_start in
-        subst (λ ls. Comes ls 0) (sym (is ∙ ap (λ ls. reach_all ls None calls) empty)) (begins calls of_list)
+        subst (λ ls. Comes ls visited 0) (sym (is ∙ ap (λ ls. reach_all ls None calls) empty)) (subst (λ ps. Comes (reach_all [] None calls) ps 0) (sym none) (begins calls of_list))
 
-    pub gone_on : (list_used : List Entry) (start : Start) (links new : List Link) (head : ℕ) (l : Link) (calls : List Call) → Comes links head → slice_get links head ≡ Some l → (l.call.entry ≡ goal → ⊥)
-        → list_used ≡ list → start ≡ record { kind = Shape; first = l.call.entry.addr; scale = l.call.entry.key }
-        → AreCalls (context_of list_used start) (rom_word rom) start.first calls → new ≡ reach_all links (Some head) calls → Comes new (head + 1)
-    gone_on list_used start links new head l calls h is other same begin are new_is =
-        let at_start = subst (λ (s : Start). AreCalls (context_of list_used s) (rom_word rom) s.first calls) begin are in
-        let of_list = subst (λ (es : List Entry). AreCalls (shape_context es l.call.entry) (rom_word rom) l.call.entry.addr calls) same at_start in
-        subst (λ ls. Comes ls (head + 1)) (sym new_is) (comes_on links head l calls h is other of_list)
+    pub gone_on : (list_used : List Entry) (links new : List Link) (visited visited_new : List Place) (head : ℕ) (l : Link) (calls : List Call) → Comes links visited head → slice_get links head ≡ Some l
+        → (l.call.entry ≡ goal → ⊥) → list_used ≡ list → AreNewCalls rom list_used l.call.entry visited visited_new calls → new ≡ reach_all links (Some head) calls → Comes new visited_new (head + 1)
+    gone_on list_used links new visited visited_new head l calls h is other same are new_is =
+        let of_list = subst (λ (es : List Entry). AreNewCalls rom es l.call.entry visited visited_new calls) same are in
+        subst (λ ls. Comes ls visited_new (head + 1)) (sym new_is) (comes_on links visited visited_new head l calls h is other of_list)
 
     -- an entry that was reached is in the list, and so within its limits
-    pub reached_claim : (links : List Link) (head k : ℕ) (l : Link) → IsSomeCertificate list → Comes links head → slice_get links k ≡ Some l → IsClaim l.call.entry
-    reached_claim links head k l some h is =
+    pub reached_claim : (links : List Link) (visited : List Place) (head k : ℕ) (l : Link) → IsSomeCertificate list → Comes links visited head → slice_get links k ≡ Some l → IsClaim l.call.entry
+    reached_claim links visited head k l some h is =
         listed_claim list l.call.entry some (listed_at list l.call.entry.addr l.call.entry.key l.call.entry (step_named rom words list links l.from l.call (h.steps k l is))).listed
 
 pub is_none : {A : Type 0} (o : Option A) → ((x : A) → o ≡ Some x → ⊥) → o ≡ None

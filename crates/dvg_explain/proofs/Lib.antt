@@ -5,6 +5,7 @@ pub mod AllShapes
 pub mod Linking
 pub mod Tracing
 pub mod Coming
+pub mod Visiting
 pub mod Complete
 pub mod SameEntry
 pub mod TailPoints

@@ -14,7 +14,7 @@ use Rattle.dvg_cert.specs.contracts.entry.EndPartialEq.TheImpl as end
 use Rattle.dvg_cert.specs.contracts.entry.LitBoxPartialEq.TheImpl as box
 use Rattle.dvg_cert.specs.contracts.entry.EntryPartialEq.TheImpl as entry
 
-key_decides : (a b : Key) → Decides (key.ghosts.eq a b) (a ≡ b)
+pub key_decides : (a b : Key) → Decides (key.ghosts.eq a b) (a ≡ b)
 key_decides (At m) (At n) = Decides-like (key.ghosts.eq (At m) (At n)) (λ e. ap At e) (λ e. let same : m ≡ n = cc e in same) (Decides-eqb m n)
 key_decides (At m) Any = (λ e. cc e, λ e. cc e)
 key_decides Any (At n) = (λ e. cc e, λ e. cc e)

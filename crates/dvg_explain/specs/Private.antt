@@ -2,4 +2,5 @@
 pub mod Breaking
 pub mod Walking
 pub mod Reaching
+pub mod Visiting
 pub mod Lighting

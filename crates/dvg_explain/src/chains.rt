@@ -5,16 +5,17 @@ ghost use Rattle.dvg_explain.specs.Calls.{Call};
 ghost use Rattle.dvg_explain.specs.Chains.{IsChain};
 
 use crate::calls::Call;
-use crate::items::{Start, calls_from};
+use crate::items::{Start, calls_from, new_calls};
 use crate::reached::Reached;
+use crate::visited::Visited;
 use dvg_cert::{Cert, Entries, Entry};
 use dvg_words::{FrameImage, RomImage};
 use std::alloc::{AllocError, Global};
 
 /// The calls by which a frame comes to an entry, by the claims of a certificate: the first is the frame's own, each later one stands
 /// in the shape of the entry that the one before it names, and the last names the goal (profile). `None` exactly where the frame does
-/// not come to it. `entries` are those of the certificate. Goes over the items of each shape that the frame comes to once at most,
-/// breadth first.
+/// not come to it. `entries` are those of the certificate. Goes breadth first over the items of the shapes that the frame comes to,
+/// and over what stands at a word of the ROM once at most for each known scale there, however many shapes come by.
 pub fn find_chain<E: Entries>(
     alloc: Global,
     rom: &RomImage,
@@ -29,6 +30,7 @@ pub fn find_chain<E: Entries>(
 {
     let listed = cert.entries().len();
     let mut reached = Reached::new(alloc);
+    let mut visited = Visited::new(alloc);
     reached.add_all(&calls_from(alloc, frame, entries, &Start::frame())?, None)?;
     for next in 0..listed {
         let Some(link) = reached.get(next) else {
@@ -37,7 +39,7 @@ pub fn find_chain<E: Entries>(
         if link.call.entry == *goal {
             return Ok(Some(reached.chain(alloc, next)?));
         }
-        let calls = calls_from(alloc, rom, entries, &Start::shape(&link.call.entry))?;
+        let calls = new_calls(alloc, rom, entries, &link.call.entry, &mut visited)?;
         reached.add_all(&calls, Some(next))?;
     }
     Ok(None)

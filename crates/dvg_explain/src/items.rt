@@ -14,12 +14,14 @@ ghost use Rattle.dvg_items.specs.Least.{IsLeast};
 ghost use Rattle.dvg_items.specs.Lit.{absolute_corners};
 ghost use Rattle.dvg_items.specs.declared.item.Kind.TheVariants.{Frame, Shape};
 ghost use Rattle.dvg_explain.specs.Calls.{AreCalls, IsExtent, call_of};
+ghost use Rattle.dvg_explain.specs.Private.Visiting.{AreNewCalls};
 ghost use Rattle.dvg_explain.specs.Private.Walking.{IsSeenAt, context_of};
 
 use crate::calls::Call;
+use crate::visited::Visited;
 use dvg_cert::{Entries, Entry, Key, LitBox};
 use dvg_items::{Cursor, Kind, Seen, Step, absolute_corners, callee, target, widened};
-use dvg_words::{Cell, Fetch, read_cell};
+use dvg_words::{Cell, Fetch, RomImage, read_cell};
 use std::alloc::{AllocError, Global};
 
 /// Where items begin, and whose they are: their first word address, and the known scale there.
@@ -99,6 +101,35 @@ pub fn calls_from<F: Fetch, E: Entries>(
     while let Some(seen) = see(memory, entries, start.kind, &cursor) {
         push_call(&mut calls, &seen)?;
         match seen.step(start.kind) {
+            Step::Onward(next) => cursor = next,
+            Step::Last(_) => return Ok(calls),
+        }
+    }
+    Ok(calls)
+}
+
+/// The calls of the items of an entry's shape, in their order, up to where it comes to a place that was visited before, at the same
+/// known scale: what it calls from there on, a shape that came by there calls, too. Visits the places that it goes by.
+pub fn new_calls<E: Entries>(
+    alloc: Global,
+    rom: &RomImage,
+    entries: &E,
+    entry: &Entry,
+    visited: &mut Visited,
+) -> Result<Vec<Call>, AllocError>
+    requires entries { IsSomeCertificate (E.list entries.now) }
+    requires addr { entry.now.addr < ADDRESS_END }
+    requires key { IsKey entry.now.key }
+    ensures { IfOk result (λ calls. AreNewCalls rom.now (E.list entries.now) entry.now visited.old visited.new calls.items) }
+{
+    let mut calls = Vec::new(alloc);
+    let mut cursor = Cursor::start(Kind::Shape, entry.addr, entry.key);
+    while visited.visit(cursor.at, cursor.known.scale)? {
+        let Some(seen) = see(rom, entries, Kind::Shape, &cursor) else {
+            return Ok(calls);
+        };
+        push_call(&mut calls, &seen)?;
+        match seen.step(Kind::Shape) {
             Step::Onward(next) => cursor = next,
             Step::Last(_) => return Ok(calls),
         }

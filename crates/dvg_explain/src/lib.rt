@@ -20,6 +20,7 @@ mod margins;
 mod reached;
 mod shapes;
 mod tails;
+mod visited;
 
 pub use calls::{Call, frame_calls, frame_extent};
 pub use chains::find_chain;
