@@ -7,7 +7,8 @@ use Rattle.dvg_items.specs.Known.{depth_under, shape_context}
 use Rattle.dvg_explain.specs.Calls.{Call, calls_among}
 use Rattle.dvg_explain.specs.Chains.{ShapeCalls}
 
--- in an entry's shape the call bears out the claimed depth, where that is not 0: its own entry's is one less, or the same behind a tail jump (profile)
+-- in an entry's shape the call bears out the claimed depth, where that is not 0: its own entry's is one less, or the same behind a tail
+-- jump (profile)
 pub record BearsOut (rom : Rom) (list : List Entry) (e : Entry) (call : Call) : Type 0 where
   pub calls : ShapeCalls rom list e call
   pub some : 0 < e.depth
@@ -22,7 +23,8 @@ abbrev pub FirstBears : Rom → List Entry → Entry → Call → Type 0
 FirstBears rom list e call =
     (b : BearsOut rom list e call) × AllByRecursion (BearsNot rom list e) (calls_among (shape_context list e) b.calls.earlier)
 
--- each of these calls is the first that bears out the depth of the entry before it; they end where none does, or when they are so many (profile)
+-- each of these calls is the first that bears out the depth of the entry before it; they end where none does, or when they are so
+-- many (profile)
 abbrev pub GoDeepest : ℕ → Rom → List Entry → Entry → List Call → Type 0
 GoDeepest zero rom list e calls = calls ≡ []
 GoDeepest (suc most) rom list e [] = (call : Call) → BearsNot rom list e call

@@ -12,7 +12,8 @@ use Rattle.dvg_items.specs.Lit.{LitExtent, InBox, IsInside, absolute_corners, re
 -- those corners of what each item lights that a place makes so (profile)
 abbrev pub corner_points : (LitExtent → End → List Point) → Context → List Item → List Point
 corner_points corners_at c [] = []
-corner_points corners_at c (i ∷ earlier) = corners_at (extent c earlier i.instr) (place_before c earlier) ++ corner_points corners_at c earlier
+corner_points corners_at c (i ∷ earlier) =
+    corners_at (extent c earlier i.instr) (place_before c earlier) ++ corner_points corners_at c earlier
 
 -- at relative places, both ends of the lit draws and the shifted corners of the boxes that are called (profile)
 abbrev pub lit_points : Context → List Item → List Point

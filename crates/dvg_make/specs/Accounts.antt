@@ -129,7 +129,8 @@ CauseAt rom list chain at before Odd = cell_at (rom_word rom) at ≡ cell.Odd
 -- the item calls the shape of the chain at this index
 CauseAt rom list chain at before (Ring from) = (shape : Link) × (slice_get chain from ≡ Some shape) × CallsAt rom at before shape
 -- the item calls what has no entry yet, and there is no room for it
-CauseAt rom list chain at before TooManyEntries = (shape : Link) × CallsAt rom at before shape × (entry_at list shape.addr shape.key ≡ None) × IsFull list chain
+CauseAt rom list chain at before TooManyEntries =
+    (shape : Link) × CallsAt rom at before shape × (entry_at list shape.addr shape.key ≡ None) × IsFull list chain
 CauseAt rom list chain at before Memory = Unit {0}
 CauseAt rom list chain at before cause = SaysAt rom list at before cause
 
@@ -158,7 +159,9 @@ IsNamedBy roots frames list (Some call) asked =
     × ((calls : FrameCalls words list asked.addr asked.key) × (calls.item.at ≡ call.at))
 
 -- all that is told of a refusal: it is so by a list of made entries (profile)
-pub record IsTold (rom : Rom) (roots : List (ℕ × Key)) (frames : List (List ℕ)) (call : Option FrameCall) (chain : List Link) (at : ℕ) (before : Known) (cause : EntryCause) : Type 0 where
+pub record IsTold
+    (rom : Rom) (roots : List (ℕ × Key)) (frames : List (List ℕ)) (call : Option FrameCall) (chain : List Link) (at : ℕ)
+    (before : Known) (cause : EntryCause) : Type 0 where
   pub list : List Entry
   pub made : AllMade rom list
   pub asked : Link

@@ -31,7 +31,8 @@ AllKeyed list (i ∷ earlier) = AllKeyed list earlier × IsKeyed list earlier i
 
 -- a root, or what one of the frames calls (profile)
 abbrev pub IsAskedFor : List (ℕ × Key) → List (List ℕ) → List Entry → ℕ → Key → Type 0
-IsAskedFor roots frames list addr key = Contains roots (addr, key) ⊎ ((words : List ℕ) × Contains frames words × FrameCalls words list addr key)
+IsAskedFor roots frames list addr key =
+    Contains roots (addr, key) ⊎ ((words : List ℕ) × Contains frames words × FrameCalls words list addr key)
 
 -- the list that a ROM, roots and frames ask for: that of the roots together with what the frames call by this very list (profile)
 abbrev pub FramesMade : Rom → List (ℕ × Key) → List (List ℕ) → List Entry → Type 0

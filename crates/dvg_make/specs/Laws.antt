@@ -31,7 +31,9 @@ OneMade = (rom : Rom) (roots : List (ℕ × Key)) (a b : List Entry) → Made ro
 
 -- a ROM, roots and frames have one made list at most
 abbrev pub OneFramesMade : Type 0
-OneFramesMade = (rom : Rom) (roots : List (ℕ × Key)) (frames : List (List ℕ)) (a b : List Entry) → FramesMade rom roots frames a → FramesMade rom roots frames b → a ≡ b
+OneFramesMade =
+    (rom : Rom) (roots : List (ℕ × Key)) (frames : List (List ℕ)) (a b : List Entry)
+    → FramesMade rom roots frames a → FramesMade rom roots frames b → a ≡ b
 
 -- what an item lights at an absolute place lies in the window
 abbrev pub ItemInWindow : Window → Context → List Item → Item → Type 0

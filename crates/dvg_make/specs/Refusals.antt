@@ -108,4 +108,5 @@ pub record StopsAt (rom : Rom) (words : List ℕ) (at : ℕ) (why : EntryFault) 
 pub record FramesRefuse (rom : Rom) (roots : List (ℕ × Key)) (frames : List (List ℕ)) (fault : FramesFault) : Type 0 where
   pub list : BarsList rom roots frames fault.why
   pub root : IfNone fault.call (BarsList rom roots [] fault.why)
-  pub frame : IfSome fault.call (λ call. (words : List ℕ) × (slice_get frames call.frame ≡ Some words) × StopsAt rom words call.at fault.why × BarsFrame rom words fault.why)
+  pub frame : IfSome fault.call (λ call.
+      (words : List ℕ) × (slice_get frames call.frame ≡ Some words) × StopsAt rom words call.at fault.why × BarsFrame rom words fault.why)

@@ -789,6 +789,7 @@ pub fn is_reported(
         && line.strip_suffix(b"\n") == Some(report.as_bytes())
 }
 
+/// The window that a row spells.
 pub fn read_window(word: &str) -> Result<Window, Fail> {
     match window_of(word) {
         Some(window) => Ok(window),
