@@ -3,13 +3,9 @@
 use crate::expecting::expect_same;
 use crate::making::{FOUR_CALLS, Part, large_rom, rom_bytes};
 use dvg_cert::{End, Key};
-use dvg_check::Yes;
 use dvg_items::Known;
-use dvg_make::{
-    EntryCause, EntryFault, FrameCall, FrameRefusal, Link, MakeAccount, explain_judging,
-    explain_making,
-};
-use dvg_words::{ASTEROIDS, FrameImage, RomImage, SCREEN};
+use dvg_make::{EntryCause, EntryFault, FrameCall, Link, MakeAccount, explain_making};
+use dvg_words::{ASTEROIDS, FrameImage, RomImage};
 use std::alloc::Global;
 use std::process::Abort;
 use std::test::Fail;
@@ -309,42 +305,5 @@ fn explains_the_call_of_a_frame(rt: HostRuntime) -> Result<(), Fail> {
     expect_same(&rt, &account.fault.call, &Some(call), &"its call");
     let why = EntryFault::Unstraight { word: 0x800 };
     expect_same(&rt, &account.fault.why, &why, &"its refusal");
-    Ok(())
-}
-
-/// A frame that calls 800 and is accepted, and one that calls 900, which has a HALT.
-#[test]
-fn explains_judgements(rt: HostRuntime) -> Result<(), Fail> {
-    let bytes = rom_bytes(&[(0x800, &[0xF000, 0xD000]), (0x900, &[0xB000])]);
-    let (Ok(rom), Ok(good), Ok(bad)) = (
-        RomImage::from_bytes(&bytes, ASTEROIDS),
-        FrameImage::from_bytes(&[0x00, 0xC8, 0x00, 0xB0]),
-        FrameImage::from_bytes(&[0x00, 0xC9, 0x00, 0xB0]),
-    ) else {
-        return Err(Fail::new("the ROM or a frame was refused"));
-    };
-    let judged = explain_judging(rt.alloc(), &rom, &good, 4, SCREEN);
-    let yes = Yes {
-        shapes: 1,
-        words: 4,
-        depth: 1,
-    };
-    expect_same(&rt, &judged.verdict, &Ok(yes), &"a good frame");
-    expect_same(&rt, &judged.made.is_ok(), &true, &"its certificate");
-    let judged = explain_judging(rt.alloc(), &rom, &bad, 4, SCREEN);
-    let refusal = FrameRefusal::Make {
-        at: 0,
-        why: EntryFault::Unstraight { word: 0x900 },
-    };
-    expect_same(&rt, &judged.verdict, &Err(refusal), &"a bad frame");
-    let Err(account) = judged.made else {
-        return Err(Fail::new("a certificate was made"));
-    };
-    expect_same(
-        &rt,
-        &(account.at, account.cause),
-        &(0x900, EntryCause::Halt),
-        &"why",
-    );
     Ok(())
 }
