@@ -120,7 +120,7 @@ roots_told rom roots frames chain stop t = record { list = t.list; made = t.made
 -- what is told of a frame's call
 pub call_told : (rom : Rom) (roots : List (ℕ × Key)) (frames : List (List ℕ)) (i : ℕ) (d : List ℕ) → i < length frames → (at : ℕ) (chain : List Walk) (stop : Stop) → TellsHere rom (get_or frames i d) at chain stop → IsToldOf rom roots frames (Some (record { frame = i; at = at })) chain stop
 call_told rom roots frames i d lt at chain stop t =
-    record { list = t.list; made = t.made; asked = asked_link (t.to, t.scale); named = (get_or frames i d, got frames i d lt, (t.calls, t.at_is)); tells = t.tells }
+    record { list = t.list; made = t.made; asked = asked_link (t.to, t.scale); named = (get_or frames i d, got frames i d lt, (t.calls, t.at_is, t.before)); tells = t.tells }
 
 pub made_all : (rom : Rom) (P : ℕ → Key → Type 0) (list : List Entry) → MadeFor rom P list → AllMade rom list
 made_all rom P list m e c = let is = listed_entry rom.map.rom_first rom.map.rom_last list e m.certificate.each c in record { made = m.each e c; words = is.words_high; depth = is.depth }

@@ -403,13 +403,15 @@ target_barred rom words old done at scale w format instr is why b = call_barred 
 pub target_told : (rom : Rom) (words : List ℕ) (old done : List Entry) (at : ℕ) (scale : Key) → FrameWalk rom words old done at scale → (format : Format) (instr : Instr) → cell_at (frame_word words) at ≡ Holds format instr → (chain : List Walk) (stop : Stop) → TellsTarget rom done instr scale chain stop → TellsHere rom words at chain stop
 unfolding called_by
 target_told rom words old done at scale w format instr is chain stop b =
+    let call = called_by rom words old done at scale w format instr is b.0 b.1 b.2.list b.2.extends in
     record {
       list = b.2.list;
       made = done_made rom b.2.list b.2.is_done;
       to = b.0;
       scale = scale;
-      calls = (called_by rom words old done at scale w format instr is b.0 b.1 b.2.list b.2.extends).calls;
+      calls = call.calls;
       at_is = refl;
+      before = call.keyed;
       tells = b.2.tells;
     }
 

@@ -18,7 +18,7 @@ use Rattle.dvg_items.specs.declared.item.Item.{Item}
 use Rattle.dvg_items.specs.declared.item.Kind.TheVariants.{Shape}
 use Rattle.dvg_items.specs.declared.known.Known.{Known}
 use Rattle.dvg_make.specs.Made.{HasEntry, AllMade}
-use Rattle.dvg_make.specs.Frames.{FrameCalls}
+use Rattle.dvg_make.specs.Frames.{AllKeyed, FrameCalls}
 use Rattle.dvg_make.specs.Refusals.{EntryFault, FrameCall}
 use Rattle.dvg_make.specs.declared.fault.EntryFault.TheVariants as fault
 pub use Rattle.dvg_make.specs.declared.account.MakeAccount.{MakeAccount}
@@ -151,12 +151,13 @@ Tells rom list asked (shape ∷ chain) at before cause =
 
 -- ---- what was asked for
 
--- a root, or what the item of the frame calls that the refusal names, at the scale that is known there by this list (profile)
+-- a root, or what the item of the frame calls that the refusal names, at the scale that is known there by this list, which has the
+-- entry of each call before it (profile)
 abbrev pub IsNamedBy : List (ℕ × Key) → List (List ℕ) → List Entry → Option FrameCall → Link → Type 0
 IsNamedBy roots frames list None asked = Contains roots (asked.addr, asked.key)
 IsNamedBy roots frames list (Some call) asked =
     (words : List ℕ) × (slice_get frames call.frame ≡ Some words)
-    × ((calls : FrameCalls words list asked.addr asked.key) × (calls.item.at ≡ call.at))
+    × ((calls : FrameCalls words list asked.addr asked.key) × (calls.item.at ≡ call.at) × AllKeyed list calls.earlier)
 
 -- all that is told of a refusal: it is so by a list of made entries (profile)
 pub record IsTold

@@ -10,7 +10,7 @@ use Rattle.dvg_cert.specs.declared.entry.Key.{Key}
 use Rattle.dvg_items.specs.declared.item.Kind.TheVariants.{Frame}
 use Rattle.dvg_items.specs.Known.{target}
 use Rattle.dvg_make.specs.Made.{HasEntry, AllMade}
-use Rattle.dvg_make.specs.Frames.{FrameCalls, IsAskedFor, FramesMade}
+use Rattle.dvg_make.specs.Frames.{AllKeyed, FrameCalls, IsAskedFor, FramesMade}
 use Rattle.dvg_make.specs.Refusals.{BarsFrame, StopsAt, EntryFault, Unstraight, Deep, TooManyWords, TooManyEntries, Memory}
 use Rattle.dvg_make.specs.Private.Walking.{Extends}
 use Rattle.dvg_make.specs.declared.walk.Walk.{Walk}
@@ -62,7 +62,7 @@ BarsCalls rom words old Memory = Unit {0}
 abbrev pub BarsHere : Rom → List ℕ → List Entry → ℕ → EntryFault → Type 0
 BarsHere rom words old at why = BarsCalls rom words old why × StopsAt rom words at why × BarsFrame rom words why
 
--- what is told of the call at a place, by a list of made entries
+-- what is told of the call at a place, by a list of made entries, which has one for each call before it
 pub record TellsHere (rom : Rom) (words : List ℕ) (at : ℕ) (chain : List Walk) (stop : Stop) : Type 0 where
   pub list : List Entry
   pub made : AllMade rom list
@@ -70,6 +70,7 @@ pub record TellsHere (rom : Rom) (words : List ℕ) (at : ℕ) (chain : List Wal
   pub scale : Key
   pub calls : FrameCalls words list to scale
   pub at_is : calls.item.at ≡ at
+  pub before : AllKeyed list calls.earlier
   pub tells : TellsStop rom list (to, scale) chain stop
 
 -- ---- frame after frame
