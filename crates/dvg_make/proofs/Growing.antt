@@ -13,10 +13,11 @@ use Rattle.dvg_items.specs.declared.known.Known.{Known}
 use Rattle.dvg_make.specs.declared.walk.Walk.{Walk}
 use Rattle.dvg_items.specs.Least.{IsLeast}
 use Rattle.dvg_make.specs.Made.{MadeEntry}
-use Rattle.dvg_make.specs.Private.Walking.{keyed_context, IsStraight, AllFine, KnowsAt, IsWalk, Extends}
+use Rattle.dvg_make.specs.Accounts.{AllTaken}
+use Rattle.dvg_make.specs.Private.Walking.{keyed_context, IsStraight, IsAsked, AllFine, KnowsAt, IsWalk, Extends}
 use Rattle.dvg_make.proofs.Matching.{Gathered, Matched, gathered_same, seen_matched}
 use Rattle.dvg_make.proofs.Ends.{made_ends, ends_made, same_sums, sums_of}
-use Rattle.dvg_make.proofs.Onward.{same_if, matched_fine}
+use Rattle.dvg_make.proofs.Onward.{same_if, matched_fine, fine_taken}
 
 module _ (a b : List Entry) (key : Key) (ext : Extends a b) where
   pub scale_grows : (items : List Item) → AllFine (keyed_context a key) items → scale_before (keyed_context a key) items ≡ scale_before (keyed_context b key) items
@@ -36,6 +37,13 @@ module _ (a b : List Entry) (key : Key) (ext : Extends a b) where
         },
       )
 
+  pub taken_grows : (items : List Item) → AllTaken (keyed_context a key) items → AllTaken (keyed_context b key) items
+  taken_grows [] h = tt
+  taken_grows (i ∷ earlier) h =
+      let f = fine_taken (keyed_context a key) (i ∷ earlier) h in
+      let m : Matched a b key (i ∷ earlier) = matched_fine a b key ext (i ∷ earlier) f in
+      (taken_grows earlier h.0, record { asked = subst IsAsked (seen_matched a b key earlier i m) h.1.asked; keyed = (fine_grows (i ∷ earlier) f).1.keyed })
+
   knows_grows : (items : List Item) (known : Known) (lit : LitBox) → KnowsAt (keyed_context a key) items known lit → KnowsAt (keyed_context b key) items known lit
   knows_grows items known lit k =
       let t = gathered_same a b key items (matched_fine a b key ext items k.fine) in
@@ -47,7 +55,7 @@ module _ (a b : List Entry) (key : Key) (ext : Extends a b) where
 
 pub walk_grows : (rom : Rom) (a b : List Entry) (w : Walk) → Extends a b → IsWalk rom a w → IsWalk rom b w
 walk_grows rom a b w ext h =
-    record { items = h.items; leads = h.leads; knows = knows_grows a b w.key ext h.items w.cursor.known w.lit h.knows; sound = h.sound; shallow = h.shallow; keyed = h.keyed }
+    record { items = h.items; leads = h.leads; knows = knows_grows a b w.key ext h.items w.cursor.known w.lit h.knows; sound = h.sound; shallow = h.shallow; few = h.few; keyed = h.keyed }
 
 pub made_grows : (rom : Rom) (a b : List Entry) (e : Entry) → Extends a b → MadeEntry rom a e → MadeEntry rom b e
 made_grows rom a b e ext made =

@@ -6,16 +6,22 @@ use Rattle.dvg_cert.specs.declared.entry.Key.{Key}
 use Rattle.dvg_items.specs.declared.known.Known.{Known}
 use Rattle.dvg_make.specs.declared.walk.Walk.{Walk}
 use Rattle.dvg_make.specs.Accounts.{Link, Reaches, Precedes, IsLinked, last_link}
-use Rattle.dvg_make.specs.Private.Walking.{link_of, Extends}
+use Rattle.dvg_make.specs.Private.Walking.{keyed_context, link_of, Extends}
 use Rattle.dvg_make.specs.Private.Making.{links, AreLinked}
-use Rattle.dvg_make.proofs.Growing.{known_grows, fine_grows}
+use Rattle.dvg_make.proofs.Onward.{fine_taken}
+use Rattle.dvg_make.proofs.Growing.{known_grows, taken_grows}
 
 -- ---- a list that has more
 
 module _ (rom : Rom) (a b : List Entry) (ext : Extends a b) where
   reaches_grows : (shape : Link) (at : ℕ) (before : Known) → Reaches rom a shape at before → Reaches rom b shape at before
   reaches_grows shape at before r =
-      record { items = r.items; leads = r.leads; fine = fine_grows a b shape.key ext r.items r.fine; known = r.known ∙ known_grows a b shape.key ext r.items r.fine }
+      record {
+        items = r.items;
+        leads = r.leads;
+        taken = taken_grows a b shape.key ext r.items r.taken;
+        known = r.known ∙ known_grows a b shape.key ext r.items (fine_taken (keyed_context a shape.key) r.items r.taken);
+      }
 
   linked_grows : (shape : Link) (chain : List Link) → IsLinked rom a shape chain → IsLinked rom b shape chain
   linked_grows shape [] h = tt

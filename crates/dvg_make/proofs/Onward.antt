@@ -1,5 +1,5 @@
 -- A shape in the making, item by item.
-use Rattle.std.proofs.Common.{◌≡◌, ℕ, ◌<◌, List, [], ◌∷◌, ◌++◌, Option, Some, None, refl, sym, ap, ◌∙◌, subst, arith}
+use Rattle.std.proofs.Common.{◌≡◌, ℕ, ◌<◌, ◌≤◌, List, [], ◌∷◌, ◌++◌, Option, Some, None, refl, sym, ap, ◌∙◌, subst, arith}
 use Rattle.std.specs.Prelude.{Contains, IfSome}
 use Rattle.std.specs.List.{AllByRecursion}
 use Rattle.dvg_words.specs.Decoding.{cell_at, InstrFits}
@@ -11,8 +11,9 @@ use Rattle.dvg_words.specs.declared.instruction.Instr.TheVariants.{Draw as Draws
 use Rattle.dvg_cert.specs.Entry.{IsEntry}
 use Rattle.dvg_cert.specs.declared.entry.Entry.{Entry}
 use Rattle.dvg_cert.specs.declared.entry.Key.{Key}
+use Rattle.dvg_cert.specs.declared.limits.TheConstants.{MOST_DEPTH, MOST_WORDS}
 use Rattle.dvg_items.specs.Items.{next_place, LeadsTo}
-use Rattle.dvg_items.specs.Known.{Context, shape_context, target, callee_at, callee, scale_before, known_before}
+use Rattle.dvg_items.specs.Known.{Context, shape_context, target, callee_at, callee, scale_before, words_before, depth_before, known_before}
 use Rattle.dvg_items.specs.Seen.{seen_at, seen_with}
 use Rattle.dvg_items.specs.Bounds.{IsClaim, IsSoundStep}
 use Rattle.dvg_items.specs.declared.item.Item.{Item}
@@ -32,7 +33,7 @@ use Rattle.dvg_make.specs.declared.walk.Walk.{Walk}
 use Rattle.dvg_items.specs.Least.{lit_points, IsLeast}
 use Rattle.dvg_make.specs.Made.{HasEntry, IsMade, AllMade}
 use Rattle.dvg_make.specs.declared.stuck.Stop.{Stop}
-use Rattle.dvg_make.specs.Accounts.{Link, EntryCause, Reaches, SaysOf, SaysAt, CauseAt}
+use Rattle.dvg_make.specs.Accounts.{Link, EntryCause, AllTaken, Reaches, SaysOf, SaysAt, CauseAt}
 use Rattle.dvg_make.specs.declared.account.EntryCause.TheVariants as cause
 use Rattle.dvg_make.specs.Private.Walking.{keyed_context, entry_of, link_of, IsStraight, IsAsked, Passes, AllFine, KnowsAt, IsWalk, Extends, NeverAt, IsCallee, LacksCallee, IsFinished, IsWaiting, IsStopped, IsAbsent}
 use Rattle.dvg_items.proofs.Listed.{listed_at}
@@ -154,9 +155,25 @@ absent_at rom list chain at before (cause.Ring from) h = absurd h
 absent_at rom list chain at before cause.TooManyEntries h = absurd h
 absent_at rom list chain at before cause.Memory h = tt
 
+-- ---- items at which the making does not stop
+
+pub fine_taken : (c : Context) (items : List Item) → AllTaken c items → AllFine c items
+fine_taken c [] h = tt
+fine_taken c (i ∷ earlier) h = (fine_taken c earlier h.0, record { straight = h.1.asked.straight; keyed = h.1.keyed })
+
+-- the depth before an item is the greatest, and the words before it are the most
+all_taken : (list : List Entry) (key : Key) (items : List Item) → AllFine (keyed_context list key) items → depth_before (keyed_context list key) items ≤ MOST_DEPTH → words_before (keyed_context list key) items ≤ MOST_WORDS → AllTaken (keyed_context list key) items
+all_taken list key [] fine deep many = tt
+all_taken list key (i ∷ earlier) fine deep many =
+    (all_taken list key earlier fine.0 (omega (arith, deep)) (omega (arith, many)), record { asked = record { straight = fine.1.straight; deep = omega (arith, deep); many = many }; keyed = fine.1.keyed })
+
 -- where a walk stands
 pub reached : (rom : Rom) (list : List Entry) (w : Walk) → IsWalk rom list w → Reaches rom list (link_of w) w.cursor.at w.cursor.known
-reached rom list w h = record { items = h.items; leads = h.leads; fine = h.knows.fine; known = h.knows.known_is }
+reached rom list w h =
+    let is = h.knows.known_is in
+    let depth = subst (λ (k : Known). k.depth ≤ MOST_DEPTH) is h.shallow in
+    let words = subst (λ (k : Known). k.words ≤ MOST_WORDS) is h.few in
+    record { items = h.items; leads = h.leads; taken = all_taken list w.key h.items h.knows.fine depth words; known = is }
 
 -- ---- the walk
 
@@ -241,6 +258,7 @@ module _ (rom : Rom) (list : List Entry) (from w : Walk) (h : Walking rom list f
                 knows = subst (λ (k : Known). KnowsAt (keyed_context list w.key) (i ∷ h.walk.items) k lit) (sym on.1) knows_next;
                 sound = subst IsSoundStep step_is sound;
                 shallow = omega (arith, ap (λ (k : Known). k.depth) on.1, s.asked.deep, h.walk.shallow);
+                few = omega (arith, ap (λ (k : Known). k.words) on.1, s.asked.many);
                 keyed = h.walk.keyed;
               };
             }

@@ -38,6 +38,7 @@ start_walk rom done addr key lt is =
       knows = record { known_is = refl; least = record { holds = tt; least = λ b h. tt }; fine = tt };
       sound = record { at = omega (arith, lt); place = record { left = omega (arith, ints); right = omega (arith, ints); down = omega (arith, ints); up = omega (arith, ints) }; scale = is; words = omega arith; depth = omega arith };
       shallow = omega arith;
+      few = omega arith;
       keyed = is;
     }
 

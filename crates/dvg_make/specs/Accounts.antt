@@ -38,23 +38,29 @@ pub record IsStraight (v : Seen) : Type 0 where
   pub place : PlaceKnown v.extent v.place
   pub scale : ScaleKnown v.extent
 
--- the item is as asked, and its target has its entry at the very scale (profile)
-pub record IsFine (c : Context) (earlier : List Item) (i : Item) : Type 0 where
-  pub straight : IsStraight (seen_at c earlier i)
+-- and that the depth under it, and the words up to and with it, are within the limits (profile)
+pub record IsAsked (v : Seen) : Type 0 where
+  pub straight : IsStraight v
+  pub deep : depth_under v.item.instr v.callee ≤ MOST_DEPTH
+  pub many : v.after.words ≤ MOST_WORDS
+
+-- the item is as asked, and its target has its entry at the very scale: the making does not stop at it (profile)
+pub record IsTaken (c : Context) (earlier : List Item) (i : Item) : Type 0 where
+  pub asked : IsAsked (seen_at c earlier i)
   pub keyed : (to : ℕ) → target Shape i.instr ≡ Some to → HasEntry c.list to (scale_before c earlier)
 
 -- so is each of these
-abbrev pub AllFine : Context → List Item → Type 0
-AllFine c [] = Unit {0}
-AllFine c (i ∷ earlier) = AllFine c earlier × IsFine c earlier i
+abbrev pub AllTaken : Context → List Item → Type 0
+AllTaken c [] = Unit {0}
+AllTaken c (i ∷ earlier) = AllTaken c earlier × IsTaken c earlier i
 
 -- ---- from shape to shape
 
--- fine items of the shape at this address and key lead to a place, and this is known there (profile)
+-- items of the shape at this address and key lead to a place, the making stops at none of them, and this is known there (profile)
 pub record Reaches (rom : Rom) (list : List Entry) (shape : Link) (at : ℕ) (before : Known) : Type 0 where
   pub items : List Item
   pub leads : LeadsTo Shape (rom_word rom) shape.addr items at
-  pub fine : AllFine (keyed_context list shape.key) items
+  pub taken : AllTaken (keyed_context list shape.key) items
   pub known : before ≡ known_before (keyed_context list shape.key) items
 
 -- the item at this place calls or tail jumps to the shape's address, and its key is the scale that is known there (profile)

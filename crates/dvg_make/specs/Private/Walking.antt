@@ -1,5 +1,5 @@
 -- A shape in the making.
-use Rattle.std.specs.Prelude.{◌≡◌, ℕ, ◌<◌, ◌≤◌, List, [], ◌++◌, Option, Some, None, Contains}
+use Rattle.std.specs.Prelude.{◌≡◌, ℕ, ◌<◌, ◌≤◌, List, [], ◌∷◌, ◌++◌, Option, Some, None, Contains}
 use Rattle.dvg_words.specs.declared.instruction.Instr.{Instr}
 use Rattle.dvg_words.specs.declared.instruction.Cell.TheVariants.{Holds}
 use Rattle.dvg_words.specs.declared.instruction.Cell.TheVariants as cell
@@ -14,8 +14,9 @@ use Rattle.dvg_cert.specs.Lookup.{entry_at}
 use Rattle.dvg_items.specs.Items.{LeadsTo}
 use Rattle.dvg_items.specs.declared.item.Kind.TheVariants.{Shape}
 use Rattle.dvg_items.specs.declared.item.Item.{Item}
-use Rattle.dvg_items.specs.Known.{Context, target, callee_at, depth_under, known_before}
+use Rattle.dvg_items.specs.Known.{Context, target, callee_at, scale_before, known_before}
 use Rattle.dvg_items.specs.Lit.{box_extent, relative_corners, PlaceKnown}
+use Rattle.dvg_items.specs.Seen.{seen_at}
 use Rattle.dvg_items.specs.declared.seen.Seen.{Seen}
 use Rattle.dvg_items.specs.Bounds.{IsSoundCursor}
 use Rattle.dvg_items.specs.Cursor.{first_cursor}
@@ -31,7 +32,7 @@ use Rattle.dvg_items.specs.Least.{lit_points, IsLeast}
 use Rattle.dvg_make.specs.Made.{HasEntry, MadeEntry, AllMade}
 use Rattle.dvg_make.specs.declared.stuck.Stop.{Stop}
 use Rattle.dvg_make.specs.Accounts.{Link, EntryCause, Missing, Odd, Reaches, CauseAt}
-pub use Rattle.dvg_make.specs.Accounts.{keyed_context, IsStraight, IsFine, AllFine}
+pub use Rattle.dvg_make.specs.Accounts.{keyed_context, IsStraight, IsAsked}
 
 -- before the first item
 abbrev pub start : ℕ → Key → Walk
@@ -41,11 +42,15 @@ start addr key = record { addr = addr; key = key; cursor = first_cursor Shape ad
 abbrev pub entry_of : ℕ → Key → Known → LitBox → Entry
 entry_of addr key known lit = record { addr = addr; key = key; stop = known.place; lit = lit; depth = known.depth; words = known.words; scale = known.scale }
 
--- what is asked of an item that is seen, with the entry that it calls
-pub record IsAsked (v : Seen) : Type 0 where
-  pub straight : IsStraight v
-  pub deep : depth_under v.item.instr v.callee ≤ MOST_DEPTH
-  pub many : v.after.words ≤ MOST_WORDS
+-- the item is straight, and its target has its entry at the very scale
+pub record IsFine (c : Context) (earlier : List Item) (i : Item) : Type 0 where
+  pub straight : IsStraight (seen_at c earlier i)
+  pub keyed : (to : ℕ) → target Shape i.instr ≡ Some to → HasEntry c.list to (scale_before c earlier)
+
+-- so is each of these
+abbrev pub AllFine : Context → List Item → Type 0
+AllFine c [] = Unit {0}
+AllFine c (i ∷ earlier) = AllFine c earlier × IsFine c earlier i
 
 -- passing an item leaves the least box so; the item is as asked
 pub record Passes (v : Seen) (lit new : LitBox) : Type 0 where
@@ -64,6 +69,7 @@ pub record IsWalk (rom : Rom) (list : List Entry) (w : Walk) : Type 0 where
   pub knows : KnowsAt (keyed_context list w.key) items w.cursor.known w.lit
   pub sound : IsSoundCursor w.cursor
   pub shallow : w.cursor.known.depth ≤ MOST_DEPTH
+  pub few : w.cursor.known.words ≤ MOST_WORDS
   pub keyed : IsKey w.key
 
 -- the other list has all entries of the one
