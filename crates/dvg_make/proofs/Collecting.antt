@@ -109,18 +109,18 @@ module _ (rom : Rom) (roots : List (ℕ × Key)) (i : ℕ) (d : ℕ × Key) (don
 -- what is told of a root
 pub root_told : (rom : Rom) (roots : List (ℕ × Key)) (i : ℕ) (d : ℕ × Key) (done : List Entry) → i < length roots → (chain : List Walk) (stop : Stop) → IsToldFrom rom done ((get_or roots i d).0, (get_or roots i d).1) chain stop → IsToldOf rom roots [] None chain stop
 root_told rom roots i d done lt chain stop b =
-    record { list = b.list; made = done_made rom b.list b.is_done; asked = asked_link (get_or roots i d); named = at_index roots i d lt; tells = b.tells }
+    record { list = b.list; made = done_made rom b.list b.is_done; asked = asked_link (get_or roots i d); named = at_index roots i d lt; tells = b.tells; outside = λ q. refl }
 
 -- and told again where there are frames
 pub roots_told : (rom : Rom) (roots : List (ℕ × Key)) (frames : List (List ℕ)) (chain : List Walk) (stop : Stop) → IsToldOf rom roots [] None chain stop → IsToldOf rom roots frames None chain stop
-roots_told rom roots frames chain stop t = record { list = t.list; made = t.made; asked = t.asked; named = t.named; tells = t.tells }
+roots_told rom roots frames chain stop t = record { list = t.list; made = t.made; asked = t.asked; named = t.named; tells = t.tells; outside = t.outside }
 
 -- ---- frames
 
 -- what is told of a frame's call
 pub call_told : (rom : Rom) (roots : List (ℕ × Key)) (frames : List (List ℕ)) (i : ℕ) (d : List ℕ) → i < length frames → (at : ℕ) (chain : List Walk) (stop : Stop) → TellsHere rom (get_or frames i d) at chain stop → IsToldOf rom roots frames (Some (record { frame = i; at = at })) chain stop
 call_told rom roots frames i d lt at chain stop t =
-    record { list = t.list; made = t.made; asked = asked_link (t.to, t.scale); named = (get_or frames i d, got frames i d lt, (t.calls, t.at_is, t.before)); tells = t.tells }
+    record { list = t.list; made = t.made; asked = asked_link (t.to, t.scale); named = (get_or frames i d, got frames i d lt, (t.calls, t.at_is, t.before)); tells = t.tells; outside = λ q. absurd (t.no_root q) }
 
 pub made_all : (rom : Rom) (P : ℕ → Key → Type 0) (list : List Entry) → MadeFor rom P list → AllMade rom list
 made_all rom P list m e c = let is = listed_entry rom.map.rom_first rom.map.rom_last list e m.certificate.each c in record { made = m.each e c; words = is.words_high; depth = is.depth }

@@ -413,6 +413,7 @@ target_told rom words old done at scale w format instr is chain stop b =
       at_is = refl;
       before = call.keyed;
       tells = b.2.tells;
+      no_root = b.3;
     }
 
 pub target_near : (i : Instr) (to : ℕ) → InstrFits i → target Frame i ≡ Some to → to < ADDRESS_END

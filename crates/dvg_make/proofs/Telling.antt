@@ -7,6 +7,7 @@ use Rattle.dvg_cert.specs.Lookup.{entry_at}
 use Rattle.dvg_cert.specs.declared.entry.Entry.{Entry}
 use Rattle.dvg_cert.specs.declared.entry.Key.{Key}
 use Rattle.dvg_items.specs.declared.item.Kind.TheVariants.{Shape}
+use Rattle.dvg_items.specs.declared.cursor.Cursor.{Cursor}
 use Rattle.dvg_items.specs.declared.known.Known.{Known}
 use Rattle.dvg_items.specs.Known.{start as first_known}
 use Rattle.dvg_make.specs.declared.walk.Walk.{Walk}
@@ -14,7 +15,7 @@ use Rattle.dvg_make.specs.declared.stuck.Stop.{Stop}
 use Rattle.dvg_make.specs.declared.account.EntryCause.TheVariants as cause
 use Rattle.dvg_make.specs.Accounts.{Link, EntryCause, IsUnique, AreUnmade, Reaches, last_link, CauseAt, Tells}
 use Rattle.dvg_make.specs.Private.Walking.{start, link_of, IsWaiting, IsStopped}
-use Rattle.dvg_make.specs.Private.Making.{links, asked_link, IsMaking, Apart, AreLinked, Making, NotBegun, TellsStop}
+use Rattle.dvg_make.specs.Private.Making.{links, asked_link, IsMaking, Apart, AreLinked, Making, NotBegun, TellsStop, IsNoRoot}
 use Rattle.dvg_make.proofs.Onward.{reached}
 use Rattle.dvg_make.proofs.Linking.{links_push, last_push, are_moved}
 use Rattle.dvg_make.proofs.Turns.{calls_it, apart_moved}
@@ -103,6 +104,16 @@ module _ (rom : Rom) (from : List Entry) (root : ℕ × Key) (done : List Entry)
         subst (λ c. TellsStop rom done root c stop) (sym e)
         (subst (TellsStop rom done root (stack ++ new ∷ [])) (sym s)
         (tells_last rom done root stack new (are_moved rom done root stack walk new (λ j. record { addr = sym w.same_addr j; key = sym w.same_key j }) h.linked) new.cursor.at new.cursor.known why (reached rom done new w.walk) (not_begun why (subst (λ c. NotBegun done c addr at_key why) e b))))
+
+-- ---- no root
+
+-- what is not begun is not told to be a root outside the ROM
+pub begin_no_root : (done : List Entry) (stack : List Walk) (addr : ℕ) (key : Key) (cursor : Cursor) (stop : Stop) (why : EntryCause) → stop ≡ record { cursor = cursor; cause = why } → NotBegun done stack addr key why → IsNoRoot stop
+begin_no_root done stack addr key cursor stop why s b q = subst (NotBegun done stack addr key) (sym (ap (λ (x : Stop). x.cause) s) ∙ q) b
+
+-- nor is what stops at an item
+pub stopped_no_root : (rom : Rom) (list : List Entry) (w : Walk) (stop : Stop) → IsStopped rom list w stop → IsNoRoot stop
+stopped_no_root rom list w stop s q = subst (CauseAt rom list [] stop.cursor.at stop.cursor.known) q s.cause
 
 -- what is asked for is not begun
 first_cause : (rom : Rom) (done : List Entry) (addr : ℕ) (key : Key) → IsUnique done → entry_at done addr key ≡ None → (why : EntryCause) → NotBegun done [] addr key why → Tells rom done (asked_link (addr, key)) [] addr (first_known Shape key) why

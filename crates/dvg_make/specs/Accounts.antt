@@ -97,7 +97,7 @@ SaysOf scale v Halt = v.item.instr ≡ instr.Halt
 SaysOf scale v LostPlace = PlaceKnown v.extent v.place → ⊥
 -- it lights at unknown scale, and not at a lost place
 SaysOf scale v UnknownScale = PlaceKnown v.extent v.place × (ScaleKnown v.extent → ⊥)
--- under the entry for this address and key, which it calls, more places are stored at once than a certificate allows
+-- it calls the entry for this address and key, and more return places are stored at once under the item than a certificate allows
 SaysOf scale v (Deep to key) = (target Shape v.item.instr ≡ Some to) × (scale ≡ key) × (MOST_DEPTH < depth_under v.item.instr v.callee)
 -- so many words are fetched up to and with it
 SaysOf scale v (TooManyWords words) = (words ≡ v.after.words) × (MOST_WORDS < words)
@@ -165,7 +165,7 @@ IsNamedBy roots frames list (Some call) asked =
     (words : List ℕ) × (slice_get frames call.frame ≡ Some words)
     × ((calls : FrameCalls words list asked.addr asked.key) × (calls.item.at ≡ call.at) × AllKeyed list calls.earlier)
 
--- all that is told of a refusal: it is so by a list of made entries (profile)
+-- all that is told of a refusal: it is so by a list of made entries, and no frame's call is told to be a root outside the ROM (profile)
 pub record IsTold
     (rom : Rom) (roots : List (ℕ × Key)) (frames : List (List ℕ)) (call : Option FrameCall) (chain : List Link) (at : ℕ)
     (before : Known) (cause : EntryCause) : Type 0 where
@@ -174,6 +174,7 @@ pub record IsTold
   pub asked : Link
   pub named : IsNamedBy roots frames list call asked
   pub tells : Tells rom list asked chain at before cause
+  pub outside : cause ≡ RootOutside → call ≡ None
 
 -- unless memory was out
 abbrev pub UnlessMemory : EntryCause → Type 0 → Type 0

@@ -9,7 +9,7 @@ ghost use Rattle.dvg_cert.specs.Lookup.{entry_at};
 ghost use Rattle.dvg_make.specs.declared.walk.Walk.{Walk as WalkValue};
 ghost use Rattle.dvg_make.specs.Made.{HasEntry};
 ghost use Rattle.dvg_make.specs.Private.Walking.{AreTails};
-ghost use Rattle.dvg_make.specs.Private.Making.{IsPresent, NotBegun, IsBegun, IsDone, Making, IsInMaking, StaysMaking, stop_fault, Bars, BarsAll, IsToldFrom, TellsAll};
+ghost use Rattle.dvg_make.specs.Private.Making.{IsPresent, NotBegun, IsBegun, IsDone, Making, IsInMaking, StaysMaking, stop_fault, Bars, BarsAll, IsToldFrom, TellsAll, IsNoRoot};
 
 use crate::account::EntryCause;
 use crate::done::Done;
@@ -78,6 +78,7 @@ fn turn(
     ensures tails { OnOk result (AreTails rom.now done.new tails.new) }
     ensures err { IfErr result (λ stop. BarsAll rom.now done.old stack.old (stop_fault stop)) }
     ensures told { IfErr result (TellsAll rom.now done.old stack.old stack.new) }
+    ensures no_root { IfErr result IsNoRoot }
 {
     match advance(rom, done, tails, walk)? {
         Progress::Finished { entry, at } => {
@@ -117,6 +118,7 @@ fn make_entry(
     ensures tails { OnOk result (AreTails rom.now done.new tails.new) }
     ensures err { IfErr result (λ stuck. Bars rom.now done.old (addr, key) (stop_fault stuck.stop)) }
     ensures told { IfErr result (λ stuck. IsToldFrom rom.now done.old (addr, key) stuck.chain stuck.stop) }
+    ensures no_root { IfErr result (λ stuck. IsNoRoot stuck.stop) }
 {
     let mut stack = Stack::new(alloc);
     if let Err(cause) = begin(done, &mut stack, addr, key) {
@@ -150,6 +152,7 @@ pub fn need(
     ensures tails { OnOk result (AreTails rom.now done.new tails.new) }
     ensures err { IfErr result (λ stuck. Bars rom.now done.old (addr, key) (stop_fault stuck.stop)) }
     ensures told { IfErr result (λ stuck. IsToldFrom rom.now done.old (addr, key) stuck.chain stuck.stop) }
+    ensures no_root { IfErr result (λ stuck. IsNoRoot stuck.stop) }
 {
     if done.find(addr, key).is_some() {
         return Ok(());

@@ -15,7 +15,7 @@ use Rattle.dvg_make.specs.Refusals.{BarsFrame, StopsAt, EntryFault, Unstraight, 
 use Rattle.dvg_make.specs.Private.Walking.{Extends}
 use Rattle.dvg_make.specs.declared.walk.Walk.{Walk}
 use Rattle.dvg_make.specs.declared.stuck.Stop.{Stop}
-use Rattle.dvg_make.specs.Private.Making.{HasAll, Making, Bars, Collected, TellsStop, IsToldFrom}
+use Rattle.dvg_make.specs.Private.Making.{HasAll, Making, Bars, Collected, TellsStop, IsToldFrom, IsNoRoot}
 
 -- the list has an entry for each call of the frame with these words
 abbrev pub HasCalls : List ℕ → List Entry → Type 0
@@ -32,7 +32,7 @@ BarsTarget rom old instr scale why = (to : ℕ) × (target Frame instr ≡ Some 
 
 -- what is told of it
 abbrev pub TellsTarget : Rom → List Entry → Instr → Key → List Walk → Stop → Type 0
-TellsTarget rom old instr scale chain stop = (to : ℕ) × (target Frame instr ≡ Some to) × IsToldFrom rom old (to, scale) chain stop
+TellsTarget rom old instr scale chain stop = (to : ℕ) × (target Frame instr ≡ Some to) × IsToldFrom rom old (to, scale) chain stop × IsNoRoot stop
 
 -- what is made past a frame, where the one list was made before
 pub record IsFramed (rom : Rom) (words : List ℕ) (old new : List Entry) : Type 0 where
@@ -72,6 +72,7 @@ pub record TellsHere (rom : Rom) (words : List ℕ) (at : ℕ) (chain : List Wal
   pub at_is : calls.item.at ≡ at
   pub before : AllKeyed list calls.earlier
   pub tells : TellsStop rom list (to, scale) chain stop
+  pub no_root : IsNoRoot stop
 
 -- ---- frame after frame
 

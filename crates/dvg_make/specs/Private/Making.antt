@@ -1,5 +1,5 @@
 -- A list in the making, and the shapes in the making.
-use Rattle.std.specs.Prelude.{◌≡◌, ◌⊎◌, ℕ, ◌++◌, ◌+◌, ◌<◌, ◌≤◌, List, [], ◌∷◌, length, Option, Some, None, Contains, slice_get, map}
+use Rattle.std.specs.Prelude.{◌≡◌, ◌≢◌, ◌⊎◌, ℕ, ◌++◌, ◌+◌, ◌<◌, ◌≤◌, List, [], ◌∷◌, length, Option, Some, None, Contains, slice_get, map}
 use Rattle.dvg_words.specs.declared.instruction.Cell.TheVariants.{Holds}
 use Rattle.dvg_words.specs.Decoding.{cell_at}
 use Rattle.dvg_words.specs.Memory.{Rom, rom_word, InRom}
@@ -147,6 +147,10 @@ pub record IsToldFrom (rom : Rom) (from : List Entry) (root : ℕ × Key) (chain
   pub is_done : IsDone rom list
   pub extends : Extends from list
   pub tells : TellsStop rom list root chain stop
+
+-- it is not that a root is outside the ROM
+abbrev pub IsNoRoot : Stop → Type 0
+IsNoRoot stop = stop.cause ≢ cause.RootOutside
 
 -- of a root: or it is outside the ROM, or its key is over 15, which is 60 at the root
 abbrev pub BarsRoot : Rom → List Entry → ℕ × Key → EntryFault → Type 0

@@ -3,7 +3,7 @@ use Rattle.dvg_make.specs.declared.walk.Walk.{Walk}
 use Rattle.dvg_make.specs.declared.stuck.Stop.{Stop}
 use Rattle.dvg_make.specs.Private.Making.{Bars, stop_fault}
 use Rattle.dvg_make.proofs.Turns.{first_fault, first_ok, first_present}
-use Rattle.dvg_make.proofs.Telling.{tells_first}
+use Rattle.dvg_make.proofs.Telling.{tells_first, begin_no_root}
 use Rattle.dvg_make.proofs.shapes.make_entry.Goals as goal
 
 pub returns-in-Err-clause-err : goal.returns-in-Err-clause-err
@@ -19,6 +19,10 @@ returns-in-Err-clause-told c =
       extends = λ addr key e q. q;
       tells = tells_first c.args.rom.now c.args.done.now c.args.addr c.args.key c.requires.done.unique c.requires.new c.new-stack.result c.begin.new.stack c.new-stack.ensures c.in-Err.ensures.same c.stop-stop.result c.in-Err.cause (c.stop-stop.ensures ∙ ap (λ (w : Walk). record { cursor = w.cursor; cause = c.in-Err.cause }) c.start.ensures) c.in-Err.ensures.err;
     }
+
+pub returns-in-Err-clause-no_root : goal.returns-in-Err-clause-no_root
+returns-in-Err-clause-no_root c =
+    begin_no_root c.args.done.now c.new-stack.result c.args.addr c.args.key c.start.result.cursor c.stop-stop.result c.in-Err.cause c.stop-stop.ensures c.in-Err.ensures.err
 
 pub loop-walk-init : goal.loop-walk-init
 loop-walk-init c =

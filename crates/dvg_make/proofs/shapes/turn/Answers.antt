@@ -1,11 +1,11 @@
 use Rattle.std.proofs.Common.{◌++◌, ◌∷◌, [], ◌∙◌, sym, subst}
 use Rattle.dvg_make.specs.declared.stuck.Stop.{Stop}
 use Rattle.dvg_make.specs.Private.Walking.{Advances, IsFinished}
-use Rattle.dvg_make.specs.Private.Making.{IsPresent, Making, NotBegun, stop_fault, Bars, TellsStop, BarsAll, TellsAll}
+use Rattle.dvg_make.specs.Private.Making.{IsPresent, Making, NotBegun, stop_fault, Bars, TellsStop, BarsAll, TellsAll, IsNoRoot}
 use Rattle.dvg_make.proofs.Chains.{walks_last, none_here, finished_new, making_finished, present_finished}
 use Rattle.dvg_make.proofs.Turns.{begun_ok, begun_present, refused, as_bar, not_err, if_err_same}
 use Rattle.dvg_make.proofs.Onward.{reached}
-use Rattle.dvg_make.proofs.Telling.{tells_stopped, tells_memory, tells_not_begun}
+use Rattle.dvg_make.proofs.Telling.{tells_stopped, tells_memory, tells_not_begun, begin_no_root, stopped_no_root}
 use Rattle.dvg_make.proofs.shapes.turn.Goals as goal
 
 pub advance-requires-clause-walk : goal.advance-requires-clause-walk
@@ -77,3 +77,11 @@ pub returns-in-Err-clause-told : goal.returns-in-Err-clause-told
 returns-in-Err-clause-told c =
     λ from root h.
     tells_not_begun c.args.rom.now from root c.args.done.now c.requires.top.0 c.args.walk (subst (Making c.args.rom.now from root c.args.done.now) c.requires.top.1 h) c.in-Waiting.walk c.in-Waiting.addr (subst (Advances c.args.rom.now c.args.done.now c.args.walk) c.in-Waiting.is c.in_ok-entry.ensures.ok) c.begin.new.stack (c.in-Err.ensures.same ∙ c.replace_top.ensures c.requires.top.0 c.args.walk c.requires.top.1) c.stop-in-Err.result c.in-Err.cause c.stop-in-Err.ensures (subst (λ s. NotBegun c.args.done.now s c.in-Waiting.addr c.in-Waiting.walk.cursor.known.scale c.in-Err.cause) (sym c.in-Err.ensures.same) c.in-Err.ensures.err)
+
+pub returns-in_err-entry-clause-no_root : goal.returns-in_err-entry-clause-no_root
+returns-in_err-entry-clause-no_root c =
+    if_err_same c.from_residual.result c.in_err-entry.field-0.0 IsNoRoot c.from_residual.ensures.1 (stopped_no_root c.args.rom.now c.args.done.now c.args.walk c.in_err-entry.field-0.0 c.in_err-entry.ensures.err)
+
+pub returns-in-Err-clause-no_root : goal.returns-in-Err-clause-no_root
+returns-in-Err-clause-no_root c =
+    begin_no_root c.args.done.now c.replace_top.new.self c.in-Waiting.addr c.in-Waiting.walk.cursor.known.scale c.in-Waiting.walk.cursor c.stop-in-Err.result c.in-Err.cause c.stop-in-Err.ensures c.in-Err.ensures.err
