@@ -121,7 +121,8 @@ abbrev pub AreUnmade : List Entry → List Link → Type 0
 AreUnmade list [] = Unit {0}
 AreUnmade list (shape ∷ chain) = (entry_at list shape.addr shape.key ≡ None) × (Contains chain shape → ⊥) × AreUnmade list chain
 
--- the entries of the list and the shapes in the making are so many that there is no room for one more
+-- the entries of the list and the shapes in the making, no two of them the same, are so many that there is no room for one more;
+-- that each entry of the list is needed is not said here
 pub record IsFull (list : List Entry) (chain : List Link) : Type 0 where
   pub unique : IsUnique list
   pub unmade : AreUnmade list chain
