@@ -32,7 +32,8 @@ BarsTarget rom old instr scale why = (to : ℕ) × (target Frame instr ≡ Some 
 
 -- what is told of it
 abbrev pub TellsTarget : Rom → List Entry → Instr → Key → List Walk → Stop → Type 0
-TellsTarget rom old instr scale chain stop = (to : ℕ) × (target Frame instr ≡ Some to) × IsToldFrom rom old (to, scale) chain stop × IsNoRoot stop
+TellsTarget rom old instr scale chain stop =
+    (to : ℕ) × (target Frame instr ≡ Some to) × IsToldFrom rom old (to, scale) chain stop × IsNoRoot stop
 
 -- what is made past a frame, where the one list was made before
 pub record IsFramed (rom : Rom) (words : List ℕ) (old new : List Entry) : Type 0 where
