@@ -23,7 +23,8 @@ use Rattle.dvg_make.proofs.Matching.{entry_at-append}
 use Rattle.dvg_make.proofs.Ends.{callee_less, made_some}
 use Rattle.dvg_make.proofs.Linking.{are_grown, are_popped}
 use Rattle.dvg_make.proofs.Merging.{extends_more, listed_append}
-use Rattle.dvg_make.proofs.Growing.{scale_grows, fine_grows, walk_grows, made_grows, same_made}
+use Rattle.dvg_make.proofs.Onward.{fine_taken}
+use Rattle.dvg_make.proofs.Growing.{scale_grows, taken_grows, walk_grows, made_grows, same_made}
 
 -- ---- chains of needs
 
@@ -237,9 +238,9 @@ called_grows rom a b old new ext present addr key c =
       item = c.item;
       leads = c.leads;
       stands = c.stands;
-      fine = fine_grows a b c.from_key ext c.earlier c.fine;
+      taken = taken_grows a b c.from_key ext c.earlier c.taken;
       target_is = c.target_is;
-      key_is = sym (scale_grows a b c.from_key ext c.earlier c.fine) ∙ c.key_is;
+      key_is = sym (scale_grows a b c.from_key ext c.earlier (fine_taken (keyed_context a c.from_key) c.earlier c.taken)) ∙ c.key_is;
     }
 
 abbrev pub IsNeeded : Rom → List Entry → ℕ × Key → List Entry → List Walk → ℕ → Key → Type 0

@@ -1,5 +1,5 @@
 -- Root after root, and frame after frame.
-use Rattle.std.proofs.Common.{◌≡◌, ℕ, zero, suc, ◌<◌, ◌≤◌, List, [], ◌∷◌, ◌++◌, length, take, get_or, Some, None, refl, sym, ap, ◌∙◌, subst, arith, ◌⊎◌, inl, inr, ⊎_elim}
+use Rattle.std.proofs.Common.{◌≡◌, ℕ, zero, suc, ◌<◌, ◌≤◌, List, [], ◌∷◌, ◌++◌, length, take, get_or, Option, Some, None, refl, sym, ap, ◌∙◌, subst, arith, ◌⊎◌, inl, inr, ⊎_elim}
 use Rattle.std.specs.Prelude.{Contains, slice_get}
 use Rattle.dvg_words.specs.Memory.{Rom, InRom}
 use Rattle.dvg_cert.specs.Entry.{IsKey}
@@ -15,9 +15,13 @@ use Rattle.dvg_make.specs.Private.Framing.{HasCalls, IsFramed, BarsHere, BarsCal
 use Rattle.dvg_make.proofs.Onward.{listed_entry}
 use Rattle.dvg_make.specs.declared.walk.Walk.{Walk}
 use Rattle.dvg_make.specs.declared.stuck.Stop.{Stop}
-use Rattle.dvg_make.specs.Private.Making.{asked_link, IsToldFrom, IsToldOf}
-use Rattle.dvg_make.specs.Private.Framing.{TellsHere}
-use Rattle.dvg_make.proofs.Framing.{done_made, in_left, in_right, in_either, collected_more, calls_grow, has_calls_grow}
+use Rattle.dvg_make.specs.Private.Making.{asked_link, links, IsMaking, IsCalled, IsToldFrom, IsToldOf}
+use Rattle.dvg_make.specs.Private.Framing.{KeyedCall, IsGivenHere, TellsHere}
+use Rattle.dvg_make.specs.Private.Walking.{keyed_context}
+use Rattle.dvg_make.specs.Accounts.{Link, IsNamedBy, IsNeededBy}
+use Rattle.dvg_make.specs.Refusals.{FrameCall}
+use Rattle.dvg_items.specs.Known.{known_before}
+use Rattle.dvg_make.proofs.Framing.{done_made, in_left, in_right, in_either, collected_more, call_grows, keyed_call, called_told, calls_grow, has_calls_grow}
 use Rattle.dvg_make.proofs.Finishing.{roots_made}
 
 -- ---- one element more of what is taken
@@ -106,21 +110,93 @@ module _ (rom : Rom) (roots : List (ℕ × Key)) (i : ℕ) (d : ℕ × Key) (don
   root_barred why (inl b) = bars why b
   root_barred why (inr not) = subst (BarsRoots rom roots) (sym not.0) (outside not.1)
 
+-- ---- what is needed
+
+got_somewhere : {A : Type 0} (xs : List A) (x : A) → Contains xs x → (i : ℕ) × (slice_get xs i ≡ Some x)
+got_somewhere [] x c = absurd (omega (arith, c.1))
+got_somewhere (y ∷ xs) x (zero, lt, is) = (zero, ap Some is)
+got_somewhere (y ∷ xs) x (suc k, lt, is) = let r = got_somewhere xs x (k, omega (arith, lt), is) in (suc r.0, r.1)
+
+in_links : (chain : List Walk) (addr : ℕ) (key : Key) → IsMaking chain addr key → Contains (links chain) (asked_link (addr, key))
+in_links [] addr key m = absurd m
+in_links (w ∷ chain) addr key (inl s) = (zero, omega arith, (λ j. record { addr = s.0 j; key = s.1 j }))
+in_links (w ∷ chain) addr key (inr m) = let c = in_links chain addr key m in (suc c.0, omega (arith, c.1), c.2)
+
+-- what an entry or a shape in the making calls
+needed_by : (rom : Rom) (list : List Entry) (chain : List Walk) (addr : ℕ) (key : Key) → IsCalled rom list chain addr key → IsNeededBy rom list (links chain) (asked_link (addr, key))
+needed_by rom list chain addr key c =
+    record {
+      from = asked_link (c.from, c.from_key);
+      there = ⊎_elim (λ has. inl has) (λ m. inr (in_links chain c.from c.from_key m)) c.present;
+      precedes = record {
+        at = c.item.at;
+        before = known_before (keyed_context list c.from_key) c.earlier;
+        reaches = record { items = c.earlier; leads = c.leads; taken = c.taken; known = refl };
+        calls = record { item = c.item; at_is = refl; stands = c.stands; target_is = c.target_is; key_is = c.key_is };
+      };
+    }
+
+-- a call of one of the frames
+named_call : (roots : List (ℕ × Key)) (frames : List (List ℕ)) (list : List Entry) (words : List ℕ) → Contains frames words → (addr : ℕ) (key : Key) → KeyedCall words list addr key → (call : Option FrameCall) × IsNamedBy roots frames list call (asked_link (addr, key))
+named_call roots frames list words c addr key k =
+    let g = got_somewhere frames words c in
+    (Some (record { frame = g.0; at = k.calls.item.at }), (words, g.1, (k.calls, refl, k.keyed)))
+
 -- what is told of a root
-pub root_told : (rom : Rom) (roots : List (ℕ × Key)) (i : ℕ) (d : ℕ × Key) (done : List Entry) → i < length roots → (chain : List Walk) (stop : Stop) → IsToldFrom rom done ((get_or roots i d).0, (get_or roots i d).1) chain stop → IsToldOf rom roots [] None chain stop
-root_told rom roots i d done lt chain stop b =
-    record { list = b.list; made = done_made rom b.list b.is_done; asked = asked_link (get_or roots i d); named = at_index roots i d lt; tells = b.tells; outside = λ q. refl }
+pub root_told : (rom : Rom) (roots : List (ℕ × Key)) (i : ℕ) (d : ℕ × Key) (done : List Entry) → i < length roots → Collected rom (take i roots) done → (chain : List Walk) (stop : Stop) → IsToldFrom rom done ((get_or roots i d).0, (get_or roots i d).1) chain stop → IsToldOf rom roots [] None chain stop
+root_told rom roots i d done lt h chain stop b =
+    record {
+      list = b.list;
+      needed = λ shape has. ⊎_elim (λ r. inl (None, r)) (λ c. inr (needed_by rom b.list chain shape.addr shape.key c)) (called_told rom done b.list (get_or roots i d) chain (λ a k. Contains roots (a, k)) b.extends b.needed was (at_index roots i d lt) shape.addr shape.key has);
+      made = done_made rom b.list b.is_done;
+      asked = asked_link (get_or roots i d);
+      named = at_index roots i d lt;
+      tells = b.tells;
+      outside = λ q. refl;
+    }
+  where
+    was : (a : ℕ) (k : Key) → HasEntry done a k → Contains roots (a, k) ⊎ IsCalled rom done [] a k
+    was a k has = ⊎_elim (λ c. inl (in_taken roots i (a, k) c)) (λ c. inr c) (h.needed a k has)
 
 -- and told again where there are frames
 pub roots_told : (rom : Rom) (roots : List (ℕ × Key)) (frames : List (List ℕ)) (chain : List Walk) (stop : Stop) → IsToldOf rom roots [] None chain stop → IsToldOf rom roots frames None chain stop
-roots_told rom roots frames chain stop t = record { list = t.list; made = t.made; asked = t.asked; named = t.named; tells = t.tells; outside = t.outside }
+roots_told rom roots frames chain stop t =
+    record {
+      list = t.list;
+      made = t.made;
+      asked = t.asked;
+      named = t.named;
+      needed = λ shape has. ⊎_elim (λ n. inl (n.0, more n.0 shape n.1)) (λ c. inr c) (t.needed shape has);
+      tells = t.tells;
+      outside = t.outside;
+    }
+  where
+    more : (call : Option FrameCall) (shape : Link) → IsNamedBy roots [] t.list call shape → IsNamedBy roots frames t.list call shape
+    more None shape n = n
+    more (Some call) shape n = let none : None ≡ Some n.0 = n.1 in cc none
 
 -- ---- frames
 
 -- what is told of a frame's call
-pub call_told : (rom : Rom) (roots : List (ℕ × Key)) (frames : List (List ℕ)) (i : ℕ) (d : List ℕ) → i < length frames → (at : ℕ) (chain : List Walk) (stop : Stop) → TellsHere rom (get_or frames i d) at chain stop → IsToldOf rom roots frames (Some (record { frame = i; at = at })) chain stop
-call_told rom roots frames i d lt at chain stop t =
-    record { list = t.list; made = t.made; asked = asked_link (t.to, t.scale); named = (get_or frames i d, got frames i d lt, (t.calls, t.at_is, t.before)); tells = t.tells; outside = λ q. absurd (t.no_root q) }
+pub call_told : (rom : Rom) (roots : List (ℕ × Key)) (frames : List (List ℕ)) (i : ℕ) (d : List ℕ) (old : List Entry) → i < length frames → AllFramed rom roots (take i frames) old → (at : ℕ) (chain : List Walk) (stop : Stop) → TellsHere rom (get_or frames i d) old at chain stop → IsToldOf rom roots frames (Some (record { frame = i; at = at })) chain stop
+call_told rom roots frames i d old lt h at chain stop t =
+    record {
+      list = t.list;
+      made = t.made;
+      asked = asked_link (t.to, t.scale);
+      named = (get_or frames i d, got frames i d lt, (t.calls, t.at_is, t.before));
+      needed = λ shape has. ⊎_elim (λ g. inl (asked_here shape.addr shape.key g)) (λ c. inr (needed_by rom t.list chain shape.addr shape.key c)) (t.needed h.asked h.collected shape.addr shape.key has);
+      tells = t.tells;
+      outside = λ q. absurd (t.no_root q);
+    }
+  where
+    asked_before : (a : ℕ) (k : Key) → IsAskedFor roots (take i frames) old a k → (call : Option FrameCall) × IsNamedBy roots frames t.list call (asked_link (a, k))
+    asked_before a k (inl r) = (None, r)
+    asked_before a k (inr c) = named_call roots frames t.list c.0 (in_taken frames i c.0 c.1) a k (call_grows c.0 old t.list t.extends a k (keyed_call c.0 old (h.has_calls c.0 c.1) a k c.2))
+
+    asked_here : (a : ℕ) (k : Key) → IsGivenHere (get_or frames i d) h.asked t.list a k → (call : Option FrameCall) × IsNamedBy roots frames t.list call (asked_link (a, k))
+    asked_here a k (inl c) = asked_before a k (h.asked_for a k c)
+    asked_here a k (inr c) = named_call roots frames t.list (get_or frames i d) (at_index frames i d lt) a k c
 
 pub made_all : (rom : Rom) (P : ℕ → Key → Type 0) (list : List Entry) → MadeFor rom P list → AllMade rom list
 made_all rom P list m e c = let is = listed_entry rom.map.rom_first rom.map.rom_last list e m.certificate.each c in record { made = m.each e c; words = is.words_high; depth = is.depth }

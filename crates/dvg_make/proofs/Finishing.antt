@@ -15,6 +15,7 @@ use Rattle.dvg_make.specs.Made.{HasEntry, Needs, Made}
 use Rattle.dvg_make.specs.Frames.{IsAskedFor, FramesMade}
 use Rattle.dvg_make.specs.Private.Walking.{keyed_context, Extends}
 use Rattle.dvg_make.specs.Private.Making.{IsPresent, IsCalled}
+use Rattle.dvg_make.proofs.Onward.{fine_taken}
 use Rattle.dvg_make.specs.Private.Framing.{AllFramed}
 use Rattle.dvg_items.proofs.Listed.{listed_at}
 use Rattle.dvg_items.proofs.Lists.{all_listed}
@@ -42,7 +43,7 @@ module _ (rom : Rom) (roots : List (ℕ × Key)) (frames : List (List ℕ)) (don
       by_present (inr m) = absurd m
       by_present (inl has) =
           let l = listed_at list c.from c.from_key has.0 (ext c.from c.from_key has.0 has.1) in
-          let scale : scale_before (shape_context list has.0) c.earlier ≡ f.key = ap (λ (k : Key). scale_before (keyed_context list k) c.earlier) l.key_is ∙ sym (scale_grows done list c.from_key ext c.earlier c.fine) ∙ c.key_is in
+          let scale : scale_before (shape_context list has.0) c.earlier ≡ f.key = ap (λ (k : Key). scale_before (keyed_context list k) c.earlier) l.key_is ∙ sym (scale_grows done list c.from_key ext c.earlier (fine_taken (keyed_context done c.from_key) c.earlier c.taken)) ∙ c.key_is in
           let named : callee_at list (Some f.addr) f.key ≡ Some f = exact_named list f.addr f.key f (found_listed list f rises listed_f) in (
             has.0,
             l.listed,

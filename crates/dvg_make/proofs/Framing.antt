@@ -30,8 +30,8 @@ use Rattle.dvg_make.specs.Made.{HasEntry, AllMade, Barred}
 use Rattle.dvg_make.specs.Frames.{IsKeyed, AllKeyed, FrameCalls}
 use Rattle.dvg_make.specs.Refusals.{EntryFault, Unstraight, Deep, TooManyWords, TooManyEntries, Memory, NoneAccepts, BarsEntry, StopsAt}
 use Rattle.dvg_make.specs.Private.Walking.{Extends}
-use Rattle.dvg_make.specs.Private.Making.{IsAim, NoAim, IsDone, Making, Bars, IsCalled, IsPresent, Collected}
-use Rattle.dvg_make.specs.Private.Framing.{HasCalls, IsCalledBy, BarsTarget, IsFramed, NoneHasCalls, LongHasCalls, BarsHere, TellsTarget, TellsHere}
+use Rattle.dvg_make.specs.Private.Making.{IsAim, NoAim, IsDone, Making, Bars, IsCalled, AllCalled, IsPresent, Collected}
+use Rattle.dvg_make.specs.Private.Framing.{HasCalls, IsCalledBy, BarsTarget, IsFramed, NoneHasCalls, LongHasCalls, BarsHere, TellsTarget, KeyedCall, IsGivenHere, TellsHere}
 use Rattle.dvg_make.specs.declared.walk.Walk.{Walk}
 use Rattle.dvg_make.specs.declared.stuck.Stop.{Stop}
 use Rattle.dvg_make.proofs.Matching.{exact_named}
@@ -82,12 +82,7 @@ keyed_grows a b ext (i ∷ earlier) h =
 
 -- ---- calls
 
--- a call after items whose calls have their entries
-pub record KeyedCall (words : List ℕ) (list : List Entry) (to : ℕ) (scale : Key) : Type 0 where
-  pub calls : FrameCalls words list to scale
-  pub keyed : AllKeyed list calls.earlier
-
-call_grows : (words : List ℕ) (a b : List Entry) → Extends a b → (to : ℕ) (scale : Key) → KeyedCall words a to scale → KeyedCall words b to scale
+pub call_grows : (words : List ℕ) (a b : List Entry) → Extends a b → (to : ℕ) (scale : Key) → KeyedCall words a to scale → KeyedCall words b to scale
 call_grows words a b ext to scale c =
     record {
       calls = record { earlier = c.calls.earlier; item = c.calls.item; leads = c.calls.leads; stands = c.calls.stands; target_is = c.calls.target_is; scale_is = sym (scale_same a b ext c.calls.earlier c.keyed) ∙ c.calls.scale_is };
@@ -103,7 +98,7 @@ module _ (words : List ℕ) (list : List Entry) (has : HasCalls words list) wher
   keyed_all [] p lead = tt
   keyed_all (i ∷ earlier) p lead = (keyed_all earlier i.at lead.0, keyed_at earlier i lead.0 lead.1)
 
-  keyed_call : (to : ℕ) (scale : Key) → FrameCalls words list to scale → KeyedCall words list to scale
+  pub keyed_call : (to : ℕ) (scale : Key) → FrameCalls words list to scale → KeyedCall words list to scale
   keyed_call to scale c = record { calls = c; keyed = keyed_all c.earlier c.item.at c.leads }
 
 pub calls_grow : (words : List ℕ) (a b : List Entry) → Extends a b → HasCalls words a → (to : ℕ) (scale : Key) → FrameCalls words a to scale → FrameCalls words b to scale
@@ -209,6 +204,20 @@ collected_more rom asked old new addr key h m has =
         given)
         (λ c. inr c)
         (m.needed a k (inl x))
+
+-- ---- what is needed
+
+-- what the entries from before were made for, and what is asked for now, or what an entry or a shape in the making calls
+pub called_told : (rom : Rom) (from list : List Entry) (root : ℕ × Key) (chain : List Walk) (P : ℕ → Key → Type 0) → Extends from list → AllCalled rom from root list chain → ((a : ℕ) (k : Key) → HasEntry from a k → P a k ⊎ IsCalled rom from [] a k) → P root.0 root.1 → (a : ℕ) (k : Key) → HasEntry list a k → P a k ⊎ IsCalled rom list chain a k
+called_told rom from list root chain P ext all was asked a k has =
+    ⊎_elim
+    (λ given. ⊎_elim (λ f. ⊎_elim (λ p. inl p) (λ c. inr (called_grows rom from list [] chain ext there a k c)) (was a k f)) (λ s. inl (subst (λ (z : Key). P a z) s.1 (subst (λ z. P z root.1) s.0 asked))) given)
+    (λ c. inr c)
+    (all a k (inl has))
+  where
+    there : (y : ℕ) (z : Key) → IsPresent from [] y z → IsPresent list chain y z
+    there y z (inl x) = inl (x.0, ext y z x.0 x.1)
+    there y z (inr m) = absurd m
 
 -- ---- the walk along a frame
 
@@ -400,7 +409,7 @@ pub target_barred : (rom : Rom) (words : List ℕ) (old done : List Entry) (at :
 target_barred rom words old done at scale w format instr is why b = call_barred rom words old done at scale w format instr is b.0 b.1 why b.2
 
 -- what is told of it
-pub target_told : (rom : Rom) (words : List ℕ) (old done : List Entry) (at : ℕ) (scale : Key) → FrameWalk rom words old done at scale → (format : Format) (instr : Instr) → cell_at (frame_word words) at ≡ Holds format instr → (chain : List Walk) (stop : Stop) → TellsTarget rom done instr scale chain stop → TellsHere rom words at chain stop
+pub target_told : (rom : Rom) (words : List ℕ) (old done : List Entry) (at : ℕ) (scale : Key) → FrameWalk rom words old done at scale → (format : Format) (instr : Instr) → cell_at (frame_word words) at ≡ Holds format instr → (chain : List Walk) (stop : Stop) → TellsTarget rom done instr scale chain stop → TellsHere rom words old at chain stop
 unfolding called_by
 target_told rom words old done at scale w format instr is chain stop b =
     let call = called_by rom words old done at scale w format instr is b.0 b.1 b.2.list b.2.extends in
@@ -412,9 +421,18 @@ target_told rom words old done at scale w format instr is chain stop b =
       calls = call.calls;
       at_is = refl;
       before = call.keyed;
+      extends = λ a k e q. b.2.extends a k e (w.grows a k e q);
+      needed = λ asked h. called_told rom done b.2.list (b.0, scale) chain (IsGivenHere words asked b.2.list) b.2.extends b.2.needed (given asked h) (inr call);
       tells = b.2.tells;
       no_root = b.3;
     }
+  where
+    given : (asked : List (ℕ × Key)) → Collected rom asked old → (a : ℕ) (k : Key) → HasEntry done a k → IsGivenHere words asked b.2.list a k ⊎ IsCalled rom done [] a k
+    given asked h a k has =
+        ⊎_elim
+        (λ c. inl (⊎_elim (λ x. inl x) (λ x. inr (call_grows words done b.2.list b.2.extends a k (w.calls_are a k x))) (in_either asked w.calls (a, k) c)))
+        (λ c. inr c)
+        ((w.collected asked h).needed a k has)
 
 pub target_near : (i : Instr) (to : ℕ) → InstrFits i → target Frame i ≡ Some to → to < ADDRESS_END
 target_near (Draws d) to f e = cc

@@ -18,7 +18,7 @@ use Rattle.dvg_make.specs.declared.fault.EntryFault.{EntryFault}
 use Rattle.dvg_make.specs.declared.fault.EntryFault.TheVariants.{Unstraight, Deep, TooManyWords, TooManyEntries, Memory}
 use Rattle.dvg_make.specs.Made.{HasEntry}
 use Rattle.dvg_make.specs.Private.Walking.{start, IsWalk, IsWaiting}
-use Rattle.dvg_make.specs.Private.Making.{IsMaking, Apart, IsPresent, IsCalled, Chain, IsAim, NoAim, Bars, IsDone, NotBegun, IsBegun, Making}
+use Rattle.dvg_make.specs.Private.Making.{IsMaking, Apart, IsPresent, IsCalled, AllCalled, Chain, IsAim, NoAim, Bars, IsDone, NotBegun, IsBegun, Making}
 use Rattle.dvg_make.specs.Accounts.{EntryCause, CallsAt, Precedes, entry_fault}
 use Rattle.dvg_make.specs.declared.account.EntryCause.TheVariants as cause
 use Rattle.dvg_make.specs.Private.Walking.{link_of}
@@ -81,19 +81,33 @@ module _ (rom : Rom) (from : List Entry) (root : ℕ × Key) (done : List Entry)
   was_begun a k m =
       ⊎_elim (λ x. making_left stack (walk ∷ []) a k x) (λ x. ⊎_elim (λ s. making_last stack walk a k (sym w.same_addr ∙ s.0) (sym w.same_key ∙ s.1)) (λ b. absurd b) x) (making_append stack (new ∷ []) a k m)
 
+  -- what it calls is not begun
+  present_moved : (a : ℕ) (k : Key) → IsPresent done (stack ++ walk ∷ []) a k → IsPresent done (stack ++ new ∷ []) a k
+  present_moved a k (inl has) = inl has
+  present_moved a k (inr m) =
+      inr (⊎_elim (λ x. making_left stack (new ∷ []) a k x) (λ x. ⊎_elim (λ s. making_last stack new a k (w.same_addr ∙ s.0) (w.same_key ∙ s.1)) (λ b. absurd b) x) (making_append stack (walk ∷ []) a k m))
+
+  pub called_moved : (chain : List Walk) → chain ≡ stack ++ new ∷ [] → AllCalled rom from root done chain
+  called_moved chain e = subst (AllCalled rom from root done) (sym e) each
+    where
+      each : AllCalled rom from root done (stack ++ new ∷ [])
+      each a k (inl has) = needed_grows rom from root done done (stack ++ walk ∷ []) (stack ++ new ∷ []) (λ y z e q. q) present_moved a k (h.needed a k (inl has))
+      each a k (inr m) = needed_grows rom from root done done (stack ++ walk ∷ []) (stack ++ new ∷ []) (λ y z e q. q) present_moved a k (h.needed a k (inr (was_begun a k m)))
+
   called_begun : IsCalled rom done ((stack ++ new ∷ []) ++ start addr at_key ∷ []) addr at_key
   called_begun =
+      let r = reached rom done new w.walk in
       record {
         from = new.addr;
         from_key = new.key;
         present = inr (making_left (stack ++ new ∷ []) (start addr at_key ∷ []) new.addr new.key (making_last stack new new.addr new.key refl refl));
-        earlier = w.walk.items;
+        earlier = r.items;
         item = w.item;
-        leads = subst (λ x. LeadsTo Shape (rom_word rom) new.addr w.walk.items x) (sym w.at) w.walk.leads;
+        leads = subst (λ x. LeadsTo Shape (rom_word rom) new.addr r.items x) (sym w.at) r.leads;
         stands = w.stands;
-        fine = w.walk.knows.fine;
+        taken = r.taken;
         target_is = w.target_is;
-        key_is = sym (ap (λ (x : Known). x.scale) w.walk.knows.known_is);
+        key_is = sym (ap (λ (x : Known). x.scale) r.known);
       }
 
   needed_begun : (a : ℕ) (k : Key) → IsPresent done ((stack ++ new ∷ []) ++ start addr at_key ∷ []) a k → IsNeeded rom from root done ((stack ++ new ∷ []) ++ start addr at_key ∷ []) a k
@@ -157,6 +171,14 @@ module _ (rom : Rom) (from : List Entry) (root : ℕ × Key) (done : List Entry)
   refuses at cause.UnknownScale b = absurd b
   refuses at (cause.Deep to key) b = absurd b
   refuses at (cause.TooManyWords words) b = absurd b
+
+-- nothing is begun
+pub called_none : (rom : Rom) (from : List Entry) (root : ℕ × Key) (chain : List Walk) → chain ≡ [] → AllCalled rom from root from chain
+called_none rom from root chain e = subst (AllCalled rom from root from) (sym e) each
+  where
+    each : AllCalled rom from root from []
+    each a k (inl has) = inl (inl has)
+    each a k (inr m) = absurd m
 
 pub as_bar : (rom : Rom) (from : List Entry) (root : ℕ × Key) (f : EntryFault) → NoAim rom from root → Bars rom from root f
 as_bar rom from root (Unstraight word) n = n

@@ -1,5 +1,5 @@
 -- How a shape that can't be made is come to: the shapes on the way to it, the item in it, and why. All of it is profile.
-use Rattle.std.specs.Prelude.{◌≡◌, ◌≢◌, ℕ, ◌+◌, ◌<◌, ◌≤◌, List, [], ◌∷◌, length, Option, Some, None, Contains, slice_get}
+use Rattle.std.specs.Prelude.{◌≡◌, ◌≢◌, ℕ, ◌+◌, ◌<◌, ◌≤◌, ◌⊎◌, List, [], ◌∷◌, length, Option, Some, None, Contains, slice_get}
 use Rattle.dvg_words.specs.Memory.{Rom, InRom, rom_word}
 use Rattle.dvg_words.specs.Decoding.{cell_at}
 use Rattle.dvg_words.specs.declared.instruction.Instr.TheVariants as instr
@@ -121,8 +121,7 @@ abbrev pub AreUnmade : List Entry → List Link → Type 0
 AreUnmade list [] = Unit {0}
 AreUnmade list (shape ∷ chain) = (entry_at list shape.addr shape.key ≡ None) × (Contains chain shape → ⊥) × AreUnmade list chain
 
--- the entries of the list and the shapes in the making, no two of them the same, are so many that there is no room for one more;
--- that each entry of the list is needed is not said here
+-- the entries of the list and the shapes in the making, no two of them the same, are so many that there is no room for one more
 pub record IsFull (list : List Entry) (chain : List Link) : Type 0 where
   pub unique : IsUnique list
   pub unmade : AreUnmade list chain
@@ -166,7 +165,19 @@ IsNamedBy roots frames list (Some call) asked =
     (words : List ℕ) × (slice_get frames call.frame ≡ Some words)
     × ((calls : FrameCalls words list asked.addr asked.key) × (calls.item.at ≡ call.at) × AllKeyed list calls.earlier)
 
--- all that is told of a refusal: it is so by a list of made entries, and no frame's call is told to be a root outside the ROM (profile)
+-- an item of the shape of one of the entries, or of a shape of the chain, calls or tail jumps to this shape (profile)
+pub record IsNeededBy (rom : Rom) (list : List Entry) (chain : List Link) (shape : Link) : Type 0 where
+  pub from : Link
+  pub there : HasEntry list from.addr from.key ⊎ Contains chain from
+  pub precedes : Precedes rom list from shape
+
+-- each entry of the list is one that a refusal might name, or one that another entry or the chain needs (profile)
+abbrev pub AllNeeded : Rom → List (ℕ × Key) → List (List ℕ) → List Entry → List Link → Type 0
+AllNeeded rom roots frames list chain =
+    (shape : Link) → HasEntry list shape.addr shape.key
+    → ((call : Option FrameCall) × IsNamedBy roots frames list call shape) ⊎ IsNeededBy rom list chain shape
+
+-- all that is told of a refusal: it is so by a list of made and needed entries, and no frame's call is told to be a root outside the ROM (profile)
 pub record IsTold
     (rom : Rom) (roots : List (ℕ × Key)) (frames : List (List ℕ)) (call : Option FrameCall) (chain : List Link) (at : ℕ)
     (before : Known) (cause : EntryCause) : Type 0 where
@@ -174,6 +185,7 @@ pub record IsTold
   pub made : AllMade rom list
   pub asked : Link
   pub named : IsNamedBy roots frames list call asked
+  pub needed : AllNeeded rom roots frames list chain
   pub tells : Tells rom list asked chain at before cause
   pub outside : cause ≡ RootOutside → call ≡ None
 

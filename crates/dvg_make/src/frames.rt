@@ -64,7 +64,7 @@ pub fn make_frame(
     ensures ok { OnOk result (IsFramed rom.now frame.now done.old done.new) }
     ensures tails { OnOk result (AreTails rom.now done.new tails.new) }
     ensures err { IfErr result (λ fault. BarsHere rom.now frame.now done.old fault.at (stop_fault fault.stuck.stop)) }
-    ensures told { IfErr result (λ fault. TellsHere rom.now frame.now fault.at fault.stuck.chain fault.stuck.stop) }
+    ensures told { IfErr result (λ fault. TellsHere rom.now frame.now done.old fault.at fault.stuck.chain fault.stuck.stop) }
 {
     let mut at = 0;
     let mut scale = Key::Any;

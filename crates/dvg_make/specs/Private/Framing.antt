@@ -1,5 +1,5 @@
 -- A frame whose calls are made one after another.
-use Rattle.std.specs.Prelude.{◌≡◌, ℕ, ◌<◌, ◌++◌, List, [], length, Option, Some, None, Contains}
+use Rattle.std.specs.Prelude.{◌≡◌, ℕ, ◌<◌, ◌++◌, ◌⊎◌, List, [], length, Option, Some, None, Contains}
 use Rattle.dvg_words.specs.Memory.{Rom}
 use Rattle.dvg_words.specs.Values.{MemoryMap}
 use Rattle.dvg_words.specs.declared.instruction.Instr.{Instr}
@@ -15,7 +15,7 @@ use Rattle.dvg_make.specs.Refusals.{BarsFrame, StopsAt, EntryFault, Unstraight, 
 use Rattle.dvg_make.specs.Private.Walking.{Extends}
 use Rattle.dvg_make.specs.declared.walk.Walk.{Walk}
 use Rattle.dvg_make.specs.declared.stuck.Stop.{Stop}
-use Rattle.dvg_make.specs.Private.Making.{HasAll, Making, Bars, Collected, TellsStop, IsToldFrom, IsNoRoot}
+use Rattle.dvg_make.specs.Private.Making.{HasAll, Making, Bars, IsCalled, Collected, TellsStop, IsToldFrom, IsNoRoot}
 
 -- the list has an entry for each call of the frame with these words
 abbrev pub HasCalls : List ℕ → List Entry → Type 0
@@ -63,8 +63,23 @@ BarsCalls rom words old Memory = Unit {0}
 abbrev pub BarsHere : Rom → List ℕ → List Entry → ℕ → EntryFault → Type 0
 BarsHere rom words old at why = BarsCalls rom words old why × StopsAt rom words at why × BarsFrame rom words why
 
--- what is told of the call at a place, by a list of made entries, which has one for each call before it
-pub record TellsHere (rom : Rom) (words : List ℕ) (at : ℕ) (chain : List Walk) (stop : Stop) : Type 0 where
+-- a call after items whose calls have their entries
+pub record KeyedCall (words : List ℕ) (list : List Entry) (to : ℕ) (scale : Key) : Type 0 where
+  pub calls : FrameCalls words list to scale
+  pub keyed : AllKeyed list calls.earlier
+
+-- what was asked for has its entry, or the frame calls this
+abbrev pub IsGivenHere : List ℕ → List (ℕ × Key) → List Entry → ℕ → Key → Type 0
+IsGivenHere words asked list addr key = Contains asked (addr, key) ⊎ KeyedCall words list addr key
+
+-- each entry is asked for, where the old ones were, or the frame calls it, or it is needed
+abbrev pub AllCalledHere : Rom → List ℕ → List Entry → List Entry → List Walk → Type 0
+AllCalledHere rom words old list chain =
+    (asked : List (ℕ × Key)) → Collected rom asked old → (addr : ℕ) (key : Key) → HasEntry list addr key
+    → IsGivenHere words asked list addr key ⊎ IsCalled rom list chain addr key
+
+-- what is told of the call at a place, by a list of made and needed entries, which has one for each call before it
+pub record TellsHere (rom : Rom) (words : List ℕ) (old : List Entry) (at : ℕ) (chain : List Walk) (stop : Stop) : Type 0 where
   pub list : List Entry
   pub made : AllMade rom list
   pub to : ℕ
@@ -72,6 +87,8 @@ pub record TellsHere (rom : Rom) (words : List ℕ) (at : ℕ) (chain : List Wal
   pub calls : FrameCalls words list to scale
   pub at_is : calls.item.at ≡ at
   pub before : AllKeyed list calls.earlier
+  pub extends : Extends old list
+  pub needed : AllCalledHere rom words old list chain
   pub tells : TellsStop rom list (to, scale) chain stop
   pub no_root : IsNoRoot stop
 

@@ -17,13 +17,13 @@ use Rattle.dvg_make.specs.declared.walk.Walk.{Walk}
 use Rattle.dvg_make.specs.Made.{HasEntry, MadeEntry, AllMade}
 use Rattle.dvg_make.specs.Refusals.{EntryFault, Unstraight, Deep, TooManyWords, TooManyEntries, Memory}
 use Rattle.dvg_make.specs.Refusals.{FrameCall, FramesFault}
-use Rattle.dvg_make.specs.Accounts.{Link, EntryCause, IsLinked, Tells, IsTold, entry_fault}
+use Rattle.dvg_make.specs.Accounts.{Link, EntryCause, AllTaken, IsLinked, Tells, IsTold, entry_fault}
 pub use Rattle.dvg_make.specs.Accounts.{IsUnique}
 use Rattle.dvg_make.specs.declared.account.EntryCause.TheVariants as cause
 use Rattle.dvg_make.specs.declared.account.MakeAccount.{MakeAccount}
 use Rattle.dvg_make.specs.declared.stuck.Stop.{Stop}
 use Rattle.dvg_make.specs.declared.stuck.FramesStuck.{FramesStuck}
-use Rattle.dvg_make.specs.Private.Walking.{keyed_context, start, link_of, AllFine, IsWalk, Extends}
+use Rattle.dvg_make.specs.Private.Walking.{keyed_context, start, link_of, IsWalk, Extends}
 
 -- a shape with this address and key is in the making
 abbrev pub IsMaking : List Walk → ℕ → Key → Type 0
@@ -58,7 +58,7 @@ pub record IsCalled (rom : Rom) (done : List Entry) (stack : List Walk) (addr : 
   pub item : Item
   pub leads : LeadsTo Shape (rom_word rom) from earlier item.at
   pub stands : cell_at (rom_word rom) item.at ≡ Holds item.format item.instr
-  pub fine : AllFine (keyed_context done from_key) earlier
+  pub taken : AllTaken (keyed_context done from_key) earlier
   pub target_is : target Shape item.instr ≡ Some addr
   pub key_is : scale_before (keyed_context done from_key) earlier ≡ key
 
@@ -92,6 +92,11 @@ abbrev pub AreLinked : Rom → List Entry → ℕ × Key → List Walk → Type 
 AreLinked rom done root [] = Unit {0}
 AreLinked rom done root (w ∷ stack) = (link_of w ≡ asked_link root) × IsLinked rom done (link_of w) (links stack)
 
+-- each entry that is made, and each shape in the making, is given, or one of them calls it
+abbrev pub AllCalled : Rom → List Entry → ℕ × Key → List Entry → List Walk → Type 0
+AllCalled rom from root done stack =
+    (addr : ℕ) (key : Key) → IsPresent done stack addr key → IsGiven from root addr key ⊎ IsCalled rom done stack addr key
+
 -- what holds of the entries that are made and of the shapes in the making, for a root, from the entries that were made before:
 -- among it that each list of made entries that has those, and the root's, has these too, and that the words of these shapes
 -- fall in it
@@ -101,7 +106,7 @@ pub record Making (rom : Rom) (from : List Entry) (root : ℕ × Key) (done : Li
   pub walks : AllWalks rom done stack
   pub apart : Apart done stack
   pub linked : AreLinked rom done root stack
-  pub needed : (addr : ℕ) (key : Key) → IsPresent done stack addr key → IsGiven from root addr key ⊎ IsCalled rom done stack addr key
+  pub needed : AllCalled rom from root done stack
   pub room : length done + length stack ≤ MOST_ENTRIES
   pub forced : (made : List Entry) → IsAim rom from root made → Extends done made × Chain made (MOST_WORDS + 1) stack 0
 
@@ -137,15 +142,18 @@ stop_fault stop = entry_fault stop.cursor.at stop.cause
 abbrev pub TellsStop : Rom → List Entry → ℕ × Key → List Walk → Stop → Type 0
 TellsStop rom list root chain stop = Tells rom list (asked_link root) (links chain) stop.cursor.at stop.cursor.known stop.cause
 
--- for each root and list begun with, by the entries that are made
+-- for each root and list begun with, by the entries that are made, which are needed
 abbrev pub TellsAll : Rom → List Entry → List Walk → List Walk → Stop → Type 0
-TellsAll rom done stack chain stop = (from : List Entry) (root : ℕ × Key) → Making rom from root done stack → TellsStop rom done root chain stop
+TellsAll rom done stack chain stop =
+    (from : List Entry) (root : ℕ × Key) → Making rom from root done stack
+    → TellsStop rom done root chain stop × AllCalled rom from root done chain
 
--- by some list of made entries that has those from before
+-- by some list of made and needed entries that has those from before
 pub record IsToldFrom (rom : Rom) (from : List Entry) (root : ℕ × Key) (chain : List Walk) (stop : Stop) : Type 0 where
   pub list : List Entry
   pub is_done : IsDone rom list
   pub extends : Extends from list
+  pub needed : AllCalled rom from root list chain
   pub tells : TellsStop rom list root chain stop
 
 -- it is not that a root is outside the ROM

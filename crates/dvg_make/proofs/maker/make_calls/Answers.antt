@@ -10,7 +10,7 @@ returns-in-Err-clause-err c =
 
 pub returns-in-Err-clause-told : goal.returns-in-Err-clause-told
 returns-in-Err-clause-told c =
-    call_told c.args.rom.now c.args.roots.now c.args.frames.now c.loop-frame.frame _ c.loop-frame-test.true c.in-Err.fault.at c.in-Err.fault.stuck.chain c.in-Err.fault.stuck.stop (subst (λ words. TellsHere c.args.rom.now words c.in-Err.fault.at c.in-Err.fault.stuck.chain c.in-Err.fault.stuck.stop) c.index-frames-frame.is c.in-Err.ensures.told)
+    call_told c.args.rom.now c.args.roots.now c.args.frames.now c.loop-frame.frame _ c.loop-frame.done c.loop-frame-test.true c.loop-frame.invariant.framed c.in-Err.fault.at c.in-Err.fault.stuck.chain c.in-Err.fault.stuck.stop (subst (λ words. TellsHere c.args.rom.now words c.loop-frame.done c.in-Err.fault.at c.in-Err.fault.stuck.chain c.in-Err.fault.stuck.stop) c.index-frames-frame.is c.in-Err.ensures.told)
 
 pub loop-frame-preserved : goal.loop-frame-preserved
 loop-frame-preserved c =

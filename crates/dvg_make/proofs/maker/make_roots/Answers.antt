@@ -12,7 +12,7 @@ returns-in_err-need_root-clause-err c =
 pub returns-in_err-need_root-clause-told : goal.returns-in_err-need_root-clause-told
 returns-in_err-need_root-clause-told c =
     if_err_same c.from_residual.result c.in_err-need_root.field-0.0 (λ stuck. IsToldOf c.args.rom.now c.args.roots.now [] None stuck.chain stuck.stop) c.from_residual.ensures.1
-    (root_told c.args.rom.now c.args.roots.now c.loop-addr.addr-index _ c.loop-addr.done c.loop-addr-test.true c.in_err-need_root.field-0.0.chain c.in_err-need_root.field-0.0.stop c.in_err-need_root.ensures.told)
+    (root_told c.args.rom.now c.args.roots.now c.loop-addr.addr-index _ c.loop-addr.done c.loop-addr-test.true c.loop-addr.invariant.collected c.in_err-need_root.field-0.0.chain c.in_err-need_root.field-0.0.stop c.in_err-need_root.ensures.told)
 
 pub loop-addr-preserved : goal.loop-addr-preserved
 loop-addr-preserved c =

@@ -2,7 +2,7 @@ use Rattle.std.proofs.Common.{sym, subst, ap, ◌∙◌}
 use Rattle.dvg_make.specs.declared.walk.Walk.{Walk}
 use Rattle.dvg_make.specs.declared.stuck.Stop.{Stop}
 use Rattle.dvg_make.specs.Private.Making.{Bars, stop_fault}
-use Rattle.dvg_make.proofs.Turns.{first_fault, first_ok, first_present}
+use Rattle.dvg_make.proofs.Turns.{first_fault, first_ok, first_present, called_none}
 use Rattle.dvg_make.proofs.Telling.{tells_first, begin_no_root}
 use Rattle.dvg_make.proofs.shapes.make_entry.Goals as goal
 
@@ -17,6 +17,7 @@ returns-in-Err-clause-told c =
       list = c.args.done.now;
       is_done = c.requires.done;
       extends = λ addr key e q. q;
+      needed = called_none c.args.rom.now c.args.done.now (c.args.addr, c.args.key) c.begin.new.stack (c.in-Err.ensures.same ∙ c.new-stack.ensures);
       tells = tells_first c.args.rom.now c.args.done.now c.args.addr c.args.key c.requires.done.unique c.requires.new c.new-stack.result c.begin.new.stack c.new-stack.ensures c.in-Err.ensures.same c.stop-stop.result c.in-Err.cause (c.stop-stop.ensures ∙ ap (λ (w : Walk). record { cursor = w.cursor; cause = c.in-Err.cause }) c.start.ensures) c.in-Err.ensures.err;
     }
 
@@ -45,9 +46,11 @@ returns-in-Err-turn-clause-err c = c.in-Err-turn.ensures.err c.args.done.now (c.
 
 pub returns-in-Err-turn-clause-told : goal.returns-in-Err-turn-clause-told
 returns-in-Err-turn-clause-told c =
+    let t = c.in-Err-turn.ensures.told c.args.done.now (c.args.addr, c.args.key) c.loop-walk.invariant.making in
     record {
       list = c.loop-walk.done;
       is_done = c.loop-walk.invariant.making.is_done;
       extends = c.loop-walk.invariant.making.extends;
-      tells = c.in-Err-turn.ensures.told c.args.done.now (c.args.addr, c.args.key) c.loop-walk.invariant.making;
+      needed = t.1;
+      tells = t.0;
     }
