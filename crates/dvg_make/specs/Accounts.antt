@@ -177,7 +177,7 @@ AllNeeded rom roots frames list chain =
     (shape : Link) → HasEntry list shape.addr shape.key
     → ((call : Option FrameCall) × IsNamedBy roots frames list call shape) ⊎ IsNeededBy rom list chain shape
 
--- all that is told of a refusal: it is so by a list of made and needed entries, and no frame's call is told to be a root outside the ROM (profile)
+-- all that is told of a refusal: it is so by a list of made and needed entries, and only a root lies outside the ROM (profile)
 pub record IsTold
     (rom : Rom) (roots : List (ℕ × Key)) (frames : List (List ℕ)) (call : Option FrameCall) (chain : List Link) (at : ℕ)
     (before : Known) (cause : EntryCause) : Type 0 where
