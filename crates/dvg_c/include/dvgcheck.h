@@ -4,7 +4,7 @@
  * Judge a vector ROM and the certificate of its shapes once by dvgcheck_judge, and then as many frames as there are by
  * dvgcheck_frame, which takes no memory. dvgcheck_check judges all three at once.
  *
- * What the functions promise is proved. It rests on what nothing can test, so it is yours to see to:
+ * What the functions answer and keep is proved. It rests on what nothing can test, so it is yours to see to:
  *
  * - A pointer and the length after it are those of bytes that can be read, that nothing writes during the call, and that lie
  *   outside the struct that is passed with them. It is not null, also where the length is 0. The other pointers are those of a

@@ -1,5 +1,5 @@
 -- What a run writes that explains its answer: the line of the answer, and behind it some account. All of it is profile.
-use Rattle.std.specs.Prelude.{◌≡◌, ◌⊎◌, ℕ, List, ◌++◌, length, codes, decimal, Option, Result, Ok, Err}
+use Rattle.std.specs.Prelude.{◌≡◌, ◌⊎◌, ℕ, List, ◌++◌, length, codes, decimal, Option, None, Result, Ok, Err, IfOk}
 use Rattle.std.specs.Io.KnownBytes.{Appends}
 use Rattle.dvg_words.specs.Values.{Window, MemoryMap}
 use Rattle.dvg_cert.specs.declared.entry.Entry.{Entry}
@@ -8,9 +8,11 @@ use Rattle.dvg_cert.specs.Devices.{AppendsPrefix}
 use Rattle.dvg_check.specs.declared.verdict.Yes.{Yes}
 use Rattle.dvg_check.specs.declared.verdict.Refusal.{Refusal}
 use Rattle.dvg_check.specs.declared.fault.Mode.{Mode}
+use Rattle.dvg_check.specs.declared.fault.Mode.TheVariants.{Exact}
 use Rattle.dvg_make.specs.declared.judging.FrameRefusal.{FrameRefusal}
 use Rattle.dvg_cmd.specs.Report.{report_text}
 use Rattle.dvg_cmd.specs.Status.{worse, frames_message}
+use Rattle.dvg_cmd.specs.Numbers.{frame_blamed}
 use Rattle.dvg_cmd.specs.MakingFrames.{FramesRunFault, MakesForFrames}
 use Rattle.dvg_cmd.specs.Frames.{FrameAnswer, FrameOutcome, AnswerMeans, frame_outcome_of, frame_line}
 use Rattle.dvg_cmd.specs.declared.judging.FrameOutcome.TheVariants as outcome
@@ -24,7 +26,7 @@ no_account = codes "account: out of memory\n"
 abbrev pub IsExplainedOutcome : Result Yes Refusal → List ℕ → Outcome → Type 0
 IsExplainedOutcome verdict account outcome = (outcome ≡ outcome_of verdict) ⊎ ((outcome ≡ NoMemory) × (account ≡ no_account))
 
--- the report of a verdict and an account were written, and nothing else
+-- the report of a verdict and some text, its account, were written, and nothing else
 pub record Explained (verdict : Result Yes Refusal) (old new : Option (List ℕ)) (outcome : Outcome) : Type 0 where
   pub account : List ℕ
   pub written : Appends old new (report_text verdict ++ account)
@@ -35,13 +37,16 @@ pub record ExplainedPrefix (verdict : Result Yes Refusal) (old new : Option (Lis
   pub account : List ℕ
   pub written : AppendsPrefix old new (report_text verdict ++ account)
 
--- this was written of the verdict on all bytes that three readers held; `left` is what the certificate's reader still holds
+-- this was written of the verdict on all bytes that three readers held; `left` is what the certificate's reader still holds. What it
+-- accepts is safe, also where there was no memory for the account.
 pub record Explains
     (mode : Mode) (w : Window) (rom cert left frame : Option (List ℕ)) (budget : ℕ) (old new : Option (List ℕ))
     (outcome : Outcome) : Type 0 where
   pub verdict : Result Yes Refusal
   pub judges : Judges mode w rom cert frame budget verdict
   pub read : IsReadFor verdict cert left
+  pub safe : IfOk verdict (SafeRead w rom cert frame)
+  pub exact : mode ≡ Exact → IfOk verdict (CountsRead rom cert frame)
   pub explained : Explained verdict old new outcome
 
 -- and a prefix of it
@@ -72,7 +77,7 @@ abbrev pub IsExplainedFrameOutcome : FrameAnswer → List ℕ → FrameOutcome �
 IsExplainedFrameOutcome answer account end =
     (end ≡ frame_outcome_of answer) ⊎ ((end ≡ worse (frame_outcome_of answer) outcome.NoMemory) × (account ≡ no_account))
 
--- the line of an answer and an account were written, and nothing else
+-- the line of an answer and some text, its account, were written, and nothing else
 pub record AnswerExplained (name : List ℕ) (answer : FrameAnswer) (old new : Option (List ℕ)) (end : FrameOutcome) : Type 0 where
   pub account : List ℕ
   pub written : Appends old new (frame_line name answer ++ account)
@@ -125,13 +130,27 @@ abbrev pub make_outcome_of : Result ℕ FramesRunFault → Outcome
 make_outcome_of (Ok entries) = Accepted
 make_outcome_of (Err fault) = Refused
 
+-- which frame is to blame, where one is
+abbrev pub frame_to_blame : Result ℕ FramesRunFault → Option ℕ
+frame_to_blame (Ok entries) = None
+frame_to_blame (Err fault) = frame_blamed fault
+
+-- what stands behind the line: an account, read as these bytes, or that there was no memory for it
+abbrev pub account_text : {A E : Type 0} → (A → List ℕ) → Result A E → List ℕ
+account_text bytes (Ok text) = bytes text
+account_text bytes (Err e) = no_account
+
+abbrev pub told_outcome : {A E : Type 0} → Result A E → Outcome → Outcome
+told_outcome (Ok text) outcome = outcome
+told_outcome (Err e) outcome = NoMemory
+
 -- the line and an account were written, and nothing else; the outcome is the line's, or that there was no memory for the account
-pub record MakeExplained (name : List ℕ) (made : Result ℕ FramesRunFault) (old new : Option (List ℕ)) (outcome : Outcome) : Type 0 where
-  pub account : List ℕ
-  pub written : Appends old new (make_line name made ++ account)
-  pub outcome_is : (outcome ≡ make_outcome_of made) ⊎ ((outcome ≡ NoMemory) × (account ≡ no_account))
+pub record MakeExplained {A E : Type 0} (bytes : A → List ℕ)
+    (name : List ℕ) (made : Result ℕ FramesRunFault) (account : Result A E) (old new : Option (List ℕ)) (outcome : Outcome) : Type 0 where
+  pub written : Appends old new (make_line name made ++ account_text bytes account)
+  pub outcome_is : outcome ≡ told_outcome account (make_outcome_of made)
 
 -- a prefix of them was written, and nothing else
-pub record MakeExplainedPrefix (name : List ℕ) (made : Result ℕ FramesRunFault) (old new : Option (List ℕ)) : Type 0 where
-  pub account : List ℕ
-  pub written : AppendsPrefix old new (make_line name made ++ account)
+abbrev pub MakeExplainedPrefix : {A E : Type 0} → (A → List ℕ)
+    → List ℕ → Result ℕ FramesRunFault → Result A E → Option (List ℕ) → Option (List ℕ) → Type 0
+MakeExplainedPrefix bytes name made account old new = AppendsPrefix old new (make_line name made ++ account_text bytes account)

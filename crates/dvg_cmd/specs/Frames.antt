@@ -20,7 +20,8 @@ use Rattle.dvg_make.specs.declared.judging.FrameRefusal.{FrameRefusal}
 use Rattle.dvg_make.specs.declared.judging.FrameRefusal.TheVariants.{Make, NoMemory, Check}
 use Rattle.dvg_make.specs.Judging.{AreLeast, FrameRefused, FrameVerdict as JudgeVerdict}
 use Rattle.dvg_cmd.specs.Report.{frame_line_text}
-use Rattle.dvg_cmd.specs.Runs.{MOST_FRAME_READ, IsReadTo}
+use Rattle.dvg_cmd.specs.Runs.{MOST_FRAME_READ, IsReadTo, Outcome}
+use Rattle.dvg_cmd.specs.declared.running.Outcome.TheVariants as runs
 pub use Rattle.dvg_cmd.specs.declared.judging.FrameAnswer.{FrameAnswer}
 pub use Rattle.dvg_cmd.specs.declared.judging.FrameAnswer.TheVariants.{Judged, Unread}
 pub use Rattle.dvg_cmd.specs.declared.judging.FrameOutcome.{FrameOutcome}
@@ -120,6 +121,12 @@ frame_outcome_of (Judged (Ok y)) = outcome.Accepted
 frame_outcome_of (Judged (Err r)) = refusal_outcome_of r
 frame_outcome_of Unread = outcome.Unread
 
+-- the outcome of a line that no frame was needed for
+abbrev pub plain_outcome : Outcome → FrameOutcome
+plain_outcome runs.Accepted = outcome.Accepted
+plain_outcome runs.Refused = outcome.Refused
+plain_outcome runs.NoMemory = outcome.NoMemory
+
 -- the outcome is that the frame could not be read
 abbrev pub is_unread_outcome : FrameOutcome → Bool
 is_unread_outcome outcome.Unread = true
@@ -127,8 +134,8 @@ is_unread_outcome outcome.Accepted = false
 is_unread_outcome outcome.Refused = false
 is_unread_outcome outcome.NoMemory = false
 
--- what an answer says of a frame's reader: it failed, or was read to its end or to one byte past the limit, with this verdict on the
--- bytes that are judged
+-- what a verdict says of a frame's reader: it was read to its end or to one byte past the limit, with this verdict on the bytes that
+-- are judged; of a frame that could not be read the counts of failures tell
 abbrev pub AnswerMeans : (List ℕ → Result Yes FrameRefusal → Type 0) → Option ℕ → Option (List ℕ) → Option (List ℕ) → FrameAnswer → Type 0
 AnswerMeans IsVerdict start old new Unread = Unit {0}
 AnswerMeans IsVerdict start old new (Judged v) =

@@ -1,16 +1,13 @@
 //! The account of an answer: what is told behind its line.
 
-ghost use Rattle.std.specs.Prelude.{◌≡◌, ◌≤◌};
-ghost use Rattle.dvg_cert.specs.declared.limits.TheConstants.{MOST_WORDS};
-
 use crate::account_item::{ItemAccount, callee_of};
 use crate::account_making::MakingAccount;
 use crate::account_why::{Addresses, OddWords, odd_words};
-use dvg_cert::{Cert, Entries, Entry, HashIndex, LitBox};
-use dvg_check::{JudgedShapes, Mode, Refusal, Yes, frame_of};
+use dvg_cert::{Cert, Entry, HashIndex, LitBox};
+use dvg_check::{Mode, Refusal, Yes};
 use dvg_explain::{
-    Call, FrameAccount, ShapeAccount, explain_frame, explain_shapes, find_chain, frame_calls,
-    frame_extent, shapes_extent,
+    Call, FrameAccount, RomAccount, ShapeAccount, find_chain, frame_calls, frame_extent,
+    shapes_extent,
 };
 use dvg_items::Kind;
 use dvg_words::{FrameImage, ImageFault, RomImage, RomMap, Window};
@@ -142,11 +139,12 @@ impl<'a> Inputs<'a> {
 }
 
 impl Account {
-    /// The account of a verdict on these inputs.
+    /// The account of a verdict on these inputs, where that of a refusal because of an item is this one.
     pub fn of_verdict(
         alloc: Global,
         inputs: &Inputs,
         verdict: &Result<Yes, Refusal>,
+        told: Option<&RomAccount>,
     ) -> Result<Account, AllocError> {
         match verdict {
             Ok(yes) => accepted_account(alloc, inputs, *yes),
@@ -155,7 +153,10 @@ impl Account {
                     number: refusal.number(),
                     why: inputs.plain_why(refusal),
                 };
-                Ok(item_account(alloc, inputs, refusal)?.unwrap_or(plain))
+                match told {
+                    Some(account) => { Ok(item_account(alloc, inputs, account)?.unwrap_or(plain)) }
+                    None => Ok(plain),
+                }
             }
         }
     }
@@ -185,25 +186,16 @@ fn accepted_account(alloc: Global, inputs: &Inputs, yes: Yes) -> Result<Account,
     Ok(Account::Accepted(account))
 }
 
-/// The account of the item of a refusal, where it is one of an item.
+/// The account of a refusal because of an item.
 fn item_account(
     alloc: Global,
     inputs: &Inputs,
-    refusal: &Refusal,
+    told: &RomAccount,
 ) -> Result<Option<Account>, AllocError> {
-    let Some(cert) = inputs.cert else {
-        return Ok(None);
-    };
-    let Ok(rom) = RomImage::from_bytes(inputs.rom, cert.map()) else {
-        return Ok(None);
-    };
-    match refusal {
-        Refusal::Shape(_) => shape_account(alloc, inputs, &rom, cert),
-        Refusal::Frame(_) => match frame_of(inputs.frame, inputs.budget) {
-            Ok(frame) => frame_account(alloc, inputs, &rom, cert, &frame),
-            Err(_) => Ok(None),
-        },
-        _ => Ok(None),
+    match told {
+        RomAccount::RomLength | RomAccount::IndexMemory => Ok(None),
+        RomAccount::Shape(account) => shape_account(alloc, inputs, account),
+        RomAccount::Frame(account) => Ok(frame_account(inputs, account)),
     }
 }
 
@@ -211,82 +203,68 @@ fn item_account(
 fn shape_account(
     alloc: Global,
     inputs: &Inputs,
-    rom: &RomImage,
-    cert: &Cert,
+    account: &ShapeAccount,
 ) -> Result<Option<Account>, AllocError> {
-    let entries = HashIndex::new(alloc, cert)?;
-    let Err(account) = explain_shapes(rom, cert, &entries, &inputs.window, inputs.mode) else {
+    let Some(cert) = inputs.cert else {
+        return Ok(None);
+    };
+    let Ok(rom) = RomImage::from_bytes(inputs.rom, cert.map()) else {
         return Ok(None);
     };
     let finding = account.finding;
     let at = finding.fault.word;
     Ok(Some(Account::Shape {
-        account,
+        account: *account,
         item: ItemAccount::new(
-            rom,
+            &rom,
             Kind::Shape,
             finding.entry.addr,
             at,
             finding.before,
             callee_of(&finding.found),
         ),
-        odd: odd_words(rom, at),
+        odd: odd_words(&rom, at),
         list: Addresses::of_map(rom.map()),
-        chain: chain_to(alloc, inputs, rom, cert, &entries, &finding.entry)?,
+        chain: chain_to(alloc, inputs, &rom, cert, &finding.entry)?,
     }))
 }
 
 /// How the frame comes to an entry.
-fn chain_to<E: Entries>(
+fn chain_to(
     alloc: Global,
     inputs: &Inputs,
     rom: &RomImage,
     cert: &Cert,
-    entries: &E,
     goal: &Entry,
-) -> Result<Chain, AllocError>
-    requires { E.list entries.now ≡ cert.now.entries }
-{
+) -> Result<Chain, AllocError> {
     let Ok(frame) = FrameImage::from_bytes(inputs.frame) else {
         return Ok(Chain::NoFrame);
     };
-    match find_chain(alloc, rom, cert, entries, &frame, goal)? {
+    let entries = HashIndex::new(alloc, cert)?;
+    match find_chain(alloc, rom, cert, &entries, &frame, goal)? {
         Some(calls) => Ok(Chain::Calls(calls)),
         None => Ok(Chain::Unreached),
     }
 }
 
 /// The account of the frame's first fault.
-fn frame_account(
-    alloc: Global,
-    inputs: &Inputs,
-    rom: &RomImage,
-    cert: &Cert,
-    frame: &FrameImage,
-) -> Result<Option<Account>, AllocError>
-    requires budget { inputs.now.budget ≤ MOST_WORDS }
-    requires map { rom.now.map ≡ cert.now.map }
-{
-    let entries = HashIndex::new(alloc, cert)?;
-    let Ok(shapes) = JudgedShapes::judge(rom, cert, &entries, inputs.window, inputs.mode) else {
-        return Ok(None);
-    };
-    let Err(account) = explain_frame(&shapes, frame, inputs.budget) else {
-        return Ok(None);
+fn frame_account(inputs: &Inputs, account: &FrameAccount) -> Option<Account> {
+    let Ok(frame) = FrameImage::from_bytes(inputs.frame) else {
+        return None;
     };
     let finding = account.finding;
     let at = finding.fault.word;
-    Ok(Some(Account::Frame {
-        account,
+    Some(Account::Frame {
+        account: *account,
         item: ItemAccount::new(
-            frame,
+            &frame,
             Kind::Frame,
             0,
             at,
             finding.before,
             callee_of(&finding.found),
         ),
-        odd: odd_words(frame, at),
-        list: Addresses::of_frame(frame),
-    }))
+        odd: odd_words(&frame, at),
+        list: Addresses::of_frame(&frame),
+    })
 }

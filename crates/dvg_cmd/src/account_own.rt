@@ -3,11 +3,13 @@
 ghost use Rattle.dvg_cmd.specs.Frames.{FrameVerdict};
 
 use crate::account::{Account, Inputs, PlainWhy};
+use crate::account_again::tell_again;
 use crate::account_making::MakingAccount;
 use crate::account_text::text_of;
 use crate::judging::images_for;
 use dvg_cert::Cert;
 use dvg_check::{Mode, Yes};
+use dvg_explain::RomAccount;
 use dvg_make::{EntryCause, FrameRefusal, MakeAccount, explain_judging};
 use dvg_words::{RomImage, RomMap, Window};
 use std::alloc::{AllocError, Global};
@@ -144,7 +146,11 @@ fn account_by<'a>(
         window,
         mode: Mode::Exact,
     };
-    frame_account(alloc, &inputs, verdict)
+    let told = match verdict {
+        Err(FrameRefusal::Check(refusal)) => tell_again(alloc, &inputs, refusal)?,
+        _ => None,
+    };
+    frame_account(alloc, &inputs, verdict, told.as_ref())
 }
 
 /// The text of the account of a verdict on the bytes of a frame, over those of a ROM at this map, by the frame's own certificate.
@@ -163,15 +169,19 @@ pub fn own_account_text(
     }
 }
 
-/// The account of a verdict of the checker, or that there was no memory for the certificate.
+/// The account of a verdict of the checker on a frame, where that of a refusal because of an item is this one; or that there was no
+/// memory for the certificate.
 pub fn frame_account(
     alloc: Global,
     inputs: &Inputs,
     verdict: &Result<Yes, FrameRefusal>,
+    told: Option<&RomAccount>,
 ) -> Result<Account, AllocError> {
     match verdict {
-        Ok(yes) => Account::of_verdict(alloc, inputs, &Ok(*yes)),
-        Err(FrameRefusal::Check(refusal)) => Account::of_verdict(alloc, inputs, &Err(*refusal)),
+        Ok(yes) => Account::of_verdict(alloc, inputs, &Ok(*yes), None),
+        Err(FrameRefusal::Check(refusal)) => {
+            Account::of_verdict(alloc, inputs, &Err(*refusal), told)
+        }
         Err(_) => Ok(no_memory()),
     }
 }

@@ -8,18 +8,19 @@ use crate::account_why::{Addresses, FrameWhyText, OddWords, ShapeWhyText};
 use crate::rules::rule_of;
 use dvg_cert::{Entry, LitBox, MOST_DEPTH, MOST_ENTRIES, MOST_WORDS};
 use dvg_check::{Refusal, Yes};
-use dvg_explain::{Call, FrameAccount, Margins, ShapeAccount};
+use dvg_explain::{Call, FrameAccount, Margins, RomAccount, ShapeAccount};
 use dvg_words::Window;
 use std::alloc::{AllocError, Global};
 use std::fmt;
 
-/// The text of the account of a verdict on these inputs.
+/// The text of the account of a verdict on these inputs, where that of a refusal because of an item is this one.
 pub fn account_text(
     alloc: Global,
     inputs: &Inputs,
     verdict: &Result<Yes, Refusal>,
+    told: Option<&RomAccount>,
 ) -> Result<String, AllocError> {
-    match Account::of_verdict(alloc, inputs, verdict) {
+    match Account::of_verdict(alloc, inputs, verdict, told) {
         Ok(account) => text_of(alloc, &account),
         Err(error) => Err(error),
     }

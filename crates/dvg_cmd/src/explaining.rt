@@ -71,8 +71,7 @@ pub fn write_explained<W: CountedWrite>(
 /// Reads a ROM, a frame and a certificate, as [`run_check`](crate::run_check) does, and writes the report that it would write, and
 /// behind it an account of the verdict (docs/ACCOUNTS.md).
 ///
-/// Once the report is known it is judged once more, for what the account says. Where there is no memory for the account,
-/// `account: out of memory` stands in its place, and the outcome says so. The faults are those of `run_check`.
+/// Where there is no memory for the account, `account: out of memory` stands in its place, and the outcome says so. The faults are those of `run_check`.
 pub fn run_explain_check<R1: CountedRead, R2: CountedRead, R3: CountedRead, W: CountedWrite>(
     alloc: Global,
     rom: &mut R1,
@@ -137,6 +136,6 @@ pub fn run_explain_check<R1: CountedRead, R2: CountedRead, R3: CountedRead, W: C
         window,
         mode,
     };
-    let account = account_text(alloc, &inputs, &judged.verdict);
+    let account = account_text(alloc, &inputs, &judged.verdict, judged.account.as_ref());
     write_explained(&judged.verdict, &account, out)
 }

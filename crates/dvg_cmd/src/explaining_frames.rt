@@ -3,10 +3,11 @@
 ghost use Rattle.std.specs.Prelude.{◌≡◌, Bool, length, Err, ◌++◌, IfOk, IfErr, OnOk, OnErr, is_err};
 ghost use Rattle.std.specs.Io.KnownBytes.{Appends};
 ghost use Rattle.dvg_cert.specs.Devices.{AppendsPrefix, count_after};
-ghost use Rattle.dvg_cmd.specs.Frames.{FrameVerdict, VerdictOver, frame_outcome_of, frame_line};
+ghost use Rattle.dvg_cmd.specs.Frames.{FrameVerdict, VerdictOver, frame_outcome_of, is_unread, is_unread_outcome, frame_line};
 ghost use Rattle.dvg_cmd.specs.Explaining.{AnswerExplained, AnswerExplainedPrefix, ExplainsFrame, ExplainsFramePrefix, Explained, ExplainedPrefix};
 
 use crate::account::{Account, Inputs, PlainWhy};
+use crate::account_again::tell_again;
 use crate::account_own::{frame_account, judge_own, own_account_text};
 use crate::account_text::{account_text, text_of};
 use crate::explaining::{NO_ACCOUNT, write_explained};
@@ -14,6 +15,7 @@ use crate::judging::{FrameAnswer, FrameOutcome, judge_over, read_started, write_
 use crate::running::{Outcome, RunFault};
 use dvg_cert::{Cert, CountedRead, CountedWrite, Entries, write_bytes};
 use dvg_check::{JudgedShapes, Mode, Refusal, Yes};
+use dvg_explain::RomAccount;
 use dvg_make::FrameRefusal;
 use dvg_words::{RomMap, Window};
 use std::alloc::{AllocError, Global};
@@ -46,6 +48,7 @@ fn write_answer<W: CountedWrite>(
     out: &mut W,
 ) -> Result<FrameOutcome, RunFault>
     ensures ok { IfOk result (AnswerExplained name.now answer.now (W.contents out.old) (W.contents out.new)) }
+    ensures unread { IfOk result (λ outcome. is_unread_outcome outcome ≡ is_unread answer.now) }
     ensures prefix { OnErr result (AnswerExplainedPrefix name.now answer.now (W.contents out.old) (W.contents out.new)) }
     ensures fault { IfErr result (λ fault. fault ≡ RunFault.Write) }
     ensures count { W.failures out.new ≡ count_after (is_err result) (W.failures out.old) }
@@ -75,8 +78,9 @@ fn over_text(
     alloc: Global,
     inputs: &Inputs,
     verdict: &Result<Yes, FrameRefusal>,
+    told: Option<&RomAccount>,
 ) -> Result<String, AllocError> {
-    match frame_account(alloc, inputs, verdict) {
+    match frame_account(alloc, inputs, verdict, told) {
         Ok(account) => text_of(alloc, &account),
         Err(error) => Err(error),
     }
@@ -98,12 +102,14 @@ pub fn run_explain_frame<R: CountedRead, W: CountedWrite>(
     window: Window,
     out: &mut W,
 ) -> Result<FrameOutcome, RunFault>
-    // The line of an answer and an account are written, or a prefix of them where the writer failed, which alone ends a run.
+    // The line of an answer and an account are written, or a prefix of them where the writer failed, which alone ends a run. The
+    // frame's count rises by one where it could not be read.
     ensures report { IfOk result (ExplainsFrame (λ bytes. FrameVerdict rom.now map bytes budget window) start name.now
         (R.remaining frame.old) (R.remaining frame.new) (W.contents out.old) (W.contents out.new)) }
     ensures prefix { OnErr result (ExplainsFramePrefix (λ bytes. FrameVerdict rom.now map bytes budget window) start name.now
         (R.remaining frame.old) (R.remaining frame.new) (W.contents out.old) (W.contents out.new)) }
     ensures fault { IfErr result (λ fault. fault ≡ RunFault.Write) }
+    ensures frame_count { IfOk result (λ outcome. R.failures frame.new ≡ count_after (is_unread_outcome outcome) (R.failures frame.old)) }
     ensures frame_once { (failed : Bool) × (R.failures frame.new ≡ count_after failed (R.failures frame.old)) }
     ensures out_count { W.failures out.new ≡ count_after (is_err result) (W.failures out.old) }
 {
@@ -139,12 +145,13 @@ pub fn run_explain_frame_over<E: Entries, R: CountedRead, W: CountedWrite>(
     ensures prefix { OnErr result (ExplainsFramePrefix (λ bytes. VerdictOver shapes.now (length cert.now.entries) bytes budget) start name.now
         (R.remaining frame.old) (R.remaining frame.new) (W.contents out.old) (W.contents out.new)) }
     ensures fault { IfErr result (λ fault. fault ≡ RunFault.Write) }
+    ensures frame_count { IfOk result (λ outcome. R.failures frame.new ≡ count_after (is_unread_outcome outcome) (R.failures frame.old)) }
     ensures frame_once { (failed : Bool) × (R.failures frame.new ≡ count_after failed (R.failures frame.old)) }
     ensures out_count { W.failures out.new ≡ count_after (is_err result) (W.failures out.old) }
 {
     let (answer, account) = match read_started(frame, start) {
         Ok(bytes) => {
-            let verdict = judge_over(shapes, cert, bytes.as_slice(), budget);
+            let (verdict, told) = judge_over(shapes, cert, bytes.as_slice(), budget);
             let taken = Some(cert);
             let inputs = Inputs {
                 rom,
@@ -155,7 +162,7 @@ pub fn run_explain_frame_over<E: Entries, R: CountedRead, W: CountedWrite>(
                 window: shapes.window(),
                 mode,
             };
-            let account = over_text(alloc, &inputs, &verdict);
+            let account = over_text(alloc, &inputs, &verdict, told.as_ref());
             (FrameAnswer::Judged(verdict), account)
         }
         Err(_) => (FrameAnswer::Unread, unread_text(alloc)),
@@ -206,6 +213,9 @@ pub fn run_explain_refusal<W: CountedWrite>(
         mode: Mode::Bound,
     };
     let verdict = Err(*refusal);
-    let account = account_text(alloc, &inputs, &verdict);
+    let account = match tell_again(alloc, &inputs, refusal) {
+        Ok(told) => account_text(alloc, &inputs, &verdict, told.as_ref()),
+        Err(error) => Err(error),
+    };
     write_explained(&verdict, &account, out)
 }

@@ -1,9 +1,9 @@
 //! Running the maker over readers, with an account of what comes of it.
 
-ghost use Rattle.std.specs.Prelude.{◌≡◌, ◌≢◌, ◌⊎◌, ◌++◌, Option, List, ℕ, Err, IfOk, IfErr, OnOk, OnErr, is_err};
+ghost use Rattle.std.specs.Prelude.{◌≡◌, ◌≢◌, ◌⊎◌, ◌++◌, Option, List, ℕ, Err, IfOk, IfErr, OnOk, OnErr, is_err, string_bytes};
 ghost use Rattle.std.specs.Io.KnownBytes.{Appends};
 ghost use Rattle.dvg_cert.specs.Devices.{AppendsPrefix, count_after};
-ghost use Rattle.dvg_cmd.specs.Explaining.{MakesEntries, MakeExplained, MakeExplainedPrefix, make_line, make_outcome_of};
+ghost use Rattle.dvg_cmd.specs.Explaining.{MakesEntries, MakeExplained, MakeExplainedPrefix, frame_to_blame, make_line, make_outcome_of};
 ghost use Rattle.dvg_cmd.specs.MakingFrames.{blames_frames_rom, blames_a_frame, of_each, FailedAfter, EachRead, FramesFaultMeans};
 ghost use Rattle.dvg_cmd.specs.Numbers.{frames_run_number};
 ghost use Rattle.dvg_cmd.specs.Private.Reading.{IsPrefix, ArePrefixes};
@@ -34,7 +34,9 @@ pub struct MakeAnswer {
 
 impl MakeAnswer {
     /// Which frame is to blame, counted from 0, where one is.
-    pub fn frame(&self) -> Option<usize> {
+    pub fn frame(&self) -> Option<usize>
+        ensures { result ≡ frame_to_blame self.now.made }
+    {
         match self.made {
             Ok(_) => None,
             Err(fault) => fault.frame(),
@@ -216,8 +218,8 @@ pub fn write_make_answer<W: CountedWrite>(
     answer: &MakeAnswer,
     out: &mut W,
 ) -> Result<Outcome, RunFault>
-    ensures ok { IfOk result (MakeExplained name.now answer.now.made (W.contents out.old) (W.contents out.new)) }
-    ensures prefix { OnErr result (MakeExplainedPrefix name.now answer.now.made (W.contents out.old) (W.contents out.new)) }
+    ensures ok { IfOk result (MakeExplained string_bytes name.now answer.now.made answer.now.account (W.contents out.old) (W.contents out.new)) }
+    ensures prefix { OnErr result (MakeExplainedPrefix string_bytes name.now answer.now.made answer.now.account (W.contents out.old) (W.contents out.new)) }
     ensures fault { IfErr result (λ fault. fault ≡ RunFault.Write) }
     ensures count { W.failures out.new ≡ count_after (is_err result) (W.failures out.old) }
 {

@@ -9,7 +9,7 @@ ghost use Rattle.dvg_cmd.specs.Status.{worse};
 ghost use Rattle.dvg_words.specs.Values.{Window as Places};
 ghost use Rattle.dvg_make.specs.declared.judging.FrameRefusal.TheVariants.{Check};
 ghost use Rattle.dvg_cmd.specs.Private.Judging.{AreImages};
-ghost use Rattle.dvg_cmd.specs.Frames.{FrameVerdict, VerdictOver, ReadsFrame, refusal_outcome_of, frame_outcome_of, frame_line, is_unread_outcome, ReportsFrame, ReportsFramePrefix};
+ghost use Rattle.dvg_cmd.specs.Frames.{FrameVerdict, VerdictOver, ReadsFrame, plain_outcome, refusal_outcome_of, frame_outcome_of, frame_line, is_unread_outcome, ReportsFrame, ReportsFramePrefix};
 
 use crate::reading::{read_certificate, read_frame, read_rom};
 use crate::report::frame_report_of;
@@ -18,6 +18,7 @@ use crate::start::start_at;
 use arrayvec::ArrayVec;
 use dvg_cert::{Cert, CertFault, CountedRead, CountedWrite, Entries, write_bytes};
 use dvg_check::{JudgedShapes, Refusal, Yes, frame_of};
+use dvg_explain::{RomAccount, explain_frame};
 use dvg_make::{EntryFault, FrameRefusal, judge};
 use dvg_words::{FrameImage, RomImage, RomMap, Window};
 use std::alloc::Global;
@@ -60,6 +61,8 @@ impl FrameOutcome {
 }
 
 impl From<Outcome> for FrameOutcome {
+    ghost from_gives = { λ plain outcome. outcome ≡ plain_outcome plain };
+
     fn from(outcome: Outcome) -> FrameOutcome {
         match outcome {
             Outcome::Accepted => FrameOutcome::Accepted,
@@ -174,26 +177,35 @@ pub fn judge_alone(
 }
 
 /// The verdict on the bytes of a frame over judged shapes, those of this certificate: the first that applies of 2, 49, the
-/// frame's first fault, and the yes.
+/// frame's first fault, and the yes; and the account of that fault.
 pub fn judge_over<E: Entries>(
     shapes: &JudgedShapes<E>,
     cert: &Cert,
     frame: &[u8],
     budget: u32,
-) -> Result<Yes, FrameRefusal>
-    ensures { VerdictOver shapes.now (length cert.now.entries) frame.now budget result }
+) -> (Result<Yes, FrameRefusal>, Option<RomAccount>)
+    ensures { VerdictOver shapes.now (length cert.now.entries) frame.now budget result.0 }
 {
     let frame = match frame_of(frame, budget) {
         Ok(frame) => frame,
-        Err(refusal) => return Err(FrameRefusal::Check(refusal)),
+        Err(refusal) => return (Err(FrameRefusal::Check(refusal)), None),
     };
-    match shapes.check_frame(&frame, budget) {
-        Ok(accepted) => Ok(Yes {
-            shapes: cert.entries().len() as u32,
-            words: accepted.words,
-            depth: accepted.depth,
-        }),
-        Err(fault) => Err(FrameRefusal::Check(Refusal::Frame(fault))),
+    match explain_frame(shapes, &frame, budget) {
+        Ok(accepted) => {
+            let yes = Yes {
+                shapes: cert.entries().len() as u32,
+                words: accepted.words,
+                depth: accepted.depth,
+            };
+            (Ok(yes), None)
+        }
+        Err(account) => {
+            let refusal = Refusal::Frame(account.finding.fault);
+            (
+                Err(FrameRefusal::Check(refusal)),
+                Some(RomAccount::Frame(account)),
+            )
+        }
     }
 }
 
@@ -276,7 +288,10 @@ pub fn run_frame_over<E: Entries, R: CountedRead, W: CountedWrite>(
     ensures out_count { W.failures out.new ≡ count_after (is_err result) (W.failures out.old) }
 {
     let answer = match read_started(frame, start) {
-        Ok(bytes) => FrameAnswer::Judged(judge_over(shapes, cert, bytes.as_slice(), budget)),
+        Ok(bytes) => {
+            let (verdict, _) = judge_over(shapes, cert, bytes.as_slice(), budget);
+            FrameAnswer::Judged(verdict)
+        }
         Err(_) => FrameAnswer::Unread,
     };
     write_line(name, &answer, out)

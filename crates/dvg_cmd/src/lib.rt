@@ -5,6 +5,7 @@
 #![tactic(auto)]
 
 mod account;
+mod account_again;
 mod account_item;
 mod account_making;
 mod account_numbers;

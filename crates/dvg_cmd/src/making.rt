@@ -6,7 +6,7 @@ ghost use Rattle.dvg_cert.specs.Devices.{count_after};
 ghost use Rattle.dvg_cert.specs.declared.entry.Key.{Key as KeyValue};
 ghost use Rattle.dvg_cmd.specs.Numbers.{make_run_number};
 ghost use Rattle.dvg_cmd.specs.Making.{IsRoot, IsMapText, blames_maker_rom, blames_maker_writer, Makes, WritesMade, WritesMadePrefix, MakeFaultMeans};
-ghost use Rattle.dvg_cmd.specs.Runs.{MOST_ROM_READ};
+ghost use Rattle.dvg_cmd.specs.Runs.{MOST_ROM_READ, IsReadTo};
 ghost use Rattle.dvg_cmd.specs.Private.Reading.{IsPrefix};
 ghost use Rattle.dvg_words.specs.Values.{MemoryMap};
 
@@ -115,6 +115,9 @@ pub fn run_make<R: CountedRead, W: CountedWrite>(
     // 70 and 73 come exactly where their device failed in this call, and the device's count then rises by one.
     ensures rom_count { R.failures rom.new ≡ count_after (blames_maker_rom result) (R.failures rom.old) }
     ensures out_count { W.failures out.new ≡ count_after (blames_maker_writer result) (W.failures out.old) }
+
+    // Unless its reader failed, the ROM was read to its end or to one byte past its limit, and no further.
+    ensures rom_read { result ≢ Err MakeRunFault.ReadRom → IsReadTo MOST_ROM_READ (R.remaining rom.old) (R.remaining rom.new) }
 
     // What is written is the text of the list that is made for all bytes that the reader held, or a prefix of it, or nothing.
     ensures text { OnOk result (WritesMade (Makes (R.remaining rom.old) map roots.now) map (W.contents out.old) (W.contents out.new)) }

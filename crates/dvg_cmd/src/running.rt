@@ -1,8 +1,12 @@
 //! Running a check over readers and a writer.
 
-ghost use Rattle.std.specs.Prelude.{◌≡◌, ◌≢◌, ℕ, List, Option, Ok, Err, IfOk, IfErr, OnOk, OnErr, is_err};
+ghost use Rattle.std.specs.Prelude.{◌≡◌, ◌≢◌, ◌≤◌, ℕ, List, Option, Ok, Err, IfOk, IfErr, OnOk, OnErr, is_err};
 ghost use Rattle.std.specs.Io.KnownBytes.{Appends};
+ghost use Rattle.dvg_words.specs.Memory.{rom_of};
 ghost use Rattle.dvg_words.specs.Values.{Window as Places};
+ghost use Rattle.dvg_cert.specs.declared.limits.TheConstants.{MOST_WORDS};
+ghost use Rattle.dvg_check.specs.Safety.{Safe, CountsAtHalt};
+ghost use Rattle.dvg_check.specs.Verdict.{RomVerdict};
 ghost use Rattle.dvg_check.specs.declared.fault.Mode.TheVariants.{Exact};
 ghost use Rattle.dvg_cert.specs.Devices.{AppendsPrefix, count_after};
 ghost use Rattle.dvg_cmd.specs.Report.{report_text};
@@ -16,8 +20,9 @@ use crate::report::report_of;
 use crate::status::text_of;
 use dvg_cert::laws::prefix_refusal;
 use dvg_cert::{Cert, CertWhy, CountedRead, CountedWrite, write_bytes};
-use dvg_check::{Mode, Refusal, Yes, check_rom, frame_of};
-use dvg_words::{RomMap, Window};
+use dvg_check::{Mode, Refusal, Yes, frame_of};
+use dvg_explain::{RomAccount, explain_rom};
+use dvg_words::{FrameImage, RomMap, Window};
 use std::alloc::Global;
 use std::io;
 use thiserror::Error;
@@ -80,10 +85,13 @@ fn outcome_of(verdict: &Result<Yes, Refusal>) -> Outcome
     }
 }
 
-/// A verdict, and the certificate that it is by, where one was taken.
+/// A verdict on a ROM, a certificate and a frame.
 #[derive(Drop)]
 pub struct Judgment {
     pub verdict: Result<Yes, Refusal>,
+    /// The account of a refusal, where the ROM was looked at.
+    pub account: Option<RomAccount>,
+    /// The certificate that the verdict is by, where one was taken.
     pub cert: Option<Cert>,
 }
 
@@ -94,6 +102,27 @@ impl Judgment {
             Some(cert) => Some(cert.map()),
             None => None,
         }
+    }
+}
+
+/// The verdict in a mode on the bytes of a ROM and on a frame by a certificate, and the account of a refusal.
+fn judge_rom(
+    alloc: Global,
+    rom: &[u8],
+    frame: &FrameImage,
+    cert: &Cert,
+    budget: u32,
+    window: Window,
+    mode: Mode,
+) -> (Result<Yes, Refusal>, Option<RomAccount>)
+    requires { budget ≤ MOST_WORDS }
+    ensures verdict { RomVerdict mode window rom.now cert.now frame.now budget result.0 }
+    ensures safe { IfOk result.0 (λ yes. Safe (record { frame = frame.now; rom = rom_of cert.now.map rom.now }) window yes.words yes.depth) }
+    ensures exact { mode ≡ Exact → IfOk result.0 (λ yes. CountsAtHalt (record { frame = frame.now; rom = rom_of cert.now.map rom.now }) yes.words yes.depth) }
+{
+    match explain_rom(alloc, rom, frame, cert, budget, window, mode) {
+        Ok(yes) => (Ok(yes), None),
+        Err(account) => (Err(account.refusal()), Some(account)),
     }
 }
 
@@ -128,17 +157,23 @@ pub fn read_verdict<R: CountedRead>(
             skip(cert, PAST_CERTIFICATE_LIMIT)?;
             return Ok(Judgment {
                 verdict: Err(refusal),
+                account: None,
                 cert: None,
             });
         }
     };
     match read_certificate(alloc, cert)? {
-        Ok(taken) => Ok(Judgment {
-            verdict: check_rom(alloc, rom, &frame, &taken, budget, window, mode),
-            cert: Some(taken),
-        }),
+        Ok(taken) => {
+            let (verdict, account) = judge_rom(alloc, rom, &frame, &taken, budget, window, mode);
+            Ok(Judgment {
+                verdict,
+                account,
+                cert: Some(taken),
+            })
+        }
         Err(fault) => Ok(Judgment {
             verdict: Err(Refusal::Cert(fault)),
+            account: None,
             cert: None,
         }),
     }

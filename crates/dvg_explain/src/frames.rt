@@ -4,7 +4,8 @@ ghost use Rattle.std.specs.Prelude.{◌≡◌, ◌≤◌, IfOk, IfErr};
 ghost use Rattle.dvg_cert.specs.declared.limits.TheConstants.{MOST_WORDS};
 ghost use Rattle.dvg_check.specs.Rules.{GoodFrame};
 ghost use Rattle.dvg_check.specs.Finding.{FirstFrameFound, IsSoundFound};
-ghost use Rattle.dvg_check.specs.Safety.{Safe};
+ghost use Rattle.dvg_check.specs.Safety.{Safe, CountsAtHalt};
+ghost use Rattle.dvg_check.specs.declared.fault.Mode.TheVariants.{Exact};
 ghost use Rattle.dvg_items.specs.Bounds.{IsSoundSeen};
 ghost use Rattle.dvg_explain.specs.Causes.{CauseOf};
 ghost use Rattle.dvg_explain.specs.Private.Breaking.{IsBroken};
@@ -97,6 +98,7 @@ pub fn explain_frame<E: Entries>(
     ensures err { IfErr result (λ account. FirstFrameFound shapes.now.window frame.now shapes.now.list budget account.finding) }
     ensures cause { IfErr result (λ account. CauseOf shapes.now.window budget account.finding account.cause) }
     ensures safe { IfOk result (λ yes. Safe (record { frame = frame.now; rom = shapes.now.rom }) shapes.now.window yes.words yes.depth) }
+    ensures exact { shapes.now.mode ≡ Exact → IfOk result (λ yes. CountsAtHalt (record { frame = frame.now; rom = shapes.now.rom }) yes.words yes.depth) }
 {
     match shapes.find_fault(frame, budget) {
         Ok(accepted) => Ok(accepted),

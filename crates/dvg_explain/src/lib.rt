@@ -1,8 +1,9 @@
 //! Why a frame or a certificate's shapes are refused, in numbers: which edge is left and by how much, which entry is not there,
 //! which claim differs from what.
 //!
-//! [`explain_frame`] and [`explain_shapes`] judge as the checker does. With the first fault they answer what is known there and a
-//! cause, and their contracts say that each number of it is the rule's own.
+//! [`explain_rom`] judges a frame over a ROM and its certificate as the checker does, [`explain_shapes`] and [`explain_frame`] the
+//! shapes and the frame alone. With the first fault they answer what is known there and a cause, and their contracts say that each
+//! number of it is the rule's own.
 //!
 //! [`frame_calls`] and [`find_chain`] tell what a frame calls and by which calls it comes to a shape, [`deepest_calls`] which calls
 //! below a shape go deepest, [`frame_extent`] and [`shapes_extent`] where something may be lit, and [`Margins`] how far that is from
@@ -20,6 +21,7 @@ mod margins;
 mod reached;
 mod shapes;
 mod tails;
+mod verdict;
 mod visited;
 
 pub use calls::{Call, frame_calls, frame_extent};
@@ -30,3 +32,4 @@ pub use leaving::{BoxLeaving, Edge, Leaving, leaves_box, leaves_window};
 pub use margins::Margins;
 pub use shapes::{ShapeAccount, ShapeCause, explain_shapes};
 pub use tails::shapes_extent;
+pub use verdict::{RomAccount, explain_rom};

@@ -2,9 +2,9 @@
 
 use crate::expecting::{expect, expect_same};
 use dvg_cert::{End, Entries, Entry, HashIndex, Key, ListIndex, LitBox, read_cert};
-use dvg_check::{JudgedShapes, Mode};
+use dvg_check::{JudgedShapes, Mode, Yes};
 use dvg_explain::{
-    BoxLeaving, Call, Edge, FrameCause, Leaving, Margins, ShapeCause, explain_frame,
+    BoxLeaving, Call, Edge, FrameCause, Leaving, Margins, ShapeCause, explain_frame, explain_rom,
     explain_shapes, find_chain, frame_calls, frame_extent, shapes_extent,
 };
 use dvg_words::{FrameImage, Point, RomImage, SCREEN};
@@ -145,6 +145,36 @@ fn explains_shapes(rt: HostRuntime) {
     for &(text, word, cause) in CERTS {
         let told = told_of_shapes(rt.alloc(), text);
         expect_same(&rt, &told, &Some((word, cause)), &word);
+    }
+}
+
+/// The verdict on the ROM's first bytes and a frame over a certificate without entries, a refusal by the number of its account.
+fn verdict_told(alloc: Global, bytes: usize, frame: &[u8]) -> Option<Result<Yes, u8>> {
+    let rom = rom_bytes();
+    let cert = read_cert(alloc, b"dvgcert 1\ndone 0\n").ok()?;
+    let frame = FrameImage::from_bytes(frame).ok()?;
+    let rom = rom.get(..bytes)?;
+    match explain_rom(alloc, rom, &frame, &cert, 3, SCREEN, Mode::Bound) {
+        Ok(yes) => Some(Ok(yes)),
+        Err(account) => Some(Err(account.refusal().number())),
+    }
+}
+
+#[test]
+fn explains_roms(rt: HostRuntime) {
+    let yes = Yes {
+        shapes: 0,
+        words: 1,
+        depth: 0,
+    };
+    // HALT over the ROM, and over less of it; then RTSL
+    for (bytes, frame, verdict) in [
+        (2048, [0x00, 0xB0], Ok(yes)),
+        (2046, [0x00, 0xB0], Err(1)),
+        (2048, [0x00, 0xD0], Err(42)),
+    ] {
+        let told = verdict_told(rt.alloc(), bytes, &frame);
+        expect_same(&rt, &told, &Some(verdict), &bytes);
     }
 }
 

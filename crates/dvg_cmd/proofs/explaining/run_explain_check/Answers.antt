@@ -1,6 +1,8 @@
-use Rattle.std.proofs.Common.{ℕ, List, Option}
+use Rattle.std.proofs.Common.{◌≡◌, ℕ, List, Option}
+use Rattle.std.specs.Prelude.{IfOk}
+use Rattle.dvg_check.specs.declared.fault.Mode.TheVariants.{Exact}
 use Rattle.dvg_cmd.specs.Private.Reading.{IsPrefix}
-use Rattle.dvg_cmd.specs.Runs.{Judges}
+use Rattle.dvg_cmd.specs.Runs.{Judges, SafeRead, CountsRead}
 use Rattle.dvg_cmd.proofs.Accounts.{explains}
 use Rattle.dvg_cmd.proofs.explaining.run_explain_check.Goals as goal
 
@@ -9,4 +11,11 @@ returns-clause-report g c =
     let over : (rom frame_held : Option (List ℕ)) → IsPrefix 4097 rom c.in-Ok.rom.items → IsPrefix 2049 frame_held c.in-Ok-read_frame.frame.items
     → Judges c.args.mode c.args.window rom (g.R2.Read.remaining c.args.cert.now) frame_held c.args.budget c.in-Ok-read_verdict.judged.verdict =
     rw (c.as_slice.ensures.value, c.as_slice-2.ensures.value) at c.in-Ok-read_verdict.ensures.verdict in
-    explains c.write_explained.result _ _ _ _ _ _ _ _ _ c.in-Ok-read_verdict.judged.verdict (over _ _ c.in-Ok.ensures.bytes c.in-Ok-read_frame.ensures.bytes) c.in-Ok-read_verdict.ensures.read c.write_explained.ensures.ok
+    let safe : (rom frame_held : Option (List ℕ)) → IsPrefix 4097 rom c.in-Ok.rom.items → IsPrefix 2049 frame_held c.in-Ok-read_frame.frame.items
+    → IfOk c.in-Ok-read_verdict.judged.verdict (SafeRead c.args.window rom (g.R2.Read.remaining c.args.cert.now) frame_held) =
+    rw (c.as_slice.ensures.value, c.as_slice-2.ensures.value) at c.in-Ok-read_verdict.ensures.safe in
+    let exact : c.args.mode ≡ Exact → (rom frame_held : Option (List ℕ)) → IsPrefix 4097 rom c.in-Ok.rom.items → IsPrefix 2049 frame_held c.in-Ok-read_frame.frame.items
+    → IfOk c.in-Ok-read_verdict.judged.verdict (CountsRead rom (g.R2.Read.remaining c.args.cert.now) frame_held) =
+    rw (c.as_slice.ensures.value, c.as_slice-2.ensures.value) at c.in-Ok-read_verdict.ensures.exact in
+    explains c.write_explained.result _ _ _ _ _ _ _ _ _ c.in-Ok-read_verdict.judged.verdict (over _ _ c.in-Ok.ensures.bytes c.in-Ok-read_frame.ensures.bytes) c.in-Ok-read_verdict.ensures.read
+    (safe _ _ c.in-Ok.ensures.bytes c.in-Ok-read_frame.ensures.bytes) (λ is. exact is _ _ c.in-Ok.ensures.bytes c.in-Ok-read_frame.ensures.bytes) c.write_explained.ensures.ok
