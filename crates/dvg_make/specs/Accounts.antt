@@ -97,10 +97,13 @@ SaysOf scale v Halt = v.item.instr ≡ instr.Halt
 SaysOf scale v LostPlace = PlaceKnown v.extent v.place → ⊥
 -- it lights at unknown scale, and not at a lost place
 SaysOf scale v UnknownScale = PlaceKnown v.extent v.place × (ScaleKnown v.extent → ⊥)
--- it calls the entry for this address and key, and more return places are stored at once under the item than a certificate allows
-SaysOf scale v (Deep to key) = (target Shape v.item.instr ≡ Some to) × (scale ≡ key) × (MOST_DEPTH < depth_under v.item.instr v.callee)
--- so many words are fetched up to and with it
-SaysOf scale v (TooManyWords words) = (words ≡ v.after.words) × (MOST_WORDS < words)
+-- it calls the entry for this address and key, and more return places are stored at once under the item than a certificate allows,
+-- and it is straight
+SaysOf scale v (Deep to key) =
+    (target Shape v.item.instr ≡ Some to) × (scale ≡ key) × (MOST_DEPTH < depth_under v.item.instr v.callee) × IsStraight v
+-- so many words are fetched up to and with it, and it is straight and not too deep
+SaysOf scale v (TooManyWords words) =
+    (words ≡ v.after.words) × (MOST_WORDS < words) × IsStraight v × (depth_under v.item.instr v.callee ≤ MOST_DEPTH)
 SaysOf scale v cause = ⊥
 
 -- the item at a place says so, seen with the entry of the list that it calls (profile)
