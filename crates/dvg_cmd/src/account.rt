@@ -3,11 +3,11 @@
 use crate::account_item::{ItemAccount, callee_of};
 use crate::account_making::MakingAccount;
 use crate::account_why::{Addresses, OddWords, odd_words};
-use dvg_cert::{Cert, Entry, HashIndex, LitBox};
+use dvg_cert::{Cert, Entries, Entry, HashIndex, ListIndex, LitBox};
 use dvg_check::{Mode, Refusal, Yes};
 use dvg_explain::{
-    Call, FrameAccount, RomAccount, ShapeAccount, find_chain, frame_calls, frame_extent,
-    shapes_extent,
+    Call, FrameAccount, Losses, RomAccount, ShapeAccount, find_chain, frame_calls, frame_extent,
+    frame_losses, shape_losses, shapes_extent,
 };
 use dvg_items::Kind;
 use dvg_words::{FrameImage, ImageFault, RomImage, RomMap, Window};
@@ -222,7 +222,8 @@ fn shape_account(
             at,
             finding.before,
             callee_of(&finding.found),
-        ),
+        )
+        .with_losses(losses_in_shape(&rom, cert, &finding.entry, at)),
         odd: odd_words(&rom, at),
         list: Addresses::of_map(rom.map()),
         chain: chain_to(alloc, inputs, &rom, cert, &finding.entry)?,
@@ -247,8 +248,18 @@ fn chain_to(
     }
 }
 
+/// The items by which what is not known before a word of an entry's shape was lost.
+fn losses_in_shape(rom: &RomImage, cert: &Cert, entry: &Entry, at: u16) -> Option<Losses> {
+    let entries = ListIndex::new(cert);
+    match entries.find(entry.addr, entry.key) {
+        Some(listed) => shape_losses(rom, cert, &entries, &listed, at),
+        None => None,
+    }
+}
+
 /// The account of the frame's first fault.
 fn frame_account(inputs: &Inputs, account: &FrameAccount) -> Option<Account> {
+    let cert = inputs.cert?;
     let Ok(frame) = FrameImage::from_bytes(inputs.frame) else {
         return None;
     };
@@ -263,7 +274,8 @@ fn frame_account(inputs: &Inputs, account: &FrameAccount) -> Option<Account> {
             at,
             finding.before,
             callee_of(&finding.found),
-        ),
+        )
+        .with_losses(frame_losses(cert, &ListIndex::new(cert), &frame, at)),
         odd: odd_words(&frame, at),
         list: Addresses::of_frame(&frame),
     })

@@ -6,6 +6,7 @@ ghost use Rattle.dvg_words.specs.declared.map.TheConstants.{ADDRESS_END};
 use crate::account_numbers::{Claims, Place, Scale};
 use dvg_cert::Entry;
 use dvg_check::Found;
+use dvg_explain::Losses;
 use dvg_items::{Item, Kind, Known};
 use dvg_words::{Cell, Draw, Fetch, Format, Instr, read_cell};
 use std::alloc::AllocError;
@@ -38,11 +39,13 @@ pub struct ItemAccount {
     fields: Option<Fields>,
     callee: Option<Entry>,
     before: Known,
+    losses: Option<Losses>,
     way: Way,
 }
 
 impl ItemAccount {
-    /// The item that stands at a word address, among those that begin at another, and the entry that it names.
+    /// The item that stands at a word address, among those that begin at another, what is known before it, and the entry that it
+    /// names.
     pub fn new<F: Fetch>(
         words: &F,
         kind: Kind,
@@ -57,8 +60,14 @@ impl ItemAccount {
             fields: fields_at(words, at),
             callee,
             before,
+            losses: None,
             way: way_to(words, kind, first, at),
         }
+    }
+
+    /// The same, with the items by which what is not known before it was lost.
+    pub fn with_losses(self, losses: Option<Losses>) -> ItemAccount {
+        ItemAccount { losses, ..self }
     }
 }
 
@@ -231,8 +240,30 @@ pub fn push_item(text: &mut String, item: &ItemAccount) -> Result<(), AllocError
     writeln!(text, "place before: {place}")?;
     writeln!(text, "scale before: {scale}")?;
     writeln!(text, "words before: {words}")?;
+    push_losses(text, &item.losses)?;
     match &item.way.zeros {
         Some(zeros) => push_zeros(text, zeros),
+        None => Ok(()),
+    }
+}
+
+/// Adds the items by which what is not known was lost.
+fn push_losses(text: &mut String, losses: &Option<Losses>) -> Result<(), AllocError> {
+    let Some(losses) = losses else {
+        return Ok(());
+    };
+    push_lost(text, "place", &losses.place)?;
+    push_lost(text, "scale", &losses.scale)
+}
+
+/// Adds the item by which this was lost, where there is one.
+fn push_lost(text: &mut String, what: &str, by: &Option<Item>) -> Result<(), AllocError> {
+    match by {
+        Some(item) => {
+            let at = item.at;
+            let fields = Fields::of(item);
+            writeln!(text, "{what} lost by: {at:03X} {fields}")
+        }
         None => Ok(()),
     }
 }

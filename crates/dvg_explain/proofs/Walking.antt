@@ -15,7 +15,7 @@ use Rattle.dvg_items.specs.declared.cursor.Cursor.{Cursor}
 use Rattle.dvg_items.specs.declared.cursor.Step.{Step}
 use Rattle.dvg_items.specs.declared.cursor.Step.TheVariants.{Onward, Last}
 use Rattle.dvg_items.specs.Items.{LeadsTo}
-use Rattle.dvg_items.specs.Known.{Context, callee_at, known_before, target}
+use Rattle.dvg_items.specs.Known.{Context, callee_at, known_before, place_before, scale_before, target}
 use Rattle.dvg_items.specs.Seen.{seen_at, seen_with}
 use Rattle.dvg_items.specs.Cursor.{first_cursor, step_past}
 use Rattle.dvg_items.specs.Bounds.{IsSoundCursor, IsSoundStep}
@@ -23,6 +23,7 @@ use Rattle.dvg_items.proofs.Stepping.{leads_on, ends_at}
 use Rattle.dvg_items.specs.Least.{IsLeast, absolute_points}
 use Rattle.dvg_items.specs.Lit.{absolute_corners}
 use Rattle.dvg_explain.specs.Calls.{Call, Stand, AreAll, call_of, calls_among}
+use Rattle.dvg_explain.specs.Losses.{place_loss, place_lost_by, scale_loss, scale_lost_by}
 use Rattle.dvg_explain.specs.Private.Walking.{IsSeenAt}
 use Rattle.dvg_explain.proofs.AllItems.{stand_before}
 
@@ -76,6 +77,18 @@ module _ (c : Context) (word : ℕ → Option ℕ) (first : ℕ) where
 
       pub calls_on : (old new : List Call) → old ≡ calls_among c items → new ≡ old ++ call_of v.item v.callee → new ≡ calls_among c (v.item ∷ items)
       calls_on old new h e = e ∙ ap (λ (l : List Call). l ++ call_of v.item v.callee) h ∙ ap (λ (x : Seen). calls_among c items ++ call_of v.item x.callee) seen_is
+
+      pub place_lost_on : (old new : Option Item) → old ≡ place_lost_by c items → new ≡ place_loss v.item here.known.place v.after.place old → new ≡ place_lost_by c (v.item ∷ items)
+      place_lost_on old new h e =
+          e ∙ ap (λ (by : Option Item). place_loss v.item here.known.place v.after.place by) h
+          ∙ ap (λ (k : Known). place_loss v.item k.place v.after.place (place_lost_by c items)) w.knows
+          ∙ ap (λ (x : Seen). place_loss v.item (place_before c items) x.after.place (place_lost_by c items)) seen_is
+
+      pub scale_lost_on : (old new : Option Item) → old ≡ scale_lost_by c items → new ≡ scale_loss v.item here.known.scale v.after.scale old → new ≡ scale_lost_by c (v.item ∷ items)
+      scale_lost_on old new h e =
+          e ∙ ap (λ (by : Option Item). scale_loss v.item here.known.scale v.after.scale by) h
+          ∙ ap (λ (k : Known). scale_loss v.item k.scale v.after.scale (scale_lost_by c items)) w.knows
+          ∙ ap (λ (x : Seen). scale_loss v.item (scale_before c items) x.after.scale (scale_lost_by c items)) seen_is
 
       pub lit_on : (old new : LitBox) → IsLeast (absolute_points c items) old → ((ps : List Point) → IsLeast ps old → IsLeast (absolute_corners v.extent v.place ++ ps) new)
           → IsLeast (absolute_points c (v.item ∷ items)) new

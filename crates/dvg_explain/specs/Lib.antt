@@ -4,5 +4,6 @@ pub mod Causes
 pub mod Verdict
 pub mod Calls
 pub mod Chains
+pub mod Losses
 pub mod Deepest
 pub mod Private

@@ -6,8 +6,8 @@
 //! number of it is the rule's own.
 //!
 //! [`frame_calls`] and [`find_chain`] tell what a frame calls and by which calls it comes to a shape, [`deepest_calls`] which calls
-//! below a shape go deepest, [`frame_extent`] and [`shapes_extent`] where something may be lit, and [`Margins`] how far that is from
-//! the edges of the window.
+//! below a shape go deepest, [`frame_losses`] and [`shape_losses`] by which items the known place and the known scale were lost,
+//! [`frame_extent`] and [`shapes_extent`] where something may be lit, and [`Margins`] how far that is from the edges of the window.
 #![tactic(auto)]
 
 mod breaking;
@@ -17,6 +17,7 @@ mod deepest;
 mod frames;
 mod items;
 mod leaving;
+mod losses;
 mod margins;
 mod reached;
 mod shapes;
@@ -29,6 +30,7 @@ pub use chains::find_chain;
 pub use deepest::deepest_calls;
 pub use frames::{FrameAccount, FrameCause, explain_frame};
 pub use leaving::{BoxLeaving, Edge, Leaving, leaves_box, leaves_window};
+pub use losses::{Losses, frame_losses, shape_losses};
 pub use margins::Margins;
 pub use shapes::{ShapeAccount, ShapeCause, explain_shapes};
 pub use tails::shapes_extent;

@@ -5,7 +5,8 @@ use dvg_cert::{End, Entries, Entry, HashIndex, Key, ListIndex, LitBox, read_cert
 use dvg_check::{JudgedShapes, Mode, Yes};
 use dvg_explain::{
     BoxLeaving, Call, Edge, FrameCause, Leaving, Margins, ShapeCause, explain_frame, explain_rom,
-    explain_shapes, find_chain, frame_calls, frame_extent, shapes_extent,
+    explain_shapes, find_chain, frame_calls, frame_extent, frame_losses, shape_losses,
+    shapes_extent,
 };
 use dvg_words::{FrameImage, Point, RomImage, SCREEN};
 use std::alloc::Global;
@@ -176,6 +177,40 @@ fn explains_roms(rt: HostRuntime) {
         let told = verdict_told(rt.alloc(), bytes, &frame);
         expect_same(&rt, &told, &Some(verdict), &bytes);
     }
+}
+
+/// The word addresses of the items by which place and scale were lost, of a frame before a word and of the shape at 800 before another.
+fn losses_told(alloc: Global, frame: &[u8], at: u16, word: u16) -> Option<[Option<u16>; 4]> {
+    let bytes = rom_bytes();
+    let cert = read_cert(
+        alloc,
+        b"dvgcert 1\nshape 800 any end lost box none depth 0 words 3 scale any\ndone 1\n",
+    )
+    .ok()?;
+    let rom = RomImage::from_bytes(&bytes, cert.map()).ok()?;
+    let entries = ListIndex::new(&cert);
+    let frame = FrameImage::from_bytes(frame).ok()?;
+    let entry = entries.find(0x800, Key::Any)?;
+    let of_frame = frame_losses(&cert, &entries, &frame, at)?;
+    let of_shape = shape_losses(&rom, &cert, &entries, &entry, word)?;
+    Some([
+        of_frame.place.map(|item| item.at),
+        of_frame.scale.map(|item| item.at),
+        of_shape.place.map(|item| item.at),
+        of_shape.scale.map(|item| item.at),
+    ])
+}
+
+#[test]
+fn tells_losses(rt: HostRuntime) {
+    // LABS, JSRL 800, and before HALT; in the shape the stroke at 800 loses the place, and the scale is unknown from the start on
+    let frame = [0x00, 0xA2, 0x00, 0x02, 0x00, 0xC8, 0x00, 0xB0];
+    let told = losses_told(rt.alloc(), &frame, 3, 0x802);
+    expect_same(&rt, &told, &Some([Some(2), Some(2), Some(0x800), None]), &3);
+    // before the call nothing is lost, and no item is at word 1
+    let told = losses_told(rt.alloc(), &frame, 2, 0x800);
+    expect_same(&rt, &told, &Some([None; 4]), &2);
+    expect_same(&rt, &losses_told(rt.alloc(), &frame, 1, 0x800), &None, &1);
 }
 
 /// The entry of the ROM's shape at 800.

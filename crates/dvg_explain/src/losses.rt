@@ -1,0 +1,125 @@
+//! By which items the place was lost that is lost before a place, and the scale that is unknown there.
+
+ghost use Rattle.std.specs.Prelude.{◌≡◌, ◌<◌, Contains, IfSome};
+ghost use Rattle.dvg_words.specs.Memory.{frame_word, rom_word};
+ghost use Rattle.dvg_words.specs.declared.map.TheConstants.{ADDRESS_END};
+ghost use Rattle.dvg_cert.specs.Entry.{IsKey};
+ghost use Rattle.dvg_items.specs.Bounds.{IsSomeCertificate};
+ghost use Rattle.dvg_items.specs.Known.{frame_context, shape_context};
+ghost use Rattle.dvg_explain.specs.Losses.{AreLosses, place_loss, scale_loss};
+ghost use Rattle.dvg_explain.specs.Private.Walking.{context_of};
+
+use crate::items::{Start, see};
+use dvg_cert::{Cert, End, Entries, Entry, Key};
+use dvg_items::{Cursor, Item, Known, Seen, Step};
+use dvg_words::{Fetch, FrameImage, RomImage};
+
+/// The items by which what is not known before a place was lost: by the one a known place became lost, by the other a known scale
+/// unknown, and nothing has set it since. `None` where it is known, or never was.
+#[derive(Clone, Copy, Debug, PartialEq, Eq)]
+pub struct Losses {
+    pub place: Option<Item>,
+    pub scale: Option<Item>,
+}
+
+/// The item by which the place past an item is lost, where the one before it was lost by another.
+fn place_loss(item: &Item, before: &End, after: &End, by: Option<Item>) -> Option<Item>
+    ensures { result ≡ place_loss item.now before.now after.now by }
+{
+    match (before, after) {
+        (End::Lost, End::Lost) => by,
+        (_, End::Lost) => Some(*item),
+        _ => None,
+    }
+}
+
+/// The item by which the scale past an item is unknown, where the one before it was lost by another.
+fn scale_loss(item: &Item, before: Key, after: Key, by: Option<Item>) -> Option<Item>
+    ensures { result ≡ scale_loss item.now before after by }
+{
+    match (before, after) {
+        (Key::Any, Key::Any) => by,
+        (_, Key::Any) => Some(*item),
+        _ => None,
+    }
+}
+
+impl Losses {
+    /// Nothing was lost so far.
+    const NONE: Losses = Losses {
+        place: None,
+        scale: None,
+    };
+
+    /// Those past an item, before which this is known.
+    fn past(self, before: &Known, seen: &Seen) -> Losses
+        ensures place { result.place ≡ place_loss seen.now.item before.now.place seen.now.after.place self.place }
+        ensures scale { result.scale ≡ scale_loss seen.now.item before.now.scale seen.now.after.scale self.scale }
+    {
+        Losses {
+            place: place_loss(&seen.item, &before.place, &seen.after.place, self.place),
+            scale: scale_loss(&seen.item, before.scale, seen.after.scale, self.scale),
+        }
+    }
+}
+
+/// Those before a place that items from a start on lead to; `None` where they don't lead there.
+fn losses_before<F: Fetch, E: Entries>(
+    memory: &F,
+    entries: &E,
+    start: &Start,
+    at: u16,
+) -> Option<Losses>
+    requires entries { IsSomeCertificate (E.list entries.now) }
+    requires first { start.now.first < ADDRESS_END }
+    requires scale { IsKey start.now.scale }
+    ensures { IfSome result (AreLosses (context_of (E.list entries.now) start.now) (F.words memory.now) start.now.first at) }
+{
+    let mut losses = Losses::NONE;
+    let mut cursor = Cursor::start(start.kind, start.first, start.scale);
+    'items: while cursor.at != at {
+        let Some(seen) = see(memory, entries, start.kind, &cursor) else {
+            return None;
+        };
+        losses = losses.past(&cursor.known, &seen);
+        match seen.step(start.kind) {
+            Step::Onward(next) => cursor = next,
+            Step::Last(_) => return None,
+        }
+    }
+    Some(losses)
+}
+
+/// The items of a frame by which the place that is lost before a word of it was lost, and the scale that is unknown there, by the
+/// entries of a certificate (profile). `None` where the frame's items don't lead to that word. `entries` are those of the
+/// certificate. Takes no memory.
+pub fn frame_losses<E: Entries>(
+    cert: &Cert,
+    entries: &E,
+    frame: &FrameImage,
+    at: u16,
+) -> Option<Losses>
+    requires { E.list entries.now ≡ cert.now.entries }
+    ensures { IfSome result (AreLosses (frame_context cert.now.entries) (frame_word frame.now) 0 at) }
+{
+    // Its clause says that the list is that of a certificate.
+    let _entries = cert.entries();
+    losses_before(frame, entries, &Start::frame(), at)
+}
+
+/// The same of an entry's shape and a word of the ROM.
+pub fn shape_losses<E: Entries>(
+    rom: &RomImage,
+    cert: &Cert,
+    entries: &E,
+    entry: &Entry,
+    at: u16,
+) -> Option<Losses>
+    requires entries { E.list entries.now ≡ cert.now.entries }
+    requires entry { Contains cert.now.entries entry.now }
+    ensures { IfSome result (AreLosses (shape_context cert.now.entries entry.now) (rom_word rom.now) entry.now.addr at) }
+{
+    // Its clause says that the list is that of a certificate.
+    let _entries = cert.entries();
+    losses_before(rom, entries, &Start::shape(entry), at)
+}
