@@ -4,10 +4,11 @@ use crate::expecting::{expect, expect_same};
 use dvg_cert::{End, Entries, Entry, HashIndex, Key, ListIndex, LitBox, read_cert};
 use dvg_check::{JudgedShapes, Mode, Yes};
 use dvg_explain::{
-    BoxLeaving, Call, Edge, FrameCause, Leaving, Margins, ShapeCause, explain_frame, explain_rom,
-    explain_shapes, find_chain, frame_calls, frame_extent, frame_losses, shape_losses,
+    BoxLeaving, Call, Edge, FrameCause, Leaving, Losses, Margins, ShapeCause, explain_frame,
+    explain_rom, explain_shapes, find_chain, frame_calls, frame_extent, frame_losses,
     shapes_extent,
 };
+use dvg_items::Item;
 use dvg_words::{FrameImage, Point, RomImage, SCREEN};
 use std::alloc::Global;
 
@@ -179,38 +180,48 @@ fn explains_roms(rt: HostRuntime) {
     }
 }
 
-/// The word addresses of the items by which place and scale were lost, of a frame before a word and of the shape at 800 before another.
-fn losses_told(alloc: Global, frame: &[u8], at: u16, word: u16) -> Option<[Option<u16>; 4]> {
-    let bytes = rom_bytes();
-    let cert = read_cert(
-        alloc,
-        b"dvgcert 1\nshape 800 any end lost box none depth 0 words 3 scale any\ndone 1\n",
-    )
-    .ok()?;
-    let rom = RomImage::from_bytes(&bytes, cert.map()).ok()?;
+/// A certificate whose shape at 800 is called at any scale, and loses the place.
+const LOSING_CERT: &[u8] =
+    b"dvgcert 1\nshape 800 any end lost box none depth 0 words 3 scale any\ndone 1\n";
+
+/// LABS to 512,512 at global scale 0, JSRL 800, and HALT.
+const LOSING_FRAME: &[u8] = &[0x00, 0xA2, 0x00, 0x02, 0x00, 0xC8, 0x00, 0xB0];
+
+/// What is lost before a word of the frame.
+fn lost_in_frame(alloc: Global, at: u16) -> Option<Losses> {
+    let cert = read_cert(alloc, LOSING_CERT).ok()?;
     let entries = ListIndex::new(&cert);
-    let frame = FrameImage::from_bytes(frame).ok()?;
-    let entry = entries.find(0x800, Key::Any)?;
-    let of_frame = frame_losses(&cert, &entries, &frame, at)?;
-    let of_shape = shape_losses(&rom, &cert, &entries, &entry, word)?;
-    Some([
-        of_frame.place.map(|item| item.at),
-        of_frame.scale.map(|item| item.at),
-        of_shape.place.map(|item| item.at),
-        of_shape.scale.map(|item| item.at),
-    ])
+    let frame = FrameImage::from_bytes(LOSING_FRAME).ok()?;
+    frame_losses(&cert, &entries, &frame, at)
+}
+
+/// The word address of an item.
+fn address(item: &Option<Item>) -> Option<u16> {
+    match item {
+        Some(item) => Some(item.at),
+        None => None,
+    }
+}
+
+/// The word addresses of the items by which the place and the scale were lost.
+fn addresses(losses: &Option<Losses>) -> Option<(Option<u16>, Option<u16>)> {
+    match losses {
+        Some(losses) => Some((address(&losses.place), address(&losses.scale))),
+        None => None,
+    }
 }
 
 #[test]
 fn tells_losses(rt: HostRuntime) {
-    // LABS, JSRL 800, and before HALT; in the shape the stroke at 800 loses the place, and the scale is unknown from the start on
-    let frame = [0x00, 0xA2, 0x00, 0x02, 0x00, 0xC8, 0x00, 0xB0];
-    let told = losses_told(rt.alloc(), &frame, 3, 0x802);
-    expect_same(&rt, &told, &Some([Some(2), Some(2), Some(0x800), None]), &3);
     // before the call nothing is lost, and no item is at word 1
-    let told = losses_told(rt.alloc(), &frame, 2, 0x800);
-    expect_same(&rt, &told, &Some([None; 4]), &2);
-    expect_same(&rt, &losses_told(rt.alloc(), &frame, 1, 0x800), &None, &1);
+    for (at, lost) in [
+        (3, Some((Some(2), Some(2)))),
+        (2, Some((None, None))),
+        (1, None),
+    ] {
+        let told = addresses(&lost_in_frame(rt.alloc(), at));
+        expect_same(&rt, &told, &lost, &at);
+    }
 }
 
 /// The entry of the ROM's shape at 800.
