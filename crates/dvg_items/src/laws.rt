@@ -7,7 +7,7 @@ pub fn place_from_all()
     ensures { PlaceFromAll }
 {}
 
-/// The known scale is the one that the latest item set which sets one, or the one at the start where none did: a LABS sets its
+/// The known scale is the one set by the latest item that sets one, or the one at the start where none does: a LABS sets its
 /// own number, a call or tail jump what the entry that it names leaves.
 pub fn scale_from_all()
     ensures { ScaleFromAll }
@@ -18,8 +18,8 @@ pub fn words_from_all()
     ensures { WordsFromAll }
 {}
 
-/// The depth so far is the greatest, over all items, of the most return places stored at once under the item, and 0 where there
-/// are none.
+/// The depth so far is the greatest, over all items, of what the item needs, and 0 where there are none: a call needs one more
+/// than its entry's depth, a tail jump its entry's, and any other item none.
 pub fn depth_from_all()
     ensures { DepthFromAll }
 {}
