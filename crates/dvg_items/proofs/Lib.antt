@@ -1,5 +1,6 @@
 pub mod Points
 pub mod PlaceLaw
+pub mod TotalLaws
 pub mod LeastBoxes
 pub mod Near
 pub mod Listed

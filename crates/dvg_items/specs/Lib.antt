@@ -4,6 +4,7 @@ pub mod Lit
 pub mod Seen
 pub mod Least
 pub mod Places
+pub mod Totals
 pub mod Cursor
 pub mod Bounds
 pub mod Laws

@@ -8,10 +8,14 @@ use Rattle.dvg_cert.specs.declared.entry.End.TheVariants.{Abs, Lost}
 use Rattle.dvg_items.specs.Items.{Item}
 use Rattle.dvg_items.specs.Known.{Context, Effect, Sets, Loses, Moves, callee, effect_of, first_place, place_before, place_moved_by, scale_before}
 
+-- what f gives of each item, with the items before it; the latest comes first
+abbrev pub map_with_earlier : {X : Type 0} → (List Item → Item → X) → List Item → List X
+map_with_earlier f [] = []
+map_with_earlier f (i ∷ earlier) = f earlier i ∷ map_with_earlier f earlier
+
 -- the effects of the items, the latest first
 abbrev pub effects : Context → List Item → List Effect
-effects c [] = []
-effects c (i ∷ earlier) = effect_of i.instr (scale_before c earlier) (callee c earlier i.instr) ∷ effects c earlier
+effects c earlier = map_with_earlier (λ before i. effect_of i.instr (scale_before c before) (callee c before i.instr)) earlier
 
 -- where the latest effect that sets or loses the place leaves it, or else the start
 abbrev pub fixed_place : End → List Effect → End
