@@ -1,10 +1,10 @@
 //! Running the maker over readers, with an account of what comes of it.
 
-ghost use Rattle.std.specs.Prelude.{◌≡◌, ◌≢◌, ◌⊎◌, ◌++◌, Option, List, ℕ, Err, IfOk, IfErr, OnOk, OnErr, is_err, string_bytes};
+ghost use Rattle.std.specs.Prelude.{◌≡◌, ◌≢◌, ◌⊎◌, ◌++◌, Option, List, ℕ, Err, false, IfOk, IfErr, OnOk, OnErr, is_err, string_bytes};
 ghost use Rattle.std.specs.Io.KnownBytes.{Appends};
 ghost use Rattle.dvg_cert.specs.Devices.{AppendsPrefix, count_after};
 ghost use Rattle.dvg_cmd.specs.Explaining.{MakesEntries, MakeExplained, MakeExplainedPrefix, frame_to_blame, make_line, make_outcome_of};
-ghost use Rattle.dvg_cmd.specs.MakingFrames.{blames_frames_rom, blames_a_frame, of_each, FailedAfter, EachRead, FramesFaultMeans};
+ghost use Rattle.dvg_cmd.specs.MakingFrames.{blames_frames_rom, blames_a_frame, blames_frames_writer, of_each, FailedAfter, EachRead, FramesFaultMeans};
 ghost use Rattle.dvg_cmd.specs.Numbers.{frames_run_number};
 ghost use Rattle.dvg_cmd.specs.Private.Reading.{IsPrefix, ArePrefixes};
 ghost use Rattle.dvg_cmd.specs.Runs.{MOST_ROM_READ, IsReadTo};
@@ -93,6 +93,7 @@ fn answer_on(
     ensures refused { (held : Option (List ℕ)) (readers : List (Option (List ℕ))) → IsPrefix MOST_ROM_READ held rom.now
         → ArePrefixes readers (of_each (λ bytes. bytes.items) frames.now)
         → IfErr result.made (FramesFaultMeans held map roots.now readers) }
+    ensures no_device { (blames_frames_rom result.made ≡ false) × (blames_a_frame result.made ≡ false) × (blames_frames_writer result.made ≡ false) }
 {
     let Ok(image) = RomImage::from_bytes(rom, map) else {
         let why = PlainWhy::RomLength {
@@ -143,12 +144,14 @@ pub fn run_explain_make<R1: CountedRead, R2: CountedRead>(
     ensures frames_unread { result ≡ Err (FramesRunFault.Plain maker.ReadRom) → frames.new ≡ frames.old }
 
     // So many entries has the list that is made for all bytes that the readers held; 1 and 2 come for a wrong length alone, and 60
-    // to 62 as the maker refuses.
+    // to 62 as the maker refuses. Nothing else is an answer: no fault of a device, and not that memory was out.
     ensures made { IfOk result (λ answer. IfOk answer.made (MakesEntries (R1.remaining rom.old) map roots.now
         (of_each (λ frame. R2.remaining frame) frames.old))) }
     ensures refused { IfOk result (λ answer. IfErr answer.made (FramesFaultMeans (R1.remaining rom.old) map roots.now
         (of_each (λ frame. R2.remaining frame) frames.old))) }
     ensures told { IfOk result (λ answer. IfErr answer.made (λ fault. frames_run_number fault ≢ 63)) }
+    ensures no_device { IfOk result (λ answer. (blames_frames_rom answer.made ≡ false) × (blames_a_frame answer.made ≡ false)
+        × (blames_frames_writer answer.made ≡ false)) }
 {
     let Ok(bytes) = read_rom(rom) else {
         return Err(MakeRunFault::ReadRom.into());
