@@ -96,7 +96,7 @@ pub enum Explained<'a> {
 }
 
 /// What `--version` says behind the program's name: its version, and with what it is proved.
-const VERSION: &str = "1.0.0\nproved with rattle-kit-13f logic dac8208d650f15bf";
+const VERSION: &str = "1.0.0\nproved with rattle-kit-13b logic dac8208d650f15bf";
 
 /// A subcommand.
 #[derive(Clone, Copy)]
