@@ -1,6 +1,6 @@
 -- The table of numbers, as it is written. All of it is profile.
 use Rattle.std.specs.Prelude.{ℕ, zero, suc, Bool, nat_le, ◌&&◌, ◌||◌, if◌then◌else◌, List, [], ◌∷◌, ◌++◌, codes, decimal}
-use Rattle.dvg_cmd.specs.declared.rules.Rule.{Rule}
+use Rattle.dvg_account.specs.declared.rules.Rule.{Rule}
 
 -- the line of a number and what it means
 abbrev pub row_text : Rule → List ℕ
@@ -29,6 +29,11 @@ is_within first last n = nat_le first n && nat_le n last
 abbrev pub is_rule_number : ℕ → Bool
 is_rule_number n =
     is_within 1 2 n || is_within 10 17 n || is_within 20 33 n || is_within 40 50 n || is_within 60 63 n || is_within 70 74 n
+
+-- the numbers of these rules
+abbrev pub numbers_of : List Rule → List ℕ
+numbers_of [] = []
+numbers_of (rule ∷ rules) = rule.number ∷ numbers_of rules
 
 -- those below a number, in their order
 abbrev pub numbers_below : ℕ → List ℕ
