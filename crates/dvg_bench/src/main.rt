@@ -9,8 +9,8 @@
 //! `read` reads the text of so many entries with numbers of many lengths. `shapes` checks as many shapes, and `whole` the same
 //! by `check` of the bytes and the text: FILLING says what the ROM is full of, `draws`, `unscaled`, `scales`, `dark-scales`,
 //! `places`, `calls`, `keys`, `named`, `everywhere` or `jumps`. `frame` checks a frame over as many shapes: FRAME is `one-shape`,
-//! `all-shapes` or `strokes`. `files` checks what NAME.rom, NAME.cert and NAME.frame hold. Two runs that differ in their times
-//! alone differ by the cost of reading or checking.
+//! `all-shapes` or `strokes`. `files` checks what the files bench.rom, bench.cert and bench.frame hold in the folder that it runs in;
+//! NAME only labels the run. Two runs that differ in their times alone differ by the cost of reading or checking.
 #![tactic(auto)]
 
 mod checking;

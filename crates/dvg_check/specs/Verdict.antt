@@ -18,20 +18,21 @@ pub use Rattle.dvg_check.specs.declared.verdict.Yes.{Yes}
 pub use Rattle.dvg_check.specs.declared.verdict.Refusal.{Refusal}
 pub use Rattle.dvg_check.specs.declared.verdict.Refusal.TheVariants as refusal
 
+-- a budget of words: 1 to 1,000,000
 pub record IsBudget (budget : ℕ) : Type 0 where
   pub some : 1 ≤ budget
   pub few : budget ≤ MOST_WORDS
 
 -- the frame's length and the budget are in range
-pub record InRange (words : List ℕ) (budget : ℕ) : Type 0 where
-  pub frame_length : IsFrameLength (length words)
+pub record InRange (frame : List ℕ) (budget : ℕ) : Type 0 where
+  pub frame_length : IsFrameLength (length frame)
   pub budget_range : IsBudget budget
 
 -- they are not: the first that applies of 2 and 49
 abbrev pub RangeRefusal : List ℕ → ℕ → Refusal → Type 0
-RangeRefusal words budget (refusal.Image FrameLength) = IsFrameLength (length words) → ⊥
-RangeRefusal words budget refusal.BudgetRange = IsFrameLength (length words) × (IsBudget budget → ⊥)
-RangeRefusal words budget r = ⊥
+RangeRefusal frame budget (refusal.Image FrameLength) = IsFrameLength (length frame) → ⊥
+RangeRefusal frame budget refusal.BudgetRange = IsFrameLength (length frame) × (IsBudget budget → ⊥)
+RangeRefusal frame budget r = ⊥
 
 -- what the shapes of a list and a frame come to, or that there was no memory for the index
 abbrev pub PartsVerdict : Mode → Window → Rom → List Entry → List ℕ → ℕ → Result Yes Refusal → Type 0
@@ -49,27 +50,28 @@ RomVerdict mode w rom c words budget answer =
     IsRomLength c.map (length rom) × PartsVerdict mode w (rom_of c.map rom) c.entries words budget answer
 
 -- the certificate that is spelled, and what the ROM and the frame come to by it
-pub record CertVerdict (mode : Mode) (w : Window) (rom cert words : List ℕ) (budget : ℕ) (answer : Result Yes Refusal) : Type 0 where
-  pub in_range : InRange words budget
+pub record CertVerdict (mode : Mode) (w : Window) (rom cert frame : List ℕ) (budget : ℕ) (answer : Result Yes Refusal) : Type 0 where
+  pub in_range : InRange frame budget
   pub certificate : Certificate
   pub spells : Spells certificate cert
-  pub by_it : RomVerdict mode w rom certificate (words_of words) budget answer
+  pub by_it : RomVerdict mode w rom certificate (words_of frame) budget answer
 
+-- the verdict on the bytes of a ROM, of a certificate and of a frame: the first refusal that applies, or the counts of what is accepted
 abbrev pub Verdict : Mode → Window → List ℕ → List ℕ → List ℕ → ℕ → Result Yes Refusal → Type 0
-Verdict mode w rom cert words budget (Err (refusal.Image FrameLength)) = RangeRefusal words budget (refusal.Image FrameLength)
-Verdict mode w rom cert words budget (Err refusal.BudgetRange) = RangeRefusal words budget refusal.BudgetRange
-Verdict mode w rom cert words budget (Err (refusal.Cert f)) = InRange words budget × ReadAnswer cert (Err f)
-Verdict mode w rom cert words budget answer = CertVerdict mode w rom cert words budget answer
+Verdict mode w rom cert frame budget (Err (refusal.Image FrameLength)) = RangeRefusal frame budget (refusal.Image FrameLength)
+Verdict mode w rom cert frame budget (Err refusal.BudgetRange) = RangeRefusal frame budget refusal.BudgetRange
+Verdict mode w rom cert frame budget (Err (refusal.Cert f)) = InRange frame budget × ReadAnswer cert (Err f)
+Verdict mode w rom cert frame budget answer = CertVerdict mode w rom cert frame budget answer
 
 -- every run is safe from the frame's first word, over the ROM at the map of the certificate that is spelled
 abbrev pub SafeOver : Window → List ℕ → List ℕ → List ℕ → ℕ → ℕ → Type 0
-SafeOver w rom cert words most depth =
-    (c : Certificate) × Spells c cert × Safe (record { frame = words_of words; rom = rom_of c.map rom }) w most depth
+SafeOver w rom cert frame words depth =
+    (c : Certificate) × Spells c cert × Safe (record { frame = words_of frame; rom = rom_of c.map rom }) w words depth
 
 -- every run has just these counts at its halt, over the same
 abbrev pub CountsOver : List ℕ → List ℕ → List ℕ → ℕ → ℕ → Type 0
-CountsOver rom cert words most depth =
-    (c : Certificate) × Spells c cert × CountsAtHalt (record { frame = words_of words; rom = rom_of c.map rom }) most depth
+CountsOver rom cert frame words depth =
+    (c : Certificate) × Spells c cert × CountsAtHalt (record { frame = words_of frame; rom = rom_of c.map rom }) words depth
 
 -- the answer is not that memory was short for the certificate or its index
 abbrev pub NotMemory : Result Yes Refusal → Type 0

@@ -24,7 +24,7 @@ pub use fault::{
 };
 pub use frames::{Accepted, check_frame};
 pub use judged::JudgedShapes;
-pub use keys::{KEYS, Keys, SLOTS, key_of, slot_of};
+pub use keys::{KEYS, Keys, SLOTS, key_index, key_of, slot_of};
 pub use needed::Needed;
 pub use shapes::{check_shapes, check_shapes_exact, find_shape_fault};
 pub use tail::moved;

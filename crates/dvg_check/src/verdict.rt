@@ -144,8 +144,8 @@ fn check_in(
 /// from the ROM's length on.
 ///
 /// `budget` is how many words the frame may take at most, up to 1,000,000. The answer is exact: 1 where the bytes are not exactly
-/// two for each address of the certificate's map, else that of [`check_parts`] or [`check_parts_exact`]; so is what it takes of
-/// memory, and the theorem.
+/// two for each address of the certificate's map, else that of [`check_parts`] or [`check_parts_exact`]. It takes the memory that
+/// these take, and carries the same theorem.
 pub fn check_rom(
     alloc: Global,
     rom: &[u8],

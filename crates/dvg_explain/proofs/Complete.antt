@@ -3,7 +3,8 @@ use Rattle.std.proofs.Common.{◌≡◌, ℕ, zero, suc, ◌+◌, ◌<◌, ◌�
 use Rattle.std.proofs.lemmas.Option.{slice_get_within}
 use Rattle.std.proofs.lemmas.Bool.{cases_lt}
 use Rattle.std.proofs.lemmas.Bool.Decides.{nat_tests}
-use Rattle.std.specs.List.{AllByRecursion}
+use Rattle.std.proofs.lemmas.List.Elements.{All-nil, All-cons}
+use Rattle.std.specs.List.{All, AllByRecursion}
 use Rattle.std.specs.Prelude.{Contains, slice_get, ◌==◌}
 use Rattle.dvg_words.specs.Memory.{Rom, frame_word}
 use Rattle.dvg_cert.specs.declared.entry.Entry.{Entry}
@@ -18,9 +19,10 @@ use Rattle.dvg_items.proofs.Listed.{listed_at, listed_claim}
 use Rattle.dvg_explain.specs.Calls.{Call, AreCalls}
 use Rattle.dvg_explain.specs.Chains.{FrameCalls, ShapeCalls, LeadsOn, IsChain}
 use Rattle.dvg_explain.specs.Private.Reaching.{Link, AllSteps, IsBackward, IsStep, entries_of, reach, reach_all}
-use Rattle.dvg_explain.specs.Private.Visiting.{Place, CallsFrom, IsMet, AreNewCalls}
+use Rattle.dvg_explain.specs.Private.Places.{Place, AreNone, HasPlace}
+use Rattle.dvg_explain.specs.Private.Visiting.{CallsFrom, IsMet, AreNewCalls}
 use Rattle.dvg_explain.specs.Private.Walking.{Start, context_of}
-use Rattle.dvg_explain.proofs.Linking.{at_still, reach_keeps}
+use Rattle.dvg_explain.proofs.Linking.{at_self, at_still, reach_keeps}
 use Rattle.dvg_explain.proofs.Coming.{calls_hold, is_among, step_named, reach_steps, reach_still, all_steps, all_back}
 use Rattle.dvg_explain.proofs.Visiting.{of_each}
 
@@ -121,15 +123,6 @@ there_still (x ∷ links) more e h = by (is_at e.addr e.key x.call.entry) refl h
     by true is g later = rw is refl
     by false is g later = rw is (later (rw is at g))
 
-same_key_self : (k : Key) → same_key k k ≡ true
-same_key_self (At n) = grind (arith, nat_tests)
-same_key_self Any = refl
-
-at_self : (e : Entry) → is_at e.addr e.key e ≡ true
-at_self e =
-    let a : (e.addr == e.addr) ≡ true = grind (arith, nat_tests) in
-    rw (a, same_key_self e.key) refl
-
 there_new : (links : List Link) (l : Link) → is_there (links ++ l ∷ []) l.call.entry ≡ true
 there_new [] l = rw (at_self l.call.entry) refl
 there_new (x ∷ links) l = by (is_at l.call.entry.addr l.call.entry.key x.call.entry) refl (there_new links l)
@@ -191,17 +184,17 @@ module _ (rom : Rom) (words : List ℕ) (list : List Entry) where
 
   module _ (goal : Entry) where
     -- all calls of the frame, of the shapes of the first entries, none of which is the goal, and from the visited places were reached
-    pub record Comes (links : List Link) (visited : List Place) (head : ℕ) : Type 0 where
+    pub record Comes (links : List Link) (visited : List Bool) (head : ℕ) : Type 0 where
       pub steps : AllSteps rom words list links
       pub back : IsBackward links
       pub framed : (call : Call) → FrameCalls words list call → Has links call.entry
       pub shaped : (k : ℕ) (l : Link) → k < head → slice_get links k ≡ Some l → (call : Call) → ShapeCalls rom list l.call.entry call → Has links call.entry
-      pub gone_over : (place : Place) → Contains visited place → (call : Call) → CallsFrom rom list place call → Has links call.entry
+      pub gone_over : (place : Place) → HasPlace visited place → (call : Call) → CallsFrom rom list place call → Has links call.entry
       pub missed : (k : ℕ) (l : Link) → k < head → slice_get links k ≡ Some l → l.call.entry ≡ goal → ⊥
       pub counted : left_of links list + length links ≤ length list
 
-    pub begins : (calls : List Call) → AreCalls (frame_context list) (frame_word words) 0 calls → Comes (reach_all [] None calls) [] 0
-    begins calls are =
+    pub begins : (calls : List Call) (visited : List Bool) → AreCalls (frame_context list) (frame_word words) 0 calls → ((place : Place) → HasPlace visited place → ⊥) → Comes (reach_all [] None calls) visited 0
+    begins calls visited are none_yet =
         let steps = subst (AllByRecursion (FrameCalls words list)) (sym are.2) (calls_hold (frame_context list) (frame_word words) 0 are.0 are.1.stand) in
         let no_steps : AllSteps rom words list [] = λ k l e. cc e in
         let no_back : IsBackward [] = λ k l e. cc e in
@@ -212,13 +205,13 @@ module _ (rom : Rom) (words : List ℕ) (list : List Entry) where
           back = all_back [] None calls no_back tt;
           framed = λ call f. is_among (frame_context list) (frame_word words) 0 (λ (x : Call). Has (reach_all [] None calls) x.entry) call f are.0 are.1 (subst (AllByRecursion (λ (x : Call). Has (reach_all [] None calls) x.entry)) are.2 has);
           shaped = λ k l lt. absurd (omega (arith, lt));
-          gone_over = λ place there. absurd (omega (arith, there.1));
+          gone_over = λ place there. absurd (none_yet place there);
           missed = λ k l lt. absurd (omega (arith, lt));
           counted = counts_all [] None calls (length list) steps (omega (arith, none));
         }
 
     -- the first shape that was not gone over is not the goal's, and its calls are reached too
-    module _ (links : List Link) (old new : List Place) (head : ℕ) (l : Link) (calls : List Call) (h : Comes links old head) (is : slice_get links head ≡ Some l) (other : l.call.entry ≡ goal → ⊥)
+    module _ (links : List Link) (old new : List Bool) (head : ℕ) (l : Link) (calls : List Call) (h : Comes links old head) (is : slice_get links head ≡ Some l) (other : l.call.entry ≡ goal → ⊥)
         (are : AreNewCalls rom list l.call.entry old new calls) where
       abbrev all : List Link
       all = reach_all links (Some head) calls
@@ -275,7 +268,7 @@ module _ (rom : Rom) (words : List ℕ) (list : List Entry) where
           }
 
     -- where all shapes were gone over, no chain leads to the goal
-    module _ (links : List Link) (visited : List Place) (head : ℕ) (h : Comes links visited head) (all : (k : ℕ) (l : Link) → slice_get links k ≡ Some l → k < head) where
+    module _ (links : List Link) (visited : List Bool) (head : ℕ) (h : Comes links visited head) (all : (k : ℕ) (l : Link) → slice_get links k ≡ Some l → k < head) where
       none_on : (calls : List Call) (e : Entry) → Has links e → LeadsOn rom list e calls goal → ⊥
       none_on [] e has on = h.missed has.0 has.1 (all has.0 has.1 has.2) has.2 (has.3 ∙ on)
       none_on (call ∷ rest) e has on =
@@ -285,30 +278,54 @@ module _ (rom : Rom) (words : List ℕ) (list : List Entry) where
       no_chain [] c = c
       no_chain (call ∷ rest) c = none_on rest call.entry (h.framed call c.0) c.1
 
-    pub none_past : (links : List Link) (visited : List Place) (head : ℕ) → Comes links visited head → slice_get links head ≡ None → (calls : List Call) → IsChain rom words list calls goal → ⊥
+    pub none_past : (links : List Link) (visited : List Bool) (head : ℕ) → Comes links visited head → slice_get links head ≡ None → (calls : List Call) → IsChain rom words list calls goal → ⊥
     none_past links visited head h none = no_chain links visited head h (λ k l is. below links head none k l is)
 
-    pub none_at_end : (links : List Link) (visited : List Place) (head : ℕ) → Comes links visited head → length list ≤ head → (calls : List Call) → IsChain rom words list calls goal → ⊥
+    pub none_at_end : (links : List Link) (visited : List Bool) (head : ℕ) → Comes links visited head → length list ≤ head → (calls : List Call) → IsChain rom words list calls goal → ⊥
     none_at_end links visited head h end = no_chain links visited head h (λ k l is. omega (arith, slice_get_within links k l is, h.counted, end))
 
     -- as the code has it: the list by which the calls were made, and where the items began
-    pub begun : (list_used : List Entry) (start : Start) (calls : List Call) (old new : List Link) (visited : List Place) → list_used ≡ list → start ≡ record { kind = Frame; first = 0; scale = Any }
-        → AreCalls (context_of list_used start) (frame_word words) start.first calls → old ≡ [] → new ≡ reach_all old None calls → visited ≡ [] → Comes new visited 0
+    pub begun : (list_used : List Entry) (start : Start) (calls : List Call) (old new : List Link) (visited : List Bool) → list_used ≡ list → start ≡ record { kind = Frame; first = 0; scale = Any }
+        → AreCalls (context_of list_used start) (frame_word words) start.first calls → old ≡ [] → new ≡ reach_all old None calls → AreNone visited → Comes new visited 0
     begun list_used start calls old new visited same begin are empty is none =
         let at_start = subst (λ (s : Start). AreCalls (context_of list_used s) (frame_word words) s.first calls) begin are in
         let of_list = subst (λ (l : List Entry). AreCalls (frame_context l) (frame_word words) 0 calls) same at_start in
-        subst (λ ls. Comes ls visited 0) (sym (is ∙ ap (λ ls. reach_all ls None calls) empty)) (subst (λ ps. Comes (reach_all [] None calls) ps 0) (sym none) (begins calls of_list))
+        let none_yet : (place : Place) → HasPlace visited place → ⊥ =
+        λ place there. let no : true ≡ false = sym there.1 ∙ none place in cc no
+        in
+        subst (λ ls. Comes ls visited 0) (sym (is ∙ ap (λ ls. reach_all ls None calls) empty)) (begins calls visited of_list none_yet)
 
-    pub gone_on : (list_used : List Entry) (links new : List Link) (visited visited_new : List Place) (head : ℕ) (l : Link) (calls : List Call) → Comes links visited head → slice_get links head ≡ Some l
+    pub gone_on : (list_used : List Entry) (links new : List Link) (visited visited_new : List Bool) (head : ℕ) (l : Link) (calls : List Call) → Comes links visited head → slice_get links head ≡ Some l
         → (l.call.entry ≡ goal → ⊥) → list_used ≡ list → AreNewCalls rom list_used l.call.entry visited visited_new calls → new ≡ reach_all links (Some head) calls → Comes new visited_new (head + 1)
     gone_on list_used links new visited visited_new head l calls h is other same are new_is =
         let of_list = subst (λ (es : List Entry). AreNewCalls rom es l.call.entry visited visited_new calls) same are in
         subst (λ ls. Comes ls visited_new (head + 1)) (sym new_is) (comes_on links visited visited_new head l calls h is other of_list)
 
     -- an entry that was reached is in the list, and so within its limits
-    pub reached_claim : (links : List Link) (visited : List Place) (head k : ℕ) (l : Link) → IsSomeCertificate list → Comes links visited head → slice_get links k ≡ Some l → IsClaim l.call.entry
+    pub reached_claim : (links : List Link) (visited : List Bool) (head k : ℕ) (l : Link) → IsSomeCertificate list → Comes links visited head → slice_get links k ≡ Some l → IsClaim l.call.entry
     reached_claim links visited head k l some h is =
         listed_claim list l.call.entry some (listed_at list l.call.entry.addr l.call.entry.key l.call.entry (step_named rom words list links l.from l.call (h.steps k l is))).listed
+
+    -- and so are those of calls that are steps
+    claims_of : (links : List Link) (from : Option ℕ) (calls : List Call) → IsSomeCertificate list → AllByRecursion (IsStep rom words list links from) calls → All (λ (x : Call). IsClaim x.entry) calls
+    claims_of links from [] some s = All-nil (λ (x : Call). IsClaim x.entry)
+    claims_of links from (call ∷ rest) some s =
+        let claim = listed_claim list call.entry some (listed_at list call.entry.addr call.entry.key call.entry (step_named rom words list links from call s.0)).listed in
+        All-cons (λ (x : Call). IsClaim x.entry) call rest claim (claims_of links from rest some s.1)
+
+    -- as the code has it: of the frame's calls, and of those of the shape of a link's entry
+    pub framed_claims : (list_used : List Entry) (start : Start) (calls : List Call) → IsSomeCertificate list → list_used ≡ list → start ≡ record { kind = Frame; first = 0; scale = Any }
+        → AreCalls (context_of list_used start) (frame_word words) start.first calls → All (λ (x : Call). IsClaim x.entry) calls
+    framed_claims list_used start calls some same begin are =
+        let at_start = subst (λ (s : Start). AreCalls (context_of list_used s) (frame_word words) s.first calls) begin are in
+        let of_list = subst (λ (l : List Entry). AreCalls (frame_context l) (frame_word words) 0 calls) same at_start in
+        claims_of [] None calls some (subst (AllByRecursion (FrameCalls words list)) (sym of_list.2) (calls_hold (frame_context list) (frame_word words) 0 of_list.0 of_list.1.stand))
+
+    pub shaped_claims : (list_used : List Entry) (links : List Link) (visited visited_new : List Bool) (head : ℕ) (l : Link) (calls : List Call) → IsSomeCertificate list → slice_get links head ≡ Some l
+        → list_used ≡ list → AreNewCalls rom list_used l.call.entry visited visited_new calls → All (λ (x : Call). IsClaim x.entry) calls
+    shaped_claims list_used links visited visited_new head l calls some is same are =
+        let of_list = subst (λ (es : List Entry). AreNewCalls rom es l.call.entry visited visited_new calls) same are in
+        claims_of links (Some head) calls some (all_map (ShapeCalls rom list l.call.entry) (IsStep rom words list links (Some head)) calls (λ x s. (l, is, s)) of_list.own)
 
 pub is_none : {A : Type 0} (o : Option A) → ((x : A) → o ≡ Some x → ⊥) → o ≡ None
 is_none None h = refl

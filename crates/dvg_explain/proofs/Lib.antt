@@ -2,6 +2,7 @@ pub mod Broken
 pub mod AllItems
 pub mod Walking
 pub mod AllShapes
+pub mod Marks
 pub mod Linking
 pub mod Tracing
 pub mod Coming

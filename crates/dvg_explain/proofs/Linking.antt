@@ -1,42 +1,85 @@
--- Links as pairs with their addresses and keys, and one link more.
-use Rattle.std.proofs.Common.{◌≡◌, ℕ, zero, suc, ◌+◌, ◌<◌, Bool, true, false, List, [], ◌∷◌, ◌++◌, take, get_or, length, Option, Some, None, is_some, if◌then◌else◌, refl, sym, ap, ◌∙◌, arith, ◌⊎◌, inl, inr, ⊎_elim}
-use Rattle.std.specs.Map.{lookup, values_of}
-use Rattle.std.specs.Prelude.{slice_get}
-use Rattle.std.proofs.lemmas.List.Elements.{All-nil, All-cons}
+-- The names of links, and one link more.
+use Rattle.std.proofs.Common.{◌≡◌, ◌≢◌, ℕ, zero, suc, ◌+◌, ◌<◌, Bool, true, false, ◌||◌, List, [], ◌∷◌, ◌++◌, take, get_or, length, Option, Some, None, is_some, if◌then◌else◌, refl, sym, ap, ◌∙◌, subst, arith, ◌⊎◌, inl, inr, ⊎_elim}
+use Rattle.std.proofs.lemmas.Bool.Decides.{nat_tests}
+use Rattle.std.specs.Prelude.{slice_get, ◌==◌}
+use Rattle.dvg_cert.specs.Entry.{IsKey}
 use Rattle.dvg_cert.specs.declared.entry.Entry.{Entry}
 use Rattle.dvg_cert.specs.declared.entry.Key.{Key}
-use Rattle.dvg_cert.specs.Lookup.{is_at, entry_at}
+use Rattle.dvg_cert.specs.declared.entry.Key.TheVariants.{At, Any}
+use Rattle.dvg_cert.specs.Lookup.{is_at, same_key, entry_at}
+use Rattle.dvg_items.proofs.Listed.{listed_at}
 use Rattle.dvg_explain.specs.Calls.{Call}
-use Rattle.dvg_explain.specs.Private.Reaching.{Link, IsLinked, entries_of, reach, reach_all}
+use Rattle.dvg_explain.specs.Private.Places.{Place, place_number, is_marked, with_place, AreNone}
+use Rattle.dvg_explain.specs.Private.Reaching.{Link, AreNames, entries_of, name_of, reach, reach_all}
+use Rattle.dvg_explain.proofs.Marks.{here_among, others_among, here_or_other}
 
-abbrev own : Link → ℕ × Key
-own l = (l.call.entry.addr, l.call.entry.key)
+-- an entry that is at a place is named by it
+at_its_own : (p : Place) (e : Entry) → is_at p.0 p.1 e ≡ true → p ≡ name_of e
+at_its_own p e is =
+    let found : entry_at (e ∷ []) p.0 p.1 ≡ Some e = ap (λ b. if b then Some e else None) is in
+    let l = listed_at (e ∷ []) p.0 p.1 e found in
+    λ x. (sym l.addr_is x, sym l.key_is x)
 
-tail_linked : (p : (ℕ × Key) × Link) (ps : List ((ℕ × Key) × Link)) → IsLinked (p ∷ ps) → IsLinked ps
-tail_linked p ps h = λ k d lt. h (suc k) d (omega (arith, lt))
+same_key_self : (k : Key) → same_key k k ≡ true
+same_key_self (At n) = grind (arith, nat_tests)
+same_key_self Any = refl
 
--- a link is there just where its entry is
-pub is_there : (t : (ℕ × Key) → Bool) (addr : ℕ) (key : Key) → ((e : Entry) → t (e.addr, e.key) ≡ is_at addr key e) → (ps : List ((ℕ × Key) × Link)) → IsLinked ps
-    → is_some (lookup t ps) ≡ is_some (entry_at (entries_of (values_of ps)) addr key)
-is_there t addr key h [] k = refl
-is_there t addr key h (p ∷ ps) k = by (is_at addr key p.1.call.entry) (ap t (k 0 p (omega arith)) ∙ h p.1.call.entry) refl (is_there t addr key h ps (tail_linked p ps k))
+pub at_self : (e : Entry) → is_at e.addr e.key e ≡ true
+at_self e =
+    let a : (e.addr == e.addr) ≡ true = grind (arith, nat_tests) in
+    rw (a, same_key_self e.key) refl
+
+-- with one link more an entry is there where it was, or where the link's own is
+there_push : (links : List Link) (l : Link) (addr : ℕ) (key : Key) → is_some (entry_at (entries_of (links ++ l ∷ [])) addr key) ≡ (is_some (entry_at (entries_of links) addr key) || is_at addr key l.call.entry)
+there_push [] l addr key = by (is_at addr key l.call.entry)
   where
-    by : (b : Bool) → t p.0 ≡ b → is_at addr key p.1.call.entry ≡ b → is_some (lookup t ps) ≡ is_some (entry_at (entries_of (values_of ps)) addr key)
-        → is_some (lookup t (p ∷ ps)) ≡ is_some (entry_at (entries_of (values_of (p ∷ ps))) addr key)
-    by true e f more = rw (e, f) refl
-    by false e f more = rw (e, f) more
+    by : (b : Bool) → is_some (if b then Some l.call.entry else None) ≡ b
+    by true = refl
+    by false = refl
+there_push (x ∷ links) l addr key = by (is_at addr key x.call.entry) refl (there_push links l addr key)
+  where
+    by : (b : Bool) → is_at addr key x.call.entry ≡ b → is_some (entry_at (entries_of (links ++ l ∷ [])) addr key) ≡ (is_some (entry_at (entries_of links) addr key) || is_at addr key l.call.entry)
+        → is_some (entry_at (entries_of (x ∷ links ++ l ∷ [])) addr key) ≡ (is_some (entry_at (entries_of (x ∷ links)) addr key) || is_at addr key l.call.entry)
+    by true is later = rw is refl
+    by false is later = rw is later
 
-pub none_of : {A : Type 0} (o : Option A) (b : Bool) → is_some o ≡ b → b ≡ false → o ≡ None
-none_of None b e f = refl
-none_of (Some x) b e f = absurd (let no : true ≡ false = e ∙ f in cc no)
+or_true : (b : Bool) → (b || true) ≡ true
+or_true true = refl
+or_true false = refl
 
-pub values_push : (ps : List ((ℕ × Key) × Link)) (l : Link) → values_of (ps ++ (own l, l) ∷ []) ≡ values_of ps ++ l ∷ []
-values_push [] l = refl
-values_push (p ∷ ps) l = ap (λ (ls : List Link). p.1 ∷ ls) (values_push ps l)
+or_false : (b : Bool) → (b || false) ≡ b
+or_false true = refl
+or_false false = refl
 
-pub linked_push : (ps : List ((ℕ × Key) × Link)) (l : Link) → IsLinked ps → IsLinked (ps ++ (own l, l) ∷ [])
-linked_push [] l h = All-cons (λ p. p.0 ≡ own p.1) (own l, l) [] refl (All-nil (λ p. p.0 ≡ own p.1))
-linked_push (p ∷ ps) l h = All-cons (λ q. q.0 ≡ own q.1) p (ps ++ (own l, l) ∷ []) (h 0 p (omega arith)) (linked_push ps l (tail_linked p ps h))
+-- no place is a name of none
+pub no_names : (names : List Bool) (links : List Link) → AreNone names → links ≡ [] → AreNames names links
+no_names names links none empty place k = none place ∙ ap (λ (ls : List Link). is_some (entry_at (entries_of ls) place.0 place.1)) (sym empty)
+
+-- the names of one link more
+pub names_push : (names : List Bool) (links : List Link) (l : Link) → IsKey l.call.entry.key → place_number (name_of l.call.entry) < length names → AreNames names links
+    → AreNames (with_place names (name_of l.call.entry)) (links ++ l ∷ [])
+names_push names links l own lt h place k = ⊎_elim same other (here_or_other names (name_of l.call.entry) own place k)
+  where
+    e : Entry
+    e = l.call.entry
+
+    now : Place → Type 0
+    now p = is_marked (with_place names (name_of e)) p ≡ is_some (entry_at (entries_of (links ++ l ∷ [])) p.0 p.1)
+
+    same : place ≡ name_of e → now place
+    same s =
+        let there : is_some (entry_at (entries_of (links ++ l ∷ [])) e.addr e.key) ≡ true =
+        there_push links l e.addr e.key ∙ ap (λ b. is_some (entry_at (entries_of links) e.addr e.key) || b) (at_self e) ∙ or_true (is_some (entry_at (entries_of links) e.addr e.key)) in
+        subst now (sym s) (here_among names (name_of e) lt ∙ sym there)
+
+    other : place_number place ≢ place_number (name_of e) → now place
+    other ne = by (is_at place.0 place.1 e) refl
+      where
+        by : (b : Bool) → is_at place.0 place.1 e ≡ b → now place
+        by true is = absurd (ne (ap place_number (at_its_own place e is)))
+        by false is =
+            others_among names (name_of e) place ne ∙ h place k ∙ sym (or_false (is_some (entry_at (entries_of links) place.0 place.1)))
+            ∙ ap (λ b. is_some (entry_at (entries_of links) place.0 place.1) || b) (sym is) ∙ sym (there_push links l place.0 place.1)
 
 -- ---- calls, one more
 

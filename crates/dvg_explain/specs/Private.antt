@@ -2,5 +2,6 @@
 pub mod Breaking
 pub mod Walking
 pub mod Reaching
+pub mod Places
 pub mod Visiting
 pub mod Lighting

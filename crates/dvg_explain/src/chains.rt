@@ -6,8 +6,8 @@ ghost use Rattle.dvg_explain.specs.Chains.{IsChain};
 
 use crate::calls::Call;
 use crate::items::{Start, calls_from, new_calls};
+use crate::places::Places;
 use crate::reached::Reached;
-use crate::visited::Visited;
 use dvg_cert::{Cert, Entries, Entry};
 use dvg_words::{FrameImage, RomImage};
 use std::alloc::{AllocError, Global};
@@ -29,8 +29,8 @@ pub fn find_chain<E: Entries>(
     ensures none { IfOk result (λ found. IfNone found ((calls : List Call) → IsChain rom.now frame.now cert.now.entries calls goal.now → ⊥)) }
 {
     let listed = cert.entries().len();
-    let mut reached = Reached::new(alloc);
-    let mut visited = Visited::new(alloc);
+    let mut reached = Reached::new(alloc)?;
+    let mut visited = Places::new(alloc)?;
     reached.add_all(&calls_from(alloc, frame, entries, &Start::frame())?, None)?;
     for next in 0..listed {
         let Some(link) = reached.get(next) else {

@@ -18,9 +18,11 @@ ghost use Rattle.dvg_explain.specs.Private.Visiting.{AreNewCalls};
 ghost use Rattle.dvg_explain.specs.Private.Walking.{IsSeenAt, context_of};
 
 use crate::calls::Call;
-use crate::visited::Visited;
+use crate::places::Places;
 use dvg_cert::{Entries, Entry, Key, LitBox};
-use dvg_items::{Cursor, Kind, Seen, Step, absolute_corners, callee, target, widened};
+use dvg_items::{
+    Cursor, Item, Kind, Seen, Step, absolute_corners, callee, scale_past, target, widened,
+};
 use dvg_words::{Cell, Fetch, RomImage, read_cell};
 use std::alloc::{AllocError, Global};
 
@@ -71,15 +73,12 @@ pub fn see<F: Fetch, E: Entries>(memory: &F, entries: &E, kind: Kind, here: &Cur
     Some(here.see(format, &instr, named))
 }
 
-/// Adds the call of an item, where it names an entry.
-fn push_call(calls: &mut Vec<Call>, seen: &Seen) -> Result<(), AllocError>
-    ensures { OnOk result (calls.new.items ≡ calls.old.items ++ call_of seen.now.item seen.now.callee) }
+/// Adds the call of an item, where it names an entry, this one.
+fn push_call(calls: &mut Vec<Call>, item: &Item, named: &Option<Entry>) -> Result<(), AllocError>
+    ensures { OnOk result (calls.new.items ≡ calls.old.items ++ call_of item.now named.now) }
 {
-    if let Some(entry) = seen.callee {
-        calls.push(Call {
-            at: seen.item.at,
-            entry,
-        })?;
+    if let Some(entry) = *named {
+        calls.push(Call { at: item.at, entry })?;
     }
     Ok(())
 }
@@ -99,7 +98,7 @@ pub fn calls_from<F: Fetch, E: Entries>(
     let mut calls = Vec::new(alloc);
     let mut cursor = Cursor::start(start.kind, start.first, start.scale);
     while let Some(seen) = see(memory, entries, start.kind, &cursor) {
-        push_call(&mut calls, &seen)?;
+        push_call(&mut calls, &seen.item, &seen.callee)?;
         match seen.step(start.kind) {
             Step::Onward(next) => cursor = next,
             Step::Last(_) => return Ok(calls),
@@ -109,29 +108,34 @@ pub fn calls_from<F: Fetch, E: Entries>(
 }
 
 /// The calls of the items of an entry's shape, in their order, up to where it comes to a place that was visited before, at the same
-/// known scale: what it calls from there on, a shape that came by there calls, too. Visits the places that it goes by.
+/// known scale: what it calls from there on, a shape that came by there calls, too. Visits the places that it goes by. What an item
+/// calls depends on its place and the known scale there alone, so nothing else of what is known is kept.
 pub fn new_calls<E: Entries>(
     alloc: Global,
     rom: &RomImage,
     entries: &E,
     entry: &Entry,
-    visited: &mut Visited,
+    visited: &mut Places,
 ) -> Result<Vec<Call>, AllocError>
     requires entries { IsSomeCertificate (E.list entries.now) }
-    requires addr { entry.now.addr < ADDRESS_END }
     requires key { IsKey entry.now.key }
     ensures { IfOk result (λ calls. AreNewCalls rom.now (E.list entries.now) entry.now visited.old visited.new calls.items) }
 {
     let mut calls = Vec::new(alloc);
-    let mut cursor = Cursor::start(Kind::Shape, entry.addr, entry.key);
-    while visited.visit(cursor.at, cursor.known.scale)? {
-        let Some(seen) = see(rom, entries, Kind::Shape, &cursor) else {
+    let mut at = entry.addr;
+    let mut scale = entry.key;
+    while let Cell::Holds { format, instr } = read_cell(rom, at) {
+        if visited.has(at, scale) {
             return Ok(calls);
-        };
-        push_call(&mut calls, &seen)?;
-        match seen.step(Kind::Shape) {
-            Step::Onward(next) => cursor = next,
-            Step::Last(_) => return Ok(calls),
+        }
+        visited.add(at, scale);
+        let item = Item { at, format, instr };
+        let named = callee(entries, target(Kind::Shape, &instr), scale);
+        push_call(&mut calls, &item, &named)?;
+        scale = scale_past(&instr, scale, &named);
+        match item.next_place(Kind::Shape) {
+            Some(next) => at = next,
+            None => return Ok(calls),
         }
     }
     Ok(calls)

@@ -19,11 +19,11 @@ mod items;
 mod leaving;
 mod losses;
 mod margins;
+mod places;
 mod reached;
 mod shapes;
 mod tails;
 mod verdict;
-mod visited;
 
 pub use calls::{Call, frame_calls, frame_extent};
 pub use chains::find_chain;

@@ -1,12 +1,13 @@
 //! The entries that a frame comes to, each with the call by which it was reached first.
 
-ghost use Rattle.std.specs.Prelude.{◌≡◌, ◌<◌, [], length, is_some, slice_get, OnOk, IfOk};
-ghost use Rattle.dvg_cert.specs.Lookup.{entry_at};
-ghost use Rattle.dvg_explain.specs.Private.Reaching.{reach, reach_all, entries_of, IsBackward, IsTrace};
+ghost use Rattle.std.specs.Prelude.{◌≡◌, ◌<◌, [], length, slice_get, OnOk, IfOk};
+ghost use Rattle.std.specs.List.{All};
+ghost use Rattle.dvg_items.specs.Bounds.{IsClaim};
+ghost use Rattle.dvg_explain.specs.Calls.{Call};
+ghost use Rattle.dvg_explain.specs.Private.Reaching.{reach, reach_all, IsBackward, IsTrace};
 
 use crate::calls::Call;
-use dvg_cert::{Entry, Key};
-use indexmap::IndexMap;
+use crate::places::Places;
 use std::alloc::{AllocError, Global};
 use std::marker::Model;
 
@@ -21,59 +22,56 @@ pub struct Link {
 /// Links in the order in which their entries were reached, one for each entry.
 #[derive(Drop)]
 pub struct Reached {
-    links: IndexMap<(u16, Key), Link>,
+    links: Vec<Link>,
+    /// The address and the key of each link's entry.
+    names: Places,
 }
 
 impl Model for Reached {
     ghost use Rattle.std.specs.Prelude.{List};
-    ghost use Rattle.std.specs.Map.{values_of};
-    ghost use Rattle.dvg_explain.specs.Private.Reaching.{Link, IsLinked};
+    ghost use Rattle.dvg_explain.specs.Private.Reaching.{Link, AreNames};
 
     ghost Value = { List Link };
 
-    ghost view = { λ reached. values_of reached.links.entries };
+    ghost view = { λ reached. reached.links.items };
 
-    ghost invariant = { λ reached. IsLinked reached.links.entries };
+    ghost invariant = { λ reached. AreNames reached.names reached.links.items };
 }
 
 impl Reached {
     /// No entry so far.
-    pub fn new(alloc: Global) -> Reached
-        ensures { result ≡ [] }
+    pub fn new(alloc: Global) -> Result<Reached, AllocError>
+        ensures { IfOk result (λ reached. reached ≡ []) }
     {
-        Reached {
-            links: IndexMap::new(alloc),
-        }
+        Ok(Reached {
+            links: Vec::new(alloc),
+            names: Places::new(alloc)?,
+        })
     }
 
     /// The link at an index.
     pub fn get(&self, index: usize) -> Option<Link>
         ensures { result ≡ slice_get self.now index }
     {
-        let (_, link) = self.links.get_index(index)?;
-        Some(*link)
-    }
-
-    /// Whether an entry was reached.
-    fn has(&self, entry: &Entry) -> bool
-        ensures { result ≡ is_some (entry_at (entries_of self.now) entry.now.addr entry.now.key) }
-    {
-        self.links.contains_key(&(entry.addr, entry.key))
+        self.links.get(index).copied()
     }
 
     /// Adds a call, where its entry was not reached.
     fn add(&mut self, link: Link) -> Result<(), AllocError>
+        requires { IsClaim link.call.entry }
         ensures { OnOk result (self.new ≡ reach self.old link) }
     {
-        let entry = &link.call.entry;
-        if !self.has(entry) {
-            self.links.insert((entry.addr, entry.key), link)?;
+        let (addr, key) = (link.call.entry.addr, link.call.entry.key);
+        if !self.names.has(addr, key) {
+            self.links.push(link)?;
+            self.names.add(addr, key);
         }
         Ok(())
     }
 
     /// Adds calls, each where its entry was not reached, which stand in the shape of this link's entry, or are the frame's own.
     pub fn add_all(&mut self, calls: &[Call], from: Option<usize>) -> Result<(), AllocError>
+        requires { All (λ (call : Call). IsClaim call.entry) calls.now }
         ensures { OnOk result (self.new ≡ reach_all self.old from calls.now) }
     {
         for call in calls {

@@ -1,20 +1,24 @@
 -- The entries that a frame comes to, each with the call by which it was reached first.
-use Rattle.std.specs.Prelude.{◌≡◌, ℕ, ◌<◌, List, [], ◌∷◌, ◌++◌, map, slice_get, is_some, Option, None, Some, IfSome, if◌then◌else◌}
-use Rattle.std.specs.List.{All}
+use Rattle.std.specs.Prelude.{◌≡◌, ℕ, ◌<◌, Bool, List, [], ◌∷◌, ◌++◌, map, slice_get, is_some, Option, None, Some, IfSome, if◌then◌else◌}
 use Rattle.dvg_words.specs.Memory.{Rom}
 use Rattle.dvg_cert.specs.declared.entry.Entry.{Entry}
-use Rattle.dvg_cert.specs.declared.entry.Key.{Key}
+use Rattle.dvg_cert.specs.Entry.{IsKey}
 use Rattle.dvg_cert.specs.Lookup.{entry_at}
 use Rattle.dvg_explain.specs.Calls.{Call}
 use Rattle.dvg_explain.specs.Chains.{FrameCalls, ShapeCalls, IsChain}
+use Rattle.dvg_explain.specs.Private.Places.{Place, is_marked}
 pub use Rattle.dvg_explain.specs.declared.reached.Link.{Link}
-
--- the link stands at its entry's address and key
-abbrev pub IsLinked : List ((ℕ × Key) × Link) → Type 0
-IsLinked ps = All (λ p. p.0 ≡ (p.1.call.entry.addr, p.1.call.entry.key)) ps
 
 abbrev pub entries_of : List Link → List Entry
 entries_of links = map (λ l. l.call.entry) links
+
+-- the place of an entry's first item, with the entry's key
+abbrev pub name_of : Entry → Place
+name_of e = (e.addr, e.key)
+
+-- a place is marked exactly where some link's entry has its address and key
+abbrev pub AreNames : List Bool → List Link → Type 0
+AreNames names links = (place : Place) → IsKey place.1 → is_marked names place ≡ is_some (entry_at (entries_of links) place.0 place.1)
 
 -- one link more, where none has its entry yet
 abbrev pub reach : List Link → Link → List Link
