@@ -30,11 +30,6 @@ abbrev pub is_rule_number : ℕ → Bool
 is_rule_number n =
     is_within 1 2 n || is_within 10 17 n || is_within 20 33 n || is_within 40 50 n || is_within 60 63 n || is_within 70 74 n
 
--- the numbers of these rules
-abbrev pub numbers_of : List Rule → List ℕ
-numbers_of [] = []
-numbers_of (rule ∷ rules) = rule.number ∷ numbers_of rules
-
 -- those below a number, in their order
 abbrev pub numbers_below : ℕ → List ℕ
 numbers_below zero = []

@@ -1,7 +1,8 @@
 //! The numbers that lines name: what each means, what gets it, and what to do about it.
 
 ghost use Rattle.std.specs.Prelude.{◌≡◌, ◌++◌, is_some, IfSome, IfOk, OnOk, string_bytes};
-ghost use Rattle.dvg_account.specs.Rules.{row_text, rows_text, labelled_text, rule_text, is_within, is_rule_number, numbers_of, numbers_below};
+ghost use Rattle.dvg_account.specs.Each.{of_each};
+ghost use Rattle.dvg_account.specs.Rules.{row_text, rows_text, labelled_text, rule_text, is_within, is_rule_number, numbers_below};
 
 use crate::rule_table as table;
 use itoa::Buffer;
@@ -185,7 +186,7 @@ fn push_rule(text: &mut String, rule: &Rule) -> Result<(), AllocError>
 
 /// What is told of each number, in their order.
 pub fn all_rules(alloc: Global) -> Result<Vec<Rule>, AllocError>
-    ensures { IfOk result (λ rules. numbers_of rules.items ≡ numbers_below NUMBERS_END) }
+    ensures { IfOk result (λ rules. of_each (λ rule. rule.number) rules.items ≡ numbers_below NUMBERS_END) }
 {
     let mut rules = Vec::new(alloc);
     for number in 0..NUMBERS_END {
