@@ -93,17 +93,35 @@ fn own_account(
         Ok(Making::Refused(making)) => return Ok(Account::Making(making)),
         Err(error) => return Err(error),
     };
-    account_by(alloc, *inputs, made.as_ref(), verdict)
+    account_by(
+        alloc,
+        inputs.rom,
+        made.as_ref(),
+        inputs.frame,
+        inputs,
+        verdict,
+    )
 }
 
-/// The account of a verdict on a frame, by this certificate, where there is one.
+/// The account of a verdict on the bytes of a frame over those of a ROM, by this certificate, where there is one. The inputs have the
+/// rest.
 fn account_by<'a>(
     alloc: Global,
-    inputs: Inputs<'a>,
+    rom: &'a [u8],
     cert: Option<&'a Cert>,
+    frame: &'a [u8],
+    inputs: &Inputs,
     verdict: &Result<Yes, FrameRefusal>,
 ) -> Result<Account, AllocError> {
-    let inputs = Inputs { cert, ..inputs };
+    let inputs = Inputs {
+        rom,
+        map: inputs.map,
+        cert,
+        frame,
+        budget: inputs.budget,
+        window: inputs.window,
+        mode: inputs.mode,
+    };
     let told = match verdict {
         Err(FrameRefusal::Check(refusal)) => tell_again(alloc, &inputs, refusal)?,
         _ => None,
