@@ -5,10 +5,10 @@ use crate::again::tell_again;
 use crate::making::MakingAccount;
 use crate::text::text_of;
 use dvg_cert::Cert;
-use dvg_check::Yes;
+use dvg_check::{Mode, Yes};
 use dvg_explain::RomAccount;
 use dvg_make::{EntryCause, FrameRefusal, MakeAccount};
-use dvg_words::RomImage;
+use dvg_words::{RomImage, RomMap, Window};
 use std::alloc::{AllocError, Global};
 
 /// The account of a frame for whose certificate there was no memory.
@@ -79,10 +79,14 @@ fn refused(alloc: Global, rom: &RomImage, account: MakeAccount) -> Result<Making
     }
 }
 
-/// The account of a verdict on a frame, by its own certificate.
+/// The account of a verdict on the bytes of a frame, by its own certificate.
 fn own_account(
     alloc: Global,
-    inputs: &Inputs,
+    rom: &[u8],
+    map: RomMap,
+    frame: &[u8],
+    budget: u32,
+    window: Window,
     verdict: &Result<Yes, FrameRefusal>,
     making: OwnMaking,
 ) -> Result<Account, AllocError> {
@@ -95,32 +99,35 @@ fn own_account(
     };
     account_by(
         alloc,
-        inputs.rom,
+        rom,
+        map,
         made.as_ref(),
-        inputs.frame,
-        inputs,
+        frame,
+        budget,
+        window,
         verdict,
     )
 }
 
-/// The account of a verdict on the bytes of a frame over those of a ROM, by this certificate, where there is one. The inputs have the
-/// rest.
+/// The account of a verdict on the bytes of a frame, by this certificate, where there is one.
 fn account_by<'a>(
     alloc: Global,
     rom: &'a [u8],
+    map: RomMap,
     cert: Option<&'a Cert>,
     frame: &'a [u8],
-    inputs: &Inputs,
+    budget: u32,
+    window: Window,
     verdict: &Result<Yes, FrameRefusal>,
 ) -> Result<Account, AllocError> {
     let inputs = Inputs {
         rom,
-        map: inputs.map,
+        map: Some(map),
         cert,
         frame,
-        budget: inputs.budget,
-        window: inputs.window,
-        mode: inputs.mode,
+        budget,
+        window,
+        mode: Mode::Exact,
     };
     let told = match verdict {
         Err(FrameRefusal::Check(refusal)) => tell_again(alloc, &inputs, refusal)?,
@@ -129,15 +136,19 @@ fn account_by<'a>(
     frame_account(alloc, &inputs, verdict, told.as_ref())
 }
 
-/// The text of the account of a verdict on a frame by its own certificate, which is what the maker came to, where it made one. The
-/// inputs are those beside it.
+/// The text of the account of a verdict on the bytes of a frame, over those of a ROM at this map, by the frame's own certificate,
+/// where that is what the maker came to.
 pub fn own_text(
     alloc: Global,
-    inputs: &Inputs,
+    rom: &[u8],
+    map: RomMap,
+    frame: &[u8],
+    budget: u32,
+    window: Window,
     verdict: &Result<Yes, FrameRefusal>,
     making: OwnMaking,
 ) -> Result<String, AllocError> {
-    match own_account(alloc, inputs, verdict, making) {
+    match own_account(alloc, rom, map, frame, budget, window, verdict, making) {
         Ok(account) => text_of(alloc, &account),
         Err(error) => Err(error),
     }

@@ -94,16 +94,16 @@ pub fn run_explain_frame<R: CountedRead, W: CountedWrite>(
         Ok(bytes) => {
             let own = judge_own(alloc, rom, map, bytes.as_slice(), budget, window);
             let OwnVerdict { verdict, making } = own;
-            let inputs = Inputs {
+            let account = own_text(
+                alloc,
                 rom,
-                map: Some(map),
-                cert: None,
-                frame: bytes.as_slice(),
+                map,
+                bytes.as_slice(),
                 budget,
                 window,
-                mode: Mode::Exact,
-            };
-            let account = own_text(alloc, &inputs, &verdict, making);
+                &verdict,
+                making,
+            );
             (FrameAnswer::Judged(verdict), account)
         }
         Err(_) => (FrameAnswer::Unread, unread_text(alloc)),
