@@ -1,5 +1,4 @@
 pub mod Pieces
-pub mod Tables
 pub mod Limits
 pub mod Whole
 pub mod Reporting

@@ -5,6 +5,5 @@ pub mod Status
 pub mod Making
 pub mod MakingFrames
 pub mod Numbers
-pub mod Rules
 pub mod Private
 pub mod Explaining

@@ -15,6 +15,7 @@ use Rattle.dvg_make.specs.Refusals.{FramesRefuse, make_fault_of}
 use Rattle.dvg_cmd.specs.Making.{Held}
 use Rattle.dvg_cmd.specs.Runs.{MOST_FRAME_READ, IsReadTo}
 use Rattle.dvg_cmd.specs.declared.making.MakeRunFault.TheVariants as maker
+pub use Rattle.dvg_account.specs.Each.{of_each}
 pub use Rattle.dvg_cmd.specs.declared.making_frames.FramesRunFault.{FramesRunFault}
 use Rattle.dvg_cmd.specs.declared.making_frames.FramesRunFault.TheVariants as fault
 
@@ -33,11 +34,6 @@ blames_frames_writer (Err (fault.Plain maker.Write)) = true
 blames_frames_writer answer = false
 
 -- ---- several readers
-
--- what each of them is told by, as what it holds, or how many of its calls failed
-abbrev pub of_each : {A B : Type 0} → (A → B) → List A → List B
-of_each told [] = []
-of_each told (reader ∷ readers) = told reader ∷ of_each told readers
 
 -- the count of one of them is that after a call that failed, and the others' are as they were
 pub record OneFailed (old new : List ℕ) : Type 0 where

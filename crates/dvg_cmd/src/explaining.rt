@@ -9,10 +9,9 @@ ghost use Rattle.dvg_cmd.specs.Report.{report_text};
 ghost use Rattle.dvg_cmd.specs.Runs.{MOST_ROM_READ, MOST_FRAME_READ, IsReadTo, SafeRead, CountsRead, outcome_of, blames_rom, blames_frame, blames_certificate, blames_writer};
 ghost use Rattle.dvg_cmd.specs.Explaining.{Explained, ExplainedPrefix, Explains, ExplainsPrefix, ExplainsSafe, ExplainsCounts};
 
-use crate::account::Inputs;
-use crate::account_text::account_text;
 use crate::reading::{read_frame, read_rom};
 use crate::running::{Outcome, RunFault, read_verdict, write_report};
+use dvg_account::{Inputs, verdict_text};
 use dvg_cert::{CountedRead, CountedWrite, write_bytes};
 use dvg_check::{Mode, Refusal, Yes};
 use dvg_words::Window;
@@ -136,6 +135,6 @@ pub fn run_explain_check<R1: CountedRead, R2: CountedRead, R3: CountedRead, W: C
         window,
         mode,
     };
-    let account = account_text(alloc, &inputs, &judged.verdict, judged.account.as_ref());
+    let account = verdict_text(alloc, &inputs, &judged.verdict, judged.account.as_ref());
     write_explained(&judged.verdict, &account, out)
 }

@@ -6,17 +6,13 @@ ghost use Rattle.dvg_cert.specs.Devices.{AppendsPrefix, count_after};
 ghost use Rattle.dvg_cmd.specs.Frames.{FrameVerdict, VerdictOver, frame_outcome_of, is_unread, is_unread_outcome, frame_line};
 ghost use Rattle.dvg_cmd.specs.Explaining.{AnswerExplained, AnswerExplainedPrefix, ExplainsFrame, ExplainsFramePrefix, Explained, ExplainedPrefix};
 
-use crate::account::{Account, Inputs, PlainWhy};
-use crate::account_again::tell_again;
-use crate::account_own::{frame_account, judge_own, own_account_text};
-use crate::account_text::{account_text, text_of};
 use crate::explaining::{NO_ACCOUNT, write_explained};
 use crate::judging::{FrameAnswer, FrameOutcome, judge_over, read_started, write_line};
+use crate::judging_own::{OwnVerdict, judge_own};
 use crate::running::{Outcome, RunFault};
+use dvg_account::{Inputs, PlainWhy, frame_text, own_text, plain_text, refusal_text};
 use dvg_cert::{Cert, CountedRead, CountedWrite, Entries, write_bytes};
-use dvg_check::{JudgedShapes, Mode, Refusal, Yes};
-use dvg_explain::RomAccount;
-use dvg_make::FrameRefusal;
+use dvg_check::{JudgedShapes, Mode, Refusal};
 use dvg_words::{RomMap, Window};
 use std::alloc::{AllocError, Global};
 
@@ -64,26 +60,7 @@ fn write_answer<W: CountedWrite>(
 
 /// The text of the account of a frame that can't be read.
 fn unread_text(alloc: Global) -> Result<String, AllocError> {
-    text_of(
-        alloc,
-        &Account::Plain {
-            number: 71,
-            why: PlainWhy::Nothing,
-        },
-    )
-}
-
-/// The text of the account of a verdict over judged shapes.
-fn over_text(
-    alloc: Global,
-    inputs: &Inputs,
-    verdict: &Result<Yes, FrameRefusal>,
-    told: Option<&RomAccount>,
-) -> Result<String, AllocError> {
-    match frame_account(alloc, inputs, verdict, told) {
-        Ok(account) => text_of(alloc, &account),
-        Err(error) => Err(error),
-    }
+    plain_text(alloc, 71, PlainWhy::Nothing)
 }
 
 /// Reads a frame and judges it by its own certificate, as [`run_frame`](crate::run_frame) does, and writes the line that it would
@@ -116,8 +93,17 @@ pub fn run_explain_frame<R: CountedRead, W: CountedWrite>(
     let (answer, account) = match read_started(frame, start) {
         Ok(bytes) => {
             let own = judge_own(alloc, rom, map, bytes.as_slice(), budget, window);
-            let verdict = own.verdict;
-            let account = own_account_text(alloc, rom, map, bytes.as_slice(), budget, window, own);
+            let OwnVerdict { verdict, making } = own;
+            let account = own_text(
+                alloc,
+                rom,
+                map,
+                bytes.as_slice(),
+                budget,
+                window,
+                &verdict,
+                making,
+            );
             (FrameAnswer::Judged(verdict), account)
         }
         Err(_) => (FrameAnswer::Unread, unread_text(alloc)),
@@ -162,7 +148,7 @@ pub fn run_explain_frame_over<E: Entries, R: CountedRead, W: CountedWrite>(
                 window: shapes.window(),
                 mode,
             };
-            let account = over_text(alloc, &inputs, &verdict, told.as_ref());
+            let account = frame_text(alloc, &inputs, &verdict, told.as_ref());
             (FrameAnswer::Judged(verdict), account)
         }
         Err(_) => (FrameAnswer::Unread, unread_text(alloc)),
@@ -213,9 +199,6 @@ pub fn run_explain_refusal<W: CountedWrite>(
         mode: Mode::Bound,
     };
     let verdict = Err(*refusal);
-    let account = match tell_again(alloc, &inputs, refusal) {
-        Ok(told) => account_text(alloc, &inputs, &verdict, told.as_ref()),
-        Err(error) => Err(error),
-    };
+    let account = refusal_text(alloc, &inputs, refusal);
     write_explained(&verdict, &account, out)
 }

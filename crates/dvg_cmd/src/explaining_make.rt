@@ -10,18 +10,15 @@ ghost use Rattle.dvg_cmd.specs.Private.Reading.{IsPrefix, ArePrefixes};
 ghost use Rattle.dvg_cmd.specs.Runs.{MOST_ROM_READ, IsReadTo};
 ghost use Rattle.dvg_cmd.specs.declared.making.MakeRunFault.TheVariants as maker;
 
-use crate::account::{Account, MadeAccount, PlainWhy};
-use crate::account_making::MakingAccount;
-use crate::account_text::text_of;
-use crate::account_why::Addresses;
 use crate::explaining::NO_ACCOUNT;
 use crate::making::MakeRunFault;
 use crate::making_frames::{FrameBytes, FramesRunFault, images_of, read_frames};
 use crate::reading::read_rom;
 use crate::report::make_line_of;
 use crate::running::{Outcome, RunFault};
-use dvg_cert::{Cert, CountedRead, CountedWrite, Key, write_bytes};
-use dvg_make::{MakeAccount, explain_making};
+use dvg_account::{PlainWhy, made_text, plain_text, unmade_text};
+use dvg_cert::{CountedRead, CountedWrite, Key, write_bytes};
+use dvg_make::explain_making;
 use dvg_words::{RomImage, RomMap};
 use std::alloc::{AllocError, Global};
 
@@ -48,13 +45,9 @@ impl MakeAnswer {
 fn unasked(alloc: Global, fault: FramesRunFault, why: PlainWhy) -> MakeAnswer
     ensures { result.made ≡ Err fault }
 {
-    let account = Account::Plain {
-        number: fault.number(),
-        why,
-    };
     MakeAnswer {
         made: Err(fault),
-        account: text_of(alloc, &account),
+        account: plain_text(alloc, fault.number(), why),
     }
 }
 
@@ -64,19 +57,6 @@ fn length_why(fault: FramesRunFault, frames: &[FrameBytes]) -> PlainWhy {
         Some(bytes) => PlainWhy::FrameLength { bytes: bytes.len() },
         None => PlainWhy::Nothing,
     }
-}
-
-/// The text of the account of a refusal of the maker.
-fn refused_text(alloc: Global, rom: &RomImage, account: MakeAccount) -> Result<String, AllocError> {
-    match MakingAccount::new(alloc, rom, account) {
-        Ok(making) => text_of(alloc, &Account::Making(making)),
-        Err(error) => Err(error),
-    }
-}
-
-/// The text of the account of a certificate that is made.
-fn made_text(alloc: Global, cert: &Cert) -> Result<String, AllocError> {
-    text_of(alloc, &Account::Made(MadeAccount::of(cert)))
 }
 
 /// What the maker comes to for what was read of a ROM at this map and of frames.
@@ -98,7 +78,7 @@ fn answer_on(
     let Ok(image) = RomImage::from_bytes(rom, map) else {
         let why = PlainWhy::RomLength {
             bytes: rom.len(),
-            list: Addresses::of_map(map),
+            map,
         };
         return unasked(alloc, MakeRunFault::RomLength.into(), why);
     };
@@ -113,7 +93,7 @@ fn answer_on(
         },
         Err(account) => MakeAnswer {
             made: Err(account.fault.into()),
-            account: refused_text(alloc, &image, account),
+            account: unmade_text(alloc, &image, account),
         },
     }
 }

@@ -4,29 +4,22 @@
 //! the verdict. [`run_make`] reads a ROM and writes the certificate that [`make`](dvg_make::make) makes.
 #![tactic(auto)]
 
-mod account;
-mod account_again;
-mod account_item;
-mod account_making;
-mod account_numbers;
-mod account_own;
-mod account_text;
-mod account_why;
 mod explaining;
 mod explaining_frames;
 mod explaining_make;
 mod judging;
+mod judging_own;
 mod making;
 mod making_frames;
 mod reading;
 mod report;
-mod rule_table;
 mod rules;
 mod running;
 mod start;
 mod status;
 mod window;
 
+pub use dvg_account::{Rule, all_rules, rule_of};
 pub use dvg_cert::{
     Cert, CertFault, CertWhy, Counted, CountedRead, CountedWrite, Entries, HashIndex, Key,
     MOST_WORDS, WriteFault, write_bytes,
@@ -52,7 +45,7 @@ pub use making_frames::{FramesRunFault, run_make_frames};
 pub use report::{
     Report, frame_report_of, make_frames_report_of, make_line_of, make_report_of, report_of,
 };
-pub use rules::{Rule, all_rules, rule_of, run_rule, run_rules};
+pub use rules::{run_rule, run_rules};
 pub use running::{Outcome, RunFault, run_check};
 pub use start::start_of;
 pub use status::{frames_status_of, make_frames_status_of, make_status_of, message_of, status_of};

@@ -3,7 +3,7 @@
 ghost use Rattle.std.specs.Prelude.{◌<◌, IfSome};
 ghost use Rattle.dvg_words.specs.declared.map.TheConstants.{ADDRESS_END};
 
-use crate::account_numbers::{Claims, Place, Scale};
+use crate::numbers::{Claims, Place, Scale};
 use dvg_cert::Entry;
 use dvg_check::Found;
 use dvg_explain::Losses;

@@ -1,7 +1,7 @@
 use Rattle.std.proofs.Common.{List, Contains, subst, sym, ◌∙◌}
 use Rattle.dvg_cert.specs.declared.entry.Entry.{Entry}
 use Rattle.dvg_items.proofs.Listed.{listed_at}
-use Rattle.dvg_cmd.proofs.account_making.calls_below_entry.Goals as goal
+use Rattle.dvg_account.proofs.making.calls_below_entry.Goals as goal
 
 pub deepest_calls-requires-clause-entry : goal.deepest_calls-requires-clause-entry
 deepest_calls-requires-clause-entry c =

@@ -1,7 +1,7 @@
 //! The sentences of accounts: a rule with the numbers of an item.
 
-use crate::account_item::{Words, words_at};
-use crate::account_numbers::{At, ClaimedEnd, Coordinate, Distance, EdgeName, Name, Place, Scale};
+use crate::item::{Words, words_at};
+use crate::numbers::{At, ClaimedEnd, Coordinate, Distance, EdgeName, Name, Place, Scale};
 use dvg_cert::{End, Entry, Key};
 use dvg_check::Found;
 use dvg_explain::{BoxLeaving, Edge, FrameAccount, FrameCause, Leaving, ShapeAccount, ShapeCause};

@@ -1,16 +1,13 @@
 //! The account of an answer to a frame that is judged by its own certificate.
 
-ghost use Rattle.dvg_cmd.specs.Frames.{FrameVerdict};
-
 use crate::account::{Account, Inputs, PlainWhy};
-use crate::account_again::tell_again;
-use crate::account_making::MakingAccount;
-use crate::account_text::text_of;
-use crate::judging::images_for;
+use crate::again::tell_again;
+use crate::making::MakingAccount;
+use crate::text::text_of;
 use dvg_cert::Cert;
 use dvg_check::{Mode, Yes};
 use dvg_explain::RomAccount;
-use dvg_make::{EntryCause, FrameRefusal, MakeAccount, explain_judging};
+use dvg_make::{EntryCause, FrameRefusal, MakeAccount};
 use dvg_words::{RomImage, RomMap, Window};
 use std::alloc::{AllocError, Global};
 
@@ -32,17 +29,30 @@ enum Making {
     Refused(MakingAccount),
 }
 
-/// The verdict on a frame by its own certificate, and what the maker came to, unless there was no memory for the account of that.
+/// What the maker came to for a frame, unless there was no memory for the account of that.
 #[derive(Drop)]
-pub struct OwnVerdict {
-    pub verdict: Result<Yes, FrameRefusal>,
-    making: Result<Making, AllocError>,
+pub struct OwnMaking {
+    came: Result<Making, AllocError>,
 }
 
-impl OwnVerdict {
-    /// What the maker came to.
-    fn into_making(self) -> Result<Making, AllocError> {
-        self.making
+impl OwnMaking {
+    /// That it was not asked, since the ROM, the frame or the budget is refused.
+    pub fn unasked() -> OwnMaking {
+        OwnMaking {
+            came: Ok(Making::Unasked),
+        }
+    }
+
+    /// What it came to over a ROM.
+    pub fn of(alloc: Global, rom: &RomImage, made: Result<Cert, MakeAccount>) -> OwnMaking {
+        OwnMaking {
+            came: making_of(alloc, rom, made),
+        }
+    }
+
+    /// What it came to.
+    fn into_result(self) -> Result<Making, AllocError> {
+        self.came
     }
 }
 
@@ -69,33 +79,6 @@ fn refused(alloc: Global, rom: &RomImage, account: MakeAccount) -> Result<Making
     }
 }
 
-/// Judges the bytes of a frame as [`judge_alone`](crate::judging::judge_alone) does, over those of a ROM at this map, and keeps what
-/// the maker came to.
-pub fn judge_own(
-    alloc: Global,
-    rom: &[u8],
-    map: RomMap,
-    frame: &[u8],
-    budget: u32,
-    window: Window,
-) -> OwnVerdict
-    ensures { FrameVerdict rom.now map frame.now budget window result.verdict }
-{
-    match images_for(rom, map, frame, budget) {
-        Ok((frame, rom)) => {
-            let judged = explain_judging(alloc, &rom, &frame, budget, window);
-            OwnVerdict {
-                verdict: judged.verdict,
-                making: making_of(alloc, &rom, judged.made),
-            }
-        }
-        Err(refusal) => OwnVerdict {
-            verdict: Err(FrameRefusal::Check(refusal)),
-            making: Ok(Making::Unasked),
-        },
-    }
-}
-
 /// The account of a verdict on the bytes of a frame, by its own certificate.
 fn own_account(
     alloc: Global,
@@ -104,10 +87,10 @@ fn own_account(
     frame: &[u8],
     budget: u32,
     window: Window,
-    own: OwnVerdict,
+    verdict: &Result<Yes, FrameRefusal>,
+    making: OwnMaking,
 ) -> Result<Account, AllocError> {
-    let verdict = own.verdict;
-    let made = match own.into_making() {
+    let made = match making.into_result() {
         Ok(Making::Unasked) => None,
         Ok(Making::NoMemory) => return Ok(no_memory()),
         Ok(Making::Made(cert)) => Some(cert),
@@ -122,7 +105,7 @@ fn own_account(
         frame,
         budget,
         window,
-        &verdict,
+        verdict,
     )
 }
 
@@ -153,17 +136,19 @@ fn account_by<'a>(
     frame_account(alloc, &inputs, verdict, told.as_ref())
 }
 
-/// The text of the account of a verdict on the bytes of a frame, over those of a ROM at this map, by the frame's own certificate.
-pub fn own_account_text(
+/// The text of the account of a verdict on the bytes of a frame, over those of a ROM at this map, by the frame's own certificate,
+/// where that is what the maker came to.
+pub fn own_text(
     alloc: Global,
     rom: &[u8],
     map: RomMap,
     frame: &[u8],
     budget: u32,
     window: Window,
-    own: OwnVerdict,
+    verdict: &Result<Yes, FrameRefusal>,
+    making: OwnMaking,
 ) -> Result<String, AllocError> {
-    match own_account(alloc, rom, map, frame, budget, window, own) {
+    match own_account(alloc, rom, map, frame, budget, window, verdict, making) {
         Ok(account) => text_of(alloc, &account),
         Err(error) => Err(error),
     }
@@ -171,7 +156,7 @@ pub fn own_account_text(
 
 /// The account of a verdict of the checker on a frame, where that of a refusal because of an item is this one; or that there was no
 /// memory for the certificate.
-pub fn frame_account(
+fn frame_account(
     alloc: Global,
     inputs: &Inputs,
     verdict: &Result<Yes, FrameRefusal>,
@@ -183,5 +168,18 @@ pub fn frame_account(
             Account::of_verdict(alloc, inputs, &Err(*refusal), told)
         }
         Err(_) => Ok(no_memory()),
+    }
+}
+
+/// The text of the account of a verdict on a frame, where that of a refusal because of an item is this one.
+pub fn frame_text(
+    alloc: Global,
+    inputs: &Inputs,
+    verdict: &Result<Yes, FrameRefusal>,
+    told: Option<&RomAccount>,
+) -> Result<String, AllocError> {
+    match frame_account(alloc, inputs, verdict, told) {
+        Ok(account) => text_of(alloc, &account),
+        Err(error) => Err(error),
     }
 }

@@ -1,8 +1,8 @@
 //! The account of an answer: what is told behind its line.
 
-use crate::account_item::{ItemAccount, callee_of};
-use crate::account_making::MakingAccount;
-use crate::account_why::{Addresses, OddWords, odd_words};
+use crate::item::{ItemAccount, callee_of};
+use crate::making::MakingAccount;
+use crate::why::{Addresses, OddWords, odd_words};
 use dvg_cert::{Cert, Entries, Entry, HashIndex, ListIndex, LitBox};
 use dvg_check::{Mode, Refusal, Yes};
 use dvg_explain::{
@@ -109,9 +109,10 @@ pub enum Chain {
 /// What is at hand of a refusal before any item was looked at.
 #[derive(Clone, Copy)]
 pub enum PlainWhy {
+    /// Its number alone.
     Nothing,
-    /// So many bytes were read of the ROM, whose words have these addresses.
-    RomLength { bytes: usize, list: Addresses },
+    /// So many bytes were read of the ROM, which lies here.
+    RomLength { bytes: usize, map: RomMap },
     /// So many bytes were read of the frame.
     FrameLength { bytes: usize },
     /// The budget.
@@ -126,7 +127,7 @@ impl<'a> Inputs<'a> {
         match (refusal, self.map) {
             (Refusal::Image(ImageFault::RomLength), Some(map)) => PlainWhy::RomLength {
                 bytes: self.rom.len(),
-                list: Addresses::of_map(map),
+                map,
             },
             (Refusal::Image(ImageFault::FrameLength), _) => PlainWhy::FrameLength {
                 bytes: self.frame.len(),

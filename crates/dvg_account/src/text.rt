@@ -1,20 +1,22 @@
 //! The text of an account, line by line.
 
 use crate::account::{AcceptedAccount, Account, Chain, Inputs, MadeAccount, PlainWhy};
-use crate::account_item::{ItemAccount, push_item};
-use crate::account_making::{MakingAccount, push_making, push_making_why};
-use crate::account_numbers::{Claims, Distance, Name, Within};
-use crate::account_why::{Addresses, FrameWhyText, OddWords, ShapeWhyText};
+use crate::again::tell_again;
+use crate::item::{ItemAccount, push_item};
+use crate::making::{MakingAccount, push_making, push_making_why};
+use crate::numbers::{Claims, Distance, Name, Within};
 use crate::rules::rule_of;
-use dvg_cert::{Entry, LitBox, MOST_DEPTH, MOST_ENTRIES, MOST_WORDS};
+use crate::why::{Addresses, FrameWhyText, OddWords, ShapeWhyText};
+use dvg_cert::{Cert, Entry, LitBox, MOST_DEPTH, MOST_ENTRIES, MOST_WORDS};
 use dvg_check::{Refusal, Yes};
 use dvg_explain::{Call, FrameAccount, Margins, RomAccount, ShapeAccount};
-use dvg_words::Window;
+use dvg_make::MakeAccount;
+use dvg_words::{RomImage, RomMap, Window};
 use std::alloc::{AllocError, Global};
 use std::fmt;
 
 /// The text of the account of a verdict on these inputs, where that of a refusal because of an item is this one.
-pub fn account_text(
+pub fn verdict_text(
     alloc: Global,
     inputs: &Inputs,
     verdict: &Result<Yes, Refusal>,
@@ -22,6 +24,40 @@ pub fn account_text(
 ) -> Result<String, AllocError> {
     match Account::of_verdict(alloc, inputs, verdict, told) {
         Ok(account) => text_of(alloc, &account),
+        Err(error) => Err(error),
+    }
+}
+
+/// The text of the account of a refusal on these inputs, which are judged once more where it is because of an item.
+pub fn refusal_text(
+    alloc: Global,
+    inputs: &Inputs,
+    refusal: &Refusal,
+) -> Result<String, AllocError> {
+    match tell_again(alloc, inputs, refusal) {
+        Ok(told) => verdict_text(alloc, inputs, &Err(*refusal), told.as_ref()),
+        Err(error) => Err(error),
+    }
+}
+
+/// The text of the account of a refusal before any item was looked at.
+pub fn plain_text(alloc: Global, number: u8, why: PlainWhy) -> Result<String, AllocError> {
+    text_of(alloc, &Account::Plain { number, why })
+}
+
+/// The text of the account of a certificate that is made.
+pub fn made_text(alloc: Global, cert: &Cert) -> Result<String, AllocError> {
+    text_of(alloc, &Account::Made(MadeAccount::of(cert)))
+}
+
+/// The text of the account of a refusal of the maker over a ROM.
+pub fn unmade_text(
+    alloc: Global,
+    rom: &RomImage,
+    account: MakeAccount,
+) -> Result<String, AllocError> {
+    match MakingAccount::new(alloc, rom, account) {
+        Ok(making) => text_of(alloc, &Account::Making(making)),
         Err(error) => Err(error),
     }
 }
@@ -162,7 +198,7 @@ fn push_cure(text: &mut String, number: u8) -> Result<(), AllocError> {
 fn push_plain_why(text: &mut String, why: &PlainWhy) -> Result<(), AllocError> {
     match why {
         PlainWhy::Nothing => Ok(()),
-        PlainWhy::RomLength { bytes, list } => push_rom_length(text, *bytes, list),
+        PlainWhy::RomLength { bytes, map } => push_rom_length(text, *bytes, *map),
         PlainWhy::FrameLength { bytes } if *bytes > MOST_FRAME_BYTES => {
             writeln!(
                 text,
@@ -180,7 +216,8 @@ const MOST_FRAME_BYTES: usize = 2048;
 
 const MOST_ROM_BYTES: usize = 4096;
 
-fn push_rom_length(text: &mut String, bytes: usize, list: &Addresses) -> Result<(), AllocError> {
+fn push_rom_length(text: &mut String, bytes: usize, map: RomMap) -> Result<(), AllocError> {
+    let list = Addresses::of_map(map);
     let needed = list.bytes();
     if bytes > MOST_ROM_BYTES {
         write!(text, "why: the ROM has more than {MOST_ROM_BYTES} bytes")?;

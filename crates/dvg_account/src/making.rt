@@ -1,10 +1,8 @@
 //! The account of a refusal of the maker.
 
-use crate::account_item::{ItemAccount, push_item};
-use crate::account_numbers::Name;
-use crate::account_why::{
-    Addresses, HALT_IN_SHAPE, MissingWord, OddWords, UNKNOWN_SCALE, odd_words,
-};
+use crate::item::{ItemAccount, push_item};
+use crate::numbers::Name;
+use crate::why::{Addresses, HALT_IN_SHAPE, MissingWord, OddWords, UNKNOWN_SCALE, odd_words};
 use dvg_cert::{Cert, Entries, Key, ListIndex, MOST_WORDS};
 use dvg_explain::{Call, deepest_calls};
 use dvg_items::Kind;

@@ -1,5 +1,5 @@
 use Rattle.dvg_cmd.proofs.Framing.{own_verdict}
-use Rattle.dvg_cmd.proofs.account_own.judge_own.Goals as goal
+use Rattle.dvg_cmd.proofs.judging_own.judge_own.Goals as goal
 
 pub returns-in-Ok : goal.returns-in-Ok
 returns-in-Ok c =

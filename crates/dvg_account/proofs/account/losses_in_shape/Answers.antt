@@ -1,7 +1,7 @@
 use Rattle.std.proofs.Common.{List, Contains, subst, sym, ◌∙◌}
 use Rattle.dvg_cert.specs.declared.entry.Entry.{Entry}
 use Rattle.dvg_items.proofs.Listed.{listed_at}
-use Rattle.dvg_cmd.proofs.account.losses_in_shape.Goals as goal
+use Rattle.dvg_account.proofs.account.losses_in_shape.Goals as goal
 
 pub shape_losses-requires-clause-entry : goal.shape_losses-requires-clause-entry
 shape_losses-requires-clause-entry c =
