@@ -40,7 +40,7 @@ buffered_on old mid new held rest text h k =
     (h.0 ++ k.0, Appends-trans old mid new h.0 k.0 h.1 k.1, h.2 ∙ ap (λ (t : List ℕ). h.0 ++ t) k.2 ∙ sym (append_assoc h.0 k.0 rest))
 
 -- more is held
-buffered_more : (old new : Option (List ℕ)) (held line text : List ℕ) → Buffered old new held text → Buffered old new (held ++ line) (text ++ line)
+pub buffered_more : (old new : Option (List ℕ)) (held line text : List ℕ) → Buffered old new held text → Buffered old new (held ++ line) (text ++ line)
 buffered_more old new held line text h = (h.0, h.1, ap (λ (t : List ℕ). t ++ line) h.2 ∙ append_assoc h.0 held line)
 
 -- all that was held is sent
@@ -50,6 +50,15 @@ held_sent old mid new held text h s = subst (λ (t : List ℕ). Appends old new 
 -- what was held is sent in part
 pub held_sent_in_part : (old mid new : Option (List ℕ)) (held text : List ℕ) → Buffered old mid held text → AppendsPrefix mid new held → AppendsPrefix old new text
 held_sent_in_part old mid new held text h s = sent_part old mid new text h.0 held [] (h.2 ∙ ap (λ (t : List ℕ). h.0 ++ t) (sym (append-nil held))) h.1 s
+
+-- more was put behind what was held, and then sent in part; the text goes on behind it
+pub put_in_part : (old mid new : Option (List ℕ)) (held part more tail text : List ℕ) → Buffered old mid held part → text ≡ part ++ (more ++ tail) → AppendsPrefix mid new (held ++ more) → AppendsPrefix old new text
+put_in_part old mid new held part more tail text h e s =
+    sent_part old mid new text h.0 (held ++ more) tail (e ∙ ap (λ (t : List ℕ). t ++ (more ++ tail)) h.2 ∙ append_assoc h.0 held (more ++ tail) ∙ ap (λ (t : List ℕ). h.0 ++ t) (sym (append_assoc held more tail))) h.1 s
+
+-- more was put behind what was held, and some of both was sent
+pub put_on : (old mid new : Option (List ℕ)) (held part more rest : List ℕ) → Buffered old mid held part → Buffered mid new rest (held ++ more) → Buffered old new rest (part ++ more)
+put_on old mid new held part more rest h k = buffered_on old mid new (held ++ more) rest (part ++ more) (buffered_more old mid held more part h) k
 
 -- the text of a certificate from an entry on
 text_at : (map : MemoryMap) (es : List Entry) (i : ℕ) → text_of map es ≡ begun_with map (take i es) ++ (flat_map (λ e. ended (entry_line e)) (drop i es) ++ ended (done_line (length es)))

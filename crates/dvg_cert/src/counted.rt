@@ -1,9 +1,10 @@
-//! Readers and writers that count their failures, so that a caller can tell that one failed.
+//! Readers and writers that count their failures, so that a caller can tell that one failed; a writer also counts how many writes
+//! took all that they were given.
 
 ghost use Rattle.std.specs.Prelude.{◌≡◌, ℕ, true, is_err};
 ghost use Rattle.std.specs.Io.{ReadsAtMost, WritesAtMost};
 ghost use Rattle.std.specs.Io.KnownBytes.{ReadConsumes, WriteAppends};
-ghost use Rattle.dvg_cert.specs.Devices.{count_after, write_failed};
+ghost use Rattle.dvg_cert.specs.Devices.{count_after, write_failed, took_whole};
 
 use std::io;
 use std::io::{Read, Write};
@@ -25,28 +26,37 @@ pub trait CountedRead: Read {
         ensures count { failures self.new ≡ count_after (is_err result) (failures self.old) };
 }
 
-/// A writer that counts the failed calls of `write_counted`, up to `u32::MAX`. A call fails that answers an error, or takes
-/// no byte of a piece that has some. `Counted` doesn't count a plain `write`.
+/// A writer that counts the calls of `write_counted` that failed, and those that took their whole piece, each up to `u32::MAX`. A
+/// call fails that answers an error, or takes no byte of a piece that has some. `Counted` doesn't count a plain `write`.
 pub trait CountedWrite: Write {
     /// How many calls of `write_counted` failed so far.
     ghost failures: { Self → ℕ };
+
+    /// How many calls of `write_counted` took their whole piece so far.
+    ghost whole_writes: { Self → ℕ };
 
     /// How many calls of `write_counted` failed so far.
     fn failures(&self) -> u32
         ensures { result ≡ failures self.now };
 
-    /// One `write`, counted where it fails.
+    /// How many calls of `write_counted` took their whole piece so far.
+    fn whole_writes(&self) -> u32
+        ensures { result ≡ whole_writes self.now };
+
+    /// One `write`, counted where it fails and where it takes the whole piece.
     fn write_counted(&mut self, buf: &[u8]) -> io::Result<usize>
         ensures bound { WritesAtMost result buf.now }
         ensures bytes { WriteAppends (Self.contents self.old) (Self.contents self.new) result buf.now }
-        ensures count { failures self.new ≡ count_after (write_failed result buf.now) (failures self.old) };
+        ensures count { failures self.new ≡ count_after (write_failed result buf.now) (failures self.old) }
+        ensures whole { whole_writes self.new ≡ count_after (took_whole result buf.now) (whole_writes self.old) };
 }
 
-/// A reader or a writer, and the count of its failures.
+/// A reader or a writer, the count of its failures, and that of the writes which took their whole piece.
 #[derive(Drop)]
 pub struct Counted<T> {
     device: T,
     count: u32,
+    whole_count: u32,
 }
 
 impl<T> Model for Counted<T> {
@@ -54,15 +64,19 @@ impl<T> Model for Counted<T> {
 
     ghost Value = { CountedDevice T };
 
-    ghost view = { λ c. record { device = c.device; failures = c.count } };
+    ghost view = { λ c. record { device = c.device; failures = c.count; whole_writes = c.whole_count } };
 }
 
 impl<T> Counted<T> {
-    /// This device, with no failure so far.
+    /// This device, with no failure and no write so far.
     pub fn new(device: T) -> Counted<T>
-        ensures { result ≡ record { device = device; failures = 0 } }
+        ensures { result ≡ record { device = device; failures = 0; whole_writes = 0 } }
     {
-        Counted { device, count: 0 }
+        Counted {
+            device,
+            count: 0,
+            whole_count: 0,
+        }
     }
 
     /// The device.
@@ -76,6 +90,12 @@ impl<T> Counted<T> {
         ensures { self.new ≡ record self.old { failures = count_after true self.old.failures } }
     {
         self.count = self.count.saturating_add(1);
+    }
+
+    fn count_whole_write(&mut self)
+        ensures { self.new ≡ record self.old { whole_writes = count_after true self.old.whole_writes } }
+    {
+        self.whole_count = self.whole_count.saturating_add(1);
     }
 }
 
@@ -118,18 +138,22 @@ impl<T: Write> Write for Counted<T> {
 impl<T: Write> CountedWrite for Counted<T> {
     ghost failures = { λ c. c.failures };
 
+    ghost whole_writes = { λ c. c.whole_writes };
+
     fn failures(&self) -> u32 {
         self.count
     }
 
+    fn whole_writes(&self) -> u32 {
+        self.whole_count
+    }
+
     fn write_counted(&mut self, buf: &[u8]) -> io::Result<usize> {
         let result = self.device.write(buf);
-        let failed = match &result {
-            Ok(taken) => *taken == 0 && !buf.is_empty(),
-            Err(_) => true,
-        };
-        if failed {
-            self.count_failure();
+        match &result {
+            Ok(taken) if *taken == buf.len() => self.count_whole_write(),
+            Ok(0) | Err(_) => self.count_failure(),
+            Ok(_) => {}
         }
         result
     }

@@ -1,5 +1,5 @@
-//! Certificates of vector ROM shapes: their values, their text, its reader and writer; and devices that count their
-//! failures.
+//! Certificates of vector ROM shapes: their values, their text, its reader and writer; devices that count their
+//! failures; and writers of lines.
 #![tactic(auto)]
 
 mod certificate;
@@ -13,6 +13,7 @@ pub mod laws;
 mod limits;
 mod line;
 mod line_buffer;
+mod lines;
 mod lookup;
 mod numerals;
 mod reader;
@@ -24,8 +25,9 @@ pub use counted::{Counted, CountedRead, CountedWrite};
 pub use entry::{End, Entry, Key, LitBox};
 pub use fault::{CertFault, CertWhy, WriteFault};
 pub use hash_index::HashIndex;
-pub use limits::{MOST_DEPTH, MOST_ENTRIES, MOST_NUMBER, MOST_WORDS};
+pub use limits::{MOST_AT_ONCE, MOST_DEPTH, MOST_ENTRIES, MOST_NUMBER, MOST_WORDS};
 pub use line_buffer::push_bytes;
+pub use lines::write_lines;
 pub use lookup::{Entries, ListIndex};
 pub use numerals::{read_address, read_decimal, read_key};
 pub use reader::{CertReader, read_cert};

@@ -18,6 +18,9 @@ pub const MOST_MAGNITUDE: u64 = MOST_NUMBER as u64;
 /// The most bytes of a line, its end among them.
 pub const LONGEST_LINE: usize = 200;
 
+/// The most bytes that are put together for one write: as many as a pipe takes whole.
+pub const MOST_AT_ONCE: usize = 4096;
+
 /// The byte that ends a line.
 pub const LINE_FEED: u8 = b'\n';
 

@@ -3,11 +3,14 @@
 ghost use Rattle.std.specs.Prelude.{◌≡◌, ◌+◌, ◌≤◌, ◌<◌, ◌∷◌, ◌++◌, length};
 ghost use Rattle.arrayvec.specs.ArrayVec.{array_vec_len};
 
-use crate::limits::{LONGEST_LINE, SPACE};
+use crate::limits::{LONGEST_LINE, MOST_AT_ONCE, SPACE};
 use arrayvec::ArrayVec;
 
 /// The bytes of a line so far.
 pub type LineBuffer = ArrayVec<u8, LONGEST_LINE>;
+
+/// Bytes that are put together for a write. It takes so much of the stack.
+pub type WriteBuffer = ArrayVec<u8, MOST_AT_ONCE>;
 
 /// Puts bytes at the end of a buffer that has room for them. Takes no memory.
 pub fn push_bytes<const N: usize>(buffer: &mut ArrayVec<u8, N>, bytes: &[u8])

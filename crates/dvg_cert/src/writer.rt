@@ -1,6 +1,6 @@
 //! Writing a certificate, and bytes. No memory is taken.
 
-ghost use Rattle.std.specs.Prelude.{◌≡◌, ◌<◌, ◌≤◌, ◌+◌, ◌-◌, [], ◌∷◌, ◌++◌, length, true, decimal, OnOk, OnErr, is_err};
+ghost use Rattle.std.specs.Prelude.{◌≡◌, ◌<◌, ◌≤◌, ◌+◌, ◌-◌, [], ◌∷◌, ◌++◌, length, not, true, decimal, OnOk, OnErr, is_err};
 ghost use Rattle.std.specs.Fmt.{signed_decimal, digit_glyph};
 ghost use Rattle.std.specs.Io.KnownBytes.{Appends};
 ghost use Rattle.dvg_cert.specs.Devices.{count_after, AppendsPrefix};
@@ -14,9 +14,8 @@ use crate::certificate::Cert;
 use crate::counted::CountedWrite;
 use crate::entry::{End, Entry, Key, LitBox};
 use crate::fault::WriteFault;
-use crate::limits::{LINE_FEED, LONGEST_LINE, MOST_ENTRIES, MOST_WORDS, SPACE};
-use crate::line_buffer::{push_bytes, push_token};
-use arrayvec::ArrayVec;
+use crate::limits::{LINE_FEED, LONGEST_LINE, MOST_AT_ONCE, MOST_ENTRIES, MOST_WORDS, SPACE};
+use crate::line_buffer::{WriteBuffer, push_bytes, push_token};
 use dvg_words::{ADDRESS_END, RomMap};
 use itoa::Buffer;
 
@@ -27,8 +26,9 @@ pub fn write_bytes<W: CountedWrite>(bytes: &[u8], out: &mut W) -> Result<(), Wri
     ensures ok { OnOk result (Appends (W.contents out.old) (W.contents out.new) bytes.now) }
     ensures prefix { OnErr result (AppendsPrefix (W.contents out.old) (W.contents out.new) bytes.now) }
 
-    // An error comes exactly where a write failed in this call.
+    // An error comes exactly where a write failed in this call; else one write, the last, took its whole piece.
     ensures count { W.failures out.new ≡ count_after (is_err result) (W.failures out.old) }
+    ensures whole { 0 < length bytes.now → W.whole_writes out.new ≡ count_after (not (is_err result)) (W.whole_writes out.old) }
 {
     let mut sent = 0;
     'sending: while sent < bytes.len() {
@@ -42,12 +42,6 @@ pub fn write_bytes<W: CountedWrite>(bytes: &[u8], out: &mut W) -> Result<(), Wri
     }
     Ok(())
 }
-
-/// The bytes of the buffer that puts lines together for a write. It takes so much of the stack.
-const WRITE_BUFFER_LEN: usize = 4096;
-
-/// Lines that were not written so far.
-type WriteBuffer = ArrayVec<u8, WRITE_BUFFER_LEN>;
 
 /// Writes the text of a certificate, and nothing else. Takes no memory.
 ///
@@ -75,11 +69,11 @@ pub fn write_cert<W: CountedWrite>(cert: &Cert, out: &mut W) -> Result<(), Write
 /// Where the next line may not fit, writes what the buffer holds, and empties it.
 fn make_room<W: CountedWrite>(text: &mut WriteBuffer, out: &mut W) -> Result<(), WriteFault>
     ensures ok { OnOk result (Buffered (W.contents out.old) (W.contents out.new) text.new.items text.old.items) }
-    ensures room { OnOk result (array_vec_len text.new + LONGEST_LINE ≤ WRITE_BUFFER_LEN) }
+    ensures room { OnOk result (array_vec_len text.new + LONGEST_LINE ≤ MOST_AT_ONCE) }
     ensures prefix { OnErr result (AppendsPrefix (W.contents out.old) (W.contents out.new) text.old.items) }
     ensures count { W.failures out.new ≡ count_after (is_err result) (W.failures out.old) }
 {
-    if text.len() > WRITE_BUFFER_LEN - LONGEST_LINE {
+    if text.len() > MOST_AT_ONCE - LONGEST_LINE {
         write_bytes(text.as_slice(), out)?;
         text.clear();
     }
@@ -103,7 +97,7 @@ fn push_heading(text: &mut WriteBuffer, map: RomMap)
 
 fn push_entry(text: &mut WriteBuffer, entry: &Entry)
     requires entry { IsEntry 0 (ADDRESS_END - 1) entry.now }
-    requires room { array_vec_len text.old + LONGEST_LINE ≤ WRITE_BUFFER_LEN }
+    requires room { array_vec_len text.old + LONGEST_LINE ≤ MOST_AT_ONCE }
     ensures { text.new.items ≡ text.old.items ++ ended (entry_line entry.now) }
 {
     push_bytes(text, b"shape");
@@ -124,7 +118,7 @@ fn push_entry(text: &mut WriteBuffer, entry: &Entry)
 
 fn push_done(text: &mut WriteBuffer, count: u32)
     requires count { count ≤ MOST_ENTRIES }
-    requires room { array_vec_len text.old + LONGEST_LINE ≤ WRITE_BUFFER_LEN }
+    requires room { array_vec_len text.old + LONGEST_LINE ≤ MOST_AT_ONCE }
     ensures { text.new.items ≡ text.old.items ++ ended (done_line count) }
 {
     push_bytes(text, b"done");
@@ -134,7 +128,7 @@ fn push_done(text: &mut WriteBuffer, count: u32)
 
 fn push_natural(text: &mut WriteBuffer, number: u32)
     requires number { number ≤ MOST_WORDS }
-    requires room { array_vec_len text.old + 8 ≤ WRITE_BUFFER_LEN }
+    requires room { array_vec_len text.old + 8 ≤ MOST_AT_ONCE }
     ensures value { text.new.items ≡ text.old.items ++ SPACE ∷ decimal number }
     ensures len { array_vec_len text.new ≤ array_vec_len text.old + 8 }
 {
@@ -144,7 +138,7 @@ fn push_natural(text: &mut WriteBuffer, number: u32)
 
 fn push_number(text: &mut WriteBuffer, number: &i64)
     requires number { IsNumber number.now }
-    requires room { array_vec_len text.old + 15 ≤ WRITE_BUFFER_LEN }
+    requires room { array_vec_len text.old + 15 ≤ MOST_AT_ONCE }
     ensures value { text.new.items ≡ text.old.items ++ SPACE ∷ signed_decimal number.now }
     ensures len { array_vec_len text.new ≤ array_vec_len text.old + 15 }
 {
@@ -155,7 +149,7 @@ fn push_number(text: &mut WriteBuffer, number: &i64)
 
 fn push_key(text: &mut WriteBuffer, key: Key)
     requires key { IsKey key }
-    requires room { array_vec_len text.old + 8 ≤ WRITE_BUFFER_LEN }
+    requires room { array_vec_len text.old + 8 ≤ MOST_AT_ONCE }
     ensures value { text.new.items ≡ text.old.items ++ SPACE ∷ key_token key }
     ensures len { array_vec_len text.new ≤ array_vec_len text.old + 8 }
 {
@@ -167,7 +161,7 @@ fn push_key(text: &mut WriteBuffer, key: Key)
 
 fn push_end(text: &mut WriteBuffer, end: End)
     requires end { IsEnd end }
-    requires room { array_vec_len text.old + 34 ≤ WRITE_BUFFER_LEN }
+    requires room { array_vec_len text.old + 34 ≤ MOST_AT_ONCE }
     ensures value { text.new.items ≡ text.old.items ++ spaced (end_tokens end) }
     ensures len { array_vec_len text.new ≤ array_vec_len text.old + 34 }
 {
@@ -188,7 +182,7 @@ fn push_end(text: &mut WriteBuffer, end: End)
 
 fn push_box(text: &mut WriteBuffer, lit: &LitBox)
     requires lit { IsBox lit.now }
-    requires room { array_vec_len text.old + 60 ≤ WRITE_BUFFER_LEN }
+    requires room { array_vec_len text.old + 60 ≤ MOST_AT_ONCE }
     ensures value { text.new.items ≡ text.old.items ++ spaced (box_tokens lit.now) }
     ensures len { array_vec_len text.new ≤ array_vec_len text.old + 60 }
 {
@@ -210,7 +204,7 @@ fn push_box(text: &mut WriteBuffer, lit: &LitBox)
 
 fn push_address(text: &mut WriteBuffer, addr: u16)
     requires addr { addr < ADDRESS_END }
-    requires room { array_vec_len text.old + 4 ≤ WRITE_BUFFER_LEN }
+    requires room { array_vec_len text.old + 4 ≤ MOST_AT_ONCE }
     ensures value { text.new.items ≡ text.old.items ++ SPACE ∷ address_token addr }
     ensures len { array_vec_len text.new ≡ array_vec_len text.old + 4 }
 {

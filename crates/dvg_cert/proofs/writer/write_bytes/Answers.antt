@@ -16,4 +16,6 @@ sending-preserved g c =
       within = search rules;
       bytes = subst (λ v. Appends (g.W.Write.contents c.args.out.now) (g.W.Write.contents c.write_counted.new.self) v) (sym (take-add c.sending.sent c.in-Ok.taken c.args.bytes.now)) grown;
       counts = grind (arith, common_steps);
+      wholes = grind (arith, common_steps);
+      last = grind (arith, common_steps);
     }

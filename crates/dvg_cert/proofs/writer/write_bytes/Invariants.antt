@@ -1,4 +1,6 @@
-use Rattle.std.proofs.Common.{length, ◌-◌, ◌≡◌, ◌≤◌, take}
+use Rattle.std.proofs.Common.{length, ◌-◌, ◌≡◌, ◌≤◌, ◌<◌, take}
+use Rattle.std.specs.Prelude.{true}
+use Rattle.dvg_cert.specs.Devices.{count_after}
 use Rattle.std.specs.Io.KnownBytes.{Appends}
 use Rattle.dvg_cert.proofs.writer.write_bytes.Given as goal
 
@@ -7,6 +9,8 @@ invariant-sending g l = record {
   within : l.sent ≤ length l.bytes;
   bytes : Appends (g.W.Write.contents l.initial.out) (g.W.Write.contents l.out) (take l.sent l.bytes);
   counts : g.W.CountedWrite.failures l.out ≡ g.W.CountedWrite.failures l.initial.out;
+  wholes : l.sent < length l.bytes → g.W.CountedWrite.whole_writes l.out ≡ g.W.CountedWrite.whole_writes l.initial.out;
+  last : 0 < length l.bytes → l.sent ≡ length l.bytes → g.W.CountedWrite.whole_writes l.out ≡ count_after true (g.W.CountedWrite.whole_writes l.initial.out);
 }
 
 abbrev pub decreases-sending : goal.decreases-sending
