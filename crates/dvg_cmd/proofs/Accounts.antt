@@ -20,10 +20,10 @@ use Rattle.dvg_cmd.specs.Runs.{Outcome, Accepted, RunFault, IsReadFor, Judges, S
 use Rattle.dvg_cmd.specs.Explaining.{Explained, Explains, ExplainsSafe, ExplainsCounts}
 
 -- what was written of a verdict was written of the one on all bytes that the readers held
-pub explains : (r : Result Outcome RunFault) (mode : Mode) (w : Window) (rom cert left frame : Option (List ℕ)) (budget : ℕ) (old new : Option (List ℕ)) (v : Result Yes Refusal) → Judges mode w rom cert frame budget v → IsReadFor v cert left → IfOk v (SafeRead w rom cert frame) → (mode ≡ Exact → IfOk v (CountsRead rom cert frame)) → IfOk r (Explained v old new) → IfOk r (Explains mode w rom cert left frame budget old new)
-explains (Ok outcome) mode w rom cert left frame budget old new v judges read safe exact explained =
+pub explains : (r : Result Outcome RunFault) (mode : Mode) (w : Window) (rom cert left frame : Option (List ℕ)) (budget : ℕ) (old new : Option (List ℕ)) (writes writes_after : ℕ) (v : Result Yes Refusal) → Judges mode w rom cert frame budget v → IsReadFor v cert left → IfOk v (SafeRead w rom cert frame) → (mode ≡ Exact → IfOk v (CountsRead rom cert frame)) → IfOk r (Explained v old new writes writes_after) → IfOk r (Explains mode w rom cert left frame budget old new writes writes_after)
+explains (Ok outcome) mode w rom cert left frame budget old new writes writes_after v judges read safe exact explained =
     record { verdict = v; judges = judges; read = read; safe = safe; exact = exact; explained = explained }
-explains (Err fault) mode w rom cert left frame budget old new v judges read safe exact explained = tt
+explains (Err fault) mode w rom cert left frame budget old new writes writes_after v judges read safe exact explained = tt
 
 -- ---- whether a frame could not be read
 

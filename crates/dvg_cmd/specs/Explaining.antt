@@ -4,7 +4,7 @@ use Rattle.std.specs.Io.KnownBytes.{Appends}
 use Rattle.dvg_words.specs.Values.{Window, MemoryMap}
 use Rattle.dvg_cert.specs.declared.entry.Entry.{Entry}
 use Rattle.dvg_cert.specs.declared.entry.Key.{Key}
-use Rattle.dvg_cert.specs.Devices.{AppendsPrefix}
+use Rattle.dvg_cert.specs.Devices.{AppendsPrefix, TakesOneWrite}
 use Rattle.dvg_check.specs.declared.verdict.Yes.{Yes}
 use Rattle.dvg_check.specs.declared.verdict.Refusal.{Refusal}
 use Rattle.dvg_check.specs.declared.fault.Mode.{Mode}
@@ -26,10 +26,13 @@ no_account = codes "account: out of memory\n"
 abbrev pub IsExplainedOutcome : Result Yes Refusal → List ℕ → Outcome → Type 0
 IsExplainedOutcome verdict account outcome = (outcome ≡ outcome_of verdict) ⊎ ((outcome ≡ NoMemory) × (account ≡ no_account))
 
--- the report of a verdict and some text, its account, were written, and nothing else
-pub record Explained (verdict : Result Yes Refusal) (old new : Option (List ℕ)) (outcome : Outcome) : Type 0 where
+-- the report of a verdict and some text, its account, were written, by one write where they fit one, and nothing else; `writes` and
+-- `writes_after` are how many writes took their whole piece
+pub record Explained
+    (verdict : Result Yes Refusal) (old new : Option (List ℕ)) (writes writes_after : ℕ) (outcome : Outcome) : Type 0 where
   pub account : List ℕ
   pub written : Appends old new (report_text verdict ++ account)
+  pub one_write : TakesOneWrite (report_text verdict ++ account) writes writes_after
   pub outcome_is : IsExplainedOutcome verdict account outcome
 
 -- a prefix of them was written, and nothing else
@@ -41,13 +44,13 @@ pub record ExplainedPrefix (verdict : Result Yes Refusal) (old new : Option (Lis
 -- accepts is safe, also where there was no memory for the account.
 pub record Explains
     (mode : Mode) (w : Window) (rom cert left frame : Option (List ℕ)) (budget : ℕ) (old new : Option (List ℕ))
-    (outcome : Outcome) : Type 0 where
+    (writes writes_after : ℕ) (outcome : Outcome) : Type 0 where
   pub verdict : Result Yes Refusal
   pub judges : Judges mode w rom cert frame budget verdict
   pub read : IsReadFor verdict cert left
   pub safe : IfOk verdict (SafeRead w rom cert frame)
   pub exact : mode ≡ Exact → IfOk verdict (CountsRead rom cert frame)
-  pub explained : Explained verdict old new outcome
+  pub explained : Explained verdict old new writes writes_after outcome
 
 -- and a prefix of it
 pub record ExplainsPrefix
@@ -77,10 +80,12 @@ abbrev pub IsExplainedFrameOutcome : FrameAnswer → List ℕ → FrameOutcome �
 IsExplainedFrameOutcome answer account end =
     (end ≡ frame_outcome_of answer) ⊎ ((end ≡ worse (frame_outcome_of answer) outcome.NoMemory) × (account ≡ no_account))
 
--- the line of an answer and some text, its account, were written, and nothing else
-pub record AnswerExplained (name : List ℕ) (answer : FrameAnswer) (old new : Option (List ℕ)) (end : FrameOutcome) : Type 0 where
+-- the line of an answer and some text, its account, were written, by one write where they fit one, and nothing else
+pub record AnswerExplained
+    (name : List ℕ) (answer : FrameAnswer) (old new : Option (List ℕ)) (writes writes_after : ℕ) (end : FrameOutcome) : Type 0 where
   pub account : List ℕ
   pub written : Appends old new (frame_line name answer ++ account)
+  pub one_write : TakesOneWrite (frame_line name answer ++ account) writes writes_after
   pub outcome_is : IsExplainedFrameOutcome answer account end
 
 -- a prefix of them was written, and nothing else
@@ -91,10 +96,10 @@ pub record AnswerExplainedPrefix (name : List ℕ) (answer : FrameAnswer) (old n
 -- this was written of the answer to a frame that a reader held
 pub record ExplainsFrame
     (IsVerdict : List ℕ → Result Yes FrameRefusal → Type 0) (start : Option ℕ) (name : List ℕ) (frame left : Option (List ℕ))
-    (old new : Option (List ℕ)) (end : FrameOutcome) : Type 0 where
+    (old new : Option (List ℕ)) (writes writes_after : ℕ) (end : FrameOutcome) : Type 0 where
   pub answer : FrameAnswer
   pub means : AnswerMeans IsVerdict start frame left answer
-  pub explained : AnswerExplained name answer old new end
+  pub explained : AnswerExplained name answer old new writes writes_after end
 
 -- and a prefix of it
 pub record ExplainsFramePrefix
@@ -144,10 +149,13 @@ abbrev pub told_outcome : {A E : Type 0} → Result A E → Outcome → Outcome
 told_outcome (Ok text) outcome = outcome
 told_outcome (Err e) outcome = NoMemory
 
--- the line and an account were written, and nothing else; the outcome is the line's, or that there was no memory for the account
+-- the line and an account were written, by one write where they fit one, and nothing else; the outcome is the line's, or that there
+-- was no memory for the account
 pub record MakeExplained {A E : Type 0} (bytes : A → List ℕ)
-    (name : List ℕ) (made : Result ℕ FramesRunFault) (account : Result A E) (old new : Option (List ℕ)) (outcome : Outcome) : Type 0 where
+    (name : List ℕ) (made : Result ℕ FramesRunFault) (account : Result A E) (old new : Option (List ℕ)) (writes writes_after : ℕ)
+    (outcome : Outcome) : Type 0 where
   pub written : Appends old new (make_line name made ++ account_text bytes account)
+  pub one_write : TakesOneWrite (make_line name made ++ account_text bytes account) writes writes_after
   pub outcome_is : outcome ≡ told_outcome account (make_outcome_of made)
 
 -- a prefix of them was written, and nothing else

@@ -6,7 +6,7 @@ use Rattle.dvg_words.specs.Values.{MemoryMap, Window}
 use Rattle.dvg_words.specs.Memory.{words_of, rom_of, IsRomLength, IsFrameLength}
 use Rattle.dvg_words.specs.declared.map.TheConstants.{ADDRESS_END}
 use Rattle.dvg_words.specs.declared.image.ImageFault.TheVariants.{RomLength, FrameLength}
-use Rattle.dvg_cert.specs.Devices.{AppendsPrefix}
+use Rattle.dvg_cert.specs.Devices.{AppendsPrefix, TakesOneWrite}
 use Rattle.dvg_cert.specs.Grammar.{address_token}
 use Rattle.dvg_check.specs.Safety.{Safe, CountsAtHalt}
 use Rattle.dvg_check.specs.Judged.{Shapes}
@@ -145,13 +145,15 @@ AnswerMeans IsVerdict start old new (Judged v) =
 abbrev pub frame_line : List ℕ → FrameAnswer → List ℕ
 frame_line name answer = name ++ frame_line_text answer
 
--- the line of an answer was written, and nothing else
+-- the line of an answer was written, by one write where it fits one, and nothing else; `writes` and `writes_after` are how many
+-- writes took their whole piece
 pub record ReportsFrame
     (IsVerdict : List ℕ → Result Yes FrameRefusal → Type 0) (start : Option ℕ) (name : List ℕ) (frame left : Option (List ℕ))
-    (old new : Option (List ℕ)) (end : FrameOutcome) : Type 0 where
+    (old new : Option (List ℕ)) (writes writes_after : ℕ) (end : FrameOutcome) : Type 0 where
   pub answer : FrameAnswer
   pub means : AnswerMeans IsVerdict start frame left answer
   pub written : Appends old new (frame_line name answer)
+  pub one_write : TakesOneWrite (frame_line name answer) writes writes_after
   pub outcome_is : end ≡ frame_outcome_of answer
 
 -- a prefix of it was written, and nothing else

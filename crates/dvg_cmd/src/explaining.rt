@@ -4,15 +4,16 @@ ghost use Rattle.std.specs.Prelude.{◌≡◌, ◌≢◌, ℕ, List, Option, ◌
 ghost use Rattle.std.specs.Io.KnownBytes.{Appends};
 ghost use Rattle.dvg_words.specs.Values.{Window as Places};
 ghost use Rattle.dvg_check.specs.declared.fault.Mode.TheVariants.{Exact};
-ghost use Rattle.dvg_cert.specs.Devices.{AppendsPrefix, count_after};
+ghost use Rattle.dvg_cert.specs.Devices.{AppendsPrefix, TakesOneWrite, count_after};
 ghost use Rattle.dvg_cmd.specs.Report.{report_text};
 ghost use Rattle.dvg_cmd.specs.Runs.{MOST_ROM_READ, MOST_FRAME_READ, IsReadTo, SafeRead, CountsRead, outcome_of, blames_rom, blames_frame, blames_certificate, blames_writer};
 ghost use Rattle.dvg_cmd.specs.Explaining.{Explained, ExplainedPrefix, Explains, ExplainsPrefix, ExplainsSafe, ExplainsCounts};
 
 use crate::reading::{read_frame, read_rom};
-use crate::running::{Outcome, RunFault, read_verdict, write_report};
+use crate::report::report_of;
+use crate::running::{Outcome, RunFault, outcome_of, read_verdict};
 use dvg_account::{Inputs, verdict_text};
-use dvg_cert::{CountedRead, CountedWrite, write_bytes};
+use dvg_cert::{CountedRead, CountedWrite, write_lines};
 use dvg_check::{Mode, Refusal, Yes};
 use dvg_words::Window;
 use std::alloc::{AllocError, Global};
@@ -20,7 +21,7 @@ use std::alloc::{AllocError, Global};
 /// What is told where there is no memory for the account.
 pub const NO_ACCOUNT: &str = "account: out of memory\n";
 
-/// Writes the report of a verdict, and then a text.
+/// Writes the report of a verdict, and a text behind it.
 fn write_both<W: CountedWrite>(
     verdict: &Result<Yes, Refusal>,
     text: &str,
@@ -29,6 +30,7 @@ fn write_both<W: CountedWrite>(
     ensures ok { IfOk result (λ outcome. outcome ≡ outcome_of verdict.now) }
     ensures written { OnOk result (Appends (W.contents out.old) (W.contents out.new) (report_text verdict.now ++ text.now)) }
     ensures prefix { OnErr result (AppendsPrefix (W.contents out.old) (W.contents out.new) (report_text verdict.now ++ text.now)) }
+    ensures one_write { OnOk result (TakesOneWrite (report_text verdict.now ++ text.now) (W.whole_writes out.old) (W.whole_writes out.new)) }
     ensures safe { (w : Places) (rom cert frame : Option (List ℕ)) → IfOk verdict.now (SafeRead w rom cert frame)
         → result ≡ Ok Outcome.Accepted → ExplainsSafe w rom cert frame (W.contents out.old) (W.contents out.new) }
     ensures exact { (rom cert frame : Option (List ℕ)) → IfOk verdict.now (CountsRead rom cert frame)
@@ -36,20 +38,20 @@ fn write_both<W: CountedWrite>(
     ensures fault { IfErr result (λ fault. fault ≡ RunFault.Write) }
     ensures count { W.failures out.new ≡ count_after (is_err result) (W.failures out.old) }
 {
-    let outcome = write_report(verdict, out)?;
-    match write_bytes(text.as_bytes(), out) {
-        Ok(()) => Ok(outcome),
+    let report = report_of(verdict);
+    match write_lines(report.as_bytes(), text.as_bytes(), &[], out) {
+        Ok(()) => Ok(outcome_of(verdict)),
         Err(_) => Err(RunFault::Write),
     }
 }
 
-/// Writes the report of a verdict, and then its account, or that there was no memory for one.
+/// Writes the report of a verdict, and behind it its account, or that there was no memory for one.
 pub fn write_explained<W: CountedWrite>(
     verdict: &Result<Yes, Refusal>,
     account: &Result<String, AllocError>,
     out: &mut W,
 ) -> Result<Outcome, RunFault>
-    ensures ok { IfOk result (Explained verdict.now (W.contents out.old) (W.contents out.new)) }
+    ensures ok { IfOk result (Explained verdict.now (W.contents out.old) (W.contents out.new) (W.whole_writes out.old) (W.whole_writes out.new)) }
     ensures prefix { OnErr result (ExplainedPrefix verdict.now (W.contents out.old) (W.contents out.new)) }
     ensures safe { (w : Places) (rom cert frame : Option (List ℕ)) → IfOk verdict.now (SafeRead w rom cert frame)
         → result ≡ Ok Outcome.Accepted → ExplainsSafe w rom cert frame (W.contents out.old) (W.contents out.new) }
@@ -98,7 +100,7 @@ pub fn run_explain_check<R1: CountedRead, R2: CountedRead, R3: CountedRead, W: C
 
     // What is written begins with the report of the verdict on all bytes that the readers held, the one that `run_check` writes.
     ensures report { IfOk result (Explains mode window (R1.remaining rom.old) (R2.remaining cert.old) (R2.remaining cert.new)
-        (R3.remaining frame.old) budget (W.contents out.old) (W.contents out.new)) }
+        (R3.remaining frame.old) budget (W.contents out.old) (W.contents out.new) (W.whole_writes out.old) (W.whole_writes out.new)) }
     ensures prefix { result ≡ Err RunFault.Write → ExplainsPrefix mode window (R1.remaining rom.old) (R2.remaining cert.old)
         (R3.remaining frame.old) budget (W.contents out.old) (W.contents out.new) }
 

@@ -1,49 +1,28 @@
 //! Running the judge of one frame over a reader and a writer, with an account of the answer.
 
-ghost use Rattle.std.specs.Prelude.{◌≡◌, Bool, length, Err, ◌++◌, IfOk, IfErr, OnOk, OnErr, is_err};
-ghost use Rattle.std.specs.Io.KnownBytes.{Appends};
-ghost use Rattle.dvg_cert.specs.Devices.{AppendsPrefix, count_after};
-ghost use Rattle.dvg_cmd.specs.Frames.{FrameVerdict, VerdictOver, frame_outcome_of, is_unread, is_unread_outcome, frame_line};
+ghost use Rattle.std.specs.Prelude.{◌≡◌, Bool, length, Err, IfOk, IfErr, OnOk, OnErr, is_err};
+ghost use Rattle.dvg_cert.specs.Devices.{count_after};
+ghost use Rattle.dvg_cmd.specs.Frames.{FrameVerdict, VerdictOver, is_unread, is_unread_outcome};
 ghost use Rattle.dvg_cmd.specs.Explaining.{AnswerExplained, AnswerExplainedPrefix, ExplainsFrame, ExplainsFramePrefix, Explained, ExplainedPrefix};
 
 use crate::explaining::{NO_ACCOUNT, write_explained};
-use crate::judging::{FrameAnswer, FrameOutcome, judge_over, read_started, write_line};
+use crate::judging::{FrameAnswer, FrameOutcome, judge_over, read_started, write_line_and};
 use crate::judging_own::{OwnVerdict, judge_own};
 use crate::running::{Outcome, RunFault};
 use dvg_account::{Inputs, PlainWhy, frame_text, own_text, plain_text, refusal_text};
-use dvg_cert::{Cert, CountedRead, CountedWrite, Entries, write_bytes};
+use dvg_cert::{Cert, CountedRead, CountedWrite, Entries};
 use dvg_check::{JudgedShapes, Mode, Refusal};
 use dvg_words::{RomMap, Window};
 use std::alloc::{AllocError, Global};
 
-/// Writes the line of an answer, and then a text.
-fn write_line_and<W: CountedWrite>(
-    name: &str,
-    answer: &FrameAnswer,
-    text: &str,
-    out: &mut W,
-) -> Result<FrameOutcome, RunFault>
-    ensures ok { IfOk result (λ outcome. outcome ≡ frame_outcome_of answer.now) }
-    ensures written { OnOk result (Appends (W.contents out.old) (W.contents out.new) (frame_line name.now answer.now ++ text.now)) }
-    ensures prefix { OnErr result (AppendsPrefix (W.contents out.old) (W.contents out.new) (frame_line name.now answer.now ++ text.now)) }
-    ensures fault { IfErr result (λ fault. fault ≡ RunFault.Write) }
-    ensures count { W.failures out.new ≡ count_after (is_err result) (W.failures out.old) }
-{
-    let outcome = write_line(name, answer, out)?;
-    match write_bytes(text.as_bytes(), out) {
-        Ok(()) => Ok(outcome),
-        Err(_) => Err(RunFault::Write),
-    }
-}
-
-/// Writes the line of an answer, and then its account, or that there was no memory for one.
+/// Writes the line of an answer, and behind it its account, or that there was no memory for one.
 fn write_answer<W: CountedWrite>(
     name: &str,
     answer: &FrameAnswer,
     account: &Result<String, AllocError>,
     out: &mut W,
 ) -> Result<FrameOutcome, RunFault>
-    ensures ok { IfOk result (AnswerExplained name.now answer.now (W.contents out.old) (W.contents out.new)) }
+    ensures ok { IfOk result (AnswerExplained name.now answer.now (W.contents out.old) (W.contents out.new) (W.whole_writes out.old) (W.whole_writes out.new)) }
     ensures unread { IfOk result (λ outcome. is_unread_outcome outcome ≡ is_unread answer.now) }
     ensures prefix { OnErr result (AnswerExplainedPrefix name.now answer.now (W.contents out.old) (W.contents out.new)) }
     ensures fault { IfErr result (λ fault. fault ≡ RunFault.Write) }
@@ -82,7 +61,8 @@ pub fn run_explain_frame<R: CountedRead, W: CountedWrite>(
     // The line of an answer and an account are written, or a prefix of them where the writer failed, which alone ends a run. The
     // frame's count rises by one where it could not be read.
     ensures report { IfOk result (ExplainsFrame (λ bytes. FrameVerdict rom.now map bytes budget window) start name.now
-        (R.remaining frame.old) (R.remaining frame.new) (W.contents out.old) (W.contents out.new)) }
+        (R.remaining frame.old) (R.remaining frame.new) (W.contents out.old) (W.contents out.new)
+        (W.whole_writes out.old) (W.whole_writes out.new)) }
     ensures prefix { OnErr result (ExplainsFramePrefix (λ bytes. FrameVerdict rom.now map bytes budget window) start name.now
         (R.remaining frame.old) (R.remaining frame.new) (W.contents out.old) (W.contents out.new)) }
     ensures fault { IfErr result (λ fault. fault ≡ RunFault.Write) }
@@ -127,7 +107,8 @@ pub fn run_explain_frame_over<E: Entries, R: CountedRead, W: CountedWrite>(
     out: &mut W,
 ) -> Result<FrameOutcome, RunFault>
     ensures report { IfOk result (ExplainsFrame (λ bytes. VerdictOver shapes.now (length cert.now.entries) bytes budget) start name.now
-        (R.remaining frame.old) (R.remaining frame.new) (W.contents out.old) (W.contents out.new)) }
+        (R.remaining frame.old) (R.remaining frame.new) (W.contents out.old) (W.contents out.new)
+        (W.whole_writes out.old) (W.whole_writes out.new)) }
     ensures prefix { OnErr result (ExplainsFramePrefix (λ bytes. VerdictOver shapes.now (length cert.now.entries) bytes budget) start name.now
         (R.remaining frame.old) (R.remaining frame.new) (W.contents out.old) (W.contents out.new)) }
     ensures fault { IfErr result (λ fault. fault ≡ RunFault.Write) }
@@ -162,7 +143,7 @@ pub fn run_explain_unopened<W: CountedWrite>(
     name: &str,
     out: &mut W,
 ) -> Result<FrameOutcome, RunFault>
-    ensures ok { IfOk result (AnswerExplained name.now FrameAnswer.Unread (W.contents out.old) (W.contents out.new)) }
+    ensures ok { IfOk result (AnswerExplained name.now FrameAnswer.Unread (W.contents out.old) (W.contents out.new) (W.whole_writes out.old) (W.whole_writes out.new)) }
     ensures prefix { OnErr result (AnswerExplainedPrefix name.now FrameAnswer.Unread (W.contents out.old) (W.contents out.new)) }
     ensures fault { IfErr result (λ fault. fault ≡ RunFault.Write) }
     ensures count { W.failures out.new ≡ count_after (is_err result) (W.failures out.old) }
@@ -180,7 +161,7 @@ pub fn run_explain_refusal<W: CountedWrite>(
     refusal: &Refusal,
     out: &mut W,
 ) -> Result<Outcome, RunFault>
-    ensures ok { IfOk result (Explained (Err refusal.now) (W.contents out.old) (W.contents out.new)) }
+    ensures ok { IfOk result (Explained (Err refusal.now) (W.contents out.old) (W.contents out.new) (W.whole_writes out.old) (W.whole_writes out.new)) }
     ensures prefix { OnErr result (ExplainedPrefix (Err refusal.now) (W.contents out.old) (W.contents out.new)) }
     ensures fault { IfErr result (λ fault. fault ≡ RunFault.Write) }
     ensures count { W.failures out.new ≡ count_after (is_err result) (W.failures out.old) }

@@ -2,7 +2,7 @@
 
 ghost use Rattle.std.specs.Prelude.{◌≡◌, ◌≢◌, ◌⊎◌, ◌++◌, Option, List, ℕ, Err, false, IfOk, IfErr, OnOk, OnErr, is_err, string_bytes};
 ghost use Rattle.std.specs.Io.KnownBytes.{Appends};
-ghost use Rattle.dvg_cert.specs.Devices.{AppendsPrefix, count_after};
+ghost use Rattle.dvg_cert.specs.Devices.{AppendsPrefix, TakesOneWrite, count_after};
 ghost use Rattle.dvg_cmd.specs.Explaining.{MakesEntries, MakeExplained, MakeExplainedPrefix, frame_to_blame, make_line, make_outcome_of};
 ghost use Rattle.dvg_cmd.specs.MakingFrames.{blames_frames_rom, blames_a_frame, blames_frames_writer, of_each, FailedAfter, EachRead, FramesFaultMeans};
 ghost use Rattle.dvg_cmd.specs.Numbers.{frames_run_number};
@@ -17,7 +17,7 @@ use crate::reading::read_rom;
 use crate::report::make_line_of;
 use crate::running::{Outcome, RunFault};
 use dvg_account::{PlainWhy, made_text, plain_text, unmade_text};
-use dvg_cert::{CountedRead, CountedWrite, Key, write_bytes};
+use dvg_cert::{CountedRead, CountedWrite, Key, write_lines};
 use dvg_make::explain_making;
 use dvg_words::{RomImage, RomMap};
 use std::alloc::{AllocError, Global};
@@ -149,32 +149,7 @@ pub fn run_explain_make<R1: CountedRead, R2: CountedRead>(
 /// The number that the maker's refusal has where memory was out.
 const NO_MEMORY_NUMBER: u8 = 63;
 
-/// Writes the line of what the maker comes to, behind a name.
-fn write_make_line<W: CountedWrite>(
-    name: &str,
-    made: &Result<u32, FramesRunFault>,
-    out: &mut W,
-) -> Result<Outcome, RunFault>
-    ensures ok { IfOk result (λ outcome. outcome ≡ make_outcome_of made.now) }
-    ensures written { OnOk result (Appends (W.contents out.old) (W.contents out.new) (make_line name.now made.now)) }
-    ensures prefix { OnErr result (AppendsPrefix (W.contents out.old) (W.contents out.new) (make_line name.now made.now)) }
-    ensures fault { IfErr result (λ fault. fault ≡ RunFault.Write) }
-    ensures count { W.failures out.new ≡ count_after (is_err result) (W.failures out.old) }
-{
-    let report = make_line_of(made);
-    let Ok(()) = write_bytes(name.as_bytes(), out) else {
-        return Err(RunFault::Write);
-    };
-    let Ok(()) = write_bytes(report.as_bytes(), out) else {
-        return Err(RunFault::Write);
-    };
-    match made {
-        Ok(_) => Ok(Outcome::Accepted),
-        Err(_) => Ok(Outcome::Refused),
-    }
-}
-
-/// Writes the line of what the maker comes to, and then a text.
+/// Writes the line of what the maker comes to, behind a name, and a text behind it.
 fn write_make_line_and<W: CountedWrite>(
     name: &str,
     made: &Result<u32, FramesRunFault>,
@@ -184,13 +159,17 @@ fn write_make_line_and<W: CountedWrite>(
     ensures ok { IfOk result (λ outcome. outcome ≡ make_outcome_of made.now) }
     ensures written { OnOk result (Appends (W.contents out.old) (W.contents out.new) (make_line name.now made.now ++ text.now)) }
     ensures prefix { OnErr result (AppendsPrefix (W.contents out.old) (W.contents out.new) (make_line name.now made.now ++ text.now)) }
+    ensures one_write { OnOk result (TakesOneWrite (make_line name.now made.now ++ text.now) (W.whole_writes out.old) (W.whole_writes out.new)) }
     ensures fault { IfErr result (λ fault. fault ≡ RunFault.Write) }
     ensures count { W.failures out.new ≡ count_after (is_err result) (W.failures out.old) }
 {
-    let outcome = write_make_line(name, made, out)?;
-    match write_bytes(text.as_bytes(), out) {
-        Ok(()) => Ok(outcome),
-        Err(_) => Err(RunFault::Write),
+    let report = make_line_of(made);
+    let Ok(()) = write_lines(name.as_bytes(), report.as_bytes(), text.as_bytes(), out) else {
+        return Err(RunFault::Write);
+    };
+    match made {
+        Ok(_) => Ok(Outcome::Accepted),
+        Err(_) => Ok(Outcome::Refused),
     }
 }
 
@@ -201,7 +180,7 @@ pub fn write_make_answer<W: CountedWrite>(
     answer: &MakeAnswer,
     out: &mut W,
 ) -> Result<Outcome, RunFault>
-    ensures ok { IfOk result (MakeExplained string_bytes name.now answer.now.made answer.now.account (W.contents out.old) (W.contents out.new)) }
+    ensures ok { IfOk result (MakeExplained string_bytes name.now answer.now.made answer.now.account (W.contents out.old) (W.contents out.new) (W.whole_writes out.old) (W.whole_writes out.new)) }
     ensures prefix { OnErr result (MakeExplainedPrefix string_bytes name.now answer.now.made answer.now.account (W.contents out.old) (W.contents out.new)) }
     ensures fault { IfErr result (λ fault. fault ≡ RunFault.Write) }
     ensures count { W.failures out.new ≡ count_after (is_err result) (W.failures out.old) }

@@ -1,8 +1,8 @@
 //! Running the judge of one frame over a reader and a writer, by the frame's own certificate or over shapes that were judged.
 
-ghost use Rattle.std.specs.Prelude.{◌≡◌, Bool, length, take, Err, IfOk, IfErr, IfSome, OnOk, OnErr, is_err};
+ghost use Rattle.std.specs.Prelude.{◌≡◌, ◌++◌, Bool, true, length, take, Err, IfOk, IfErr, IfSome, OnOk, OnErr, is_err};
 ghost use Rattle.std.specs.Io.KnownBytes.{Appends};
-ghost use Rattle.dvg_cert.specs.Devices.{AppendsPrefix, count_after};
+ghost use Rattle.dvg_cert.specs.Devices.{AppendsPrefix, TakesOneWrite, count_after};
 ghost use Rattle.dvg_cmd.specs.Runs.{MOST_ROM_READ, MOST_FRAME_READ, IsReadTo, ReadsText, outcome_of};
 ghost use Rattle.dvg_cmd.specs.Report.{report_text};
 ghost use Rattle.dvg_cmd.specs.Status.{worse};
@@ -16,7 +16,7 @@ use crate::report::frame_report_of;
 use crate::running::{Outcome, RunFault, write_report};
 use crate::start::start_at;
 use arrayvec::ArrayVec;
-use dvg_cert::{Cert, CertFault, CountedRead, CountedWrite, Entries, write_bytes};
+use dvg_cert::{Cert, CertFault, CountedRead, CountedWrite, Entries, write_lines};
 use dvg_check::{JudgedShapes, Refusal, Yes, frame_of};
 use dvg_explain::{RomAccount, explain_frame};
 use dvg_make::{EntryFault, FrameRefusal, judge};
@@ -209,6 +209,27 @@ pub fn judge_over<E: Entries>(
     }
 }
 
+/// Writes the line of an answer, and a text behind it.
+pub fn write_line_and<W: CountedWrite>(
+    name: &str,
+    answer: &FrameAnswer,
+    text: &str,
+    out: &mut W,
+) -> Result<FrameOutcome, RunFault>
+    ensures ok { IfOk result (λ outcome. outcome ≡ frame_outcome_of answer.now) }
+    ensures written { OnOk result (Appends (W.contents out.old) (W.contents out.new) (frame_line name.now answer.now ++ text.now)) }
+    ensures prefix { OnErr result (AppendsPrefix (W.contents out.old) (W.contents out.new) (frame_line name.now answer.now ++ text.now)) }
+    ensures one_write { OnOk result (TakesOneWrite (frame_line name.now answer.now ++ text.now) (W.whole_writes out.old) (W.whole_writes out.new)) }
+    ensures fault { IfErr result (λ fault. fault ≡ RunFault.Write) }
+    ensures count { W.failures out.new ≡ count_after (is_err result) (W.failures out.old) }
+{
+    let report = frame_report_of(answer);
+    match write_lines(name.as_bytes(), report.as_bytes(), text.as_bytes(), out) {
+        Ok(()) => Ok(frame_outcome_of(answer)),
+        Err(_) => Err(RunFault::Write),
+    }
+}
+
 /// Writes the line of an answer: the name, which has no control characters, a colon and a space, and the report.
 pub fn write_line<W: CountedWrite>(
     name: &str,
@@ -218,17 +239,11 @@ pub fn write_line<W: CountedWrite>(
     ensures ok { IfOk result (λ outcome. outcome ≡ frame_outcome_of answer.now) }
     ensures written { OnOk result (Appends (W.contents out.old) (W.contents out.new) (frame_line name.now answer.now)) }
     ensures prefix { OnErr result (AppendsPrefix (W.contents out.old) (W.contents out.new) (frame_line name.now answer.now)) }
+    ensures one_write { OnOk result (TakesOneWrite (frame_line name.now answer.now) (W.whole_writes out.old) (W.whole_writes out.new)) }
     ensures fault { IfErr result (λ fault. fault ≡ RunFault.Write) }
     ensures count { W.failures out.new ≡ count_after (is_err result) (W.failures out.old) }
 {
-    let report = frame_report_of(answer);
-    let Ok(()) = write_bytes(name.as_bytes(), out) else {
-        return Err(RunFault::Write);
-    };
-    let Ok(()) = write_bytes(report.as_bytes(), out) else {
-        return Err(RunFault::Write);
-    };
-    Ok(frame_outcome_of(answer))
+    write_line_and(name, answer, "", out)
 }
 
 /// Reads a frame, judges it by its own certificate, as [`judge`] does, over the bytes of a ROM at this map, and writes its line.
@@ -249,7 +264,8 @@ pub fn run_frame<R: CountedRead, W: CountedWrite>(
 ) -> Result<FrameOutcome, RunFault>
     // The line of an answer is written, or a prefix of it where the writer failed, which alone ends a run.
     ensures report { IfOk result (ReportsFrame (λ bytes. FrameVerdict rom.now map bytes budget window) start name.now
-        (R.remaining frame.old) (R.remaining frame.new) (W.contents out.old) (W.contents out.new)) }
+        (R.remaining frame.old) (R.remaining frame.new) (W.contents out.old) (W.contents out.new)
+        (W.whole_writes out.old) (W.whole_writes out.new)) }
     ensures prefix { OnErr result (ReportsFramePrefix (λ bytes. FrameVerdict rom.now map bytes budget window) start name.now
         (R.remaining frame.old) (R.remaining frame.new) (W.contents out.old) (W.contents out.new)) }
     ensures fault { IfErr result (λ fault. fault ≡ RunFault.Write) }
@@ -279,7 +295,8 @@ pub fn run_frame_over<E: Entries, R: CountedRead, W: CountedWrite>(
     out: &mut W,
 ) -> Result<FrameOutcome, RunFault>
     ensures report { IfOk result (ReportsFrame (λ bytes. VerdictOver shapes.now (length cert.now.entries) bytes budget) start name.now
-        (R.remaining frame.old) (R.remaining frame.new) (W.contents out.old) (W.contents out.new)) }
+        (R.remaining frame.old) (R.remaining frame.new) (W.contents out.old) (W.contents out.new)
+        (W.whole_writes out.old) (W.whole_writes out.new)) }
     ensures prefix { OnErr result (ReportsFramePrefix (λ bytes. VerdictOver shapes.now (length cert.now.entries) bytes budget) start name.now
         (R.remaining frame.old) (R.remaining frame.new) (W.contents out.old) (W.contents out.new)) }
     ensures fault { IfErr result (λ fault. fault ≡ RunFault.Write) }
@@ -302,6 +319,7 @@ pub fn run_unopened<W: CountedWrite>(name: &str, out: &mut W) -> Result<FrameOut
     ensures ok { IfOk result (λ outcome. outcome ≡ FrameOutcome.Unread) }
     ensures written { OnOk result (Appends (W.contents out.old) (W.contents out.new) (frame_line name.now FrameAnswer.Unread)) }
     ensures prefix { OnErr result (AppendsPrefix (W.contents out.old) (W.contents out.new) (frame_line name.now FrameAnswer.Unread)) }
+    ensures one_write { OnOk result (TakesOneWrite (frame_line name.now FrameAnswer.Unread) (W.whole_writes out.old) (W.whole_writes out.new)) }
     ensures fault { IfErr result (λ fault. fault ≡ RunFault.Write) }
     ensures count { W.failures out.new ≡ count_after (is_err result) (W.failures out.old) }
 {
@@ -313,6 +331,7 @@ pub fn run_refusal<W: CountedWrite>(refusal: &Refusal, out: &mut W) -> Result<Ou
     ensures ok { IfOk result (λ outcome. outcome ≡ outcome_of (Err refusal.now)) }
     ensures written { OnOk result (Appends (W.contents out.old) (W.contents out.new) (report_text (Err refusal.now))) }
     ensures prefix { OnErr result (AppendsPrefix (W.contents out.old) (W.contents out.new) (report_text (Err refusal.now))) }
+    ensures one_write { OnOk result (W.whole_writes out.new ≡ count_after true (W.whole_writes out.old)) }
     ensures fault { IfErr result (λ fault. fault ≡ RunFault.Write) }
     ensures count { W.failures out.new ≡ count_after (is_err result) (W.failures out.old) }
 {

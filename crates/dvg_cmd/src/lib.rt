@@ -11,6 +11,7 @@ mod judging;
 mod judging_own;
 mod making;
 mod making_frames;
+mod messages;
 mod reading;
 mod report;
 mod rules;
@@ -42,6 +43,7 @@ pub use judging::{
 };
 pub use making::{MakeRunFault, map_of, root_of, run_make};
 pub use making_frames::{FramesRunFault, run_make_frames};
+pub use messages::{write_make_fault, write_message, write_text};
 pub use report::{
     Report, frame_report_of, make_frames_report_of, make_line_of, make_report_of, report_of,
 };

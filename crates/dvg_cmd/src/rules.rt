@@ -1,28 +1,16 @@
 //! Runs that write what is told of the numbers that lines name.
 
-ghost use Rattle.std.specs.Prelude.{◌≡◌, ◌⊎◌, Err, IfErr, OnOk, OnErr};
+ghost use Rattle.std.specs.Prelude.{◌≡◌, ◌⊎◌, ◌<◌, length, Err, IfErr, OnOk, OnErr};
 ghost use Rattle.std.specs.Io.KnownBytes.{Appends};
-ghost use Rattle.dvg_cert.specs.Devices.{AppendsPrefix, count_after};
+ghost use Rattle.dvg_cert.specs.Devices.{AppendsPrefix, TakesOneWrite, count_after};
 ghost use Rattle.dvg_account.specs.Rules.{rows_text, rule_text};
 ghost use Rattle.dvg_cmd.specs.Runs.{blames_writer};
 
+use crate::messages::write_text;
 use crate::running::RunFault;
 use dvg_account::{Rule, text_of_rule, text_of_rules};
-use dvg_cert::{CountedWrite, write_bytes};
+use dvg_cert::CountedWrite;
 use std::alloc::Global;
-
-/// Writes a text, all of it or a prefix where the writer fails.
-fn write_text<W: CountedWrite>(text: &str, out: &mut W) -> Result<(), RunFault>
-    ensures written { OnOk result (Appends (W.contents out.old) (W.contents out.new) text.now) }
-    ensures prefix { OnErr result (AppendsPrefix (W.contents out.old) (W.contents out.new) text.now) }
-    ensures fault { IfErr result (λ fault. fault ≡ RunFault.Write) }
-    ensures count { W.failures out.new ≡ count_after (blames_writer result) (W.failures out.old) }
-{
-    match write_bytes(text.as_bytes(), out) {
-        Ok(()) => Ok(()),
-        Err(_) => Err(RunFault::Write),
-    }
-}
 
 /// Writes a table: a line for each of these, its number and what it means.
 ///
@@ -34,6 +22,7 @@ pub fn run_rules<W: CountedWrite>(
 ) -> Result<(), RunFault>
     ensures written { OnOk result (Appends (W.contents out.old) (W.contents out.new) (rows_text rules.now)) }
     ensures prefix { OnErr result (AppendsPrefix (W.contents out.old) (W.contents out.new) (rows_text rules.now)) }
+    ensures one_write { 0 < length (rows_text rules.now) → OnOk result (TakesOneWrite (rows_text rules.now) (W.whole_writes out.old) (W.whole_writes out.new)) }
     ensures memory { result ≡ Err RunFault.Memory → out.new ≡ out.old }
     ensures fault { IfErr result (λ fault. (fault ≡ RunFault.Write) ⊎ (fault ≡ RunFault.Memory)) }
     ensures count { W.failures out.new ≡ count_after (blames_writer result) (W.failures out.old) }
@@ -50,6 +39,7 @@ pub fn run_rules<W: CountedWrite>(
 pub fn run_rule<W: CountedWrite>(alloc: Global, rule: &Rule, out: &mut W) -> Result<(), RunFault>
     ensures written { OnOk result (Appends (W.contents out.old) (W.contents out.new) (rule_text rule.now)) }
     ensures prefix { OnErr result (AppendsPrefix (W.contents out.old) (W.contents out.new) (rule_text rule.now)) }
+    ensures one_write { 0 < length (rule_text rule.now) → OnOk result (TakesOneWrite (rule_text rule.now) (W.whole_writes out.old) (W.whole_writes out.new)) }
     ensures memory { result ≡ Err RunFault.Memory → out.new ≡ out.old }
     ensures fault { IfErr result (λ fault. (fault ≡ RunFault.Write) ⊎ (fault ≡ RunFault.Memory)) }
     ensures count { W.failures out.new ≡ count_after (blames_writer result) (W.failures out.old) }

@@ -1,6 +1,6 @@
 //! Running a check over readers and a writer.
 
-ghost use Rattle.std.specs.Prelude.{◌≡◌, ◌≢◌, ◌≤◌, ℕ, List, Option, Ok, Err, IfOk, IfErr, OnOk, OnErr, is_err};
+ghost use Rattle.std.specs.Prelude.{◌≡◌, ◌≢◌, ◌≤◌, ℕ, List, Option, Ok, Err, IfOk, IfErr, OnOk, OnErr, is_err, true};
 ghost use Rattle.std.specs.Io.KnownBytes.{Appends};
 ghost use Rattle.dvg_words.specs.Memory.{rom_of};
 ghost use Rattle.dvg_words.specs.Values.{Window as Places};
@@ -74,7 +74,7 @@ impl RunFault {
 const PAST_CERTIFICATE_LIMIT: usize = 1_048_577;
 
 /// What was reported by the line of a verdict.
-fn outcome_of(verdict: &Result<Yes, Refusal>) -> Outcome
+pub fn outcome_of(verdict: &Result<Yes, Refusal>) -> Outcome
     ensures { result ≡ outcome_of verdict.now }
 {
     match verdict {
@@ -187,6 +187,7 @@ pub fn write_report<W: CountedWrite>(
     ensures ok { IfOk result (λ outcome. outcome ≡ outcome_of verdict.now) }
     ensures written { OnOk result (Appends (W.contents out.old) (W.contents out.new) (report_text verdict.now)) }
     ensures prefix { OnErr result (AppendsPrefix (W.contents out.old) (W.contents out.new) (report_text verdict.now)) }
+    ensures one_write { OnOk result (W.whole_writes out.new ≡ count_after true (W.whole_writes out.old)) }
     ensures safe { (w : Places) (rom cert frame : Option (List ℕ)) → IfOk verdict.now (SafeRead w rom cert frame)
         → result ≡ Ok Outcome.Accepted → ReportsSafe w rom cert frame (W.contents out.old) (W.contents out.new) }
     ensures exact { (rom cert frame : Option (List ℕ)) → IfOk verdict.now (CountsRead rom cert frame)
@@ -240,6 +241,9 @@ pub fn run_check<R1: CountedRead, R2: CountedRead, R3: CountedRead, W: CountedWr
         (R3.remaining frame.old) budget (W.contents out.old) (W.contents out.new)) }
     ensures prefix { result ≡ Err RunFault.Write → ReportsPrefix mode window (R1.remaining rom.old) (R2.remaining cert.old)
         (R3.remaining frame.old) budget (W.contents out.old) (W.contents out.new) }
+
+    // One write took the whole line.
+    ensures one_write { OnOk result (W.whole_writes out.new ≡ count_after true (W.whole_writes out.old)) }
 
     // What is accepted is safe, with the counts of the line that was written, and in the mode `Exact` these are the counts of
     // each run.

@@ -15,16 +15,16 @@ use command::{
 use dvg_cmd::{
     Cert, Counted, CountedWrite, Entries, FrameOutcome, FramesRunFault, HashIndex, JudgedShapes,
     MakeAnswer, MakeFault, MakeRunFault, Mode, Outcome, Refusal, RomImage, RomMap, Rule, RunFault,
-    all_rules, frames_status_of, load_cert, load_rom, make_frames_report_of, make_frames_status_of,
-    message_of, run_check, run_explain_check, run_explain_frame, run_explain_frame_over,
-    run_explain_make, run_explain_refusal, run_explain_unopened, run_frame, run_frame_over,
-    run_make, run_make_frames, run_refusal, run_rule, run_rules, run_unopened, status_of,
-    write_make_answer,
+    all_rules, frames_status_of, load_cert, load_rom, make_frames_status_of, message_of, run_check,
+    run_explain_check, run_explain_frame, run_explain_frame_over, run_explain_make,
+    run_explain_refusal, run_explain_unopened, run_frame, run_frame_over, run_make,
+    run_make_frames, run_refusal, run_rule, run_rules, run_unopened, status_of, write_make_answer,
+    write_make_fault, write_message, write_text,
 };
 use input::{Input, Source};
 use output::Output;
+use std::io;
 use std::process::ExitCode;
-use std::{io, str};
 
 /// Opens the files in the order ROM, frame, certificate, before any is read, and runs the check.
 fn check(rt: &HostRuntime, words: &CheckWords) -> Result<Outcome, RunFault> {
@@ -375,17 +375,15 @@ fn rules(rt: &HostRuntime, rule: Option<Rule>) -> Result<(), RunFault> {
     }
 }
 
-/// Says a line of ASCII on standard error, with exactly one LF at its end. Where that can't be written either, the exit
-/// status alone tells.
-fn say(rt: &HostRuntime, line: &[u8]) {
-    let text = str::from_utf8(line).unwrap_or("");
-    let _ = eprintln!(rt; "{}", text.trim_end());
+/// Says a message on standard error, by one write with its LF. Where that can't be written either, the exit status alone tells.
+fn say(rt: &HostRuntime, message: &str) {
+    let _ = write_message(message, &mut Counted::new(rt.stderr()));
 }
 
 /// Tells how a check ended, by a fault's message and the exit status.
 fn tell_check(rt: &HostRuntime, end: &Result<Outcome, RunFault>) -> u8 {
     if let Err(fault) = end {
-        say(rt, message_of(fault).as_bytes());
+        say(rt, message_of(fault));
     }
     status_of(end)
 }
@@ -393,7 +391,7 @@ fn tell_check(rt: &HostRuntime, end: &Result<Outcome, RunFault>) -> u8 {
 /// Tells how a run over frames ended, by a fault's message and the exit status.
 fn tell_frames(rt: &HostRuntime, end: &Result<FrameOutcome, RunFault>) -> u8 {
     if let Err(fault) = end {
-        say(rt, message_of(fault).as_bytes());
+        say(rt, message_of(fault));
     }
     frames_status_of(end)
 }
@@ -413,15 +411,13 @@ fn name_of<'a>(frames: &'a [Named], frame: Option<usize>) -> &'a str {
 /// status.
 fn tell_make(rt: &HostRuntime, frames: &[Named], end: &Result<(), FramesRunFault>) -> u8 {
     if let Err(fault) = end {
-        let report = make_frames_report_of(fault);
-        let text = str::from_utf8(report.as_bytes()).unwrap_or("");
         let name = name_of(frames, fault.frame());
-        let _ = eprintln!(rt; "{name}{}", text.trim_end());
+        let _ = write_make_fault(name, fault, &mut Counted::new(rt.stderr()));
     }
     make_frames_status_of(end)
 }
 
-/// Tells how the writing of rules ended, by a fault's message and the exit status.
+/// Tells how the writing of rules or of help ended, by a fault's message and the exit status.
 fn tell_rules(rt: &HostRuntime, end: &Result<(), RunFault>) -> u8 {
     match end {
         Ok(()) => 0,
@@ -433,18 +429,18 @@ fn tell_rules(rt: &HostRuntime, end: &Result<(), RunFault>) -> u8 {
 fn tell_usage(rt: &HostRuntime, usage: &Usage) -> u8 {
     match usage {
         Usage::Word(fault) => {
-            say(rt, fault.message().as_bytes());
+            say(rt, fault.message());
             2
         }
         Usage::OutOfMemory => tell_check(rt, &Err(RunFault::Memory)),
         Usage::Fault(text) => {
-            let _ = eprint!(rt; "{}", text);
+            let _ = write_text(text.as_str(), &mut Counted::new(rt.stderr()));
             2
         }
-        Usage::Help(text) => match print!(rt; "{}", text) {
-            Ok(()) => 0,
-            Err(_) => tell_check(rt, &Err(RunFault::Write)),
-        },
+        Usage::Help(text) => {
+            let written = write_text(text.as_str(), &mut Counted::new(io::writer(rt)));
+            tell_rules(rt, &written)
+        }
     }
 }
 

@@ -17,5 +17,5 @@ returns-clause-report g c =
     let exact : c.args.mode ≡ Exact → (rom frame_held : Option (List ℕ)) → IsPrefix 4097 rom c.in-Ok.rom.items → IsPrefix 2049 frame_held c.in-Ok-read_frame.frame.items
     → IfOk c.in-Ok-read_verdict.judged.verdict (CountsRead rom (g.R2.Read.remaining c.args.cert.now) frame_held) =
     rw (c.as_slice.ensures.value, c.as_slice-2.ensures.value) at c.in-Ok-read_verdict.ensures.exact in
-    explains c.write_explained.result _ _ _ _ _ _ _ _ _ c.in-Ok-read_verdict.judged.verdict (over _ _ c.in-Ok.ensures.bytes c.in-Ok-read_frame.ensures.bytes) c.in-Ok-read_verdict.ensures.read
+    explains c.write_explained.result _ _ _ _ _ _ _ _ _ _ _ c.in-Ok-read_verdict.judged.verdict (over _ _ c.in-Ok.ensures.bytes c.in-Ok-read_frame.ensures.bytes) c.in-Ok-read_verdict.ensures.read
     (safe _ _ c.in-Ok.ensures.bytes c.in-Ok-read_frame.ensures.bytes) (λ is. exact is _ _ c.in-Ok.ensures.bytes c.in-Ok-read_frame.ensures.bytes) c.write_explained.ensures.ok

@@ -15,5 +15,5 @@ returns-in_err-write_make_line_and-in-Err-clause-prefix g c =
 
 pub returns-in_ok-write_make_line_and-in-Err-clause-ok : goal.returns-in_ok-write_make_line_and-in-Err-clause-ok
 returns-in_ok-write_make_line_and-in-Err-clause-ok g c =
-    subst (λ r. MakeExplained string_bytes c.args.name.now c.args.answer.now.made r (g.W.Write.contents c.args.out.now) (g.W.Write.contents c.write_make_line_and-in-Err.new.out) NoMemory)
-    (sym c.in-Err.is) (record { written = c.in_ok-write_make_line_and-in-Err.ensures.written; outcome_is = refl })
+    subst (λ r. MakeExplained string_bytes c.args.name.now c.args.answer.now.made r (g.W.Write.contents c.args.out.now) (g.W.Write.contents c.write_make_line_and-in-Err.new.out) (g.W.CountedWrite.whole_writes c.args.out.now) (g.W.CountedWrite.whole_writes c.write_make_line_and-in-Err.new.out) NoMemory)
+    (sym c.in-Err.is) (record { written = c.in_ok-write_make_line_and-in-Err.ensures.written; one_write = c.in_ok-write_make_line_and-in-Err.ensures.one_write; outcome_is = refl })
