@@ -95,8 +95,8 @@ pub enum Explained<'a> {
     Make(MakeWords<'a>),
 }
 
-/// What `--version` says behind the program's name: its version, and with what it is proved.
-const VERSION: &str = "1.0.0\nproved with rattle-kit-13b logic dac8208d650f15bf";
+/// What `--version` says behind the program's name: its version, and the logic with which it is proved.
+const VERSION: &str = "1.0.0\nproved with logic dac8208d650f15bf";
 
 /// A subcommand.
 #[derive(Clone, Copy)]
