@@ -7,6 +7,7 @@ ghost use Rattle.dvg_cert.specs.Entry.{IsKey};
 ghost use Rattle.dvg_make.specs.Made.{HasEntry, Made};
 ghost use Rattle.dvg_make.specs.Frames.{FramesMade};
 ghost use Rattle.dvg_make.specs.Refusals.{Refuses, FramesRefuse};
+ghost use Rattle.dvg_make.specs.Accounts.{HasCause, HasRootCause};
 ghost use Rattle.dvg_make.specs.Private.Making.{IsDone, Making, BarsRoot, BarsRoots, Collected, stop_fault, stuck_fault, IsToldFrom, IsToldOf};
 ghost use Rattle.dvg_make.specs.Private.Walking.{AreTails};
 ghost use Rattle.dvg_make.specs.Private.Framing.{AllFramed, IsForSome, MakesFor};
@@ -160,6 +161,7 @@ pub fn make_for_frames(
     ensures ok { IfOk result (λ cert. FramesMade rom.now roots.now frames.now cert.entries) }
     ensures map { IfOk result (λ cert. cert.map ≡ rom.now.map) }
     ensures err { IfErr result (FramesRefuse rom.now roots.now frames.now) }
+    ensures told { IfErr result (HasCause rom.now roots.now frames.now) }
 {
     let map = rom.map();
     let done = match make_all(alloc, rom, roots, frames) {
@@ -182,6 +184,7 @@ pub fn make(alloc: Global, rom: &RomImage, roots: &[(u16, Key)]) -> Result<Cert,
     ensures ok { IfOk result (λ cert. Made rom.now roots.now cert.entries) }
     ensures map { IfOk result (λ cert. cert.map ≡ rom.now.map) }
     ensures err { IfErr result (Refuses rom.now roots.now) }
+    ensures told { IfErr result (HasRootCause rom.now roots.now) }
 {
     match make_for_frames(alloc, rom, roots, &[]) {
         Ok(cert) => Ok(cert),

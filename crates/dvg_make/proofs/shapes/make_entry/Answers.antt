@@ -18,7 +18,7 @@ returns-in-Err-clause-told c =
       is_done = c.requires.done;
       extends = λ addr key e q. q;
       needed = called_none c.args.rom.now c.args.done.now (c.args.addr, c.args.key) c.begin.new.stack (c.in-Err.ensures.same ∙ c.new-stack.ensures);
-      tells = tells_first c.args.rom.now c.args.done.now c.args.addr c.args.key c.requires.done.unique c.requires.new c.new-stack.result c.begin.new.stack c.new-stack.ensures c.in-Err.ensures.same c.stop-stop.result c.in-Err.cause (c.stop-stop.ensures ∙ ap (λ (w : Walk). record { cursor = w.cursor; cause = c.in-Err.cause }) c.start.ensures) c.in-Err.ensures.err;
+      tells = tells_first c.args.rom.now c.args.done.now c.args.addr c.args.key c.requires.done.unique c.requires.done.room c.requires.new c.new-stack.result c.begin.new.stack c.new-stack.ensures c.in-Err.ensures.same c.stop-stop.result c.in-Err.cause (c.stop-stop.ensures ∙ ap (λ (w : Walk). record { cursor = w.cursor; cause = c.in-Err.cause }) c.start.ensures) c.in-Err.ensures.err;
     }
 
 pub returns-in-Err-clause-no_root : goal.returns-in-Err-clause-no_root
