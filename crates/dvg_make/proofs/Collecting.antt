@@ -1,10 +1,11 @@
 -- Root after root, and frame after frame.
-use Rattle.std.proofs.Common.{◌≡◌, ℕ, zero, suc, ◌<◌, ◌≤◌, List, [], ◌∷◌, ◌++◌, length, take, get_or, Option, Some, None, refl, sym, ap, ◌∙◌, subst, arith, ◌⊎◌, inl, inr, ⊎_elim}
+use Rattle.std.proofs.Common.{◌≡◌, ℕ, zero, suc, ◌+◌, ◌<◌, ◌≤◌, List, [], ◌∷◌, ◌++◌, length, take, get_or, Option, Some, None, refl, sym, ap, ◌∙◌, subst, arith, ◌⊎◌, inl, inr, ⊎_elim}
 use Rattle.std.specs.Prelude.{Contains, slice_get}
 use Rattle.dvg_words.specs.Memory.{Rom, InRom}
 use Rattle.dvg_cert.specs.Entry.{IsKey}
 use Rattle.dvg_cert.specs.declared.entry.Entry.{Entry}
 use Rattle.dvg_cert.specs.declared.entry.Key.{Key}
+use Rattle.dvg_cert.specs.declared.limits.TheConstants.{MOST_ENTRIES}
 use Rattle.dvg_items.proofs.Listed.{listed_at}
 use Rattle.dvg_make.specs.Made.{HasEntry, MadeFor, AllMade}
 use Rattle.dvg_make.specs.Frames.{IsAskedFor, HasAsked}
@@ -23,6 +24,7 @@ use Rattle.dvg_make.specs.Refusals.{FrameCall}
 use Rattle.dvg_items.specs.Known.{known_before}
 use Rattle.dvg_make.proofs.Framing.{done_made, in_left, in_right, in_either, collected_more, call_grows, keyed_call, called_told, calls_grow, has_calls_grow}
 use Rattle.dvg_make.proofs.Finishing.{roots_made}
+use Rattle.dvg_make.proofs.Telling.{length_links}
 
 -- ---- one element more of what is taken
 
@@ -153,17 +155,19 @@ needed_by rom list chain addr key c =
       };
     }
 
+room_of_links : (list : List Entry) (chain : List Walk) → length list + length chain ≤ MOST_ENTRIES → length list + length (links chain) ≤ MOST_ENTRIES
+room_of_links list chain room = let long = length_links chain in omega (arith, long, room)
+
 -- roots alone
 has_roots : (asked : List (ℕ × Key)) (list : List Entry) → HasAll asked list → HasAsked asked [] list
 has_roots asked list has a k (inl c) = has a k c
 has_roots asked list has a k (inr c) = absurd (omega (arith, c.1.1))
 
 module _ (roots : List (ℕ × Key)) (frames : List (List ℕ)) (list : List Entry) where
-  IsNamed : ℕ → Key → Type 0
+  abbrev IsNamed : ℕ → Key → Type 0
   IsNamed addr key = (call : Option FrameCall) × IsNamedBy roots frames list call (asked_link (addr, key))
 
   named_at : (root : ℕ) (addr : ℕ) (key : Key) → slice_get roots root ≡ Some (addr, key) → HasAll (take root roots) list → IsNamed addr key
-  unfolding IsNamed
   named_at root addr key is has = (None, (root, is, has_roots (take root roots) list has))
 
   -- one of so many roots
@@ -179,7 +183,6 @@ module _ (roots : List (ℕ × Key)) (frames : List (List ℕ)) (list : List Ent
 
   -- a call of a frame
   named_call : (frame : ℕ) (words : List ℕ) → slice_get frames frame ≡ Some words → HasAsked roots (take frame frames) list → (addr : ℕ) (key : Key) → KeyedCall words list addr key → IsNamed addr key
-  unfolding IsNamed
   named_call frame words is has addr key k =
       (Some (record { frame = frame; at = k.calls.item.at }), (words, is, (k.calls, refl, k.keyed), has))
 
@@ -195,7 +198,6 @@ module _ (roots : List (ℕ × Key)) (frames : List (List ℕ)) (list : List Ent
 
 -- what is told of a root
 pub root_told : (rom : Rom) (roots : List (ℕ × Key)) (i : ℕ) (d : ℕ × Key) (done : List Entry) → i < length roots → Collected rom (take i roots) done → (chain : List Walk) (stop : Stop) → IsToldFrom rom done ((get_or roots i d).0, (get_or roots i d).1) chain stop → IsToldOf rom roots [] None chain stop
-unfolding IsNamed
 root_told rom roots i d done lt h chain stop b =
     record {
       list = b.list;
@@ -203,6 +205,7 @@ root_told rom roots i d done lt h chain stop b =
       made = done_made rom b.list b.is_done;
       asked = asked_link (get_or roots i d);
       named = here;
+      room = room_of_links b.list chain b.room;
       tells = b.tells;
       outside = λ q. refl;
     }
@@ -225,6 +228,7 @@ roots_told rom roots frames chain stop t =
       asked = t.asked;
       named = t.named;
       needed = λ shape has. ⊎_elim (λ n. inl (n.0, more n.0 shape n.1)) (λ c. inr c) (t.needed shape has);
+      room = t.room;
       tells = t.tells;
       outside = t.outside;
     }
@@ -237,7 +241,6 @@ roots_told rom roots frames chain stop t =
 
 -- what is told of a frame's call
 pub call_told : (rom : Rom) (roots : List (ℕ × Key)) (frames : List (List ℕ)) (i : ℕ) (d : List ℕ) (old : List Entry) → i < length frames → AllFramed rom roots (take i frames) old → (at : ℕ) (chain : List Walk) (stop : Stop) → TellsHere rom (get_or frames i d) old at chain stop → IsToldOf rom roots frames (Some (record { frame = i; at = at })) chain stop
-unfolding IsNamed
 call_told rom roots frames i d old lt h at chain stop t =
     record {
       list = t.list;
@@ -245,6 +248,7 @@ call_told rom roots frames i d old lt h at chain stop t =
       asked = asked_link (t.to, t.scale);
       named = (get_or frames i d, got frames i d lt, (t.calls, t.at_is, t.before), before);
       needed = λ shape has. ⊎_elim (λ g. inl (asked_here shape.addr shape.key g)) (λ c. inr (needed_by rom t.list chain shape.addr shape.key c)) (t.needed h.asked h.collected shape.addr shape.key has);
+      room = room_of_links t.list chain t.room;
       tells = t.tells;
       outside = λ q. absurd (t.no_root q);
     }

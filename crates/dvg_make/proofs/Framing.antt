@@ -423,6 +423,7 @@ target_told rom words old done at scale w format instr is chain stop b =
       before = call.keyed;
       extends = λ a k e q. b.2.extends a k e (w.grows a k e q);
       needed = λ asked h. called_told rom done b.2.list (b.0, scale) chain (IsGivenHere words asked b.2.list) b.2.extends b.2.needed (given asked h) (inr call);
+      room = b.2.room;
       tells = b.2.tells;
       no_root = b.3;
     }

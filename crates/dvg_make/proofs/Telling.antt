@@ -21,7 +21,7 @@ use Rattle.dvg_make.proofs.Onward.{reached}
 use Rattle.dvg_make.proofs.Linking.{links_push, last_push, are_moved}
 use Rattle.dvg_make.proofs.Turns.{calls_it, apart_moved}
 
-length_links : (stack : List Walk) → length (links stack) ≡ length stack
+pub length_links : (stack : List Walk) → length (links stack) ≡ length stack
 length_links [] = refl
 length_links (w ∷ stack) = let e = length_links stack in omega (arith, e)
 
@@ -54,7 +54,7 @@ cause_more rom list chain room at before cause.UnknownScale h = h
 cause_more rom list chain room at before (cause.Ring index) h = none_at index h.0 h.1
 cause_more rom list chain room at before (cause.Deep to key) h = h
 cause_more rom list chain room at before (cause.TooManyWords words) h = h
-cause_more rom list chain room at before cause.TooManyEntries h = absurd (omega (arith, room, h.4.full))
+cause_more rom list chain room at before cause.TooManyEntries h = absurd (omega (arith, room, h.4.many))
 cause_more rom list chain room at before cause.Memory h = tt
 
 module _ (rom : Rom) (list : List Entry) (root : ℕ × Key) where
@@ -78,6 +78,14 @@ module _ (rom : Rom) (from : List Entry) (root : ℕ × Key) (done : List Entry)
   tells_memory stop e r =
       subst (TellsStop rom done root (stack ++ walk ∷ [])) (sym e) (tells_last rom done root stack walk h.linked walk.cursor.at walk.cursor.known cause.Memory r tt)
 
+  -- and for the shape at another item
+  pub room_moved : (new : Walk) (chain : List Walk) → chain ≡ stack ++ new ∷ [] → length done + length chain ≤ MOST_ENTRIES
+  room_moved new chain e =
+      let old_long : length (stack ++ walk ∷ []) ≡ length stack + 1 = length-append stack (walk ∷ []) in
+      let new_long : length (stack ++ new ∷ []) ≡ length stack + 1 = length-append stack (new ∷ []) in
+      let long : length chain ≡ length (stack ++ new ∷ []) = ap (λ (l : List Walk). length l) e in
+      omega (arith, long, old_long, new_long, h.room)
+
   -- what it calls is not begun
   module _ (new : Walk) (addr : ℕ) (w : IsWaiting rom done walk new addr) where
     abbrev at_key : Key
@@ -88,14 +96,12 @@ module _ (rom : Rom) (from : List Entry) (root : ℕ × Key) (done : List Entry)
         let calls = calls_it rom from root done stack walk h new addr w in
         (link_of b.0, slice_links (stack ++ new ∷ []) index b.0 b.1, record { item = calls.item; at_is = calls.at_is; stands = calls.stands; target_is = calls.target_is ∙ ap Some (sym b.2); key_is = sym b.3 })
     not_begun cause.TooManyEntries b =
-        let old_long : length (stack ++ walk ∷ []) ≡ length stack + 1 = length-append stack (walk ∷ []) in
-        let new_long : length (stack ++ new ∷ []) ≡ length stack + 1 = length-append stack (new ∷ []) in
         let long = length_links (stack ++ new ∷ []) in (
           link_of (start addr at_key),
           calls_it rom from root done stack walk h new addr w,
           w.none,
           λ c. b.1 (contained (stack ++ new ∷ []) (start addr at_key) c),
-          record { unique = h.is_done.unique; unmade = are_unmade done (stack ++ new ∷ []) (apart_moved rom from root done stack walk h new addr w); full = omega (arith, long, old_long, new_long, h.room, b.0) },
+          record { unique = h.is_done.unique; unmade = are_unmade done (stack ++ new ∷ []) (apart_moved rom from root done stack walk h new addr w); many = omega (arith, long, b.0) },
         )
     not_begun cause.Memory b = tt
     not_begun cause.RootOutside b = absurd b
@@ -113,6 +119,10 @@ module _ (rom : Rom) (from : List Entry) (root : ℕ × Key) (done : List Entry)
         (subst (TellsStop rom done root (stack ++ new ∷ [])) (sym s)
         (tells_last rom done root stack new (are_moved rom done root stack walk new (λ j. record { addr = sym w.same_addr j; key = sym w.same_key j }) h.linked) new.cursor.at new.cursor.known why (reached rom done new w.walk) (not_begun why (subst (λ c. NotBegun done c addr at_key why) e b))))
 
+-- where nothing is begun
+pub room_of_none : (done : List Entry) (chain : List Walk) → chain ≡ [] → length done ≤ MOST_ENTRIES → length done + length chain ≤ MOST_ENTRIES
+room_of_none done chain e room = let long : length chain ≡ 0 = ap (λ (l : List Walk). length l) e in omega (arith, long, room)
+
 -- ---- no root
 
 -- what is not begun is not told to be a root outside the ROM
@@ -124,26 +134,26 @@ pub stopped_no_root : (rom : Rom) (list : List Entry) (w : Walk) (stop : Stop) �
 stopped_no_root rom list w stop s q = subst (CauseAt rom list [] stop.cursor.at stop.cursor.known) q s.cause
 
 -- what is asked for is not begun
-first_cause : (rom : Rom) (done : List Entry) (addr : ℕ) (key : Key) → IsUnique done → length done ≤ MOST_ENTRIES → entry_at done addr key ≡ None → (why : EntryCause) → NotBegun done [] addr key why → Tells rom done (asked_link (addr, key)) [] addr (first_known Shape key) why
-first_cause rom done addr key unique room none cause.TooManyEntries b = (refl, refl, (none, record { unique = unique; unmade = tt; full = omega (arith, b.0, room) }))
-first_cause rom done addr key unique room none cause.Memory b = (refl, refl, tt)
-first_cause rom done addr key unique room none (cause.Ring index) b = none_in index b.0 b.1
+first_cause : (rom : Rom) (done : List Entry) (addr : ℕ) (key : Key) → IsUnique done → entry_at done addr key ≡ None → (why : EntryCause) → NotBegun done [] addr key why → Tells rom done (asked_link (addr, key)) [] addr (first_known Shape key) why
+first_cause rom done addr key unique none cause.TooManyEntries b = (refl, refl, (none, record { unique = unique; unmade = tt; many = omega (arith, b.0) }))
+first_cause rom done addr key unique none cause.Memory b = (refl, refl, tt)
+first_cause rom done addr key unique none (cause.Ring index) b = none_in index b.0 b.1
   where
     none_in : {P : Type 0} (i : ℕ) (w : Walk) → slice_get [] i ≡ Some w → P
     none_in i w e = absurd cc
-first_cause rom done addr key unique room none cause.RootOutside b = absurd b
-first_cause rom done addr key unique room none cause.Missing b = absurd b
-first_cause rom done addr key unique room none cause.Odd b = absurd b
-first_cause rom done addr key unique room none cause.Halt b = absurd b
-first_cause rom done addr key unique room none cause.LostPlace b = absurd b
-first_cause rom done addr key unique room none cause.UnknownScale b = absurd b
-first_cause rom done addr key unique room none (cause.Deep to other) b = absurd b
-first_cause rom done addr key unique room none (cause.TooManyWords words) b = absurd b
+first_cause rom done addr key unique none cause.RootOutside b = absurd b
+first_cause rom done addr key unique none cause.Missing b = absurd b
+first_cause rom done addr key unique none cause.Odd b = absurd b
+first_cause rom done addr key unique none cause.Halt b = absurd b
+first_cause rom done addr key unique none cause.LostPlace b = absurd b
+first_cause rom done addr key unique none cause.UnknownScale b = absurd b
+first_cause rom done addr key unique none (cause.Deep to other) b = absurd b
+first_cause rom done addr key unique none (cause.TooManyWords words) b = absurd b
 
-pub tells_first : (rom : Rom) (done : List Entry) (addr : ℕ) (key : Key) → IsUnique done → length done ≤ MOST_ENTRIES → entry_at done addr key ≡ None → (old chain : List Walk) → old ≡ [] → chain ≡ old → (stop : Stop) (why : EntryCause) → stop ≡ record { cursor = (start addr key).cursor; cause = why } → NotBegun done old addr key why → TellsStop rom done (addr, key) chain stop
-tells_first rom done addr key unique room none old chain e f stop why s b =
+pub tells_first : (rom : Rom) (done : List Entry) (addr : ℕ) (key : Key) → IsUnique done → entry_at done addr key ≡ None → (old chain : List Walk) → old ≡ [] → chain ≡ old → (stop : Stop) (why : EntryCause) → stop ≡ record { cursor = (start addr key).cursor; cause = why } → NotBegun done old addr key why → TellsStop rom done (addr, key) chain stop
+tells_first rom done addr key unique none old chain e f stop why s b =
     subst (λ c. TellsStop rom done (addr, key) c stop) (sym (f ∙ e))
-    (subst (TellsStop rom done (addr, key) []) (sym s) (first_cause rom done addr key unique room none why (subst (λ c. NotBegun done c addr key why) e b)))
+    (subst (TellsStop rom done (addr, key) []) (sym s) (first_cause rom done addr key unique none why (subst (λ c. NotBegun done c addr key why) e b)))
 
 -- what is asked for lies outside the ROM, or its key is over 15
 pub tells_outside : (rom : Rom) (done : List Entry) (addr : ℕ) (key : Key) → (InRom rom.map addr × IsKey key → ⊥) → (chain : List Walk) → chain ≡ [] → (stop : Stop) → stop ≡ record { cursor = (start addr key).cursor; cause = cause.RootOutside } → TellsStop rom done (addr, key) chain stop

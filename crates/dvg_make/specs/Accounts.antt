@@ -124,11 +124,11 @@ abbrev pub AreUnmade : List Entry → List Link → Type 0
 AreUnmade list [] = Unit {0}
 AreUnmade list (shape ∷ chain) = (entry_at list shape.addr shape.key ≡ None) × (Contains chain shape → ⊥) × AreUnmade list chain
 
--- the entries of the list and the shapes in the making, no two of them the same, are just as many as a certificate may have
+-- the entries of the list and the shapes in the making, no two of them the same, are so many that there is no room for one more
 pub record IsFull (list : List Entry) (chain : List Link) : Type 0 where
   pub unique : IsUnique list
   pub unmade : AreUnmade list chain
-  pub full : length list + length chain ≡ MOST_ENTRIES
+  pub many : MOST_ENTRIES ≤ length list + length chain
 
 -- what a cause says of a place in the last shape of a chain (profile)
 abbrev pub CauseAt : Rom → List Entry → List Link → ℕ → Known → EntryCause → Type 0
@@ -183,7 +183,8 @@ AllNeeded rom roots frames list chain =
     (shape : Link) → HasEntry list shape.addr shape.key
     → ((call : Option FrameCall) × IsNamedBy roots frames list call shape) ⊎ IsNeededBy rom list chain shape
 
--- all that is told of a refusal: it is so by a list of made and needed entries, and only a root lies outside the ROM (profile)
+-- all that is told of a refusal: it is so by a list of made and needed entries, which with the chain are no more than a certificate
+-- may have, and only a root lies outside the ROM (profile)
 pub record IsTold
     (rom : Rom) (roots : List (ℕ × Key)) (frames : List (List ℕ)) (call : Option FrameCall) (chain : List Link) (at : ℕ)
     (before : Known) (cause : EntryCause) : Type 0 where
@@ -192,6 +193,7 @@ pub record IsTold
   pub asked : Link
   pub named : IsNamedBy roots frames list call asked
   pub needed : AllNeeded rom roots frames list chain
+  pub room : length list + length chain ≤ MOST_ENTRIES
   pub tells : Tells rom list asked chain at before cause
   pub outside : cause ≡ RootOutside → call ≡ None
 

@@ -1,5 +1,5 @@
 -- A frame whose calls are made one after another.
-use Rattle.std.specs.Prelude.{◌≡◌, ℕ, ◌<◌, ◌++◌, ◌⊎◌, List, [], length, Option, Some, None, Contains}
+use Rattle.std.specs.Prelude.{◌≡◌, ℕ, ◌+◌, ◌<◌, ◌≤◌, ◌++◌, ◌⊎◌, List, [], length, Option, Some, None, Contains}
 use Rattle.dvg_words.specs.Memory.{Rom}
 use Rattle.dvg_words.specs.Values.{MemoryMap}
 use Rattle.dvg_words.specs.declared.instruction.Instr.{Instr}
@@ -89,6 +89,7 @@ pub record TellsHere (rom : Rom) (words : List ℕ) (old : List Entry) (at : ℕ
   pub before : AllKeyed list calls.earlier
   pub extends : Extends old list
   pub needed : AllCalledHere rom words old list chain
+  pub room : length list + length chain ≤ MOST_ENTRIES
   pub tells : TellsStop rom list (to, scale) chain stop
   pub no_root : IsNoRoot stop
 
