@@ -201,6 +201,7 @@ pub root_told : (rom : Rom) (roots : List (ℕ × Key)) (i : ℕ) (d : ℕ × Ke
 root_told rom roots i d done lt h chain stop b =
     record {
       list = b.list;
+      within = b.is_done.entries;
       needed = λ shape has. ⊎_elim (λ r. inl r) (λ c. inr (needed_by rom b.list chain shape.addr shape.key c)) (called_told rom done b.list (get_or roots i d) chain (IsNamed roots [] b.list) b.extends b.needed was (None, here) shape.addr shape.key has);
       made = done_made rom b.list b.is_done;
       asked = asked_link (get_or roots i d);
@@ -224,6 +225,7 @@ pub roots_told : (rom : Rom) (roots : List (ℕ × Key)) (frames : List (List �
 roots_told rom roots frames chain stop t =
     record {
       list = t.list;
+      within = t.within;
       made = t.made;
       asked = t.asked;
       named = t.named;
@@ -244,6 +246,7 @@ pub call_told : (rom : Rom) (roots : List (ℕ × Key)) (frames : List (List ℕ
 call_told rom roots frames i d old lt h at chain stop t =
     record {
       list = t.list;
+      within = t.within;
       made = t.made;
       asked = asked_link (t.to, t.scale);
       named = (get_or frames i d, got frames i d lt, (t.calls, t.at_is, t.before), before);

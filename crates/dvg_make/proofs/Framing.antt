@@ -415,6 +415,7 @@ target_told rom words old done at scale w format instr is chain stop b =
     let call = called_by rom words old done at scale w format instr is b.0 b.1 b.2.list b.2.extends in
     record {
       list = b.2.list;
+      within = b.2.is_done.entries;
       made = done_made rom b.2.list b.2.is_done;
       to = b.0;
       scale = scale;

@@ -4,7 +4,7 @@ use Rattle.dvg_words.specs.Memory.{Rom, InRom, rom_word}
 use Rattle.dvg_words.specs.Decoding.{cell_at}
 use Rattle.dvg_words.specs.declared.instruction.Instr.TheVariants as instr
 use Rattle.dvg_words.specs.declared.instruction.Cell.TheVariants as cell
-use Rattle.dvg_cert.specs.Entry.{IsKey}
+use Rattle.dvg_cert.specs.Entry.{IsKey, IsEntry}
 use Rattle.dvg_cert.specs.Lookup.{entry_at}
 use Rattle.dvg_cert.specs.declared.entry.Entry.{Entry}
 use Rattle.dvg_cert.specs.declared.entry.Key.{Key}
@@ -183,12 +183,17 @@ AllNeeded rom roots frames list chain =
     (shape : Link) → HasEntry list shape.addr shape.key
     → ((call : Option FrameCall) × IsNamedBy roots frames list call shape) ⊎ IsNeededBy rom list chain shape
 
+-- each entry of the list is one that a certificate for the ROM may have (profile)
+abbrev pub AllWithin : Rom → List Entry → Type 0
+AllWithin rom list = (e : Entry) → Contains list e → IsEntry rom.map.rom_first rom.map.rom_last e
+
 -- all that is told of a refusal: it is so by a list of made and needed entries, which with the chain are no more than a certificate
 -- may have, and only a root lies outside the ROM (profile)
 pub record IsTold
     (rom : Rom) (roots : List (ℕ × Key)) (frames : List (List ℕ)) (call : Option FrameCall) (chain : List Link) (at : ℕ)
     (before : Known) (cause : EntryCause) : Type 0 where
   pub list : List Entry
+  pub within : AllWithin rom list
   pub made : AllMade rom list
   pub asked : Link
   pub named : IsNamedBy roots frames list call asked

@@ -11,6 +11,7 @@ use Rattle.dvg_items.specs.declared.item.Kind.TheVariants.{Frame}
 use Rattle.dvg_items.specs.Known.{target}
 use Rattle.dvg_make.specs.Made.{HasEntry, AllMade}
 use Rattle.dvg_make.specs.Frames.{AllKeyed, FrameCalls, IsAskedFor, FramesMade}
+use Rattle.dvg_make.specs.Accounts.{AllWithin}
 use Rattle.dvg_make.specs.Refusals.{BarsFrame, StopsAt, EntryFault, Unstraight, Deep, TooManyWords, TooManyEntries, Memory}
 use Rattle.dvg_make.specs.Private.Walking.{Extends}
 use Rattle.dvg_make.specs.declared.walk.Walk.{Walk}
@@ -81,6 +82,7 @@ AllCalledHere rom words old list chain =
 -- what is told of the call at a place, by a list of made and needed entries, which has one for each call before it
 pub record TellsHere (rom : Rom) (words : List ℕ) (old : List Entry) (at : ℕ) (chain : List Walk) (stop : Stop) : Type 0 where
   pub list : List Entry
+  pub within : AllWithin rom list
   pub made : AllMade rom list
   pub to : ℕ
   pub scale : Key
