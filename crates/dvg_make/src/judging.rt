@@ -69,8 +69,8 @@ fn check_made(
 /// What is accepted is safe, with exact counts, as [`check_parts_exact`] says, and no certificate gets the frame accepted
 /// with fewer words or less depth. The answer is the refusal of [`make_for_frames`] for the first call whose entry is not made,
 /// else that of the checker on the made certificate; it means that no certificate gets the frame accepted, but for 62 by the
-/// number of entries, where another one may, and for 63 and 50, where memory was out. Takes memory for the certificate and
-/// its index.
+/// number of entries, where another one may, and for 63 and 50, where memory was out. 62 by the number of entries comes only
+/// where the calls up to this one really need too many. Takes memory for the certificate and its index.
 pub fn judge(
     alloc: Global,
     rom: &RomImage,
