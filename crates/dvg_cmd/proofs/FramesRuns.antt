@@ -11,6 +11,7 @@ use Rattle.dvg_cert.specs.declared.entry.Entry.{Entry}
 use Rattle.dvg_cert.specs.declared.entry.Key.{Key}
 use Rattle.dvg_make.specs.Frames.{FramesMade}
 use Rattle.dvg_make.specs.Refusals.{FramesRefuse}
+use Rattle.dvg_make.specs.Accounts.{HasCause}
 use Rattle.dvg_make.specs.declared.fault.EntryFault.{EntryFault}
 use Rattle.dvg_make.specs.declared.fault.EntryFault.TheVariants as entry
 use Rattle.dvg_make.specs.declared.fault.FrameCall.{FrameCall}
@@ -54,12 +55,14 @@ module _ (map : MemoryMap) (is : IsMap map) (rom : Option (List ℕ)) (roots : L
           (subst (λ l. FramesMade image roots l list) words_same made),
     )
 
-    refused_all : (f : FramesFault) → FramesRefuse image roots words f → RefusesInputs rom map roots readers f
+    refused_all : (f : FramesFault) → FramesRefuse image roots words f → HasCause image roots words f → RefusesInputs rom map roots readers f
     unfolding all_inputs
-    refused_all f refuses = (
+    refused_all f refuses told = (
       all_inputs lengths,
       subst (λ x. FramesRefuse x roots (of_each words_of (held_each readers frames)) f) (whole_image map is rom rb image read h)
           (subst (λ l. FramesRefuse image roots l f) words_same refuses),
+      subst (λ x. HasCause x roots (of_each words_of (held_each readers frames)) f) (whole_image map is rom rb image read h)
+          (subst (λ l. HasCause image roots l f) words_same told),
     )
 
     told_at : (call : Option FrameCall) (why : EntryFault) → RefusesInputs rom map roots readers (record { call = call; why = why }) → FramesFaultMeans rom map roots readers (told_fault call why)
@@ -70,8 +73,8 @@ module _ (map : MemoryMap) (is : IsMap map) (rom : Option (List ℕ)) (roots : L
     told_at None entry.TooManyEntries refuses = (entry.TooManyEntries, refl, refuses)
     told_at None entry.Memory refuses = tt
 
-    pub frames_refused : (f : FramesFault) → FramesRefuse image roots words f → FramesFaultMeans rom map roots readers (told_fault f.call f.why)
-    frames_refused f refuses = told_at f.call f.why (refused_all f refuses)
+    pub frames_refused : (f : FramesFault) → FramesRefuse image roots words f → HasCause image roots words f → FramesFaultMeans rom map roots readers (told_fault f.call f.why)
+    frames_refused f refuses told = told_at f.call f.why (refused_all f refuses told)
 
   pub lengths_refused : (f : FramesRunFault) → RefusesLengths frames f → FramesFaultMeans rom map roots readers f
   lengths_refused (fault.FrameLength n) wrong =

@@ -11,7 +11,7 @@ use Rattle.dvg_check.specs.declared.verdict.Yes.{Yes}
 use Rattle.dvg_check.specs.declared.verdict.Refusal.TheVariants as refusal
 use Rattle.dvg_make.specs.declared.judging.FrameRefusal.{FrameRefusal}
 use Rattle.dvg_make.specs.declared.judging.FrameRefusal.TheVariants.{Make, NoMemory, Check}
-use Rattle.dvg_make.specs.Judging.{AreLeast, FrameRefused, FrameVerdict as JudgeVerdict}
+use Rattle.dvg_make.specs.Judging.{AreLeast, FrameRefused, HasCallCause, FrameVerdict as JudgeVerdict}
 use Rattle.dvg_cmd.specs.Frames.{started, IsReadFrom, ReadsFrame, FrameVerdict, IsRefused, IsJudgedRefusal}
 use Rattle.dvg_cmd.specs.Private.Judging.{AreImages}
 use Rattle.dvg_cmd.specs.Private.Reading.{limited, IsPrefix}
@@ -41,19 +41,19 @@ reads_frame reader start items slice new read same is len =
     }
 
 module _ (rom : List ℕ) (map : MemoryMap) (bytes : List ℕ) (budget : ℕ) (w : Window) (range : InRange bytes budget) (long : IsRomLength map (length rom)) where
-  judged : (r : FrameRefusal) → JudgeVerdict (rom_of map rom) (words_of bytes) w budget (Err r) → FrameRefused (rom_of map rom) (words_of bytes) w budget r → IsJudgedRefusal rom map bytes budget w r
-  judged r own h = record { in_range = range; rom_length = long; by_own = own; means = h }
+  judged : (r : FrameRefusal) → JudgeVerdict (rom_of map rom) (words_of bytes) w budget (Err r) → FrameRefused (rom_of map rom) (words_of bytes) w budget r → HasCallCause (rom_of map rom) (words_of bytes) r → IsJudgedRefusal rom map bytes budget w r
+  judged r own h told = record { in_range = range; rom_length = long; by_own = own; means = h; told = told }
 
-  refused : (r : FrameRefusal) → JudgeVerdict (rom_of map rom) (words_of bytes) w budget (Err r) → FrameRefused (rom_of map rom) (words_of bytes) w budget r → IsRefused rom map bytes budget w r
-  refused (Make at why) own h = judged (Make at why) own h
-  refused NoMemory own h = judged NoMemory own h
-  refused (Check (refusal.Image RomLength)) own h = absurd h
-  refused (Check (refusal.Image FrameLength)) own h = absurd h
-  refused (Check refusal.BudgetRange) own h = absurd h
-  refused (Check (refusal.Cert f)) own h = absurd h
-  refused (Check refusal.IndexMemory) own h = judged (Check refusal.IndexMemory) own h
-  refused (Check (refusal.Shape f)) own h = judged (Check (refusal.Shape f)) own h
-  refused (Check (refusal.Frame f)) own h = judged (Check (refusal.Frame f)) own h
+  refused : (r : FrameRefusal) → JudgeVerdict (rom_of map rom) (words_of bytes) w budget (Err r) → FrameRefused (rom_of map rom) (words_of bytes) w budget r → HasCallCause (rom_of map rom) (words_of bytes) r → IsRefused rom map bytes budget w r
+  refused (Make at why) own h told = judged (Make at why) own h told
+  refused NoMemory own h told = judged NoMemory own h told
+  refused (Check (refusal.Image RomLength)) own h told = absurd h
+  refused (Check (refusal.Image FrameLength)) own h told = absurd h
+  refused (Check refusal.BudgetRange) own h told = absurd h
+  refused (Check (refusal.Cert f)) own h told = absurd h
+  refused (Check refusal.IndexMemory) own h told = judged (Check refusal.IndexMemory) own h told
+  refused (Check (refusal.Shape f)) own h told = judged (Check (refusal.Shape f)) own h told
+  refused (Check (refusal.Frame f)) own h told = judged (Check (refusal.Frame f)) own h told
 
   pub frame_verdict : (v : Result Yes FrameRefusal)
       → IfOk v (λ yes. Safe (record { frame = words_of bytes; rom = rom_of map rom }) w yes.words yes.depth)
@@ -61,9 +61,10 @@ module _ (rom : List ℕ) (map : MemoryMap) (bytes : List ℕ) (budget : ℕ) (w
       → IfOk v (λ yes. AreLeast (rom_of map rom) (words_of bytes) w yes.words yes.depth)
       → IfErr v (FrameRefused (rom_of map rom) (words_of bytes) w budget)
       → JudgeVerdict (rom_of map rom) (words_of bytes) w budget v
+      → IfErr v (HasCallCause (rom_of map rom) (words_of bytes))
       → FrameVerdict rom map bytes budget w v
-  frame_verdict (Ok y) safe exact least none own = record { in_range = range; rom_length = long; safe = safe; exact = exact; least = least; by_own = own }
-  frame_verdict (Err r) safe exact least h own = refused r own h
+  frame_verdict (Ok y) safe exact least none own told = record { in_range = range; rom_length = long; safe = safe; exact = exact; least = least; by_own = own }
+  frame_verdict (Err r) safe exact least h own told = refused r own h told
 
 -- what the judge says of a frame's words over a ROM
 record Said (w : Window) (budget : ℕ) (words : List ℕ) (image : Rom) (v : Result Yes FrameRefusal) : Type 0 where
@@ -72,6 +73,7 @@ record Said (w : Window) (budget : ℕ) (words : List ℕ) (image : Rom) (v : Re
   least : IfOk v (λ yes. AreLeast image words w yes.words yes.depth)
   refuses : IfErr v (FrameRefused image words w budget)
   own : JudgeVerdict image words w budget v
+  told : IfErr v (HasCallCause image words)
 
 -- what the judge says of the images of these bytes
 pub own_verdict : (rom : List ℕ) (map : MemoryMap) (bytes : List ℕ) (budget : ℕ) (w : Window) (words : List ℕ) (image : Rom) → AreImages rom map bytes budget words image
@@ -81,8 +83,9 @@ pub own_verdict : (rom : List ℕ) (map : MemoryMap) (bytes : List ℕ) (budget 
     → IfOk v (λ yes. AreLeast image words w yes.words yes.depth)
     → IfErr v (FrameRefused image words w budget)
     → JudgeVerdict image words w budget v
+    → IfErr v (HasCallCause image words)
     → FrameVerdict rom map bytes budget w v
-own_verdict rom map bytes budget w words image a v safe exact least refused own =
-    let said : Said w budget words image v = record { safe = safe; exact = exact; least = least; refuses = refused; own = own } in
+own_verdict rom map bytes budget w words image a v safe exact least refused own told =
+    let said : Said w budget words image v = record { safe = safe; exact = exact; least = least; refuses = refused; own = own; told = told } in
     let all = subst (λ x. Said w budget x (rom_of map rom) v) a.words_are (subst (λ y. Said w budget words y v) a.rom_is said) in
-    frame_verdict rom map bytes budget w a.in_range a.rom_length v all.safe all.exact all.least all.refuses all.own
+    frame_verdict rom map bytes budget w a.in_range a.rom_length v all.safe all.exact all.least all.refuses all.own all.told

@@ -6,6 +6,7 @@ use Rattle.dvg_cert.specs.declared.entry.Entry.{Entry}
 use Rattle.dvg_cert.specs.declared.entry.Key.{Key}
 use Rattle.dvg_make.specs.Made.{Made}
 use Rattle.dvg_make.specs.Refusals.{Refuses}
+use Rattle.dvg_make.specs.Accounts.{HasRootCause}
 use Rattle.dvg_make.specs.declared.fault.MakeFault.{MakeFault}
 use Rattle.dvg_cmd.specs.Making.{Makes, MakeFaultMeans}
 use Rattle.dvg_cmd.specs.Private.Reading.{IsPrefix}
@@ -36,6 +37,11 @@ pub wrong_length : (map : MemoryMap) (is : IsMap map) (rom : Option (List ℕ)) 
 wrong_length map is rom roots rb read wrong =
     (held_bytes rom rb, held_told rom rb, λ long. wrong (rom_back rb (held_bytes rom rb) (prefix_of_held 4097 rom rb read) map is long))
 
-pub refuses_all : (map : MemoryMap) (is : IsMap map) (rom : Option (List ℕ)) (roots : List (ℕ × Key)) (f : MakeFault) (rb : List ℕ) (image : Rom) → IsPrefix 4097 rom rb → IsRomLength map (length rb) × (image ≡ rom_of map rb) → Refuses image roots f → MakeFaultMeans rom map roots (fault.Make f)
-refuses_all map is rom roots f rb image read h refuses =
-    (held_bytes rom rb, held_told rom rb, whole_length map is rom rb read h.0, subst (λ (x : Rom). Refuses x roots f) (whole_image map is rom rb image read h) refuses)
+pub refuses_all : (map : MemoryMap) (is : IsMap map) (rom : Option (List ℕ)) (roots : List (ℕ × Key)) (f : MakeFault) (rb : List ℕ) (image : Rom) → IsPrefix 4097 rom rb → IsRomLength map (length rb) × (image ≡ rom_of map rb) → Refuses image roots f → HasRootCause image roots f → MakeFaultMeans rom map roots (fault.Make f)
+refuses_all map is rom roots f rb image read h refuses told = (
+  held_bytes rom rb,
+  held_told rom rb,
+  whole_length map is rom rb read h.0,
+  subst (λ (x : Rom). Refuses x roots f) (whole_image map is rom rb image read h) refuses,
+  subst (λ (x : Rom). HasRootCause x roots f) (whole_image map is rom rb image read h) told,
+)

@@ -18,7 +18,7 @@ use Rattle.dvg_check.specs.declared.verdict.Yes.{Yes}
 use Rattle.dvg_check.specs.declared.verdict.Refusal.TheVariants as refusal
 use Rattle.dvg_make.specs.declared.judging.FrameRefusal.{FrameRefusal}
 use Rattle.dvg_make.specs.declared.judging.FrameRefusal.TheVariants.{Make, NoMemory, Check}
-use Rattle.dvg_make.specs.Judging.{AreLeast, FrameRefused, FrameVerdict as JudgeVerdict}
+use Rattle.dvg_make.specs.Judging.{AreLeast, FrameRefused, HasCallCause, FrameVerdict as JudgeVerdict}
 use Rattle.dvg_cmd.specs.Report.{frame_line_text}
 use Rattle.dvg_cmd.specs.Runs.{MOST_FRAME_READ, IsReadTo, Outcome}
 use Rattle.dvg_cmd.specs.declared.running.Outcome.TheVariants as runs
@@ -71,6 +71,8 @@ pub record IsJudgedRefusal (rom : List ℕ) (map : MemoryMap) (bytes : List ℕ)
   pub rom_length : IsRomLength map (length rom)
   pub by_own : JudgeVerdict (rom_of map rom) (words_of bytes) w budget (Err r)
   pub means : FrameRefused (rom_of map rom) (words_of bytes) w budget r
+  -- where the maker stops at a call, and why, is told
+  pub told : HasCallCause (rom_of map rom) (words_of bytes) r
 
 -- what a refusal means: the first that applies of 2, 49 and 1, or what the judge's does
 abbrev pub IsRefused : List ℕ → MemoryMap → List ℕ → ℕ → Window → FrameRefusal → Type 0

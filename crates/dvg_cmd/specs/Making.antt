@@ -11,6 +11,7 @@ use Rattle.dvg_cert.specs.Grammar.{address_token, key_token, text_of}
 use Rattle.dvg_cert.specs.Devices.{AppendsPrefix}
 use Rattle.dvg_make.specs.Made.{Made}
 use Rattle.dvg_make.specs.Refusals.{Refuses}
+use Rattle.dvg_make.specs.Accounts.{HasRootCause}
 pub use Rattle.dvg_cmd.specs.declared.making.MakeRunFault.{MakeRunFault}
 use Rattle.dvg_cmd.specs.declared.making.MakeRunFault.TheVariants as fault
 
@@ -57,10 +58,10 @@ pub record WritesMadePrefix (IsMade : List Entry → Type 0) (map : MemoryMap) (
   pub made : IsMade list
   pub written : AppendsPrefix old new (text_of map list)
 
--- what a fault says of all bytes that a reader held: a wrong length, or what the maker's refusal says
+-- what a fault says of all bytes that a reader held: a wrong length, or what the maker's refusal says, with its cause
 abbrev pub MakeFaultMeans : Option (List ℕ) → MemoryMap → List (ℕ × Key) → MakeRunFault → Type 0
 MakeFaultMeans rom map roots fault.RomLength = (bytes : List ℕ) × Held rom bytes × (IsRomLength map (length bytes) → ⊥)
 MakeFaultMeans rom map roots (fault.Make f) = (bytes : List ℕ) × Held rom bytes × IsRomLength map (length bytes)
-    × Refuses (rom_of map bytes) roots f
+    × Refuses (rom_of map bytes) roots f × HasRootCause (rom_of map bytes) roots f
 MakeFaultMeans rom map roots fault.ReadRom = Unit {0}
 MakeFaultMeans rom map roots fault.Write = Unit {0}

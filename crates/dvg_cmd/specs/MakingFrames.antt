@@ -12,6 +12,7 @@ use Rattle.dvg_make.specs.declared.fault.MakeFault.{MakeFault}
 use Rattle.dvg_make.specs.declared.fault.MakeFault.TheVariants as making
 use Rattle.dvg_make.specs.Frames.{FramesMade}
 use Rattle.dvg_make.specs.Refusals.{FramesRefuse, make_fault_of}
+use Rattle.dvg_make.specs.Accounts.{HasCause}
 use Rattle.dvg_cmd.specs.Making.{Held}
 use Rattle.dvg_cmd.specs.Runs.{MOST_FRAME_READ, IsReadTo}
 use Rattle.dvg_cmd.specs.declared.making.MakeRunFault.TheVariants as maker
@@ -89,10 +90,11 @@ abbrev pub MakesForFrames : Option (List ℕ) → MemoryMap → List (ℕ × Key
 MakesForFrames rom map roots frames list =
     (all : Inputs rom map frames) × FramesMade (rom_of map all.rom_bytes) roots (of_each words_of all.frame_bytes) list
 
--- what the maker's refusal says of them
+-- what the maker's refusal says of them, with its cause
 abbrev pub RefusesInputs : Option (List ℕ) → MemoryMap → List (ℕ × Key) → List (Option (List ℕ)) → FramesFault → Type 0
 RefusesInputs rom map roots frames refusal =
     (all : Inputs rom map frames) × FramesRefuse (rom_of map all.rom_bytes) roots (of_each words_of all.frame_bytes) refusal
+    × HasCause (rom_of map all.rom_bytes) roots (of_each words_of all.frame_bytes) refusal
 
 -- a refusal that names no frame
 abbrev pub RefusesRoots : Option (List ℕ) → MemoryMap → List (ℕ × Key) → List (Option (List ℕ)) → MakeFault → Type 0

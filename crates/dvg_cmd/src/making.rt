@@ -125,7 +125,7 @@ pub fn run_make<R: CountedRead, W: CountedWrite>(
         (W.contents out.old) (W.contents out.new) }
     ensures nothing { IfErr result (λ fault. fault ≢ MakeRunFault.Write → Appends (W.contents out.old) (W.contents out.new) []) }
 
-    // 1 comes for a wrong length alone, and 60 to 62 only where no made list exists.
+    // 1 comes for a wrong length alone, and 60 to 62 only where no made list exists, as the maker tells them.
     ensures refused { IfErr result (MakeFaultMeans (R.remaining rom.old) map roots.now) }
 {
     let Ok(bytes) = read_rom(rom) else {

@@ -1,13 +1,14 @@
 -- Root after root, and frame after frame.
-use Rattle.std.proofs.Common.{◌≡◌, ℕ, zero, suc, ◌<◌, ◌≤◌, List, [], ◌∷◌, ◌++◌, length, take, get_or, Option, Some, None, refl, sym, ap, ◌∙◌, subst, arith, ◌⊎◌, inl, inr, ⊎_elim}
+use Rattle.std.proofs.Common.{◌≡◌, ℕ, zero, suc, ◌+◌, ◌<◌, ◌≤◌, List, [], ◌∷◌, ◌++◌, length, take, get_or, Option, Some, None, refl, sym, ap, ◌∙◌, subst, arith, ◌⊎◌, inl, inr, ⊎_elim}
 use Rattle.std.specs.Prelude.{Contains, slice_get}
 use Rattle.dvg_words.specs.Memory.{Rom, InRom}
 use Rattle.dvg_cert.specs.Entry.{IsKey}
 use Rattle.dvg_cert.specs.declared.entry.Entry.{Entry}
 use Rattle.dvg_cert.specs.declared.entry.Key.{Key}
+use Rattle.dvg_cert.specs.declared.limits.TheConstants.{MOST_ENTRIES}
 use Rattle.dvg_items.proofs.Listed.{listed_at}
 use Rattle.dvg_make.specs.Made.{HasEntry, MadeFor, AllMade}
-use Rattle.dvg_make.specs.Frames.{IsAskedFor}
+use Rattle.dvg_make.specs.Frames.{IsAskedFor, HasAsked}
 use Rattle.dvg_make.specs.Refusals.{EntryFault, Unstraight, Deep, TooManyWords, TooManyEntries, Memory, make_fault_of, Refuses, BarsList, NoFramesMade, FramesRefuse}
 use Rattle.dvg_make.specs.Private.Walking.{Extends}
 use Rattle.dvg_make.specs.Private.Making.{IsAim, Making, Bars, BarsRoot, BarsRoots, NoneHas, HasAll, Collected}
@@ -23,6 +24,7 @@ use Rattle.dvg_make.specs.Refusals.{FrameCall}
 use Rattle.dvg_items.specs.Known.{known_before}
 use Rattle.dvg_make.proofs.Framing.{done_made, in_left, in_right, in_either, collected_more, call_grows, keyed_call, called_told, calls_grow, has_calls_grow}
 use Rattle.dvg_make.proofs.Finishing.{roots_made}
+use Rattle.dvg_make.proofs.Telling.{length_links}
 
 -- ---- one element more of what is taken
 
@@ -55,6 +57,23 @@ at_index : {A : Type 0} (xs : List A) (i : ℕ) (d : A) → i < length xs → Co
 at_index [] i d lt = absurd (omega (arith, lt))
 at_index (y ∷ xs) zero d lt = (zero, omega arith, refl)
 at_index (y ∷ xs) (suc i) d lt = let c = at_index xs i d (omega (arith, lt)) in (suc c.0, omega (arith, c.1), c.2)
+
+-- an element of what is taken stands at the same place in the whole
+taken_at : {A : Type 0} (xs : List A) (i j : ℕ) (x : A) → slice_get (take i xs) j ≡ Some x → slice_get xs j ≡ Some x
+taken_at [] zero j x e = e
+taken_at [] (suc i) j x e = e
+taken_at (y ∷ xs) zero j x e = absurd cc
+taken_at (y ∷ xs) (suc i) zero x e = e
+taken_at (y ∷ xs) (suc i) (suc j) x e = taken_at xs i j x e
+
+-- and those before it are taken, too
+taken_before : {A : Type 0} (xs : List A) (i j : ℕ) (x z : A) → slice_get (take i xs) j ≡ Some x → Contains (take j xs) z → Contains (take i xs) z
+taken_before [] zero j x z e c = absurd cc
+taken_before [] (suc i) j x z e c = absurd cc
+taken_before (y ∷ xs) zero j x z e c = absurd cc
+taken_before (y ∷ xs) (suc i) zero x z e c = absurd (omega (arith, c.1))
+taken_before (y ∷ xs) (suc i) (suc j) x z e (zero, lt, is) = (zero, omega arith, is)
+taken_before (y ∷ xs) (suc i) (suc j) x z e (suc k, lt, is) = let c = taken_before xs i j x z e (k, omega (arith, lt), is) in (suc c.0, omega (arith, c.1), c.2)
 
 got : {A : Type 0} (xs : List A) (i : ℕ) (d : A) → i < length xs → slice_get xs i ≡ Some (get_or xs i d)
 got [] i d lt = absurd (omega (arith, lt))
@@ -136,37 +155,82 @@ needed_by rom list chain addr key c =
       };
     }
 
--- a call of one of the frames
-named_call : (roots : List (ℕ × Key)) (frames : List (List ℕ)) (list : List Entry) (words : List ℕ) → Contains frames words → (addr : ℕ) (key : Key) → KeyedCall words list addr key → (call : Option FrameCall) × IsNamedBy roots frames list call (asked_link (addr, key))
-named_call roots frames list words c addr key k =
-    let g = got_somewhere frames words c in
-    (Some (record { frame = g.0; at = k.calls.item.at }), (words, g.1, (k.calls, refl, k.keyed)))
+room_of_links : (list : List Entry) (chain : List Walk) → length list + length chain ≤ MOST_ENTRIES → length list + length (links chain) ≤ MOST_ENTRIES
+room_of_links list chain room = let long = length_links chain in omega (arith, long, room)
+
+-- roots alone
+has_roots : (asked : List (ℕ × Key)) (list : List Entry) → HasAll asked list → HasAsked asked [] list
+has_roots asked list has a k (inl c) = has a k c
+has_roots asked list has a k (inr c) = absurd (omega (arith, c.1.1))
+
+module _ (roots : List (ℕ × Key)) (frames : List (List ℕ)) (list : List Entry) where
+  abbrev IsNamed : ℕ → Key → Type 0
+  IsNamed addr key = (call : Option FrameCall) × IsNamedBy roots frames list call (asked_link (addr, key))
+
+  named_at : (root : ℕ) (addr : ℕ) (key : Key) → slice_get roots root ≡ Some (addr, key) → HasAll (take root roots) list → IsNamed addr key
+  named_at root addr key is has = (None, (root, is, has_roots (take root roots) list has))
+
+  -- one of so many roots
+  named_taken : (n : ℕ) → HasAll (take n roots) list → (addr : ℕ) (key : Key) → Contains (take n roots) (addr, key) → IsNamed addr key
+  named_taken n has addr key c =
+      let g = got_somewhere (take n roots) (addr, key) c in
+      named_at g.0 addr key (taken_at roots n g.0 (addr, key) g.1) (λ a k b. has a k (taken_before roots n g.0 (addr, key) (a, k) g.1 b))
+
+  named_root : HasAll roots list → (addr : ℕ) (key : Key) → Contains roots (addr, key) → IsNamed addr key
+  named_root has addr key c =
+      let g = got_somewhere roots (addr, key) c in
+      named_at g.0 addr key g.1 (λ a k b. has a k (in_taken roots g.0 (a, k) b))
+
+  -- a call of a frame
+  named_call : (frame : ℕ) (words : List ℕ) → slice_get frames frame ≡ Some words → HasAsked roots (take frame frames) list → (addr : ℕ) (key : Key) → KeyedCall words list addr key → IsNamed addr key
+  named_call frame words is has addr key k =
+      (Some (record { frame = frame; at = k.calls.item.at }), (words, is, (k.calls, refl, k.keyed), has))
+
+  -- of one of so many
+  named_before : (n : ℕ) (words : List ℕ) → Contains (take n frames) words → HasAsked roots (take n frames) list → (addr : ℕ) (key : Key) → KeyedCall words list addr key → IsNamed addr key
+  named_before n words c has addr key k =
+      let g = got_somewhere (take n frames) words c in
+      named_call g.0 words (taken_at frames n g.0 words g.1) (fewer g.0 g.1) addr key k
+    where
+      fewer : (i : ℕ) → slice_get (take n frames) i ≡ Some words → HasAsked roots (take i frames) list
+      fewer i is a k (inl r) = has a k (inl r)
+      fewer i is a k (inr b) = has a k (inr (b.0, taken_before frames n i words b.0 is b.1, b.2))
 
 -- what is told of a root
 pub root_told : (rom : Rom) (roots : List (ℕ × Key)) (i : ℕ) (d : ℕ × Key) (done : List Entry) → i < length roots → Collected rom (take i roots) done → (chain : List Walk) (stop : Stop) → IsToldFrom rom done ((get_or roots i d).0, (get_or roots i d).1) chain stop → IsToldOf rom roots [] None chain stop
 root_told rom roots i d done lt h chain stop b =
     record {
       list = b.list;
-      needed = λ shape has. ⊎_elim (λ r. inl (None, r)) (λ c. inr (needed_by rom b.list chain shape.addr shape.key c)) (called_told rom done b.list (get_or roots i d) chain (λ a k. Contains roots (a, k)) b.extends b.needed was (at_index roots i d lt) shape.addr shape.key has);
+      within = b.is_done.entries;
+      needed = λ shape has. ⊎_elim (λ r. inl r) (λ c. inr (needed_by rom b.list chain shape.addr shape.key c)) (called_told rom done b.list (get_or roots i d) chain (IsNamed roots [] b.list) b.extends b.needed was (None, here) shape.addr shape.key has);
       made = done_made rom b.list b.is_done;
       asked = asked_link (get_or roots i d);
-      named = at_index roots i d lt;
+      named = here;
+      room = room_of_links b.list chain b.room;
       tells = b.tells;
       outside = λ q. refl;
     }
   where
-    was : (a : ℕ) (k : Key) → HasEntry done a k → Contains roots (a, k) ⊎ IsCalled rom done [] a k
-    was a k has = ⊎_elim (λ c. inl (in_taken roots i (a, k) c)) (λ c. inr c) (h.needed a k has)
+    before : HasAll (take i roots) b.list
+    before a k c = let f = h.rooted a k c in (f.0, b.extends a k f.0 f.1)
+
+    here : IsNamedBy roots [] b.list None (asked_link (get_or roots i d))
+    here = (i, got roots i d lt, has_roots (take i roots) b.list before)
+
+    was : (a : ℕ) (k : Key) → HasEntry done a k → IsNamed roots [] b.list a k ⊎ IsCalled rom done [] a k
+    was a k has = ⊎_elim (λ c. inl (named_taken roots [] b.list i before a k c)) (λ c. inr c) (h.needed a k has)
 
 -- and told again where there are frames
 pub roots_told : (rom : Rom) (roots : List (ℕ × Key)) (frames : List (List ℕ)) (chain : List Walk) (stop : Stop) → IsToldOf rom roots [] None chain stop → IsToldOf rom roots frames None chain stop
 roots_told rom roots frames chain stop t =
     record {
       list = t.list;
+      within = t.within;
       made = t.made;
       asked = t.asked;
       named = t.named;
       needed = λ shape has. ⊎_elim (λ n. inl (n.0, more n.0 shape n.1)) (λ c. inr c) (t.needed shape has);
+      room = t.room;
       tells = t.tells;
       outside = t.outside;
     }
@@ -182,21 +246,30 @@ pub call_told : (rom : Rom) (roots : List (ℕ × Key)) (frames : List (List ℕ
 call_told rom roots frames i d old lt h at chain stop t =
     record {
       list = t.list;
+      within = t.within;
       made = t.made;
       asked = asked_link (t.to, t.scale);
-      named = (get_or frames i d, got frames i d lt, (t.calls, t.at_is, t.before));
+      named = (get_or frames i d, got frames i d lt, (t.calls, t.at_is, t.before), before);
       needed = λ shape has. ⊎_elim (λ g. inl (asked_here shape.addr shape.key g)) (λ c. inr (needed_by rom t.list chain shape.addr shape.key c)) (t.needed h.asked h.collected shape.addr shape.key has);
+      room = room_of_links t.list chain t.room;
       tells = t.tells;
       outside = λ q. absurd (t.no_root q);
     }
   where
-    asked_before : (a : ℕ) (k : Key) → IsAskedFor roots (take i frames) old a k → (call : Option FrameCall) × IsNamedBy roots frames t.list call (asked_link (a, k))
-    asked_before a k (inl r) = (None, r)
-    asked_before a k (inr c) = named_call roots frames t.list c.0 (in_taken frames i c.0 c.1) a k (call_grows c.0 old t.list t.extends a k (keyed_call c.0 old (h.has_calls c.0 c.1) a k c.2))
+    rooted : HasAll roots t.list
+    rooted a k r = let f = h.rooted a k r in (f.0, t.extends a k f.0 f.1)
 
-    asked_here : (a : ℕ) (k : Key) → IsGivenHere (get_or frames i d) h.asked t.list a k → (call : Option FrameCall) × IsNamedBy roots frames t.list call (asked_link (a, k))
+    before : HasAsked roots (take i frames) t.list
+    before a k (inl r) = rooted a k r
+    before a k (inr c) = has_calls_grow c.0 old t.list t.extends (h.has_calls c.0 c.1) a k c.2
+
+    asked_before : (a : ℕ) (k : Key) → IsAskedFor roots (take i frames) old a k → IsNamed roots frames t.list a k
+    asked_before a k (inl r) = named_root roots frames t.list rooted a k r
+    asked_before a k (inr c) = named_before roots frames t.list i c.0 c.1 before a k (call_grows c.0 old t.list t.extends a k (keyed_call c.0 old (h.has_calls c.0 c.1) a k c.2))
+
+    asked_here : (a : ℕ) (k : Key) → IsGivenHere (get_or frames i d) h.asked t.list a k → IsNamed roots frames t.list a k
     asked_here a k (inl c) = asked_before a k (h.asked_for a k c)
-    asked_here a k (inr c) = named_call roots frames t.list (get_or frames i d) (at_index frames i d lt) a k c
+    asked_here a k (inr c) = named_call roots frames t.list i (get_or frames i d) (got frames i d lt) before a k c
 
 pub made_all : (rom : Rom) (P : ℕ → Key → Type 0) (list : List Entry) → MadeFor rom P list → AllMade rom list
 made_all rom P list m e c = let is = listed_entry rom.map.rom_first rom.map.rom_last list e m.certificate.each c in record { made = m.each e c; words = is.words_high; depth = is.depth }

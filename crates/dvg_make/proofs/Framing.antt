@@ -415,6 +415,7 @@ target_told rom words old done at scale w format instr is chain stop b =
     let call = called_by rom words old done at scale w format instr is b.0 b.1 b.2.list b.2.extends in
     record {
       list = b.2.list;
+      within = b.2.is_done.entries;
       made = done_made rom b.2.list b.2.is_done;
       to = b.0;
       scale = scale;
@@ -423,6 +424,7 @@ target_told rom words old done at scale w format instr is chain stop b =
       before = call.keyed;
       extends = λ a k e q. b.2.extends a k e (w.grows a k e q);
       needed = λ asked h. called_told rom done b.2.list (b.0, scale) chain (IsGivenHere words asked b.2.list) b.2.extends b.2.needed (given asked h) (inr call);
+      room = b.2.room;
       tells = b.2.tells;
       no_root = b.3;
     }

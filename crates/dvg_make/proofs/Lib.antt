@@ -25,6 +25,7 @@ pub mod Stacks
 pub mod Ending
 pub mod Framing
 pub mod Collecting
+pub mod Causes
 pub mod OneFrame
 pub mod OwnCertificate
 pub mod Example

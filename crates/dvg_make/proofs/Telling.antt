@@ -1,11 +1,12 @@
 -- What is told where the making stops.
-use Rattle.std.proofs.Common.{◌≡◌, ℕ, zero, suc, List, [], ◌∷◌, ◌++◌, length, slice_get, Some, None, refl, sym, ap, ◌∙◌, subst, arith, inl, inr}
+use Rattle.std.proofs.Common.{◌≡◌, ℕ, zero, suc, ◌+◌, ◌<◌, ◌≤◌, List, [], ◌∷◌, ◌++◌, length, slice_get, Some, None, refl, sym, ap, ◌∙◌, subst, arith, inl, inr, length-append}
 use Rattle.std.specs.Prelude.{Contains}
 use Rattle.dvg_words.specs.Memory.{Rom, InRom}
 use Rattle.dvg_cert.specs.Entry.{IsKey}
 use Rattle.dvg_cert.specs.Lookup.{entry_at}
 use Rattle.dvg_cert.specs.declared.entry.Entry.{Entry}
 use Rattle.dvg_cert.specs.declared.entry.Key.{Key}
+use Rattle.dvg_cert.specs.declared.limits.TheConstants.{MOST_ENTRIES}
 use Rattle.dvg_items.specs.declared.item.Kind.TheVariants.{Shape}
 use Rattle.dvg_items.specs.declared.cursor.Cursor.{Cursor}
 use Rattle.dvg_items.specs.declared.known.Known.{Known}
@@ -20,7 +21,7 @@ use Rattle.dvg_make.proofs.Onward.{reached}
 use Rattle.dvg_make.proofs.Linking.{links_push, last_push, are_moved}
 use Rattle.dvg_make.proofs.Turns.{calls_it, apart_moved}
 
-length_links : (stack : List Walk) → length (links stack) ≡ length stack
+pub length_links : (stack : List Walk) → length (links stack) ≡ length stack
 length_links [] = refl
 length_links (w ∷ stack) = let e = length_links stack in omega (arith, e)
 
@@ -42,19 +43,19 @@ are_unmade list (w ∷ stack) a = (a.0, λ c. a.1 (contained stack w c), are_unm
 none_at : {P : Type 0} (i : ℕ) (shape : Link) → slice_get [] i ≡ Some shape → P
 none_at i shape e = absurd cc
 
--- what is told of an item serves with each chain
-cause_more : (rom : Rom) (list : List Entry) (chain : List Link) → AreUnmade list chain → (at : ℕ) (before : Known) (why : EntryCause) → CauseAt rom list [] at before why → CauseAt rom list chain at before why
-cause_more rom list chain unmade at before cause.RootOutside h = h
-cause_more rom list chain unmade at before cause.Missing h = h
-cause_more rom list chain unmade at before cause.Odd h = h
-cause_more rom list chain unmade at before cause.Halt h = h
-cause_more rom list chain unmade at before cause.LostPlace h = h
-cause_more rom list chain unmade at before cause.UnknownScale h = h
-cause_more rom list chain unmade at before (cause.Ring index) h = none_at index h.0 h.1
-cause_more rom list chain unmade at before (cause.Deep to key) h = h
-cause_more rom list chain unmade at before (cause.TooManyWords words) h = h
-cause_more rom list chain unmade at before cause.TooManyEntries h = (h.0, h.1, h.2, record { unique = h.3.unique; unmade = unmade; many = omega (arith, h.3.many) })
-cause_more rom list chain unmade at before cause.Memory h = tt
+-- what is told of an item, where there is room, serves with each chain
+cause_more : (rom : Rom) (list : List Entry) (chain : List Link) → length list < MOST_ENTRIES → (at : ℕ) (before : Known) (why : EntryCause) → CauseAt rom list [] at before why → CauseAt rom list chain at before why
+cause_more rom list chain room at before cause.RootOutside h = h
+cause_more rom list chain room at before cause.Missing h = h
+cause_more rom list chain room at before cause.Odd h = h
+cause_more rom list chain room at before cause.Halt h = h
+cause_more rom list chain room at before cause.LostPlace h = h
+cause_more rom list chain room at before cause.UnknownScale h = h
+cause_more rom list chain room at before (cause.Ring index) h = none_at index h.0 h.1
+cause_more rom list chain room at before (cause.Deep to key) h = h
+cause_more rom list chain room at before (cause.TooManyWords words) h = h
+cause_more rom list chain room at before cause.TooManyEntries h = absurd (omega (arith, room, h.4.many))
+cause_more rom list chain room at before cause.Memory h = tt
 
 module _ (rom : Rom) (list : List Entry) (root : ℕ × Key) where
   tells_last : (stack : List Walk) (w : Walk) → AreLinked rom list root (stack ++ w ∷ []) → (at : ℕ) (before : Known) (why : EntryCause) → Reaches rom list (link_of w) at before → CauseAt rom list (links (stack ++ w ∷ [])) at before why → Tells rom list (asked_link root) (links (stack ++ w ∷ [])) at before why
@@ -63,15 +64,27 @@ module _ (rom : Rom) (list : List Entry) (root : ℕ × Key) where
       (h.0, h.1, subst (λ (x : Link). Reaches rom list x at before) (sym (ap (last_link (link_of v)) (links_push stack w) ∙ last_push (link_of v) (link_of w) (links stack))) r, says)
 
 module _ (rom : Rom) (from : List Entry) (root : ℕ × Key) (done : List Entry) (stack : List Walk) (walk : Walk) (h : Making rom from root done (stack ++ walk ∷ [])) where
+  -- there is room for it
+  has_room : length done < MOST_ENTRIES
+  has_room = let long : length (stack ++ walk ∷ []) ≡ length stack + 1 = length-append stack (walk ∷ []) in omega (arith, long, h.room)
+
   -- an item stops it
   pub tells_stopped : (stop : Stop) → IsStopped rom done walk stop → TellsStop rom done root (stack ++ walk ∷ []) stop
   tells_stopped stop s =
-      tells_last rom done root stack walk h.linked stop.cursor.at stop.cursor.known stop.cause s.reaches (cause_more rom done (links (stack ++ walk ∷ [])) (are_unmade done (stack ++ walk ∷ []) h.apart) stop.cursor.at stop.cursor.known stop.cause s.cause)
+      tells_last rom done root stack walk h.linked stop.cursor.at stop.cursor.known stop.cause s.reaches (cause_more rom done (links (stack ++ walk ∷ [])) has_room stop.cursor.at stop.cursor.known stop.cause s.cause)
 
   -- its entry is not added
   pub tells_memory : (stop : Stop) → stop ≡ record { cursor = walk.cursor; cause = cause.Memory } → (r : Reaches rom done (link_of walk) walk.cursor.at walk.cursor.known) → TellsStop rom done root (stack ++ walk ∷ []) stop
   tells_memory stop e r =
       subst (TellsStop rom done root (stack ++ walk ∷ [])) (sym e) (tells_last rom done root stack walk h.linked walk.cursor.at walk.cursor.known cause.Memory r tt)
+
+  -- and for the shape at another item
+  pub room_moved : (new : Walk) (chain : List Walk) → chain ≡ stack ++ new ∷ [] → length done + length chain ≤ MOST_ENTRIES
+  room_moved new chain e =
+      let old_long : length (stack ++ walk ∷ []) ≡ length stack + 1 = length-append stack (walk ∷ []) in
+      let new_long : length (stack ++ new ∷ []) ≡ length stack + 1 = length-append stack (new ∷ []) in
+      let long : length chain ≡ length (stack ++ new ∷ []) = ap (λ (l : List Walk). length l) e in
+      omega (arith, long, old_long, new_long, h.room)
 
   -- what it calls is not begun
   module _ (new : Walk) (addr : ℕ) (w : IsWaiting rom done walk new addr) where
@@ -87,6 +100,7 @@ module _ (rom : Rom) (from : List Entry) (root : ℕ × Key) (done : List Entry)
           link_of (start addr at_key),
           calls_it rom from root done stack walk h new addr w,
           w.none,
+          λ c. b.1 (contained (stack ++ new ∷ []) (start addr at_key) c),
           record { unique = h.is_done.unique; unmade = are_unmade done (stack ++ new ∷ []) (apart_moved rom from root done stack walk h new addr w); many = omega (arith, long, b.0) },
         )
     not_begun cause.Memory b = tt
@@ -104,6 +118,10 @@ module _ (rom : Rom) (from : List Entry) (root : ℕ × Key) (done : List Entry)
         subst (λ c. TellsStop rom done root c stop) (sym e)
         (subst (TellsStop rom done root (stack ++ new ∷ [])) (sym s)
         (tells_last rom done root stack new (are_moved rom done root stack walk new (λ j. record { addr = sym w.same_addr j; key = sym w.same_key j }) h.linked) new.cursor.at new.cursor.known why (reached rom done new w.walk) (not_begun why (subst (λ c. NotBegun done c addr at_key why) e b))))
+
+-- where nothing is begun
+pub room_of_none : (done : List Entry) (chain : List Walk) → chain ≡ [] → length done ≤ MOST_ENTRIES → length done + length chain ≤ MOST_ENTRIES
+room_of_none done chain e room = let long : length chain ≡ 0 = ap (λ (l : List Walk). length l) e in omega (arith, long, room)
 
 -- ---- no root
 

@@ -1,10 +1,10 @@
 -- How a shape that can't be made is come to: the shapes on the way to it, the item in it, and why. All of it is profile.
-use Rattle.std.specs.Prelude.{◌≡◌, ◌≢◌, ℕ, ◌+◌, ◌<◌, ◌≤◌, ◌⊎◌, List, [], ◌∷◌, length, Option, Some, None, Contains, slice_get}
+use Rattle.std.specs.Prelude.{◌≡◌, ◌≢◌, ℕ, ◌+◌, ◌<◌, ◌≤◌, ◌⊎◌, List, [], ◌∷◌, length, take, Option, Some, None, Contains, slice_get}
 use Rattle.dvg_words.specs.Memory.{Rom, InRom, rom_word}
 use Rattle.dvg_words.specs.Decoding.{cell_at}
 use Rattle.dvg_words.specs.declared.instruction.Instr.TheVariants as instr
 use Rattle.dvg_words.specs.declared.instruction.Cell.TheVariants as cell
-use Rattle.dvg_cert.specs.Entry.{IsKey}
+use Rattle.dvg_cert.specs.Entry.{IsKey, IsEntry}
 use Rattle.dvg_cert.specs.Lookup.{entry_at}
 use Rattle.dvg_cert.specs.declared.entry.Entry.{Entry}
 use Rattle.dvg_cert.specs.declared.entry.Key.{Key}
@@ -18,8 +18,8 @@ use Rattle.dvg_items.specs.declared.item.Item.{Item}
 use Rattle.dvg_items.specs.declared.item.Kind.TheVariants.{Shape}
 use Rattle.dvg_items.specs.declared.known.Known.{Known}
 use Rattle.dvg_make.specs.Made.{HasEntry, AllMade}
-use Rattle.dvg_make.specs.Frames.{AllKeyed, FrameCalls}
-use Rattle.dvg_make.specs.Refusals.{EntryFault, FrameCall}
+use Rattle.dvg_make.specs.Frames.{AllKeyed, FrameCalls, HasAsked}
+use Rattle.dvg_make.specs.Refusals.{EntryFault, MakeFault, FrameCall, FramesFault, make_fault_of}
 use Rattle.dvg_make.specs.declared.fault.EntryFault.TheVariants as fault
 pub use Rattle.dvg_make.specs.declared.account.MakeAccount.{MakeAccount}
 pub use Rattle.dvg_make.specs.declared.account.Link.{Link}
@@ -137,9 +137,10 @@ CauseAt rom list chain at before Missing = cell_at (rom_word rom) at ≡ cell.Mi
 CauseAt rom list chain at before Odd = cell_at (rom_word rom) at ≡ cell.Odd
 -- the item calls the shape of the chain at this index
 CauseAt rom list chain at before (Ring from) = (shape : Link) × (slice_get chain from ≡ Some shape) × CallsAt rom at before shape
--- the item calls what has no entry yet, and there is no room for it
+-- the item calls what has no entry yet and is not of the chain, and there is no room for it
 CauseAt rom list chain at before TooManyEntries =
-    (shape : Link) × CallsAt rom at before shape × (entry_at list shape.addr shape.key ≡ None) × IsFull list chain
+    (shape : Link) × CallsAt rom at before shape × (entry_at list shape.addr shape.key ≡ None) × (Contains chain shape → ⊥)
+    × IsFull list chain
 CauseAt rom list chain at before Memory = Unit {0}
 CauseAt rom list chain at before cause = SaysAt rom list at before cause
 
@@ -161,12 +162,14 @@ Tells rom list asked (shape ∷ chain) at before cause =
 -- ---- what was asked for
 
 -- a root, or what the item of the frame calls that the refusal names, at the scale that is known there by this list, which has the
--- entry of each call before it (profile)
+-- entries of all that is asked for before it: of roots first, then of frames and their calls in their order (profile)
 abbrev pub IsNamedBy : List (ℕ × Key) → List (List ℕ) → List Entry → Option FrameCall → Link → Type 0
-IsNamedBy roots frames list None asked = Contains roots (asked.addr, asked.key)
+IsNamedBy roots frames list None asked =
+    (root : ℕ) × (slice_get roots root ≡ Some (asked.addr, asked.key)) × HasAsked (take root roots) [] list
 IsNamedBy roots frames list (Some call) asked =
     (words : List ℕ) × (slice_get frames call.frame ≡ Some words)
     × ((calls : FrameCalls words list asked.addr asked.key) × (calls.item.at ≡ call.at) × AllKeyed list calls.earlier)
+    × HasAsked roots (take call.frame frames) list
 
 -- an item of the shape of one of the entries, or of a shape of the chain, calls or tail jumps to this shape (profile)
 pub record IsNeededBy (rom : Rom) (list : List Entry) (chain : List Link) (shape : Link) : Type 0 where
@@ -180,15 +183,22 @@ AllNeeded rom roots frames list chain =
     (shape : Link) → HasEntry list shape.addr shape.key
     → ((call : Option FrameCall) × IsNamedBy roots frames list call shape) ⊎ IsNeededBy rom list chain shape
 
--- all that is told of a refusal: it is so by a list of made and needed entries, and only a root lies outside the ROM (profile)
+-- each entry of the list is one that a certificate for the ROM may have (profile)
+abbrev pub AllWithin : Rom → List Entry → Type 0
+AllWithin rom list = (e : Entry) → Contains list e → IsEntry rom.map.rom_first rom.map.rom_last e
+
+-- all that is told of a refusal: it is so by a list of made and needed entries, which with the chain are no more than a certificate
+-- may have, and only a root lies outside the ROM (profile)
 pub record IsTold
     (rom : Rom) (roots : List (ℕ × Key)) (frames : List (List ℕ)) (call : Option FrameCall) (chain : List Link) (at : ℕ)
     (before : Known) (cause : EntryCause) : Type 0 where
   pub list : List Entry
+  pub within : AllWithin rom list
   pub made : AllMade rom list
   pub asked : Link
   pub named : IsNamedBy roots frames list call asked
   pub needed : AllNeeded rom roots frames list chain
+  pub room : length list + length chain ≤ MOST_ENTRIES
   pub tells : Tells rom list asked chain at before cause
   pub outside : cause ≡ RootOutside → call ≡ None
 
@@ -210,3 +220,19 @@ entry_fault at (TooManyWords words) = fault.TooManyWords
 entry_fault at TooManyEntries = fault.TooManyEntries
 entry_fault at Memory = fault.Memory
 entry_fault at cause = fault.Unstraight at
+
+-- ---- refusals
+
+-- a refusal is that by a cause at a place, and this is told; where memory was out, nothing is (profile)
+pub record HasCause (rom : Rom) (roots : List (ℕ × Key)) (frames : List (List ℕ)) (fault : FramesFault) : Type 0 where
+  pub chain : List Link
+  pub at : ℕ
+  pub before : Known
+  pub cause : EntryCause
+  pub why_is : fault.why ≡ entry_fault at cause
+  pub told : UnlessMemory cause (IsTold rom roots frames fault.call chain at before cause)
+
+-- so of a refusal of roots alone (profile)
+abbrev pub HasRootCause : Rom → List (ℕ × Key) → MakeFault → Type 0
+HasRootCause rom roots f =
+    (why : EntryFault) × (make_fault_of why ≡ f) × HasCause rom roots [] (record { call = None; why = why })

@@ -34,6 +34,10 @@ abbrev pub IsAskedFor : List (ℕ × Key) → List (List ℕ) → List Entry →
 IsAskedFor roots frames list addr key =
     Contains roots (addr, key) ⊎ ((words : List ℕ) × Contains frames words × FrameCalls words list addr key)
 
+-- the list has an entry for each of these roots, and for all that each of these frames calls (profile)
+abbrev pub HasAsked : List (ℕ × Key) → List (List ℕ) → List Entry → Type 0
+HasAsked roots frames list = (addr : ℕ) (key : Key) → IsAskedFor roots frames list addr key → HasEntry list addr key
+
 -- the list that a ROM, roots and frames ask for: that of the roots together with what the frames call by this very list (profile)
 abbrev pub FramesMade : Rom → List (ℕ × Key) → List (List ℕ) → List Entry → Type 0
 FramesMade rom roots frames list = MadeFor rom (IsAskedFor roots frames list) list

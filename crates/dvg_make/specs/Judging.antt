@@ -12,6 +12,7 @@ use Rattle.dvg_check.specs.declared.verdict.Refusal.TheVariants as refusal
 pub use Rattle.dvg_make.specs.declared.judging.FrameRefusal.{FrameRefusal}
 pub use Rattle.dvg_make.specs.declared.judging.FrameRefusal.TheVariants.{Make, NoMemory, Check}
 use Rattle.dvg_make.specs.Frames.{FrameMade}
+use Rattle.dvg_make.specs.Accounts.{HasCause}
 use Rattle.dvg_make.specs.Refusals.{Memory, FrameCall, FramesFault, Accepts, BarsList, BarsFrame, StopsAt}
 
 -- no certificate gets the frame accepted in this window with fewer words, or less depth (profile)
@@ -51,6 +52,12 @@ FrameVerdict rom words w budget (Ok y) = ByMade rom words w budget (Ok y)
 FrameVerdict rom words w budget (Err (Check r)) = ByMade rom words w budget (Err r)
 FrameVerdict rom words w budget (Err (Make at why)) = StopsAt rom words at why
 FrameVerdict rom words w budget (Err NoMemory) = Unit {0}
+
+-- a refusal at a call of the frame has a cause that is told (profile)
+abbrev pub HasCallCause : Rom → List ℕ → FrameRefusal → Type 0
+HasCallCause rom words (Make at why) = HasCause rom [] (words ∷ []) (record { call = Some (record { frame = 0; at = at }); why = why })
+HasCallCause rom words NoMemory = Unit {0}
+HasCallCause rom words (Check r) = Unit {0}
 
 -- the refusal of a frame for whose certificate the maker has this fault: that memory is out, too, where it names no call (profile)
 abbrev pub IsRefusalBy : FramesFault → FrameRefusal → Type 0

@@ -6,7 +6,7 @@ ghost use Rattle.dvg_check.specs.Safety.{Safe, CountsAtHalt};
 ghost use Rattle.dvg_make.specs.Accounts.{entry_fault, IsAccount};
 ghost use Rattle.dvg_make.specs.Frames.{FrameMade};
 ghost use Rattle.dvg_make.specs.Refusals.{FramesRefuse};
-ghost use Rattle.dvg_make.specs.Judging.{AreLeast, FrameRefused, FrameVerdict, IsRefusalBy};
+ghost use Rattle.dvg_make.specs.Judging.{AreLeast, FrameRefused, FrameVerdict, HasCallCause, IsRefusalBy};
 
 use crate::account::{MakeAccount, explain_making};
 use crate::fault::{EntryFault, FramesFault};
@@ -55,6 +55,7 @@ fn check_made(
     ensures exact { IfOk result (λ yes. CountsAtHalt (record { frame = frame.now; rom = rom.now }) yes.words yes.depth) }
     ensures least { IfOk result (λ yes. AreLeast rom.now frame.now window yes.words yes.depth) }
     ensures refused { IfErr result (FrameRefused rom.now frame.now window budget) }
+    ensures told { IfErr result (HasCallCause rom.now frame.now) }
 {
     match check_parts_exact(alloc, rom, frame, cert, budget, window) {
         Ok(yes) => Ok(yes),
@@ -68,8 +69,8 @@ fn check_made(
 /// What is accepted is safe, with exact counts, as [`check_parts_exact`] says, and no certificate gets the frame accepted
 /// with fewer words or less depth. The answer is the refusal of [`make_for_frames`] for the first call whose entry is not made,
 /// else that of the checker on the made certificate; it means that no certificate gets the frame accepted, but for 62 by the
-/// number of entries, where another one may, and for 63 and 50, where memory was out. Takes memory for the certificate and
-/// its index.
+/// number of entries, where another one may, and for 63 and 50, where memory was out. 62 by the number of entries comes only
+/// where the calls up to this one really need too many. Takes memory for the certificate and its index.
 pub fn judge(
     alloc: Global,
     rom: &RomImage,
@@ -83,6 +84,7 @@ pub fn judge(
     ensures exact { IfOk result (λ yes. CountsAtHalt (record { frame = frame.now; rom = rom.now }) yes.words yes.depth) }
     ensures least { IfOk result (λ yes. AreLeast rom.now frame.now window yes.words yes.depth) }
     ensures refused { IfErr result (FrameRefused rom.now frame.now window budget) }
+    ensures told { IfErr result (HasCallCause rom.now frame.now) }
 {
     match make_for_frames(alloc, rom, &[], slice::from_ref(frame)) {
         Ok(cert) => check_made(alloc, rom, frame, &cert, budget, window),
@@ -117,6 +119,7 @@ pub fn explain_judging(
     ensures exact { IfOk result.verdict (λ yes. CountsAtHalt (record { frame = frame.now; rom = rom.now }) yes.words yes.depth) }
     ensures least { IfOk result.verdict (λ yes. AreLeast rom.now frame.now window yes.words yes.depth) }
     ensures refused { IfErr result.verdict (FrameRefused rom.now frame.now window budget) }
+    ensures told { IfErr result.verdict (HasCallCause rom.now frame.now) }
 
     // What was made, or why not, is an answer of `explain_making`, and the verdict refuses what is not made by its fault.
     ensures ok { IfOk result.made (λ cert. FrameMade rom.now frame.now cert.entries) }

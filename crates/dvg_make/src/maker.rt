@@ -7,6 +7,7 @@ ghost use Rattle.dvg_cert.specs.Entry.{IsKey};
 ghost use Rattle.dvg_make.specs.Made.{HasEntry, Made};
 ghost use Rattle.dvg_make.specs.Frames.{FramesMade};
 ghost use Rattle.dvg_make.specs.Refusals.{Refuses, FramesRefuse};
+ghost use Rattle.dvg_make.specs.Accounts.{HasCause, HasRootCause};
 ghost use Rattle.dvg_make.specs.Private.Making.{IsDone, Making, BarsRoot, BarsRoots, Collected, stop_fault, stuck_fault, IsToldFrom, IsToldOf};
 ghost use Rattle.dvg_make.specs.Private.Walking.{AreTails};
 ghost use Rattle.dvg_make.specs.Private.Framing.{AllFramed, IsForSome, MakesFor};
@@ -146,9 +147,12 @@ pub fn certificate_of(alloc: Global, map: RomMap, mut done: Done) -> Result<Cert
 /// least boxes, and for each call an entry at the very scale that is known there (profile). Its map is the ROM's.
 ///
 /// The calls of a frame are those among its items, up to and with its last, whatever rule an item breaks. A refusal names the
-/// frame's call whose entry is not made; roots come first, then the frames in their order. For a frame's call, 60, 61 and 62 by
-/// a count come only where no certificate at all gets this frame accepted; 62 by the number of entries only where the
-/// certificate would be too long, and then another one may be accepted. A root outside the ROM or with a scale over 15 is 60.
+/// frame's call whose entry is not made; roots come first, then the frames in their order. It is the first that the making comes
+/// to, with its own word for 60: what is asked for before it is made, and so is all that the items before the faulty one call.
+/// 62 by the number of entries comes where all that is made and in the making up to there are 4,096 entries, and one more is
+/// called. For a frame's call, 60, 61 and 62 by a count come only where no certificate at all gets this frame accepted; 62 by the
+/// number of entries only where the certificate would be too long, and then another one may be accepted. A root outside the ROM
+/// or with a scale over 15 is 60.
 /// 63 comes where there was no memory. What is lit at an absolute place may lie anywhere: no window is asked. Takes memory for
 /// the entries and for the shapes in the making.
 pub fn make_for_frames(
@@ -160,6 +164,7 @@ pub fn make_for_frames(
     ensures ok { IfOk result (λ cert. FramesMade rom.now roots.now frames.now cert.entries) }
     ensures map { IfOk result (λ cert. cert.map ≡ rom.now.map) }
     ensures err { IfErr result (FramesRefuse rom.now roots.now frames.now) }
+    ensures told { IfErr result (HasCause rom.now roots.now frames.now) }
 {
     let map = rom.map();
     let done = match make_all(alloc, rom, roots, frames) {
@@ -175,13 +180,14 @@ pub fn make_for_frames(
 /// A root is a word address and the global scale at the call, `Any` where it is not known. A root that is given twice has
 /// one entry, no roots give the empty certificate, and a root outside the ROM or with a scale over 15 is 60.
 ///
-/// Refuses 60 to 62 only where there is no such certificate, and 63 where there was no memory. The first fault met is
-/// answered: roots and items in order, an entry that an item needs before the item. A shape is walked once for each scale
-/// at which it is needed, and a long one no further than to where it is known what comes.
+/// Refuses 60 to 62 only where there is no such certificate, and 63 where there was no memory. The first fault met is answered,
+/// as [`make_for_frames`] does: roots and items in order, an entry that an item needs before the item. A shape is walked once for
+/// each scale at which it is needed, and a long one no further than to where it is known what comes.
 pub fn make(alloc: Global, rom: &RomImage, roots: &[(u16, Key)]) -> Result<Cert, MakeFault>
     ensures ok { IfOk result (λ cert. Made rom.now roots.now cert.entries) }
     ensures map { IfOk result (λ cert. cert.map ≡ rom.now.map) }
     ensures err { IfErr result (Refuses rom.now roots.now) }
+    ensures told { IfErr result (HasRootCause rom.now roots.now) }
 {
     match make_for_frames(alloc, rom, roots, &[]) {
         Ok(cert) => Ok(cert),

@@ -1,5 +1,5 @@
 -- A frame whose calls are made one after another.
-use Rattle.std.specs.Prelude.{◌≡◌, ℕ, ◌<◌, ◌++◌, ◌⊎◌, List, [], length, Option, Some, None, Contains}
+use Rattle.std.specs.Prelude.{◌≡◌, ℕ, ◌+◌, ◌<◌, ◌≤◌, ◌++◌, ◌⊎◌, List, [], length, Option, Some, None, Contains}
 use Rattle.dvg_words.specs.Memory.{Rom}
 use Rattle.dvg_words.specs.Values.{MemoryMap}
 use Rattle.dvg_words.specs.declared.instruction.Instr.{Instr}
@@ -11,6 +11,7 @@ use Rattle.dvg_items.specs.declared.item.Kind.TheVariants.{Frame}
 use Rattle.dvg_items.specs.Known.{target}
 use Rattle.dvg_make.specs.Made.{HasEntry, AllMade}
 use Rattle.dvg_make.specs.Frames.{AllKeyed, FrameCalls, IsAskedFor, FramesMade}
+use Rattle.dvg_make.specs.Accounts.{AllWithin}
 use Rattle.dvg_make.specs.Refusals.{BarsFrame, StopsAt, EntryFault, Unstraight, Deep, TooManyWords, TooManyEntries, Memory}
 use Rattle.dvg_make.specs.Private.Walking.{Extends}
 use Rattle.dvg_make.specs.declared.walk.Walk.{Walk}
@@ -81,6 +82,7 @@ AllCalledHere rom words old list chain =
 -- what is told of the call at a place, by a list of made and needed entries, which has one for each call before it
 pub record TellsHere (rom : Rom) (words : List ℕ) (old : List Entry) (at : ℕ) (chain : List Walk) (stop : Stop) : Type 0 where
   pub list : List Entry
+  pub within : AllWithin rom list
   pub made : AllMade rom list
   pub to : ℕ
   pub scale : Key
@@ -89,6 +91,7 @@ pub record TellsHere (rom : Rom) (words : List ℕ) (old : List Entry) (at : ℕ
   pub before : AllKeyed list calls.earlier
   pub extends : Extends old list
   pub needed : AllCalledHere rom words old list chain
+  pub room : length list + length chain ≤ MOST_ENTRIES
   pub tells : TellsStop rom list (to, scale) chain stop
   pub no_root : IsNoRoot stop
 

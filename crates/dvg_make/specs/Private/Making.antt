@@ -142,11 +142,11 @@ stop_fault stop = entry_fault stop.cursor.at stop.cause
 abbrev pub TellsStop : Rom → List Entry → ℕ × Key → List Walk → Stop → Type 0
 TellsStop rom list root chain stop = Tells rom list (asked_link root) (links chain) stop.cursor.at stop.cursor.known stop.cause
 
--- for each root and list begun with, by the entries that are made, which are needed
+-- for each root and list begun with, by the entries that are made, which are needed, and for which there is room
 abbrev pub TellsAll : Rom → List Entry → List Walk → List Walk → Stop → Type 0
 TellsAll rom done stack chain stop =
     (from : List Entry) (root : ℕ × Key) → Making rom from root done stack
-    → TellsStop rom done root chain stop × AllCalled rom from root done chain
+    → TellsStop rom done root chain stop × AllCalled rom from root done chain × (length done + length chain ≤ MOST_ENTRIES)
 
 -- by some list of made and needed entries that has those from before
 pub record IsToldFrom (rom : Rom) (from : List Entry) (root : ℕ × Key) (chain : List Walk) (stop : Stop) : Type 0 where
@@ -154,6 +154,7 @@ pub record IsToldFrom (rom : Rom) (from : List Entry) (root : ℕ × Key) (chain
   pub is_done : IsDone rom list
   pub extends : Extends from list
   pub needed : AllCalled rom from root list chain
+  pub room : length list + length chain ≤ MOST_ENTRIES
   pub tells : TellsStop rom list root chain stop
 
 -- it is not that a root is outside the ROM

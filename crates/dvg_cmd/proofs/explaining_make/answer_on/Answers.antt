@@ -1,6 +1,7 @@
 use Rattle.std.proofs.Common.{◌∙◌, sym, subst, ap, length}
 use Rattle.std.specs.Prelude.{IfErr}
 use Rattle.dvg_cmd.specs.MakingFrames.{of_each, FramesFaultMeans}
+use Rattle.dvg_make.proofs.Causes.{account_cause}
 use Rattle.dvg_cmd.proofs.MakerRuns.{wrong_length}
 use Rattle.dvg_cmd.proofs.FramesRuns.{frames_made, frames_refused, lengths_refused}
 use Rattle.dvg_cmd.proofs.explaining_make.answer_on.Goals as goal
@@ -31,4 +32,5 @@ pub returns-clause-refused : goal.returns-clause-refused
 returns-clause-refused c =
     λ held readers read prefixes. subst (λ f. FramesFaultMeans held c.args.map c.args.roots.now readers f) (sym c.into-in-Err-explain_making.ensures)
     (frames_refused c.args.map c.in-Ok.ensures.map held c.args.roots.now c.args.rom.now c.in-Ok.image read c.in-Ok.ensures.image readers (of_each (λ bytes. bytes.items) c.args.frames.now) prefixes
-    c.in-Ok-images_of.ensures.frames c.deref.result.now (c.deref.ensures.value ∙ c.in-Ok-images_of.ensures.images) c.in-Err-explain_making.account.fault c.in-Err-explain_making.ensures.err)
+    c.in-Ok-images_of.ensures.frames c.deref.result.now (c.deref.ensures.value ∙ c.in-Ok-images_of.ensures.images) c.in-Err-explain_making.account.fault c.in-Err-explain_making.ensures.err
+    (account_cause c.in-Ok.image c.args.roots.now c.deref.result.now c.in-Err-explain_making.account c.in-Err-explain_making.ensures.why c.in-Err-explain_making.ensures.chain))

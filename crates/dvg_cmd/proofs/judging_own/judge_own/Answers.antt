@@ -4,7 +4,7 @@ use Rattle.dvg_cmd.proofs.judging_own.judge_own.Goals as goal
 pub returns-in-Ok : goal.returns-in-Ok
 returns-in-Ok c =
     let judged = c.explain_judging-judged in
-    own_verdict c.args.rom.now c.args.map c.args.frame.now c.args.budget c.args.window c.in-Ok.frame c.in-Ok.rom c.in-Ok.ensures.ok judged.result.verdict judged.ensures.safe judged.ensures.exact judged.ensures.least judged.ensures.refused judged.ensures.verdict
+    own_verdict c.args.rom.now c.args.map c.args.frame.now c.args.budget c.args.window c.in-Ok.frame c.in-Ok.rom c.in-Ok.ensures.ok judged.result.verdict judged.ensures.safe judged.ensures.exact judged.ensures.least judged.ensures.refused judged.ensures.verdict judged.ensures.told
 
 pub returns-in-Err : goal.returns-in-Err
 returns-in-Err c = c.in-Err.ensures.err c.args.window

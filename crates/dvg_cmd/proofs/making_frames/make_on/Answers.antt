@@ -20,7 +20,7 @@ pub returns-in_err-make_for_frames-clause-refused :
 returns-in_err-make_for_frames-clause-refused c =
     λ held readers read prefixes. told_err c.from_residual-in_err-make_for_frames.result _ (FramesFaultMeans held c.args.map c.args.roots.now readers) c.from_residual-in_err-make_for_frames.ensures.1
     (frames_refused c.args.map c.in-Ok.ensures.map held c.args.roots.now c.args.rom.now c.in-Ok.rom read c.in-Ok.ensures.image readers (of_each (λ bytes. bytes.items) c.args.frames.now) prefixes
-    c.in_ok-images.ensures.frames c.deref.result.now (c.deref.ensures.value ∙ c.in_ok-images.ensures.images) c.in_err-make_for_frames.field-0.0 c.in_err-make_for_frames.ensures.err)
+    c.in_ok-images.ensures.frames c.deref.result.now (c.deref.ensures.value ∙ c.in_ok-images.ensures.images) c.in_err-make_for_frames.field-0.0 c.in_err-make_for_frames.ensures.err c.in_err-make_for_frames.ensures.told)
 
 pub returns-clause-ok : goal.returns-clause-ok
 returns-clause-ok c =

@@ -1,7 +1,9 @@
 use Rattle.std.proofs.Common.{subst, sym}
+use Rattle.dvg_make.specs.Accounts.{HasRootCause}
 use Rattle.dvg_make.specs.Refusals.{Refuses}
 use Rattle.dvg_make.proofs.Finishing.{made_roots}
 use Rattle.dvg_make.proofs.Collecting.{as_make_fault}
+use Rattle.dvg_make.proofs.Causes.{root_cause}
 use Rattle.dvg_make.proofs.maker.make.Goals as goal
 
 pub returns-in-Ok-clause-ok : goal.returns-in-Ok-clause-ok
@@ -10,3 +12,7 @@ returns-in-Ok-clause-ok c = made_roots c.args.rom.now c.args.roots.now c.in-Ok.c
 pub returns-in-Err-clause-err : goal.returns-in-Err-clause-err
 returns-in-Err-clause-err c =
     subst (Refuses c.args.rom.now c.args.roots.now) (sym c.into.ensures) (as_make_fault c.args.rom.now c.args.roots.now c.in-Err.fault.why c.in-Err.ensures.err.list)
+
+pub returns-in-Err-clause-told : goal.returns-in-Err-clause-told
+returns-in-Err-clause-told c =
+    subst (HasRootCause c.args.rom.now c.args.roots.now) (sym c.into.ensures) (root_cause c.args.rom.now c.args.roots.now c.in-Err.fault c.in-Err.ensures.told)

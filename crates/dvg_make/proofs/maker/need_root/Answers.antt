@@ -5,7 +5,7 @@ use Rattle.dvg_make.specs.Private.Making.{stop_fault}
 use Rattle.dvg_words.specs.Memory.{InRom}
 use Rattle.dvg_cert.specs.Entry.{IsKey}
 use Rattle.dvg_make.proofs.Turns.{called_none}
-use Rattle.dvg_make.proofs.Telling.{tells_outside}
+use Rattle.dvg_make.proofs.Telling.{room_of_none, tells_outside}
 use Rattle.std.specs.Prelude.{IsTrue, false}
 use Rattle.dvg_make.proofs.maker.need_root.Goals as goal
 
@@ -33,5 +33,6 @@ returns-then-not-can_be_root-clause-told c =
       is_done = c.requires.done;
       extends = λ addr key e q. q;
       needed = called_none c.args.rom.now c.args.done.now (c.args.addr, c.args.key) c.new-chain.result c.new-chain.ensures;
+      room = room_of_none c.args.done.now c.new-chain.result c.new-chain.ensures c.requires.done.room;
       tells = tells_outside c.args.rom.now c.args.done.now c.args.addr c.args.key outside c.new-chain.result c.new-chain.ensures c.stop-stop.result (c.stop-stop.ensures ∙ ap (λ (w : Walk). record { cursor = w.cursor; cause = RootOutside }) c.start.ensures);
     }

@@ -3,7 +3,7 @@ use Rattle.dvg_make.specs.declared.walk.Walk.{Walk}
 use Rattle.dvg_make.specs.declared.stuck.Stop.{Stop}
 use Rattle.dvg_make.specs.Private.Making.{Bars, stop_fault}
 use Rattle.dvg_make.proofs.Turns.{first_fault, first_ok, first_present, called_none}
-use Rattle.dvg_make.proofs.Telling.{tells_first, begin_no_root}
+use Rattle.dvg_make.proofs.Telling.{room_of_none, tells_first, begin_no_root}
 use Rattle.dvg_make.proofs.shapes.make_entry.Goals as goal
 
 pub returns-in-Err-clause-err : goal.returns-in-Err-clause-err
@@ -18,6 +18,7 @@ returns-in-Err-clause-told c =
       is_done = c.requires.done;
       extends = λ addr key e q. q;
       needed = called_none c.args.rom.now c.args.done.now (c.args.addr, c.args.key) c.begin.new.stack (c.in-Err.ensures.same ∙ c.new-stack.ensures);
+      room = room_of_none c.args.done.now c.begin.new.stack (c.in-Err.ensures.same ∙ c.new-stack.ensures) c.requires.done.room;
       tells = tells_first c.args.rom.now c.args.done.now c.args.addr c.args.key c.requires.done.unique c.requires.new c.new-stack.result c.begin.new.stack c.new-stack.ensures c.in-Err.ensures.same c.stop-stop.result c.in-Err.cause (c.stop-stop.ensures ∙ ap (λ (w : Walk). record { cursor = w.cursor; cause = c.in-Err.cause }) c.start.ensures) c.in-Err.ensures.err;
     }
 
@@ -52,5 +53,6 @@ returns-in-Err-turn-clause-told c =
       is_done = c.loop-walk.invariant.making.is_done;
       extends = c.loop-walk.invariant.making.extends;
       needed = t.1;
+      room = t.2;
       tells = t.0;
     }

@@ -5,7 +5,7 @@ use Rattle.dvg_make.specs.Private.Making.{IsPresent, Making, NotBegun, stop_faul
 use Rattle.dvg_make.proofs.Chains.{walks_last, none_here, finished_new, making_finished, present_finished}
 use Rattle.dvg_make.proofs.Turns.{begun_ok, begun_present, called_moved, refused, as_bar, not_err, if_err_same}
 use Rattle.dvg_make.proofs.Onward.{reached}
-use Rattle.dvg_make.proofs.Telling.{tells_stopped, tells_memory, tells_not_begun, begin_no_root, stopped_no_root}
+use Rattle.dvg_make.proofs.Telling.{room_moved, tells_stopped, tells_memory, tells_not_begun, begin_no_root, stopped_no_root}
 use Rattle.dvg_make.proofs.shapes.turn.Goals as goal
 
 pub advance-requires-clause-walk : goal.advance-requires-clause-walk
@@ -21,7 +21,7 @@ returns-in_err-entry-clause-err c =
 pub returns-in_err-entry-clause-told : goal.returns-in_err-entry-clause-told
 returns-in_err-entry-clause-told c =
     if_err_same c.from_residual.result c.in_err-entry.field-0.0 (TellsAll c.args.rom.now c.args.done.now c.args.stack.now c.args.stack.now) c.from_residual.ensures.1
-    (λ from root h. (subst (λ s. TellsStop c.args.rom.now c.args.done.now root s c.in_err-entry.field-0.0) (sym c.requires.top.1) (tells_stopped c.args.rom.now from root c.args.done.now c.requires.top.0 c.args.walk (subst (Making c.args.rom.now from root c.args.done.now) c.requires.top.1 h) c.in_err-entry.field-0.0 c.in_err-entry.ensures.err), h.needed))
+    (λ from root h. (subst (λ s. TellsStop c.args.rom.now c.args.done.now root s c.in_err-entry.field-0.0) (sym c.requires.top.1) (tells_stopped c.args.rom.now from root c.args.done.now c.requires.top.0 c.args.walk (subst (Making c.args.rom.now from root c.args.done.now) c.requires.top.1 h) c.in_err-entry.field-0.0 c.in_err-entry.ensures.err), h.needed, h.room))
 
 pub finish-requires-clause-new : goal.finish-requires-clause-new
 finish-requires-clause-new c =
@@ -42,7 +42,7 @@ pub returns-then-is_err-clause-told : goal.returns-then-is_err-clause-told
 returns-then-is_err-clause-told c =
     λ from root h.
     let m = subst (Making c.args.rom.now from root c.args.done.now) c.requires.top.1 h in
-    (subst (λ s. TellsStop c.args.rom.now c.args.done.now root s c.stop.result) (sym c.requires.top.1) (tells_memory c.args.rom.now from root c.args.done.now c.requires.top.0 c.args.walk m c.stop.result c.stop.ensures (reached c.args.rom.now c.args.done.now c.args.walk (walks_last c.args.rom.now c.args.done.now c.requires.top.0 c.args.walk m.walks))), h.needed)
+    (subst (λ s. TellsStop c.args.rom.now c.args.done.now root s c.stop.result) (sym c.requires.top.1) (tells_memory c.args.rom.now from root c.args.done.now c.requires.top.0 c.args.walk m c.stop.result c.stop.ensures (reached c.args.rom.now c.args.done.now c.args.walk (walks_last c.args.rom.now c.args.done.now c.requires.top.0 c.args.walk m.walks))), h.needed, h.room)
 
 pub returns-else-is_err-clause-ok : goal.returns-else-is_err-clause-ok
 returns-else-is_err-clause-ok c =
@@ -79,7 +79,7 @@ returns-in-Err-clause-told c =
     let m = subst (Making c.args.rom.now from root c.args.done.now) c.requires.top.1 h in
     let w = subst (Advances c.args.rom.now c.args.done.now c.args.walk) c.in-Waiting.is c.in_ok-entry.ensures.ok in
     let moved = c.in-Err.ensures.same ∙ c.replace_top.ensures c.requires.top.0 c.args.walk c.requires.top.1 in
-    (tells_not_begun c.args.rom.now from root c.args.done.now c.requires.top.0 c.args.walk m c.in-Waiting.walk c.in-Waiting.addr w c.begin.new.stack moved c.stop-in-Err.result c.in-Err.cause c.stop-in-Err.ensures (subst (λ s. NotBegun c.args.done.now s c.in-Waiting.addr c.in-Waiting.walk.cursor.known.scale c.in-Err.cause) (sym c.in-Err.ensures.same) c.in-Err.ensures.err), called_moved c.args.rom.now from root c.args.done.now c.requires.top.0 c.args.walk m c.in-Waiting.walk c.in-Waiting.addr w c.begin.new.stack moved)
+    (tells_not_begun c.args.rom.now from root c.args.done.now c.requires.top.0 c.args.walk m c.in-Waiting.walk c.in-Waiting.addr w c.begin.new.stack moved c.stop-in-Err.result c.in-Err.cause c.stop-in-Err.ensures (subst (λ s. NotBegun c.args.done.now s c.in-Waiting.addr c.in-Waiting.walk.cursor.known.scale c.in-Err.cause) (sym c.in-Err.ensures.same) c.in-Err.ensures.err), called_moved c.args.rom.now from root c.args.done.now c.requires.top.0 c.args.walk m c.in-Waiting.walk c.in-Waiting.addr w c.begin.new.stack moved, room_moved c.args.rom.now from root c.args.done.now c.requires.top.0 c.args.walk m c.in-Waiting.walk c.begin.new.stack moved)
 
 pub returns-in_err-entry-clause-no_root : goal.returns-in_err-entry-clause-no_root
 returns-in_err-entry-clause-no_root c =

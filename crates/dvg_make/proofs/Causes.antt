@@ -1,0 +1,111 @@
+-- The cause of a refusal, told of roots and frames.
+use Rattle.std.proofs.Common.{◌≡◌, ℕ, zero, suc, List, [], ◌∷◌, Option, Some, None, refl, sym, ◌∙◌, subst}
+use Rattle.std.specs.Prelude.{slice_get}
+use Rattle.dvg_words.specs.Memory.{Rom}
+use Rattle.dvg_cert.specs.declared.entry.Key.{Key}
+use Rattle.dvg_cert.specs.declared.entry.Key.TheVariants.{Any}
+use Rattle.dvg_items.specs.declared.item.Kind.TheVariants.{Shape}
+use Rattle.dvg_items.specs.Known.{start}
+use Rattle.dvg_make.specs.declared.stuck.FramesStuck.{FramesStuck}
+use Rattle.dvg_make.specs.declared.account.EntryCause.TheVariants as cause
+use Rattle.dvg_make.specs.Accounts.{EntryCause, MakeAccount, UnlessMemory, IsAccount, IsTold, HasCause, HasRootCause, entry_fault}
+use Rattle.dvg_make.specs.Judging.{FrameRefusal, Make, NoMemory, Check, IsRefusalBy, HasCallCause}
+use Rattle.dvg_make.specs.Refusals.{Memory, FrameCall, FramesFault, make_fault_of}
+use Rattle.dvg_make.specs.Private.Making.{links, stuck_fault, IsToldOf}
+
+unless_map : (c : EntryCause) (S T : Type 0) → (S → T) → UnlessMemory c S → UnlessMemory c T
+unless_map cause.Memory S T f h = tt
+unless_map cause.RootOutside S T f h = f h
+unless_map cause.Missing S T f h = f h
+unless_map cause.Odd S T f h = f h
+unless_map cause.Halt S T f h = f h
+unless_map cause.LostPlace S T f h = f h
+unless_map cause.UnknownScale S T f h = f h
+unless_map (cause.Ring from) S T f h = f h
+unless_map (cause.Deep to key) S T f h = f h
+unless_map (cause.TooManyWords words) S T f h = f h
+unless_map cause.TooManyEntries S T f h = f h
+
+unless : (c : EntryCause) (T : Type 0) → T → UnlessMemory c T
+unless cause.Memory T t = tt
+unless cause.RootOutside T t = t
+unless cause.Missing T t = t
+unless cause.Odd T t = t
+unless cause.Halt T t = t
+unless cause.LostPlace T t = t
+unless cause.UnknownScale T t = t
+unless (cause.Ring from) T t = t
+unless (cause.Deep to key) T t = t
+unless (cause.TooManyWords words) T t = t
+unless cause.TooManyEntries T t = t
+
+module _ (rom : Rom) (roots : List (ℕ × Key)) (frames : List (List ℕ)) where
+  -- where the making stopped
+  pub stuck_cause : (refusal : FramesStuck) → IsToldOf rom roots frames refusal.call refusal.stuck.chain refusal.stuck.stop → HasCause rom roots frames (stuck_fault refusal)
+  stuck_cause refusal told =
+      record {
+        chain = links refusal.stuck.chain;
+        at = refusal.stuck.stop.cursor.at;
+        before = refusal.stuck.stop.cursor.known;
+        cause = refusal.stuck.stop.cause;
+        why_is = refl;
+        told = unless refusal.stuck.stop.cause (IsToldOf rom roots frames refusal.call refusal.stuck.chain refusal.stuck.stop) told;
+      }
+
+  -- where memory was out
+  pub memory_cause : (call : Option FrameCall) → HasCause rom roots frames (record { call = call; why = Memory })
+  memory_cause call = record { chain = []; at = 0; before = start Shape Any; cause = cause.Memory; why_is = refl; told = tt }
+
+  -- what an account tells
+  pub account_cause : (a : MakeAccount) → a.fault.why ≡ entry_fault a.at a.cause → IsAccount rom roots frames a → HasCause rom roots frames a.fault
+  account_cause a why told = record { chain = a.chain.items; at = a.at; before = a.before; cause = a.cause; why_is = why; told = told }
+
+-- where there is no frame, no call is named
+pub root_cause : (rom : Rom) (roots : List (ℕ × Key)) (fault : FramesFault) → HasCause rom roots [] fault → HasRootCause rom roots (make_fault_of fault.why)
+root_cause rom roots fault h = (
+  fault.why,
+  refl,
+  record {
+    chain = h.chain;
+    at = h.at;
+    before = h.before;
+    cause = h.cause;
+    why_is = h.why_is;
+    told = unless_map h.cause (Told fault.call) (Told None) (no_call fault.call) h.told;
+  },
+)
+  where
+    Told : Option FrameCall → Type 0
+    Told call = IsTold rom roots [] call h.chain h.at h.before h.cause
+
+    no_call : (call : Option FrameCall) → Told call → Told None
+    no_call None t = t
+    no_call (Some call) t = let none : None ≡ Some t.named.0 = t.named.1 in cc none
+
+-- of one frame
+first_frame : (words other : List ℕ) (i : ℕ) → slice_get (words ∷ []) i ≡ Some other → i ≡ 0
+first_frame words other zero e = refl
+first_frame words other (suc i) e = cc e
+
+pub call_cause : (rom : Rom) (words : List ℕ) (fault : FramesFault) (r : FrameRefusal) → HasCause rom [] (words ∷ []) fault → IsRefusalBy fault r → HasCallCause rom words r
+call_cause rom words fault (Make at why) h e =
+    record {
+      chain = h.chain;
+      at = h.at;
+      before = h.before;
+      cause = h.cause;
+      why_is = sym e.0 ∙ h.why_is;
+      told = unless_map h.cause (Told fault.call) (Told (Some (record { frame = 0; at = at }))) here h.told;
+    }
+  where
+    Told : Option FrameCall → Type 0
+    Told call = IsTold rom [] (words ∷ []) call h.chain h.at h.before h.cause
+
+    here : Told fault.call → Told (Some (record { frame = 0; at = at }))
+    here t =
+        let call : FrameCall = e.2.0 in
+        let told : Told (Some call) = subst Told e.2.1 t in
+        let first = first_frame words told.named.0 call.frame told.named.1 in
+        subst Told (λ j. Some (record { frame = first j; at = e.2.2 j })) told
+call_cause rom words fault NoMemory h e = tt
+call_cause rom words fault (Check r) h e = tt
