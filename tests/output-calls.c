@@ -1,9 +1,11 @@
 // A library that is loaded before the program's C library (LD_PRELOAD), for a program that writes a file anew: it notes the calls
-// by which that is done, and lets one of them fail. It is set by words of the environment:
+// by which that is done, and lets one of them fail. It also notes what is written on standard output and error. It is set by words
+// of the environment:
 //
 //   CALLS=FILE     where the calls are noted, a line for each: create, mode, write, sync, rename or remove
 //   FAIL=CALL      the call of this kind that fails, with EIO; `write` is the second, when one piece stands in the file
 //   MEMORY=NUMBER  the number of the malloc or realloc that finds no memory
+//   WRITES=FILE    where each write on standard output and error is noted, a line for each: the stream and how many bytes it took
 #define _GNU_SOURCE
 #include <errno.h>
 #include <fcntl.h>
@@ -18,25 +20,30 @@
 void *__libc_malloc(size_t);
 void *__libc_realloc(void *, size_t);
 
-static const char *kind = "", *notes;
+static const char *kind = "", *notes, *writes;
 static int pieces;
 static long blocks, refused;
 
 __attribute__((constructor)) static void begin(void) {
   const char *memory = getenv("MEMORY");
   notes = getenv("CALLS");
+  writes = getenv("WRITES");
   if (getenv("FAIL")) kind = getenv("FAIL");
   blocks = 0;
   refused = memory ? atol(memory) : 0;
 }
 
-static int fails(const char *call) {
-  int file = openat(AT_FDCWD, notes ? notes : "/dev/null", O_WRONLY | O_APPEND | O_CREAT, 0600);
-  if (file < 0) _exit(99);
-  char line[20];
-  int length = snprintf(line, sizeof line, "%s\n", call);
-  if (syscall(SYS_write, file, line, length) != length) _exit(99);
+static void note(const char *name, const char *line) {
+  int file = openat(AT_FDCWD, name ? name : "/dev/null", O_WRONLY | O_APPEND | O_CREAT, 0600);
+  ssize_t length = strlen(line);
+  if (file < 0 || syscall(SYS_write, file, line, length) != length) _exit(99);
   syscall(SYS_close, file);
+}
+
+static int fails(const char *call) {
+  char line[20];
+  snprintf(line, sizeof line, "%s\n", call);
+  note(notes, line);
   errno = EIO;
   return !strcmp(kind, call) && (strcmp(call, "write") || ++pieces == 2);
 }
@@ -54,8 +61,18 @@ int fchmod(int file, mode_t mode) { return fails("mode") ? -1 : syscall(SYS_fchm
 
 ssize_t write(int file, const void *bytes, size_t length) {
   if (file > 2 && fails("write")) return -1;
-  return syscall(SYS_write, file, bytes, length);
+  ssize_t moved = syscall(SYS_write, file, bytes, length);
+  if (file <= 2 && writes) {
+    char line[40];
+    int error = errno;
+    snprintf(line, sizeof line, "%d %zd\n", file, moved);
+    note(writes, line);
+    errno = error;
+  }
+  return moved;
 }
+
+ssize_t __write(int file, const void *bytes, size_t length) { return write(file, bytes, length); }
 
 int fsync(int file) { return fails("sync") ? -1 : syscall(SYS_fsync, file); }
 

@@ -4,7 +4,7 @@ use crate::expecting::{expect_same, expect_shown, expect_shown_after};
 use dvg_cert::{CertFault, CertWhy, HashIndex, Key, ListIndex, read_cert};
 use dvg_check::{
     Accepted, FrameFault, FrameWhy, JudgedShapes, Mode, Refusal, ShapeFault, ShapeWhy, Yes, check,
-    check_frame, check_shapes,
+    check_frame, check_rom, check_shapes, frame_of,
 };
 use dvg_words::{FrameImage, ImageFault, RomImage, SCREEN};
 use std::alloc::{AllocError, Global};
@@ -61,6 +61,78 @@ fn judges_bytes(rt: HostRuntime) {
     for &(cert, budget, want) in VERDICTS {
         let verdict = check(rt.alloc(), &rom, cert, FRAME, budget, SCREEN);
         expect_same(&rt, &verdict, &want, &budget);
+    }
+}
+
+/// The stroke's certificate, with one word more than there is.
+const MORE_WORDS: &[u8] =
+    b"dvgcert 1\nshape 800 0 end rel 1047552 785408 box 0 1047552 0 785408 depth 0 words 4 scale 0\ndone 1\n";
+
+/// How many bytes the ROM has, certificates, modes and what is answered of the ROM and the frame.
+const ROM_VERDICTS: &[(usize, &[u8], Mode, Result<Yes, Refusal>)] = &[
+    (
+        2048,
+        CERT,
+        Mode::Bound,
+        Ok(Yes {
+            shapes: 1,
+            words: 7,
+            depth: 1,
+        }),
+    ),
+    (
+        2048,
+        CERT,
+        Mode::Exact,
+        Ok(Yes {
+            shapes: 1,
+            words: 7,
+            depth: 1,
+        }),
+    ),
+    (
+        2048,
+        MORE_WORDS,
+        Mode::Bound,
+        Ok(Yes {
+            shapes: 1,
+            words: 8,
+            depth: 1,
+        }),
+    ),
+    (
+        2048,
+        MORE_WORDS,
+        Mode::Exact,
+        Err(Refusal::Shape(ShapeFault {
+            addr: 0x800,
+            key: Key::At(0),
+            word: 0x802,
+            why: ShapeWhy::WordsDiffer,
+        })),
+    ),
+    (
+        2046,
+        CERT,
+        Mode::Bound,
+        Err(Refusal::Image(ImageFault::RomLength)),
+    ),
+];
+
+/// The verdict in a mode on the first bytes of the ROM and on the frame, by a certificate that was read before.
+fn judge_rom(alloc: Global, bytes: usize, text: &[u8], mode: Mode) -> Result<Yes, Refusal> {
+    let rom = rom_bytes();
+    let frame = frame_of(FRAME, 20000)?;
+    let cert = read_cert(alloc, text)?;
+    let rom = rom.get(..bytes).unwrap_or(&rom);
+    check_rom(alloc, rom, &frame, &cert, 20000, SCREEN, mode)
+}
+
+#[test]
+fn judges_a_rom(rt: HostRuntime) {
+    for &(bytes, text, mode, want) in ROM_VERDICTS {
+        let verdict = judge_rom(rt.alloc(), bytes, text, mode);
+        expect_same(&rt, &verdict, &want, &(bytes, mode));
     }
 }
 

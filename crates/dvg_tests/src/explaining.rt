@@ -4,9 +4,9 @@ use crate::expecting::{expect, expect_same};
 use dvg_cert::{End, Entries, Entry, HashIndex, Key, ListIndex, LitBox, read_cert};
 use dvg_check::{JudgedShapes, Mode, Yes};
 use dvg_explain::{
-    BoxLeaving, Call, Edge, FrameCause, Leaving, Losses, Margins, ShapeCause, explain_frame,
-    explain_rom, explain_shapes, find_chain, frame_calls, frame_extent, frame_losses,
-    shapes_extent,
+    BoxLeaving, Call, Edge, FrameCause, Leaving, Losses, Margins, ShapeCause, deepest_calls,
+    explain_frame, explain_rom, explain_shapes, find_chain, frame_calls, frame_extent,
+    frame_losses, shapes_extent,
 };
 use dvg_items::Item;
 use dvg_words::{FrameImage, Point, RomImage, SCREEN};
@@ -389,5 +389,47 @@ fn finds_chains(rt: HostRuntime) {
             Some(None) => expect_same(&rt, &None, &chain, &addr),
             None => expect(&rt, false, &addr),
         }
+    }
+}
+
+/// A ROM with JSRL 806 and JMPL 802 at 800, JSRL 804 and RTSL at 802, JSRL 806 and RTSL at 804, and RTSL at 806; zeros elsewhere.
+fn deep_rom_bytes() -> [u8; 2048] {
+    let mut bytes = [0; 2048];
+    bytes[..14].copy_from_slice(&[
+        0x06, 0xC8, 0x02, 0xE8, 0x04, 0xC8, 0x00, 0xD0, 0x06, 0xC8, 0x00, 0xD0, 0x00, 0xD0,
+    ]);
+    bytes
+}
+
+/// The certificate of its four shapes.
+const DEEP_CERT: &[u8] = b"dvgcert 1\n\
+shape 800 any end rel 0 0 box none depth 2 words 8 scale any\n\
+shape 802 any end rel 0 0 box none depth 2 words 5 scale any\n\
+shape 804 any end rel 0 0 box none depth 1 words 3 scale any\n\
+shape 806 any end rel 0 0 box none depth 0 words 1 scale any\n\
+done 4\n";
+
+/// Where the calls stand that go deepest below the first of the four shapes, and what they call.
+fn told_of_deepest(alloc: Global) -> Option<Vec<(u16, u16)>> {
+    let bytes = deep_rom_bytes();
+    let cert = read_cert(alloc, DEEP_CERT).ok()?;
+    let rom = RomImage::from_bytes(&bytes, cert.map()).ok()?;
+    let entries = HashIndex::new(alloc, &cert).ok()?;
+    let first = cert.entries().first()?;
+    let calls = deepest_calls(alloc, &rom, &cert, &entries, first).ok()?;
+    let mut told = Vec::new(alloc);
+    for call in &calls {
+        told.push((call.at, call.entry.addr)).ok()?;
+    }
+    Some(told)
+}
+
+/// The tail jump goes deeper than the call before it.
+#[test]
+fn finds_deepest_calls(rt: HostRuntime) {
+    let deepest = [(0x801, 0x802), (0x802, 0x804), (0x804, 0x806)];
+    match told_of_deepest(rt.alloc()) {
+        Some(told) => expect_same(&rt, &told.as_slice(), &&deepest[..], &"deepest"),
+        None => expect(&rt, false, &"deepest"),
     }
 }

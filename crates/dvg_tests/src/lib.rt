@@ -18,6 +18,8 @@ mod hostile;
 #[cfg(test)]
 mod items;
 #[cfg(test)]
+mod judging;
+#[cfg(test)]
 mod making;
 #[cfg(test)]
 mod rows;
@@ -25,5 +27,7 @@ mod rows;
 mod rules;
 #[cfg(test)]
 mod running;
+#[cfg(test)]
+mod texts;
 #[cfg(test)]
 mod words;

@@ -35,7 +35,14 @@ pub const STROKE_CERT: &[u8] =
     b"dvgcert 1\nshape 800 0 end rel 1047552 785408 box 0 1047552 0 785408 depth 0 words 3 scale 0\ndone 1\n";
 
 /// A certificate without entries of a ROM at 400 to 7FF.
-const AT_400: &[u8] = b"dvgcert 2\nrom 400 7FF\ndone 0\n";
+pub const AT_400: &[u8] = b"dvgcert 2\nrom 400 7FF\ndone 0\n";
+
+/// The certificates of the stroke at 400 in a ROM at 400 to 7FF, and of the stroke at 800 in a ROM of 1,023 words.
+const STROKE_AT_400: &[u8] =
+    b"dvgcert 2\nrom 400 7FF\nshape 400 0 end rel 1047552 785408 box 0 1047552 0 785408 depth 0 words 3 scale 0\ndone 1\n";
+
+const STROKE_TO_BFE: &[u8] =
+    b"dvgcert 2\nrom 800 BFE\nshape 800 0 end rel 1047552 785408 box 0 1047552 0 785408 depth 0 words 3 scale 0\ndone 1\n";
 
 /// The certificate of the stroke with the address in small letters, with -0, with the entry twice, with another count, with no last line, and
 /// with a byte more.
@@ -861,7 +868,14 @@ fn judges_rows(rt: HostRuntime) -> Result<(), Fail> {
 }
 
 /// A frame of HALT alone.
-const HALT: &[u8] = &[0x00, 0xB0];
+pub const HALT: &[u8] = &[0x00, 0xB0];
+
+/// Frames that call the stroke: `A080 0000 C800 B0B0`, and the same at 400.
+pub const STROKE_FRAME: &[u8] = &[0x80, 0xA0, 0x00, 0x00, 0x00, 0xC8, 0xB0, 0xB0];
+
+const FRAME_AT_400: &[u8] = &[0x80, 0xA0, 0x00, 0x00, 0x00, 0xC4, 0xB0, 0xB0];
+
+const STROKE_REPORT: &str = "accepted shapes=1 words=7 depth=1";
 
 /// Lengths of the stroke's ROM, texts, frames, and the reports: wrong lengths, and texts that are no certificate's.
 const BYTES: &[(usize, &[u8], &[u8], &str)] = &[
@@ -874,6 +888,12 @@ const BYTES: &[(usize, &[u8], &[u8], &str)] = &[
     (2048, EMPTY, &[0x00, 0xB0, 0x00], "refused 2"),
     (2048, b"", HALT, "refused 13 certificate line 1"),
     (2048, STROKE_CERT, HALT, "accepted shapes=1 words=1 depth=0"),
+    (2048, STROKE_CERT, STROKE_FRAME, STROKE_REPORT),
+    (2046, STROKE_CERT, STROKE_FRAME, "refused 1"),
+    (2048, STROKE_AT_400, FRAME_AT_400, STROKE_REPORT),
+    (2046, STROKE_AT_400, FRAME_AT_400, "refused 1"),
+    (2046, STROKE_TO_BFE, STROKE_FRAME, STROKE_REPORT),
+    (2048, STROKE_TO_BFE, STROKE_FRAME, "refused 1"),
     (2048, SMALL_HEX, HALT, "refused 10 certificate line 2"),
     (2048, MINUS_ZERO, HALT, "refused 10 certificate line 2"),
     (2048, TWICE, HALT, "refused 11 certificate line 3"),

@@ -1,6 +1,7 @@
 //! How far inputs are read, and what the statuses and messages of a run are.
 
 pub mod devices;
+mod explaining;
 mod making;
 
 use crate::expecting::{expect, expect_same, expect_shown};

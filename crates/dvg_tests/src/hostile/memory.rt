@@ -11,7 +11,8 @@ use crate::running::NEVER;
 use crate::running::devices::SlowWriter;
 use dvg_cert::*;
 use dvg_check::{
-    Accepted, JudgedShapes, Mode, check, check_frame, check_shapes, check_shapes_exact, frame_of,
+    Accepted, JudgedShapes, Mode, Refusal, Yes, check, check_exact, check_frame, check_parts,
+    check_parts_exact, check_shapes, check_shapes_exact, frame_of,
 };
 use dvg_cmd::{
     MakeRunFault, Outcome, RunFault, make_report_of, make_status_of, map_of, message_of, report_of,
@@ -38,17 +39,35 @@ fn line_of(report: &[u8]) -> &str {
     str::from_utf8(report).unwrap_or("").trim_end()
 }
 
-/// Stops the test unless `check` answers with this report about a ROM, a frame and a certificate.
-fn judge_bytes(rt: &impl Abort, alloc: Global, inputs: [&[u8]; 3], own: &[u8]) {
-    let [rom, frame, cert] = inputs;
-    let report = report_of(&check(alloc, rom, cert, frame, 20000, SCREEN));
+/// Stops the test unless this is the report of what a call answers.
+fn expect_report(rt: &impl Abort, call: &str, verdict: &Result<Yes, Refusal>, own: &[u8]) {
+    let report = report_of(verdict);
     if report.as_bytes() != own {
-        panic!(rt; "check: {}", line_of(report.as_bytes()));
+        panic!(rt; "{call}: {}", line_of(report.as_bytes()));
+    }
+}
+
+/// Stops the test unless `check`, or `check_exact`, answers with this report about a ROM, a frame and a certificate.
+fn judge_bytes(rt: &impl Abort, alloc: Global, inputs: [&[u8]; 3], mode: Mode, own: &[u8]) {
+    let [rom, frame, cert] = inputs;
+    match mode {
+        Mode::Bound => {
+            let verdict = check(alloc, rom, cert, frame, 20000, SCREEN);
+            expect_report(rt, "check", &verdict, own);
+        }
+        Mode::Exact => {
+            let verdict = check_exact(alloc, rom, cert, frame, 20000, SCREEN);
+            expect_report(rt, "check_exact", &verdict, own);
+        }
     }
 }
 
 /// How a run over a ROM, a frame and a certificate ends, and what it writes.
-fn run_over(alloc: Global, inputs: [&[u8]; 3]) -> (Result<Outcome, RunFault>, SlowWriter) {
+fn run_over(
+    alloc: Global,
+    inputs: [&[u8]; 3],
+    mode: Mode,
+) -> (Result<Outcome, RunFault>, SlowWriter) {
     let [rom, frame, cert] = inputs;
     let mut told = SlowWriter::new(64, NEVER);
     let end = run_check(
@@ -58,26 +77,50 @@ fn run_over(alloc: Global, inputs: [&[u8]; 3]) -> (Result<Outcome, RunFault>, Sl
         &mut Counted::new(frame),
         20000,
         SCREEN,
-        Mode::Bound,
+        mode,
         &mut Counted::new(&mut told),
     );
     (end, told)
 }
 
 /// Stops the test unless a run over them writes this report.
-fn judge_by_run(rt: &impl Abort, alloc: Global, inputs: [&[u8]; 3], own: &[u8]) {
-    let (end, told) = run_over(alloc, inputs);
+fn judge_by_run(rt: &impl Abort, alloc: Global, inputs: [&[u8]; 3], mode: Mode, own: &[u8]) {
+    let (end, told) = run_over(alloc, inputs, mode);
     if told.told() != own {
         panic!(rt; "status {}: {}", status_of(&end), line_of(told.told()));
     }
     assert!(rt; end == Ok(Outcome::Accepted));
 }
 
-/// What `check` and a run answer about a ROM, a frame and a certificate: this report, or what is told.
-fn judge(rt: &impl Abort, alloc: Global, inputs: [&[u8]; 3], own: &[u8]) -> Result<(), AllocError> {
+/// What the call on bytes and a run answer in a mode about a ROM, a frame and a certificate: this report, or what is told.
+fn judge(
+    rt: &impl Abort,
+    alloc: Global,
+    inputs: [&[u8]; 3],
+    mode: Mode,
+    own: &[u8],
+) -> Result<(), AllocError> {
     take_mark(alloc)?;
-    judge_bytes(rt, alloc, inputs, own);
-    judge_by_run(rt, alloc, inputs, own);
+    judge_bytes(rt, alloc, inputs, mode, own);
+    judge_by_run(rt, alloc, inputs, mode, own);
+    Ok(())
+}
+
+/// The same of the calls on images and a certificate that was read before the mark.
+fn judge_parts(rt: &impl Abort, alloc: Global, inputs: [&[u8]; 3], own: &[u8]) -> Result<(), Fail> {
+    let [rom, frame, cert] = inputs;
+    let cert = read_cert(alloc, cert)?;
+    let (Ok(rom), Ok(frame)) = (
+        RomImage::from_bytes(rom, cert.map()),
+        frame_of(frame, 20000),
+    ) else {
+        return Err(Fail::new("an image was refused"));
+    };
+    take_mark(alloc)?;
+    let verdict = check_parts(alloc, &rom, &frame, &cert, 20000, SCREEN);
+    expect_report(rt, "check_parts", &verdict, own);
+    let verdict = check_parts_exact(alloc, &rom, &frame, &cert, 20000, SCREEN);
+    expect_report(rt, "check_parts_exact", &verdict, own);
     Ok(())
 }
 
@@ -95,21 +138,56 @@ fn reads_four(rt: HostRuntime) -> Result<(), AllocError> {
 #[test]
 fn judges_four(rt: HostRuntime) -> Result<(), AllocError> {
     let inputs = [&four_rom(), FOUR_FRAME, FOUR_CERT];
-    judge(&rt, rt.alloc(), inputs, FOUR_REPORT)
+    judge(&rt, rt.alloc(), inputs, Mode::Bound, FOUR_REPORT)
 }
 
-/// A ROM of RTSL, and as many entries as a certificate may have.
 #[test]
-fn judges_full(rt: HostRuntime) -> Result<(), Fail> {
+fn judges_four_exactly(rt: HostRuntime) -> Result<(), AllocError> {
+    let inputs = [&four_rom(), FOUR_FRAME, FOUR_CERT];
+    judge(&rt, rt.alloc(), inputs, Mode::Exact, FOUR_REPORT)
+}
+
+#[test]
+fn judges_parts_of_four(rt: HostRuntime) -> Result<(), Fail> {
+    let inputs = [&four_rom(), FOUR_FRAME, FOUR_CERT];
+    judge_parts(&rt, rt.alloc(), inputs, FOUR_REPORT)
+}
+
+/// A ROM of RTSL.
+fn full_rom() -> [u8; 2048] {
     let mut rom = [0; 2048];
     for at in 0..1024usize {
         rom[2 * at + 1] = 0xD0;
     }
+    rom
+}
+
+/// A frame that calls the last of as many shapes as a certificate may have, and what is reported of it.
+const FULL_FRAME: &[u8] = &[0x00, 0xA0, 0x00, 0xF0, 0xFF, 0xC8, 0x00, 0xB0];
+
+const FULL_REPORT: &[u8] = b"accepted shapes=4096 words=5 depth=1\n";
+
+#[test]
+fn judges_full(rt: HostRuntime) -> Result<(), Fail> {
     let text = text_of_returns(rt.alloc(), false)?;
-    let frame = [0x00, 0xA0, 0x00, 0xF0, 0xFF, 0xC8, 0x00, 0xB0];
-    let own = b"accepted shapes=4096 words=5 depth=1\n";
-    judge(&rt, rt.alloc(), [&rom, &frame, text.as_bytes()], own)?;
+    let inputs = [&full_rom(), FULL_FRAME, text.as_bytes()];
+    judge(&rt, rt.alloc(), inputs, Mode::Bound, FULL_REPORT)?;
     Ok(())
+}
+
+#[test]
+fn judges_full_exactly(rt: HostRuntime) -> Result<(), Fail> {
+    let text = text_of_returns(rt.alloc(), false)?;
+    let inputs = [&full_rom(), FULL_FRAME, text.as_bytes()];
+    judge(&rt, rt.alloc(), inputs, Mode::Exact, FULL_REPORT)?;
+    Ok(())
+}
+
+#[test]
+fn judges_parts_of_full(rt: HostRuntime) -> Result<(), Fail> {
+    let text = text_of_returns(rt.alloc(), false)?;
+    let inputs = [&full_rom(), FULL_FRAME, text.as_bytes()];
+    judge_parts(&rt, rt.alloc(), inputs, FULL_REPORT)
 }
 
 /// How making the certificate of the four shapes ends, and what it writes.

@@ -1,7 +1,10 @@
 //! The maker's statuses, messages and faults.
 
 use crate::expecting::{expect, expect_same, expect_shown};
-use dvg_cmd::{MakeFault, MakeRunFault, make_report_of, make_status_of};
+use crate::rows::{AT_400, EMPTY};
+use crate::running::NEVER;
+use crate::running::devices::SlowReader;
+use dvg_cmd::{Counted, MakeFault, MakeRunFault, make_report_of, make_status_of, map_of, run_make};
 use std::alloc::AllocError;
 
 const UNSTRAIGHT: MakeRunFault = MakeRunFault::Make(MakeFault::Unstraight { word: 0x0AB });
@@ -60,4 +63,34 @@ fn shows_faults(rt: HostRuntime) -> Result<(), AllocError> {
         expect_shown(&rt, rt.alloc(), &fault, text)?;
     }
     Ok(())
+}
+
+/// Maps, how many zeros the ROM has, and what is written where there is no root.
+const ROOTLESS: &[(&str, usize, Result<(), MakeRunFault>, &[u8])] = &[
+    ("800/BFF", 2048, Ok(()), EMPTY),
+    ("400/7FF", 2048, Ok(()), AT_400),
+    ("BFF/BFF", 2, Ok(()), b"dvgcert 2\nrom BFF BFF\ndone 0\n"),
+    ("BFF/BFF", 2048, Err(MakeRunFault::RomLength), b""),
+];
+
+#[test]
+fn makes_nothing_of_no_roots(rt: HostRuntime) {
+    let zeros = [0; 2048];
+    for &(map, bytes, want, text) in ROOTLESS {
+        let Some(map) = map_of(map) else {
+            return expect(&rt, false, &map);
+        };
+        let mut told = Vec::new(rt.alloc());
+        let rom = zeros.get(..bytes).unwrap_or(&zeros);
+        let mut reader = Counted::new(SlowReader::new(rom, 512, NEVER));
+        let end = run_make(
+            rt.alloc(),
+            &mut reader,
+            map,
+            &[],
+            &mut Counted::new(&mut told),
+        );
+        expect_same(&rt, &end, &want, &bytes);
+        expect(&rt, told.as_slice() == text, &bytes);
+    }
 }
