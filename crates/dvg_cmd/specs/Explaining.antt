@@ -1,7 +1,7 @@
 -- What a run writes that explains its answer: the line of the answer, and behind it some account. All of it is profile.
 use Rattle.std.specs.Prelude.{◌≡◌, ◌⊎◌, ℕ, List, ◌++◌, length, codes, decimal, Option, None, Result, Ok, Err, IfOk}
 use Rattle.std.specs.Io.KnownBytes.{Appends}
-use Rattle.dvg_words.specs.Memory.{rom_of, IsRomLength}
+pub use Rattle.dvg_words.specs.Memory.{rom_of, IsRomLength}
 use Rattle.dvg_words.specs.Values.{Window, MemoryMap}
 use Rattle.dvg_words.specs.declared.image.ImageFault.TheVariants.{RomLength}
 use Rattle.dvg_cert.specs.declared.entry.Entry.{Entry}
