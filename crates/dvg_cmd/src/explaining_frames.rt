@@ -7,7 +7,8 @@ ghost use Rattle.dvg_cert.specs.Devices.{AppendsPrefix, count_after};
 ghost use Rattle.dvg_check.specs.declared.fault.Mode.TheVariants.{Exact};
 ghost use Rattle.dvg_cmd.specs.Frames.{FrameVerdict, VerdictOver, frame_outcome_of, is_unread, is_unread_outcome, frame_line};
 ghost use Rattle.dvg_cmd.specs.SafeFrames.{ExplainsSafeFrame, ExplainsFrameCounts};
-ghost use Rattle.dvg_cmd.specs.Explaining.{AnswerExplained, AnswerExplainedPrefix, ExplainsFrame, ExplainsFramePrefix, Explained, ExplainedPrefix, IsCertRefusal, RefusesShapes};
+ghost use Rattle.dvg_cmd.specs.Explaining.{AnswerExplained, AnswerExplainedPrefix, ExplainsFrame, ExplainsFramePrefix, Explained, ExplainedPrefix};
+ghost use Rattle.dvg_cmd.specs.Explaining.{IsCertRefusal, RefusesShapes};
 
 use crate::explaining::{NO_ACCOUNT, write_explained};
 use crate::judging::{FrameAnswer, FrameOutcome, judge_over, read_started, write_line};
