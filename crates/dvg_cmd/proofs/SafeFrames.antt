@@ -17,7 +17,7 @@ use Rattle.dvg_cmd.specs.Runs.{MOST_FRAME_READ, IsReadTo, RunFault}
 use Rattle.dvg_cmd.specs.Frames.{FrameAnswer, Judged, Unread, FrameOutcome, ReadsFrame, FrameVerdict, VerdictOver, AnswerMeans, refusal_outcome_of, frame_outcome_of, frame_line}
 use Rattle.dvg_cmd.specs.Explaining.{IsExplainedFrameOutcome, AnswerExplained}
 use Rattle.dvg_cmd.specs.Start.{jumped, started}
-use Rattle.dvg_cmd.specs.SafeFrames.{accepted_line, ReportsSafeFrame, ReportsFrameCounts, ExplainsSafeFrame, ExplainsFrameCounts}
+use Rattle.dvg_cmd.specs.SafeFrames.{accepted_line, ReportsFrameSafe, ReportsFrameCounts, ExplainsFrameSafe, ExplainsFrameCounts}
 use Rattle.dvg_cmd.specs.declared.judging.FrameOutcome.TheVariants as outcome
 
 -- ---- a refusal is not accepted
@@ -104,7 +104,7 @@ module _ (IsVerdict : List ℕ → Result Yes FrameRefusal → Type 0) (P : Yes 
 
 module _ (rom : List ℕ) (map : MemoryMap) (budget : ℕ) (w : Window) (start : Option ℕ) (name : List ℕ) (reader left old new : Option (List ℕ)) (answer : FrameAnswer)
     (means : AnswerMeans (λ bytes. FrameVerdict rom map bytes budget w) start reader left answer) (r : Result FrameOutcome RunFault) (is : r ≡ Ok outcome.Accepted) where
-  pub own_safe : IfOk r (λ end. end ≡ frame_outcome_of answer) → OnOk r (Appends old new (frame_line name answer)) → ReportsSafeFrame (rom_of map rom) w start name reader old new
+  pub own_safe : IfOk r (λ end. end ≡ frame_outcome_of answer) → OnOk r (Appends old new (frame_line name answer)) → ReportsFrameSafe (rom_of map rom) w start name reader old new
   own_safe end written =
       let a = reported (λ bytes. FrameVerdict rom map bytes budget w) (λ y bytes. Safe (record { frame = words_of bytes; rom = rom_of map rom }) w y.words y.depth)
       (λ y bytes v. v.in_range.frame_length) (λ y bytes v. v.safe) start name reader left old new answer means r end written is in
@@ -116,7 +116,7 @@ module _ (rom : List ℕ) (map : MemoryMap) (budget : ℕ) (w : Window) (start :
       (λ y bytes v. v.in_range.frame_length) (λ y bytes v. v.exact) start name reader left old new answer means r end written is in
       record { yes = a.0; written = a.1; counts = a.2 }
 
-  pub own_safe_told : IfOk r (AnswerExplained name answer old new) → ExplainsSafeFrame (rom_of map rom) w start name reader old new
+  pub own_safe_told : IfOk r (AnswerExplained name answer old new) → ExplainsFrameSafe (rom_of map rom) w start name reader old new
   own_safe_told end =
       let a = explained (λ bytes. FrameVerdict rom map bytes budget w) (λ y bytes. Safe (record { frame = words_of bytes; rom = rom_of map rom }) w y.words y.depth)
       (λ y bytes v. v.in_range.frame_length) (λ y bytes v. v.safe) start name reader left old new answer means r end is in
@@ -132,7 +132,7 @@ module _ (rom : List ℕ) (map : MemoryMap) (budget : ℕ) (w : Window) (start :
 
 module _ (shapes : Shapes) (count budget : ℕ) (start : Option ℕ) (name : List ℕ) (reader left old new : Option (List ℕ)) (answer : FrameAnswer)
     (means : AnswerMeans (λ bytes. VerdictOver shapes count bytes budget) start reader left answer) (r : Result FrameOutcome RunFault) (is : r ≡ Ok outcome.Accepted) where
-  pub over_safe : IfOk r (λ end. end ≡ frame_outcome_of answer) → OnOk r (Appends old new (frame_line name answer)) → ReportsSafeFrame shapes.rom shapes.window start name reader old new
+  pub over_safe : IfOk r (λ end. end ≡ frame_outcome_of answer) → OnOk r (Appends old new (frame_line name answer)) → ReportsFrameSafe shapes.rom shapes.window start name reader old new
   over_safe end written =
       let a = reported (λ bytes. VerdictOver shapes count bytes budget) (λ y bytes. Safe (record { frame = words_of bytes; rom = shapes.rom }) shapes.window y.words y.depth)
       (λ y bytes v. v.0.in_range.frame_length) (λ y bytes v. v.0.safe) start name reader left old new answer means r end written is in
@@ -144,7 +144,7 @@ module _ (shapes : Shapes) (count budget : ℕ) (start : Option ℕ) (name : Lis
       (λ y bytes v. v.0.in_range.frame_length) (λ y bytes v. v.0.exact mode) start name reader left old new answer means r end written is in
       record { yes = a.0; written = a.1; counts = a.2 }
 
-  pub over_safe_told : IfOk r (AnswerExplained name answer old new) → ExplainsSafeFrame shapes.rom shapes.window start name reader old new
+  pub over_safe_told : IfOk r (AnswerExplained name answer old new) → ExplainsFrameSafe shapes.rom shapes.window start name reader old new
   over_safe_told end =
       let a = explained (λ bytes. VerdictOver shapes count bytes budget) (λ y bytes. Safe (record { frame = words_of bytes; rom = shapes.rom }) shapes.window y.words y.depth)
       (λ y bytes v. v.0.in_range.frame_length) (λ y bytes v. v.0.safe) start name reader left old new answer means r end is in

@@ -6,7 +6,7 @@ ghost use Rattle.dvg_words.specs.Memory.{rom_of, IsRomLength};
 ghost use Rattle.dvg_cert.specs.Devices.{AppendsPrefix, count_after};
 ghost use Rattle.dvg_check.specs.declared.fault.Mode.TheVariants.{Exact};
 ghost use Rattle.dvg_cmd.specs.Frames.{FrameVerdict, VerdictOver, frame_outcome_of, is_unread, is_unread_outcome, frame_line};
-ghost use Rattle.dvg_cmd.specs.SafeFrames.{ExplainsSafeFrame, ExplainsFrameCounts};
+ghost use Rattle.dvg_cmd.specs.SafeFrames.{ExplainsFrameSafe, ExplainsFrameCounts};
 ghost use Rattle.dvg_cmd.specs.Explaining.{AnswerExplained, AnswerExplainedPrefix, ExplainsFrame, ExplainsFramePrefix, Explained, ExplainedPrefix};
 ghost use Rattle.dvg_cmd.specs.Explaining.{IsCertRefusal, RefusesShapes};
 
@@ -90,7 +90,7 @@ pub fn run_explain_frame<R: CountedRead, W: CountedWrite>(
     ensures prefix { OnErr result (ExplainsFramePrefix (λ bytes. FrameVerdict rom.now map bytes budget window) start name.now
         (R.remaining frame.old) (R.remaining frame.new) (W.contents out.old) (W.contents out.new)) }
     // What is accepted is safe, with the counts of the line that was written, and these are the counts of each run.
-    ensures safe { result ≡ Ok FrameOutcome.Accepted → ExplainsSafeFrame (rom_of map rom.now) window start name.now
+    ensures safe { result ≡ Ok FrameOutcome.Accepted → ExplainsFrameSafe (rom_of map rom.now) window start name.now
         (R.remaining frame.old) (W.contents out.old) (W.contents out.new) }
     ensures exact { result ≡ Ok FrameOutcome.Accepted → ExplainsFrameCounts (rom_of map rom.now) start name.now
         (R.remaining frame.old) (W.contents out.old) (W.contents out.new) }
@@ -143,7 +143,7 @@ pub fn run_explain_frame_over<E: Entries, R: CountedRead, W: CountedWrite>(
         (R.remaining frame.old) (R.remaining frame.new) (W.contents out.old) (W.contents out.new)) }
     ensures prefix { OnErr result (ExplainsFramePrefix (λ bytes. VerdictOver shapes.now (length cert.now.entries) bytes budget) start name.now
         (R.remaining frame.old) (R.remaining frame.new) (W.contents out.old) (W.contents out.new)) }
-    ensures safe { result ≡ Ok FrameOutcome.Accepted → ExplainsSafeFrame shapes.now.rom shapes.now.window start name.now
+    ensures safe { result ≡ Ok FrameOutcome.Accepted → ExplainsFrameSafe shapes.now.rom shapes.now.window start name.now
         (R.remaining frame.old) (W.contents out.old) (W.contents out.new) }
     ensures exact { shapes.now.mode ≡ Exact → result ≡ Ok FrameOutcome.Accepted → ExplainsFrameCounts shapes.now.rom start name.now
         (R.remaining frame.old) (W.contents out.old) (W.contents out.new) }

@@ -12,7 +12,7 @@ ghost use Rattle.dvg_check.specs.declared.fault.Mode.TheVariants.{Exact};
 ghost use Rattle.dvg_make.specs.declared.judging.FrameRefusal.TheVariants.{Check};
 ghost use Rattle.dvg_cmd.specs.Private.Judging.{AreImages};
 ghost use Rattle.dvg_cmd.specs.Frames.{FrameVerdict, VerdictOver, ReadsFrame, plain_outcome, refusal_outcome_of, frame_outcome_of, frame_line, is_unread_outcome, ReportsFrame, ReportsFramePrefix};
-ghost use Rattle.dvg_cmd.specs.SafeFrames.{ReportsSafeFrame, ReportsFrameCounts};
+ghost use Rattle.dvg_cmd.specs.SafeFrames.{ReportsFrameSafe, ReportsFrameCounts};
 
 use crate::reading::{read_certificate, read_frame, read_rom};
 use crate::report::frame_report_of;
@@ -257,7 +257,7 @@ pub fn run_frame<R: CountedRead, W: CountedWrite>(
         (R.remaining frame.old) (R.remaining frame.new) (W.contents out.old) (W.contents out.new)) }
 
     // What is accepted is safe, with the counts of the line that was written, and these are the counts of each run.
-    ensures safe { result ≡ Ok FrameOutcome.Accepted → ReportsSafeFrame (rom_of map rom.now) window start name.now
+    ensures safe { result ≡ Ok FrameOutcome.Accepted → ReportsFrameSafe (rom_of map rom.now) window start name.now
         (R.remaining frame.old) (W.contents out.old) (W.contents out.new) }
     ensures exact { result ≡ Ok FrameOutcome.Accepted → ReportsFrameCounts (rom_of map rom.now) start name.now
         (R.remaining frame.old) (W.contents out.old) (W.contents out.new) }
@@ -294,7 +294,7 @@ pub fn run_frame_over<E: Entries, R: CountedRead, W: CountedWrite>(
         (R.remaining frame.old) (R.remaining frame.new) (W.contents out.old) (W.contents out.new)) }
     ensures prefix { OnErr result (ReportsFramePrefix (λ bytes. VerdictOver shapes.now (length cert.now.entries) bytes budget) start name.now
         (R.remaining frame.old) (R.remaining frame.new) (W.contents out.old) (W.contents out.new)) }
-    ensures safe { result ≡ Ok FrameOutcome.Accepted → ReportsSafeFrame shapes.now.rom shapes.now.window start name.now
+    ensures safe { result ≡ Ok FrameOutcome.Accepted → ReportsFrameSafe shapes.now.rom shapes.now.window start name.now
         (R.remaining frame.old) (W.contents out.old) (W.contents out.new) }
     ensures exact { shapes.now.mode ≡ Exact → result ≡ Ok FrameOutcome.Accepted → ReportsFrameCounts shapes.now.rom start name.now
         (R.remaining frame.old) (W.contents out.old) (W.contents out.new) }
