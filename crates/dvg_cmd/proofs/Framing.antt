@@ -12,7 +12,8 @@ use Rattle.dvg_check.specs.declared.verdict.Refusal.TheVariants as refusal
 use Rattle.dvg_make.specs.declared.judging.FrameRefusal.{FrameRefusal}
 use Rattle.dvg_make.specs.declared.judging.FrameRefusal.TheVariants.{Make, NoMemory, Check}
 use Rattle.dvg_make.specs.Judging.{AreLeast, FrameRefused, HasCallCause, FrameVerdict as JudgeVerdict}
-use Rattle.dvg_cmd.specs.Frames.{started, IsReadFrom, ReadsFrame, FrameVerdict, IsRefused, IsJudgedRefusal}
+use Rattle.dvg_cmd.specs.Frames.{IsReadFrom, ReadsFrame, FrameVerdict, IsRefused, IsJudgedRefusal}
+use Rattle.dvg_cmd.specs.Start.{started}
 use Rattle.dvg_cmd.specs.Private.Judging.{AreImages}
 use Rattle.dvg_cmd.specs.Private.Reading.{limited, IsPrefix}
 use Rattle.dvg_cmd.proofs.Whole.{prefix_of_held, frame_same}

@@ -9,3 +9,5 @@ pub mod Windows
 pub mod Lines
 pub mod Framing
 pub mod Accounts
+pub mod SafeFrames
+pub mod Starting

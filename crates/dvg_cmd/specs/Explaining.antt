@@ -1,14 +1,19 @@
 -- What a run writes that explains its answer: the line of the answer, and behind it some account. All of it is profile.
 use Rattle.std.specs.Prelude.{◌≡◌, ◌⊎◌, ℕ, List, ◌++◌, length, codes, decimal, Option, None, Result, Ok, Err, IfOk}
 use Rattle.std.specs.Io.KnownBytes.{Appends}
+pub use Rattle.dvg_words.specs.Memory.{rom_of, IsRomLength}
 use Rattle.dvg_words.specs.Values.{Window, MemoryMap}
+use Rattle.dvg_words.specs.declared.image.ImageFault.TheVariants.{RomLength}
 use Rattle.dvg_cert.specs.declared.entry.Entry.{Entry}
 use Rattle.dvg_cert.specs.declared.entry.Key.{Key}
 use Rattle.dvg_cert.specs.Devices.{AppendsPrefix, TakesOneWrite}
+use Rattle.dvg_cert.specs.Order.{Certificate}
+use Rattle.dvg_check.specs.FirstFault.{FirstShapeFault}
 use Rattle.dvg_check.specs.declared.verdict.Yes.{Yes}
 use Rattle.dvg_check.specs.declared.verdict.Refusal.{Refusal}
+use Rattle.dvg_check.specs.declared.verdict.Refusal.TheVariants as refusal
 use Rattle.dvg_check.specs.declared.fault.Mode.{Mode}
-use Rattle.dvg_check.specs.declared.fault.Mode.TheVariants.{Exact}
+use Rattle.dvg_check.specs.declared.fault.Mode.TheVariants.{Bound, Exact}
 use Rattle.dvg_make.specs.declared.judging.FrameRefusal.{FrameRefusal}
 use Rattle.dvg_cmd.specs.Report.{report_text}
 use Rattle.dvg_cmd.specs.Status.{worse, frames_message}
@@ -72,6 +77,22 @@ pub record ExplainsCounts (rom cert frame : Option (List ℕ)) (old new : Option
   pub account : List ℕ
   pub written : Appends old new (report_text (Ok yes) ++ account)
   pub counts : CountsRead rom cert frame yes
+
+-- ---- a refusal that no frame was needed for
+
+-- a text was refused as no certificate
+abbrev pub IsCertRefusal : Refusal → Type 0
+IsCertRefusal (refusal.Cert f) = Unit {0}
+IsCertRefusal r = ⊥
+
+-- a certificate was refused over the bytes of a ROM: 1 where their number is not that of its map, else that memory was out for the
+-- index, or the first fault of its shapes
+abbrev pub RefusesShapes : Window → List ℕ → Certificate → Refusal → Type 0
+RefusesShapes w rom c (refusal.Image RomLength) = IsRomLength c.map (length rom) → ⊥
+RefusesShapes w rom c refusal.IndexMemory = IsRomLength c.map (length rom)
+RefusesShapes w rom c (refusal.Shape f) =
+    IsRomLength c.map (length rom) × FirstShapeFault Bound w (rom_of c.map rom) c.entries f
+RefusesShapes w rom c r = ⊥
 
 -- ---- a frame
 

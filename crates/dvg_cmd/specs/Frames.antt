@@ -1,13 +1,11 @@
 -- What a run says of one frame that is judged by its own certificate, or over shapes that were judged, and what it writes. All of
 -- it is profile.
-use Rattle.std.specs.Prelude.{◌≡◌, ◌<◌, ◌+◌, ◌/◌, ◌%◌, ℕ, Bool, true, false, List, ◌∷◌, ◌++◌, take, length, Option, Some, None, IfSome, Result, Ok, Err}
+use Rattle.std.specs.Prelude.{◌≡◌, ℕ, Bool, true, false, List, ◌++◌, take, length, Option, IfSome, Result, Ok, Err}
 use Rattle.std.specs.Io.KnownBytes.{Appends}
 use Rattle.dvg_words.specs.Values.{MemoryMap, Window}
 use Rattle.dvg_words.specs.Memory.{words_of, rom_of, IsRomLength, IsFrameLength}
-use Rattle.dvg_words.specs.declared.map.TheConstants.{ADDRESS_END}
 use Rattle.dvg_words.specs.declared.image.ImageFault.TheVariants.{RomLength, FrameLength}
 use Rattle.dvg_cert.specs.Devices.{AppendsPrefix, TakesOneWrite}
-use Rattle.dvg_cert.specs.Grammar.{address_token}
 use Rattle.dvg_check.specs.Safety.{Safe, CountsAtHalt}
 use Rattle.dvg_check.specs.Judged.{Shapes}
 use Rattle.dvg_check.specs.Rules.{GoodFrame}
@@ -21,26 +19,13 @@ use Rattle.dvg_make.specs.declared.judging.FrameRefusal.TheVariants.{Make, NoMem
 use Rattle.dvg_make.specs.Judging.{AreLeast, FrameRefused, HasCallCause, FrameVerdict as JudgeVerdict}
 use Rattle.dvg_cmd.specs.Report.{frame_line_text}
 use Rattle.dvg_cmd.specs.Runs.{MOST_FRAME_READ, IsReadTo, Outcome}
+use Rattle.dvg_cmd.specs.Start.{started}
 use Rattle.dvg_cmd.specs.declared.running.Outcome.TheVariants as runs
 pub use Rattle.dvg_cmd.specs.declared.judging.FrameAnswer.{FrameAnswer}
 pub use Rattle.dvg_cmd.specs.declared.judging.FrameAnswer.TheVariants.{Judged, Unread}
 pub use Rattle.dvg_cmd.specs.declared.judging.FrameOutcome.{FrameOutcome}
 pub use Rattle.dvg_cmd.specs.declared.judging.FrameOutcome.TheVariants as outcome
 use Rattle.dvg_make.specs.declared.fault.EntryFault.TheVariants as entry
-
--- the text is this word address's
-abbrev pub IsStart : List ℕ → ℕ → Type 0
-IsStart text addr = (addr < ADDRESS_END) × (text ≡ address_token addr)
-
--- the bytes with the jump (JMPL) to a word address in place of their first word, the low byte first
-abbrev pub jumped : ℕ → List ℕ → List ℕ
-jumped to (low ∷ high ∷ rest) = to % 256 ∷ (224 + to / 256 % 16) ∷ rest
-jumped to bytes = bytes
-
--- the bytes of a frame that is judged: its own, or with a jump to a start in place of word 000
-abbrev pub started : Option ℕ → List ℕ → List ℕ
-started None bytes = bytes
-started (Some to) bytes = jumped to bytes
 
 -- what is judged of the bytes that a reader held: the first of them up to one past the limit, and all where that is a frame's
 -- length, with the start; of a reader that does not tell its bytes, those of some bytes

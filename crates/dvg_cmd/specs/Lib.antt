@@ -1,5 +1,7 @@
 pub mod Report
 pub mod Runs
+pub mod Start
+pub mod SafeFrames
 pub mod Frames
 pub mod Status
 pub mod Making
@@ -7,3 +9,4 @@ pub mod MakingFrames
 pub mod Numbers
 pub mod Private
 pub mod Explaining
+pub mod Laws

@@ -1,9 +1,13 @@
 //! Running the judge of one frame over a reader and a writer, with an account of the answer.
 
-ghost use Rattle.std.specs.Prelude.{◌≡◌, Bool, length, Err, IfOk, IfErr, OnOk, OnErr, is_err};
+ghost use Rattle.std.specs.Prelude.{◌≡◌, Bool, length, Ok, Err, IfOk, IfErr, IfSome, IfNone, OnOk, OnErr, is_err};
+ghost use Rattle.dvg_words.specs.Memory.{rom_of, IsRomLength};
 ghost use Rattle.dvg_cert.specs.Devices.{count_after};
+ghost use Rattle.dvg_check.specs.declared.fault.Mode.TheVariants.{Exact};
 ghost use Rattle.dvg_cmd.specs.Frames.{FrameVerdict, VerdictOver, is_unread, is_unread_outcome};
+ghost use Rattle.dvg_cmd.specs.SafeFrames.{ExplainsFrameSafe, ExplainsFrameCounts};
 ghost use Rattle.dvg_cmd.specs.Explaining.{AnswerExplained, AnswerExplainedPrefix, ExplainsFrame, ExplainsFramePrefix, Explained, ExplainedPrefix};
+ghost use Rattle.dvg_cmd.specs.Explaining.{IsCertRefusal, RefusesShapes};
 
 use crate::explaining::{NO_ACCOUNT, write_explained};
 use crate::judging::{FrameAnswer, FrameOutcome, judge_over, read_started, write_line_and};
@@ -65,6 +69,11 @@ pub fn run_explain_frame<R: CountedRead, W: CountedWrite>(
         (W.whole_writes out.old) (W.whole_writes out.new)) }
     ensures prefix { OnErr result (ExplainsFramePrefix (λ bytes. FrameVerdict rom.now map bytes budget window) start name.now
         (R.remaining frame.old) (R.remaining frame.new) (W.contents out.old) (W.contents out.new)) }
+    // What is accepted is safe, with the counts of the line that was written, and these are the counts of each run.
+    ensures safe { result ≡ Ok FrameOutcome.Accepted → ExplainsFrameSafe (rom_of map rom.now) window start name.now
+        (R.remaining frame.old) (W.contents out.old) (W.contents out.new) }
+    ensures exact { result ≡ Ok FrameOutcome.Accepted → ExplainsFrameCounts (rom_of map rom.now) start name.now
+        (R.remaining frame.old) (W.contents out.old) (W.contents out.new) }
     ensures fault { IfErr result (λ fault. fault ≡ RunFault.Write) }
     ensures frame_count { IfOk result (λ outcome. R.failures frame.new ≡ count_after (is_unread_outcome outcome) (R.failures frame.old)) }
     ensures frame_once { (failed : Bool) × (R.failures frame.new ≡ count_after failed (R.failures frame.old)) }
@@ -106,11 +115,19 @@ pub fn run_explain_frame_over<E: Entries, R: CountedRead, W: CountedWrite>(
     budget: u32,
     out: &mut W,
 ) -> Result<FrameOutcome, RunFault>
+    requires rom_length { IsRomLength cert.now.map (length rom.now) }
+    requires rom { shapes.now.rom ≡ rom_of cert.now.map rom.now }
+    requires entries { shapes.now.list ≡ cert.now.entries }
+    requires mode { shapes.now.mode ≡ mode }
     ensures report { IfOk result (ExplainsFrame (λ bytes. VerdictOver shapes.now (length cert.now.entries) bytes budget) start name.now
         (R.remaining frame.old) (R.remaining frame.new) (W.contents out.old) (W.contents out.new)
         (W.whole_writes out.old) (W.whole_writes out.new)) }
     ensures prefix { OnErr result (ExplainsFramePrefix (λ bytes. VerdictOver shapes.now (length cert.now.entries) bytes budget) start name.now
         (R.remaining frame.old) (R.remaining frame.new) (W.contents out.old) (W.contents out.new)) }
+    ensures safe { result ≡ Ok FrameOutcome.Accepted → ExplainsFrameSafe shapes.now.rom shapes.now.window start name.now
+        (R.remaining frame.old) (W.contents out.old) (W.contents out.new) }
+    ensures exact { shapes.now.mode ≡ Exact → result ≡ Ok FrameOutcome.Accepted → ExplainsFrameCounts shapes.now.rom start name.now
+        (R.remaining frame.old) (W.contents out.old) (W.contents out.new) }
     ensures fault { IfErr result (λ fault. fault ≡ RunFault.Write) }
     ensures frame_count { IfOk result (λ outcome. R.failures frame.new ≡ count_after (is_unread_outcome outcome) (R.failures frame.old)) }
     ensures frame_once { (failed : Bool) × (R.failures frame.new ≡ count_after failed (R.failures frame.old)) }
@@ -152,7 +169,7 @@ pub fn run_explain_unopened<W: CountedWrite>(
 }
 
 /// Writes the line of a refusal that no frame was needed for, as [`run_refusal`](crate::run_refusal) does, and behind it an account:
-/// of the bytes of a ROM and of the certificate, where one was taken.
+/// of the bytes of a ROM and of the certificate, where one was taken. The refusal is the one that these get in the mode `Bound`.
 pub fn run_explain_refusal<W: CountedWrite>(
     alloc: Global,
     rom: &[u8],
@@ -161,6 +178,8 @@ pub fn run_explain_refusal<W: CountedWrite>(
     refusal: &Refusal,
     out: &mut W,
 ) -> Result<Outcome, RunFault>
+    requires taken { IfSome cert (λ taken. RefusesShapes window rom.now taken.now refusal.now) }
+    requires refused { IfNone cert (IsCertRefusal refusal.now) }
     ensures ok { IfOk result (Explained (Err refusal.now) (W.contents out.old) (W.contents out.new) (W.whole_writes out.old) (W.whole_writes out.new)) }
     ensures prefix { OnErr result (ExplainedPrefix (Err refusal.now) (W.contents out.old) (W.contents out.new)) }
     ensures fault { IfErr result (λ fault. fault ≡ RunFault.Write) }

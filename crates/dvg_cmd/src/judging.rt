@@ -1,15 +1,18 @@
 //! Running the judge of one frame over a reader and a writer, by the frame's own certificate or over shapes that were judged.
 
-ghost use Rattle.std.specs.Prelude.{◌≡◌, ◌++◌, Bool, true, length, take, Err, IfOk, IfErr, IfSome, OnOk, OnErr, is_err};
+ghost use Rattle.std.specs.Prelude.{◌≡◌, ◌++◌, Bool, true, length, take, Ok, Err, IfOk, IfErr, IfSome, OnOk, OnErr, is_err};
 ghost use Rattle.std.specs.Io.KnownBytes.{Appends};
 ghost use Rattle.dvg_cert.specs.Devices.{AppendsPrefix, TakesOneWrite, count_after};
 ghost use Rattle.dvg_cmd.specs.Runs.{MOST_ROM_READ, MOST_FRAME_READ, IsReadTo, ReadsText, outcome_of};
 ghost use Rattle.dvg_cmd.specs.Report.{report_text};
 ghost use Rattle.dvg_cmd.specs.Status.{worse};
+ghost use Rattle.dvg_words.specs.Memory.{rom_of};
 ghost use Rattle.dvg_words.specs.Values.{Window as Places};
+ghost use Rattle.dvg_check.specs.declared.fault.Mode.TheVariants.{Exact};
 ghost use Rattle.dvg_make.specs.declared.judging.FrameRefusal.TheVariants.{Check};
 ghost use Rattle.dvg_cmd.specs.Private.Judging.{AreImages};
 ghost use Rattle.dvg_cmd.specs.Frames.{FrameVerdict, VerdictOver, ReadsFrame, plain_outcome, refusal_outcome_of, frame_outcome_of, frame_line, is_unread_outcome, ReportsFrame, ReportsFramePrefix};
+ghost use Rattle.dvg_cmd.specs.SafeFrames.{ReportsFrameSafe, ReportsFrameCounts};
 
 use crate::reading::{read_certificate, read_frame, read_rom};
 use crate::report::frame_report_of;
@@ -268,6 +271,13 @@ pub fn run_frame<R: CountedRead, W: CountedWrite>(
         (W.whole_writes out.old) (W.whole_writes out.new)) }
     ensures prefix { OnErr result (ReportsFramePrefix (λ bytes. FrameVerdict rom.now map bytes budget window) start name.now
         (R.remaining frame.old) (R.remaining frame.new) (W.contents out.old) (W.contents out.new)) }
+
+    // What is accepted is safe, with the counts of the line that was written, and these are the counts of each run.
+    ensures safe { result ≡ Ok FrameOutcome.Accepted → ReportsFrameSafe (rom_of map rom.now) window start name.now
+        (R.remaining frame.old) (W.contents out.old) (W.contents out.new) }
+    ensures exact { result ≡ Ok FrameOutcome.Accepted → ReportsFrameCounts (rom_of map rom.now) start name.now
+        (R.remaining frame.old) (W.contents out.old) (W.contents out.new) }
+
     ensures fault { IfErr result (λ fault. fault ≡ RunFault.Write) }
 
     // The frame's count rises by one where it could not be read, and by no more where the run ends; the writer's rises there.
@@ -294,11 +304,17 @@ pub fn run_frame_over<E: Entries, R: CountedRead, W: CountedWrite>(
     budget: u32,
     out: &mut W,
 ) -> Result<FrameOutcome, RunFault>
+    requires map { shapes.now.rom.map ≡ cert.now.map }
+    requires entries { shapes.now.list ≡ cert.now.entries }
     ensures report { IfOk result (ReportsFrame (λ bytes. VerdictOver shapes.now (length cert.now.entries) bytes budget) start name.now
         (R.remaining frame.old) (R.remaining frame.new) (W.contents out.old) (W.contents out.new)
         (W.whole_writes out.old) (W.whole_writes out.new)) }
     ensures prefix { OnErr result (ReportsFramePrefix (λ bytes. VerdictOver shapes.now (length cert.now.entries) bytes budget) start name.now
         (R.remaining frame.old) (R.remaining frame.new) (W.contents out.old) (W.contents out.new)) }
+    ensures safe { result ≡ Ok FrameOutcome.Accepted → ReportsFrameSafe shapes.now.rom shapes.now.window start name.now
+        (R.remaining frame.old) (W.contents out.old) (W.contents out.new) }
+    ensures exact { shapes.now.mode ≡ Exact → result ≡ Ok FrameOutcome.Accepted → ReportsFrameCounts shapes.now.rom start name.now
+        (R.remaining frame.old) (W.contents out.old) (W.contents out.new) }
     ensures fault { IfErr result (λ fault. fault ≡ RunFault.Write) }
     ensures frame_count { IfOk result (λ outcome. R.failures frame.new ≡ count_after (is_unread_outcome outcome) (R.failures frame.old)) }
     ensures frame_once { (failed : Bool) × (R.failures frame.new ≡ count_after failed (R.failures frame.old)) }

@@ -9,6 +9,7 @@ mod explaining_frames;
 mod explaining_make;
 mod judging;
 mod judging_own;
+pub mod laws;
 mod making;
 mod making_frames;
 mod messages;

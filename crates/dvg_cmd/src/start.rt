@@ -1,7 +1,7 @@
 //! The list of a frame that is judged: its own from word 000 on, or the one to which a jump in word 000 leads.
 
 ghost use Rattle.std.specs.Prelude.{◌≡◌, ℕ, length, IfSome, IfNone};
-ghost use Rattle.dvg_cmd.specs.Frames.{IsStart, jumped, started};
+ghost use Rattle.dvg_cmd.specs.Start.{IsStart, jumped, started};
 
 use dvg_cert::read_address;
 

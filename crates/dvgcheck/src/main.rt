@@ -4,6 +4,9 @@
 //! Thin over `dvg_cmd`: it reads the command line, opens the files and says how it went.
 #![tactic(auto)]
 
+ghost use Rattle.std.specs.Prelude.{◌≡◌, length, IfErr};
+ghost use Rattle.dvg_cmd.specs.Explaining.{RefusesShapes, rom_of, IsRomLength};
+
 mod command;
 mod escaping;
 mod input;
@@ -100,7 +103,10 @@ fn judge_each_over<E: Entries, W: CountedWrite>(
     shapes: &JudgedShapes<E>,
     cert: &Cert,
     out: &mut W,
-) -> Result<FrameOutcome, RunFault> {
+) -> Result<FrameOutcome, RunFault>
+    requires map { shapes.now.rom.map ≡ cert.now.map }
+    requires entries { shapes.now.list ≡ cert.now.entries }
+{
     let mut worst = FrameOutcome::Accepted;
     for frame in &words.frames {
         let outcome = match frame.input.open(rt) {
@@ -199,7 +205,12 @@ fn explain_each_over<E: Entries, W: CountedWrite>(
     shapes: &JudgedShapes<E>,
     cert: &Cert,
     out: &mut W,
-) -> Result<FrameOutcome, RunFault> {
+) -> Result<FrameOutcome, RunFault>
+    requires rom_length { IsRomLength cert.now.map (length rom.now) }
+    requires rom { shapes.now.rom ≡ rom_of cert.now.map rom.now }
+    requires entries { shapes.now.list ≡ cert.now.entries }
+    requires mode { shapes.now.mode ≡ Mode.Bound }
+{
     let mut worst = FrameOutcome::Accepted;
     for frame in &words.frames {
         let outcome = match frame.input.open(rt) {
@@ -229,7 +240,9 @@ fn explain_over<W: CountedWrite>(
     bytes: &[u8],
     cert: &Cert,
     out: &mut W,
-) -> Result<Result<FrameOutcome, RunFault>, Refusal> {
+) -> Result<Result<FrameOutcome, RunFault>, Refusal>
+    ensures { IfErr result (RefusesShapes words.now.window bytes.now cert.now) }
+{
     let rom = RomImage::from_bytes(bytes, cert.map())?;
     let entries = HashIndex::new(rt.alloc(), cert)?;
     let shapes = JudgedShapes::judge(&rom, cert, &entries, words.window, Mode::Bound)?;

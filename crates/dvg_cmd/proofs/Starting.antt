@@ -1,0 +1,23 @@
+-- The word that a start puts in, over plain values.
+use Rattle.std.proofs.Common.{◌≡◌, ◌+◌, ◌*◌, ◌/◌, ◌%◌, ◌<◌, ℕ, [], ◌∷◌, Option, Some, arith}
+use Rattle.dvg_words.specs.Decoding.{opcode, target_of, instruction_of, cell_at, cell_of_words}
+use Rattle.dvg_words.specs.declared.instruction.Cell.TheVariants.{Holds}
+use Rattle.dvg_words.specs.declared.instruction.Format.TheVariants.{Short}
+use Rattle.dvg_words.specs.declared.instruction.Instr.TheVariants.{Jmpl}
+use Rattle.dvg_cmd.specs.Laws.{StartIsJump}
+
+jump_opcode : (addr : ℕ) → addr < 4096 → opcode (addr % 256 + 256 * (224 + addr / 256 % 16)) ≡ 14
+jump_opcode addr few = omega arith
+
+jump_target : (addr : ℕ) → addr < 4096 → target_of (addr % 256 + 256 * (224 + addr / 256 % 16)) ≡ addr
+jump_target addr few = omega arith
+
+jump_cell : (first : ℕ) (second : Option ℕ) (to : ℕ) → opcode first ≡ 14 → target_of first ≡ to → cell_of_words (Some first) second ≡ Holds Short (Jmpl to)
+unfolding instruction_of
+jump_cell first second to op target = simp (op, target)
+
+pub start_is_jump : StartIsJump
+unfolding cell_at
+start_is_jump addr [] few some = absurd (omega arith)
+start_is_jump addr (low ∷ []) few some = absurd (omega arith)
+start_is_jump addr (low ∷ high ∷ rest) few some = jump_cell _ _ addr (jump_opcode addr few) (jump_target addr few)

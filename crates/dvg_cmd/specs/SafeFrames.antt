@@ -1,0 +1,51 @@
+-- What an accepted line says of a frame that a reader held. All of it is profile.
+use Rattle.std.specs.Prelude.{ℕ, List, ◌++◌, codes, Option, IfSome}
+use Rattle.std.specs.Io.KnownBytes.{Appends}
+use Rattle.dvg_words.specs.Memory.{Rom, words_of}
+use Rattle.dvg_words.specs.Values.{Window}
+use Rattle.dvg_check.specs.Safety.{Safe, CountsAtHalt}
+use Rattle.dvg_check.specs.declared.verdict.Yes.{Yes}
+use Rattle.dvg_cmd.specs.Report.{accepted_text}
+use Rattle.dvg_cmd.specs.Start.{started}
+
+-- the whole line of an accepted frame, which begins with its name
+abbrev pub accepted_line : List ℕ → Yes → List ℕ
+accepted_line name y = name ++ (codes ": " ++ accepted_text y ++ codes "\n")
+
+-- every run over a ROM and the bytes that a frame's reader told, with the jump to a start if one is given, is safe with these counts
+abbrev pub SafeFrame : Rom → Window → Option ℕ → Option (List ℕ) → Yes → Type 0
+SafeFrame rom w start frame y =
+    IfSome frame (λ held. Safe (record { frame = words_of (started start held); rom = rom }) w y.words y.depth)
+
+-- every run over the same has just these counts at its halt
+abbrev pub CountsFrame : Rom → Option ℕ → Option (List ℕ) → Yes → Type 0
+CountsFrame rom start frame y =
+    IfSome frame (λ held. CountsAtHalt (record { frame = words_of (started start held); rom = rom }) y.words y.depth)
+
+-- an accepted line was written, and every run over that frame is safe with its counts
+pub record ReportsFrameSafe
+    (rom : Rom) (w : Window) (start : Option ℕ) (name : List ℕ) (frame old new : Option (List ℕ)) : Type 0 where
+  pub yes : Yes
+  pub written : Appends old new (accepted_line name yes)
+  pub safe : SafeFrame rom w start frame yes
+
+-- an accepted line and an account were written, and every run over that frame is safe with the line's counts
+pub record ExplainsFrameSafe
+    (rom : Rom) (w : Window) (start : Option ℕ) (name : List ℕ) (frame old new : Option (List ℕ)) : Type 0 where
+  pub yes : Yes
+  pub account : List ℕ
+  pub written : Appends old new (accepted_line name yes ++ account)
+  pub safe : SafeFrame rom w start frame yes
+
+-- an accepted line was written, and every run over that frame has just its counts
+pub record ReportsFrameCounts (rom : Rom) (start : Option ℕ) (name : List ℕ) (frame old new : Option (List ℕ)) : Type 0 where
+  pub yes : Yes
+  pub written : Appends old new (accepted_line name yes)
+  pub counts : CountsFrame rom start frame yes
+
+-- an accepted line and an account were written, and every run over that frame has just the line's counts
+pub record ExplainsFrameCounts (rom : Rom) (start : Option ℕ) (name : List ℕ) (frame old new : Option (List ℕ)) : Type 0 where
+  pub yes : Yes
+  pub account : List ℕ
+  pub written : Appends old new (accepted_line name yes ++ account)
+  pub counts : CountsFrame rom start frame yes

@@ -1,0 +1,18 @@
+-- A frame that is judged from another word address than 000 on. All of it is profile.
+use Rattle.std.specs.Prelude.{◌≡◌, ◌<◌, ◌+◌, ◌/◌, ◌%◌, ℕ, List, ◌∷◌, Option, Some, None}
+use Rattle.dvg_words.specs.declared.map.TheConstants.{ADDRESS_END}
+use Rattle.dvg_cert.specs.Grammar.{address_token}
+
+-- the text is this word address's
+abbrev pub IsStart : List ℕ → ℕ → Type 0
+IsStart text addr = (addr < ADDRESS_END) × (text ≡ address_token addr)
+
+-- the bytes with the jump (JMPL) to a word address in place of their first word, the low byte first
+abbrev pub jumped : ℕ → List ℕ → List ℕ
+jumped to (low ∷ high ∷ rest) = to % 256 ∷ (224 + to / 256 % 16) ∷ rest
+jumped to bytes = bytes
+
+-- the bytes of a frame that is judged: its own, or with a jump to a start in place of word 000
+abbrev pub started : Option ℕ → List ℕ → List ℕ
+started None bytes = bytes
+started (Some to) bytes = jumped to bytes
