@@ -93,10 +93,10 @@ module _ (IsVerdict : List ℕ → Result Yes FrameRefusal → Type 0) (P : Yes 
         let a = accepted answer means (sym end ∙ cc) in
         (a.0, subst (λ x. Appends old new (frame_line name x)) a.1 written, a.2)
 
-    pub explained : (r : Result FrameOutcome RunFault) → IfOk r (AnswerExplained name answer old new) → r ≡ Ok outcome.Accepted
+    pub explained : (r : Result FrameOutcome RunFault) (writes writes_after : ℕ) → IfOk r (AnswerExplained name answer old new writes writes_after) → r ≡ Ok outcome.Accepted
         → (y : Yes) × (account : List ℕ) × Appends old new (accepted_line name y ++ account) × IfSome reader (λ held. P y (started start held))
-    explained (Err fault) end is = cc
-    explained (Ok o) end is =
+    explained (Err fault) writes writes_after end is = cc
+    explained (Ok o) writes writes_after end is =
         let a = accepted answer means (line_accepted answer end.account o end.outcome_is cc) in
         (a.0, end.account, subst (λ x. Appends old new (frame_line name x ++ end.account)) a.1 end.written, a.2)
 
@@ -116,16 +116,16 @@ module _ (rom : List ℕ) (map : MemoryMap) (budget : ℕ) (w : Window) (start :
       (λ y bytes v. v.in_range.frame_length) (λ y bytes v. v.exact) start name reader left old new answer means r end written is in
       record { yes = a.0; written = a.1; counts = a.2 }
 
-  pub own_safe_told : IfOk r (AnswerExplained name answer old new) → ExplainsFrameSafe (rom_of map rom) w start name reader old new
-  own_safe_told end =
+  pub own_safe_told : (writes writes_after : ℕ) → IfOk r (AnswerExplained name answer old new writes writes_after) → ExplainsFrameSafe (rom_of map rom) w start name reader old new
+  own_safe_told writes writes_after end =
       let a = explained (λ bytes. FrameVerdict rom map bytes budget w) (λ y bytes. Safe (record { frame = words_of bytes; rom = rom_of map rom }) w y.words y.depth)
-      (λ y bytes v. v.in_range.frame_length) (λ y bytes v. v.safe) start name reader left old new answer means r end is in
+      (λ y bytes v. v.in_range.frame_length) (λ y bytes v. v.safe) start name reader left old new answer means r writes writes_after end is in
       record { yes = a.0; account = a.1; written = a.2; safe = a.3 }
 
-  pub own_counts_told : IfOk r (AnswerExplained name answer old new) → ExplainsFrameCounts (rom_of map rom) start name reader old new
-  own_counts_told end =
+  pub own_counts_told : (writes writes_after : ℕ) → IfOk r (AnswerExplained name answer old new writes writes_after) → ExplainsFrameCounts (rom_of map rom) start name reader old new
+  own_counts_told writes writes_after end =
       let a = explained (λ bytes. FrameVerdict rom map bytes budget w) (λ y bytes. CountsAtHalt (record { frame = words_of bytes; rom = rom_of map rom }) y.words y.depth)
-      (λ y bytes v. v.in_range.frame_length) (λ y bytes v. v.exact) start name reader left old new answer means r end is in
+      (λ y bytes v. v.in_range.frame_length) (λ y bytes v. v.exact) start name reader left old new answer means r writes writes_after end is in
       record { yes = a.0; account = a.1; written = a.2; counts = a.3 }
 
 -- ---- over judged shapes
@@ -144,14 +144,14 @@ module _ (shapes : Shapes) (count budget : ℕ) (start : Option ℕ) (name : Lis
       (λ y bytes v. v.0.in_range.frame_length) (λ y bytes v. v.0.exact mode) start name reader left old new answer means r end written is in
       record { yes = a.0; written = a.1; counts = a.2 }
 
-  pub over_safe_told : IfOk r (AnswerExplained name answer old new) → ExplainsFrameSafe shapes.rom shapes.window start name reader old new
-  over_safe_told end =
+  pub over_safe_told : (writes writes_after : ℕ) → IfOk r (AnswerExplained name answer old new writes writes_after) → ExplainsFrameSafe shapes.rom shapes.window start name reader old new
+  over_safe_told writes writes_after end =
       let a = explained (λ bytes. VerdictOver shapes count bytes budget) (λ y bytes. Safe (record { frame = words_of bytes; rom = shapes.rom }) shapes.window y.words y.depth)
-      (λ y bytes v. v.0.in_range.frame_length) (λ y bytes v. v.0.safe) start name reader left old new answer means r end is in
+      (λ y bytes v. v.0.in_range.frame_length) (λ y bytes v. v.0.safe) start name reader left old new answer means r writes writes_after end is in
       record { yes = a.0; account = a.1; written = a.2; safe = a.3 }
 
-  pub over_counts_told : shapes.mode ≡ Exact → IfOk r (AnswerExplained name answer old new) → ExplainsFrameCounts shapes.rom start name reader old new
-  over_counts_told mode end =
+  pub over_counts_told : shapes.mode ≡ Exact → (writes writes_after : ℕ) → IfOk r (AnswerExplained name answer old new writes writes_after) → ExplainsFrameCounts shapes.rom start name reader old new
+  over_counts_told mode writes writes_after end =
       let a = explained (λ bytes. VerdictOver shapes count bytes budget) (λ y bytes. CountsAtHalt (record { frame = words_of bytes; rom = shapes.rom }) y.words y.depth)
-      (λ y bytes v. v.0.in_range.frame_length) (λ y bytes v. v.0.exact mode) start name reader left old new answer means r end is in
+      (λ y bytes v. v.0.in_range.frame_length) (λ y bytes v. v.0.exact mode) start name reader left old new answer means r writes writes_after end is in
       record { yes = a.0; account = a.1; written = a.2; counts = a.3 }

@@ -11,7 +11,7 @@ returns-clause-safe g c = λ is.
       | in-Ok w ↦ judged_means (λ bytes. FrameVerdict c.args.rom.now c.args.map bytes c.args.budget c.args.window) _ _ _ _ w.judge_own-own.result.verdict w.in-Ok.bytes.items w.as_slice.result.now (ap (λ x. x.0) w.answer-is) w.in-Ok.ensures.read w.in-Ok.ensures.bytes w.as_slice.ensures.value w.judge_own-own.ensures
       | in-Err w ↦ unread_means (λ bytes. FrameVerdict c.args.rom.now c.args.map bytes c.args.budget c.args.window) _ _ _ _ (ap (λ x. x.0) w.answer-is)
     ] in
-    own_safe_told c.args.rom.now c.args.map c.args.budget c.args.window c.args.start c.args.name.now _ _ _ _ c.match-read_started.answer.0 means c.write_answer.result is c.write_answer.ensures.ok
+    own_safe_told c.args.rom.now c.args.map c.args.budget c.args.window c.args.start c.args.name.now _ _ _ _ c.match-read_started.answer.0 means c.write_answer.result is _ _ c.write_answer.ensures.ok
 
 pub returns-clause-exact : goal.returns-clause-exact
 returns-clause-exact g c = λ is.
@@ -20,4 +20,4 @@ returns-clause-exact g c = λ is.
       | in-Ok w ↦ judged_means (λ bytes. FrameVerdict c.args.rom.now c.args.map bytes c.args.budget c.args.window) _ _ _ _ w.judge_own-own.result.verdict w.in-Ok.bytes.items w.as_slice.result.now (ap (λ x. x.0) w.answer-is) w.in-Ok.ensures.read w.in-Ok.ensures.bytes w.as_slice.ensures.value w.judge_own-own.ensures
       | in-Err w ↦ unread_means (λ bytes. FrameVerdict c.args.rom.now c.args.map bytes c.args.budget c.args.window) _ _ _ _ (ap (λ x. x.0) w.answer-is)
     ] in
-    own_counts_told c.args.rom.now c.args.map c.args.budget c.args.window c.args.start c.args.name.now _ _ _ _ c.match-read_started.answer.0 means c.write_answer.result is c.write_answer.ensures.ok
+    own_counts_told c.args.rom.now c.args.map c.args.budget c.args.window c.args.start c.args.name.now _ _ _ _ c.match-read_started.answer.0 means c.write_answer.result is _ _ c.write_answer.ensures.ok
