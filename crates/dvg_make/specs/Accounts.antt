@@ -187,8 +187,7 @@ AllNeeded rom roots frames list chain =
 abbrev pub AllWithin : Rom → List Entry → Type 0
 AllWithin rom list = (e : Entry) → Contains list e → IsEntry rom.map.rom_first rom.map.rom_last e
 
--- all that is told of a refusal: it is so by a list of made and needed entries, which with the chain are no more than a certificate
--- may have, and only a root lies outside the ROM (profile)
+-- all that is told of a refusal: it is so by a list of made and needed entries (profile)
 pub record IsTold
     (rom : Rom) (roots : List (ℕ × Key)) (frames : List (List ℕ)) (call : Option FrameCall) (chain : List Link) (at : ℕ)
     (before : Known) (cause : EntryCause) : Type 0 where
@@ -198,8 +197,10 @@ pub record IsTold
   pub asked : Link
   pub named : IsNamedBy roots frames list call asked
   pub needed : AllNeeded rom roots frames list chain
+  -- with the shapes of the chain they are no more than a certificate may have
   pub room : length list + length chain ≤ MOST_ENTRIES
   pub tells : Tells rom list asked chain at before cause
+  -- only a root lies outside the ROM
   pub outside : cause ≡ RootOutside → call ≡ None
 
 -- unless memory was out
@@ -223,7 +224,7 @@ entry_fault at cause = fault.Unstraight at
 
 -- ---- refusals
 
--- a refusal is that by a cause at a place, and this is told; where memory was out, nothing is (profile)
+-- the refusal is the one by some cause at some place, of which all this is told; where memory was out, nothing is (profile)
 pub record HasCause (rom : Rom) (roots : List (ℕ × Key)) (frames : List (List ℕ)) (fault : FramesFault) : Type 0 where
   pub chain : List Link
   pub at : ℕ
