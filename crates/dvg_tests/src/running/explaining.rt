@@ -9,11 +9,10 @@ use crate::texts::{
     ENDED_TEXT, HALT_IN_SHAPE_TEXT, MADE_TEXT, RETURN, RETURN_TEXT, STROKE_TEXT, stroke_rom,
 };
 use dvg_cmd::{
-    ASTEROIDS, Cert, CertFault, CertWhy, Counted, FrameOutcome, FramesRunFault, HashIndex,
-    JudgedShapes, Key, MakeAnswer, Mode, Outcome, Refusal, RomImage, RunFault, SCREEN, load_cert,
-    load_rom, make_line_of, run_explain_check, run_explain_frame, run_explain_frame_over,
-    run_explain_make, run_explain_refusal, run_explain_unopened, run_frame_over, run_refusal,
-    write_make_answer,
+    ASTEROIDS, CertFault, CertWhy, Counted, FrameOutcome, FramesRunFault, HashIndex, JudgedShapes,
+    Key, MakeAnswer, Mode, Outcome, Refusal, RomImage, RunFault, SCREEN, load_cert, load_rom,
+    make_line_of, run_explain_check, run_explain_frame, run_explain_frame_over, run_explain_make,
+    run_explain_refusal, run_explain_unopened, run_frame_over, run_refusal, write_make_answer,
 };
 use std::alloc::Global;
 use std::process::Abort;
@@ -200,40 +199,31 @@ what to do: dump the whole vector ROM, and nothing else; \
 see that the certificate is for a ROM that lies there, or name its addresses by `--rom`
 ";
 
-/// What a run writes of a refusal for which no frame is needed, with an account and without.
-fn explain_refusal(
-    alloc: Global,
-    rom: &[u8],
-    cert: Option<&Cert>,
-    refusal: &Refusal,
-) -> (Vec<u8>, Vec<u8>) {
-    let mut told = Vec::new(alloc);
-    let _ = run_explain_refusal(
-        alloc,
-        rom,
-        cert,
-        SCREEN,
-        refusal,
-        &mut Counted::new(&mut told),
-    );
-    let mut line = Vec::new(alloc);
-    let _ = run_refusal(refusal, &mut Counted::new(&mut line));
-    (told, line)
-}
-
-/// What is written where a certificate's text is refused, or else the ROM's length.
+/// What is written where a certificate's text is refused, or else the ROM's length: with an account, and without.
 fn explain_files(alloc: Global, rom: &[u8], text: &[u8]) -> Option<(Vec<u8>, Vec<u8>)> {
     let mut reader = Counted::new(SlowReader::new(text, 1, NEVER));
     let Ok(answer) = load_cert(alloc, &mut reader) else {
         return None;
     };
+    let mut told = Vec::new(alloc);
+    let mut line = Vec::new(alloc);
+    let mut out = Counted::new(&mut told);
     match &answer {
-        Err(fault) => Some(explain_refusal(alloc, rom, None, &Refusal::Cert(*fault))),
-        Ok(cert) => match RomImage::from_bytes(rom, cert.map()) {
-            Err(fault) => Some(explain_refusal(alloc, rom, Some(cert), &Refusal::Image(fault))),
-            Ok(_) => None,
-        },
+        Err(fault) => {
+            let refusal = Refusal::Cert(*fault);
+            let _ = run_explain_refusal(alloc, rom, None, SCREEN, &refusal, &mut out);
+            let _ = run_refusal(&refusal, &mut Counted::new(&mut line));
+        }
+        Ok(cert) => {
+            let Err(fault) = RomImage::from_bytes(rom, cert.map()) else {
+                return None;
+            };
+            let refusal = Refusal::Image(fault);
+            let _ = run_explain_refusal(alloc, rom, Some(cert), SCREEN, &refusal, &mut out);
+            let _ = run_refusal(&refusal, &mut Counted::new(&mut line));
+        }
     }
+    Some((told, line))
 }
 
 #[test]
