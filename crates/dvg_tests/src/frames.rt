@@ -415,20 +415,21 @@ fn tells_unread_frames(rt: HostRuntime) {
     );
 }
 
-/// A failed write leaves a prefix of the line.
+/// A failed write leaves a prefix of the line, whose 40 bytes are six writes to a writer that takes 7 bytes. The last of them takes
+/// its whole piece.
 #[test]
 fn leaves_a_prefix(rt: HostRuntime) {
     let line = b"name: accepted shapes=0 words=1 depth=0\n";
     for fails_at in 0..8u32 {
         let mut out = Counted::new(SlowWriter::new(7, fails_at));
         let (end, failures, _) = run_zeros(rt.alloc(), HALT, 2048, NEVER, &mut out);
-        let is_blamed = fails_at < 7;
+        let is_blamed = fails_at < 6;
         let want = match is_blamed {
-            true => (Err(RunFault::Write), 0, 1),
-            false => (Ok(FrameOutcome::Accepted), 0, 0),
+            true => (Err(RunFault::Write), 0, (1, 0)),
+            false => (Ok(FrameOutcome::Accepted), 0, (0, 1)),
         };
-        let failed = CountedWrite::failures(&out);
-        expect_same(&rt, &(end, failures, failed), &want, &fails_at);
+        let counts = (CountedWrite::failures(&out), out.whole_writes());
+        expect_same(&rt, &(end, failures, counts), &want, &fails_at);
         let out = out.into_inner();
         expect(&rt, line.starts_with(out.told()), &fails_at);
         expect(
