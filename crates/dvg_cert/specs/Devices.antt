@@ -9,7 +9,7 @@ pub record CountedDevice (T : Type 0) : Type 0 where
   pub failures : ℕ
   pub whole_writes : ℕ
 
--- the count after a call that failed or did not; it stops at the greatest u32
+-- the count after a call that is counted or is not; it stops at the greatest u32
 abbrev pub count_after : Bool → ℕ → ℕ
 count_after true n = if nat_lt n (2 ^ 32 - 1) then n + 1 else n
 count_after false n = n
@@ -24,7 +24,8 @@ abbrev pub took_whole : {E : Type 0} → Result ℕ E → List ℕ → Bool
 took_whole (Ok n) bytes = n == length bytes
 took_whole (Err e) bytes = false
 
--- a text of at most 4,096 bytes was taken whole by one write (profile)
+-- of the writes of a text of at most 4,096 bytes just one took its whole piece: it is the only one, if the writer takes each piece
+-- whole (profile)
 abbrev pub TakesOneWrite : List ℕ → ℕ → ℕ → Type 0
 TakesOneWrite text old new = length text ≤ MOST_AT_ONCE → new ≡ count_after true old
 

@@ -55,8 +55,8 @@ pub trait CountedWrite: Write {
 #[derive(Drop)]
 pub struct Counted<T> {
     device: T,
-    count: u32,
-    whole_count: u32,
+    failure_count: u32,
+    whole_write_count: u32,
 }
 
 impl<T> Model for Counted<T> {
@@ -64,7 +64,7 @@ impl<T> Model for Counted<T> {
 
     ghost Value = { CountedDevice T };
 
-    ghost view = { λ c. record { device = c.device; failures = c.count; whole_writes = c.whole_count } };
+    ghost view = { λ c. record { device = c.device; failures = c.failure_count; whole_writes = c.whole_write_count } };
 }
 
 impl<T> Counted<T> {
@@ -74,8 +74,8 @@ impl<T> Counted<T> {
     {
         Counted {
             device,
-            count: 0,
-            whole_count: 0,
+            failure_count: 0,
+            whole_write_count: 0,
         }
     }
 
@@ -89,13 +89,13 @@ impl<T> Counted<T> {
     fn count_failure(&mut self)
         ensures { self.new ≡ record self.old { failures = count_after true self.old.failures } }
     {
-        self.count = self.count.saturating_add(1);
+        self.failure_count = self.failure_count.saturating_add(1);
     }
 
     fn count_whole_write(&mut self)
         ensures { self.new ≡ record self.old { whole_writes = count_after true self.old.whole_writes } }
     {
-        self.whole_count = self.whole_count.saturating_add(1);
+        self.whole_write_count = self.whole_write_count.saturating_add(1);
     }
 }
 
@@ -111,7 +111,7 @@ impl<T: Read> CountedRead for Counted<T> {
     ghost failures = { λ c. c.failures };
 
     fn failures(&self) -> u32 {
-        self.count
+        self.failure_count
     }
 
     fn read_counted(&mut self, buf: &mut [u8]) -> io::Result<usize> {
@@ -141,11 +141,11 @@ impl<T: Write> CountedWrite for Counted<T> {
     ghost whole_writes = { λ c. c.whole_writes };
 
     fn failures(&self) -> u32 {
-        self.count
+        self.failure_count
     }
 
     fn whole_writes(&self) -> u32 {
-        self.whole_count
+        self.whole_write_count
     }
 
     fn write_counted(&mut self, buf: &[u8]) -> io::Result<usize> {

@@ -9,7 +9,7 @@ use arrayvec::ArrayVec;
 /// The bytes of a line so far.
 pub type LineBuffer = ArrayVec<u8, LONGEST_LINE>;
 
-/// Bytes that are put together for a write. It takes so much of the stack.
+/// Bytes that are put together for a write, on the stack.
 pub type WriteBuffer = ArrayVec<u8, MOST_AT_ONCE>;
 
 /// Puts bytes at the end of a buffer that has room for them. Takes no memory.

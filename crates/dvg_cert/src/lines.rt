@@ -13,7 +13,7 @@ use crate::line_buffer::{WriteBuffer, push_bytes};
 use crate::writer::write_bytes;
 use memchr::memrchr;
 
-/// Writes the whole lines that a buffer holds, and keeps what is behind them; all of it where no line ends there.
+/// Writes the whole lines that a buffer holds, and keeps the rest; all that it holds, where no line ends in it.
 fn send_lines<W: CountedWrite>(held: &mut WriteBuffer, out: &mut W) -> Result<(), WriteFault>
     requires { 0 < array_vec_len held.old }
     ensures ok { OnOk result (Buffered (W.contents out.old) (W.contents out.new) held.new.items held.old.items) }
@@ -33,7 +33,7 @@ fn send_lines<W: CountedWrite>(held: &mut WriteBuffer, out: &mut W) -> Result<()
     Ok(())
 }
 
-/// Puts a text behind what a buffer holds. Where that is more than the buffer has room for, whole lines are written.
+/// Puts a text after what a buffer holds. Where that is more than the buffer has room for, whole lines are written.
 fn put<W: CountedWrite>(held: &mut WriteBuffer, text: &[u8], out: &mut W) -> Result<(), WriteFault>
     ensures ok { OnOk result (Buffered (W.contents out.old) (W.contents out.new) held.new.items (held.old.items ++ text.now)) }
     ensures prefix { OnErr result (AppendsPrefix (W.contents out.old) (W.contents out.new) (held.old.items ++ text.now)) }
@@ -54,10 +54,11 @@ fn put<W: CountedWrite>(held: &mut WriteBuffer, text: &[u8], out: &mut W) -> Res
     Ok(())
 }
 
-/// Writes these three texts, one behind the other, and nothing else. Takes no memory.
+/// Writes these three texts, one after the other, and nothing else. Takes no memory.
 ///
-/// They are put together, so that up to 4096 bytes are one write, if the writer takes all of it. Of more, each write is of as many
-/// whole lines as fit 4096 bytes, or of 4096 bytes of a longer line. At the first write that fails it ends with `Device`, and a
+/// They are put together, so that up to 4096 bytes are one write, if the writer takes all of it. A longer text takes several
+/// writes: each of as many whole lines as fit 4096 bytes, or of 4096 bytes of a line that doesn't fit. There are three for a name, a
+/// line and an account; one that isn't needed is empty. At the first write that fails it ends with `Device`, and a
 /// prefix of the texts was written: nothing is sent again.
 pub fn write_lines<W: CountedWrite>(
     first: &[u8],
@@ -71,7 +72,7 @@ pub fn write_lines<W: CountedWrite>(
     // An error comes exactly where a write failed in this call.
     ensures count { W.failures out.new ≡ count_after (is_err result) (W.failures out.old) }
 
-    // Up to 4,096 bytes are one write, where there are any.
+    // Of 1 to 4,096 bytes just one write took its whole piece: it is the only one, if the writer takes it whole.
     ensures one_write { 0 < length (first.now ++ second.now ++ third.now)
         → OnOk result (TakesOneWrite (first.now ++ second.now ++ third.now) (W.whole_writes out.old) (W.whole_writes out.new)) }
 {

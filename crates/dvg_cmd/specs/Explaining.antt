@@ -1,6 +1,7 @@
 -- What a run writes that explains its answer: the line of the answer, and behind it some account. All of it is profile.
 use Rattle.std.specs.Prelude.{◌≡◌, ◌⊎◌, ℕ, List, ◌++◌, length, codes, decimal, Option, None, Result, Ok, Err, IfOk}
 use Rattle.std.specs.Io.KnownBytes.{Appends}
+-- for the program, too, which does not build on dvg_words
 pub use Rattle.dvg_words.specs.Memory.{rom_of, IsRomLength}
 use Rattle.dvg_words.specs.Values.{Window, MemoryMap}
 use Rattle.dvg_words.specs.declared.image.ImageFault.TheVariants.{RomLength}
@@ -85,8 +86,8 @@ abbrev pub IsCertRefusal : Refusal → Type 0
 IsCertRefusal (refusal.Cert f) = Unit {0}
 IsCertRefusal r = ⊥
 
--- a certificate was refused over the bytes of a ROM: 1 where their number is not that of its map, else that memory was out for the
--- index, or the first fault of its shapes
+-- what a certificate is refused with over the bytes of a ROM, with counts as bounds: 1 where the ROM's length is not that of its map;
+-- else that memory was out for the index, or the first fault of its shapes
 abbrev pub RefusesShapes : Window → List ℕ → Certificate → Refusal → Type 0
 RefusesShapes w rom c (refusal.Image RomLength) = IsRomLength c.map (length rom) → ⊥
 RefusesShapes w rom c refusal.IndexMemory = IsRomLength c.map (length rom)

@@ -39,10 +39,8 @@ fn write_both<W: CountedWrite>(
     ensures count { W.failures out.new ≡ count_after (is_err result) (W.failures out.old) }
 {
     let report = report_of(verdict);
-    match write_lines(report.as_bytes(), text.as_bytes(), &[], out) {
-        Ok(()) => Ok(outcome_of(verdict)),
-        Err(_) => Err(RunFault::Write),
-    }
+    write_lines(report.as_bytes(), text.as_bytes(), &[], out)?;
+    Ok(outcome_of(verdict))
 }
 
 /// Writes the report of a verdict, and behind it its account, or that there was no memory for one.

@@ -69,6 +69,7 @@ pub fn run_explain_frame<R: CountedRead, W: CountedWrite>(
         (W.whole_writes out.old) (W.whole_writes out.new)) }
     ensures prefix { OnErr result (ExplainsFramePrefix (λ bytes. FrameVerdict rom.now map bytes budget window) start name.now
         (R.remaining frame.old) (R.remaining frame.new) (W.contents out.old) (W.contents out.new)) }
+
     // What is accepted is safe, with the counts of the line that was written, and these are the counts of each run.
     ensures safe { result ≡ Ok FrameOutcome.Accepted → ExplainsFrameSafe (rom_of map rom.now) window start name.now
         (R.remaining frame.old) (W.contents out.old) (W.contents out.new) }

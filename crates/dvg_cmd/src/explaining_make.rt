@@ -164,9 +164,7 @@ fn write_make_line_and<W: CountedWrite>(
     ensures count { W.failures out.new ≡ count_after (is_err result) (W.failures out.old) }
 {
     let report = make_line_of(made);
-    let Ok(()) = write_lines(name.as_bytes(), report.as_bytes(), text.as_bytes(), out) else {
-        return Err(RunFault::Write);
-    };
+    write_lines(name.as_bytes(), report.as_bytes(), text.as_bytes(), out)?;
     match made {
         Ok(_) => Ok(Outcome::Accepted),
         Err(_) => Ok(Outcome::Refused),

@@ -227,10 +227,8 @@ pub fn write_line_and<W: CountedWrite>(
     ensures count { W.failures out.new ≡ count_after (is_err result) (W.failures out.old) }
 {
     let report = frame_report_of(answer);
-    match write_lines(name.as_bytes(), report.as_bytes(), text.as_bytes(), out) {
-        Ok(()) => Ok(frame_outcome_of(answer)),
-        Err(_) => Err(RunFault::Write),
-    }
+    write_lines(name.as_bytes(), report.as_bytes(), text.as_bytes(), out)?;
+    Ok(frame_outcome_of(answer))
 }
 
 /// Writes the line of an answer: the name, which has no control characters, a colon and a space, and the report.

@@ -2,7 +2,7 @@
 
 ghost use Rattle.dvg_cmd.specs.Laws.{StartIsJump};
 
-/// The word that a start puts in at word 000 is the JMPL to it.
+/// The word that a start puts in at word 000 is the JMPL to that word address.
 pub fn start_is_jump()
     ensures { StartIsJump }
 {}

@@ -18,10 +18,7 @@ pub fn write_text<W: CountedWrite>(text: &str, out: &mut W) -> Result<(), RunFau
     ensures fault { IfErr result (λ fault. fault ≡ RunFault.Write) }
     ensures count { W.failures out.new ≡ count_after (is_err result) (W.failures out.old) }
 {
-    match write_lines(text.as_bytes(), &[], &[], out) {
-        Ok(()) => Ok(()),
-        Err(_) => Err(RunFault::Write),
-    }
+    Ok(write_lines(text.as_bytes(), &[], &[], out)?)
 }
 
 /// Writes a message, and the LF at its end.
@@ -32,14 +29,11 @@ pub fn write_message<W: CountedWrite>(message: &str, out: &mut W) -> Result<(), 
     ensures fault { IfErr result (λ fault. fault ≡ RunFault.Write) }
     ensures count { W.failures out.new ≡ count_after (is_err result) (W.failures out.old) }
 {
-    match write_lines(message.as_bytes(), b"\n", &[], out) {
-        Ok(()) => Ok(()),
-        Err(_) => Err(RunFault::Write),
-    }
+    Ok(write_lines(message.as_bytes(), b"\n", &[], out)?)
 }
 
 /// Writes the line of a run of the maker that made no certificate, behind the name of the frame to blame, which has no control
-/// characters; the name is empty where no frame is.
+/// characters; the name is empty where no frame is to blame.
 pub fn write_make_fault<W: CountedWrite>(
     name: &str,
     fault: &FramesRunFault,
@@ -53,8 +47,5 @@ pub fn write_make_fault<W: CountedWrite>(
     ensures count { W.failures out.new ≡ count_after (is_err result) (W.failures out.old) }
 {
     let report = make_frames_report_of(fault);
-    match write_lines(name.as_bytes(), report.as_bytes(), &[], out) {
-        Ok(()) => Ok(()),
-        Err(_) => Err(RunFault::Write),
-    }
+    Ok(write_lines(name.as_bytes(), report.as_bytes(), &[], out)?)
 }

@@ -19,7 +19,7 @@ use crate::reading::{read_certificate, read_frame, read_rom, skip};
 use crate::report::report_of;
 use crate::status::text_of;
 use dvg_cert::laws::prefix_refusal;
-use dvg_cert::{Cert, CertWhy, CountedRead, CountedWrite, write_bytes};
+use dvg_cert::{Cert, CertWhy, CountedRead, CountedWrite, WriteFault, write_bytes};
 use dvg_check::{Mode, Refusal, Yes, frame_of};
 use dvg_explain::{RomAccount, explain_rom};
 use dvg_words::{FrameImage, RomMap, Window};
@@ -67,6 +67,14 @@ impl RunFault {
             RunFault::Write => 73,
             RunFault::Memory => 74,
         }
+    }
+}
+
+impl From<WriteFault> for RunFault {
+    ghost from_gives = { λ _ fault. fault ≡ RunFault.Write };
+
+    fn from(_fault: WriteFault) -> RunFault {
+        RunFault::Write
     }
 }
 
@@ -196,9 +204,7 @@ pub fn write_report<W: CountedWrite>(
     ensures count { W.failures out.new ≡ count_after (is_err result) (W.failures out.old) }
 {
     let report = report_of(verdict);
-    let Ok(()) = write_bytes(report.as_bytes(), out) else {
-        return Err(RunFault::Write);
-    };
+    write_bytes(report.as_bytes(), out)?;
     Ok(outcome_of(verdict))
 }
 
@@ -242,7 +248,7 @@ pub fn run_check<R1: CountedRead, R2: CountedRead, R3: CountedRead, W: CountedWr
     ensures prefix { result ≡ Err RunFault.Write → ReportsPrefix mode window (R1.remaining rom.old) (R2.remaining cert.old)
         (R3.remaining frame.old) budget (W.contents out.old) (W.contents out.new) }
 
-    // One write took the whole line.
+    // Just one write took its whole piece: it is the only one, if the writer takes the line whole.
     ensures one_write { OnOk result (W.whole_writes out.new ≡ count_after true (W.whole_writes out.old)) }
 
     // What is accepted is safe, with the counts of the line that was written, and in the mode `Exact` these are the counts of

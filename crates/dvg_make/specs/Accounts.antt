@@ -161,8 +161,8 @@ Tells rom list asked (shape ∷ chain) at before cause =
 
 -- ---- what was asked for
 
--- a root, or what the item of the frame calls that the refusal names, at the scale that is known there by this list, which has the
--- entries of all that is asked for before it: of roots first, then of frames and their calls in their order (profile)
+-- a root, where no call is named, else what that call calls, at the scale that is known there by this list. The list has an entry for
+-- all that is asked for before it: roots in their order, then frames in theirs, and the calls of each (profile)
 abbrev pub IsNamedBy : List (ℕ × Key) → List (List ℕ) → List Entry → Option FrameCall → Link → Type 0
 IsNamedBy roots frames list None asked =
     (root : ℕ) × (slice_get roots root ≡ Some (asked.addr, asked.key)) × HasAsked (take root roots) [] list
@@ -177,7 +177,8 @@ pub record IsNeededBy (rom : Rom) (list : List Entry) (chain : List Link) (shape
   pub there : HasEntry list from.addr from.key ⊎ Contains chain from
   pub precedes : Precedes rom list from shape
 
--- each entry of the list is one that a refusal might name, or one that another entry or the chain needs (profile)
+-- each entry of the list is asked for, and then has an entry before it for all that is asked for earlier; or another entry or the chain
+-- needs it (profile)
 abbrev pub AllNeeded : Rom → List (ℕ × Key) → List (List ℕ) → List Entry → List Link → Type 0
 AllNeeded rom roots frames list chain =
     (shape : Link) → HasEntry list shape.addr shape.key
@@ -224,7 +225,7 @@ entry_fault at cause = fault.Unstraight at
 
 -- ---- refusals
 
--- the refusal is the one by some cause at some place, of which all this is told; where memory was out, nothing is (profile)
+-- the refusal is that of some cause at some place, of which `IsTold` holds; where memory was out, nothing is told (profile)
 pub record HasCause (rom : Rom) (roots : List (ℕ × Key)) (frames : List (List ℕ)) (fault : FramesFault) : Type 0 where
   pub chain : List Link
   pub at : ℕ
@@ -233,7 +234,7 @@ pub record HasCause (rom : Rom) (roots : List (ℕ × Key)) (frames : List (List
   pub why_is : fault.why ≡ entry_fault at cause
   pub told : UnlessMemory cause (IsTold rom roots frames fault.call chain at before cause)
 
--- so of a refusal of roots alone (profile)
+-- so has a refusal of roots alone (profile)
 abbrev pub HasRootCause : Rom → List (ℕ × Key) → MakeFault → Type 0
 HasRootCause rom roots f =
     (why : EntryFault) × (make_fault_of why ≡ f) × HasCause rom roots [] (record { call = None; why = why })

@@ -127,8 +127,8 @@ fn account_of(alloc: Global, refusal: &FramesStuck) -> MakeAccount
 /// Makes what [`make_for_frames`](crate::make_for_frames) makes, or tells in full why not: with its refusal the shapes on the way
 /// to the one that can't be made, the item in it, what is known before it, and the cause in numbers (profile).
 ///
-/// All of it is so by the entries that were made so far, and so by each list of made entries that has them. Where memory was out,
-/// also for the account itself, it is 63 and tells no more. Takes memory as `make_for_frames` does, and for the chain.
+/// All of it is so by the entries that were made so far. Where memory was out, also for the account itself, it is 63 and tells no
+/// more. Takes memory as `make_for_frames` does, and for the chain.
 pub fn explain_making(
     alloc: Global,
     rom: &RomImage,

@@ -146,15 +146,14 @@ pub fn certificate_of(alloc: Global, map: RomMap, mut done: Done) -> Result<Cert
 /// known before the call by this very certificate, and of all that these call or tail jump to: exact words and depths, the
 /// least boxes, and for each call an entry at the very scale that is known there (profile). Its map is the ROM's.
 ///
-/// The calls of a frame are those among its items, up to and with its last, whatever rule an item breaks. A refusal names the
-/// frame's call whose entry is not made; roots come first, then the frames in their order. It is the first that the making comes
-/// to, with its own word for 60: what is asked for before it is made, and so is all that the items before the faulty one call.
-/// 62 by the number of entries comes where all that is made and in the making up to there are 4,096 entries, and one more is
-/// called. For a frame's call, 60, 61 and 62 by a count come only where no certificate at all gets this frame accepted; 62 by the
-/// number of entries only where the certificate would be too long, and then another one may be accepted. A root outside the ROM
-/// or with a scale over 15 is 60.
-/// 63 comes where there was no memory. What is lit at an absolute place may lie anywhere: no window is asked. Takes memory for
-/// the entries and for the shapes in the making.
+/// The calls of a frame are those among its items, up to and with its last, whatever rule an item breaks. The first fault that the
+/// making comes to is answered: roots come first, then the frames in their order. A refusal names the frame's call whose entry is
+/// not made, and 60 the word of the faulty item. By then all that is asked for before it has its entry, and so has all that the
+/// items before the faulty one call. 62 by the number of entries comes where the entries made by then and the shapes in the making
+/// are 4,096, and one more is called. For a frame's call, 60, 61 and 62 by a count come only where no certificate at all gets this
+/// frame accepted; 62 by the number of entries only where the certificate would be too long, and then another one may be accepted.
+/// A root outside the ROM or with a scale over 15 is 60. 63 comes where there was no memory. What is lit at an absolute place may
+/// lie anywhere: no window is asked. Takes memory for the entries and for the shapes in the making.
 pub fn make_for_frames(
     alloc: Global,
     rom: &RomImage,

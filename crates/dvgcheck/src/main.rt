@@ -106,6 +106,7 @@ fn judge_each_over<E: Entries, W: CountedWrite>(
 ) -> Result<FrameOutcome, RunFault>
     requires map { shapes.now.rom.map ≡ cert.now.map }
     requires entries { shapes.now.list ≡ cert.now.entries }
+    requires window { shapes.now.window ≡ words.now.window }
 {
     let mut worst = FrameOutcome::Accepted;
     for frame in &words.frames {
@@ -210,6 +211,7 @@ fn explain_each_over<E: Entries, W: CountedWrite>(
     requires rom { shapes.now.rom ≡ rom_of cert.now.map rom.now }
     requires entries { shapes.now.list ≡ cert.now.entries }
     requires mode { shapes.now.mode ≡ Mode.Bound }
+    requires window { shapes.now.window ≡ words.now.window }
 {
     let mut worst = FrameOutcome::Accepted;
     for frame in &words.frames {
@@ -243,9 +245,9 @@ fn explain_over<W: CountedWrite>(
 ) -> Result<Result<FrameOutcome, RunFault>, Refusal>
     ensures { IfErr result (RefusesShapes words.now.window bytes.now cert.now) }
 {
-    let rom = RomImage::from_bytes(bytes, cert.map())?;
+    let image = RomImage::from_bytes(bytes, cert.map())?;
     let entries = HashIndex::new(rt.alloc(), cert)?;
-    let shapes = JudgedShapes::judge(&rom, cert, &entries, words.window, Mode::Bound)?;
+    let shapes = JudgedShapes::judge(&image, cert, &entries, words.window, Mode::Bound)?;
     Ok(explain_each_over(rt, words, bytes, &shapes, cert, out))
 }
 
@@ -431,7 +433,7 @@ fn tell_make(rt: &HostRuntime, frames: &[Named], end: &Result<(), FramesRunFault
 }
 
 /// Tells how the writing of rules or of help ended, by a fault's message and the exit status.
-fn tell_rules(rt: &HostRuntime, end: &Result<(), RunFault>) -> u8 {
+fn tell_text(rt: &HostRuntime, end: &Result<(), RunFault>) -> u8 {
     match end {
         Ok(()) => 0,
         Err(fault) => tell_check(rt, &Err(*fault)),
@@ -452,7 +454,7 @@ fn tell_usage(rt: &HostRuntime, usage: &Usage) -> u8 {
         }
         Usage::Help(text) => {
             let written = write_text(text.as_str(), &mut Counted::new(io::writer(rt)));
-            tell_rules(rt, &written)
+            tell_text(rt, &written)
         }
     }
 }
@@ -476,7 +478,7 @@ fn run(rt: &HostRuntime) -> u8 {
         Ok(Request::Check(words)) => tell_check(rt, &check(rt, &words)),
         Ok(Request::Make(words)) => tell_make(rt, &words.frames, &make(rt, &words)),
         Ok(Request::Explain(explained)) => explain(rt, &explained),
-        Ok(Request::Rules(rule)) => tell_rules(rt, &rules(rt, rule)),
+        Ok(Request::Rules(rule)) => tell_text(rt, &rules(rt, rule)),
         Err(usage) => tell_usage(rt, &usage),
     }
 }
