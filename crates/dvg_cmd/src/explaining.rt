@@ -68,7 +68,7 @@ pub fn write_explained<W: CountedWrite>(
 }
 
 /// Reads a ROM, a frame and a certificate, as [`run_check`](crate::run_check) does, and writes the report that it would write, and
-/// behind it an account of the verdict (docs/ACCOUNTS.md).
+/// behind it an account of the verdict (docs/RULES.md).
 ///
 /// Where there is no memory for the account, `account: out of memory` stands in its place, and the outcome says so. The faults are those of `run_check`.
 pub fn run_explain_check<R1: CountedRead, R2: CountedRead, R3: CountedRead, W: CountedWrite>(

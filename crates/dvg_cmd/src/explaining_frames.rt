@@ -47,7 +47,7 @@ fn unread_text(alloc: Global) -> Result<String, AllocError> {
 }
 
 /// Reads a frame and judges it by its own certificate, as [`run_frame`](crate::run_frame) does, and writes the line that it would
-/// write, and behind it an account of the answer (docs/ACCOUNTS.md).
+/// write, and behind it an account of the answer (docs/RULES.md).
 ///
 /// The account is told by the certificate that the frame was judged by. Where there is no memory for the account,
 /// `account: out of memory` stands in its place, and the outcome says so.

@@ -99,7 +99,7 @@ fn answer_on(
 }
 
 /// Reads a ROM and frames, as [`run_make_frames`](crate::run_make_frames) does, and makes what that would write; answers how many
-/// entries there are, or why none are made, with an account of it (docs/ACCOUNTS.md). Nothing is written.
+/// entries there are, or why none are made, with an account of it (docs/RULES.md). Nothing is written.
 ///
 /// The faults are those of `run_make_frames` that have no account: a failed read, and that there was no memory for the making.
 pub fn run_explain_make<R1: CountedRead, R2: CountedRead>(
