@@ -71,7 +71,10 @@ impl RunFault {
 }
 
 impl From<WriteFault> for RunFault {
-    ghost from_gives = { λ _ fault. fault ≡ RunFault.Write };
+    ghost use Rattle.std.specs.Prelude.{◌≡◌};
+    ghost use Rattle.dvg_cmd.specs.declared.running.RunFault.TheVariants.{Write};
+
+    ghost from_gives = { λ _ fault. fault ≡ Write };
 
     fn from(_fault: WriteFault) -> RunFault {
         RunFault::Write

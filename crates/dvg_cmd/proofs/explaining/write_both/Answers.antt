@@ -5,8 +5,8 @@ use Rattle.dvg_cmd.specs.Runs.{Accepted}
 use Rattle.dvg_cmd.proofs.Accounts.{explains_safe, explains_counts}
 use Rattle.dvg_cmd.proofs.explaining.write_both.Goals as goal
 
-pub returns-in_ok-write_lines-clause-safe : goal.returns-in_ok-write_lines-clause-safe
-returns-in_ok-write_lines-clause-safe g c = λ w rom cert frame safe is.
+pub returns-clause-safe : goal.returns-clause-safe
+returns-clause-safe g c = λ w rom cert frame safe is.
     let both : Appends (g.W.Write.contents c.args.out.now) (g.W.Write.contents c.write_lines.new.out) ((report_text c.args.verdict.now ++ c.args.text.now) ++ []) =
     rw (c.as_bytes.ensures.bytes, c.report_of-report.ensures.text, c.as_bytes-2.ensures.value) at c.in_ok-write_lines.ensures.ok in
     let written : Appends (g.W.Write.contents c.args.out.now) (g.W.Write.contents c.write_lines.new.out) (report_text c.args.verdict.now ++ c.args.text.now) =
@@ -14,8 +14,8 @@ returns-in_ok-write_lines-clause-safe g c = λ w rom cert frame safe is.
     let accepted : c.outcome_of.result ≡ Accepted = cc in
     explains_safe c.outcome_of.result c.args.text.now _ _ c.args.verdict.now c.outcome_of.ensures written accepted w rom cert frame safe
 
-pub returns-in_ok-write_lines-clause-exact : goal.returns-in_ok-write_lines-clause-exact
-returns-in_ok-write_lines-clause-exact g c = λ rom cert frame counts is.
+pub returns-clause-exact : goal.returns-clause-exact
+returns-clause-exact g c = λ rom cert frame counts is.
     let both : Appends (g.W.Write.contents c.args.out.now) (g.W.Write.contents c.write_lines.new.out) ((report_text c.args.verdict.now ++ c.args.text.now) ++ []) =
     rw (c.as_bytes.ensures.bytes, c.report_of-report.ensures.text, c.as_bytes-2.ensures.value) at c.in_ok-write_lines.ensures.ok in
     let written : Appends (g.W.Write.contents c.args.out.now) (g.W.Write.contents c.write_lines.new.out) (report_text c.args.verdict.now ++ c.args.text.now) =
