@@ -12,11 +12,11 @@ use Rattle.dvg_check.specs.declared.verdict.Refusal.TheVariants as refusal
 use Rattle.dvg_check.specs.declared.verdict.Yes.{Yes}
 use Rattle.dvg_make.specs.declared.fault.EntryFault.TheVariants as entry
 use Rattle.dvg_make.specs.declared.judging.FrameRefusal.TheVariants as frame
-use Rattle.dvg_cmd.specs.Report.{report_text}
-use Rattle.dvg_cmd.specs.Status.{worse}
+use Rattle.dvg_spelling.specs.Report.{report_text}
+use Rattle.dvg_spelling.specs.Outcomes.{worse}
 use Rattle.dvg_cmd.specs.Frames.{FrameAnswer, Judged, Unread, FrameOutcome, frame_outcome_of, is_unread, is_unread_outcome}
-use Rattle.dvg_cmd.specs.declared.judging.FrameOutcome.TheVariants as outcome
-use Rattle.dvg_cmd.specs.Runs.{Outcome, Accepted, RunFault, IsReadFor, Judges, SafeRead, CountsRead, cert_outcome, outcome_of}
+use Rattle.dvg_spelling.specs.declared.outcome.FrameOutcome.TheVariants as outcome
+use Rattle.dvg_cmd.specs.Runs.{Outcome, Accepted, RunFault, IsReadFor, Judges, SafeRead, CountsRead, outcome_of}
 use Rattle.dvg_cmd.specs.Explaining.{Explained, Explains, ExplainsSafe, ExplainsCounts}
 
 -- what was written of a verdict was written of the one on all bytes that the readers held

@@ -17,8 +17,8 @@ use Rattle.dvg_make.specs.declared.fault.EntryFault.TheVariants as entry
 use Rattle.dvg_make.specs.declared.fault.FrameCall.{FrameCall}
 use Rattle.dvg_make.specs.declared.fault.FramesFault.{FramesFault}
 use Rattle.dvg_make.specs.declared.fault.MakeFault.TheVariants as making
-use Rattle.dvg_cmd.specs.declared.making.MakeRunFault.TheVariants as maker
-use Rattle.dvg_cmd.specs.declared.making_frames.FramesRunFault.TheVariants as fault
+use Rattle.dvg_spelling.specs.declared.fault.MakeRunFault.TheVariants as maker
+use Rattle.dvg_spelling.specs.declared.fault.FramesRunFault.TheVariants as fault
 use Rattle.dvg_cmd.specs.MakingFrames.{of_each, AreFrames, Inputs, MakesForFrames, RefusesInputs, FramesRunFault, FramesFaultMeans, told_fault}
 use Rattle.dvg_cmd.specs.Private.Reading.{IsPrefix, ArePrefixes, RefusesLengths}
 use Rattle.dvg_cmd.proofs.Whole.{held_bytes, held_told}

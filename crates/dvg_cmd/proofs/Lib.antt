@@ -5,8 +5,6 @@ pub mod Reporting
 pub mod SeveralFrames
 pub mod MakerRuns
 pub mod FramesRuns
-pub mod Windows
-pub mod Lines
 pub mod Framing
 pub mod Accounts
 pub mod SafeFrames

@@ -10,7 +10,7 @@ use Rattle.dvg_make.specs.Accounts.{HasRootCause}
 use Rattle.dvg_make.specs.declared.fault.MakeFault.{MakeFault}
 use Rattle.dvg_cmd.specs.Making.{Makes, MakeFaultMeans}
 use Rattle.dvg_cmd.specs.Private.Reading.{IsPrefix}
-use Rattle.dvg_cmd.specs.declared.making.MakeRunFault.TheVariants as fault
+use Rattle.dvg_spelling.specs.declared.fault.MakeRunFault.TheVariants as fault
 use Rattle.dvg_cmd.proofs.Whole.{held_bytes, held_told, prefix_of_held, rom_same, rom_back}
 
 -- what was read is all, where it is a ROM's length

@@ -12,13 +12,13 @@ use Rattle.dvg_check.specs.declared.verdict.Yes.{Yes}
 use Rattle.dvg_make.specs.declared.fault.EntryFault.TheVariants as entry
 use Rattle.dvg_make.specs.declared.judging.FrameRefusal.{FrameRefusal}
 use Rattle.dvg_make.specs.declared.judging.FrameRefusal.TheVariants as frame
-use Rattle.dvg_cmd.specs.Status.{worse}
+use Rattle.dvg_spelling.specs.Outcomes.{worse}
 use Rattle.dvg_cmd.specs.Runs.{MOST_FRAME_READ, IsReadTo, RunFault}
 use Rattle.dvg_cmd.specs.Frames.{FrameAnswer, Judged, Unread, FrameOutcome, ReadsFrame, FrameVerdict, VerdictOver, AnswerMeans, refusal_outcome_of, frame_outcome_of, frame_line}
 use Rattle.dvg_cmd.specs.Explaining.{IsExplainedFrameOutcome, AnswerExplained}
 use Rattle.dvg_cmd.specs.Start.{jumped, started}
 use Rattle.dvg_cmd.specs.SafeFrames.{accepted_line, ReportsFrameSafe, ReportsFrameCounts, ExplainsFrameSafe, ExplainsFrameCounts}
-use Rattle.dvg_cmd.specs.declared.judging.FrameOutcome.TheVariants as outcome
+use Rattle.dvg_spelling.specs.declared.outcome.FrameOutcome.TheVariants as outcome
 
 -- ---- a refusal is not accepted
 

@@ -7,8 +7,8 @@ use Rattle.dvg_words.specs.Memory.{IsFrameLength}
 use Rattle.dvg_cert.specs.Devices.{count_after}
 use Rattle.dvg_cmd.specs.Runs.{MOST_FRAME_READ, IsReadTo}
 use Rattle.dvg_cmd.specs.MakingFrames.{of_each, EachRead, EachHeld, AreFrames, FirstWrong, OneFailed, FailedAfter, blames_a_frame, FramesRunFault}
-use Rattle.dvg_cmd.specs.declared.making_frames.FramesRunFault.TheVariants as fault
-use Rattle.dvg_cmd.specs.declared.making.MakeRunFault.TheVariants as maker
+use Rattle.dvg_spelling.specs.declared.fault.FramesRunFault.TheVariants as fault
+use Rattle.dvg_spelling.specs.declared.fault.MakeRunFault.TheVariants as maker
 use Rattle.dvg_make.specs.declared.fault.MakeFault.TheVariants as making
 use Rattle.std.specs.Prelude.{Result, Ok, Err, IsErrAnd}
 use Rattle.dvg_cmd.specs.Private.Reading.{IsPrefix, ArePrefixes}

@@ -16,12 +16,12 @@ use Rattle.dvg_check.specs.declared.verdict.Refusal.TheVariants as refusal
 use Rattle.dvg_check.specs.declared.fault.Mode.{Mode}
 use Rattle.dvg_check.specs.declared.fault.Mode.TheVariants.{Bound, Exact}
 use Rattle.dvg_make.specs.declared.judging.FrameRefusal.{FrameRefusal}
-use Rattle.dvg_cmd.specs.Report.{report_text}
-use Rattle.dvg_cmd.specs.Status.{worse, frames_message}
-use Rattle.dvg_cmd.specs.Numbers.{frame_blamed}
+use Rattle.dvg_spelling.specs.Report.{report_text, make_line_text}
+use Rattle.dvg_spelling.specs.Outcomes.{worse}
+use Rattle.dvg_spelling.specs.Faults.{frame_blamed}
 use Rattle.dvg_cmd.specs.MakingFrames.{FramesRunFault, MakesForFrames}
 use Rattle.dvg_cmd.specs.Frames.{FrameAnswer, FrameOutcome, AnswerMeans, frame_outcome_of, frame_line}
-use Rattle.dvg_cmd.specs.declared.judging.FrameOutcome.TheVariants as outcome
+use Rattle.dvg_spelling.specs.declared.outcome.FrameOutcome.TheVariants as outcome
 use Rattle.dvg_cmd.specs.Runs.{Outcome, Accepted, Refused, NoMemory, outcome_of, IsReadFor, Judges, SafeRead, CountsRead}
 
 -- what stands in the place of an account where there was no memory for it
@@ -139,15 +139,6 @@ pub record MakesEntries
   pub list : List Entry
   pub made : MakesForFrames rom map roots frames list
   pub count_is : count ≡ length list
-
--- how many entries are made, or what `make` says of why none are
-abbrev pub make_answer_text : Result ℕ FramesRunFault → List ℕ
-make_answer_text (Ok entries) = codes "made entries=" ++ decimal entries
-make_answer_text (Err fault) = frames_message fault
-
--- the line, from behind the name of the frame on that is to blame
-abbrev pub make_line_text : Result ℕ FramesRunFault → List ℕ
-make_line_text made = make_answer_text made ++ codes "\n"
 
 -- the whole line
 abbrev pub make_line : List ℕ → Result ℕ FramesRunFault → List ℕ

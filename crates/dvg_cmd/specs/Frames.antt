@@ -17,14 +17,14 @@ use Rattle.dvg_check.specs.declared.verdict.Refusal.TheVariants as refusal
 use Rattle.dvg_make.specs.declared.judging.FrameRefusal.{FrameRefusal}
 use Rattle.dvg_make.specs.declared.judging.FrameRefusal.TheVariants.{Make, NoMemory, Check}
 use Rattle.dvg_make.specs.Judging.{AreLeast, FrameRefused, HasCallCause, FrameVerdict as JudgeVerdict}
-use Rattle.dvg_cmd.specs.Report.{frame_line_text}
+use Rattle.dvg_spelling.specs.Report.{frame_line_text}
 use Rattle.dvg_cmd.specs.Runs.{MOST_FRAME_READ, IsReadTo, Outcome}
 use Rattle.dvg_cmd.specs.Start.{started}
-use Rattle.dvg_cmd.specs.declared.running.Outcome.TheVariants as runs
-pub use Rattle.dvg_cmd.specs.declared.judging.FrameAnswer.{FrameAnswer}
-pub use Rattle.dvg_cmd.specs.declared.judging.FrameAnswer.TheVariants.{Judged, Unread}
-pub use Rattle.dvg_cmd.specs.declared.judging.FrameOutcome.{FrameOutcome}
-pub use Rattle.dvg_cmd.specs.declared.judging.FrameOutcome.TheVariants as outcome
+pub use Rattle.dvg_spelling.specs.declared.outcome.FrameAnswer.{FrameAnswer}
+pub use Rattle.dvg_spelling.specs.declared.outcome.FrameAnswer.TheVariants.{Judged, Unread}
+pub use Rattle.dvg_spelling.specs.declared.outcome.FrameOutcome.{FrameOutcome}
+pub use Rattle.dvg_spelling.specs.declared.outcome.FrameOutcome.TheVariants as outcome
+pub use Rattle.dvg_spelling.specs.Outcomes.{frame_outcome_of}
 use Rattle.dvg_make.specs.declared.fault.EntryFault.TheVariants as entry
 
 -- what is judged of the bytes that a reader held: the first of them up to one past the limit, and all where that is a frame's
@@ -95,24 +95,6 @@ VerdictOver shapes count bytes budget (Err r) = ⊥
 abbrev pub is_unread : FrameAnswer → Bool
 is_unread Unread = true
 is_unread (Judged v) = false
-
-abbrev pub refusal_outcome_of : FrameRefusal → FrameOutcome
-refusal_outcome_of NoMemory = outcome.NoMemory
-refusal_outcome_of (Make at entry.Memory) = outcome.NoMemory
-refusal_outcome_of (Check refusal.IndexMemory) = outcome.NoMemory
-refusal_outcome_of r = outcome.Refused
-
--- the outcome of a line
-abbrev pub frame_outcome_of : FrameAnswer → FrameOutcome
-frame_outcome_of (Judged (Ok y)) = outcome.Accepted
-frame_outcome_of (Judged (Err r)) = refusal_outcome_of r
-frame_outcome_of Unread = outcome.Unread
-
--- the outcome of a line that no frame was needed for
-abbrev pub plain_outcome : Outcome → FrameOutcome
-plain_outcome runs.Accepted = outcome.Accepted
-plain_outcome runs.Refused = outcome.Refused
-plain_outcome runs.NoMemory = outcome.NoMemory
 
 -- the outcome is that the frame could not be read
 abbrev pub is_unread_outcome : FrameOutcome → Bool

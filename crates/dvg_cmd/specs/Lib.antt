@@ -1,12 +1,9 @@
-pub mod Report
 pub mod Runs
 pub mod Start
 pub mod SafeFrames
 pub mod Frames
-pub mod Status
 pub mod Making
 pub mod MakingFrames
-pub mod Numbers
 pub mod Private
 pub mod Explaining
 pub mod Laws

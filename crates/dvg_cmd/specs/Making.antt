@@ -12,16 +12,8 @@ use Rattle.dvg_cert.specs.Devices.{AppendsPrefix}
 use Rattle.dvg_make.specs.Made.{Made}
 use Rattle.dvg_make.specs.Refusals.{Refuses}
 use Rattle.dvg_make.specs.Accounts.{HasRootCause}
-pub use Rattle.dvg_cmd.specs.declared.making.MakeRunFault.{MakeRunFault}
-use Rattle.dvg_cmd.specs.declared.making.MakeRunFault.TheVariants as fault
-
--- the text is this root's: its address, a slash and its key
-abbrev pub IsRoot : List ℕ → ℕ → Key → Type 0
-IsRoot text addr key = (addr < ADDRESS_END) × IsKey key × (text ≡ address_token addr ++ codes "/" ++ key_token key)
-
--- the text is this map's: the word addresses of its first and its last word, with a slash between
-abbrev pub IsMapText : List ℕ → MemoryMap → Type 0
-IsMapText text map = IsMap map × (text ≡ address_token map.rom_first ++ codes "/" ++ address_token map.rom_last)
+pub use Rattle.dvg_spelling.specs.declared.fault.MakeRunFault.{MakeRunFault}
+use Rattle.dvg_spelling.specs.declared.fault.MakeRunFault.TheVariants as fault
 
 -- ---- which device an answer blames
 

@@ -15,10 +15,10 @@ use Rattle.dvg_make.specs.Refusals.{FramesRefuse, make_fault_of}
 use Rattle.dvg_make.specs.Accounts.{HasCause}
 use Rattle.dvg_cmd.specs.Making.{Held}
 use Rattle.dvg_cmd.specs.Runs.{MOST_FRAME_READ, IsReadTo}
-use Rattle.dvg_cmd.specs.declared.making.MakeRunFault.TheVariants as maker
-pub use Rattle.dvg_account.specs.Each.{of_each}
-pub use Rattle.dvg_cmd.specs.declared.making_frames.FramesRunFault.{FramesRunFault}
-use Rattle.dvg_cmd.specs.declared.making_frames.FramesRunFault.TheVariants as fault
+use Rattle.dvg_spelling.specs.declared.fault.MakeRunFault.TheVariants as maker
+pub use Rattle.dvg_spelling.specs.Each.{of_each}
+pub use Rattle.dvg_spelling.specs.declared.fault.FramesRunFault.{FramesRunFault}
+use Rattle.dvg_spelling.specs.declared.fault.FramesRunFault.TheVariants as fault
 
 -- ---- which device an answer blames
 
@@ -121,8 +121,3 @@ FramesFaultMeans rom map roots frames (fault.Plain maker.Write) = Unit {0}
 FramesFaultMeans rom map roots frames (fault.FrameLength n) = WrongFrame rom map frames n
 FramesFaultMeans rom map roots frames (fault.Call call why) = RefusesInputs rom map roots frames (record { call = Some call; why = why })
 FramesFaultMeans rom map roots frames fault.ReadFrame = Unit {0}
-
--- the run's fault that tells why the maker did not make the entry of this call, or of a root
-abbrev pub told_fault : Option FrameCall → EntryFault → FramesRunFault
-told_fault None why = fault.Plain (maker.Make (make_fault_of why))
-told_fault (Some call) why = fault.Call call why

@@ -14,17 +14,12 @@ use Rattle.dvg_check.specs.declared.verdict.Refusal.{Refusal}
 use Rattle.dvg_check.specs.declared.verdict.Refusal.TheVariants as refusal
 use Rattle.dvg_check.specs.declared.fault.Mode.{Mode}
 use Rattle.dvg_check.specs.Verdict.{Verdict, SafeOver, CountsOver}
-use Rattle.dvg_cmd.specs.Report.{report_text}
-use Rattle.dvg_cmd.specs.declared.window.TheConstants.{COMMA}
-pub use Rattle.dvg_cmd.specs.declared.running.Outcome.{Outcome}
-pub use Rattle.dvg_cmd.specs.declared.running.Outcome.TheVariants.{Accepted, Refused, NoMemory}
-pub use Rattle.dvg_cmd.specs.declared.running.RunFault.{RunFault}
-use Rattle.dvg_cmd.specs.declared.running.RunFault.TheVariants as fault
-
--- the text is this window's: its least and its greatest place across, and those up, with commas between
-abbrev pub IsWindowText : List ℕ → Window → Type 0
-IsWindowText text w = IsWindow w
-    × (text ≡ join_with_byte COMMA (decimal w.x_min ∷ decimal w.x_max ∷ decimal w.y_min ∷ decimal w.y_max ∷ []))
+use Rattle.dvg_spelling.specs.Report.{report_text}
+pub use Rattle.dvg_spelling.specs.declared.outcome.Outcome.{Outcome}
+pub use Rattle.dvg_spelling.specs.declared.outcome.Outcome.TheVariants.{Accepted, Refused, NoMemory}
+pub use Rattle.dvg_spelling.specs.declared.fault.RunFault.{RunFault}
+pub use Rattle.dvg_spelling.specs.Outcomes.{outcome_of}
+use Rattle.dvg_spelling.specs.declared.fault.RunFault.TheVariants as fault
 
 -- ---- which device an answer blames
 
@@ -83,18 +78,6 @@ IsReadFor (Err (refusal.Cert f)) old new = ReadsText old new (Err f)
 IsReadFor verdict old new = IsReadTo MOST_TEXT_READ old new
 
 -- ---- what is written
-
--- the outcome of a refused certificate
-abbrev pub cert_outcome : CertWhy → Outcome
-cert_outcome Memory = NoMemory
-cert_outcome why = Refused
-
--- the outcome of an accepted line, and of a refusal
-abbrev pub outcome_of : Result Yes Refusal → Outcome
-outcome_of (Ok y) = Accepted
-outcome_of (Err (refusal.Cert f)) = cert_outcome f.why
-outcome_of (Err refusal.IndexMemory) = NoMemory
-outcome_of (Err r) = Refused
 
 -- the verdict on all bytes that three readers held, in a mode and for a window; a reader that does not tell its bytes held
 -- some bytes, which are not known

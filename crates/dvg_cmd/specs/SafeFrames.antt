@@ -5,7 +5,7 @@ use Rattle.dvg_words.specs.Memory.{Rom, words_of}
 use Rattle.dvg_words.specs.Values.{Window}
 use Rattle.dvg_check.specs.Safety.{Safe, CountsAtHalt}
 use Rattle.dvg_check.specs.declared.verdict.Yes.{Yes}
-use Rattle.dvg_cmd.specs.Report.{accepted_text}
+use Rattle.dvg_spelling.specs.Report.{accepted_text}
 use Rattle.dvg_cmd.specs.Start.{started}
 
 -- the whole line of an accepted frame, which begins with its name

@@ -3,10 +3,6 @@ use Rattle.std.specs.Prelude.{◌≡◌, ◌<◌, ◌+◌, ◌/◌, ◌%◌, ℕ
 use Rattle.dvg_words.specs.declared.map.TheConstants.{ADDRESS_END}
 use Rattle.dvg_cert.specs.Grammar.{address_token}
 
--- the text is this word address's
-abbrev pub IsStart : List ℕ → ℕ → Type 0
-IsStart text addr = (addr < ADDRESS_END) × (text ≡ address_token addr)
-
 -- the bytes with the jump (JMPL) to a word address in place of their first word, the low byte first
 abbrev pub jumped : ℕ → List ℕ → List ℕ
 jumped to (low ∷ high ∷ rest) = to % 256 ∷ (224 + to / 256 % 16) ∷ rest

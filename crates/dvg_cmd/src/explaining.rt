@@ -5,16 +5,16 @@ ghost use Rattle.std.specs.Io.KnownBytes.{Appends};
 ghost use Rattle.dvg_words.specs.Values.{Window as Places};
 ghost use Rattle.dvg_check.specs.declared.fault.Mode.TheVariants.{Exact};
 ghost use Rattle.dvg_cert.specs.Devices.{AppendsPrefix, TakesOneWrite, count_after};
-ghost use Rattle.dvg_cmd.specs.Report.{report_text};
+ghost use Rattle.dvg_spelling.specs.Report.{report_text};
 ghost use Rattle.dvg_cmd.specs.Runs.{MOST_ROM_READ, MOST_FRAME_READ, IsReadTo, SafeRead, CountsRead, outcome_of, blames_rom, blames_frame, blames_certificate, blames_writer};
 ghost use Rattle.dvg_cmd.specs.Explaining.{Explained, ExplainedPrefix, Explains, ExplainsPrefix, ExplainsSafe, ExplainsCounts};
 
 use crate::reading::{read_frame, read_rom};
-use crate::report::report_of;
-use crate::running::{Outcome, RunFault, outcome_of, read_verdict};
+use crate::running::read_verdict;
 use dvg_account::{Inputs, verdict_text};
 use dvg_cert::{CountedRead, CountedWrite, write_lines};
 use dvg_check::{Mode, Refusal, Yes};
+use dvg_spelling::{Outcome, RunFault, outcome_of, report_of};
 use dvg_words::Window;
 use std::alloc::{AllocError, Global};
 

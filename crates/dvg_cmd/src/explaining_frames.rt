@@ -10,12 +10,12 @@ ghost use Rattle.dvg_cmd.specs.Explaining.{AnswerExplained, AnswerExplainedPrefi
 ghost use Rattle.dvg_cmd.specs.Explaining.{IsCertRefusal, RefusesShapes};
 
 use crate::explaining::{NO_ACCOUNT, write_explained};
-use crate::judging::{FrameAnswer, FrameOutcome, judge_over, read_started, write_line_and};
+use crate::judging::{judge_over, read_started, write_line_and};
 use crate::judging_own::{OwnVerdict, judge_own};
-use crate::running::{Outcome, RunFault};
 use dvg_account::{Inputs, PlainWhy, frame_text, own_text, plain_text, refusal_text};
 use dvg_cert::{Cert, CountedRead, CountedWrite, Entries};
 use dvg_check::{JudgedShapes, Mode, Refusal};
+use dvg_spelling::{FrameAnswer, FrameOutcome, Outcome, RunFault};
 use dvg_words::{RomMap, Window};
 use std::alloc::{AllocError, Global};
 

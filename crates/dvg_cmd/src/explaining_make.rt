@@ -5,20 +5,18 @@ ghost use Rattle.std.specs.Io.KnownBytes.{Appends};
 ghost use Rattle.dvg_cert.specs.Devices.{AppendsPrefix, TakesOneWrite, count_after};
 ghost use Rattle.dvg_cmd.specs.Explaining.{MakesEntries, MakeExplained, MakeExplainedPrefix, frame_to_blame, make_line, make_outcome_of};
 ghost use Rattle.dvg_cmd.specs.MakingFrames.{blames_frames_rom, blames_a_frame, blames_frames_writer, of_each, FailedAfter, EachRead, FramesFaultMeans};
-ghost use Rattle.dvg_cmd.specs.Numbers.{frames_run_number};
+ghost use Rattle.dvg_spelling.specs.Faults.{frames_run_number};
 ghost use Rattle.dvg_cmd.specs.Private.Reading.{IsPrefix, ArePrefixes};
 ghost use Rattle.dvg_cmd.specs.Runs.{MOST_ROM_READ, IsReadTo};
-ghost use Rattle.dvg_cmd.specs.declared.making.MakeRunFault.TheVariants as maker;
+ghost use Rattle.dvg_spelling.specs.declared.fault.MakeRunFault.TheVariants as maker;
 
 use crate::explaining::NO_ACCOUNT;
-use crate::making::MakeRunFault;
-use crate::making_frames::{FrameBytes, FramesRunFault, images_of, read_frames};
+use crate::making_frames::{FrameBytes, images_of, read_frames};
 use crate::reading::read_rom;
-use crate::report::make_line_of;
-use crate::running::{Outcome, RunFault};
 use dvg_account::{PlainWhy, made_text, plain_text, unmade_text};
 use dvg_cert::{CountedRead, CountedWrite, Key, write_lines};
 use dvg_make::explain_making;
+use dvg_spelling::{FramesRunFault, MakeRunFault, Outcome, RunFault, make_line_of};
 use dvg_words::{RomImage, RomMap};
 use std::alloc::{AllocError, Global};
 

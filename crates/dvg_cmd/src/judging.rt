@@ -4,102 +4,29 @@ ghost use Rattle.std.specs.Prelude.{◌≡◌, ◌++◌, Bool, true, length, tak
 ghost use Rattle.std.specs.Io.KnownBytes.{Appends};
 ghost use Rattle.dvg_cert.specs.Devices.{AppendsPrefix, TakesOneWrite, count_after};
 ghost use Rattle.dvg_cmd.specs.Runs.{MOST_ROM_READ, MOST_FRAME_READ, IsReadTo, ReadsText, outcome_of};
-ghost use Rattle.dvg_cmd.specs.Report.{report_text};
-ghost use Rattle.dvg_cmd.specs.Status.{worse};
+ghost use Rattle.dvg_spelling.specs.Report.{report_text};
 ghost use Rattle.dvg_words.specs.Memory.{rom_of};
 ghost use Rattle.dvg_words.specs.Values.{Window as Places};
 ghost use Rattle.dvg_check.specs.declared.fault.Mode.TheVariants.{Exact};
 ghost use Rattle.dvg_make.specs.declared.judging.FrameRefusal.TheVariants.{Check};
 ghost use Rattle.dvg_cmd.specs.Private.Judging.{AreImages};
-ghost use Rattle.dvg_cmd.specs.Frames.{FrameVerdict, VerdictOver, ReadsFrame, plain_outcome, refusal_outcome_of, frame_outcome_of, frame_line, is_unread_outcome, ReportsFrame, ReportsFramePrefix};
+ghost use Rattle.dvg_cmd.specs.Frames.{FrameVerdict, VerdictOver, ReadsFrame, frame_outcome_of, frame_line, is_unread_outcome, ReportsFrame, ReportsFramePrefix};
 ghost use Rattle.dvg_cmd.specs.SafeFrames.{ReportsFrameSafe, ReportsFrameCounts};
 
 use crate::reading::{read_certificate, read_frame, read_rom};
-use crate::report::frame_report_of;
-use crate::running::{Outcome, RunFault, write_report};
+use crate::running::write_report;
 use crate::start::start_at;
 use arrayvec::ArrayVec;
 use dvg_cert::{Cert, CertFault, CountedRead, CountedWrite, Entries, write_lines};
 use dvg_check::{JudgedShapes, Refusal, Yes, frame_of};
 use dvg_explain::{RomAccount, explain_frame};
-use dvg_make::{EntryFault, FrameRefusal, judge};
+use dvg_make::{FrameRefusal, judge};
+use dvg_spelling::{
+    FrameAnswer, FrameOutcome, Outcome, RunFault, frame_outcome_of, frame_report_of,
+};
 use dvg_words::{FrameImage, RomImage, RomMap, Window};
 use std::alloc::Global;
 use std::io;
-
-/// What a line says of a frame.
-#[derive(Clone, Copy, Debug, PartialEq, Eq)]
-pub enum FrameAnswer {
-    /// Its verdict.
-    Judged(Result<Yes, FrameRefusal>),
-    /// It could not be opened or read.
-    Unread,
-}
-
-/// What was reported of one frame, or of several: the worst, in this order.
-#[derive(Clone, Copy, Debug, PartialEq, Eq)]
-pub enum FrameOutcome {
-    /// An accepted line.
-    Accepted,
-    /// A refusal.
-    Refused,
-    /// That memory was out.
-    NoMemory,
-    /// That a frame could not be read.
-    Unread,
-}
-
-impl FrameOutcome {
-    /// The worse of two outcomes.
-    pub fn or_worse(self, other: FrameOutcome) -> FrameOutcome
-        ensures { result ≡ worse self other }
-    {
-        match (self, other) {
-            (FrameOutcome::Unread, _) | (_, FrameOutcome::Unread) => FrameOutcome::Unread,
-            (FrameOutcome::NoMemory, _) | (_, FrameOutcome::NoMemory) => FrameOutcome::NoMemory,
-            (FrameOutcome::Refused, _) | (_, FrameOutcome::Refused) => FrameOutcome::Refused,
-            (FrameOutcome::Accepted, FrameOutcome::Accepted) => FrameOutcome::Accepted,
-        }
-    }
-}
-
-impl From<Outcome> for FrameOutcome {
-    ghost from_gives = { λ plain outcome. outcome ≡ plain_outcome plain };
-
-    fn from(outcome: Outcome) -> FrameOutcome {
-        match outcome {
-            Outcome::Accepted => FrameOutcome::Accepted,
-            Outcome::Refused => FrameOutcome::Refused,
-            Outcome::NoMemory => FrameOutcome::NoMemory,
-        }
-    }
-}
-
-/// What was reported by the line of a refusal.
-fn refusal_outcome_of(refusal: &FrameRefusal) -> FrameOutcome
-    ensures { result ≡ refusal_outcome_of refusal.now }
-{
-    match refusal {
-        FrameRefusal::NoMemory => FrameOutcome::NoMemory,
-        FrameRefusal::Make {
-            why: EntryFault::Memory,
-            ..
-        } => FrameOutcome::NoMemory,
-        FrameRefusal::Check(Refusal::IndexMemory) => FrameOutcome::NoMemory,
-        FrameRefusal::Make { .. } | FrameRefusal::Check(_) => FrameOutcome::Refused,
-    }
-}
-
-/// What was reported by the line of an answer.
-fn frame_outcome_of(answer: &FrameAnswer) -> FrameOutcome
-    ensures { result ≡ frame_outcome_of answer.now }
-{
-    match answer {
-        FrameAnswer::Judged(Ok(_)) => FrameOutcome::Accepted,
-        FrameAnswer::Judged(Err(refusal)) => refusal_outcome_of(refusal),
-        FrameAnswer::Unread => FrameOutcome::Unread,
-    }
-}
 
 /// The bytes of a ROM, up to one past the length of the longest, which is 4096. Answers 70 where the reader fails. Takes no
 /// memory.

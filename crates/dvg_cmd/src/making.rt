@@ -1,81 +1,18 @@
 //! Running the maker over a reader and a writer.
 
-ghost use Rattle.std.specs.Prelude.{◌≡◌, ◌≢◌, ℕ, List, [], Option, Err, IfOk, IfErr, IfSome, IfNone, OnOk};
+ghost use Rattle.std.specs.Prelude.{◌≡◌, ◌≢◌, ℕ, List, [], Option, Err, IfOk, IfErr, OnOk};
 ghost use Rattle.std.specs.Io.KnownBytes.{Appends};
 ghost use Rattle.dvg_cert.specs.Devices.{count_after};
-ghost use Rattle.dvg_cert.specs.declared.entry.Key.{Key as KeyValue};
-ghost use Rattle.dvg_cmd.specs.Numbers.{make_run_number};
-ghost use Rattle.dvg_cmd.specs.Making.{IsRoot, IsMapText, blames_maker_rom, blames_maker_writer, Makes, WritesMade, WritesMadePrefix, MakeFaultMeans};
+ghost use Rattle.dvg_cmd.specs.Making.{blames_maker_rom, blames_maker_writer, Makes, WritesMade, WritesMadePrefix, MakeFaultMeans};
 ghost use Rattle.dvg_cmd.specs.Runs.{MOST_ROM_READ, IsReadTo};
 ghost use Rattle.dvg_cmd.specs.Private.Reading.{IsPrefix};
-ghost use Rattle.dvg_words.specs.Values.{MemoryMap};
 
 use crate::reading::read_rom;
-use crate::running::RunFault;
-use dvg_cert::{Cert, CountedRead, CountedWrite, Key, read_address, read_key, write_cert};
-use dvg_make::{MakeFault, make};
+use dvg_cert::{Cert, CountedRead, CountedWrite, Key, write_cert};
+use dvg_make::make;
+use dvg_spelling::MakeRunFault;
 use dvg_words::{RomImage, RomMap};
 use std::alloc::Global;
-use thiserror::Error;
-
-/// Why a run of the maker wrote no certificate, or only a prefix of one.
-#[derive(Clone, Copy, Debug, PartialEq, Eq, Error)]
-pub enum MakeRunFault {
-    /// 1: the ROM has a wrong length.
-    #[error("the ROM has a wrong length")]
-    RomLength,
-    /// 60 to 63: no certificate is made.
-    #[error("{0}")]
-    Make(MakeFault),
-    /// 70: the ROM's reader failed.
-    #[error("{}", RunFault::ReadRom)]
-    ReadRom,
-    /// 73: the writer failed, or took no byte.
-    #[error("{}", RunFault::Write)]
-    Write,
-}
-
-impl MakeRunFault {
-    /// The number of the fault.
-    pub fn number(self) -> u8
-        ensures { result ≡ make_run_number self }
-    {
-        match self {
-            MakeRunFault::RomLength => 1,
-            MakeRunFault::Make(fault) => fault.number(),
-            MakeRunFault::ReadRom => 70,
-            MakeRunFault::Write => 73,
-        }
-    }
-}
-
-/// The root that a word of the command line spells, as reports name entries: three hexadecimal digits in capitals, a slash,
-/// and a scale of 0 to 15 or `any`.
-pub fn root_of(text: &str) -> Option<(u16, Key)>
-    ensures some { IfSome result (λ root. IsRoot text.now root.0 root.1) }
-    ensures none { IfNone result ((addr : ℕ) (key : KeyValue) → IsRoot text.now addr key → ⊥) }
-{
-    let [a, b, c, b'/', key @ ..] = text.as_bytes() else {
-        return None;
-    };
-    let addr = read_address(&[*a, *b, *c])?;
-    let key = read_key(key)?;
-    Some((addr, key))
-}
-
-/// The map that a word of the command line spells: the word addresses of the ROM's first and last word, each of three hexadecimal
-/// digits in capitals, with a slash between.
-pub fn map_of(text: &str) -> Option<RomMap>
-    ensures some { IfSome result (λ map. IsMapText text.now map) }
-    ensures none { IfNone result ((map : MemoryMap) → IsMapText text.now map → ⊥) }
-{
-    let [a, b, c, b'/', d, e, f] = text.as_bytes() else {
-        return None;
-    };
-    let first = read_address(&[*a, *b, *c])?;
-    let last = read_address(&[*d, *e, *f])?;
-    RomMap::new(first, last)
-}
 
 /// The certificate for what was read of a ROM at this map, which is one for all that its reader held.
 fn make_on(

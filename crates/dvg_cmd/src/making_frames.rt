@@ -4,106 +4,21 @@ ghost use Rattle.std.specs.Prelude.{◌≡◌, ◌≢◌, ◌⊎◌, List, ℕ, 
 ghost use Rattle.std.specs.Io.KnownBytes.{Appends};
 ghost use Rattle.dvg_words.specs.Memory.{words_of};
 ghost use Rattle.dvg_cert.specs.Devices.{count_after};
-ghost use Rattle.dvg_cmd.specs.Numbers.{frames_run_number, frame_blamed};
+ghost use Rattle.dvg_spelling.specs.Faults.{frames_run_number};
 ghost use Rattle.dvg_cmd.specs.Making.{WritesMade, WritesMadePrefix};
-ghost use Rattle.dvg_cmd.specs.MakingFrames.{blames_frames_rom, blames_a_frame, blames_frames_writer, of_each, FailedAfter, EachRead, AreFrames, MakesForFrames, FramesFaultMeans, told_fault};
+ghost use Rattle.dvg_cmd.specs.MakingFrames.{blames_frames_rom, blames_a_frame, blames_frames_writer, of_each, FailedAfter, EachRead, AreFrames, MakesForFrames, FramesFaultMeans};
 ghost use Rattle.dvg_cmd.specs.Private.Reading.{IsPrefix, ArePrefixes, RefusesLengths};
 ghost use Rattle.dvg_cmd.specs.Runs.{MOST_ROM_READ, IsReadTo};
-ghost use Rattle.dvg_cmd.specs.declared.making.MakeRunFault.TheVariants as maker;
-ghost use Rattle.dvg_cmd.specs.declared.making_frames.FramesRunFault.TheVariants as faults;
+ghost use Rattle.dvg_spelling.specs.declared.fault.MakeRunFault.TheVariants as maker;
 ghost use Rattle.dvg_make.specs.declared.fault.MakeFault.TheVariants as making;
 
-use crate::making::MakeRunFault;
 use crate::reading::{read_frame, read_rom};
-use crate::running::RunFault;
 use arrayvec::ArrayVec;
 use dvg_cert::{Cert, CountedRead, CountedWrite, Key, write_cert};
-use dvg_make::{EntryFault, FrameCall, FramesFault, MakeFault, make_for_frames};
+use dvg_make::make_for_frames;
+use dvg_spelling::{FramesRunFault, MakeRunFault};
 use dvg_words::{FrameImage, RomImage, RomMap};
-use std::alloc::{AllocError, AllocFailed, Global};
-use thiserror::Error;
-
-/// Why a run of the maker for frames wrote no certificate, or only a prefix of one.
-#[derive(Clone, Copy, Debug, PartialEq, Eq, Error)]
-pub enum FramesRunFault {
-    /// 1, 60 to 63, 70 and 73, with no frame to blame.
-    #[error("{0}")]
-    Plain(MakeRunFault),
-    /// 2: this frame, counted from 0, has a wrong length.
-    #[error("the frame has a wrong length")]
-    FrameLength { frame: usize },
-    /// 60 to 63: the entry is not made that this call needs.
-    #[error("{why}")]
-    Call { call: FrameCall, why: EntryFault },
-    /// 71: a frame's reader failed.
-    #[error("{}", RunFault::ReadFrame)]
-    ReadFrame,
-}
-
-impl FramesRunFault {
-    /// The number of the fault.
-    pub fn number(self) -> u8
-        ensures { result ≡ frames_run_number self }
-    {
-        match self {
-            FramesRunFault::Plain(fault) => fault.number(),
-            FramesRunFault::FrameLength { .. } => 2,
-            FramesRunFault::Call { why, .. } => MakeFault::from(why).number(),
-            FramesRunFault::ReadFrame => 71,
-        }
-    }
-
-    /// Which frame has the fault, counted from 0, where it is one's.
-    pub fn frame(self) -> Option<usize>
-        ensures { result ≡ frame_blamed self }
-    {
-        match self {
-            FramesRunFault::FrameLength { frame } => Some(frame),
-            FramesRunFault::Call { call, .. } => Some(call.frame),
-            FramesRunFault::Plain(_) | FramesRunFault::ReadFrame => None,
-        }
-    }
-}
-
-impl From<MakeRunFault> for FramesRunFault {
-    ghost from_gives = { λ plain fault. fault ≡ faults.Plain plain };
-
-    fn from(fault: MakeRunFault) -> FramesRunFault {
-        FramesRunFault::Plain(fault)
-    }
-}
-
-impl From<FramesFault> for FramesRunFault {
-    ghost from_gives = { λ refusal fault. fault ≡ told_fault refusal.call refusal.why };
-
-    fn from(fault: FramesFault) -> FramesRunFault {
-        match fault.call {
-            Some(call) => FramesRunFault::Call {
-                call,
-                why: fault.why,
-            },
-            None => FramesRunFault::Plain(MakeRunFault::Make(fault.why.into())),
-        }
-    }
-}
-
-const NO_MEMORY: FramesRunFault = FramesRunFault::Plain(MakeRunFault::Make(MakeFault::Memory));
-
-impl From<AllocError> for FramesRunFault {
-    ghost from_gives = { λ _ fault. fault ≡ faults.Plain (maker.Make making.Memory) };
-
-    fn from(_error: AllocError) -> FramesRunFault {
-        NO_MEMORY
-    }
-}
-
-impl<T: Drop> From<AllocFailed<T>> for FramesRunFault {
-    ghost from_gives = { λ _ fault. fault ≡ faults.Plain (maker.Make making.Memory) };
-
-    fn from(_error: AllocFailed<T>) -> FramesRunFault {
-        NO_MEMORY
-    }
-}
+use std::alloc::Global;
 
 /// What was read of a frame.
 pub type FrameBytes = ArrayVec<u8, 2049>;

@@ -3,12 +3,10 @@
 ghost use Rattle.std.specs.Prelude.{◌≡◌, ◌<◌, ◌++◌, codes, length, Err, IfErr, OnOk, OnErr, is_err};
 ghost use Rattle.std.specs.Io.KnownBytes.{Appends};
 ghost use Rattle.dvg_cert.specs.Devices.{AppendsPrefix, TakesOneWrite, count_after};
-ghost use Rattle.dvg_cmd.specs.Status.{frames_message};
+ghost use Rattle.dvg_spelling.specs.Status.{frames_message};
 
-use crate::making_frames::FramesRunFault;
-use crate::report::make_frames_report_of;
-use crate::running::RunFault;
 use dvg_cert::{CountedWrite, write_lines};
+use dvg_spelling::{FramesRunFault, RunFault, make_frames_report_of};
 
 /// Writes a text of lines, all of it or a prefix where the writer fails, which is 73.
 pub fn write_text<W: CountedWrite>(text: &str, out: &mut W) -> Result<(), RunFault>

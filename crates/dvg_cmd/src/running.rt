@@ -9,92 +9,23 @@ ghost use Rattle.dvg_check.specs.Safety.{Safe, CountsAtHalt};
 ghost use Rattle.dvg_check.specs.Verdict.{RomVerdict};
 ghost use Rattle.dvg_check.specs.declared.fault.Mode.TheVariants.{Exact};
 ghost use Rattle.dvg_cert.specs.Devices.{AppendsPrefix, count_after};
-ghost use Rattle.dvg_cmd.specs.Report.{report_text};
-ghost use Rattle.dvg_cmd.specs.Numbers.{run_number};
+ghost use Rattle.dvg_spelling.specs.Report.{report_text};
 ghost use Rattle.dvg_cmd.specs.Runs.{outcome_of, blames_rom, blames_frame, blames_certificate, blames_writer};
 ghost use Rattle.dvg_cmd.specs.Runs.{MOST_ROM_READ, MOST_FRAME_READ, IsReadTo, IsReadFor, Judges, SafeRead, CountsRead, Reports, ReportsPrefix, ReportsSafe, ReportsCounts};
 ghost use Rattle.dvg_cmd.specs.Private.Reading.{IsPrefix};
 
 use crate::reading::{read_certificate, read_frame, read_rom, skip};
-use crate::report::report_of;
-use crate::status::text_of;
 use dvg_cert::laws::prefix_refusal;
-use dvg_cert::{Cert, CertWhy, CountedRead, CountedWrite, WriteFault, write_bytes};
+use dvg_cert::{Cert, CountedRead, CountedWrite, write_bytes};
 use dvg_check::{Mode, Refusal, Yes, frame_of};
 use dvg_explain::{RomAccount, explain_rom};
+use dvg_spelling::{Outcome, RunFault, outcome_of, report_of};
 use dvg_words::{FrameImage, RomMap, Window};
 use std::alloc::Global;
 use std::io;
-use thiserror::Error;
-
-/// What was reported.
-#[derive(Clone, Copy, Debug, PartialEq, Eq)]
-pub enum Outcome {
-    /// An accepted line.
-    Accepted,
-    /// A refusal.
-    Refused,
-    /// A refusal because memory ran out for the certificate's entries, 16, or for their index, 50.
-    NoMemory,
-}
-
-/// Why a run ended before its report was written, or never began. The numbers are 70 to 74, in this order.
-#[derive(Clone, Copy, Debug, PartialEq, Eq, Error)]
-#[error("{}", text_of(self))]
-pub enum RunFault {
-    /// 70: the ROM's reader failed.
-    ReadRom,
-    /// 71: the frame's reader failed.
-    ReadFrame,
-    /// 72: the certificate's reader failed.
-    ReadCert,
-    /// 73: the writer failed, or took no byte.
-    Write,
-    /// 74: out of memory before the run, or for the text of rules. `run_check` never answers it: its own refusals for want of
-    /// memory are outcomes.
-    Memory,
-}
-
-impl RunFault {
-    /// The number of the fault.
-    pub fn number(self) -> u8
-        ensures { result ≡ run_number self }
-    {
-        match self {
-            RunFault::ReadRom => 70,
-            RunFault::ReadFrame => 71,
-            RunFault::ReadCert => 72,
-            RunFault::Write => 73,
-            RunFault::Memory => 74,
-        }
-    }
-}
-
-impl From<WriteFault> for RunFault {
-    ghost use Rattle.std.specs.Prelude.{◌≡◌};
-    ghost use Rattle.dvg_cmd.specs.declared.running.RunFault.TheVariants.{Write};
-
-    ghost from_gives = { λ _ fault. fault ≡ Write };
-
-    fn from(_fault: WriteFault) -> RunFault {
-        RunFault::Write
-    }
-}
 
 /// How many bytes of a certificate are read at most: one past its limit.
 const PAST_CERTIFICATE_LIMIT: usize = 1_048_577;
-
-/// What was reported by the line of a verdict.
-pub fn outcome_of(verdict: &Result<Yes, Refusal>) -> Outcome
-    ensures { result ≡ outcome_of verdict.now }
-{
-    match verdict {
-        Ok(_) => Outcome::Accepted,
-        Err(Refusal::Cert(fault)) if fault.why == CertWhy::Memory => Outcome::NoMemory,
-        Err(Refusal::IndexMemory) => Outcome::NoMemory,
-        Err(_) => Outcome::Refused,
-    }
-}
 
 /// A verdict on a ROM, a certificate and a frame.
 #[derive(Drop)]

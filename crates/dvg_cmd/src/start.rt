@@ -1,20 +1,7 @@
 //! The list of a frame that is judged: its own from word 000 on, or the one to which a jump in word 000 leads.
 
-ghost use Rattle.std.specs.Prelude.{◌≡◌, ℕ, length, IfSome, IfNone};
-ghost use Rattle.dvg_cmd.specs.Start.{IsStart, jumped, started};
-
-use dvg_cert::read_address;
-
-/// The word address that a word of the command line spells: three hexadecimal digits in capitals.
-pub fn start_of(text: &str) -> Option<u16>
-    ensures some { IfSome result (IsStart text.now) }
-    ensures none { IfNone result ((addr : ℕ) → IsStart text.now addr → ⊥) }
-{
-    let [a, b, c] = text.as_bytes() else {
-        return None;
-    };
-    read_address(&[*a, *b, *c])
-}
+ghost use Rattle.std.specs.Prelude.{◌≡◌, length};
+ghost use Rattle.dvg_cmd.specs.Start.{jumped, started};
 
 /// Puts a jump to this word address, or to that of its lower twelve bits, at word 000, where there is such a word.
 fn put_jump(bytes: &mut [u8], to: u16)

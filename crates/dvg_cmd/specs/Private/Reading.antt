@@ -2,9 +2,9 @@
 use Rattle.std.specs.Prelude.{◌≡◌, ℕ, List, [], ◌∷◌, take, length, Option, IfSome}
 use Rattle.dvg_make.specs.declared.fault.MakeFault.TheVariants as making
 use Rattle.dvg_cmd.specs.Runs.{MOST_FRAME_READ}
-use Rattle.dvg_cmd.specs.declared.making.MakeRunFault.TheVariants as maker
+use Rattle.dvg_spelling.specs.declared.fault.MakeRunFault.TheVariants as maker
 use Rattle.dvg_cmd.specs.MakingFrames.{FramesRunFault, FirstWrong}
-use Rattle.dvg_cmd.specs.declared.making_frames.FramesRunFault.TheVariants as fault
+use Rattle.dvg_spelling.specs.declared.fault.FramesRunFault.TheVariants as fault
 use Rattle.dvg_cert.specs.Stream.{Stream, Open, Refused}
 
 -- the first of the bytes, up to a limit

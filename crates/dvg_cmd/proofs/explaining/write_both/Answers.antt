@@ -1,6 +1,6 @@
 use Rattle.std.proofs.Common.{◌≡◌, ◌++◌, [], List, ℕ, append-nil, subst}
 use Rattle.std.specs.Io.KnownBytes.{Appends}
-use Rattle.dvg_cmd.specs.Report.{report_text}
+use Rattle.dvg_spelling.specs.Report.{report_text}
 use Rattle.dvg_cmd.specs.Runs.{Accepted}
 use Rattle.dvg_cmd.proofs.Accounts.{explains_safe, explains_counts}
 use Rattle.dvg_cmd.proofs.explaining.write_both.Goals as goal

@@ -1,18 +1,18 @@
 -- How the program ends, and what it says on standard error. All of it is profile.
 use Rattle.std.specs.Prelude.{ℕ, List, codes, ◌++◌, Result, Ok, Err}
-use Rattle.dvg_cmd.specs.declared.running.Outcome.{Outcome}
-use Rattle.dvg_cmd.specs.declared.running.Outcome.TheVariants.{Accepted, Refused, NoMemory}
-use Rattle.dvg_cmd.specs.declared.running.RunFault.{RunFault}
-use Rattle.dvg_cmd.specs.declared.running.RunFault.TheVariants.{ReadRom, ReadFrame, ReadCert, Write, Memory}
+use Rattle.dvg_spelling.specs.declared.outcome.Outcome.{Outcome}
+use Rattle.dvg_spelling.specs.declared.outcome.Outcome.TheVariants.{Accepted, Refused, NoMemory}
+use Rattle.dvg_spelling.specs.declared.fault.RunFault.{RunFault}
+use Rattle.dvg_spelling.specs.declared.fault.RunFault.TheVariants.{ReadRom, ReadFrame, ReadCert, Write, Memory}
 use Rattle.dvg_make.specs.declared.fault.MakeFault.TheVariants as making
-use Rattle.dvg_cmd.specs.declared.making.MakeRunFault.{MakeRunFault}
-use Rattle.dvg_cmd.specs.declared.making.MakeRunFault.TheVariants as maker
-use Rattle.dvg_cmd.specs.declared.judging.FrameOutcome.{FrameOutcome}
-use Rattle.dvg_cmd.specs.declared.judging.FrameOutcome.TheVariants as frame
-use Rattle.dvg_cmd.specs.declared.making_frames.FramesRunFault.{FramesRunFault}
-use Rattle.dvg_cmd.specs.declared.making_frames.FramesRunFault.TheVariants as frames
+use Rattle.dvg_spelling.specs.declared.fault.MakeRunFault.{MakeRunFault}
+use Rattle.dvg_spelling.specs.declared.fault.MakeRunFault.TheVariants as maker
+use Rattle.dvg_spelling.specs.declared.outcome.FrameOutcome.{FrameOutcome}
+use Rattle.dvg_spelling.specs.declared.outcome.FrameOutcome.TheVariants as frame
+use Rattle.dvg_spelling.specs.declared.fault.FramesRunFault.{FramesRunFault}
+use Rattle.dvg_spelling.specs.declared.fault.FramesRunFault.TheVariants as frames
 use Rattle.dvg_make.specs.declared.fault.EntryFault.TheVariants as entry
-use Rattle.dvg_cmd.specs.Report.{hex_address, call_fault_text}
+use Rattle.dvg_spelling.specs.Report.{hex_address, call_fault_text}
 
 -- the exit status of a run
 abbrev pub exit_status : Result Outcome RunFault → ℕ
@@ -65,15 +65,6 @@ frames_exit_status (Err ReadFrame) = 3
 frames_exit_status (Err ReadCert) = 3
 frames_exit_status (Err Write) = 3
 frames_exit_status (Err Memory) = 4
-
--- the worse of two outcomes
-abbrev pub worse : FrameOutcome → FrameOutcome → FrameOutcome
-worse frame.Unread b = frame.Unread
-worse a frame.Unread = frame.Unread
-worse frame.NoMemory b = frame.NoMemory
-worse a frame.NoMemory = frame.NoMemory
-worse frame.Refused b = frame.Refused
-worse a b = b
 
 -- the line on standard error of a run of the maker for frames that made no certificate, without its LF, from behind the frame's
 -- name on where the fault is a frame's

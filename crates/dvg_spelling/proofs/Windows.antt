@@ -8,7 +8,7 @@ use Rattle.dvg_words.specs.Values.{Window, IsWindow}
 use Rattle.dvg_cert.proofs.Digits.{own, same_decimal}
 use Rattle.dvg_cert.proofs.FieldValues.{first_digit}
 use Rattle.dvg_cert.proofs.Leading.{same_number}
-use Rattle.dvg_cmd.specs.Runs.{IsWindowText}
+use Rattle.dvg_spelling.specs.Arguments.{IsWindowText}
 
 -- no digit is a comma
 no_comma : (n : ℕ) → n ≤ 1023 → (i : ℕ) → i < length (decimal n) → get_or (decimal n) i 0 ≢ 44

@@ -1,12 +1,12 @@
 -- The numbers of runs that failed. All of it is profile.
 use Rattle.std.specs.Prelude.{ℕ, Option, None, Some}
 use Rattle.dvg_make.specs.Refusals.{fault_number, make_fault_of}
-use Rattle.dvg_cmd.specs.declared.running.RunFault.{RunFault}
-use Rattle.dvg_cmd.specs.declared.running.RunFault.TheVariants.{ReadRom, ReadFrame, ReadCert, Write, Memory}
-use Rattle.dvg_cmd.specs.declared.making.MakeRunFault.{MakeRunFault}
-use Rattle.dvg_cmd.specs.declared.making.MakeRunFault.TheVariants as maker
-use Rattle.dvg_cmd.specs.declared.making_frames.FramesRunFault.{FramesRunFault}
-use Rattle.dvg_cmd.specs.declared.making_frames.FramesRunFault.TheVariants as frames
+use Rattle.dvg_spelling.specs.declared.fault.RunFault.{RunFault}
+use Rattle.dvg_spelling.specs.declared.fault.RunFault.TheVariants.{ReadRom, ReadFrame, ReadCert, Write, Memory}
+use Rattle.dvg_spelling.specs.declared.fault.MakeRunFault.{MakeRunFault}
+use Rattle.dvg_spelling.specs.declared.fault.MakeRunFault.TheVariants as maker
+use Rattle.dvg_spelling.specs.declared.fault.FramesRunFault.{FramesRunFault}
+use Rattle.dvg_spelling.specs.declared.fault.FramesRunFault.TheVariants as frames
 
 -- why a run of the checker wrote no report
 abbrev pub run_number : RunFault → ℕ
@@ -36,3 +36,8 @@ frame_blamed (frames.Plain f) = None
 frame_blamed (frames.FrameLength n) = Some n
 frame_blamed (frames.Call call why) = Some call.frame
 frame_blamed frames.ReadFrame = None
+
+-- the run's fault that tells why the maker did not make the entry of this call, or of a root
+abbrev pub told_fault : Option FrameCall → EntryFault → FramesRunFault
+told_fault None why = frames.Plain (maker.Make (make_fault_of why))
+told_fault (Some call) why = frames.Call call why

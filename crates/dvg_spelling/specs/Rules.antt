@@ -1,6 +1,6 @@
 -- The table of numbers, as it is written. All of it is profile.
 use Rattle.std.specs.Prelude.{ℕ, zero, suc, Bool, nat_le, ◌&&◌, ◌||◌, if◌then◌else◌, List, [], ◌∷◌, ◌++◌, codes, decimal}
-use Rattle.dvg_account.specs.declared.rules.Rule.{Rule}
+use Rattle.dvg_spelling.specs.declared.rules.Rule.{Rule}
 
 -- the line of a number and what it means
 abbrev pub row_text : Rule → List ℕ

@@ -1,6 +1,6 @@
 use Rattle.std.proofs.Common.{◌≡◌, ◌++◌, string_bytes, take}
-use Rattle.dvg_account.specs.Rules.{rows_text}
-use Rattle.dvg_account.proofs.rules.push_rows.Given as goal
+use Rattle.dvg_spelling.specs.Rules.{rows_text}
+use Rattle.dvg_spelling.proofs.rules.push_rows.Given as goal
 
 abbrev pub invariant-loop-rule : goal.invariant-loop-rule
 invariant-loop-rule l = string_bytes l.text ≡ string_bytes l.initial.text ++ rows_text (take l.rule-index l.rules)

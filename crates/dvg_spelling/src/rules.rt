@@ -1,8 +1,8 @@
 //! The numbers that lines name: what each means, what gets it, and what to do about it.
 
 ghost use Rattle.std.specs.Prelude.{◌≡◌, ◌++◌, is_some, IfSome, IfOk, OnOk, string_bytes};
-ghost use Rattle.dvg_account.specs.Each.{of_each};
-ghost use Rattle.dvg_account.specs.Rules.{row_text, rows_text, labelled_text, rule_text, is_within, is_rule_number, numbers_below};
+ghost use Rattle.dvg_spelling.specs.Each.{of_each};
+ghost use Rattle.dvg_spelling.specs.Rules.{row_text, rows_text, labelled_text, rule_text, is_within, is_rule_number, numbers_below};
 
 use crate::rule_table as table;
 use itoa::Buffer;

@@ -1,12 +1,10 @@
 //! Exit statuses, and what is said on standard error.
 
 ghost use Rattle.std.specs.Prelude.{◌≡◌, ◌++◌, codes};
-ghost use Rattle.dvg_cmd.specs.Status.{exit_status, fault_message, make_exit_status, frames_exit_status, make_frames_exit_status};
+ghost use Rattle.dvg_spelling.specs.Status.{exit_status, fault_message, make_exit_status, frames_exit_status, make_frames_exit_status};
 
-use crate::judging::FrameOutcome;
-use crate::making::MakeRunFault;
-use crate::making_frames::FramesRunFault;
-use crate::running::{Outcome, RunFault};
+use crate::fault::{FramesRunFault, MakeRunFault, RunFault};
+use crate::outcome::{FrameOutcome, Outcome};
 use dvg_make::{EntryFault, MakeFault};
 
 /// The exit status of a run: 0 accepted, 1 refused, 3 a failed read or write, 4 out of memory.

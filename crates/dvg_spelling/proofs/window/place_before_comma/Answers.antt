@@ -1,5 +1,5 @@
-use Rattle.dvg_cmd.proofs.Windows.{not_uncut, cut_parts}
-use Rattle.dvg_cmd.proofs.window.place_before_comma.Goals as goal
+use Rattle.dvg_spelling.proofs.Windows.{not_uncut, cut_parts}
+use Rattle.dvg_spelling.proofs.window.place_before_comma.Goals as goal
 
 pub returns-in_err-place-clause-none : goal.returns-in_err-place-clause-none
 returns-in_err-place-clause-none c = rw c.from_residual.ensures (λ n rest le is. not_uncut c.args.text.now c.split_once.result c.split_once.ensures.cases n rest le is c.in_err-place.was)

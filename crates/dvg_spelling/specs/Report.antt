@@ -15,8 +15,8 @@ use Rattle.dvg_make.specs.declared.judging.FrameRefusal.{FrameRefusal}
 use Rattle.dvg_make.specs.declared.judging.FrameRefusal.TheVariants.{Make, NoMemory, Check}
 use Rattle.dvg_make.specs.declared.fault.EntryFault.{EntryFault}
 use Rattle.dvg_make.specs.declared.fault.EntryFault.TheVariants as entry
-use Rattle.dvg_cmd.specs.declared.judging.FrameAnswer.{FrameAnswer}
-use Rattle.dvg_cmd.specs.declared.judging.FrameAnswer.TheVariants.{Judged, Unread}
+use Rattle.dvg_spelling.specs.declared.outcome.FrameAnswer.{FrameAnswer}
+use Rattle.dvg_spelling.specs.declared.outcome.FrameAnswer.TheVariants.{Judged, Unread}
 
 -- a digit of 0 to 9 or A to F
 abbrev pub hex_digit : ℕ → ℕ
@@ -95,3 +95,14 @@ answer_text Unread = codes "cannot read"
 -- the line from behind the frame's name on
 abbrev pub frame_line_text : FrameAnswer → List ℕ
 frame_line_text answer = codes ": " ++ answer_text answer ++ codes "\n"
+
+-- ---- what the maker comes to
+
+-- how many entries are made, or what `make` says of why none are
+abbrev pub make_answer_text : Result ℕ FramesRunFault → List ℕ
+make_answer_text (Ok entries) = codes "made entries=" ++ decimal entries
+make_answer_text (Err fault) = frames_message fault
+
+-- the line, from behind the name of the frame on that is to blame
+abbrev pub make_line_text : Result ℕ FramesRunFault → List ℕ
+make_line_text made = make_answer_text made ++ codes "\n"

@@ -1,5 +1,5 @@
-use Rattle.dvg_cmd.proofs.Windows.{has_second, has_third, has_fourth, is_window, if_none}
-use Rattle.dvg_cmd.proofs.window.window_of.Goals as goal
+use Rattle.dvg_spelling.proofs.Windows.{has_second, has_third, has_fourth, is_window, if_none}
+use Rattle.dvg_spelling.proofs.window.window_of.Goals as goal
 
 pub returns-in_err-x_max-clause-none : goal.returns-in_err-x_max-clause-none
 returns-in_err-x_max-clause-none c =

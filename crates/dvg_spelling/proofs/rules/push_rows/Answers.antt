@@ -1,6 +1,6 @@
 use Rattle.std.proofs.Common.{string_bytes, arith}
-use Rattle.dvg_account.proofs.Tables.{rows_next}
-use Rattle.dvg_account.proofs.rules.push_rows.Goals as goal
+use Rattle.dvg_spelling.proofs.Tables.{rows_next}
+use Rattle.dvg_spelling.proofs.rules.push_rows.Goals as goal
 
 pub loop-rule-preserved : goal.loop-rule-preserved
 loop-rule-preserved c =

@@ -1,6 +1,6 @@
 use Rattle.std.proofs.Common.{codes, decimal, ◌≡◌, ◌++◌}
-use Rattle.dvg_cmd.proofs.Lines.{three_counts}
-use Rattle.dvg_cmd.proofs.report.push_accepted.Goals as goal
+use Rattle.dvg_spelling.proofs.Lines.{three_counts}
+use Rattle.dvg_spelling.proofs.report.push_accepted.Goals as goal
 
 pub returns-clause-text : goal.returns-clause-text
 returns-clause-text c =

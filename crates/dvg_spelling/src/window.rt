@@ -2,7 +2,7 @@
 
 ghost use Rattle.std.specs.Prelude.{◌≤◌, ◌≡◌, ◌∷◌, ◌++◌, ℕ, List, decimal, IfSome, IfNone};
 ghost use Rattle.dvg_words.specs.Values.{Window as Places};
-ghost use Rattle.dvg_cmd.specs.Runs.{IsWindowText};
+ghost use Rattle.dvg_spelling.specs.Arguments.{IsWindowText};
 
 use dvg_cert::read_decimal;
 use dvg_words::Window;

@@ -2,8 +2,8 @@
 use Rattle.std.proofs.Common.{◌≡◌, ℕ, suc, ◌<◌, List, [], ◌∷◌, ◌++◌, length, take, get_or, sym, ap, ◌∙◌, arith}
 use Rattle.std.proofs.lemmas.Grind.{common_steps}
 use Rattle.std.proofs.Math.Seq.{take-suc}
-use Rattle.dvg_account.specs.Rules.{row_text, rows_text}
-use Rattle.dvg_account.specs.declared.rules.Rule.{Rule}
+use Rattle.dvg_spelling.specs.Rules.{row_text, rows_text}
+use Rattle.dvg_spelling.specs.declared.rules.Rule.{Rule}
 
 behind : (xs ys zs : List ℕ) → (xs ++ ys) ++ zs ≡ xs ++ (ys ++ zs)
 behind xs ys zs = grind (arith, common_steps)

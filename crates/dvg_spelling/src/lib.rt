@@ -1,0 +1,25 @@
+//! How answers are spelled, and the values that the command line spells.
+//!
+//! [`report_of`] and its kin spell the line of an answer, [`status_of`] and its kin the exit status, [`message_of`] what is said
+//! on standard error. [`rule_of`] answers what a number means and what to do about it. [`root_of`], [`map_of`], [`start_of`] and
+//! [`window_of`] read words of the command line.
+#![tactic(auto)]
+
+mod arguments;
+mod fault;
+mod outcome;
+mod report;
+mod rule_table;
+mod rules;
+mod status;
+mod window;
+
+pub use arguments::{map_of, root_of, start_of};
+pub use fault::{FramesRunFault, MakeRunFault, RunFault};
+pub use outcome::{FrameAnswer, FrameOutcome, Outcome, frame_outcome_of, outcome_of};
+pub use report::{
+    Report, frame_report_of, make_frames_report_of, make_line_of, make_report_of, report_of,
+};
+pub use rules::{Rule, all_rules, rule_of, text_of_rule, text_of_rules};
+pub use status::{frames_status_of, make_frames_status_of, make_status_of, message_of, status_of};
+pub use window::window_of;
