@@ -139,7 +139,7 @@ pub const SHAPE_UNKNOWN_SCALE: Rule = Rule {
 
 pub const SHAPE_OUTSIDE_WINDOW: Rule = Rule {
     number: 25,
-    meaning: "at an absolute place: a lit draw with an end outside the window; or a call or tail jump with a corner of its entry's box, shifted by the place, outside it",
+    meaning: "at an absolute place: a lit draw starts or ends outside the window; or the box of the entry that a call or tail jump names, moved to this place, has a corner outside it",
     line: "refused 25 shape 800/0 at 802",
     heading: "Shortest input (words of the ROM; entry)",
     input: "`A000 0000 F510`; `words 2`",
@@ -193,7 +193,7 @@ pub const SHAPE_SCALE: Rule = Rule {
 
 pub const SHAPE_OUTSIDE_BOX: Rule = Rule {
     number: 31,
-    meaning: "at a relative place: a lit draw with an end outside the claimed box; or a call or tail jump with a corner of its entry's box, shifted by the place, outside it",
+    meaning: "at a relative place: a lit draw starts or ends outside the claimed box; or the box of the entry that a call or tail jump names, moved to this place, has a corner outside it",
     line: "refused 31 shape 800/0 at 800",
     heading: "Shortest input (words of the ROM; entry)",
     input: "`F010`",
@@ -274,7 +274,7 @@ pub const FRAME_UNKNOWN_SCALE: Rule = Rule {
 
 pub const FRAME_OUTSIDE_WINDOW: Rule = Rule {
     number: 46,
-    meaning: "a lit draw with an end outside the window; or a call with a corner of its entry's box, shifted by the place, outside it",
+    meaning: "a lit draw starts or ends outside the window; or the box of the entry that a call names, moved to the place of the call, has a corner outside it",
     line: "refused 46 frame at 002",
     heading: "Shortest input",
     input: "`A000 0000 F510`",
