@@ -41,7 +41,7 @@ pub enum FrameCause {
 }
 
 /// A frame's first fault, what is known there, and the rule's own numbers.
-#[derive(Clone, Copy, Debug, PartialEq, Eq)]
+#[derive(Clone, Copy)]
 pub struct FrameAccount {
     pub finding: FrameFinding,
     pub cause: FrameCause,

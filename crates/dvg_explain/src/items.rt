@@ -27,7 +27,7 @@ use dvg_words::{Cell, Fetch, RomImage, read_cell};
 use std::alloc::{AllocError, Global};
 
 /// Where items begin, and whose they are: their first word address, and the known scale there.
-#[derive(Clone, Copy, Debug, PartialEq, Eq)]
+#[derive(Clone, Copy)]
 pub struct Start {
     pub kind: Kind,
     pub first: u16,

@@ -16,7 +16,7 @@ use dvg_words::{Fetch, FrameImage, RomImage};
 
 /// The items by which what is not known before a place was lost: by the one a known place became lost, by the other a known scale
 /// unknown, and nothing has set it since. `None` where it is known, or never was.
-#[derive(Clone, Copy, Debug, PartialEq, Eq)]
+#[derive(Clone, Copy)]
 pub struct Losses {
     pub place: Option<Item>,
     pub scale: Option<Item>,

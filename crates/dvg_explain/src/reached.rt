@@ -13,7 +13,7 @@ use std::marker::Model;
 
 /// A call by which an entry was reached first, and the index of the link in whose entry's shape it stands; `None` where it is the
 /// frame's own.
-#[derive(Clone, Copy, Debug, PartialEq, Eq)]
+#[derive(Clone, Copy)]
 pub struct Link {
     pub call: Call,
     pub from: Option<usize>,

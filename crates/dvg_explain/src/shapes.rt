@@ -48,7 +48,7 @@ pub enum ShapeCause {
 }
 
 /// The first fault of a certificate's shapes, what is known there, and the rule's own numbers.
-#[derive(Clone, Copy, Debug, PartialEq, Eq)]
+#[derive(Clone, Copy)]
 pub struct ShapeAccount {
     pub finding: ShapeFinding,
     pub cause: ShapeCause,

@@ -26,14 +26,14 @@ use dvg_items::{Cursor, Item, Kind, LitExtent, callee, joined, spanning, target}
 use dvg_words::{Cell, Point, RomImage, read_cell};
 
 /// The least boxes of what is lit at relative places and at absolute ones.
-#[derive(Clone, Copy, Debug, PartialEq, Eq)]
+#[derive(Clone, Copy)]
 pub struct Lit {
     pub relative: LitBox,
     pub absolute: LitBox,
 }
 
 /// What the shape that starts at a word address and a key lights.
-#[derive(Clone, Copy, Debug, PartialEq, Eq)]
+#[derive(Clone, Copy)]
 pub struct Tail {
     pub addr: u16,
     pub key: Key,

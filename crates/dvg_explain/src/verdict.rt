@@ -16,7 +16,7 @@ use dvg_words::{FrameImage, ImageFault, RomImage, Window};
 use std::alloc::Global;
 
 /// Why a ROM and a frame are refused by a certificate, in numbers.
-#[derive(Clone, Copy, Debug, PartialEq, Eq)]
+#[derive(Clone, Copy)]
 pub enum RomAccount {
     /// 1: the ROM's bytes are not exactly two for each address of the certificate's map.
     RomLength,
