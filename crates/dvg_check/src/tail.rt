@@ -20,9 +20,7 @@ ghost use Rattle.dvg_check.specs.Private.Tails.{ClaimsLess, known_at_end, claime
 
 use crate::fault::Mode;
 use dvg_cert::{End, Entries, Entry, Key, LitBox};
-use dvg_items::{
-    Cursor, Item, Kind, LitExtent, box_corners, callee, is_in_box, joined, spanning,
-};
+use dvg_items::{Cursor, Item, Kind, LitExtent, box_corners, callee, is_in_box, joined, spanning};
 use dvg_words::{Instr, Point, Window, in_window, shift};
 
 /// The place at the end of a tail, seen from the start of the item before it: `place` is the place past this item, and `stop` the

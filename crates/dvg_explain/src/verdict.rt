@@ -29,7 +29,7 @@ pub enum RomAccount {
 }
 
 impl RomAccount {
-    /// The refusal that it tells of.
+    /// The refusal that the account is of.
     pub fn refusal(&self) -> Refusal
         ensures { result ≡ refusal_of self.now }
     {
@@ -42,7 +42,7 @@ impl RomAccount {
     }
 }
 
-/// The same as [`explain_rom`] from the shapes on.
+/// Judges a frame over a vector ROM and the entries of its certificate, as [`explain_rom`] does over the ROM's bytes.
 fn explain_parts(
     alloc: Global,
     rom: &RomImage,
