@@ -4,7 +4,7 @@ ghost use Rattle.std.specs.Prelude.{◌≡◌, ◌≤◌, IfOk, IfErr};
 ghost use Rattle.dvg_words.specs.Memory.{rom_of};
 ghost use Rattle.dvg_cert.specs.declared.limits.TheConstants.{MOST_WORDS};
 ghost use Rattle.dvg_check.specs.declared.fault.Mode.TheVariants.{Exact};
-ghost use Rattle.dvg_check.specs.Verdict.{PartsVerdict, RomVerdict};
+ghost use Rattle.dvg_check.specs.Verdict.{RomVerdict};
 ghost use Rattle.dvg_check.specs.Safety.{Safe, CountsAtHalt};
 ghost use Rattle.dvg_explain.specs.Verdict.{refusal_of, verdict_of, TellsOf};
 
@@ -42,41 +42,6 @@ impl RomAccount {
     }
 }
 
-/// Judges a frame over a vector ROM and the entries of its certificate, as [`explain_rom`] does over the ROM's bytes.
-fn explain_parts(
-    alloc: Global,
-    rom: &RomImage,
-    frame: &FrameImage,
-    cert: &Cert,
-    budget: u32,
-    window: Window,
-    mode: Mode,
-) -> Result<Yes, RomAccount>
-    requires { budget ≤ MOST_WORDS }
-    ensures verdict { PartsVerdict mode window rom.now cert.now.entries frame.now budget (verdict_of result) }
-    ensures account { IfErr result (TellsOf mode window rom.now cert.now.entries frame.now budget) }
-    ensures safe { IfOk result (λ yes. Safe (record { frame = frame.now; rom = rom.now }) window yes.words yes.depth) }
-    ensures exact { mode ≡ Exact → IfOk result (λ yes. CountsAtHalt (record { frame = frame.now; rom = rom.now }) yes.words yes.depth) }
-{
-    let listed = cert.entries().len();
-    let entries = match HashIndex::new(alloc, cert) {
-        Ok(entries) => entries,
-        Err(_) => return Err(RomAccount::IndexMemory),
-    };
-    if let Err(account) = explain_shapes(rom, cert, &entries, &window, mode) {
-        return Err(RomAccount::Shape(account));
-    }
-    let shapes = JudgedShapes::unchecked(rom, &entries, window, mode);
-    match explain_frame(&shapes, frame, budget) {
-        Ok(accepted) => Ok(Yes {
-            shapes: listed as u32,
-            words: accepted.words,
-            depth: accepted.depth,
-        }),
-        Err(account) => Err(RomAccount::Frame(account)),
-    }
-}
-
 /// Judges a frame over the bytes of a vector ROM and the entries of its certificate in a mode, as
 /// [`check_rom`](dvg_check::check_rom) does. With a refusal because of an item it answers what is known there, and the rule's own
 /// numbers (profile): shapes and frame are judged once.
@@ -98,8 +63,23 @@ pub fn explain_rom(
     ensures safe { IfOk result (λ yes. Safe (record { frame = frame.now; rom = rom_of cert.now.map rom.now }) window yes.words yes.depth) }
     ensures exact { mode ≡ Exact → IfOk result (λ yes. CountsAtHalt (record { frame = frame.now; rom = rom_of cert.now.map rom.now }) yes.words yes.depth) }
 {
-    match RomImage::from_bytes(rom, cert.map()) {
-        Ok(rom) => explain_parts(alloc, &rom, frame, cert, budget, window, mode),
-        Err(_) => Err(RomAccount::RomLength),
+    let Ok(rom) = RomImage::from_bytes(rom, cert.map()) else {
+        return Err(RomAccount::RomLength);
+    };
+    let listed = cert.entries().len();
+    let Ok(entries) = HashIndex::new(alloc, cert) else {
+        return Err(RomAccount::IndexMemory);
+    };
+    if let Err(account) = explain_shapes(&rom, cert, &entries, &window, mode) {
+        return Err(RomAccount::Shape(account));
+    }
+    let shapes = JudgedShapes::unchecked(&rom, &entries, window, mode);
+    match explain_frame(&shapes, frame, budget) {
+        Ok(accepted) => Ok(Yes {
+            shapes: listed as u32,
+            words: accepted.words,
+            depth: accepted.depth,
+        }),
+        Err(account) => Err(RomAccount::Frame(account)),
     }
 }
