@@ -305,21 +305,21 @@ impl<'a> fmt::Display for FrameWhyText<'a> {
         let at = self.account.finding.fault.word;
         let list = self.list;
         match self.account.cause {
-            FrameCause::Missing => write!(f, "{}", MissingWord { at, list }),
+            FrameCause::Unmapped => write!(f, "{}", MissingWord { at, list }),
             FrameCause::Odd => write!(f, "{}", self.odd),
-            FrameCause::Return => {
+            FrameCause::ReturnInFrame => {
                 f.write_str("RTSL stands in a frame, and there is no call to return from")
             }
-            FrameCause::JumpsBack(to) if to == at => write!(
+            FrameCause::BackJump(to) if to == at => write!(
                 f,
                 "it jumps to {to:03X}, its own address"
             ),
-            FrameCause::JumpsBack(to) => write!(f, "it jumps to {to:03X}, a lower address"),
-            FrameCause::LostPlace => f.write_str(lost_place(found)),
-            FrameCause::UnknownScale => f.write_str(UNKNOWN_SCALE),
-            FrameCause::Leaves(leaving) => write_leaving(f, found, leaving),
+            FrameCause::BackJump(to) => write!(f, "it jumps to {to:03X}, a lower address"),
+            FrameCause::BeamUnknown => f.write_str(lost_place(found)),
+            FrameCause::ScaleUnknown => f.write_str(UNKNOWN_SCALE),
+            FrameCause::OffScreen(leaving) => write_leaving(f, found, leaving),
             FrameCause::NoEntry { to, scale } => write!(f, "{}", NoEntry { to, scale }),
-            FrameCause::OverBudget(over) => {
+            FrameCause::Budget(over) => {
                 let words = words_with(found);
                 let budget = words.saturating_sub(over);
                 write!(
@@ -396,14 +396,14 @@ impl<'a> fmt::Display for ShapeWhyText<'a> {
         let at = self.account.finding.fault.word;
         let list = self.list;
         match self.account.cause {
-            ShapeCause::Missing => write!(f, "{}", MissingWord { at, list }),
+            ShapeCause::Unmapped => write!(f, "{}", MissingWord { at, list }),
             ShapeCause::Odd => write!(f, "{}", self.odd),
-            ShapeCause::Halt => f.write_str(HALT_IN_SHAPE),
-            ShapeCause::LostPlace => f.write_str(lost_place(found)),
-            ShapeCause::UnknownScale => f.write_str(UNKNOWN_SCALE),
-            ShapeCause::Leaves(leaving) => write_leaving(f, found, leaving),
+            ShapeCause::HaltInShape => f.write_str(HALT_IN_SHAPE),
+            ShapeCause::BeamUnknown => f.write_str(lost_place(found)),
+            ShapeCause::ScaleUnknown => f.write_str(UNKNOWN_SCALE),
+            ShapeCause::OffScreen(leaving) => write_leaving(f, found, leaving),
             ShapeCause::NoEntry { to, scale } => write!(f, "{}", NoEntry { to, scale }),
-            ShapeCause::LeavesBox(leaving) => write_box_leaving(f, found, leaving),
+            ShapeCause::BoxTooSmall(leaving) => write_box_leaving(f, found, leaving),
             claim => write_claim(f, &self.account.finding.entry, found, claim),
         }
     }

@@ -1,7 +1,7 @@
 -- What is accepted is safe, and there is one verdict.
 use Rattle.std.proofs.Common.{List, length, sym, subst, ap, refl, ◌≡◌, ◌∙◌, ℕ}
 use Rattle.std.specs.Prelude.{Err, Ok, Result, IfOk}
-use Rattle.dvg_words.specs.Memory.{Rom, IsFrame, IsRom, words_of, rom_of}
+use Rattle.dvg_words.specs.Memory.{Rom, IsFrame, IsRom, IsRomLength, words_of, rom_of}
 use Rattle.dvg_words.specs.Values.{Window}
 use Rattle.dvg_words.specs.declared.image.ImageFault.TheVariants.{RomLength, FrameLength}
 use Rattle.dvg_cert.specs.Laws.{OneCertificate, OneAnswer, NotMemory as HasMemory}
@@ -93,7 +93,19 @@ same_parts mode w rom list words budget (Err refusal.BudgetRange) b h k m n = ab
 same_parts mode w rom list words budget (Err (refusal.Cert f)) b h k m n = absurd h
 same_parts mode w rom list words budget (Err refusal.IndexMemory) b h k m n = absurd m
 
--- so do a ROM's bytes by one certificate
+-- an answer by the shapes and the frame is the one on a ROM's bytes
+by_parts : (mode : Mode) (w : Window) (rom : List ℕ) (c : Certificate) (words : List ℕ) (budget : ℕ) (a b : Result Yes Refusal) → IsRomLength c.map (length rom)
+    → PartsVerdict mode w (rom_of c.map rom) c.entries words budget a → RomVerdict mode w rom c words budget b → NotMemory a → NotMemory b → a ≡ b
+by_parts mode w rom c words budget a (Err (refusal.Image RomLength)) whole h k m n = absurd (k whole)
+by_parts mode w rom c words budget a (Err (refusal.Shape g)) whole h k m n = same_parts mode w (rom_of c.map rom) c.entries words budget a (Err (refusal.Shape g)) h k.1 m n
+by_parts mode w rom c words budget a (Err (refusal.Frame g)) whole h k m n = same_parts mode w (rom_of c.map rom) c.entries words budget a (Err (refusal.Frame g)) h k.1 m n
+by_parts mode w rom c words budget a (Ok z) whole h k m n = same_parts mode w (rom_of c.map rom) c.entries words budget a (Ok z) h k.1 m n
+by_parts mode w rom c words budget a (Err (refusal.Image FrameLength)) whole h k m n = absurd k.1
+by_parts mode w rom c words budget a (Err refusal.BudgetRange) whole h k m n = absurd k.1
+by_parts mode w rom c words budget a (Err (refusal.Cert g)) whole h k m n = absurd k.1
+by_parts mode w rom c words budget a (Err refusal.IndexMemory) whole h k m n = absurd n
+
+-- a ROM's bytes come to one answer by one certificate
 same_rom : (mode : Mode) (w : Window) (rom : List ℕ) (c : Certificate) (words : List ℕ) (budget : ℕ) (a b : Result Yes Refusal) → RomVerdict mode w rom c words budget a → RomVerdict mode w rom c words budget b → NotMemory a → NotMemory b → a ≡ b
 same_rom mode w rom c words budget (Err (refusal.Image RomLength)) (Err (refusal.Image RomLength)) h k m n = refl
 same_rom mode w rom c words budget (Err (refusal.Image RomLength)) (Err (refusal.Shape g)) h k m n = absurd (h k.0)
@@ -103,30 +115,9 @@ same_rom mode w rom c words budget (Err (refusal.Image RomLength)) (Err (refusal
 same_rom mode w rom c words budget (Err (refusal.Image RomLength)) (Err refusal.BudgetRange) h k m n = absurd k.1
 same_rom mode w rom c words budget (Err (refusal.Image RomLength)) (Err (refusal.Cert g)) h k m n = absurd k.1
 same_rom mode w rom c words budget (Err (refusal.Image RomLength)) (Err refusal.IndexMemory) h k m n = absurd n
-same_rom mode w rom c words budget (Err (refusal.Shape f)) (Err (refusal.Image RomLength)) h k m n = absurd (k h.0)
-same_rom mode w rom c words budget (Err (refusal.Shape f)) (Err (refusal.Shape g)) h k m n = same_parts mode w (rom_of c.map rom) c.entries words budget (Err (refusal.Shape f)) (Err (refusal.Shape g)) h.1 k.1 m n
-same_rom mode w rom c words budget (Err (refusal.Shape f)) (Err (refusal.Frame g)) h k m n = same_parts mode w (rom_of c.map rom) c.entries words budget (Err (refusal.Shape f)) (Err (refusal.Frame g)) h.1 k.1 m n
-same_rom mode w rom c words budget (Err (refusal.Shape f)) (Ok z) h k m n = same_parts mode w (rom_of c.map rom) c.entries words budget (Err (refusal.Shape f)) (Ok z) h.1 k.1 m n
-same_rom mode w rom c words budget (Err (refusal.Shape f)) (Err (refusal.Image FrameLength)) h k m n = absurd k.1
-same_rom mode w rom c words budget (Err (refusal.Shape f)) (Err refusal.BudgetRange) h k m n = absurd k.1
-same_rom mode w rom c words budget (Err (refusal.Shape f)) (Err (refusal.Cert g)) h k m n = absurd k.1
-same_rom mode w rom c words budget (Err (refusal.Shape f)) (Err refusal.IndexMemory) h k m n = absurd n
-same_rom mode w rom c words budget (Err (refusal.Frame f)) (Err (refusal.Image RomLength)) h k m n = absurd (k h.0)
-same_rom mode w rom c words budget (Err (refusal.Frame f)) (Err (refusal.Shape g)) h k m n = same_parts mode w (rom_of c.map rom) c.entries words budget (Err (refusal.Frame f)) (Err (refusal.Shape g)) h.1 k.1 m n
-same_rom mode w rom c words budget (Err (refusal.Frame f)) (Err (refusal.Frame g)) h k m n = same_parts mode w (rom_of c.map rom) c.entries words budget (Err (refusal.Frame f)) (Err (refusal.Frame g)) h.1 k.1 m n
-same_rom mode w rom c words budget (Err (refusal.Frame f)) (Ok z) h k m n = same_parts mode w (rom_of c.map rom) c.entries words budget (Err (refusal.Frame f)) (Ok z) h.1 k.1 m n
-same_rom mode w rom c words budget (Err (refusal.Frame f)) (Err (refusal.Image FrameLength)) h k m n = absurd k.1
-same_rom mode w rom c words budget (Err (refusal.Frame f)) (Err refusal.BudgetRange) h k m n = absurd k.1
-same_rom mode w rom c words budget (Err (refusal.Frame f)) (Err (refusal.Cert g)) h k m n = absurd k.1
-same_rom mode w rom c words budget (Err (refusal.Frame f)) (Err refusal.IndexMemory) h k m n = absurd n
-same_rom mode w rom c words budget (Ok y) (Err (refusal.Image RomLength)) h k m n = absurd (k h.0)
-same_rom mode w rom c words budget (Ok y) (Err (refusal.Shape g)) h k m n = same_parts mode w (rom_of c.map rom) c.entries words budget (Ok y) (Err (refusal.Shape g)) h.1 k.1 m n
-same_rom mode w rom c words budget (Ok y) (Err (refusal.Frame g)) h k m n = same_parts mode w (rom_of c.map rom) c.entries words budget (Ok y) (Err (refusal.Frame g)) h.1 k.1 m n
-same_rom mode w rom c words budget (Ok y) (Ok z) h k m n = same_parts mode w (rom_of c.map rom) c.entries words budget (Ok y) (Ok z) h.1 k.1 m n
-same_rom mode w rom c words budget (Ok y) (Err (refusal.Image FrameLength)) h k m n = absurd k.1
-same_rom mode w rom c words budget (Ok y) (Err refusal.BudgetRange) h k m n = absurd k.1
-same_rom mode w rom c words budget (Ok y) (Err (refusal.Cert g)) h k m n = absurd k.1
-same_rom mode w rom c words budget (Ok y) (Err refusal.IndexMemory) h k m n = absurd n
+same_rom mode w rom c words budget (Err (refusal.Shape f)) b h k m n = by_parts mode w rom c words budget (Err (refusal.Shape f)) b h.0 h.1 k m n
+same_rom mode w rom c words budget (Err (refusal.Frame f)) b h k m n = by_parts mode w rom c words budget (Err (refusal.Frame f)) b h.0 h.1 k m n
+same_rom mode w rom c words budget (Ok y) b h k m n = by_parts mode w rom c words budget (Ok y) b h.0 h.1 k m n
 same_rom mode w rom c words budget (Err (refusal.Image FrameLength)) b h k m n = absurd h.1
 same_rom mode w rom c words budget (Err refusal.BudgetRange) b h k m n = absurd h.1
 same_rom mode w rom c words budget (Err (refusal.Cert f)) b h k m n = absurd h.1
@@ -147,6 +138,17 @@ module _ (one_certificate : OneCertificate) (one_answer : OneAnswer) (mode : Mod
 
   no_refusal : (f : CertFault) (c : Certificate) → ReadAnswer cert (Err f) → Spells c cert → (f.why ≡ Memory → ⊥) → ⊥
   no_refusal f c h k m = let e = same_read (Ok c) (Err f) k h tt m in cc
+
+  -- an answer that comes after the certificate was read is the verdict
+  by_lists : (a b : Result Yes Refusal) → CertVerdict mode w rom cert words budget a → Verdict mode w rom cert words budget b → NotMemory a → NotMemory b → a ≡ b
+  by_lists a (Err (refusal.Image FrameLength)) h k m n = absurd (k h.in_range.frame_length)
+  by_lists a (Err refusal.BudgetRange) h k m n = absurd (k.1 h.in_range.budget_range)
+  by_lists a (Err (refusal.Cert g)) h k m n = absurd (no_refusal g h.certificate k.1 h.spells n)
+  by_lists a (Err (refusal.Image RomLength)) h k m n = same_lists a (Err (refusal.Image RomLength)) h k m n
+  by_lists a (Err (refusal.Shape g)) h k m n = same_lists a (Err (refusal.Shape g)) h k m n
+  by_lists a (Err (refusal.Frame g)) h k m n = same_lists a (Err (refusal.Frame g)) h k m n
+  by_lists a (Ok z) h k m n = same_lists a (Ok z) h k m n
+  by_lists a (Err refusal.IndexMemory) h k m n = absurd n
 
   same_verdict : (a b : Result Yes Refusal) → Verdict mode w rom cert words budget a → Verdict mode w rom cert words budget b → NotMemory a → NotMemory b → a ≡ b
   same_verdict (Err (refusal.Image FrameLength)) (Err (refusal.Image FrameLength)) h k m n = refl
@@ -173,38 +175,10 @@ module _ (one_certificate : OneCertificate) (one_answer : OneAnswer) (mode : Mod
   same_verdict (Err (refusal.Cert f)) (Err (refusal.Frame g)) h k m n = absurd (no_refusal f k.certificate h.1 k.spells m)
   same_verdict (Err (refusal.Cert f)) (Ok z) h k m n = absurd (no_refusal f k.certificate h.1 k.spells m)
   same_verdict (Err (refusal.Cert f)) (Err refusal.IndexMemory) h k m n = absurd n
-  same_verdict (Err (refusal.Image RomLength)) (Err (refusal.Image FrameLength)) h k m n = absurd (k h.in_range.frame_length)
-  same_verdict (Err (refusal.Image RomLength)) (Err refusal.BudgetRange) h k m n = absurd (k.1 h.in_range.budget_range)
-  same_verdict (Err (refusal.Image RomLength)) (Err (refusal.Cert g)) h k m n = absurd (no_refusal g h.certificate k.1 h.spells n)
-  same_verdict (Err (refusal.Image RomLength)) (Err (refusal.Image RomLength)) h k m n = same_lists (Err (refusal.Image RomLength)) (Err (refusal.Image RomLength)) h k m n
-  same_verdict (Err (refusal.Image RomLength)) (Err (refusal.Shape g)) h k m n = same_lists (Err (refusal.Image RomLength)) (Err (refusal.Shape g)) h k m n
-  same_verdict (Err (refusal.Image RomLength)) (Err (refusal.Frame g)) h k m n = same_lists (Err (refusal.Image RomLength)) (Err (refusal.Frame g)) h k m n
-  same_verdict (Err (refusal.Image RomLength)) (Ok z) h k m n = same_lists (Err (refusal.Image RomLength)) (Ok z) h k m n
-  same_verdict (Err (refusal.Image RomLength)) (Err refusal.IndexMemory) h k m n = absurd n
-  same_verdict (Err (refusal.Shape f)) (Err (refusal.Image FrameLength)) h k m n = absurd (k h.in_range.frame_length)
-  same_verdict (Err (refusal.Shape f)) (Err refusal.BudgetRange) h k m n = absurd (k.1 h.in_range.budget_range)
-  same_verdict (Err (refusal.Shape f)) (Err (refusal.Cert g)) h k m n = absurd (no_refusal g h.certificate k.1 h.spells n)
-  same_verdict (Err (refusal.Shape f)) (Err (refusal.Image RomLength)) h k m n = same_lists (Err (refusal.Shape f)) (Err (refusal.Image RomLength)) h k m n
-  same_verdict (Err (refusal.Shape f)) (Err (refusal.Shape g)) h k m n = same_lists (Err (refusal.Shape f)) (Err (refusal.Shape g)) h k m n
-  same_verdict (Err (refusal.Shape f)) (Err (refusal.Frame g)) h k m n = same_lists (Err (refusal.Shape f)) (Err (refusal.Frame g)) h k m n
-  same_verdict (Err (refusal.Shape f)) (Ok z) h k m n = same_lists (Err (refusal.Shape f)) (Ok z) h k m n
-  same_verdict (Err (refusal.Shape f)) (Err refusal.IndexMemory) h k m n = absurd n
-  same_verdict (Err (refusal.Frame f)) (Err (refusal.Image FrameLength)) h k m n = absurd (k h.in_range.frame_length)
-  same_verdict (Err (refusal.Frame f)) (Err refusal.BudgetRange) h k m n = absurd (k.1 h.in_range.budget_range)
-  same_verdict (Err (refusal.Frame f)) (Err (refusal.Cert g)) h k m n = absurd (no_refusal g h.certificate k.1 h.spells n)
-  same_verdict (Err (refusal.Frame f)) (Err (refusal.Image RomLength)) h k m n = same_lists (Err (refusal.Frame f)) (Err (refusal.Image RomLength)) h k m n
-  same_verdict (Err (refusal.Frame f)) (Err (refusal.Shape g)) h k m n = same_lists (Err (refusal.Frame f)) (Err (refusal.Shape g)) h k m n
-  same_verdict (Err (refusal.Frame f)) (Err (refusal.Frame g)) h k m n = same_lists (Err (refusal.Frame f)) (Err (refusal.Frame g)) h k m n
-  same_verdict (Err (refusal.Frame f)) (Ok z) h k m n = same_lists (Err (refusal.Frame f)) (Ok z) h k m n
-  same_verdict (Err (refusal.Frame f)) (Err refusal.IndexMemory) h k m n = absurd n
-  same_verdict (Ok y) (Err (refusal.Image FrameLength)) h k m n = absurd (k h.in_range.frame_length)
-  same_verdict (Ok y) (Err refusal.BudgetRange) h k m n = absurd (k.1 h.in_range.budget_range)
-  same_verdict (Ok y) (Err (refusal.Cert g)) h k m n = absurd (no_refusal g h.certificate k.1 h.spells n)
-  same_verdict (Ok y) (Err (refusal.Image RomLength)) h k m n = same_lists (Ok y) (Err (refusal.Image RomLength)) h k m n
-  same_verdict (Ok y) (Err (refusal.Shape g)) h k m n = same_lists (Ok y) (Err (refusal.Shape g)) h k m n
-  same_verdict (Ok y) (Err (refusal.Frame g)) h k m n = same_lists (Ok y) (Err (refusal.Frame g)) h k m n
-  same_verdict (Ok y) (Ok z) h k m n = same_lists (Ok y) (Ok z) h k m n
-  same_verdict (Ok y) (Err refusal.IndexMemory) h k m n = absurd n
+  same_verdict (Err (refusal.Image RomLength)) b h k m n = by_lists (Err (refusal.Image RomLength)) b h k m n
+  same_verdict (Err (refusal.Shape f)) b h k m n = by_lists (Err (refusal.Shape f)) b h k m n
+  same_verdict (Err (refusal.Frame f)) b h k m n = by_lists (Err (refusal.Frame f)) b h k m n
+  same_verdict (Ok y) b h k m n = by_lists (Ok y) b h k m n
   same_verdict (Err refusal.IndexMemory) b h k m n = absurd m
 
 pub one_verdict : OneCertificate → OneAnswer → OneVerdict

@@ -1,5 +1,5 @@
 -- The worked example: what stands at its places, and that each item keeps each rule.
-use Rattle.std.proofs.Common.{arith, List, refl, sym, subst, pos, zero, suc, ◌≡◌, ◌∷◌, ℕ, []}
+use Rattle.std.proofs.Common.{arith, List, refl, sym, subst, pos, zero, suc, ◌≡◌, ◌≢◌, ◌≤◌, ◌∷◌, ℕ, []}
 use Rattle.std.proofs.lemmas.Int.{ints}
 use Rattle.std.proofs.lemmas.List.{length-replicate}
 use Rattle.dvg_words.specs.Beam.{displacement, screen}
@@ -12,9 +12,10 @@ use Rattle.dvg_words.specs.declared.instruction.Format.TheVariants.{Long, Short}
 use Rattle.dvg_words.specs.declared.instruction.Instr.TheVariants.{Draw as Draws, Labs, Halt, Jsrl, Rtsl}
 use Rattle.dvg_cert.specs.Order.{IsCertificate}
 use Rattle.dvg_check.specs.Example.{example_entry, example_list, WorkedExample}
-use Rattle.dvg_items.specs.Known.{shape_context, frame_context}
-use Rattle.dvg_check.specs.Rules.{ShapeKeeps, FrameKeeps, ShapePlaceKeeps, FramePlaceKeeps, CellKeeps, AsClaimed, GoodShape, Good, AllKeep}
-use Rattle.dvg_items.specs.Seen.{seen_at}
+use Rattle.dvg_items.specs.Known.{shape_context, frame_context, target}
+use Rattle.dvg_items.specs.Lit.{PlaceKnown, ScaleKnown, LitInWindow}
+use Rattle.dvg_check.specs.Rules.{Seen, IsForward, ShapeKeeps, FrameKeeps, ShapePlaceKeeps, FramePlaceKeeps, CellKeeps, AsClaimed, GoodShape, Good, AllKeep}
+use Rattle.dvg_items.specs.Seen.{HasCallee, seen_at}
 use Rattle.dvg_check.specs.declared.fault.FrameWhy.{FrameWhy}
 use Rattle.dvg_check.specs.declared.fault.FrameWhy.TheVariants as frame
 use Rattle.dvg_check.specs.declared.fault.Mode.{Mode}
@@ -120,39 +121,30 @@ halt_there : cell_at (frame_word example_frame) 3 ≡ Holds Short Halt
 unfolding cell_at instruction_of
 halt_there = refl
 
+-- what the rules of frames ask of an item that is there
+frame_item : (v : Seen) → v.item.instr ≢ Rtsl → IsForward v.item.at v.item.instr → PlaceKnown v.extent v.place → ScaleKnown v.extent → LitInWindow screen v.extent v.place
+    → HasCallee (target Frame v.item.instr) v.callee → v.after.words ≤ 20000 → (why : FrameWhy) → FrameKeeps screen 20000 v why
+frame_item v no_return forward place scale lit named few frame.Unmapped = tt
+frame_item v no_return forward place scale lit named few frame.Odd = tt
+frame_item v no_return forward place scale lit named few frame.ReturnInFrame = no_return
+frame_item v no_return forward place scale lit named few frame.BackJump = forward
+frame_item v no_return forward place scale lit named few frame.BeamUnknown = place
+frame_item v no_return forward place scale lit named few frame.ScaleUnknown = scale
+frame_item v no_return forward place scale lit named few frame.OffScreen = lit
+frame_item v no_return forward place scale lit named few frame.NoEntry = named
+frame_item v no_return forward place scale lit named few frame.Budget = few
+
 labs_keeps : (why : FrameWhy) → FrameKeeps screen 20000 (seen_at (frame_context example_list) [] labs_item) why
-labs_keeps frame.Unmapped = tt
-labs_keeps frame.Odd = tt
-labs_keeps frame.ReturnInFrame = λ e. cc
-labs_keeps frame.BackJump = tt
-labs_keeps frame.BeamUnknown = tt
-labs_keeps frame.ScaleUnknown = tt
-labs_keeps frame.OffScreen = tt
-labs_keeps frame.NoEntry = tt
-labs_keeps frame.Budget = omega arith
+labs_keeps = frame_item (seen_at (frame_context example_list) [] labs_item) (λ e. cc) tt tt tt tt tt (omega arith)
 
 call_keeps : (why : FrameWhy) → FrameKeeps screen 20000 (seen_at (frame_context example_list) (labs_item ∷ []) call_item) why
-call_keeps frame.Unmapped = tt
-call_keeps frame.Odd = tt
-call_keeps frame.ReturnInFrame = λ e. cc
-call_keeps frame.BackJump = tt
-call_keeps frame.BeamUnknown = λ e. cc
-call_keeps frame.ScaleUnknown = tt
-call_keeps frame.OffScreen =
+call_keeps =
+    frame_item (seen_at (frame_context example_list) (labs_item ∷ []) call_item) (λ e. cc) tt (λ e. cc) tt
     (record { left = omega (arith, ints); right = omega (arith, ints); bottom = omega (arith, ints); top = omega (arith, ints) }, (record { left = omega (arith, ints); right = omega (arith, ints); bottom = omega (arith, ints); top = omega (arith, ints) }, tt))
-call_keeps frame.NoEntry = tt
-call_keeps frame.Budget = omega arith
+    tt (omega arith)
 
 halt_keeps : (why : FrameWhy) → FrameKeeps screen 20000 (seen_at (frame_context example_list) (call_item ∷ labs_item ∷ []) halt_item) why
-halt_keeps frame.Unmapped = tt
-halt_keeps frame.Odd = tt
-halt_keeps frame.ReturnInFrame = λ e. cc
-halt_keeps frame.BackJump = tt
-halt_keeps frame.BeamUnknown = tt
-halt_keeps frame.ScaleUnknown = tt
-halt_keeps frame.OffScreen = tt
-halt_keeps frame.NoEntry = tt
-halt_keeps frame.Budget = omega arith
+halt_keeps = frame_item (seen_at (frame_context example_list) (call_item ∷ labs_item ∷ []) halt_item) (λ e. cc) tt tt tt tt tt (omega arith)
 
 -- what stands at an item of the frame keeps what the item keeps
 frame_there : (earlier : List Item) (i : Item) → cell_at (frame_word example_frame) i.at ≡ Holds i.format i.instr → ((why : FrameWhy) → FrameKeeps screen 20000 (seen_at (frame_context example_list) earlier i) why) → (why : FrameWhy) → FramePlaceKeeps screen example_frame example_list 20000 earlier i.at why

@@ -71,11 +71,11 @@ module _ (kind : Kind) (word : ℕ → Option ℕ) (first : ℕ) (Why : Type 0) 
 -- ---- frames
 
 -- the rule of an order
-abbrev rule_of : ℕ → FrameWhy
+abbrev pub rule_of : ℕ → FrameWhy
 rule_of n =
     if n == 40 then frame.Unmapped else if n == 41 then frame.Odd else if n == 42 then frame.ReturnInFrame else if n == 43 then frame.BackJump else if n == 44 then frame.BeamUnknown else if n == 45 then frame.ScaleUnknown else if n == 46 then frame.OffScreen else if n == 47 then frame.NoEntry else frame.Budget
 
-rule_of-number : (why : FrameWhy) → rule_of (frame_number why) ≡ why
+pub rule_of-number : (why : FrameWhy) → rule_of (frame_number why) ≡ why
 rule_of-number frame.Unmapped = refl
 rule_of-number frame.Odd = refl
 rule_of-number frame.ReturnInFrame = refl
@@ -124,11 +124,11 @@ one_count w words list budget count depth count' depth' a b =
 -- ---- shapes
 
 -- the rule of a number
-abbrev shape_rule_of : ℕ → ShapeWhy
+abbrev pub shape_rule_of : ℕ → ShapeWhy
 shape_rule_of n =
     if n == 20 then shape.Unmapped else if n == 21 then shape.Odd else if n == 22 then shape.HaltInShape else if n == 23 then shape.BeamUnknown else if n == 24 then shape.ScaleUnknown else if n == 25 then shape.OffScreen else if n == 26 then shape.NoEntry else if n == 27 then shape.TooDeep else if n == 28 then shape.TooManyWords else if n == 29 then shape.EndDiffers else if n == 30 then shape.ScaleDiffers else if n == 31 then shape.BoxTooSmall else if n == 32 then shape.WordsDiffer else shape.DepthDiffers
 
-shape_rule_of-number : (why : ShapeWhy) → shape_rule_of (shape_number why) ≡ why
+pub shape_rule_of-number : (why : ShapeWhy) → shape_rule_of (shape_number why) ≡ why
 shape_rule_of-number shape.Unmapped = refl
 shape_rule_of-number shape.Odd = refl
 shape_rule_of-number shape.HaltInShape = refl

@@ -10,7 +10,7 @@ use Rattle.dvg_words.specs.declared.instruction.Format.{Format}
 use Rattle.dvg_words.specs.declared.instruction.Instr.{Instr}
 use Rattle.dvg_words.specs.declared.instruction.Instr.TheVariants.{Rtsl, Halt, Draw as Draws, Labs, Jsrl, Jmpl}
 use Rattle.dvg_cert.specs.declared.entry.Entry.{Entry}
-use Rattle.dvg_items.specs.Items.{place_after, LeadsTo}
+use Rattle.dvg_items.specs.Items.{address_after, LeadsTo}
 use Rattle.dvg_items.specs.Known.{known_before, frame_context}
 use Rattle.dvg_check.specs.Rules.{IsForward, AllKeep, FramePlaceKeeps, GoodFrame, FrameKeeps, CellKeeps}
 use Rattle.dvg_items.specs.Seen.{seen_at}
@@ -22,7 +22,7 @@ use Rattle.dvg_items.specs.declared.item.Kind.TheVariants.{Frame}
 use Rattle.dvg_items.specs.declared.known.Known.{Known}
 
 -- the last item of a frame is a halt
-last_halts : (at : ℕ) (format : Format) (instr : Instr) → place_after Frame at format instr ≡ None → (instr ≡ Rtsl → ⊥) → IsForward at instr → instr ≡ Halt
+last_halts : (at : ℕ) (format : Format) (instr : Instr) → address_after Frame at format instr ≡ None → (instr ≡ Rtsl → ⊥) → IsForward at instr → instr ≡ Halt
 last_halts at format (Draws d) e r f = cc
 last_halts at format (Labs x y g) e r f = cc
 last_halts at format Halt e r f = refl

@@ -1,5 +1,5 @@
 -- What the loop over items keeps, and what follows where it stops.
-use Rattle.std.proofs.Common.{arith, refl, Option, List, subst, sym, ap, ◌≡◌, ◌∷◌, ◌∙◌, ℕ, []}
+use Rattle.std.proofs.Common.{arith, refl, Option, List, subst, sym, ap, ◌≡◌, ◌≢◌, ◌∷◌, ◌∙◌, ℕ, []}
 use Rattle.dvg_words.specs.Decoding.{cell_at}
 use Rattle.dvg_words.specs.declared.instruction.Cell.{Cell}
 use Rattle.dvg_words.specs.declared.instruction.Cell.TheVariants.{Missing, Odd, Holds}
@@ -61,33 +61,25 @@ module _ (Why : Type 0) (order : Why → ℕ) (missing odd : Why) (Keeps : Seen 
         sound = sound;
       }
 
-  pub at_missing : (cursor : Cursor) → Walked context word first keeps cursor → cell_at word cursor.at ≡ Missing → FaultAt order kind word first keeps cursor.at missing
-  at_missing cursor k is =
+  -- a cell that holds no item breaks one rule alone
+  no_item : (cursor : Cursor) (cell : Cell) (why : Why) (k : Walked context word first keeps cursor) → cell_at word cursor.at ≡ cell
+      → (CellKept k.items cursor.at why cell → ⊥) → ((other : Why) → other ≢ why → CellKept k.items cursor.at other cell) → FaultAt order kind word first keeps cursor.at why
+  no_item cursor cell why k is breaks others =
       record {
         items = k.items;
         leads = k.leads;
         before = k.kept;
-        breaks = λ h. subst (CellKept k.items cursor.at missing) is h refl;
-        lowest = λ other lt. subst (CellKept k.items cursor.at other) (sym is) (λ e. let o : order other ≡ order missing = ap order e in omega (arith, o, lt));
-      }
-
-  pub at_odd : (cursor : Cursor) → Walked context word first keeps cursor → cell_at word cursor.at ≡ Odd → FaultAt order kind word first keeps cursor.at odd
-  at_odd cursor k is =
-      record {
-        items = k.items;
-        leads = k.leads;
-        before = k.kept;
-        breaks = λ h. subst (CellKept k.items cursor.at odd) is h refl;
-        lowest = λ other lt. subst (CellKept k.items cursor.at other) (sym is) (λ e. let o : order other ≡ order odd = ap order e in omega (arith, o, lt));
+        breaks = λ h. breaks (subst (CellKept k.items cursor.at why) is h);
+        lowest = λ other lt. subst (CellKept k.items cursor.at other) (sym is) (others other (λ e. let o : order other ≡ order why = ap order e in omega (arith, o, lt)));
       }
 
   pub found_missing : (cursor : Cursor) → Walked context word first keeps cursor → cell_at word cursor.at ≡ Missing → FaultFound order context word first keeps cursor.at missing cursor.known found.Missing
-  unfolding at_missing
-  found_missing cursor k is = record { fault = at_missing cursor k is; known = k.knows; stands = is }
+  unfolding no_item
+  found_missing cursor k is = record { fault = no_item cursor Missing missing k is (λ h. h refl) (λ other h. h); known = k.knows; stands = is }
 
   pub found_odd : (cursor : Cursor) → Walked context word first keeps cursor → cell_at word cursor.at ≡ Odd → FaultFound order context word first keeps cursor.at odd cursor.known found.Odd
-  unfolding at_odd
-  found_odd cursor k is = record { fault = at_odd cursor k is; known = k.knows; stands = is }
+  unfolding no_item
+  found_odd cursor k is = record { fault = no_item cursor Odd odd k is (λ h. h refl) (λ other h. h); known = k.knows; stands = is }
 
   -- an item, as the code sees it, by a list of entries that is this one, and as the rules do
   module _ (cursor : Cursor) (format : Format) (instr : Instr) (k : Walked context word first keeps cursor) (is : cell_at word cursor.at ≡ Holds format instr) where

@@ -25,7 +25,7 @@ use Rattle.dvg_cert.specs.declared.entry.Key.TheVariants.{Any, At}
 use Rattle.dvg_cert.specs.declared.entry.LitBox.{LitBox}
 use Rattle.dvg_cert.specs.declared.entry.LitBox.TheVariants.{Empty, Span}
 use Rattle.dvg_check.specs.Behaving.{box_at, PlaceFits, LitFits, ScaleFits, Stretch, Returned, Behaves}
-use Rattle.dvg_items.specs.Items.{place_after, LeadsTo}
+use Rattle.dvg_items.specs.Items.{address_after, LeadsTo}
 use Rattle.dvg_items.specs.Known.{place_moved_by, draw_effect, Context, place_before, scale_before, target, callee, stop_effect, callee_effect, callee_words, depth_under, scale_set, callee_at, place_past}
 use Rattle.dvg_check.specs.Laws.{IsDrawOrLabs, lit_on, word_of}
 use Rattle.dvg_items.specs.Lit.{InBox, LitInWindow, LitInBox, PlaceKnown, box_extent, draw_extent, ScaleKnown, callee_extent}
@@ -242,7 +242,7 @@ record Jumps (kind : Kind) (to p : ℕ) : Type 0 where
   frame : kind ≡ Frame
   there : to ≡ p
 
-jumps : (kind : Kind) (at : ℕ) (format : Format) (to p : ℕ) → place_after kind at format (Jmpl to) ≡ Some p → Jumps kind to p
+jumps : (kind : Kind) (at : ℕ) (format : Format) (to p : ℕ) → address_after kind at format (Jmpl to) ≡ Some p → Jumps kind to p
 jumps Shape at format to p e = cc
 jumps Frame at format to p e = by_test (nat_lt at to) e
   where
@@ -335,7 +335,7 @@ module _ (mode : Mode) (m : Memory) (w : Window) (box : LitBox) (base : Point) (
       )
 
   -- any item but the last
-  pub over_item : (c : Context) (first : ℕ) (earlier : List Item) (at : ℕ) (format : Format) (instr : Instr) (p : ℕ) (rs : List ℕ) (s : State) → IsMemory m → AllByRecursion Ok (places format at) → LeadsTo c.kind (word_of c.kind m) first earlier at → cell_at (word_of c.kind m) at ≡ Holds format instr → place_after c.kind at format instr ≡ Some p → Fits w c box earlier instr → length rs + depth_under instr (callee c earlier instr) ≤ 4 → ((f : Entry) → callee c earlier instr ≡ Some f → Behaves mode m w f) → Stands c base rs earlier at s → Onward c earlier (record { at = at; format = format; instr = instr }) p rs s
+  pub over_item : (c : Context) (first : ℕ) (earlier : List Item) (at : ℕ) (format : Format) (instr : Instr) (p : ℕ) (rs : List ℕ) (s : State) → IsMemory m → AllByRecursion Ok (places format at) → LeadsTo c.kind (word_of c.kind m) first earlier at → cell_at (word_of c.kind m) at ≡ Holds format instr → address_after c.kind at format instr ≡ Some p → Fits w c box earlier instr → length rs + depth_under instr (callee c earlier instr) ≤ 4 → ((f : Entry) → callee c earlier instr ≡ Some f → Behaves mode m w f) → Stands c base rs earlier at s → Onward c earlier (record { at = at; format = format; instr = instr }) p rs s
   over_item c first earlier at format (Draws d) p rs s mem own lead e goes fits le calls st = plain_onward c first earlier (record { at = at; format = format; instr = Draws d }) p rs s refl mem own lead e tt fits (cc) st
   over_item c first earlier at format (Labs x y g) p rs s mem own lead e goes fits le calls st = plain_onward c first earlier (record { at = at; format = format; instr = Labs x y g }) p rs s refl mem own lead e tt fits (cc) st
   over_item c first earlier at format Halt p rs s mem own lead e goes fits le calls st = cc

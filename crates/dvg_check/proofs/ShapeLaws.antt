@@ -16,7 +16,7 @@ use Rattle.dvg_words.specs.declared.instruction.Instr.TheVariants.{Rtsl, Jmpl, D
 use Rattle.dvg_cert.specs.declared.entry.Entry.{Entry}
 use Rattle.dvg_cert.specs.declared.entry.LitBox.{LitBox}
 use Rattle.dvg_check.specs.Behaving.{Behaves, Stretch, LitFits, Counts, PlaceFits, ScaleFits, Returned}
-use Rattle.dvg_items.specs.Items.{LeadsTo, place_after, next_place}
+use Rattle.dvg_items.specs.Items.{LeadsTo, address_after, next_place}
 use Rattle.dvg_items.specs.Known.{Context, callee, depth_before, words_before, shape_context, target, scale_before, callee_words, depth_under, place_before, scale_set}
 use Rattle.dvg_check.specs.Laws.{word_of, OneShape, AllShapes}
 use Rattle.dvg_check.specs.Rules.{GoodShape, CellKeeps, ShapeKeeps, AtLast, Good}
@@ -121,7 +121,7 @@ module _ (mode : Mode) (m : Memory) (w : Window) (list : List Entry) (e : Entry)
     instr : Instr
     lead : LeadsTo Shape (rom_word m.rom) e.addr items at
     is : cell_at (rom_word m.rom) at ≡ Holds format instr
-    last : place_after Shape at format instr ≡ None
+    last : address_after Shape at format instr ≡ None
 
   -- what stands after these items
   here : (items : List Item) (p : ℕ) → LeadsTo Shape (rom_word m.rom) e.addr items p → (format : Format) × (instr : Instr) × (cell_at (rom_word m.rom) p ≡ Holds format instr)
@@ -216,7 +216,7 @@ module _ (mode : Mode) (m : Memory) (w : Window) (list : List Entry) (e : Entry)
         },
       )
 
-  finish : (s0 : State) (back : ℕ) (rest : List ℕ) (s : State) (items : List Item) (at : ℕ) (format : Format) (instr : Instr) → LeadsTo Shape (rom_word m.rom) e.addr items at → cell_at (rom_word m.rom) at ≡ Holds format instr → place_after Shape at format instr ≡ None → s0.return_stack ≡ back ∷ rest → length s0.return_stack + e.depth ≤ 4 → ((f : Entry) → Contains list f → f.words < e.words → Behaves mode m w f) → Stretch mode m (InRom m.rom.map) (LitFits w e.lit s0.place) (words_before context items) (length s0.return_stack + depth_before context items) s0 s → Stands context s0.place (back ∷ rest) items at s → Totals (record { at = at; format = format; instr = instr }) items → (t : State) × Returned mode m w e back rest s0 t
+  finish : (s0 : State) (back : ℕ) (rest : List ℕ) (s : State) (items : List Item) (at : ℕ) (format : Format) (instr : Instr) → LeadsTo Shape (rom_word m.rom) e.addr items at → cell_at (rom_word m.rom) at ≡ Holds format instr → address_after Shape at format instr ≡ None → s0.return_stack ≡ back ∷ rest → length s0.return_stack + e.depth ≤ 4 → ((f : Entry) → Contains list f → f.words < e.words → Behaves mode m w f) → Stretch mode m (InRom m.rom.map) (LitFits w e.lit s0.place) (words_before context items) (length s0.return_stack + depth_before context items) s0 s → Stands context s0.place (back ∷ rest) items at s → Totals (record { at = at; format = format; instr = instr }) items → (t : State) × Returned mode m w e back rest s0 t
   finish s0 back rest s items at format (Draws d) lead is last rs four smaller stretch st totals = cc
   finish s0 back rest s items at format (Labs x y g) lead is last rs four smaller stretch st totals = cc
   finish s0 back rest s items at format Halt lead is last rs four smaller stretch st totals = absurd (rule items (record { at = at; format = format; instr = Halt }) lead is shape.HaltInShape refl)

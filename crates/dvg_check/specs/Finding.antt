@@ -17,7 +17,7 @@ pub use Rattle.dvg_check.specs.declared.fault.Found.TheVariants.{Missing, Odd, S
 pub use Rattle.dvg_check.specs.declared.fault.FrameFinding.{FrameFinding}
 pub use Rattle.dvg_check.specs.declared.fault.ShapeFinding.{ShapeFinding}
 
--- what stands at a place after these items, as the rules see it
+-- what is found at a word address after these items: no word, an odd LABS, or an item as the rules see it
 abbrev pub IsFound : Context → (ℕ → Option ℕ) → List Item → ℕ → Found → Type 0
 IsFound c word items at Missing = cell_at word at ≡ cell.Missing
 IsFound c word items at Odd = cell_at word at ≡ cell.Odd
@@ -31,19 +31,19 @@ pub record FaultFound {Why : Type 0} (order : Why → ℕ) (c : Context) (word :
   pub known : before ≡ known_before c fault.items
   pub stands : IsFound c word fault.items at found
 
--- those of a frame
+-- the first fault of a frame, with what is known and stands there
 abbrev pub FirstFrameFound : Window → List ℕ → List Entry → ℕ → FrameFinding → Type 0
 FirstFrameFound w words list budget f =
     FaultFound frame_number (frame_context list) (frame_word words) 0 (FramePlaceKeeps w words list budget)
     f.fault.word f.fault.why f.before f.found
 
--- those of an entry's shape
+-- the first fault of an entry's shape, with what is known and stands there
 abbrev pub ShapeFaultFound : Mode → Window → Rom → List Entry → Entry → ShapeFinding → Type 0
 ShapeFaultFound mode w rom list e f =
     FaultFound shape_number (shape_context list e) (rom_word rom) e.addr (ShapePlaceKeeps mode w rom list e)
     f.fault.word f.fault.why f.before f.found
 
--- those of a certificate, and the entry whose shape it is
+-- the first fault of a certificate, the entry whose shape it is, and what is known and stands there
 pub record FirstShapeFound (mode : Mode) (w : Window) (rom : Rom) (list : List Entry) (f : ShapeFinding) : Type 0 where
   pub first : FirstShapeFault mode w rom list f.fault
   pub entry : f.entry ≡ first.entry

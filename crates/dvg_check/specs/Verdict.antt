@@ -28,13 +28,13 @@ pub record InRange (frame : List ℕ) (budget : ℕ) : Type 0 where
   pub frame_length : IsFrameLength (length frame)
   pub budget_range : IsBudget budget
 
--- they are not: the first that applies of 2 and 49
+-- one of them is out of range: the first that applies of 2 and 49
 abbrev pub RangeRefusal : List ℕ → ℕ → Refusal → Type 0
 RangeRefusal frame budget (refusal.Image FrameLength) = IsFrameLength (length frame) → ⊥
 RangeRefusal frame budget refusal.BudgetRange = IsFrameLength (length frame) × (IsBudget budget → ⊥)
 RangeRefusal frame budget r = ⊥
 
--- what the shapes of a list and a frame come to, or that there was no memory for the index
+-- the verdict on the shapes of a list and on a frame, or no memory for the index
 abbrev pub PartsVerdict : Mode → Window → Rom → List Entry → List ℕ → ℕ → Result Yes Refusal → Type 0
 PartsVerdict mode w rom list words budget (Ok y) =
     Good mode w rom list × GoodFrame w words list budget y.words y.depth × (y.shapes ≡ length list)
@@ -43,13 +43,13 @@ PartsVerdict mode w rom list words budget (Err (refusal.Frame f)) = Good mode w 
 PartsVerdict mode w rom list words budget (Err refusal.IndexMemory) = Unit {0}
 PartsVerdict mode w rom list words budget (Err r) = ⊥
 
--- what a ROM's bytes and a frame come to by a certificate: 1 where the ROM's length is not that of the certificate's map
+-- the verdict on a ROM's bytes and a frame by a certificate: 1 where the certificate's map wants another length
 abbrev pub RomVerdict : Mode → Window → List ℕ → Certificate → List ℕ → ℕ → Result Yes Refusal → Type 0
 RomVerdict mode w rom c words budget (Err (refusal.Image RomLength)) = IsRomLength c.map (length rom) → ⊥
 RomVerdict mode w rom c words budget answer =
     IsRomLength c.map (length rom) × PartsVerdict mode w (rom_of c.map rom) c.entries words budget answer
 
--- the certificate that is spelled, and what the ROM and the frame come to by it
+-- the certificate that the text spells, and the verdict on the ROM and the frame by it
 pub record CertVerdict (mode : Mode) (w : Window) (rom cert frame : List ℕ) (budget : ℕ) (answer : Result Yes Refusal) : Type 0 where
   pub in_range : InRange frame budget
   pub certificate : Certificate

@@ -62,7 +62,7 @@ pub enum ShapeWhy {
 }
 
 impl ShapeWhy {
-    /// The number of the rule, as a report has it.
+    /// The number of the rule, 20 to 33.
     pub fn number(self) -> u8
         ensures { result ≡ shape_number self }
     {
@@ -118,7 +118,7 @@ pub enum FrameWhy {
 }
 
 impl FrameWhy {
-    /// The number of the rule, as a report has it.
+    /// The number of the rule, 40 to 48.
     pub fn number(self) -> u8
         ensures { result ≡ frame_number self }
     {
@@ -137,7 +137,7 @@ impl FrameWhy {
 }
 
 /// What stands at a word address: nothing, an odd LABS, or an item, as the rules see it.
-#[derive(Clone, Copy, Debug, PartialEq, Eq)]
+#[derive(Clone, Copy)]
 pub enum Found {
     Missing,
     Odd,
@@ -146,7 +146,7 @@ pub enum Found {
 
 /// The first item that breaks a rule, by its word address, the lowest rule that it breaks, what is known before it, and what
 /// stands there.
-#[derive(Clone, Copy, Debug, PartialEq, Eq)]
+#[derive(Clone, Copy)]
 pub struct Fault<Why> {
     pub at: u16,
     pub why: Why,
@@ -193,7 +193,7 @@ impl FrameFault {
 
 /// A frame's first fault, what is known before the item that breaks a rule (place, scale, words and depth so far), and what
 /// stands there.
-#[derive(Clone, Copy, Debug, PartialEq, Eq)]
+#[derive(Clone, Copy)]
 pub struct FrameFinding {
     pub fault: FrameFault,
     pub before: Known,
@@ -202,7 +202,7 @@ pub struct FrameFinding {
 
 /// The first fault of a certificate's shapes, the entry whose shape it is, what is known before the item that breaks a rule
 /// (place, scale, words and depth so far), and what stands there.
-#[derive(Clone, Copy, Debug, PartialEq, Eq)]
+#[derive(Clone, Copy)]
 pub struct ShapeFinding {
     pub fault: ShapeFault,
     pub entry: Entry,

@@ -25,6 +25,7 @@ pub struct FrameRules {
     pub window: Window,
 }
 
+/// Whether an item is no jump to its own address or a lower one.
 fn is_forward(item: &Item) -> bool
     ensures { IsTrue result ↔ IsForward item.now.at item.now.instr }
 {
@@ -104,7 +105,7 @@ impl Rules for FrameRules {
     }
 }
 
-/// What an accepted frame comes to: its words, and how many return places it needs.
+/// The counts of an accepted frame: the words that it fetches at most, and the return places that it stores at once at most.
 #[derive(Clone, Copy, Debug, PartialEq, Eq)]
 pub struct Accepted {
     pub words: u32,
@@ -144,24 +145,6 @@ pub fn find_frame_fault<E: Entries>(
     }
 }
 
-/// Judges a frame by entries: its words and its depth where it keeps all rules, else its first fault.
-pub fn judge_frame<E: Entries>(
-    frame: &FrameImage,
-    entries: &E,
-    budget: u32,
-    window: &Window,
-) -> Result<Accepted, FrameFault>
-    requires entries { IsSomeCertificate (E.list entries.now) }
-    requires budget { budget ≤ MOST_WORDS }
-    ensures ok { IfOk result (λ yes. GoodFrame window.now frame.now (E.list entries.now) budget yes.words yes.depth) }
-    ensures err { IfErr result (FirstFrameFault window.now frame.now (E.list entries.now) budget) }
-{
-    match find_frame_fault(frame, entries, budget, window) {
-        Ok(accepted) => Ok(accepted),
-        Err(finding) => Err(finding.fault),
-    }
-}
-
 /// Judges a frame by the entries of a certificate: its words and its depth where it keeps all rules, else its first fault.
 ///
 /// `entries` are those of the certificate. `budget` is how many words the frame may take at most, up to 1,000,000. The
@@ -184,5 +167,8 @@ pub fn check_frame<E: Entries>(
     let _map = rom.map();
     // Its clause says that the list is that of a certificate.
     let _entries = cert.entries();
-    judge_frame(frame, entries, budget, window)
+    match find_frame_fault(frame, entries, budget, window) {
+        Ok(accepted) => Ok(accepted),
+        Err(finding) => Err(finding.fault),
+    }
 }

@@ -1,4 +1,4 @@
-//! Keys, their numbers, and sets of them.
+//! The numbers of keys, and sets of keys.
 
 ghost use Rattle.std.specs.Prelude.{◌≡◌, ◌<◌};
 ghost use Rattle.dvg_cert.specs.Entry.{IsKey};
@@ -9,10 +9,11 @@ use dvg_cert::Key;
 /// How many keys there are: the sixteen global scales, and `Any`.
 pub const KEYS: u8 = 17;
 
-/// How many tails a pass over a ROM keeps: one for each key, at three places that stand one after another.
+/// How many tails a pass over a ROM keeps: one for each key at three words in a row. The tail behind an item stands one or two words
+/// further on.
 pub const SLOTS: usize = 3 * KEYS as usize;
 
-/// Where the tail at a word address and a key is kept, of [`SLOTS`] places.
+/// The slot of the tail at a word address and a key, below [`SLOTS`].
 pub fn slot_of(at: u16, key: Key) -> usize
     requires { IsKey key }
     ensures { result < 51 }
@@ -20,7 +21,7 @@ pub fn slot_of(at: u16, key: Key) -> usize
     usize::from(at % 3) * usize::from(KEYS) + usize::from(key_index(key))
 }
 
-/// The number of a key among all, from 0 on.
+/// The number of a key, 0 to 16: its global scale, or 16 for `Any`.
 pub fn key_index(key: Key) -> u8
     requires { IsKey key }
     ensures value { result ≡ key_number key }
@@ -32,7 +33,7 @@ pub fn key_index(key: Key) -> u8
     }
 }
 
-/// The key of a number.
+/// The key with a number of 0 to 16.
 pub fn key_of(index: u8) -> Key
     requires { index < 17 }
     ensures key { IsKey result }
@@ -45,18 +46,18 @@ pub fn key_of(index: u8) -> Key
     }
 }
 
-/// Some of the keys.
-#[derive(Clone, Copy, Debug, PartialEq, Eq)]
+/// A set of keys.
+#[derive(Clone, Copy)]
 pub struct Keys {
     /// The bit of each key's number.
     bits: u32,
 }
 
 impl Keys {
-    /// No key.
+    /// The empty set.
     pub const NONE: Keys = Keys { bits: 0 };
 
-    /// One key alone.
+    /// The set of one key.
     pub fn one(key: Key) -> Keys
         requires { IsKey key }
     {
@@ -65,31 +66,31 @@ impl Keys {
         }
     }
 
-    /// These keys and others.
+    /// The keys of both sets.
     pub fn with(self, others: Keys) -> Keys {
         Keys {
             bits: self.bits | others.bits,
         }
     }
 
-    /// Whether none is among them.
+    /// Whether the set is empty.
     pub fn is_empty(self) -> bool {
         self.bits == 0
     }
 
-    /// The number of the first of them, or one that is no key's.
+    /// The lowest number of a key in the set, 32 in the empty set.
     pub fn first(self) -> u8 {
         self.bits.trailing_zeros() as u8
     }
 
-    /// Whether none of them has this number or a greater one.
+    /// Whether no key in the set has this number or a greater one.
     pub fn has_none_from(self, index: u8) -> bool
         requires { index < 17 }
     {
         self.bits >> index == 0
     }
 
-    /// Whether the key of a number is among them.
+    /// Whether the key with this number is in the set.
     pub fn has(self, index: u8) -> bool
         requires { index < 17 }
     {

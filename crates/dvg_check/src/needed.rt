@@ -10,7 +10,7 @@ use dvg_cert::{Entries, Entry, Key};
 use dvg_items::{Item, Kind, callee};
 use dvg_words::{Cell, Instr, MOST_ROM_WORDS, RomImage, read_cell};
 
-/// The keys that an entry's shapes leave behind, called at these.
+/// The known scales past a call of a word address, where the known scales before it are these.
 fn keys_left<E: Entries>(entries: &E, to: u16, keys: Keys) -> Keys
     requires { IsSomeCertificate (E.list entries.now) }
 {
@@ -28,7 +28,7 @@ fn keys_left<E: Entries>(entries: &E, to: u16, keys: Keys) -> Keys
     left
 }
 
-/// The keys at which the tail behind an instruction is needed, where its own is at these.
+/// The keys at which the tail behind an instruction is needed, where the tail from the instruction on is needed at these.
 fn keys_behind<E: Entries>(entries: &E, instr: &Instr, keys: Keys) -> Keys
     requires entries { IsSomeCertificate (E.list entries.now) }
     requires fields { InstrFits instr.now }
@@ -40,9 +40,8 @@ fn keys_behind<E: Entries>(entries: &E, instr: &Instr, keys: Keys) -> Keys
     }
 }
 
-/// The keys at which tails are needed, for each word of a ROM: for a pass from the ROM's last word to its first one, which makes at
-/// each word address the tails of what stands there. Nothing rests on it: where a tail isn't made, what needs it is gone over item by
-/// item.
+/// The keys at which tails are needed, at each word of a ROM. A pass from the ROM's last word to its first makes these tails alone. No
+/// verdict depends on it: a shape whose tail was not made is judged item by item.
 #[derive(Drop)]
 pub struct Needed {
     /// The word address of the ROM's first word.
@@ -54,8 +53,8 @@ pub struct Needed {
 }
 
 impl Needed {
-    /// Which tails the entries of a list need: those at their own addresses and keys, and what these need, one after another.
-    pub fn by<E: Entries>(rom: &RomImage, entries: &E, list: &[Entry]) -> Needed
+    /// The tails that the entries of a list need: those at the entries' own addresses and keys, and the tails behind these.
+    pub fn for_entries<E: Entries>(rom: &RomImage, entries: &E, list: &[Entry]) -> Needed
         requires entries { IsSomeCertificate (E.list entries.now) }
         requires list { IsSomeCertificate list.now }
     {
@@ -66,13 +65,13 @@ impl Needed {
             end: first,
         };
         for entry in list {
-            needed.need(entry.addr, Keys::one(entry.key));
+            needed.add(entry.addr, Keys::one(entry.key));
         }
         for at in first..last + 1 {
             if needed.end <= at {
                 break;
             }
-            needed.need_behind(rom, entries, at);
+            needed.add_behind(rom, entries, at);
         }
         needed
     }
@@ -87,8 +86,8 @@ impl Needed {
         }
     }
 
-    /// Needs more keys at a word address.
-    fn need(&mut self, at: u16, more: Keys) {
+    /// Adds keys at a word address; at an address outside the ROM it adds none.
+    fn add(&mut self, at: u16, more: Keys) {
         let index = at.wrapping_sub(self.first);
         if let Some(keys) = self.keys.get_mut(usize::from(index)) {
             *keys = keys.with(more);
@@ -96,8 +95,8 @@ impl Needed {
         }
     }
 
-    /// Needs what the tails that are needed at a word address need behind them.
-    fn need_behind<E: Entries>(&mut self, rom: &RomImage, entries: &E, at: u16)
+    /// Adds the keys behind a word address: those at which the tails that are needed here need the tail behind them.
+    fn add_behind<E: Entries>(&mut self, rom: &RomImage, entries: &E, at: u16)
         requires entries { IsSomeCertificate (E.list entries.now) }
         requires near { at < ADDRESS_END }
     {
@@ -110,7 +109,7 @@ impl Needed {
         };
         let item = Item { at, format, instr };
         if let Some(next) = item.next_place(Kind::Shape) {
-            self.need(next, keys_behind(entries, &instr, keys));
+            self.add(next, keys_behind(entries, &instr, keys));
         }
     }
 }

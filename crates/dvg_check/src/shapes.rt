@@ -20,13 +20,13 @@ use crate::tails::first_doubtful;
 use crate::walk::walk;
 use dvg_cert::{Cert, Entries, Entry, Key};
 use dvg_items::{
-    Kind, Seen, depth_under, has_callee, lit_in_box, lit_in_window, place_known, scale_known,
+    Item, Kind, Seen, depth_under, has_callee, lit_in_box, lit_in_window, place_known, scale_known,
     target,
 };
 use dvg_words::{Instr, RomImage, Window};
 
-/// What is asked of a shape: what its entry claims, whether the claimed counts are bounds or exact, and in which window it
-/// may light.
+/// What a shape is judged by: what its entry claims, whether the claimed counts are bounds or exact, and the window in which it may
+/// light.
 #[derive(Drop)]
 pub struct ShapeRules {
     pub entry: Entry,
@@ -34,7 +34,7 @@ pub struct ShapeRules {
     pub window: Window,
 }
 
-/// Whether, at the last item, the place after it is the claimed one.
+/// Whether the place after a shape's last item is the claimed one; true of each item before the last.
 fn ends_there(entry: &Entry, seen: &Seen) -> bool
     requires { seen.now.item.at < ADDRESS_END }
     ensures { IsTrue result ↔ AtLast (next_place Shape seen.now.item) (seen.now.after.place ≡ entry.now.stop) }
@@ -42,7 +42,7 @@ fn ends_there(entry: &Entry, seen: &Seen) -> bool
     seen.item.next_place(Kind::Shape).is_some() || seen.after.place == entry.stop
 }
 
-/// Whether, at the last item, the scale after it is the claimed one.
+/// Whether the scale after a shape's last item is the claimed one; true of each item before the last.
 fn leaves_scale(entry: &Entry, seen: &Seen) -> bool
     requires { seen.now.item.at < ADDRESS_END }
     ensures { IsTrue result ↔ AtLast (next_place Shape seen.now.item) (seen.now.after.scale ≡ entry.now.scale) }
@@ -50,24 +50,12 @@ fn leaves_scale(entry: &Entry, seen: &Seen) -> bool
     seen.item.next_place(Kind::Shape).is_some() || seen.after.scale == entry.scale
 }
 
-/// Whether, at the last item, the words are as many as claimed, where claims are exact.
-fn words_as_claimed(mode: Mode, entry: &Entry, seen: &Seen) -> bool
-    requires { seen.now.item.at < ADDRESS_END }
-    ensures { IsTrue result ↔ AtLast (next_place Shape seen.now.item) (AsClaimed mode seen.now.after.words entry.now.words) }
+/// Whether a count after a shape's last item is as claimed, where claims are exact; true of each item before the last.
+fn is_as_claimed(mode: Mode, item: &Item, count: u32, claimed: u32) -> bool
+    requires { item.now.at < ADDRESS_END }
+    ensures { IsTrue result ↔ AtLast (next_place Shape item.now) (AsClaimed mode count claimed) }
 {
-    mode == Mode::Bound
-        || seen.item.next_place(Kind::Shape).is_some()
-        || seen.after.words == entry.words
-}
-
-/// Whether, at the last item, the depth is as claimed, where claims are exact.
-fn depth_as_claimed(mode: Mode, entry: &Entry, seen: &Seen) -> bool
-    requires { seen.now.item.at < ADDRESS_END }
-    ensures { IsTrue result ↔ AtLast (next_place Shape seen.now.item) (AsClaimed mode seen.now.after.depth entry.now.depth) }
-{
-    mode == Mode::Bound
-        || seen.item.next_place(Kind::Shape).is_some()
-        || seen.after.depth == entry.depth
+    mode == Mode::Bound || item.next_place(Kind::Shape).is_some() || count == claimed
 }
 
 /// The first rule that an item of a shape breaks.
@@ -106,10 +94,15 @@ fn first_broken(mode: Mode, window: &Window, entry: &Entry, seen: &Seen) -> Opti
     if !lit_in_box(&entry.lit, &seen.extent, &seen.place) {
         return Some(ShapeWhy::BoxTooSmall);
     }
-    if !words_as_claimed(mode, entry, seen) {
+    if !is_as_claimed(mode, &seen.item, seen.after.words, entry.words) {
         return Some(ShapeWhy::WordsDiffer);
     }
-    if !depth_as_claimed(mode, entry, seen) {
+    if !is_as_claimed(
+        mode,
+        &seen.item,
+        u32::from(seen.after.depth),
+        u32::from(entry.depth),
+    ) {
         return Some(ShapeWhy::DepthDiffers);
     }
     None

@@ -1,9 +1,9 @@
-//! Tails: what the shape from a place on comes to, made of an item and the tail behind it.
+//! Tails of shapes, each made of one item and the tail behind that item.
 //!
-//! What a shape does from a place on depends on that place and the scale alone. So a tail is an entry: the one that would be
-//! claimed, exactly, for the shape that starts there.
+//! A tail is the part of a shape from a word of the ROM on. What it does depends on this word and on the known scale there alone. So
+//! a tail is told as an entry: the one that claims exactly what a shape does that starts at this word.
 
-ghost use Rattle.std.specs.Prelude.{◌≡◌, ◌+◌, ◌<◌, ◌≤◌, ◌≤ℤ◌, ◌↔◌, ℕ, pos, IfSome, IsTrue};
+ghost use Rattle.std.specs.Prelude.{◌≡◌, ◌+◌, ◌<◌, ◌≤◌, ℕ, pos, IfSome, IsTrue};
 ghost use Rattle.dvg_words.specs.Decoding.{InstrFits, cell_at};
 ghost use Rattle.dvg_words.specs.Memory.{Rom, rom_word};
 ghost use Rattle.dvg_words.specs.declared.instruction.Cell.TheVariants.{Holds};
@@ -20,10 +20,11 @@ ghost use Rattle.dvg_check.specs.Private.Tails.{ClaimsLess, known_at_end, claime
 
 use crate::fault::Mode;
 use dvg_cert::{End, Entries, Entry, Key, LitBox};
-use dvg_items::{Cursor, Item, Kind, LitExtent, callee, joined, spanning};
+use dvg_items::{Cursor, Item, Kind, LitExtent, box_corners, callee, is_in_box, joined, spanning};
 use dvg_words::{Instr, Point, Window, in_window, shift};
 
-/// Where a shape ends, seen from the item before it, past which is this place.
+/// The place at the end of a tail, seen from the start of the item before it: `place` is the place past this item, and `stop` the
+/// end of the tail, seen from its own start.
 fn stop_over(place: &End, stop: &End) -> End
     requires place { IsNearPlace 1 place.now }
     requires stop { IsNearPlace (ADDRESS_END + 2) stop.now }
@@ -55,28 +56,10 @@ pub fn moved(lit: &LitBox, by: &Point) -> LitBox
     requires by { IsNear 1 by.now }
     ensures { result ≡ moved lit.now by.now }
 {
-    match lit {
-        LitBox::Empty => LitBox::Empty,
-        LitBox::Span {
-            x_min,
-            x_max,
-            y_min,
-            y_max,
-        } => {
-            let low = shift(
-                &Point {
-                    x: *x_min,
-                    y: *y_min,
-                },
-                by,
-            );
-            let high = shift(
-                &Point {
-                    x: *x_max,
-                    y: *y_max,
-                },
-                by,
-            );
+    match box_corners(lit) {
+        None => LitBox::Empty,
+        Some((low, high)) => {
+            let (low, high) = (shift(&low, by), shift(&high, by));
             LitBox::Span {
                 x_min: low.x,
                 x_max: high.x,
@@ -91,19 +74,17 @@ pub fn moved(lit: &LitBox, by: &Point) -> LitBox
 fn is_in_window(window: &Window, lit: &LitBox) -> bool
     ensures { IsTrue result → BoxInWindow window.now lit.now }
 {
-    match lit {
-        LitBox::Empty => true,
-        LitBox::Span {
-            x_min,
-            x_max,
-            y_min,
-            y_max,
-        } => in_window(window, *x_min, *y_min) && in_window(window, *x_max, *y_max),
+    match box_corners(lit) {
+        None => true,
+        Some((low, high)) => {
+            in_window(window, low.x, low.y) && in_window(window, high.x, high.y)
+        }
     }
 }
 
-/// The part that a shape has in the box of what is lit from the item before it on, past which is this place: `None` where
-/// it may not light there what it does.
+/// The box that a tail lights at relative places, seen from the start of the item before it: `place` is the place past this item, and
+/// `lit` the tail's box, seen from its own start. `None` where a tail with this box may not be lit at this place: the place is lost,
+/// or it is absolute and the box leaves the window.
 fn lit_over(window: &Window, place: &End, lit: &LitBox) -> Option<LitBox>
     requires place { IsNearPlace 1 place.now }
     requires lit { IsNearBox (ADDRESS_END + 2) lit.now }
@@ -124,7 +105,8 @@ fn lit_over(window: &Window, place: &End, lit: &LitBox) -> Option<LitBox>
     }
 }
 
-/// An item, told as an entry, and the tail behind it: `None` where the tail may not light there what it does.
+/// The tail from an item on, made of this item, told as an entry, and the tail behind it. `None` where the tail behind it may not be
+/// lit past the item.
 pub fn after_item(window: &Window, item: &Entry, tail: &Entry) -> Option<Entry>
     requires item { IsSmall 1 item.now }
     requires tail { IsSmall (ADDRESS_END + 2) tail.now }
@@ -146,7 +128,7 @@ pub fn after_item(window: &Window, item: &Entry, tail: &Entry) -> Option<Entry>
     })
 }
 
-/// What is lit as a box, seen from the place before it: `None` where the scale is unknown.
+/// The box of what an item lights, seen from the place before it. `None` where its scale is unknown.
 fn box_of(extent: &LitExtent) -> Option<LitBox>
     requires { IsNearExtent extent.now }
     ensures scale { IfSome result (λ lit. ScaleKnown extent.now) }
@@ -160,7 +142,8 @@ fn box_of(extent: &LitExtent) -> Option<LitBox>
     }
 }
 
-/// An item at the start of a shape at a key, told as the entry of it alone: `None` where it may not stand there.
+/// An item at a key, told as the entry of a shape that has this item alone. `None` where no shape may have it: it is HALT, it calls
+/// an address where no entry is named, or it lights at unknown scale.
 pub fn last_item<E: Entries>(entries: &E, item: &Item, key: Key) -> Option<Entry>
     requires entries { IsSomeCertificate (E.list entries.now) }
     requires key { IsKey key }
@@ -183,7 +166,8 @@ pub fn last_item<E: Entries>(entries: &E, item: &Item, key: Key) -> Option<Entry
     }
 }
 
-/// The same of an item that calls this entry: `None` where it lights at unknown scale.
+/// An item at a key that calls this entry, or calls none, told as the entry of a shape that has this item alone. `None` where it lights
+/// at unknown scale.
 #[inline(always)]
 fn item_calling(item: &Item, key: Key, callee: Option<Entry>) -> Option<Entry>
     requires key { IsKey key }
@@ -209,39 +193,18 @@ fn item_calling(item: &Item, key: Key, callee: Option<Entry>) -> Option<Entry>
     })
 }
 
-/// Whether the one range is a part of the other.
-fn is_range_inside(low: &i64, high: &i64, from: &i64, to: &i64) -> bool
-    ensures { IsTrue result ↔ (from.now ≤ℤ low.now) × (high.now ≤ℤ to.now) }
-{
-    from <= low && high <= to
-}
-
 /// Whether the one box is a part of the other.
 fn is_inside(part: &LitBox, whole: &LitBox) -> bool
     ensures { IsTrue result → IsInside part.now whole.now }
 {
-    match (part, whole) {
-        (LitBox::Empty, _) => true,
-        (_, LitBox::Empty) => false,
-        (
-            LitBox::Span {
-                x_min,
-                x_max,
-                y_min,
-                y_max,
-            },
-            LitBox::Span {
-                x_min: left,
-                x_max: right,
-                y_min: bottom,
-                y_max: top,
-            },
-        ) => is_range_inside(x_min, x_max, left, right)
-            && is_range_inside(y_min, y_max, bottom, top),
+    match box_corners(part) {
+        None => true,
+        Some((low, high)) => is_in_box(whole, &low) && is_in_box(whole, &high),
     }
 }
 
-/// Whether an entry claims no more than the tail at its address and key does.
+/// Whether the tail at an entry's address and key bears out the entry: the end and the scale are the same, the entry's box holds the
+/// tail's, and its counts are no smaller, in the mode `Exact` the same.
 pub fn claims_less(mode: Mode, entry: &Entry, tail: &Entry) -> bool
     requires addr { entry.now.addr ≡ tail.now.addr }
     requires key { entry.now.key ≡ tail.now.key }

@@ -1,4 +1,4 @@
-//! The pass of tails, from the ROM's last word up to the first entry: which entries it shows to be good.
+//! The pass over a ROM that makes tails, from its last word back to the first entry, and compares the entries with them.
 
 ghost use Rattle.std.specs.Prelude.{◌≡◌, ◌<◌, ◌≤◌, IfSome, IsTrue, List, length, take};
 ghost use Rattle.std.specs.List.{AllByRecursion};
@@ -21,14 +21,14 @@ use dvg_cert::{Entries, Entry, Key};
 use dvg_items::{Item, Kind};
 use dvg_words::{Cell, RomImage, Window, read_cell};
 
-/// The tails that were made last. Each tells its own address and key, so one that is left from a further place is not taken
-/// for that of a nearer one.
+/// The tails that were made last, each in the slot of its address and key. A slot may still hold the tail of a later word, so each
+/// tail has its own address and key to compare.
 #[derive(Drop)]
 pub struct Tails {
     pub slots: [Option<Entry>; SLOTS],
 }
 
-/// The tail at an address and a key, if it was made.
+/// The tail at a word address and a key, if it was made.
 fn tail_kept<'a>(tails: &'a Tails, at: u16, key: Key) -> Option<&'a Entry>
     requires { IsKey key }
     ensures addr { IfSome result (λ tail. tail.now.addr ≡ at) }
@@ -44,7 +44,8 @@ fn tail_kept<'a>(tails: &'a Tails, at: u16, key: Key) -> Option<&'a Entry>
     }
 }
 
-/// The tail that begins with an item at a key. The ROM, in which the item stands, serves the contract alone.
+/// The tail from an item on, at a key. `None` where the tail behind it was not made, or the item may not stand there. The ROM, in
+/// which the item stands, serves the contract alone.
 fn tail_at<E: Entries>(
     window: &Window,
     rom: &RomImage,
@@ -68,7 +69,7 @@ fn tail_at<E: Entries>(
     }
 }
 
-/// Keeps a tail, in the place of the one that was kept where it belongs.
+/// Puts a tail into its slot.
 fn keep(tails: &mut Tails, tail: Entry)
     requires { IsKey tail.key }
     ensures { (w : Window) (rom : Rom) (list : List Entry) → AreTails w rom list tails.old.slots → IsTail w rom list tail →
@@ -77,7 +78,7 @@ fn keep(tails: &mut Tails, tail: Entry)
     tails.slots[slot_of(tail.addr, tail.key)] = Some(tail);
 }
 
-/// Makes the tails at a place, at these keys, those at the places behind it being made.
+/// Makes the tails at a word address, at these keys. Those at later words were made before.
 fn make_tails<E: Entries>(
     window: &Window,
     rom: &RomImage,
@@ -120,7 +121,7 @@ fn shows(mode: Mode, tails: &Tails, entry: &Entry) -> bool
     }
 }
 
-/// Makes the tails at each place from the last one of a range up to the first, at the keys that are needed.
+/// Makes the tails that are needed at the word addresses from `from` on and below `to`, the last word first.
 fn make_all<E: Entries>(
     window: &Window,
     rom: &RomImage,
@@ -158,7 +159,7 @@ pub fn first_doubtful<E: Entries>(
     ensures few { result ≤ length list.now }
     ensures good { AllByRecursion (GoodShape mode window.now rom.now list.now) (take result list.now) }
 {
-    let needed = Needed::by(rom, entries, list);
+    let needed = Needed::for_entries(rom, entries, list);
     let mut tails = Tails {
         slots: [None; SLOTS],
     };

@@ -121,7 +121,7 @@ pub fn frame_of(frame: &[u8], budget: u32) -> Result<FrameImage<'_>, Refusal>
     Ok(frame)
 }
 
-/// What a ROM, a certificate and a frame come to in a mode.
+/// Judges a frame over the bytes of a vector ROM and of its certificate in a mode.
 fn check_in(
     alloc: Global,
     rom: &[u8],
@@ -164,7 +164,7 @@ pub fn check_rom(
     check_parts_in(alloc, &rom, frame, cert, budget, window, mode)
 }
 
-/// The same from the shapes on.
+/// Judges a frame over a vector ROM and the entries of its certificate in a mode.
 fn check_parts_in(
     alloc: Global,
     rom: &RomImage,
@@ -200,7 +200,7 @@ fn check_parts_in(
 /// any global scale, reaches HALT within the answered count of words, stores at most four return places at once, fetches only
 /// words of the ROM and the frame, and draws no lit stroke that leaves the window on either axis.
 ///
-/// Nothing is run: what a shape comes to from a word on is worked out once for each scale at which that is needed. Takes memory
+/// Nothing is run: what a shape does from a word on is worked out once for each scale at which it is needed. Takes memory
 /// for the certificate's entries and for their index alone, and none before 2 and 49 are ruled out; 16 comes only where there
 /// was none for an entry that could be taken, and 50 only where the certificate was taken, the ROM has the length of its map,
 /// and there was none for its index.

@@ -16,7 +16,7 @@ use Rattle.dvg_items.specs.Known.{Context, callee, depth_under, scale_before, sh
 use Rattle.dvg_items.proofs.Listed.{listed_claim, named_listed}
 use Rattle.dvg_items.proofs.Lists.{all_append}
 use Rattle.dvg_explain.specs.Calls.{Call, AreAll, call_of, calls_among}
-use Rattle.dvg_explain.specs.Chains.{ShapeCalls}
+use Rattle.dvg_explain.specs.Chains.{IsShapeCall}
 use Rattle.dvg_explain.specs.Deepest.{BearsOut, BearsNot, FirstBears, GoDeepest}
 use Rattle.dvg_explain.specs.Private.Walking.{IsSeenAt}
 use Rattle.dvg_explain.proofs.Coming.{is_among}
@@ -42,7 +42,7 @@ module _ (rom : Rom) (list : List Entry) (e : Entry) where
     -- the call of the next item does
     pub first_bears : 0 < e.depth → (call : Call) → call.at ≡ v.item.at → v.callee ≡ Some call.entry → depth_under v.item.instr (Some call.entry) ≡ e.depth → FirstBears rom list e call
     first_bears some call at named depth =
-        let calls : ShapeCalls rom list e call = record { earlier = items; item = v.item; leads = here_leads here_in (rom_word rom) e.addr items here w v s; stands = stands; at = at; callee_is = sym callee_is ∙ named } in
+        let calls : IsShapeCall rom list e call = record { earlier = items; item = v.item; leads = here_leads here_in (rom_word rom) e.addr items here w v s; stands = stands; at = at; callee_is = sym callee_is ∙ named } in
         let bears : BearsOut rom list e call = record { calls = calls; some = some; depth = depth } in
         (bears, before)
 

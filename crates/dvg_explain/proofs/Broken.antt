@@ -1,5 +1,6 @@
 -- The rule that a finding names is broken by what stands there.
-use Rattle.std.proofs.Common.{sym, ◌≡◌, ◌≢◌, ℕ, List, refl, ap, ◌∙◌, subst}
+use Rattle.std.proofs.Common.{sym, ◌≡◌, ◌≢◌, ℕ, List, Option, None, Some, ap, ◌∙◌, subst, arith, ⊎_elim}
+use Rattle.std.proofs.lemmas.Bool.{cases_lt}
 use Rattle.dvg_words.specs.Values.{Window}
 use Rattle.dvg_words.specs.Memory.{frame_word}
 use Rattle.dvg_words.specs.Decoding.{cell_at}
@@ -12,40 +13,33 @@ use Rattle.dvg_items.specs.declared.seen.Seen.{Seen as SeenItem}
 use Rattle.dvg_check.specs.declared.fault.FrameFinding.{FrameFinding}
 use Rattle.dvg_check.specs.declared.fault.Found.{Found}
 use Rattle.dvg_check.specs.declared.fault.Found.TheVariants.{Missing, Odd, Seen}
-use Rattle.dvg_check.specs.declared.fault.FrameWhy.{FrameWhy}
 use Rattle.dvg_check.specs.declared.fault.FrameWhy.TheVariants as frame
 use Rattle.dvg_words.specs.Memory.{Rom, rom_word}
 use Rattle.dvg_items.specs.Known.{shape_context}
 use Rattle.dvg_check.specs.declared.fault.Mode.{Mode}
+use Rattle.dvg_check.specs.declared.fault.Mode.TheVariants.{Bound, Exact}
 use Rattle.dvg_check.specs.declared.fault.ShapeFinding.{ShapeFinding}
 use Rattle.dvg_check.specs.declared.fault.ShapeWhy.{ShapeWhy}
 use Rattle.dvg_check.specs.declared.fault.ShapeWhy.TheVariants as shape
 use Rattle.dvg_check.specs.Finding.{FirstFrameFound, FirstShapeFound, IsFound}
-use Rattle.dvg_check.specs.Rules.{FrameKeeps, ShapeKeeps, ShapePlaceKeeps, CellKeeps}
+use Rattle.dvg_check.specs.Rules.{AtLast, AsClaimed, FrameKeeps, ShapeKeeps, ShapePlaceKeeps, CellKeeps}
+use Rattle.dvg_check.specs.FirstFault.{frame_number, shape_number}
+use Rattle.dvg_check.proofs.Faults.{rule_of, rule_of-number, shape_rule_of, shape_rule_of-number}
 use Rattle.dvg_explain.specs.Private.Breaking.{IsBroken, IsBrokenAt, IsShapeBroken, IsShapeBrokenAt}
 
 -- where only one rule can be broken, it is that one
-only_missing : (why : FrameWhy) → ((why ≢ frame.Unmapped) → ⊥) → why ≡ frame.Unmapped
-only_missing frame.Unmapped h = refl
-only_missing frame.Odd h = absurd (h (λ e. cc))
-only_missing frame.ReturnInFrame h = absurd (h (λ e. cc))
-only_missing frame.BackJump h = absurd (h (λ e. cc))
-only_missing frame.BeamUnknown h = absurd (h (λ e. cc))
-only_missing frame.ScaleUnknown h = absurd (h (λ e. cc))
-only_missing frame.OffScreen h = absurd (h (λ e. cc))
-only_missing frame.NoEntry h = absurd (h (λ e. cc))
-only_missing frame.Budget h = absurd (h (λ e. cc))
-
-only_odd : (why : FrameWhy) → ((why ≢ frame.Odd) → ⊥) → why ≡ frame.Odd
-only_odd frame.Odd h = refl
-only_odd frame.Unmapped h = absurd (h (λ e. cc))
-only_odd frame.ReturnInFrame h = absurd (h (λ e. cc))
-only_odd frame.BackJump h = absurd (h (λ e. cc))
-only_odd frame.BeamUnknown h = absurd (h (λ e. cc))
-only_odd frame.ScaleUnknown h = absurd (h (λ e. cc))
-only_odd frame.OffScreen h = absurd (h (λ e. cc))
-only_odd frame.NoEntry h = absurd (h (λ e. cc))
-only_odd frame.Budget h = absurd (h (λ e. cc))
+only : {Why : Type 0} (number : Why → ℕ) (rule : ℕ → Why) → ((why : Why) → rule (number why) ≡ why) → (why one : Why) → (why ≢ one → ⊥) → why ≡ one
+only {Why} number rule back why one h = sym (back why) ∙ ap rule same ∙ back one
+  where
+    same : number why ≡ number one
+    same =
+        ⊎_elim
+        (λ less. absurd (h (λ e. let o : number why ≡ number one = ap number e in omega (arith, less, o))))
+        (λ le. ⊎_elim
+        (λ more. absurd (h (λ e. let o : number why ≡ number one = ap number e in omega (arith, more, o))))
+        (λ ge. omega (arith, le, ge))
+        (cases_lt (number one) (number why)))
+        (cases_lt (number why) (number one))
 
 module _ (w : Window) (words : List ℕ) (list : List Entry) (budget : ℕ) (f : FrameFinding) (h : FirstFrameFound w words list budget f) where
   -- what the cell at the place does not keep
@@ -65,46 +59,14 @@ module _ (w : Window) (words : List ℕ) (list : List Entry) (budget : ℕ) (f :
     seen_breaks keeps = breaks_at (cell.Holds v.item.format v.item.instr) stands (subst (λ x. FrameKeeps w budget x f.fault.why) same_seen keeps)
 
   broken_at : (found : Found) → IsFound (frame_context list) (frame_word words) h.fault.items f.fault.word found → IsBrokenAt w budget f found
-  broken_at Missing stands = only_missing f.fault.why (breaks_at cell.Missing stands)
-  broken_at Odd stands = only_odd f.fault.why (breaks_at cell.Odd stands)
+  broken_at Missing stands = only frame_number rule_of rule_of-number f.fault.why frame.Unmapped (breaks_at cell.Missing stands)
+  broken_at Odd stands = only frame_number rule_of rule_of-number f.fault.why frame.Odd (breaks_at cell.Odd stands)
   broken_at (Seen v) stands = seen_breaks v stands.0 stands.1 stands.2
 
   pub broken : IsBroken w budget f
   broken = broken_at f.found h.stands
 
 -- ---- shapes
-
-shape_missing : (why : ShapeWhy) → ((why ≢ shape.Unmapped) → ⊥) → why ≡ shape.Unmapped
-shape_missing shape.Unmapped h = refl
-shape_missing shape.Odd h = absurd (h (λ e. cc))
-shape_missing shape.HaltInShape h = absurd (h (λ e. cc))
-shape_missing shape.BeamUnknown h = absurd (h (λ e. cc))
-shape_missing shape.ScaleUnknown h = absurd (h (λ e. cc))
-shape_missing shape.OffScreen h = absurd (h (λ e. cc))
-shape_missing shape.NoEntry h = absurd (h (λ e. cc))
-shape_missing shape.TooDeep h = absurd (h (λ e. cc))
-shape_missing shape.TooManyWords h = absurd (h (λ e. cc))
-shape_missing shape.EndDiffers h = absurd (h (λ e. cc))
-shape_missing shape.ScaleDiffers h = absurd (h (λ e. cc))
-shape_missing shape.BoxTooSmall h = absurd (h (λ e. cc))
-shape_missing shape.WordsDiffer h = absurd (h (λ e. cc))
-shape_missing shape.DepthDiffers h = absurd (h (λ e. cc))
-
-shape_odd : (why : ShapeWhy) → ((why ≢ shape.Odd) → ⊥) → why ≡ shape.Odd
-shape_odd shape.Odd h = refl
-shape_odd shape.Unmapped h = absurd (h (λ e. cc))
-shape_odd shape.HaltInShape h = absurd (h (λ e. cc))
-shape_odd shape.BeamUnknown h = absurd (h (λ e. cc))
-shape_odd shape.ScaleUnknown h = absurd (h (λ e. cc))
-shape_odd shape.OffScreen h = absurd (h (λ e. cc))
-shape_odd shape.NoEntry h = absurd (h (λ e. cc))
-shape_odd shape.TooDeep h = absurd (h (λ e. cc))
-shape_odd shape.TooManyWords h = absurd (h (λ e. cc))
-shape_odd shape.EndDiffers h = absurd (h (λ e. cc))
-shape_odd shape.ScaleDiffers h = absurd (h (λ e. cc))
-shape_odd shape.BoxTooSmall h = absurd (h (λ e. cc))
-shape_odd shape.WordsDiffer h = absurd (h (λ e. cc))
-shape_odd shape.DepthDiffers h = absurd (h (λ e. cc))
 
 module _ (mode : Mode) (w : Window) (rom : Rom) (list : List Entry) (f : ShapeFinding) (h : FirstShapeFound mode w rom list f) where
   shape_breaks_at : (c : Cell) → cell_at (rom_word rom) f.fault.word ≡ c
@@ -125,9 +87,23 @@ module _ (mode : Mode) (w : Window) (rom : Rom) (list : List Entry) (f : ShapeFi
     shape_seen_breaks keeps = shape_breaks_at (cell.Holds v.item.format v.item.instr) stands (subst (λ x. ShapeKeeps mode w f.entry x f.fault.why) shape_same_seen keeps)
 
   shape_broken_at : (found : Found) → IsFound (shape_context list f.entry) (rom_word rom) h.first.fault.items f.fault.word found → IsShapeBrokenAt mode w f found
-  shape_broken_at Missing stands = shape_missing f.fault.why (shape_breaks_at cell.Missing stands)
-  shape_broken_at Odd stands = shape_odd f.fault.why (shape_breaks_at cell.Odd stands)
+  shape_broken_at Missing stands = only shape_number shape_rule_of shape_rule_of-number f.fault.why shape.Unmapped (shape_breaks_at cell.Missing stands)
+  shape_broken_at Odd stands = only shape_number shape_rule_of shape_rule_of-number f.fault.why shape.Odd (shape_breaks_at cell.Odd stands)
   shape_broken_at (Seen v) stands = shape_seen_breaks v stands.0 stands.1 stands.2
 
   pub shape_broken : IsShapeBroken mode w f
   shape_broken = shape_broken_at f.found h.stands
+
+-- ---- causes of shapes
+
+-- an item that stands where a finding is does not keep the finding's rule
+pub not_kept : (mode : Mode) (w : Window) (f : ShapeFinding) (v : SeenItem) (why : ShapeWhy) → f.found ≡ Seen v → IsShapeBroken mode w f → f.fault.why ≡ why → ShapeKeeps mode w f.entry v why → ⊥
+not_kept mode w f v why found_is broken is keeps = subst (IsShapeBrokenAt mode w f) found_is broken (subst (ShapeKeeps mode w f.entry v) (sym is) keeps)
+
+pub at_last : {P : Type 0} (next : Option ℕ) → P → AtLast next P
+at_last None p = p
+at_last (Some n) p = tt
+
+pub as_claimed : (mode : Mode) (n claimed : ℕ) → n ≡ claimed → AsClaimed mode n claimed
+as_claimed Bound n claimed is = tt
+as_claimed Exact n claimed is = is

@@ -71,7 +71,7 @@ named_by : (list : List Entry) (to : ℕ) (scale : Key) (o : Option Entry) (f : 
 named_by list to scale None f e h = self_at list to Any f h
 named_by list to scale (Some x) f e h = self_at list to scale f (e ∙ h)
 
-named_self : (list : List Entry) (o : Option ℕ) (scale : Key) (f : Entry) → callee_at list o scale ≡ Some f → entry_at list f.addr f.key ≡ Some f
+pub named_self : (list : List Entry) (o : Option ℕ) (scale : Key) (f : Entry) → callee_at list o scale ≡ Some f → entry_at list f.addr f.key ≡ Some f
 named_self list None scale f e = cc e
 named_self list (Some to) scale f e = named_by list to scale (entry_at list to scale) f refl e
 

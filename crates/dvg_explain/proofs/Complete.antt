@@ -6,24 +6,24 @@ use Rattle.std.proofs.lemmas.Bool.Decides.{nat_tests}
 use Rattle.std.proofs.lemmas.List.Elements.{All-nil, All-cons}
 use Rattle.std.specs.List.{All, AllByRecursion}
 use Rattle.std.specs.Prelude.{Contains, slice_get, ◌==◌}
-use Rattle.dvg_words.specs.Memory.{Rom, frame_word}
+use Rattle.dvg_words.specs.Memory.{Rom, frame_word, rom_word}
 use Rattle.dvg_cert.specs.declared.entry.Entry.{Entry}
 use Rattle.dvg_cert.specs.declared.entry.Key.{Key}
 use Rattle.dvg_cert.specs.declared.entry.Key.TheVariants.{At, Any}
 use Rattle.dvg_cert.specs.Lookup.{is_at, same_key, entry_at}
 use Rattle.dvg_items.specs.declared.item.Kind.TheVariants.{Frame}
-use Rattle.dvg_items.specs.Known.{frame_context}
+use Rattle.dvg_items.specs.Known.{Context, frame_context, shape_context}
 use Rattle.dvg_items.proofs.Lists.{all_map}
 use Rattle.dvg_items.specs.Bounds.{IsClaim, IsSomeCertificate}
 use Rattle.dvg_items.proofs.Listed.{listed_at, listed_claim}
 use Rattle.dvg_explain.specs.Calls.{Call, AreCalls}
-use Rattle.dvg_explain.specs.Chains.{FrameCalls, ShapeCalls, LeadsOn, IsChain}
-use Rattle.dvg_explain.specs.Private.Reaching.{Link, AllSteps, IsBackward, IsStep, entries_of, reach, reach_all}
-use Rattle.dvg_explain.specs.Private.Places.{Place, AreNone, HasPlace}
+use Rattle.dvg_explain.specs.Chains.{Calls, IsFrameCall, IsShapeCall, LeadsOn, IsChain}
+use Rattle.dvg_explain.specs.Private.Reaching.{Link, AllSteps, IsBackward, IsReachedByFrame, IsReachedByShape, IsStep, entries_of, reach, reach_all}
+use Rattle.dvg_explain.specs.Private.KeyedWords.{KeyedWord, AreNone, HasWord}
 use Rattle.dvg_explain.specs.Private.Visiting.{CallsFrom, IsMet, AreNewCalls}
-use Rattle.dvg_explain.specs.Private.Walking.{Start, context_of}
+use Rattle.dvg_explain.specs.Private.Walking.{WalkContext, context_of}
 use Rattle.dvg_explain.proofs.Linking.{at_self, at_still, reach_keeps}
-use Rattle.dvg_explain.proofs.Coming.{calls_hold, is_among, step_named, reach_steps, reach_still, all_steps, all_back}
+use Rattle.dvg_explain.proofs.Coming.{calls_hold, is_among, named_self, step_named, reach_steps, reach_still, all_steps, all_back}
 use Rattle.dvg_explain.proofs.Visiting.{of_each}
 
 -- ---- what was reached
@@ -187,15 +187,15 @@ module _ (rom : Rom) (words : List ℕ) (list : List Entry) where
     pub record Comes (links : List Link) (visited : List Bool) (head : ℕ) : Type 0 where
       pub steps : AllSteps rom words list links
       pub back : IsBackward links
-      pub framed : (call : Call) → FrameCalls words list call → Has links call.entry
-      pub shaped : (k : ℕ) (l : Link) → k < head → slice_get links k ≡ Some l → (call : Call) → ShapeCalls rom list l.call.entry call → Has links call.entry
-      pub gone_over : (place : Place) → HasPlace visited place → (call : Call) → CallsFrom rom list place call → Has links call.entry
+      pub framed : (call : Call) → IsFrameCall words list call → Has links call.entry
+      pub shaped : (k : ℕ) (l : Link) → k < head → slice_get links k ≡ Some l → (call : Call) → IsShapeCall rom list l.call.entry call → Has links call.entry
+      pub gone_over : (place : KeyedWord) → HasWord visited place → (call : Call) → CallsFrom rom list place call → Has links call.entry
       pub missed : (k : ℕ) (l : Link) → k < head → slice_get links k ≡ Some l → l.call.entry ≡ goal → ⊥
       pub counted : left_of links list + length links ≤ length list
 
-    pub begins : (calls : List Call) (visited : List Bool) → AreCalls (frame_context list) (frame_word words) 0 calls → ((place : Place) → HasPlace visited place → ⊥) → Comes (reach_all [] None calls) visited 0
+    pub begins : (calls : List Call) (visited : List Bool) → AreCalls (frame_context list) (frame_word words) 0 calls → ((place : KeyedWord) → HasWord visited place → ⊥) → Comes (reach_all [] None calls) visited 0
     begins calls visited are none_yet =
-        let steps = subst (AllByRecursion (FrameCalls words list)) (sym are.2) (calls_hold (frame_context list) (frame_word words) 0 are.0 are.1.stand) in
+        let steps = subst (AllByRecursion (IsFrameCall words list)) (sym are.2) (calls_hold (frame_context list) (frame_word words) 0 are.0 are.1.stand) in
         let no_steps : AllSteps rom words list [] = λ k l e. cc e in
         let no_back : IsBackward [] = λ k l e. cc e in
         let has = has_calls rom words list [] None calls no_steps steps in
@@ -217,7 +217,7 @@ module _ (rom : Rom) (words : List ℕ) (list : List Entry) where
       all = reach_all links (Some head) calls
 
       steps : AllByRecursion (IsStep rom words list links (Some head)) calls
-      steps = all_map (ShapeCalls rom list l.call.entry) (IsStep rom words list links (Some head)) calls (λ x s. (l, is, s)) are.own
+      steps = all_map (IsShapeCall rom list l.call.entry) (IsStep rom words list links (Some head)) calls (λ x s. (l, is, s)) are.own
 
       has : AllByRecursion (λ (x : Call). Has all x.entry) calls
       has = has_calls rom words list links (Some head) calls h.steps steps
@@ -236,14 +236,14 @@ module _ (rom : Rom) (words : List ℕ) (list : List Entry) where
       head_is : (k : ℕ) (x : Link) → slice_get links k ≡ Some x → k ≡ head → l ≡ x
       head_is k x x_is e = let both : Some l ≡ Some x = sym is ∙ ap (slice_get links) (sym e) ∙ x_is in cc both
 
-      shaped : (k : ℕ) (x : Link) → k < head + 1 → slice_get all k ≡ Some x → (call : Call) → ShapeCalls rom list x.call.entry call → Has all call.entry
+      shaped : (k : ℕ) (x : Link) → k < head + 1 → slice_get all k ≡ Some x → (call : Call) → IsShapeCall rom list x.call.entry call → Has all call.entry
       shaped k x lt x_is call s =
           let before_k = before k lt in
           let same = same_before k before_k.0 x before_k.1 x_is in
-          let s_old = subst (λ (y : Link). ShapeCalls rom list y.call.entry call) (sym same) s in
+          let s_old = subst (λ (y : Link). IsShapeCall rom list y.call.entry call) (sym same) s in
           ⊎_elim
           (λ less. has_all links (Some head) calls call.entry (h.shaped k before_k.0 less before_k.1 call s_old))
-          (λ ge. met call (are.all call (subst (λ (y : Link). ShapeCalls rom list y.call.entry call) (sym (head_is k before_k.0 before_k.1 (omega (arith, lt, ge)))) s_old)))
+          (λ ge. met call (are.all call (subst (λ (y : Link). IsShapeCall rom list y.call.entry call) (sym (head_is k before_k.0 before_k.1 (omega (arith, lt, ge)))) s_old)))
           (cases_lt k head)
 
       missed : (k : ℕ) (x : Link) → k < head + 1 → slice_get all k ≡ Some x → x.call.entry ≡ goal → ⊥
@@ -272,7 +272,7 @@ module _ (rom : Rom) (words : List ℕ) (list : List Entry) where
       none_on : (calls : List Call) (e : Entry) → Has links e → LeadsOn rom list e calls goal → ⊥
       none_on [] e has on = h.missed has.0 has.1 (all has.0 has.1 has.2) has.2 (has.3 ∙ on)
       none_on (call ∷ rest) e has on =
-          none_on rest call.entry (h.shaped has.0 has.1 (all has.0 has.1 has.2) has.2 call (subst (λ x. ShapeCalls rom list x call) (sym has.3) on.0)) on.1
+          none_on rest call.entry (h.shaped has.0 has.1 (all has.0 has.1 has.2) has.2 call (subst (λ x. IsShapeCall rom list x call) (sym has.3) on.0)) on.1
 
       pub no_chain : (calls : List Call) → IsChain rom words list calls goal → ⊥
       no_chain [] c = c
@@ -284,48 +284,50 @@ module _ (rom : Rom) (words : List ℕ) (list : List Entry) where
     pub none_at_end : (links : List Link) (visited : List Bool) (head : ℕ) → Comes links visited head → length list ≤ head → (calls : List Call) → IsChain rom words list calls goal → ⊥
     none_at_end links visited head h end = no_chain links visited head h (λ k l is. omega (arith, slice_get_within links k l is, h.counted, end))
 
-    -- as the code has it: the list by which the calls were made, and where the items began
-    pub begun : (list_used : List Entry) (start : Start) (calls : List Call) (old new : List Link) (visited : List Bool) → list_used ≡ list → start ≡ record { kind = Frame; first = 0; scale = Any }
-        → AreCalls (context_of list_used start) (frame_word words) start.first calls → old ≡ [] → new ≡ reach_all old None calls → AreNone visited → Comes new visited 0
-    begun list_used start calls old new visited same begin are empty is none =
-        let at_start = subst (λ (s : Start). AreCalls (context_of list_used s) (frame_word words) s.first calls) begin are in
-        let of_list = subst (λ (l : List Entry). AreCalls (frame_context l) (frame_word words) 0 calls) same at_start in
-        let none_yet : (place : Place) → HasPlace visited place → ⊥ =
+    -- as the code has it: by the list by which the calls were made
+    pub begun : (list_used : List Entry) (links : List Link) (visited : List Bool) → list_used ≡ list → IsReachedByFrame words list_used links → AreNone visited → Comes links visited 0
+    begun list_used links visited same reached none =
+        let by_list = subst (λ (l : List Entry). IsReachedByFrame words l links) same reached in
+        let none_yet : (place : KeyedWord) → HasWord visited place → ⊥ =
         λ place there. let no : true ≡ false = sym there.1 ∙ none place in cc no
         in
-        subst (λ ls. Comes ls visited 0) (sym (is ∙ ap (λ ls. reach_all ls None calls) empty)) (begins calls visited of_list none_yet)
+        subst (λ ls. Comes ls visited 0) (sym by_list.2) (begins by_list.0 visited by_list.1 none_yet)
 
-    pub gone_on : (list_used : List Entry) (links new : List Link) (visited visited_new : List Bool) (head : ℕ) (l : Link) (calls : List Call) → Comes links visited head → slice_get links head ≡ Some l
-        → (l.call.entry ≡ goal → ⊥) → list_used ≡ list → AreNewCalls rom list_used l.call.entry visited visited_new calls → new ≡ reach_all links (Some head) calls → Comes new visited_new (head + 1)
-    gone_on list_used links new visited visited_new head l calls h is other same are new_is =
-        let of_list = subst (λ (es : List Entry). AreNewCalls rom es l.call.entry visited visited_new calls) same are in
-        subst (λ ls. Comes ls visited_new (head + 1)) (sym new_is) (comes_on links visited visited_new head l calls h is other of_list)
+    pub gone_on : (list_used : List Entry) (links new : List Link) (visited visited_new : List Bool) (head : ℕ) (l : Link) → Comes links visited head → slice_get links head ≡ Some l
+        → (l.call.entry ≡ goal → ⊥) → list_used ≡ list → IsReachedByShape rom list_used l.call.entry head visited visited_new links new → Comes new visited_new (head + 1)
+    gone_on list_used links new visited visited_new head l h is other same reached =
+        let by_list = subst (λ (es : List Entry). IsReachedByShape rom es l.call.entry head visited visited_new links new) same reached in
+        subst (λ ls. Comes ls visited_new (head + 1)) (sym by_list.2) (comes_on links visited visited_new head l by_list.0 h is other by_list.1)
 
     -- an entry that was reached is in the list, and so within its limits
     pub reached_claim : (links : List Link) (visited : List Bool) (head k : ℕ) (l : Link) → IsSomeCertificate list → Comes links visited head → slice_get links k ≡ Some l → IsClaim l.call.entry
     reached_claim links visited head k l some h is =
         listed_claim list l.call.entry some (listed_at list l.call.entry.addr l.call.entry.key l.call.entry (step_named rom words list links l.from l.call (h.steps k l is))).listed
 
-    -- and so are those of calls that are steps
-    claims_of : (links : List Link) (from : Option ℕ) (calls : List Call) → IsSomeCertificate list → AllByRecursion (IsStep rom words list links from) calls → All (λ (x : Call). IsClaim x.entry) calls
-    claims_of links from [] some s = All-nil (λ (x : Call). IsClaim x.entry)
-    claims_of links from (call ∷ rest) some s =
-        let claim = listed_claim list call.entry some (listed_at list call.entry.addr call.entry.key call.entry (step_named rom words list links from call s.0)).listed in
-        All-cons (λ (x : Call). IsClaim x.entry) call rest claim (claims_of links from rest some s.1)
+-- ---- as the code adds links
 
-    -- as the code has it: of the frame's calls, and of those of the shape of a link's entry
-    pub framed_claims : (list_used : List Entry) (start : Start) (calls : List Call) → IsSomeCertificate list → list_used ≡ list → start ≡ record { kind = Frame; first = 0; scale = Any }
-        → AreCalls (context_of list_used start) (frame_word words) start.first calls → All (λ (x : Call). IsClaim x.entry) calls
-    framed_claims list_used start calls some same begin are =
-        let at_start = subst (λ (s : Start). AreCalls (context_of list_used s) (frame_word words) s.first calls) begin are in
-        let of_list = subst (λ (l : List Entry). AreCalls (frame_context l) (frame_word words) 0 calls) same at_start in
-        claims_of [] None calls some (subst (AllByRecursion (FrameCalls words list)) (sym of_list.2) (calls_hold (frame_context list) (frame_word words) 0 of_list.0 of_list.1.stand))
+-- the entries of calls are in the list, and so within its limits
+called_claims : (c : Context) (word : ℕ → Option ℕ) (first : ℕ) (calls : List Call) → IsSomeCertificate c.list → AllByRecursion (Calls c word first) calls → All (λ (x : Call). IsClaim x.entry) calls
+called_claims c word first [] some are = All-nil (λ (x : Call). IsClaim x.entry)
+called_claims c word first (call ∷ rest) some are =
+    let claim = listed_claim c.list call.entry some (listed_at c.list call.entry.addr call.entry.key call.entry (named_self c.list _ _ call.entry are.0.callee_is)).listed in
+    All-cons (λ (x : Call). IsClaim x.entry) call rest claim (called_claims c word first rest some are.1)
 
-    pub shaped_claims : (list_used : List Entry) (links : List Link) (visited visited_new : List Bool) (head : ℕ) (l : Link) (calls : List Call) → IsSomeCertificate list → slice_get links head ≡ Some l
-        → list_used ≡ list → AreNewCalls rom list_used l.call.entry visited visited_new calls → All (λ (x : Call). IsClaim x.entry) calls
-    shaped_claims list_used links visited visited_new head l calls some is same are =
-        let of_list = subst (λ (es : List Entry). AreNewCalls rom es l.call.entry visited visited_new calls) same are in
-        claims_of links (Some head) calls some (all_map (ShapeCalls rom list l.call.entry) (IsStep rom words list links (Some head)) calls (λ x s. (l, is, s)) of_list.own)
+module _ (words : List ℕ) (list : List Entry) (walk : WalkContext) (calls : List Call) (is : walk ≡ record { kind = Frame; first = 0; scale = Any })
+    (are : AreCalls (context_of list walk) (frame_word words) walk.first calls) where
+  at_start : AreCalls (frame_context list) (frame_word words) 0 calls
+  at_start = subst (λ (w : WalkContext). AreCalls (context_of list w) (frame_word words) w.first calls) is are
+
+  pub frame_claims : IsSomeCertificate list → All (λ (x : Call). IsClaim x.entry) calls
+  frame_claims some =
+      called_claims (frame_context list) (frame_word words) 0 calls some
+      (subst (AllByRecursion (Calls (frame_context list) (frame_word words) 0)) (sym at_start.2) (calls_hold (frame_context list) (frame_word words) 0 at_start.0 at_start.1.stand))
+
+  pub frame_reaches : (old new : List Link) → old ≡ [] → new ≡ reach_all old None calls → IsReachedByFrame words list new
+  frame_reaches old new empty reached = (calls, at_start, reached ∙ ap (λ ls. reach_all ls None calls) empty)
+
+pub shape_claims : (rom : Rom) (list : List Entry) (e : Entry) (visited visited_new : List Bool) (calls : List Call) → IsSomeCertificate list → AreNewCalls rom list e visited visited_new calls → All (λ (x : Call). IsClaim x.entry) calls
+shape_claims rom list e visited visited_new calls some are = called_claims (shape_context list e) (rom_word rom) e.addr calls some are.own
 
 pub is_none : {A : Type 0} (o : Option A) → ((x : A) → o ≡ Some x → ⊥) → o ≡ None
 is_none None h = refl

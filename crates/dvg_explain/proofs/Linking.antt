@@ -9,12 +9,12 @@ use Rattle.dvg_cert.specs.declared.entry.Key.TheVariants.{At, Any}
 use Rattle.dvg_cert.specs.Lookup.{is_at, same_key, entry_at}
 use Rattle.dvg_items.proofs.Listed.{listed_at}
 use Rattle.dvg_explain.specs.Calls.{Call}
-use Rattle.dvg_explain.specs.Private.Places.{Place, place_number, is_marked, with_place, AreNone}
+use Rattle.dvg_explain.specs.Private.KeyedWords.{KeyedWord, word_number, is_marked, with_word, AreNone}
 use Rattle.dvg_explain.specs.Private.Reaching.{Link, AreNames, entries_of, name_of, reach, reach_all}
 use Rattle.dvg_explain.proofs.Marks.{here_among, others_among, here_or_other}
 
 -- an entry that is at a place is named by it
-at_its_own : (p : Place) (e : Entry) → is_at p.0 p.1 e ≡ true → p ≡ name_of e
+at_its_own : (p : KeyedWord) (e : Entry) → is_at p.0 p.1 e ≡ true → p ≡ name_of e
 at_its_own p e is =
     let found : entry_at (e ∷ []) p.0 p.1 ≡ Some e = ap (λ b. if b then Some e else None) is in
     let l = listed_at (e ∷ []) p.0 p.1 e found in
@@ -56,15 +56,15 @@ pub no_names : (names : List Bool) (links : List Link) → AreNone names → lin
 no_names names links none empty place k = none place ∙ ap (λ (ls : List Link). is_some (entry_at (entries_of ls) place.0 place.1)) (sym empty)
 
 -- the names of one link more
-pub names_push : (names : List Bool) (links : List Link) (l : Link) → IsKey l.call.entry.key → place_number (name_of l.call.entry) < length names → AreNames names links
-    → AreNames (with_place names (name_of l.call.entry)) (links ++ l ∷ [])
+pub names_push : (names : List Bool) (links : List Link) (l : Link) → IsKey l.call.entry.key → word_number (name_of l.call.entry) < length names → AreNames names links
+    → AreNames (with_word names (name_of l.call.entry)) (links ++ l ∷ [])
 names_push names links l own lt h place k = ⊎_elim same other (here_or_other names (name_of l.call.entry) own place k)
   where
     e : Entry
     e = l.call.entry
 
-    now : Place → Type 0
-    now p = is_marked (with_place names (name_of e)) p ≡ is_some (entry_at (entries_of (links ++ l ∷ [])) p.0 p.1)
+    now : KeyedWord → Type 0
+    now p = is_marked (with_word names (name_of e)) p ≡ is_some (entry_at (entries_of (links ++ l ∷ [])) p.0 p.1)
 
     same : place ≡ name_of e → now place
     same s =
@@ -72,11 +72,11 @@ names_push names links l own lt h place k = ⊎_elim same other (here_or_other n
         there_push links l e.addr e.key ∙ ap (λ b. is_some (entry_at (entries_of links) e.addr e.key) || b) (at_self e) ∙ or_true (is_some (entry_at (entries_of links) e.addr e.key)) in
         subst now (sym s) (here_among names (name_of e) lt ∙ sym there)
 
-    other : place_number place ≢ place_number (name_of e) → now place
+    other : word_number place ≢ word_number (name_of e) → now place
     other ne = by (is_at place.0 place.1 e) refl
       where
         by : (b : Bool) → is_at place.0 place.1 e ≡ b → now place
-        by true is = absurd (ne (ap place_number (at_its_own place e is)))
+        by true is = absurd (ne (ap word_number (at_its_own place e is)))
         by false is =
             others_among names (name_of e) place ne ∙ h place k ∙ sym (or_false (is_some (entry_at (entries_of links) place.0 place.1)))
             ∙ ap (λ b. is_some (entry_at (entries_of links) place.0 place.1) || b) (sym is) ∙ sym (there_push links l place.0 place.1)

@@ -31,7 +31,7 @@ use Rattle.dvg_check.specs.Private.Tails.{IsNearBox, first_seen, known_over}
 use Rattle.dvg_check.proofs.TailLaws.{seen_over, seen_by_over, over_none}
 use Rattle.dvg_check.proofs.TailSizes.{IsNearBox-joined, IsNearBox-more, IsNearBox-moved}
 use Rattle.dvg_explain.specs.Calls.{Stand, AreAll}
-use Rattle.dvg_explain.specs.Private.Lighting.{Tail, IsTail, keyed, relative_part, absolute_part}
+use Rattle.dvg_explain.specs.Private.Lighting.{LitFrom, IsLitFrom, keyed, relative_part, absolute_part}
 use Rattle.dvg_explain.proofs.TailPoints.{relative_from, absolute_from, relative_from_both, absolute_from_both, relative_over, absolute_over, relative_least, absolute_least, both_least, and_none, no_relative, no_absolute}
 use Rattle.dvg_explain.proofs.Walking.{least_none}
 
@@ -171,11 +171,11 @@ module _ (rom : Rom) (list : List Entry) (key behind_key : Key) (i : Item) (next
 
   -- ---- the tail
 
-  pub before : (tail whole : Tail) (first : LitBox) → tail.addr ≡ next → tail.key ≡ behind_key → IsTail rom list tail → next ≤ ADDRESS_END + 2
+  pub before : (tail whole : LitFrom) (first : LitBox) → tail.addr ≡ next → tail.key ≡ behind_key → IsLitFrom rom list tail → next ≤ ADDRESS_END + 2
       → whole.addr ≡ i.at → whole.key ≡ key → IsLeast alone first → IsNearBox 1 first
       → IsJoined first (relative_part past.place tail.lit.relative) whole.lit.relative
       → IsJoined tail.lit.absolute (absolute_part past.place tail.lit.relative) whole.lit.absolute
-      → ((n : ℕ) → IsNearBox n tail.lit.relative → IsNearBox (n + 1) (relative_part past.place tail.lit.relative)) → IsTail rom list whole
+      → ((n : ℕ) → IsNearBox n tail.lit.relative → IsNearBox (n + 1) (relative_part past.place tail.lit.relative)) → IsLitFrom rom list whole
   before tail whole first at_next at_key t near at_item of_key lone small relative absolute moves =
       record {
         items = t.items ++ i ∷ [];
@@ -207,8 +207,8 @@ module _ (rom : Rom) (list : List Entry) (key : Key) (i : Item) (is : cell_at (r
   all_alone : AreAll Shape (rom_word rom) i.at (i ∷ [])
   all_alone = record { stand = (refl, is); last = λ n h. let no : None ≡ Some n.at = sym ends ∙ h.0.2 in cc no }
 
-  pub ending : (whole : Tail) → i.at < ADDRESS_END → whole.addr ≡ i.at → whole.key ≡ key
-      → IsLeast (relative_corners (first_seen list key i).extent (Rel (pos 0) (pos 0))) whole.lit.relative → IsNearBox 1 whole.lit.relative → whole.lit.absolute ≡ Empty → IsTail rom list whole
+  pub ending : (whole : LitFrom) → i.at < ADDRESS_END → whole.addr ≡ i.at → whole.key ≡ key
+      → IsLeast (relative_corners (first_seen list key i).extent (Rel (pos 0) (pos 0))) whole.lit.relative → IsNearBox 1 whole.lit.relative → whole.lit.absolute ≡ Empty → IsLitFrom rom list whole
   ending whole near at_item of_key lone small none =
       record {
         items = i ∷ [];

@@ -19,9 +19,9 @@ use Rattle.dvg_items.specs.declared.item.Kind.TheVariants.{Shape}
 use Rattle.dvg_items.proofs.Leading.{item_same}
 use Rattle.dvg_items.proofs.Near.{next_further}
 use Rattle.dvg_explain.specs.Calls.{Call, call_of, calls_among}
-use Rattle.dvg_explain.specs.Chains.{ShapeCalls}
+use Rattle.dvg_explain.specs.Chains.{IsShapeCall}
 use Rattle.dvg_explain.specs.Private.Lighting.{keyed}
-use Rattle.dvg_explain.specs.Private.Places.{Place, is_marked, with_place, HasPlace}
+use Rattle.dvg_explain.specs.Private.KeyedWords.{KeyedWord, is_marked, with_word, HasWord}
 use Rattle.dvg_explain.specs.Private.Visiting.{CallsFrom, IsMet, AllMet, AreNewCalls}
 use Rattle.dvg_explain.proofs.AllItems.{stand_before}
 use Rattle.dvg_explain.proofs.Coming.{calls_hold}
@@ -126,11 +126,11 @@ at_call i call o at is = subst (λ (x : Option Entry). Contains (call_of i x) ca
 
 module _ (rom : Rom) (list : List Entry) (e : Entry) (old : List Bool) where
   -- the call was met, or is one from where the walk stands
-  abbrev IsOpen : List Call → Place → Call → Type 0
+  abbrev IsOpen : List Call → KeyedWord → Call → Type 0
   IsOpen calls here call = IsMet rom list old calls call ⊎ CallsFrom rom list here call
 
   -- so is each call from this place
-  abbrev AllOpen : List Call → Place → Place → Type 0
+  abbrev AllOpen : List Call → KeyedWord → KeyedWord → Type 0
   AllOpen calls here place = (call : Call) → CallsFrom rom list place call → IsOpen calls here call
 
   -- from each place that was visited, and from the shape's start, all is met up to where the walk stands
@@ -141,8 +141,8 @@ module _ (rom : Rom) (list : List Entry) (e : Entry) (old : List Bool) where
     pub key : IsKey scale
     pub are : calls ≡ calls_among (shape_context list e) items
     pub all : AllOpen calls (at, scale) (e.addr, e.key)
-    pub visited : (place : Place) → HasPlace now place → AllOpen calls (at, scale) place
-    pub before : (place : Place) → HasPlace now place → HasPlace old place ⊎ (place.0 < at)
+    pub visited : (place : KeyedWord) → HasWord now place → AllOpen calls (at, scale) place
+    pub before : (place : KeyedWord) → HasWord now place → HasWord old place ⊎ (place.0 < at)
 
   pub starts : (calls : List Call) → IsKey e.key → calls ≡ [] → Goes old calls e.addr e.key
   starts calls key none =
@@ -158,11 +158,11 @@ module _ (rom : Rom) (list : List Entry) (e : Entry) (old : List Bool) where
       }
 
   module _ (now : List Bool) (calls : List Call) (at : ℕ) (scale : Key) (g : Goes now calls at scale) where
-    abbrev here : Place
+    abbrev here : KeyedWord
     here = (at, scale)
 
-    held : AllByRecursion (ShapeCalls rom list e) calls
-    held = subst (AllByRecursion (ShapeCalls rom list e)) (sym g.are) (calls_hold (shape_context list e) (rom_word rom) e.addr g.items (stand_before Shape (rom_word rom) e.addr g.items at g.leads))
+    held : AllByRecursion (IsShapeCall rom list e) calls
+    held = subst (AllByRecursion (IsShapeCall rom list e)) (sym g.are) (calls_hold (shape_context list e) (rom_word rom) e.addr g.items (stand_before Shape (rom_word rom) e.addr g.items at g.leads))
 
     -- where each call from where the walk stands was met, all were
     closed : AllMet rom list old calls here → AreNewCalls rom list e old now calls
@@ -176,7 +176,7 @@ module _ (rom : Rom) (list : List Entry) (e : Entry) (old : List Bool) where
     -- at a place that was visited
     pub stops : is_marked now here ≡ true → AreNewCalls rom list e old now calls
     stops was =
-        closed (λ call c. ⊎_elim (λ (h : HasPlace old here). inr (here, h, c)) (λ (lt : at < at). absurd (omega (arith, lt))) (g.before here (g.key, was)))
+        closed (λ call c. ⊎_elim (λ (h : HasWord old here). inr (here, h, c)) (λ (lt : at < at). absurd (omega (arith, lt))) (g.before here (g.key, was)))
 
     -- where no item stands
     pub finds_none : ((format : Format) (instr : Instr) → cell_at (rom_word rom) at ≡ Holds format instr → ⊥) → AreNewCalls rom list e old now calls
@@ -184,13 +184,13 @@ module _ (rom : Rom) (list : List Entry) (e : Entry) (old : List Bool) where
 
     -- past an item, whose place is visited with it
     module _ (format : Format) (instr : Instr) (stands : cell_at (rom_word rom) at ≡ Holds format instr) (callee : Option Entry) (callee_is : callee ≡ callee_at list (target Shape instr) scale)
-        (new : List Bool) (visits : new ≡ with_place now here) (more : List Call) where
+        (new : List Bool) (visits : new ≡ with_word now here) (more : List Call) where
       abbrev item : Item
       item = record { at = at; format = format; instr = instr }
 
       module _ (grown : more ≡ calls ++ call_of item callee) where
-        now_or_here : (place : Place) → HasPlace new place → HasPlace now place ⊎ (place ≡ here)
-        now_or_here place there = there_or_here now here g.key place (subst (λ (marks : List Bool). HasPlace marks place) visits there)
+        now_or_here : (place : KeyedWord) → HasWord new place → HasWord now place ⊎ (place ≡ here)
+        now_or_here place there = there_or_here now here g.key place (subst (λ (marks : List Bool). HasWord marks place) visits there)
 
         split_here : (call : Call) → CallsFrom rom list here call → IsOwn rom list scale item stands call ⊎ IsFurther rom list scale item stands call
         split_here call c = own_or_further rom list scale item stands call c
@@ -218,11 +218,11 @@ module _ (rom : Rom) (list : List Entry) (e : Entry) (old : List Bool) where
               all = λ call c. on call (g.all call c);
               visited = λ place there call c. ⊎_elim
                   (λ h. on call (g.visited place h call c))
-                  (λ same. from_here call (subst (λ (x : Place). CallsFrom rom list x call) same c))
+                  (λ same. from_here call (subst (λ (x : KeyedWord). CallsFrom rom list x call) same c))
                   (now_or_here place there);
               before = λ place there. ⊎_elim
                   (λ h. ⊎_elim (λ k. inl k) (λ lt. inr (omega (arith, lt, further))) (g.before place h))
-                  (λ same. let there_at : place.0 ≡ at = ap (λ (x : Place). x.0) same in inr (omega (arith, there_at, further)))
+                  (λ same. let there_at : place.0 ≡ at = ap (λ (x : KeyedWord). x.0) same in inr (omega (arith, there_at, further)))
                   (now_or_here place there);
             }
           where
@@ -247,11 +247,11 @@ module _ (rom : Rom) (list : List Entry) (e : Entry) (old : List Bool) where
         pub ends_here : next_place Shape item ≡ None → AreNewCalls rom list e old new more
         ends_here none =
             record {
-              own = subst (AllByRecursion (ShapeCalls rom list e)) (sym more_are) (calls_hold (shape_context list e) (rom_word rom) e.addr (item ∷ g.items) (g.leads, stands));
+              own = subst (AllByRecursion (IsShapeCall rom list e)) (sym more_are) (calls_hold (shape_context list e) (rom_word rom) e.addr (item ∷ g.items) (g.leads, stands));
               all = λ call c. ⊎_elim (still_met call) (from_here call) (g.all call c);
               visited = λ place there call c. ⊎_elim
                   (λ h. ⊎_elim (still_met call) (from_here call) (g.visited place h call c))
-                  (λ same. from_here call (subst (λ (x : Place). CallsFrom rom list x call) same c))
+                  (λ same. from_here call (subst (λ (x : KeyedWord). CallsFrom rom list x call) same c))
                   (now_or_here place there);
             }
           where

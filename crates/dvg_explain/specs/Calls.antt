@@ -14,12 +14,12 @@ use Rattle.dvg_items.specs.Least.{HoldsAll, IsLeast, absolute_points}
 use Rattle.dvg_items.specs.Lit.{IsInside}
 pub use Rattle.dvg_explain.specs.declared.calls.Call.{Call}
 
--- these items, the latest first, stand one after another from the first place on (profile)
+-- these items, the latest first, stand one after another from the first word address on (profile)
 abbrev pub Stand : Kind → (ℕ → Option ℕ) → ℕ → List Item → Type 0
 Stand kind word first [] = Unit {0}
 Stand kind word first (i ∷ earlier) = LeadsTo kind word first earlier i.at × (cell_at word i.at ≡ Holds i.format i.instr)
 
--- they are all: none stands after them (profile)
+-- these are all items from there on: none stands after them (profile)
 pub record AreAll (kind : Kind) (word : ℕ → Option ℕ) (first : ℕ) (items : List Item) : Type 0 where
   pub stand : Stand kind word first items
   pub last : (next : Item) → Stand kind word first (next ∷ items) → ⊥
@@ -34,11 +34,11 @@ abbrev pub calls_among : Context → List Item → List Call
 calls_among c [] = []
 calls_among c (i ∷ earlier) = calls_among c earlier ++ call_of i (callee c earlier i.instr)
 
--- these are the calls of all items from a place on (profile)
+-- these are the calls of all items from a word address on (profile)
 abbrev pub AreCalls : Context → (ℕ → Option ℕ) → ℕ → List Call → Type 0
 AreCalls c word first calls = (items : List Item) × AreAll c.kind word first items × (calls ≡ calls_among c items)
 
--- this is the least box of what all items from a place on light at absolute places (profile)
+-- the box is the least one of what all items from a word address on light at absolute places (profile)
 abbrev pub IsExtent : Context → (ℕ → Option ℕ) → ℕ → LitBox → Type 0
 IsExtent c word first box = (items : List Item) × AreAll c.kind word first items × IsLeast (absolute_points c items) box
 
@@ -47,11 +47,11 @@ abbrev pub HoldsShape : Rom → List Entry → LitBox → Entry → Type 0
 HoldsShape rom list box e =
     (items : List Item) → AreAll Shape (rom_word rom) e.addr items → HoldsAll box (absolute_points (shape_context list e) items)
 
--- so of each entry of the list (profile)
+-- the box has all that the shapes of the list light at absolute places (profile)
 abbrev pub HoldsShapes : Rom → List Entry → LitBox → Type 0
 HoldsShapes rom list box = (e : Entry) → Contains list e → HoldsShape rom list box e
 
--- and it is part of each box that has (profile)
+-- the box is the least one that has all of it (profile)
 pub record IsShapesExtent (rom : Rom) (list : List Entry) (box : LitBox) : Type 0 where
   pub holds : HoldsShapes rom list box
   pub least : (other : LitBox) → HoldsShapes rom list other → IsInside box other

@@ -9,7 +9,7 @@ use Rattle.dvg_items.specs.Items.{LeadsTo}
 use Rattle.dvg_items.specs.Known.{Context, callee, frame_context, shape_context}
 use Rattle.dvg_explain.specs.Calls.{Call}
 
--- one of the items from a place on stands at the call's address, and calls or tail jumps to its entry (profile)
+-- one of the items from a word address on stands at the call's address, and calls or tail jumps to the call's entry (profile)
 pub record Calls (c : Context) (word : ℕ → Option ℕ) (first : ℕ) (call : Call) : Type 0 where
   pub earlier : List Item
   pub item : Item
@@ -18,19 +18,20 @@ pub record Calls (c : Context) (word : ℕ → Option ℕ) (first : ℕ) (call :
   pub at : call.at ≡ item.at
   pub callee_is : callee c earlier item.instr ≡ Some call.entry
 
--- a frame with these words has the call, or an entry's shape, by the entries of a list (profile)
-abbrev pub FrameCalls : List ℕ → List Entry → Call → Type 0
-FrameCalls words list call = Calls (frame_context list) (frame_word words) 0 call
+-- the call is one of a frame with these words, by the entries of a list (profile)
+abbrev pub IsFrameCall : List ℕ → List Entry → Call → Type 0
+IsFrameCall words list call = Calls (frame_context list) (frame_word words) 0 call
 
-abbrev pub ShapeCalls : Rom → List Entry → Entry → Call → Type 0
-ShapeCalls rom list e call = Calls (shape_context list e) (rom_word rom) e.addr call
+-- the call is one of an entry's shape (profile)
+abbrev pub IsShapeCall : Rom → List Entry → Entry → Call → Type 0
+IsShapeCall rom list e call = Calls (shape_context list e) (rom_word rom) e.addr call
 
 -- from an entry these calls lead to the goal: each stands in the shape of the entry before it, and the last names the goal (profile)
 abbrev pub LeadsOn : Rom → List Entry → Entry → List Call → Entry → Type 0
 LeadsOn rom list e [] goal = e ≡ goal
-LeadsOn rom list e (call ∷ rest) goal = ShapeCalls rom list e call × LeadsOn rom list call.entry rest goal
+LeadsOn rom list e (call ∷ rest) goal = IsShapeCall rom list e call × LeadsOn rom list call.entry rest goal
 
--- so from a frame, of which the first is a call (profile)
+-- from a frame these calls lead to the goal, and the first is the frame's own (profile)
 abbrev pub IsChain : Rom → List ℕ → List Entry → List Call → Entry → Type 0
 IsChain rom words list [] goal = ⊥
-IsChain rom words list (call ∷ rest) goal = FrameCalls words list call × LeadsOn rom list call.entry rest goal
+IsChain rom words list (call ∷ rest) goal = IsFrameCall words list call × LeadsOn rom list call.entry rest goal

@@ -5,20 +5,20 @@ use Rattle.dvg_words.specs.Memory.{Rom}
 use Rattle.dvg_cert.specs.declared.entry.Entry.{Entry}
 use Rattle.dvg_items.specs.Known.{depth_under, shape_context}
 use Rattle.dvg_explain.specs.Calls.{Call, calls_among}
-use Rattle.dvg_explain.specs.Chains.{ShapeCalls}
+use Rattle.dvg_explain.specs.Chains.{IsShapeCall}
 
--- in an entry's shape the call bears out the claimed depth, where that is not 0: its own entry's is one less, or the same behind a tail
--- jump (profile)
+-- the call stands in an entry's shape and bears out the claimed depth, which is not 0: the call's entry claims one less, or of a tail
+-- jump the same (profile)
 pub record BearsOut (rom : Rom) (list : List Entry) (e : Entry) (call : Call) : Type 0 where
-  pub calls : ShapeCalls rom list e call
+  pub calls : IsShapeCall rom list e call
   pub some : 0 < e.depth
   pub depth : depth_under calls.item.instr (Some call.entry) ≡ e.depth
 
--- it does not (profile)
+-- the call does not bear it out (profile)
 abbrev pub BearsNot : Rom → List Entry → Entry → Call → Type 0
 BearsNot rom list e call = BearsOut rom list e call → ⊥
 
--- it does, and no call before it (profile)
+-- the call bears it out, and no call before it does (profile)
 abbrev pub FirstBears : Rom → List Entry → Entry → Call → Type 0
 FirstBears rom list e call =
     (b : BearsOut rom list e call) × AllByRecursion (BearsNot rom list e) (calls_among (shape_context list e) b.calls.earlier)

@@ -1,4 +1,4 @@
--- By which items the place was lost that is lost before a place, and the scale that is unknown there. All of it is profile.
+-- The items by which the known place and the known scale were lost. All of it is profile.
 use Rattle.std.specs.Prelude.{◌≡◌, ℕ, List, [], ◌∷◌, Option, Some, None}
 use Rattle.dvg_cert.specs.declared.entry.End.{End}
 use Rattle.dvg_cert.specs.declared.entry.End.TheVariants.{Lost}
@@ -9,28 +9,29 @@ use Rattle.dvg_items.specs.Items.{LeadsTo}
 use Rattle.dvg_items.specs.Known.{Context, place_before, scale_before}
 pub use Rattle.dvg_explain.specs.declared.losses.Losses.{Losses}
 
--- the item by which the place past it is lost: itself, unless it was lost before; none, where it is not lost (profile)
+-- the item by which the place past an item was lost: this one, unless the place was lost before; none where it is not lost (profile)
 abbrev pub place_loss : Item → End → End → Option Item → Option Item
 place_loss i Lost Lost by = by
 place_loss i before Lost by = Some i
 place_loss i before after by = None
 
--- so of the scale (profile)
+-- the item by which the scale past an item was lost, likewise (profile)
 abbrev pub scale_loss : Item → Key → Key → Option Item → Option Item
 scale_loss i Any Any by = by
 scale_loss i before Any by = Some i
 scale_loss i before after by = None
 
--- of these items, the latest first, the one by which the place after them was lost (profile)
+-- the one of these items, the latest first, by which the place after them was lost (profile)
 abbrev pub place_lost_by : Context → List Item → Option Item
 place_lost_by c [] = None
 place_lost_by c (i ∷ earlier) = place_loss i (place_before c earlier) (place_before c (i ∷ earlier)) (place_lost_by c earlier)
 
+-- the one by which the scale after them was lost (profile)
 abbrev pub scale_lost_by : Context → List Item → Option Item
 scale_lost_by c [] = None
 scale_lost_by c (i ∷ earlier) = scale_loss i (scale_before c earlier) (scale_before c (i ∷ earlier)) (scale_lost_by c earlier)
 
--- these are those of the items that lead to a place (profile)
+-- these are the losses of the items that lead to a word address (profile)
 pub record AreLosses (c : Context) (word : ℕ → Option ℕ) (first at : ℕ) (l : Losses) : Type 0 where
   pub items : List Item
   pub leads : LeadsTo c.kind word first items at

@@ -2,6 +2,6 @@
 pub mod Breaking
 pub mod Walking
 pub mod Reaching
-pub mod Places
+pub mod KeyedWords
 pub mod Visiting
 pub mod Lighting

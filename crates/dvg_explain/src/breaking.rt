@@ -1,4 +1,4 @@
-//! The numbers of rules that an item breaks, in shapes and in frames.
+//! The numbers of a broken rule that are the same in shapes and in frames.
 
 ghost use Rattle.std.specs.Prelude.{◌≡◌, Some, None};
 ghost use Rattle.dvg_items.specs.Bounds.{IsSoundSeen};
@@ -12,7 +12,7 @@ use dvg_cert::LitBox;
 use dvg_items::{Kind, Seen, target};
 use dvg_words::Window;
 
-/// How what an item lights leaves the window.
+/// The first lit corner of an item that leaves the window.
 pub fn window_left(seen: &Seen, window: &Window) -> Leaving
     requires sound { IsSoundSeen seen.now }
     requires broken { LitInWindow window.now seen.now.extent seen.now.place → ⊥ }
@@ -24,7 +24,7 @@ pub fn window_left(seen: &Seen, window: &Window) -> Leaving
     }
 }
 
-/// How what an item lights leaves a box.
+/// The first lit corner of an item that leaves a box.
 pub fn box_left(seen: &Seen, lit: &LitBox) -> BoxLeaving
     requires sound { IsSoundSeen seen.now }
     requires broken { LitInBox lit.now seen.now.extent seen.now.place → ⊥ }
@@ -36,7 +36,7 @@ pub fn box_left(seen: &Seen, lit: &LitBox) -> BoxLeaving
     }
 }
 
-/// The word address that an item calls or tail jumps to, where no entry is named by it.
+/// The word address that an item calls or tail jumps to, if it names no entry.
 pub fn unnamed_target(kind: Kind, seen: &Seen) -> u16
     requires broken { HasCallee (target kind seen.now.item.instr) seen.now.callee → ⊥ }
     ensures target { target kind seen.now.item.instr ≡ Some result }

@@ -1,11 +1,11 @@
-//! The calls of a frame, and what its items may light at absolute places.
+//! The calls of a frame, and what its own items may light at absolute places.
 
 ghost use Rattle.std.specs.Prelude.{◌≡◌, IfOk};
 ghost use Rattle.dvg_words.specs.Memory.{frame_word};
 ghost use Rattle.dvg_items.specs.Known.{frame_context};
 ghost use Rattle.dvg_explain.specs.Calls.{AreCalls, IsExtent};
 
-use crate::items::{Start, calls_from, extent_from};
+use crate::items::{WalkContext, calls_from, extent_from};
 use dvg_cert::{Cert, Entries, Entry, LitBox};
 use dvg_words::FrameImage;
 use std::alloc::{AllocError, Global};
@@ -30,17 +30,17 @@ pub fn frame_calls<E: Entries>(
 {
     // Its clause says that the list is that of a certificate.
     let _entries = cert.entries();
-    calls_from(alloc, frame, entries, &Start::frame())
+    calls_from(alloc, frame, entries, &WalkContext::frame())
 }
 
 /// The least box of what a frame's own items may light at absolute places, in 1/1024 of a screen place: both ends of its lit draws,
-/// and the corners of the boxes that it calls, by the certificate's claims (profile). What these shapes light at absolute places is
-/// no part of it. `entries` are those of the certificate. Takes no memory.
+/// and the corners of the boxes of the shapes that it calls, by the certificate's claims (profile). It leaves out what these shapes
+/// themselves light at absolute places. `entries` are those of the certificate. Takes no memory.
 pub fn frame_extent<E: Entries>(cert: &Cert, entries: &E, frame: &FrameImage) -> LitBox
     requires { E.list entries.now ≡ cert.now.entries }
     ensures { IsExtent (frame_context cert.now.entries) (frame_word frame.now) 0 result }
 {
     // Its clause says that the list is that of a certificate.
     let _entries = cert.entries();
-    extent_from(frame, entries, &Start::frame())
+    extent_from(frame, entries, &WalkContext::frame())
 }

@@ -14,10 +14,10 @@ use dvg_items::{Cursor, Kind, Seen, Step, depth_under};
 use dvg_words::RomImage;
 use std::alloc::{AllocError, Global};
 
-/// The calls below an entry that go deepest, by the claims of a certificate: each is the first in the shape of the entry before it
-/// that bears out the depth that this claims, a call by an entry whose depth is one less, a tail jump by one whose depth is the same
-/// (profile). They end at an entry of depth 0, or where no call bears out the depth, or when they are as many as the entries; those
-/// of a made certificate end at depth 0. `entries` are those of the certificate. Goes over the items of each of these shapes once,
+/// The calls below an entry that go deepest, by the claims of a certificate. Each stands in the shape of the entry before it, and is
+/// the first one there that bears out this entry's depth: a call whose entry claims one less, or a tail jump whose entry claims the
+/// same (profile). They end at an entry of depth 0, or where no call bears out the depth, or when they are as many as the entries; in
+/// a made certificate they end at depth 0. `entries` are those of the certificate. Goes over the items of each of these shapes once,
 /// and takes memory for the calls alone.
 pub fn deepest_calls<E: Entries>(
     alloc: Global,
@@ -43,7 +43,7 @@ pub fn deepest_calls<E: Entries>(
     Ok(deepest)
 }
 
-/// The first call of an entry's shape that bears out what the entry claims as its depth.
+/// The first call of an entry's shape that bears out the depth that the entry claims.
 fn first_bearing<E: Entries>(rom: &RomImage, entries: &E, entry: &Entry) -> Option<Call>
     requires entries { IsSomeCertificate (E.list entries.now) }
     requires entry { IsClaim entry.now }
@@ -66,7 +66,7 @@ fn first_bearing<E: Entries>(rom: &RomImage, entries: &E, entry: &Entry) -> Opti
     None
 }
 
-/// The call of an item, where so many return places are stored at once under it.
+/// The call of an item, if exactly `depth` return places are stored at once under it.
 fn call_under(seen: &Seen, depth: u8) -> Option<Call>
     requires { IsSoundSeen seen.now }
     ensures some { IfSome result (λ call. (call.at ≡ seen.now.item.at) × (seen.now.callee ≡ Some call.entry)

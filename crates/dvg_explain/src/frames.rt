@@ -2,7 +2,8 @@
 
 ghost use Rattle.std.specs.Prelude.{◌≡◌, ◌≤◌, IfOk, IfErr};
 ghost use Rattle.dvg_cert.specs.declared.limits.TheConstants.{MOST_WORDS};
-ghost use Rattle.dvg_check.specs.Rules.{GoodFrame};
+ghost use Rattle.dvg_words.specs.declared.instruction.Instr.TheVariants.{Jmpl};
+ghost use Rattle.dvg_check.specs.Rules.{IsForward, GoodFrame};
 ghost use Rattle.dvg_check.specs.Finding.{FirstFrameFound, IsSoundFound};
 ghost use Rattle.dvg_check.specs.Safety.{Safe, CountsAtHalt};
 ghost use Rattle.dvg_check.specs.declared.fault.Mode.TheVariants.{Exact};
@@ -21,30 +22,41 @@ use dvg_words::{FrameImage, Instr, Window};
 #[derive(Clone, Copy, Debug, PartialEq, Eq)]
 pub enum FrameCause {
     /// 40: a word of the item is outside the frame.
-    Missing,
+    Unmapped,
     /// 41: the item is an odd LABS.
     Odd,
     /// 42: the item is RTSL.
-    Return,
+    ReturnInFrame,
     /// 43: the item is a jump to this word address, its own or a lower one.
-    JumpsBack(u16),
-    /// 44: it lights at a lost place.
-    LostPlace,
-    /// 45: it lights at unknown scale.
-    UnknownScale,
-    /// 46: a corner of what it lights leaves the window.
-    Leaves(Leaving),
-    /// 47: it calls this word address at this scale (`Any` where it is unknown), and no entry is named by them.
+    BackJump(u16),
+    /// 44: the item lights at a lost place.
+    BeamUnknown,
+    /// 45: the item lights at unknown scale.
+    ScaleUnknown,
+    /// 46: a corner of what the item lights leaves the window.
+    OffScreen(Leaving),
+    /// 47: the item calls this word address at this scale (`Any` where it is unknown), and no entry is named by them.
     NoEntry { to: u16, scale: Key },
-    /// 48: the words so far are over the budget by so many.
-    OverBudget(u32),
+    /// 48: the words so far are this many more than the budget.
+    Budget(u32),
 }
 
 /// A frame's first fault, what is known there, and the rule's own numbers.
-#[derive(Clone, Copy, Debug, PartialEq, Eq)]
+#[derive(Clone, Copy)]
 pub struct FrameAccount {
     pub finding: FrameFinding,
     pub cause: FrameCause,
+}
+
+/// The word address that an item jumps to, its own or a lower one.
+fn jump_target(seen: &Seen) -> u16
+    requires { IsForward seen.now.item.at seen.now.item.instr → ⊥ }
+    ensures { seen.now.item.instr ≡ Jmpl result }
+{
+    match seen.item.instr {
+        Instr::Jmpl { to } => to,
+        _ => unreachable!(),
+    }
 }
 
 /// Why an item that is there breaks a rule.
@@ -55,21 +67,18 @@ fn cause_of_item(seen: &Seen, finding: &FrameFinding, budget: u32, window: &Wind
     ensures { CauseOf window.now budget finding.now result }
 {
     match finding.fault.why {
-        FrameWhy::Unmapped => FrameCause::Missing,
+        FrameWhy::Unmapped => FrameCause::Unmapped,
         FrameWhy::Odd => FrameCause::Odd,
-        FrameWhy::ReturnInFrame => FrameCause::Return,
-        FrameWhy::BackJump => match seen.item.instr {
-            Instr::Jmpl { to } => FrameCause::JumpsBack(to),
-            _ => unreachable!(),
-        },
-        FrameWhy::BeamUnknown => FrameCause::LostPlace,
-        FrameWhy::ScaleUnknown => FrameCause::UnknownScale,
-        FrameWhy::OffScreen => FrameCause::Leaves(window_left(seen, window)),
+        FrameWhy::ReturnInFrame => FrameCause::ReturnInFrame,
+        FrameWhy::BackJump => FrameCause::BackJump(jump_target(seen)),
+        FrameWhy::BeamUnknown => FrameCause::BeamUnknown,
+        FrameWhy::ScaleUnknown => FrameCause::ScaleUnknown,
+        FrameWhy::OffScreen => FrameCause::OffScreen(window_left(seen, window)),
         FrameWhy::NoEntry => FrameCause::NoEntry {
             to: unnamed_target(Kind::Frame, seen),
             scale: finding.before.scale,
         },
-        FrameWhy::Budget => FrameCause::OverBudget(seen.after.words - budget),
+        FrameWhy::Budget => FrameCause::Budget(seen.after.words - budget),
     }
 }
 
@@ -80,7 +89,7 @@ fn cause_of(finding: &FrameFinding, budget: u32, window: &Window) -> FrameCause
     ensures { CauseOf window.now budget finding.now result }
 {
     match &finding.found {
-        Found::Missing => FrameCause::Missing,
+        Found::Missing => FrameCause::Unmapped,
         Found::Odd => FrameCause::Odd,
         Found::Seen(seen) => cause_of_item(seen, finding, budget, window),
     }

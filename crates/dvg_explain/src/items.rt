@@ -18,7 +18,7 @@ ghost use Rattle.dvg_explain.specs.Private.Visiting.{AreNewCalls};
 ghost use Rattle.dvg_explain.specs.Private.Walking.{IsSeenAt, context_of};
 
 use crate::calls::Call;
-use crate::places::Places;
+use crate::keyed_words::KeyedWords;
 use dvg_cert::{Entries, Entry, Key, LitBox};
 use dvg_items::{
     Cursor, Item, Kind, Seen, Step, absolute_corners, callee, scale_past, target, widened,
@@ -26,31 +26,31 @@ use dvg_items::{
 use dvg_words::{Cell, Fetch, RomImage, read_cell};
 use std::alloc::{AllocError, Global};
 
-/// Where items begin, and whose they are: their first word address, and the known scale there.
-#[derive(Clone, Copy, Debug, PartialEq, Eq)]
-pub struct Start {
+/// What a walk over items goes by: whose items they are, the word address of the first one, and the known scale there.
+#[derive(Clone, Copy)]
+pub struct WalkContext {
     pub kind: Kind,
     pub first: u16,
     pub scale: Key,
 }
 
-impl Start {
-    /// Those of a frame.
-    pub fn frame() -> Start
+impl WalkContext {
+    /// A walk over a frame.
+    pub fn frame() -> WalkContext
         ensures { result ≡ record { kind = Frame; first = 0; scale = Any } }
     {
-        Start {
+        WalkContext {
             kind: Kind::Frame,
             first: 0,
             scale: Key::Any,
         }
     }
 
-    /// Those of an entry's shape.
-    pub fn shape(entry: &Entry) -> Start
+    /// A walk over an entry's shape.
+    pub fn shape(entry: &Entry) -> WalkContext
         ensures { result ≡ record { kind = Shape; first = entry.now.addr; scale = entry.now.key } }
     {
-        Start {
+        WalkContext {
             kind: Kind::Shape,
             first: entry.addr,
             scale: entry.key,
@@ -58,7 +58,7 @@ impl Start {
     }
 }
 
-/// What the rules see of the item at a cursor, `None` where no item stands.
+/// What the rules see of the item at a cursor; `None` where no item stands there.
 pub fn see<F: Fetch, E: Entries>(memory: &F, entries: &E, kind: Kind, here: &Cursor) -> Option<Seen>
     requires entries { IsSomeCertificate (E.list entries.now) }
     requires here { IsSoundCursor here.now }
@@ -73,7 +73,7 @@ pub fn see<F: Fetch, E: Entries>(memory: &F, entries: &E, kind: Kind, here: &Cur
     Some(here.see(format, &instr, named))
 }
 
-/// Adds the call of an item, where it names an entry, this one.
+/// Adds the call of an item, if it names an entry.
 fn push_call(calls: &mut Vec<Call>, item: &Item, named: &Option<Entry>) -> Result<(), AllocError>
     ensures { OnOk result (calls.new.items ≡ calls.old.items ++ call_of item.now named.now) }
 {
@@ -83,23 +83,23 @@ fn push_call(calls: &mut Vec<Call>, item: &Item, named: &Option<Entry>) -> Resul
     Ok(())
 }
 
-/// The calls of all items from a start on, in their order.
+/// The calls of all items of a walk, in their order.
 pub fn calls_from<F: Fetch, E: Entries>(
     alloc: Global,
     memory: &F,
     entries: &E,
-    start: &Start,
+    walk: &WalkContext,
 ) -> Result<Vec<Call>, AllocError>
     requires entries { IsSomeCertificate (E.list entries.now) }
-    requires first { start.now.first < ADDRESS_END }
-    requires scale { IsKey start.now.scale }
-    ensures { IfOk result (λ calls. AreCalls (context_of (E.list entries.now) start.now) (F.words memory.now) start.now.first calls.items) }
+    requires first { walk.now.first < ADDRESS_END }
+    requires scale { IsKey walk.now.scale }
+    ensures { IfOk result (λ calls. AreCalls (context_of (E.list entries.now) walk.now) (F.words memory.now) walk.now.first calls.items) }
 {
     let mut calls = Vec::new(alloc);
-    let mut cursor = Cursor::start(start.kind, start.first, start.scale);
-    while let Some(seen) = see(memory, entries, start.kind, &cursor) {
+    let mut cursor = Cursor::start(walk.kind, walk.first, walk.scale);
+    while let Some(seen) = see(memory, entries, walk.kind, &cursor) {
         push_call(&mut calls, &seen.item, &seen.callee)?;
-        match seen.step(start.kind) {
+        match seen.step(walk.kind) {
             Step::Onward(next) => cursor = next,
             Step::Last(_) => return Ok(calls),
         }
@@ -107,15 +107,15 @@ pub fn calls_from<F: Fetch, E: Entries>(
     Ok(calls)
 }
 
-/// The calls of the items of an entry's shape, in their order, up to where it comes to a place that was visited before, at the same
-/// known scale: what it calls from there on, a shape that came by there calls, too. Visits the places that it goes by. What an item
-/// calls depends on its place and the known scale there alone, so nothing else of what is known is kept.
+/// The calls of an entry's shape, in their order, up to the first word that was visited before at the same known scale: from there on,
+/// the shape that visited it makes the same calls. Marks each word that it goes over as visited. What an item calls depends on its
+/// word address and on the known scale there alone, so nothing else of what is known is kept.
 pub fn new_calls<E: Entries>(
     alloc: Global,
     rom: &RomImage,
     entries: &E,
     entry: &Entry,
-    visited: &mut Places,
+    visited: &mut KeyedWords,
 ) -> Result<Vec<Call>, AllocError>
     requires entries { IsSomeCertificate (E.list entries.now) }
     requires key { IsKey entry.now.key }
@@ -141,7 +141,7 @@ pub fn new_calls<E: Entries>(
     Ok(calls)
 }
 
-/// The least box that also has what an item lights at an absolute place.
+/// The least box of a box and of what an item lights at an absolute place.
 fn lit_with(lit: &LitBox, seen: &Seen) -> LitBox
     requires { IsSoundSeen seen.now }
     ensures { (ps : List Point) → IsLeast ps lit.now → IsLeast (absolute_corners seen.now.extent seen.now.place ++ ps) result }
@@ -152,18 +152,18 @@ fn lit_with(lit: &LitBox, seen: &Seen) -> LitBox
     }
 }
 
-/// The least box of what all items from a start on light at absolute places.
-pub fn extent_from<F: Fetch, E: Entries>(memory: &F, entries: &E, start: &Start) -> LitBox
+/// The least box of what all items of a walk light at absolute places.
+pub fn extent_from<F: Fetch, E: Entries>(memory: &F, entries: &E, walk: &WalkContext) -> LitBox
     requires entries { IsSomeCertificate (E.list entries.now) }
-    requires first { start.now.first < ADDRESS_END }
-    requires scale { IsKey start.now.scale }
-    ensures { IsExtent (context_of (E.list entries.now) start.now) (F.words memory.now) start.now.first result }
+    requires first { walk.now.first < ADDRESS_END }
+    requires scale { IsKey walk.now.scale }
+    ensures { IsExtent (context_of (E.list entries.now) walk.now) (F.words memory.now) walk.now.first result }
 {
     let mut lit = LitBox::Empty;
-    let mut cursor = Cursor::start(start.kind, start.first, start.scale);
-    while let Some(seen) = see(memory, entries, start.kind, &cursor) {
+    let mut cursor = Cursor::start(walk.kind, walk.first, walk.scale);
+    while let Some(seen) = see(memory, entries, walk.kind, &cursor) {
         lit = lit_with(&lit, &seen);
-        match seen.step(start.kind) {
+        match seen.step(walk.kind) {
             Step::Onward(next) => cursor = next,
             Step::Last(_) => return lit,
         }

@@ -1,4 +1,4 @@
-//! Which edge a corner of what is lit leaves, and by how much.
+//! Which edge of a window or a box a lit corner is past, and by how much.
 
 ghost use Rattle.std.specs.Prelude.{◌≡◌, ◌∷◌, [], IfSome, IfNone};
 ghost use Rattle.dvg_words.specs.declared.map.TheConstants.{ADDRESS_END};
@@ -8,7 +8,7 @@ ghost use Rattle.dvg_items.specs.Lit.{LitInWindow, LitInBox, relative_corners};
 ghost use Rattle.dvg_explain.specs.Leaving.{window_limits, InLimits, IsLeft, FirstLeft, LeavesFrom, LeavesBox};
 
 use dvg_cert::{End, LitBox};
-use dvg_items::{LitExtent, absolute_corners, relative_corners};
+use dvg_items::{LitExtent, absolute_corners, box_corners, relative_corners};
 use dvg_words::{Point, Window};
 
 /// An edge of a window.
@@ -20,8 +20,7 @@ pub enum Edge {
     Top,
 }
 
-/// A corner of what is lit, the first edge that it is past (left, right, bottom, top), and by how much, in 1/1024 of a screen
-/// place.
+/// A lit corner, the first edge that it is past (in the order left, right, bottom, top), and by how much, in 1/1024 of a screen place.
 #[derive(Clone, Copy, Debug, PartialEq, Eq)]
 pub struct Leaving {
     pub corner: Point,
@@ -51,7 +50,19 @@ pub struct Limits {
 }
 
 impl Limits {
-    /// Those of a window.
+    /// The limits of a box with these corners, the lower left one and the upper right one.
+    fn between(low: &Point, high: &Point) -> Limits
+        ensures { result ≡ record { x_min = low.now.x; x_max = high.now.x; y_min = low.now.y; y_max = high.now.y } }
+    {
+        Limits {
+            x_min: low.x,
+            x_max: high.x,
+            y_min: low.y,
+            y_max: high.y,
+        }
+    }
+
+    /// The limits of a window.
     pub fn of_window(window: &Window) -> Limits
         ensures { result ≡ window_limits window.now }
     {
@@ -95,8 +106,8 @@ impl Limits {
     }
 }
 
-/// The first corner of what is lit at an absolute place that is not in a window, and the edge that it is past; `None` where all of
-/// it is in the window, or nothing is lit at an absolute place.
+/// The first corner of what an item lights at an absolute place that is not in a window, and the edge that it is past. `None` where
+/// both corners are in the window, or the item lights nothing at an absolute place.
 pub fn leaves_window(window: &Window, extent: &LitExtent, place: &End) -> Option<Leaving>
     requires place { IsNearPlace ADDRESS_END place.now }
     requires extent { IsNearExtent extent.now }
@@ -107,7 +118,7 @@ pub fn leaves_window(window: &Window, extent: &LitExtent, place: &End) -> Option
     Limits::of_window(window).first_left(&from, &to)
 }
 
-/// How a corner of what is lit leaves a box.
+/// How a corner of what an item lights leaves a box.
 #[derive(Clone, Copy, Debug, PartialEq, Eq)]
 pub enum BoxLeaving {
     /// The box is empty, and this corner is lit.
@@ -116,8 +127,8 @@ pub enum BoxLeaving {
     Past(Leaving),
 }
 
-/// The first corner of what is lit at a relative place that is not in a box, and how it leaves the box; `None` where all of it is in
-/// the box, or nothing is lit at a relative place.
+/// The first corner of what an item lights at a relative place that is not in a box, and how it leaves the box. `None` where both
+/// corners are in the box, or the item lights nothing at a relative place.
 pub fn leaves_box(lit: &LitBox, extent: &LitExtent, place: &End) -> Option<BoxLeaving>
     requires place { IsNearPlace ADDRESS_END place.now }
     requires extent { IsNearExtent extent.now }
@@ -125,22 +136,9 @@ pub fn leaves_box(lit: &LitBox, extent: &LitExtent, place: &End) -> Option<BoxLe
     ensures none { IfNone result (LitInBox lit.now extent.now place.now) }
 {
     let (from, to) = relative_corners(extent, place)?;
-    match lit {
-        LitBox::Empty => Some(BoxLeaving::Empty(from)),
-        LitBox::Span {
-            x_min,
-            x_max,
-            y_min,
-            y_max,
-        } => {
-            let limits = Limits {
-                x_min: *x_min,
-                x_max: *x_max,
-                y_min: *y_min,
-                y_max: *y_max,
-            };
-            let leaving = limits.first_left(&from, &to)?;
-            Some(BoxLeaving::Past(leaving))
-        }
-    }
+    let Some((low, high)) = box_corners(lit) else {
+        return Some(BoxLeaving::Empty(from));
+    };
+    let leaving = Limits::between(&low, &high).first_left(&from, &to)?;
+    Some(BoxLeaving::Past(leaving))
 }

@@ -1,4 +1,4 @@
-//! By which items the place was lost that is lost before a place, and the scale that is unknown there.
+//! The items by which the known place and the known scale were lost before a word.
 
 ghost use Rattle.std.specs.Prelude.{◌≡◌, ◌<◌, Contains, IfSome};
 ghost use Rattle.dvg_words.specs.Memory.{frame_word, rom_word};
@@ -9,20 +9,21 @@ ghost use Rattle.dvg_items.specs.Known.{frame_context, shape_context};
 ghost use Rattle.dvg_explain.specs.Losses.{AreLosses, place_loss, scale_loss};
 ghost use Rattle.dvg_explain.specs.Private.Walking.{context_of};
 
-use crate::items::{Start, see};
+use crate::items::{WalkContext, see};
 use dvg_cert::{Cert, End, Entries, Entry, Key};
 use dvg_items::{Cursor, Item, Known, Seen, Step};
 use dvg_words::{Fetch, FrameImage, RomImage};
 
-/// The items by which what is not known before a place was lost: by the one a known place became lost, by the other a known scale
-/// unknown, and nothing has set it since. `None` where it is known, or never was.
-#[derive(Clone, Copy, Debug, PartialEq, Eq)]
+/// The item by which the known place was lost, and the item by which the known scale was lost, if nothing has set it since. `None`
+/// where it is known, or never was.
+#[derive(Clone, Copy)]
 pub struct Losses {
     pub place: Option<Item>,
     pub scale: Option<Item>,
 }
 
-/// The item by which the place past an item is lost, where the one before it was lost by another.
+/// The item by which the place past an item was lost; `None` where it is known, or never was. `by` is the item by which the place before
+/// it was lost.
 fn place_loss(item: &Item, before: &End, after: &End, by: Option<Item>) -> Option<Item>
     ensures { result ≡ place_loss item.now before.now after.now by }
 {
@@ -33,7 +34,8 @@ fn place_loss(item: &Item, before: &End, after: &End, by: Option<Item>) -> Optio
     }
 }
 
-/// The item by which the scale past an item is unknown, where the one before it was lost by another.
+/// The item by which the scale past an item was lost; `None` where it is known, or never was. `by` is the item by which the scale before
+/// it was lost.
 fn scale_loss(item: &Item, before: Key, after: Key, by: Option<Item>) -> Option<Item>
     ensures { result ≡ scale_loss item.now before after by }
 {
@@ -51,7 +53,7 @@ impl Losses {
         scale: None,
     };
 
-    /// Those past an item, before which this is known.
+    /// The losses past an item. `self` are the losses before it, and `before` is what is known there.
     fn past(self, before: &Known, seen: &Seen) -> Losses
         ensures place { result.place ≡ place_loss seen.now.item before.now.place seen.now.after.place self.place }
         ensures scale { result.scale ≡ scale_loss seen.now.item before.now.scale seen.now.after.scale self.scale }
@@ -63,26 +65,26 @@ impl Losses {
     }
 }
 
-/// Those before a place that items from a start on lead to; `None` where they don't lead there.
+/// The losses before a word address of a walk; `None` where the items don't lead to it.
 fn losses_before<F: Fetch, E: Entries>(
     memory: &F,
     entries: &E,
-    start: &Start,
+    walk: &WalkContext,
     at: u16,
 ) -> Option<Losses>
     requires entries { IsSomeCertificate (E.list entries.now) }
-    requires first { start.now.first < ADDRESS_END }
-    requires scale { IsKey start.now.scale }
-    ensures { IfSome result (AreLosses (context_of (E.list entries.now) start.now) (F.words memory.now) start.now.first at) }
+    requires first { walk.now.first < ADDRESS_END }
+    requires scale { IsKey walk.now.scale }
+    ensures { IfSome result (AreLosses (context_of (E.list entries.now) walk.now) (F.words memory.now) walk.now.first at) }
 {
     let mut losses = Losses::NONE;
-    let mut cursor = Cursor::start(start.kind, start.first, start.scale);
+    let mut cursor = Cursor::start(walk.kind, walk.first, walk.scale);
     'items: while cursor.at != at {
-        let Some(seen) = see(memory, entries, start.kind, &cursor) else {
+        let Some(seen) = see(memory, entries, walk.kind, &cursor) else {
             return None;
         };
         losses = losses.past(&cursor.known, &seen);
-        match seen.step(start.kind) {
+        match seen.step(walk.kind) {
             Step::Onward(next) => cursor = next,
             Step::Last(_) => return None,
         }
@@ -90,9 +92,9 @@ fn losses_before<F: Fetch, E: Entries>(
     Some(losses)
 }
 
-/// The items of a frame by which the place that is lost before a word of it was lost, and the scale that is unknown there, by the
-/// entries of a certificate (profile). `None` where the frame's items don't lead to that word. `entries` are those of the
-/// certificate. Takes no memory.
+/// The items of a frame by which the known place and the known scale were lost before a word of the frame, by the claims of a
+/// certificate (profile). `None` where the frame's items don't lead to this word. `entries` are those of the certificate. Takes no
+/// memory.
 pub fn frame_losses<E: Entries>(
     cert: &Cert,
     entries: &E,
@@ -104,10 +106,11 @@ pub fn frame_losses<E: Entries>(
 {
     // Its clause says that the list is that of a certificate.
     let _entries = cert.entries();
-    losses_before(frame, entries, &Start::frame(), at)
+    losses_before(frame, entries, &WalkContext::frame(), at)
 }
 
-/// The same of an entry's shape and a word of the ROM.
+/// The items of an entry's shape by which the known place and the known scale were lost before a word of the ROM, as [`frame_losses`]
+/// says it of a frame.
 pub fn shape_losses<E: Entries>(
     rom: &RomImage,
     cert: &Cert,
@@ -121,5 +124,5 @@ pub fn shape_losses<E: Entries>(
 {
     // Its clause says that the list is that of a certificate.
     let _entries = cert.entries();
-    losses_before(rom, entries, &Start::shape(entry), at)
+    losses_before(rom, entries, &WalkContext::shape(entry), at)
 }

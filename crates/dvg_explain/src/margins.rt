@@ -8,6 +8,7 @@ ghost use Rattle.dvg_explain.specs.Margins.{AreMargins, limits_box};
 
 use crate::leaving::Limits;
 use dvg_cert::LitBox;
+use dvg_items::box_corners;
 use dvg_words::Window;
 
 /// How far a box is from each edge of the window that it lies in, in 1/1024 of a screen place.
@@ -19,7 +20,7 @@ pub struct Margins {
     pub top: u64,
 }
 
-/// How far the one place is below the other, `None` where it is above it.
+/// How far the first coordinate is below the second one; `None` where it is above it.
 fn distance_up(low: i64, high: i64) -> Option<u64>
     ensures some { IfSome result (λ by. high ≡ low +ℤ pos by) }
     ensures none { IfNone result (high <ℤ low) }
@@ -32,26 +33,18 @@ fn distance_up(low: i64, high: i64) -> Option<u64>
 }
 
 impl Margins {
-    /// Those of a box in a window; `None` where it is empty, or has a part outside the window.
+    /// The margins of a box in a window; `None` where the box is empty or has a part outside the window.
     pub fn within(window: &Window, lit: &LitBox) -> Option<Margins>
         ensures some { IfSome result (AreMargins (window_limits window.now) lit.now) }
         ensures none { IfNone result (IsInside lit.now (limits_box (window_limits window.now)) → lit.now ≡ Empty) }
     {
-        let LitBox::Span {
-            x_min,
-            x_max,
-            y_min,
-            y_max,
-        } = lit
-        else {
-            return None;
-        };
+        let (low, high) = box_corners(lit)?;
         let limits = Limits::of_window(window);
         Some(Margins {
-            left: distance_up(limits.x_min, *x_min)?,
-            right: distance_up(*x_max, limits.x_max)?,
-            bottom: distance_up(limits.y_min, *y_min)?,
-            top: distance_up(*y_max, limits.y_max)?,
+            left: distance_up(limits.x_min, low.x)?,
+            right: distance_up(high.x, limits.x_max)?,
+            bottom: distance_up(limits.y_min, low.y)?,
+            top: distance_up(high.y, limits.y_max)?,
         })
     }
 }

@@ -7,13 +7,13 @@ ghost use Rattle.dvg_explain.specs.Calls.{Call};
 ghost use Rattle.dvg_explain.specs.Private.Reaching.{reach, reach_all, IsBackward, IsTrace};
 
 use crate::calls::Call;
-use crate::places::Places;
+use crate::keyed_words::KeyedWords;
 use std::alloc::{AllocError, Global};
 use std::marker::Model;
 
-/// A call by which an entry was reached first, and the index of the link in whose entry's shape it stands; `None` where it is the
-/// frame's own.
-#[derive(Clone, Copy, Debug, PartialEq, Eq)]
+/// The call by which an entry was reached first. It stands in the shape of the entry of the link with index `from`; `None` where it is
+/// the frame's own.
+#[derive(Clone, Copy)]
 pub struct Link {
     pub call: Call,
     pub from: Option<usize>,
@@ -23,8 +23,8 @@ pub struct Link {
 #[derive(Drop)]
 pub struct Reached {
     links: Vec<Link>,
-    /// The address and the key of each link's entry.
-    names: Places,
+    /// The addresses and the keys of the links' entries.
+    names: KeyedWords,
 }
 
 impl Model for Reached {
@@ -45,7 +45,7 @@ impl Reached {
     {
         Ok(Reached {
             links: Vec::new(alloc),
-            names: Places::new(alloc)?,
+            names: KeyedWords::new(alloc)?,
         })
     }
 
@@ -56,7 +56,7 @@ impl Reached {
         self.links.get(index).copied()
     }
 
-    /// Adds a call, where its entry was not reached.
+    /// Adds a link, unless its entry was reached before.
     fn add(&mut self, link: Link) -> Result<(), AllocError>
         requires { IsClaim link.call.entry }
         ensures { OnOk result (self.new ≡ reach self.old link) }
@@ -69,7 +69,8 @@ impl Reached {
         Ok(())
     }
 
-    /// Adds calls, each where its entry was not reached, which stand in the shape of this link's entry, or are the frame's own.
+    /// Adds a link for each of these calls, unless its entry was reached before. The calls stand in the shape of the entry of the link
+    /// with index `from`; `None` where they are the frame's own.
     pub fn add_all(&mut self, calls: &[Call], from: Option<usize>) -> Result<(), AllocError>
         requires { All (λ (call : Call). IsClaim call.entry) calls.now }
         ensures { OnOk result (self.new ≡ reach_all self.old from calls.now) }
@@ -80,7 +81,7 @@ impl Reached {
         Ok(())
     }
 
-    /// The calls that lead to the link at an index, its own the last.
+    /// The calls that lead to the entry of the link at an index, the link's own call last.
     pub fn chain(&self, alloc: Global, last: usize) -> Result<Vec<Call>, AllocError>
         requires last { last < length self.now }
         requires backward { IsBackward self.now }

@@ -14,41 +14,41 @@ use dvg_check::{Found, Mode, ShapeFinding, ShapeWhy, find_shape_fault};
 use dvg_items::{Kind, Seen, depth_under};
 use dvg_words::{RomImage, Window};
 
-/// Why an item of a shape breaks a rule, in numbers. What the entry claims is that of the finding.
+/// Why an item of a shape breaks a rule, in numbers. The finding beside it has the entry, with what it claims.
 #[derive(Clone, Copy, Debug, PartialEq, Eq)]
 pub enum ShapeCause {
     /// 20: a word of the item is outside the ROM.
-    Missing,
+    Unmapped,
     /// 21: the item is an odd LABS.
     Odd,
     /// 22: the item is HALT.
-    Halt,
-    /// 23: it lights at a lost place.
-    LostPlace,
-    /// 24: it lights at unknown scale.
-    UnknownScale,
-    /// 25: a corner of what it lights leaves the window.
-    Leaves(Leaving),
-    /// 26: it calls or tail jumps to this word address at this scale (`Any` where it is unknown), and no entry is named by them.
+    HaltInShape,
+    /// 23: the item lights at a lost place.
+    BeamUnknown,
+    /// 24: the item lights at unknown scale.
+    ScaleUnknown,
+    /// 25: a corner of what the item lights leaves the window.
+    OffScreen(Leaving),
+    /// 26: the item calls or tail jumps to this word address at this scale (`Any` where it is unknown), and no entry is named by them.
     NoEntry { to: u16, scale: Key },
-    /// 27: so many return places are stored at once under it, more than claimed.
+    /// 27: this many return places are stored at once under the item, more than claimed.
     TooDeep(u8),
-    /// 28: the words so far are over the claimed ones by so many.
+    /// 28: the words so far are this many more than claimed.
     TooManyWords(u32),
     /// 29: the place at the end is this one, and another is claimed.
     EndDiffers(End),
     /// 30: the scale at the end is this one, and another is claimed.
     ScaleDiffers(Key),
-    /// 31: a corner of what it lights leaves the claimed box.
-    LeavesBox(BoxLeaving),
-    /// 32: so many words are needed, and others are claimed.
+    /// 31: a corner of what the item lights leaves the claimed box.
+    BoxTooSmall(BoxLeaving),
+    /// 32: the shape needs this many words, and another number is claimed.
     WordsDiffer(u32),
-    /// 33: so many return places are needed, and others are claimed.
+    /// 33: the shape needs this many return places, and another number is claimed.
     DepthDiffers(u8),
 }
 
 /// The first fault of a certificate's shapes, what is known there, and the rule's own numbers.
-#[derive(Clone, Copy, Debug, PartialEq, Eq)]
+#[derive(Clone, Copy)]
 pub struct ShapeAccount {
     pub finding: ShapeFinding,
     pub cause: ShapeCause,
@@ -62,12 +62,12 @@ fn cause_of_item(seen: &Seen, finding: &ShapeFinding, mode: Mode, window: &Windo
     ensures { ShapeCauseOf window.now finding.now result }
 {
     match finding.fault.why {
-        ShapeWhy::Unmapped => ShapeCause::Missing,
+        ShapeWhy::Unmapped => ShapeCause::Unmapped,
         ShapeWhy::Odd => ShapeCause::Odd,
-        ShapeWhy::HaltInShape => ShapeCause::Halt,
-        ShapeWhy::BeamUnknown => ShapeCause::LostPlace,
-        ShapeWhy::ScaleUnknown => ShapeCause::UnknownScale,
-        ShapeWhy::OffScreen => ShapeCause::Leaves(window_left(seen, window)),
+        ShapeWhy::HaltInShape => ShapeCause::HaltInShape,
+        ShapeWhy::BeamUnknown => ShapeCause::BeamUnknown,
+        ShapeWhy::ScaleUnknown => ShapeCause::ScaleUnknown,
+        ShapeWhy::OffScreen => ShapeCause::OffScreen(window_left(seen, window)),
         ShapeWhy::NoEntry => ShapeCause::NoEntry {
             to: unnamed_target(Kind::Shape, seen),
             scale: finding.before.scale,
@@ -76,7 +76,7 @@ fn cause_of_item(seen: &Seen, finding: &ShapeFinding, mode: Mode, window: &Windo
         ShapeWhy::TooManyWords => ShapeCause::TooManyWords(seen.after.words - finding.entry.words),
         ShapeWhy::EndDiffers => ShapeCause::EndDiffers(seen.after.place),
         ShapeWhy::ScaleDiffers => ShapeCause::ScaleDiffers(seen.after.scale),
-        ShapeWhy::BoxTooSmall => ShapeCause::LeavesBox(box_left(seen, &finding.entry.lit)),
+        ShapeWhy::BoxTooSmall => ShapeCause::BoxTooSmall(box_left(seen, &finding.entry.lit)),
         ShapeWhy::WordsDiffer => ShapeCause::WordsDiffer(seen.after.words),
         ShapeWhy::DepthDiffers => ShapeCause::DepthDiffers(seen.after.depth),
     }
@@ -89,7 +89,7 @@ fn cause_of(finding: &ShapeFinding, mode: Mode, window: &Window) -> ShapeCause
     ensures { ShapeCauseOf window.now finding.now result }
 {
     match &finding.found {
-        Found::Missing => ShapeCause::Missing,
+        Found::Missing => ShapeCause::Unmapped,
         Found::Odd => ShapeCause::Odd,
         Found::Seen(seen) => cause_of_item(seen, finding, mode, window),
     }

@@ -1,7 +1,8 @@
-//! Tails: what shapes light from a place on.
+//! What shapes light from a word of the ROM on.
 //!
-//! What a shape lights from a place on, seen from there, depends on that place and the scale alone. So a pass from the ROM's last
-//! word to the first entry makes it once for each, of the item that stands there and of what the shape lights behind it.
+//! What a shape lights from a word on, seen from the beam's place there, depends on this word and on the known scale alone. So a pass
+//! from the ROM's last word back to the first entry makes it once for each word and scale, of the item at the word and of what is lit
+//! behind this item.
 
 ghost use Rattle.std.specs.Prelude.{◌≡◌, ◌+◌, ◌<◌, ◌≤◌, pos, IfSome, List};
 ghost use Rattle.dvg_words.specs.Decoding.{InstrFits, cell_at};
@@ -17,37 +18,37 @@ ghost use Rattle.dvg_items.specs.Least.{IsLeast};
 ghost use Rattle.dvg_items.specs.Lit.{relative_corners};
 ghost use Rattle.dvg_check.specs.Private.Tails.{IsNearBox};
 ghost use Rattle.dvg_explain.specs.Calls.{IsExtent, IsShapesExtent};
-ghost use Rattle.dvg_explain.specs.Private.Lighting.{IsTail, AreTails, AreJoined, relative_part, absolute_part};
+ghost use Rattle.dvg_explain.specs.Private.Lighting.{IsLitFrom, AreTails, AreJoined, relative_part, absolute_part};
 
-use crate::items::{Start, extent_from};
+use crate::items::{WalkContext, extent_from};
 use dvg_cert::{Cert, End, Entries, Entry, Key, LitBox};
 use dvg_check::{KEYS, Keys, Needed, SLOTS, key_of, moved, slot_of};
 use dvg_items::{Cursor, Item, Kind, LitExtent, callee, joined, spanning, target};
 use dvg_words::{Cell, Point, RomImage, read_cell};
 
-/// The least boxes of what is lit at relative places and at absolute ones.
-#[derive(Clone, Copy, Debug, PartialEq, Eq)]
+/// The least boxes of what is lit at relative places and of what is lit at absolute places.
+#[derive(Clone, Copy)]
 pub struct Lit {
     pub relative: LitBox,
     pub absolute: LitBox,
 }
 
-/// What the shape that starts at a word address and a key lights.
-#[derive(Clone, Copy, Debug, PartialEq, Eq)]
-pub struct Tail {
+/// What a shape lights that starts at a word address and a key.
+#[derive(Clone, Copy)]
+pub struct LitFrom {
     pub addr: u16,
     pub key: Key,
     pub lit: Lit,
 }
 
-/// The tails that were made last. Each tells its own address and key, so one that is left from a further place is not taken
-/// for that of a nearer one.
+/// What is lit from the words on that were gone over last, each in the slot of its address and key. A slot may still hold what is lit
+/// from a later word on, so each has its own address and key to compare.
 #[derive(Drop)]
 pub struct Tails {
-    pub slots: [Option<Tail>; SLOTS],
+    pub slots: [Option<LitFrom>; SLOTS],
 }
 
-/// The least box of what an item lights, seen from the place before it; nothing where its scale is unknown.
+/// The least box of what an item lights, seen from the place before it. It is empty where the scale is unknown.
 fn lit_alone(extent: &LitExtent) -> LitBox
     requires { IsNearExtent extent.now }
     ensures least { IsLeast (relative_corners extent.now (Rel (pos 0) (pos 0))) result }
@@ -59,8 +60,8 @@ fn lit_alone(extent: &LitExtent) -> LitBox
     }
 }
 
-/// What an item lights that lights this box alone, and what is lit behind it, where a tail that lights this stands past it, at this
-/// place.
+/// What is lit from an item on, seen from the place before it: `alone` is the box of the item, `place` the place past it, and `tail`
+/// what is lit behind it, seen from that place.
 fn lit_over(alone: &LitBox, place: &End, tail: &Lit) -> Lit
     requires place { IsNearPlace 1 place.now }
     requires lit { IsNearBox (ADDRESS_END + 2) tail.now.relative }
@@ -87,7 +88,7 @@ fn lit_over(alone: &LitBox, place: &End, tail: &Lit) -> Lit
 }
 
 impl Tails {
-    /// None so far.
+    /// Empty slots.
     fn new() -> Tails
         ensures { (rom : Rom) (list : List Entry) → AreTails rom list result.slots }
     {
@@ -96,12 +97,12 @@ impl Tails {
         }
     }
 
-    /// The tail at a word address and a key, if it was made.
-    fn get(&self, at: u16, key: Key) -> Option<&Tail>
+    /// What is lit from a word address on at a key, if it was made.
+    fn get(&self, at: u16, key: Key) -> Option<&LitFrom>
         requires { IsKey key }
         ensures addr { IfSome result (λ tail. tail.now.addr ≡ at) }
         ensures key { IfSome result (λ tail. tail.now.key ≡ key) }
-        ensures tail { (rom : Rom) (list : List Entry) → AreTails rom list self.now.slots → IfSome result (λ tail. IsTail rom list tail.now) }
+        ensures tail { (rom : Rom) (list : List Entry) → AreTails rom list self.now.slots → IfSome result (λ tail. IsLitFrom rom list tail.now) }
     {
         let tail = self.slots[slot_of(at, key)].as_ref()?;
         if tail.addr == at && tail.key == key {
@@ -111,31 +112,31 @@ impl Tails {
         }
     }
 
-    /// Keeps a tail, in the place of the one that was kept where it belongs.
-    fn keep(&mut self, tail: Tail)
+    /// Puts what is lit from a word address on into its slot.
+    fn keep(&mut self, tail: LitFrom)
         requires { IsKey tail.key }
-        ensures { (rom : Rom) (list : List Entry) → AreTails rom list self.old.slots → IsTail rom list tail → AreTails rom list self.new.slots }
+        ensures { (rom : Rom) (list : List Entry) → AreTails rom list self.old.slots → IsLitFrom rom list tail → AreTails rom list self.new.slots }
     {
         self.slots[slot_of(tail.addr, tail.key)] = Some(tail);
     }
 }
 
-/// The tail that begins with an item at a key: `None` where the tail behind it was not made. The ROM, in which the item stands, serves
-/// the contract alone.
+/// What is lit from an item on at a key. `None` where it was not made for what stands behind the item. The ROM, in which the item
+/// stands, serves the contract alone.
 fn tail_at<E: Entries>(
     rom: &RomImage,
     entries: &E,
     item: &Item,
     key: Key,
     tails: &Tails,
-) -> Option<Tail>
+) -> Option<LitFrom>
     requires entries { IsSomeCertificate (E.list entries.now) }
     requires key { IsKey key }
     requires there { cell_at (rom_word rom.now) item.now.at ≡ Holds item.now.format item.now.instr }
     requires near { item.now.at < ADDRESS_END }
     requires fields { InstrFits item.now.instr }
     requires tails { AreTails rom.now (E.list entries.now) tails.now.slots }
-    ensures tail { IfSome result (IsTail rom.now (E.list entries.now)) }
+    ensures tail { IfSome result (IsLitFrom rom.now (E.list entries.now)) }
     ensures key { IfSome result (λ tail. IsKey tail.key) }
 {
     // What is seen of the first item doesn't depend on where it stands.
@@ -152,14 +153,14 @@ fn tail_at<E: Entries>(
             absolute: LitBox::Empty,
         },
     };
-    Some(Tail {
+    Some(LitFrom {
         addr: item.at,
         key,
         lit,
     })
 }
 
-/// Makes the tails at a word address, at these keys, those at the addresses behind it being made.
+/// Makes what is lit from a word address on, at these keys. It was made for later words before.
 fn make_tails<E: Entries>(rom: &RomImage, entries: &E, at: u16, keys: Keys, tails: &mut Tails)
     requires entries { IsSomeCertificate (E.list entries.now) }
     requires near { at < ADDRESS_END }
@@ -182,7 +183,7 @@ fn make_tails<E: Entries>(rom: &RomImage, entries: &E, at: u16, keys: Keys, tail
     }
 }
 
-/// Makes the tails at each word address from the last one of a range up to the first, at the keys that are needed.
+/// Makes what is lit from each word address on, of those from `from` on and below `to`, the last one first, at the keys that are needed.
 fn make_all<E: Entries>(
     rom: &RomImage,
     entries: &E,
@@ -206,7 +207,7 @@ fn make_all<E: Entries>(
     }
 }
 
-/// The least box of what the shape of an entry lights at absolute places: by its tail, or where that was not made, item by item.
+/// The least box of what the shape of an entry lights at absolute places. Where it was not made, the shape is gone over item by item.
 fn extent_of<E: Entries>(rom: &RomImage, entries: &E, entry: &Entry, tails: &Tails) -> LitBox
     requires entries { IsSomeCertificate (E.list entries.now) }
     requires addr { entry.now.addr < ADDRESS_END }
@@ -216,19 +217,19 @@ fn extent_of<E: Entries>(rom: &RomImage, entries: &E, entry: &Entry, tails: &Tai
 {
     match tails.get(entry.addr, entry.key) {
         Some(tail) => tail.lit.absolute,
-        None => extent_from(rom, entries, &Start::shape(entry)),
+        None => extent_from(rom, entries, &WalkContext::shape(entry)),
     }
 }
 
 /// The least box of what the shapes of a certificate's entries light at absolute places, in 1/1024 of a screen place, by the
-/// certificate's claims (profile). `entries` are those of the certificate. What is lit from a word of the ROM on, at a scale, is made
-/// once, however many shapes come by there. Takes no memory.
+/// certificate's claims (profile). `entries` are those of the certificate. What is lit from a word of the ROM on at a known scale is
+/// made once, however many shapes come by there. Takes no memory.
 pub fn shapes_extent<E: Entries>(rom: &RomImage, cert: &Cert, entries: &E) -> LitBox
     requires { E.list entries.now ≡ cert.now.entries }
     ensures { IsShapesExtent rom.now cert.now.entries result }
 {
     let list = cert.entries();
-    let needed = Needed::by(rom, entries, list);
+    let needed = Needed::for_entries(rom, entries, list);
     let mut tails = Tails::new();
     let mut lit = LitBox::Empty;
     let mut at = needed.end.min(rom.map().last() + 1);

@@ -4,7 +4,7 @@ ghost use Rattle.std.specs.Prelude.{◌≡◌, ◌≤◌, IfOk, IfErr};
 ghost use Rattle.dvg_words.specs.Memory.{rom_of};
 ghost use Rattle.dvg_cert.specs.declared.limits.TheConstants.{MOST_WORDS};
 ghost use Rattle.dvg_check.specs.declared.fault.Mode.TheVariants.{Exact};
-ghost use Rattle.dvg_check.specs.Verdict.{PartsVerdict, RomVerdict};
+ghost use Rattle.dvg_check.specs.Verdict.{RomVerdict};
 ghost use Rattle.dvg_check.specs.Safety.{Safe, CountsAtHalt};
 ghost use Rattle.dvg_explain.specs.Verdict.{refusal_of, verdict_of, TellsOf};
 
@@ -16,7 +16,7 @@ use dvg_words::{FrameImage, ImageFault, RomImage, Window};
 use std::alloc::Global;
 
 /// Why a ROM and a frame are refused by a certificate, in numbers.
-#[derive(Clone, Copy, Debug, PartialEq, Eq)]
+#[derive(Clone, Copy)]
 pub enum RomAccount {
     /// 1: the ROM's bytes are not exactly two for each address of the certificate's map.
     RomLength,
@@ -29,7 +29,7 @@ pub enum RomAccount {
 }
 
 impl RomAccount {
-    /// The refusal that it tells of.
+    /// The refusal that the account is of.
     pub fn refusal(&self) -> Refusal
         ensures { result ≡ refusal_of self.now }
     {
@@ -39,41 +39,6 @@ impl RomAccount {
             RomAccount::Shape(account) => Refusal::Shape(account.finding.fault),
             RomAccount::Frame(account) => Refusal::Frame(account.finding.fault),
         }
-    }
-}
-
-/// The same as [`explain_rom`] from the shapes on.
-fn explain_parts(
-    alloc: Global,
-    rom: &RomImage,
-    frame: &FrameImage,
-    cert: &Cert,
-    budget: u32,
-    window: Window,
-    mode: Mode,
-) -> Result<Yes, RomAccount>
-    requires { budget ≤ MOST_WORDS }
-    ensures verdict { PartsVerdict mode window rom.now cert.now.entries frame.now budget (verdict_of result) }
-    ensures account { IfErr result (TellsOf mode window rom.now cert.now.entries frame.now budget) }
-    ensures safe { IfOk result (λ yes. Safe (record { frame = frame.now; rom = rom.now }) window yes.words yes.depth) }
-    ensures exact { mode ≡ Exact → IfOk result (λ yes. CountsAtHalt (record { frame = frame.now; rom = rom.now }) yes.words yes.depth) }
-{
-    let listed = cert.entries().len();
-    let entries = match HashIndex::new(alloc, cert) {
-        Ok(entries) => entries,
-        Err(_) => return Err(RomAccount::IndexMemory),
-    };
-    if let Err(account) = explain_shapes(rom, cert, &entries, &window, mode) {
-        return Err(RomAccount::Shape(account));
-    }
-    let shapes = JudgedShapes::unchecked(rom, &entries, window, mode);
-    match explain_frame(&shapes, frame, budget) {
-        Ok(accepted) => Ok(Yes {
-            shapes: listed as u32,
-            words: accepted.words,
-            depth: accepted.depth,
-        }),
-        Err(account) => Err(RomAccount::Frame(account)),
     }
 }
 
@@ -98,8 +63,23 @@ pub fn explain_rom(
     ensures safe { IfOk result (λ yes. Safe (record { frame = frame.now; rom = rom_of cert.now.map rom.now }) window yes.words yes.depth) }
     ensures exact { mode ≡ Exact → IfOk result (λ yes. CountsAtHalt (record { frame = frame.now; rom = rom_of cert.now.map rom.now }) yes.words yes.depth) }
 {
-    match RomImage::from_bytes(rom, cert.map()) {
-        Ok(rom) => explain_parts(alloc, &rom, frame, cert, budget, window, mode),
-        Err(_) => Err(RomAccount::RomLength),
+    let Ok(rom) = RomImage::from_bytes(rom, cert.map()) else {
+        return Err(RomAccount::RomLength);
+    };
+    let listed = cert.entries().len();
+    let Ok(entries) = HashIndex::new(alloc, cert) else {
+        return Err(RomAccount::IndexMemory);
+    };
+    if let Err(account) = explain_shapes(&rom, cert, &entries, &window, mode) {
+        return Err(RomAccount::Shape(account));
+    }
+    let shapes = JudgedShapes::unchecked(&rom, &entries, window, mode);
+    match explain_frame(&shapes, frame, budget) {
+        Ok(accepted) => Ok(Yes {
+            shapes: listed as u32,
+            words: accepted.words,
+            depth: accepted.depth,
+        }),
+        Err(account) => Err(RomAccount::Frame(account)),
     }
 }

@@ -14,7 +14,7 @@ use Rattle.dvg_words.specs.declared.instruction.Instr.TheVariants.{Draw as Draws
 use Rattle.dvg_cert.specs.declared.entry.End.{End}
 use Rattle.dvg_cert.specs.declared.entry.End.TheVariants.{Rel, Abs, Lost}
 use Rattle.dvg_cert.specs.declared.limits.TheConstants.{MOST_WORDS}
-use Rattle.dvg_items.specs.Items.{Item, Kind, Shape, Frame, place_after, next_place}
+use Rattle.dvg_items.specs.Items.{Item, Kind, Shape, Frame, address_after, next_place}
 use Rattle.dvg_items.specs.Seen.{Seen}
 use Rattle.dvg_items.specs.Bounds.{IsNear, IsNearPlace, IsSoundCursor, IsSoundSeen}
 
@@ -43,7 +43,7 @@ pub word_count-few : (format : Format) → word_count format ≤ 2
 word_count-few Short = omega arith
 word_count-few Long = omega arith
 
-further : (kind : Kind) (at : ℕ) (format : Format) (instr : Instr) (p : ℕ) → place_after kind at format instr ≡ Some p → at + 1 ≤ p
+further : (kind : Kind) (at : ℕ) (format : Format) (instr : Instr) (p : ℕ) → address_after kind at format instr ≡ Some p → at + 1 ≤ p
 further kind at format (Draws d) p e = let q : at + word_count format ≡ p = cc in omega (arith, q, word_count-some format)
 further kind at format (Labs x y g) p e = let q : at + word_count format ≡ p = cc in omega (arith, q, word_count-some format)
 further kind at format Halt p e = cc
@@ -59,7 +59,7 @@ further Frame at format (Jmpl to) p e = by_test (nat_lt at to) refl e
 pub next_further : (kind : Kind) (i : Item) (p : ℕ) → next_place kind i ≡ Some p → i.at + 1 ≤ p
 next_further kind i p e = further kind i.at i.format i.instr p e
 
-pub next_near : (kind : Kind) (at : ℕ) (format : Format) (instr : Instr) (p : ℕ) → at < ADDRESS_END → InstrFits instr → place_after kind at format instr ≡ Some p → p ≤ ADDRESS_END + 2
+pub next_near : (kind : Kind) (at : ℕ) (format : Format) (instr : Instr) (p : ℕ) → at < ADDRESS_END → InstrFits instr → address_after kind at format instr ≡ Some p → p ≤ ADDRESS_END + 2
 next_near kind at format (Draws d) p lt h e = let q : at + word_count format ≡ p = cc in omega (arith, q, lt, word_count-few format)
 next_near kind at format (Labs x y g) p lt h e = let q : at + word_count format ≡ p = cc in omega (arith, q, lt, word_count-few format)
 next_near kind at format Halt p lt h e = cc

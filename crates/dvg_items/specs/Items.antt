@@ -9,19 +9,19 @@ pub use Rattle.dvg_items.specs.declared.item.Kind.{Kind}
 pub use Rattle.dvg_items.specs.declared.item.Kind.TheVariants.{Shape, Frame}
 pub use Rattle.dvg_items.specs.declared.item.Item.{Item}
 
--- where the item after an instruction stands: a frame goes on at a jump, but never backwards; a shape ends there (profile)
-abbrev pub place_after : Kind → ℕ → Format → Instr → Option ℕ
-place_after kind at format (Draws d) = Some (at + word_count format)
-place_after kind at format (Labs x y gscale) = Some (at + word_count format)
-place_after kind at format Halt = None
-place_after kind at format (Jsrl to) = Some (at + word_count format)
-place_after kind at format Rtsl = None
-place_after Shape at format (Jmpl to) = None
-place_after Frame at format (Jmpl to) = if nat_lt at to then Some to else None
+-- the word address of the item after an instruction: a frame goes on at a forward jump, and a shape ends at a jump (profile)
+abbrev pub address_after : Kind → ℕ → Format → Instr → Option ℕ
+address_after kind at format (Draws d) = Some (at + word_count format)
+address_after kind at format (Labs x y gscale) = Some (at + word_count format)
+address_after kind at format Halt = None
+address_after kind at format (Jsrl to) = Some (at + word_count format)
+address_after kind at format Rtsl = None
+address_after Shape at format (Jmpl to) = None
+address_after Frame at format (Jmpl to) = if nat_lt at to then Some to else None
 
--- none after the last item
+-- the word address of the next item; none after the last one
 abbrev pub next_place : Kind → Item → Option ℕ
-next_place kind i = place_after kind i.at i.format i.instr
+next_place kind i = address_after kind i.at i.format i.instr
 
 -- these items, the latest first, lead from the first place to this one, in a memory that is read by `word` (profile)
 abbrev pub LeadsTo : Kind → (ℕ → Option ℕ) → ℕ → List Item → ℕ → Type 0

@@ -1,10 +1,11 @@
 //! Boxes of what is lit.
 
-ghost use Rattle.std.specs.Prelude.{◌↔◌, ◌≤ℤ◌, IsTrue, List, ◌∷◌};
+ghost use Rattle.std.specs.Prelude.{◌≡◌, ◌↔◌, ◌≤ℤ◌, IsTrue, IfSome, IfNone, List, ◌∷◌};
 ghost use Rattle.dvg_words.specs.declared.beam.Point.{Point};
 ghost use Rattle.dvg_items.specs.Lit.{InBox, IsInside};
 ghost use Rattle.dvg_items.specs.Least.{IsLeast};
 ghost use Rattle.dvg_cert.specs.declared.entry.LitBox.{LitBox};
+ghost use Rattle.dvg_cert.specs.declared.entry.LitBox.TheVariants.{Empty, Span};
 
 use dvg_cert::LitBox;
 use dvg_words::Point;
@@ -27,6 +28,33 @@ pub fn is_in_box(lit: &LitBox, p: &Point) -> bool
             y_min,
             y_max,
         } => is_between(x_min, p.x, x_max) && is_between(y_min, p.y, y_max),
+    }
+}
+
+/// The corners of a box, the lower left one and the upper right one; `None` where it is empty.
+#[inline(always)]
+pub fn box_corners(lit: &LitBox) -> Option<(Point, Point)>
+    ensures some { IfSome result (λ c. lit.now ≡ Span c.0.x c.1.x c.0.y c.1.y) }
+    ensures none { IfNone result (lit.now ≡ Empty) }
+{
+    match lit {
+        LitBox::Empty => None,
+        LitBox::Span {
+            x_min,
+            x_max,
+            y_min,
+            y_max,
+        } => {
+            let low = Point {
+                x: *x_min,
+                y: *y_min,
+            };
+            let high = Point {
+                x: *x_max,
+                y: *y_max,
+            };
+            Some((low, high))
+        }
     }
 }
 

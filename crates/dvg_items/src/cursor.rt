@@ -16,14 +16,14 @@ use dvg_cert::{Entry, Key};
 use dvg_words::{Format, Instr};
 
 /// The word address where an item stands, and what is known before it.
-#[derive(Clone, Copy, Debug, PartialEq, Eq)]
+#[derive(Clone, Copy)]
 pub struct Cursor {
     pub at: u16,
     pub known: Known,
 }
 
 /// Where an item leads: to the next one, or to what is known after the last.
-#[derive(Clone, Copy, Debug, PartialEq, Eq)]
+#[derive(Clone, Copy)]
 pub enum Step {
     Onward(Cursor),
     Last(Known),

@@ -8,14 +8,14 @@ ghost use Rattle.dvg_items.specs.Known.{target};
 use dvg_words::{Format, Instr};
 
 /// Whose items they are.
-#[derive(Clone, Copy, Debug, PartialEq, Eq)]
+#[derive(Clone, Copy)]
 pub enum Kind {
     Shape,
     Frame,
 }
 
 /// The word address of an instruction's first word, and the instruction.
-#[derive(Clone, Copy, Debug, PartialEq, Eq)]
+#[derive(Clone, Copy)]
 pub struct Item {
     pub at: u16,
     pub format: Format,

@@ -6,14 +6,15 @@ ghost use Rattle.dvg_words.specs.Decoding.{InstrFits};
 ghost use Rattle.dvg_cert.specs.Entry.{IsKey, IsEnd};
 ghost use Rattle.dvg_cert.specs.declared.limits.TheConstants.{MOST_WORDS};
 ghost use Rattle.dvg_items.specs.Known.{callee_at, scale_set, draw_effect, stop_effect, callee_effect, effect_of, place_past, callee_words, depth_under, known_past, start};
-ghost use Rattle.dvg_items.specs.Bounds.{IsNearPlace, IsNearEffect, IsClaim, IsFewWords, IsSomeCertificate, IsSoundCursor};
+ghost use Rattle.dvg_words.specs.Beam.{shift};
+ghost use Rattle.dvg_items.specs.Bounds.{IsNear, IsNearPlace, IsNearEffect, IsClaim, IsFewWords, IsSomeCertificate, IsSoundCursor};
 
 use crate::item::{Item, Kind};
 use dvg_cert::{End, Entries, Entry, Key};
 use dvg_words::{Draw, Instr, Point, draw_move, labs_place, shift};
 
 /// What an item does to the place.
-#[derive(Clone, Copy, Debug, PartialEq, Eq)]
+#[derive(Clone, Copy)]
 pub enum Effect {
     Sets(Point),
     Loses,
@@ -71,6 +72,18 @@ fn effect_of(instr: &Instr, scale: Key, callee: &Option<Entry>) -> Effect
     }
 }
 
+/// The point that a move leads to from a point. `at`, the item's word address, serves the contract alone: it bounds the point.
+#[inline(always)]
+fn point_past(point: Point, by: &Point, at: u16) -> Point
+    requires at { at ≤ ADDRESS_END }
+    requires point { IsNear at point }
+    requires by { IsNear 1 by.now }
+    ensures value { result ≡ shift point by.now }
+    ensures near { IsNear (at + 1) result }
+{
+    shift(&point, by)
+}
+
 /// The place past an effect. `at`, the item's word address, serves the contract alone: it bounds the place before the item.
 #[inline(always)]
 pub fn place_past(effect: &Effect, place: &End, at: u16) -> End
@@ -84,11 +97,11 @@ pub fn place_past(effect: &Effect, place: &End, at: u16) -> End
         (Effect::Sets(p), _) => End::Abs { x: p.x, y: p.y },
         (Effect::Loses, _) | (_, End::Lost) => End::Lost,
         (Effect::Moves(d), End::Rel { x, y }) => {
-            let p = shift(&Point { x: *x, y: *y }, d);
+            let p = point_past(Point { x: *x, y: *y }, d, at);
             End::Rel { x: p.x, y: p.y }
         }
         (Effect::Moves(d), End::Abs { x, y }) => {
-            let p = shift(&Point { x: *x, y: *y }, d);
+            let p = point_past(Point { x: *x, y: *y }, d, at);
             End::Abs { x: p.x, y: p.y }
         }
     }

@@ -13,7 +13,7 @@ pub mod laws;
 mod lit;
 mod seen;
 
-pub use boxes::{is_in_box, joined, spanning, widened};
+pub use boxes::{box_corners, is_in_box, joined, spanning, widened};
 pub use cursor::{Cursor, Step};
 pub use item::{Item, Kind, target};
 pub use known::{Effect, Known, callee, depth_under, place_past, scale_past};

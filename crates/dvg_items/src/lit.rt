@@ -12,7 +12,7 @@ use dvg_cert::{End, Entry, Key, LitBox};
 use dvg_words::{Draw, Instr, Point, Window, draw_move, in_window, shift};
 
 /// What an item lights, seen from the place before it.
-#[derive(Clone, Copy, Debug, PartialEq, Eq)]
+#[derive(Clone, Copy)]
 pub enum LitExtent {
     Nothing,
     /// All of it between two corners.

@@ -13,7 +13,7 @@ use dvg_cert::{End, Entry};
 
 /// What the rules see of an item: the item, the place before it, what it lights, the entry that it calls, and what is
 /// known past it.
-#[derive(Clone, Copy, Debug, PartialEq, Eq)]
+#[derive(Clone, Copy)]
 pub struct Seen {
     pub item: Item,
     pub place: End,

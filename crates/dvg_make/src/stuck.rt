@@ -9,7 +9,7 @@ use crate::stack::Stack;
 use dvg_items::Cursor;
 
 /// Where a shape can't be made, with what is known there, and why.
-#[derive(Clone, Copy, Debug, PartialEq, Eq)]
+#[derive(Clone, Copy)]
 pub struct Stop {
     pub cursor: Cursor,
     pub cause: EntryCause,

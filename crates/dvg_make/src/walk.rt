@@ -31,7 +31,7 @@ use dvg_words::{Cell, Format, Instr, RomImage, read_cell};
 
 /// A shape in the making: its address and key, where its next item stands with what is known there, and the least box of
 /// what was lit so far.
-#[derive(Clone, Copy, Debug, PartialEq, Eq)]
+#[derive(Clone, Copy)]
 pub struct Walk {
     pub addr: u16,
     pub key: Key,
@@ -145,7 +145,7 @@ impl Walk {
 }
 
 /// How far a shape was made.
-#[derive(Clone, Copy, Debug, PartialEq, Eq)]
+#[derive(Clone, Copy)]
 pub enum Progress {
     /// Its entry, and where the walk ended: at its last item, or at a tail that was known.
     Finished { entry: Entry, at: u16 },

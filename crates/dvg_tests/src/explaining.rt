@@ -22,18 +22,18 @@ fn rom_bytes() -> [u8; 2048] {
 /// Frames with a budget of three words and no entry, the word address of the refusal, and its cause.
 const FRAMES: &[(&[u8], u16, FrameCause)] = &[
     // a LABS whose second word is not there
-    (&[0x00, 0xA2], 0, FrameCause::Missing),
+    (&[0x00, 0xA2], 0, FrameCause::Unmapped),
     // RTSL
-    (&[0x00, 0xD0], 0, FrameCause::Return),
+    (&[0x00, 0xD0], 0, FrameCause::ReturnInFrame),
     // JMPL 000
-    (&[0x00, 0xE0], 0, FrameCause::JumpsBack(0)),
+    (&[0x00, 0xE0], 0, FrameCause::BackJump(0)),
     // a lit stroke before any LABS
-    (&[0x00, 0x90, 0x01, 0x70], 0, FrameCause::LostPlace),
+    (&[0x00, 0x90, 0x01, 0x70], 0, FrameCause::BeamUnknown),
     // LABS to 0,512 at global scale 0, and a lit stroke of one screen place to the left
     (
         &[0x00, 0xA2, 0x00, 0x00, 0x00, 0x90, 0x01, 0x74],
         2,
-        FrameCause::Leaves(Leaving {
+        FrameCause::OffScreen(Leaving {
             corner: Point {
                 x: -1024,
                 y: 524_288,
@@ -55,7 +55,7 @@ const FRAMES: &[(&[u8], u16, FrameCause)] = &[
     (
         &[0x00, 0xA2, 0x00, 0x00, 0x00, 0xA2, 0x00, 0x00],
         2,
-        FrameCause::OverBudget(1),
+        FrameCause::Budget(1),
     ),
 ];
 
@@ -87,7 +87,7 @@ const CERTS: &[(&[u8], u16, ShapeCause)] = &[
     (
         b"dvgcert 1\nshape 800 any end rel 1024 0 box 0 1024 0 0 depth 0 words 3 scale any\ndone 1\n",
         0x800,
-        ShapeCause::UnknownScale,
+        ShapeCause::ScaleUnknown,
     ),
     (
         b"dvgcert 1\nshape 800 0 end rel 1024 0 box 0 1024 0 0 depth 0 words 2 scale 0\ndone 1\n",
@@ -107,7 +107,7 @@ const CERTS: &[(&[u8], u16, ShapeCause)] = &[
     (
         b"dvgcert 1\nshape 800 0 end rel 1024 0 box 0 512 0 0 depth 0 words 3 scale 0\ndone 1\n",
         0x800,
-        ShapeCause::LeavesBox(BoxLeaving::Past(Leaving {
+        ShapeCause::BoxTooSmall(BoxLeaving::Past(Leaving {
             corner: Point { x: 1024, y: 0 },
             edge: Edge::Right,
             by: 512,
@@ -116,7 +116,7 @@ const CERTS: &[(&[u8], u16, ShapeCause)] = &[
     (
         b"dvgcert 1\nshape 800 0 end rel 1024 0 box none depth 0 words 3 scale 0\ndone 1\n",
         0x800,
-        ShapeCause::LeavesBox(BoxLeaving::Empty(Point { x: 0, y: 0 })),
+        ShapeCause::BoxTooSmall(BoxLeaving::Empty(Point { x: 0, y: 0 })),
     ),
     (
         b"dvgcert 1\nshape 800 0 end rel 1024 0 box 0 1024 0 0 depth 0 words 4 scale 0\ndone 1\n",

@@ -1,4 +1,4 @@
--- Tails: what an item and the shape behind it come to, told as the entry that would be claimed for both. No rule stands here.
+-- Tails: the parts of shapes from a word on, told as the entries that claim exactly what they do. No rule stands here.
 use Rattle.std.specs.Prelude.{◌≡◌, ◌≢◌, ◌+◌, ◌-◌, ◌*◌, ◌≤◌, max, ◌+ℤ◌, ℕ, List, Option, Some, None, slice_index_or}
 use Rattle.dvg_words.specs.Values.{Window}
 use Rattle.dvg_words.specs.declared.beam.Point.{Point}
@@ -53,12 +53,11 @@ claimed addr key lit end =
 
 -- ---- an item and what stands behind it
 
--- the place past a part of a shape that ends so, from this place: as past a call
+-- the place past a tail that starts at this place and ends so: as past a call
 abbrev pub place_over : End → End → End
 place_over place stop = place_past (stop_effect stop) place
 
--- what is known after both parts of a shape, from what is known after the first and, of a shape that starts there, after the
--- second
+-- what is known past an item and the tail behind it: `first` past the item, `second` at the end of a shape that starts there
 abbrev pub known_over : Known → Known → Known
 known_over first second =
     record {
@@ -82,7 +81,7 @@ BoxInWindow w Empty = Unit {0}
 BoxInWindow w (Span x_min x_max y_min y_max) =
     InWindow w (record { x = x_min; y = y_min }) × InWindow w (record { x = x_max; y = y_max })
 
--- from this place, a shape's box may stand: at a relative place inside the whole box, at an absolute one in the window
+-- a tail with this box may be lit from this place: at a relative place inside the whole box, at an absolute one in the window
 abbrev pub MayStandAt : Window → LitBox → LitBox → End → Type 0
 MayStandAt w whole Empty place = Unit {0}
 MayStandAt w whole (Span l r b t) (Rel x y) = IsInside (moved (Span l r b t) (record { x = x; y = y })) whole
@@ -113,7 +112,7 @@ after_item list key box i tail = claimed i.at key box (known_over (first_seen li
 
 -- ---- keys
 
--- the number of a key among all, from 0 on
+-- the number of a key, 0 to 16
 abbrev pub key_number : Key → ℕ
 key_number (At scale) = scale
 key_number Any = 16
@@ -125,7 +124,7 @@ IsNearBox n Empty = Unit {0}
 IsNearBox n (Span x_min x_max y_min y_max) =
     IsNear n (record { x = x_min; y = y_min }) × IsNear n (record { x = x_max; y = y_max })
 
--- so many items, of which none calls a shape of more words than an entry may have, come to no more than this
+-- the numbers of an entry are within the limits for a shape of so many items
 pub record IsSmall (n : ℕ) (e : Entry) : Type 0 where
   pub key : IsKey e.key
   pub stop : IsNearPlace n e.stop
@@ -134,11 +133,11 @@ pub record IsSmall (n : ℕ) (e : Entry) : Type 0 where
   pub depth : e.depth ≤ 4
   pub lit : IsNearBox n e.lit
 
--- a good shape from this address and key on, whatever the mode, as small as the items that may stand there are few
+-- the entry is good in each mode, and its numbers are within the limits for the items that may stand from its address on
 pub record IsTail (w : Window) (rom : Rom) (list : List Entry) (tail : Entry) : Type 0 where
   pub good : (mode : Mode) → GoodShape mode w rom list tail
   pub small : IsSmall (ADDRESS_END + 2 - tail.addr) tail
 
--- all that stand in these slots are tails
+-- each of these slots is empty or holds a tail
 abbrev pub AreTails : Window → Rom → List Entry → List (Option Entry) → Type 0
 AreTails w rom list slots = (k : ℕ) (tail : Entry) → slice_index_or slots k None ≡ Some tail → IsTail w rom list tail

@@ -1,4 +1,4 @@
--- What a finding says of the rule that is broken.
+-- The rule of a finding is broken by what was found.
 use Rattle.std.specs.Prelude.{◌≡◌, ℕ}
 use Rattle.dvg_words.specs.Values.{Window}
 use Rattle.dvg_check.specs.declared.fault.FrameFinding.{FrameFinding}
@@ -10,7 +10,7 @@ use Rattle.dvg_check.specs.declared.fault.ShapeFinding.{ShapeFinding}
 use Rattle.dvg_check.specs.declared.fault.ShapeWhy.TheVariants as shape
 use Rattle.dvg_check.specs.Rules.{FrameKeeps, ShapeKeeps}
 
--- the rule is the one for what is missing, the one for an odd LABS, or the item that is there does not keep it
+-- no word and an odd LABS have a rule each, and an item does not keep the rule
 abbrev pub IsBrokenAt : Window → ℕ → FrameFinding → Found → Type 0
 IsBrokenAt w budget f Missing = f.fault.why ≡ frame.Unmapped
 IsBrokenAt w budget f Odd = f.fault.why ≡ frame.Odd

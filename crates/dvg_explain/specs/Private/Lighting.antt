@@ -1,4 +1,4 @@
--- What the tails of shapes light, seen from where they stand.
+-- What shapes light from a word on, seen from the place there.
 use Rattle.std.specs.Prelude.{◌≡◌, ◌+◌, ◌-◌, ℕ, List, Option, None, Some, slice_index_or}
 use Rattle.dvg_words.specs.Memory.{Rom, rom_word}
 use Rattle.dvg_words.specs.declared.map.TheConstants.{ADDRESS_END}
@@ -15,10 +15,10 @@ use Rattle.dvg_items.specs.Least.{IsLeast, lit_points, absolute_points}
 use Rattle.dvg_items.specs.Lit.{IsInside}
 use Rattle.dvg_check.specs.Private.Tails.{IsNearBox, moved}
 use Rattle.dvg_explain.specs.Calls.{AreAll}
-pub use Rattle.dvg_explain.specs.declared.tails.Tail.{Tail}
+pub use Rattle.dvg_explain.specs.declared.tails.LitFrom.{LitFrom}
 pub use Rattle.dvg_explain.specs.declared.tails.Lit.{Lit}
 
--- what a tail with this box at relative places lights from a place: at relative places, and at absolute ones
+-- what is lit from a place, where this box is lit at relative places: at relative places, and at absolute ones
 abbrev pub relative_part : End → LitBox → LitBox
 relative_part (Rel x y) box = moved box (record { x = x; y = y })
 relative_part (Abs x y) box = Empty
@@ -29,7 +29,7 @@ absolute_part (Rel x y) box = Empty
 absolute_part (Abs x y) box = moved box (record { x = x; y = y })
 absolute_part Lost box = Empty
 
--- the box has both, and is part of each box that has
+-- the box is the least one that has both
 pub record AreJoined (a b box : LitBox) : Type 0 where
   pub first : IsInside a box
   pub second : IsInside b box
@@ -39,14 +39,14 @@ pub record AreJoined (a b box : LitBox) : Type 0 where
 abbrev pub keyed : List Entry → Key → Context
 keyed list key = record { kind = Shape; list = list; scale = key }
 
--- the boxes are the least of what all items from the tail's address on light, and no item moves them far
-pub record IsTail (rom : Rom) (list : List Entry) (t : Tail) : Type 0 where
+-- the boxes are the least ones of what all items from the address on light, and their numbers are within the limits
+pub record IsLitFrom (rom : Rom) (list : List Entry) (t : LitFrom) : Type 0 where
   pub items : List Item
   pub all : AreAll Shape (rom_word rom) t.addr items
   pub relative : IsLeast (lit_points (keyed list t.key) items) t.lit.relative
   pub absolute : IsLeast (absolute_points (keyed list t.key) items) t.lit.absolute
   pub near : IsNearBox (ADDRESS_END + 2 - t.addr) t.lit.relative
 
--- all that stand in these slots are tails
-abbrev pub AreTails : Rom → List Entry → List (Option Tail) → Type 0
-AreTails rom list slots = (k : ℕ) (tail : Tail) → slice_index_or slots k None ≡ Some tail → IsTail rom list tail
+-- each of these slots is empty or holds what is lit from a word on
+abbrev pub AreTails : Rom → List Entry → List (Option LitFrom) → Type 0
+AreTails rom list slots = (k : ℕ) (tail : LitFrom) → slice_index_or slots k None ≡ Some tail → IsLitFrom rom list tail

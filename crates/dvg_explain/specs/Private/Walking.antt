@@ -1,4 +1,4 @@
--- A walk over all items from a place on.
+-- A walk over all items from a word address on.
 use Rattle.std.specs.Prelude.{◌≡◌, ℕ, List, Option}
 use Rattle.dvg_words.specs.Decoding.{cell_at}
 use Rattle.dvg_words.specs.declared.instruction.Cell.TheVariants.{Holds}
@@ -8,13 +8,13 @@ use Rattle.dvg_items.specs.declared.item.Kind.{Kind}
 use Rattle.dvg_items.specs.declared.seen.Seen.{Seen}
 use Rattle.dvg_items.specs.Known.{Context, callee_at, target}
 use Rattle.dvg_items.specs.Seen.{seen_with}
-pub use Rattle.dvg_explain.specs.declared.items.Start.{Start}
+pub use Rattle.dvg_explain.specs.declared.items.WalkContext.{WalkContext}
 
--- what items that begin so stand in
-abbrev pub context_of : List Entry → Start → Context
-context_of list start = record { kind = start.kind; list = list; scale = start.scale }
+-- the context of the items that a walk goes over, by the entries of a list
+abbrev pub context_of : List Entry → WalkContext → Context
+context_of list walk = record { kind = walk.kind; list = list; scale = walk.scale }
 
--- the item that stands where a walk stands, as the rules see it
+-- the item at the cursor of a walk, as the rules see it
 pub record IsSeenAt (list : List Entry) (kind : Kind) (word : ℕ → Option ℕ) (here : Cursor) (v : Seen) : Type 0 where
   pub at : v.item.at ≡ here.at
   pub stands : cell_at word here.at ≡ Holds v.item.format v.item.instr

@@ -8,8 +8,8 @@ use Rattle.dvg_explain.proofs.items.extent_from.Given as goal
 
 abbrev pub invariant-loop-seen : goal.invariant-loop-seen
 invariant-loop-seen g l =
-    let c = context_of (g.E.Entries.list l.entries) l.start in
-    (items : List Item) × Walked c (g.F.Fetch.words l.memory) l.start.first items l.cursor × IsLeast (absolute_points c items) l.lit
+    let c = context_of (g.E.Entries.list l.entries) l.walk in
+    (items : List Item) × Walked c (g.F.Fetch.words l.memory) l.walk.first items l.cursor × IsLeast (absolute_points c items) l.lit
 
 abbrev pub decreases-loop-seen : goal.decreases-loop-seen
 decreases-loop-seen g l = ADDRESS_END + 2 - l.cursor.at

@@ -8,8 +8,8 @@ use Rattle.dvg_explain.proofs.losses.losses_before.Given as goal
 
 abbrev pub invariant-items : goal.invariant-items
 invariant-items g l =
-    let c = context_of (g.E.Entries.list l.entries) l.start in
-    (items : List Item) × Walked c (g.F.Fetch.words l.memory) l.start.first items l.cursor
+    let c = context_of (g.E.Entries.list l.entries) l.walk in
+    (items : List Item) × Walked c (g.F.Fetch.words l.memory) l.walk.first items l.cursor
     × (l.losses.place ≡ place_lost_by c items) × (l.losses.scale ≡ scale_lost_by c items)
 
 abbrev pub decreases-items : goal.decreases-items

@@ -15,14 +15,14 @@ use Rattle.dvg_items.specs.declared.known.Known.{Known}
 use Rattle.dvg_items.proofs.Near.{next_near}
 use Rattle.dvg_check.specs.Private.Tails.{first_seen, IsNearBox}
 use Rattle.dvg_check.proofs.TailSizes.{IsNearBox-more}
-use Rattle.dvg_explain.specs.Private.Lighting.{AreJoined, Lit, Tail, relative_part, absolute_part}
+use Rattle.dvg_explain.specs.Private.Lighting.{AreJoined, Lit, LitFrom, relative_part, absolute_part}
 use Rattle.dvg_explain.proofs.TailLaws.{before, ending, part_near, seen_first}
 use Rattle.dvg_explain.proofs.tails.tail_at.Goals as goal
 use Rattle.dvg_explain.proofs.tails.tail_at.Goals.{in-Some+in_ok-tail-in-Some, in-None}
 
 pub lit_over-lit-requires-clause-lit : goal.lit_over-lit-requires-clause-lit
 lit_over-lit-requires-clause-lit g c =
-    let tail : Tail = c.in_ok-tail-in-Some.tail.now in
+    let tail : LitFrom = c.in_ok-tail-in-Some.tail.now in
     IsNearBox-more (ADDRESS_END + 2 - tail.addr) (ADDRESS_END + 2) tail.lit.relative (omega arith)
     (c.in_ok-tail-in-Some.ensures.tail c.args.rom.now (g.E.Entries.list c.args.entries.now) c.requires.tails).near
 
@@ -37,13 +37,13 @@ returns-clause-tail g c =
     let after = subst (λ (n : ℕ). IsNearPlace (n + 1) c.see-seen.result.after.place) first_at (c.see-seen.ensures.sound).place_after in
     elim c.match-next_place.branch [
       | in-Some+in_ok-tail-in-Some w ↦
-          let tail : Tail = w.in_ok-tail-in-Some.tail.now in
+          let tail : LitFrom = w.in_ok-tail-in-Some.tail.now in
           let h = w.in_ok-tail-in-Some.ensures in
           let goes : next_place Shape i ≡ Some w.in-Some.next = sym c.next_place.ensures ∙ w.in-Some.is in
           let scale = ap (λ (k : Known). k.scale) same.1 in
           let place : End = (first_seen list key i).after.place in
           let at_place : c.see-seen.result.after.place ≡ place = ap (λ (k : Known). k.place) same.1 in
-          let whole : Tail = record { addr = i.at; key = key; lit = c.match-next_place.lit } in
+          let whole : LitFrom = record { addr = i.at; key = key; lit = c.match-next_place.lit } in
           let relative = subst (λ (l : Lit). AreJoined c.lit_alone-alone.result (relative_part place tail.lit.relative) l.relative) (sym w.lit-is)
           (subst (λ (p : End). AreJoined c.lit_alone-alone.result (relative_part p tail.lit.relative) w.lit_over-lit.result.relative) at_place w.lit_over-lit.ensures.relative) in
           let absolute = subst (λ (l : Lit). AreJoined tail.lit.absolute (absolute_part place tail.lit.relative) l.absolute) (sym w.lit-is)
