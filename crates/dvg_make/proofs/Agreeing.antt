@@ -12,7 +12,7 @@ use Rattle.dvg_items.specs.Known.{target, scale_before}
 use Rattle.dvg_items.specs.declared.item.Item.{Item}
 use Rattle.dvg_items.specs.declared.item.Kind.TheVariants.{Shape}
 use Rattle.dvg_make.specs.Made.{MadeEntry}
-use Rattle.dvg_make.specs.Private.Walking.{keyed_context}
+use Rattle.dvg_make.specs.Private.Partial.{keyed_context}
 use Rattle.dvg_items.proofs.Listed.{listed_at}
 use Rattle.dvg_make.proofs.Matching.{Gathered, SameAt, Matched, gathered_same}
 use Rattle.dvg_make.proofs.Ends.{callee_less, same_sums, made_ends, sums_of}

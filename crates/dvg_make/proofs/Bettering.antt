@@ -34,7 +34,7 @@ use Rattle.dvg_check.specs.declared.fault.ShapeWhy.{ShapeWhy}
 use Rattle.dvg_check.specs.declared.fault.ShapeWhy.TheVariants as shape
 use Rattle.dvg_items.specs.Least.{lit_points, HoldsAll, IsLeast}
 use Rattle.dvg_make.specs.Made.{HasEntry, MadeEntry, IsMade, AllMade}
-use Rattle.dvg_make.specs.Private.Walking.{keyed_context, entry_of, AllFine, Extends}
+use Rattle.dvg_make.specs.Private.Partial.{keyed_context, entry_of, AllFine, Extends}
 use Rattle.dvg_make.specs.Private.Covering.{Loosens, LoosensPlace, KnowsMore, Refines, Covers, Upholds}
 use Rattle.dvg_make.proofs.Matching.{Gathered, gathered_same, exact_named, entry_at-append}
 use Rattle.dvg_make.proofs.Ends.{at_last, made_ends, ends_made}

@@ -6,12 +6,12 @@ use Rattle.dvg_cert.specs.declared.entry.Key.{Key}
 use Rattle.dvg_cert.specs.declared.entry.Key.TheVariants.{Any}
 use Rattle.dvg_items.specs.declared.item.Kind.TheVariants.{Shape}
 use Rattle.dvg_items.specs.Known.{start}
-use Rattle.dvg_make.specs.declared.stuck.FramesStuck.{FramesStuck}
+use Rattle.dvg_make.specs.declared.obstacle.BlockedCall.{BlockedCall}
 use Rattle.dvg_make.specs.declared.account.EntryCause.TheVariants as cause
 use Rattle.dvg_make.specs.Accounts.{EntryCause, MakeAccount, UnlessMemory, IsAccount, IsTold, HasCause, HasRootCause, entry_fault}
 use Rattle.dvg_make.specs.Judging.{FrameRefusal, Make, NoMemory, Check, IsRefusalBy, HasCallCause}
 use Rattle.dvg_make.specs.Refusals.{Memory, FrameCall, FramesFault, make_fault_of}
-use Rattle.dvg_make.specs.Private.Making.{links, stuck_fault, IsToldOf}
+use Rattle.dvg_make.specs.Private.Making.{shapes, blocked_fault, IsToldOf}
 
 unless_map : (c : EntryCause) (S T : Type 0) → (S → T) → UnlessMemory c S → UnlessMemory c T
 unless_map cause.Memory S T f h = tt
@@ -41,15 +41,15 @@ unless cause.TooManyEntries T t = t
 
 module _ (rom : Rom) (roots : List (ℕ × Key)) (frames : List (List ℕ)) where
   -- where the making stopped
-  pub stuck_cause : (refusal : FramesStuck) → IsToldOf rom roots frames refusal.call refusal.stuck.chain refusal.stuck.stop → HasCause rom roots frames (stuck_fault refusal)
+  pub stuck_cause : (refusal : BlockedCall) → IsToldOf rom roots frames refusal.call refusal.blocked.chain refusal.blocked.obstacle → HasCause rom roots frames (blocked_fault refusal)
   stuck_cause refusal told =
       record {
-        chain = links refusal.stuck.chain;
-        at = refusal.stuck.stop.cursor.at;
-        before = refusal.stuck.stop.cursor.known;
-        cause = refusal.stuck.stop.cause;
+        chain = shapes refusal.blocked.chain;
+        at = refusal.blocked.obstacle.cursor.at;
+        before = refusal.blocked.obstacle.cursor.known;
+        cause = refusal.blocked.obstacle.cause;
         why_is = refl;
-        told = unless refusal.stuck.stop.cause (IsToldOf rom roots frames refusal.call refusal.stuck.chain refusal.stuck.stop) told;
+        told = unless refusal.blocked.obstacle.cause (IsToldOf rom roots frames refusal.call refusal.blocked.chain refusal.blocked.obstacle) told;
       }
 
   -- where memory was out

@@ -29,7 +29,7 @@ use Rattle.dvg_check.proofs.Faults.{all_kept}
 use Rattle.dvg_items.proofs.Near.{word_count-some}
 use Rattle.dvg_items.specs.Least.{lit_points, HoldsAll, IsLeast}
 use Rattle.dvg_make.specs.Made.{HasEntry, EachItem, AtEnd, MadeKeeps, MadeEntry}
-use Rattle.dvg_make.specs.Private.Walking.{keyed_context, IsStraight, IsFine, AllFine}
+use Rattle.dvg_make.specs.Private.Partial.{keyed_context, IsStraight, IsFine, AllFine}
 pub use Rattle.dvg_make.specs.Private.Covering.{known_of}
 use Rattle.dvg_make.proofs.Boxes.{one_least}
 use Rattle.dvg_make.proofs.Matching.{Gathered, gathered, Matched, gathered_same, exact_named}

@@ -27,7 +27,7 @@ use Rattle.dvg_check.specs.declared.fault.FrameWhy.TheVariants as frame
 use Rattle.dvg_check.proofs.Modes.{in_bound}
 use Rattle.dvg_make.specs.Laws.{AllInWindow, NoneBetter}
 use Rattle.dvg_make.specs.Made.{Needs, MadeFor, AllMade}
-use Rattle.dvg_make.specs.Frames.{IsKeyed, AllKeyed, FrameCalls, IsAskedFor}
+use Rattle.dvg_make.specs.Frames.{IsKeyed, AllKeyed, FrameAsksFor, IsAskedFor}
 use Rattle.dvg_make.specs.Private.Covering.{KnowsMore, Covers, HasCover, Upholds}
 use Rattle.dvg_make.proofs.Matching.{exact_named}
 use Rattle.dvg_make.proofs.Ends.{callee_less, has_callee}
@@ -247,7 +247,7 @@ none_better rom words w mode list made budget count depth accepted m = (
     roots : (addr : ℕ) (key : Key) → IsAskedFor [] (words ∷ []) made addr key → HasCover list addr key
     roots addr key (inl x) = absurd (omega (arith, x.1))
     roots addr key (inr x) =
-        let calls : FrameCalls words made addr key = subst (λ z. FrameCalls z made addr key) (sym (only_frame words x.0 x.1)) x.2 in
+        let calls : FrameAsksFor words made addr key = subst (λ z. FrameAsksFor z made addr key) (sym (only_frame words x.0 x.1)) x.2 in
         subst (λ (k : Key). HasCover list addr k) calls.scale_is (frame_cover rom list up words w budget gf.keeps made all calls.earlier calls.item calls.leads calls.stands (all_keyed rom list up words w budget gf.keeps made all keyed calls.earlier calls.item.at calls.leads) addr calls.target_is)
 
     end : KnowsMore (known_before (frame_context list) gf.items) (known_before (frame_context made) gf.items)

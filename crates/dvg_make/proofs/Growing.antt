@@ -10,11 +10,11 @@ use Rattle.dvg_items.specs.declared.item.Item.{Item}
 use Rattle.dvg_items.specs.declared.item.Kind.TheVariants.{Shape}
 use Rattle.dvg_cert.specs.declared.entry.LitBox.{LitBox}
 use Rattle.dvg_items.specs.declared.known.Known.{Known}
-use Rattle.dvg_make.specs.declared.walk.Walk.{Walk}
+use Rattle.dvg_make.specs.declared.partial.PartialEntry.{PartialEntry}
 use Rattle.dvg_items.specs.Least.{IsLeast}
 use Rattle.dvg_make.specs.Made.{MadeEntry}
 use Rattle.dvg_make.specs.Accounts.{AllTaken}
-use Rattle.dvg_make.specs.Private.Walking.{keyed_context, IsStraight, IsAsked, AllFine, KnowsAt, IsWalk, Extends}
+use Rattle.dvg_make.specs.Private.Partial.{keyed_context, IsStraight, IsAsked, AllFine, KnowsAt, IsPartial, Extends}
 use Rattle.dvg_make.proofs.Matching.{Gathered, Matched, gathered_same, seen_matched}
 use Rattle.dvg_make.proofs.Ends.{made_ends, ends_made, same_sums, sums_of}
 use Rattle.dvg_make.proofs.Onward.{same_if, matched_fine, fine_taken}
@@ -53,7 +53,7 @@ module _ (a b : List Entry) (key : Key) (ext : Extends a b) where
         fine = fine_grows items k.fine;
       }
 
-pub walk_grows : (rom : Rom) (a b : List Entry) (w : Walk) → Extends a b → IsWalk rom a w → IsWalk rom b w
+pub walk_grows : (rom : Rom) (a b : List Entry) (w : PartialEntry) → Extends a b → IsPartial rom a w → IsPartial rom b w
 walk_grows rom a b w ext h =
     record { items = h.items; leads = h.leads; knows = knows_grows a b w.key ext h.items w.cursor.known w.lit h.knows; sound = h.sound; shallow = h.shallow; few = h.few; keyed = h.keyed }
 

@@ -44,7 +44,7 @@ use Rattle.dvg_items.proofs.Lists.{all_append, all_map}
 use Rattle.dvg_items.proofs.Near.{word_count-some}
 use Rattle.dvg_items.specs.Least.{lit_points, IsLeast}
 use Rattle.dvg_make.specs.Made.{HasEntry, MadeEntry}
-use Rattle.dvg_make.specs.Private.Walking.{keyed_context, entry_of, AllFine}
+use Rattle.dvg_make.specs.Private.Partial.{keyed_context, entry_of, AllFine}
 use Rattle.dvg_make.proofs.Matching.{exact_named}
 use Rattle.dvg_make.proofs.Ends.{callee_less, made_ends}
 

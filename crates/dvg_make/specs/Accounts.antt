@@ -18,11 +18,11 @@ use Rattle.dvg_items.specs.declared.item.Item.{Item}
 use Rattle.dvg_items.specs.declared.item.Kind.TheVariants.{Shape}
 use Rattle.dvg_items.specs.declared.known.Known.{Known}
 use Rattle.dvg_make.specs.Made.{HasEntry, AllMade}
-use Rattle.dvg_make.specs.Frames.{AllKeyed, FrameCalls, HasAsked}
+use Rattle.dvg_make.specs.Frames.{AllKeyed, FrameAsksFor, HasAsked}
 use Rattle.dvg_make.specs.Refusals.{EntryFault, MakeFault, FrameCall, FramesFault, make_fault_of}
 use Rattle.dvg_make.specs.declared.fault.EntryFault.TheVariants as fault
 pub use Rattle.dvg_make.specs.declared.account.MakeAccount.{MakeAccount}
-pub use Rattle.dvg_make.specs.declared.account.Link.{Link}
+pub use Rattle.dvg_make.specs.declared.account.ShapeAt.{ShapeAt}
 pub use Rattle.dvg_make.specs.declared.account.EntryCause.{EntryCause}
 pub use Rattle.dvg_make.specs.declared.account.EntryCause.TheVariants.{RootOutside, Missing, Odd, Halt, LostPlace, UnknownScale, Ring, Deep, TooManyWords, TooManyEntries, Memory}
 
@@ -57,14 +57,14 @@ AllTaken c (i ∷ earlier) = AllTaken c earlier × IsTaken c earlier i
 -- ---- from shape to shape
 
 -- items of the shape at this address and key lead to a place, the making stops at none of them, and this is known there (profile)
-pub record Reaches (rom : Rom) (list : List Entry) (shape : Link) (at : ℕ) (before : Known) : Type 0 where
+pub record Reaches (rom : Rom) (list : List Entry) (shape : ShapeAt) (at : ℕ) (before : Known) : Type 0 where
   pub items : List Item
   pub leads : LeadsTo Shape (rom_word rom) shape.addr items at
   pub taken : AllTaken (keyed_context list shape.key) items
   pub known : before ≡ known_before (keyed_context list shape.key) items
 
 -- the item at this place calls or tail jumps to the shape's address, and its key is the scale that is known there (profile)
-pub record CallsAt (rom : Rom) (at : ℕ) (before : Known) (shape : Link) : Type 0 where
+pub record CallsAt (rom : Rom) (at : ℕ) (before : Known) (shape : ShapeAt) : Type 0 where
   pub item : Item
   pub at_is : item.at ≡ at
   pub stands : cell_at (rom_word rom) item.at ≡ cell.Holds item.format item.instr
@@ -72,21 +72,21 @@ pub record CallsAt (rom : Rom) (at : ℕ) (before : Known) (shape : Link) : Type
   pub key_is : before.scale ≡ shape.key
 
 -- an item of the one shape calls or tail jumps to the other (profile)
-pub record Precedes (rom : Rom) (list : List Entry) (shape next : Link) : Type 0 where
+pub record Precedes (rom : Rom) (list : List Entry) (shape next : ShapeAt) : Type 0 where
   pub at : ℕ
   pub before : Known
   pub reaches : Reaches rom list shape at before
   pub calls : CallsAt rom at before next
 
 -- a shape and those of a chain: each calls or tail jumps to the next
-abbrev pub IsLinked : Rom → List Entry → Link → List Link → Type 0
+abbrev pub IsLinked : Rom → List Entry → ShapeAt → List ShapeAt → Type 0
 IsLinked rom list shape [] = Unit {0}
 IsLinked rom list shape (next ∷ chain) = Precedes rom list shape next × IsLinked rom list next chain
 
 -- the last of them
-abbrev pub last_link : Link → List Link → Link
-last_link shape [] = shape
-last_link shape (next ∷ chain) = last_link next chain
+abbrev pub last_shape : ShapeAt → List ShapeAt → ShapeAt
+last_shape shape [] = shape
+last_shape shape (next ∷ chain) = last_shape next chain
 
 -- ---- why
 
@@ -120,32 +120,32 @@ IsUnique [] = Unit {0}
 IsUnique (e ∷ list) = (entry_at list e.addr e.key ≡ None) × IsUnique list
 
 -- no two of these shapes are the same, and none has an entry yet
-abbrev pub AreUnmade : List Entry → List Link → Type 0
+abbrev pub AreUnmade : List Entry → List ShapeAt → Type 0
 AreUnmade list [] = Unit {0}
 AreUnmade list (shape ∷ chain) = (entry_at list shape.addr shape.key ≡ None) × (Contains chain shape → ⊥) × AreUnmade list chain
 
 -- the entries of the list and the shapes in the making, no two of them the same, are so many that there is no room for one more
-pub record IsFull (list : List Entry) (chain : List Link) : Type 0 where
+pub record IsFull (list : List Entry) (chain : List ShapeAt) : Type 0 where
   pub unique : IsUnique list
   pub unmade : AreUnmade list chain
   pub many : MOST_ENTRIES ≤ length list + length chain
 
 -- what a cause says of a place in the last shape of a chain (profile)
-abbrev pub CauseAt : Rom → List Entry → List Link → ℕ → Known → EntryCause → Type 0
+abbrev pub CauseAt : Rom → List Entry → List ShapeAt → ℕ → Known → EntryCause → Type 0
 CauseAt rom list chain at before RootOutside = ⊥
 CauseAt rom list chain at before Missing = cell_at (rom_word rom) at ≡ cell.Missing
 CauseAt rom list chain at before Odd = cell_at (rom_word rom) at ≡ cell.Odd
 -- the item calls the shape of the chain at this index
-CauseAt rom list chain at before (Ring from) = (shape : Link) × (slice_get chain from ≡ Some shape) × CallsAt rom at before shape
+CauseAt rom list chain at before (Ring from) = (shape : ShapeAt) × (slice_get chain from ≡ Some shape) × CallsAt rom at before shape
 -- the item calls what has no entry yet and is not of the chain, and there is no room for it
 CauseAt rom list chain at before TooManyEntries =
-    (shape : Link) × CallsAt rom at before shape × (entry_at list shape.addr shape.key ≡ None) × (Contains chain shape → ⊥)
+    (shape : ShapeAt) × CallsAt rom at before shape × (entry_at list shape.addr shape.key ≡ None) × (Contains chain shape → ⊥)
     × IsFull list chain
 CauseAt rom list chain at before Memory = Unit {0}
 CauseAt rom list chain at before cause = SaysAt rom list at before cause
 
 -- what a cause says of what is asked for itself, which was not begun (profile)
-abbrev pub CauseOf : Rom → List Entry → Link → EntryCause → Type 0
+abbrev pub CauseOf : Rom → List Entry → ShapeAt → EntryCause → Type 0
 CauseOf rom list asked RootOutside = InRom rom.map asked.addr × IsKey asked.key → ⊥
 CauseOf rom list asked TooManyEntries = (entry_at list asked.addr asked.key ≡ None) × IsFull list []
 CauseOf rom list asked Memory = Unit {0}
@@ -153,35 +153,35 @@ CauseOf rom list asked cause = ⊥
 
 -- what is told of an entry that is asked for: the chain begins with it, and by this list its shapes are linked, and what is told
 -- of the place in the last one is so; where there is no chain, it was not begun, and the place is its own (profile)
-abbrev pub Tells : Rom → List Entry → Link → List Link → ℕ → Known → EntryCause → Type 0
+abbrev pub Tells : Rom → List Entry → ShapeAt → List ShapeAt → ℕ → Known → EntryCause → Type 0
 Tells rom list asked [] at before cause = (at ≡ asked.addr) × (before ≡ start Shape asked.key) × CauseOf rom list asked cause
 Tells rom list asked (shape ∷ chain) at before cause =
-    (shape ≡ asked) × IsLinked rom list shape chain × Reaches rom list (last_link shape chain) at before
+    (shape ≡ asked) × IsLinked rom list shape chain × Reaches rom list (last_shape shape chain) at before
     × CauseAt rom list (shape ∷ chain) at before cause
 
 -- ---- what was asked for
 
 -- a root, where no call is named, else what that call calls, at the scale that is known there by this list. The list has an entry for
 -- all that is asked for before it: roots in their order, then frames in theirs, and the calls of each (profile)
-abbrev pub IsNamedBy : List (ℕ × Key) → List (List ℕ) → List Entry → Option FrameCall → Link → Type 0
+abbrev pub IsNamedBy : List (ℕ × Key) → List (List ℕ) → List Entry → Option FrameCall → ShapeAt → Type 0
 IsNamedBy roots frames list None asked =
     (root : ℕ) × (slice_get roots root ≡ Some (asked.addr, asked.key)) × HasAsked (take root roots) [] list
 IsNamedBy roots frames list (Some call) asked =
     (words : List ℕ) × (slice_get frames call.frame ≡ Some words)
-    × ((calls : FrameCalls words list asked.addr asked.key) × (calls.item.at ≡ call.at) × AllKeyed list calls.earlier)
+    × ((calls : FrameAsksFor words list asked.addr asked.key) × (calls.item.at ≡ call.at) × AllKeyed list calls.earlier)
     × HasAsked roots (take call.frame frames) list
 
 -- an item of the shape of one of the entries, or of a shape of the chain, calls or tail jumps to this shape (profile)
-pub record IsNeededBy (rom : Rom) (list : List Entry) (chain : List Link) (shape : Link) : Type 0 where
-  pub from : Link
+pub record IsNeededBy (rom : Rom) (list : List Entry) (chain : List ShapeAt) (shape : ShapeAt) : Type 0 where
+  pub from : ShapeAt
   pub there : HasEntry list from.addr from.key ⊎ Contains chain from
   pub precedes : Precedes rom list from shape
 
 -- each entry of the list is asked for, and then has an entry before it for all that is asked for earlier; or another entry or the chain
 -- needs it (profile)
-abbrev pub AllNeeded : Rom → List (ℕ × Key) → List (List ℕ) → List Entry → List Link → Type 0
+abbrev pub AllNeeded : Rom → List (ℕ × Key) → List (List ℕ) → List Entry → List ShapeAt → Type 0
 AllNeeded rom roots frames list chain =
-    (shape : Link) → HasEntry list shape.addr shape.key
+    (shape : ShapeAt) → HasEntry list shape.addr shape.key
     → ((call : Option FrameCall) × IsNamedBy roots frames list call shape) ⊎ IsNeededBy rom list chain shape
 
 -- each entry of the list is one that a certificate for the ROM may have (profile)
@@ -190,12 +190,12 @@ AllWithin rom list = (e : Entry) → Contains list e → IsEntry rom.map.rom_fir
 
 -- all that is told of a refusal: it is so by a list of made and needed entries (profile)
 pub record IsTold
-    (rom : Rom) (roots : List (ℕ × Key)) (frames : List (List ℕ)) (call : Option FrameCall) (chain : List Link) (at : ℕ)
+    (rom : Rom) (roots : List (ℕ × Key)) (frames : List (List ℕ)) (call : Option FrameCall) (chain : List ShapeAt) (at : ℕ)
     (before : Known) (cause : EntryCause) : Type 0 where
   pub list : List Entry
   pub within : AllWithin rom list
   pub made : AllMade rom list
-  pub asked : Link
+  pub asked : ShapeAt
   pub named : IsNamedBy roots frames list call asked
   pub needed : AllNeeded rom roots frames list chain
   -- with the shapes of the chain they are no more than a certificate may have
@@ -227,7 +227,7 @@ entry_fault at cause = fault.Unstraight at
 
 -- the refusal is that of some cause at some place, of which `IsTold` holds; where memory was out, nothing is told (profile)
 pub record HasCause (rom : Rom) (roots : List (ℕ × Key)) (frames : List (List ℕ)) (fault : FramesFault) : Type 0 where
-  pub chain : List Link
+  pub chain : List ShapeAt
   pub at : ℕ
   pub before : Known
   pub cause : EntryCause

@@ -12,7 +12,7 @@ use Rattle.dvg_items.specs.Known.{frame_context, target, scale_before}
 use Rattle.dvg_make.specs.Made.{HasEntry, MadeFor}
 
 -- an item of the frame with these words calls this address, at the scale that is known there by the list (profile)
-pub record FrameCalls (words : List ℕ) (list : List Entry) (to : ℕ) (scale : Key) : Type 0 where
+pub record FrameAsksFor (words : List ℕ) (list : List Entry) (to : ℕ) (scale : Key) : Type 0 where
   pub earlier : List Item
   pub item : Item
   pub leads : LeadsTo Frame (frame_word words) 0 earlier item.at
@@ -32,7 +32,7 @@ AllKeyed list (i ∷ earlier) = AllKeyed list earlier × IsKeyed list earlier i
 -- a root, or what one of the frames calls (profile)
 abbrev pub IsAskedFor : List (ℕ × Key) → List (List ℕ) → List Entry → ℕ → Key → Type 0
 IsAskedFor roots frames list addr key =
-    Contains roots (addr, key) ⊎ ((words : List ℕ) × Contains frames words × FrameCalls words list addr key)
+    Contains roots (addr, key) ⊎ ((words : List ℕ) × Contains frames words × FrameAsksFor words list addr key)
 
 -- the list has an entry for each of these roots, and for all that each of these frames calls (profile)
 abbrev pub HasAsked : List (ℕ × Key) → List (List ℕ) → List Entry → Type 0

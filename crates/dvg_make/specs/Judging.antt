@@ -13,7 +13,7 @@ pub use Rattle.dvg_make.specs.declared.judging.FrameRefusal.{FrameRefusal}
 pub use Rattle.dvg_make.specs.declared.judging.FrameRefusal.TheVariants.{Make, NoMemory, Check}
 use Rattle.dvg_make.specs.Frames.{FrameMade}
 use Rattle.dvg_make.specs.Accounts.{HasCause}
-use Rattle.dvg_make.specs.Refusals.{Memory, FrameCall, FramesFault, Accepts, BarsList, BarsFrame, StopsAt}
+use Rattle.dvg_make.specs.Refusals.{Memory, FrameCall, FramesFault, Accepts, BarsList, BarsFrame, CallBarredAt}
 
 -- no certificate gets the frame accepted in this window with fewer words, or less depth (profile)
 abbrev pub AreLeast : Rom → List ℕ → Window → ℕ → ℕ → Type 0
@@ -47,11 +47,11 @@ pub record ByMade (rom : Rom) (words : List ℕ) (w : Window) (budget : ℕ) (an
   pub verdict : PartsVerdict Exact w rom list words budget answer
 
 -- the verdict on a frame by its own certificate (profile)
-abbrev pub FrameVerdict : Rom → List ℕ → Window → ℕ → Result Yes FrameRefusal → Type 0
-FrameVerdict rom words w budget (Ok y) = ByMade rom words w budget (Ok y)
-FrameVerdict rom words w budget (Err (Check r)) = ByMade rom words w budget (Err r)
-FrameVerdict rom words w budget (Err (Make at why)) = StopsAt rom words at why
-FrameVerdict rom words w budget (Err NoMemory) = Unit {0}
+abbrev pub VerdictByMade : Rom → List ℕ → Window → ℕ → Result Yes FrameRefusal → Type 0
+VerdictByMade rom words w budget (Ok y) = ByMade rom words w budget (Ok y)
+VerdictByMade rom words w budget (Err (Check r)) = ByMade rom words w budget (Err r)
+VerdictByMade rom words w budget (Err (Make at why)) = CallBarredAt rom words at why
+VerdictByMade rom words w budget (Err NoMemory) = Unit {0}
 
 -- a refusal at a call of the frame has a cause that is told (profile)
 abbrev pub HasCallCause : Rom → List ℕ → FrameRefusal → Type 0

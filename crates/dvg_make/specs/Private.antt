@@ -1,5 +1,5 @@
 -- Definitions for the code alone; no rule uses them.
-pub mod Walking
+pub mod Partial
 pub mod Stacked
 pub mod Making
 pub mod Covering

@@ -15,7 +15,7 @@ pub use Rattle.dvg_make.specs.declared.fault.FrameCall.{FrameCall}
 pub use Rattle.dvg_make.specs.declared.fault.FramesFault.{FramesFault}
 use Rattle.dvg_cert.specs.declared.limits.TheConstants.{MOST_ENTRIES}
 use Rattle.dvg_make.specs.Made.{HasEntry, AllMade, Barred, Made}
-use Rattle.dvg_make.specs.Frames.{AllKeyed, FrameCalls, IsAskedFor, FramesMade}
+use Rattle.dvg_make.specs.Frames.{AllKeyed, FrameAsksFor, IsAskedFor, FramesMade}
 
 -- the number of a refusal (profile)
 abbrev pub fault_number : MakeFault → ℕ
@@ -94,12 +94,12 @@ BarsEntry rom addr key Memory = Unit {0}
 
 -- an item of the frame at this place calls, at the scale that is known there by a list of made entries, which has one for each
 -- call before it; and its own is not made (profile)
-pub record StopsAt (rom : Rom) (words : List ℕ) (at : ℕ) (why : EntryFault) : Type 0 where
+pub record CallBarredAt (rom : Rom) (words : List ℕ) (at : ℕ) (why : EntryFault) : Type 0 where
   pub list : List Entry
   pub made : AllMade rom list
   pub to : ℕ
   pub scale : Key
-  pub calls : FrameCalls words list to scale
+  pub calls : FrameAsksFor words list to scale
   pub at_is : calls.item.at ≡ at
   pub before : AllKeyed list calls.earlier
   pub barred : BarsEntry rom to scale why
@@ -109,4 +109,4 @@ pub record FramesRefuse (rom : Rom) (roots : List (ℕ × Key)) (frames : List (
   pub list : BarsList rom roots frames fault.why
   pub root : IfNone fault.call (BarsList rom roots [] fault.why)
   pub frame : IfSome fault.call (λ call.
-      (words : List ℕ) × (slice_get frames call.frame ≡ Some words) × StopsAt rom words call.at fault.why × BarsFrame rom words fault.why)
+      (words : List ℕ) × (slice_get frames call.frame ≡ Some words) × CallBarredAt rom words call.at fault.why × BarsFrame rom words fault.why)

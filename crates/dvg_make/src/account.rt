@@ -8,7 +8,7 @@ ghost use Rattle.dvg_make.specs.Private.Making.{TellsIt, TellsMemory};
 
 use crate::fault::{EntryFault, FramesFault};
 use crate::maker::{certificate_of, make_all};
-use crate::stuck::FramesStuck;
+use crate::obstacle::BlockedCall;
 use dvg_cert::{Cert, Key};
 use dvg_items::{Kind, Known};
 use dvg_words::{FrameImage, RomImage};
@@ -16,7 +16,7 @@ use std::alloc::{AllocError, Global};
 
 /// A shape on the way to a refusal: its word address, and the scale at which it is called, `Any` where it is not known.
 #[derive(Clone, Copy, Debug, PartialEq, Eq)]
-pub struct Link {
+pub struct ShapeAt {
     pub addr: u16,
     pub key: Key,
 }
@@ -85,7 +85,7 @@ impl From<AllocError> for EntryCause {
 #[derive(Drop)]
 pub struct MakeAccount {
     pub fault: FramesFault,
-    pub chain: Vec<Link>,
+    pub chain: Vec<ShapeAt>,
     pub at: u16,
     pub before: Known,
     pub cause: EntryCause,
@@ -108,17 +108,17 @@ fn out_of_memory(alloc: Global) -> MakeAccount
 }
 
 /// What is told of a refusal.
-fn account_of(alloc: Global, refusal: &FramesStuck) -> MakeAccount
+fn account_of(alloc: Global, refusal: &BlockedCall) -> MakeAccount
     ensures { TellsIt refusal.now result ⊎ TellsMemory result }
 {
-    let stop = refusal.stuck.stop;
-    match refusal.stuck.chain.links(alloc) {
+    let obstacle = refusal.blocked.obstacle;
+    match refusal.blocked.chain.shapes(alloc) {
         Ok(chain) => MakeAccount {
             fault: refusal.fault(),
             chain,
-            at: stop.cursor.at,
-            before: stop.cursor.known,
-            cause: stop.cause,
+            at: obstacle.cursor.at,
+            before: obstacle.cursor.known,
+            cause: obstacle.cause,
         },
         Err(_) => out_of_memory(alloc),
     }

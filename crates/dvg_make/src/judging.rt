@@ -6,7 +6,7 @@ ghost use Rattle.dvg_check.specs.Safety.{Safe, CountsAtHalt};
 ghost use Rattle.dvg_make.specs.Accounts.{entry_fault, IsAccount};
 ghost use Rattle.dvg_make.specs.Frames.{FrameMade};
 ghost use Rattle.dvg_make.specs.Refusals.{FramesRefuse};
-ghost use Rattle.dvg_make.specs.Judging.{AreLeast, FrameRefused, FrameVerdict, HasCallCause, IsRefusalBy};
+ghost use Rattle.dvg_make.specs.Judging.{AreLeast, FrameRefused, VerdictByMade, HasCallCause, IsRefusalBy};
 
 use crate::account::{MakeAccount, explain_making};
 use crate::fault::{EntryFault, FramesFault};
@@ -50,7 +50,7 @@ fn check_made(
     requires budget { budget ≤ MOST_WORDS }
     requires map { rom.now.map ≡ cert.now.map }
     requires made { FrameMade rom.now frame.now cert.now.entries }
-    ensures verdict { FrameVerdict rom.now frame.now window budget result }
+    ensures verdict { VerdictByMade rom.now frame.now window budget result }
     ensures safe { IfOk result (λ yes. Safe (record { frame = frame.now; rom = rom.now }) window yes.words yes.depth) }
     ensures exact { IfOk result (λ yes. CountsAtHalt (record { frame = frame.now; rom = rom.now }) yes.words yes.depth) }
     ensures least { IfOk result (λ yes. AreLeast rom.now frame.now window yes.words yes.depth) }
@@ -79,7 +79,7 @@ pub fn judge(
     window: Window,
 ) -> Result<Yes, FrameRefusal>
     requires { budget ≤ MOST_WORDS }
-    ensures verdict { FrameVerdict rom.now frame.now window budget result }
+    ensures verdict { VerdictByMade rom.now frame.now window budget result }
     ensures safe { IfOk result (λ yes. Safe (record { frame = frame.now; rom = rom.now }) window yes.words yes.depth) }
     ensures exact { IfOk result (λ yes. CountsAtHalt (record { frame = frame.now; rom = rom.now }) yes.words yes.depth) }
     ensures least { IfOk result (λ yes. AreLeast rom.now frame.now window yes.words yes.depth) }
@@ -114,7 +114,7 @@ pub fn explain_judging(
     requires { budget ≤ MOST_WORDS }
 
     // The verdict is one of `judge`.
-    ensures verdict { FrameVerdict rom.now frame.now window budget result.verdict }
+    ensures verdict { VerdictByMade rom.now frame.now window budget result.verdict }
     ensures safe { IfOk result.verdict (λ yes. Safe (record { frame = frame.now; rom = rom.now }) window yes.words yes.depth) }
     ensures exact { IfOk result.verdict (λ yes. CountsAtHalt (record { frame = frame.now; rom = rom.now }) yes.words yes.depth) }
     ensures least { IfOk result.verdict (λ yes. AreLeast rom.now frame.now window yes.words yes.depth) }

@@ -10,37 +10,37 @@ use Rattle.dvg_cert.specs.declared.entry.Key.{Key}
 use Rattle.dvg_items.specs.declared.item.Kind.TheVariants.{Frame}
 use Rattle.dvg_items.specs.Known.{target}
 use Rattle.dvg_make.specs.Made.{HasEntry, AllMade}
-use Rattle.dvg_make.specs.Frames.{AllKeyed, FrameCalls, IsAskedFor, FramesMade}
+use Rattle.dvg_make.specs.Frames.{AllKeyed, FrameAsksFor, IsAskedFor, FramesMade}
 use Rattle.dvg_make.specs.Accounts.{AllWithin}
-use Rattle.dvg_make.specs.Refusals.{BarsFrame, StopsAt, EntryFault, Unstraight, Deep, TooManyWords, TooManyEntries, Memory}
-use Rattle.dvg_make.specs.Private.Walking.{Extends}
-use Rattle.dvg_make.specs.declared.walk.Walk.{Walk}
-use Rattle.dvg_make.specs.declared.stuck.Stop.{Stop}
-use Rattle.dvg_make.specs.Private.Making.{HasAll, Making, Bars, IsCalled, Collected, TellsStop, IsToldFrom, IsNoRoot}
+use Rattle.dvg_make.specs.Refusals.{BarsFrame, CallBarredAt, EntryFault, Unstraight, Deep, TooManyWords, TooManyEntries, Memory}
+use Rattle.dvg_make.specs.Private.Partial.{Extends}
+use Rattle.dvg_make.specs.declared.partial.PartialEntry.{PartialEntry}
+use Rattle.dvg_make.specs.declared.obstacle.Obstacle.{Obstacle}
+use Rattle.dvg_make.specs.Private.Making.{HasAll, InProgress, Bars, IsCalled, Collected, TellsObstacle, IsToldFrom, IsNoRoot}
 
 -- the list has an entry for each call of the frame with these words
 abbrev pub HasCalls : List ℕ → List Entry → Type 0
-HasCalls words list = (to : ℕ) (scale : Key) → FrameCalls words list to scale → HasEntry list to scale
+HasCalls words list = (to : ℕ) (scale : Key) → FrameAsksFor words list to scale → HasEntry list to scale
 
 -- the entry that an instruction of a frame calls at this scale is made, where the one list was made before
 pub record IsCalledBy (rom : Rom) (old : List Entry) (instr : Instr) (scale : Key) (new : List Entry) (callee : Option Entry) : Type 0 where
   pub none : target Frame instr ≡ None → (new ≡ old) × (callee ≡ None)
-  pub some : (to : ℕ) → target Frame instr ≡ Some to → Making rom old (to, scale) new [] × HasEntry new to scale × (callee ≡ entry_at new to scale)
+  pub some : (to : ℕ) → target Frame instr ≡ Some to → InProgress rom old (to, scale) new [] × HasEntry new to scale × (callee ≡ entry_at new to scale)
 
 -- it is not made, and why
 abbrev pub BarsTarget : Rom → List Entry → Instr → Key → EntryFault → Type 0
 BarsTarget rom old instr scale why = (to : ℕ) × (target Frame instr ≡ Some to) × Bars rom old (to, scale) why
 
 -- what is told of it
-abbrev pub TellsTarget : Rom → List Entry → Instr → Key → List Walk → Stop → Type 0
-TellsTarget rom old instr scale chain stop =
-    (to : ℕ) × (target Frame instr ≡ Some to) × IsToldFrom rom old (to, scale) chain stop × IsNoRoot stop
+abbrev pub TellsTarget : Rom → List Entry → Instr → Key → List PartialEntry → Obstacle → Type 0
+TellsTarget rom old instr scale chain obstacle =
+    (to : ℕ) × (target Frame instr ≡ Some to) × IsToldFrom rom old (to, scale) chain obstacle × IsNoRoot obstacle
 
 -- what is made past a frame, where the one list was made before
 pub record IsFramed (rom : Rom) (words : List ℕ) (old new : List Entry) : Type 0 where
   pub has_calls : HasCalls words new
   pub calls : List (ℕ × Key)
-  pub calls_are : (to : ℕ) (scale : Key) → Contains calls (to, scale) → FrameCalls words new to scale
+  pub calls_are : (to : ℕ) (scale : Key) → Contains calls (to, scale) → FrameAsksFor words new to scale
   pub collected : (asked : List (ℕ × Key)) → Collected rom asked old → Collected rom (asked ++ calls) new
   pub forced : (list : List Entry) → AllMade rom list → Extends old list → HasCalls words list → Extends new list
 
@@ -62,11 +62,11 @@ BarsCalls rom words old Memory = Unit {0}
 
 -- and of the call at a place, and of the frame itself
 abbrev pub BarsHere : Rom → List ℕ → List Entry → ℕ → EntryFault → Type 0
-BarsHere rom words old at why = BarsCalls rom words old why × StopsAt rom words at why × BarsFrame rom words why
+BarsHere rom words old at why = BarsCalls rom words old why × CallBarredAt rom words at why × BarsFrame rom words why
 
 -- a call after items whose calls have their entries
 pub record KeyedCall (words : List ℕ) (list : List Entry) (to : ℕ) (scale : Key) : Type 0 where
-  pub calls : FrameCalls words list to scale
+  pub calls : FrameAsksFor words list to scale
   pub keyed : AllKeyed list calls.earlier
 
 -- what was asked for has its entry, or the frame calls this
@@ -74,26 +74,26 @@ abbrev pub IsGivenHere : List ℕ → List (ℕ × Key) → List Entry → ℕ �
 IsGivenHere words asked list addr key = Contains asked (addr, key) ⊎ KeyedCall words list addr key
 
 -- each entry is asked for, where the old ones were, or the frame calls it, or it is needed
-abbrev pub AllCalledHere : Rom → List ℕ → List Entry → List Entry → List Walk → Type 0
+abbrev pub AllCalledHere : Rom → List ℕ → List Entry → List Entry → List PartialEntry → Type 0
 AllCalledHere rom words old list chain =
     (asked : List (ℕ × Key)) → Collected rom asked old → (addr : ℕ) (key : Key) → HasEntry list addr key
     → IsGivenHere words asked list addr key ⊎ IsCalled rom list chain addr key
 
 -- what is told of the call at a place, by a list of made and needed entries, which has one for each call before it
-pub record TellsHere (rom : Rom) (words : List ℕ) (old : List Entry) (at : ℕ) (chain : List Walk) (stop : Stop) : Type 0 where
+pub record TellsHere (rom : Rom) (words : List ℕ) (old : List Entry) (at : ℕ) (chain : List PartialEntry) (obstacle : Obstacle) : Type 0 where
   pub list : List Entry
   pub within : AllWithin rom list
   pub made : AllMade rom list
   pub to : ℕ
   pub scale : Key
-  pub calls : FrameCalls words list to scale
+  pub calls : FrameAsksFor words list to scale
   pub at_is : calls.item.at ≡ at
   pub before : AllKeyed list calls.earlier
   pub extends : Extends old list
   pub needed : AllCalledHere rom words old list chain
   pub room : length list + length chain ≤ MOST_ENTRIES
-  pub tells : TellsStop rom list (to, scale) chain stop
-  pub no_root : IsNoRoot stop
+  pub tells : TellsObstacle rom list (to, scale) chain obstacle
+  pub no_root : IsNoRoot obstacle
 
 -- ---- frame after frame
 

@@ -24,18 +24,18 @@ use Rattle.dvg_items.specs.declared.known.Known.{Known}
 use Rattle.dvg_words.specs.declared.map.TheConstants.{ADDRESS_END}
 use Rattle.dvg_cert.specs.declared.entry.LitBox.{LitBox}
 use Rattle.dvg_cert.specs.declared.limits.TheConstants.{MOST_DEPTH, MOST_WORDS}
-use Rattle.dvg_make.specs.declared.walk.Walk.{Walk}
-use Rattle.dvg_make.specs.declared.walk.Progress.{Progress}
-use Rattle.dvg_make.specs.declared.walk.Progress.TheVariants.{Finished, Waiting}
+use Rattle.dvg_make.specs.declared.partial.PartialEntry.{PartialEntry}
+use Rattle.dvg_make.specs.declared.partial.Progress.{Progress}
+use Rattle.dvg_make.specs.declared.partial.Progress.TheVariants.{Finished, Waiting}
 use Rattle.dvg_check.specs.Private.Tails.{known_at_end, known_over}
 use Rattle.dvg_items.specs.Least.{lit_points, IsLeast}
 use Rattle.dvg_make.specs.Made.{HasEntry, MadeEntry, AllMade}
-use Rattle.dvg_make.specs.declared.stuck.Stop.{Stop}
-use Rattle.dvg_make.specs.Accounts.{Link, EntryCause, Missing, Odd, Reaches, CauseAt}
+use Rattle.dvg_make.specs.declared.obstacle.Obstacle.{Obstacle}
+use Rattle.dvg_make.specs.Accounts.{ShapeAt, EntryCause, Missing, Odd, Reaches, CauseAt}
 pub use Rattle.dvg_make.specs.Accounts.{keyed_context, IsStraight, IsAsked}
 
 -- before the first item
-abbrev pub start : ℕ → Key → Walk
+abbrev pub start : ℕ → Key → PartialEntry
 start addr key = record { addr = addr; key = key; cursor = first_cursor Shape addr key; lit = Empty }
 
 -- the entry by what is known, and was lit, after the last item
@@ -63,7 +63,7 @@ pub record KnowsAt (c : Context) (items : List Item) (known : Known) (lit : LitB
   pub least : IsLeast (lit_points c items) lit
   pub fine : AllFine c items
 
-pub record IsWalk (rom : Rom) (list : List Entry) (w : Walk) : Type 0 where
+pub record IsPartial (rom : Rom) (list : List Entry) (w : PartialEntry) : Type 0 where
   pub items : List Item
   pub leads : LeadsTo Shape (rom_word rom) w.addr items w.cursor.at
   pub knows : KnowsAt (keyed_context list w.key) items w.cursor.known w.lit
@@ -102,7 +102,7 @@ abbrev pub AreTails : Rom → List Entry → List Entry → Type 0
 AreTails rom list tails = (tail : Entry) → Contains tails tail → IsTail rom list tail
 
 -- the entry of a shape so far and of a tail behind it: what is known past both, and the least box that also has the tail's
-pub record EndsBy (w : Walk) (tail e : Entry) : Type 0 where
+pub record EndsBy (w : PartialEntry) (tail e : Entry) : Type 0 where
   pub known : Known
   pub lit : LitBox
   pub entry_is : e ≡ entry_of w.addr w.key known lit
@@ -112,7 +112,7 @@ pub record EndsBy (w : Walk) (tail e : Entry) : Type 0 where
   pub words : known.words ≤ MOST_WORDS
 
 -- that of a shape so far and of the tail that one of these is, where it stands
-pub record EndsByOne (w : Walk) (tails : List Entry) (e : Entry) : Type 0 where
+pub record EndsByOne (w : PartialEntry) (tails : List Entry) (e : Entry) : Type 0 where
   pub tail : Entry
   pub there : entry_at tails w.cursor.at w.cursor.known.scale ≡ Some tail
   pub ends : EndsBy w tail e
@@ -120,17 +120,17 @@ pub record EndsByOne (w : Walk) (tails : List Entry) (e : Entry) : Type 0 where
 -- ---- how far a shape was made
 
 -- its entry is made
-pub record IsFinished (rom : Rom) (list : List Entry) (w : Walk) (e : Entry) : Type 0 where
+pub record IsFinished (rom : Rom) (list : List Entry) (w : PartialEntry) (e : Entry) : Type 0 where
   pub addr : e.addr ≡ w.addr
   pub key : e.key ≡ w.key
   pub entry : IsEntry rom.map.rom_first rom.map.rom_last e
   pub made : MadeEntry rom list e
 
 -- it stands at an item that calls for an entry that is not there
-pub record IsWaiting (rom : Rom) (list : List Entry) (w new : Walk) (addr : ℕ) : Type 0 where
+pub record IsWaiting (rom : Rom) (list : List Entry) (w new : PartialEntry) (addr : ℕ) : Type 0 where
   pub same_addr : new.addr ≡ w.addr
   pub same_key : new.key ≡ w.key
-  pub walk : IsWalk rom list new
+  pub partial : IsPartial rom list new
   pub item : Item
   pub at : item.at ≡ new.cursor.at
   pub stands : cell_at (rom_word rom) item.at ≡ Holds item.format item.instr
@@ -139,19 +139,19 @@ pub record IsWaiting (rom : Rom) (list : List Entry) (w new : Walk) (addr : ℕ)
   pub near : addr < ADDRESS_END
   pub scale : IsKey new.cursor.known.scale
 
-abbrev pub Advances : Rom → List Entry → Walk → Progress → Type 0
+abbrev pub Advances : Rom → List Entry → PartialEntry → Progress → Type 0
 Advances rom list w (Finished e at) = IsFinished rom list w e
 Advances rom list w (Waiting new addr) = IsWaiting rom list w new addr
 
 -- its address and key
-abbrev pub link_of : Walk → Link
-link_of w = record { addr = w.addr; key = w.key }
+abbrev pub shape_of : PartialEntry → ShapeAt
+shape_of w = record { addr = w.addr; key = w.key }
 
 -- it stops at an item, and no made list has its entry
-pub record IsStopped (rom : Rom) (list : List Entry) (w : Walk) (stop : Stop) : Type 0 where
+pub record IsStopped (rom : Rom) (list : List Entry) (w : PartialEntry) (obstacle : Obstacle) : Type 0 where
   pub never : NeverAt rom list w.addr w.key
-  pub reaches : Reaches rom list (link_of w) stop.cursor.at stop.cursor.known
-  pub cause : CauseAt rom list [] stop.cursor.at stop.cursor.known stop.cause
+  pub reaches : Reaches rom list (shape_of w) obstacle.cursor.at obstacle.cursor.known
+  pub cause : CauseAt rom list [] obstacle.cursor.at obstacle.cursor.known obstacle.cause
 
 -- no item stands at this place of the ROM
 abbrev pub IsAbsent : Rom → ℕ → EntryCause → Type 0
