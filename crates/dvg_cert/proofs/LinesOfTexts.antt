@@ -289,9 +289,6 @@ not_both first last e n line small h k = let s = one_line first last line (Entry
 pub same_entry : (first last : ℕ) (e f : Entry) (line : List ℕ) → last < ADDRESS_END → IsLine first last (EntryLine e) line → IsLine first last (EntryLine f) line → e ≡ f
 same_entry first last e f line small h k = let s = one_line first last line (EntryLine e) (EntryLine f) small h k in cc
 
-pub same_count : (first last m n : ℕ) (line : List ℕ) → last < ADDRESS_END → IsLine first last (DoneLine m) line → IsLine first last (DoneLine n) line → m ≡ n
-same_count first last m n line small h k = let s = one_line first last line (DoneLine m) (DoneLine n) small h k in cc
-
 -- what is wrong may not stand
 pub wrong_goes : (why : CertWhy) (t : Taken) (line : List ℕ) → Small t → IsWrong t line why → GoesOn t line → ⊥
 wrong_goes why (Whole map es) line small w g = g
@@ -317,7 +314,9 @@ wrong_goes Order (Begun map es) line small w (inr g) = not_both map.rom_first ma
 wrong_goes TooLong (Begun map es) line small w (inl g) = absurd (omega (arith, g.3, w.3))
 wrong_goes TooLong (Begun map es) line small w (inr g) = not_both map.rom_first map.rom_last w.0 (length es) line small w.1 g
 wrong_goes Count (Begun map es) line small w (inl g) = not_both map.rom_first map.rom_last g.0 w.0 line small g.1 w.1
-wrong_goes Count (Begun map es) line small w (inr g) = w.2 (same_count map.rom_first map.rom_last w.0 (length es) line small w.1 g)
+wrong_goes Count (Begun map es) line small w (inr g) =
+    let same = one_line map.rom_first map.rom_last line (DoneLine w.0) (DoneLine (length es)) small w.1 g in
+    w.2 cc
 wrong_goes Unended (Begun map es) line small w g = w
 wrong_goes After (Begun map es) line small w g = w
 wrong_goes Memory (Begun map es) line small w g = w

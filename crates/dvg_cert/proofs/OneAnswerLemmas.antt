@@ -123,33 +123,21 @@ holds_once text t u rest rest' h k = same (prefix_of text text [] t u rest rest'
     same ([], l, r) = (lines_once t u h.lines k.lines (sym (l ∙ append-nil (lines_of t))), sym (append-nil rest) ∙ r)
     same ((m ∷ ms), l, r) = absurd (no_cut m (lines_text ms ++ rest') rest (rest_free t rest h.begun).0 (sym (append_assoc m (LINE_FEED ∷ lines_text ms) rest') ∙ sym r ∙ append-nil rest))
 
+-- what no other reason has, has the form for its reason
+only_form : (P : CertWhy → Type 0) → (P Order → ⊥) → (P Count → ⊥) → (P Unended → ⊥) → (P After → ⊥) → (P TooLong → ⊥) → (P Memory → ⊥) → (why : CertWhy) → P why → why ≡ Form
+only_form P order count unended after long memory Form h = refl
+only_form P order count unended after long memory Order h = absurd (order h)
+only_form P order count unended after long memory Count h = absurd (count h)
+only_form P order count unended after long memory Unended h = absurd (unended h)
+only_form P order count unended after long memory After h = absurd (after h)
+only_form P order count unended after long memory TooLong h = absurd (long h)
+only_form P order count unended after long memory Memory h = absurd (memory h)
+
 same_meets : (t : Taken) (line : List ℕ) (why why' : CertWhy) → Small t → IsWrong t line why → IsWrong t line why' → why ≡ why'
-same_meets Nothing line Form Form small h k = refl
-same_meets Nothing line Form Order small h k = absurd k
-same_meets Nothing line Form Count small h k = absurd k
-same_meets Nothing line Form Unended small h k = absurd k
-same_meets Nothing line Form After small h k = absurd k
-same_meets Nothing line Form TooLong small h k = absurd k
-same_meets Nothing line Form Memory small h k = absurd k
-same_meets Nothing line Order why' small h k = absurd h
-same_meets Nothing line Count why' small h k = absurd h
-same_meets Nothing line Unended why' small h k = absurd h
-same_meets Nothing line After why' small h k = absurd h
-same_meets Nothing line TooLong why' small h k = absurd h
-same_meets Nothing line Memory why' small h k = absurd h
-same_meets Versioned line Form Form small h k = refl
-same_meets Versioned line Form Order small h k = absurd k
-same_meets Versioned line Form Count small h k = absurd k
-same_meets Versioned line Form Unended small h k = absurd k
-same_meets Versioned line Form After small h k = absurd k
-same_meets Versioned line Form TooLong small h k = absurd k
-same_meets Versioned line Form Memory small h k = absurd k
-same_meets Versioned line Order why' small h k = absurd h
-same_meets Versioned line Count why' small h k = absurd h
-same_meets Versioned line Unended why' small h k = absurd h
-same_meets Versioned line After why' small h k = absurd h
-same_meets Versioned line TooLong why' small h k = absurd h
-same_meets Versioned line Memory why' small h k = absurd h
+same_meets Nothing line why why' small h k =
+    let form = only_form (IsWrong Nothing line) (λ x. x) (λ x. x) (λ x. x) (λ x. x) (λ x. x) (λ x. x) in form why h ∙ sym (form why' k)
+same_meets Versioned line why why' small h k =
+    let form = only_form (IsWrong Versioned line) (λ x. x) (λ x. x) (λ x. x) (λ x. x) (λ x. x) (λ x. x) in form why h ∙ sym (form why' k)
 same_meets (Whole map es) line why why' small h k = absurd h
 same_meets (Begun map es) line Unended why' small h k = absurd h
 same_meets (Begun map es) line After why' small h k = absurd h
