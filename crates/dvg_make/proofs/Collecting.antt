@@ -181,7 +181,7 @@ module _ (roots : List (ℕ × Key)) (frames : List (List ℕ)) (list : List Ent
   -- a call of a frame
   named_call : (frame : ℕ) (words : List ℕ) → slice_get frames frame ≡ Some words → HasAsked roots (take frame frames) list → (addr : ℕ) (key : Key) → KeyedCall words list addr key → IsNamed addr key
   named_call frame words is has addr key k =
-      (Some (record { frame = frame; at = k.calls.item.at }), (words, is, (k.calls, refl, k.keyed), has))
+      (Some (record { frame = frame; at = k.calls.item.at }), (words, is, record { calls = k.calls; at_is = refl; before = k.keyed }, has))
 
   -- of one of so many
   named_before : (n : ℕ) (words : List ℕ) → Contains (take n frames) words → HasAsked roots (take n frames) list → (addr : ℕ) (key : Key) → KeyedCall words list addr key → IsNamed addr key
@@ -266,7 +266,7 @@ call_told rom roots frames i d old lt h at chain obstacle t =
       within = t.within;
       made = t.made;
       asked = asked_shape (t.to, t.scale);
-      named = (get_or frames i d, got frames i d lt, (t.calls, t.at_is, t.before), before);
+      named = (get_or frames i d, got frames i d lt, t.call, before);
       needed = λ shape has. ⊎_elim (λ g. inl (asked_here shape.addr shape.key g)) (λ c. inr (needed_by rom t.list chain shape.addr shape.key c)) (t.needed h.asked h.collected shape.addr shape.key has);
       room = room_of_links t.list chain t.room;
       tells = t.tells;

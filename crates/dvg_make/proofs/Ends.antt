@@ -28,7 +28,7 @@ use Rattle.dvg_items.specs.declared.seen.Seen.{Seen}
 use Rattle.dvg_check.proofs.Faults.{all_kept}
 use Rattle.dvg_items.proofs.Near.{word_count-some}
 use Rattle.dvg_items.specs.Least.{lit_points, HoldsAll, IsLeast}
-use Rattle.dvg_make.specs.Made.{HasEntry, EachItem, AtEnd, MadeKeeps, MadeEntry}
+use Rattle.dvg_make.specs.Made.{HasEntry, EachItem, AtEnd, MadeKeeps, MadeEntry, AllHold}
 use Rattle.dvg_make.specs.Private.Partial.{keyed_context, IsStraight, IsFine, AllFine}
 pub use Rattle.dvg_make.specs.Private.Covering.{known_of}
 use Rattle.dvg_make.proofs.Boxes.{one_least}
@@ -231,24 +231,20 @@ module _ (rom : Rom) (list : List Entry) (e : Entry) where
   AtCell P earlier p Odd = Unit {0}
   AtCell P earlier p (Holds format instr) = P earlier (record { at = p; format = format; instr = instr })
 
-  abbrev Each : (List Item → Item → Type 0) → List Item → Type 0
-  Each P [] = Unit {0}
-  Each P (i ∷ earlier) = Each P earlier × P earlier i
-
-  each_before : (P : List Item → Item → Type 0) (items : List Item) (p : ℕ) → LeadsTo Shape (rom_word rom) e.addr items p → Each P items → AllBefore {Why = Unit {0}} (λ earlier p why. AtCell P earlier p (cell_at (rom_word rom) p)) items
+  each_before : (P : List Item → Item → Type 0) (items : List Item) (p : ℕ) → LeadsTo Shape (rom_word rom) e.addr items p → AllHold P items → AllBefore {Why = Unit {0}} (λ earlier p why. AtCell P earlier p (cell_at (rom_word rom) p)) items
   each_before P [] p lead h = tt
   each_before P (i ∷ earlier) p lead h = (each_before P earlier i.at lead.0 h.0, λ why. subst (AtCell P earlier i.at) (sym lead.1) h.1)
 
   module _ (h : Ends rom list e) where
-    each_item : (P : List Item → Item → Type 0) → Each P (h.i ∷ h.items) → EachItem rom e.addr P
+    each_item : (P : List Item → Item → Type 0) → AllHold P (h.i ∷ h.items) → EachItem rom e.addr P
     each_item P all earlier j l k =
         subst (AtCell P earlier j.at) k (all_kept Shape (rom_word rom) e.addr (Unit {0}) (λ earlier p why. AtCell P earlier p (cell_at (rom_word rom) p)) h.items h.i h.leads h.is h.last (each_before P h.items h.i.at h.leads all.0, λ why. subst (AtCell P h.items h.i.at) (sym h.is) all.1) earlier j.at l tt)
 
-    fine_each : (items : List Item) → AllFine c items → Each (IsFine c) items
+    fine_each : (items : List Item) → AllFine c items → AllHold (IsFine c) items
     fine_each [] f = tt
     fine_each (i ∷ earlier) f = (fine_each earlier f.0, f.1)
 
-    end_each : (Q : List Item → Type 0) (items : List Item) (p : ℕ) → LeadsTo Shape (rom_word rom) e.addr items p → Each (λ earlier j. next_place Shape j ≡ None → Q (j ∷ earlier)) items
+    end_each : (Q : List Item → Type 0) (items : List Item) (p : ℕ) → LeadsTo Shape (rom_word rom) e.addr items p → AllHold (λ earlier j. next_place Shape j ≡ None → Q (j ∷ earlier)) items
     end_each Q [] p lead = tt
     end_each Q (i ∷ earlier) p lead = (end_each Q earlier i.at lead.0, λ last. let no : Some p ≡ None = sym lead.2 ∙ last in cc no)
 

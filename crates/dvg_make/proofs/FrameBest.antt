@@ -33,42 +33,18 @@ use Rattle.dvg_make.proofs.Matching.{exact_named}
 use Rattle.dvg_make.proofs.Ends.{callee_less, has_callee}
 use Rattle.dvg_make.proofs.Onward.{listed_entry}
 use Rattle.dvg_make.proofs.OneList.{target_of}
-use Rattle.dvg_make.proofs.Windows.{in_exact}
+use Rattle.dvg_make.proofs.Windows.{other_window, in_window, in_exact}
 use Rattle.dvg_make.proofs.Knowing.{CalleeRefines, more_after, LightsLess, lights_less}
 use Rattle.dvg_make.proofs.Bettering.{made_ordered, Call, call_of, called, lights, refined, ready_made, tracks}
 
 -- ---- a good list is upheld
 
-other_window : (w v : Window) (e : Entry) (s : Seen) (why : ShapeWhy) → why ≢ shape.OffScreen → ShapeKeeps Bound w e s why → ShapeKeeps Bound v e s why
-other_window w v e s shape.Unmapped not h = h
-other_window w v e s shape.Odd not h = h
-other_window w v e s shape.HaltInShape not h = h
-other_window w v e s shape.BeamUnknown not h = h
-other_window w v e s shape.ScaleUnknown not h = h
-other_window w v e s shape.OffScreen not h = absurd (not refl)
-other_window w v e s shape.NoEntry not h = h
-other_window w v e s shape.TooDeep not h = h
-other_window w v e s shape.TooManyWords not h = h
-other_window w v e s shape.EndDiffers not h = h
-other_window w v e s shape.ScaleDiffers not h = h
-other_window w v e s shape.BoxTooSmall not h = h
-other_window w v e s shape.WordsDiffer not h = h
-other_window w v e s shape.DepthDiffers not h = h
-
 module _ (rom : Rom) (list : List Entry) (w : Window) where
-  abbrev Kept : Window → Entry → List Item → ℕ → Cell → ShapeWhy → Type 0
-  Kept v e earlier p cell why = CellKeeps shape.Unmapped shape.Odd (λ i. ShapeKeeps Bound v e (seen_at (shape_context list e) earlier i)) p cell why
-
-  other_cell : (v : Window) (e : Entry) (earlier : List Item) (p : ℕ) (cell : Cell) (why : ShapeWhy) → why ≢ shape.OffScreen → Kept w e earlier p cell why → Kept v e earlier p cell why
-  other_cell v e earlier p Missing why not h = h
-  other_cell v e earlier p Odd why not h = h
-  other_cell v e earlier p (Holds format i) why not h = other_window w v e (seen_at (shape_context list e) earlier (record { at = p; format = format; instr = i })) why not h
-
   pub upheld : IsCertificate rom.map list → Good Bound w rom list → Upholds rom list
-  upheld cert good e c = (listed_entry rom.map.rom_first rom.map.rom_last list e cert.each c, λ earlier p lead why v not. other_cell v e earlier p (cell_at (rom_word rom) p) why not (good e c earlier p lead why))
+  upheld cert good e c = (listed_entry rom.map.rom_first rom.map.rom_last list e cert.each c, λ earlier p lead why v not. other_window Bound rom list e w v earlier p why not (good e c earlier p lead why))
 
   off_screen : Good Bound w rom list → (e : Entry) → Contains list e → (earlier : List Item) (i : Item) → LeadsTo Shape (rom_word rom) e.addr earlier i.at → cell_at (rom_word rom) i.at ≡ Holds i.format i.instr → LitInWindow w (extent (shape_context list e) earlier i.instr) (place_before (shape_context list e) earlier)
-  off_screen good e c earlier i lead is = subst (λ cell. Kept w e earlier i.at cell shape.OffScreen) is (good e c earlier i.at lead shape.OffScreen)
+  off_screen good = in_window rom list w Bound good
 
 -- ---- a made list whose roots are covered
 

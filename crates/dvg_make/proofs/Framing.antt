@@ -291,9 +291,7 @@ module _ (rom : Rom) (words : List ℕ) (old done : List Entry) (at : ℕ) (scal
           made = done_made rom done w.is_done;
           to = to;
           scale = scale;
-          calls = record { earlier = w.items; item = item; leads = w.leads; stands = is; target_is = t; scale_is = sym w.scale_is };
-          at_is = refl;
-          before = w.keyed;
+          call = record { calls = record { earlier = w.items; item = item; leads = w.leads; stands = is; target_is = t; scale_is = sym w.scale_is }; at_is = refl; before = w.keyed };
           barred = b;
         }
 
@@ -419,9 +417,7 @@ target_told rom words old done at scale w format instr is chain obstacle b =
       made = done_made rom b.2.list b.2.is_done;
       to = b.0;
       scale = scale;
-      calls = call.calls;
-      at_is = refl;
-      before = call.keyed;
+      call = record { calls = call.calls; at_is = refl; before = call.keyed };
       extends = λ a k e q. b.2.extends a k e (w.grows a k e q);
       needed = λ asked h. called_told rom done b.2.list (b.0, scale) chain (IsGivenHere words asked b.2.list) b.2.extends b.2.needed (given asked h) (inr call);
       room = b.2.room;

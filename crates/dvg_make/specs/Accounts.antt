@@ -17,8 +17,8 @@ use Rattle.dvg_items.specs.declared.seen.Seen.{Seen}
 use Rattle.dvg_items.specs.declared.item.Item.{Item}
 use Rattle.dvg_items.specs.declared.item.Kind.TheVariants.{Shape}
 use Rattle.dvg_items.specs.declared.known.Known.{Known}
-use Rattle.dvg_make.specs.Made.{HasEntry, AllMade}
-use Rattle.dvg_make.specs.Frames.{AllKeyed, FrameAsksFor, HasAsked}
+use Rattle.dvg_make.specs.Made.{HasEntry, AllHold, AllMade}
+use Rattle.dvg_make.specs.Frames.{CallAt, HasAsked}
 use Rattle.dvg_make.specs.Refusals.{EntryFault, MakeFault, FrameCall, FramesFault, make_fault_of}
 use Rattle.dvg_make.specs.declared.fault.EntryFault.TheVariants as fault
 pub use Rattle.dvg_make.specs.declared.account.MakeAccount.{MakeAccount}
@@ -49,10 +49,9 @@ pub record IsTaken (c : Context) (earlier : List Item) (i : Item) : Type 0 where
   pub asked : IsAsked (seen_at c earlier i)
   pub keyed : (to : ℕ) → target Shape i.instr ≡ Some to → HasEntry c.list to (scale_before c earlier)
 
--- so is each of these
+-- the making stops at none of these items
 abbrev pub AllTaken : Context → List Item → Type 0
-AllTaken c [] = Unit {0}
-AllTaken c (i ∷ earlier) = AllTaken c earlier × IsTaken c earlier i
+AllTaken c items = AllHold (IsTaken c) items
 
 -- ---- from shape to shape
 
@@ -168,7 +167,7 @@ IsNamedBy roots frames list None asked =
     (root : ℕ) × (slice_get roots root ≡ Some (asked.addr, asked.key)) × HasAsked (take root roots) [] list
 IsNamedBy roots frames list (Some call) asked =
     (words : List ℕ) × (slice_get frames call.frame ≡ Some words)
-    × ((calls : FrameAsksFor words list asked.addr asked.key) × (calls.item.at ≡ call.at) × AllKeyed list calls.earlier)
+    × CallAt words list call.at asked.addr asked.key
     × HasAsked roots (take call.frame frames) list
 
 -- an item of the shape of one of the entries, or of a shape of the chain, calls or tail jumps to this shape (profile)

@@ -9,7 +9,7 @@ use Rattle.dvg_items.specs.Items.{LeadsTo}
 use Rattle.dvg_items.specs.declared.item.Item.{Item}
 use Rattle.dvg_items.specs.declared.item.Kind.TheVariants.{Frame}
 use Rattle.dvg_items.specs.Known.{frame_context, target, scale_before}
-use Rattle.dvg_make.specs.Made.{HasEntry, MadeFor}
+use Rattle.dvg_make.specs.Made.{HasEntry, AllHold, MadeFor}
 
 -- an item of the frame with these words calls this address, at the scale that is known there by the list (profile)
 pub record FrameAsksFor (words : List ℕ) (list : List Entry) (to : ℕ) (scale : Key) : Type 0 where
@@ -24,10 +24,16 @@ pub record FrameAsksFor (words : List ℕ) (list : List Entry) (to : ℕ) (scale
 abbrev pub IsKeyed : List Entry → List Item → Item → Type 0
 IsKeyed list earlier i = (to : ℕ) → target Frame i.instr ≡ Some to → HasEntry list to (scale_before (frame_context list) earlier)
 
--- so for each of these items of a frame (profile)
+-- the list has an entry for each call among these items of a frame (profile)
 abbrev pub AllKeyed : List Entry → List Item → Type 0
-AllKeyed list [] = Unit {0}
-AllKeyed list (i ∷ earlier) = AllKeyed list earlier × IsKeyed list earlier i
+AllKeyed list items = AllHold (IsKeyed list) items
+
+-- the call at a word of the frame: what it calls, at the scale that is known by the list, which has an entry for each call before it
+-- (profile)
+pub record CallAt (words : List ℕ) (list : List Entry) (at : ℕ) (to : ℕ) (scale : Key) : Type 0 where
+  pub calls : FrameAsksFor words list to scale
+  pub at_is : calls.item.at ≡ at
+  pub before : AllKeyed list calls.earlier
 
 -- a root, or what one of the frames calls (profile)
 abbrev pub IsAskedFor : List (ℕ × Key) → List (List ℕ) → List Entry → ℕ → Key → Type 0

@@ -1,5 +1,5 @@
 -- What the maker makes: the list of entries that a ROM and roots ask for. All of it is profile.
-use Rattle.std.specs.Prelude.{◌≡◌, ◌≢◌, ℕ, ◌≤◌, ◌⊎◌, List, ◌∷◌, Some, None, Contains}
+use Rattle.std.specs.Prelude.{◌≡◌, ◌≢◌, ℕ, ◌≤◌, ◌⊎◌, List, [], ◌∷◌, Some, None, Contains}
 use Rattle.dvg_words.specs.Values.{Window}
 use Rattle.dvg_words.specs.Memory.{Rom, rom_word}
 use Rattle.dvg_words.specs.declared.instruction.Cell.TheVariants.{Holds}
@@ -30,6 +30,11 @@ abbrev pub EachItem : Rom → ℕ → (List Item → Item → Type 0) → Type 0
 EachItem rom addr P =
     (earlier : List Item) (i : Item) → LeadsTo Shape (rom_word rom) addr earlier i.at
     → cell_at (rom_word rom) i.at ≡ Holds i.format i.instr → P earlier i
+
+-- holds of each of these items, with those before it (profile)
+abbrev pub AllHold : (List Item → Item → Type 0) → List Item → Type 0
+AllHold P [] = Unit {0}
+AllHold P (i ∷ earlier) = AllHold P earlier × P earlier i
 
 -- holds of all items of the shape at an address, up to and with the last one (profile)
 abbrev pub AtEnd : Rom → ℕ → (List Item → Type 0) → Type 0

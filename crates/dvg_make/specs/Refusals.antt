@@ -15,7 +15,7 @@ pub use Rattle.dvg_make.specs.declared.fault.FrameCall.{FrameCall}
 pub use Rattle.dvg_make.specs.declared.fault.FramesFault.{FramesFault}
 use Rattle.dvg_cert.specs.declared.limits.TheConstants.{MOST_ENTRIES}
 use Rattle.dvg_make.specs.Made.{HasEntry, AllMade, Barred, Made}
-use Rattle.dvg_make.specs.Frames.{AllKeyed, FrameAsksFor, IsAskedFor, FramesMade}
+use Rattle.dvg_make.specs.Frames.{CallAt, IsAskedFor, FramesMade}
 
 -- the number of a refusal (profile)
 abbrev pub fault_number : MakeFault → ℕ
@@ -92,16 +92,13 @@ BarsEntry rom addr key TooManyWords = Barred rom addr key
 BarsEntry rom addr key TooManyEntries = Unit {0}
 BarsEntry rom addr key Memory = Unit {0}
 
--- an item of the frame at this place calls, at the scale that is known there by a list of made entries, which has one for each
--- call before it; and its own is not made (profile)
+-- the item at this word of the frame calls what can't be made: by a list of made entries that has one for each call before it (profile)
 pub record CallBarredAt (rom : Rom) (words : List ℕ) (at : ℕ) (why : EntryFault) : Type 0 where
   pub list : List Entry
   pub made : AllMade rom list
   pub to : ℕ
   pub scale : Key
-  pub calls : FrameAsksFor words list to scale
-  pub at_is : calls.item.at ≡ at
-  pub before : AllKeyed list calls.earlier
+  pub call : CallAt words list at to scale
   pub barred : BarsEntry rom to scale why
 
 -- what a refusal says of the list, and of the frame whose call it names; where it names none, it is of the roots alone (profile)

@@ -10,7 +10,7 @@ use Rattle.dvg_cert.specs.declared.entry.Key.{Key}
 use Rattle.dvg_items.specs.declared.item.Kind.TheVariants.{Frame}
 use Rattle.dvg_items.specs.Known.{target}
 use Rattle.dvg_make.specs.Made.{HasEntry, AllMade}
-use Rattle.dvg_make.specs.Frames.{AllKeyed, FrameAsksFor, IsAskedFor, FramesMade}
+use Rattle.dvg_make.specs.Frames.{AllKeyed, CallAt, FrameAsksFor, IsAskedFor, FramesMade}
 use Rattle.dvg_make.specs.Accounts.{AllWithin}
 use Rattle.dvg_make.specs.Refusals.{BarsFrame, CallBarredAt, EntryFault, Unstraight, Deep, TooManyWords, TooManyEntries, Memory}
 use Rattle.dvg_make.specs.Private.Partial.{Extends}
@@ -86,9 +86,7 @@ pub record TellsHere (rom : Rom) (words : List ℕ) (old : List Entry) (at : ℕ
   pub made : AllMade rom list
   pub to : ℕ
   pub scale : Key
-  pub calls : FrameAsksFor words list to scale
-  pub at_is : calls.item.at ≡ at
-  pub before : AllKeyed list calls.earlier
+  pub call : CallAt words list at to scale
   pub extends : Extends old list
   pub needed : AllCalledHere rom words old list chain
   pub room : length list + length chain ≤ MOST_ENTRIES

@@ -29,7 +29,7 @@ use Rattle.dvg_make.specs.declared.partial.Progress.{Progress}
 use Rattle.dvg_make.specs.declared.partial.Progress.TheVariants.{Finished, Waiting}
 use Rattle.dvg_check.specs.Private.Tails.{known_at_end, known_over}
 use Rattle.dvg_items.specs.Least.{lit_points, IsLeast}
-use Rattle.dvg_make.specs.Made.{HasEntry, MadeEntry, AllMade}
+use Rattle.dvg_make.specs.Made.{HasEntry, AllHold, MadeEntry, AllMade}
 use Rattle.dvg_make.specs.declared.obstacle.Obstacle.{Obstacle}
 use Rattle.dvg_make.specs.Accounts.{ShapeAt, EntryCause, Missing, Odd, Reaches, CauseAt}
 pub use Rattle.dvg_make.specs.Accounts.{keyed_context, IsStraight, IsAsked}
@@ -47,10 +47,9 @@ pub record IsFine (c : Context) (earlier : List Item) (i : Item) : Type 0 where
   pub straight : IsStraight (seen_at c earlier i)
   pub keyed : (to : ℕ) → target Shape i.instr ≡ Some to → HasEntry c.list to (scale_before c earlier)
 
--- so is each of these
+-- each of these items is fine
 abbrev pub AllFine : Context → List Item → Type 0
-AllFine c [] = Unit {0}
-AllFine c (i ∷ earlier) = AllFine c earlier × IsFine c earlier i
+AllFine c items = AllHold (IsFine c) items
 
 -- passing an item leaves the least box so; the item is as asked
 pub record Passes (v : Seen) (lit new : LitBox) : Type 0 where
