@@ -2,7 +2,7 @@
 
 ghost use Rattle.std.specs.Prelude.{◌≡◌, map};
 ghost use Rattle.dvg_cert.specs.Order.{IsRising};
-ghost use Rattle.dvg_cert.specs.Lookup.{entry_at, is_at};
+ghost use Rattle.dvg_cert.specs.Lookup.{entry_at};
 ghost use Rattle.dvg_cert.specs.Private.Searching.{stands_before};
 ghost use Rattle.dvg_c.specs.Kept.{entry_of};
 
@@ -57,18 +57,11 @@ fn find_in(entries: &[KeptEntry], addr: u16, key: Key) -> Option<Entry>
         return None;
     }
     let entry = entry_of(&entries[at]);
-    if is_at(&entry, addr, key) {
+    if entry.is_at(addr, key) {
         Some(entry)
     } else {
         None
     }
-}
-
-/// Whether an entry is at an address with a key.
-fn is_at(entry: &Entry, addr: u16, key: Key) -> bool
-    ensures { result ≡ is_at addr key entry.now }
-{
-    addr == entry.addr && key == entry.key
 }
 
 /// Whether an entry stands before the place of an address and key.

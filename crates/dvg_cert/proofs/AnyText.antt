@@ -180,22 +180,16 @@ never_met why right short before (Begun map es) rest b (inl h) = short h.2
 never_met why right short before (Begun map es) rest b (inr h) = right (Begun map es) rest h.1
 never_met why right short before (Whole map es) rest b h = before h
 
-not_memory : (taken : Taken) (line : List ℕ) → IsWrong taken line Memory → ⊥
-not_memory Nothing line h = h
-not_memory Versioned line h = h
-not_memory (Begun map es) line h = h
-not_memory (Whole map es) line h = h
-
-not_unended : (taken : Taken) (line : List ℕ) → IsWrong taken line Unended → ⊥
-not_unended Nothing line h = h
-not_unended Versioned line h = h
-not_unended (Begun map es) line h = h
-not_unended (Whole map es) line h = h
+never_wrong : (taken : Taken) (line : List ℕ) → (IsWrong taken line Memory → ⊥) × (IsWrong taken line Unended → ⊥)
+never_wrong Nothing line = (λ h. h, λ h. h)
+never_wrong Versioned line = (λ h. h, λ h. h)
+never_wrong (Begun map es) line = (λ h. h, λ h. h)
+never_wrong (Whole map es) line = (λ h. h, λ h. h)
 
 -- a text that a byte stops is refused
 pub stuck_refusal : (why : CertWhy) (text : List ℕ) (line : ℕ) → StopsAt text line why → IsRefusal text line why × (why ≢ Memory)
-stuck_refusal Memory text line s = absurd (never_met Memory not_memory (λ e. absurd cc) (λ e. absurd cc) s.3 s.4 s.1 s.7)
-stuck_refusal Unended text line s = absurd (never_met Unended not_unended (λ e. absurd cc) (λ e. absurd cc) s.3 s.4 s.1 s.7)
+stuck_refusal Memory text line s = absurd (never_met Memory (λ t l. (never_wrong t l).0) (λ e. absurd cc) (λ e. absurd cc) s.3 s.4 s.1 s.7)
+stuck_refusal Unended text line s = absurd (never_met Unended (λ t l. (never_wrong t l).1) (λ e. absurd cc) (λ e. absurd cc) s.3 s.4 s.1 s.7)
 stuck_refusal Form text line s = (s, λ e. absurd cc)
 stuck_refusal Order text line s = (s, λ e. absurd cc)
 stuck_refusal Count text line s = (s, λ e. absurd cc)

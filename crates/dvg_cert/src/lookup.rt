@@ -3,7 +3,7 @@
 ghost use Rattle.std.specs.Prelude.{◌≡◌, List};
 ghost use Rattle.dvg_cert.specs.declared.entry.Entry.{Entry};
 ghost use Rattle.dvg_cert.specs.Order.{IsRising};
-ghost use Rattle.dvg_cert.specs.Lookup.{entry_at, named_entry, is_at};
+ghost use Rattle.dvg_cert.specs.Lookup.{entry_at, named_entry};
 ghost use Rattle.dvg_cert.specs.Private.Searching.{stands_before};
 
 use crate::certificate::{Cert, is_key_before};
@@ -73,18 +73,11 @@ fn find_in(entries: &[Entry], addr: u16, key: Key) -> Option<Entry>
         return None;
     }
     let entry = entries[at];
-    if is_at(&entry, addr, key) {
+    if entry.is_at(addr, key) {
         Some(entry)
     } else {
         None
     }
-}
-
-/// Whether an entry is at an address with a key.
-fn is_at(entry: &Entry, addr: u16, key: Key) -> bool
-    ensures { result ≡ is_at addr key entry.now }
-{
-    addr == entry.addr && key == entry.key
 }
 
 /// Whether an entry stands before the place of an address and key.

@@ -4,3 +4,4 @@ pub mod Stacked
 pub mod Making
 pub mod Covering
 pub mod Framing
+pub mod Judged

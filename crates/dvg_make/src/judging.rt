@@ -6,6 +6,7 @@ ghost use Rattle.dvg_check.specs.Safety.{Safe, CountsAtHalt};
 ghost use Rattle.dvg_make.specs.Accounts.{entry_fault, IsAccount};
 ghost use Rattle.dvg_make.specs.Frames.{FrameMade};
 ghost use Rattle.dvg_make.specs.Refusals.{FramesRefuse};
+ghost use Rattle.dvg_make.specs.Private.Judged.{IsJudged};
 ghost use Rattle.dvg_make.specs.Judging.{AreLeast, FrameRefused, VerdictByMade, HasCallCause, IsRefusalBy};
 
 use crate::account::{MakeAccount, explain_making};
@@ -50,12 +51,7 @@ fn check_made(
     requires budget { budget ≤ MOST_WORDS }
     requires map { rom.now.map ≡ cert.now.map }
     requires made { FrameMade rom.now frame.now cert.now.entries }
-    ensures verdict { VerdictByMade rom.now frame.now window budget result }
-    ensures safe { IfOk result (λ yes. Safe (record { frame = frame.now; rom = rom.now }) window yes.words yes.depth) }
-    ensures exact { IfOk result (λ yes. CountsAtHalt (record { frame = frame.now; rom = rom.now }) yes.words yes.depth) }
-    ensures least { IfOk result (λ yes. AreLeast rom.now frame.now window yes.words yes.depth) }
-    ensures refused { IfErr result (FrameRefused rom.now frame.now window budget) }
-    ensures told { IfErr result (HasCallCause rom.now frame.now) }
+    ensures { IsJudged rom.now frame.now window budget result }
 {
     match check_parts_exact(alloc, rom, frame, cert, budget, window) {
         Ok(yes) => Ok(yes),
