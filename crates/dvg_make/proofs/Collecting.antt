@@ -19,7 +19,7 @@ use Rattle.dvg_make.specs.declared.obstacle.Obstacle.{Obstacle}
 use Rattle.dvg_make.specs.Private.Making.{asked_shape, shapes, IsMaking, IsCalled, IsToldFrom, IsToldOf}
 use Rattle.dvg_make.specs.Private.Framing.{KeyedCall, IsGivenHere, TellsHere}
 use Rattle.dvg_make.specs.Private.Partial.{keyed_context, start}
-use Rattle.dvg_make.specs.Accounts.{ShapeAt, RootOutside, IsNamedBy, IsNeededBy}
+use Rattle.dvg_make.specs.Accounts.{RootOutside, IsNamedBy, IsNeededBy}
 use Rattle.dvg_make.specs.Refusals.{FrameCall}
 use Rattle.dvg_items.specs.Known.{known_before}
 use Rattle.dvg_make.proofs.Framing.{done_made, in_left, in_right, in_either, collected_more, call_grows, keyed_call, called_told, calls_grow, has_calls_grow}
@@ -193,13 +193,13 @@ module _ (roots : List (ℕ × Key)) (frames : List (List ℕ)) (list : List Ent
       fewer i is a k (inl r) = has a k (inl r)
       fewer i is a k (inr b) = has a k (inr (b.0, taken_before frames n i words b.0 is b.1, b.2))
 
--- what is told of a root
-pub root_told : (rom : Rom) (roots : List (ℕ × Key)) (i : ℕ) (d : ℕ × Key) (done : List Entry) → i < length roots → Collected rom (take i roots) done → (chain : List PartialEntry) (obstacle : Obstacle) → IsToldFrom rom done ((get_or roots i d).0, (get_or roots i d).1) chain obstacle → IsToldOf rom roots [] None chain obstacle
-root_told rom roots i d done lt h chain obstacle b =
+-- what is told of a root, whatever the frames are
+pub root_told : (rom : Rom) (roots : List (ℕ × Key)) (i : ℕ) (d : ℕ × Key) (done : List Entry) → i < length roots → Collected rom (take i roots) done → (chain : List PartialEntry) (obstacle : Obstacle) → IsToldFrom rom done ((get_or roots i d).0, (get_or roots i d).1) chain obstacle → (frames : List (List ℕ)) → IsToldOf rom roots frames None chain obstacle
+root_told rom roots i d done lt h chain obstacle b frames =
     record {
       list = b.list;
       within = b.is_done.entries;
-      needed = λ shape has. ⊎_elim (λ r. inl r) (λ c. inr (needed_by rom b.list chain shape.addr shape.key c)) (called_told rom done b.list (get_or roots i d) chain (IsNamed roots [] b.list) b.extends b.needed was (None, here) shape.addr shape.key has);
+      needed = λ shape has. ⊎_elim (λ r. inl r) (λ c. inr (needed_by rom b.list chain shape.addr shape.key c)) (called_told rom done b.list (get_or roots i d) chain (IsNamed roots frames b.list) b.extends b.needed was (None, here) shape.addr shape.key has);
       made = done_made rom b.list b.is_done;
       asked = asked_shape (get_or roots i d);
       named = here;
@@ -211,11 +211,11 @@ root_told rom roots i d done lt h chain obstacle b =
     before : HasAll (take i roots) b.list
     before a k c = let f = h.rooted a k c in (f.0, b.extends a k f.0 f.1)
 
-    here : IsNamedBy roots [] b.list None (asked_shape (get_or roots i d))
+    here : IsNamedBy roots frames b.list None (asked_shape (get_or roots i d))
     here = (i, got roots i d lt, has_roots (take i roots) b.list before)
 
-    was : (a : ℕ) (k : Key) → HasEntry done a k → IsNamed roots [] b.list a k ⊎ IsCalled rom done [] a k
-    was a k has = ⊎_elim (λ c. inl (named_taken roots [] b.list i before a k c)) (λ c. inr c) (h.needed a k has)
+    was : (a : ℕ) (k : Key) → HasEntry done a k → IsNamed roots frames b.list a k ⊎ IsCalled rom done [] a k
+    was a k has = ⊎_elim (λ c. inl (named_taken roots frames b.list i before a k c)) (λ c. inr c) (h.needed a k has)
 
 module _ (rom : Rom) (roots : List (ℕ × Key)) (i : ℕ) (d : ℕ × Key) (done : List Entry) (lt : i < length roots) (h : Collected rom (take i roots) done) where
   outside_at : (r : Bool) → r ≡ false → (IsTrue r ↔ (InRom rom.map (get_or roots i d).0 × IsKey (get_or roots i d).1)) → InRom rom.map (get_or roots i d).0 × IsKey (get_or roots i d).1 → ⊥
@@ -225,7 +225,7 @@ module _ (rom : Rom) (roots : List (ℕ × Key)) (i : ℕ) (d : ℕ × Key) (don
   pub outside_barred : (r : Bool) → r ≡ false → (IsTrue r ↔ (InRom rom.map (get_or roots i d).0 × IsKey (get_or roots i d).1)) → (obstacle : Obstacle) → obstacle ≡ record { cursor = (start (get_or roots i d).0 (get_or roots i d).1).cursor; cause = RootOutside } → BarsRoots rom roots (obstacle_fault obstacle)
   outside_barred r failed is obstacle e = subst (λ o. BarsRoots rom roots (obstacle_fault o)) (sym e) (outside rom roots i d done lt h (outside_at r failed is))
 
-  pub outside_told : (r : Bool) → r ≡ false → (IsTrue r ↔ (InRom rom.map (get_or roots i d).0 × IsKey (get_or roots i d).1)) → (chain : List PartialEntry) → chain ≡ [] → (obstacle : Obstacle) → obstacle ≡ record { cursor = (start (get_or roots i d).0 (get_or roots i d).1).cursor; cause = RootOutside } → IsToldOf rom roots [] None chain obstacle
+  pub outside_told : (r : Bool) → r ≡ false → (IsTrue r ↔ (InRom rom.map (get_or roots i d).0 × IsKey (get_or roots i d).1)) → (chain : List PartialEntry) → chain ≡ [] → (obstacle : Obstacle) → obstacle ≡ record { cursor = (start (get_or roots i d).0 (get_or roots i d).1).cursor; cause = RootOutside } → (frames : List (List ℕ)) → IsToldOf rom roots frames None chain obstacle
   outside_told r failed is chain none obstacle e =
       root_told rom roots i d done lt h chain obstacle
       (record {
@@ -236,25 +236,6 @@ module _ (rom : Rom) (roots : List (ℕ × Key)) (i : ℕ) (d : ℕ × Key) (don
         room = room_of_none done chain none h.is_done.room;
         tells = tells_outside rom done (get_or roots i d).0 (get_or roots i d).1 (outside_at r failed is) chain none obstacle e;
       })
-
--- and told again where there are frames
-pub roots_told : (rom : Rom) (roots : List (ℕ × Key)) (frames : List (List ℕ)) (chain : List PartialEntry) (obstacle : Obstacle) → IsToldOf rom roots [] None chain obstacle → IsToldOf rom roots frames None chain obstacle
-roots_told rom roots frames chain obstacle t =
-    record {
-      list = t.list;
-      within = t.within;
-      made = t.made;
-      asked = t.asked;
-      named = t.named;
-      needed = λ shape has. ⊎_elim (λ n. inl (n.0, more n.0 shape n.1)) (λ c. inr c) (t.needed shape has);
-      room = t.room;
-      tells = t.tells;
-      outside = t.outside;
-    }
-  where
-    more : (call : Option FrameCall) (shape : ShapeAt) → IsNamedBy roots [] t.list call shape → IsNamedBy roots frames t.list call shape
-    more None shape n = n
-    more (Some call) shape n = let none : None ≡ Some n.0 = n.1 in cc none
 
 -- ---- frames
 

@@ -1,13 +1,11 @@
 -- The worked example is made.
-use Rattle.std.proofs.Common.{◌≡◌, ◌≢◌, ◌∙◌, ℕ, zero, suc, List, [], ◌∷◌, ◌⊎◌, Some, None, refl, sym, ap, subst, inl, arith}
+use Rattle.std.proofs.Common.{◌≡◌, ◌∙◌, ℕ, zero, suc, List, [], ◌∷◌, ◌⊎◌, Some, None, refl, sym, ap, subst, inl, arith}
 use Rattle.std.specs.Prelude.{Contains}
 use Rattle.std.proofs.lemmas.Int.{ints}
 use Rattle.dvg_words.specs.Beam.{displacement, screen}
 use Rattle.dvg_words.specs.Decoding.{cell_at}
 use Rattle.dvg_words.specs.Memory.{rom_word}
-use Rattle.dvg_words.specs.Values.{Window}
-use Rattle.dvg_words.specs.declared.instruction.Cell.{Cell}
-use Rattle.dvg_words.specs.declared.instruction.Cell.TheVariants.{Missing, Odd, Holds}
+use Rattle.dvg_words.specs.declared.instruction.Cell.TheVariants.{Holds}
 use Rattle.dvg_cert.specs.declared.entry.Entry.{Entry}
 use Rattle.dvg_cert.specs.declared.entry.Key.{Key}
 use Rattle.dvg_cert.specs.declared.entry.Key.TheVariants.{At}
@@ -18,14 +16,10 @@ use Rattle.dvg_check.specs.Example.{example_entry, example_list}
 use Rattle.dvg_items.specs.Items.{next_place}
 use Rattle.dvg_items.specs.Known.{shape_context, target, scale_before}
 use Rattle.dvg_items.specs.Lit.{IsInside}
-use Rattle.dvg_check.specs.Rules.{AllKeep, CellKeeps, ShapeKeeps}
-use Rattle.dvg_items.specs.Seen.{seen_at}
+use Rattle.dvg_check.specs.Rules.{AllKeep}
 use Rattle.dvg_check.specs.declared.fault.Mode.TheVariants.{Exact}
-use Rattle.dvg_check.specs.declared.fault.ShapeWhy.{ShapeWhy}
-use Rattle.dvg_check.specs.declared.fault.ShapeWhy.TheVariants as shape
 use Rattle.dvg_items.specs.declared.item.Item.{Item}
 use Rattle.dvg_items.specs.declared.item.Kind.TheVariants.{Shape}
-use Rattle.dvg_items.specs.declared.seen.Seen.{Seen}
 use Rattle.dvg_check.proofs.Example.{draw_item, return_item, draw_there, return_there, worked_example as example_good}
 use Rattle.dvg_check.proofs.Faults.{all_kept}
 use Rattle.dvg_make.specs.Laws.{WorkedExampleMade}

@@ -1,5 +1,5 @@
 -- No certificate does better for a frame than the list that is made for it.
-use Rattle.std.proofs.Common.{◌≡◌, ◌≢◌, ℕ, zero, suc, ◌+◌, ◌<◌, ◌≤◌, List, [], ◌∷◌, Option, Some, None, refl, sym, ap, ◌∙◌, subst, arith, inl, inr, ⊎_elim}
+use Rattle.std.proofs.Common.{◌≡◌, ℕ, zero, suc, ◌+◌, ◌<◌, ◌≤◌, List, [], ◌∷◌, Option, Some, None, refl, sym, ap, ◌∙◌, subst, arith, inl, inr, ⊎_elim}
 use Rattle.std.specs.Prelude.{Contains}
 use Rattle.dvg_words.specs.Decoding.{cell_at, word_count}
 use Rattle.dvg_words.specs.Memory.{Rom, rom_word, frame_word}
@@ -16,12 +16,9 @@ use Rattle.dvg_items.specs.Lit.{LitInWindow}
 use Rattle.dvg_items.specs.Seen.{extent, seen_at, HasCallee}
 use Rattle.dvg_items.specs.declared.item.Item.{Item}
 use Rattle.dvg_items.specs.declared.item.Kind.TheVariants.{Shape, Frame}
-use Rattle.dvg_items.specs.declared.seen.Seen.{Seen}
 use Rattle.dvg_items.proofs.Listed.{listed_at}
-use Rattle.dvg_check.specs.Rules.{ShapeKeeps, FrameKeeps, CellKeeps, FramePlaceKeeps, AllKeep, Good, GoodFrame}
+use Rattle.dvg_check.specs.Rules.{FrameKeeps, CellKeeps, FramePlaceKeeps, AllKeep, Good, GoodFrame}
 use Rattle.dvg_check.specs.declared.fault.Mode.TheVariants.{Bound, Exact}
-use Rattle.dvg_check.specs.declared.fault.ShapeWhy.{ShapeWhy}
-use Rattle.dvg_check.specs.declared.fault.ShapeWhy.TheVariants as shape
 use Rattle.dvg_check.specs.declared.fault.FrameWhy.{FrameWhy}
 use Rattle.dvg_check.specs.declared.fault.FrameWhy.TheVariants as frame
 use Rattle.dvg_check.proofs.Modes.{in_bound}

@@ -212,21 +212,21 @@ joined rom list done w h t tail at key e ends =
     let is = h.knows.known_is in
     let scale : scale_before (keyed_context list w.key) h.items ≡ t.key = sym (key ∙ ap (λ (k : Known). k.scale) is) in
     let place : PlaceKnown (box_extent t.lit) (place_before (keyed_context list w.key) h.items) = subst (λ (k : Known). PlaceKnown (box_extent t.lit) k.place) is ends.place in
-    let all : List Item = m.i ∷ m.items ++ h.items in
-    let leads = leads_through rom list w.key h.items t scale w.addr m.i.at m.items (subst (LeadsTo Shape (rom_word rom) w.addr h.items) (sym at) h.leads) m.leads in
-    let fine = fine_through rom list w.key h.items t scale place (m.i ∷ m.items) h.knows.fine m.fine m.sums.box.holds in
+    let all : List Item = m.stops.i ∷ m.stops.items ++ h.items in
+    let leads = leads_through rom list w.key h.items t scale w.addr m.stops.i.at m.stops.items (subst (LeadsTo Shape (rom_word rom) w.addr h.items) (sym at) h.leads) m.stops.leads in
+    let fine = fine_through rom list w.key h.items t scale place (m.stops.i ∷ m.stops.items) h.knows.fine m.fine m.sums.box.holds in
     let grown : IsLeast (relative_corners (box_extent t.lit) (place_before (keyed_context list w.key) h.items) ++ lit_points (keyed_context list w.key) h.items) ends.lit = subst (λ (k : Known). IsLeast (relative_corners (box_extent t.lit) k.place ++ lit_points (keyed_context list w.key) h.items) ends.lit) is (ends.grows (lit_points (keyed_context list w.key) h.items) h.knows.least) in
-    let least = least_through rom list w.key h.items t scale ends.lit (m.i ∷ m.items) (ordered_box t.lit tail.entry.lit) m.sums.box grown in
-    let knows : ends.known ≡ known_before (keyed_context list w.key) all = ends.known_is ∙ ap (λ (k : Known). known_over k (known_at_end t)) is ∙ ap (known_over (known_before (keyed_context list w.key) h.items)) (sym m.sums.known) ∙ sym (knows_on rom list w.key h.items t scale (m.i ∷ m.items)) in
+    let least = least_through rom list w.key h.items t scale ends.lit (m.stops.i ∷ m.stops.items) (ordered_box t.lit tail.entry.lit) m.sums.box grown in
+    let knows : ends.known ≡ known_before (keyed_context list w.key) all = ends.known_is ∙ ap (λ (k : Known). known_over k (known_at_end t)) is ∙ ap (known_over (known_before (keyed_context list w.key) h.items)) (sym m.sums.known) ∙ sym (knows_on rom list w.key h.items t scale (m.stops.i ∷ m.stops.items)) in
     let depth : ends.known.depth ≤ MOST_DEPTH = omega (arith, ap (λ (k : Known). k.depth) ends.known_is, h.shallow, tail.entry.depth) in
     let scale_is : IsKey ends.known.scale = subst (λ (k : Known). IsKey k.scale) (sym ends.known_is) tail.entry.scale in
     let entry : IsEntry rom.map.rom_first rom.map.rom_last (entry_of w.addr w.key (known_before (keyed_context list w.key) all) ends.lit) =
-    made_is_entry rom list done.made w.addr w.key (m.items ++ h.items) m.i ends.lit leads m.is fine least
+    made_is_entry rom list done.made w.addr w.key (m.stops.items ++ h.items) m.stops.i ends.lit leads m.stops.is fine least
     (subst (λ (k : Known). k.words ≤ MOST_WORDS) knows ends.words) (subst (λ (k : Known). k.depth ≤ MOST_DEPTH) knows depth) h.keyed (subst (λ (k : Known). IsKey k.scale) knows scale_is) in
     let value : entry_of w.addr w.key (known_before (keyed_context list w.key) all) ends.lit ≡ e = sym (ends.entry_is ∙ ap (λ (k : Known). entry_of w.addr w.key k ends.lit) knows) in
     let its_made : MadeEntry rom list (entry_of w.addr w.key (known_before (keyed_context list w.key) all) ends.lit) =
     ends_made rom list (entry_of w.addr w.key (known_before (keyed_context list w.key) all) ends.lit)
-    (record { items = m.items ++ h.items; i = m.i; leads = leads; is = m.is; last = m.last; sums = record { known = refl; box = least }; fine = fine }) in
+    (record { stops = record { items = m.stops.items ++ h.items; i = m.stops.i; leads = leads; is = m.stops.is; last = m.stops.last }; sums = record { known = refl; box = least }; fine = fine }) in
     record {
       addr = ap (λ (x : Entry). x.addr) (sym value);
       key = ap (λ (x : Entry). x.key) (sym value);

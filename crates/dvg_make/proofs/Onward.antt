@@ -277,7 +277,7 @@ module _ (rom : Rom) (list : List Entry) (from w : PartialEntry) (h : Walking ro
                 addr = h.addr;
                 key = h.key;
                 entry = entry;
-                made = ends_made rom list (entry_of w.addr w.key last lit) (record { items = h.partial.items; i = i; leads = h.partial.leads; is = is; last = end.0; sums = record { known = sym knows_last.known_is; box = knows_last.least }; fine = knows_last.fine });
+                made = ends_made rom list (entry_of w.addr w.key last lit) (record { stops = record { items = h.partial.items; i = i; leads = h.partial.leads; is = is; last = end.0 }; sums = record { known = sym knows_last.known_is; box = knows_last.least }; fine = knows_last.fine });
               }
 
 -- a called entry is within the limits

@@ -1,4 +1,4 @@
--- What the maker makes for frames: the list that a ROM, roots and the calls of frames ask for. All of it is profile.
+-- What the maker makes for frames: the list of entries that a ROM, roots and the calls of frames ask for. All of it is profile.
 use Rattle.std.specs.Prelude.{◌≡◌, ℕ, ◌⊎◌, List, [], ◌∷◌, Some, Contains}
 use Rattle.dvg_words.specs.Memory.{Rom, frame_word}
 use Rattle.dvg_words.specs.Decoding.{cell_at}
@@ -20,7 +20,7 @@ pub record FrameAsksFor (words : List ℕ) (list : List Entry) (to : ℕ) (scale
   pub target_is : target Frame item.instr ≡ Some to
   pub scale_is : scale_before (frame_context list) earlier ≡ scale
 
--- where the item calls an address, the list has an entry there, at the scale that is known by this list (profile)
+-- if the item calls an address, the list has an entry for it, at the scale that is known by this list (profile)
 abbrev pub IsKeyed : List Entry → List Item → Item → Type 0
 IsKeyed list earlier i = (to : ℕ) → target Frame i.instr ≡ Some to → HasEntry list to (scale_before (frame_context list) earlier)
 
@@ -28,7 +28,7 @@ IsKeyed list earlier i = (to : ℕ) → target Frame i.instr ≡ Some to → Has
 abbrev pub AllKeyed : List Entry → List Item → Type 0
 AllKeyed list items = AllHold (IsKeyed list) items
 
--- the call at a word of the frame: what it calls, at the scale that is known by the list, which has an entry for each call before it
+-- the item at this word of the frame calls this address at this scale, by a list that has an entry for each call before
 -- (profile)
 pub record CallAt (words : List ℕ) (list : List Entry) (at : ℕ) (to : ℕ) (scale : Key) : Type 0 where
   pub calls : FrameAsksFor words list to scale
@@ -44,7 +44,7 @@ IsAskedFor roots frames list addr key =
 abbrev pub HasAsked : List (ℕ × Key) → List (List ℕ) → List Entry → Type 0
 HasAsked roots frames list = (addr : ℕ) (key : Key) → IsAskedFor roots frames list addr key → HasEntry list addr key
 
--- the list that a ROM, roots and frames ask for: that of the roots together with what the frames call by this very list (profile)
+-- the list that is made for the roots and for what the frames call, at the scales that are known by this very list (profile)
 abbrev pub FramesMade : Rom → List (ℕ × Key) → List (List ℕ) → List Entry → Type 0
 FramesMade rom roots frames list = MadeFor rom (IsAskedFor roots frames list) list
 

@@ -1,4 +1,4 @@
-//! The calls of a frame, one after another.
+//! The entries that a frame calls, one call after another.
 
 ghost use Rattle.std.specs.Prelude.{OnOk, IfOk, IfErr};
 ghost use Rattle.dvg_words.specs.Values.{IsMap};
@@ -16,14 +16,14 @@ use dvg_items::{Item, Kind, scale_past, target};
 use dvg_words::{Cell, FrameImage, Instr, RomImage, read_cell};
 use std::alloc::Global;
 
-/// The word address of a call whose entry is not made, and where its making stops.
+/// A call of a frame whose entry can't be made.
 #[derive(Drop)]
 pub struct CallFault {
     pub at: u16,
     pub blocked: BlockedChain,
 }
 
-/// The entry that an instruction of a frame calls at this scale, which is made where it is not made yet.
+/// The entry that an instruction of a frame calls at this scale. It is made if it is not made yet.
 fn make_call(
     alloc: Global,
     rom: &RomImage,
@@ -49,7 +49,7 @@ fn make_call(
     Ok(done.find(to, scale))
 }
 
-/// Makes the entries of all that a frame calls, each at the scale that is known before the call, and all that they need.
+/// Makes the entries that a frame calls, each at the scale that is known before the call, and all that these need.
 pub fn make_frame(
     alloc: Global,
     rom: &RomImage,

@@ -1,4 +1,4 @@
-//! A frame judged by the certificate that is made for it.
+//! The verdict on a frame by the certificate that is made for it.
 
 ghost use Rattle.std.specs.Prelude.{◌≡◌, ◌≤◌, [], ◌∷◌, Err, IfOk, IfErr};
 ghost use Rattle.dvg_cert.specs.declared.limits.TheConstants.{MOST_WORDS};
@@ -18,14 +18,14 @@ use dvg_words::{FrameImage, RomImage, Window};
 use std::alloc::Global;
 use std::slice;
 
-/// Why a frame is not accepted by the certificate that is made for it.
+/// Why a frame is refused by the certificate that is made for it, or why none is made.
 #[derive(Clone, Copy, Debug, PartialEq, Eq)]
 pub enum FrameRefusal {
-    /// 60 to 62: the entry of the call at this word of the frame is not made.
+    /// 60 to 62: the entry that the item at this word of the frame calls can't be made.
     Make { at: u16, why: EntryFault },
     /// 63: there was no memory for the certificate.
     NoMemory,
-    /// What the checker says: the first fault of the made shapes, or the frame's, or 50.
+    /// The checker's refusal: the first fault of the made shapes or of the frame, or 50.
     Check(Refusal),
 }
 
@@ -39,7 +39,7 @@ fn refusal_of(fault: &FramesFault) -> FrameRefusal
     }
 }
 
-/// The verdict on a frame by the certificate that is made for it.
+/// The checker's verdict on a frame by the certificate that was made for it.
 fn check_made(
     alloc: Global,
     rom: &RomImage,
@@ -88,18 +88,17 @@ pub fn judge(
     }
 }
 
-/// What a frame comes to by its own certificate, and that certificate.
+/// The verdict on a frame by its own certificate, with that certificate.
 #[derive(Drop)]
 pub struct JudgedFrame {
     pub verdict: Result<Yes, FrameRefusal>,
-    /// The certificate, or in full why none was made.
+    /// The certificate, or the account of why none was made.
     pub made: Result<Cert, MakeAccount>,
 }
 
-/// Judges a frame as [`judge`] does, and gives with the verdict what it was come to by: the certificate, or the account of
-/// [`explain_making`].
+/// Judges a frame as [`judge`] does. With the verdict it gives the certificate, or the account of [`explain_making`].
 ///
-/// Where there is no memory for that account, the verdict is 63. Takes memory as `judge` and `explain_making` do.
+/// If there is no memory for that account, the verdict is 63. Takes memory as `judge` and `explain_making` do.
 pub fn explain_judging(
     alloc: Global,
     rom: &RomImage,

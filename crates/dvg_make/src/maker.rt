@@ -1,6 +1,6 @@
-//! The maker: the entries of roots, and of what frames call.
+//! The maker: a certificate of the entries for roots, and for what frames call.
 
-ghost use Rattle.std.specs.Prelude.{◌≡◌, ◌↔◌, ◌≤◌, [], None, OnOk, IfOk, IfErr, IsTrue};
+ghost use Rattle.std.specs.Prelude.{◌≡◌, ◌↔◌, ◌≤◌, ℕ, List, [], None, OnOk, IfOk, IfErr, IsTrue};
 ghost use Rattle.dvg_words.specs.Values.{IsMap};
 ghost use Rattle.dvg_words.specs.Memory.{InRom};
 ghost use Rattle.dvg_cert.specs.Entry.{IsKey};
@@ -32,7 +32,7 @@ fn can_be_root(rom: &RomImage, addr: u16, key: Key) -> bool
     map.first() <= addr && addr <= map.last() && is_key(key)
 }
 
-/// Makes the entries of all roots and all that they need.
+/// Makes the entries of all roots, and all that these need.
 fn make_roots(
     alloc: Global,
     rom: &RomImage,
@@ -46,7 +46,7 @@ fn make_roots(
     ensures tails { OnOk result (AreTails rom.now done.new tails.new) }
     ensures ok { OnOk result (Collected rom.now roots.now done.new) }
     ensures err { IfErr result (λ blocked. BarsRoots rom.now roots.now (obstacle_fault blocked.obstacle)) }
-    ensures told { IfErr result (λ blocked. IsToldOf rom.now roots.now [] None blocked.chain blocked.obstacle) }
+    ensures told { IfErr result (λ blocked. (frames : List (List ℕ)) → IsToldOf rom.now roots.now frames None blocked.chain blocked.obstacle) }
 {
     for &(addr, key) in roots {
         if !can_be_root(rom, addr, key) {
@@ -59,7 +59,8 @@ fn make_roots(
     Ok(())
 }
 
-/// Makes the entries of all that frames call, and all that they need. `roots`, whose entries are made, serve the contract alone.
+/// Makes the entries that frames call, and all that these need. The entries of `roots` are made already; only the contract speaks
+/// of them.
 fn make_calls(
     alloc: Global,
     rom: &RomImage,
@@ -90,7 +91,7 @@ fn make_calls(
     Ok(())
 }
 
-/// Makes the entries of all roots and frames, and all that they need.
+/// Makes the entries of all roots, of all that frames call, and of all that these need.
 pub fn make_all(
     alloc: Global,
     rom: &RomImage,
@@ -109,7 +110,7 @@ pub fn make_all(
     Ok(done)
 }
 
-/// The certificate of the entries that are made, for a ROM at this map.
+/// The certificate of the made entries, for a ROM at this map.
 pub fn certificate_of(alloc: Global, map: RomMap, mut done: MadeEntries) -> Result<Cert, AllocError>
     requires map { IsMap map }
     requires done { IsForSome map done }

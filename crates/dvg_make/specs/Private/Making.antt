@@ -1,4 +1,4 @@
--- A list in the making, and the shapes in the making.
+-- The entries that are made so far, and the shapes in the making.
 use Rattle.std.specs.Prelude.{◌≡◌, ◌≢◌, ◌⊎◌, ℕ, ◌++◌, ◌+◌, ◌<◌, ◌≤◌, List, [], ◌∷◌, length, Option, Some, None, Contains, slice_get, map}
 use Rattle.dvg_words.specs.declared.instruction.Cell.TheVariants.{Holds}
 use Rattle.dvg_words.specs.Decoding.{cell_at}
@@ -30,7 +30,7 @@ abbrev pub IsMaking : List PartialEntry → ℕ → Key → Type 0
 IsMaking [] addr key = ⊥
 IsMaking (w ∷ stack) addr key = ((w.addr ≡ addr) × (w.key ≡ key)) ⊎ IsMaking stack addr key
 
--- each of these shapes is walked as far as it was taken
+-- each of these partial entries is right, as far as its items were passed
 abbrev pub ArePartial : Rom → List Entry → List PartialEntry → Type 0
 ArePartial rom done [] = Unit {0}
 ArePartial rom done (w ∷ stack) = IsPartial rom done w × ArePartial rom done stack
@@ -62,13 +62,13 @@ pub record IsCalled (rom : Rom) (done : List Entry) (stack : List PartialEntry) 
   pub target_is : target Shape item.instr ≡ Some addr
   pub key_is : scale_before (keyed_context done from_key) earlier ≡ key
 
--- a list of made entries that has those of the one list, and one for this address and key
+-- what the making aims at: a list of made entries that has all of `from`, and one for the root
 pub record IsAim (rom : Rom) (from : List Entry) (root : ℕ × Key) (made : List Entry) : Type 0 where
   pub all : AllMade rom made
   pub extends : Extends from made
   pub has : HasEntry made root.0 root.1
 
--- the address and the key are the root's, or the list that was begun with has them
+-- the address and the key are the root's, or have an entry in the list that was there before
 abbrev pub IsGiven : List Entry → ℕ × Key → ℕ → Key → Type 0
 IsGiven from root addr key = HasEntry from addr key ⊎ ((root.0 ≡ addr) × (root.1 ≡ key))
 
@@ -97,9 +97,8 @@ abbrev pub AllCalled : Rom → List Entry → ℕ × Key → List Entry → List
 AllCalled rom from root done stack =
     (addr : ℕ) (key : Key) → IsPresent done stack addr key → IsGiven from root addr key ⊎ IsCalled rom done stack addr key
 
--- what holds of the entries that are made and of the shapes in the making, for a root, from the entries that were made before:
--- among it that each list of made entries that has those, and the root's, has these too, and that the words of these shapes
--- fall in it
+-- the making of a root's entry is in progress: `from` was there before, `done` is made, and `stack` has the shapes in the making.
+-- Each aim has all of `done`, and entries for the stack, whose words fall from the lowest to the top
 pub record InProgress (rom : Rom) (from : List Entry) (root : ℕ × Key) (done : List Entry) (stack : List PartialEntry) : Type 0 where
   pub is_done : IsDone rom done
   pub extends : Extends from done
@@ -110,19 +109,19 @@ pub record InProgress (rom : Rom) (from : List Entry) (root : ℕ × Key) (done 
   pub room : length done + length stack ≤ MOST_ENTRIES
   pub forced : (made : List Entry) → IsAim rom from root made → Extends done made × Chain made (MOST_WORDS + 1) stack 0
 
--- for some root and some entries that were made before
+-- the making of some root's entry is in progress
 abbrev pub IsInProgress : Rom → List Entry → List PartialEntry → Type 0
 IsInProgress rom done stack = (from : List Entry) × (root : ℕ × Key) × InProgress rom from root done stack
 
--- for each root and list begun with: if the old lists are in the making for them, so are the new
+-- whatever root's making is in progress with the old lists, it is so with the new ones
 abbrev pub StaysInProgress : Rom → List Entry → List PartialEntry → List Entry → List PartialEntry → Type 0
 StaysInProgress rom old stack new rest = (from : List Entry) (root : ℕ × Key) → InProgress rom from root old stack → InProgress rom from root new rest
 
--- no such list is there
+-- nothing is such an aim
 abbrev pub NoAim : Rom → List Entry → ℕ × Key → Type 0
 NoAim rom from root = (made : List Entry) → IsAim rom from root made → ⊥
 
--- what a refusal means: there is no such list, or each is too long
+-- what a refusal means: there is no aim, or each aim is too long for a certificate
 abbrev pub Bars : Rom → List Entry → ℕ × Key → EntryFault → Type 0
 Bars rom from root (Unstraight word) = NoAim rom from root
 Bars rom from root Deep = NoAim rom from root
@@ -130,25 +129,25 @@ Bars rom from root TooManyWords = NoAim rom from root
 Bars rom from root TooManyEntries = (made : List Entry) → IsAim rom from root made → MOST_ENTRIES < length made
 Bars rom from root Memory = Unit {0}
 
--- for each root and list begun with
+-- the same for each root whose making may be in progress
 abbrev pub BarsAll : Rom → List Entry → List PartialEntry → EntryFault → Type 0
 BarsAll rom done stack fault = (from : List Entry) (root : ℕ × Key) → InProgress rom from root done stack → Bars rom from root fault
 
--- the refusal where the making stops
+-- the refusal of an entry that has this obstacle
 abbrev pub obstacle_fault : Obstacle → EntryFault
 obstacle_fault obstacle = entry_fault obstacle.cursor.at obstacle.cause
 
--- what is told of what is asked for, by a list of made entries
+-- the chain, and the place and the cause of the obstacle, are told rightly
 abbrev pub TellsObstacle : Rom → List Entry → ℕ × Key → List PartialEntry → Obstacle → Type 0
 TellsObstacle rom list root chain obstacle = Tells rom list (asked_shape root) (shapes chain) obstacle.cursor.at obstacle.cursor.known obstacle.cause
 
--- for each root and list begun with, by the entries that are made, which are needed, and for which there is room
+-- the same for each root whose making may be in progress, by the entries that are made, which are needed and no more than may be
 abbrev pub TellsAll : Rom → List Entry → List PartialEntry → List PartialEntry → Obstacle → Type 0
 TellsAll rom done stack chain obstacle =
     (from : List Entry) (root : ℕ × Key) → InProgress rom from root done stack
     → TellsObstacle rom done root chain obstacle × AllCalled rom from root done chain × (length done + length chain ≤ MOST_ENTRIES)
 
--- by some list of made and needed entries that has those from before
+-- the same by some list of made and needed entries, which has all of `from`
 pub record IsToldFrom (rom : Rom) (from : List Entry) (root : ℕ × Key) (chain : List PartialEntry) (obstacle : Obstacle) : Type 0 where
   pub list : List Entry
   pub is_done : IsDone rom list
@@ -157,7 +156,7 @@ pub record IsToldFrom (rom : Rom) (from : List Entry) (root : ℕ × Key) (chain
   pub room : length list + length chain ≤ MOST_ENTRIES
   pub tells : TellsObstacle rom list root chain obstacle
 
--- it is not that a root is outside the ROM
+-- the obstacle is not that a root is outside the ROM
 abbrev pub IsNoRoot : Obstacle → Type 0
 IsNoRoot obstacle = obstacle.cause ≢ cause.RootOutside
 
@@ -187,15 +186,15 @@ pub record Collected (rom : Rom) (asked : List (ℕ × Key)) (done : List Entry)
   pub needed : (addr : ℕ) (key : Key) → HasEntry done addr key → Contains asked (addr, key) ⊎ IsCalled rom done [] addr key
   pub forced : (made : List Entry) → AllMade rom made → HasAll asked made → Extends done made
 
--- no certificate of made entries has all that is asked for
+-- no certificate of made entries has an entry for all of these
 abbrev pub NoneHas : Rom → List (ℕ × Key) → Type 0
 NoneHas rom asked = (list : List Entry) → IsCertificate rom.map list → AllMade rom list → HasAll asked list → ⊥
 
--- each list of made entries that has is too long for one
+-- each list of made entries that has one for all of these is too long for a certificate
 abbrev pub LongHas : Rom → List (ℕ × Key) → Type 0
 LongHas rom asked = (list : List Entry) → AllMade rom list → HasAll asked list → MOST_ENTRIES < length list
 
--- what a refusal says of that
+-- what a refusal says of such lists
 abbrev pub BarsRoots : Rom → List (ℕ × Key) → EntryFault → Type 0
 BarsRoots rom asked (Unstraight word) = NoneHas rom asked
 BarsRoots rom asked Deep = NoneHas rom asked
@@ -208,7 +207,7 @@ BarsRoots rom asked Memory = Unit {0}
 abbrev pub IsToldOf : Rom → List (ℕ × Key) → List (List ℕ) → Option FrameCall → List PartialEntry → Obstacle → Type 0
 IsToldOf rom roots frames call chain obstacle = IsTold rom roots frames call (shapes chain) obstacle.cursor.at obstacle.cursor.known obstacle.cause
 
--- the refusal of a root, or of a frame's call
+-- the refusal of the certificate, by the root or call whose entry can't be made
 abbrev pub blocked_fault : BlockedCall → FramesFault
 blocked_fault refusal = record { call = refusal.call; why = obstacle_fault refusal.blocked.obstacle }
 

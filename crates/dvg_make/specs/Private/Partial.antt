@@ -1,5 +1,5 @@
--- A shape in the making.
-use Rattle.std.specs.Prelude.{◌≡◌, ℕ, ◌<◌, ◌≤◌, List, [], ◌∷◌, ◌++◌, Option, Some, None, Contains}
+-- The entry of a shape, made item by item.
+use Rattle.std.specs.Prelude.{◌≡◌, ℕ, ◌<◌, ◌≤◌, List, [], ◌++◌, Option, Some, None, Contains}
 use Rattle.dvg_words.specs.declared.instruction.Instr.{Instr}
 use Rattle.dvg_words.specs.declared.instruction.Cell.TheVariants.{Holds}
 use Rattle.dvg_words.specs.declared.instruction.Cell.TheVariants as cell
@@ -38,11 +38,11 @@ pub use Rattle.dvg_make.specs.Accounts.{keyed_context, IsStraight, IsAsked}
 abbrev pub start : ℕ → Key → PartialEntry
 start addr key = record { addr = addr; key = key; cursor = first_cursor Shape addr key; lit = Empty }
 
--- the entry by what is known, and was lit, after the last item
+-- the whole entry, if this is known after the last item and this is the least box
 abbrev pub entry_of : ℕ → Key → Known → LitBox → Entry
 entry_of addr key known lit = record { addr = addr; key = key; stop = known.place; lit = lit; depth = known.depth; words = known.words; scale = known.scale }
 
--- the item is straight, and its target has its entry at the very scale
+-- the item is straight, and what it calls has an entry for exactly the scale there
 pub record IsFine (c : Context) (earlier : List Item) (i : Item) : Type 0 where
   pub straight : IsStraight (seen_at c earlier i)
   pub keyed : (to : ℕ) → target Shape i.instr ≡ Some to → HasEntry c.list to (scale_before c earlier)
@@ -51,12 +51,12 @@ pub record IsFine (c : Context) (earlier : List Item) (i : Item) : Type 0 where
 abbrev pub AllFine : Context → List Item → Type 0
 AllFine c items = AllHold (IsFine c) items
 
--- passing an item leaves the least box so; the item is as asked
+-- the item is as asked, and with it the box grows from one least box to the next
 pub record Passes (v : Seen) (lit new : LitBox) : Type 0 where
   pub grows : (ps : List Point) → IsLeast ps lit → IsLeast (relative_corners v.extent v.place ++ ps) new
   pub asked : IsAsked v
 
--- this is known and was lit after these items, and each is fine
+-- each of these items is fine, this is known after them, and this is the least box of what they light
 pub record KnowsAt (c : Context) (items : List Item) (known : Known) (lit : LitBox) : Type 0 where
   pub known_is : known ≡ known_before c items
   pub least : IsLeast (lit_points c items) lit
@@ -79,28 +79,28 @@ Extends a b = (addr : ℕ) (key : Key) (e : Entry) → entry_at a addr key ≡ S
 abbrev pub NeverAt : Rom → List Entry → ℕ → Key → Type 0
 NeverAt rom list addr key = (made : List Entry) → AllMade rom made → Extends list made → HasEntry made addr key → ⊥
 
--- the entry that an instruction calls, by exact key
+-- this is the entry that an instruction calls, for exactly this scale
 pub record IsCallee (list : List Entry) (i : Instr) (scale : Key) (callee : Option Entry) : Type 0 where
   pub value : callee ≡ callee_at list (target Shape i) scale
   pub keyed : (to : ℕ) → target Shape i ≡ Some to → HasEntry list to scale
 
--- the list has no entry for the target of an instruction
+-- the list has no entry for what an instruction calls
 pub record LacksCallee (list : List Entry) (i : Instr) (scale : Key) (addr : ℕ) : Type 0 where
   pub target_is : target Shape i ≡ Some addr
   pub none : entry_at list addr scale ≡ None
 
 -- ---- tails
 
--- the made entry of the shape from an address and a key on, whether anything calls it or not
+-- a tail is a made entry of a shape, whether anything calls that shape or not
 pub record IsTail (rom : Rom) (list : List Entry) (tail : Entry) : Type 0 where
   pub entry : IsEntry rom.map.rom_first rom.map.rom_last tail
   pub made : MadeEntry rom list tail
 
--- all of these are
+-- each of these is a tail
 abbrev pub AreTails : Rom → List Entry → List Entry → Type 0
 AreTails rom list tails = (tail : Entry) → Contains tails tail → IsTail rom list tail
 
--- the entry of a shape so far and of a tail behind it: what is known past both, and the least box that also has the tail's
+-- the whole entry, by the partial one and a tail behind it: what is known past both, and the least box with what the tail lights
 pub record EndsBy (w : PartialEntry) (tail e : Entry) : Type 0 where
   pub known : Known
   pub lit : LitBox
@@ -110,7 +110,7 @@ pub record EndsBy (w : PartialEntry) (tail e : Entry) : Type 0 where
   pub place : PlaceKnown (box_extent tail.lit) w.cursor.known.place
   pub words : known.words ≤ MOST_WORDS
 
--- that of a shape so far and of the tail that one of these is, where it stands
+-- the whole entry, by the partial one and the tail among these that begins at its next item
 pub record EndsByOne (w : PartialEntry) (tails : List Entry) (e : Entry) : Type 0 where
   pub tail : Entry
   pub there : entry_at tails w.cursor.at w.cursor.known.scale ≡ Some tail
@@ -118,14 +118,14 @@ pub record EndsByOne (w : PartialEntry) (tails : List Entry) (e : Entry) : Type 
 
 -- ---- how far a shape was made
 
--- its entry is made
+-- the whole entry is a made one
 pub record IsFinished (rom : Rom) (list : List Entry) (w : PartialEntry) (e : Entry) : Type 0 where
   pub addr : e.addr ≡ w.addr
   pub key : e.key ≡ w.key
   pub entry : IsEntry rom.map.rom_first rom.map.rom_last e
   pub made : MadeEntry rom list e
 
--- it stands at an item that calls for an entry that is not there
+-- the next item calls what has no entry yet
 pub record IsWaiting (rom : Rom) (list : List Entry) (w new : PartialEntry) (addr : ℕ) : Type 0 where
   pub same_addr : new.addr ≡ w.addr
   pub same_key : new.key ≡ w.key
@@ -142,11 +142,11 @@ abbrev pub Advances : Rom → List Entry → PartialEntry → Progress → Type 
 Advances rom list w (Finished e at) = IsFinished rom list w e
 Advances rom list w (Waiting new addr) = IsWaiting rom list w new addr
 
--- its address and key
+-- the address and the key of its shape
 abbrev pub shape_of : PartialEntry → ShapeAt
 shape_of w = record { addr = w.addr; key = w.key }
 
--- it stops at an item, and no made list has its entry
+-- the next item is an obstacle, and no made list has an entry for the shape
 pub record IsStopped (rom : Rom) (list : List Entry) (w : PartialEntry) (obstacle : Obstacle) : Type 0 where
   pub never : NeverAt rom list w.addr w.key
   pub reaches : Reaches rom list (shape_of w) obstacle.cursor.at obstacle.cursor.known

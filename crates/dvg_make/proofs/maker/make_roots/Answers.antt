@@ -1,4 +1,4 @@
-use Rattle.std.proofs.Common.{◌+◌, [], None, arith, rules}
+use Rattle.std.proofs.Common.{◌+◌, ℕ, List, None, arith, rules}
 use Rattle.dvg_make.proofs.Turns.{if_err_same}
 use Rattle.dvg_make.proofs.Collecting.{root_collected, root_barred, root_told, outside_barred, outside_told}
 use Rattle.dvg_make.specs.Private.Making.{BarsRoots, obstacle_fault, IsToldOf}
@@ -19,7 +19,7 @@ returns-in_err-need-clause-err c =
 
 pub returns-in_err-need-clause-told : goal.returns-in_err-need-clause-told
 returns-in_err-need-clause-told c =
-    if_err_same c.from_residual.result c.in_err-need.field-0.0 (λ blocked. IsToldOf c.args.rom.now c.args.roots.now [] None blocked.chain blocked.obstacle) c.from_residual.ensures.1
+    if_err_same c.from_residual.result c.in_err-need.field-0.0 (λ blocked. (frames : List (List ℕ)) → IsToldOf c.args.rom.now c.args.roots.now frames None blocked.chain blocked.obstacle) c.from_residual.ensures.1
     (root_told c.args.rom.now c.args.roots.now c.loop-addr.addr-index _ c.loop-addr.done c.loop-addr-test.true c.loop-addr.invariant.collected c.in_err-need.field-0.0.chain c.in_err-need.field-0.0.obstacle c.in_err-need.ensures.told)
 
 pub loop-addr-preserved : goal.loop-addr-preserved
