@@ -6,7 +6,7 @@ use crate::why::{Addresses, HALT_IN_SHAPE, MissingWord, OddWords, UNKNOWN_SCALE,
 use dvg_cert::{Cert, Entries, Key, ListIndex, MOST_WORDS};
 use dvg_explain::{Call, deepest_calls};
 use dvg_items::Kind;
-use dvg_make::{EntryCause, EntryFault, Link, MakeAccount, MakeFault, make};
+use dvg_make::{EntryCause, EntryFault, ShapeAt, MakeAccount, MakeFault, make};
 use dvg_words::RomImage;
 use std::alloc::{AllocError, Global};
 use std::slice;
@@ -117,7 +117,7 @@ pub fn push_making_why(text: &mut String, making: &MakingAccount) -> Result<(), 
 }
 
 /// Adds that an item calls a shape that needs it.
-fn push_ring_why(text: &mut String, chain: &[Link], from: usize) -> Result<(), AllocError> {
+fn push_ring_why(text: &mut String, chain: &[ShapeAt], from: usize) -> Result<(), AllocError> {
     match chain.get(from) {
         Some(link) => {
             let name = name_of(link);
@@ -127,7 +127,7 @@ fn push_ring_why(text: &mut String, chain: &[Link], from: usize) -> Result<(), A
     }
 }
 
-fn name_of(link: &Link) -> Name {
+fn name_of(link: &ShapeAt) -> Name {
     Name {
         addr: link.addr,
         key: link.key,
@@ -179,7 +179,7 @@ fn push_first(text: &mut String, account: &MakeAccount, name: Name) -> Result<()
 }
 
 /// Adds the shapes that need one another: those of the chain from this one on.
-fn push_ring(text: &mut String, chain: &[Link], from: usize) -> Result<(), AllocError> {
+fn push_ring(text: &mut String, chain: &[ShapeAt], from: usize) -> Result<(), AllocError> {
     for link in chain.iter().skip(from) {
         let name = name_of(link);
         writeln!(text, "ring: {name}")?;

@@ -8,7 +8,7 @@ use dvg_check::{Refusal, Yes};
 
 /// What a judgement comes to. A field that its number doesn't speak of is 0.
 #[repr(C)]
-#[derive(Clone, Copy, Debug, PartialEq, Eq)]
+#[derive(Clone, Copy)]
 pub struct Answer {
     /// With 0: how many shapes the certificate claims.
     pub shapes: u32,

@@ -2,15 +2,15 @@
 
 ghost use Rattle.std.specs.Prelude.{◌≡◌, map};
 ghost use Rattle.dvg_cert.specs.Order.{IsRising};
-ghost use Rattle.dvg_cert.specs.Lookup.{entry_at, is_at};
-ghost use Rattle.dvg_cert.specs.Private.Searching.{stands_before, lower_key};
+ghost use Rattle.dvg_cert.specs.Lookup.{entry_at};
+ghost use Rattle.dvg_cert.specs.Private.Searching.{stands_before};
 ghost use Rattle.dvg_c.specs.Kept.{entry_of};
 
 use crate::entry::{KeptEntry, entry_of, key_of};
-use dvg_cert::{Entries, Entry, Key};
+use dvg_cert::{Entries, Entry, Key, is_key_before};
 use std::marker::Model;
 
-/// The entries of a certificate, among which one is found by binary search. Takes no memory.
+/// The entries of a certificate, which are searched by bisection. Takes no memory.
 #[derive(Drop)]
 pub struct KeptEntries<'a> {
     entries: &'a [KeptEntry],
@@ -47,7 +47,7 @@ impl<'a> Entries for KeptEntries<'a> {
     }
 }
 
-/// The entry at an address with a key, of entries that rise.
+/// The entry with exactly this address and key, found by binary search.
 fn find_in(entries: &[KeptEntry], addr: u16, key: Key) -> Option<Entry>
     requires { IsRising (map entry_of entries.now) }
     ensures { result ≡ entry_at (map entry_of entries.now) addr key }
@@ -57,34 +57,17 @@ fn find_in(entries: &[KeptEntry], addr: u16, key: Key) -> Option<Entry>
         return None;
     }
     let entry = entry_of(&entries[at]);
-    if is_at(&entry, addr, key) {
+    if entry.is_at(addr, key) {
         Some(entry)
     } else {
         None
     }
 }
 
-/// Whether an entry is at an address with a key.
-fn is_at(entry: &Entry, addr: u16, key: Key) -> bool
-    ensures { result ≡ is_at addr key entry.now }
-{
-    addr == entry.addr && key == entry.key
-}
-
-/// Whether an entry stands before those at an address with a key.
+/// Whether an entry stands before the place of an address and key.
+#[tactic(auto, using(dvg_cert::proofs::Searching::lower_is))]
 fn stands_before(entry: &KeptEntry, addr: u16, key: Key) -> bool
     ensures { result ≡ stands_before addr key (entry_of entry.now) }
 {
-    entry.addr < addr || (entry.addr == addr && is_lower(key_of(entry.key), key))
-}
-
-/// Whether a key stands before another.
-fn is_lower(key: Key, other: Key) -> bool
-    ensures { result ≡ lower_key key other }
-{
-    match (key, other) {
-        (Key::At(m), Key::At(n)) => m < n,
-        (Key::At(_), Key::Any) => true,
-        (Key::Any, _) => false,
-    }
+    entry.addr < addr || (entry.addr == addr && is_key_before(key_of(entry.key), key))
 }

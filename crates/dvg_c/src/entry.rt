@@ -9,7 +9,7 @@ use dvg_cert::{End, Entry, Key, LitBox};
 
 /// Where the beam is at a shape's return, in plain numbers: moved so far, at that place, or anywhere.
 #[repr(C)]
-#[derive(Clone, Copy, Debug, PartialEq, Eq)]
+#[derive(Clone, Copy)]
 pub struct KeptEnd {
     pub x: i64,
     pub y: i64,
@@ -18,7 +18,7 @@ pub struct KeptEnd {
 
 /// What a shape lights, in plain numbers: nothing, or all between these.
 #[repr(C)]
-#[derive(Clone, Copy, Debug, PartialEq, Eq)]
+#[derive(Clone, Copy)]
 pub struct KeptBox {
     pub x_min: i64,
     pub x_max: i64,
@@ -29,7 +29,7 @@ pub struct KeptBox {
 
 /// An entry in plain numbers. A key is 0 to 15, or 16 for any.
 #[repr(C)]
-#[derive(Clone, Copy, Debug, PartialEq, Eq)]
+#[derive(Clone, Copy)]
 pub struct KeptEntry {
     pub stop: KeptEnd,
     pub lit: KeptBox,

@@ -8,7 +8,7 @@ use dvg_words::Window;
 
 /// The ends of a part of the screen, in whole screen places, which nothing has tested yet.
 #[repr(C)]
-#[derive(Clone, Copy, Debug, PartialEq, Eq)]
+#[derive(Clone, Copy)]
 pub struct WindowEnds {
     pub x_min: u16,
     pub x_max: u16,

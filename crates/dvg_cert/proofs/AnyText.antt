@@ -16,7 +16,7 @@ use Rattle.dvg_cert.specs.declared.fault.CertWhy.TheVariants.{Form, Order, Count
 use Rattle.dvg_cert.specs.Entry.{Entry, Key, At, Any}
 use Rattle.dvg_cert.specs.Order.{KeyBefore, Before, StandsAfter}
 use Rattle.dvg_cert.specs.Grammar.{first_version_line, second_version_line, done_line, begun_with, ended, text_of}
-use Rattle.dvg_cert.specs.Reading.{IsLine, Taken, Nothing, Versioned, Begun, Whole, text_taken, line_number, Holds, MayStand, IsUnended, Meets, StopsAt, IsRefusal}
+use Rattle.dvg_cert.specs.Reading.{IsLine, Taken, Nothing, Versioned, Begun, Whole, text_taken, line_number, Holds, MayStand, IsUnended, IsWrong, Meets, StopsAt, IsRefusal}
 use Rattle.dvg_cert.proofs.Graphics.{Without-append}
 use Rattle.dvg_cert.proofs.WholeLines.{said, line_takes, line_again}
 use Rattle.dvg_cert.proofs.Rising.{certificate_push, no_entry_yet, small_map}
@@ -170,28 +170,26 @@ open_prefix prefix after h =
     longer : {line : ℕ} {why : CertWhy} → StopsAt prefix line why → StopsAt (prefix ++ after) line why
     longer s = (s.0, s.1, s.2 ++ after, s.3, s.4, ap (λ (x : List ℕ). x ++ after) s.5 ∙ append_assoc s.0 (s.1 ∷ s.2) after, s.6, s.7, s.8)
 
-never_memory : (taken : Taken) (rest : List ℕ) (b : ℕ) → Meets taken rest b Memory → ⊥
-never_memory Nothing rest b (inl h) = let e : Memory ≡ TooLong = h.2 in absurd cc
-never_memory Nothing rest b (inr h) = h.1
-never_memory Versioned rest b (inl h) = let e : Memory ≡ TooLong = h.2 in absurd cc
-never_memory Versioned rest b (inr h) = h.1
-never_memory (Begun map es) rest b (inl h) = let e : Memory ≡ TooLong = h.2 in absurd cc
-never_memory (Begun map es) rest b (inr h) = h.1
-never_memory (Whole map es) rest b h = let e : Memory ≡ After = h in absurd cc
+-- what is wrong with no line, and neither too long nor after the last line, is met by no byte
+never_met : (why : CertWhy) → ((taken : Taken) (line : List ℕ) → IsWrong taken line why → ⊥) → (why ≢ TooLong) → (why ≢ After) → (taken : Taken) (rest : List ℕ) (b : ℕ) → Meets taken rest b why → ⊥
+never_met why right short before Nothing rest b (inl h) = short h.2
+never_met why right short before Nothing rest b (inr h) = right Nothing rest h.1
+never_met why right short before Versioned rest b (inl h) = short h.2
+never_met why right short before Versioned rest b (inr h) = right Versioned rest h.1
+never_met why right short before (Begun map es) rest b (inl h) = short h.2
+never_met why right short before (Begun map es) rest b (inr h) = right (Begun map es) rest h.1
+never_met why right short before (Whole map es) rest b h = before h
 
-never_unended : (taken : Taken) (rest : List ℕ) (b : ℕ) → Meets taken rest b Unended → ⊥
-never_unended Nothing rest b (inl h) = let e : Unended ≡ TooLong = h.2 in absurd cc
-never_unended Nothing rest b (inr h) = h.1
-never_unended Versioned rest b (inl h) = let e : Unended ≡ TooLong = h.2 in absurd cc
-never_unended Versioned rest b (inr h) = h.1
-never_unended (Begun map es) rest b (inl h) = let e : Unended ≡ TooLong = h.2 in absurd cc
-never_unended (Begun map es) rest b (inr h) = h.1
-never_unended (Whole map es) rest b h = let e : Unended ≡ After = h in absurd cc
+never_wrong : (taken : Taken) (line : List ℕ) → (IsWrong taken line Memory → ⊥) × (IsWrong taken line Unended → ⊥)
+never_wrong Nothing line = (λ h. h, λ h. h)
+never_wrong Versioned line = (λ h. h, λ h. h)
+never_wrong (Begun map es) line = (λ h. h, λ h. h)
+never_wrong (Whole map es) line = (λ h. h, λ h. h)
 
 -- a text that a byte stops is refused
 pub stuck_refusal : (why : CertWhy) (text : List ℕ) (line : ℕ) → StopsAt text line why → IsRefusal text line why × (why ≢ Memory)
-stuck_refusal Memory text line s = absurd (never_memory s.3 s.4 s.1 s.7)
-stuck_refusal Unended text line s = absurd (never_unended s.3 s.4 s.1 s.7)
+stuck_refusal Memory text line s = absurd (never_met Memory (λ t l. (never_wrong t l).0) (λ e. absurd cc) (λ e. absurd cc) s.3 s.4 s.1 s.7)
+stuck_refusal Unended text line s = absurd (never_met Unended (λ t l. (never_wrong t l).1) (λ e. absurd cc) (λ e. absurd cc) s.3 s.4 s.1 s.7)
 stuck_refusal Form text line s = (s, λ e. absurd cc)
 stuck_refusal Order text line s = (s, λ e. absurd cc)
 stuck_refusal Count text line s = (s, λ e. absurd cc)

@@ -289,27 +289,29 @@ not_both first last e n line small h k = let s = one_line first last line (Entry
 pub same_entry : (first last : ℕ) (e f : Entry) (line : List ℕ) → last < ADDRESS_END → IsLine first last (EntryLine e) line → IsLine first last (EntryLine f) line → e ≡ f
 same_entry first last e f line small h k = let s = one_line first last line (EntryLine e) (EntryLine f) small h k in cc
 
-pub same_count : (first last m n : ℕ) (line : List ℕ) → last < ADDRESS_END → IsLine first last (DoneLine m) line → IsLine first last (DoneLine n) line → m ≡ n
-same_count first last m n line small h k = let s = one_line first last line (DoneLine m) (DoneLine n) small h k in cc
+-- what no other reason has, has the form for its reason
+pub only_form : (P : CertWhy → Type 0) → (P Order → ⊥) → (P Count → ⊥) → (P Unended → ⊥) → (P After → ⊥) → (P TooLong → ⊥) → (P Memory → ⊥) → (why : CertWhy) → P why → why ≡ Form
+only_form P order count unended after long memory Form h = refl
+only_form P order count unended after long memory Order h = absurd (order h)
+only_form P order count unended after long memory Count h = absurd (count h)
+only_form P order count unended after long memory Unended h = absurd (unended h)
+only_form P order count unended after long memory After h = absurd (after h)
+only_form P order count unended after long memory TooLong h = absurd (long h)
+only_form P order count unended after long memory Memory h = absurd (memory h)
 
 -- what is wrong may not stand
 pub wrong_goes : (why : CertWhy) (t : Taken) (line : List ℕ) → Small t → IsWrong t line why → GoesOn t line → ⊥
 wrong_goes why (Whole map es) line small w g = g
-wrong_goes Form Nothing line small w (inl g) = w.0 g
-wrong_goes Form Nothing line small w (inr g) = w.1 g
-wrong_goes Order Nothing line small w g = w
-wrong_goes Count Nothing line small w g = w
-wrong_goes Unended Nothing line small w g = w
-wrong_goes After Nothing line small w g = w
-wrong_goes TooLong Nothing line small w g = w
-wrong_goes Memory Nothing line small w g = w
-wrong_goes Form Versioned line small w g = w g.0 g.1 g.2
-wrong_goes Order Versioned line small w g = w
-wrong_goes Count Versioned line small w g = w
-wrong_goes Unended Versioned line small w g = w
-wrong_goes After Versioned line small w g = w
-wrong_goes TooLong Versioned line small w g = w
-wrong_goes Memory Versioned line small w g = w
+wrong_goes why Nothing line small w g =
+    let form = only_form (IsWrong Nothing line) (λ x. x) (λ x. x) (λ x. x) (λ x. x) (λ x. x) (λ x. x) why w in
+    not_first (subst (IsWrong Nothing line) form w) g
+  where
+    not_first : IsWrong Nothing line Form → GoesOn Nothing line → ⊥
+    not_first n (inl e) = n.0 e
+    not_first n (inr e) = n.1 e
+wrong_goes why Versioned line small w g =
+    let form = only_form (IsWrong Versioned line) (λ x. x) (λ x. x) (λ x. x) (λ x. x) (λ x. x) (λ x. x) why w in
+    subst (IsWrong Versioned line) form w g.0 g.1 g.2
 wrong_goes Form (Begun map es) line small w (inl g) = w (EntryLine g.0) g.1
 wrong_goes Form (Begun map es) line small w (inr g) = w (DoneLine (length es)) g
 wrong_goes Order (Begun map es) line small w (inl g) = w.2 (subst (λ (x : Entry). StandsAfter es x) (same_entry map.rom_first map.rom_last g.0 w.0 line small g.1 w.1) g.2)
@@ -317,7 +319,9 @@ wrong_goes Order (Begun map es) line small w (inr g) = not_both map.rom_first ma
 wrong_goes TooLong (Begun map es) line small w (inl g) = absurd (omega (arith, g.3, w.3))
 wrong_goes TooLong (Begun map es) line small w (inr g) = not_both map.rom_first map.rom_last w.0 (length es) line small w.1 g
 wrong_goes Count (Begun map es) line small w (inl g) = not_both map.rom_first map.rom_last g.0 w.0 line small g.1 w.1
-wrong_goes Count (Begun map es) line small w (inr g) = w.2 (same_count map.rom_first map.rom_last w.0 (length es) line small w.1 g)
+wrong_goes Count (Begun map es) line small w (inr g) =
+    let same = one_line map.rom_first map.rom_last line (DoneLine w.0) (DoneLine (length es)) small w.1 g in
+    w.2 cc
 wrong_goes Unended (Begun map es) line small w g = w
 wrong_goes After (Begun map es) line small w g = w
 wrong_goes Memory (Begun map es) line small w g = w

@@ -16,7 +16,7 @@ use Rattle.dvg_cert.specs.declared.fault.CertWhy.TheVariants.{Form, Order, Count
 use Rattle.dvg_cert.proofs.Graphics.{line_free, graphics_entry, graphic_decimal}
 use Rattle.dvg_cert.proofs.Lengths.{length_entry, length_done}
 use Rattle.dvg_cert.proofs.FirstLines.{heads, version_free, rom_free}
-use Rattle.dvg_cert.proofs.LinesOfTexts.{cut_once, no_cut, lines_text, Frees, lines_prefix, entry_lines, lines_of, lines_once, goes_on, Small, small_taken, wrong_goes, same_entry, not_both}
+use Rattle.dvg_cert.proofs.LinesOfTexts.{only_form, cut_once, no_cut, lines_text, Frees, lines_prefix, entry_lines, lines_of, lines_once, goes_on, Small, small_taken, wrong_goes, same_entry, not_both}
 
 done_free : (n : ℕ) → n ≤ MOST_ENTRIES → Without LINE_FEED (done_line n)
 done_free n h = line_free (codes "done" ∷ decimal n ∷ []) ((lit< tt, (lit< tt, (lit< tt, (lit< tt, tt)))), (graphic_decimal n (omega arith), tt))
@@ -124,48 +124,17 @@ holds_once text t u rest rest' h k = same (prefix_of text text [] t u rest rest'
     same ((m ∷ ms), l, r) = absurd (no_cut m (lines_text ms ++ rest') rest (rest_free t rest h.begun).0 (sym (append_assoc m (LINE_FEED ∷ lines_text ms) rest') ∙ sym r ∙ append-nil rest))
 
 same_meets : (t : Taken) (line : List ℕ) (why why' : CertWhy) → Small t → IsWrong t line why → IsWrong t line why' → why ≡ why'
-same_meets Nothing line Form Form small h k = refl
-same_meets Nothing line Form Order small h k = absurd k
-same_meets Nothing line Form Count small h k = absurd k
-same_meets Nothing line Form Unended small h k = absurd k
-same_meets Nothing line Form After small h k = absurd k
-same_meets Nothing line Form TooLong small h k = absurd k
-same_meets Nothing line Form Memory small h k = absurd k
-same_meets Nothing line Order why' small h k = absurd h
-same_meets Nothing line Count why' small h k = absurd h
-same_meets Nothing line Unended why' small h k = absurd h
-same_meets Nothing line After why' small h k = absurd h
-same_meets Nothing line TooLong why' small h k = absurd h
-same_meets Nothing line Memory why' small h k = absurd h
-same_meets Versioned line Form Form small h k = refl
-same_meets Versioned line Form Order small h k = absurd k
-same_meets Versioned line Form Count small h k = absurd k
-same_meets Versioned line Form Unended small h k = absurd k
-same_meets Versioned line Form After small h k = absurd k
-same_meets Versioned line Form TooLong small h k = absurd k
-same_meets Versioned line Form Memory small h k = absurd k
-same_meets Versioned line Order why' small h k = absurd h
-same_meets Versioned line Count why' small h k = absurd h
-same_meets Versioned line Unended why' small h k = absurd h
-same_meets Versioned line After why' small h k = absurd h
-same_meets Versioned line TooLong why' small h k = absurd h
-same_meets Versioned line Memory why' small h k = absurd h
+same_meets Nothing line why why' small h k =
+    let form = only_form (IsWrong Nothing line) (λ x. x) (λ x. x) (λ x. x) (λ x. x) (λ x. x) (λ x. x) in form why h ∙ sym (form why' k)
+same_meets Versioned line why why' small h k =
+    let form = only_form (IsWrong Versioned line) (λ x. x) (λ x. x) (λ x. x) (λ x. x) (λ x. x) (λ x. x) in form why h ∙ sym (form why' k)
 same_meets (Whole map es) line why why' small h k = absurd h
 same_meets (Begun map es) line Unended why' small h k = absurd h
 same_meets (Begun map es) line After why' small h k = absurd h
 same_meets (Begun map es) line Memory why' small h k = absurd h
-same_meets (Begun map es) line Form Unended small h k = absurd k
-same_meets (Begun map es) line Form After small h k = absurd k
-same_meets (Begun map es) line Form Memory small h k = absurd k
-same_meets (Begun map es) line Order Unended small h k = absurd k
-same_meets (Begun map es) line Order After small h k = absurd k
-same_meets (Begun map es) line Order Memory small h k = absurd k
-same_meets (Begun map es) line TooLong Unended small h k = absurd k
-same_meets (Begun map es) line TooLong After small h k = absurd k
-same_meets (Begun map es) line TooLong Memory small h k = absurd k
-same_meets (Begun map es) line Count Unended small h k = absurd k
-same_meets (Begun map es) line Count After small h k = absurd k
-same_meets (Begun map es) line Count Memory small h k = absurd k
+same_meets (Begun map es) line why Unended small h k = absurd k
+same_meets (Begun map es) line why After small h k = absurd k
+same_meets (Begun map es) line why Memory small h k = absurd k
 same_meets (Begun map es) line Form Form small h k = refl
 same_meets (Begun map es) line Form Order small h k = absurd (h (EntryLine k.0) k.1)
 same_meets (Begun map es) line Form TooLong small h k = absurd (h (EntryLine k.0) k.1)

@@ -1,6 +1,6 @@
 -- Binary search in a list of entries that rises.
 use Rattle.std.proofs.Common.{◌≡◌, ℕ, zero, suc, ◌<◌, ◌≤◌, ◌⊎◌, inl, inr, Bool, true, false, List, [], ◌∷◌, length, get_or, Option, Some, None, refl, sym, ap, subst, ◌∙◌, arith}
-use Rattle.std.specs.Prelude.{◌==◌, nat_lt, ◌&&◌, ◌||◌, Contains, IfSome, IfNone}
+use Rattle.std.specs.Prelude.{◌==◌, nat_lt, ◌&&◌, ◌||◌, Contains, IfSome, IfNone, IsTrue, ◌↔◌}
 use Rattle.std.specs.List.Sorted.{IsPartitionedBy, IsPartitionPoint}
 use Rattle.std.proofs.lemmas.Bool.Decides.{nat_tests}
 use Rattle.std.proofs.lemmas.List.{get_or_default}
@@ -20,6 +20,14 @@ lower_holds : (a b : Key) → KeyBefore a b → lower_key a b ≡ true
 lower_holds (At m) (At n) h = grind (arith, nat_tests)
 lower_holds (At m) Any h = refl
 lower_holds Any b h = absurd h
+
+pub lower_is : (a b : Key) (r : Bool) → (IsTrue r ↔ KeyBefore a b) → r ≡ lower_key a b
+lower_is a b true h = sym (lower_holds a b (h.0 refl))
+lower_is a b false h = by (lower_key a b) refl
+  where
+    by : (l : Bool) → lower_key a b ≡ l → false ≡ l
+    by false e = refl
+    by true e = let f : IsTrue false = h.1 (lower_means a b e) in absurd cc
 
 -- an entry at an address and key
 abbrev place : ℕ → Key → Entry → Entry
@@ -79,27 +87,29 @@ at_place es addr key i e h le p (k, lt, is) a b = by (nat_lt k i) (nat_lt i k) r
         absurd cc
     by false false l n = let same : k ≡ i = grind (arith, nat_tests) in (omega arith, subst (λ (j : ℕ). get_or es j e ≡ e) same is)
 
-pub nothing_there : (es : List Entry) (addr : ℕ) (key : Key) (i : ℕ) → IsRising es → i ≡ length es → IsPartitionPoint (λ x. stands_before addr key x ≡ true) (λ x. stands_before addr key x ≡ false) es i → None ≡ entry_at es addr key
-nothing_there es addr key i h end p = by (entry_at es addr key) refl
+-- where no entry that stands there has the address and key, there is none
+none_at : (es : List Entry) (addr : ℕ) (key : Key) (i : ℕ) → IsRising es → i ≤ length es → IsPartitionPoint (λ x. stands_before addr key x ≡ true) (λ x. stands_before addr key x ≡ false) es i
+    → ((f : Entry) → f.addr ≡ addr → f.key ≡ key → i < length es → get_or es i f ≡ f → ⊥) → None ≡ entry_at es addr key
+none_at es addr key i h le p other = by (entry_at es addr key) refl
   where
     by : (o : Option Entry) → entry_at es addr key ≡ o → None ≡ entry_at es addr key
     by None e = sym e
     by (Some f) e =
         let only : IsOnlyAt es addr key f = subst (λ (o : Option Entry). IfSome o (IsOnlyAt es addr key)) e (found es addr key h).0 in
-        let t = at_place es addr key i f h (omega arith) p only.0 only.1 only.2 in
-        absurd (omega (arith, t.0))
+        let t = at_place es addr key i f h le p only.0 only.1 only.2 in
+        absurd (other f only.1 only.2 t.0 t.1)
+
+pub nothing_there : (es : List Entry) (addr : ℕ) (key : Key) (i : ℕ) → IsRising es → i ≡ length es → IsPartitionPoint (λ x. stands_before addr key x ≡ true) (λ x. stands_before addr key x ≡ false) es i → None ≡ entry_at es addr key
+nothing_there es addr key i h end p = none_at es addr key i h (omega arith) p (λ f a k lt is. omega arith)
 
 pub other_there : (es : List Entry) (addr : ℕ) (key : Key) (i : ℕ) (d : Entry) → IsRising es → i < length es → IsPartitionPoint (λ x. stands_before addr key x ≡ true) (λ x. stands_before addr key x ≡ false) es i
     → is_at addr key (get_or es i d) ≡ false → None ≡ entry_at es addr key
-other_there es addr key i d h lt p other = by (entry_at es addr key) refl
+other_there es addr key i d h lt p other = none_at es addr key i h (omega arith) p differs
   where
-    by : (o : Option Entry) → entry_at es addr key ≡ o → None ≡ entry_at es addr key
-    by None e = sym e
-    by (Some f) e =
-        let only : IsOnlyAt es addr key f = subst (λ (o : Option Entry). IfSome o (IsOnlyAt es addr key)) e (found es addr key h).0 in
-        let t = at_place es addr key i f h (omega arith) p only.0 only.1 only.2 in
-        let here : get_or es i d ≡ f = get_or_default es i d f lt ∙ t.1 in
-        let yes : is_at addr key (get_or es i d) ≡ true = ap (is_at addr key) here ∙ at_holds addr key f only.1 only.2 in
+    differs : (f : Entry) → f.addr ≡ addr → f.key ≡ key → i < length es → get_or es i f ≡ f → ⊥
+    differs f a k within is =
+        let here : get_or es i d ≡ f = get_or_default es i d f lt ∙ is in
+        let yes : is_at addr key (get_or es i d) ≡ true = ap (is_at addr key) here ∙ at_holds addr key f a k in
         absurd cc
 
 pub this_there : (es : List Entry) (addr : ℕ) (key : Key) (i : ℕ) (d : Entry) → IsRising es → i < length es → is_at addr key (get_or es i d) ≡ true → Some (get_or es i d) ≡ entry_at es addr key

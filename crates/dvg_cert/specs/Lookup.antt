@@ -25,6 +25,7 @@ IsOnlyAt list addr key e = Contains list e × (e.addr ≡ addr) × (e.key ≡ ke
 abbrev pub HasNoneAt : List Entry → ℕ → Key → Type 0
 HasNoneAt list addr key = (f : Entry) → Contains list f → f.addr ≡ addr → f.key ≡ key → ⊥
 
--- the entry named by an address and a known scale, where `Any` is an unknown one: that at the scale, else that at any scale (profile)
+-- the entry that a call names by its address and the known scale, `Any` for an unknown one: the entry at the scale, else the one at any
+-- scale (profile)
 abbrev pub named_entry : List Entry → ℕ → Key → Option Entry
 named_entry list addr scale = option_or (entry_at list addr scale) (entry_at list addr Any)

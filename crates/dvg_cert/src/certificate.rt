@@ -10,7 +10,7 @@ use crate::limits::{MOST_DEPTH, MOST_ENTRIES, MOST_NUMBER, MOST_WORDS};
 use dvg_words::RomMap;
 use std::marker::Model;
 
-/// A certificate: where the ROM lies that it speaks of, and its entries, rising by address and key, and within the limits.
+/// A certificate: where its ROM lies, and its entries. They rise by address and key, and are within the limits.
 #[derive(Drop)]
 pub struct Cert {
     map: RomMap,
@@ -28,8 +28,8 @@ impl Model for Cert {
 }
 
 impl Cert {
-    /// The certificate with these entries for a ROM from word address `rom.0` to `rom.1`, or the same vector again where the ROM
-    /// can't lie there or the entries are not such a certificate's.
+    /// The certificate with these entries for a ROM from word address `rom.0` to `rom.1`. An `Err` gives the vector back: the ROM
+    /// can't lie there, or the entries don't rise or are not within the limits.
     pub fn from_entries(entries: Vec<Entry>, rom: (u16, u16)) -> Result<Cert, Vec<Entry>>
         ensures taken { IfOk result (λ cert. (cert ≡ record { map = record { rom_first = rom.0; rom_last = rom.1 }; entries = entries.items })
             × IsCertificate cert.map cert.entries) }
@@ -69,7 +69,7 @@ impl Cert {
     }
 }
 
-/// The certificate with these entries, which are known to be one's for a ROM at this map.
+/// The certificate with these entries. They are known to rise and to be within the limits of a ROM at this map.
 pub fn certificate_unchecked(map: RomMap, entries: Vec<Entry>) -> Cert
     requires { IsCertificate map entries.items }
     ensures { result ≡ record { map = map; entries = entries.items } }
@@ -77,7 +77,7 @@ pub fn certificate_unchecked(map: RomMap, entries: Vec<Entry>) -> Cert
     Cert { map, entries }
 }
 
-/// Whether entries are those of a certificate for a ROM at this map.
+/// Whether entries rise and are within the limits of a certificate for a ROM at this map.
 fn is_certificate(map: RomMap, entries: &[Entry]) -> bool
     ensures { IsTrue result ↔ IsCertificate map entries.now }
 {
@@ -115,7 +115,8 @@ fn is_before(a: &Entry, b: &Entry) -> bool
     is_key_before(a.key, b.key)
 }
 
-fn is_key_before(a: Key, b: Key) -> bool
+/// Whether a key stands before another in a certificate.
+pub fn is_key_before(a: Key, b: Key) -> bool
     ensures { IsTrue result ↔ KeyBefore a b }
 {
     match (a, b) {
@@ -140,7 +141,7 @@ pub fn is_entry(map: RomMap, entry: &Entry) -> bool
         && is_key(entry.scale)
 }
 
-/// Whether a key is any, or a global scale of 0 to 15.
+/// Whether a key is `Any` or a global scale of 0 to 15.
 pub fn is_key(key: Key) -> bool
     ensures { IsTrue result ↔ IsKey key }
 {

@@ -1,5 +1,5 @@
-//! Readers and writers that count their failures, so that a caller can tell that one failed; a writer also counts how many writes
-//! took all that they were given.
+//! Readers and writers that count their failures, so that a caller can tell which one failed. A writer also counts the writes
+//! that took all of their piece.
 
 ghost use Rattle.std.specs.Prelude.{◌≡◌, ℕ, true, is_err};
 ghost use Rattle.std.specs.Io.{ReadsAtMost, WritesAtMost};
@@ -19,7 +19,7 @@ pub trait CountedRead: Read {
     fn failures(&self) -> u32
         ensures { result ≡ failures self.now };
 
-    /// One `read`, counted where it fails.
+    /// One `read`. A failure is counted.
     fn read_counted(&mut self, buf: &mut [u8]) -> io::Result<usize>
         ensures bound { ReadsAtMost result buf.new }
         ensures bytes { ReadConsumes (Self.remaining self.old) (Self.remaining self.new) result buf.new }
@@ -27,7 +27,7 @@ pub trait CountedRead: Read {
 }
 
 /// A writer that counts the calls of `write_counted` that failed, and those that took their whole piece, each up to `u32::MAX`. A
-/// call fails that answers an error, or takes no byte of a piece that has some. `Counted` doesn't count a plain `write`.
+/// call fails if it answers an error, or takes no byte of a piece that has some. `Counted` doesn't count a plain `write`.
 pub trait CountedWrite: Write {
     /// How many calls of `write_counted` failed so far.
     ghost failures: { Self → ℕ };
@@ -43,7 +43,7 @@ pub trait CountedWrite: Write {
     fn whole_writes(&self) -> u32
         ensures { result ≡ whole_writes self.now };
 
-    /// One `write`, counted where it fails and where it takes the whole piece.
+    /// One `write`. A failure is counted, and so is a write that takes its whole piece.
     fn write_counted(&mut self, buf: &[u8]) -> io::Result<usize>
         ensures bound { WritesAtMost result buf.now }
         ensures bytes { WriteAppends (Self.contents self.old) (Self.contents self.new) result buf.now }
@@ -51,7 +51,7 @@ pub trait CountedWrite: Write {
         ensures whole { whole_writes self.new ≡ count_after (took_whole result buf.now) (whole_writes self.old) };
 }
 
-/// A reader or a writer, the count of its failures, and that of the writes which took their whole piece.
+/// A reader or a writer, with the number of its failures and the number of writes that took their whole piece.
 #[derive(Drop)]
 pub struct Counted<T> {
     device: T,

@@ -7,7 +7,7 @@ ghost use Rattle.dvg_cert.specs.Private.Fields.{NoDigitFirst};
 
 use std::simd::prelude::*;
 
-/// The number of the lowest bit that is set, or 16 where none is.
+/// The position of the lowest bit that is set, or 16 if none is.
 #[inline(always)]
 fn first_lane(mask: u64) -> usize
     ensures { result ≡ if mask == 0 then 16 else trailing_zeros w64 mask }
@@ -19,7 +19,7 @@ fn first_lane(mask: u64) -> usize
     }
 }
 
-/// How many digits sixteen bytes begin with.
+/// The number of digits at the beginning of sixteen bytes.
 #[inline(always)]
 pub fn leading_digits(bytes: &[u8; 16]) -> usize
     ensures few { result ≤ 16 }
@@ -30,7 +30,7 @@ pub fn leading_digits(bytes: &[u8; 16]) -> usize
     first_lane(values.simd_ge(u8x16::splat(10)).to_bitmask())
 }
 
-/// The number that the first `count` of eight bytes write, which are digits.
+/// The number that the first `count` of eight bytes spell, which are digits.
 #[inline(always)]
 fn number_of_eight(bytes: &[u8; 8], count: usize) -> u64
     requires some { 1 ≤ count }
@@ -38,15 +38,15 @@ fn number_of_eight(bytes: &[u8; 8], count: usize) -> u64
     requires digits { AllDigits 10 (take count bytes.now) }
     ensures { result ≡ digits_value 10 (take count bytes.now) }
 {
-    // The values of the digits in the highest bytes of a word, below them zeros.
+    // The values of the digits, in the highest bytes of a word. The bytes below are 0.
     let values = u64::from_le_bytes(*bytes).wrapping_sub(0x3030_3030_3030_3030) << (64 - 8 * count);
-    // In every second byte two digits are one number, and then in every second two bytes four.
+    // First every second byte has the number of two digits, then every second pair of bytes that of four.
     let pairs = (values.wrapping_mul(10 * 256 + 1) >> 8) & 0x00FF_00FF_00FF_00FF;
     let fours = pairs.wrapping_mul(100 * 65_536 + 1) >> 16;
     fours % 65_536 * 10_000 + (fours >> 32)
 }
 
-/// Eight of sixteen bytes, from one of them on.
+/// Eight of sixteen bytes, from this position on.
 #[inline(always)]
 fn eight_at(bytes: &[u8; 16], from: usize) -> &[u8; 8]
     requires { from ≤ 8 }
@@ -55,7 +55,7 @@ fn eight_at(bytes: &[u8; 16], from: usize) -> &[u8; 8]
     bytes[from..].first_chunk::<8>().unwrap()
 }
 
-/// The number that the first `count` of sixteen bytes write, which are digits.
+/// The number that the first `count` of sixteen bytes spell, which are digits.
 #[inline(always)]
 pub fn number_of_digits(bytes: &[u8; 16], count: usize) -> u64
     requires some { 1 ≤ count }
@@ -69,7 +69,7 @@ pub fn number_of_digits(bytes: &[u8; 16], count: usize) -> u64
     number_of_many(bytes, count)
 }
 
-/// The same of more than eight digits. It is no part of what calls it, since such numbers are few.
+/// The same for more than eight digits. Such numbers are rare, so this stays out of its caller's code.
 #[inline(never)]
 fn number_of_many(bytes: &[u8; 16], count: usize) -> u64
     requires many { 8 < count }

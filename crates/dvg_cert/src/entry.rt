@@ -1,5 +1,8 @@
 //! What a certificate claims of a shape.
 
+ghost use Rattle.std.specs.Prelude.{◌≡◌};
+ghost use Rattle.dvg_cert.specs.Lookup.{is_at};
+
 use std::fmt;
 
 /// A global scale, or any.
@@ -70,4 +73,13 @@ pub struct Entry {
     pub scale: Key,
     /// How deep calls nest below it, at most, 0 to 3.
     pub depth: u8,
+}
+
+impl Entry {
+    /// Whether the entry has exactly this address and key.
+    pub fn is_at(&self, addr: u16, key: Key) -> bool
+        ensures { result ≡ is_at addr key self.now }
+    {
+        addr == self.addr && key == self.key
+    }
 }

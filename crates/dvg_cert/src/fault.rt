@@ -32,7 +32,7 @@ pub enum CertWhy {
 }
 
 impl CertWhy {
-    /// The number of the refusal, as a report has it.
+    /// 10 to 16.
     pub fn number(self) -> u8
         ensures { result ≡ cert_number self }
     {
@@ -57,7 +57,7 @@ pub struct CertFault {
 }
 
 impl CertFault {
-    /// The number of the refusal, 10 to 16.
+    /// 10 to 16.
     pub fn number(self) -> u8
         ensures { result ≡ cert_number self.why }
     {
@@ -74,7 +74,7 @@ pub enum WriteFault {
 }
 
 impl WriteFault {
-    /// The number of the refusal, as a report has it.
+    /// 17.
     pub fn number(self) -> u8
         ensures { result ≡ write_number self }
     {

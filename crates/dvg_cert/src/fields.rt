@@ -11,7 +11,7 @@ use crate::limits::{MOST_DEPTH, MOST_MAGNITUDE, MOST_WORDS};
 use crate::numerals::{address_of, leading_magnitude, leading_number_by_digits};
 use std::marker::Model;
 
-/// What is left to read of a line.
+/// The part of a line that is not read yet.
 #[derive(Drop)]
 pub struct Fields<'a> {
     rest: &'a [u8],
@@ -26,7 +26,7 @@ impl<'a> Model for Fields<'a> {
 }
 
 impl<'a> Fields<'a> {
-    /// The fields of a line.
+    /// All of a line.
     #[inline(always)]
     pub fn new(line: &'a [u8]) -> Self
         ensures { result ≡ line.now }
@@ -50,7 +50,7 @@ impl<'a> Fields<'a> {
         self.rest.is_empty()
     }
 
-    /// Takes this text where it comes next, and answers whether it does. Else nothing is taken.
+    /// Takes this text if it comes next, and tells whether it did. Else nothing is taken.
     #[inline(always)]
     fn takes<const N: usize>(&mut self, text: &[u8; N]) -> bool
         ensures yes { IsTrue result → past text.now self.old ≡ Some self.new }
@@ -74,7 +74,7 @@ impl<'a> Fields<'a> {
         if self.takes(text) { Some(()) } else { None }
     }
 
-    /// Takes a number from `low` to `high`, which was read from what is left.
+    /// Takes a number from `low` to `high` that was already read from the bytes left.
     #[inline(always)]
     fn natural_of(&mut self, read: Option<(u64, &'a [u8])>, low: u64, high: u64) -> Option<u64>
         requires read { LeadsWith (λ rest. rest.now) self.old read }
@@ -90,7 +90,7 @@ impl<'a> Fields<'a> {
         Some(number)
     }
 
-    /// Takes a number from `low` to `high`, of few digits most often.
+    /// Takes a number from `low` to `high`. It is read digit by digit, since most have few digits.
     #[inline(always)]
     pub fn natural(&mut self, low: u64, high: u64) -> Option<u64>
         requires { high ≤ MOST_MAGNITUDE }
@@ -116,7 +116,7 @@ impl<'a> Fields<'a> {
         Some(*first - b'0')
     }
 
-    /// Takes a scale, or any.
+    /// Takes a key: a scale from 0 to 15, or `any`.
     #[tactic(auto, unfolding(crate::specs::Private::Fields::key_at))]
     #[inline(always)]
     fn key(&mut self) -> Option<Key>
@@ -135,7 +135,7 @@ impl<'a> Fields<'a> {
         }
     }
 
-    /// Takes an address from `first` to `last`.
+    /// Takes a word address from `first` to `last`.
     #[inline(always)]
     pub fn address(&mut self, first: u16, last: u16) -> Option<u16>
         ensures { Reads result self.new (address_at first last self.old) }
@@ -147,7 +147,7 @@ impl<'a> Fields<'a> {
         address_of(*a, *b, *c, first, last)
     }
 
-    /// Takes a number from 1 on. One of few digits is read in place, so that what is read of it stays in registers.
+    /// Takes a number from 1 on. A short one is read in place, so that its value stays in registers.
     #[inline(always)]
     fn magnitude(&mut self) -> Option<u64>
         ensures value { Reads result self.new (natural_at 1 MOST_MAGNITUDE self.old) }
@@ -161,7 +161,7 @@ impl<'a> Fields<'a> {
         Some(number)
     }
 
-    /// Takes a number of an end or a box.
+    /// Takes a coordinate of an end or a box.
     #[tactic(auto, unfolding(crate::specs::Private::Fields::number_at))]
     #[inline(always)]
     fn number(&mut self) -> Option<i64>
@@ -176,7 +176,7 @@ impl<'a> Fields<'a> {
         Some(self.magnitude()? as i64)
     }
 
-    /// Takes two numbers with a space between.
+    /// Takes two coordinates with a space between them.
     #[tactic(auto, unfolding(crate::specs::Private::Fields::two_at))]
     #[inline(always)]
     fn two(&mut self) -> Option<(i64, i64)>
@@ -295,7 +295,7 @@ fn after_text<'a, const N: usize>(bytes: &'a [u8], text: &[u8; N]) -> Option<&'a
     }
 }
 
-/// Whether two texts are the same. Of five to eight bytes the first four are compared and the last four, each as one word.
+/// Whether two texts are the same. Texts of four to eight bytes are compared as two words: the first four bytes and the last four.
 #[inline(always)]
 fn is_same<const N: usize>(a: &[u8; N], b: &[u8; N]) -> bool
     ensures { IsTrue result ↔ (a.now ≡ b.now) }

@@ -13,7 +13,7 @@ use indexmap::IndexSet;
 use std::alloc::{AllocError, Global};
 use std::marker::Model;
 
-/// How many pairs of an address and a key there are: each word of the longest ROM, at sixteen scales and for any.
+/// The number of pairs of an address and a key: each word of the longest ROM, at sixteen scales and at `any`.
 const ALL_KEYS: usize = 17 * MOST_ROM_WORDS;
 
 /// For how many keys the table has room. The hash is known to all, so somebody can choose keys that are looked for in the same
@@ -62,7 +62,7 @@ impl<'a> HashIndex<'a> {
         Ok(HashIndex { cert, keys })
     }
 
-    /// The entry at an address with a key, where it lies.
+    /// The entry with exactly this address and key, by reference.
     #[inline(never)]
     fn entry_of(&self, addr: u16, key: Key) -> Option<&Entry>
         ensures { option_copied result ≡ entry_at self.now addr key }

@@ -20,7 +20,7 @@ mod reader;
 mod taken;
 mod writer;
 
-pub use certificate::{Cert, certificate_unchecked, is_entry, is_key};
+pub use certificate::{Cert, certificate_unchecked, is_entry, is_key, is_key_before};
 pub use counted::{Counted, CountedRead, CountedWrite};
 pub use entry::{End, Entry, Key, LitBox};
 pub use fault::{CertFault, CertWhy, WriteFault};

@@ -13,7 +13,7 @@ use crate::fields::Fields;
 use crate::limits::{LINE_FEED, MOST_ENTRIES};
 use dvg_words::{ADDRESS_END, RomMap};
 
-/// Where a ROM lies, as a line says it, unless that is where the ROM of Asteroids lies. The line comes without its end.
+/// Where the ROM lies by this line, which comes without its end. `None` if it says no such thing, or the place of Asteroids.
 pub fn elsewhere_of(line: &[u8]) -> Option<RomMap>
     ensures found { IfSome result (λ map. IsElsewhere map × (line.now ≡ rom_line map)) }
     ensures none { IfNone result ((map : MemoryMap) → IsElsewhere map → line.now ≢ rom_line map) }
@@ -23,7 +23,7 @@ pub fn elsewhere_of(line: &[u8]) -> Option<RomMap>
     if map.is_asteroids() { None } else { Some(map) }
 }
 
-/// The entry that a line says, for a ROM from word address `first` to `last`. The line comes without its end.
+/// The entry that a line spells, for a ROM from word address `first` to `last`. The line comes without its end.
 pub fn entry_of(line: &[u8], first: u16, last: u16) -> Option<Entry>
     requires { last < ADDRESS_END }
     ensures found { IfSome result (λ e. IsLine first last (EntryLine e) line.now) }
@@ -32,7 +32,7 @@ pub fn entry_of(line: &[u8], first: u16, last: u16) -> Option<Entry>
     whole_entry(line, first, last)
 }
 
-/// The entry whose line, with its end, bytes begin with, and the bytes after it.
+/// The entry whose line stands first in these bytes, with its end, and the bytes after that.
 #[inline(never)]
 pub fn ended_entry(bytes: &[u8], first: u16, last: u16) -> Option<(Entry, &[u8])>
     requires { last < ADDRESS_END }
@@ -44,7 +44,7 @@ pub fn ended_entry(bytes: &[u8], first: u16, last: u16) -> Option<(Entry, &[u8])
     Some((entry, fields.rest()))
 }
 
-/// The number of entries that a line says. The line comes without its end.
+/// The number of entries that the last line of a certificate spells. The line comes without its end.
 pub fn count_of(line: &[u8]) -> Option<u16>
     ensures found { IfSome result (λ n. (n ≤ MOST_ENTRIES) × (line.now ≡ done_line n)) }
     ensures none { IfNone result ((n : ℕ) → n ≤ MOST_ENTRIES → line.now ≡ done_line n → ⊥) }
@@ -86,7 +86,7 @@ fn whole_entry(line: &[u8], first: u16, last: u16) -> Option<Entry>
     if rest.is_empty() { Some(entry) } else { None }
 }
 
-/// The entry that bytes begin with, and the bytes after it.
+/// The entry that stands first in these bytes, and the bytes after it.
 #[inline(always)]
 fn leading_entry(bytes: &[u8], first: u16, last: u16) -> Option<(Entry, &[u8])>
     ensures { entry_at first last bytes.now ≡ option_map (λ read. (read.0, read.1.now)) result }

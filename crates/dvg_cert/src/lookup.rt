@@ -3,24 +3,24 @@
 ghost use Rattle.std.specs.Prelude.{◌≡◌, List};
 ghost use Rattle.dvg_cert.specs.declared.entry.Entry.{Entry};
 ghost use Rattle.dvg_cert.specs.Order.{IsRising};
-ghost use Rattle.dvg_cert.specs.Lookup.{entry_at, named_entry, is_at};
-ghost use Rattle.dvg_cert.specs.Private.Searching.{stands_before, lower_key};
+ghost use Rattle.dvg_cert.specs.Lookup.{entry_at, named_entry};
+ghost use Rattle.dvg_cert.specs.Private.Searching.{stands_before};
 
-use crate::certificate::Cert;
+use crate::certificate::{Cert, is_key_before};
 use crate::entry::{Entry, Key};
 use std::marker::Model;
 
 /// The entries of a certificate, by address and key.
 pub trait Entries {
-    /// The list of the certificate.
+    /// The entries of the certificate, in their order.
     ghost list: { Self → List Entry };
 
     /// The entry at this word address with exactly this key.
     fn find(&self, addr: u16, key: Key) -> Option<Entry>
         ensures { result ≡ entry_at (list self.now) addr key };
 
-    /// The entry that a call of this word address names at this known scale, `Any` where it is unknown: that at the
-    /// scale, else that for any scale.
+    /// The entry that a call of this word address names at this scale, `Any` if the scale is unknown. It is the entry for exactly
+    /// this scale, or else the one for any scale.
     fn named(&self, to: u16, scale: Key) -> Option<Entry>
         ensures { result ≡ named_entry (list self.now) to scale }
     {
@@ -63,7 +63,7 @@ impl<'a> Entries for ListIndex<'a> {
     }
 }
 
-/// The entry at an address with a key, of entries that rise.
+/// The entry with exactly this address and key, found by binary search.
 fn find_in(entries: &[Entry], addr: u16, key: Key) -> Option<Entry>
     requires { IsRising entries.now }
     ensures { result ≡ entry_at entries.now addr key }
@@ -73,34 +73,17 @@ fn find_in(entries: &[Entry], addr: u16, key: Key) -> Option<Entry>
         return None;
     }
     let entry = entries[at];
-    if is_at(&entry, addr, key) {
+    if entry.is_at(addr, key) {
         Some(entry)
     } else {
         None
     }
 }
 
-/// Whether an entry is at an address with a key.
-fn is_at(entry: &Entry, addr: u16, key: Key) -> bool
-    ensures { result ≡ is_at addr key entry.now }
-{
-    addr == entry.addr && key == entry.key
-}
-
-/// Whether an entry stands before those at an address with a key.
+/// Whether an entry stands before the place of an address and key.
+#[tactic(auto, using(crate::proofs::Searching::lower_is))]
 fn stands_before(entry: &Entry, addr: u16, key: Key) -> bool
     ensures { result ≡ stands_before addr key entry.now }
 {
-    entry.addr < addr || (entry.addr == addr && is_lower(entry.key, key))
-}
-
-/// Whether a key stands before another.
-fn is_lower(key: Key, other: Key) -> bool
-    ensures { result ≡ lower_key key other }
-{
-    match (key, other) {
-        (Key::At(m), Key::At(n)) => m < n,
-        (Key::At(_), Key::Any) => true,
-        (Key::Any, _) => false,
-    }
+    entry.addr < addr || (entry.addr == addr && is_key_before(entry.key, key))
 }

@@ -97,8 +97,8 @@ fn natural(token: &[u8], low: u64, high: u64) -> Option<u64>
     }
 }
 
-/// The number from 1 on that these bytes begin with, and the bytes after its digits, where there are sixteen bytes. Of fewer no
-/// number is read.
+/// The number from 1 on that stands first in these bytes, and the bytes after its digits. Of fewer than sixteen bytes it reads
+/// none.
 #[inline(always)]
 pub fn leading_magnitude(bytes: &[u8]) -> Option<(u64, &[u8])>
     ensures read { IfSome result (λ read. natural_at 1 MOST_MAGNITUDE bytes.now ≡ Some (read.0, read.1.now)) }
@@ -116,7 +116,7 @@ pub fn leading_magnitude(bytes: &[u8]) -> Option<(u64, &[u8])>
     Some((number, &bytes[count..]))
 }
 
-/// The number of at most 13 digits that these bytes begin with, and the bytes after its digits. It is read digit by digit.
+/// The number of at most 13 digits that stands first in these bytes, and the bytes after its digits. It is read digit by digit.
 #[inline(always)]
 pub fn leading_number_by_digits(bytes: &[u8]) -> Option<(u64, &[u8])>
     ensures { LeadsWith (λ rest. rest.now) bytes.now result }
@@ -135,7 +135,8 @@ pub fn leading_number_by_digits(bytes: &[u8]) -> Option<(u64, &[u8])>
     digits_taken(bytes, bytes.len(), number)
 }
 
-/// The number of the first `count` bytes, which are digits, and the bytes after them, where it is spelled so.
+/// The number that the first `count` bytes spell, which are digits, and the bytes after them. `None` if there is no digit, or a
+/// zero that should not lead.
 #[inline(always)]
 fn digits_taken(bytes: &[u8], count: usize, number: u64) -> Option<(u64, &[u8])>
     requires digits { AllDigits 10 (take count bytes.now) }

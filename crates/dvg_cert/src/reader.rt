@@ -4,7 +4,7 @@ ghost use Rattle.std.specs.Prelude.{◌≡◌, ◌+◌, ◌<◌, ◌==◌, [], �
 ghost use Rattle.dvg_cert.specs.declared.fault.CertWhy.TheVariants.{After};
 ghost use Rattle.dvg_cert.specs.Reading.{IsTaken, IsRest, IsUnended, ReadAnswer};
 ghost use Rattle.dvg_cert.specs.Stream.{Open, FeedsTo, FinishesTo};
-ghost use Rattle.dvg_cert.specs.Private.Progress.{EndsLine, TakesFirstLines, TakesLine, TakesNext, TakesPiece};
+ghost use Rattle.dvg_cert.specs.Private.Progress.{EndsLine, TakesEntries, TakesLine, TakesNext, TakesPiece};
 
 use crate::certificate::Cert;
 use crate::fault::{CertFault, CertWhy};
@@ -15,9 +15,9 @@ use memchr::memchr;
 use std::alloc::Global;
 use std::marker::Model;
 
-/// Reads a certificate in pieces. It keeps the entries and the one line that is begun.
+/// Reads a certificate in pieces. It keeps the entries, and the part of a line with which the last piece ended.
 ///
-/// Contracts see the bytes so far, or the refusal of an earlier call, which every later call answers.
+/// Contracts see it as the bytes so far, or as the refusal of an earlier call, which every later call answers again.
 #[derive(Drop)]
 pub struct CertReader {
     lines: TakenLines,
@@ -38,7 +38,7 @@ impl Model for CertReader {
 }
 
 impl CertReader {
-    /// A reader of no byte so far. Takes no memory.
+    /// A reader that has read nothing. Takes no memory.
     pub fn new(alloc: Global) -> CertReader
         ensures { result ≡ Open [] }
     {
@@ -49,7 +49,7 @@ impl CertReader {
         }
     }
 
-    /// Takes a piece, wherever the text was cut. After a refusal every call answers the same one.
+    /// Reads the next piece. The text may be cut anywhere. After a refusal every call answers it again.
     pub fn feed(&mut self, piece: &[u8]) -> Result<(), CertFault>
         ensures { FeedsTo self.old piece.now self.new result }
     {
@@ -65,7 +65,7 @@ impl CertReader {
         }
     }
 
-    /// The answer to all pieces together.
+    /// The certificate that all pieces together spell, or why they are refused.
     pub fn finish(self) -> Result<Cert, CertFault>
         ensures { FinishesTo self result }
     {
@@ -76,7 +76,7 @@ impl CertReader {
     }
 }
 
-/// The certificate that a text spells, or why it is refused.
+/// The certificate that a text spells, or why the text is refused.
 pub fn read_cert(alloc: Global, text: &[u8]) -> Result<Cert, CertFault>
     ensures { ReadAnswer text.now result }
 {
@@ -85,45 +85,34 @@ pub fn read_cert(alloc: Global, text: &[u8]) -> Result<Cert, CertFault>
     reader.finish()
 }
 
-/// Takes the lines of a piece where they lie, and keeps what is left of it.
+/// Reads the lines of a piece in place, and keeps the part of a line with which it ends. Lines of entries are read without a
+/// search for their end.
 fn take_piece(lines: &mut TakenLines, begun: &mut LineBuffer, piece: &[u8]) -> Result<(), CertFault>
     requires taken { IsTaken lines.old }
     requires begun { IsRest lines.old begun.old.items }
     ensures { TakesPiece lines.old begun.old.items piece.now lines.new begun.new.items result }
 {
-    let mut rest = piece;
+    let mut rest = take_entries(lines, begun, piece)?;
     while let Some(after) = take_next(lines, begun, rest)? {
-        rest = after;
+        rest = take_entries(lines, begun, after)?;
     }
     Ok(())
 }
 
-/// Takes the entries that a piece begins with and the next line, and gives what follows them, or keeps what is left of the
-/// piece where no line ends in it. Lines of entries need no search for their end.
+/// Takes the whole lines of entries with which a piece begins, and gives the bytes after them. It takes none while a line is begun.
 #[inline(always)]
-fn take_next<'a>(
+fn take_entries<'a>(
     lines: &mut TakenLines,
-    begun: &mut LineBuffer,
+    begun: &LineBuffer,
     rest: &'a [u8],
-) -> Result<Option<&'a [u8]>, CertFault>
+) -> Result<&'a [u8], CertFault>
     requires taken { IsTaken lines.old }
-    requires begun { IsRest lines.old begun.old.items }
-    ensures { TakesNext (λ x. x.now) lines.old begun.old.items rest.now lines.new begun.new.items result }
+    requires begun { IsRest lines.old begun.now.items }
+    ensures { TakesEntries (λ x. x.now) lines.old begun.now.items rest.now lines.new result }
 {
-    let left = if begun.is_empty() {
-        take_first(lines, rest)?
-    } else {
-        rest
-    };
-    take_any(lines, begun, left)
-}
-
-/// Takes the entries whose lines, each with its end, a piece begins with, as long as they can come next.
-#[inline(always)]
-fn take_first<'a>(lines: &mut TakenLines, rest: &'a [u8]) -> Result<&'a [u8], CertFault>
-    requires { IsTaken lines.old }
-    ensures { TakesFirstLines (λ x. x.now) lines.old rest.now lines.new result }
-{
+    if !begun.is_empty() {
+        return Ok(rest);
+    }
     match lines.take_first(rest) {
         Ok(after) => Ok(after),
         Err(why) => Err(CertFault {
@@ -133,9 +122,9 @@ fn take_first<'a>(lines: &mut TakenLines, rest: &'a [u8]) -> Result<&'a [u8], Ce
     }
 }
 
-/// Takes the next line of a piece and gives what follows it, or keeps all of the piece where no line ends in it.
+/// Takes the next line of a piece and gives what follows it. If no line ends in the piece, it keeps all of it.
 #[inline(never)]
-fn take_any<'a>(
+fn take_next<'a>(
     lines: &mut TakenLines,
     begun: &mut LineBuffer,
     rest: &'a [u8],
@@ -165,7 +154,7 @@ fn take_any<'a>(
     }
 }
 
-/// The refusal of bytes after the last line, where there are some.
+/// The refusal of bytes after the last line, if there are any.
 fn fault_after(line: u32, rest: &[u8]) -> Option<CertFault>
     ensures none { IfNone result (rest.now ≡ []) }
     ensures some { IfSome result (λ f. (0 < length rest.now) × (f ≡ record { line = line; why = After })) }
@@ -179,7 +168,7 @@ fn fault_after(line: u32, rest: &[u8]) -> Option<CertFault>
     })
 }
 
-/// Takes the line of what was begun and of these bytes. A whole line of the piece is read where it lies.
+/// Takes the line that consists of the begun line and these bytes. A line that lies whole in the piece is not copied.
 #[inline(always)]
 fn take_begun(lines: &mut TakenLines, begun: &mut LineBuffer, prefix: &[u8]) -> Result<(), CertWhy>
     requires open { IsUnended lines.old }
@@ -196,7 +185,7 @@ fn take_begun(lines: &mut TakenLines, begun: &mut LineBuffer, prefix: &[u8]) -> 
     Ok(())
 }
 
-/// The place of the end of the next line, which may have fewer than `room` bytes.
+/// The position of the LF that ends the next line, `None` if there is none yet. Refuses a line of `room` bytes or more.
 #[inline(always)]
 fn line_end(rest: &[u8], room: usize) -> Result<Option<usize>, CertWhy>
     ensures { EndsLine room rest.now result }
@@ -211,7 +200,7 @@ fn line_end(rest: &[u8], room: usize) -> Result<Option<usize>, CertWhy>
     }
 }
 
-/// The place of the first LF.
+/// The position of the first LF.
 #[inline(always)]
 fn line_feed_at(bytes: &[u8]) -> Option<usize>
     ensures { result ≡ position (λ b. b == LINE_FEED) bytes.now }

@@ -1,4 +1,4 @@
-//! The lines of a certificate that were taken: their order, their count and the limits.
+//! The lines of a certificate that the reader has taken. Their order, their count and the limits are checked here.
 
 ghost use Rattle.std.specs.Prelude.{◌≡◌, ◌↔◌, length, IsTrue, IfOk, IfErr, Ok, Err};
 ghost use Rattle.dvg_cert.specs.declared.fault.CertWhy.TheVariants.{Unended};
@@ -17,20 +17,24 @@ use dvg_words::{ASTEROIDS, RomMap};
 use std::alloc::Global;
 use std::marker::Model;
 
-/// Which line comes next: the first, that of the ROM, a later one, or none.
-#[derive(Clone, Copy, Debug, PartialEq, Eq)]
+/// Which line comes next.
+#[derive(Clone, Copy)]
 pub enum Stage {
+    /// The first line, which has the version.
     First,
+    /// The line that says where the ROM lies.
     Rom,
+    /// The line of an entry, or the last line.
     Later,
+    /// None: the last line was taken.
     Ended,
 }
 
-/// The lines that were taken.
+/// What the lines taken so far say.
 #[derive(Drop)]
 pub struct TakenLines {
     stage: Stage,
-    /// Where the ROM lies: where that of Asteroids does, unless a line says otherwise.
+    /// Where the ROM lies: as in Asteroids, unless a line says otherwise.
     map: RomMap,
     entries: Vec<Entry>,
 }
@@ -102,8 +106,8 @@ impl TakenLines {
         Ok(())
     }
 
-    /// Takes the entries whose lines, each with its end, these bytes begin with, as long as they can come next, and gives the
-    /// bytes after them.
+    /// Takes the whole lines of entries with which these bytes begin, and gives the bytes after them. It stops before the first
+    /// line that is no entry's or may not come next. `Err` only for want of memory.
     #[inline(always)]
     pub fn take_first<'a>(&mut self, bytes: &'a [u8]) -> Result<&'a [u8], CertWhy>
         ensures { TakesFirst (λ x. x.now) self.old bytes.now self.new result }
@@ -114,7 +118,7 @@ impl TakenLines {
         }
     }
 
-    /// The certificate, where the last line was taken.
+    /// The certificate. Refuses a text that ended before its last line.
     pub fn finish(self) -> Result<Cert, CertFault>
         ensures whole { IfOk result (λ cert. (self ≡ Whole cert.map cert.entries) × IsCertificate cert.map cert.entries) }
         ensures unended { IfErr result (λ f. IsUnended self × (f.line ≡ line_number self) × (f.why ≡ Unended)) }
@@ -130,8 +134,7 @@ impl TakenLines {
     }
 }
 
-/// Takes the entries whose lines, each with its end, these bytes begin with, as long as they can come next, and gives the bytes
-/// after them.
+/// Adds the entries of the whole lines with which these bytes begin, and gives the bytes after them.
 fn take_first_entries<'a>(
     map: RomMap,
     entries: &mut Vec<Entry>,
@@ -153,7 +156,7 @@ fn take_first_entries<'a>(
     Ok(rest)
 }
 
-/// Which line comes after the first one.
+/// The stage after the first line.
 fn after_first(line: &[u8]) -> Result<Stage, CertWhy>
     ensures { StartsWith line.now result }
 {
@@ -166,14 +169,14 @@ fn after_first(line: &[u8]) -> Result<Stage, CertWhy>
     Err(CertWhy::Form)
 }
 
-/// How many lines stand before the entries.
+/// The number of lines before the entries.
 fn heading(map: RomMap) -> u32
     ensures { result ≡ length (heading map) }
 {
     if map.is_asteroids() { 1 } else { 2 }
 }
 
-/// Takes a line after the first ones, and answers which line comes next.
+/// Takes the line of an entry or the last line, and gives the stage after it.
 #[inline(always)]
 fn take_later(map: RomMap, entries: &mut Vec<Entry>, line: &[u8]) -> Result<Stage, CertWhy>
     requires { IsCertificate map entries.old.items }
@@ -192,7 +195,7 @@ fn take_later(map: RomMap, entries: &mut Vec<Entry>, line: &[u8]) -> Result<Stag
     Ok(Stage::Ended)
 }
 
-/// Takes an entry where it stands after the last one and there is room. An `Err` changes nothing.
+/// Adds an entry, which has to stand after the last one. An `Err` changes nothing.
 #[inline(always)]
 fn take_entry(map: RomMap, entries: &mut Vec<Entry>, entry: Entry) -> Result<(), CertWhy>
     requires taken { IsCertificate map entries.old.items }

@@ -11,7 +11,7 @@ use Rattle.dvg_check.specs.declared.verdict.Yes.{Yes}
 use Rattle.dvg_check.specs.declared.verdict.Refusal.TheVariants as refusal
 use Rattle.dvg_make.specs.declared.judging.FrameRefusal.{FrameRefusal}
 use Rattle.dvg_make.specs.declared.judging.FrameRefusal.TheVariants.{Make, NoMemory, Check}
-use Rattle.dvg_make.specs.Judging.{AreLeast, FrameRefused, HasCallCause, FrameVerdict as JudgeVerdict}
+use Rattle.dvg_make.specs.Judging.{AreLeast, FrameRefused, HasCallCause, VerdictByMade}
 use Rattle.dvg_cmd.specs.Frames.{IsReadFrom, ReadsFrame, FrameVerdict, IsRefused, IsJudgedRefusal}
 use Rattle.dvg_cmd.specs.Start.{started}
 use Rattle.dvg_cmd.specs.Private.Judging.{AreImages}
@@ -42,10 +42,10 @@ reads_frame reader start items slice new read same is len =
     }
 
 module _ (rom : List ℕ) (map : MemoryMap) (bytes : List ℕ) (budget : ℕ) (w : Window) (range : InRange bytes budget) (long : IsRomLength map (length rom)) where
-  judged : (r : FrameRefusal) → JudgeVerdict (rom_of map rom) (words_of bytes) w budget (Err r) → FrameRefused (rom_of map rom) (words_of bytes) w budget r → HasCallCause (rom_of map rom) (words_of bytes) r → IsJudgedRefusal rom map bytes budget w r
+  judged : (r : FrameRefusal) → VerdictByMade (rom_of map rom) (words_of bytes) w budget (Err r) → FrameRefused (rom_of map rom) (words_of bytes) w budget r → HasCallCause (rom_of map rom) (words_of bytes) r → IsJudgedRefusal rom map bytes budget w r
   judged r own h told = record { in_range = range; rom_length = long; by_own = own; means = h; told = told }
 
-  refused : (r : FrameRefusal) → JudgeVerdict (rom_of map rom) (words_of bytes) w budget (Err r) → FrameRefused (rom_of map rom) (words_of bytes) w budget r → HasCallCause (rom_of map rom) (words_of bytes) r → IsRefused rom map bytes budget w r
+  refused : (r : FrameRefusal) → VerdictByMade (rom_of map rom) (words_of bytes) w budget (Err r) → FrameRefused (rom_of map rom) (words_of bytes) w budget r → HasCallCause (rom_of map rom) (words_of bytes) r → IsRefused rom map bytes budget w r
   refused (Make at why) own h told = judged (Make at why) own h told
   refused NoMemory own h told = judged NoMemory own h told
   refused (Check (refusal.Image RomLength)) own h told = absurd h
@@ -61,7 +61,7 @@ module _ (rom : List ℕ) (map : MemoryMap) (bytes : List ℕ) (budget : ℕ) (w
       → IfOk v (λ yes. CountsAtHalt (record { frame = words_of bytes; rom = rom_of map rom }) yes.words yes.depth)
       → IfOk v (λ yes. AreLeast (rom_of map rom) (words_of bytes) w yes.words yes.depth)
       → IfErr v (FrameRefused (rom_of map rom) (words_of bytes) w budget)
-      → JudgeVerdict (rom_of map rom) (words_of bytes) w budget v
+      → VerdictByMade (rom_of map rom) (words_of bytes) w budget v
       → IfErr v (HasCallCause (rom_of map rom) (words_of bytes))
       → FrameVerdict rom map bytes budget w v
   frame_verdict (Ok y) safe exact least none own told = record { in_range = range; rom_length = long; safe = safe; exact = exact; least = least; by_own = own }
@@ -73,7 +73,7 @@ record Said (w : Window) (budget : ℕ) (words : List ℕ) (image : Rom) (v : Re
   exact : IfOk v (λ yes. CountsAtHalt (record { frame = words; rom = image }) yes.words yes.depth)
   least : IfOk v (λ yes. AreLeast image words w yes.words yes.depth)
   refuses : IfErr v (FrameRefused image words w budget)
-  own : JudgeVerdict image words w budget v
+  own : VerdictByMade image words w budget v
   told : IfErr v (HasCallCause image words)
 
 -- what the judge says of the images of these bytes
@@ -83,7 +83,7 @@ pub own_verdict : (rom : List ℕ) (map : MemoryMap) (bytes : List ℕ) (budget 
     → IfOk v (λ yes. CountsAtHalt (record { frame = words; rom = image }) yes.words yes.depth)
     → IfOk v (λ yes. AreLeast image words w yes.words yes.depth)
     → IfErr v (FrameRefused image words w budget)
-    → JudgeVerdict image words w budget v
+    → VerdictByMade image words w budget v
     → IfErr v (HasCallCause image words)
     → FrameVerdict rom map bytes budget w v
 own_verdict rom map bytes budget w words image a v safe exact least refused own told =

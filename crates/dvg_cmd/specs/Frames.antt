@@ -16,7 +16,7 @@ use Rattle.dvg_check.specs.declared.verdict.Yes.{Yes}
 use Rattle.dvg_check.specs.declared.verdict.Refusal.TheVariants as refusal
 use Rattle.dvg_make.specs.declared.judging.FrameRefusal.{FrameRefusal}
 use Rattle.dvg_make.specs.declared.judging.FrameRefusal.TheVariants.{Make, NoMemory, Check}
-use Rattle.dvg_make.specs.Judging.{AreLeast, FrameRefused, HasCallCause, FrameVerdict as JudgeVerdict}
+use Rattle.dvg_make.specs.Judging.{AreLeast, FrameRefused, HasCallCause, VerdictByMade}
 use Rattle.dvg_spelling.specs.Report.{frame_line_text}
 use Rattle.dvg_cmd.specs.Runs.{MOST_FRAME_READ, IsReadTo, Outcome}
 use Rattle.dvg_cmd.specs.Start.{started}
@@ -48,13 +48,13 @@ pub record IsAccepted (rom : List ℕ) (map : MemoryMap) (bytes : List ℕ) (bud
   pub exact : CountsAtHalt (record { frame = words_of bytes; rom = rom_of map rom }) y.words y.depth
   pub least : AreLeast (rom_of map rom) (words_of bytes) w y.words y.depth
   -- it is the verdict by the frame's own certificate
-  pub by_own : JudgeVerdict (rom_of map rom) (words_of bytes) w budget (Ok y)
+  pub by_own : VerdictByMade (rom_of map rom) (words_of bytes) w budget (Ok y)
 
 -- the lengths and the budget are in range; it is the verdict by the frame's own certificate, and means what the judge's does
 pub record IsJudgedRefusal (rom : List ℕ) (map : MemoryMap) (bytes : List ℕ) (budget : ℕ) (w : Window) (r : FrameRefusal) : Type 0 where
   pub in_range : InRange bytes budget
   pub rom_length : IsRomLength map (length rom)
-  pub by_own : JudgeVerdict (rom_of map rom) (words_of bytes) w budget (Err r)
+  pub by_own : VerdictByMade (rom_of map rom) (words_of bytes) w budget (Err r)
   pub means : FrameRefused (rom_of map rom) (words_of bytes) w budget r
   -- where the maker stops at a call, and why, is told
   pub told : HasCallCause (rom_of map rom) (words_of bytes) r

@@ -12,7 +12,7 @@ use Rattle.dvg_items.specs.Known.{target, scale_before}
 use Rattle.dvg_items.specs.declared.item.Item.{Item}
 use Rattle.dvg_items.specs.declared.item.Kind.TheVariants.{Shape}
 use Rattle.dvg_make.specs.Made.{MadeEntry}
-use Rattle.dvg_make.specs.Private.Walking.{keyed_context}
+use Rattle.dvg_make.specs.Private.Partial.{keyed_context}
 use Rattle.dvg_items.proofs.Listed.{listed_at}
 use Rattle.dvg_make.proofs.Matching.{Gathered, SameAt, Matched, gathered_same}
 use Rattle.dvg_make.proofs.Ends.{callee_less, same_sums, made_ends, sums_of}
@@ -42,8 +42,8 @@ module _ (rom : Rom) (a b : List Entry) (made_a : (e : Entry) → Contains a e �
     same_entry : e ≡ f
     same_entry =
         let l = made_ends rom a e made_e in
-        let m = matched l.items l.i.at l.leads in
-        same_sums a b (l.i ∷ l.items) e f addr key (m, same_at l.items l.i l.leads l.is m (target Shape l.i.instr) refl) l.sums (sums_of rom b f made_f l.items l.i (subst (λ x. LeadsTo Shape (rom_word rom) x l.items l.i.at) addr l.leads) l.is l.last)
+        let m = matched l.stops.items l.stops.i.at l.stops.leads in
+        same_sums a b (l.stops.i ∷ l.stops.items) e f addr key (m, same_at l.stops.items l.stops.i l.stops.leads l.stops.is m (target Shape l.stops.i.instr) refl) l.sums (sums_of rom b f made_f l.stops.items l.stops.i (subst (λ x. LeadsTo Shape (rom_word rom) x l.stops.items l.stops.i.at) addr l.stops.leads) l.stops.is l.stops.last)
 
   agree_up_to : (n : ℕ) → Agree n
   agree_up_to zero addr key e f p q lt = absurd (omega arith)

@@ -34,7 +34,7 @@ use Rattle.dvg_check.specs.declared.fault.ShapeWhy.{ShapeWhy}
 use Rattle.dvg_check.specs.declared.fault.ShapeWhy.TheVariants as shape
 use Rattle.dvg_items.specs.Least.{lit_points, HoldsAll, IsLeast}
 use Rattle.dvg_make.specs.Made.{HasEntry, MadeEntry, IsMade, AllMade}
-use Rattle.dvg_make.specs.Private.Walking.{keyed_context, entry_of, AllFine, Extends}
+use Rattle.dvg_make.specs.Private.Partial.{keyed_context, entry_of, AllFine, Extends}
 use Rattle.dvg_make.specs.Private.Covering.{Loosens, LoosensPlace, KnowsMore, Refines, Covers, Upholds}
 use Rattle.dvg_make.proofs.Matching.{Gathered, gathered_same, exact_named, entry_at-append}
 use Rattle.dvg_make.proofs.Ends.{at_last, made_ends, ends_made}
@@ -76,7 +76,7 @@ least_ordered [] (Span a b c d) h = absurd (h.least Empty tt)
 least_ordered (p ∷ ps) (Span a b c d) h = let i = h.holds.0 in (omega (arith, ints, i.left, i.right), omega (arith, ints, i.bottom, i.top))
 
 pub made_ordered : (rom : Rom) (list : List Entry) (f : Entry) → MadeEntry rom list f → IsOrdered f.lit
-made_ordered rom list f made = let h = made_ends rom list f made in least_ordered (lit_points (shape_context list f) (h.i ∷ h.items)) f.lit h.sums.box
+made_ordered rom list f made = let h = made_ends rom list f made in least_ordered (lit_points (shape_context list f) (h.stops.i ∷ h.stops.items)) f.lit h.sums.box
 
 -- ---- the entry that a list names for a call
 
@@ -277,7 +277,7 @@ module _ (rom : Rom) (list : List Entry) (up : Upholds rom list) where
           f = entry_of e.addr key (known_before d (h.i ∷ h.items)) box.0
 
           made_f : MadeEntry rom made f
-          made_f = ends_made rom made f (record { items = h.items; i = h.i; leads = h.leads; is = h.is; last = h.last; sums = record { known = refl; box = box.1 }; fine = h.walked.tracked.fine })
+          made_f = ends_made rom made f (record { stops = record { items = h.items; i = h.i; leads = h.leads; is = h.is; last = h.last }; sums = record { known = refl; box = box.1 }; fine = h.walked.tracked.fine })
 
           stop : place_before c (h.i ∷ h.items) ≡ e.stop
           stop = at_last (next_place Shape h.i) _ h.last (rule h.items h.i h.leads h.is shape.EndDiffers (λ q. cc q))

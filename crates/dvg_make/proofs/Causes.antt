@@ -6,12 +6,12 @@ use Rattle.dvg_cert.specs.declared.entry.Key.{Key}
 use Rattle.dvg_cert.specs.declared.entry.Key.TheVariants.{Any}
 use Rattle.dvg_items.specs.declared.item.Kind.TheVariants.{Shape}
 use Rattle.dvg_items.specs.Known.{start}
-use Rattle.dvg_make.specs.declared.stuck.FramesStuck.{FramesStuck}
+use Rattle.dvg_make.specs.declared.obstacle.BlockedCall.{BlockedCall}
 use Rattle.dvg_make.specs.declared.account.EntryCause.TheVariants as cause
 use Rattle.dvg_make.specs.Accounts.{EntryCause, MakeAccount, UnlessMemory, IsAccount, IsTold, HasCause, HasRootCause, entry_fault}
 use Rattle.dvg_make.specs.Judging.{FrameRefusal, Make, NoMemory, Check, IsRefusalBy, HasCallCause}
-use Rattle.dvg_make.specs.Refusals.{Memory, FrameCall, FramesFault, make_fault_of}
-use Rattle.dvg_make.specs.Private.Making.{links, stuck_fault, IsToldOf}
+use Rattle.dvg_make.specs.Refusals.{EntryFault, Memory, FrameCall, FramesFault, make_fault_of}
+use Rattle.dvg_make.specs.Private.Making.{shapes, blocked_fault, IsToldOf}
 
 unless_map : (c : EntryCause) (S T : Type 0) → (S → T) → UnlessMemory c S → UnlessMemory c T
 unless_map cause.Memory S T f h = tt
@@ -41,15 +41,15 @@ unless cause.TooManyEntries T t = t
 
 module _ (rom : Rom) (roots : List (ℕ × Key)) (frames : List (List ℕ)) where
   -- where the making stopped
-  pub stuck_cause : (refusal : FramesStuck) → IsToldOf rom roots frames refusal.call refusal.stuck.chain refusal.stuck.stop → HasCause rom roots frames (stuck_fault refusal)
+  pub stuck_cause : (refusal : BlockedCall) → IsToldOf rom roots frames refusal.call refusal.blocked.chain refusal.blocked.obstacle → HasCause rom roots frames (blocked_fault refusal)
   stuck_cause refusal told =
       record {
-        chain = links refusal.stuck.chain;
-        at = refusal.stuck.stop.cursor.at;
-        before = refusal.stuck.stop.cursor.known;
-        cause = refusal.stuck.stop.cause;
+        chain = shapes refusal.blocked.chain;
+        at = refusal.blocked.obstacle.cursor.at;
+        before = refusal.blocked.obstacle.cursor.known;
+        cause = refusal.blocked.obstacle.cause;
         why_is = refl;
-        told = unless refusal.stuck.stop.cause (IsToldOf rom roots frames refusal.call refusal.stuck.chain refusal.stuck.stop) told;
+        told = unless refusal.blocked.obstacle.cause (IsToldOf rom roots frames refusal.call refusal.blocked.chain refusal.blocked.obstacle) told;
       }
 
   -- where memory was out
@@ -60,25 +60,27 @@ module _ (rom : Rom) (roots : List (ℕ × Key)) (frames : List (List ℕ)) wher
   pub account_cause : (a : MakeAccount) → a.fault.why ≡ entry_fault a.at a.cause → IsAccount rom roots frames a → HasCause rom roots frames a.fault
   account_cause a why told = record { chain = a.chain.items; at = a.at; before = a.before; cause = a.cause; why_is = why; told = told }
 
--- where there is no frame, no call is named
-pub root_cause : (rom : Rom) (roots : List (ℕ × Key)) (fault : FramesFault) → HasCause rom roots [] fault → HasRootCause rom roots (make_fault_of fault.why)
-root_cause rom roots fault h = (
-  fault.why,
-  refl,
-  record {
-    chain = h.chain;
-    at = h.at;
-    before = h.before;
-    cause = h.cause;
-    why_is = h.why_is;
-    told = unless_map h.cause (Told fault.call) (Told None) (no_call fault.call) h.told;
-  },
-)
+-- a cause of one refusal is a cause of another, if what is told holds of its call too
+retold : (rom : Rom) (roots : List (ℕ × Key)) (frames : List (List ℕ)) (fault : FramesFault) (call : Option FrameCall) (why : EntryFault) → fault.why ≡ why → (h : HasCause rom roots frames fault)
+    → (IsTold rom roots frames fault.call h.chain h.at h.before h.cause → IsTold rom roots frames call h.chain h.at h.before h.cause) → HasCause rom roots frames (record { call = call; why = why })
+retold rom roots frames fault call why same h other =
+    record {
+      chain = h.chain;
+      at = h.at;
+      before = h.before;
+      cause = h.cause;
+      why_is = sym same ∙ h.why_is;
+      told = unless_map h.cause (Told fault.call) (Told call) other h.told;
+    }
   where
     Told : Option FrameCall → Type 0
-    Told call = IsTold rom roots [] call h.chain h.at h.before h.cause
+    Told call = IsTold rom roots frames call h.chain h.at h.before h.cause
 
-    no_call : (call : Option FrameCall) → Told call → Told None
+-- where there is no frame, no call is named
+pub root_cause : (rom : Rom) (roots : List (ℕ × Key)) (fault : FramesFault) → HasCause rom roots [] fault → HasRootCause rom roots (make_fault_of fault.why)
+root_cause rom roots fault h = (fault.why, refl, retold rom roots [] fault None fault.why refl h (no_call fault.call))
+  where
+    no_call : (call : Option FrameCall) → IsTold rom roots [] call h.chain h.at h.before h.cause → IsTold rom roots [] None h.chain h.at h.before h.cause
     no_call None t = t
     no_call (Some call) t = let none : None ≡ Some t.named.0 = t.named.1 in cc none
 
@@ -88,15 +90,7 @@ first_frame words other zero e = refl
 first_frame words other (suc i) e = cc e
 
 pub call_cause : (rom : Rom) (words : List ℕ) (fault : FramesFault) (r : FrameRefusal) → HasCause rom [] (words ∷ []) fault → IsRefusalBy fault r → HasCallCause rom words r
-call_cause rom words fault (Make at why) h e =
-    record {
-      chain = h.chain;
-      at = h.at;
-      before = h.before;
-      cause = h.cause;
-      why_is = sym e.0 ∙ h.why_is;
-      told = unless_map h.cause (Told fault.call) (Told (Some (record { frame = 0; at = at }))) here h.told;
-    }
+call_cause rom words fault (Make at why) h e = retold rom [] (words ∷ []) fault (Some (record { frame = 0; at = at })) why e.0 h here
   where
     Told : Option FrameCall → Type 0
     Told call = IsTold rom [] (words ∷ []) call h.chain h.at h.before h.cause

@@ -14,10 +14,10 @@ use Rattle.dvg_items.specs.declared.item.Item.{Item}
 use Rattle.dvg_items.specs.declared.item.Kind.TheVariants.{Shape}
 use Rattle.dvg_items.specs.declared.known.Known.{Known}
 use Rattle.dvg_cert.specs.declared.limits.TheConstants.{MOST_WORDS}
-use Rattle.dvg_make.specs.declared.walk.Walk.{Walk}
+use Rattle.dvg_make.specs.declared.partial.PartialEntry.{PartialEntry}
 use Rattle.dvg_make.specs.Made.{MadeEntry}
-use Rattle.dvg_make.specs.Private.Walking.{keyed_context, start, IsWalk, Extends, NeverAt, IsFinished, IsWaiting}
-use Rattle.dvg_make.specs.Private.Making.{IsMaking, AllWalks, Chain, Apart, IsUnique, IsPresent, IsCalled, IsGiven, IsAim, NoAim, Making}
+use Rattle.dvg_make.specs.Private.Partial.{keyed_context, start, IsPartial, Extends, NeverAt, IsFinished, IsWaiting}
+use Rattle.dvg_make.specs.Private.Making.{IsMaking, ArePartial, Chain, Apart, IsUnique, IsPresent, IsCalled, IsGiven, IsAim, NoAim, InProgress}
 use Rattle.dvg_items.proofs.Listed.{listed_at}
 use Rattle.dvg_make.proofs.Matching.{entry_at-append}
 use Rattle.dvg_make.proofs.Ends.{callee_less, made_some}
@@ -28,30 +28,30 @@ use Rattle.dvg_make.proofs.Growing.{scale_grows, taken_grows, walk_grows, made_g
 
 -- ---- chains of needs
 
-chain_below : (made : List Entry) (most n : ℕ) (stack : List Walk) → Chain made most stack n → n < most
+chain_below : (made : List Entry) (most n : ℕ) (stack : List PartialEntry) → Chain made most stack n → n < most
 chain_below made most n [] h = h
 chain_below made most n (w ∷ stack) h = let lt = chain_below made h.0.words n stack h.3 in omega (arith, lt, h.2)
 
-chain_less : (made : List Entry) (most n m : ℕ) (stack : List Walk) → m ≤ n → Chain made most stack n → Chain made most stack m
+chain_less : (made : List Entry) (most n m : ℕ) (stack : List PartialEntry) → m ≤ n → Chain made most stack n → Chain made most stack m
 chain_less made most n m [] le h = omega (arith, h)
 chain_less made most n m (w ∷ stack) le h = (h.0, h.1, h.2, chain_less made h.0.words n m stack le h.3)
 
-chain_push : (made : List Entry) (most n : ℕ) (stack : List Walk) (w : Walk) (f : Entry) → entry_at made w.addr w.key ≡ Some f → n < f.words → Chain made most stack f.words → Chain made most (stack ++ w ∷ []) n
+chain_push : (made : List Entry) (most n : ℕ) (stack : List PartialEntry) (w : PartialEntry) (f : Entry) → entry_at made w.addr w.key ≡ Some f → n < f.words → Chain made most stack f.words → Chain made most (stack ++ w ∷ []) n
 chain_push made most n [] w f e lt h = (f, e, h, lt)
 chain_push made most n (v ∷ stack) w f e lt h = (h.0, h.1, h.2, chain_push made h.0.words n stack w f e lt h.3)
 
-record Popped (made : List Entry) (most : ℕ) (stack : List Walk) (w : Walk) (n : ℕ) : Type 0 where
+record Popped (made : List Entry) (most : ℕ) (stack : List PartialEntry) (w : PartialEntry) (n : ℕ) : Type 0 where
   f : Entry
   found_it : entry_at made w.addr w.key ≡ Some f
   less : n < f.words
   chain : Chain made most stack f.words
 
-chain_pop : (made : List Entry) (most n : ℕ) (stack : List Walk) (w : Walk) → Chain made most (stack ++ w ∷ []) n → Popped made most stack w n
+chain_pop : (made : List Entry) (most n : ℕ) (stack : List PartialEntry) (w : PartialEntry) → Chain made most (stack ++ w ∷ []) n → Popped made most stack w n
 chain_pop made most n [] w h = record { f = h.0; found_it = h.1; less = h.3; chain = h.2 }
 chain_pop made most n (v ∷ stack) w h = let p = chain_pop made h.0.words n stack w h.3 in record { f = p.f; found_it = p.found_it; less = p.less; chain = (h.0, h.1, h.2, p.chain) }
 
 -- a shape that is being made has more words
-chain_has : (made : List Entry) (most n : ℕ) (stack : List Walk) (addr : ℕ) (key : Key) (g : Entry) → IsMaking stack addr key → Chain made most stack n → entry_at made addr key ≡ Some g → n < g.words
+chain_has : (made : List Entry) (most n : ℕ) (stack : List PartialEntry) (addr : ℕ) (key : Key) (g : Entry) → IsMaking stack addr key → Chain made most stack n → entry_at made addr key ≡ Some g → n < g.words
 chain_has made most n [] addr key g m h e = absurd m
 chain_has made most n (v ∷ stack) addr key g (inl same) h e =
     let there : entry_at made addr key ≡ Some h.0 = subst (λ x. entry_at made x key ≡ Some h.0) same.0 (subst (λ x. entry_at made v.addr x ≡ Some h.0) same.1 h.1) in
@@ -63,48 +63,48 @@ chain_has made most n (v ∷ stack) addr key g (inr later) h e = chain_has made 
 
 -- ---- no list
 
-module _ (rom : Rom) (from : List Entry) (root : ℕ × Key) (done : List Entry) (stack : List Walk) (walk : Walk) (h : Making rom from root done (stack ++ walk ∷ [])) where
-  pub none_here : NeverAt rom done walk.addr walk.key → NoAim rom from root
+module _ (rom : Rom) (from : List Entry) (root : ℕ × Key) (done : List Entry) (stack : List PartialEntry) (partial : PartialEntry) (h : InProgress rom from root done (stack ++ partial ∷ [])) where
+  pub none_here : NeverAt rom done partial.addr partial.key → NoAim rom from root
   none_here none made m =
       let f = h.forced made m in
-      let p = chain_pop made (MOST_WORDS + 1) 0 stack walk f.1 in
+      let p = chain_pop made (MOST_WORDS + 1) 0 stack partial f.1 in
       none made m.all f.0 (p.f, p.found_it)
 
-  -- the entry that the walk calls for has fewer words, and more than none
+  -- the entry that the shape in the making calls for has fewer words, and more than none
   record Callee (made : List Entry) (addr : ℕ) (key : Key) (most : ℕ) : Type 0 where
     g : Entry
     there : entry_at made addr key ≡ Some g
     some : 0 < g.words
     less : g.words < most
 
-  module _ (new : Walk) (addr : ℕ) (w : IsWaiting rom done walk new addr) where
+  module _ (new : PartialEntry) (addr : ℕ) (w : IsWaiting rom done partial new addr) where
     abbrev at_key : Key
     at_key = new.cursor.known.scale
 
-    callee : (made : List Entry) → (m : IsAim rom from root made) → (p : Popped made (MOST_WORDS + 1) stack walk 0) → Extends done made → Callee made addr at_key p.f.words
+    callee : (made : List Entry) → (m : IsAim rom from root made) → (p : Popped made (MOST_WORDS + 1) stack partial 0) → Extends done made → Callee made addr at_key p.f.words
     callee made m p ext =
-        let l = listed_at made walk.addr walk.key p.f p.found_it in
+        let l = listed_at made partial.addr partial.key p.f p.found_it in
         let is = (m.all p.f l.listed).made in
         let addr_is : new.addr ≡ p.f.addr = w.same_addr ∙ sym l.addr_is in
         let key_is : new.key ≡ p.f.key = w.same_key ∙ sym l.key_is in
         let i : Item = w.item in
-        let lead : LeadsTo Shape (rom_word rom) p.f.addr w.walk.items i.at = subst (λ x. LeadsTo Shape (rom_word rom) p.f.addr w.walk.items x) (sym w.at) (subst (λ x. LeadsTo Shape (rom_word rom) x w.walk.items new.cursor.at) addr_is w.walk.leads) in
-        let g = is.keyed w.walk.items i lead w.stands addr w.target_is in
-        let scale : scale_before (shape_context made p.f) w.walk.items ≡ at_key =
-        ap (λ (x : Key). scale_before (keyed_context made x) w.walk.items) (sym key_is) ∙ sym (scale_grows done made new.key ext w.walk.items w.walk.knows.fine) ∙ sym (ap (λ (x : Known). x.scale) w.walk.knows.known_is)
+        let lead : LeadsTo Shape (rom_word rom) p.f.addr w.partial.items i.at = subst (λ x. LeadsTo Shape (rom_word rom) p.f.addr w.partial.items x) (sym w.at) (subst (λ x. LeadsTo Shape (rom_word rom) x w.partial.items new.cursor.at) addr_is w.partial.leads) in
+        let g = is.keyed w.partial.items i lead w.stands addr w.target_is in
+        let scale : scale_before (shape_context made p.f) w.partial.items ≡ at_key =
+        ap (λ (x : Key). scale_before (keyed_context made x) w.partial.items) (sym key_is) ∙ sym (scale_grows done made new.key ext w.partial.items w.partial.knows.fine) ∙ sym (ap (λ (x : Known). x.scale) w.partial.knows.known_is)
         in
         let there : entry_at made addr at_key ≡ Some g.0 = subst (λ (x : Key). entry_at made addr x ≡ Some g.0) scale g.1 in
         let gl = listed_at made addr at_key g.0 there in
         let some = made_some rom made g.0 (m.all g.0 gl.listed).made in
-        record { g = g.0; there = there; some = omega (arith, some); less = callee_less rom made p.f is w.walk.items i lead w.stands addr g.0 w.target_is g.1 }
+        record { g = g.0; there = there; some = omega (arith, some); less = callee_less rom made p.f is w.partial.items i lead w.stands addr g.0 w.target_is g.1 }
 
     -- it is being made already
     pub none_deep : IsMaking (stack ++ new ∷ []) addr at_key → NoAim rom from root
     none_deep making made m =
         let f = h.forced made m in
-        let p = chain_pop made (MOST_WORDS + 1) 0 stack walk f.1 in
+        let p = chain_pop made (MOST_WORDS + 1) 0 stack partial f.1 in
         let c = callee made m p f.0 in
-        let found_new : entry_at made new.addr new.key ≡ Some p.f = subst (λ x. entry_at made x new.key ≡ Some p.f) (sym w.same_addr) (subst (λ x. entry_at made walk.addr x ≡ Some p.f) (sym w.same_key) p.found_it) in
+        let found_new : entry_at made new.addr new.key ≡ Some p.f = subst (λ x. entry_at made x new.key ≡ Some p.f) (sym w.same_addr) (subst (λ x. entry_at made partial.addr x ≡ Some p.f) (sym w.same_key) p.found_it) in
         let ch : Chain made (MOST_WORDS + 1) (stack ++ new ∷ []) c.g.words = chain_push made (MOST_WORDS + 1) c.g.words stack new p.f found_new c.less p.chain in
         let lt = chain_has made (MOST_WORDS + 1) c.g.words (stack ++ new ∷ []) addr at_key c.g making ch c.there in
         omega (arith, lt)
@@ -112,33 +112,33 @@ module _ (rom : Rom) (from : List Entry) (root : ℕ × Key) (done : List Entry)
     pub forced_begun : (made : List Entry) → IsAim rom from root made → Extends done made × Chain made (MOST_WORDS + 1) ((stack ++ new ∷ []) ++ start addr at_key ∷ []) 0
     forced_begun made m =
         let f = h.forced made m in
-        let p = chain_pop made (MOST_WORDS + 1) 0 stack walk f.1 in
+        let p = chain_pop made (MOST_WORDS + 1) 0 stack partial f.1 in
         let c = callee made m p f.0 in
-        let found_new : entry_at made new.addr new.key ≡ Some p.f = subst (λ x. entry_at made x new.key ≡ Some p.f) (sym w.same_addr) (subst (λ x. entry_at made walk.addr x ≡ Some p.f) (sym w.same_key) p.found_it) in
+        let found_new : entry_at made new.addr new.key ≡ Some p.f = subst (λ x. entry_at made x new.key ≡ Some p.f) (sym w.same_addr) (subst (λ x. entry_at made partial.addr x ≡ Some p.f) (sym w.same_key) p.found_it) in
         (f.0, chain_push made (MOST_WORDS + 1) 0 (stack ++ new ∷ []) (start addr at_key) c.g c.there c.some (chain_push made (MOST_WORDS + 1) c.g.words stack new p.f found_new c.less p.chain))
 
 -- ---- the stack
 
-pub making_append : (stack more : List Walk) (addr : ℕ) (key : Key) → IsMaking (stack ++ more) addr key → IsMaking stack addr key ⊎ IsMaking more addr key
+pub making_append : (stack more : List PartialEntry) (addr : ℕ) (key : Key) → IsMaking (stack ++ more) addr key → IsMaking stack addr key ⊎ IsMaking more addr key
 making_append [] more addr key h = inr h
 making_append (v ∷ stack) more addr key (inl same) = inl (inl same)
 making_append (v ∷ stack) more addr key (inr later) = ⊎_elim (λ x. inl (inr x)) (λ x. inr x) (making_append stack more addr key later)
 
-pub making_left : (stack more : List Walk) (addr : ℕ) (key : Key) → IsMaking stack addr key → IsMaking (stack ++ more) addr key
+pub making_left : (stack more : List PartialEntry) (addr : ℕ) (key : Key) → IsMaking stack addr key → IsMaking (stack ++ more) addr key
 making_left [] more addr key h = absurd h
 making_left (v ∷ stack) more addr key (inl same) = inl same
 making_left (v ∷ stack) more addr key (inr later) = inr (making_left stack more addr key later)
 
-pub making_last : (stack : List Walk) (w : Walk) (addr : ℕ) (key : Key) → w.addr ≡ addr → w.key ≡ key → IsMaking (stack ++ w ∷ []) addr key
+pub making_last : (stack : List PartialEntry) (w : PartialEntry) (addr : ℕ) (key : Key) → w.addr ≡ addr → w.key ≡ key → IsMaking (stack ++ w ∷ []) addr key
 making_last [] w addr key a k = inl (a, k)
 making_last (v ∷ stack) w addr key a k = inr (making_last stack w addr key a k)
 
-pub record ApartPop (done : List Entry) (stack : List Walk) (w : Walk) : Type 0 where
+pub record ApartPop (done : List Entry) (stack : List PartialEntry) (w : PartialEntry) : Type 0 where
   pub rest : Apart done stack
   pub none : entry_at done w.addr w.key ≡ None
   pub other : IsMaking stack w.addr w.key → ⊥
 
-pub apart_pop : (done : List Entry) (stack : List Walk) (w : Walk) → Apart done (stack ++ w ∷ []) → ApartPop done stack w
+pub apart_pop : (done : List Entry) (stack : List PartialEntry) (w : PartialEntry) → Apart done (stack ++ w ∷ []) → ApartPop done stack w
 apart_pop done [] w h = record { rest = tt; none = h.0; other = λ m. m }
 apart_pop done (v ∷ stack) w h =
     let p = apart_pop done stack w h.2 in
@@ -148,7 +148,7 @@ apart_pop done (v ∷ stack) w h =
       other = λ m. ⊎_elim (λ s. h.1 (making_last stack w v.addr v.key (sym s.0) (sym s.1))) p.other m;
     }
 
-pub apart_push : (done : List Entry) (stack : List Walk) (w : Walk) → Apart done stack → entry_at done w.addr w.key ≡ None → (IsMaking stack w.addr w.key → ⊥) → Apart done (stack ++ w ∷ [])
+pub apart_push : (done : List Entry) (stack : List PartialEntry) (w : PartialEntry) → Apart done stack → entry_at done w.addr w.key ≡ None → (IsMaking stack w.addr w.key → ⊥) → Apart done (stack ++ w ∷ [])
 apart_push done [] w h none other = (none, λ m. m, tt)
 apart_push done (v ∷ stack) w h none other = (
   h.0,
@@ -156,7 +156,7 @@ apart_push done (v ∷ stack) w h none other = (
   apart_push done stack w h.2 none (λ m. other (inr m)),
 )
 
-apart_more : (done : List Entry) (stack : List Walk) (e : Entry) → Apart done stack → (IsMaking stack e.addr e.key → ⊥) → Apart (done ++ e ∷ []) stack
+apart_more : (done : List Entry) (stack : List PartialEntry) (e : Entry) → Apart done stack → (IsMaking stack e.addr e.key → ⊥) → Apart (done ++ e ∷ []) stack
 apart_more done [] e h not = tt
 apart_more done (v ∷ stack) e h not = (
   entry_at-append done (e ∷ []) v.addr v.key ∙ ap (λ o. option_or o (entry_at (e ∷ []) v.addr v.key)) h.0 ∙ by_test (entry_at (e ∷ []) v.addr v.key) refl,
@@ -178,19 +178,19 @@ apart_more done (v ∷ stack) e h not = (
         only_key f (zero, lt, is) = ap (λ (x : Entry). x.key) (sym is)
         only_key f (suc k, lt, is) = absurd (omega (arith, lt))
 
-pub walks_pop : (rom : Rom) (done : List Entry) (stack more : List Walk) → AllWalks rom done (stack ++ more) → AllWalks rom done stack
+pub walks_pop : (rom : Rom) (done : List Entry) (stack more : List PartialEntry) → ArePartial rom done (stack ++ more) → ArePartial rom done stack
 walks_pop rom done [] more h = tt
 walks_pop rom done (v ∷ stack) more h = (h.0, walks_pop rom done stack more h.1)
 
-pub walks_last : (rom : Rom) (done : List Entry) (stack : List Walk) (w : Walk) → AllWalks rom done (stack ++ w ∷ []) → IsWalk rom done w
+pub walks_last : (rom : Rom) (done : List Entry) (stack : List PartialEntry) (w : PartialEntry) → ArePartial rom done (stack ++ w ∷ []) → IsPartial rom done w
 walks_last rom done [] w h = h.0
 walks_last rom done (v ∷ stack) w h = walks_last rom done stack w h.1
 
-pub walks_push : (rom : Rom) (done : List Entry) (stack : List Walk) (w : Walk) → AllWalks rom done stack → IsWalk rom done w → AllWalks rom done (stack ++ w ∷ [])
+pub walks_push : (rom : Rom) (done : List Entry) (stack : List PartialEntry) (w : PartialEntry) → ArePartial rom done stack → IsPartial rom done w → ArePartial rom done (stack ++ w ∷ [])
 walks_push rom done [] w h i = (i, tt)
 walks_push rom done (v ∷ stack) w h i = (h.0, walks_push rom done stack w h.1 i)
 
-walks_grow : (rom : Rom) (a b : List Entry) (stack : List Walk) → Extends a b → AllWalks rom a stack → AllWalks rom b stack
+walks_grow : (rom : Rom) (a b : List Entry) (stack : List PartialEntry) → Extends a b → ArePartial rom a stack → ArePartial rom b stack
 walks_grow rom a b [] ext h = tt
 walks_grow rom a b (v ∷ stack) ext h = (walk_grows rom a b v ext h.0, walks_grow rom a b stack ext h.1)
 
@@ -228,7 +228,7 @@ unique_more (x ∷ done) e u none = by_test (is_at e.addr e.key x) refl none (λ
 
 -- ---- who needs what
 
-pub called_grows : (rom : Rom) (a b : List Entry) (old new : List Walk) → Extends a b → ((addr : ℕ) (key : Key) → IsPresent a old addr key → IsPresent b new addr key) → (addr : ℕ) (key : Key) → IsCalled rom a old addr key → IsCalled rom b new addr key
+pub called_grows : (rom : Rom) (a b : List Entry) (old new : List PartialEntry) → Extends a b → ((addr : ℕ) (key : Key) → IsPresent a old addr key → IsPresent b new addr key) → (addr : ℕ) (key : Key) → IsCalled rom a old addr key → IsCalled rom b new addr key
 called_grows rom a b old new ext present addr key c =
     record {
       from = c.from;
@@ -243,29 +243,29 @@ called_grows rom a b old new ext present addr key c =
       key_is = sym (scale_grows a b c.from_key ext c.earlier (fine_taken (keyed_context a c.from_key) c.earlier c.taken)) ∙ c.key_is;
     }
 
-abbrev pub IsNeeded : Rom → List Entry → ℕ × Key → List Entry → List Walk → ℕ → Key → Type 0
+abbrev pub IsNeeded : Rom → List Entry → ℕ × Key → List Entry → List PartialEntry → ℕ → Key → Type 0
 IsNeeded rom from root done stack addr key = IsGiven from root addr key ⊎ IsCalled rom done stack addr key
 
-pub needed_grows : (rom : Rom) (from : List Entry) (root : ℕ × Key) (a b : List Entry) (old new : List Walk) → Extends a b → ((addr : ℕ) (key : Key) → IsPresent a old addr key → IsPresent b new addr key) → (addr : ℕ) (key : Key) → IsNeeded rom from root a old addr key → IsNeeded rom from root b new addr key
+pub needed_grows : (rom : Rom) (from : List Entry) (root : ℕ × Key) (a b : List Entry) (old new : List PartialEntry) → Extends a b → ((addr : ℕ) (key : Key) → IsPresent a old addr key → IsPresent b new addr key) → (addr : ℕ) (key : Key) → IsNeeded rom from root a old addr key → IsNeeded rom from root b new addr key
 needed_grows rom from root a b old new ext present addr key n = ⊎_elim (λ r. inl r) (λ c. inr (called_grows rom a b old new ext present addr key c)) n
 
-module _ (rom : Rom) (from : List Entry) (root : ℕ × Key) (done : List Entry) (stack : List Walk) (walk : Walk) (h : Making rom from root done (stack ++ walk ∷ [])) where
-  long : length (stack ++ walk ∷ []) ≡ length stack + 1
-  long = length-append stack (walk ∷ [])
+module _ (rom : Rom) (from : List Entry) (root : ℕ × Key) (done : List Entry) (stack : List PartialEntry) (partial : PartialEntry) (h : InProgress rom from root done (stack ++ partial ∷ [])) where
+  long : length (stack ++ partial ∷ []) ≡ length stack + 1
+  long = length-append stack (partial ∷ [])
 
-  module _ (e : Entry) (f : IsFinished rom done walk e) where
+  module _ (e : Entry) (f : IsFinished rom done partial e) where
     pub finished_new : entry_at done e.addr e.key ≡ None
-    finished_new = subst (λ a. entry_at done a e.key ≡ None) (sym f.addr) (subst (λ k. entry_at done walk.addr k ≡ None) (sym f.key) (apart_pop done stack walk h.apart).none)
+    finished_new = subst (λ a. entry_at done a e.key ≡ None) (sym f.addr) (subst (λ k. entry_at done partial.addr k ≡ None) (sym f.key) (apart_pop done stack partial h.apart).none)
 
     found_more : (made : List Entry) → IsAim rom from root made → Extends (done ++ e ∷ []) made
     found_more made m addr key g q =
         let ext = (h.forced made m).0 in
-        let p = chain_pop made (MOST_WORDS + 1) 0 stack walk (h.forced made m).1 in
-        let pl = listed_at made walk.addr walk.key p.f p.found_it in
+        let p = chain_pop made (MOST_WORDS + 1) 0 stack partial (h.forced made m).1 in
+        let pl = listed_at made partial.addr partial.key p.f p.found_it in
         let same : e ≡ p.f = same_made rom done made e p.f ext f.made (m.all p.f pl.listed).made (f.addr ∙ sym pl.addr_is) (f.key ∙ sym pl.key_is) in
         by_found (entry_at done addr key) refl ext p.found_it same pl.addr_is pl.key_is
       where
-        by_found : (o : Option Entry) → entry_at done addr key ≡ o → Extends done made → {x : Entry} → entry_at made walk.addr walk.key ≡ Some x → e ≡ x → x.addr ≡ walk.addr → x.key ≡ walk.key → entry_at made addr key ≡ Some g
+        by_found : (o : Option Entry) → entry_at done addr key ≡ o → Extends done made → {x : Entry} → entry_at made partial.addr partial.key ≡ Some x → e ≡ x → x.addr ≡ partial.addr → x.key ≡ partial.key → entry_at made addr key ≡ Some g
         by_found (Some y) t ext there same a k =
             let y_is : Some y ≡ Some g = sym (extends_more done (e ∷ []) addr key y t) ∙ q in
             ext addr key y t ∙ y_is
@@ -273,47 +273,47 @@ module _ (rom : Rom) (from : List Entry) (root : ℕ × Key) (done : List Entry)
             let last : entry_at (e ∷ []) addr key ≡ Some g = sym (ap (λ o. option_or o (entry_at (e ∷ []) addr key)) t) ∙ sym (entry_at-append done (e ∷ []) addr key) ∙ q in
             let l = listed_at (e ∷ []) addr key g last in
             let is : e ≡ g = only g l.listed in
-            let at : walk.addr ≡ addr = sym a ∙ ap (λ (z : Entry). z.addr) (sym same ∙ is) ∙ l.addr_is in
-            let with_key : walk.key ≡ key = sym k ∙ ap (λ (z : Entry). z.key) (sym same ∙ is) ∙ l.key_is in
-            subst (λ z. entry_at made z key ≡ Some g) at (subst (λ z. entry_at made walk.addr z ≡ Some g) with_key (there ∙ ap Some (sym same ∙ is)))
+            let at : partial.addr ≡ addr = sym a ∙ ap (λ (z : Entry). z.addr) (sym same ∙ is) ∙ l.addr_is in
+            let with_key : partial.key ≡ key = sym k ∙ ap (λ (z : Entry). z.key) (sym same ∙ is) ∙ l.key_is in
+            subst (λ z. entry_at made z key ≡ Some g) at (subst (λ z. entry_at made partial.addr z ≡ Some g) with_key (there ∙ ap Some (sym same ∙ is)))
           where
             only : (g : Entry) → Contains (e ∷ []) g → e ≡ g
             only g (zero, lt, is) = is
             only g (suc k, lt, is) = absurd (omega (arith, lt))
 
-    ends_at : entry_at (done ++ e ∷ []) walk.addr walk.key ≡ Some e
+    ends_at : entry_at (done ++ e ∷ []) partial.addr partial.key ≡ Some e
     ends_at =
-        let pop = apart_pop done stack walk h.apart in
-        let last : entry_at (e ∷ []) walk.addr walk.key ≡ Some e = ap (λ t. if t then Some e else None) (at_holds walk.addr walk.key e f.addr f.key) in
-        entry_at-append done (e ∷ []) walk.addr walk.key ∙ ap (λ o. option_or o (entry_at (e ∷ []) walk.addr walk.key)) pop.none ∙ last
+        let pop = apart_pop done stack partial h.apart in
+        let last : entry_at (e ∷ []) partial.addr partial.key ≡ Some e = ap (λ t. if t then Some e else None) (at_holds partial.addr partial.key e f.addr f.key) in
+        entry_at-append done (e ∷ []) partial.addr partial.key ∙ ap (λ o. option_or o (entry_at (e ∷ []) partial.addr partial.key)) pop.none ∙ last
 
-    pub present_finished : (addr : ℕ) (key : Key) → IsPresent done (stack ++ walk ∷ []) addr key → IsPresent (done ++ e ∷ []) stack addr key
+    pub present_finished : (addr : ℕ) (key : Key) → IsPresent done (stack ++ partial ∷ []) addr key → IsPresent (done ++ e ∷ []) stack addr key
     present_finished addr key (inl has) = inl (has.0, extends_more done (e ∷ []) addr key has.0 has.1)
     present_finished addr key (inr m) =
         ⊎_elim (λ x. inr x)
-        (λ x. ⊎_elim (λ s. inl (e, subst (λ a. entry_at (done ++ e ∷ []) a key ≡ Some e) s.0 (subst (λ (k : Key). entry_at (done ++ e ∷ []) walk.addr k ≡ Some e) s.1 ends_at))) (λ b. absurd b) x)
-        (making_append stack (walk ∷ []) addr key m)
+        (λ x. ⊎_elim (λ s. inl (e, subst (λ a. entry_at (done ++ e ∷ []) a key ≡ Some e) s.0 (subst (λ (k : Key). entry_at (done ++ e ∷ []) partial.addr k ≡ Some e) s.1 ends_at))) (λ b. absurd b) x)
+        (making_append stack (partial ∷ []) addr key m)
 
-    was_present : (addr : ℕ) (key : Key) → IsPresent (done ++ e ∷ []) stack addr key → IsPresent done (stack ++ walk ∷ []) addr key
-    was_present addr key (inr m) = inr (making_left stack (walk ∷ []) addr key m)
+    was_present : (addr : ℕ) (key : Key) → IsPresent (done ++ e ∷ []) stack addr key → IsPresent done (stack ++ partial ∷ []) addr key
+    was_present addr key (inr m) = inr (making_left stack (partial ∷ []) addr key m)
     was_present addr key (inl has) = by_found (entry_at done addr key) refl
       where
-        by_found : (o : Option Entry) → entry_at done addr key ≡ o → IsPresent done (stack ++ walk ∷ []) addr key
+        by_found : (o : Option Entry) → entry_at done addr key ≡ o → IsPresent done (stack ++ partial ∷ []) addr key
         by_found (Some x) q = inl (x, q)
         by_found None q =
             let last : entry_at (e ∷ []) addr key ≡ Some has.0 = sym (ap (λ o. option_or o (entry_at (e ∷ []) addr key)) q) ∙ sym (entry_at-append done (e ∷ []) addr key) ∙ has.1 in
             let l = listed_at (e ∷ []) addr key has.0 last in
             let is : e ≡ has.0 = only has.0 l.listed in
-            inr (making_last stack walk addr key (sym f.addr ∙ ap (λ (x : Entry). x.addr) is ∙ l.addr_is) (sym f.key ∙ ap (λ (x : Entry). x.key) is ∙ l.key_is))
+            inr (making_last stack partial addr key (sym f.addr ∙ ap (λ (x : Entry). x.addr) is ∙ l.addr_is) (sym f.key ∙ ap (λ (x : Entry). x.key) is ∙ l.key_is))
           where
             only : (g : Entry) → Contains (e ∷ []) g → e ≡ g
             only g (zero, lt, is) = is
             only g (suc k, lt, is) = absurd (omega (arith, lt))
 
-    pub making_finished : Making rom from root (done ++ e ∷ []) stack
+    pub making_finished : InProgress rom from root (done ++ e ∷ []) stack
     making_finished =
         let ext = extends_more done (e ∷ []) in
-        let pop = apart_pop done stack walk h.apart in
+        let pop = apart_pop done stack partial h.apart in
         let len : length (done ++ e ∷ []) ≡ length done + 1 = length-append done (e ∷ []) in
         record {
           is_done = record {
@@ -323,10 +323,10 @@ module _ (rom : Rom) (from : List Entry) (root : ℕ × Key) (done : List Entry)
             room = omega (arith, h.room, long, len);
           };
           extends = λ a k x q. ext a k x (h.extends a k x q);
-          walks = walks_grow rom done (done ++ e ∷ []) stack ext (walks_pop rom done stack (walk ∷ []) h.walks);
-          apart = apart_more done stack e pop.rest (λ m. pop.other (subst (λ a. IsMaking stack a walk.key) f.addr (subst (λ k. IsMaking stack e.addr k) f.key m)));
-          linked = are_grown rom done (done ++ e ∷ []) ext root stack (are_popped rom done root stack walk h.linked);
-          needed = λ addr key p. needed_grows rom from root done (done ++ e ∷ []) (stack ++ walk ∷ []) stack ext present_finished addr key (h.needed addr key (was_present addr key p));
+          partials = walks_grow rom done (done ++ e ∷ []) stack ext (walks_pop rom done stack (partial ∷ []) h.partials);
+          apart = apart_more done stack e pop.rest (λ m. pop.other (subst (λ a. IsMaking stack a partial.key) f.addr (subst (λ k. IsMaking stack e.addr k) f.key m)));
+          linked = are_grown rom done (done ++ e ∷ []) ext root stack (are_popped rom done root stack partial h.linked);
+          needed = λ addr key p. needed_grows rom from root done (done ++ e ∷ []) (stack ++ partial ∷ []) stack ext present_finished addr key (h.needed addr key (was_present addr key p));
           room = omega (arith, h.room, long, len);
-          forced = λ made m. let p = chain_pop made (MOST_WORDS + 1) 0 stack walk (h.forced made m).1 in (found_more made m, chain_less made (MOST_WORDS + 1) p.f.words 0 stack (omega arith) p.chain);
+          forced = λ made m. let p = chain_pop made (MOST_WORDS + 1) 0 stack partial (h.forced made m).1 in (found_more made m, chain_less made (MOST_WORDS + 1) p.f.words 0 stack (omega arith) p.chain);
         }

@@ -1,6 +1,6 @@
 -- Root after root, and frame after frame.
 use Rattle.std.proofs.Common.{◌≡◌, ℕ, zero, suc, ◌+◌, ◌<◌, ◌≤◌, List, [], ◌∷◌, ◌++◌, length, take, get_or, Option, Some, None, refl, sym, ap, ◌∙◌, subst, arith, ◌⊎◌, inl, inr, ⊎_elim}
-use Rattle.std.specs.Prelude.{Contains, slice_get}
+use Rattle.std.specs.Prelude.{Contains, slice_get, Bool, false, IsTrue, ◌↔◌}
 use Rattle.dvg_words.specs.Memory.{Rom, InRom}
 use Rattle.dvg_cert.specs.Entry.{IsKey}
 use Rattle.dvg_cert.specs.declared.entry.Entry.{Entry}
@@ -10,21 +10,22 @@ use Rattle.dvg_items.proofs.Listed.{listed_at}
 use Rattle.dvg_make.specs.Made.{HasEntry, MadeFor, AllMade}
 use Rattle.dvg_make.specs.Frames.{IsAskedFor, HasAsked}
 use Rattle.dvg_make.specs.Refusals.{EntryFault, Unstraight, Deep, TooManyWords, TooManyEntries, Memory, make_fault_of, Refuses, BarsList, NoFramesMade, FramesRefuse}
-use Rattle.dvg_make.specs.Private.Walking.{Extends}
-use Rattle.dvg_make.specs.Private.Making.{IsAim, Making, Bars, BarsRoot, BarsRoots, NoneHas, HasAll, Collected}
+use Rattle.dvg_make.specs.Private.Partial.{Extends}
+use Rattle.dvg_make.specs.Private.Making.{IsAim, InProgress, Bars, BarsRoots, obstacle_fault, NoneHas, HasAll, Collected}
 use Rattle.dvg_make.specs.Private.Framing.{HasCalls, IsFramed, BarsHere, BarsCalls, NoneHasCalls, AllFramed}
 use Rattle.dvg_make.proofs.Onward.{listed_entry}
-use Rattle.dvg_make.specs.declared.walk.Walk.{Walk}
-use Rattle.dvg_make.specs.declared.stuck.Stop.{Stop}
-use Rattle.dvg_make.specs.Private.Making.{asked_link, links, IsMaking, IsCalled, IsToldFrom, IsToldOf}
+use Rattle.dvg_make.specs.declared.partial.PartialEntry.{PartialEntry}
+use Rattle.dvg_make.specs.declared.obstacle.Obstacle.{Obstacle}
+use Rattle.dvg_make.specs.Private.Making.{asked_shape, shapes, IsMaking, IsCalled, IsToldFrom, IsToldOf}
 use Rattle.dvg_make.specs.Private.Framing.{KeyedCall, IsGivenHere, TellsHere}
-use Rattle.dvg_make.specs.Private.Walking.{keyed_context}
-use Rattle.dvg_make.specs.Accounts.{Link, IsNamedBy, IsNeededBy}
+use Rattle.dvg_make.specs.Private.Partial.{keyed_context, start}
+use Rattle.dvg_make.specs.Accounts.{RootOutside, IsNamedBy, IsNeededBy}
 use Rattle.dvg_make.specs.Refusals.{FrameCall}
 use Rattle.dvg_items.specs.Known.{known_before}
 use Rattle.dvg_make.proofs.Framing.{done_made, in_left, in_right, in_either, collected_more, call_grows, keyed_call, called_told, calls_grow, has_calls_grow}
 use Rattle.dvg_make.proofs.Finishing.{roots_made}
-use Rattle.dvg_make.proofs.Telling.{length_links}
+use Rattle.dvg_make.proofs.Telling.{length_links, room_of_none, tells_outside}
+use Rattle.dvg_make.proofs.Turns.{called_none}
 
 -- ---- one element more of what is taken
 
@@ -94,7 +95,7 @@ none_collected rom =
     none_at : {P : Type 0} {e : Entry} → None ≡ Some e → P
     none_at q = cc q
 
-pub root_collected : (rom : Rom) (roots : List (ℕ × Key)) (i j : ℕ) (d : ℕ × Key) (old new : List Entry) → j ≡ suc i → i < length roots → Collected rom (take i roots) old → Making rom old ((get_or roots i d).0, (get_or roots i d).1) new [] → HasEntry new (get_or roots i d).0 (get_or roots i d).1 → Collected rom (take j roots) new
+pub root_collected : (rom : Rom) (roots : List (ℕ × Key)) (i j : ℕ) (d : ℕ × Key) (old new : List Entry) → j ≡ suc i → i < length roots → Collected rom (take i roots) old → InProgress rom old ((get_or roots i d).0, (get_or roots i d).1) new [] → HasEntry new (get_or roots i d).0 (get_or roots i d).1 → Collected rom (take j roots) new
 root_collected rom roots i j d old new next lt h m has =
     subst (λ a. Collected rom a new) (sym (ap (λ n. take n roots) next ∙ taken_next roots i d lt)) (collected_more rom (take i roots) old new (get_or roots i d).0 (get_or roots i d).1 h m has)
 
@@ -118,16 +119,12 @@ module _ (rom : Rom) (roots : List (ℕ × Key)) (i : ℕ) (d : ℕ × Key) (don
       let e = listed_entry rom.map.rom_first rom.map.rom_last list r.0 cert.each l.listed in
       not ((subst (λ a. rom.map.rom_first ≤ a) l.addr_is e.addr_low, subst (λ a. a ≤ rom.map.rom_last) l.addr_is e.addr_high), subst IsKey l.key_is e.key)
 
-  bars : (why : EntryFault) → Bars rom done ((get_or roots i d).0, (get_or roots i d).1) why → BarsRoots rom roots why
-  bars (Unstraight word) b = λ list cert all has. b list (aims list all has)
-  bars Deep b = λ list cert all has. b list (aims list all has)
-  bars TooManyWords b = λ list cert all has. b list (aims list all has)
-  bars TooManyEntries b = λ list all has. b list (aims list all has)
-  bars Memory b = tt
-
-  pub root_barred : (why : EntryFault) → BarsRoot rom done ((get_or roots i d).0, (get_or roots i d).1) why → BarsRoots rom roots why
-  root_barred why (inl b) = bars why b
-  root_barred why (inr not) = subst (BarsRoots rom roots) (sym not.0) (outside not.1)
+  pub root_barred : (why : EntryFault) → Bars rom done ((get_or roots i d).0, (get_or roots i d).1) why → BarsRoots rom roots why
+  root_barred (Unstraight word) b = λ list cert all has. b list (aims list all has)
+  root_barred Deep b = λ list cert all has. b list (aims list all has)
+  root_barred TooManyWords b = λ list cert all has. b list (aims list all has)
+  root_barred TooManyEntries b = λ list all has. b list (aims list all has)
+  root_barred Memory b = tt
 
 -- ---- what is needed
 
@@ -136,16 +133,16 @@ got_somewhere [] x c = absurd (omega (arith, c.1))
 got_somewhere (y ∷ xs) x (zero, lt, is) = (zero, ap Some is)
 got_somewhere (y ∷ xs) x (suc k, lt, is) = let r = got_somewhere xs x (k, omega (arith, lt), is) in (suc r.0, r.1)
 
-in_links : (chain : List Walk) (addr : ℕ) (key : Key) → IsMaking chain addr key → Contains (links chain) (asked_link (addr, key))
+in_links : (chain : List PartialEntry) (addr : ℕ) (key : Key) → IsMaking chain addr key → Contains (shapes chain) (asked_shape (addr, key))
 in_links [] addr key m = absurd m
 in_links (w ∷ chain) addr key (inl s) = (zero, omega arith, (λ j. record { addr = s.0 j; key = s.1 j }))
 in_links (w ∷ chain) addr key (inr m) = let c = in_links chain addr key m in (suc c.0, omega (arith, c.1), c.2)
 
 -- what an entry or a shape in the making calls
-needed_by : (rom : Rom) (list : List Entry) (chain : List Walk) (addr : ℕ) (key : Key) → IsCalled rom list chain addr key → IsNeededBy rom list (links chain) (asked_link (addr, key))
+needed_by : (rom : Rom) (list : List Entry) (chain : List PartialEntry) (addr : ℕ) (key : Key) → IsCalled rom list chain addr key → IsNeededBy rom list (shapes chain) (asked_shape (addr, key))
 needed_by rom list chain addr key c =
     record {
-      from = asked_link (c.from, c.from_key);
+      from = asked_shape (c.from, c.from_key);
       there = ⊎_elim (λ has. inl has) (λ m. inr (in_links chain c.from c.from_key m)) c.present;
       precedes = record {
         at = c.item.at;
@@ -155,7 +152,7 @@ needed_by rom list chain addr key c =
       };
     }
 
-room_of_links : (list : List Entry) (chain : List Walk) → length list + length chain ≤ MOST_ENTRIES → length list + length (links chain) ≤ MOST_ENTRIES
+room_of_links : (list : List Entry) (chain : List PartialEntry) → length list + length chain ≤ MOST_ENTRIES → length list + length (shapes chain) ≤ MOST_ENTRIES
 room_of_links list chain room = let long = length_links chain in omega (arith, long, room)
 
 -- roots alone
@@ -165,7 +162,7 @@ has_roots asked list has a k (inr c) = absurd (omega (arith, c.1.1))
 
 module _ (roots : List (ℕ × Key)) (frames : List (List ℕ)) (list : List Entry) where
   abbrev IsNamed : ℕ → Key → Type 0
-  IsNamed addr key = (call : Option FrameCall) × IsNamedBy roots frames list call (asked_link (addr, key))
+  IsNamed addr key = (call : Option FrameCall) × IsNamedBy roots frames list call (asked_shape (addr, key))
 
   named_at : (root : ℕ) (addr : ℕ) (key : Key) → slice_get roots root ≡ Some (addr, key) → HasAll (take root roots) list → IsNamed addr key
   named_at root addr key is has = (None, (root, is, has_roots (take root roots) list has))
@@ -184,7 +181,7 @@ module _ (roots : List (ℕ × Key)) (frames : List (List ℕ)) (list : List Ent
   -- a call of a frame
   named_call : (frame : ℕ) (words : List ℕ) → slice_get frames frame ≡ Some words → HasAsked roots (take frame frames) list → (addr : ℕ) (key : Key) → KeyedCall words list addr key → IsNamed addr key
   named_call frame words is has addr key k =
-      (Some (record { frame = frame; at = k.calls.item.at }), (words, is, (k.calls, refl, k.keyed), has))
+      (Some (record { frame = frame; at = k.calls.item.at }), (words, is, record { calls = k.calls; at_is = refl; before = k.keyed }, has))
 
   -- of one of so many
   named_before : (n : ℕ) (words : List ℕ) → Contains (take n frames) words → HasAsked roots (take n frames) list → (addr : ℕ) (key : Key) → KeyedCall words list addr key → IsNamed addr key
@@ -196,15 +193,15 @@ module _ (roots : List (ℕ × Key)) (frames : List (List ℕ)) (list : List Ent
       fewer i is a k (inl r) = has a k (inl r)
       fewer i is a k (inr b) = has a k (inr (b.0, taken_before frames n i words b.0 is b.1, b.2))
 
--- what is told of a root
-pub root_told : (rom : Rom) (roots : List (ℕ × Key)) (i : ℕ) (d : ℕ × Key) (done : List Entry) → i < length roots → Collected rom (take i roots) done → (chain : List Walk) (stop : Stop) → IsToldFrom rom done ((get_or roots i d).0, (get_or roots i d).1) chain stop → IsToldOf rom roots [] None chain stop
-root_told rom roots i d done lt h chain stop b =
+-- what is told of a root, whatever the frames are
+pub root_told : (rom : Rom) (roots : List (ℕ × Key)) (i : ℕ) (d : ℕ × Key) (done : List Entry) → i < length roots → Collected rom (take i roots) done → (chain : List PartialEntry) (obstacle : Obstacle) → IsToldFrom rom done ((get_or roots i d).0, (get_or roots i d).1) chain obstacle → (frames : List (List ℕ)) → IsToldOf rom roots frames None chain obstacle
+root_told rom roots i d done lt h chain obstacle b frames =
     record {
       list = b.list;
       within = b.is_done.entries;
-      needed = λ shape has. ⊎_elim (λ r. inl r) (λ c. inr (needed_by rom b.list chain shape.addr shape.key c)) (called_told rom done b.list (get_or roots i d) chain (IsNamed roots [] b.list) b.extends b.needed was (None, here) shape.addr shape.key has);
+      needed = λ shape has. ⊎_elim (λ r. inl r) (λ c. inr (needed_by rom b.list chain shape.addr shape.key c)) (called_told rom done b.list (get_or roots i d) chain (IsNamed roots frames b.list) b.extends b.needed was (None, here) shape.addr shape.key has);
       made = done_made rom b.list b.is_done;
-      asked = asked_link (get_or roots i d);
+      asked = asked_shape (get_or roots i d);
       named = here;
       room = room_of_links b.list chain b.room;
       tells = b.tells;
@@ -214,42 +211,43 @@ root_told rom roots i d done lt h chain stop b =
     before : HasAll (take i roots) b.list
     before a k c = let f = h.rooted a k c in (f.0, b.extends a k f.0 f.1)
 
-    here : IsNamedBy roots [] b.list None (asked_link (get_or roots i d))
+    here : IsNamedBy roots frames b.list None (asked_shape (get_or roots i d))
     here = (i, got roots i d lt, has_roots (take i roots) b.list before)
 
-    was : (a : ℕ) (k : Key) → HasEntry done a k → IsNamed roots [] b.list a k ⊎ IsCalled rom done [] a k
-    was a k has = ⊎_elim (λ c. inl (named_taken roots [] b.list i before a k c)) (λ c. inr c) (h.needed a k has)
+    was : (a : ℕ) (k : Key) → HasEntry done a k → IsNamed roots frames b.list a k ⊎ IsCalled rom done [] a k
+    was a k has = ⊎_elim (λ c. inl (named_taken roots frames b.list i before a k c)) (λ c. inr c) (h.needed a k has)
 
--- and told again where there are frames
-pub roots_told : (rom : Rom) (roots : List (ℕ × Key)) (frames : List (List ℕ)) (chain : List Walk) (stop : Stop) → IsToldOf rom roots [] None chain stop → IsToldOf rom roots frames None chain stop
-roots_told rom roots frames chain stop t =
-    record {
-      list = t.list;
-      within = t.within;
-      made = t.made;
-      asked = t.asked;
-      named = t.named;
-      needed = λ shape has. ⊎_elim (λ n. inl (n.0, more n.0 shape n.1)) (λ c. inr c) (t.needed shape has);
-      room = t.room;
-      tells = t.tells;
-      outside = t.outside;
-    }
-  where
-    more : (call : Option FrameCall) (shape : Link) → IsNamedBy roots [] t.list call shape → IsNamedBy roots frames t.list call shape
-    more None shape n = n
-    more (Some call) shape n = let none : None ≡ Some n.0 = n.1 in cc none
+module _ (rom : Rom) (roots : List (ℕ × Key)) (i : ℕ) (d : ℕ × Key) (done : List Entry) (lt : i < length roots) (h : Collected rom (take i roots) done) where
+  outside_at : (r : Bool) → r ≡ false → (IsTrue r ↔ (InRom rom.map (get_or roots i d).0 × IsKey (get_or roots i d).1)) → InRom rom.map (get_or roots i d).0 × IsKey (get_or roots i d).1 → ⊥
+  outside_at r failed is inside = let t : IsTrue false = subst IsTrue failed (is.1 inside) in cc t
+
+  -- a root outside the ROM, or with a key over 15
+  pub outside_barred : (r : Bool) → r ≡ false → (IsTrue r ↔ (InRom rom.map (get_or roots i d).0 × IsKey (get_or roots i d).1)) → (obstacle : Obstacle) → obstacle ≡ record { cursor = (start (get_or roots i d).0 (get_or roots i d).1).cursor; cause = RootOutside } → BarsRoots rom roots (obstacle_fault obstacle)
+  outside_barred r failed is obstacle e = subst (λ o. BarsRoots rom roots (obstacle_fault o)) (sym e) (outside rom roots i d done lt h (outside_at r failed is))
+
+  pub outside_told : (r : Bool) → r ≡ false → (IsTrue r ↔ (InRom rom.map (get_or roots i d).0 × IsKey (get_or roots i d).1)) → (chain : List PartialEntry) → chain ≡ [] → (obstacle : Obstacle) → obstacle ≡ record { cursor = (start (get_or roots i d).0 (get_or roots i d).1).cursor; cause = RootOutside } → (frames : List (List ℕ)) → IsToldOf rom roots frames None chain obstacle
+  outside_told r failed is chain none obstacle e =
+      root_told rom roots i d done lt h chain obstacle
+      (record {
+        list = done;
+        is_done = h.is_done;
+        extends = λ addr key e q. q;
+        needed = called_none rom done ((get_or roots i d).0, (get_or roots i d).1) chain none;
+        room = room_of_none done chain none h.is_done.room;
+        tells = tells_outside rom done (get_or roots i d).0 (get_or roots i d).1 (outside_at r failed is) chain none obstacle e;
+      })
 
 -- ---- frames
 
 -- what is told of a frame's call
-pub call_told : (rom : Rom) (roots : List (ℕ × Key)) (frames : List (List ℕ)) (i : ℕ) (d : List ℕ) (old : List Entry) → i < length frames → AllFramed rom roots (take i frames) old → (at : ℕ) (chain : List Walk) (stop : Stop) → TellsHere rom (get_or frames i d) old at chain stop → IsToldOf rom roots frames (Some (record { frame = i; at = at })) chain stop
-call_told rom roots frames i d old lt h at chain stop t =
+pub call_told : (rom : Rom) (roots : List (ℕ × Key)) (frames : List (List ℕ)) (i : ℕ) (d : List ℕ) (old : List Entry) → i < length frames → AllFramed rom roots (take i frames) old → (at : ℕ) (chain : List PartialEntry) (obstacle : Obstacle) → TellsHere rom (get_or frames i d) old at chain obstacle → IsToldOf rom roots frames (Some (record { frame = i; at = at })) chain obstacle
+call_told rom roots frames i d old lt h at chain obstacle t =
     record {
       list = t.list;
       within = t.within;
       made = t.made;
-      asked = asked_link (t.to, t.scale);
-      named = (get_or frames i d, got frames i d lt, (t.calls, t.at_is, t.before), before);
+      asked = asked_shape (t.to, t.scale);
+      named = (get_or frames i d, got frames i d lt, t.call, before);
       needed = λ shape has. ⊎_elim (λ g. inl (asked_here shape.addr shape.key g)) (λ c. inr (needed_by rom t.list chain shape.addr shape.key c)) (t.needed h.asked h.collected shape.addr shape.key has);
       room = room_of_links t.list chain t.room;
       tells = t.tells;

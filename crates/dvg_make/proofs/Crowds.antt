@@ -5,8 +5,8 @@ use Rattle.dvg_cert.specs.Lookup.{is_at, entry_at}
 use Rattle.dvg_cert.specs.declared.entry.Entry.{Entry}
 use Rattle.dvg_cert.specs.declared.entry.Key.{Key}
 use Rattle.dvg_cert.proofs.OnlyEntries.{at_means, at_holds}
-use Rattle.dvg_make.specs.declared.walk.Walk.{Walk}
-use Rattle.dvg_make.specs.Private.Walking.{Extends}
+use Rattle.dvg_make.specs.declared.partial.PartialEntry.{PartialEntry}
+use Rattle.dvg_make.specs.Private.Partial.{Extends}
 use Rattle.dvg_make.specs.Private.Making.{IsMaking, Chain, Apart, IsUnique}
 
 -- the list without the entry with this address and key
@@ -36,7 +36,7 @@ still (x ∷ l) a b k j g apart e = by_tests (is_at a k x) (is_at b j x) refl re
     by_tests false false p q h more = ap (λ t. if t then Some x else entry_at (without l a k) b j) q ∙ more h
 
 -- the stack alone
-stack_crowd : (l : List Entry) (stack : List Walk) → Apart [] stack → ((addr : ℕ) (key : Key) → IsMaking stack addr key → (f : Entry) × (entry_at l addr key ≡ Some f)) → length stack ≤ length l
+stack_crowd : (l : List Entry) (stack : List PartialEntry) → Apart [] stack → ((addr : ℕ) (key : Key) → IsMaking stack addr key → (f : Entry) × (entry_at l addr key ≡ Some f)) → length stack ≤ length l
 stack_crowd l [] apart has = omega arith
 stack_crowd l (w ∷ stack) apart has =
     let f = has w.addr w.key (inl (refl, refl)) in
@@ -44,7 +44,7 @@ stack_crowd l (w ∷ stack) apart has =
     let rest = stack_crowd (without l w.addr w.key) stack apart.2 (λ a k m. let g = has a k (inr m) in (g.0, still l w.addr a w.key k g.0 (λ s. apart.1 (subst (λ x. IsMaking stack x w.key) (sym s.0) (subst (λ x. IsMaking stack a x) (sym s.1) m))) g.1)) in
     omega (arith, len, rest)
 
-apart_tail : (e : Entry) (done : List Entry) (stack : List Walk) → Apart (e ∷ done) stack → Apart done stack
+apart_tail : (e : Entry) (done : List Entry) (stack : List PartialEntry) → Apart (e ∷ done) stack → Apart done stack
 apart_tail e done [] h = tt
 apart_tail e done (w ∷ stack) h = (by_test (is_at w.addr w.key e) h.0, h.1, apart_tail e done stack h.2)
   where
@@ -52,7 +52,7 @@ apart_tail e done (w ∷ stack) h = (by_test (is_at w.addr w.key e) h.0, h.1, ap
     by_test true q = cc q
     by_test false q = q
 
-making_none : (done : List Entry) (stack : List Walk) (addr : ℕ) (key : Key) → Apart done stack → IsMaking stack addr key → entry_at done addr key ≡ None
+making_none : (done : List Entry) (stack : List PartialEntry) (addr : ℕ) (key : Key) → Apart done stack → IsMaking stack addr key → entry_at done addr key ≡ None
 making_none done [] addr key h m = absurd m
 making_none done (w ∷ stack) addr key h (inl s) = subst (λ x. entry_at done x key ≡ None) s.0 (subst (λ x. entry_at done w.addr x ≡ None) s.1 h.0)
 making_none done (w ∷ stack) addr key h (inr later) = making_none done stack addr key h.2 later
@@ -71,7 +71,7 @@ clash : {o : Option Entry} {x : Entry} → o ≡ None → o ≡ Some x → ⊥
 clash p q = cc (p, q)
 
 -- the entries first
-crowd : (l done : List Entry) (stack : List Walk) → IsUnique done → Apart done stack → ((addr : ℕ) (key : Key) (f : Entry) → entry_at done addr key ≡ Some f → (g : Entry) × (entry_at l addr key ≡ Some g)) → ((addr : ℕ) (key : Key) → IsMaking stack addr key → (g : Entry) × (entry_at l addr key ≡ Some g)) → length done + length stack ≤ length l
+crowd : (l done : List Entry) (stack : List PartialEntry) → IsUnique done → Apart done stack → ((addr : ℕ) (key : Key) (f : Entry) → entry_at done addr key ≡ Some f → (g : Entry) × (entry_at l addr key ≡ Some g)) → ((addr : ℕ) (key : Key) → IsMaking stack addr key → (g : Entry) × (entry_at l addr key ≡ Some g)) → length done + length stack ≤ length l
 crowd l [] stack unique apart ext has = let h = stack_crowd l stack apart has in omega (arith, h)
 crowd l (e ∷ done) stack unique apart ext has =
     let f = ext e.addr e.key e (find_self e done) in
@@ -88,10 +88,10 @@ crowd l (e ∷ done) stack unique apart ext has =
     in
     omega (arith, len, rest)
 
-making_found : (made : List Entry) (most n : ℕ) (stack : List Walk) (addr : ℕ) (key : Key) → Chain made most stack n → IsMaking stack addr key → (g : Entry) × (entry_at made addr key ≡ Some g)
+making_found : (made : List Entry) (most n : ℕ) (stack : List PartialEntry) (addr : ℕ) (key : Key) → Chain made most stack n → IsMaking stack addr key → (g : Entry) × (entry_at made addr key ≡ Some g)
 making_found made most n [] addr key h m = absurd m
 making_found made most n (v ∷ stack) addr key h (inl s) = (h.0, subst (λ x. entry_at made x key ≡ Some h.0) s.0 (subst (λ x. entry_at made v.addr x ≡ Some h.0) s.1 h.1))
 making_found made most n (v ∷ stack) addr key h (inr later) = making_found made h.0.words n stack addr key h.3 later
 
-pub crowded : (done made : List Entry) (most n : ℕ) (stack : List Walk) → IsUnique done → Apart done stack → Extends done made → Chain made most stack n → length done + length stack ≤ length made
+pub crowded : (done made : List Entry) (most n : ℕ) (stack : List PartialEntry) → IsUnique done → Apart done stack → Extends done made → Chain made most stack n → length done + length stack ≤ length made
 crowded done made most n stack unique apart ext chain = crowd made done stack unique apart (λ a k f e. (f, ext a k f e)) (λ a k m. making_found made most n stack a k chain m)

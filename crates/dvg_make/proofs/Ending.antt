@@ -20,8 +20,8 @@ use Rattle.dvg_items.specs.declared.cursor.Step.{Step}
 use Rattle.dvg_items.specs.declared.cursor.Step.TheVariants.{Last}
 use Rattle.dvg_items.specs.declared.item.Kind.TheVariants.{Shape}
 use Rattle.dvg_items.specs.declared.known.Known.{Known}
-use Rattle.dvg_make.specs.declared.walk.Walk.{Walk}
-use Rattle.dvg_make.specs.Private.Walking.{entry_of, Passes, IsCallee, IsFinished}
+use Rattle.dvg_make.specs.declared.partial.PartialEntry.{PartialEntry}
+use Rattle.dvg_make.specs.Private.Partial.{entry_of, Passes, IsCallee, IsFinished}
 use Rattle.dvg_make.specs.Private.Making.{IsDone}
 use Rattle.dvg_make.proofs.Onward.{Walking, end, knows_last, finished}
 use Rattle.dvg_make.proofs.Small.{made_is_entry}
@@ -36,13 +36,13 @@ scale_key (Jsrl to) (Some e) scale fits claim is = claim.scale
 scale_key (Jmpl to) None scale fits claim is = is
 scale_key (Jmpl to) (Some e) scale fits claim is = claim.scale
 
-module _ (rom : Rom) (list : List Entry) (done : IsDone rom list) (from w : Walk) (h : Walking rom list from w) (format : Format) (instr : Instr) (is : cell_at (rom_word rom) w.cursor.at ≡ Holds format instr) (o : Option Entry) (nm : IsCallee list instr w.cursor.known.scale o) where
+module _ (rom : Rom) (list : List Entry) (done : IsDone rom list) (from w : PartialEntry) (h : Walking rom list from w) (format : Format) (instr : Instr) (is : cell_at (rom_word rom) w.cursor.at ≡ Holds format instr) (o : Option Entry) (nm : IsCallee list instr w.cursor.known.scale o) where
   pub ended : InstrFits instr → IfSome o IsClaim → (lit : LitBox) (s : Passes (seen_with o w.cursor.known (record { at = w.cursor.at; format = format; instr = instr })) w.lit lit) (step : Step) (last : Known) → step ≡ Last last → step ≡ step_past Shape (seen_with o w.cursor.known (record { at = w.cursor.at; format = format; instr = instr })) → IsFinished rom list from (entry_of w.addr w.key last lit)
   ended fits claim lit s step last step_is goes =
       let e = end rom list from w h format instr is o nm lit s step last step_is goes in
       let k = knows_last rom list from w h format instr is o nm lit s step last step_is goes in
       let words : last.words ≤ MOST_WORDS = subst (λ (x : Known). x.words ≤ MOST_WORDS) (sym e.1) s.asked.many in
-      let depth : last.depth ≤ MOST_DEPTH = subst (λ (x : Known). x.depth ≤ MOST_DEPTH) (sym e.1) (omega (arith, s.asked.deep, h.walk.shallow)) in
-      let scale : IsKey last.scale = subst (λ (x : Known). IsKey x.scale) (sym e.1) (scale_key instr o w.cursor.known.scale fits claim h.walk.sound.scale) in
-      let made = made_is_entry rom list done.made w.addr w.key h.walk.items (record { at = w.cursor.at; format = format; instr = instr }) lit h.walk.leads is k.fine k.least (subst (λ (x : Known). x.words ≤ MOST_WORDS) k.known_is words) (subst (λ (x : Known). x.depth ≤ MOST_DEPTH) k.known_is depth) h.walk.keyed (subst (λ (x : Known). IsKey x.scale) k.known_is scale) in
+      let depth : last.depth ≤ MOST_DEPTH = subst (λ (x : Known). x.depth ≤ MOST_DEPTH) (sym e.1) (omega (arith, s.asked.deep, h.partial.shallow)) in
+      let scale : IsKey last.scale = subst (λ (x : Known). IsKey x.scale) (sym e.1) (scale_key instr o w.cursor.known.scale fits claim h.partial.sound.scale) in
+      let made = made_is_entry rom list done.made w.addr w.key h.partial.items (record { at = w.cursor.at; format = format; instr = instr }) lit h.partial.leads is k.fine k.least (subst (λ (x : Known). x.words ≤ MOST_WORDS) k.known_is words) (subst (λ (x : Known). x.depth ≤ MOST_DEPTH) k.known_is depth) h.partial.keyed (subst (λ (x : Known). IsKey x.scale) k.known_is scale) in
       finished rom list from w h format instr is o nm lit s step last step_is goes (subst (λ (x : Known). IsEntry rom.map.rom_first rom.map.rom_last (entry_of w.addr w.key x lit)) (sym k.known_is) made)

@@ -28,8 +28,8 @@ use Rattle.dvg_items.specs.declared.seen.Seen.{Seen}
 use Rattle.dvg_check.proofs.Faults.{all_kept}
 use Rattle.dvg_items.proofs.Near.{word_count-some}
 use Rattle.dvg_items.specs.Least.{lit_points, HoldsAll, IsLeast}
-use Rattle.dvg_make.specs.Made.{HasEntry, EachItem, AtEnd, MadeKeeps, MadeEntry}
-use Rattle.dvg_make.specs.Private.Walking.{keyed_context, IsStraight, IsFine, AllFine}
+use Rattle.dvg_make.specs.Made.{HasEntry, EachItem, AtEnd, MadeKeeps, MadeEntry, AllHold}
+use Rattle.dvg_make.specs.Private.Partial.{keyed_context, IsStraight, IsFine, AllFine}
 pub use Rattle.dvg_make.specs.Private.Covering.{known_of}
 use Rattle.dvg_make.proofs.Boxes.{one_least}
 use Rattle.dvg_make.proofs.Matching.{Gathered, gathered, Matched, gathered_same, exact_named}
@@ -94,12 +94,12 @@ same_sums a b items e f addr key m s t =
 
 -- ---- the items end
 
-record Stops (rom : Rom) (addr : ℕ) : Type 0 where
-  items : List Item
-  i : Item
-  leads : LeadsTo Shape (rom_word rom) addr items i.at
-  is : cell_at (rom_word rom) i.at ≡ Holds i.format i.instr
-  last : next_place Shape i ≡ None
+pub record Stops (rom : Rom) (addr : ℕ) : Type 0 where
+  pub items : List Item
+  pub i : Item
+  pub leads : LeadsTo Shape (rom_word rom) addr items i.at
+  pub is : cell_at (rom_word rom) i.at ≡ Holds i.format i.instr
+  pub last : next_place Shape i ≡ None
 
 module _ (rom : Rom) (list : List Entry) (e : Entry) (made : MadeEntry rom list e) where
   pub stands_at : (items : List Item) (p : ℕ) → LeadsTo Shape (rom_word rom) e.addr items p → (format : Format) × (instr : Instr) × (cell_at (rom_word rom) p ≡ Holds format instr)
@@ -134,13 +134,9 @@ module _ (rom : Rom) (list : List Entry) (e : Entry) (made : MadeEntry rom list 
 -- ---- a shape that ends as its entry says
 
 pub record Ends (rom : Rom) (list : List Entry) (e : Entry) : Type 0 where
-  pub items : List Item
-  pub i : Item
-  pub leads : LeadsTo Shape (rom_word rom) e.addr items i.at
-  pub is : cell_at (rom_word rom) i.at ≡ Holds i.format i.instr
-  pub last : next_place Shape i ≡ None
-  pub sums : Sums list (i ∷ items) e
-  pub fine : AllFine (shape_context list e) (i ∷ items)
+  pub stops : Stops rom e.addr
+  pub sums : Sums list (stops.i ∷ stops.items) e
+  pub fine : AllFine (shape_context list e) (stops.i ∷ stops.items)
 
 fine_at : (rom : Rom) (list : List Entry) (e : Entry) → MadeEntry rom list e → (earlier : List Item) (i : Item) → LeadsTo Shape (rom_word rom) e.addr earlier i.at → cell_at (rom_word rom) i.at ≡ Holds i.format i.instr → IsFine (shape_context list e) earlier i
 fine_at rom list e made earlier i lead is =
@@ -154,11 +150,7 @@ pub made_ends : (rom : Rom) (list : List Entry) (e : Entry) → MadeEntry rom li
 made_ends rom list e made =
     let s = stops rom list e made in
     record {
-      items = s.items;
-      i = s.i;
-      leads = s.leads;
-      is = s.is;
-      last = s.last;
+      stops = s;
       sums = sums_of rom list e made s.items s.i s.leads s.is s.last;
       fine = (all_fine rom list e made s.items s.i.at s.leads, fine_at rom list e made s.items s.i s.leads s.is);
     }
@@ -167,8 +159,8 @@ made_ends rom list e made =
 pub made_some : (rom : Rom) (list : List Entry) (e : Entry) → MadeEntry rom list e → 1 ≤ e.words
 made_some rom list e made =
     let h = made_ends rom list e made in
-    let words : words_before (shape_context list e) (h.i ∷ h.items) ≡ e.words = ap (λ (k : Known). k.words) h.sums.known in
-    omega (arith, words, word_count-some h.i.format)
+    let words : words_before (shape_context list e) (h.stops.i ∷ h.stops.items) ≡ e.words = ap (λ (k : Known). k.words) h.sums.known in
+    omega (arith, words, word_count-some h.stops.i.format)
 
 -- ---- and the other way round
 
@@ -231,46 +223,42 @@ module _ (rom : Rom) (list : List Entry) (e : Entry) where
   AtCell P earlier p Odd = Unit {0}
   AtCell P earlier p (Holds format instr) = P earlier (record { at = p; format = format; instr = instr })
 
-  abbrev Each : (List Item → Item → Type 0) → List Item → Type 0
-  Each P [] = Unit {0}
-  Each P (i ∷ earlier) = Each P earlier × P earlier i
-
-  each_before : (P : List Item → Item → Type 0) (items : List Item) (p : ℕ) → LeadsTo Shape (rom_word rom) e.addr items p → Each P items → AllBefore {Why = Unit {0}} (λ earlier p why. AtCell P earlier p (cell_at (rom_word rom) p)) items
+  each_before : (P : List Item → Item → Type 0) (items : List Item) (p : ℕ) → LeadsTo Shape (rom_word rom) e.addr items p → AllHold P items → AllBefore {Why = Unit {0}} (λ earlier p why. AtCell P earlier p (cell_at (rom_word rom) p)) items
   each_before P [] p lead h = tt
   each_before P (i ∷ earlier) p lead h = (each_before P earlier i.at lead.0 h.0, λ why. subst (AtCell P earlier i.at) (sym lead.1) h.1)
 
   module _ (h : Ends rom list e) where
-    each_item : (P : List Item → Item → Type 0) → Each P (h.i ∷ h.items) → EachItem rom e.addr P
+    each_item : (P : List Item → Item → Type 0) → AllHold P (h.stops.i ∷ h.stops.items) → EachItem rom e.addr P
     each_item P all earlier j l k =
-        subst (AtCell P earlier j.at) k (all_kept Shape (rom_word rom) e.addr (Unit {0}) (λ earlier p why. AtCell P earlier p (cell_at (rom_word rom) p)) h.items h.i h.leads h.is h.last (each_before P h.items h.i.at h.leads all.0, λ why. subst (AtCell P h.items h.i.at) (sym h.is) all.1) earlier j.at l tt)
+        subst (AtCell P earlier j.at) k (all_kept Shape (rom_word rom) e.addr (Unit {0}) (λ earlier p why. AtCell P earlier p (cell_at (rom_word rom) p)) h.stops.items h.stops.i h.stops.leads h.stops.is h.stops.last (each_before P h.stops.items h.stops.i.at h.stops.leads all.0, λ why. subst (AtCell P h.stops.items h.stops.i.at) (sym h.stops.is) all.1) earlier j.at l tt)
 
-    fine_each : (items : List Item) → AllFine c items → Each (IsFine c) items
+    fine_each : (items : List Item) → AllFine c items → AllHold (IsFine c) items
     fine_each [] f = tt
     fine_each (i ∷ earlier) f = (fine_each earlier f.0, f.1)
 
-    end_each : (Q : List Item → Type 0) (items : List Item) (p : ℕ) → LeadsTo Shape (rom_word rom) e.addr items p → Each (λ earlier j. next_place Shape j ≡ None → Q (j ∷ earlier)) items
+    end_each : (Q : List Item → Type 0) (items : List Item) (p : ℕ) → LeadsTo Shape (rom_word rom) e.addr items p → AllHold (λ earlier j. next_place Shape j ≡ None → Q (j ∷ earlier)) items
     end_each Q [] p lead = tt
     end_each Q (i ∷ earlier) p lead = (end_each Q earlier i.at lead.0, λ last. let no : Some p ≡ None = sym lead.2 ∙ last in cc no)
 
-    at_end : (Q : List Item → Type 0) → Q (h.i ∷ h.items) → AtEnd rom e.addr Q
-    at_end Q q = each_item (λ earlier j. next_place Shape j ≡ None → Q (j ∷ earlier)) (end_each Q h.items h.i.at h.leads, λ x. q)
+    at_end : (Q : List Item → Type 0) → Q (h.stops.i ∷ h.stops.items) → AtEnd rom e.addr Q
+    at_end Q q = each_item (λ earlier j. next_place Shape j ≡ None → Q (j ∷ earlier)) (end_each Q h.stops.items h.stops.i.at h.stops.leads, λ x. q)
 
     pub ends_made : MadeEntry rom list e
     ends_made =
-        let deep : depth_before c (h.i ∷ h.items) ≡ e.depth = ap (λ (k : Known). k.depth) h.sums.known in
-        let many : words_before c (h.i ∷ h.items) ≡ e.words = ap (λ (k : Known). k.words) h.sums.known in
+        let deep : depth_before c (h.stops.i ∷ h.stops.items) ≡ e.depth = ap (λ (k : Known). k.depth) h.sums.known in
+        let many : words_before c (h.stops.i ∷ h.stops.items) ≡ e.words = ap (λ (k : Known). k.words) h.sums.known in
         record {
-          keeps = all_kept Shape (rom_word rom) e.addr ShapeWhy (MadeKeeps rom list e) h.items h.i h.leads h.is h.last (
-            kept_before h.items h.i.at h.leads h.fine.0 (omega (arith, deep)) (omega (arith, many)) (all_right (InBox e.lit) (relative_corners (extent c h.items h.i.instr) (place_before c h.items)) (lit_points c h.items) h.sums.box.holds),
-            kept_place h.items h.i h.is
+          keeps = all_kept Shape (rom_word rom) e.addr ShapeWhy (MadeKeeps rom list e) h.stops.items h.stops.i h.stops.leads h.stops.is h.stops.last (
+            kept_before h.stops.items h.stops.i.at h.stops.leads h.fine.0 (omega (arith, deep)) (omega (arith, many)) (all_right (InBox e.lit) (relative_corners (extent c h.stops.items h.stops.i.instr) (place_before c h.stops.items)) (lit_points c h.stops.items) h.sums.box.holds),
+            kept_place h.stops.items h.stops.i h.stops.is
                 (record {
                   fine = h.fine.1;
                   deep = omega (arith, deep);
                   many = omega (arith, many);
-                  holds = all_left (InBox e.lit) (relative_corners (extent c h.items h.i.instr) (place_before c h.items)) (lit_points c h.items) h.sums.box.holds;
-                  known = subst (λ o. AtLast o (known_before c (h.i ∷ h.items) ≡ known_of e)) (sym h.last) h.sums.known;
+                  holds = all_left (InBox e.lit) (relative_corners (extent c h.stops.items h.stops.i.instr) (place_before c h.stops.items)) (lit_points c h.stops.items) h.sums.box.holds;
+                  known = subst (λ o. AtLast o (known_before c (h.stops.i ∷ h.stops.items) ≡ known_of e)) (sym h.stops.last) h.sums.known;
                 }),
           );
-          keyed = λ earlier j l g. (each_item (IsFine c) (fine_each (h.i ∷ h.items) h.fine) earlier j l g).keyed;
+          keyed = λ earlier j l g. (each_item (IsFine c) (fine_each (h.stops.i ∷ h.stops.items) h.fine) earlier j l g).keyed;
           box = at_end (λ all. IsLeast (lit_points c all) e.lit) h.sums.box;
         }

@@ -1,13 +1,11 @@
 -- The worked example is made.
-use Rattle.std.proofs.Common.{◌≡◌, ◌≢◌, ◌∙◌, ℕ, zero, suc, List, [], ◌∷◌, ◌⊎◌, Some, None, refl, sym, ap, subst, inl, arith}
+use Rattle.std.proofs.Common.{◌≡◌, ◌∙◌, ℕ, zero, suc, List, [], ◌∷◌, ◌⊎◌, Some, None, refl, sym, ap, subst, inl, arith}
 use Rattle.std.specs.Prelude.{Contains}
 use Rattle.std.proofs.lemmas.Int.{ints}
 use Rattle.dvg_words.specs.Beam.{displacement, screen}
 use Rattle.dvg_words.specs.Decoding.{cell_at}
 use Rattle.dvg_words.specs.Memory.{rom_word}
-use Rattle.dvg_words.specs.Values.{Window}
-use Rattle.dvg_words.specs.declared.instruction.Cell.{Cell}
-use Rattle.dvg_words.specs.declared.instruction.Cell.TheVariants.{Missing, Odd, Holds}
+use Rattle.dvg_words.specs.declared.instruction.Cell.TheVariants.{Holds}
 use Rattle.dvg_cert.specs.declared.entry.Entry.{Entry}
 use Rattle.dvg_cert.specs.declared.entry.Key.{Key}
 use Rattle.dvg_cert.specs.declared.entry.Key.TheVariants.{At}
@@ -18,17 +16,14 @@ use Rattle.dvg_check.specs.Example.{example_entry, example_list}
 use Rattle.dvg_items.specs.Items.{next_place}
 use Rattle.dvg_items.specs.Known.{shape_context, target, scale_before}
 use Rattle.dvg_items.specs.Lit.{IsInside}
-use Rattle.dvg_check.specs.Rules.{AllKeep, CellKeeps, ShapeKeeps}
-use Rattle.dvg_items.specs.Seen.{seen_at}
+use Rattle.dvg_check.specs.Rules.{AllKeep}
 use Rattle.dvg_check.specs.declared.fault.Mode.TheVariants.{Exact}
-use Rattle.dvg_check.specs.declared.fault.ShapeWhy.{ShapeWhy}
-use Rattle.dvg_check.specs.declared.fault.ShapeWhy.TheVariants as shape
 use Rattle.dvg_items.specs.declared.item.Item.{Item}
 use Rattle.dvg_items.specs.declared.item.Kind.TheVariants.{Shape}
-use Rattle.dvg_items.specs.declared.seen.Seen.{Seen}
 use Rattle.dvg_check.proofs.Example.{draw_item, return_item, draw_there, return_there, worked_example as example_good}
 use Rattle.dvg_check.proofs.Faults.{all_kept}
 use Rattle.dvg_make.specs.Laws.{WorkedExampleMade}
+use Rattle.dvg_make.proofs.Windows.{other_window}
 use Rattle.dvg_items.specs.Least.{lit_points, HoldsAll, IsLeast}
 use Rattle.dvg_make.specs.Made.{HasEntry, EachItem, MadeKeeps, MadeEntry, Needs, Made}
 
@@ -55,34 +50,8 @@ module _ (P : List Item → Item → Type 0) where
 
 -- ---- its rules
 
--- but for what is lit at absolute places, the rules do not speak of the window
-any_window : (v w : Window) (e : Entry) (seen : Seen) (why : ShapeWhy) → why ≢ shape.OffScreen → ShapeKeeps Exact v e seen why → ShapeKeeps Exact w e seen why
-any_window v w e seen shape.Unmapped not h = h
-any_window v w e seen shape.Odd not h = h
-any_window v w e seen shape.HaltInShape not h = h
-any_window v w e seen shape.BeamUnknown not h = h
-any_window v w e seen shape.ScaleUnknown not h = h
-any_window v w e seen shape.OffScreen not h = absurd (not refl)
-any_window v w e seen shape.NoEntry not h = h
-any_window v w e seen shape.TooDeep not h = h
-any_window v w e seen shape.TooManyWords not h = h
-any_window v w e seen shape.EndDiffers not h = h
-any_window v w e seen shape.ScaleDiffers not h = h
-any_window v w e seen shape.BoxTooSmall not h = h
-any_window v w e seen shape.WordsDiffer not h = h
-any_window v w e seen shape.DepthDiffers not h = h
-
--- what the example keeps in a window, if a cell stands at a place
-abbrev Kept : List Item → ℕ → ShapeWhy → Window → Cell → Type 0
-Kept earlier p why w cell = CellKeeps shape.Unmapped shape.Odd (λ i. ShapeKeeps Exact w example_entry (seen_at (shape_context example_list example_entry) earlier i)) p cell why
-
-any_cell : (earlier : List Item) (p : ℕ) (why : ShapeWhy) (w : Window) (cell : Cell) → why ≢ shape.OffScreen → Kept earlier p why screen cell → Kept earlier p why w cell
-any_cell earlier p why w Missing not h = h
-any_cell earlier p why w Odd not h = h
-any_cell earlier p why w (Holds format i) not h = any_window screen w example_entry _ why not h
-
 example_keeps : AllKeep Shape (rom_word example_rom) 2048 (MadeKeeps example_rom example_list example_entry)
-example_keeps earlier p lead why w not = any_cell earlier p why w (cell_at (rom_word example_rom) p) not (example_good.exact example_entry (zero, omega arith, refl) earlier p lead why)
+example_keeps earlier p lead why w not = other_window Exact example_rom example_list example_entry screen w earlier p why not (example_good.exact example_entry (zero, omega arith, refl) earlier p lead why)
 
 -- ---- its box
 

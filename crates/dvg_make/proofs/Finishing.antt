@@ -13,7 +13,7 @@ use Rattle.dvg_items.specs.Known.{shape_context, callee_at, scale_before}
 use Rattle.dvg_items.specs.declared.item.Kind.TheVariants.{Shape}
 use Rattle.dvg_make.specs.Made.{HasEntry, Needs, Made}
 use Rattle.dvg_make.specs.Frames.{IsAskedFor, FramesMade}
-use Rattle.dvg_make.specs.Private.Walking.{keyed_context, Extends}
+use Rattle.dvg_make.specs.Private.Partial.{keyed_context, Extends}
 use Rattle.dvg_make.specs.Private.Making.{IsPresent, IsCalled}
 use Rattle.dvg_make.proofs.Onward.{fine_taken}
 use Rattle.dvg_make.specs.Private.Framing.{AllFramed}

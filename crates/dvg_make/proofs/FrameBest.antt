@@ -1,5 +1,5 @@
 -- No certificate does better for a frame than the list that is made for it.
-use Rattle.std.proofs.Common.{◌≡◌, ◌≢◌, ℕ, zero, suc, ◌+◌, ◌<◌, ◌≤◌, List, [], ◌∷◌, Option, Some, None, refl, sym, ap, ◌∙◌, subst, arith, inl, inr, ⊎_elim}
+use Rattle.std.proofs.Common.{◌≡◌, ℕ, zero, suc, ◌+◌, ◌<◌, ◌≤◌, List, [], ◌∷◌, Option, Some, None, refl, sym, ap, ◌∙◌, subst, arith, inl, inr, ⊎_elim}
 use Rattle.std.specs.Prelude.{Contains}
 use Rattle.dvg_words.specs.Decoding.{cell_at, word_count}
 use Rattle.dvg_words.specs.Memory.{Rom, rom_word, frame_word}
@@ -16,59 +16,32 @@ use Rattle.dvg_items.specs.Lit.{LitInWindow}
 use Rattle.dvg_items.specs.Seen.{extent, seen_at, HasCallee}
 use Rattle.dvg_items.specs.declared.item.Item.{Item}
 use Rattle.dvg_items.specs.declared.item.Kind.TheVariants.{Shape, Frame}
-use Rattle.dvg_items.specs.declared.seen.Seen.{Seen}
 use Rattle.dvg_items.proofs.Listed.{listed_at}
-use Rattle.dvg_check.specs.Rules.{ShapeKeeps, FrameKeeps, CellKeeps, FramePlaceKeeps, AllKeep, Good, GoodFrame}
+use Rattle.dvg_check.specs.Rules.{FrameKeeps, CellKeeps, FramePlaceKeeps, AllKeep, Good, GoodFrame}
 use Rattle.dvg_check.specs.declared.fault.Mode.TheVariants.{Bound, Exact}
-use Rattle.dvg_check.specs.declared.fault.ShapeWhy.{ShapeWhy}
-use Rattle.dvg_check.specs.declared.fault.ShapeWhy.TheVariants as shape
 use Rattle.dvg_check.specs.declared.fault.FrameWhy.{FrameWhy}
 use Rattle.dvg_check.specs.declared.fault.FrameWhy.TheVariants as frame
 use Rattle.dvg_check.proofs.Modes.{in_bound}
 use Rattle.dvg_make.specs.Laws.{AllInWindow, NoneBetter}
 use Rattle.dvg_make.specs.Made.{Needs, MadeFor, AllMade}
-use Rattle.dvg_make.specs.Frames.{IsKeyed, AllKeyed, FrameCalls, IsAskedFor}
+use Rattle.dvg_make.specs.Frames.{IsKeyed, AllKeyed, FrameAsksFor, IsAskedFor}
 use Rattle.dvg_make.specs.Private.Covering.{KnowsMore, Covers, HasCover, Upholds}
 use Rattle.dvg_make.proofs.Matching.{exact_named}
 use Rattle.dvg_make.proofs.Ends.{callee_less, has_callee}
 use Rattle.dvg_make.proofs.Onward.{listed_entry}
 use Rattle.dvg_make.proofs.OneList.{target_of}
-use Rattle.dvg_make.proofs.Windows.{in_exact}
+use Rattle.dvg_make.proofs.Windows.{other_window, in_window, in_exact}
 use Rattle.dvg_make.proofs.Knowing.{CalleeRefines, more_after, LightsLess, lights_less}
 use Rattle.dvg_make.proofs.Bettering.{made_ordered, Call, call_of, called, lights, refined, ready_made, tracks}
 
 -- ---- a good list is upheld
 
-other_window : (w v : Window) (e : Entry) (s : Seen) (why : ShapeWhy) → why ≢ shape.OffScreen → ShapeKeeps Bound w e s why → ShapeKeeps Bound v e s why
-other_window w v e s shape.Unmapped not h = h
-other_window w v e s shape.Odd not h = h
-other_window w v e s shape.HaltInShape not h = h
-other_window w v e s shape.BeamUnknown not h = h
-other_window w v e s shape.ScaleUnknown not h = h
-other_window w v e s shape.OffScreen not h = absurd (not refl)
-other_window w v e s shape.NoEntry not h = h
-other_window w v e s shape.TooDeep not h = h
-other_window w v e s shape.TooManyWords not h = h
-other_window w v e s shape.EndDiffers not h = h
-other_window w v e s shape.ScaleDiffers not h = h
-other_window w v e s shape.BoxTooSmall not h = h
-other_window w v e s shape.WordsDiffer not h = h
-other_window w v e s shape.DepthDiffers not h = h
-
 module _ (rom : Rom) (list : List Entry) (w : Window) where
-  abbrev Kept : Window → Entry → List Item → ℕ → Cell → ShapeWhy → Type 0
-  Kept v e earlier p cell why = CellKeeps shape.Unmapped shape.Odd (λ i. ShapeKeeps Bound v e (seen_at (shape_context list e) earlier i)) p cell why
-
-  other_cell : (v : Window) (e : Entry) (earlier : List Item) (p : ℕ) (cell : Cell) (why : ShapeWhy) → why ≢ shape.OffScreen → Kept w e earlier p cell why → Kept v e earlier p cell why
-  other_cell v e earlier p Missing why not h = h
-  other_cell v e earlier p Odd why not h = h
-  other_cell v e earlier p (Holds format i) why not h = other_window w v e (seen_at (shape_context list e) earlier (record { at = p; format = format; instr = i })) why not h
-
   pub upheld : IsCertificate rom.map list → Good Bound w rom list → Upholds rom list
-  upheld cert good e c = (listed_entry rom.map.rom_first rom.map.rom_last list e cert.each c, λ earlier p lead why v not. other_cell v e earlier p (cell_at (rom_word rom) p) why not (good e c earlier p lead why))
+  upheld cert good e c = (listed_entry rom.map.rom_first rom.map.rom_last list e cert.each c, λ earlier p lead why v not. other_window Bound rom list e w v earlier p why not (good e c earlier p lead why))
 
   off_screen : Good Bound w rom list → (e : Entry) → Contains list e → (earlier : List Item) (i : Item) → LeadsTo Shape (rom_word rom) e.addr earlier i.at → cell_at (rom_word rom) i.at ≡ Holds i.format i.instr → LitInWindow w (extent (shape_context list e) earlier i.instr) (place_before (shape_context list e) earlier)
-  off_screen good e c earlier i lead is = subst (λ cell. Kept w e earlier i.at cell shape.OffScreen) is (good e c earlier i.at lead shape.OffScreen)
+  off_screen good = in_window rom list w Bound good
 
 -- ---- a made list whose roots are covered
 
@@ -247,7 +220,7 @@ none_better rom words w mode list made budget count depth accepted m = (
     roots : (addr : ℕ) (key : Key) → IsAskedFor [] (words ∷ []) made addr key → HasCover list addr key
     roots addr key (inl x) = absurd (omega (arith, x.1))
     roots addr key (inr x) =
-        let calls : FrameCalls words made addr key = subst (λ z. FrameCalls z made addr key) (sym (only_frame words x.0 x.1)) x.2 in
+        let calls : FrameAsksFor words made addr key = subst (λ z. FrameAsksFor z made addr key) (sym (only_frame words x.0 x.1)) x.2 in
         subst (λ (k : Key). HasCover list addr k) calls.scale_is (frame_cover rom list up words w budget gf.keeps made all calls.earlier calls.item calls.leads calls.stands (all_keyed rom list up words w budget gf.keeps made all keyed calls.earlier calls.item.at calls.leads) addr calls.target_is)
 
     end : KnowsMore (known_before (frame_context list) gf.items) (known_before (frame_context made) gf.items)

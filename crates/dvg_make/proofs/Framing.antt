@@ -27,13 +27,13 @@ use Rattle.dvg_items.proofs.Leading.{same_lead, shorter, everywhere}
 use Rattle.dvg_items.proofs.Listed.{listed_at}
 use Rattle.dvg_check.proofs.Modes.{in_bound}
 use Rattle.dvg_make.specs.Made.{HasEntry, AllMade, Barred}
-use Rattle.dvg_make.specs.Frames.{IsKeyed, AllKeyed, FrameCalls}
-use Rattle.dvg_make.specs.Refusals.{EntryFault, Unstraight, Deep, TooManyWords, TooManyEntries, Memory, NoneAccepts, BarsEntry, StopsAt}
-use Rattle.dvg_make.specs.Private.Walking.{Extends}
-use Rattle.dvg_make.specs.Private.Making.{IsAim, NoAim, IsDone, Making, Bars, IsCalled, AllCalled, IsPresent, Collected}
+use Rattle.dvg_make.specs.Frames.{IsKeyed, AllKeyed, FrameAsksFor}
+use Rattle.dvg_make.specs.Refusals.{EntryFault, Unstraight, Deep, TooManyWords, TooManyEntries, Memory, NoneAccepts, BarsEntry, CallBarredAt}
+use Rattle.dvg_make.specs.Private.Partial.{Extends}
+use Rattle.dvg_make.specs.Private.Making.{IsAim, NoAim, IsDone, InProgress, Bars, IsCalled, AllCalled, IsPresent, Collected}
 use Rattle.dvg_make.specs.Private.Framing.{HasCalls, IsCalledBy, BarsTarget, IsFramed, NoneHasCalls, LongHasCalls, BarsHere, TellsTarget, KeyedCall, IsGivenHere, TellsHere}
-use Rattle.dvg_make.specs.declared.walk.Walk.{Walk}
-use Rattle.dvg_make.specs.declared.stuck.Stop.{Stop}
+use Rattle.dvg_make.specs.declared.partial.PartialEntry.{PartialEntry}
+use Rattle.dvg_make.specs.declared.obstacle.Obstacle.{Obstacle}
 use Rattle.dvg_make.proofs.Matching.{exact_named}
 use Rattle.dvg_make.proofs.Merging.{extends_more, extends_second, all_merged}
 use Rattle.dvg_make.proofs.Chains.{called_grows}
@@ -98,14 +98,14 @@ module _ (words : List ℕ) (list : List Entry) (has : HasCalls words list) wher
   keyed_all [] p lead = tt
   keyed_all (i ∷ earlier) p lead = (keyed_all earlier i.at lead.0, keyed_at earlier i lead.0 lead.1)
 
-  pub keyed_call : (to : ℕ) (scale : Key) → FrameCalls words list to scale → KeyedCall words list to scale
+  pub keyed_call : (to : ℕ) (scale : Key) → FrameAsksFor words list to scale → KeyedCall words list to scale
   keyed_call to scale c = record { calls = c; keyed = keyed_all c.earlier c.item.at c.leads }
 
-pub calls_grow : (words : List ℕ) (a b : List Entry) → Extends a b → HasCalls words a → (to : ℕ) (scale : Key) → FrameCalls words a to scale → FrameCalls words b to scale
+pub calls_grow : (words : List ℕ) (a b : List Entry) → Extends a b → HasCalls words a → (to : ℕ) (scale : Key) → FrameAsksFor words a to scale → FrameAsksFor words b to scale
 calls_grow words a b ext has to scale c = (call_grows words a b ext to scale (keyed_call words a has to scale c)).calls
 
 -- and the other way round
-pub calls_shrink : (words : List ℕ) (a b : List Entry) → Extends a b → HasCalls words a → (to : ℕ) (scale : Key) → FrameCalls words b to scale → FrameCalls words a to scale
+pub calls_shrink : (words : List ℕ) (a b : List Entry) → Extends a b → HasCalls words a → (to : ℕ) (scale : Key) → FrameAsksFor words b to scale → FrameAsksFor words a to scale
 calls_shrink words a b ext has to scale c =
     record { earlier = c.earlier; item = c.item; leads = c.leads; stands = c.stands; target_is = c.target_is; scale_is = scale_same a b ext c.earlier (keyed_all words a has c.earlier c.item.at c.leads) ∙ c.scale_is }
 
@@ -182,7 +182,7 @@ in_either [] b x c = inr c
 in_either (y ∷ a) b x (zero, lt, is) = inl (zero, omega arith, is)
 in_either (y ∷ a) b x (suc k, lt, is) = ⊎_elim (λ c. inl (suc c.0, omega (arith, c.1), c.2)) (λ c. inr c) (in_either a b x (k, omega (arith, lt), is))
 
-pub collected_more : (rom : Rom) (asked : List (ℕ × Key)) (old new : List Entry) (addr : ℕ) (key : Key) → Collected rom asked old → Making rom old (addr, key) new [] → HasEntry new addr key → Collected rom (asked ++ (addr, key) ∷ []) new
+pub collected_more : (rom : Rom) (asked : List (ℕ × Key)) (old new : List Entry) (addr : ℕ) (key : Key) → Collected rom asked old → InProgress rom old (addr, key) new [] → HasEntry new addr key → Collected rom (asked ++ (addr, key) ∷ []) new
 collected_more rom asked old new addr key h m has =
     record {
       is_done = m.is_done;
@@ -208,7 +208,7 @@ collected_more rom asked old new addr key h m has =
 -- ---- what is needed
 
 -- what the entries from before were made for, and what is asked for now, or what an entry or a shape in the making calls
-pub called_told : (rom : Rom) (from list : List Entry) (root : ℕ × Key) (chain : List Walk) (P : ℕ → Key → Type 0) → Extends from list → AllCalled rom from root list chain → ((a : ℕ) (k : Key) → HasEntry from a k → P a k ⊎ IsCalled rom from [] a k) → P root.0 root.1 → (a : ℕ) (k : Key) → HasEntry list a k → P a k ⊎ IsCalled rom list chain a k
+pub called_told : (rom : Rom) (from list : List Entry) (root : ℕ × Key) (chain : List PartialEntry) (P : ℕ → Key → Type 0) → Extends from list → AllCalled rom from root list chain → ((a : ℕ) (k : Key) → HasEntry from a k → P a k ⊎ IsCalled rom from [] a k) → P root.0 root.1 → (a : ℕ) (k : Key) → HasEntry list a k → P a k ⊎ IsCalled rom list chain a k
 called_told rom from list root chain P ext all was asked a k has =
     ⊎_elim
     (λ given. ⊎_elim (λ f. ⊎_elim (λ p. inl p) (λ c. inr (called_grows rom from list [] chain ext there a k c)) (was a k f)) (λ s. inl (subst (λ (z : Key). P a z) s.1 (subst (λ z. P z root.1) s.0 asked))) given)
@@ -265,7 +265,7 @@ module _ (rom : Rom) (words : List ℕ) (old done : List Entry) (at : ℕ) (scal
           keyed = keyed_grows done list ext w.items w.keyed;
         }
 
-    pub call_made : (new : List Entry) → Making rom done (to, scale) new [] → HasEntry new to scale → FrameWalk rom words old new at scale
+    pub call_made : (new : List Entry) → InProgress rom done (to, scale) new [] → HasEntry new to scale → FrameWalk rom words old new at scale
     call_made new m has =
         record {
           is_done = m.is_done;
@@ -284,16 +284,14 @@ module _ (rom : Rom) (words : List ℕ) (old done : List Entry) (at : ℕ) (scal
 
     -- ---- the entry is not made
 
-    stops : (why : EntryFault) → BarsEntry rom to scale why → StopsAt rom words at why
+    stops : (why : EntryFault) → BarsEntry rom to scale why → CallBarredAt rom words at why
     stops why b =
         record {
           list = done;
           made = done_made rom done w.is_done;
           to = to;
           scale = scale;
-          calls = record { earlier = w.items; item = item; leads = w.leads; stands = is; target_is = t; scale_is = sym w.scale_is };
-          at_is = refl;
-          before = w.keyed;
+          call = record { calls = record { earlier = w.items; item = item; leads = w.leads; stands = is; target_is = t; scale_is = sym w.scale_is }; at_is = refl; before = w.keyed };
           barred = b;
         }
 
@@ -328,23 +326,23 @@ module _ (rom : Rom) (words : List ℕ) (old done : List Entry) (at : ℕ) (scal
 
   -- its entry is made, if it calls one
   record Called (new : List Entry) (callee : Option Entry) : Type 0 where
-    walk : FrameWalk rom words old new at scale
-    its : IsKeyed new walk.items item
-    callee_is : callee ≡ callee_at new (target Frame instr) (scale_before (frame_context new) walk.items)
+    partial : FrameWalk rom words old new at scale
+    its : IsKeyed new partial.items item
+    callee_is : callee ≡ callee_at new (target Frame instr) (scale_before (frame_context new) partial.items)
     claim : IfSome callee IsClaim
 
   called_none : target Frame instr ≡ None → Called done None
-  called_none t = record { walk = w; its = λ to q. let no : None ≡ Some to = sym t ∙ q in cc no; callee_is = sym (ap (λ o. callee_at done o (scale_before (frame_context done) w.items)) t); claim = tt }
+  called_none t = record { partial = w; its = λ to q. let no : None ≡ Some to = sym t ∙ q in cc no; callee_is = sym (ap (λ o. callee_at done o (scale_before (frame_context done) w.items)) t); claim = tt }
 
-  called_some : (last : rom.map.rom_last < ADDRESS_END) (to : ℕ) → target Frame instr ≡ Some to → (new : List Entry) (f : Entry) → Making rom done (to, scale) new [] → entry_at new to scale ≡ Some f → Called new (Some f)
+  called_some : (last : rom.map.rom_last < ADDRESS_END) (to : ℕ) → target Frame instr ≡ Some to → (new : List Entry) (f : Entry) → InProgress rom done (to, scale) new [] → entry_at new to scale ≡ Some f → Called new (Some f)
   called_some last to t new f m found_f =
-      let walk = call_made to t new m (f, found_f) in
-      let there : entry_at new to (scale_before (frame_context new) walk.items) ≡ Some f = subst (λ (k : Key). entry_at new to k ≡ Some f) walk.scale_is found_f in
+      let partial = call_made to t new m (f, found_f) in
+      let there : entry_at new to (scale_before (frame_context new) partial.items) ≡ Some f = subst (λ (k : Key). entry_at new to k ≡ Some f) partial.scale_is found_f in
       let entry = m.is_done.entries f (listed_at new to scale f found_f).listed in
       record {
-        walk = walk;
-        its = λ other q. (f, ap (λ o. entry_at new o (scale_before (frame_context new) walk.items)) (some_same other to (sym q ∙ t)) ∙ there);
-        callee_is = sym (ap (λ o. callee_at new o (scale_before (frame_context new) walk.items)) t ∙ exact_named new to (scale_before (frame_context new) walk.items) f there);
+        partial = partial;
+        its = λ other q. (f, ap (λ o. entry_at new o (scale_before (frame_context new) partial.items)) (some_same other to (sym q ∙ t)) ∙ there);
+        callee_is = sym (ap (λ o. callee_at new o (scale_before (frame_context new) partial.items)) t ∙ exact_named new to (scale_before (frame_context new) partial.items) f there);
         claim = record { key = entry.key; stop = entry.stop; lit = entry.lit; depth = entry.depth; words = entry.words_high; scale = entry.scale; addr = omega (arith, entry.addr_high, last) };
       }
     where
@@ -365,35 +363,35 @@ module _ (rom : Rom) (words : List ℕ) (old done : List Entry) (at : ℕ) (scal
     pub goes_on : (past : Key) → past ≡ unwrap_or (scale_set instr callee) scale → IsKey past → at < ADDRESS_END → InstrFits instr → (next : ℕ) → next_place Frame item ≡ Some next → FrameWalk rom words old new next past
     goes_on past past_is key near fits next goes =
         let h = called last new callee c in
-        let list_scale : scale ≡ scale_before (frame_context new) h.walk.items = h.walk.scale_is in
+        let list_scale : scale ≡ scale_before (frame_context new) h.partial.items = h.partial.scale_is in
         record {
-          is_done = h.walk.is_done;
-          grows = h.walk.grows;
-          items = item ∷ h.walk.items;
-          leads = (h.walk.leads, is, goes);
-          keyed = (h.walk.keyed, h.its);
-          scale_is = past_is ∙ ap (λ o. unwrap_or (scale_set instr o) scale) h.callee_is ∙ ap (λ (k : Key). unwrap_or (scale_set instr (callee_at new (target Frame instr) (scale_before (frame_context new) h.walk.items))) k) list_scale;
+          is_done = h.partial.is_done;
+          grows = h.partial.grows;
+          items = item ∷ h.partial.items;
+          leads = (h.partial.leads, is, goes);
+          keyed = (h.partial.keyed, h.its);
+          scale_is = past_is ∙ ap (λ o. unwrap_or (scale_set instr o) scale) h.callee_is ∙ ap (λ (k : Key). unwrap_or (scale_set instr (callee_at new (target Frame instr) (scale_before (frame_context new) h.partial.items))) k) list_scale;
           is_key = key;
           near = next_near Frame at format instr next near fits goes;
-          calls = h.walk.calls;
-          calls_are = h.walk.calls_are;
-          collected = h.walk.collected;
-          forced = h.walk.forced;
+          calls = h.partial.calls;
+          calls_are = h.partial.calls_are;
+          collected = h.partial.collected;
+          forced = h.partial.forced;
         }
 
     pub at_last : next_place Frame item ≡ None → IsFramed rom words old new
     at_last ends =
         let h = called last new callee c in
         record {
-          has_calls = ends_last words new h.walk.items item h.walk.leads is ends (h.walk.keyed, h.its);
-          calls = h.walk.calls;
-          calls_are = λ to key x. (h.walk.calls_are to key x).calls;
-          collected = h.walk.collected;
-          forced = h.walk.forced;
+          has_calls = ends_last words new h.partial.items item h.partial.leads is ends (h.partial.keyed, h.its);
+          calls = h.partial.calls;
+          calls_are = λ to key x. (h.partial.calls_are to key x).calls;
+          collected = h.partial.collected;
+          forced = h.partial.forced;
         }
 
     pub all_grow : Extends old new
-    all_grow = (called last new callee c).walk.grows
+    all_grow = (called last new callee c).partial.grows
 
 pub at_nothing : (rom : Rom) (words : List ℕ) (old done : List Entry) (at : ℕ) (scale : Key) → FrameWalk rom words old done at scale → ((format : Format) (instr : Instr) → cell_at (frame_word words) at ≡ Holds format instr → ⊥) → IsFramed rom words old done
 at_nothing rom words old done at scale w not =
@@ -409,9 +407,9 @@ pub target_barred : (rom : Rom) (words : List ℕ) (old done : List Entry) (at :
 target_barred rom words old done at scale w format instr is why b = call_barred rom words old done at scale w format instr is b.0 b.1 why b.2
 
 -- what is told of it
-pub target_told : (rom : Rom) (words : List ℕ) (old done : List Entry) (at : ℕ) (scale : Key) → FrameWalk rom words old done at scale → (format : Format) (instr : Instr) → cell_at (frame_word words) at ≡ Holds format instr → (chain : List Walk) (stop : Stop) → TellsTarget rom done instr scale chain stop → TellsHere rom words old at chain stop
+pub target_told : (rom : Rom) (words : List ℕ) (old done : List Entry) (at : ℕ) (scale : Key) → FrameWalk rom words old done at scale → (format : Format) (instr : Instr) → cell_at (frame_word words) at ≡ Holds format instr → (chain : List PartialEntry) (obstacle : Obstacle) → TellsTarget rom done instr scale chain obstacle → TellsHere rom words old at chain obstacle
 unfolding called_by
-target_told rom words old done at scale w format instr is chain stop b =
+target_told rom words old done at scale w format instr is chain obstacle b =
     let call = called_by rom words old done at scale w format instr is b.0 b.1 b.2.list b.2.extends in
     record {
       list = b.2.list;
@@ -419,9 +417,7 @@ target_told rom words old done at scale w format instr is chain stop b =
       made = done_made rom b.2.list b.2.is_done;
       to = b.0;
       scale = scale;
-      calls = call.calls;
-      at_is = refl;
-      before = call.keyed;
+      call = record { calls = call.calls; at_is = refl; before = call.keyed };
       extends = λ a k e q. b.2.extends a k e (w.grows a k e q);
       needed = λ asked h. called_told rom done b.2.list (b.0, scale) chain (IsGivenHere words asked b.2.list) b.2.extends b.2.needed (given asked h) (inr call);
       room = b.2.room;

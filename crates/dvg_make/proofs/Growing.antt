@@ -10,11 +10,11 @@ use Rattle.dvg_items.specs.declared.item.Item.{Item}
 use Rattle.dvg_items.specs.declared.item.Kind.TheVariants.{Shape}
 use Rattle.dvg_cert.specs.declared.entry.LitBox.{LitBox}
 use Rattle.dvg_items.specs.declared.known.Known.{Known}
-use Rattle.dvg_make.specs.declared.walk.Walk.{Walk}
+use Rattle.dvg_make.specs.declared.partial.PartialEntry.{PartialEntry}
 use Rattle.dvg_items.specs.Least.{IsLeast}
 use Rattle.dvg_make.specs.Made.{MadeEntry}
 use Rattle.dvg_make.specs.Accounts.{AllTaken}
-use Rattle.dvg_make.specs.Private.Walking.{keyed_context, IsStraight, IsAsked, AllFine, KnowsAt, IsWalk, Extends}
+use Rattle.dvg_make.specs.Private.Partial.{keyed_context, IsStraight, IsAsked, AllFine, KnowsAt, IsPartial, Extends}
 use Rattle.dvg_make.proofs.Matching.{Gathered, Matched, gathered_same, seen_matched}
 use Rattle.dvg_make.proofs.Ends.{made_ends, ends_made, same_sums, sums_of}
 use Rattle.dvg_make.proofs.Onward.{same_if, matched_fine, fine_taken}
@@ -53,27 +53,23 @@ module _ (a b : List Entry) (key : Key) (ext : Extends a b) where
         fine = fine_grows items k.fine;
       }
 
-pub walk_grows : (rom : Rom) (a b : List Entry) (w : Walk) → Extends a b → IsWalk rom a w → IsWalk rom b w
+pub walk_grows : (rom : Rom) (a b : List Entry) (w : PartialEntry) → Extends a b → IsPartial rom a w → IsPartial rom b w
 walk_grows rom a b w ext h =
     record { items = h.items; leads = h.leads; knows = knows_grows a b w.key ext h.items w.cursor.known w.lit h.knows; sound = h.sound; shallow = h.shallow; few = h.few; keyed = h.keyed }
 
 pub made_grows : (rom : Rom) (a b : List Entry) (e : Entry) → Extends a b → MadeEntry rom a e → MadeEntry rom b e
 made_grows rom a b e ext made =
     let h = made_ends rom a e made in
-    let t = gathered_same a b e.key (h.i ∷ h.items) (matched_fine a b e.key ext (h.i ∷ h.items) h.fine) in
+    let t = gathered_same a b e.key (h.stops.i ∷ h.stops.items) (matched_fine a b e.key ext (h.stops.i ∷ h.stops.items) h.fine) in
     ends_made rom b e
     (record {
-      items = h.items;
-      i = h.i;
-      leads = h.leads;
-      is = h.is;
-      last = h.last;
+      stops = h.stops;
       sums = record { known = sym (ap (λ (x : Gathered). x.known) t) ∙ h.sums.known; box = subst (λ l. IsLeast l e.lit) (ap (λ (x : Gathered). x.lit) t) h.sums.box };
-      fine = fine_grows a b e.key ext (h.i ∷ h.items) h.fine;
+      fine = fine_grows a b e.key ext (h.stops.i ∷ h.stops.items) h.fine;
     })
 
 -- two made entries of a shape
 pub same_made : (rom : Rom) (a b : List Entry) (e f : Entry) → Extends a b → MadeEntry rom a e → MadeEntry rom b f → e.addr ≡ f.addr → e.key ≡ f.key → e ≡ f
 same_made rom a b e f ext made other addr key =
     let h = made_ends rom a e made in
-    same_sums a b (h.i ∷ h.items) e f addr key (matched_fine a b e.key ext (h.i ∷ h.items) h.fine) h.sums (sums_of rom b f other h.items h.i (subst (λ x. LeadsTo Shape (rom_word rom) x h.items h.i.at) addr h.leads) h.is h.last)
+    same_sums a b (h.stops.i ∷ h.stops.items) e f addr key (matched_fine a b e.key ext (h.stops.i ∷ h.stops.items) h.fine) h.sums (sums_of rom b f other h.stops.items h.stops.i (subst (λ x. LeadsTo Shape (rom_word rom) x h.stops.items h.stops.i.at) addr h.stops.leads) h.stops.is h.stops.last)

@@ -34,11 +34,11 @@ use Rattle.dvg_items.proofs.Listed.{listed_at}
 use Rattle.dvg_check.specs.Private.Judging.{seen_by}
 use Rattle.dvg_check.specs.Private.Tails.{known_at_end, known_over, place_over, moved}
 use Rattle.dvg_check.proofs.TailLaws.{seen_over, seen_by_over, over_none}
-use Rattle.dvg_make.specs.declared.walk.Walk.{Walk}
+use Rattle.dvg_make.specs.declared.partial.PartialEntry.{PartialEntry}
 use Rattle.dvg_items.specs.Least.{lit_points, HoldsAll, IsLeast}
 use Rattle.dvg_make.specs.Made.{HasEntry, MadeEntry}
 use Rattle.dvg_make.specs.Private.Making.{IsDone}
-use Rattle.dvg_make.specs.Private.Walking.{keyed_context, entry_of, IsStraight, IsFine, AllFine, IsWalk, Passes, Extends, IsTail, AreTails, EndsBy, EndsByOne, IsFinished}
+use Rattle.dvg_make.specs.Private.Partial.{keyed_context, entry_of, IsStraight, IsFine, AllFine, IsPartial, Passes, Extends, IsTail, AreTails, EndsBy, EndsByOne, IsFinished}
 use Rattle.dvg_make.proofs.Ends.{made_ends, ends_made}
 use Rattle.dvg_make.proofs.Onward.{Walking}
 use Rattle.dvg_make.proofs.Growing.{made_grows}
@@ -206,27 +206,27 @@ ordered_box : (lit : LitBox) → IsBox lit → IsOrdered lit
 ordered_box Empty h = tt
 ordered_box (Span a b c d) h = (h.0.2, h.1.2)
 
-pub joined : (rom : Rom) (list : List Entry) → IsDone rom list → (w : Walk) → IsWalk rom list w → (t : Entry) → IsTail rom list t → t.addr ≡ w.cursor.at → t.key ≡ w.cursor.known.scale → (e : Entry) → EndsBy w t e → IsFinished rom list w e
+pub joined : (rom : Rom) (list : List Entry) → IsDone rom list → (w : PartialEntry) → IsPartial rom list w → (t : Entry) → IsTail rom list t → t.addr ≡ w.cursor.at → t.key ≡ w.cursor.known.scale → (e : Entry) → EndsBy w t e → IsFinished rom list w e
 joined rom list done w h t tail at key e ends =
     let m = made_ends rom list t tail.made in
     let is = h.knows.known_is in
     let scale : scale_before (keyed_context list w.key) h.items ≡ t.key = sym (key ∙ ap (λ (k : Known). k.scale) is) in
     let place : PlaceKnown (box_extent t.lit) (place_before (keyed_context list w.key) h.items) = subst (λ (k : Known). PlaceKnown (box_extent t.lit) k.place) is ends.place in
-    let all : List Item = m.i ∷ m.items ++ h.items in
-    let leads = leads_through rom list w.key h.items t scale w.addr m.i.at m.items (subst (LeadsTo Shape (rom_word rom) w.addr h.items) (sym at) h.leads) m.leads in
-    let fine = fine_through rom list w.key h.items t scale place (m.i ∷ m.items) h.knows.fine m.fine m.sums.box.holds in
+    let all : List Item = m.stops.i ∷ m.stops.items ++ h.items in
+    let leads = leads_through rom list w.key h.items t scale w.addr m.stops.i.at m.stops.items (subst (LeadsTo Shape (rom_word rom) w.addr h.items) (sym at) h.leads) m.stops.leads in
+    let fine = fine_through rom list w.key h.items t scale place (m.stops.i ∷ m.stops.items) h.knows.fine m.fine m.sums.box.holds in
     let grown : IsLeast (relative_corners (box_extent t.lit) (place_before (keyed_context list w.key) h.items) ++ lit_points (keyed_context list w.key) h.items) ends.lit = subst (λ (k : Known). IsLeast (relative_corners (box_extent t.lit) k.place ++ lit_points (keyed_context list w.key) h.items) ends.lit) is (ends.grows (lit_points (keyed_context list w.key) h.items) h.knows.least) in
-    let least = least_through rom list w.key h.items t scale ends.lit (m.i ∷ m.items) (ordered_box t.lit tail.entry.lit) m.sums.box grown in
-    let knows : ends.known ≡ known_before (keyed_context list w.key) all = ends.known_is ∙ ap (λ (k : Known). known_over k (known_at_end t)) is ∙ ap (known_over (known_before (keyed_context list w.key) h.items)) (sym m.sums.known) ∙ sym (knows_on rom list w.key h.items t scale (m.i ∷ m.items)) in
+    let least = least_through rom list w.key h.items t scale ends.lit (m.stops.i ∷ m.stops.items) (ordered_box t.lit tail.entry.lit) m.sums.box grown in
+    let knows : ends.known ≡ known_before (keyed_context list w.key) all = ends.known_is ∙ ap (λ (k : Known). known_over k (known_at_end t)) is ∙ ap (known_over (known_before (keyed_context list w.key) h.items)) (sym m.sums.known) ∙ sym (knows_on rom list w.key h.items t scale (m.stops.i ∷ m.stops.items)) in
     let depth : ends.known.depth ≤ MOST_DEPTH = omega (arith, ap (λ (k : Known). k.depth) ends.known_is, h.shallow, tail.entry.depth) in
     let scale_is : IsKey ends.known.scale = subst (λ (k : Known). IsKey k.scale) (sym ends.known_is) tail.entry.scale in
     let entry : IsEntry rom.map.rom_first rom.map.rom_last (entry_of w.addr w.key (known_before (keyed_context list w.key) all) ends.lit) =
-    made_is_entry rom list done.made w.addr w.key (m.items ++ h.items) m.i ends.lit leads m.is fine least
+    made_is_entry rom list done.made w.addr w.key (m.stops.items ++ h.items) m.stops.i ends.lit leads m.stops.is fine least
     (subst (λ (k : Known). k.words ≤ MOST_WORDS) knows ends.words) (subst (λ (k : Known). k.depth ≤ MOST_DEPTH) knows depth) h.keyed (subst (λ (k : Known). IsKey k.scale) knows scale_is) in
     let value : entry_of w.addr w.key (known_before (keyed_context list w.key) all) ends.lit ≡ e = sym (ends.entry_is ∙ ap (λ (k : Known). entry_of w.addr w.key k ends.lit) knows) in
     let its_made : MadeEntry rom list (entry_of w.addr w.key (known_before (keyed_context list w.key) all) ends.lit) =
     ends_made rom list (entry_of w.addr w.key (known_before (keyed_context list w.key) all) ends.lit)
-    (record { items = m.items ++ h.items; i = m.i; leads = leads; is = m.is; last = m.last; sums = record { known = refl; box = least }; fine = fine }) in
+    (record { stops = record { items = m.stops.items ++ h.items; i = m.stops.i; leads = leads; is = m.stops.is; last = m.stops.last }; sums = record { known = refl; box = least }; fine = fine }) in
     record {
       addr = ap (λ (x : Entry). x.addr) (sym value);
       key = ap (λ (x : Entry). x.key) (sym value);
@@ -235,13 +235,13 @@ joined rom list done w h t tail at key e ends =
     }
 
 -- by one of the tails that are kept
-pub joined_one : (rom : Rom) (list tails : List Entry) → IsDone rom list → AreTails rom list tails → (w : Walk) → IsWalk rom list w → (e : Entry) → EndsByOne w tails e → IsFinished rom list w e
+pub joined_one : (rom : Rom) (list tails : List Entry) → IsDone rom list → AreTails rom list tails → (w : PartialEntry) → IsPartial rom list w → (e : Entry) → EndsByOne w tails e → IsFinished rom list w e
 joined_one rom list tails done are w h e ends =
     let l = listed_at tails w.cursor.at w.cursor.known.scale ends.tail ends.there in
     joined rom list done w h ends.tail (are ends.tail l.listed) l.addr_is l.key_is e ends.ends
 
--- what is finished from where a walk came to is finished from where it began
-pub finished_from : (rom : Rom) (list : List Entry) (from w : Walk) → Walking rom list from w → (e : Entry) → IsFinished rom list w e → IsFinished rom list from e
+-- what is finished from where a partial entry came to is finished from where it began
+pub finished_from : (rom : Rom) (list : List Entry) (from w : PartialEntry) → Walking rom list from w → (e : Entry) → IsFinished rom list w e → IsFinished rom list from e
 finished_from rom list from w h e f = record { addr = f.addr ∙ h.addr; key = f.key ∙ h.key; entry = f.entry; made = f.made }
 
 pub tail_claim : (rom : Rom) (list tails : List Entry) → rom.map.rom_last < ADDRESS_END → AreTails rom list tails → (t : Entry) → Contains tails t → IsClaim t
@@ -250,7 +250,7 @@ tail_claim rom list tails last are t c =
     record { key = is.key; stop = is.stop; lit = is.lit; depth = is.depth; words = is.words_high; scale = is.scale; addr = omega (arith, is.addr_high, last) }
 
 -- past a tail jump the same is known as past the tail, but for the word of the jump
-pub ends_by : (w : Walk) (t : Entry) (to : ℕ) (lit : LitBox) (last : Known) (words : ℕ) (e : Entry) → Passes (seen_with (Some t) w.cursor.known (record { at = w.cursor.at; format = Short; instr = Jmpl to })) w.lit lit → Last last ≡ step_past Shape (seen_with (Some t) w.cursor.known (record { at = w.cursor.at; format = Short; instr = Jmpl to })) → words ≡ last.words - 1 → e ≡ entry_of w.addr w.key (record last { words = words }) lit → EndsBy w t e
+pub ends_by : (w : PartialEntry) (t : Entry) (to : ℕ) (lit : LitBox) (last : Known) (words : ℕ) (e : Entry) → Passes (seen_with (Some t) w.cursor.known (record { at = w.cursor.at; format = Short; instr = Jmpl to })) w.lit lit → Last last ≡ step_past Shape (seen_with (Some t) w.cursor.known (record { at = w.cursor.at; format = Short; instr = Jmpl to })) → words ≡ last.words - 1 → e ≡ entry_of w.addr w.key (record last { words = words }) lit → EndsBy w t e
 ends_by w t to lit last words e p goes less is =
     let after : last ≡ (seen_with (Some t) w.cursor.known (record { at = w.cursor.at; format = Short; instr = Jmpl to })).after = cc goes in
     let count : words ≡ t.words + w.cursor.known.words = omega (arith, less, ap (λ (k : Known). k.words) after) in
@@ -264,7 +264,7 @@ ends_by w t to lit last words e p goes less is =
       words = omega (arith, count, p.asked.many);
     }
 
-pub ends_by_one : (w : Walk) (tails : List Entry) (t : Entry) (o : Option Entry) → entry_at tails w.cursor.at w.cursor.known.scale ≡ Some t → IfSome o (EndsBy w t) → IfSome o (EndsByOne w tails)
+pub ends_by_one : (w : PartialEntry) (tails : List Entry) (t : Entry) (o : Option Entry) → entry_at tails w.cursor.at w.cursor.known.scale ≡ Some t → IfSome o (EndsBy w t) → IfSome o (EndsByOne w tails)
 ends_by_one w tails t None there h = tt
 ends_by_one w tails t (Some e) there h = record { tail = t; there = there; ends = h }
 

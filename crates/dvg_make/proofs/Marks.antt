@@ -1,4 +1,4 @@
--- The walks that begin at marks, and the tails that come of them.
+-- The partial entries that begin at marks, and the tails that come of them.
 use Rattle.std.proofs.Common.{◌≡◌, ◌<◌, ℕ, List, [], ◌∷◌, ◌++◌, Option, Some, None, sym, subst, arith}
 use Rattle.std.specs.Prelude.{Contains, IfSome}
 use Rattle.dvg_words.specs.Memory.{Rom}
@@ -9,9 +9,9 @@ use Rattle.dvg_cert.specs.declared.entry.Entry.{Entry}
 use Rattle.dvg_cert.specs.declared.entry.Key.{Key}
 use Rattle.dvg_items.specs.Bounds.{IsClaim}
 use Rattle.dvg_items.proofs.Listed.{listed_at}
-use Rattle.dvg_make.specs.declared.walk.Walk.{Walk}
-use Rattle.dvg_make.specs.Private.Making.{IsDone, AllWalks}
-use Rattle.dvg_make.specs.Private.Walking.{start, IsFinished, IsTail, AreTails}
+use Rattle.dvg_make.specs.declared.partial.PartialEntry.{PartialEntry}
+use Rattle.dvg_make.specs.Private.Making.{IsDone, ArePartial}
+use Rattle.dvg_make.specs.Private.Partial.{start, IsFinished, IsTail, AreTails}
 use Rattle.dvg_make.proofs.Chains.{walks_push}
 use Rattle.dvg_make.proofs.Joining.{tails_more}
 use Rattle.dvg_make.proofs.Turns.{start_walk}
@@ -28,13 +28,13 @@ claim_if_some rom done last h (Some e) c =
     let is = h.entries e c in
     record { key = is.key; stop = is.stop; lit = is.lit; depth = is.depth; words = is.words_high; scale = is.scale; addr = omega (arith, is.addr_high, last) }
 
--- a walk that begins at a mark
-pub mark_pushed : (rom : Rom) (done : List Entry) (marks new : List Walk) (at : ℕ) (scale : Key) → AllWalks rom done marks → at < ADDRESS_END → IsKey scale → new ≡ marks ++ start at scale ∷ [] → AllWalks rom done new
+-- a partial entry that begins at a mark
+pub mark_pushed : (rom : Rom) (done : List Entry) (marks new : List PartialEntry) (at : ℕ) (scale : Key) → ArePartial rom done marks → at < ADDRESS_END → IsKey scale → new ≡ marks ++ start at scale ∷ [] → ArePartial rom done new
 mark_pushed rom done marks new at scale h near is e =
-    subst (AllWalks rom done) (sym e) (walks_push rom done marks (start at scale) h (start_walk rom done at scale near is))
+    subst (ArePartial rom done) (sym e) (walks_push rom done marks (start at scale) h (start_walk rom done at scale near is))
 
 -- what is finished is a tail
-pub tail_kept : (rom : Rom) (done tails new : List Entry) (w : Walk) (e : Entry) → AreTails rom done tails → IsFinished rom done w e → new ≡ tails ++ e ∷ [] → AreTails rom done new
+pub tail_kept : (rom : Rom) (done tails new : List Entry) (w : PartialEntry) (e : Entry) → AreTails rom done tails → IsFinished rom done w e → new ≡ tails ++ e ∷ [] → AreTails rom done new
 tail_kept rom done tails new w e h f is =
     let t : IsTail rom done e = record { entry = f.entry; made = f.made } in
     subst (AreTails rom done) (sym is) (tails_more rom done tails e h t)

@@ -16,7 +16,7 @@ use Rattle.dvg_items.specs.declared.item.Item.{Item}
 use Rattle.dvg_items.specs.declared.item.Kind.TheVariants.{Shape}
 use Rattle.dvg_items.specs.declared.known.Known.{Known}
 use Rattle.dvg_items.specs.Least.{lit_points}
-use Rattle.dvg_make.specs.Private.Walking.{keyed_context}
+use Rattle.dvg_make.specs.Private.Partial.{keyed_context}
 
 -- ---- what is known after items, in one record
 

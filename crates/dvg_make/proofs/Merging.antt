@@ -6,7 +6,7 @@ use Rattle.dvg_words.specs.Memory.{Rom}
 use Rattle.dvg_cert.specs.Lookup.{entry_at}
 use Rattle.dvg_cert.specs.declared.entry.Entry.{Entry}
 use Rattle.dvg_cert.specs.declared.entry.Key.{Key}
-use Rattle.dvg_make.specs.Private.Walking.{Extends}
+use Rattle.dvg_make.specs.Private.Partial.{Extends}
 use Rattle.dvg_make.specs.Made.{IsMade, AllMade}
 use Rattle.dvg_make.proofs.Matching.{entry_at-append}
 use Rattle.dvg_make.proofs.Agreeing.{agree}

@@ -29,13 +29,13 @@ use Rattle.dvg_items.specs.declared.cursor.Step.{Step}
 use Rattle.dvg_items.specs.declared.cursor.Step.TheVariants.{Onward, Last}
 use Rattle.dvg_items.specs.Cursor.{step_past}
 use Rattle.dvg_items.specs.Lit.{relative_corners}
-use Rattle.dvg_make.specs.declared.walk.Walk.{Walk}
+use Rattle.dvg_make.specs.declared.partial.PartialEntry.{PartialEntry}
 use Rattle.dvg_items.specs.Least.{lit_points, IsLeast}
 use Rattle.dvg_make.specs.Made.{HasEntry, IsMade, AllMade}
-use Rattle.dvg_make.specs.declared.stuck.Stop.{Stop}
-use Rattle.dvg_make.specs.Accounts.{Link, EntryCause, AllTaken, Reaches, SaysOf, SaysAt, CauseAt}
+use Rattle.dvg_make.specs.declared.obstacle.Obstacle.{Obstacle}
+use Rattle.dvg_make.specs.Accounts.{ShapeAt, EntryCause, AllTaken, Reaches, SaysOf, SaysAt, CauseAt}
 use Rattle.dvg_make.specs.declared.account.EntryCause.TheVariants as cause
-use Rattle.dvg_make.specs.Private.Walking.{keyed_context, entry_of, link_of, IsStraight, IsAsked, Passes, AllFine, KnowsAt, IsWalk, Extends, NeverAt, IsCallee, LacksCallee, IsFinished, IsWaiting, IsStopped, IsAbsent}
+use Rattle.dvg_make.specs.Private.Partial.{keyed_context, entry_of, shape_of, IsStraight, IsAsked, Passes, AllFine, KnowsAt, IsPartial, Extends, NeverAt, IsCallee, LacksCallee, IsFinished, IsWaiting, IsStopped, IsAbsent}
 use Rattle.dvg_items.proofs.Listed.{listed_at}
 use Rattle.dvg_make.proofs.Matching.{SameAt, Matched, exact_named, seen_matched}
 use Rattle.dvg_make.proofs.Ends.{Allows, allows_at, stands_at, ends_made}
@@ -67,7 +67,7 @@ matched_fine a b key ext [] h = tt
 matched_fine a b key ext (i ∷ items) h = (matched_fine a b key ext items h.0, same_if a b _ ext (target Shape i.instr) h.1.keyed)
 
 -- the made entry of the shape
-record Its (rom : Rom) (made : List Entry) (w : Walk) : Type 0 where
+record Its (rom : Rom) (made : List Entry) (w : PartialEntry) : Type 0 where
   f : Entry
   addr : f.addr ≡ w.addr
   key : f.key ≡ w.key
@@ -76,19 +76,19 @@ record Its (rom : Rom) (made : List Entry) (w : Walk) : Type 0 where
 pub listed_entry : (first last : ℕ) (list : List Entry) (e : Entry) → AllByRecursion (IsEntry first last) list → Contains list e → IsEntry first last e
 listed_entry first last list e all c = at_place (IsEntry first last) list e all c
 
-its : (rom : Rom) (made : List Entry) (w : Walk) → AllMade rom made → HasEntry made w.addr w.key → Its rom made w
+its : (rom : Rom) (made : List Entry) (w : PartialEntry) → AllMade rom made → HasEntry made w.addr w.key → Its rom made w
 its rom made w all h =
     let l = listed_at made w.addr w.key h.0 h.1 in
     record { f = h.0; addr = l.addr_is; key = l.key_is; is = all h.0 l.listed }
 
-module _ (rom : Rom) (list : List Entry) (w : Walk) where
+module _ (rom : Rom) (list : List Entry) (w : PartialEntry) where
   abbrev c : Context
   c = keyed_context list w.key
 
   lead_of : (made : List Entry) (t : Its rom made w) (items : List Item) (p : ℕ) → LeadsTo Shape (rom_word rom) w.addr items p → LeadsTo Shape (rom_word rom) t.f.addr items p
   lead_of made t items p l = subst (λ a. LeadsTo Shape (rom_word rom) a items p) (sym t.addr) l
 
-  -- nothing stands where the walk stands
+  -- nothing stands where the shape in the making stands
   none_there : (items : List Item) → LeadsTo Shape (rom_word rom) w.addr items w.cursor.at → ((format : Format) (i : Instr) → cell_at (rom_word rom) w.cursor.at ≡ Holds format i → ⊥) → NeverAt rom list w.addr w.key
   none_there items lead not made all ext has =
       let t = its rom made w all has in
@@ -122,7 +122,7 @@ not_as_asked scale v cause.TooManyEntries says a = says
 not_as_asked scale v cause.Memory says a = says
 
 -- what a cause says of the item at a place
-said_at : (rom : Rom) (list : List Entry) (chain : List Link) (at : ℕ) (before : Known) (i : Item) (o : Option Entry) (why : EntryCause) → i.at ≡ at → cell_at (rom_word rom) i.at ≡ Holds i.format i.instr → IsCallee list i.instr before.scale o → SaysOf before.scale (seen_with o before i) why → CauseAt rom list chain at before why
+said_at : (rom : Rom) (list : List Entry) (chain : List ShapeAt) (at : ℕ) (before : Known) (i : Item) (o : Option Entry) (why : EntryCause) → i.at ≡ at → cell_at (rom_word rom) i.at ≡ Holds i.format i.instr → IsCallee list i.instr before.scale o → SaysOf before.scale (seen_with o before i) why → CauseAt rom list chain at before why
 said_at rom list chain at before i o why here is nm says = by_cause why (subst (λ x. SaysOf before.scale (seen_with x before i) why) nm.value says)
   where
     seen_so : (why : EntryCause) → SaysOf before.scale (seen_with (callee_at list (target Shape i.instr) before.scale) before i) why → SaysAt rom list at before why
@@ -142,7 +142,7 @@ said_at rom list chain at before i o why here is nm says = by_cause why (subst (
     by_cause cause.Memory says = tt
 
 -- nothing stands there
-absent_at : (rom : Rom) (list : List Entry) (chain : List Link) (at : ℕ) (before : Known) (why : EntryCause) → IsAbsent rom at why → CauseAt rom list chain at before why
+absent_at : (rom : Rom) (list : List Entry) (chain : List ShapeAt) (at : ℕ) (before : Known) (why : EntryCause) → IsAbsent rom at why → CauseAt rom list chain at before why
 absent_at rom list chain at before cause.Missing h = h
 absent_at rom list chain at before cause.Odd h = h
 absent_at rom list chain at before cause.Halt h = absurd h
@@ -167,8 +167,8 @@ all_taken list key [] fine deep many = tt
 all_taken list key (i ∷ earlier) fine deep many =
     (all_taken list key earlier fine.0 (omega (arith, deep)) (omega (arith, many)), record { asked = record { straight = fine.1.straight; deep = omega (arith, deep); many = many }; keyed = fine.1.keyed })
 
--- where a walk stands
-pub reached : (rom : Rom) (list : List Entry) (w : Walk) → IsWalk rom list w → Reaches rom list (link_of w) w.cursor.at w.cursor.known
+-- where a shape in the making stands
+pub reached : (rom : Rom) (list : List Entry) (w : PartialEntry) → IsPartial rom list w → Reaches rom list (shape_of w) w.cursor.at w.cursor.known
 reached rom list w h =
     let is = h.knows.known_is in
     let depth = subst (λ (k : Known). k.depth ≤ MOST_DEPTH) is h.shallow in
@@ -177,11 +177,11 @@ reached rom list w h =
 
 -- ---- the walk
 
--- the walk so far
-pub record Walking (rom : Rom) (list : List Entry) (from w : Walk) : Type 0 where
+-- the shape so far
+pub record Walking (rom : Rom) (list : List Entry) (from w : PartialEntry) : Type 0 where
   pub addr : w.addr ≡ from.addr
   pub key : w.key ≡ from.key
-  pub walk : IsWalk rom list w
+  pub partial : IsPartial rom list w
 
 record IsCalled (c : Context) (items : List Item) (i : Item) (o : Option Entry) : Type 0 where
   is : o ≡ callee c items i.instr
@@ -199,26 +199,26 @@ fits_target (Jsrl t) to f e = let q : t ≡ to = cc in omega (arith, q, f)
 fits_target Rtsl to f e = cc
 fits_target (Jmpl t) to f e = let q : t ≡ to = cc in omega (arith, q, f)
 
-module _ (rom : Rom) (list : List Entry) (from w : Walk) (h : Walking rom list from w) where
+module _ (rom : Rom) (list : List Entry) (from w : PartialEntry) (h : Walking rom list from w) where
   as_from : NeverAt rom list w.addr w.key → NeverAt rom list from.addr from.key
   as_from n = subst (NeverAt rom list from.addr) h.key (subst (λ a. NeverAt rom list a w.key) h.addr n)
 
-  link_from : link_of w ≡ link_of from
+  link_from : shape_of w ≡ shape_of from
   link_from = (λ j. record { addr = h.addr j; key = h.key j })
 
-  stops_here : (stop : Stop) → stop.cursor ≡ w.cursor → NeverAt rom list from.addr from.key → CauseAt rom list [] w.cursor.at w.cursor.known stop.cause → IsStopped rom list from stop
-  stops_here stop here never why =
+  stops_here : (obstacle : Obstacle) → obstacle.cursor ≡ w.cursor → NeverAt rom list from.addr from.key → CauseAt rom list [] w.cursor.at w.cursor.known obstacle.cause → IsStopped rom list from obstacle
+  stops_here obstacle here never why =
       record {
         never = never;
-        reaches = subst (λ c. Reaches rom list (link_of from) c.at c.known) (sym here) (subst (λ l. Reaches rom list l w.cursor.at w.cursor.known) link_from (reached rom list w h.walk));
-        cause = subst (λ c. CauseAt rom list [] c.at c.known stop.cause) (sym here) why;
+        reaches = subst (λ c. Reaches rom list (shape_of from) c.at c.known) (sym here) (subst (λ l. Reaches rom list l w.cursor.at w.cursor.known) link_from (reached rom list w h.partial));
+        cause = subst (λ c. CauseAt rom list [] c.at c.known obstacle.cause) (sym here) why;
       }
 
   pub nothing_there : ((format : Format) (i : Instr) → cell_at (rom_word rom) w.cursor.at ≡ Holds format i → ⊥) → NeverAt rom list from.addr from.key
-  nothing_there not = as_from (none_there rom list w h.walk.items h.walk.leads not)
+  nothing_there not = as_from (none_there rom list w h.partial.items h.partial.leads not)
 
-  pub stops_absent : (stop : Stop) → stop.cursor ≡ w.cursor → ((format : Format) (i : Instr) → cell_at (rom_word rom) w.cursor.at ≡ Holds format i → ⊥) → IsAbsent rom w.cursor.at stop.cause → IsStopped rom list from stop
-  stops_absent stop here not why = stops_here stop here (nothing_there not) (absent_at rom list [] w.cursor.at w.cursor.known stop.cause why)
+  pub stops_absent : (obstacle : Obstacle) → obstacle.cursor ≡ w.cursor → ((format : Format) (i : Instr) → cell_at (rom_word rom) w.cursor.at ≡ Holds format i → ⊥) → IsAbsent rom w.cursor.at obstacle.cause → IsStopped rom list from obstacle
+  stops_absent obstacle here not why = stops_here obstacle here (nothing_there not) (absent_at rom list [] w.cursor.at w.cursor.known obstacle.cause why)
 
   module _ (format : Format) (instr : Instr) (is : cell_at (rom_word rom) w.cursor.at ≡ Holds format instr) where
     abbrev i : Item
@@ -226,25 +226,25 @@ module _ (rom : Rom) (list : List Entry) (from w : Walk) (h : Walking rom list f
 
     pub waits : (addr : ℕ) → InstrFits instr → LacksCallee list instr w.cursor.known.scale addr → IsWaiting rom list from w addr
     waits addr fits m =
-        record { same_addr = h.addr; same_key = h.key; walk = h.walk; item = i; at = refl; stands = is; target_is = m.target_is; none = m.none; near = fits_target instr addr fits m.target_is; scale = h.walk.sound.scale }
+        record { same_addr = h.addr; same_key = h.key; partial = h.partial; item = i; at = refl; stands = is; target_is = m.target_is; none = m.none; near = fits_target instr addr fits m.target_is; scale = h.partial.sound.scale }
 
     module _ (o : Option Entry) (nm : IsCallee list instr w.cursor.known.scale o) where
-      known : IsCalled (keyed_context list w.key) h.walk.items i o
-      known = called_now list w.key h.walk.items i w.cursor.known.scale o (ap (λ (k : Known). k.scale) h.walk.knows.known_is) nm
+      known : IsCalled (keyed_context list w.key) h.partial.items i o
+      known = called_now list w.key h.partial.items i w.cursor.known.scale o (ap (λ (k : Known). k.scale) h.partial.knows.known_is) nm
 
       not_asked : (IsAsked (seen_with o w.cursor.known i) → ⊥) → NeverAt rom list from.addr from.key
-      not_asked not = as_from (none_asked rom list w h.walk.items i o h.walk.leads is h.walk.knows known.is known.keyed not)
+      not_asked not = as_from (none_asked rom list w h.partial.items i o h.partial.leads is h.partial.knows known.is known.keyed not)
 
-      pub stops_said : (stop : Stop) → stop.cursor ≡ w.cursor → SaysOf w.cursor.known.scale (seen_with o w.cursor.known i) stop.cause → IsStopped rom list from stop
-      stops_said stop here says = stops_here stop here (not_asked (not_as_asked w.cursor.known.scale (seen_with o w.cursor.known i) stop.cause says)) (said_at rom list [] w.cursor.at w.cursor.known i o stop.cause refl is nm says)
+      pub stops_said : (obstacle : Obstacle) → obstacle.cursor ≡ w.cursor → SaysOf w.cursor.known.scale (seen_with o w.cursor.known i) obstacle.cause → IsStopped rom list from obstacle
+      stops_said obstacle here says = stops_here obstacle here (not_asked (not_as_asked w.cursor.known.scale (seen_with o w.cursor.known i) obstacle.cause says)) (said_at rom list [] w.cursor.at w.cursor.known i o obstacle.cause refl is nm says)
 
       -- what the rules see of the instruction here
       abbrev seen : Seen
       seen = seen_with o w.cursor.known i
 
       module _ (lit : LitBox) (s : Passes seen w.lit lit) where
-        knows_next : KnowsAt (keyed_context list w.key) (i ∷ h.walk.items) seen.after lit
-        knows_next = knows_more (keyed_context list w.key) h.walk.items i o w.cursor.known w.lit lit known.is known.keyed h.walk.knows s
+        knows_next : KnowsAt (keyed_context list w.key) (i ∷ h.partial.items) seen.after lit
+        knows_next = knows_more (keyed_context list w.key) h.partial.items i o w.cursor.known w.lit lit known.is known.keyed h.partial.knows s
 
         pub onward : (step : Step) (next : Cursor) → step ≡ Onward next → step ≡ step_past Shape seen → IsSoundStep step → Walking rom list from (record { addr = w.addr; key = w.key; cursor = next; lit = lit })
         onward step next step_is goes sound =
@@ -252,14 +252,14 @@ module _ (rom : Rom) (list : List Entry) (from w : Walk) (h : Walking rom list f
             record {
               addr = h.addr;
               key = h.key;
-              walk = record {
-                items = i ∷ h.walk.items;
-                leads = (h.walk.leads, is, on.0);
-                knows = subst (λ (k : Known). KnowsAt (keyed_context list w.key) (i ∷ h.walk.items) k lit) (sym on.1) knows_next;
+              partial = record {
+                items = i ∷ h.partial.items;
+                leads = (h.partial.leads, is, on.0);
+                knows = subst (λ (k : Known). KnowsAt (keyed_context list w.key) (i ∷ h.partial.items) k lit) (sym on.1) knows_next;
                 sound = subst IsSoundStep step_is sound;
-                shallow = omega (arith, ap (λ (k : Known). k.depth) on.1, s.asked.deep, h.walk.shallow);
+                shallow = omega (arith, ap (λ (k : Known). k.depth) on.1, s.asked.deep, h.partial.shallow);
                 few = omega (arith, ap (λ (k : Known). k.words) on.1, s.asked.many);
-                keyed = h.walk.keyed;
+                keyed = h.partial.keyed;
               };
             }
 
@@ -267,8 +267,8 @@ module _ (rom : Rom) (list : List Entry) (from w : Walk) (h : Walking rom list f
           pub end : (next_place Shape i ≡ None) × (last ≡ seen.after)
           end = ends_at Shape seen step last step_is goes
 
-          pub knows_last : KnowsAt (keyed_context list w.key) (i ∷ h.walk.items) last lit
-          knows_last = subst (λ (k : Known). KnowsAt (keyed_context list w.key) (i ∷ h.walk.items) k lit) (sym end.1) knows_next
+          pub knows_last : KnowsAt (keyed_context list w.key) (i ∷ h.partial.items) last lit
+          knows_last = subst (λ (k : Known). KnowsAt (keyed_context list w.key) (i ∷ h.partial.items) k lit) (sym end.1) knows_next
 
           -- the entry of the shape
           pub finished : IsEntry rom.map.rom_first rom.map.rom_last (entry_of w.addr w.key last lit) → IsFinished rom list from (entry_of w.addr w.key last lit)
@@ -277,7 +277,7 @@ module _ (rom : Rom) (list : List Entry) (from w : Walk) (h : Walking rom list f
                 addr = h.addr;
                 key = h.key;
                 entry = entry;
-                made = ends_made rom list (entry_of w.addr w.key last lit) (record { items = h.walk.items; i = i; leads = h.walk.leads; is = is; last = end.0; sums = record { known = sym knows_last.known_is; box = knows_last.least }; fine = knows_last.fine });
+                made = ends_made rom list (entry_of w.addr w.key last lit) (record { stops = record { items = h.partial.items; i = i; leads = h.partial.leads; is = is; last = end.0 }; sums = record { known = sym knows_last.known_is; box = knows_last.least }; fine = knows_last.fine });
               }
 
 -- a called entry is within the limits

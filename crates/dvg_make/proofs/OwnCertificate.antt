@@ -21,8 +21,8 @@ use Rattle.dvg_check.specs.declared.verdict.Refusal.{Refusal}
 use Rattle.dvg_check.specs.declared.verdict.Refusal.TheVariants as refusal
 use Rattle.dvg_check.proofs.Faults.{no_fault, no_shape_fault, one_count}
 use Rattle.dvg_make.specs.Frames.{FrameMade}
-use Rattle.dvg_make.specs.Refusals.{EntryFault, Unstraight, Deep, TooManyWords, TooManyEntries, Memory, FrameCall, FramesFault, FramesRefuse, BarsList, BarsFrame, StopsAt}
-use Rattle.dvg_make.specs.Judging.{FrameVerdict, AreLeast, CheckMeans, FrameRefused, FrameRefusal, Make, NoMemory, Check, IsRefusalBy}
+use Rattle.dvg_make.specs.Refusals.{EntryFault, Unstraight, Deep, TooManyWords, TooManyEntries, Memory, FrameCall, FramesFault, FramesRefuse, BarsList, BarsFrame, CallBarredAt}
+use Rattle.dvg_make.specs.Judging.{VerdictByMade, AreLeast, CheckMeans, FrameRefused, FrameRefusal, Make, NoMemory, Check, IsRefusalBy}
 use Rattle.dvg_make.proofs.FrameBest.{none_better}
 
 -- ---- budgets
@@ -89,16 +89,16 @@ only_frame words other zero e = cc e
 only_frame words other (suc i) e = cc e
 
 record Here (rom : Rom) (words : List ℕ) (at : ℕ) (why : EntryFault) : Type 0 where
-  stops : StopsAt rom words at why
+  stops : CallBarredAt rom words at why
   bars : BarsFrame rom words why
 
 here : (rom : Rom) (words : List ℕ) (fault : FramesFault) (at : ℕ) (why : EntryFault) → FramesRefuse rom [] (words ∷ []) fault → IsRefusalBy fault (Make at why) → Here rom words at why
 here rom words fault at why h e =
     let call : FrameCall = e.2.0 in
-    let f = subst (λ (o : Option FrameCall). IfSome o (λ call. (other : List ℕ) × (slice_get (words ∷ []) call.frame ≡ Some other) × StopsAt rom other call.at fault.why × BarsFrame rom other fault.why)) e.2.1 h.frame in
+    let f = subst (λ (o : Option FrameCall). IfSome o (λ call. (other : List ℕ) × (slice_get (words ∷ []) call.frame ≡ Some other) × CallBarredAt rom other call.at fault.why × BarsFrame rom other fault.why)) e.2.1 h.frame in
     let same = sym (only_frame words f.0 call.frame f.1) in
     record {
-      stops = subst (λ x. StopsAt rom words at x) e.0 (subst (λ n. StopsAt rom words n fault.why) e.2.2 (subst (λ x. StopsAt rom x call.at fault.why) same f.2));
+      stops = subst (λ x. CallBarredAt rom words at x) e.0 (subst (λ n. CallBarredAt rom words n fault.why) e.2.2 (subst (λ x. CallBarredAt rom x call.at fault.why) same f.2));
       bars = subst (λ x. BarsFrame rom words x) e.0 (subst (λ x. BarsFrame rom x fault.why) same f.3);
     }
 
@@ -115,7 +115,7 @@ made_refused rom words w budget fault (Make at why) h e =
 made_refused rom words w budget fault NoMemory h e = tt
 made_refused rom words w budget fault (Check r) h e = absurd e
 
-pub made_verdict : (rom : Rom) (words : List ℕ) (w : Window) (budget : ℕ) (fault : FramesFault) (r : FrameRefusal) → FramesRefuse rom [] (words ∷ []) fault → IsRefusalBy fault r → FrameVerdict rom words w budget (Err r)
+pub made_verdict : (rom : Rom) (words : List ℕ) (w : Window) (budget : ℕ) (fault : FramesFault) (r : FrameRefusal) → FramesRefuse rom [] (words ∷ []) fault → IsRefusalBy fault r → VerdictByMade rom words w budget (Err r)
 made_verdict rom words w budget fault (Make at why) h e = (here rom words fault at why h e).stops
 made_verdict rom words w budget fault NoMemory h e = tt
 made_verdict rom words w budget fault (Check r) h e = absurd e

@@ -44,7 +44,7 @@ use Rattle.dvg_items.proofs.Lists.{all_append, all_map}
 use Rattle.dvg_items.proofs.Near.{word_count-some}
 use Rattle.dvg_items.specs.Least.{lit_points, IsLeast}
 use Rattle.dvg_make.specs.Made.{HasEntry, MadeEntry}
-use Rattle.dvg_make.specs.Private.Walking.{keyed_context, entry_of, AllFine}
+use Rattle.dvg_make.specs.Private.Partial.{keyed_context, entry_of, AllFine}
 use Rattle.dvg_make.proofs.Matching.{exact_named}
 use Rattle.dvg_make.proofs.Ends.{callee_less, made_ends}
 
@@ -350,11 +350,11 @@ small_up_to rom list all zero e made lt = absurd (omega (arith, lt))
 small_up_to rom list all (suc n) e made lt =
     let h = made_ends rom list e made in
     let calls : SmallCalls rom list e.addr e.key = λ earlier j l k to g t f. small_up_to rom list all n g (all g (listed_at list to _ g f).listed) (let less : g.words < e.words = callee_less rom list e made earlier j l k to g t f in omega (arith, lt, less)) in
-    let small = all_small rom list e.addr e.key calls h.items h.i h.leads h.is h.fine in
-    let place : IsSmallPlace e.words e.stop = subst (λ (k : Known). IsSmallPlace k.words k.place) h.sums.known (place_small list e.key (h.i ∷ h.items) small) in
-    let many : words_before (shape_context list e) (h.i ∷ h.items) ≡ e.words = ap (λ (k : Known). k.words) h.sums.known in
-    let points = subst (λ n. AllByRecursion (IsSmall n) (lit_points (shape_context list e) (h.i ∷ h.items))) many (points_small list e.key (h.i ∷ h.items) small) in
-    record { stop = place; lit = (least_good e.words (lit_points (shape_context list e) (h.i ∷ h.items)) e.lit points h.sums.box).small }
+    let small = all_small rom list e.addr e.key calls h.stops.items h.stops.i h.stops.leads h.stops.is h.fine in
+    let place : IsSmallPlace e.words e.stop = subst (λ (k : Known). IsSmallPlace k.words k.place) h.sums.known (place_small list e.key (h.stops.i ∷ h.stops.items) small) in
+    let many : words_before (shape_context list e) (h.stops.i ∷ h.stops.items) ≡ e.words = ap (λ (k : Known). k.words) h.sums.known in
+    let points = subst (λ n. AllByRecursion (IsSmall n) (lit_points (shape_context list e) (h.stops.i ∷ h.stops.items))) many (points_small list e.key (h.stops.i ∷ h.stops.items) small) in
+    record { stop = place; lit = (least_good e.words (lit_points (shape_context list e) (h.stops.i ∷ h.stops.items)) e.lit points h.sums.box).small }
 
 made_small : (rom : Rom) (list : List Entry) → ((e : Entry) → Contains list e → MadeEntry rom list e) → (e : Entry) → Contains list e → IsSmallEntry e
 made_small rom list all e c = small_up_to rom list all (e.words + 1) e (all e c) (omega arith)

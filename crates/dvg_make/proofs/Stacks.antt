@@ -10,26 +10,26 @@ use Rattle.dvg_cert.specs.declared.entry.Entry.{Entry}
 use Rattle.dvg_cert.specs.declared.entry.Key.{Key}
 use Rattle.dvg_cert.proofs.OnlyEntries.{at_means, at_holds}
 use Rattle.dvg_cert.proofs.Pairs.{pair_eq, pair_test}
-use Rattle.dvg_make.specs.declared.walk.Walk.{Walk}
-use Rattle.dvg_make.specs.Private.Walking.{entry_of}
-use Rattle.dvg_make.specs.Private.Stacked.{IsOwnWalk, AreOwn}
+use Rattle.dvg_make.specs.declared.partial.PartialEntry.{PartialEntry}
+use Rattle.dvg_make.specs.Private.Partial.{entry_of}
+use Rattle.dvg_make.specs.Private.Stacked.{IsOwnPartial, AreOwn}
 use Rattle.dvg_make.specs.Private.Making.{IsMaking}
 
 abbrev Pairs : Type 0
-Pairs = List ((ℕ × Key) × Walk)
+Pairs = List ((ℕ × Key) × PartialEntry)
 
 module _ (addr : ℕ) (key : Key) where
   abbrev test : ℕ × Key → Bool
   test = pair_eq (addr, key)
 
   -- an entry of the shape's address and key
-  abbrev as_entry : Walk → Entry
+  abbrev as_entry : PartialEntry → Entry
   as_entry w = entry_of w.addr w.key w.cursor.known w.lit
 
-  own_means : (p : (ℕ × Key) × Walk) → IsOwnWalk p → test p.0 ≡ true → (p.1.addr ≡ addr) × (p.1.key ≡ key)
+  own_means : (p : (ℕ × Key) × PartialEntry) → IsOwnPartial p → test p.0 ≡ true → (p.1.addr ≡ addr) × (p.1.key ≡ key)
   own_means p own t = at_means addr key (as_entry p.1) (sym (pair_test addr key (as_entry p.1)) ∙ ap test (sym own) ∙ t)
 
-  own_holds : (p : (ℕ × Key) × Walk) → IsOwnWalk p → p.1.addr ≡ addr → p.1.key ≡ key → test p.0 ≡ true
+  own_holds : (p : (ℕ × Key) × PartialEntry) → IsOwnPartial p → p.1.addr ≡ addr → p.1.key ≡ key → test p.0 ≡ true
   own_holds p own a k = ap test own ∙ pair_test addr key (as_entry p.1) ∙ at_holds addr key (as_entry p.1) a k
 
   by_answer : {P : Type 0} (b : Bool) → (b ≡ true → P) → (b ≡ false → P) → P
@@ -37,46 +37,46 @@ module _ (addr : ℕ) (key : Key) where
   by_answer false p q = q refl
 
   -- what is found has the address and the key
-  pub found_own : (ps : Pairs) → AreOwn ps → (w : Walk) → lookup test ps ≡ Some w → (w.addr ≡ addr) × (w.key ≡ key)
+  pub found_own : (ps : Pairs) → AreOwn ps → (w : PartialEntry) → lookup test ps ≡ Some w → (w.addr ≡ addr) × (w.key ≡ key)
   found_own [] own w e = cc e
   found_own (p ∷ ps) own w e =
       by_answer (test p.0)
-      (λ t. let is : p.1 ≡ w = some_same (sym (ap (λ b. cond b (Some p.1) (lookup test ps)) t) ∙ e) in subst (λ (x : Walk). (x.addr ≡ addr) × (x.key ≡ key)) is (own_means p (All-head IsOwnWalk p ps own) t))
-      (λ f. found_own ps (All-tail IsOwnWalk p ps own) w (sym (ap (λ b. cond b (Some p.1) (lookup test ps)) f) ∙ e))
+      (λ t. let is : p.1 ≡ w = some_same (sym (ap (λ b. cond b (Some p.1) (lookup test ps)) t) ∙ e) in subst (λ (x : PartialEntry). (x.addr ≡ addr) × (x.key ≡ key)) is (own_means p (All-head IsOwnPartial p ps own) t))
+      (λ f. found_own ps (All-tail IsOwnPartial p ps own) w (sym (ap (λ b. cond b (Some p.1) (lookup test ps)) f) ∙ e))
     where
-      some_same : {x y : Walk} → Some x ≡ Some y → x ≡ y
+      some_same : {x y : PartialEntry} → Some x ≡ Some y → x ≡ y
       some_same q = cc q
 
   -- what is in the making is found
   pub making_found : (ps : Pairs) → AreOwn ps → IsMaking (values_of ps) addr key → is_some (lookup test ps) ≡ true
   making_found [] own m = absurd m
-  making_found (p ∷ ps) own (inl same) = ap (λ b. is_some (cond b (Some p.1) (lookup test ps))) (own_holds p (All-head IsOwnWalk p ps own) same.0 same.1)
+  making_found (p ∷ ps) own (inl same) = ap (λ b. is_some (cond b (Some p.1) (lookup test ps))) (own_holds p (All-head IsOwnPartial p ps own) same.0 same.1)
   making_found (p ∷ ps) own (inr later) =
       by_answer (test p.0)
       (λ t. ap (λ b. is_some (cond b (Some p.1) (lookup test ps))) t)
-      (λ f. ap (λ b. is_some (cond b (Some p.1) (lookup test ps))) f ∙ making_found ps (All-tail IsOwnWalk p ps own) later)
+      (λ f. ap (λ b. is_some (cond b (Some p.1) (lookup test ps))) f ∙ making_found ps (All-tail IsOwnPartial p ps own) later)
 
   -- and the other way round
-  pub found_making : (ps : Pairs) → AreOwn ps → (w : Walk) → lookup test ps ≡ Some w → IsMaking (values_of ps) addr key
+  pub found_making : (ps : Pairs) → AreOwn ps → (w : PartialEntry) → lookup test ps ≡ Some w → IsMaking (values_of ps) addr key
   found_making [] own w e = cc e
   found_making (p ∷ ps) own w e =
       by_answer (test p.0)
-      (λ t. inl (own_means p (All-head IsOwnWalk p ps own) t))
-      (λ f. inr (found_making ps (All-tail IsOwnWalk p ps own) w (sym (ap (λ b. cond b (Some p.1) (lookup test ps)) f) ∙ e)))
+      (λ t. inl (own_means p (All-head IsOwnPartial p ps own) t))
+      (λ f. inr (found_making ps (All-tail IsOwnPartial p ps own) w (sym (ap (λ b. cond b (Some p.1) (lookup test ps)) f) ∙ e)))
 
   pub none_found : (ps : Pairs) → AreOwn ps → (IsMaking (values_of ps) addr key → ⊥) → lookup test ps ≡ None
   none_found ps own not = by_found (lookup test ps) refl
     where
-      by_found : (o : Option Walk) → lookup test ps ≡ o → lookup test ps ≡ None
+      by_found : (o : Option PartialEntry) → lookup test ps ≡ o → lookup test ps ≡ None
       by_found None e = e
       by_found (Some w) e = absurd (not (found_making ps own w e))
 
   -- where the shape is among them, by its index
-  pub at_index : (ps : Pairs) → AreOwn ps → (o : Option ℕ) → is_some o ≡ is_some (lookup test ps) → IfSome o (λ i. slice_get (values_of ps) i ≡ lookup test ps) → IfSome o (λ i. (w : Walk) × (slice_get (values_of ps) i ≡ Some w) × (w.addr ≡ addr) × (w.key ≡ key))
+  pub at_index : (ps : Pairs) → AreOwn ps → (o : Option ℕ) → is_some o ≡ is_some (lookup test ps) → IfSome o (λ i. slice_get (values_of ps) i ≡ lookup test ps) → IfSome o (λ i. (w : PartialEntry) × (slice_get (values_of ps) i ≡ Some w) × (w.addr ≡ addr) × (w.key ≡ key))
   at_index ps own None s v = tt
   at_index ps own (Some i) s v = by_found (lookup test ps) refl
     where
-      by_found : (o : Option Walk) → lookup test ps ≡ o → (w : Walk) × (slice_get (values_of ps) i ≡ Some w) × (w.addr ≡ addr) × (w.key ≡ key)
+      by_found : (o : Option PartialEntry) → lookup test ps ≡ o → (w : PartialEntry) × (slice_get (values_of ps) i ≡ Some w) × (w.addr ≡ addr) × (w.key ≡ key)
       by_found None e = let no : true ≡ false = s ∙ ap is_some e in cc no
       by_found (Some w) e = let own_w = found_own ps own w e in (w, v ∙ e, own_w.0, own_w.1)
 
@@ -88,23 +88,23 @@ module _ (addr : ℕ) (key : Key) where
 
 pub values_push : (ps qs : Pairs) → values_of (ps ++ qs) ≡ values_of ps ++ values_of qs
 values_push [] qs = refl
-values_push (p ∷ ps) qs = ap (λ (l : List Walk). p.1 ∷ l) (values_push ps qs)
+values_push (p ∷ ps) qs = ap (λ (l : List PartialEntry). p.1 ∷ l) (values_push ps qs)
 
-pub own_push : (ps : Pairs) (w : Walk) → AreOwn ps → AreOwn (ps ++ ((w.addr, w.key), w) ∷ [])
-own_push ps w own = All-push IsOwnWalk ps ((w.addr, w.key), w) own refl
+pub own_push : (ps : Pairs) (w : PartialEntry) → AreOwn ps → AreOwn (ps ++ ((w.addr, w.key), w) ∷ [])
+own_push ps w own = All-push IsOwnPartial ps ((w.addr, w.key), w) own refl
 
-not_nil : {P : Type 0} (x : Walk) (xs ys : List Walk) → [] ≡ xs ++ x ∷ ys → P
+not_nil : {P : Type 0} (x : PartialEntry) (xs ys : List PartialEntry) → [] ≡ xs ++ x ∷ ys → P
 not_nil x [] ys e = cc e
 not_nil x (z ∷ xs) ys e = cc e
 
-tail_same : {x y : Walk} {xs ys : List Walk} → x ∷ xs ≡ y ∷ ys → xs ≡ ys
+tail_same : {x y : PartialEntry} {xs ys : List PartialEntry} → x ∷ xs ≡ y ∷ ys → xs ≡ ys
 tail_same e = cc e
 
-head_same : {x y : Walk} {xs ys : List Walk} → x ∷ xs ≡ y ∷ ys → x ≡ y
+head_same : {x y : PartialEntry} {xs ys : List PartialEntry} → x ∷ xs ≡ y ∷ ys → x ≡ y
 head_same e = cc e
 
 -- the value of the last pair is another
-pub set_last : (ps : Pairs) (n : ℕ) (rest : List Walk) (old w : Walk) → n + 1 ≡ length ps → values_of ps ≡ rest ++ old ∷ [] → values_of (set_value_at ps n w) ≡ rest ++ w ∷ []
+pub set_last : (ps : Pairs) (n : ℕ) (rest : List PartialEntry) (old w : PartialEntry) → n + 1 ≡ length ps → values_of ps ≡ rest ++ old ∷ [] → values_of (set_value_at ps n w) ≡ rest ++ w ∷ []
 set_last [] n rest old w long e = not_nil old rest [] e
 set_last (p ∷ []) zero [] old w long e = refl
 set_last (p ∷ []) zero (r ∷ rest) old w long e = not_nil old rest [] (tail_same e)
@@ -114,25 +114,25 @@ set_last (p ∷ q ∷ ps) (suc n) [] old w long e = cc e
 set_last (p ∷ q ∷ ps) (suc n) (r ∷ rest) old w long e =
     (λ j. head_same e j ∷ set_last (q ∷ ps) n rest old w (omega (arith, long)) (tail_same e) j)
 
-pub own_set_last : (ps : Pairs) (n : ℕ) (rest : List Walk) (old w : Walk) → n + 1 ≡ length ps → values_of ps ≡ rest ++ old ∷ [] → old.addr ≡ w.addr → old.key ≡ w.key → AreOwn ps → AreOwn (set_value_at ps n w)
+pub own_set_last : (ps : Pairs) (n : ℕ) (rest : List PartialEntry) (old w : PartialEntry) → n + 1 ≡ length ps → values_of ps ≡ rest ++ old ∷ [] → old.addr ≡ w.addr → old.key ≡ w.key → AreOwn ps → AreOwn (set_value_at ps n w)
 own_set_last [] n rest old w long e a k own = not_nil old rest [] e
 own_set_last (p ∷ []) zero [] old w long e a k own =
-    All-cons IsOwnWalk (p.0, w) [] (All-head IsOwnWalk p [] own ∙ ap (λ (x : Walk). (x.addr, x.key)) (head_same e) ∙ (λ j. (a j, k j))) (All-nil IsOwnWalk)
+    All-cons IsOwnPartial (p.0, w) [] (All-head IsOwnPartial p [] own ∙ ap (λ (x : PartialEntry). (x.addr, x.key)) (head_same e) ∙ (λ j. (a j, k j))) (All-nil IsOwnPartial)
 own_set_last (p ∷ []) zero (r ∷ rest) old w long e a k own = not_nil old rest [] (tail_same e)
 own_set_last (p ∷ []) (suc n) rest old w long e a k own = absurd (omega (arith, long))
 own_set_last (p ∷ q ∷ ps) zero rest old w long e a k own = absurd (omega (arith, long))
 own_set_last (p ∷ q ∷ ps) (suc n) [] old w long e a k own = cc e
 own_set_last (p ∷ q ∷ ps) (suc n) (r ∷ rest) old w long e a k own =
-    All-cons IsOwnWalk p (set_value_at (q ∷ ps) n w) (All-head IsOwnWalk p (q ∷ ps) own) (own_set_last (q ∷ ps) n rest old w (omega (arith, long)) (tail_same e) a k (All-tail IsOwnWalk p (q ∷ ps) own))
+    All-cons IsOwnPartial p (set_value_at (q ∷ ps) n w) (All-head IsOwnPartial p (q ∷ ps) own) (own_set_last (q ∷ ps) n rest old w (omega (arith, long)) (tail_same e) a k (All-tail IsOwnPartial p (q ∷ ps) own))
 
 -- the last of them
-pub top_is : (ps : Pairs) (p : (ℕ × Key) × Walk) → slice_get ps (length ps - 1) ≡ Some p → 0 < length ps → (rest : List Walk) × (values_of ps ≡ rest ++ p.1 ∷ [])
+pub top_is : (ps : Pairs) (p : (ℕ × Key) × PartialEntry) → slice_get ps (length ps - 1) ≡ Some p → 0 < length ps → (rest : List PartialEntry) × (values_of ps ≡ rest ++ p.1 ∷ [])
 top_is ps p at some = (values_of (slice_range ps 0 (length ps - 1)), ap values_of (split_last ps p at some) ∙ values_push (slice_range ps 0 (length ps - 1)) (p ∷ []))
 
-pub one_less : (ps : Pairs) (rest : List Walk) (old : Walk) → values_of ps ≡ rest ++ old ∷ [] → length ps - 1 + 1 ≡ length ps
+pub one_less : (ps : Pairs) (rest : List PartialEntry) (old : PartialEntry) → values_of ps ≡ rest ++ old ∷ [] → length ps - 1 + 1 ≡ length ps
 one_less [] rest old e = not_nil old rest [] e
 one_less (p ∷ ps) rest old e = omega arith
 
-pub some_there : (ps : Pairs) (rest : List Walk) (old : Walk) → values_of ps ≡ rest ++ old ∷ [] → 0 < length ps
+pub some_there : (ps : Pairs) (rest : List PartialEntry) (old : PartialEntry) → values_of ps ≡ rest ++ old ∷ [] → 0 < length ps
 some_there [] rest old e = not_nil old rest [] e
 some_there (p ∷ ps) rest old e = omega arith

@@ -13,15 +13,15 @@ use Rattle.dvg_items.specs.declared.item.Kind.TheVariants.{Shape}
 use Rattle.dvg_items.specs.declared.known.Known.{Known}
 use Rattle.dvg_words.specs.declared.map.TheConstants.{ADDRESS_END}
 use Rattle.dvg_cert.specs.declared.limits.TheConstants.{MOST_ENTRIES, MOST_WORDS}
-use Rattle.dvg_make.specs.declared.walk.Walk.{Walk}
+use Rattle.dvg_make.specs.declared.partial.PartialEntry.{PartialEntry}
 use Rattle.dvg_make.specs.declared.fault.EntryFault.{EntryFault}
 use Rattle.dvg_make.specs.declared.fault.EntryFault.TheVariants.{Unstraight, Deep, TooManyWords, TooManyEntries, Memory}
 use Rattle.dvg_make.specs.Made.{HasEntry}
-use Rattle.dvg_make.specs.Private.Walking.{start, IsWalk, IsWaiting}
-use Rattle.dvg_make.specs.Private.Making.{IsMaking, Apart, IsPresent, IsCalled, AllCalled, Chain, IsAim, NoAim, Bars, IsDone, NotBegun, IsBegun, Making}
+use Rattle.dvg_make.specs.Private.Partial.{start, IsPartial, IsWaiting}
+use Rattle.dvg_make.specs.Private.Making.{IsMaking, Apart, IsPresent, IsCalled, AllCalled, Chain, IsAim, NoAim, Bars, IsDone, NotBegun, IsBegun, InProgress}
 use Rattle.dvg_make.specs.Accounts.{EntryCause, CallsAt, Precedes, entry_fault}
 use Rattle.dvg_make.specs.declared.account.EntryCause.TheVariants as cause
-use Rattle.dvg_make.specs.Private.Walking.{link_of}
+use Rattle.dvg_make.specs.Private.Partial.{shape_of}
 use Rattle.dvg_make.proofs.InMaking.{making_slice}
 use Rattle.dvg_make.proofs.Linking.{are_moved, are_pushed}
 use Rattle.dvg_make.proofs.Onward.{reached}
@@ -30,7 +30,7 @@ use Rattle.dvg_items.proofs.Listed.{listed_at}
 use Rattle.dvg_make.proofs.Ends.{made_some}
 use Rattle.dvg_make.proofs.Chains.{none_deep, forced_begun, apart_pop, apart_push, walks_pop, walks_push, making_append, making_left, making_last, IsNeeded, needed_grows}
 
-pub start_walk : (rom : Rom) (done : List Entry) (addr : ℕ) (key : Key) → addr < ADDRESS_END → IsKey key → IsWalk rom done (start addr key)
+pub start_walk : (rom : Rom) (done : List Entry) (addr : ℕ) (key : Key) → addr < ADDRESS_END → IsKey key → IsPartial rom done (start addr key)
 start_walk rom done addr key lt is =
     record {
       items = [];
@@ -48,12 +48,12 @@ first_chain rom from made root m =
     let some = made_some rom made m.has.0 is.made in
     (m.has.0, m.has.1, omega (arith, is.words), omega (arith, some))
 
-pub first_begun : (rom : Rom) (done : List Entry) (addr : ℕ) (key : Key) → IsDone rom done → addr < ADDRESS_END → IsKey key → entry_at done addr key ≡ None → length done < MOST_ENTRIES → Making rom done (addr, key) done (start addr key ∷ [])
+pub first_begun : (rom : Rom) (done : List Entry) (addr : ℕ) (key : Key) → IsDone rom done → addr < ADDRESS_END → IsKey key → entry_at done addr key ≡ None → length done < MOST_ENTRIES → InProgress rom done (addr, key) done (start addr key ∷ [])
 first_begun rom done addr key h near is none few =
     record {
       is_done = h;
       extends = λ a k e q. q;
-      walks = (start_walk rom done addr key near is, tt);
+      partials = (start_walk rom done addr key near is, tt);
       apart = (none, λ m. m, tt);
       linked = (refl, tt);
       needed = needs;
@@ -66,37 +66,37 @@ first_begun rom done addr key h near is none few =
     needs a k (inr (inl s)) = inl (inr s)
     needs a k (inr (inr b)) = absurd b
 
-module _ (rom : Rom) (from : List Entry) (root : ℕ × Key) (done : List Entry) (stack : List Walk) (walk : Walk) (h : Making rom from root done (stack ++ walk ∷ [])) (new : Walk) (addr : ℕ) (w : IsWaiting rom done walk new addr) where
+module _ (rom : Rom) (from : List Entry) (root : ℕ × Key) (done : List Entry) (stack : List PartialEntry) (partial : PartialEntry) (h : InProgress rom from root done (stack ++ partial ∷ [])) (new : PartialEntry) (addr : ℕ) (w : IsWaiting rom done partial new addr) where
   abbrev at_key : Key
   at_key = new.cursor.known.scale
 
-  pub present_begun : (a : ℕ) (k : Key) → IsPresent done (stack ++ walk ∷ []) a k → IsPresent done ((stack ++ new ∷ []) ++ start addr at_key ∷ []) a k
+  pub present_begun : (a : ℕ) (k : Key) → IsPresent done (stack ++ partial ∷ []) a k → IsPresent done ((stack ++ new ∷ []) ++ start addr at_key ∷ []) a k
   present_begun a k (inl has) = inl has
   present_begun a k (inr m) =
       inr
       (making_left (stack ++ new ∷ []) (start addr at_key ∷ []) a k
-      (⊎_elim (λ x. making_left stack (new ∷ []) a k x) (λ x. ⊎_elim (λ s. making_last stack new a k (w.same_addr ∙ s.0) (w.same_key ∙ s.1)) (λ b. absurd b) x) (making_append stack (walk ∷ []) a k m)))
+      (⊎_elim (λ x. making_left stack (new ∷ []) a k x) (λ x. ⊎_elim (λ s. making_last stack new a k (w.same_addr ∙ s.0) (w.same_key ∙ s.1)) (λ b. absurd b) x) (making_append stack (partial ∷ []) a k m)))
 
-  was_begun : (a : ℕ) (k : Key) → IsMaking (stack ++ new ∷ []) a k → IsMaking (stack ++ walk ∷ []) a k
+  was_begun : (a : ℕ) (k : Key) → IsMaking (stack ++ new ∷ []) a k → IsMaking (stack ++ partial ∷ []) a k
   was_begun a k m =
-      ⊎_elim (λ x. making_left stack (walk ∷ []) a k x) (λ x. ⊎_elim (λ s. making_last stack walk a k (sym w.same_addr ∙ s.0) (sym w.same_key ∙ s.1)) (λ b. absurd b) x) (making_append stack (new ∷ []) a k m)
+      ⊎_elim (λ x. making_left stack (partial ∷ []) a k x) (λ x. ⊎_elim (λ s. making_last stack partial a k (sym w.same_addr ∙ s.0) (sym w.same_key ∙ s.1)) (λ b. absurd b) x) (making_append stack (new ∷ []) a k m)
 
   -- what it calls is not begun
-  present_moved : (a : ℕ) (k : Key) → IsPresent done (stack ++ walk ∷ []) a k → IsPresent done (stack ++ new ∷ []) a k
+  present_moved : (a : ℕ) (k : Key) → IsPresent done (stack ++ partial ∷ []) a k → IsPresent done (stack ++ new ∷ []) a k
   present_moved a k (inl has) = inl has
   present_moved a k (inr m) =
-      inr (⊎_elim (λ x. making_left stack (new ∷ []) a k x) (λ x. ⊎_elim (λ s. making_last stack new a k (w.same_addr ∙ s.0) (w.same_key ∙ s.1)) (λ b. absurd b) x) (making_append stack (walk ∷ []) a k m))
+      inr (⊎_elim (λ x. making_left stack (new ∷ []) a k x) (λ x. ⊎_elim (λ s. making_last stack new a k (w.same_addr ∙ s.0) (w.same_key ∙ s.1)) (λ b. absurd b) x) (making_append stack (partial ∷ []) a k m))
 
-  pub called_moved : (chain : List Walk) → chain ≡ stack ++ new ∷ [] → AllCalled rom from root done chain
+  pub called_moved : (chain : List PartialEntry) → chain ≡ stack ++ new ∷ [] → AllCalled rom from root done chain
   called_moved chain e = subst (AllCalled rom from root done) (sym e) each
     where
       each : AllCalled rom from root done (stack ++ new ∷ [])
-      each a k (inl has) = needed_grows rom from root done done (stack ++ walk ∷ []) (stack ++ new ∷ []) (λ y z e q. q) present_moved a k (h.needed a k (inl has))
-      each a k (inr m) = needed_grows rom from root done done (stack ++ walk ∷ []) (stack ++ new ∷ []) (λ y z e q. q) present_moved a k (h.needed a k (inr (was_begun a k m)))
+      each a k (inl has) = needed_grows rom from root done done (stack ++ partial ∷ []) (stack ++ new ∷ []) (λ y z e q. q) present_moved a k (h.needed a k (inl has))
+      each a k (inr m) = needed_grows rom from root done done (stack ++ partial ∷ []) (stack ++ new ∷ []) (λ y z e q. q) present_moved a k (h.needed a k (inr (was_begun a k m)))
 
   called_begun : IsCalled rom done ((stack ++ new ∷ []) ++ start addr at_key ∷ []) addr at_key
   called_begun =
-      let r = reached rom done new w.walk in
+      let r = reached rom done new w.partial in
       record {
         from = new.addr;
         from_key = new.key;
@@ -113,8 +113,8 @@ module _ (rom : Rom) (from : List Entry) (root : ℕ × Key) (done : List Entry)
   needed_begun : (a : ℕ) (k : Key) → IsPresent done ((stack ++ new ∷ []) ++ start addr at_key ∷ []) a k → IsNeeded rom from root done ((stack ++ new ∷ []) ++ start addr at_key ∷ []) a k
   needed_begun a k p = by_case p
     where
-      old : IsPresent done (stack ++ walk ∷ []) a k → IsNeeded rom from root done ((stack ++ new ∷ []) ++ start addr at_key ∷ []) a k
-      old x = needed_grows rom from root done done (stack ++ walk ∷ []) ((stack ++ new ∷ []) ++ start addr at_key ∷ []) (λ y z e q. q) present_begun a k (h.needed a k x)
+      old : IsPresent done (stack ++ partial ∷ []) a k → IsNeeded rom from root done ((stack ++ new ∷ []) ++ start addr at_key ∷ []) a k
+      old x = needed_grows rom from root done done (stack ++ partial ∷ []) ((stack ++ new ∷ []) ++ start addr at_key ∷ []) (λ y z e q. q) present_begun a k (h.needed a k x)
 
       by_case : IsPresent done ((stack ++ new ∷ []) ++ start addr at_key ∷ []) a k → IsNeeded rom from root done ((stack ++ new ∷ []) ++ start addr at_key ∷ []) a k
       by_case (inl has) = old (inl has)
@@ -124,43 +124,43 @@ module _ (rom : Rom) (from : List Entry) (root : ℕ × Key) (done : List Entry)
           (making_append (stack ++ new ∷ []) (start addr at_key ∷ []) a k m)
 
   -- the item at which it waits
-  pub calls_it : CallsAt rom new.cursor.at new.cursor.known (link_of (start addr at_key))
+  pub calls_it : CallsAt rom new.cursor.at new.cursor.known (shape_of (start addr at_key))
   calls_it = record { item = w.item; at_is = w.at; stands = w.stands; target_is = w.target_is; key_is = refl }
 
-  precedes : Precedes rom done (link_of new) (link_of (start addr at_key))
-  precedes = record { at = new.cursor.at; before = new.cursor.known; reaches = reached rom done new w.walk; calls = calls_it }
+  precedes : Precedes rom done (shape_of new) (shape_of (start addr at_key))
+  precedes = record { at = new.cursor.at; before = new.cursor.known; reaches = reached rom done new w.partial; calls = calls_it }
 
   pub apart_moved : Apart done (stack ++ new ∷ [])
   apart_moved =
-      let pop = apart_pop done stack walk h.apart in
-      let none : entry_at done new.addr new.key ≡ None = subst (λ a. entry_at done a new.key ≡ None) (sym w.same_addr) (subst (λ k. entry_at done walk.addr k ≡ None) (sym w.same_key) pop.none) in
-      let not : IsMaking stack new.addr new.key → ⊥ = λ m. pop.other (subst (λ a. IsMaking stack a walk.key) w.same_addr (subst (λ k. IsMaking stack new.addr k) w.same_key m)) in
+      let pop = apart_pop done stack partial h.apart in
+      let none : entry_at done new.addr new.key ≡ None = subst (λ a. entry_at done a new.key ≡ None) (sym w.same_addr) (subst (λ k. entry_at done partial.addr k ≡ None) (sym w.same_key) pop.none) in
+      let not : IsMaking stack new.addr new.key → ⊥ = λ m. pop.other (subst (λ a. IsMaking stack a partial.key) w.same_addr (subst (λ k. IsMaking stack new.addr k) w.same_key m)) in
       apart_push done stack new pop.rest none not
 
-  pub making_begun : (IsMaking (stack ++ new ∷ []) addr at_key → ⊥) → length done + length (stack ++ new ∷ []) < MOST_ENTRIES → Making rom from root done ((stack ++ new ∷ []) ++ start addr at_key ∷ [])
+  pub making_begun : (IsMaking (stack ++ new ∷ []) addr at_key → ⊥) → length done + length (stack ++ new ∷ []) < MOST_ENTRIES → InProgress rom from root done ((stack ++ new ∷ []) ++ start addr at_key ∷ [])
   making_begun other few =
       let long : length ((stack ++ new ∷ []) ++ start addr at_key ∷ []) ≡ length (stack ++ new ∷ []) + 1 = length-append (stack ++ new ∷ []) (start addr at_key ∷ []) in
       record {
         is_done = h.is_done;
         extends = h.extends;
-        walks = walks_push rom done (stack ++ new ∷ []) (start addr at_key) (walks_push rom done stack new (walks_pop rom done stack (walk ∷ []) h.walks) w.walk) (start_walk rom done addr at_key w.near w.scale);
+        partials = walks_push rom done (stack ++ new ∷ []) (start addr at_key) (walks_push rom done stack new (walks_pop rom done stack (partial ∷ []) h.partials) w.partial) (start_walk rom done addr at_key w.near w.scale);
         apart = apart_push done (stack ++ new ∷ []) (start addr at_key) apart_moved w.none other;
-        linked = are_pushed rom done root stack new (start addr at_key) precedes (are_moved rom done root stack walk new (λ j. record { addr = sym w.same_addr j; key = sym w.same_key j }) h.linked);
+        linked = are_pushed rom done root stack new (start addr at_key) precedes (are_moved rom done root stack partial new (λ j. record { addr = sym w.same_addr j; key = sym w.same_key j }) h.linked);
         needed = needed_begun;
         room = omega (arith, long, few);
-        forced = forced_begun rom from root done stack walk h new addr w;
+        forced = forced_begun rom from root done stack partial h new addr w;
       }
 
   -- a 4097th entry
   none_large : MOST_ENTRIES ≤ length done + length (stack ++ new ∷ []) → (IsMaking (stack ++ new ∷ []) addr at_key → ⊥) → (made : List Entry) → IsAim rom from root made → MOST_ENTRIES < length made
   none_large le other made m =
-      let f = forced_begun rom from root done stack walk h new addr w made m in
+      let f = forced_begun rom from root done stack partial h new addr w made m in
       let full = crowded done made (MOST_WORDS + 1) 0 ((stack ++ new ∷ []) ++ start addr at_key ∷ []) h.is_done.unique (apart_push done (stack ++ new ∷ []) (start addr at_key) apart_moved w.none other) f.0 f.1 in
       let long : length ((stack ++ new ∷ []) ++ start addr at_key ∷ []) ≡ length (stack ++ new ∷ []) + 1 = length-append (stack ++ new ∷ []) (start addr at_key ∷ []) in
       omega (arith, le, full, long)
 
   pub refuses : (at : ℕ) (why : EntryCause) → NotBegun done (stack ++ new ∷ []) addr at_key why → Bars rom from root (entry_fault at why)
-  refuses at (cause.Ring index) b = none_deep rom from root done stack walk h new addr w (making_slice (stack ++ new ∷ []) index b.0 addr at_key b.1 b.2 b.3)
+  refuses at (cause.Ring index) b = none_deep rom from root done stack partial h new addr w (making_slice (stack ++ new ∷ []) index b.0 addr at_key b.1 b.2 b.3)
   refuses at cause.TooManyEntries b = none_large b.0 b.1
   refuses at cause.Memory b = tt
   refuses at cause.RootOutside b = absurd b
@@ -173,7 +173,7 @@ module _ (rom : Rom) (from : List Entry) (root : ℕ × Key) (done : List Entry)
   refuses at (cause.TooManyWords words) b = absurd b
 
 -- nothing is begun
-pub called_none : (rom : Rom) (from : List Entry) (root : ℕ × Key) (chain : List Walk) → chain ≡ [] → AllCalled rom from root from chain
+pub called_none : (rom : Rom) (from : List Entry) (root : ℕ × Key) (chain : List PartialEntry) → chain ≡ [] → AllCalled rom from root from chain
 called_none rom from root chain e = subst (AllCalled rom from root from) (sym e) each
   where
     each : AllCalled rom from root from []
@@ -187,22 +187,22 @@ as_bar rom from root TooManyWords n = n
 as_bar rom from root TooManyEntries n = λ made m. absurd (n made m)
 as_bar rom from root Memory n = tt
 
-module _ (rom : Rom) (from : List Entry) (root : ℕ × Key) (done : List Entry) (stack : List Walk) (walk : Walk) (h : Making rom from root done (stack ++ walk ∷ [])) (new : Walk) (addr : ℕ) (w : IsWaiting rom done walk new addr) (pushed : List Walk) (e : pushed ≡ stack ++ new ∷ []) where
-  pub begun_ok : (begun : List Walk) → IsBegun done pushed begun addr new.cursor.known.scale → Making rom from root done begun
+module _ (rom : Rom) (from : List Entry) (root : ℕ × Key) (done : List Entry) (stack : List PartialEntry) (partial : PartialEntry) (h : InProgress rom from root done (stack ++ partial ∷ [])) (new : PartialEntry) (addr : ℕ) (w : IsWaiting rom done partial new addr) (pushed : List PartialEntry) (e : pushed ≡ stack ++ new ∷ []) where
+  pub begun_ok : (begun : List PartialEntry) → IsBegun done pushed begun addr new.cursor.known.scale → InProgress rom from root done begun
   begun_ok begun b =
-      subst (Making rom from root done) (sym (b.stack ∙ ap (λ (s : List Walk). s ++ start addr new.cursor.known.scale ∷ []) e))
-      (making_begun rom from root done stack walk h new addr w (λ m. b.other (subst (λ s. IsMaking s addr new.cursor.known.scale) (sym e) m)) (subst (λ (s : List Walk). length done + length s < MOST_ENTRIES) e b.few))
+      subst (InProgress rom from root done) (sym (b.stack ∙ ap (λ (s : List PartialEntry). s ++ start addr new.cursor.known.scale ∷ []) e))
+      (making_begun rom from root done stack partial h new addr w (λ m. b.other (subst (λ s. IsMaking s addr new.cursor.known.scale) (sym e) m)) (subst (λ (s : List PartialEntry). length done + length s < MOST_ENTRIES) e b.few))
 
-  pub begun_present : (begun : List Walk) → IsBegun done pushed begun addr new.cursor.known.scale → (a : ℕ) (k : Key) → IsPresent done (stack ++ walk ∷ []) a k → IsPresent done begun a k
-  begun_present begun b a k p = subst (λ s. IsPresent done s a k) (sym (b.stack ∙ ap (λ (s : List Walk). s ++ start addr new.cursor.known.scale ∷ []) e)) (present_begun rom from root done stack walk h new addr w a k p)
+  pub begun_present : (begun : List PartialEntry) → IsBegun done pushed begun addr new.cursor.known.scale → (a : ℕ) (k : Key) → IsPresent done (stack ++ partial ∷ []) a k → IsPresent done begun a k
+  begun_present begun b a k p = subst (λ s. IsPresent done s a k) (sym (b.stack ∙ ap (λ (s : List PartialEntry). s ++ start addr new.cursor.known.scale ∷ []) e)) (present_begun rom from root done stack partial h new addr w a k p)
 
   pub refused : (at : ℕ) (why : EntryCause) → NotBegun done pushed addr new.cursor.known.scale why → Bars rom from root (entry_fault at why)
-  refused at why b = refuses rom from root done stack walk h new addr w at why (subst (λ s. NotBegun done s addr new.cursor.known.scale why) e b)
+  refused at why b = refuses rom from root done stack partial h new addr w at why (subst (λ s. NotBegun done s addr new.cursor.known.scale why) e b)
 
-pub first_ok : (rom : Rom) (done : List Entry) (addr : ℕ) (key : Key) → IsDone rom done → addr < ADDRESS_END → IsKey key → entry_at done addr key ≡ None → (old begun : List Walk) → old ≡ [] → IsBegun done old begun addr key → Making rom done (addr, key) done begun
+pub first_ok : (rom : Rom) (done : List Entry) (addr : ℕ) (key : Key) → IsDone rom done → addr < ADDRESS_END → IsKey key → entry_at done addr key ≡ None → (old begun : List PartialEntry) → old ≡ [] → IsBegun done old begun addr key → InProgress rom done (addr, key) done begun
 first_ok rom done addr key h near is none old begun e b0 =
     let b : IsBegun done [] begun addr key = subst (λ s. IsBegun done s begun addr key) e b0 in
-    subst (Making rom done (addr, key) done) (sym b.stack) (first_begun rom done addr key h near is none (omega (arith, b.few)))
+    subst (InProgress rom done (addr, key) done) (sym b.stack) (first_begun rom done addr key h near is none (omega (arith, b.few)))
 
 first_refused : (rom : Rom) (done : List Entry) (addr : ℕ) (key : Key) → IsDone rom done → entry_at done addr key ≡ None → (at : ℕ) (why : EntryCause) → NotBegun done [] addr key why → Bars rom done (addr, key) (entry_fault at why)
 first_refused rom done addr key h none at cause.TooManyEntries b = λ made m.
@@ -211,7 +211,7 @@ first_refused rom done addr key h none at cause.TooManyEntries b = λ made m.
 first_refused rom done addr key h none at cause.Memory b = tt
 first_refused rom done addr key h none at (cause.Ring from) b = none_there b.1
   where
-    none_there : {P : Type 0} {w : Walk} → slice_get [] from ≡ Some w → P
+    none_there : {P : Type 0} {w : PartialEntry} → slice_get [] from ≡ Some w → P
     none_there e = cc e
 first_refused rom done addr key h none at cause.RootOutside b = absurd b
 first_refused rom done addr key h none at cause.Missing b = absurd b
@@ -246,17 +246,17 @@ pub if_err_map : {T E : Type 0} (r : Result T E) (P Q : E → Type 0) → ((x : 
 if_err_map (Ok x) P Q f h = tt
 if_err_map (Err x) P Q f h = f x h
 
-pub first_fault : (rom : Rom) (done : List Entry) (addr : ℕ) (key : Key) → IsDone rom done → entry_at done addr key ≡ None → (old : List Walk) → old ≡ [] → (at : ℕ) (why : EntryCause) → NotBegun done old addr key why → Bars rom done (addr, key) (entry_fault at why)
+pub first_fault : (rom : Rom) (done : List Entry) (addr : ℕ) (key : Key) → IsDone rom done → entry_at done addr key ≡ None → (old : List PartialEntry) → old ≡ [] → (at : ℕ) (why : EntryCause) → NotBegun done old addr key why → Bars rom done (addr, key) (entry_fault at why)
 first_fault rom done addr key h none old e at why b = first_refused rom done addr key h none at why (subst (λ s. NotBegun done s addr key why) e b)
 
 -- an entry that is there already
-pub found_making : (rom : Rom) (done : List Entry) (addr : ℕ) (key : Key) → IsDone rom done → HasEntry done addr key → Making rom done (addr, key) done []
+pub found_making : (rom : Rom) (done : List Entry) (addr : ℕ) (key : Key) → IsDone rom done → HasEntry done addr key → InProgress rom done (addr, key) done []
 found_making rom done addr key h has =
-    record { is_done = h; extends = λ a k e q. q; walks = tt; apart = tt; linked = tt; needed = needs; room = omega (arith, h.room); forced = λ made m. (m.extends, omega arith) }
+    record { is_done = h; extends = λ a k e q. q; partials = tt; apart = tt; linked = tt; needed = needs; room = omega (arith, h.room); forced = λ made m. (m.extends, omega arith) }
   where
     needs : (a : ℕ) (k : Key) → IsPresent done [] a k → IsNeeded rom done (addr, key) done [] a k
     needs a k (inl x) = inl (inl x)
     needs a k (inr b) = absurd b
 
-pub first_present : (done : List Entry) (addr : ℕ) (key : Key) (old begun : List Walk) → old ≡ [] → IsBegun done old begun addr key → IsPresent done begun addr key
-first_present done addr key old begun e b = subst (λ s. IsPresent done s addr key) (sym (b.stack ∙ ap (λ (s : List Walk). s ++ start addr key ∷ []) e)) (inr (inl (refl, refl)))
+pub first_present : (done : List Entry) (addr : ℕ) (key : Key) (old begun : List PartialEntry) → old ≡ [] → IsBegun done old begun addr key → IsPresent done begun addr key
+first_present done addr key old begun e b = subst (λ s. IsPresent done s addr key) (sym (b.stack ∙ ap (λ (s : List PartialEntry). s ++ start addr key ∷ []) e)) (inr (inl (refl, refl)))

@@ -1,4 +1,4 @@
--- How a shape that can't be made is come to: the shapes on the way to it, the item in it, and why. All of it is profile.
+-- Why an entry can't be made: the shapes on the way to the faulty item, the item, and the cause. All of it is profile.
 use Rattle.std.specs.Prelude.{◌≡◌, ◌≢◌, ℕ, ◌+◌, ◌<◌, ◌≤◌, ◌⊎◌, List, [], ◌∷◌, length, take, Option, Some, None, Contains, slice_get}
 use Rattle.dvg_words.specs.Memory.{Rom, InRom, rom_word}
 use Rattle.dvg_words.specs.Decoding.{cell_at}
@@ -17,54 +17,53 @@ use Rattle.dvg_items.specs.declared.seen.Seen.{Seen}
 use Rattle.dvg_items.specs.declared.item.Item.{Item}
 use Rattle.dvg_items.specs.declared.item.Kind.TheVariants.{Shape}
 use Rattle.dvg_items.specs.declared.known.Known.{Known}
-use Rattle.dvg_make.specs.Made.{HasEntry, AllMade}
-use Rattle.dvg_make.specs.Frames.{AllKeyed, FrameCalls, HasAsked}
+use Rattle.dvg_make.specs.Made.{HasEntry, AllHold, AllMade}
+use Rattle.dvg_make.specs.Frames.{CallAt, HasAsked}
 use Rattle.dvg_make.specs.Refusals.{EntryFault, MakeFault, FrameCall, FramesFault, make_fault_of}
 use Rattle.dvg_make.specs.declared.fault.EntryFault.TheVariants as fault
 pub use Rattle.dvg_make.specs.declared.account.MakeAccount.{MakeAccount}
-pub use Rattle.dvg_make.specs.declared.account.Link.{Link}
+pub use Rattle.dvg_make.specs.declared.account.ShapeAt.{ShapeAt}
 pub use Rattle.dvg_make.specs.declared.account.EntryCause.{EntryCause}
 pub use Rattle.dvg_make.specs.declared.account.EntryCause.TheVariants.{RootOutside, Missing, Odd, Halt, LostPlace, UnknownScale, Ring, Deep, TooManyWords, TooManyEntries, Memory}
 
--- ---- items of a shape that a list of entries allows
+-- ---- the items that the maker passes
 
--- the context of the items of a shape that starts at this key
+-- the context of a shape's items, if the shape is called at this key
 abbrev pub keyed_context : List Entry → Key → Context
 keyed_context list key = record { kind = Shape; list = list; scale = key }
 
--- what is asked of an item that is seen: that it is no HALT, and lights only at a known place and scale (profile)
+-- the item is no HALT, and lights only at a known place and scale (profile)
 pub record IsStraight (v : Seen) : Type 0 where
   pub no_halt : v.item.instr ≢ instr.Halt
   pub place : PlaceKnown v.extent v.place
   pub scale : ScaleKnown v.extent
 
--- and that the depth under it, and the words up to and with it, are within the limits (profile)
+-- it is straight, and the depth under it and the words up to and with it are within the limits (profile)
 pub record IsAsked (v : Seen) : Type 0 where
   pub straight : IsStraight v
   pub deep : depth_under v.item.instr v.callee ≤ MOST_DEPTH
   pub many : v.after.words ≤ MOST_WORDS
 
--- the item is as asked, and its target has its entry at the very scale: the making does not stop at it (profile)
+-- the maker passes the item: it is as asked, and what it calls has an entry for exactly the scale there (profile)
 pub record IsTaken (c : Context) (earlier : List Item) (i : Item) : Type 0 where
   pub asked : IsAsked (seen_at c earlier i)
   pub keyed : (to : ℕ) → target Shape i.instr ≡ Some to → HasEntry c.list to (scale_before c earlier)
 
--- so is each of these
+-- the maker passes each of these items
 abbrev pub AllTaken : Context → List Item → Type 0
-AllTaken c [] = Unit {0}
-AllTaken c (i ∷ earlier) = AllTaken c earlier × IsTaken c earlier i
+AllTaken c items = AllHold (IsTaken c) items
 
 -- ---- from shape to shape
 
--- items of the shape at this address and key lead to a place, the making stops at none of them, and this is known there (profile)
-pub record Reaches (rom : Rom) (list : List Entry) (shape : Link) (at : ℕ) (before : Known) : Type 0 where
+-- the maker passes the items of the shape up to a place, and this is known there (profile)
+pub record Reaches (rom : Rom) (list : List Entry) (shape : ShapeAt) (at : ℕ) (before : Known) : Type 0 where
   pub items : List Item
   pub leads : LeadsTo Shape (rom_word rom) shape.addr items at
   pub taken : AllTaken (keyed_context list shape.key) items
   pub known : before ≡ known_before (keyed_context list shape.key) items
 
--- the item at this place calls or tail jumps to the shape's address, and its key is the scale that is known there (profile)
-pub record CallsAt (rom : Rom) (at : ℕ) (before : Known) (shape : Link) : Type 0 where
+-- the item at this place calls or tail jumps to the shape, at the scale that is known there (profile)
+pub record CallsAt (rom : Rom) (at : ℕ) (before : Known) (shape : ShapeAt) : Type 0 where
   pub item : Item
   pub at_is : item.at ≡ at
   pub stands : cell_at (rom_word rom) item.at ≡ cell.Holds item.format item.instr
@@ -72,41 +71,40 @@ pub record CallsAt (rom : Rom) (at : ℕ) (before : Known) (shape : Link) : Type
   pub key_is : before.scale ≡ shape.key
 
 -- an item of the one shape calls or tail jumps to the other (profile)
-pub record Precedes (rom : Rom) (list : List Entry) (shape next : Link) : Type 0 where
+pub record Precedes (rom : Rom) (list : List Entry) (shape next : ShapeAt) : Type 0 where
   pub at : ℕ
   pub before : Known
   pub reaches : Reaches rom list shape at before
   pub calls : CallsAt rom at before next
 
--- a shape and those of a chain: each calls or tail jumps to the next
-abbrev pub IsLinked : Rom → List Entry → Link → List Link → Type 0
+-- the shape calls or tail jumps to the first of the chain, and each of the chain to the next
+abbrev pub IsLinked : Rom → List Entry → ShapeAt → List ShapeAt → Type 0
 IsLinked rom list shape [] = Unit {0}
 IsLinked rom list shape (next ∷ chain) = Precedes rom list shape next × IsLinked rom list next chain
 
--- the last of them
-abbrev pub last_link : Link → List Link → Link
-last_link shape [] = shape
-last_link shape (next ∷ chain) = last_link next chain
+-- the last shape of the chain, or this one if the chain is empty
+abbrev pub last_shape : ShapeAt → List ShapeAt → ShapeAt
+last_shape shape [] = shape
+last_shape shape (next ∷ chain) = last_shape next chain
 
 -- ---- why
 
--- what a cause says of an item that is seen, at the scale before it (profile)
+-- what a cause means of an item, at the scale that is known before it (profile)
 abbrev pub SaysOf : Key → Seen → EntryCause → Type 0
 SaysOf scale v Halt = v.item.instr ≡ instr.Halt
 -- it lights at a lost place
 SaysOf scale v LostPlace = PlaceKnown v.extent v.place → ⊥
 -- it lights at unknown scale, and not at a lost place
 SaysOf scale v UnknownScale = PlaceKnown v.extent v.place × (ScaleKnown v.extent → ⊥)
--- it calls the entry for this address and key, and more return places are stored at once under the item than a certificate allows,
--- and it is straight
+-- it is straight and calls the entry for this address and key, and calls nest deeper under it than a certificate allows
 SaysOf scale v (Deep to key) =
     (target Shape v.item.instr ≡ Some to) × (scale ≡ key) × (MOST_DEPTH < depth_under v.item.instr v.callee) × IsStraight v
--- so many words are fetched up to and with it, and it is straight and not too deep
+-- it is straight and not too deep, but the words up to and with it are this many, which is more than a certificate allows
 SaysOf scale v (TooManyWords words) =
     (words ≡ v.after.words) × (MOST_WORDS < words) × IsStraight v × (depth_under v.item.instr v.callee ≤ MOST_DEPTH)
 SaysOf scale v cause = ⊥
 
--- the item at a place says so, seen with the entry of the list that it calls (profile)
+-- the cause holds of the item at a place, with the entry of the list that it calls (profile)
 pub record SaysAt (rom : Rom) (list : List Entry) (at : ℕ) (before : Known) (cause : EntryCause) : Type 0 where
   pub item : Item
   pub at_is : item.at ≡ at
@@ -120,82 +118,82 @@ IsUnique [] = Unit {0}
 IsUnique (e ∷ list) = (entry_at list e.addr e.key ≡ None) × IsUnique list
 
 -- no two of these shapes are the same, and none has an entry yet
-abbrev pub AreUnmade : List Entry → List Link → Type 0
+abbrev pub AreUnmade : List Entry → List ShapeAt → Type 0
 AreUnmade list [] = Unit {0}
 AreUnmade list (shape ∷ chain) = (entry_at list shape.addr shape.key ≡ None) × (Contains chain shape → ⊥) × AreUnmade list chain
 
--- the entries of the list and the shapes in the making, no two of them the same, are so many that there is no room for one more
-pub record IsFull (list : List Entry) (chain : List Link) : Type 0 where
+-- the entries of the list and the shapes in the making, all of them different, leave no room for one more
+pub record IsFull (list : List Entry) (chain : List ShapeAt) : Type 0 where
   pub unique : IsUnique list
   pub unmade : AreUnmade list chain
   pub many : MOST_ENTRIES ≤ length list + length chain
 
--- what a cause says of a place in the last shape of a chain (profile)
-abbrev pub CauseAt : Rom → List Entry → List Link → ℕ → Known → EntryCause → Type 0
+-- what a cause means of a place in the last shape of a chain (profile)
+abbrev pub CauseAt : Rom → List Entry → List ShapeAt → ℕ → Known → EntryCause → Type 0
 CauseAt rom list chain at before RootOutside = ⊥
 CauseAt rom list chain at before Missing = cell_at (rom_word rom) at ≡ cell.Missing
 CauseAt rom list chain at before Odd = cell_at (rom_word rom) at ≡ cell.Odd
 -- the item calls the shape of the chain at this index
-CauseAt rom list chain at before (Ring from) = (shape : Link) × (slice_get chain from ≡ Some shape) × CallsAt rom at before shape
--- the item calls what has no entry yet and is not of the chain, and there is no room for it
+CauseAt rom list chain at before (Ring from) = (shape : ShapeAt) × (slice_get chain from ≡ Some shape) × CallsAt rom at before shape
+-- the item calls a shape that has no entry yet and is not in the chain, and there is no room for it
 CauseAt rom list chain at before TooManyEntries =
-    (shape : Link) × CallsAt rom at before shape × (entry_at list shape.addr shape.key ≡ None) × (Contains chain shape → ⊥)
+    (shape : ShapeAt) × CallsAt rom at before shape × (entry_at list shape.addr shape.key ≡ None) × (Contains chain shape → ⊥)
     × IsFull list chain
 CauseAt rom list chain at before Memory = Unit {0}
 CauseAt rom list chain at before cause = SaysAt rom list at before cause
 
--- what a cause says of what is asked for itself, which was not begun (profile)
-abbrev pub CauseOf : Rom → List Entry → Link → EntryCause → Type 0
+-- what a cause means of a shape that is asked for and was not begun (profile)
+abbrev pub CauseOf : Rom → List Entry → ShapeAt → EntryCause → Type 0
 CauseOf rom list asked RootOutside = InRom rom.map asked.addr × IsKey asked.key → ⊥
 CauseOf rom list asked TooManyEntries = (entry_at list asked.addr asked.key ≡ None) × IsFull list []
 CauseOf rom list asked Memory = Unit {0}
 CauseOf rom list asked cause = ⊥
 
--- what is told of an entry that is asked for: the chain begins with it, and by this list its shapes are linked, and what is told
--- of the place in the last one is so; where there is no chain, it was not begun, and the place is its own (profile)
-abbrev pub Tells : Rom → List Entry → Link → List Link → ℕ → Known → EntryCause → Type 0
+-- the chain begins with the shape that is asked for, each of its shapes calls the next, and the cause holds of the place in the
+-- last one. If the chain is empty, the shape was not begun, and the place is its address (profile)
+abbrev pub Tells : Rom → List Entry → ShapeAt → List ShapeAt → ℕ → Known → EntryCause → Type 0
 Tells rom list asked [] at before cause = (at ≡ asked.addr) × (before ≡ start Shape asked.key) × CauseOf rom list asked cause
 Tells rom list asked (shape ∷ chain) at before cause =
-    (shape ≡ asked) × IsLinked rom list shape chain × Reaches rom list (last_link shape chain) at before
+    (shape ≡ asked) × IsLinked rom list shape chain × Reaches rom list (last_shape shape chain) at before
     × CauseAt rom list (shape ∷ chain) at before cause
 
 -- ---- what was asked for
 
--- a root, where no call is named, else what that call calls, at the scale that is known there by this list. The list has an entry for
--- all that is asked for before it: roots in their order, then frames in theirs, and the calls of each (profile)
-abbrev pub IsNamedBy : List (ℕ × Key) → List (List ℕ) → List Entry → Option FrameCall → Link → Type 0
+-- the shape is a root, if no call is named, or else the one that this call of a frame calls. The list has an entry for all that is
+-- asked for before it: the roots in their order, then the frames in theirs, and the calls of each (profile)
+abbrev pub IsNamedBy : List (ℕ × Key) → List (List ℕ) → List Entry → Option FrameCall → ShapeAt → Type 0
 IsNamedBy roots frames list None asked =
     (root : ℕ) × (slice_get roots root ≡ Some (asked.addr, asked.key)) × HasAsked (take root roots) [] list
 IsNamedBy roots frames list (Some call) asked =
     (words : List ℕ) × (slice_get frames call.frame ≡ Some words)
-    × ((calls : FrameCalls words list asked.addr asked.key) × (calls.item.at ≡ call.at) × AllKeyed list calls.earlier)
+    × CallAt words list call.at asked.addr asked.key
     × HasAsked roots (take call.frame frames) list
 
--- an item of the shape of one of the entries, or of a shape of the chain, calls or tail jumps to this shape (profile)
-pub record IsNeededBy (rom : Rom) (list : List Entry) (chain : List Link) (shape : Link) : Type 0 where
-  pub from : Link
+-- the shape of an entry, or a shape of the chain, calls or tail jumps to this shape (profile)
+pub record IsNeededBy (rom : Rom) (list : List Entry) (chain : List ShapeAt) (shape : ShapeAt) : Type 0 where
+  pub from : ShapeAt
   pub there : HasEntry list from.addr from.key ⊎ Contains chain from
   pub precedes : Precedes rom list from shape
 
--- each entry of the list is asked for, and then has an entry before it for all that is asked for earlier; or another entry or the chain
--- needs it (profile)
-abbrev pub AllNeeded : Rom → List (ℕ × Key) → List (List ℕ) → List Entry → List Link → Type 0
+-- each entry of the list is asked for, and all that is asked for before it has an entry too; or another entry or the chain needs it
+-- (profile)
+abbrev pub AllNeeded : Rom → List (ℕ × Key) → List (List ℕ) → List Entry → List ShapeAt → Type 0
 AllNeeded rom roots frames list chain =
-    (shape : Link) → HasEntry list shape.addr shape.key
+    (shape : ShapeAt) → HasEntry list shape.addr shape.key
     → ((call : Option FrameCall) × IsNamedBy roots frames list call shape) ⊎ IsNeededBy rom list chain shape
 
--- each entry of the list is one that a certificate for the ROM may have (profile)
+-- each entry of the list may stand in a certificate for the ROM (profile)
 abbrev pub AllWithin : Rom → List Entry → Type 0
 AllWithin rom list = (e : Entry) → Contains list e → IsEntry rom.map.rom_first rom.map.rom_last e
 
--- all that is told of a refusal: it is so by a list of made and needed entries (profile)
+-- all that is told of a refusal holds, by some list of made and needed entries (profile)
 pub record IsTold
-    (rom : Rom) (roots : List (ℕ × Key)) (frames : List (List ℕ)) (call : Option FrameCall) (chain : List Link) (at : ℕ)
+    (rom : Rom) (roots : List (ℕ × Key)) (frames : List (List ℕ)) (call : Option FrameCall) (chain : List ShapeAt) (at : ℕ)
     (before : Known) (cause : EntryCause) : Type 0 where
   pub list : List Entry
   pub within : AllWithin rom list
   pub made : AllMade rom list
-  pub asked : Link
+  pub asked : ShapeAt
   pub named : IsNamedBy roots frames list call asked
   pub needed : AllNeeded rom roots frames list chain
   -- with the shapes of the chain they are no more than a certificate may have
@@ -204,17 +202,17 @@ pub record IsTold
   -- only a root lies outside the ROM
   pub outside : cause ≡ RootOutside → call ≡ None
 
--- unless memory was out
+-- the statement holds, unless memory was out
 abbrev pub UnlessMemory : EntryCause → Type 0 → Type 0
 UnlessMemory Memory T = Unit {0}
 UnlessMemory cause T = T
 
--- what an account tells; where memory was out, nothing (profile)
+-- what an account tells holds; if memory was out, it tells nothing (profile)
 abbrev pub IsAccount : Rom → List (ℕ × Key) → List (List ℕ) → MakeAccount → Type 0
 IsAccount rom roots frames a =
     UnlessMemory a.cause (IsTold rom roots frames a.fault.call a.chain.items a.at a.before a.cause)
 
--- the refusal by a cause at a place (profile)
+-- the refusal to which a cause at a place leads (profile)
 abbrev pub entry_fault : ℕ → EntryCause → EntryFault
 entry_fault at (Ring from) = fault.Deep
 entry_fault at (Deep to key) = fault.Deep
@@ -225,16 +223,16 @@ entry_fault at cause = fault.Unstraight at
 
 -- ---- refusals
 
--- the refusal is that of some cause at some place, of which `IsTold` holds; where memory was out, nothing is told (profile)
+-- some cause at some place leads to the refusal, and what is told of it holds; if memory was out, nothing is told (profile)
 pub record HasCause (rom : Rom) (roots : List (ℕ × Key)) (frames : List (List ℕ)) (fault : FramesFault) : Type 0 where
-  pub chain : List Link
+  pub chain : List ShapeAt
   pub at : ℕ
   pub before : Known
   pub cause : EntryCause
   pub why_is : fault.why ≡ entry_fault at cause
   pub told : UnlessMemory cause (IsTold rom roots frames fault.call chain at before cause)
 
--- so has a refusal of roots alone (profile)
+-- the same for a refusal of roots alone (profile)
 abbrev pub HasRootCause : Rom → List (ℕ × Key) → MakeFault → Type 0
 HasRootCause rom roots f =
     (why : EntryFault) × (make_fault_of why ≡ f) × HasCause rom roots [] (record { call = None; why = why })

@@ -1,4 +1,4 @@
--- What a frame comes to by the certificate that is made for it. All of it is profile.
+-- The verdict on a frame by the certificate that is made for it. All of it is profile.
 use Rattle.std.specs.Prelude.{◌≡◌, ◌≢◌, ℕ, ◌≤◌, ◌⊎◌, List, [], ◌∷◌, Some, None, Result, Ok, Err}
 use Rattle.dvg_words.specs.Memory.{Rom}
 use Rattle.dvg_words.specs.Values.{Window}
@@ -13,7 +13,7 @@ pub use Rattle.dvg_make.specs.declared.judging.FrameRefusal.{FrameRefusal}
 pub use Rattle.dvg_make.specs.declared.judging.FrameRefusal.TheVariants.{Make, NoMemory, Check}
 use Rattle.dvg_make.specs.Frames.{FrameMade}
 use Rattle.dvg_make.specs.Accounts.{HasCause}
-use Rattle.dvg_make.specs.Refusals.{Memory, FrameCall, FramesFault, Accepts, BarsList, BarsFrame, StopsAt}
+use Rattle.dvg_make.specs.Refusals.{Memory, FrameCall, FramesFault, Accepts, BarsList, BarsFrame, CallBarredAt}
 
 -- no certificate gets the frame accepted in this window with fewer words, or less depth (profile)
 abbrev pub AreLeast : Rom → List ℕ → Window → ℕ → ℕ → Type 0
@@ -25,41 +25,42 @@ abbrev pub NoneWithin : Rom → List ℕ → Window → ℕ → Type 0
 NoneWithin rom words w most =
     (mode : Mode) (list : List Entry) (budget n d : ℕ) → budget ≤ most → Accepts rom words w mode list budget n d → ⊥
 
--- what a refusal by the made certificate means; the checker gives no other one here (profile)
+-- what a refusal of the checker means, by the made certificate; it gives no other refusal here (profile)
 abbrev pub CheckMeans : Rom → List ℕ → Window → ℕ → Refusal → Type 0
 CheckMeans rom words w budget (refusal.Shape f) = NoneWithin rom words w budget
 CheckMeans rom words w budget (refusal.Frame f) = NoneWithin rom words w budget
 CheckMeans rom words w budget refusal.IndexMemory = Unit {0}
 CheckMeans rom words w budget r = ⊥
 
--- what a refusal means: no certificate gets the frame accepted; but for 62 by the number of entries, where each list that is
--- made is too long and another certificate may, and where memory was out (profile)
+-- what a refusal means: no certificate gets the frame accepted. After 62 for too many entries, where each made list is too
+-- long, another certificate may; a want of memory says nothing (profile)
 abbrev pub FrameRefused : Rom → List ℕ → Window → ℕ → FrameRefusal → Type 0
 FrameRefused rom words w budget (Make at Memory) = ⊥
 FrameRefused rom words w budget (Make at why) = BarsList rom [] (words ∷ []) why × BarsFrame rom words why
 FrameRefused rom words w budget NoMemory = Unit {0}
 FrameRefused rom words w budget (Check r) = CheckMeans rom words w budget r
 
--- the made list of the frame, and what its shapes and the frame come to by it (profile)
+-- the frame has a made list, and this is the checker's answer by that list (profile)
 pub record ByMade (rom : Rom) (words : List ℕ) (w : Window) (budget : ℕ) (answer : Result Yes Refusal) : Type 0 where
   pub list : List Entry
   pub made : FrameMade rom words list
   pub verdict : PartsVerdict Exact w rom list words budget answer
 
 -- the verdict on a frame by its own certificate (profile)
-abbrev pub FrameVerdict : Rom → List ℕ → Window → ℕ → Result Yes FrameRefusal → Type 0
-FrameVerdict rom words w budget (Ok y) = ByMade rom words w budget (Ok y)
-FrameVerdict rom words w budget (Err (Check r)) = ByMade rom words w budget (Err r)
-FrameVerdict rom words w budget (Err (Make at why)) = StopsAt rom words at why
-FrameVerdict rom words w budget (Err NoMemory) = Unit {0}
+abbrev pub VerdictByMade : Rom → List ℕ → Window → ℕ → Result Yes FrameRefusal → Type 0
+VerdictByMade rom words w budget (Ok y) = ByMade rom words w budget (Ok y)
+VerdictByMade rom words w budget (Err (Check r)) = ByMade rom words w budget (Err r)
+VerdictByMade rom words w budget (Err (Make at why)) = CallBarredAt rom words at why
+VerdictByMade rom words w budget (Err NoMemory) = Unit {0}
 
--- a refusal at a call of the frame has a cause that is told (profile)
+-- a refusal at a call of the frame has a cause (profile)
 abbrev pub HasCallCause : Rom → List ℕ → FrameRefusal → Type 0
 HasCallCause rom words (Make at why) = HasCause rom [] (words ∷ []) (record { call = Some (record { frame = 0; at = at }); why = why })
 HasCallCause rom words NoMemory = Unit {0}
 HasCallCause rom words (Check r) = Unit {0}
 
--- the refusal of a frame for whose certificate the maker has this fault: that memory is out, too, where it names no call (profile)
+-- the refusal of a frame whose certificate can't be made, by the maker's fault. A fault that names no call is a want of memory
+-- (profile)
 abbrev pub IsRefusalBy : FramesFault → FrameRefusal → Type 0
 IsRefusalBy fault (Make at why) = (fault.why ≡ why) × (why ≢ Memory) × ((call : FrameCall) × (fault.call ≡ Some call) × (call.at ≡ at))
 IsRefusalBy fault NoMemory = (fault.call ≡ None) ⊎ (fault.why ≡ Memory)

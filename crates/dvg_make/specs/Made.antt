@@ -1,5 +1,5 @@
 -- What the maker makes: the list of entries that a ROM and roots ask for. All of it is profile.
-use Rattle.std.specs.Prelude.{◌≡◌, ◌≢◌, ℕ, ◌≤◌, ◌⊎◌, List, ◌∷◌, Some, None, Contains}
+use Rattle.std.specs.Prelude.{◌≡◌, ◌≢◌, ℕ, ◌≤◌, ◌⊎◌, List, [], ◌∷◌, Some, None, Contains}
 use Rattle.dvg_words.specs.Values.{Window}
 use Rattle.dvg_words.specs.Memory.{Rom, rom_word}
 use Rattle.dvg_words.specs.declared.instruction.Cell.TheVariants.{Holds}
@@ -25,11 +25,16 @@ use Rattle.dvg_items.specs.Least.{lit_points, IsLeast}
 abbrev pub HasEntry : List Entry → ℕ → Key → Type 0
 HasEntry list addr key = (e : Entry) × (entry_at list addr key ≡ Some e)
 
--- holds of each item of the shape at an address that is there and not odd, with the items before it (profile)
+-- holds of each item of the shape at an address, with the items before it; a missing or odd item is none (profile)
 abbrev pub EachItem : Rom → ℕ → (List Item → Item → Type 0) → Type 0
 EachItem rom addr P =
     (earlier : List Item) (i : Item) → LeadsTo Shape (rom_word rom) addr earlier i.at
     → cell_at (rom_word rom) i.at ≡ Holds i.format i.instr → P earlier i
+
+-- holds of each of these items, with those before it (profile)
+abbrev pub AllHold : (List Item → Item → Type 0) → List Item → Type 0
+AllHold P [] = Unit {0}
+AllHold P (i ∷ earlier) = AllHold P earlier × P earlier i
 
 -- holds of all items of the shape at an address, up to and with the last one (profile)
 abbrev pub AtEnd : Rom → ℕ → (List Item → Type 0) → Type 0
@@ -58,7 +63,7 @@ pub record IsMade (rom : Rom) (list : List Entry) (e : Entry) : Type 0 where
   pub words : e.words ≤ MOST_WORDS
   pub depth : e.depth ≤ MOST_DEPTH
 
--- each entry of the list is (profile)
+-- each entry of the list is a made one, within the limits (profile)
 abbrev pub AllMade : Rom → List Entry → Type 0
 AllMade rom list = (e : Entry) → Contains list e → IsMade rom list e
 
@@ -78,7 +83,7 @@ pub record Needs (rom : Rom) (list : List Entry) (e f : Entry) : Type 0 where
 
 -- the list that is made for a ROM and for the addresses and keys that are asked for (profile)
 pub record MadeFor (rom : Rom) (IsAsked : ℕ → Key → Type 0) (list : List Entry) : Type 0 where
-  -- it is a certificate's
+  -- its entries are those of a certificate
   pub certificate : IsCertificate rom.map list
   -- each of its entries is a made one
   pub each : (e : Entry) → Contains list e → MadeEntry rom list e

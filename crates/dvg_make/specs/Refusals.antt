@@ -15,7 +15,7 @@ pub use Rattle.dvg_make.specs.declared.fault.FrameCall.{FrameCall}
 pub use Rattle.dvg_make.specs.declared.fault.FramesFault.{FramesFault}
 use Rattle.dvg_cert.specs.declared.limits.TheConstants.{MOST_ENTRIES}
 use Rattle.dvg_make.specs.Made.{HasEntry, AllMade, Barred, Made}
-use Rattle.dvg_make.specs.Frames.{AllKeyed, FrameCalls, IsAskedFor, FramesMade}
+use Rattle.dvg_make.specs.Frames.{CallAt, IsAskedFor, FramesMade}
 
 -- the number of a refusal (profile)
 abbrev pub fault_number : MakeFault → ℕ
@@ -55,7 +55,8 @@ AllTooLong rom roots frames =
     (list : List Entry) → AllMade rom list
     → ((addr : ℕ) (key : Key) → IsAskedFor roots frames list addr key → HasEntry list addr key) → MOST_ENTRIES < length list
 
--- 60, 61 and 62 by a count say that no made list exists, 62 by the number of entries that each is too long; 63 says nothing (profile)
+-- 60, 61 and 62 for too many words say that no made list exists, 62 for too many entries that each is too long; 63 says nothing
+-- (profile)
 abbrev pub BarsList : Rom → List (ℕ × Key) → List (List ℕ) → EntryFault → Type 0
 BarsList rom roots frames (Unstraight word) = NoFramesMade rom roots frames
 BarsList rom roots frames Deep = NoFramesMade rom roots frames
@@ -63,20 +64,19 @@ BarsList rom roots frames TooManyWords = NoFramesMade rom roots frames
 BarsList rom roots frames TooManyEntries = AllTooLong rom roots frames
 BarsList rom roots frames Memory = Unit {0}
 
--- a certificate for a ROM at this map gets the frame with these words accepted in a window and within a budget, with these
--- counts: its shapes are good, and so is the frame by it (profile)
+-- by this certificate the frame is accepted in a window and within a budget, with these counts: the certificate's shapes are
+-- good, and so is the frame (profile)
 pub record Accepts (rom : Rom) (words : List ℕ) (w : Window) (mode : Mode) (list : List Entry) (budget count depth : ℕ) : Type 0 where
   pub certificate : IsCertificate rom.map list
   pub good : Good mode w rom list
   pub frame : GoodFrame w words list budget count depth
 
--- no certificate does, in whatever window and within whatever budget (profile)
+-- no certificate gets the frame accepted, whatever the window and the budget (profile)
 abbrev pub NoneAccepts : Rom → List ℕ → Type 0
 NoneAccepts rom words =
     (w : Window) (mode : Mode) (list : List Entry) (budget count depth : ℕ) → Accepts rom words w mode list budget count depth → ⊥
 
--- what a refusal at a call of the frame says of the frame: no certificate gets it accepted; 62 by the number of entries and 63
--- say nothing (profile)
+-- what a refusal at a call says of the frame: no certificate gets it accepted. 62 for too many entries and 63 say nothing (profile)
 abbrev pub BarsFrame : Rom → List ℕ → EntryFault → Type 0
 BarsFrame rom words (Unstraight word) = NoneAccepts rom words
 BarsFrame rom words Deep = NoneAccepts rom words
@@ -84,7 +84,7 @@ BarsFrame rom words TooManyWords = NoneAccepts rom words
 BarsFrame rom words TooManyEntries = Unit {0}
 BarsFrame rom words Memory = Unit {0}
 
--- and of the entry that the call needs: no list of made entries has it (profile)
+-- what it says of the entry that the call needs: no list of made entries has it (profile)
 abbrev pub BarsEntry : Rom → ℕ → Key → EntryFault → Type 0
 BarsEntry rom addr key (Unstraight word) = Barred rom addr key
 BarsEntry rom addr key Deep = Barred rom addr key
@@ -92,21 +92,20 @@ BarsEntry rom addr key TooManyWords = Barred rom addr key
 BarsEntry rom addr key TooManyEntries = Unit {0}
 BarsEntry rom addr key Memory = Unit {0}
 
--- an item of the frame at this place calls, at the scale that is known there by a list of made entries, which has one for each
--- call before it; and its own is not made (profile)
-pub record StopsAt (rom : Rom) (words : List ℕ) (at : ℕ) (why : EntryFault) : Type 0 where
+-- by a list of made entries that has one for each call before, the item at this word of the frame calls an entry that can't be made
+-- (profile)
+pub record CallBarredAt (rom : Rom) (words : List ℕ) (at : ℕ) (why : EntryFault) : Type 0 where
   pub list : List Entry
   pub made : AllMade rom list
   pub to : ℕ
   pub scale : Key
-  pub calls : FrameCalls words list to scale
-  pub at_is : calls.item.at ≡ at
-  pub before : AllKeyed list calls.earlier
+  pub call : CallAt words list at to scale
   pub barred : BarsEntry rom to scale why
 
--- what a refusal says of the list, and of the frame whose call it names; where it names none, it is of the roots alone (profile)
+-- what a refusal says of the made list, and of the frame whose call it names. If it names none, it holds of the roots alone
+-- (profile)
 pub record FramesRefuse (rom : Rom) (roots : List (ℕ × Key)) (frames : List (List ℕ)) (fault : FramesFault) : Type 0 where
   pub list : BarsList rom roots frames fault.why
   pub root : IfNone fault.call (BarsList rom roots [] fault.why)
   pub frame : IfSome fault.call (λ call.
-      (words : List ℕ) × (slice_get frames call.frame ≡ Some words) × StopsAt rom words call.at fault.why × BarsFrame rom words fault.why)
+      (words : List ℕ) × (slice_get frames call.frame ≡ Some words) × CallBarredAt rom words call.at fault.why × BarsFrame rom words fault.why)

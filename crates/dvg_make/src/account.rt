@@ -1,4 +1,4 @@
-//! Why an entry can't be made, told in full.
+//! The account of a refusal: why an entry can't be made.
 
 ghost use Rattle.std.specs.Prelude.{◌≡◌, ◌⊎◌, IfOk, IfErr};
 ghost use Rattle.dvg_make.specs.Frames.{FramesMade};
@@ -8,15 +8,15 @@ ghost use Rattle.dvg_make.specs.Private.Making.{TellsIt, TellsMemory};
 
 use crate::fault::{EntryFault, FramesFault};
 use crate::maker::{certificate_of, make_all};
-use crate::stuck::FramesStuck;
+use crate::obstacle::BlockedCall;
 use dvg_cert::{Cert, Key};
 use dvg_items::{Kind, Known};
 use dvg_words::{FrameImage, RomImage};
 use std::alloc::{AllocError, Global};
 
-/// A shape on the way to a refusal: its word address, and the scale at which it is called, `Any` where it is not known.
+/// A shape: its word address, and the global scale at which it is called, `Any` if the scale is unknown.
 #[derive(Clone, Copy, Debug, PartialEq, Eq)]
-pub struct Link {
+pub struct ShapeAt {
     pub addr: u16,
     pub key: Key,
 }
@@ -49,7 +49,7 @@ pub enum EntryCause {
 }
 
 impl EntryCause {
-    /// The refusal by this cause at a word address.
+    /// The refusal to which this cause at a word address leads.
     pub fn fault(self, at: u16) -> EntryFault
         ensures { result ≡ entry_fault at self }
     {
@@ -76,22 +76,22 @@ impl From<AllocError> for EntryCause {
     }
 }
 
-/// A refusal of [`make_for_frames`](crate::make_for_frames) told in full.
-///
-/// The chain has the shapes on the way to the one that can't be made: the first is the root or what the frame calls, and each
-/// calls or tail jumps to the next. In the last of them stands, at `at`, the item by which it can't be made, and `before` is known
-/// there. The chain is empty where the entry that is asked for is not even begun: then `at` is its address, and `before` what is
-/// known before its first item. Where memory was out, only the fault counts.
+/// A refusal of [`make_for_frames`](crate::make_for_frames), with all that led to it. If memory was out, only `fault` counts.
 #[derive(Drop)]
 pub struct MakeAccount {
     pub fault: FramesFault,
-    pub chain: Vec<Link>,
+    /// The shapes on the way to the faulty item, the outermost first: a root or what the frame calls. Each calls or tail jumps to
+    /// the next. Empty if the entry that is asked for is not even begun.
+    pub chain: Vec<ShapeAt>,
+    /// The word address of the faulty item, which stands in the last shape of the chain. If the chain is empty, the address of the
+    /// entry that is asked for.
     pub at: u16,
+    /// What is known before the item at `at`.
     pub before: Known,
     pub cause: EntryCause,
 }
 
-/// What is told where memory was out.
+/// The account of a want of memory.
 fn out_of_memory(alloc: Global) -> MakeAccount
     ensures { TellsMemory result }
 {
@@ -107,28 +107,28 @@ fn out_of_memory(alloc: Global) -> MakeAccount
     }
 }
 
-/// What is told of a refusal.
-fn account_of(alloc: Global, refusal: &FramesStuck) -> MakeAccount
+/// The account of a refusal. It is a want of memory if there is none for the chain.
+fn account_of(alloc: Global, refusal: &BlockedCall) -> MakeAccount
     ensures { TellsIt refusal.now result ⊎ TellsMemory result }
 {
-    let stop = refusal.stuck.stop;
-    match refusal.stuck.chain.links(alloc) {
+    let obstacle = refusal.blocked.obstacle;
+    match refusal.blocked.chain.shapes(alloc) {
         Ok(chain) => MakeAccount {
             fault: refusal.fault(),
             chain,
-            at: stop.cursor.at,
-            before: stop.cursor.known,
-            cause: stop.cause,
+            at: obstacle.cursor.at,
+            before: obstacle.cursor.known,
+            cause: obstacle.cause,
         },
         Err(_) => out_of_memory(alloc),
     }
 }
 
-/// Makes what [`make_for_frames`](crate::make_for_frames) makes, or tells in full why not: with its refusal the shapes on the way
-/// to the one that can't be made, the item in it, what is known before it, and the cause in numbers (profile).
+/// Makes what [`make_for_frames`](crate::make_for_frames) makes. A refusal comes with its account: the shapes on the way to the
+/// faulty item, the item, what is known before it, and the cause in numbers (profile).
 ///
-/// All of it is so by the entries that were made so far. Where memory was out, also for the account itself, it is 63 and tells no
-/// more. Takes memory as `make_for_frames` does, and for the chain.
+/// The account holds by the entries that were made by then. If memory was out, also for the account, it is 63 and tells no more.
+/// Takes memory as `make_for_frames` does, and for the chain.
 pub fn explain_making(
     alloc: Global,
     rom: &RomImage,

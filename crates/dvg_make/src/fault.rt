@@ -7,7 +7,7 @@ ghost use Rattle.dvg_make.specs.declared.fault.MakeFault.TheVariants as make;
 use std::alloc::AllocError;
 use thiserror::Error;
 
-/// Why an entry is not made that a certificate needs: 60 to 63, of which 62 has two cases.
+/// Why an entry that a certificate needs can't be made: 60 to 63, with two cases of 62.
 #[derive(Clone, Copy, Debug, PartialEq, Eq, Error)]
 pub enum EntryFault {
     /// 60: the item at this word is missing, odd or HALT, or it lights at an unknown place or scale; or the root at this
@@ -47,7 +47,7 @@ pub enum MakeFault {
 }
 
 impl MakeFault {
-    /// The number of the refusal, as a report has it.
+    /// 60 to 63.
     pub fn number(self) -> u8
         ensures { result ≡ fault_number self }
     {
@@ -80,10 +80,10 @@ pub struct FrameCall {
     pub at: u16,
 }
 
-/// Why no certificate is made for frames: the call whose entry is not made, none where it is a root's or memory was
-/// out after all calls, and why not.
+/// Why no certificate is made for frames.
 #[derive(Clone, Copy, Debug, PartialEq, Eq)]
 pub struct FramesFault {
+    /// The call whose entry can't be made. `None` if it is a root's entry, or if memory was out after all calls.
     pub call: Option<FrameCall>,
     pub why: EntryFault,
 }

@@ -1,37 +1,37 @@
-//! The calls of a frame, one after another.
+//! The entries that a frame calls, one call after another.
 
 ghost use Rattle.std.specs.Prelude.{OnOk, IfOk, IfErr};
 ghost use Rattle.dvg_words.specs.Values.{IsMap};
 ghost use Rattle.dvg_words.specs.Decoding.{InstrFits};
 ghost use Rattle.dvg_cert.specs.Entry.{IsKey};
-ghost use Rattle.dvg_make.specs.Private.Making.{IsDone, stop_fault};
-ghost use Rattle.dvg_make.specs.Private.Walking.{AreTails, Extends};
+ghost use Rattle.dvg_make.specs.Private.Making.{IsDone, obstacle_fault};
+ghost use Rattle.dvg_make.specs.Private.Partial.{AreTails, Extends};
 ghost use Rattle.dvg_make.specs.Private.Framing.{IsCalledBy, BarsTarget, IsFramed, BarsHere, TellsTarget, TellsHere};
 
-use crate::done::Done;
+use crate::made_entries::MadeEntries;
+use crate::obstacle::BlockedChain;
 use crate::shapes::need;
-use crate::stuck::Stuck;
 use dvg_cert::{Entry, Key};
 use dvg_items::{Item, Kind, scale_past, target};
 use dvg_words::{Cell, FrameImage, Instr, RomImage, read_cell};
 use std::alloc::Global;
 
-/// The word address of a call whose entry is not made, and where its making stops.
+/// A call of a frame whose entry can't be made.
 #[derive(Drop)]
 pub struct CallFault {
     pub at: u16,
-    pub stuck: Stuck,
+    pub blocked: BlockedChain,
 }
 
-/// The entry that an instruction of a frame calls at this scale, which is made where it is not made yet.
+/// The entry that an instruction of a frame calls at this scale. It is made if it is not made yet.
 fn make_call(
     alloc: Global,
     rom: &RomImage,
-    done: &mut Done,
-    tails: &mut Done,
+    done: &mut MadeEntries,
+    tails: &mut MadeEntries,
     instr: &Instr,
     scale: Key,
-) -> Result<Option<Entry>, Stuck>
+) -> Result<Option<Entry>, BlockedChain>
     requires map { IsMap rom.now.map }
     requires done { IsDone rom.now done.old }
     requires tails { AreTails rom.now done.old tails.old }
@@ -39,8 +39,8 @@ fn make_call(
     requires key { IsKey scale }
     ensures ok { IfOk result (IsCalledBy rom.now done.old instr.now scale done.new) }
     ensures tails { IfOk result (λ callee. AreTails rom.now done.new tails.new) }
-    ensures err { IfErr result (λ stuck. BarsTarget rom.now done.old instr.now scale (stop_fault stuck.stop)) }
-    ensures told { IfErr result (λ stuck. TellsTarget rom.now done.old instr.now scale stuck.chain stuck.stop) }
+    ensures err { IfErr result (λ blocked. BarsTarget rom.now done.old instr.now scale (obstacle_fault blocked.obstacle)) }
+    ensures told { IfErr result (λ blocked. TellsTarget rom.now done.old instr.now scale blocked.chain blocked.obstacle) }
 {
     let Some(to) = target(Kind::Frame, instr) else {
         return Ok(None);
@@ -49,12 +49,12 @@ fn make_call(
     Ok(done.find(to, scale))
 }
 
-/// Makes the entries of all that a frame calls, each at the scale that is known before the call, and all that they need.
+/// Makes the entries that a frame calls, each at the scale that is known before the call, and all that these need.
 pub fn make_frame(
     alloc: Global,
     rom: &RomImage,
-    done: &mut Done,
-    tails: &mut Done,
+    done: &mut MadeEntries,
+    tails: &mut MadeEntries,
     frame: &FrameImage,
 ) -> Result<(), CallFault>
     requires map { IsMap rom.now.map }
@@ -63,15 +63,15 @@ pub fn make_frame(
     ensures grows { OnOk result (Extends done.old done.new) }
     ensures ok { OnOk result (IsFramed rom.now frame.now done.old done.new) }
     ensures tails { OnOk result (AreTails rom.now done.new tails.new) }
-    ensures err { IfErr result (λ fault. BarsHere rom.now frame.now done.old fault.at (stop_fault fault.stuck.stop)) }
-    ensures told { IfErr result (λ fault. TellsHere rom.now frame.now done.old fault.at fault.stuck.chain fault.stuck.stop) }
+    ensures err { IfErr result (λ fault. BarsHere rom.now frame.now done.old fault.at (obstacle_fault fault.blocked.obstacle)) }
+    ensures told { IfErr result (λ fault. TellsHere rom.now frame.now done.old fault.at fault.blocked.chain fault.blocked.obstacle) }
 {
     let mut at = 0;
     let mut scale = Key::Any;
     while let Cell::Holds { format, instr } = read_cell(frame, at) {
         let callee = match make_call(alloc, rom, done, tails, &instr, scale) {
             Ok(callee) => callee,
-            Err(stuck) => return Err(CallFault { at, stuck }),
+            Err(blocked) => return Err(CallFault { at, blocked }),
         };
         scale = scale_past(&instr, scale, &callee);
         let item = Item { at, format, instr };

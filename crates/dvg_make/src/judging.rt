@@ -1,4 +1,4 @@
-//! A frame judged by the certificate that is made for it.
+//! The verdict on a frame by the certificate that is made for it.
 
 ghost use Rattle.std.specs.Prelude.{◌≡◌, ◌≤◌, [], ◌∷◌, Err, IfOk, IfErr};
 ghost use Rattle.dvg_cert.specs.declared.limits.TheConstants.{MOST_WORDS};
@@ -6,7 +6,8 @@ ghost use Rattle.dvg_check.specs.Safety.{Safe, CountsAtHalt};
 ghost use Rattle.dvg_make.specs.Accounts.{entry_fault, IsAccount};
 ghost use Rattle.dvg_make.specs.Frames.{FrameMade};
 ghost use Rattle.dvg_make.specs.Refusals.{FramesRefuse};
-ghost use Rattle.dvg_make.specs.Judging.{AreLeast, FrameRefused, FrameVerdict, HasCallCause, IsRefusalBy};
+ghost use Rattle.dvg_make.specs.Private.Judged.{IsJudged};
+ghost use Rattle.dvg_make.specs.Judging.{AreLeast, FrameRefused, VerdictByMade, HasCallCause, IsRefusalBy};
 
 use crate::account::{MakeAccount, explain_making};
 use crate::fault::{EntryFault, FramesFault};
@@ -17,14 +18,14 @@ use dvg_words::{FrameImage, RomImage, Window};
 use std::alloc::Global;
 use std::slice;
 
-/// Why a frame is not accepted by the certificate that is made for it.
+/// Why a frame is refused by the certificate that is made for it, or why none is made.
 #[derive(Clone, Copy, Debug, PartialEq, Eq)]
 pub enum FrameRefusal {
-    /// 60 to 62: the entry of the call at this word of the frame is not made.
+    /// 60 to 62: the entry that the item at this word of the frame calls can't be made.
     Make { at: u16, why: EntryFault },
     /// 63: there was no memory for the certificate.
     NoMemory,
-    /// What the checker says: the first fault of the made shapes, or the frame's, or 50.
+    /// The checker's refusal: the first fault of the made shapes or of the frame, or 50.
     Check(Refusal),
 }
 
@@ -38,7 +39,7 @@ fn refusal_of(fault: &FramesFault) -> FrameRefusal
     }
 }
 
-/// The verdict on a frame by the certificate that is made for it.
+/// The checker's verdict on a frame by the certificate that was made for it.
 fn check_made(
     alloc: Global,
     rom: &RomImage,
@@ -50,12 +51,7 @@ fn check_made(
     requires budget { budget ≤ MOST_WORDS }
     requires map { rom.now.map ≡ cert.now.map }
     requires made { FrameMade rom.now frame.now cert.now.entries }
-    ensures verdict { FrameVerdict rom.now frame.now window budget result }
-    ensures safe { IfOk result (λ yes. Safe (record { frame = frame.now; rom = rom.now }) window yes.words yes.depth) }
-    ensures exact { IfOk result (λ yes. CountsAtHalt (record { frame = frame.now; rom = rom.now }) yes.words yes.depth) }
-    ensures least { IfOk result (λ yes. AreLeast rom.now frame.now window yes.words yes.depth) }
-    ensures refused { IfErr result (FrameRefused rom.now frame.now window budget) }
-    ensures told { IfErr result (HasCallCause rom.now frame.now) }
+    ensures { IsJudged rom.now frame.now window budget result }
 {
     match check_parts_exact(alloc, rom, frame, cert, budget, window) {
         Ok(yes) => Ok(yes),
@@ -79,7 +75,7 @@ pub fn judge(
     window: Window,
 ) -> Result<Yes, FrameRefusal>
     requires { budget ≤ MOST_WORDS }
-    ensures verdict { FrameVerdict rom.now frame.now window budget result }
+    ensures verdict { VerdictByMade rom.now frame.now window budget result }
     ensures safe { IfOk result (λ yes. Safe (record { frame = frame.now; rom = rom.now }) window yes.words yes.depth) }
     ensures exact { IfOk result (λ yes. CountsAtHalt (record { frame = frame.now; rom = rom.now }) yes.words yes.depth) }
     ensures least { IfOk result (λ yes. AreLeast rom.now frame.now window yes.words yes.depth) }
@@ -92,18 +88,17 @@ pub fn judge(
     }
 }
 
-/// What a frame comes to by its own certificate, and that certificate.
+/// The verdict on a frame by its own certificate, with that certificate.
 #[derive(Drop)]
 pub struct JudgedFrame {
     pub verdict: Result<Yes, FrameRefusal>,
-    /// The certificate, or in full why none was made.
+    /// The certificate, or the account of why none was made.
     pub made: Result<Cert, MakeAccount>,
 }
 
-/// Judges a frame as [`judge`] does, and gives with the verdict what it was come to by: the certificate, or the account of
-/// [`explain_making`].
+/// Judges a frame as [`judge`] does. With the verdict it gives the certificate, or the account of [`explain_making`].
 ///
-/// Where there is no memory for that account, the verdict is 63. Takes memory as `judge` and `explain_making` do.
+/// If there is no memory for that account, the verdict is 63. Takes memory as `judge` and `explain_making` do.
 pub fn explain_judging(
     alloc: Global,
     rom: &RomImage,
@@ -114,7 +109,7 @@ pub fn explain_judging(
     requires { budget ≤ MOST_WORDS }
 
     // The verdict is one of `judge`.
-    ensures verdict { FrameVerdict rom.now frame.now window budget result.verdict }
+    ensures verdict { VerdictByMade rom.now frame.now window budget result.verdict }
     ensures safe { IfOk result.verdict (λ yes. Safe (record { frame = frame.now; rom = rom.now }) window yes.words yes.depth) }
     ensures exact { IfOk result.verdict (λ yes. CountsAtHalt (record { frame = frame.now; rom = rom.now }) yes.words yes.depth) }
     ensures least { IfOk result.verdict (λ yes. AreLeast rom.now frame.now window yes.words yes.depth) }

@@ -1,4 +1,4 @@
-//! The least box.
+//! Least boxes, one item after another.
 
 ghost use Rattle.std.specs.Prelude.{List, ◌++◌};
 ghost use Rattle.dvg_words.specs.declared.map.TheConstants.{ADDRESS_END};
@@ -10,7 +10,7 @@ ghost use Rattle.dvg_items.specs.Least.{IsLeast};
 use dvg_cert::{End, LitBox};
 use dvg_items::{LitExtent, relative_corners, widened};
 
-/// The least box that also has what is lit at a relative place.
+/// The least box of what this one is the least box of, and of what an item lights from a relative place.
 pub fn boxed(lit: &LitBox, extent: &LitExtent, place: &End) -> LitBox
     requires place { IsNearPlace ADDRESS_END place.now }
     requires extent { IsNearExtent extent.now }

@@ -6,20 +6,20 @@
 #![tactic(auto)]
 
 mod account;
-mod done;
 mod fault;
 mod frames;
 mod judging;
 pub mod laws;
 mod least;
+mod made_entries;
 mod maker;
+mod obstacle;
+mod partial;
 mod shapes;
 mod stack;
-mod stuck;
 mod tails;
-mod walk;
 
-pub use account::{EntryCause, Link, MakeAccount, explain_making};
+pub use account::{EntryCause, MakeAccount, ShapeAt, explain_making};
 pub use fault::{EntryFault, FrameCall, FramesFault, MakeFault};
 pub use judging::{FrameRefusal, JudgedFrame, explain_judging, judge};
 pub use maker::{make, make_for_frames};

@@ -1,6 +1,6 @@
-//! The maker: the entries of roots, and of what frames call.
+//! The maker: a certificate of the entries for roots, and for what frames call.
 
-ghost use Rattle.std.specs.Prelude.{◌≡◌, ◌↔◌, ◌≤◌, [], None, OnOk, IfOk, IfErr, IsTrue};
+ghost use Rattle.std.specs.Prelude.{◌≡◌, ◌↔◌, ◌≤◌, ℕ, List, [], None, OnOk, IfOk, IfErr, IsTrue};
 ghost use Rattle.dvg_words.specs.Values.{IsMap};
 ghost use Rattle.dvg_words.specs.Memory.{InRom};
 ghost use Rattle.dvg_cert.specs.Entry.{IsKey};
@@ -8,18 +8,18 @@ ghost use Rattle.dvg_make.specs.Made.{HasEntry, Made};
 ghost use Rattle.dvg_make.specs.Frames.{FramesMade};
 ghost use Rattle.dvg_make.specs.Refusals.{Refuses, FramesRefuse};
 ghost use Rattle.dvg_make.specs.Accounts.{HasCause, HasRootCause};
-ghost use Rattle.dvg_make.specs.Private.Making.{IsDone, Making, BarsRoot, BarsRoots, Collected, stop_fault, stuck_fault, IsToldFrom, IsToldOf};
-ghost use Rattle.dvg_make.specs.Private.Walking.{AreTails};
+ghost use Rattle.dvg_make.specs.Private.Making.{IsDone, InProgress, BarsRoots, Collected, obstacle_fault, blocked_fault, IsToldOf};
+ghost use Rattle.dvg_make.specs.Private.Partial.{AreTails};
 ghost use Rattle.dvg_make.specs.Private.Framing.{AllFramed, IsForSome, MakesFor};
 
 use crate::account::EntryCause;
-use crate::done::Done;
 use crate::fault::{FrameCall, FramesFault, MakeFault};
 use crate::frames::make_frame;
+use crate::made_entries::MadeEntries;
+use crate::obstacle::{BlockedCall, BlockedChain};
+use crate::partial::PartialEntry;
 use crate::shapes::need;
 use crate::stack::Stack;
-use crate::stuck::{FramesStuck, Stuck};
-use crate::walk::Walk;
 use dvg_cert::{Cert, Key, certificate_unchecked, is_key};
 use dvg_words::{FrameImage, RomImage, RomMap};
 use std::alloc::{AllocError, Global};
@@ -32,69 +32,49 @@ fn can_be_root(rom: &RomImage, addr: u16, key: Key) -> bool
     map.first() <= addr && addr <= map.last() && is_key(key)
 }
 
-/// Makes the entry of a root, if it is not made yet.
-fn need_root(
-    alloc: Global,
-    rom: &RomImage,
-    done: &mut Done,
-    tails: &mut Done,
-    addr: u16,
-    key: Key,
-) -> Result<(), Stuck>
-    requires map { IsMap rom.now.map }
-    requires done { IsDone rom.now done.old }
-    requires tails { AreTails rom.now done.old tails.old }
-    ensures ok { OnOk result (Making rom.now done.old (addr, key) done.new []) }
-    ensures has { OnOk result (HasEntry done.new addr key) }
-    ensures tails { OnOk result (AreTails rom.now done.new tails.new) }
-    ensures err { IfErr result (λ stuck. BarsRoot rom.now done.old (addr, key) (stop_fault stuck.stop)) }
-    ensures told { IfErr result (λ stuck. IsToldFrom rom.now done.old (addr, key) stuck.chain stuck.stop) }
-{
-    if !can_be_root(rom, addr, key) {
-        let stop = Walk::start(addr, key).stop(EntryCause::RootOutside);
-        let chain = Stack::new(alloc);
-        return Err(Stuck { chain, stop });
-    }
-    need(alloc, rom, done, tails, addr, key)
-}
-
-/// Makes the entries of all roots and all that they need.
+/// Makes the entries of all roots, and all that these need.
 fn make_roots(
     alloc: Global,
     rom: &RomImage,
     roots: &[(u16, Key)],
-    done: &mut Done,
-    tails: &mut Done,
-) -> Result<(), Stuck>
+    done: &mut MadeEntries,
+    tails: &mut MadeEntries,
+) -> Result<(), BlockedChain>
     requires map { IsMap rom.now.map }
     requires new { done.old ≡ [] }
     requires tails { AreTails rom.now done.old tails.old }
     ensures tails { OnOk result (AreTails rom.now done.new tails.new) }
     ensures ok { OnOk result (Collected rom.now roots.now done.new) }
-    ensures err { IfErr result (λ stuck. BarsRoots rom.now roots.now (stop_fault stuck.stop)) }
-    ensures told { IfErr result (λ stuck. IsToldOf rom.now roots.now [] None stuck.chain stuck.stop) }
+    ensures err { IfErr result (λ blocked. BarsRoots rom.now roots.now (obstacle_fault blocked.obstacle)) }
+    ensures told { IfErr result (λ blocked. (frames : List (List ℕ)) → IsToldOf rom.now roots.now frames None blocked.chain blocked.obstacle) }
 {
     for &(addr, key) in roots {
-        need_root(alloc, rom, done, tails, addr, key)?;
+        if !can_be_root(rom, addr, key) {
+            let obstacle = PartialEntry::start(addr, key).obstacle(EntryCause::RootOutside);
+            let chain = Stack::new(alloc);
+            return Err(BlockedChain { chain, obstacle });
+        }
+        need(alloc, rom, done, tails, addr, key)?;
     }
     Ok(())
 }
 
-/// Makes the entries of all that frames call, and all that they need. `roots`, whose entries are made, serve the contract alone.
+/// Makes the entries that frames call, and all that these need. The entries of `roots` are made already; only the contract speaks
+/// of them.
 fn make_calls(
     alloc: Global,
     rom: &RomImage,
     roots: &[(u16, Key)],
     frames: &[FrameImage],
-    done: &mut Done,
-    tails: &mut Done,
-) -> Result<(), FramesStuck>
+    done: &mut MadeEntries,
+    tails: &mut MadeEntries,
+) -> Result<(), BlockedCall>
     requires map { IsMap rom.now.map }
     requires tails { AreTails rom.now done.old tails.old }
     requires roots { Collected rom.now roots.now done.old }
     ensures ok { OnOk result (AllFramed rom.now roots.now frames.now done.new) }
-    ensures err { IfErr result (λ refusal. FramesRefuse rom.now roots.now frames.now (stuck_fault refusal)) }
-    ensures told { IfErr result (λ refusal. IsToldOf rom.now roots.now frames.now refusal.call refusal.stuck.chain refusal.stuck.stop) }
+    ensures err { IfErr result (λ refusal. FramesRefuse rom.now roots.now frames.now (blocked_fault refusal)) }
+    ensures told { IfErr result (λ refusal. IsToldOf rom.now roots.now frames.now refusal.call refusal.blocked.chain refusal.blocked.obstacle) }
 {
     for (frame, image) in frames.iter().enumerate() {
         if let Err(fault) = make_frame(alloc, rom, done, tails, image) {
@@ -102,36 +82,36 @@ fn make_calls(
                 frame,
                 at: fault.at,
             };
-            return Err(FramesStuck {
+            return Err(BlockedCall {
                 call: Some(call),
-                stuck: fault.stuck,
+                blocked: fault.blocked,
             });
         }
     }
     Ok(())
 }
 
-/// Makes the entries of all roots and frames, and all that they need.
+/// Makes the entries of all roots, of all that frames call, and of all that these need.
 pub fn make_all(
     alloc: Global,
     rom: &RomImage,
     roots: &[(u16, Key)],
     frames: &[FrameImage],
-) -> Result<Done, FramesStuck>
+) -> Result<MadeEntries, BlockedCall>
     requires map { IsMap rom.now.map }
     ensures ok { IfOk result (AllFramed rom.now roots.now frames.now) }
-    ensures err { IfErr result (λ refusal. FramesRefuse rom.now roots.now frames.now (stuck_fault refusal)) }
-    ensures told { IfErr result (λ refusal. IsToldOf rom.now roots.now frames.now refusal.call refusal.stuck.chain refusal.stuck.stop) }
+    ensures err { IfErr result (λ refusal. FramesRefuse rom.now roots.now frames.now (blocked_fault refusal)) }
+    ensures told { IfErr result (λ refusal. IsToldOf rom.now roots.now frames.now refusal.call refusal.blocked.chain refusal.blocked.obstacle) }
 {
-    let mut done = Done::new(alloc);
-    let mut tails = Done::new(alloc);
+    let mut done = MadeEntries::new(alloc);
+    let mut tails = MadeEntries::new(alloc);
     make_roots(alloc, rom, roots, &mut done, &mut tails)?;
     make_calls(alloc, rom, roots, frames, &mut done, &mut tails)?;
     Ok(done)
 }
 
-/// The certificate of the entries that are made, for a ROM at this map.
-pub fn certificate_of(alloc: Global, map: RomMap, mut done: Done) -> Result<Cert, AllocError>
+/// The certificate of the made entries, for a ROM at this map.
+pub fn certificate_of(alloc: Global, map: RomMap, mut done: MadeEntries) -> Result<Cert, AllocError>
     requires map { IsMap map }
     requires done { IsForSome map done }
     ensures made { IfOk result (λ cert. MakesFor map done cert.entries) }

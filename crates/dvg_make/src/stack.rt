@@ -1,33 +1,33 @@
-//! The shapes in the making, each waiting for the one after it.
+//! The shapes in the making. Each waits for the entry of the one above it.
 
 ghost use Rattle.std.specs.Prelude.{◌≡◌, ◌++◌, ◌∷◌, [], List, length, slice_get, Some, OnOk, OnErr, IfOk, IfSome, IfNone};
-ghost use Rattle.dvg_make.specs.declared.walk.Walk.{Walk as WalkValue};
-ghost use Rattle.dvg_make.specs.Private.Making.{IsMaking, links};
+ghost use Rattle.dvg_make.specs.declared.partial.PartialEntry.{PartialEntry as PartialValue};
+ghost use Rattle.dvg_make.specs.Private.Making.{IsMaking, shapes};
 
-use crate::account::Link;
-use crate::walk::Walk;
+use crate::account::ShapeAt;
+use crate::partial::PartialEntry;
 use dvg_cert::Key;
 use indexmap::IndexMap;
 use std::alloc::{AllocError, Global};
 use std::marker::Model;
 
-/// The shapes in the making, the first one pushed first, and no two with the same address and key.
+/// The shapes in the making, in the order in which they were pushed. No two have the same address and key.
 #[derive(Drop)]
 pub struct Stack {
-    walks: IndexMap<(u16, Key), Walk>,
+    by_key: IndexMap<(u16, Key), PartialEntry>,
 }
 
 impl Model for Stack {
     ghost use Rattle.std.specs.Prelude.{List};
     ghost use Rattle.std.specs.Map.{values_of};
-    ghost use Rattle.dvg_make.specs.declared.walk.Walk.{Walk as WalkValue};
+    ghost use Rattle.dvg_make.specs.declared.partial.PartialEntry.{PartialEntry as PartialValue};
     ghost use Rattle.dvg_make.specs.Private.Stacked.{AreOwn};
 
-    ghost Value = { List WalkValue };
+    ghost Value = { List PartialValue };
 
-    ghost view = { λ stack. values_of stack.walks.entries };
+    ghost view = { λ stack. values_of stack.by_key.entries };
 
-    ghost invariant = { λ stack. AreOwn stack.walks.entries };
+    ghost invariant = { λ stack. AreOwn stack.by_key.entries };
 }
 
 impl Stack {
@@ -36,7 +36,7 @@ impl Stack {
         ensures { result ≡ [] }
     {
         Stack {
-            walks: IndexMap::new(alloc),
+            by_key: IndexMap::new(alloc),
         }
     }
 
@@ -44,63 +44,63 @@ impl Stack {
     pub fn len(&self) -> usize
         ensures { result ≡ length self.now }
     {
-        self.walks.len()
+        self.by_key.len()
     }
 
-    /// Their addresses and keys, the first one pushed first.
-    pub fn links(&self, alloc: Global) -> Result<Vec<Link>, AllocError>
-        ensures { IfOk result (λ chain. chain.items ≡ links self.now) }
+    /// The addresses and keys of the shapes, the lowest first.
+    pub fn shapes(&self, alloc: Global) -> Result<Vec<ShapeAt>, AllocError>
+        ensures { IfOk result (λ chain. chain.items ≡ shapes self.now) }
     {
-        self.walks
+        self.by_key
             .values()
-            .map(|walk| Link {
-                addr: walk.addr,
-                key: walk.key,
+            .map(|partial| ShapeAt {
+                addr: partial.addr,
+                key: partial.key,
             })
             .collect(alloc)
     }
 
-    /// Where among them the shape with this address and key is, counted from 0, if it is in the making.
+    /// The position of the shape with this address and key, counted from 0 at the lowest, if it is in the making.
     pub fn position(&self, addr: u16, key: Key) -> Option<usize>
-        ensures some { IfSome result (λ i. (walk : WalkValue) × (slice_get self.now i ≡ Some walk) × (walk.addr ≡ addr) × (walk.key ≡ key)) }
+        ensures some { IfSome result (λ i. (partial : PartialValue) × (slice_get self.now i ≡ Some partial) × (partial.addr ≡ addr) × (partial.key ≡ key)) }
         ensures none { IfNone result (IsMaking self.now addr key → ⊥) }
     {
-        self.walks.get_index_of(&(addr, key))
+        self.by_key.get_index_of(&(addr, key))
     }
 
-    /// The shape on the top, the last one pushed.
-    pub fn top(&self) -> Option<Walk>
-        ensures some { IfSome result (λ walk. (rest : List WalkValue) × (self.now ≡ rest ++ walk ∷ [])) }
+    /// The shape that was pushed last.
+    pub fn top(&self) -> Option<PartialEntry>
+        ensures some { IfSome result (λ partial. (rest : List PartialValue) × (self.now ≡ rest ++ partial ∷ [])) }
         ensures none { IfNone result (self.now ≡ []) }
     {
-        let (_, walk) = self.walks.last()?;
-        Some(*walk)
+        let (_, partial) = self.by_key.last()?;
+        Some(*partial)
     }
 
     /// Puts a shape that is not in the making on the top.
-    pub fn push(&mut self, walk: Walk) -> Result<(), AllocError>
-        requires { IsMaking self.old walk.addr walk.key → ⊥ }
-        ensures ok { OnOk result (self.new ≡ self.old ++ walk ∷ []) }
+    pub fn push(&mut self, partial: PartialEntry) -> Result<(), AllocError>
+        requires { IsMaking self.old partial.addr partial.key → ⊥ }
+        ensures ok { OnOk result (self.new ≡ self.old ++ partial ∷ []) }
         ensures err { OnErr result (self.new ≡ self.old) }
     {
-        self.walks.insert((walk.addr, walk.key), walk)?;
+        self.by_key.insert((partial.addr, partial.key), partial)?;
         Ok(())
     }
 
-    /// The shape on the top was taken further.
-    pub fn replace_top(&mut self, walk: Walk)
-        requires { (rest : List WalkValue) × (old : WalkValue) × (self.old ≡ rest ++ old ∷ []) × (old.addr ≡ walk.addr) × (old.key ≡ walk.key) }
-        ensures { (rest : List WalkValue) (old : WalkValue) → self.old ≡ rest ++ old ∷ [] → self.new ≡ rest ++ walk ∷ [] }
+    /// Puts this in the place of the shape on the top, which has the same address and key.
+    pub fn replace_top(&mut self, partial: PartialEntry)
+        requires { (rest : List PartialValue) × (old : PartialValue) × (self.old ≡ rest ++ old ∷ []) × (old.addr ≡ partial.addr) × (old.key ≡ partial.key) }
+        ensures { (rest : List PartialValue) (old : PartialValue) → self.old ≡ rest ++ old ∷ [] → self.new ≡ rest ++ partial ∷ [] }
     {
-        if let Some(top) = self.walks.last_mut() {
-            *top = walk;
+        if let Some(top) = self.by_key.last_mut() {
+            *top = partial;
         }
     }
 
-    /// Takes the shape on the top away.
+    /// Removes the shape on the top.
     pub fn pop(&mut self)
-        ensures { (rest : List WalkValue) (old : WalkValue) → self.old ≡ rest ++ old ∷ [] → self.new ≡ rest }
+        ensures { (rest : List PartialValue) (old : PartialValue) → self.old ≡ rest ++ old ∷ [] → self.new ≡ rest }
     {
-        self.walks.pop();
+        self.by_key.pop();
     }
 }

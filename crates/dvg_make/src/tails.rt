@@ -1,78 +1,78 @@
-//! Tails: what shapes come to from a place on, kept for all that come by there at the same scale.
+//! Tails: entries for the rest of a shape, kept so that shapes which share it need not pass its items again.
 //!
-//! What a shape does from a place on depends on that place and the scale alone. So a tail is an entry: that of the shape which
-//! would start there. It is kept at marks, which are some words apart: a shape goes over its items no further than to the
-//! first mark whose tail is known, and what it comes to is what it came to by then and the tail.
+//! What a shape does from a word address on depends on that address and the scale there alone. So its tail from there is an
+//! entry: the one of a shape that starts there. Tails are kept at marks, word addresses that are some words apart. The maker
+//! passes the items of a shape up to the first mark whose tail it kept, and joins the tail to what it knows by then.
 
 ghost use Rattle.std.specs.Prelude.{Contains, ◌<◌, IfOk, IfSome, OnOk};
 ghost use Rattle.dvg_words.specs.Values.{IsMap};
 ghost use Rattle.dvg_cert.specs.Entry.{IsKey};
-ghost use Rattle.dvg_make.specs.Private.Making.{IsDone, AllWalks};
-ghost use Rattle.dvg_make.specs.Private.Walking.{IsWalk, AreTails};
+ghost use Rattle.dvg_make.specs.Private.Making.{IsDone, ArePartial};
+ghost use Rattle.dvg_make.specs.Private.Partial.{IsPartial, AreTails};
 ghost use Rattle.dvg_words.specs.declared.map.TheConstants.{ADDRESS_END};
 
-use crate::done::Done;
-use crate::walk::{Progress, Walk, advance};
+use crate::made_entries::MadeEntries;
+use crate::partial::{PartialEntry, Progress, advance};
 use dvg_cert::{Entry, Key};
 use dvg_items::{Item, Kind, scale_past, target};
 use dvg_words::{Cell, Instr, RomImage, read_cell};
 use std::alloc::{AllocError, Global};
 
-/// Of how many words two may be marks.
+/// How many words there are from a mark to the next but one.
 const SPACING: u16 = 16;
 
-/// Whether a tail is kept at a word address: at the first two of each sixteen, since an item of two words may go past either of them,
-/// and never past both.
+/// Whether a word address is a mark. The first two of each sixteen are, since an item of two words can begin before either of
+/// them and end behind it, but never jump both.
 pub fn is_mark(at: u16) -> bool {
     at % SPACING < 2
 }
 
-/// Whether a walk from one word address to a later one was so long that the tails at its marks are kept. Most shapes are shorter,
-/// and what a mark saves the next shape that comes by is less than what it costs.
+/// Whether a shape's tails are kept, by the word addresses at which it begins and ends. To keep the tails of a short shape costs
+/// more than they save.
 fn is_long(from: u16, to: u16) -> bool {
     to.saturating_sub(from) >= 2 * SPACING
 }
 
-/// The entry that an instruction calls at this very scale, if it is made.
-fn made_callee(done: &Done, instr: &Instr, scale: Key) -> Option<Entry>
+/// The entry for exactly this scale that an instruction calls, if it is made.
+fn made_callee(done: &MadeEntries, instr: &Instr, scale: Key) -> Option<Entry>
     ensures { IfSome result (λ callee. Contains done.now callee) }
 {
     let to = target(Kind::Shape, instr)?;
     done.find(to, scale)
 }
 
-/// Adds the walk that begins at a word address and a scale, if that is a mark.
+/// Adds the empty partial entry at a word address and a scale, if the address is a mark.
 fn push_mark(
-    marks: &mut Vec<Walk>,
-    done: &Done,
+    marks: &mut Vec<PartialEntry>,
+    done: &MadeEntries,
     rom: &RomImage,
     at: u16,
     scale: Key,
 ) -> Result<(), AllocError>
     requires near { at < ADDRESS_END }
     requires scale { IsKey scale }
-    ensures { AllWalks rom.now done.now marks.old.items → OnOk result (AllWalks rom.now done.now marks.new.items) }
+    ensures { ArePartial rom.now done.now marks.old.items → OnOk result (ArePartial rom.now done.now marks.new.items) }
 {
     if is_mark(at) {
-        marks.push(Walk::start(at, scale))?;
+        marks.push(PartialEntry::start(at, scale))?;
     }
     Ok(())
 }
 
-/// The walks that begin at the marks of a shape, each at the scale that is known there, in order, up to the first mark whose tail
-/// is known, or to the shape's end.
+/// The empty partial entries at a shape's marks, each at the scale that is known there. They go up to the first mark whose tail is
+/// kept already, or to the shape's end.
 fn marks(
     alloc: Global,
     rom: &RomImage,
-    done: &Done,
-    tails: &Done,
+    done: &MadeEntries,
+    tails: &MadeEntries,
     addr: u16,
     key: Key,
-) -> Result<Vec<Walk>, AllocError>
+) -> Result<Vec<PartialEntry>, AllocError>
     requires map { IsMap rom.now.map }
     requires done { IsDone rom.now done.now }
     requires key { IsKey key }
-    ensures { IfOk result (λ marks. AllWalks rom.now done.now marks.items) }
+    ensures { IfOk result (λ marks. ArePartial rom.now done.now marks.items) }
 {
     let mut marks = Vec::new(alloc);
     let mut at = addr;
@@ -92,10 +92,15 @@ fn marks(
     Ok(marks)
 }
 
-/// Keeps the tail at a mark, where there is one.
-fn keep_tail(rom: &RomImage, done: &Done, tails: &mut Done, mark: Walk) -> Result<(), AllocError>
+/// Keeps the tail that begins at a mark, if it can be made.
+fn keep_tail(
+    rom: &RomImage,
+    done: &MadeEntries,
+    tails: &mut MadeEntries,
+    mark: PartialEntry,
+) -> Result<(), AllocError>
     requires map { IsMap rom.now.map }
-    requires walk { IsWalk rom.now done.now mark }
+    requires partial { IsPartial rom.now done.now mark }
     requires done { IsDone rom.now done.now }
     requires tails { AreTails rom.now done.now tails.old }
     ensures { OnOk result (AreTails rom.now done.now tails.new) }
@@ -109,13 +114,13 @@ fn keep_tail(rom: &RomImage, done: &Done, tails: &mut Done, mark: Walk) -> Resul
     Ok(())
 }
 
-/// Keeps the tails at the marks of a shape whose entry is made, if it is long; the last one first, so that each is made of the items
-/// up to the next. `end` is where the walk over the shape ended.
+/// Keeps the tails at the marks of a made shape, if it is long. The last one comes first, so that each other one takes only the
+/// items up to the next mark. `end` is the word address at which the making of the shape ended.
 pub fn keep_tails(
     alloc: Global,
     rom: &RomImage,
-    done: &Done,
-    tails: &mut Done,
+    done: &MadeEntries,
+    tails: &mut MadeEntries,
     shape: &Entry,
     end: u16,
 ) -> Result<(), AllocError>

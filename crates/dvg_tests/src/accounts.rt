@@ -4,7 +4,7 @@ use crate::expecting::expect_same;
 use crate::making::{FOUR_CALLS, Part, large_rom, rom_bytes};
 use dvg_cert::{End, Key};
 use dvg_items::Known;
-use dvg_make::{EntryCause, EntryFault, FrameCall, Link, MakeAccount, explain_making};
+use dvg_make::{EntryCause, EntryFault, FrameCall, ShapeAt, MakeAccount, explain_making};
 use dvg_words::{ASTEROIDS, FrameImage, RomImage};
 use std::alloc::Global;
 use std::process::Abort;
@@ -19,13 +19,13 @@ const START: Known = Known {
 };
 
 /// The root of most rows.
-const ZERO: Link = Link {
+const ZERO: ShapeAt = ShapeAt {
     addr: 0x800,
     key: Key::At(0),
 };
 
 /// The same shape where the scale is not known.
-const ANY: Link = Link {
+const ANY: ShapeAt = ShapeAt {
     addr: 0x800,
     key: Key::Any,
 };
@@ -35,7 +35,7 @@ struct Told {
     what: &'static str,
     parts: &'static [Part<'static>],
     root: (u16, Key),
-    chain: &'static [Link],
+    chain: &'static [ShapeAt],
     at: u16,
     before: Known,
     cause: EntryCause,
@@ -69,7 +69,7 @@ const ROOTS: &[Told] = &[
         root: (0x800, Key::At(0)),
         chain: &[
             ZERO,
-            Link {
+            ShapeAt {
                 addr: 0xBFE,
                 key: Key::At(0),
             },
@@ -96,7 +96,7 @@ const ROOTS: &[Told] = &[
         root: (0x800, Key::Any),
         chain: &[
             ANY,
-            Link {
+            ShapeAt {
                 addr: 0x810,
                 key: Key::At(3),
             },
@@ -128,7 +128,7 @@ const ROOTS: &[Told] = &[
         root: (0x800, Key::Any),
         chain: &[
             ANY,
-            Link {
+            ShapeAt {
                 addr: 0x801,
                 key: Key::Any,
             },
@@ -158,12 +158,12 @@ const ROOTS: &[Told] = &[
         ],
         root: (0x900, Key::At(0)),
         chain: &[
-            Link {
+            ShapeAt {
                 addr: 0x900,
                 key: Key::At(0),
             },
             ZERO,
-            Link {
+            ShapeAt {
                 addr: 0x805,
                 key: Key::At(0),
             },
@@ -206,7 +206,7 @@ fn told_of(
 fn expect_told(
     rt: &impl Abort,
     account: &MakeAccount,
-    chain: &[Link],
+    chain: &[ShapeAt],
     place: (u16, Known),
     cause: EntryCause,
     what: &str,
@@ -274,7 +274,7 @@ fn explains_too_many_entries(rt: HostRuntime) -> Result<(), Fail> {
     expect_told(&rt, &account, &[], (0x800, before), many, "a root");
     let roots = [first, second, third, (0x801, Key::At(3)), last];
     let account = told_of(rt.alloc(), &bytes, &roots, &[])?;
-    let chain = Link {
+    let chain = ShapeAt {
         addr: 0x800,
         key: Key::At(4),
     };
@@ -294,7 +294,7 @@ fn explains_the_call_of_a_frame(rt: HostRuntime) -> Result<(), Fail> {
     };
     let account = told_of(rt.alloc(), &bytes, &[], &[first, second])?;
     let key = Key::At(2);
-    let chain = [Link { addr: 0x900, key }, Link { addr: 0x800, key }];
+    let chain = [ShapeAt { addr: 0x900, key }, ShapeAt { addr: 0x800, key }];
     let before = Known {
         scale: key,
         ..START

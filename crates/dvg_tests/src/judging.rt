@@ -7,7 +7,7 @@ use crate::texts::stroke_rom;
 use dvg_cert::{Cert, Key, read_cert};
 use dvg_check::{FrameFault, FrameWhy, Refusal, Yes};
 use dvg_make::{
-    EntryCause, EntryFault, FrameCall, FrameRefusal, FramesFault, JudgedFrame, Link,
+    EntryCause, EntryFault, FrameCall, FrameRefusal, FramesFault, JudgedFrame, ShapeAt,
     explain_judging, explain_making, judge, make_for_frames,
 };
 use dvg_words::{ASTEROIDS, FrameImage, RomImage, SCREEN};
@@ -153,7 +153,7 @@ fn explains_a_refused_frame(rt: HostRuntime) -> Result<(), Fail> {
     let Err(account) = &told.made else {
         return Err(Fail::new("a certificate was made"));
     };
-    let chain = [Link {
+    let chain = [ShapeAt {
         addr: 0x800,
         key: Key::At(0),
     }];

@@ -69,22 +69,23 @@ TakesLater map old line new (Ok Ended) = IsCertificate map new × (text_of map n
 TakesLater map old line new (Ok stage) = ⊥
 TakesLater map old line new (Err why) = IsCertificate map new × IsLineRefused (Begun map old) line why
 
--- what taking the entries does whose lines, each with its end, stand first; `bytes` sees what is left as its bytes
+-- what taking the entries gives with whose whole lines the bytes begin; `bytes` reads the bytes that are left
 abbrev pub TakesFirst : {X : Type 0} → (X → List ℕ) → Taken → List ℕ → Taken → Result X CertWhy → Type 0
 TakesFirst bytes old rest new (Ok after) = IsTaken new × (text_taken old ++ rest ≡ text_taken new ++ bytes after) × (length (bytes after) ≤ length rest)
 TakesFirst bytes old rest new (Err why) = (why ≡ Memory) × HasEntryAt (text_taken old ++ rest) (line_number new)
 
-abbrev pub TakesFirstLines : {X : Type 0} → (X → List ℕ) → Taken → List ℕ → Taken → Result X CertFault → Type 0
-TakesFirstLines bytes old rest new (Ok after) = TakesFirst bytes old rest new (Ok after)
-TakesFirstLines bytes old rest new (Err f) = IsRefusal (text_taken old ++ rest) f.line f.why × (f.why ≡ Memory)
+-- the same for a piece after a begun line: nothing is taken unless that line is empty
+abbrev pub TakesEntries : {X : Type 0} → (X → List ℕ) → Taken → List ℕ → List ℕ → Taken → Result X CertFault → Type 0
+TakesEntries bytes old begun rest new (Ok after) = (text_taken old ++ (begun ++ rest) ≡ text_taken new ++ (begun ++ bytes after)) × IsTaken new × IsRest new begun × (length (bytes after) ≤ length rest)
+TakesEntries bytes old begun rest new (Err f) = IsRefusal (text_taken old ++ (begun ++ rest)) f.line f.why × (f.why ≢ Unended)
 
--- where the next line ends, which may have fewer than `room` bytes
+-- the position at which the next line ends; a line has fewer than `room` bytes
 abbrev pub EndsLine : ℕ → List ℕ → Result (Option ℕ) CertWhy → Type 0
 EndsLine room rest (Ok (Some at)) = (rest ≡ take at rest ++ LINE_FEED ∷ drop (at + 1) rest) × Without LINE_FEED (take at rest) × (at < room) × (at < length rest)
 EndsLine room rest (Ok None) = Without LINE_FEED rest × (length rest < room)
 EndsLine room rest (Err why) = (why ≡ TooLong) × (room ≤ length rest) × Without LINE_FEED (take room rest)
 
--- what taking the next line of a piece gives; `bytes` sees what is left as its bytes
+-- what taking the next line of a piece gives; `bytes` reads the bytes that are left
 abbrev pub TakesNext : {X : Type 0} → (X → List ℕ) → Taken → List ℕ → List ℕ → Taken → List ℕ → Result (Option X) CertFault → Type 0
 TakesNext bytes taken begun rest taken' begun' (Ok None) = Holds (text_taken taken ++ (begun ++ rest)) taken' begun'
 TakesNext bytes taken begun rest taken' begun' (Ok (Some after)) = (text_taken taken ++ (begun ++ rest) ≡ text_taken taken' ++ bytes after) × IsTaken taken' × (begun' ≡ []) × (length (bytes after) < length rest)

@@ -7,6 +7,6 @@ lower_key (At m) (At n) = nat_lt m n
 lower_key (At m) Any = true
 lower_key Any key = false
 
--- the entry stands before those at this address and key
+-- the entry stands before the place of this address and key
 abbrev pub stands_before : ℕ → Key → Entry → Bool
 stands_before addr key e = nat_lt e.addr addr || (e.addr == addr && lower_key e.key key)

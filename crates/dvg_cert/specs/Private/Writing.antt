@@ -8,6 +8,6 @@ abbrev pub spaced : List (List ℕ) → List ℕ
 spaced [] = []
 spaced (t ∷ ts) = SPACE ∷ t ++ spaced ts
 
--- of this text all was sent but what is held
+-- all of this text was sent, but for the bytes that are held
 abbrev pub Buffered : Option (List ℕ) → Option (List ℕ) → List ℕ → List ℕ → Type 0
 Buffered old new held text = (sent : List ℕ) × Appends old new sent × (text ≡ sent ++ held)

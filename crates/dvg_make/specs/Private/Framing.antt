@@ -10,49 +10,49 @@ use Rattle.dvg_cert.specs.declared.entry.Key.{Key}
 use Rattle.dvg_items.specs.declared.item.Kind.TheVariants.{Frame}
 use Rattle.dvg_items.specs.Known.{target}
 use Rattle.dvg_make.specs.Made.{HasEntry, AllMade}
-use Rattle.dvg_make.specs.Frames.{AllKeyed, FrameCalls, IsAskedFor, FramesMade}
+use Rattle.dvg_make.specs.Frames.{AllKeyed, CallAt, FrameAsksFor, IsAskedFor, FramesMade}
 use Rattle.dvg_make.specs.Accounts.{AllWithin}
-use Rattle.dvg_make.specs.Refusals.{BarsFrame, StopsAt, EntryFault, Unstraight, Deep, TooManyWords, TooManyEntries, Memory}
-use Rattle.dvg_make.specs.Private.Walking.{Extends}
-use Rattle.dvg_make.specs.declared.walk.Walk.{Walk}
-use Rattle.dvg_make.specs.declared.stuck.Stop.{Stop}
-use Rattle.dvg_make.specs.Private.Making.{HasAll, Making, Bars, IsCalled, Collected, TellsStop, IsToldFrom, IsNoRoot}
+use Rattle.dvg_make.specs.Refusals.{BarsFrame, CallBarredAt, EntryFault, Unstraight, Deep, TooManyWords, TooManyEntries, Memory}
+use Rattle.dvg_make.specs.Private.Partial.{Extends}
+use Rattle.dvg_make.specs.declared.partial.PartialEntry.{PartialEntry}
+use Rattle.dvg_make.specs.declared.obstacle.Obstacle.{Obstacle}
+use Rattle.dvg_make.specs.Private.Making.{HasAll, InProgress, Bars, IsCalled, Collected, TellsObstacle, IsToldFrom, IsNoRoot}
 
 -- the list has an entry for each call of the frame with these words
 abbrev pub HasCalls : List ℕ → List Entry → Type 0
-HasCalls words list = (to : ℕ) (scale : Key) → FrameCalls words list to scale → HasEntry list to scale
+HasCalls words list = (to : ℕ) (scale : Key) → FrameAsksFor words list to scale → HasEntry list to scale
 
--- the entry that an instruction of a frame calls at this scale is made, where the one list was made before
+-- from the old list on, the entry that an instruction of a frame calls at this scale is made
 pub record IsCalledBy (rom : Rom) (old : List Entry) (instr : Instr) (scale : Key) (new : List Entry) (callee : Option Entry) : Type 0 where
   pub none : target Frame instr ≡ None → (new ≡ old) × (callee ≡ None)
-  pub some : (to : ℕ) → target Frame instr ≡ Some to → Making rom old (to, scale) new [] × HasEntry new to scale × (callee ≡ entry_at new to scale)
+  pub some : (to : ℕ) → target Frame instr ≡ Some to → InProgress rom old (to, scale) new [] × HasEntry new to scale × (callee ≡ entry_at new to scale)
 
--- it is not made, and why
+-- the entry that it calls can't be made, with this refusal
 abbrev pub BarsTarget : Rom → List Entry → Instr → Key → EntryFault → Type 0
 BarsTarget rom old instr scale why = (to : ℕ) × (target Frame instr ≡ Some to) × Bars rom old (to, scale) why
 
--- what is told of it
-abbrev pub TellsTarget : Rom → List Entry → Instr → Key → List Walk → Stop → Type 0
-TellsTarget rom old instr scale chain stop =
-    (to : ℕ) × (target Frame instr ≡ Some to) × IsToldFrom rom old (to, scale) chain stop × IsNoRoot stop
+-- what is told of that entry
+abbrev pub TellsTarget : Rom → List Entry → Instr → Key → List PartialEntry → Obstacle → Type 0
+TellsTarget rom old instr scale chain obstacle =
+    (to : ℕ) × (target Frame instr ≡ Some to) × IsToldFrom rom old (to, scale) chain obstacle × IsNoRoot obstacle
 
--- what is made past a frame, where the one list was made before
+-- from the old list on, the entries for all calls of a frame are made
 pub record IsFramed (rom : Rom) (words : List ℕ) (old new : List Entry) : Type 0 where
   pub has_calls : HasCalls words new
   pub calls : List (ℕ × Key)
-  pub calls_are : (to : ℕ) (scale : Key) → Contains calls (to, scale) → FrameCalls words new to scale
+  pub calls_are : (to : ℕ) (scale : Key) → Contains calls (to, scale) → FrameAsksFor words new to scale
   pub collected : (asked : List (ℕ × Key)) → Collected rom asked old → Collected rom (asked ++ calls) new
   pub forced : (list : List Entry) → AllMade rom list → Extends old list → HasCalls words list → Extends new list
 
--- no list of made entries has these, and an entry for each call of the frame
+-- no list of made entries has all of the old list and an entry for each call of the frame
 abbrev pub NoneHasCalls : Rom → List ℕ → List Entry → Type 0
 NoneHasCalls rom words old = (list : List Entry) → AllMade rom list → Extends old list → HasCalls words list → ⊥
 
--- each that has is too long for a certificate
+-- each list that has all of these is too long for a certificate
 abbrev pub LongHasCalls : Rom → List ℕ → List Entry → Type 0
 LongHasCalls rom words old = (list : List Entry) → AllMade rom list → Extends old list → HasCalls words list → MOST_ENTRIES < length list
 
--- what a refusal says of that
+-- what a refusal says of such lists
 abbrev pub BarsCalls : Rom → List ℕ → List Entry → EntryFault → Type 0
 BarsCalls rom words old (Unstraight word) = NoneHasCalls rom words old
 BarsCalls rom words old Deep = NoneHasCalls rom words old
@@ -60,40 +60,38 @@ BarsCalls rom words old TooManyWords = NoneHasCalls rom words old
 BarsCalls rom words old TooManyEntries = LongHasCalls rom words old
 BarsCalls rom words old Memory = Unit {0}
 
--- and of the call at a place, and of the frame itself
+-- what it says of such lists, of the call at a place, and of the frame
 abbrev pub BarsHere : Rom → List ℕ → List Entry → ℕ → EntryFault → Type 0
-BarsHere rom words old at why = BarsCalls rom words old why × StopsAt rom words at why × BarsFrame rom words why
+BarsHere rom words old at why = BarsCalls rom words old why × CallBarredAt rom words at why × BarsFrame rom words why
 
 -- a call after items whose calls have their entries
 pub record KeyedCall (words : List ℕ) (list : List Entry) (to : ℕ) (scale : Key) : Type 0 where
-  pub calls : FrameCalls words list to scale
+  pub calls : FrameAsksFor words list to scale
   pub keyed : AllKeyed list calls.earlier
 
--- what was asked for has its entry, or the frame calls this
+-- the address and the key were asked for before, or the frame calls them
 abbrev pub IsGivenHere : List ℕ → List (ℕ × Key) → List Entry → ℕ → Key → Type 0
 IsGivenHere words asked list addr key = Contains asked (addr, key) ⊎ KeyedCall words list addr key
 
--- each entry is asked for, where the old ones were, or the frame calls it, or it is needed
-abbrev pub AllCalledHere : Rom → List ℕ → List Entry → List Entry → List Walk → Type 0
+-- each entry is asked for, or the frame calls it, or another shape does
+abbrev pub AllCalledHere : Rom → List ℕ → List Entry → List Entry → List PartialEntry → Type 0
 AllCalledHere rom words old list chain =
     (asked : List (ℕ × Key)) → Collected rom asked old → (addr : ℕ) (key : Key) → HasEntry list addr key
     → IsGivenHere words asked list addr key ⊎ IsCalled rom list chain addr key
 
--- what is told of the call at a place, by a list of made and needed entries, which has one for each call before it
-pub record TellsHere (rom : Rom) (words : List ℕ) (old : List Entry) (at : ℕ) (chain : List Walk) (stop : Stop) : Type 0 where
+-- what is told of the call at a place holds, by a list of made and needed entries
+pub record TellsHere (rom : Rom) (words : List ℕ) (old : List Entry) (at : ℕ) (chain : List PartialEntry) (obstacle : Obstacle) : Type 0 where
   pub list : List Entry
   pub within : AllWithin rom list
   pub made : AllMade rom list
   pub to : ℕ
   pub scale : Key
-  pub calls : FrameCalls words list to scale
-  pub at_is : calls.item.at ≡ at
-  pub before : AllKeyed list calls.earlier
+  pub call : CallAt words list at to scale
   pub extends : Extends old list
   pub needed : AllCalledHere rom words old list chain
   pub room : length list + length chain ≤ MOST_ENTRIES
-  pub tells : TellsStop rom list (to, scale) chain stop
-  pub no_root : IsNoRoot stop
+  pub tells : TellsObstacle rom list (to, scale) chain obstacle
+  pub no_root : IsNoRoot obstacle
 
 -- ---- frame after frame
 
@@ -101,7 +99,7 @@ pub record TellsHere (rom : Rom) (words : List ℕ) (old : List Entry) (at : ℕ
 abbrev pub AreAskedFor : List (ℕ × Key) → List (List ℕ) → List Entry → List (ℕ × Key) → Type 0
 AreAskedFor roots frames list asked = (addr : ℕ) (key : Key) → Contains asked (addr, key) → IsAskedFor roots frames list addr key
 
--- what is made past so many frames
+-- the entries for the roots and for all calls of these frames are made
 pub record AllFramed (rom : Rom) (roots : List (ℕ × Key)) (frames : List (List ℕ)) (done : List Entry) : Type 0 where
   pub rooted : HasAll roots done
   pub has_calls : (words : List ℕ) → Contains frames words → HasCalls words done

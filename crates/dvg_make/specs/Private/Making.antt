@@ -1,9 +1,9 @@
--- A list in the making, and the shapes in the making.
+-- The entries that are made so far, and the shapes in the making.
 use Rattle.std.specs.Prelude.{◌≡◌, ◌≢◌, ◌⊎◌, ℕ, ◌++◌, ◌+◌, ◌<◌, ◌≤◌, List, [], ◌∷◌, length, Option, Some, None, Contains, slice_get, map}
 use Rattle.dvg_words.specs.declared.instruction.Cell.TheVariants.{Holds}
 use Rattle.dvg_words.specs.Decoding.{cell_at}
-use Rattle.dvg_words.specs.Memory.{Rom, rom_word, InRom}
-use Rattle.dvg_cert.specs.Entry.{IsKey, IsEntry}
+use Rattle.dvg_words.specs.Memory.{Rom, rom_word}
+use Rattle.dvg_cert.specs.Entry.{IsEntry}
 use Rattle.dvg_cert.specs.Order.{IsCertificate}
 use Rattle.dvg_cert.specs.declared.entry.Entry.{Entry}
 use Rattle.dvg_cert.specs.declared.entry.Key.{Key}
@@ -13,44 +13,44 @@ use Rattle.dvg_items.specs.Items.{LeadsTo}
 use Rattle.dvg_items.specs.declared.item.Kind.TheVariants.{Shape}
 use Rattle.dvg_items.specs.declared.item.Item.{Item}
 use Rattle.dvg_items.specs.Known.{target, scale_before}
-use Rattle.dvg_make.specs.declared.walk.Walk.{Walk}
+use Rattle.dvg_make.specs.declared.partial.PartialEntry.{PartialEntry}
 use Rattle.dvg_make.specs.Made.{HasEntry, MadeEntry, AllMade}
 use Rattle.dvg_make.specs.Refusals.{EntryFault, Unstraight, Deep, TooManyWords, TooManyEntries, Memory}
 use Rattle.dvg_make.specs.Refusals.{FrameCall, FramesFault}
-use Rattle.dvg_make.specs.Accounts.{Link, EntryCause, AllTaken, IsLinked, Tells, IsTold, entry_fault}
+use Rattle.dvg_make.specs.Accounts.{ShapeAt, EntryCause, AllTaken, IsLinked, Tells, IsTold, entry_fault}
 pub use Rattle.dvg_make.specs.Accounts.{IsUnique}
 use Rattle.dvg_make.specs.declared.account.EntryCause.TheVariants as cause
 use Rattle.dvg_make.specs.declared.account.MakeAccount.{MakeAccount}
-use Rattle.dvg_make.specs.declared.stuck.Stop.{Stop}
-use Rattle.dvg_make.specs.declared.stuck.FramesStuck.{FramesStuck}
-use Rattle.dvg_make.specs.Private.Walking.{keyed_context, start, link_of, IsWalk, Extends}
+use Rattle.dvg_make.specs.declared.obstacle.Obstacle.{Obstacle}
+use Rattle.dvg_make.specs.declared.obstacle.BlockedCall.{BlockedCall}
+use Rattle.dvg_make.specs.Private.Partial.{keyed_context, start, shape_of, IsPartial, Extends}
 
 -- a shape with this address and key is in the making
-abbrev pub IsMaking : List Walk → ℕ → Key → Type 0
+abbrev pub IsMaking : List PartialEntry → ℕ → Key → Type 0
 IsMaking [] addr key = ⊥
 IsMaking (w ∷ stack) addr key = ((w.addr ≡ addr) × (w.key ≡ key)) ⊎ IsMaking stack addr key
 
--- each of these shapes is walked as far as it was taken
-abbrev pub AllWalks : Rom → List Entry → List Walk → Type 0
-AllWalks rom done [] = Unit {0}
-AllWalks rom done (w ∷ stack) = IsWalk rom done w × AllWalks rom done stack
+-- each of these partial entries is right, as far as its items were passed
+abbrev pub ArePartial : Rom → List Entry → List PartialEntry → Type 0
+ArePartial rom done [] = Unit {0}
+ArePartial rom done (w ∷ stack) = IsPartial rom done w × ArePartial rom done stack
 
 -- the list has an entry for each of these shapes, the first with fewer words than `most`, each with fewer than the one before, and more than n
-abbrev pub Chain : List Entry → ℕ → List Walk → ℕ → Type 0
+abbrev pub Chain : List Entry → ℕ → List PartialEntry → ℕ → Type 0
 Chain made most [] n = n < most
 Chain made most (w ∷ stack) n = (e : Entry) × (entry_at made w.addr w.key ≡ Some e) × (e.words < most) × Chain made e.words stack n
 
 -- no two of these shapes are the same, and none is made
-abbrev pub Apart : List Entry → List Walk → Type 0
+abbrev pub Apart : List Entry → List PartialEntry → Type 0
 Apart done [] = Unit {0}
 Apart done (w ∷ stack) = (entry_at done w.addr w.key ≡ None) × (IsMaking stack w.addr w.key → ⊥) × Apart done stack
 
 -- the list has an entry at this address and key, or its shape is in the making
-abbrev pub IsPresent : List Entry → List Walk → ℕ → Key → Type 0
+abbrev pub IsPresent : List Entry → List PartialEntry → ℕ → Key → Type 0
 IsPresent done stack addr key = HasEntry done addr key ⊎ IsMaking stack addr key
 
 -- an item of a shape that is present calls or tail jumps to this address at this key
-pub record IsCalled (rom : Rom) (done : List Entry) (stack : List Walk) (addr : ℕ) (key : Key) : Type 0 where
+pub record IsCalled (rom : Rom) (done : List Entry) (stack : List PartialEntry) (addr : ℕ) (key : Key) : Type 0 where
   pub from : ℕ
   pub from_key : Key
   pub present : IsPresent done stack from from_key
@@ -62,13 +62,13 @@ pub record IsCalled (rom : Rom) (done : List Entry) (stack : List Walk) (addr : 
   pub target_is : target Shape item.instr ≡ Some addr
   pub key_is : scale_before (keyed_context done from_key) earlier ≡ key
 
--- a list of made entries that has those of the one list, and one for this address and key
+-- what the making aims at: a list of made entries that has all of `from`, and one for the root
 pub record IsAim (rom : Rom) (from : List Entry) (root : ℕ × Key) (made : List Entry) : Type 0 where
   pub all : AllMade rom made
   pub extends : Extends from made
   pub has : HasEntry made root.0 root.1
 
--- the address and the key are the root's, or the list that was begun with has them
+-- the address and the key are the root's, or have an entry in the list that was there before
 abbrev pub IsGiven : List Entry → ℕ × Key → ℕ → Key → Type 0
 IsGiven from root addr key = HasEntry from addr key ⊎ ((root.0 ≡ addr) × (root.1 ≡ key))
 
@@ -80,49 +80,48 @@ pub record IsDone (rom : Rom) (done : List Entry) : Type 0 where
   pub room : length done ≤ MOST_ENTRIES
 
 -- the addresses and keys of these shapes
-abbrev pub links : List Walk → List Link
-links stack = map link_of stack
+abbrev pub shapes : List PartialEntry → List ShapeAt
+shapes stack = map shape_of stack
 
 -- the address and key of what is asked for
-abbrev pub asked_link : ℕ × Key → Link
-asked_link root = record { addr = root.0; key = root.1 }
+abbrev pub asked_shape : ℕ × Key → ShapeAt
+asked_shape root = record { addr = root.0; key = root.1 }
 
 -- the first of these shapes is what is asked for, and each calls or tail jumps to the next
-abbrev pub AreLinked : Rom → List Entry → ℕ × Key → List Walk → Type 0
+abbrev pub AreLinked : Rom → List Entry → ℕ × Key → List PartialEntry → Type 0
 AreLinked rom done root [] = Unit {0}
-AreLinked rom done root (w ∷ stack) = (link_of w ≡ asked_link root) × IsLinked rom done (link_of w) (links stack)
+AreLinked rom done root (w ∷ stack) = (shape_of w ≡ asked_shape root) × IsLinked rom done (shape_of w) (shapes stack)
 
 -- each entry that is made, and each shape in the making, is given, or one of them calls it
-abbrev pub AllCalled : Rom → List Entry → ℕ × Key → List Entry → List Walk → Type 0
+abbrev pub AllCalled : Rom → List Entry → ℕ × Key → List Entry → List PartialEntry → Type 0
 AllCalled rom from root done stack =
     (addr : ℕ) (key : Key) → IsPresent done stack addr key → IsGiven from root addr key ⊎ IsCalled rom done stack addr key
 
--- what holds of the entries that are made and of the shapes in the making, for a root, from the entries that were made before:
--- among it that each list of made entries that has those, and the root's, has these too, and that the words of these shapes
--- fall in it
-pub record Making (rom : Rom) (from : List Entry) (root : ℕ × Key) (done : List Entry) (stack : List Walk) : Type 0 where
+-- the making of a root's entry is in progress: `from` was there before, `done` is made, and `stack` has the shapes in the making.
+-- Each aim has all of `done`, and entries for the stack, whose words fall from the lowest to the top
+pub record InProgress (rom : Rom) (from : List Entry) (root : ℕ × Key) (done : List Entry) (stack : List PartialEntry) : Type 0 where
   pub is_done : IsDone rom done
   pub extends : Extends from done
-  pub walks : AllWalks rom done stack
+  pub partials : ArePartial rom done stack
   pub apart : Apart done stack
   pub linked : AreLinked rom done root stack
   pub needed : AllCalled rom from root done stack
   pub room : length done + length stack ≤ MOST_ENTRIES
   pub forced : (made : List Entry) → IsAim rom from root made → Extends done made × Chain made (MOST_WORDS + 1) stack 0
 
--- for some root and some entries that were made before
-abbrev pub IsInMaking : Rom → List Entry → List Walk → Type 0
-IsInMaking rom done stack = (from : List Entry) × (root : ℕ × Key) × Making rom from root done stack
+-- the making of some root's entry is in progress
+abbrev pub IsInProgress : Rom → List Entry → List PartialEntry → Type 0
+IsInProgress rom done stack = (from : List Entry) × (root : ℕ × Key) × InProgress rom from root done stack
 
--- for each root and list begun with: if the old lists are in the making for them, so are the new
-abbrev pub StaysMaking : Rom → List Entry → List Walk → List Entry → List Walk → Type 0
-StaysMaking rom old stack new rest = (from : List Entry) (root : ℕ × Key) → Making rom from root old stack → Making rom from root new rest
+-- whatever root's making is in progress with the old lists, it is so with the new ones
+abbrev pub StaysInProgress : Rom → List Entry → List PartialEntry → List Entry → List PartialEntry → Type 0
+StaysInProgress rom old stack new rest = (from : List Entry) (root : ℕ × Key) → InProgress rom from root old stack → InProgress rom from root new rest
 
--- no such list is there
+-- nothing is such an aim
 abbrev pub NoAim : Rom → List Entry → ℕ × Key → Type 0
 NoAim rom from root = (made : List Entry) → IsAim rom from root made → ⊥
 
--- what a refusal means: there is no such list, or each is too long
+-- what a refusal means: there is no aim, or each aim is too long for a certificate
 abbrev pub Bars : Rom → List Entry → ℕ × Key → EntryFault → Type 0
 Bars rom from root (Unstraight word) = NoAim rom from root
 Bars rom from root Deep = NoAim rom from root
@@ -130,50 +129,46 @@ Bars rom from root TooManyWords = NoAim rom from root
 Bars rom from root TooManyEntries = (made : List Entry) → IsAim rom from root made → MOST_ENTRIES < length made
 Bars rom from root Memory = Unit {0}
 
--- for each root and list begun with
-abbrev pub BarsAll : Rom → List Entry → List Walk → EntryFault → Type 0
-BarsAll rom done stack fault = (from : List Entry) (root : ℕ × Key) → Making rom from root done stack → Bars rom from root fault
+-- the same for each root whose making may be in progress
+abbrev pub BarsAll : Rom → List Entry → List PartialEntry → EntryFault → Type 0
+BarsAll rom done stack fault = (from : List Entry) (root : ℕ × Key) → InProgress rom from root done stack → Bars rom from root fault
 
--- the refusal where the making stops
-abbrev pub stop_fault : Stop → EntryFault
-stop_fault stop = entry_fault stop.cursor.at stop.cause
+-- the refusal of an entry that has this obstacle
+abbrev pub obstacle_fault : Obstacle → EntryFault
+obstacle_fault obstacle = entry_fault obstacle.cursor.at obstacle.cause
 
--- what is told of what is asked for, by a list of made entries
-abbrev pub TellsStop : Rom → List Entry → ℕ × Key → List Walk → Stop → Type 0
-TellsStop rom list root chain stop = Tells rom list (asked_link root) (links chain) stop.cursor.at stop.cursor.known stop.cause
+-- the chain, and the place and the cause of the obstacle, are told rightly
+abbrev pub TellsObstacle : Rom → List Entry → ℕ × Key → List PartialEntry → Obstacle → Type 0
+TellsObstacle rom list root chain obstacle = Tells rom list (asked_shape root) (shapes chain) obstacle.cursor.at obstacle.cursor.known obstacle.cause
 
--- for each root and list begun with, by the entries that are made, which are needed, and for which there is room
-abbrev pub TellsAll : Rom → List Entry → List Walk → List Walk → Stop → Type 0
-TellsAll rom done stack chain stop =
-    (from : List Entry) (root : ℕ × Key) → Making rom from root done stack
-    → TellsStop rom done root chain stop × AllCalled rom from root done chain × (length done + length chain ≤ MOST_ENTRIES)
+-- the same for each root whose making may be in progress, by the entries that are made, which are needed and no more than may be
+abbrev pub TellsAll : Rom → List Entry → List PartialEntry → List PartialEntry → Obstacle → Type 0
+TellsAll rom done stack chain obstacle =
+    (from : List Entry) (root : ℕ × Key) → InProgress rom from root done stack
+    → TellsObstacle rom done root chain obstacle × AllCalled rom from root done chain × (length done + length chain ≤ MOST_ENTRIES)
 
--- by some list of made and needed entries that has those from before
-pub record IsToldFrom (rom : Rom) (from : List Entry) (root : ℕ × Key) (chain : List Walk) (stop : Stop) : Type 0 where
+-- the same by some list of made and needed entries, which has all of `from`
+pub record IsToldFrom (rom : Rom) (from : List Entry) (root : ℕ × Key) (chain : List PartialEntry) (obstacle : Obstacle) : Type 0 where
   pub list : List Entry
   pub is_done : IsDone rom list
   pub extends : Extends from list
   pub needed : AllCalled rom from root list chain
   pub room : length list + length chain ≤ MOST_ENTRIES
-  pub tells : TellsStop rom list root chain stop
+  pub tells : TellsObstacle rom list root chain obstacle
 
--- it is not that a root is outside the ROM
-abbrev pub IsNoRoot : Stop → Type 0
-IsNoRoot stop = stop.cause ≢ cause.RootOutside
-
--- of a root: or it is outside the ROM, or its key is over 15, which is 60 at the root
-abbrev pub BarsRoot : Rom → List Entry → ℕ × Key → EntryFault → Type 0
-BarsRoot rom from root fault = Bars rom from root fault ⊎ ((fault ≡ Unstraight root.0) × (InRom rom.map root.0 × IsKey root.1 → ⊥))
+-- the obstacle is not that a root is outside the ROM
+abbrev pub IsNoRoot : Obstacle → Type 0
+IsNoRoot obstacle = obstacle.cause ≢ cause.RootOutside
 
 -- why a shape is not begun
-abbrev pub NotBegun : List Entry → List Walk → ℕ → Key → EntryCause → Type 0
-NotBegun done stack addr key (cause.Ring from) = (walk : Walk) × (slice_get stack from ≡ Some walk) × (walk.addr ≡ addr) × (walk.key ≡ key)
+abbrev pub NotBegun : List Entry → List PartialEntry → ℕ → Key → EntryCause → Type 0
+NotBegun done stack addr key (cause.Ring from) = (partial : PartialEntry) × (slice_get stack from ≡ Some partial) × (partial.addr ≡ addr) × (partial.key ≡ key)
 NotBegun done stack addr key cause.TooManyEntries = (MOST_ENTRIES ≤ length done + length stack) × (IsMaking stack addr key → ⊥)
 NotBegun done stack addr key cause.Memory = Unit {0}
 NotBegun done stack addr key other = ⊥
 
 -- a shape was begun that was not in the making, where there is room
-pub record IsBegun (done : List Entry) (old new : List Walk) (addr : ℕ) (key : Key) : Type 0 where
+pub record IsBegun (done : List Entry) (old new : List PartialEntry) (addr : ℕ) (key : Key) : Type 0 where
   pub stack : new ≡ old ++ start addr key ∷ []
   pub other : IsMaking old addr key → ⊥
   pub few : length done + length old < MOST_ENTRIES
@@ -191,15 +186,15 @@ pub record Collected (rom : Rom) (asked : List (ℕ × Key)) (done : List Entry)
   pub needed : (addr : ℕ) (key : Key) → HasEntry done addr key → Contains asked (addr, key) ⊎ IsCalled rom done [] addr key
   pub forced : (made : List Entry) → AllMade rom made → HasAll asked made → Extends done made
 
--- no certificate of made entries has all that is asked for
+-- no certificate of made entries has an entry for all of these
 abbrev pub NoneHas : Rom → List (ℕ × Key) → Type 0
 NoneHas rom asked = (list : List Entry) → IsCertificate rom.map list → AllMade rom list → HasAll asked list → ⊥
 
--- each list of made entries that has is too long for one
+-- each list of made entries that has one for all of these is too long for a certificate
 abbrev pub LongHas : Rom → List (ℕ × Key) → Type 0
 LongHas rom asked = (list : List Entry) → AllMade rom list → HasAll asked list → MOST_ENTRIES < length list
 
--- what a refusal says of that
+-- what a refusal says of such lists
 abbrev pub BarsRoots : Rom → List (ℕ × Key) → EntryFault → Type 0
 BarsRoots rom asked (Unstraight word) = NoneHas rom asked
 BarsRoots rom asked Deep = NoneHas rom asked
@@ -209,20 +204,20 @@ BarsRoots rom asked Memory = Unit {0}
 
 -- ---- what is told of a refusal
 
-abbrev pub IsToldOf : Rom → List (ℕ × Key) → List (List ℕ) → Option FrameCall → List Walk → Stop → Type 0
-IsToldOf rom roots frames call chain stop = IsTold rom roots frames call (links chain) stop.cursor.at stop.cursor.known stop.cause
+abbrev pub IsToldOf : Rom → List (ℕ × Key) → List (List ℕ) → Option FrameCall → List PartialEntry → Obstacle → Type 0
+IsToldOf rom roots frames call chain obstacle = IsTold rom roots frames call (shapes chain) obstacle.cursor.at obstacle.cursor.known obstacle.cause
 
--- the refusal of a root, or of a frame's call
-abbrev pub stuck_fault : FramesStuck → FramesFault
-stuck_fault refusal = record { call = refusal.call; why = stop_fault refusal.stuck.stop }
+-- the refusal of the certificate, by the root or call whose entry can't be made
+abbrev pub blocked_fault : BlockedCall → FramesFault
+blocked_fault refusal = record { call = refusal.call; why = obstacle_fault refusal.blocked.obstacle }
 
 -- the account says all that is known of the refusal
-pub record TellsIt (refusal : FramesStuck) (account : MakeAccount) : Type 0 where
-  pub fault : account.fault ≡ stuck_fault refusal
-  pub chain : account.chain.items ≡ links refusal.stuck.chain
-  pub at : account.at ≡ refusal.stuck.stop.cursor.at
-  pub before : account.before ≡ refusal.stuck.stop.cursor.known
-  pub cause : account.cause ≡ refusal.stuck.stop.cause
+pub record TellsIt (refusal : BlockedCall) (account : MakeAccount) : Type 0 where
+  pub fault : account.fault ≡ blocked_fault refusal
+  pub chain : account.chain.items ≡ shapes refusal.blocked.chain
+  pub at : account.at ≡ refusal.blocked.obstacle.cursor.at
+  pub before : account.before ≡ refusal.blocked.obstacle.cursor.known
+  pub cause : account.cause ≡ refusal.blocked.obstacle.cause
 
 -- the account says that memory was out
 pub record TellsMemory (account : MakeAccount) : Type 0 where

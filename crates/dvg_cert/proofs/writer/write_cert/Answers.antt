@@ -1,4 +1,4 @@
-use Rattle.std.proofs.Common.{◌≡◌, ◌∙◌, [], length, ap, arith, refl}
+use Rattle.std.proofs.Common.{◌≡◌, ◌∙◌, [], length, ap, arith, refl, rules}
 use Rattle.std.proofs.lemmas.Result.{on_ok_weaker, on_err_weaker}
 use Rattle.dvg_words.specs.Values.{MemoryMap}
 use Rattle.dvg_cert.specs.Grammar.{begun_with, text_of}
@@ -22,16 +22,13 @@ pub returns-in_err-make_room-2-clause-prefix : goal.returns-in_err-make_room-2-c
 returns-in_err-make_room-2-clause-prefix g c =
     sent_err c.from_residual-in_err-make_room-2.result (begun_in_part (g.W.Write.contents c.args.out.now) (g.W.Write.contents c.loop-i.out) (g.W.Write.contents c.make_room-2.new.out) c.args.cert.now.map c.entries-entries.result.now c.args.cert.now.entries c.loop-i.i c.loop-i.text.items c.entries-entries.ensures.value c.loop-i.invariant.0 c.in_err-make_room-2.ensures.prefix)
 
-pub returns-clause-prefix : goal.returns-clause-prefix
-returns-clause-prefix g c =
+pub returns : goal.returns
+returns g c =
     let n : c.loop-i.i ≡ length c.entries-entries.result.now = omega arith in
     let held : Buffered (g.W.Write.contents c.args.out.now) (g.W.Write.contents c.make_room-2.new.out) c.as_slice.result.now (text_of c.args.cert.now.map c.args.cert.now.entries) =
     done_held (g.W.Write.contents c.args.out.now) (g.W.Write.contents c.loop-i.out) (g.W.Write.contents c.make_room-2.new.out) c.args.cert.now.map c.entries-entries.result.now c.args.cert.now.entries c.loop-i.i (length c.entries-entries.result.now) c.loop-i.text.items c.make_room-2.new.text.items c.as_slice.result.now c.entries-entries.ensures.value n refl (c.as_slice.ensures.value ∙ c.push_done.ensures) c.loop-i.invariant.0 c.in_ok-make_room-2.ensures.ok in
-    on_err_weaker c.write_bytes.result (held_sent_in_part (g.W.Write.contents c.args.out.now) (g.W.Write.contents c.make_room-2.new.out) (g.W.Write.contents c.write_bytes.new.out) c.as_slice.result.now (text_of c.args.cert.now.map c.args.cert.now.entries) held) c.write_bytes.ensures.prefix
-
-pub returns-clause-ok : goal.returns-clause-ok
-returns-clause-ok g c =
-    let n : c.loop-i.i ≡ length c.entries-entries.result.now = omega arith in
-    let held : Buffered (g.W.Write.contents c.args.out.now) (g.W.Write.contents c.make_room-2.new.out) c.as_slice.result.now (text_of c.args.cert.now.map c.args.cert.now.entries) =
-    done_held (g.W.Write.contents c.args.out.now) (g.W.Write.contents c.loop-i.out) (g.W.Write.contents c.make_room-2.new.out) c.args.cert.now.map c.entries-entries.result.now c.args.cert.now.entries c.loop-i.i (length c.entries-entries.result.now) c.loop-i.text.items c.make_room-2.new.text.items c.as_slice.result.now c.entries-entries.ensures.value n refl (c.as_slice.ensures.value ∙ c.push_done.ensures) c.loop-i.invariant.0 c.in_ok-make_room-2.ensures.ok in
-    on_ok_weaker c.write_bytes.result (held_sent (g.W.Write.contents c.args.out.now) (g.W.Write.contents c.make_room-2.new.out) (g.W.Write.contents c.write_bytes.new.out) c.as_slice.result.now (text_of c.args.cert.now.map c.args.cert.now.entries) held) c.write_bytes.ensures.ok
+    record {
+      ok = on_ok_weaker c.write_bytes.result (held_sent (g.W.Write.contents c.args.out.now) (g.W.Write.contents c.make_room-2.new.out) (g.W.Write.contents c.write_bytes.new.out) c.as_slice.result.now (text_of c.args.cert.now.map c.args.cert.now.entries) held) c.write_bytes.ensures.ok;
+      prefix = on_err_weaker c.write_bytes.result (held_sent_in_part (g.W.Write.contents c.args.out.now) (g.W.Write.contents c.make_room-2.new.out) (g.W.Write.contents c.write_bytes.new.out) c.as_slice.result.now (text_of c.args.cert.now.map c.args.cert.now.entries) held) c.write_bytes.ensures.prefix;
+      count = search rules;
+    }

@@ -1,12 +1,12 @@
 use Rattle.std.proofs.Common.{◌-◌}
 use Rattle.dvg_make.proofs.Framing.{FrameWalk}
-use Rattle.dvg_make.specs.Private.Walking.{AreTails}
+use Rattle.dvg_make.specs.Private.Partial.{AreTails}
 use Rattle.dvg_make.proofs.frames.make_frame.Given as goal
 
 abbrev pub invariant-loop-format : goal.invariant-loop-format
 invariant-loop-format l =
     record {
-      walk : FrameWalk l.rom l.frame l.fn.done l.done l.at l.scale;
+      partial : FrameWalk l.rom l.frame l.fn.done l.done l.at l.scale;
       tails : AreTails l.rom l.done l.tails;
     }
 

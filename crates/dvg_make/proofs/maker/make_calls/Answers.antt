@@ -1,16 +1,16 @@
 use Rattle.std.proofs.Common.{◌+◌, arith, subst}
 use Rattle.dvg_make.specs.Private.Framing.{IsFramed, BarsHere, TellsHere}
-use Rattle.dvg_make.specs.Private.Making.{stop_fault}
+use Rattle.dvg_make.specs.Private.Making.{obstacle_fault}
 use Rattle.dvg_make.proofs.Collecting.{frame_framed, frames_framed, frame_refused, call_told}
 use Rattle.dvg_make.proofs.maker.make_calls.Goals as goal
 
 pub returns-in-Err-clause-err : goal.returns-in-Err-clause-err
 returns-in-Err-clause-err c =
-    frame_refused c.args.rom.now c.args.roots.now c.args.frames.now c.loop-frame.frame _ c.loop-frame.done c.loop-frame-test.true c.loop-frame.invariant.framed c.in-Err.fault.at (stop_fault c.in-Err.fault.stuck.stop) (subst (λ words. BarsHere c.args.rom.now words c.loop-frame.done c.in-Err.fault.at (stop_fault c.in-Err.fault.stuck.stop)) c.index-frames-frame.is c.in-Err.ensures.err)
+    frame_refused c.args.rom.now c.args.roots.now c.args.frames.now c.loop-frame.frame _ c.loop-frame.done c.loop-frame-test.true c.loop-frame.invariant.framed c.in-Err.fault.at (obstacle_fault c.in-Err.fault.blocked.obstacle) (subst (λ words. BarsHere c.args.rom.now words c.loop-frame.done c.in-Err.fault.at (obstacle_fault c.in-Err.fault.blocked.obstacle)) c.index-frames-frame.is c.in-Err.ensures.err)
 
 pub returns-in-Err-clause-told : goal.returns-in-Err-clause-told
 returns-in-Err-clause-told c =
-    call_told c.args.rom.now c.args.roots.now c.args.frames.now c.loop-frame.frame _ c.loop-frame.done c.loop-frame-test.true c.loop-frame.invariant.framed c.in-Err.fault.at c.in-Err.fault.stuck.chain c.in-Err.fault.stuck.stop (subst (λ words. TellsHere c.args.rom.now words c.loop-frame.done c.in-Err.fault.at c.in-Err.fault.stuck.chain c.in-Err.fault.stuck.stop) c.index-frames-frame.is c.in-Err.ensures.told)
+    call_told c.args.rom.now c.args.roots.now c.args.frames.now c.loop-frame.frame _ c.loop-frame.done c.loop-frame-test.true c.loop-frame.invariant.framed c.in-Err.fault.at c.in-Err.fault.blocked.chain c.in-Err.fault.blocked.obstacle (subst (λ words. TellsHere c.args.rom.now words c.loop-frame.done c.in-Err.fault.at c.in-Err.fault.blocked.chain c.in-Err.fault.blocked.obstacle) c.index-frames-frame.is c.in-Err.ensures.told)
 
 pub loop-frame-preserved : goal.loop-frame-preserved
 loop-frame-preserved c =

@@ -1,38 +1,38 @@
 use Rattle.std.proofs.Common.{◌++◌, ◌∷◌, [], ◌∙◌, sym, subst}
-use Rattle.dvg_make.specs.declared.stuck.Stop.{Stop}
-use Rattle.dvg_make.specs.Private.Walking.{Advances, IsFinished}
-use Rattle.dvg_make.specs.Private.Making.{IsPresent, Making, NotBegun, stop_fault, Bars, TellsStop, BarsAll, TellsAll, IsNoRoot}
+use Rattle.dvg_make.specs.declared.obstacle.Obstacle.{Obstacle}
+use Rattle.dvg_make.specs.Private.Partial.{Advances, IsFinished}
+use Rattle.dvg_make.specs.Private.Making.{IsPresent, InProgress, NotBegun, obstacle_fault, Bars, TellsObstacle, BarsAll, TellsAll, IsNoRoot}
 use Rattle.dvg_make.proofs.Chains.{walks_last, none_here, finished_new, making_finished, present_finished}
 use Rattle.dvg_make.proofs.Turns.{begun_ok, begun_present, called_moved, refused, as_bar, not_err, if_err_same}
 use Rattle.dvg_make.proofs.Onward.{reached}
 use Rattle.dvg_make.proofs.Telling.{room_moved, tells_stopped, tells_memory, tells_not_begun, begin_no_root, stopped_no_root}
 use Rattle.dvg_make.proofs.shapes.turn.Goals as goal
 
-pub advance-requires-clause-walk : goal.advance-requires-clause-walk
-advance-requires-clause-walk c =
-    let m = subst (Making c.args.rom.now c.requires.making.0 c.requires.making.1 c.args.done.now) c.requires.top.1 c.requires.making.2 in
-    walks_last c.args.rom.now c.args.done.now c.requires.top.0 c.args.walk m.walks
+pub advance-requires-clause-partial : goal.advance-requires-clause-partial
+advance-requires-clause-partial c =
+    let m = subst (InProgress c.args.rom.now c.requires.making.0 c.requires.making.1 c.args.done.now) c.requires.top.1 c.requires.making.2 in
+    walks_last c.args.rom.now c.args.done.now c.requires.top.0 c.args.partial m.partials
 
 pub returns-in_err-entry-clause-err : goal.returns-in_err-entry-clause-err
 returns-in_err-entry-clause-err c =
-    if_err_same c.from_residual.result c.in_err-entry.field-0.0 (λ stop. BarsAll c.args.rom.now c.args.done.now c.args.stack.now (stop_fault stop)) c.from_residual.ensures.1
-    (λ from root h. as_bar c.args.rom.now from root (stop_fault c.in_err-entry.field-0.0) (none_here c.args.rom.now from root c.args.done.now c.requires.top.0 c.args.walk (subst (Making c.args.rom.now from root c.args.done.now) c.requires.top.1 h) c.in_err-entry.ensures.err.never))
+    if_err_same c.from_residual.result c.in_err-entry.field-0.0 (λ obstacle. BarsAll c.args.rom.now c.args.done.now c.args.stack.now (obstacle_fault obstacle)) c.from_residual.ensures.1
+    (λ from root h. as_bar c.args.rom.now from root (obstacle_fault c.in_err-entry.field-0.0) (none_here c.args.rom.now from root c.args.done.now c.requires.top.0 c.args.partial (subst (InProgress c.args.rom.now from root c.args.done.now) c.requires.top.1 h) c.in_err-entry.ensures.err.never))
 
 pub returns-in_err-entry-clause-told : goal.returns-in_err-entry-clause-told
 returns-in_err-entry-clause-told c =
     if_err_same c.from_residual.result c.in_err-entry.field-0.0 (TellsAll c.args.rom.now c.args.done.now c.args.stack.now c.args.stack.now) c.from_residual.ensures.1
-    (λ from root h. (subst (λ s. TellsStop c.args.rom.now c.args.done.now root s c.in_err-entry.field-0.0) (sym c.requires.top.1) (tells_stopped c.args.rom.now from root c.args.done.now c.requires.top.0 c.args.walk (subst (Making c.args.rom.now from root c.args.done.now) c.requires.top.1 h) c.in_err-entry.field-0.0 c.in_err-entry.ensures.err), h.needed, h.room))
+    (λ from root h. (subst (λ s. TellsObstacle c.args.rom.now c.args.done.now root s c.in_err-entry.field-0.0) (sym c.requires.top.1) (tells_stopped c.args.rom.now from root c.args.done.now c.requires.top.0 c.args.partial (subst (InProgress c.args.rom.now from root c.args.done.now) c.requires.top.1 h) c.in_err-entry.field-0.0 c.in_err-entry.ensures.err), h.needed, h.room))
 
 pub finish-requires-clause-new : goal.finish-requires-clause-new
 finish-requires-clause-new c =
-    finished_new c.args.rom.now c.requires.making.0 c.requires.making.1 c.args.done.now c.requires.top.0 c.args.walk (subst (Making c.args.rom.now c.requires.making.0 c.requires.making.1 c.args.done.now) c.requires.top.1 c.requires.making.2) c.in-Finished.entry (subst (Advances c.args.rom.now c.args.done.now c.args.walk) c.in-Finished.is c.in_ok-entry.ensures.ok)
+    finished_new c.args.rom.now c.requires.making.0 c.requires.making.1 c.args.done.now c.requires.top.0 c.args.partial (subst (InProgress c.args.rom.now c.requires.making.0 c.requires.making.1 c.args.done.now) c.requires.top.1 c.requires.making.2) c.in-Finished.entry (subst (Advances c.args.rom.now c.args.done.now c.args.partial) c.in-Finished.is c.in_ok-entry.ensures.ok)
 
 pub finish-requires-clause-done : goal.finish-requires-clause-done
 finish-requires-clause-done c = c.requires.making.2.is_done
 
 pub finish-requires-clause-key : goal.finish-requires-clause-key
 finish-requires-clause-key c =
-    let f : IsFinished c.args.rom.now c.args.done.now c.args.walk c.in-Finished.entry = subst (Advances c.args.rom.now c.args.done.now c.args.walk) c.in-Finished.is c.in_ok-entry.ensures.ok in
+    let f : IsFinished c.args.rom.now c.args.done.now c.args.partial c.in-Finished.entry = subst (Advances c.args.rom.now c.args.done.now c.args.partial) c.in-Finished.is c.in_ok-entry.ensures.ok in
     f.entry.key
 
 pub returns-else-is_err-clause-tails : goal.returns-else-is_err-clause-tails
@@ -41,50 +41,50 @@ returns-else-is_err-clause-tails c = not_err c.finish.result _ (sym c.if-is_err.
 pub returns-then-is_err-clause-told : goal.returns-then-is_err-clause-told
 returns-then-is_err-clause-told c =
     λ from root h.
-    let m = subst (Making c.args.rom.now from root c.args.done.now) c.requires.top.1 h in
-    (subst (λ s. TellsStop c.args.rom.now c.args.done.now root s c.stop.result) (sym c.requires.top.1) (tells_memory c.args.rom.now from root c.args.done.now c.requires.top.0 c.args.walk m c.stop.result c.stop.ensures (reached c.args.rom.now c.args.done.now c.args.walk (walks_last c.args.rom.now c.args.done.now c.requires.top.0 c.args.walk m.walks))), h.needed, h.room)
+    let m = subst (InProgress c.args.rom.now from root c.args.done.now) c.requires.top.1 h in
+    (subst (λ s. TellsObstacle c.args.rom.now c.args.done.now root s c.obstacle.result) (sym c.requires.top.1) (tells_memory c.args.rom.now from root c.args.done.now c.requires.top.0 c.args.partial m c.obstacle.result c.obstacle.ensures (reached c.args.rom.now c.args.done.now c.args.partial (walks_last c.args.rom.now c.args.done.now c.requires.top.0 c.args.partial m.partials))), h.needed, h.room)
 
 pub returns-else-is_err-clause-ok : goal.returns-else-is_err-clause-ok
 returns-else-is_err-clause-ok c =
     λ from root h.
     let added = not_err c.finish.result _ (sym c.if-is_err.ensures.value) c.finish.ensures.ok in
-    subst (λ d. Making c.args.rom.now from root d c.pop.new.self) (sym added)
-    (subst (Making c.args.rom.now from root (c.args.done.now ++ c.in-Finished.entry ∷ [])) (sym (c.pop.ensures c.requires.top.0 c.args.walk c.requires.top.1))
-    (making_finished c.args.rom.now from root c.args.done.now c.requires.top.0 c.args.walk (subst (Making c.args.rom.now from root c.args.done.now) c.requires.top.1 h) c.in-Finished.entry (subst (Advances c.args.rom.now c.args.done.now c.args.walk) c.in-Finished.is c.in_ok-entry.ensures.ok)))
+    subst (λ d. InProgress c.args.rom.now from root d c.pop.new.self) (sym added)
+    (subst (InProgress c.args.rom.now from root (c.args.done.now ++ c.in-Finished.entry ∷ [])) (sym (c.pop.ensures c.requires.top.0 c.args.partial c.requires.top.1))
+    (making_finished c.args.rom.now from root c.args.done.now c.requires.top.0 c.args.partial (subst (InProgress c.args.rom.now from root c.args.done.now) c.requires.top.1 h) c.in-Finished.entry (subst (Advances c.args.rom.now c.args.done.now c.args.partial) c.in-Finished.is c.in_ok-entry.ensures.ok)))
 
 pub returns-else-is_err-clause-present : goal.returns-else-is_err-clause-present
 returns-else-is_err-clause-present c =
     λ addr key p.
     let added = not_err c.finish.result _ (sym c.if-is_err.ensures.value) c.finish.ensures.ok in
     subst (λ d. IsPresent d c.pop.new.self addr key) (sym added)
-    (subst (λ s. IsPresent (c.args.done.now ++ c.in-Finished.entry ∷ []) s addr key) (sym (c.pop.ensures c.requires.top.0 c.args.walk c.requires.top.1))
-    (present_finished c.args.rom.now c.requires.making.0 c.requires.making.1 c.args.done.now c.requires.top.0 c.args.walk (subst (Making c.args.rom.now c.requires.making.0 c.requires.making.1 c.args.done.now) c.requires.top.1 c.requires.making.2) c.in-Finished.entry (subst (Advances c.args.rom.now c.args.done.now c.args.walk) c.in-Finished.is c.in_ok-entry.ensures.ok) addr key (subst (λ s. IsPresent c.args.done.now s addr key) c.requires.top.1 p)))
+    (subst (λ s. IsPresent (c.args.done.now ++ c.in-Finished.entry ∷ []) s addr key) (sym (c.pop.ensures c.requires.top.0 c.args.partial c.requires.top.1))
+    (present_finished c.args.rom.now c.requires.making.0 c.requires.making.1 c.args.done.now c.requires.top.0 c.args.partial (subst (InProgress c.args.rom.now c.requires.making.0 c.requires.making.1 c.args.done.now) c.requires.top.1 c.requires.making.2) c.in-Finished.entry (subst (Advances c.args.rom.now c.args.done.now c.args.partial) c.in-Finished.is c.in_ok-entry.ensures.ok) addr key (subst (λ s. IsPresent c.args.done.now s addr key) c.requires.top.1 p)))
 
 pub returns-in-Ok-clause-ok : goal.returns-in-Ok-clause-ok
 returns-in-Ok-clause-ok c =
-    λ from root h. begun_ok c.args.rom.now from root c.args.done.now c.requires.top.0 c.args.walk (subst (Making c.args.rom.now from root c.args.done.now) c.requires.top.1 h) c.in-Waiting.walk c.in-Waiting.addr (subst (Advances c.args.rom.now c.args.done.now c.args.walk) c.in-Waiting.is c.in_ok-entry.ensures.ok) c.replace_top.new.self (c.replace_top.ensures c.requires.top.0 c.args.walk c.requires.top.1) c.begin.new.stack c.in-Ok.ensures.ok
+    λ from root h. begun_ok c.args.rom.now from root c.args.done.now c.requires.top.0 c.args.partial (subst (InProgress c.args.rom.now from root c.args.done.now) c.requires.top.1 h) c.in-Waiting.partial c.in-Waiting.addr (subst (Advances c.args.rom.now c.args.done.now c.args.partial) c.in-Waiting.is c.in_ok-entry.ensures.ok) c.replace_top.new.self (c.replace_top.ensures c.requires.top.0 c.args.partial c.requires.top.1) c.begin.new.stack c.in-Ok.ensures.ok
 
 pub returns-in-Ok-clause-present : goal.returns-in-Ok-clause-present
 returns-in-Ok-clause-present c =
-    λ addr key p. begun_present c.args.rom.now c.requires.making.0 c.requires.making.1 c.args.done.now c.requires.top.0 c.args.walk (subst (Making c.args.rom.now c.requires.making.0 c.requires.making.1 c.args.done.now) c.requires.top.1 c.requires.making.2) c.in-Waiting.walk c.in-Waiting.addr (subst (Advances c.args.rom.now c.args.done.now c.args.walk) c.in-Waiting.is c.in_ok-entry.ensures.ok) c.replace_top.new.self (c.replace_top.ensures c.requires.top.0 c.args.walk c.requires.top.1) c.begin.new.stack c.in-Ok.ensures.ok addr key (subst (λ s. IsPresent c.args.done.now s addr key) c.requires.top.1 p)
+    λ addr key p. begun_present c.args.rom.now c.requires.making.0 c.requires.making.1 c.args.done.now c.requires.top.0 c.args.partial (subst (InProgress c.args.rom.now c.requires.making.0 c.requires.making.1 c.args.done.now) c.requires.top.1 c.requires.making.2) c.in-Waiting.partial c.in-Waiting.addr (subst (Advances c.args.rom.now c.args.done.now c.args.partial) c.in-Waiting.is c.in_ok-entry.ensures.ok) c.replace_top.new.self (c.replace_top.ensures c.requires.top.0 c.args.partial c.requires.top.1) c.begin.new.stack c.in-Ok.ensures.ok addr key (subst (λ s. IsPresent c.args.done.now s addr key) c.requires.top.1 p)
 
 pub returns-in-Err-clause-err : goal.returns-in-Err-clause-err
 returns-in-Err-clause-err c =
-    λ from root h. subst (λ (stop : Stop). Bars c.args.rom.now from root (stop_fault stop)) (sym c.stop-in-Err.ensures)
-    (refused c.args.rom.now from root c.args.done.now c.requires.top.0 c.args.walk (subst (Making c.args.rom.now from root c.args.done.now) c.requires.top.1 h) c.in-Waiting.walk c.in-Waiting.addr (subst (Advances c.args.rom.now c.args.done.now c.args.walk) c.in-Waiting.is c.in_ok-entry.ensures.ok) c.replace_top.new.self (c.replace_top.ensures c.requires.top.0 c.args.walk c.requires.top.1) c.in-Waiting.walk.cursor.at c.in-Err.cause c.in-Err.ensures.err)
+    λ from root h. subst (λ (obstacle : Obstacle). Bars c.args.rom.now from root (obstacle_fault obstacle)) (sym c.obstacle-in-Err.ensures)
+    (refused c.args.rom.now from root c.args.done.now c.requires.top.0 c.args.partial (subst (InProgress c.args.rom.now from root c.args.done.now) c.requires.top.1 h) c.in-Waiting.partial c.in-Waiting.addr (subst (Advances c.args.rom.now c.args.done.now c.args.partial) c.in-Waiting.is c.in_ok-entry.ensures.ok) c.replace_top.new.self (c.replace_top.ensures c.requires.top.0 c.args.partial c.requires.top.1) c.in-Waiting.partial.cursor.at c.in-Err.cause c.in-Err.ensures.err)
 
 pub returns-in-Err-clause-told : goal.returns-in-Err-clause-told
 returns-in-Err-clause-told c =
     λ from root h.
-    let m = subst (Making c.args.rom.now from root c.args.done.now) c.requires.top.1 h in
-    let w = subst (Advances c.args.rom.now c.args.done.now c.args.walk) c.in-Waiting.is c.in_ok-entry.ensures.ok in
-    let moved = c.in-Err.ensures.same ∙ c.replace_top.ensures c.requires.top.0 c.args.walk c.requires.top.1 in
-    (tells_not_begun c.args.rom.now from root c.args.done.now c.requires.top.0 c.args.walk m c.in-Waiting.walk c.in-Waiting.addr w c.begin.new.stack moved c.stop-in-Err.result c.in-Err.cause c.stop-in-Err.ensures (subst (λ s. NotBegun c.args.done.now s c.in-Waiting.addr c.in-Waiting.walk.cursor.known.scale c.in-Err.cause) (sym c.in-Err.ensures.same) c.in-Err.ensures.err), called_moved c.args.rom.now from root c.args.done.now c.requires.top.0 c.args.walk m c.in-Waiting.walk c.in-Waiting.addr w c.begin.new.stack moved, room_moved c.args.rom.now from root c.args.done.now c.requires.top.0 c.args.walk m c.in-Waiting.walk c.begin.new.stack moved)
+    let m = subst (InProgress c.args.rom.now from root c.args.done.now) c.requires.top.1 h in
+    let w = subst (Advances c.args.rom.now c.args.done.now c.args.partial) c.in-Waiting.is c.in_ok-entry.ensures.ok in
+    let moved = c.in-Err.ensures.same ∙ c.replace_top.ensures c.requires.top.0 c.args.partial c.requires.top.1 in
+    (tells_not_begun c.args.rom.now from root c.args.done.now c.requires.top.0 c.args.partial m c.in-Waiting.partial c.in-Waiting.addr w c.begin.new.stack moved c.obstacle-in-Err.result c.in-Err.cause c.obstacle-in-Err.ensures (subst (λ s. NotBegun c.args.done.now s c.in-Waiting.addr c.in-Waiting.partial.cursor.known.scale c.in-Err.cause) (sym c.in-Err.ensures.same) c.in-Err.ensures.err), called_moved c.args.rom.now from root c.args.done.now c.requires.top.0 c.args.partial m c.in-Waiting.partial c.in-Waiting.addr w c.begin.new.stack moved, room_moved c.args.rom.now from root c.args.done.now c.requires.top.0 c.args.partial m c.in-Waiting.partial c.begin.new.stack moved)
 
 pub returns-in_err-entry-clause-no_root : goal.returns-in_err-entry-clause-no_root
 returns-in_err-entry-clause-no_root c =
-    if_err_same c.from_residual.result c.in_err-entry.field-0.0 IsNoRoot c.from_residual.ensures.1 (stopped_no_root c.args.rom.now c.args.done.now c.args.walk c.in_err-entry.field-0.0 c.in_err-entry.ensures.err)
+    if_err_same c.from_residual.result c.in_err-entry.field-0.0 IsNoRoot c.from_residual.ensures.1 (stopped_no_root c.args.rom.now c.args.done.now c.args.partial c.in_err-entry.field-0.0 c.in_err-entry.ensures.err)
 
 pub returns-in-Err-clause-no_root : goal.returns-in-Err-clause-no_root
 returns-in-Err-clause-no_root c =
-    begin_no_root c.args.done.now c.replace_top.new.self c.in-Waiting.addr c.in-Waiting.walk.cursor.known.scale c.in-Waiting.walk.cursor c.stop-in-Err.result c.in-Err.cause c.stop-in-Err.ensures c.in-Err.ensures.err
+    begin_no_root c.args.done.now c.replace_top.new.self c.in-Waiting.addr c.in-Waiting.partial.cursor.known.scale c.in-Waiting.partial.cursor c.obstacle-in-Err.result c.in-Err.cause c.obstacle-in-Err.ensures c.in-Err.ensures.err

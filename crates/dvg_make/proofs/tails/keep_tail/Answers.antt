@@ -1,5 +1,5 @@
 use Rattle.std.proofs.Common.{subst}
-use Rattle.dvg_make.specs.Private.Walking.{Advances}
+use Rattle.dvg_make.specs.Private.Partial.{Advances}
 use Rattle.dvg_make.proofs.Marks.{tail_kept}
 use Rattle.dvg_make.proofs.tails.keep_tail.Goals as goal
 

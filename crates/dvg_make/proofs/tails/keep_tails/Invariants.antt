@@ -1,12 +1,12 @@
 use Rattle.std.proofs.Common.{length}
-use Rattle.dvg_make.specs.Private.Making.{AllWalks}
-use Rattle.dvg_make.specs.Private.Walking.{AreTails}
+use Rattle.dvg_make.specs.Private.Making.{ArePartial}
+use Rattle.dvg_make.specs.Private.Partial.{AreTails}
 use Rattle.dvg_make.proofs.tails.keep_tails.Given as goal
 
 abbrev pub invariant-loop-mark : goal.invariant-loop-mark
 invariant-loop-mark l =
     record {
-      walks : AllWalks l.rom l.done l.marks.items;
+      partials : ArePartial l.rom l.done l.marks.items;
       tails : AreTails l.rom l.done l.tails;
     }
 

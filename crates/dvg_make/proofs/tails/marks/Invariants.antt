@@ -1,12 +1,12 @@
 use Rattle.std.proofs.Common.{◌-◌}
 use Rattle.dvg_cert.specs.Entry.{IsKey}
-use Rattle.dvg_make.specs.Private.Making.{AllWalks}
+use Rattle.dvg_make.specs.Private.Making.{ArePartial}
 use Rattle.dvg_make.proofs.tails.marks.Given as goal
 
 abbrev pub invariant-loop-format : goal.invariant-loop-format
 invariant-loop-format l =
     record {
-      walks : AllWalks l.rom l.done l.marks.items;
+      partials : ArePartial l.rom l.done l.marks.items;
       scale : IsKey l.scale;
     }
 

@@ -1,8 +1,8 @@
 use Rattle.std.proofs.Common.{ap, ◌∙◌, ◌++◌, ◌∷◌, []}
-use Rattle.dvg_make.specs.declared.walk.Walk.{Walk}
+use Rattle.dvg_make.specs.declared.partial.PartialEntry.{PartialEntry}
 use Rattle.dvg_make.proofs.Marks.{mark_pushed}
 use Rattle.dvg_make.proofs.tails.push_mark.Goals as goal
 
 pub returns-in_ok-push : goal.returns-in_ok-push
 returns-in_ok-push c =
-    λ h. mark_pushed c.args.rom.now c.args.done.now c.args.marks.now.items c.push.new.self.items c.args.at c.args.scale h c.requires.near c.requires.scale (c.in_ok-push.ensures.items ∙ ap (λ (w : Walk). c.args.marks.now.items ++ w ∷ []) c.start.ensures)
+    λ h. mark_pushed c.args.rom.now c.args.done.now c.args.marks.now.items c.push.new.self.items c.args.at c.args.scale h c.requires.near c.requires.scale (c.in_ok-push.ensures.items ∙ ap (λ (w : PartialEntry). c.args.marks.now.items ++ w ∷ []) c.start.ensures)

@@ -1,16 +1,16 @@
 use Rattle.std.proofs.Common.{subst}
 use Rattle.std.specs.Prelude.{List, slice_get, Some, IfSome, IfNone, ◌≡◌}
-use Rattle.dvg_make.specs.declared.walk.Walk.{Walk}
+use Rattle.dvg_make.specs.declared.partial.PartialEntry.{PartialEntry}
 use Rattle.dvg_make.specs.Private.Making.{IsMaking}
 use Rattle.dvg_make.proofs.Stacks.{at_index, no_index}
 use Rattle.dvg_make.proofs.stack.Stack.position.Goals as goal
 
 pub returns-clause-some : goal.returns-clause-some
 returns-clause-some c =
-    subst (λ (walks : List Walk). IfSome c.get_index_of.result (λ i. (w : Walk) × (slice_get walks i ≡ Some w) × (w.addr ≡ c.args.addr) × (w.key ≡ c.args.key))) c.self.view_is
-    (at_index c.args.addr c.args.key c.self.inside.walks.entries c.self.invariant c.get_index_of.result c.get_index_of.ensures.found c.get_index_of.ensures.value)
+    subst (λ (partials : List PartialEntry). IfSome c.get_index_of.result (λ i. (w : PartialEntry) × (slice_get partials i ≡ Some w) × (w.addr ≡ c.args.addr) × (w.key ≡ c.args.key))) c.self.view_is
+    (at_index c.args.addr c.args.key c.self.inside.by_key.entries c.self.invariant c.get_index_of.result c.get_index_of.ensures.found c.get_index_of.ensures.value)
 
 pub returns-clause-none : goal.returns-clause-none
 returns-clause-none c =
-    subst (λ (walks : List Walk). IfNone c.get_index_of.result (IsMaking walks c.args.addr c.args.key → ⊥)) c.self.view_is
-    (no_index c.args.addr c.args.key c.self.inside.walks.entries c.self.invariant c.get_index_of.result c.get_index_of.ensures.found)
+    subst (λ (partials : List PartialEntry). IfNone c.get_index_of.result (IsMaking partials c.args.addr c.args.key → ⊥)) c.self.view_is
+    (no_index c.args.addr c.args.key c.self.inside.by_key.entries c.self.invariant c.get_index_of.result c.get_index_of.ensures.found)

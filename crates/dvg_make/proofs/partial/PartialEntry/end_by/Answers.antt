@@ -1,6 +1,6 @@
 use Rattle.std.proofs.Common.{sym, ◌∙◌, refl}
 use Rattle.dvg_make.proofs.Joining.{ends_by}
-use Rattle.dvg_make.proofs.walk.Walk.end_by.Goals as goal
+use Rattle.dvg_make.proofs.partial.PartialEntry.end_by.Goals as goal
 
 pub returns-in-Ok-Last-default : goal.returns-in-Ok-Last-default
 returns-in-Ok-Last-default c =

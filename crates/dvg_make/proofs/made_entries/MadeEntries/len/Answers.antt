@@ -1,7 +1,7 @@
 use Rattle.std.proofs.Common.{◌∙◌, sym, ap, length, List}
 use Rattle.dvg_cert.specs.declared.entry.Entry.{Entry}
 use Rattle.dvg_cert.proofs.Pairs.{length-values_of}
-use Rattle.dvg_make.proofs.done.Done.len.Goals as goal
+use Rattle.dvg_make.proofs.made_entries.MadeEntries.len.Goals as goal
 
 pub returns : goal.returns
 returns c = c.len.ensures.len ∙ sym (length-values_of c.self.inside.found.entries) ∙ ap (λ (es : List Entry). length es) c.self.view_is

@@ -9,7 +9,7 @@ use Rattle.dvg_cert.specs.Private.Keyed.{IsOwn, IsKeyed}
 use Rattle.dvg_cert.proofs.Pairs.{lookup_is, key_test, pair_test, length-values_of}
 use Rattle.dvg_make.proofs.Sorting.{rising}
 use Rattle.dvg_make.proofs.Turns.{on_ok, on_ok_map}
-use Rattle.dvg_make.proofs.done.Done.sort.Goals as goal
+use Rattle.dvg_make.proofs.made_entries.MadeEntries.sort.Goals as goal
 
 pub invariant_of-self : goal.invariant_of-self
 invariant_of-self c = All-permutation IsOwn c.self.inside.found.entries c.sort_keys.new.self.entries c.sort_keys.ensures.reordered.0 c.self.invariant

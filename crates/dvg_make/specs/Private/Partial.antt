@@ -1,5 +1,5 @@
--- A shape in the making.
-use Rattle.std.specs.Prelude.{◌≡◌, ℕ, ◌<◌, ◌≤◌, List, [], ◌∷◌, ◌++◌, Option, Some, None, Contains}
+-- The entry of a shape, made item by item.
+use Rattle.std.specs.Prelude.{◌≡◌, ℕ, ◌<◌, ◌≤◌, List, [], ◌++◌, Option, Some, None, Contains}
 use Rattle.dvg_words.specs.declared.instruction.Instr.{Instr}
 use Rattle.dvg_words.specs.declared.instruction.Cell.TheVariants.{Holds}
 use Rattle.dvg_words.specs.declared.instruction.Cell.TheVariants as cell
@@ -24,46 +24,45 @@ use Rattle.dvg_items.specs.declared.known.Known.{Known}
 use Rattle.dvg_words.specs.declared.map.TheConstants.{ADDRESS_END}
 use Rattle.dvg_cert.specs.declared.entry.LitBox.{LitBox}
 use Rattle.dvg_cert.specs.declared.limits.TheConstants.{MOST_DEPTH, MOST_WORDS}
-use Rattle.dvg_make.specs.declared.walk.Walk.{Walk}
-use Rattle.dvg_make.specs.declared.walk.Progress.{Progress}
-use Rattle.dvg_make.specs.declared.walk.Progress.TheVariants.{Finished, Waiting}
+use Rattle.dvg_make.specs.declared.partial.PartialEntry.{PartialEntry}
+use Rattle.dvg_make.specs.declared.partial.Progress.{Progress}
+use Rattle.dvg_make.specs.declared.partial.Progress.TheVariants.{Finished, Waiting}
 use Rattle.dvg_check.specs.Private.Tails.{known_at_end, known_over}
 use Rattle.dvg_items.specs.Least.{lit_points, IsLeast}
-use Rattle.dvg_make.specs.Made.{HasEntry, MadeEntry, AllMade}
-use Rattle.dvg_make.specs.declared.stuck.Stop.{Stop}
-use Rattle.dvg_make.specs.Accounts.{Link, EntryCause, Missing, Odd, Reaches, CauseAt}
+use Rattle.dvg_make.specs.Made.{HasEntry, AllHold, MadeEntry, AllMade}
+use Rattle.dvg_make.specs.declared.obstacle.Obstacle.{Obstacle}
+use Rattle.dvg_make.specs.Accounts.{ShapeAt, EntryCause, Missing, Odd, Reaches, CauseAt}
 pub use Rattle.dvg_make.specs.Accounts.{keyed_context, IsStraight, IsAsked}
 
 -- before the first item
-abbrev pub start : ℕ → Key → Walk
+abbrev pub start : ℕ → Key → PartialEntry
 start addr key = record { addr = addr; key = key; cursor = first_cursor Shape addr key; lit = Empty }
 
--- the entry by what is known, and was lit, after the last item
+-- the whole entry, if this is known after the last item and this is the least box
 abbrev pub entry_of : ℕ → Key → Known → LitBox → Entry
 entry_of addr key known lit = record { addr = addr; key = key; stop = known.place; lit = lit; depth = known.depth; words = known.words; scale = known.scale }
 
--- the item is straight, and its target has its entry at the very scale
+-- the item is straight, and what it calls has an entry for exactly the scale there
 pub record IsFine (c : Context) (earlier : List Item) (i : Item) : Type 0 where
   pub straight : IsStraight (seen_at c earlier i)
   pub keyed : (to : ℕ) → target Shape i.instr ≡ Some to → HasEntry c.list to (scale_before c earlier)
 
--- so is each of these
+-- each of these items is fine
 abbrev pub AllFine : Context → List Item → Type 0
-AllFine c [] = Unit {0}
-AllFine c (i ∷ earlier) = AllFine c earlier × IsFine c earlier i
+AllFine c items = AllHold (IsFine c) items
 
--- passing an item leaves the least box so; the item is as asked
+-- the item is as asked, and with it the box grows from one least box to the next
 pub record Passes (v : Seen) (lit new : LitBox) : Type 0 where
   pub grows : (ps : List Point) → IsLeast ps lit → IsLeast (relative_corners v.extent v.place ++ ps) new
   pub asked : IsAsked v
 
--- this is known and was lit after these items, and each is fine
+-- each of these items is fine, this is known after them, and this is the least box of what they light
 pub record KnowsAt (c : Context) (items : List Item) (known : Known) (lit : LitBox) : Type 0 where
   pub known_is : known ≡ known_before c items
   pub least : IsLeast (lit_points c items) lit
   pub fine : AllFine c items
 
-pub record IsWalk (rom : Rom) (list : List Entry) (w : Walk) : Type 0 where
+pub record IsPartial (rom : Rom) (list : List Entry) (w : PartialEntry) : Type 0 where
   pub items : List Item
   pub leads : LeadsTo Shape (rom_word rom) w.addr items w.cursor.at
   pub knows : KnowsAt (keyed_context list w.key) items w.cursor.known w.lit
@@ -80,29 +79,29 @@ Extends a b = (addr : ℕ) (key : Key) (e : Entry) → entry_at a addr key ≡ S
 abbrev pub NeverAt : Rom → List Entry → ℕ → Key → Type 0
 NeverAt rom list addr key = (made : List Entry) → AllMade rom made → Extends list made → HasEntry made addr key → ⊥
 
--- the entry that an instruction calls, by exact key
+-- this is the entry that an instruction calls, for exactly this scale
 pub record IsCallee (list : List Entry) (i : Instr) (scale : Key) (callee : Option Entry) : Type 0 where
   pub value : callee ≡ callee_at list (target Shape i) scale
   pub keyed : (to : ℕ) → target Shape i ≡ Some to → HasEntry list to scale
 
--- the list has no entry for the target of an instruction
+-- the list has no entry for what an instruction calls
 pub record LacksCallee (list : List Entry) (i : Instr) (scale : Key) (addr : ℕ) : Type 0 where
   pub target_is : target Shape i ≡ Some addr
   pub none : entry_at list addr scale ≡ None
 
 -- ---- tails
 
--- the made entry of the shape from an address and a key on, whether anything calls it or not
+-- a tail is a made entry of a shape, whether anything calls that shape or not
 pub record IsTail (rom : Rom) (list : List Entry) (tail : Entry) : Type 0 where
   pub entry : IsEntry rom.map.rom_first rom.map.rom_last tail
   pub made : MadeEntry rom list tail
 
--- all of these are
+-- each of these is a tail
 abbrev pub AreTails : Rom → List Entry → List Entry → Type 0
 AreTails rom list tails = (tail : Entry) → Contains tails tail → IsTail rom list tail
 
--- the entry of a shape so far and of a tail behind it: what is known past both, and the least box that also has the tail's
-pub record EndsBy (w : Walk) (tail e : Entry) : Type 0 where
+-- the whole entry, by the partial one and a tail behind it: what is known past both, and the least box with what the tail lights
+pub record EndsBy (w : PartialEntry) (tail e : Entry) : Type 0 where
   pub known : Known
   pub lit : LitBox
   pub entry_is : e ≡ entry_of w.addr w.key known lit
@@ -111,26 +110,26 @@ pub record EndsBy (w : Walk) (tail e : Entry) : Type 0 where
   pub place : PlaceKnown (box_extent tail.lit) w.cursor.known.place
   pub words : known.words ≤ MOST_WORDS
 
--- that of a shape so far and of the tail that one of these is, where it stands
-pub record EndsByOne (w : Walk) (tails : List Entry) (e : Entry) : Type 0 where
+-- the whole entry, by the partial one and the tail among these that begins at its next item
+pub record EndsByOne (w : PartialEntry) (tails : List Entry) (e : Entry) : Type 0 where
   pub tail : Entry
   pub there : entry_at tails w.cursor.at w.cursor.known.scale ≡ Some tail
   pub ends : EndsBy w tail e
 
 -- ---- how far a shape was made
 
--- its entry is made
-pub record IsFinished (rom : Rom) (list : List Entry) (w : Walk) (e : Entry) : Type 0 where
+-- the whole entry is a made one
+pub record IsFinished (rom : Rom) (list : List Entry) (w : PartialEntry) (e : Entry) : Type 0 where
   pub addr : e.addr ≡ w.addr
   pub key : e.key ≡ w.key
   pub entry : IsEntry rom.map.rom_first rom.map.rom_last e
   pub made : MadeEntry rom list e
 
--- it stands at an item that calls for an entry that is not there
-pub record IsWaiting (rom : Rom) (list : List Entry) (w new : Walk) (addr : ℕ) : Type 0 where
+-- the next item calls what has no entry yet
+pub record IsWaiting (rom : Rom) (list : List Entry) (w new : PartialEntry) (addr : ℕ) : Type 0 where
   pub same_addr : new.addr ≡ w.addr
   pub same_key : new.key ≡ w.key
-  pub walk : IsWalk rom list new
+  pub partial : IsPartial rom list new
   pub item : Item
   pub at : item.at ≡ new.cursor.at
   pub stands : cell_at (rom_word rom) item.at ≡ Holds item.format item.instr
@@ -139,19 +138,19 @@ pub record IsWaiting (rom : Rom) (list : List Entry) (w new : Walk) (addr : ℕ)
   pub near : addr < ADDRESS_END
   pub scale : IsKey new.cursor.known.scale
 
-abbrev pub Advances : Rom → List Entry → Walk → Progress → Type 0
+abbrev pub Advances : Rom → List Entry → PartialEntry → Progress → Type 0
 Advances rom list w (Finished e at) = IsFinished rom list w e
 Advances rom list w (Waiting new addr) = IsWaiting rom list w new addr
 
--- its address and key
-abbrev pub link_of : Walk → Link
-link_of w = record { addr = w.addr; key = w.key }
+-- the address and the key of its shape
+abbrev pub shape_of : PartialEntry → ShapeAt
+shape_of w = record { addr = w.addr; key = w.key }
 
--- it stops at an item, and no made list has its entry
-pub record IsStopped (rom : Rom) (list : List Entry) (w : Walk) (stop : Stop) : Type 0 where
+-- the next item is an obstacle, and no made list has an entry for the shape
+pub record IsStopped (rom : Rom) (list : List Entry) (w : PartialEntry) (obstacle : Obstacle) : Type 0 where
   pub never : NeverAt rom list w.addr w.key
-  pub reaches : Reaches rom list (link_of w) stop.cursor.at stop.cursor.known
-  pub cause : CauseAt rom list [] stop.cursor.at stop.cursor.known stop.cause
+  pub reaches : Reaches rom list (shape_of w) obstacle.cursor.at obstacle.cursor.known
+  pub cause : CauseAt rom list [] obstacle.cursor.at obstacle.cursor.known obstacle.cause
 
 -- no item stands at this place of the ROM
 abbrev pub IsAbsent : Rom → ℕ → EntryCause → Type 0

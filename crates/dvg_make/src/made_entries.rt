@@ -1,4 +1,4 @@
-//! The entries that are made, by address and key.
+//! The entries that are made so far.
 
 ghost use Rattle.std.specs.Prelude.{◌≡◌, ◌++◌, [], ◌∷◌, length, ℕ, IfOk, OnOk, OnErr, None};
 ghost use Rattle.dvg_cert.specs.declared.entry.Key.{Key as KeyValue};
@@ -10,13 +10,13 @@ use indexmap::IndexMap;
 use std::alloc::{AllocError, Global};
 use std::marker::Model;
 
-/// The entries that are made, by address and key.
+/// Entries that are found by address and key, in the order in which they were made.
 #[derive(Drop)]
-pub struct Done {
+pub struct MadeEntries {
     found: IndexMap<(u16, Key), Entry>,
 }
 
-impl Model for Done {
+impl Model for MadeEntries {
     ghost use Rattle.std.specs.Prelude.{List};
     ghost use Rattle.dvg_cert.specs.declared.entry.Entry.{Entry};
     ghost use Rattle.std.specs.Map.{values_of};
@@ -29,17 +29,17 @@ impl Model for Done {
     ghost invariant = { λ done. IsKeyed done.found.entries };
 }
 
-impl Done {
+impl MadeEntries {
     /// No entry so far.
-    pub fn new(alloc: Global) -> Done
+    pub fn new(alloc: Global) -> MadeEntries
         ensures { result ≡ [] }
     {
-        Done {
+        MadeEntries {
             found: IndexMap::new(alloc),
         }
     }
 
-    /// The entry at an address and key.
+    /// The entry with exactly this address and key.
     pub fn find(&self, addr: u16, key: Key) -> Option<Entry>
         ensures { result ≡ entry_at self.now addr key }
     {
@@ -53,7 +53,7 @@ impl Done {
         self.found.len()
     }
 
-    /// Adds an entry whose address and key have none.
+    /// Adds an entry whose address and key have no entry yet.
     pub fn add(&mut self, entry: Entry) -> Result<(), AllocError>
         requires { entry_at self.old entry.addr entry.key ≡ None }
         ensures ok { OnOk result (self.new ≡ self.old ++ entry ∷ []) }

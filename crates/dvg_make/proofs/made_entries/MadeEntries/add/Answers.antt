@@ -5,7 +5,7 @@ use Rattle.dvg_cert.specs.Lookup.{entry_at}
 use Rattle.dvg_cert.specs.Private.Keyed.{IsKeyed}
 use Rattle.std.specs.Map.{values_of}
 use Rattle.dvg_cert.proofs.Pairs.{lookup_is, pair_test, values_of-append, keyed_push}
-use Rattle.dvg_make.proofs.done.Done.add.Goals as goal
+use Rattle.dvg_make.proofs.made_entries.MadeEntries.add.Goals as goal
 
 pub invariant_of-self-2 : goal.invariant_of-self-2
 invariant_of-self-2 c =

@@ -1,4 +1,4 @@
-//! One shape, item by item.
+//! The entry of one shape, made item by item.
 
 ghost use Rattle.std.specs.Prelude.{◌≡◌, ◌<◌, ◌≤◌, Contains, Some, IfOk, IfErr, IfSome, IfNone};
 ghost use Rattle.dvg_words.specs.Values.{IsMap};
@@ -17,34 +17,35 @@ ghost use Rattle.dvg_items.specs.Seen.{seen_with};
 ghost use Rattle.dvg_items.specs.Cursor.{step_past};
 ghost use Rattle.dvg_items.specs.Bounds.{IsSoundCursor, IsSoundStep, IsClaim};
 ghost use Rattle.dvg_make.specs.Accounts.{IsStraight, SaysOf};
-ghost use Rattle.dvg_make.specs.Private.Walking.{start, entry_of, Passes, IsWalk, IsStopped, IsAbsent, IsCallee, LacksCallee, AreTails, EndsBy, EndsByOne, Advances};
+ghost use Rattle.dvg_make.specs.Private.Partial.{start, entry_of, Passes, IsPartial, IsStopped, IsAbsent, IsCallee, LacksCallee, AreTails, EndsBy, EndsByOne, Advances};
 ghost use Rattle.dvg_make.specs.Private.Making.{IsDone};
 
 use crate::account::EntryCause;
-use crate::done::Done;
 use crate::least::boxed;
-use crate::stuck::Stop;
+use crate::made_entries::MadeEntries;
+use crate::obstacle::Obstacle;
 use crate::tails::is_mark;
 use dvg_cert::{Entry, Key, LitBox, MOST_DEPTH, MOST_WORDS};
 use dvg_items::{Cursor, Kind, Known, Seen, Step, depth_under, place_known, scale_known, target};
 use dvg_words::{Cell, Format, Instr, RomImage, read_cell};
 
-/// A shape in the making: its address and key, where its next item stands with what is known there, and the least box of
-/// what was lit so far.
+/// The entry of a shape, as far as the shape's items were passed.
 #[derive(Clone, Copy)]
-pub struct Walk {
+pub struct PartialEntry {
     pub addr: u16,
     pub key: Key,
+    /// The place of the next item, and what is known there.
     pub cursor: Cursor,
+    /// The least box of what the passed items light.
     pub lit: LitBox,
 }
 
-impl Walk {
-    /// Before the first item.
-    pub fn start(addr: u16, key: Key) -> Walk
+impl PartialEntry {
+    /// The entry before the first item of its shape.
+    pub fn start(addr: u16, key: Key) -> PartialEntry
         ensures { result ≡ start addr key }
     {
-        Walk {
+        PartialEntry {
             addr,
             key,
             cursor: Cursor::start(Kind::Shape, addr, key),
@@ -52,7 +53,7 @@ impl Walk {
         }
     }
 
-    /// The entry by what is known, and was lit, after the last item.
+    /// The whole entry, if this is known after the shape's last item and this is the least box of all items.
     fn entry(&self, known: &Known, lit: LitBox) -> Entry
         ensures { result ≡ entry_of self.now.addr self.now.key known.now lit }
     {
@@ -67,24 +68,25 @@ impl Walk {
         }
     }
 
-    /// It stops where it stands.
-    pub fn stop(&self, cause: EntryCause) -> Stop
+    /// The obstacle at the next item, by this cause.
+    pub fn obstacle(&self, cause: EntryCause) -> Obstacle
         ensures { result ≡ record { cursor = self.now.cursor; cause = cause } }
     {
-        Stop {
+        Obstacle {
             cursor: self.cursor,
             cause,
         }
     }
 
-    /// Goes past the instruction that stands next, with the entry that it calls: where that leads, and the least box then.
+    /// Passes the next item: where that leads, and the least box with what the item lights. `callee` is the entry that the item
+    /// calls.
     #[inline(always)]
     fn pass(
         &self,
         format: Format,
         instr: &Instr,
         callee: Option<Entry>,
-    ) -> Result<(Step, LitBox), Stop>
+    ) -> Result<(Step, LitBox), Obstacle>
         requires here { IsSoundCursor self.now.cursor }
         requires near { self.now.cursor.at < ADDRESS_END }
         requires fields { InstrFits instr.now }
@@ -92,25 +94,26 @@ impl Walk {
         ensures ok { IfOk result (λ past. Passes (seen_with callee self.now.cursor.known (record { at = self.now.cursor.at; format = format; instr = instr.now })) self.now.lit past.1) }
         ensures step { IfOk result (λ past. past.0 ≡ step_past Shape (seen_with callee self.now.cursor.known (record { at = self.now.cursor.at; format = format; instr = instr.now }))) }
         ensures sound { IfOk result (λ past. IsSoundStep past.0) }
-        ensures err { IfErr result (λ stop. (stop.cursor ≡ self.now.cursor) × SaysOf self.now.cursor.known.scale (seen_with callee self.now.cursor.known (record { at = self.now.cursor.at; format = format; instr = instr.now })) stop.cause) }
+        ensures err { IfErr result (λ obstacle. (obstacle.cursor ≡ self.now.cursor) × SaysOf self.now.cursor.known.scale (seen_with callee self.now.cursor.known (record { at = self.now.cursor.at; format = format; instr = instr.now })) obstacle.cause) }
     {
         let seen = self.cursor.see(format, instr, callee);
         if let Some(cause) = unstraight(&seen) {
-            return Err(self.stop(cause));
+            return Err(self.obstacle(cause));
         }
         if let Some(to) = too_deep(instr, &callee) {
             let scale = self.cursor.known.scale;
-            return Err(self.stop(EntryCause::Deep { to, scale }));
+            return Err(self.obstacle(EntryCause::Deep { to, scale }));
         }
         if seen.after.words > MOST_WORDS {
             let words = seen.after.words;
-            return Err(self.stop(EntryCause::TooManyWords { words }));
+            return Err(self.obstacle(EntryCause::TooManyWords { words }));
         }
         let lit = boxed(&self.lit, &seen.extent, &seen.place);
         Ok((seen.step(Kind::Shape), lit))
     }
 
-    /// The entry of the shape where this tail stands at its next item: `None` where it may not stand there, or perhaps not.
+    /// The whole entry, by the tail from the next item on. `None` if what the tail lights would lie at an unknown place, or if
+    /// the depth, or one word more than the words, would pass the limit.
     #[inline(never)]
     fn end_by(&self, tail: &Entry) -> Option<Entry>
         requires here { IsSoundCursor self.now.cursor }
@@ -118,7 +121,7 @@ impl Walk {
         requires tail { IsClaim tail.now }
         ensures { IfSome result (EndsBy self.now tail.now) }
     {
-        // A tail jump to it would come to the same, but for its own word.
+        // A tail jump to the tail's shape has the same effect, and fetches one word more: its own.
         let jump = Instr::Jmpl { to: tail.addr };
         match self.pass(Format::Short, &jump, Some(*tail)) {
             Ok((Step::Last(known), lit)) => {
@@ -129,8 +132,8 @@ impl Walk {
         }
     }
 
-    /// The entry of the shape, where its end is known by a tail that was kept.
-    fn known_end(&self, tails: &Done) -> Option<Entry>
+    /// The whole entry, if a tail from the next item on was kept and can be used.
+    fn known_end(&self, tails: &MadeEntries) -> Option<Entry>
         requires here { IsSoundCursor self.now.cursor }
         requires near { self.now.cursor.at < ADDRESS_END }
         requires tails { (tail : EntryValue) → Contains tails.now tail → IsClaim tail }
@@ -144,16 +147,17 @@ impl Walk {
     }
 }
 
-/// How far a shape was made.
+/// How far the items of a shape were passed.
 #[derive(Clone, Copy)]
 pub enum Progress {
-    /// Its entry, and where the walk ended: at its last item, or at a tail that was known.
+    /// The entry is whole. The last item that was passed stands at `at`, or the tail that was used begins there.
     Finished { entry: Entry, at: u16 },
-    /// It needs the entry at an address, at the scale that it knows, which is not made yet.
-    Waiting { walk: Walk, addr: u16 },
+    /// The next item calls the shape at `addr`, which has no entry yet at the scale that is known there.
+    Waiting { partial: PartialEntry, addr: u16 },
 }
 
-/// Why an item is HALT, or lights at an unknown place or scale; `None` where it does not.
+/// The cause by which an item can stand in no made shape: it is HALT, or it lights at an unknown place or scale. `None` if it is
+/// none of these.
 fn unstraight(seen: &Seen) -> Option<EntryCause>
     ensures some { IfSome result (λ cause. (scale : KeyValue) → SaysOf scale seen.now cause) }
     ensures none { IfNone result (IsStraight seen.now) }
@@ -170,7 +174,7 @@ fn unstraight(seen: &Seen) -> Option<EntryCause>
     None
 }
 
-/// The word address that an instruction calls, where too many return places are stored at once under the entry that it calls.
+/// The word address that an instruction calls, if calls nest too deep under it.
 fn too_deep(instr: &Instr, callee: &Option<Entry>) -> Option<u16>
     requires { IfSome callee.now IsClaim }
     ensures some { IfSome result (λ to. (target Shape instr.now ≡ Some to) × (MOST_DEPTH < depth_under instr.now callee.now)) }
@@ -182,7 +186,7 @@ fn too_deep(instr: &Instr, callee: &Option<Entry>) -> Option<u16>
     None
 }
 
-/// Why no item stands at a word address.
+/// The cause by which no item stands at a word address: a word is outside the ROM, or the item is an odd LABS.
 fn absence(rom: &RomImage, at: u16) -> EntryCause
     requires { (format : FormatValue) (instr : InstrValue) → cell_at (rom_word rom.now) at ≡ Holds format instr → ⊥ }
     ensures { IsAbsent rom.now at result }
@@ -193,8 +197,9 @@ fn absence(rom: &RomImage, at: u16) -> EntryCause
     }
 }
 
-/// The entry that an instruction calls, or its target where that has none at this very scale.
-fn look_up(done: &Done, instr: &Instr, scale: Key) -> Result<Option<Entry>, u16>
+/// The entry for exactly this scale that an instruction calls, `None` if it calls nothing. An `Err` is the address that has no
+/// such entry.
+fn look_up(done: &MadeEntries, instr: &Instr, scale: Key) -> Result<Option<Entry>, u16>
     ensures ok { IfOk result (IsCallee done.now instr.now scale) }
     ensures err { IfErr result (LacksCallee done.now instr.now scale) }
 {
@@ -207,37 +212,42 @@ fn look_up(done: &Done, instr: &Instr, scale: Key) -> Result<Option<Entry>, u16>
     }
 }
 
-/// Takes items up to the end of the shape, or to a tail that is known, or to one that needs an entry.
-pub fn advance(rom: &RomImage, done: &Done, tails: &Done, from: Walk) -> Result<Progress, Stop>
+/// Passes items up to the end of the shape, or to a tail that was kept, or to an item whose callee has no entry yet.
+pub fn advance(
+    rom: &RomImage,
+    done: &MadeEntries,
+    tails: &MadeEntries,
+    from: PartialEntry,
+) -> Result<Progress, Obstacle>
     requires map { IsMap rom.now.map }
-    requires walk { IsWalk rom.now done.now from }
+    requires partial { IsPartial rom.now done.now from }
     requires done { IsDone rom.now done.now }
     requires tails { AreTails rom.now done.now tails.now }
     ensures ok { IfOk result (Advances rom.now done.now from) }
     ensures err { IfErr result (IsStopped rom.now done.now from) }
 {
-    let mut walk = from;
-    while let Cell::Holds { format, instr } = read_cell(rom, walk.cursor.at) {
-        let at = walk.cursor.at;
-        if let Some(entry) = walk.known_end(tails) {
+    let mut partial = from;
+    while let Cell::Holds { format, instr } = read_cell(rom, partial.cursor.at) {
+        let at = partial.cursor.at;
+        if let Some(entry) = partial.known_end(tails) {
             return Ok(Progress::Finished { entry, at });
         }
-        let callee = match look_up(done, &instr, walk.cursor.known.scale) {
+        let callee = match look_up(done, &instr, partial.cursor.known.scale) {
             Ok(callee) => callee,
-            Err(addr) => return Ok(Progress::Waiting { walk, addr }),
+            Err(addr) => return Ok(Progress::Waiting { partial, addr }),
         };
-        let (step, lit) = walk.pass(format, &instr, callee)?;
+        let (step, lit) = partial.pass(format, &instr, callee)?;
         match step {
-            Step::Onward(cursor) => walk = Walk {
+            Step::Onward(cursor) => partial = PartialEntry {
                 cursor,
                 lit,
-                ..walk
+                ..partial
             },
             Step::Last(known) => {
-                let entry = walk.entry(&known, lit);
+                let entry = partial.entry(&known, lit);
                 return Ok(Progress::Finished { entry, at });
             }
         }
     }
-    Err(walk.stop(absence(rom, walk.cursor.at)))
+    Err(partial.obstacle(absence(rom, partial.cursor.at)))
 }

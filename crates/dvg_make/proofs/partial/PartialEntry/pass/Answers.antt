@@ -1,11 +1,11 @@
 use Rattle.std.proofs.Common.{refl, sym, subst, ◌≡◌}
 use Rattle.dvg_items.specs.Seen.{seen_with}
 use Rattle.dvg_items.specs.declared.seen.Seen.{Seen}
-use Rattle.dvg_make.specs.declared.stuck.Stop.{Stop}
+use Rattle.dvg_make.specs.declared.obstacle.Obstacle.{Obstacle}
 use Rattle.dvg_make.specs.Accounts.{SaysOf}
-use Rattle.dvg_make.proofs.walk.Walk.pass.Goals as goal
+use Rattle.dvg_make.proofs.partial.PartialEntry.pass.Goals as goal
 
 pub returns-in-Some-clause-err : goal.returns-in-Some-clause-err
 returns-in-Some-clause-err c =
-    subst (λ (stop : Stop). (stop.cursor ≡ c.args.self.now.cursor) × SaysOf c.args.self.now.cursor.known.scale (seen_with c.args.callee c.args.self.now.cursor.known (record { at = c.args.self.now.cursor.at; format = c.args.format; instr = c.args.instr.now })) stop.cause) (sym c.stop.ensures)
+    subst (λ (obstacle : Obstacle). (obstacle.cursor ≡ c.args.self.now.cursor) × SaysOf c.args.self.now.cursor.known.scale (seen_with c.args.callee c.args.self.now.cursor.known (record { at = c.args.self.now.cursor.at; format = c.args.format; instr = c.args.instr.now })) obstacle.cause) (sym c.obstacle.ensures)
     (refl, subst (λ (v : Seen). SaysOf c.args.self.now.cursor.known.scale v c.in-Some.cause) c.see-seen.ensures.value (c.in-Some.ensures.some c.args.self.now.cursor.known.scale))

@@ -3,7 +3,7 @@ use Rattle.std.proofs.lemmas.List.{length-take-le}
 use Rattle.dvg_cert.specs.Limits.{LONGEST_LINE}
 use Rattle.dvg_cert.specs.Private.Progress.{EndsLine}
 use Rattle.dvg_cert.proofs.Refusals.{not_whole, rest_is, line_refused, end_fault, begins, after_refused}
-use Rattle.dvg_cert.proofs.reader.take_any.Goals as goal
+use Rattle.dvg_cert.proofs.reader.take_next.Goals as goal
 
 pub returns-in-Some : goal.returns-in-Some
 returns-in-Some c = after_refused c.line_number-line.result c.in-Some.fault c.args.lines.now c.args.begun.now.items c.args.rest.now c.requires.taken c.requires.begun (c.if-is_whole.ensures.0 (search rules)) c.line_number-line.ensures c.in-Some.ensures.some.0 c.in-Some.ensures.some.1

@@ -1,7 +1,7 @@
 use Rattle.std.proofs.Common.{sym, ◌∙◌}
 use Rattle.dvg_items.proofs.Listed.{listed_at}
 use Rattle.dvg_make.proofs.Joining.{ends_by_one}
-use Rattle.dvg_make.proofs.walk.Walk.known_end.Goals as goal
+use Rattle.dvg_make.proofs.partial.PartialEntry.known_end.Goals as goal
 
 pub end_by-requires-clause-tail : goal.end_by-requires-clause-tail
 end_by-requires-clause-tail c =

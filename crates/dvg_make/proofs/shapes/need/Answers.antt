@@ -1,0 +1,64 @@
+use Rattle.std.proofs.Common.{◌≡◌, false, Option, None, Some, sym, subst, ap, ◌∙◌, rules}
+use Rattle.std.specs.Prelude.{is_some}
+use Rattle.dvg_cert.specs.declared.entry.Entry.{Entry}
+use Rattle.dvg_make.specs.declared.partial.PartialEntry.{PartialEntry}
+use Rattle.dvg_make.specs.declared.obstacle.Obstacle.{Obstacle}
+use Rattle.dvg_make.specs.Private.Making.{Bars, obstacle_fault}
+use Rattle.dvg_make.proofs.Turns.{first_fault, first_ok, first_present, called_none}
+use Rattle.dvg_make.proofs.Telling.{room_of_none, tells_first, begin_no_root}
+use Rattle.dvg_make.proofs.shapes.need.Goals as goal
+
+nothing_found : (o p : Option Entry) → o ≡ p → is_some o ≡ false → p ≡ None
+nothing_found None p e h = sym e
+nothing_found (Some x) p e h = absurd cc
+
+pub returns-in-Err-clause-err : goal.returns-in-Err-clause-err
+returns-in-Err-clause-err c =
+    subst (λ (obstacle : Obstacle). Bars c.args.rom.now c.args.done.now (c.args.addr, c.args.key) (obstacle_fault obstacle)) (sym c.obstacle-obstacle.ensures)
+    (first_fault c.args.rom.now c.args.done.now c.args.addr c.args.key c.requires.done (nothing_found _ _ c.find.ensures (search rules)) c.new-stack.result c.new-stack.ensures c.start.result.cursor.at c.in-Err.cause c.in-Err.ensures.err)
+
+pub returns-in-Err-clause-told : goal.returns-in-Err-clause-told
+returns-in-Err-clause-told c =
+    record {
+      list = c.args.done.now;
+      is_done = c.requires.done;
+      extends = λ addr key e q. q;
+      needed = called_none c.args.rom.now c.args.done.now (c.args.addr, c.args.key) c.begin.new.stack (c.in-Err.ensures.same ∙ c.new-stack.ensures);
+      room = room_of_none c.args.done.now c.begin.new.stack (c.in-Err.ensures.same ∙ c.new-stack.ensures) c.requires.done.room;
+      tells = tells_first c.args.rom.now c.args.done.now c.args.addr c.args.key c.requires.done.unique (nothing_found _ _ c.find.ensures (search rules)) c.new-stack.result c.begin.new.stack c.new-stack.ensures c.in-Err.ensures.same c.obstacle-obstacle.result c.in-Err.cause (c.obstacle-obstacle.ensures ∙ ap (λ (w : PartialEntry). record { cursor = w.cursor; cause = c.in-Err.cause }) c.start.ensures) c.in-Err.ensures.err;
+    }
+
+pub returns-in-Err-clause-no_root : goal.returns-in-Err-clause-no_root
+returns-in-Err-clause-no_root c =
+    begin_no_root c.args.done.now c.new-stack.result c.args.addr c.args.key c.start.result.cursor c.obstacle-obstacle.result c.in-Err.cause c.obstacle-obstacle.ensures c.in-Err.ensures.err
+
+pub loop-partial-init : goal.loop-partial-init
+loop-partial-init c =
+    record {
+      making = first_ok c.args.rom.now c.args.done.now c.args.addr c.args.key c.requires.done c.requires.near c.requires.key (nothing_found _ _ c.find.ensures (search rules)) c.new-stack.result c.begin.new.stack c.new-stack.ensures c.in_default.ensures.ok;
+      present = first_present c.args.done.now c.args.addr c.args.key c.new-stack.result c.begin.new.stack c.new-stack.ensures c.in_default.ensures.ok;
+      tails = c.requires.tails;
+    }
+
+pub loop-partial-preserved : goal.loop-partial-preserved
+loop-partial-preserved c =
+    record {
+      making = c.in_default-turn.ensures.ok c.args.done.now (c.args.addr, c.args.key) c.loop-partial.invariant.making;
+      present = c.in_default-turn.ensures.present c.args.addr c.args.key c.loop-partial.invariant.present;
+      tails = c.in_default-turn.ensures.tails;
+    }
+
+pub returns-in-Err-turn-clause-err : goal.returns-in-Err-turn-clause-err
+returns-in-Err-turn-clause-err c = c.in-Err-turn.ensures.err c.args.done.now (c.args.addr, c.args.key) c.loop-partial.invariant.making
+
+pub returns-in-Err-turn-clause-told : goal.returns-in-Err-turn-clause-told
+returns-in-Err-turn-clause-told c =
+    let t = c.in-Err-turn.ensures.told c.args.done.now (c.args.addr, c.args.key) c.loop-partial.invariant.making in
+    record {
+      list = c.loop-partial.done;
+      is_done = c.loop-partial.invariant.making.is_done;
+      extends = c.loop-partial.invariant.making.extends;
+      needed = t.1;
+      room = t.2;
+      tells = t.0;
+    }
