@@ -21,8 +21,8 @@ pub enum Effect {
     Moves(Point),
 }
 
-/// What is known before an item: the place, the scale (`Any` where it is unknown), the words so far, and the most return places stored
-/// at once.
+/// What is known before an item: the place, the scale (`Any` where it is unknown), the words so far, and the most return places
+/// stored at once.
 #[derive(Clone, Copy, Debug, PartialEq, Eq)]
 pub struct Known {
     pub place: End,

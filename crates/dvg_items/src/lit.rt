@@ -123,8 +123,8 @@ pub fn absolute_corners(extent: &LitExtent, place: &End) -> Option<(Point, Point
     }
 }
 
-/// Both corners of what an item lights at a relative place, seen from the beam at the call. `None` where it lights nothing there, or
-/// its scale is unknown.
+/// Both corners of what an item lights at a relative place, seen from the beam at the call. `None` where it lights nothing there,
+/// or its scale is unknown.
 pub fn relative_corners(extent: &LitExtent, place: &End) -> Option<(Point, Point)>
     requires place { IsNearPlace ADDRESS_END place.now }
     requires extent { IsNearExtent extent.now }
