@@ -56,7 +56,8 @@ pub record CertVerdict (mode : Mode) (w : Window) (rom cert frame : List ℕ) (b
   pub spells : Spells certificate cert
   pub by_it : RomVerdict mode w rom certificate (words_of frame) budget answer
 
--- the verdict on the bytes of a ROM, of a certificate and of a frame: the first refusal that applies, or the counts of what is accepted
+-- the verdict on the bytes of a ROM, of a certificate and of a frame: the first refusal that applies, or the counts of what is
+-- accepted
 abbrev pub Verdict : Mode → Window → List ℕ → List ℕ → List ℕ → ℕ → Result Yes Refusal → Type 0
 Verdict mode w rom cert frame budget (Err (refusal.Image FrameLength)) = RangeRefusal frame budget (refusal.Image FrameLength)
 Verdict mode w rom cert frame budget (Err refusal.BudgetRange) = RangeRefusal frame budget refusal.BudgetRange

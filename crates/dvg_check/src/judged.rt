@@ -92,8 +92,8 @@ impl<'a, E: Entries> JudgedShapes<'a, E> {
         find_frame_fault(frame, self.entries, budget, &self.window)
     }
 
-    /// The shapes that are known to be good so in this mode: those that [`judge`](JudgedShapes::judge) took before, say, kept
-    /// with their ROM, their entries and their window. Takes no memory.
+    /// Shapes that are known to be good in this mode, such as those that [`judge`](JudgedShapes::judge) took before, kept with
+    /// their ROM, their entries and their window. Takes no memory.
     pub fn unchecked(
         rom: &'a RomImage<'a>,
         entries: &'a E,

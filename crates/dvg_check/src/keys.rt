@@ -9,8 +9,8 @@ use dvg_cert::Key;
 /// How many keys there are: the sixteen global scales, and `Any`.
 pub const KEYS: u8 = 17;
 
-/// How many tails a pass over a ROM keeps: one for each key at three words in a row. The tail behind an item stands one or two words
-/// further on.
+/// How many tails a pass over a ROM keeps: one for each key at three words in a row. The tail behind an item stands one or two
+/// words further on.
 pub const SLOTS: usize = 3 * KEYS as usize;
 
 /// The slot of the tail at a word address and a key, below [`SLOTS`].

@@ -40,8 +40,8 @@ fn keys_behind<E: Entries>(entries: &E, instr: &Instr, keys: Keys) -> Keys
     }
 }
 
-/// The keys at which tails are needed, at each word of a ROM. A pass from the ROM's last word to its first makes these tails alone. No
-/// verdict depends on it: a shape whose tail was not made is judged item by item.
+/// The keys at which tails are needed, at each word of a ROM. A pass from the ROM's last word to its first makes these tails alone.
+/// No verdict depends on it: a shape whose tail was not made is judged item by item.
 #[derive(Drop)]
 pub struct Needed {
     /// The word address of the ROM's first word.

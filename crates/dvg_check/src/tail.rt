@@ -1,7 +1,7 @@
 //! Tails of shapes, each made of one item and the tail behind that item.
 //!
-//! A tail is the part of a shape from a word of the ROM on. What it does depends on this word and on the known scale there alone. So
-//! a tail is told as an entry: the one that claims exactly what a shape does that starts at this word.
+//! A tail is the part of a shape from a word of the ROM on. What it does depends on this word and on the known scale there alone.
+//! So a tail is told as an entry: the one that claims exactly what a shape does that starts at this word.
 
 ghost use Rattle.std.specs.Prelude.{◌≡◌, ◌+◌, ◌<◌, ◌≤◌, ℕ, pos, IfSome, IsTrue};
 ghost use Rattle.dvg_words.specs.Decoding.{InstrFits, cell_at};
@@ -82,9 +82,9 @@ fn is_in_window(window: &Window, lit: &LitBox) -> bool
     }
 }
 
-/// The box that a tail lights at relative places, seen from the start of the item before it: `place` is the place past this item, and
-/// `lit` the tail's box, seen from its own start. `None` where a tail with this box may not be lit at this place: the place is lost,
-/// or it is absolute and the box leaves the window.
+/// The box that a tail lights at relative places, seen from the start of the item before it: `place` is the place past this item,
+/// and `lit` the tail's box, seen from its own start. `None` where a tail with this box may not be lit at this place: the place is
+/// lost, or it is absolute and the box leaves the window.
 fn lit_over(window: &Window, place: &End, lit: &LitBox) -> Option<LitBox>
     requires place { IsNearPlace 1 place.now }
     requires lit { IsNearBox (ADDRESS_END + 2) lit.now }
@@ -105,8 +105,8 @@ fn lit_over(window: &Window, place: &End, lit: &LitBox) -> Option<LitBox>
     }
 }
 
-/// The tail from an item on, made of this item, told as an entry, and the tail behind it. `None` where the tail behind it may not be
-/// lit past the item.
+/// The tail from an item on, made of this item, told as an entry, and the tail behind it. `None` where the tail behind it may not
+/// be lit past the item.
 pub fn after_item(window: &Window, item: &Entry, tail: &Entry) -> Option<Entry>
     requires item { IsSmall 1 item.now }
     requires tail { IsSmall (ADDRESS_END + 2) tail.now }
@@ -166,8 +166,8 @@ pub fn last_item<E: Entries>(entries: &E, item: &Item, key: Key) -> Option<Entry
     }
 }
 
-/// An item at a key that calls this entry, or calls none, told as the entry of a shape that has this item alone. `None` where it lights
-/// at unknown scale.
+/// An item at a key that calls this entry, or calls none, told as the entry of a shape that has this item alone. `None` where it
+/// lights at unknown scale.
 #[inline(always)]
 fn item_calling(item: &Item, key: Key, callee: Option<Entry>) -> Option<Entry>
     requires key { IsKey key }
@@ -203,8 +203,8 @@ fn is_inside(part: &LitBox, whole: &LitBox) -> bool
     }
 }
 
-/// Whether the tail at an entry's address and key bears out the entry: the end and the scale are the same, the entry's box holds the
-/// tail's, and its counts are no smaller, in the mode `Exact` the same.
+/// Whether the tail at an entry's address and key bears out the entry: the end and the scale are the same, the entry's box holds
+/// the tail's, and its counts are no smaller, in the mode `Exact` the same.
 pub fn claims_less(mode: Mode, entry: &Entry, tail: &Entry) -> bool
     requires addr { entry.now.addr ≡ tail.now.addr }
     requires key { entry.now.key ≡ tail.now.key }

@@ -88,7 +88,7 @@ fn see<E: Entries>(kind: Kind, entries: &E, here: Cursor, format: Format, instr:
     )
 }
 
-/// Goes over the items from the first place on, up to the first that breaks a rule or the last.
+/// Goes over the items from a word address on, to the last one or to the first that breaks a rule.
 pub fn walk<C: Cells, E: Entries, R: Rules>(
     cells: &C,
     entries: &E,

@@ -2,15 +2,13 @@
 use Rattle.std.proofs.Common.{◌≡◌, ℕ, zero, suc, ◌+◌, ◌<◌, ◌≤◌, Bool, true, false, List, [], ◌∷◌, ◌++◌, length, Option, Some, None, is_some, if◌then◌else◌, refl, sym, ap, ◌∙◌, subst, arith, ⊎_elim}
 use Rattle.std.proofs.lemmas.Option.{slice_get_within}
 use Rattle.std.proofs.lemmas.Bool.{cases_lt}
-use Rattle.std.proofs.lemmas.Bool.Decides.{nat_tests}
 use Rattle.std.proofs.lemmas.List.Elements.{All-nil, All-cons}
 use Rattle.std.specs.List.{All, AllByRecursion}
-use Rattle.std.specs.Prelude.{Contains, slice_get, ◌==◌}
+use Rattle.std.specs.Prelude.{Contains, slice_get}
 use Rattle.dvg_words.specs.Memory.{Rom, frame_word, rom_word}
 use Rattle.dvg_cert.specs.declared.entry.Entry.{Entry}
-use Rattle.dvg_cert.specs.declared.entry.Key.{Key}
-use Rattle.dvg_cert.specs.declared.entry.Key.TheVariants.{At, Any}
-use Rattle.dvg_cert.specs.Lookup.{is_at, same_key, entry_at}
+use Rattle.dvg_cert.specs.declared.entry.Key.TheVariants.{Any}
+use Rattle.dvg_cert.specs.Lookup.{is_at, entry_at}
 use Rattle.dvg_items.specs.declared.item.Kind.TheVariants.{Frame}
 use Rattle.dvg_items.specs.Known.{Context, frame_context, shape_context}
 use Rattle.dvg_items.proofs.Lists.{all_map}

@@ -26,7 +26,8 @@ IsFrameCall words list call = Calls (frame_context list) (frame_word words) 0 ca
 abbrev pub IsShapeCall : Rom → List Entry → Entry → Call → Type 0
 IsShapeCall rom list e call = Calls (shape_context list e) (rom_word rom) e.addr call
 
--- from an entry these calls lead to the goal: each stands in the shape of the entry before it, and the last names the goal (profile)
+-- from an entry these calls lead to the goal: each stands in the shape of the entry before it, and the last names the goal
+-- (profile)
 abbrev pub LeadsOn : Rom → List Entry → Entry → List Call → Entry → Type 0
 LeadsOn rom list e [] goal = e ≡ goal
 LeadsOn rom list e (call ∷ rest) goal = IsShapeCall rom list e call × LeadsOn rom list call.entry rest goal

@@ -7,8 +7,8 @@ use Rattle.dvg_items.specs.Known.{depth_under, shape_context}
 use Rattle.dvg_explain.specs.Calls.{Call, calls_among}
 use Rattle.dvg_explain.specs.Chains.{IsShapeCall}
 
--- the call stands in an entry's shape and bears out the claimed depth, which is not 0: the call's entry claims one less, or of a tail
--- jump the same (profile)
+-- the call stands in an entry's shape and bears out the claimed depth, which is not 0: the call's entry claims one less, or of a
+-- tail jump the same (profile)
 pub record BearsOut (rom : Rom) (list : List Entry) (e : Entry) (call : Call) : Type 0 where
   pub calls : IsShapeCall rom list e call
   pub some : 0 < e.depth

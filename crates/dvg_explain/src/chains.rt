@@ -29,7 +29,8 @@ fn reached_by_frame<E: Entries>(
     Ok(reached)
 }
 
-/// Adds the entries that the shape of an entry calls at words where no search came by before. `from` is the index of the entry's link.
+/// Adds the entries that the shape of an entry calls at words where no search came by before. `from` is the index of the entry's
+/// link.
 fn reach_from<E: Entries>(
     alloc: Global,
     rom: &RomImage,
@@ -47,10 +48,10 @@ fn reach_from<E: Entries>(
     reached.add_all(&calls, Some(from))
 }
 
-/// The calls by which a frame comes to an entry, by the claims of a certificate: the first is the frame's own, each later one stands
-/// in the shape of the entry that the one before it names, and the last names the goal (profile). `None` exactly where the frame does
-/// not come to it. `entries` are those of the certificate. Goes breadth first over the shapes that the frame comes to, and over each
-/// word of the ROM once at most for each known scale there, however many shapes come by.
+/// The calls by which a frame comes to an entry, by the claims of a certificate: the first is the frame's own, each later one
+/// stands in the shape of the entry that the one before it names, and the last names the goal (profile). `None` exactly where the
+/// frame does not come to it. `entries` are those of the certificate. Goes breadth first over the shapes that the frame comes to,
+/// and over each word of the ROM once at most for each known scale there, however many shapes come by.
 pub fn find_chain<E: Entries>(
     alloc: Global,
     rom: &RomImage,

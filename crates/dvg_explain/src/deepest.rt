@@ -14,11 +14,11 @@ use dvg_items::{Cursor, Kind, Seen, Step, depth_under};
 use dvg_words::RomImage;
 use std::alloc::{AllocError, Global};
 
-/// The calls below an entry that go deepest, by the claims of a certificate. Each stands in the shape of the entry before it, and is
-/// the first one there that bears out this entry's depth: a call whose entry claims one less, or a tail jump whose entry claims the
-/// same (profile). They end at an entry of depth 0, or where no call bears out the depth, or when they are as many as the entries; in
-/// a made certificate they end at depth 0. `entries` are those of the certificate. Goes over the items of each of these shapes once,
-/// and takes memory for the calls alone.
+/// The calls below an entry that go deepest, by the claims of a certificate. Each stands in the shape of the entry before it, and
+/// is the first one there that bears out this entry's depth: a call whose entry claims one less, or a tail jump whose entry claims
+/// the same (profile). They end at an entry of depth 0, or where no call bears out the depth, or when they are as many as the
+/// entries; in a made certificate they end at depth 0. `entries` are those of the certificate. Goes over the items of each of these
+/// shapes once, and takes memory for the calls alone.
 pub fn deepest_calls<E: Entries>(
     alloc: Global,
     rom: &RomImage,

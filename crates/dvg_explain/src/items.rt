@@ -107,9 +107,9 @@ pub fn calls_from<F: Fetch, E: Entries>(
     Ok(calls)
 }
 
-/// The calls of an entry's shape, in their order, up to the first word that was visited before at the same known scale: from there on,
-/// the shape that visited it makes the same calls. Marks each word that it goes over as visited. What an item calls depends on its
-/// word address and on the known scale there alone, so nothing else of what is known is kept.
+/// The calls of an entry's shape, in their order, up to the first word that was visited before at the same known scale: from there
+/// on, the shape that visited it makes the same calls. Marks each word that it goes over as visited. What an item calls depends on
+/// its word address and on the known scale there alone, so nothing else of what is known is kept.
 pub fn new_calls<E: Entries>(
     alloc: Global,
     rom: &RomImage,

@@ -20,7 +20,8 @@ pub enum Edge {
     Top,
 }
 
-/// A lit corner, the first edge that it is past (in the order left, right, bottom, top), and by how much, in 1/1024 of a screen place.
+/// A lit corner, the first edge that it is past (in the order left, right, bottom, top), and by how much, in 1/1024 of a screen
+/// place.
 #[derive(Clone, Copy, Debug, PartialEq, Eq)]
 pub struct Leaving {
     pub corner: Point,

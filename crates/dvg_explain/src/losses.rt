@@ -22,8 +22,8 @@ pub struct Losses {
     pub scale: Option<Item>,
 }
 
-/// The item by which the place past an item was lost; `None` where it is known, or never was. `by` is the item by which the place before
-/// it was lost.
+/// The item by which the place past an item was lost; `None` where it is known, or never was. `by` is the item by which the place
+/// before it was lost.
 fn place_loss(item: &Item, before: &End, after: &End, by: Option<Item>) -> Option<Item>
     ensures { result ≡ place_loss item.now before.now after.now by }
 {
@@ -34,8 +34,8 @@ fn place_loss(item: &Item, before: &End, after: &End, by: Option<Item>) -> Optio
     }
 }
 
-/// The item by which the scale past an item was lost; `None` where it is known, or never was. `by` is the item by which the scale before
-/// it was lost.
+/// The item by which the scale past an item was lost; `None` where it is known, or never was. `by` is the item by which the scale
+/// before it was lost.
 fn scale_loss(item: &Item, before: Key, after: Key, by: Option<Item>) -> Option<Item>
     ensures { result ≡ scale_loss item.now before after by }
 {
@@ -109,8 +109,8 @@ pub fn frame_losses<E: Entries>(
     losses_before(frame, entries, &WalkContext::frame(), at)
 }
 
-/// The items of an entry's shape by which the known place and the known scale were lost before a word of the ROM, as [`frame_losses`]
-/// says it of a frame.
+/// The items of an entry's shape by which the known place and the known scale were lost before a word of the ROM, as
+/// [`frame_losses`] says it of a frame.
 pub fn shape_losses<E: Entries>(
     rom: &RomImage,
     cert: &Cert,

@@ -11,8 +11,8 @@ use crate::keyed_words::KeyedWords;
 use std::alloc::{AllocError, Global};
 use std::marker::Model;
 
-/// The call by which an entry was reached first. It stands in the shape of the entry of the link with index `from`; `None` where it is
-/// the frame's own.
+/// The call by which an entry was reached first. It stands in the shape of the entry of the link with index `from`; `None` where it
+/// is the frame's own.
 #[derive(Clone, Copy)]
 pub struct Link {
     pub call: Call,
@@ -69,8 +69,8 @@ impl Reached {
         Ok(())
     }
 
-    /// Adds a link for each of these calls, unless its entry was reached before. The calls stand in the shape of the entry of the link
-    /// with index `from`; `None` where they are the frame's own.
+    /// Adds a link for each of these calls, unless its entry was reached before. The calls stand in the shape of the entry of the
+    /// link with index `from`; `None` where they are the frame's own.
     pub fn add_all(&mut self, calls: &[Call], from: Option<usize>) -> Result<(), AllocError>
         requires { All (λ (call : Call). IsClaim call.entry) calls.now }
         ensures { OnOk result (self.new ≡ reach_all self.old from calls.now) }

@@ -29,7 +29,8 @@ pub enum ShapeCause {
     ScaleUnknown,
     /// 25: a corner of what the item lights leaves the window.
     OffScreen(Leaving),
-    /// 26: the item calls or tail jumps to this word address at this scale (`Any` where it is unknown), and no entry is named by them.
+    /// 26: the item calls or tail jumps to this word address at this scale (`Any` where it is unknown), and no entry is named by
+    /// them.
     NoEntry { to: u16, scale: Key },
     /// 27: this many return places are stored at once under the item, more than claimed.
     TooDeep(u8),

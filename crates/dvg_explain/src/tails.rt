@@ -1,8 +1,8 @@
 //! What shapes light from a word of the ROM on.
 //!
-//! What a shape lights from a word on, seen from the beam's place there, depends on this word and on the known scale alone. So a pass
-//! from the ROM's last word back to the first entry makes it once for each word and scale, of the item at the word and of what is lit
-//! behind this item.
+//! What a shape lights from a word on, seen from the beam's place there, depends on this word and on the known scale alone. So a
+//! pass from the ROM's last word back to the first entry makes it once for each word and scale, of the item at the word and of what
+//! is lit behind this item.
 
 ghost use Rattle.std.specs.Prelude.{◌≡◌, ◌+◌, ◌<◌, ◌≤◌, pos, IfSome, List};
 ghost use Rattle.dvg_words.specs.Decoding.{InstrFits, cell_at};
@@ -41,8 +41,8 @@ pub struct LitFrom {
     pub lit: Lit,
 }
 
-/// What is lit from the words on that were gone over last, each in the slot of its address and key. A slot may still hold what is lit
-/// from a later word on, so each has its own address and key to compare.
+/// What is lit from the words on that were gone over last, each in the slot of its address and key. A slot may still hold what is
+/// lit from a later word on, so each has its own address and key to compare.
 #[derive(Drop)]
 pub struct Tails {
     pub slots: [Option<LitFrom>; SLOTS],
@@ -60,8 +60,8 @@ fn lit_alone(extent: &LitExtent) -> LitBox
     }
 }
 
-/// What is lit from an item on, seen from the place before it: `alone` is the box of the item, `place` the place past it, and `tail`
-/// what is lit behind it, seen from that place.
+/// What is lit from an item on, seen from the place before it: `alone` is the box of the item, `place` the place past it, and
+/// `tail` what is lit behind it, seen from that place.
 fn lit_over(alone: &LitBox, place: &End, tail: &Lit) -> Lit
     requires place { IsNearPlace 1 place.now }
     requires lit { IsNearBox (ADDRESS_END + 2) tail.now.relative }
@@ -183,7 +183,8 @@ fn make_tails<E: Entries>(rom: &RomImage, entries: &E, at: u16, keys: Keys, tail
     }
 }
 
-/// Makes what is lit from each word address on, of those from `from` on and below `to`, the last one first, at the keys that are needed.
+/// Makes what is lit from each word address on, of those from `from` on and below `to`, the last one first, at the keys that are
+/// needed.
 fn make_all<E: Entries>(
     rom: &RomImage,
     entries: &E,
@@ -207,7 +208,8 @@ fn make_all<E: Entries>(
     }
 }
 
-/// The least box of what the shape of an entry lights at absolute places. Where it was not made, the shape is gone over item by item.
+/// The least box of what the shape of an entry lights at absolute places. Where it was not made, the shape is gone over item by
+/// item.
 fn extent_of<E: Entries>(rom: &RomImage, entries: &E, entry: &Entry, tails: &Tails) -> LitBox
     requires entries { IsSomeCertificate (E.list entries.now) }
     requires addr { entry.now.addr < ADDRESS_END }
@@ -222,8 +224,8 @@ fn extent_of<E: Entries>(rom: &RomImage, entries: &E, entry: &Entry, tails: &Tai
 }
 
 /// The least box of what the shapes of a certificate's entries light at absolute places, in 1/1024 of a screen place, by the
-/// certificate's claims (profile). `entries` are those of the certificate. What is lit from a word of the ROM on at a known scale is
-/// made once, however many shapes come by there. Takes no memory.
+/// certificate's claims (profile). `entries` are those of the certificate. What is lit from a word of the ROM on at a known scale
+/// is made once, however many shapes come by there. Takes no memory.
 pub fn shapes_extent<E: Entries>(rom: &RomImage, cert: &Cert, entries: &E) -> LitBox
     requires { E.list entries.now ≡ cert.now.entries }
     ensures { IsShapesExtent rom.now cert.now.entries result }

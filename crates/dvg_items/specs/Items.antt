@@ -23,17 +23,17 @@ address_after Frame at format (Jmpl to) = if nat_lt at to then Some to else None
 abbrev pub next_place : Kind → Item → Option ℕ
 next_place kind i = address_after kind i.at i.format i.instr
 
--- these items, the latest first, lead from the first place to this one, in a memory that is read by `word` (profile)
+-- these items, the latest first, lead from the first word address to this one, in a memory that is read by `word` (profile)
 abbrev pub LeadsTo : Kind → (ℕ → Option ℕ) → ℕ → List Item → ℕ → Type 0
 LeadsTo kind word first [] p = p ≡ first
 LeadsTo kind word first (i ∷ earlier) p =
     LeadsTo kind word first earlier i.at × (cell_at word i.at ≡ Holds i.format i.instr) × (next_place kind i ≡ Some p)
 
--- holds at every place that items lead to, with these items
+-- this holds at each word address that items lead to, with the items before it
 abbrev pub AtEveryPlace : Kind → (ℕ → Option ℕ) → ℕ → (List Item → ℕ → Type 0) → Type 0
 AtEveryPlace kind word first P = (earlier : List Item) (p : ℕ) → LeadsTo kind word first earlier p → P earlier p
 
--- holds at the place of each of these items, with the items before it
+-- this holds at the address of each of these items, with the items before it
 abbrev pub AtEachOf : (List Item → ℕ → Type 0) → List Item → Type 0
 AtEachOf P [] = Unit {0}
 AtEachOf P (i ∷ earlier) = AtEachOf P earlier × P earlier i.at

@@ -18,7 +18,7 @@ pub use Rattle.dvg_items.specs.declared.known.Effect.{Effect}
 pub use Rattle.dvg_items.specs.declared.known.Effect.TheVariants.{Sets, Loses, Moves}
 pub use Rattle.dvg_items.specs.declared.known.Known.{Known}
 
--- what items stand in: a shape or a frame, the certificate's entries, and the scale at the start
+-- the context of items: whether they are a shape's or a frame's, the certificate's entries, and the scale at the start
 pub record Context : Type 0 where
   pub kind : Kind
   pub list : List Entry

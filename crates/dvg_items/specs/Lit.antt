@@ -59,13 +59,13 @@ corners Nothing p = []
 corners (Between a b) p = shift p a ∷ shift p b ∷ []
 corners Anywhere p = []
 
--- those of what is lit at an absolute place
+-- both corners of what is lit at an absolute place
 abbrev pub absolute_corners : LitExtent → End → List Point
 absolute_corners lit (Rel x y) = []
 absolute_corners lit (Abs x y) = corners lit (record { x = x; y = y })
 absolute_corners lit Lost = []
 
--- those of what is lit at a relative place
+-- both corners of what is lit at a relative place
 abbrev pub relative_corners : LitExtent → End → List Point
 relative_corners lit (Rel x y) = corners lit (record { x = x; y = y })
 relative_corners lit (Abs x y) = []

@@ -7,7 +7,8 @@ use Rattle.dvg_items.specs.Known.{Context, Known, known_past, known_before, scal
 use Rattle.dvg_items.specs.Lit.{LitExtent, extent_of}
 pub use Rattle.dvg_items.specs.declared.seen.Seen.{Seen}
 
--- of an item that calls this entry: the item, the place before it, what it lights, the entry, and what is known past it
+-- what the rules see of an item that calls this entry: the item, the place before it, what it lights, the entry, and what is known
+-- past it
 abbrev pub seen_with : Option Entry → Known → Item → Seen
 seen_with named before i =
     record {
@@ -18,7 +19,7 @@ seen_with named before i =
       after = known_past i named before;
     }
 
--- of the item after these
+-- what the rules see of the item after these
 abbrev pub seen_at : Context → List Item → Item → Seen
 seen_at c earlier i = seen_with (callee c earlier i.instr) (known_before c earlier) i
 

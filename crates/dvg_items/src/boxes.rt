@@ -102,7 +102,7 @@ pub fn joined(first: &LitBox, second: &LitBox) -> LitBox
     }
 }
 
-/// The least box that also has two points more.
+/// The least box of a box and two points.
 pub fn widened(lit: &LitBox, p: &Point, q: &Point) -> LitBox
     ensures { (ps : List Point) → IsLeast ps lit.now → IsLeast (p.now ∷ q.now ∷ ps) result }
 {

@@ -22,7 +22,7 @@ pub struct Cursor {
     pub known: Known,
 }
 
-/// Where an item leads: to the next one, or to what is known after the last.
+/// Where an item leads: to the cursor at the next one, or to what is known after the last one.
 #[derive(Clone, Copy)]
 pub enum Step {
     Onward(Cursor),
@@ -30,7 +30,7 @@ pub enum Step {
 }
 
 impl Cursor {
-    /// Before the first item of a shape or of a frame, which stands at a word address, at a scale, `Any` where it is unknown.
+    /// The cursor at the first item of a shape or of a frame: its word address, and a known scale (`Any` where it is unknown).
     pub fn start(kind: Kind, first: u16, scale: Key) -> Cursor
         ensures value { result ≡ first_cursor kind first scale }
         ensures sound { first < ADDRESS_END → IsKey scale → IsSoundCursor result }

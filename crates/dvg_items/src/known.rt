@@ -21,8 +21,8 @@ pub enum Effect {
     Moves(Point),
 }
 
-/// What is known before an item: the place, the scale (`Any` is unknown), the words so far, and the most return
-/// places stored at once.
+/// What is known before an item: the place, the scale (`Any` where it is unknown), the words so far, and the most return places
+/// stored at once.
 #[derive(Clone, Copy, Debug, PartialEq, Eq)]
 pub struct Known {
     pub place: End,
@@ -136,7 +136,7 @@ pub fn depth_under(instr: &Instr, callee: &Option<Entry>) -> u8
     }
 }
 
-/// The words of the entry that is called.
+/// The words that the called entry claims, 0 where none is called.
 fn callee_words(callee: &Option<Entry>) -> u32
     requires { IfSome callee.now IsClaim }
     ensures value { result ≡ callee_words callee.now }

@@ -17,7 +17,7 @@ pub enum LitExtent {
     Nothing,
     /// All of it between two corners.
     Between { from: Point, to: Point },
-    /// Wherever: a lit draw at unknown scale.
+    /// A lit draw at unknown scale: it may be anywhere.
     Anywhere,
 }
 
@@ -76,7 +76,7 @@ pub fn extent_of(instr: &Instr, scale: Key, callee: &Option<Entry>) -> LitExtent
     }
 }
 
-/// Whether what is lit is lit at a known place.
+/// Whether what an item lights is at a known place; true where it lights nothing.
 pub fn place_known(extent: &LitExtent, place: &End) -> bool
     ensures { IsTrue result ↔ PlaceKnown extent.now place.now }
 {
@@ -87,14 +87,14 @@ pub fn place_known(extent: &LitExtent, place: &End) -> bool
     }
 }
 
-/// Whether what is lit is lit at a known scale.
+/// Whether what an item lights is at a known scale; true where it lights nothing.
 pub fn scale_known(extent: &LitExtent) -> bool
     ensures { IsTrue result ↔ ScaleKnown extent.now }
 {
     !matches!(extent, LitExtent::Anywhere)
 }
 
-/// Both corners of what is lit, from a place.
+/// Both corners of what an item lights, from the point before it. `None` where it lights nothing, or its scale is unknown.
 fn corners(extent: &LitExtent, x: i64, y: i64) -> Option<(Point, Point)>
     requires place { IsNear ADDRESS_END (record { x = x; y = y }) }
     requires extent { IsNearExtent extent.now }
@@ -110,7 +110,7 @@ fn corners(extent: &LitExtent, x: i64, y: i64) -> Option<(Point, Point)>
     }
 }
 
-/// Both corners of what is lit at an absolute place. `None` where nothing is lit, or the place is not absolute.
+/// Both corners of what an item lights at an absolute place. `None` where it lights nothing there, or its scale is unknown.
 pub fn absolute_corners(extent: &LitExtent, place: &End) -> Option<(Point, Point)>
     requires place { IsNearPlace ADDRESS_END place.now }
     requires extent { IsNearExtent extent.now }
@@ -123,8 +123,8 @@ pub fn absolute_corners(extent: &LitExtent, place: &End) -> Option<(Point, Point
     }
 }
 
-/// Both corners of what is lit at a relative place, seen from the beam at the call. `None` where nothing is lit, or
-/// the place is not relative.
+/// Both corners of what an item lights at a relative place, seen from the beam at the call. `None` where it lights nothing there,
+/// or its scale is unknown.
 pub fn relative_corners(extent: &LitExtent, place: &End) -> Option<(Point, Point)>
     requires place { IsNearPlace ADDRESS_END place.now }
     requires extent { IsNearExtent extent.now }
@@ -137,13 +137,14 @@ pub fn relative_corners(extent: &LitExtent, place: &End) -> Option<(Point, Point
     }
 }
 
+/// Whether a point is in the window.
 fn is_in_window(window: &Window, p: &Point) -> bool
     ensures { IsTrue result ↔ InWindow window.now p.now }
 {
     in_window(window, p.x, p.y)
 }
 
-/// Whether what is lit at an absolute place is in the window, both corners of it.
+/// Whether both corners of what an item lights at an absolute place are in the window; true where there are none.
 #[inline(always)]
 pub fn lit_in_window(window: &Window, extent: &LitExtent, place: &End) -> bool
     requires place { IsNearPlace ADDRESS_END place.now }
@@ -156,7 +157,7 @@ pub fn lit_in_window(window: &Window, extent: &LitExtent, place: &End) -> bool
     }
 }
 
-/// Whether what is lit at a relative place is in the box, both corners of it.
+/// Whether both corners of what an item lights at a relative place are in the box; true where there are none.
 pub fn lit_in_box(lit: &LitBox, extent: &LitExtent, place: &End) -> bool
     requires place { IsNearPlace ADDRESS_END place.now }
     requires extent { IsNearExtent extent.now }

@@ -23,7 +23,7 @@ pub struct Seen {
 }
 
 impl Seen {
-    /// Past the item: to where the next one stands, or to what is known after the last.
+    /// Where the item leads: to the cursor at the next item, or to what is known after the last one.
     #[inline(always)]
     pub fn step(&self, kind: Kind) -> Step
         requires { IsSoundSeen self.now }

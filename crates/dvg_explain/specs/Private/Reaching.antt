@@ -35,7 +35,8 @@ reach_all links from (call ∷ rest) = reach_all (reach links (record { call = c
 abbrev pub IsReachedByFrame : List ℕ → List Entry → List Link → Type 0
 IsReachedByFrame words list links = (calls : List Call) × AreCalls (frame_context list) (frame_word words) 0 calls × (links ≡ reach_all [] None calls)
 
--- the links, with those of the entries that the shape of an entry calls where no walk came by before; its own link stands at this index
+-- the links, with those of the entries that the shape of an entry calls where no walk came by before; its own link stands at this
+-- index
 abbrev pub IsReachedByShape : Rom → List Entry → Entry → ℕ → List Bool → List Bool → List Link → List Link → Type 0
 IsReachedByShape rom list e from visited visited_new links new =
     (calls : List Call) × AreNewCalls rom list e visited visited_new calls × (new ≡ reach_all links (Some from) calls)

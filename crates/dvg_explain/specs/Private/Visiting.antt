@@ -1,5 +1,5 @@
 -- Walks over shapes, each of which stops where an earlier one came by.
-use Rattle.std.specs.Prelude.{ℕ, List, Bool, Contains, ◌⊎◌}
+use Rattle.std.specs.Prelude.{List, Bool, Contains, ◌⊎◌}
 use Rattle.std.specs.List.{AllByRecursion}
 use Rattle.dvg_words.specs.Memory.{Rom, rom_word}
 use Rattle.dvg_cert.specs.declared.entry.Entry.{Entry}
