@@ -64,19 +64,20 @@ draw_more : (d : DrawFields) (s t : Key) → Loosens s t → LoosensEffect (draw
 draw_more d (At n) t h = ap (λ z. draw_effect d z) h
 draw_more d Any t h = tt
 
+-- what holds of no callee, and of each two of which the one refines the other
+by_callee : (R : Option Entry → Option Entry → Type 0) → R None None → ((e f : Entry) → CalleeRefines (Some e) (Some f) → R (Some e) (Some f)) → (o p : Option Entry) → CalleeRefines o p → R o p
+by_callee R none some None None c = none
+by_callee R none some None (Some f) c = absurd c
+by_callee R none some (Some e) None c = absurd c
+by_callee R none some (Some e) (Some f) c = some e f c
+
 effect_more : (i : Instr) (s t : Key) (o p : Option Entry) → Loosens s t → CalleeRefines o p → LoosensEffect (effect_of i s o) (effect_of i t p)
 effect_more (Draws d) s t o p h c = draw_more d s t h
 effect_more (Labs x y g) s t o p h c = refl
 effect_more Halt s t o p h c = refl
 effect_more Rtsl s t o p h c = refl
-effect_more (Jsrl to) s t None None h c = refl
-effect_more (Jsrl to) s t None (Some f) h c = absurd c
-effect_more (Jsrl to) s t (Some e) None h c = absurd c
-effect_more (Jsrl to) s t (Some e) (Some f) h c = stop_more e.stop f.stop c.0.known.place
-effect_more (Jmpl to) s t None None h c = refl
-effect_more (Jmpl to) s t None (Some f) h c = absurd c
-effect_more (Jmpl to) s t (Some e) None h c = absurd c
-effect_more (Jmpl to) s t (Some e) (Some f) h c = stop_more e.stop f.stop c.0.known.place
+effect_more (Jsrl to) s t o p h c = by_callee (λ a b. LoosensEffect (effect_of (Jsrl to) s a) (effect_of (Jsrl to) t b)) refl (λ e f r. stop_more e.stop f.stop r.0.known.place) o p c
+effect_more (Jmpl to) s t o p h c = by_callee (λ a b. LoosensEffect (effect_of (Jmpl to) s a) (effect_of (Jmpl to) t b)) refl (λ e f r. stop_more e.stop f.stop r.0.known.place) o p c
 
 -- ---- scales and counts
 
@@ -85,14 +86,8 @@ scale_more (Draws d) s t o p h c = h
 scale_more (Labs x y g) s t o p h c = refl
 scale_more Halt s t o p h c = h
 scale_more Rtsl s t o p h c = h
-scale_more (Jsrl to) s t None None h c = h
-scale_more (Jsrl to) s t None (Some f) h c = absurd c
-scale_more (Jsrl to) s t (Some e) None h c = absurd c
-scale_more (Jsrl to) s t (Some e) (Some f) h c = c.0.known.scale
-scale_more (Jmpl to) s t None None h c = h
-scale_more (Jmpl to) s t None (Some f) h c = absurd c
-scale_more (Jmpl to) s t (Some e) None h c = absurd c
-scale_more (Jmpl to) s t (Some e) (Some f) h c = c.0.known.scale
+scale_more (Jsrl to) s t o p h c = by_callee (λ a b. Loosens (unwrap_or (scale_set (Jsrl to) a) s) (unwrap_or (scale_set (Jsrl to) b) t)) h (λ e f r. r.0.known.scale) o p c
+scale_more (Jmpl to) s t o p h c = by_callee (λ a b. Loosens (unwrap_or (scale_set (Jmpl to) a) s) (unwrap_or (scale_set (Jmpl to) b) t)) h (λ e f r. r.0.known.scale) o p c
 
 words_more : (o p : Option Entry) → CalleeRefines o p → callee_words p ≤ callee_words o
 words_more None None c = omega arith
