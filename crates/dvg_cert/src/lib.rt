@@ -29,6 +29,6 @@ pub use limits::{MOST_AT_ONCE, MOST_DEPTH, MOST_ENTRIES, MOST_NUMBER, MOST_WORDS
 pub use line_buffer::push_bytes;
 pub use lines::write_lines;
 pub use lookup::{Entries, ListIndex};
-pub use numerals::{read_address, read_decimal, read_key};
+pub use numerals::{address_digits, read_address, read_decimal, read_key};
 pub use reader::{CertReader, read_cert};
 pub use writer::{write_bytes, write_cert};

@@ -1,6 +1,7 @@
 //! The values of single tokens.
 
-ghost use Rattle.std.specs.Prelude.{◌≡◌, ℕ, ◌<◌, ◌≤◌, [], ◌∷◌, length, take, drop, decimal, Some, IfSome, IfNone};
+ghost use Rattle.std.specs.Prelude.{◌≡◌, ℕ, ◌<◌, ◌≤◌, [], ◌∷◌, length, take, drop, decimal, true, Some, IfSome, IfNone};
+ghost use Rattle.std.specs.Fmt.{digit_glyph};
 ghost use Rattle.std.specs.Str.Parse.{AllDigits, digits_value};
 ghost use Rattle.dvg_cert.specs.Entry.{IsKey};
 ghost use Rattle.dvg_cert.specs.declared.entry.Key.{Key as KeyValue};
@@ -47,6 +48,29 @@ pub fn read_address(token: &[u8]) -> Option<u16>
     ensures none { IfNone result ((addr : ℕ) → addr < ADDRESS_END → token.now ≡ address_token addr → ⊥) }
 {
     address(token, 0, ADDRESS_END - 1)
+}
+
+/// The three hexadecimal digits, in capitals, that spell a word address.
+pub fn address_digits(addr: u16) -> [u8; 3]
+    requires { addr < ADDRESS_END }
+    ensures { result ≡ address_token addr }
+{
+    [
+        hex_digit((addr / 256) as u8),
+        hex_digit((addr / 16 % 16) as u8),
+        hex_digit((addr % 16) as u8),
+    ]
+}
+
+fn hex_digit(value: u8) -> u8
+    requires { value < 16 }
+    ensures { result ≡ digit_glyph true value }
+{
+    if value < 10 {
+        b'0' + value
+    } else {
+        b'A' + (value - 10)
+    }
 }
 
 /// The key that a token spells: the decimal of a scale of 0 to 15, or `any`.

@@ -1,7 +1,7 @@
 //! Writing a certificate, and bytes. No memory is taken.
 
 ghost use Rattle.std.specs.Prelude.{◌≡◌, ◌<◌, ◌≤◌, ◌+◌, ◌-◌, [], ◌∷◌, ◌++◌, length, not, true, decimal, OnOk, OnErr, is_err};
-ghost use Rattle.std.specs.Fmt.{signed_decimal, digit_glyph};
+ghost use Rattle.std.specs.Fmt.{signed_decimal};
 ghost use Rattle.std.specs.Io.KnownBytes.{Appends};
 ghost use Rattle.dvg_cert.specs.Devices.{count_after, AppendsPrefix};
 ghost use Rattle.arrayvec.specs.ArrayVec.{array_vec_len};
@@ -16,6 +16,7 @@ use crate::entry::{End, Entry, Key, LitBox};
 use crate::fault::WriteFault;
 use crate::limits::{LINE_FEED, LONGEST_LINE, MOST_AT_ONCE, MOST_ENTRIES, MOST_WORDS, SPACE};
 use crate::line_buffer::{WriteBuffer, push_bytes, push_token};
+use crate::numerals::address_digits;
 use dvg_words::{ADDRESS_END, RomMap};
 use itoa::Buffer;
 
@@ -208,21 +209,5 @@ fn push_address(text: &mut WriteBuffer, addr: u16)
     ensures value { text.new.items ≡ text.old.items ++ SPACE ∷ address_token addr }
     ensures len { array_vec_len text.new ≡ array_vec_len text.old + 4 }
 {
-    let token = [
-        hex_digit((addr / 256) as u8),
-        hex_digit((addr / 16 % 16) as u8),
-        hex_digit((addr % 16) as u8),
-    ];
-    push_token(text, &token);
-}
-
-fn hex_digit(value: u8) -> u8
-    requires { value < 16 }
-    ensures { result ≡ digit_glyph true value }
-{
-    if value < 10 {
-        b'0' + value
-    } else {
-        b'A' + (value - 10)
-    }
+    push_token(text, &address_digits(addr));
 }

@@ -1,5 +1,6 @@
 -- The report: the line that is written for a verdict. All of it is profile.
-use Rattle.std.specs.Prelude.{◌^◌, ℕ, ◌+◌, ◌-◌, ◌/◌, ◌%◌, nat_lt, List, [], ◌∷◌, ◌++◌, codes, decimal, Result, Ok, Err, if◌then◌else◌}
+use Rattle.std.specs.Prelude.{◌^◌, ℕ, ◌/◌, ◌%◌, nat_lt, true, List, [], ◌∷◌, ◌++◌, codes, decimal, Result, Ok, Err, if◌then◌else◌}
+use Rattle.std.specs.Fmt.{digit_glyph}
 use Rattle.dvg_words.specs.declared.image.ImageFault.TheVariants.{RomLength, FrameLength}
 use Rattle.dvg_check.specs.declared.verdict.Yes.{Yes}
 use Rattle.dvg_check.specs.declared.verdict.Refusal.{Refusal}
@@ -10,7 +11,7 @@ use Rattle.dvg_check.specs.FirstFault.{shape_number, frame_number}
 use Rattle.dvg_cert.specs.declared.entry.Key.{Key}
 use Rattle.dvg_cert.specs.declared.fault.CertFault.{CertFault}
 use Rattle.dvg_cert.specs.Numbers.{cert_number}
-use Rattle.dvg_cert.specs.Grammar.{key_token}
+use Rattle.dvg_cert.specs.Grammar.{address_token, key_token}
 use Rattle.dvg_make.specs.declared.judging.FrameRefusal.{FrameRefusal}
 use Rattle.dvg_make.specs.declared.judging.FrameRefusal.TheVariants.{Make, NoMemory, Check}
 use Rattle.dvg_make.specs.declared.fault.EntryFault.{EntryFault}
@@ -18,17 +19,9 @@ use Rattle.dvg_make.specs.declared.fault.EntryFault.TheVariants as entry
 use Rattle.dvg_spelling.specs.declared.outcome.FrameAnswer.{FrameAnswer}
 use Rattle.dvg_spelling.specs.declared.outcome.FrameAnswer.TheVariants.{Judged, Unread}
 
--- a digit of 0 to 9 or A to F
-abbrev pub hex_digit : ℕ → ℕ
-hex_digit n = if nat_lt n 10 then 48 + n else 65 + (n - 10)
-
--- the last three hexadecimal digits of a number
-abbrev pub three_digits : ℕ → List ℕ
-three_digits n = hex_digit (n / 256 % 16) ∷ hex_digit (n / 16 % 16) ∷ hex_digit (n % 16) ∷ []
-
 -- a word address: three hexadecimal digits, or four where they are needed
 abbrev pub hex_address : ℕ → List ℕ
-hex_address n = (if nat_lt n (16 ^ 3) then [] else hex_digit (n / 16 ^ 3) ∷ []) ++ three_digits n
+hex_address n = (if nat_lt n (16 ^ 3) then [] else digit_glyph true (n / 16 ^ 3) ∷ []) ++ address_token (n % 16 ^ 3)
 
 -- a certificate's line, counted from 1
 abbrev pub cert_fault_text : CertFault → List ℕ

@@ -1,18 +1,17 @@
 //! The report: the one line that is written for a verdict.
 
 ghost use Rattle.std.specs.Prelude.{◌≡◌, ◌+◌, ◌≤◌, ◌<◌, ◌++◌, [], length, codes, decimal};
-ghost use Rattle.dvg_cert.specs.Grammar.{key_token};
 ghost use Rattle.dvg_spelling.specs.Messages.{fault_message, make_message, frames_message, make_line_text};
-ghost use Rattle.dvg_spelling.specs.Report.{report_text, verdict_text, accepted_text, refusal_text, cert_fault_text, shape_fault_text, frame_fault_text, hex_digit, hex_address, call_fault_text, frame_refusal_text, answer_text, frame_line_text};
+ghost use Rattle.dvg_spelling.specs.Report.{report_text, verdict_text, accepted_text, refusal_text, cert_fault_text, shape_fault_text, frame_fault_text, entry_text, hex_address, call_fault_text, frame_refusal_text, answer_text, frame_line_text};
 
 use crate::fault::{FramesRunFault, MakeRunFault, RunFault};
 use crate::outcome::FrameAnswer;
 use crate::status::message_of;
 use arrayvec::ArrayVec;
-use dvg_cert::{CertFault, Key, push_bytes};
+use dvg_cert::{CertFault, Key, address_digits, push_bytes};
 use dvg_check::{FrameFault, Refusal, ShapeFault, Yes};
 use dvg_make::{EntryFault, FrameRefusal, MakeFault};
-use dvg_words::ImageFault;
+use dvg_words::{ADDRESS_END, ImageFault};
 use itoa::Buffer;
 use std::marker::Model;
 
@@ -74,12 +73,57 @@ impl Report {
         self.push_decimal(count);
     }
 
+    /// A word address in hexadecimal capitals.
+    fn push_address(&mut self, word: u16)
+        requires { length self.old ≤ 59 }
+        ensures text { self.new ≡ self.old ++ hex_address word }
+        ensures short { length self.new ≤ length self.old + 4 }
+    {
+        self.push(hex_address(word).as_slice());
+    }
+
+    /// The name of an entry: its address, a slash and its key.
+    fn push_entry_name(&mut self, addr: u16, key: Key)
+        requires { length self.old ≤ 49 }
+        ensures text { self.new ≡ self.old ++ entry_text addr key }
+        ensures short { length self.new ≤ length self.old + 15 }
+    {
+        self.push_address(addr);
+        self.push(b"/");
+        match key {
+            Key::At(scale) => self.push_decimal(u32::from(scale)),
+            Key::Any => self.push(b"any"),
+        }
+    }
+
     fn end_line(&mut self)
         requires { length self.old ≤ 63 }
         ensures { self.new ≡ self.old ++ codes "\n" }
     {
         self.push(b"\n");
     }
+}
+
+/// A word address in hexadecimal capitals: three digits, or four if it is 1000 or more. Takes no memory.
+pub fn hex_address(word: u16) -> ArrayVec<u8, 4>
+    ensures { result.items ≡ hex_address word }
+{
+    let mut digits = ArrayVec::new();
+    if word >= ADDRESS_END {
+        let [.., first] = address_digits(word / ADDRESS_END);
+        push_bytes(&mut digits, &[first]);
+    }
+    push_bytes(&mut digits, &address_digits(word % ADDRESS_END));
+    digits
+}
+
+/// The name of an entry: its address, a slash and its key. Takes no memory.
+pub fn entry_name(addr: u16, key: Key) -> Report
+    ensures { result ≡ entry_text addr key }
+{
+    let mut name = Report::new();
+    name.push_entry_name(addr, key);
+    name
 }
 
 /// The line of a verdict, with its LF: 64 bytes at most. Takes no memory.
@@ -152,7 +196,7 @@ fn push_make_fault(report: &mut Report, fault: &MakeRunFault)
         MakeRunFault::RomLength => report.push(b"refused 1"),
         MakeRunFault::Make(MakeFault::Unstraight { word }) => {
             report.push(b"refused 60 at ");
-            push_address(report, *word);
+            report.push_address(*word);
         }
         MakeRunFault::Make(MakeFault::Deep) => report.push(b"refused 61"),
         MakeRunFault::Make(MakeFault::TooLarge) => report.push(b"refused 62"),
@@ -215,7 +259,7 @@ fn push_call_fault(report: &mut Report, at: u16, why: EntryFault)
     match why {
         EntryFault::Unstraight { word } => {
             report.push(b"refused 60 at ");
-            push_address(report, word);
+            report.push_address(word);
         }
         EntryFault::Deep => report.push(b"refused 61"),
         EntryFault::TooManyWords => report.push(b"refused 62"),
@@ -223,7 +267,7 @@ fn push_call_fault(report: &mut Report, at: u16, why: EntryFault)
         EntryFault::Memory => return report.push(b"out of memory"),
     }
     report.push(b" for frame at ");
-    push_address(report, at);
+    report.push_address(at);
 }
 
 fn push_message(report: &mut Report, fault: &RunFault)
@@ -291,11 +335,9 @@ fn push_shape_fault(report: &mut Report, fault: &ShapeFault)
 {
     report.push_decimal(u32::from(fault.why.number()));
     report.push(b" shape ");
-    push_address(report, fault.addr);
-    report.push(b"/");
-    push_key(report, fault.key);
+    report.push_entry_name(fault.addr, fault.key);
     report.push(b" at ");
-    push_address(report, fault.word);
+    report.push_address(fault.word);
 }
 
 fn push_frame_fault(report: &mut Report, fault: &FrameFault)
@@ -305,43 +347,5 @@ fn push_frame_fault(report: &mut Report, fault: &FrameFault)
 {
     report.push_decimal(u32::from(fault.why.number()));
     report.push(b" frame at ");
-    push_address(report, fault.word);
-}
-
-fn push_key(report: &mut Report, key: Key)
-    requires { length report.old ≤ 54 }
-    ensures text { report.new ≡ report.old ++ key_token key }
-    ensures short { length report.new ≤ length report.old + 10 }
-{
-    match key {
-        Key::At(scale) => report.push_decimal(u32::from(scale)),
-        Key::Any => report.push(b"any"),
-    }
-}
-
-/// A word address in hexadecimal capitals.
-fn push_address(report: &mut Report, word: u16)
-    requires { length report.old ≤ 59 }
-    ensures text { report.new ≡ report.old ++ hex_address word }
-    ensures short { length report.new ≤ length report.old + 4 }
-{
-    if word >= 0x1000 {
-        report.push(&[hex_digit(word >> 12)]);
-    }
-    report.push(&[
-        hex_digit(word / 256 % 16),
-        hex_digit(word / 16 % 16),
-        hex_digit(word % 16),
-    ]);
-}
-
-/// A hexadecimal digit, in capitals.
-fn hex_digit(digit: u16) -> u8
-    requires { digit < 16 }
-    ensures { result ≡ hex_digit digit }
-{
-    match digit {
-        0..=9 => b'0' + digit as u8,
-        _ => b'A' + (digit - 10) as u8,
-    }
+    report.push_address(fault.word);
 }
