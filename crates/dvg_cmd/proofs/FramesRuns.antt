@@ -17,9 +17,10 @@ use Rattle.dvg_make.specs.declared.fault.EntryFault.TheVariants as entry
 use Rattle.dvg_make.specs.declared.fault.FrameCall.{FrameCall}
 use Rattle.dvg_make.specs.declared.fault.FramesFault.{FramesFault}
 use Rattle.dvg_make.specs.declared.fault.MakeFault.TheVariants as making
+use Rattle.dvg_spelling.specs.Faults.{told_fault}
 use Rattle.dvg_spelling.specs.declared.fault.MakeRunFault.TheVariants as maker
 use Rattle.dvg_spelling.specs.declared.fault.FramesRunFault.TheVariants as fault
-use Rattle.dvg_cmd.specs.MakingFrames.{of_each, AreFrames, Inputs, MakesForFrames, RefusesInputs, FramesRunFault, FramesFaultMeans, told_fault}
+use Rattle.dvg_cmd.specs.MakingFrames.{of_each, AreFrames, Inputs, MakesForFrames, RefusesInputs, FramesRunFault, FramesFaultMeans}
 use Rattle.dvg_cmd.specs.Private.Reading.{IsPrefix, ArePrefixes, RefusesLengths}
 use Rattle.dvg_cmd.proofs.Whole.{held_bytes, held_told}
 use Rattle.dvg_cmd.proofs.MakerRuns.{whole_length, whole_image}

@@ -12,7 +12,7 @@ use Rattle.dvg_check.specs.declared.verdict.Refusal.TheVariants as refusal
 use Rattle.dvg_make.specs.declared.judging.FrameRefusal.{FrameRefusal}
 use Rattle.dvg_make.specs.declared.judging.FrameRefusal.TheVariants.{Make, NoMemory, Check}
 use Rattle.dvg_make.specs.Judging.{AreLeast, FrameRefused, HasCallCause, VerdictByMade}
-use Rattle.dvg_cmd.specs.Frames.{IsReadFrom, ReadsFrame, FrameVerdict, IsRefused, IsJudgedRefusal}
+use Rattle.dvg_cmd.specs.Frames.{IsReadFrom, ReadsFrame, VerdictOnBytes, IsRefused, IsJudgedRefusal}
 use Rattle.dvg_cmd.specs.Start.{started}
 use Rattle.dvg_cmd.specs.Private.Judging.{AreImages}
 use Rattle.dvg_cmd.specs.Private.Reading.{limited, IsPrefix}
@@ -63,7 +63,7 @@ module _ (rom : List ℕ) (map : MemoryMap) (bytes : List ℕ) (budget : ℕ) (w
       → IfErr v (FrameRefused (rom_of map rom) (words_of bytes) w budget)
       → VerdictByMade (rom_of map rom) (words_of bytes) w budget v
       → IfErr v (HasCallCause (rom_of map rom) (words_of bytes))
-      → FrameVerdict rom map bytes budget w v
+      → VerdictOnBytes rom map bytes budget w v
   frame_verdict (Ok y) safe exact least none own told = record { in_range = range; rom_length = long; safe = safe; exact = exact; least = least; by_own = own }
   frame_verdict (Err r) safe exact least h own told = refused r own h told
 
@@ -85,7 +85,7 @@ pub own_verdict : (rom : List ℕ) (map : MemoryMap) (bytes : List ℕ) (budget 
     → IfErr v (FrameRefused image words w budget)
     → VerdictByMade image words w budget v
     → IfErr v (HasCallCause image words)
-    → FrameVerdict rom map bytes budget w v
+    → VerdictOnBytes rom map bytes budget w v
 own_verdict rom map bytes budget w words image a v safe exact least refused own told =
     let said : Said w budget words image v = record { safe = safe; exact = exact; least = least; refuses = refused; own = own; told = told } in
     let all = subst (λ x. Said w budget x (rom_of map rom) v) a.words_are (subst (λ y. Said w budget words y v) a.rom_is said) in

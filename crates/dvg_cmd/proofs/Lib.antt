@@ -6,6 +6,7 @@ pub mod SeveralFrames
 pub mod MakerRuns
 pub mod FramesRuns
 pub mod Framing
-pub mod Accounts
-pub mod SafeFrames
+pub mod Reported
+pub mod Answers
+pub mod SeveralLines
 pub mod Starting

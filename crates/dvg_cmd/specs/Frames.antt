@@ -1,9 +1,8 @@
--- What a run says of one frame that is judged by its own certificate, or over shapes that were judged, and what it writes. All of
--- it is profile.
-use Rattle.std.specs.Prelude.{◌≡◌, ℕ, Bool, true, false, List, ◌++◌, take, length, Option, IfSome, Result, Ok, Err}
+-- The verdict on a frame by its own certificate, or over judged shapes, and what a run writes of it. All of it is profile.
+use Rattle.std.specs.Prelude.{◌≡◌, ◌⊎◌, ℕ, Bool, true, false, List, ◌++◌, take, length, Option, IfSome, Result, Ok, Err}
 use Rattle.std.specs.Io.KnownBytes.{Appends}
 use Rattle.dvg_words.specs.Values.{MemoryMap, Window}
-use Rattle.dvg_words.specs.Memory.{words_of, rom_of, IsRomLength, IsFrameLength}
+use Rattle.dvg_words.specs.Memory.{Rom, words_of, rom_of, IsRomLength, IsFrameLength}
 use Rattle.dvg_words.specs.declared.image.ImageFault.TheVariants.{RomLength, FrameLength}
 use Rattle.dvg_cert.specs.Devices.{AppendsPrefix, TakesOneWrite}
 use Rattle.dvg_check.specs.Safety.{Safe, CountsAtHalt}
@@ -15,24 +14,26 @@ use Rattle.dvg_check.specs.Verdict.{InRange, RangeRefusal}
 use Rattle.dvg_check.specs.declared.verdict.Yes.{Yes}
 use Rattle.dvg_check.specs.declared.verdict.Refusal.TheVariants as refusal
 use Rattle.dvg_make.specs.declared.judging.FrameRefusal.{FrameRefusal}
-use Rattle.dvg_make.specs.declared.judging.FrameRefusal.TheVariants.{Make, NoMemory, Check}
+use Rattle.dvg_make.specs.declared.judging.FrameRefusal.TheVariants.{Check}
 use Rattle.dvg_make.specs.Judging.{AreLeast, FrameRefused, HasCallCause, VerdictByMade}
 use Rattle.dvg_spelling.specs.Report.{frame_line_text}
-use Rattle.dvg_cmd.specs.Runs.{MOST_FRAME_READ, IsReadTo, Outcome}
+use Rattle.dvg_cmd.specs.Detail.{Detail, IsBehind, no_account}
+use Rattle.dvg_cmd.specs.Runs.{MOST_FRAME_READ, IsReadTo}
+use Rattle.dvg_cmd.specs.SafeFrames.{SafeFrame, CountsFrame}
 use Rattle.dvg_cmd.specs.Start.{started}
 pub use Rattle.dvg_spelling.specs.declared.outcome.FrameAnswer.{FrameAnswer}
 pub use Rattle.dvg_spelling.specs.declared.outcome.FrameAnswer.TheVariants.{Judged, Unread}
 pub use Rattle.dvg_spelling.specs.declared.outcome.FrameOutcome.{FrameOutcome}
 pub use Rattle.dvg_spelling.specs.declared.outcome.FrameOutcome.TheVariants as outcome
-pub use Rattle.dvg_spelling.specs.Outcomes.{frame_outcome_of}
-use Rattle.dvg_make.specs.declared.fault.EntryFault.TheVariants as entry
+pub use Rattle.dvg_spelling.specs.Outcomes.{frame_outcome_of, worse}
 
--- what is judged of the bytes that a reader held: the first of them up to one past the limit, and all where that is a frame's
--- length, with the start; of a reader that does not tell its bytes, those of some bytes
+-- these bytes were read of what a reader held: the first of them up to one past the limit, and all of them if they are a frame's
+-- length; of a reader that does not tell its bytes nothing is known
 pub record IsReadFrom (reader : Option (List ℕ)) (read : List ℕ) : Type 0 where
   pub first : IfSome reader (λ held. read ≡ take MOST_FRAME_READ held)
   pub whole : IsFrameLength (length read) → IfSome reader (λ held. read ≡ held)
 
+-- these bytes are judged: what was read, with the jump to the start if one is given
 pub record ReadsFrame (reader : Option (List ℕ)) (start : Option ℕ) (bytes : List ℕ) : Type 0 where
   pub read : List ℕ
   pub from : IsReadFrom reader read
@@ -56,7 +57,7 @@ pub record IsJudgedRefusal (rom : List ℕ) (map : MemoryMap) (bytes : List ℕ)
   pub rom_length : IsRomLength map (length rom)
   pub by_own : VerdictByMade (rom_of map rom) (words_of bytes) w budget (Err r)
   pub means : FrameRefused (rom_of map rom) (words_of bytes) w budget r
-  -- where the maker stops at a call, and why, is told
+  -- a cause is known where the maker stops at a call
   pub told : HasCallCause (rom_of map rom) (words_of bytes) r
 
 -- what a refusal means: the first that applies of 2, 49 and 1, or what the judge's does
@@ -67,9 +68,9 @@ IsRefused rom map bytes budget w (Check (refusal.Image RomLength)) = InRange byt
 IsRefused rom map bytes budget w r = IsJudgedRefusal rom map bytes budget w r
 
 -- the verdict on a frame's bytes by its own certificate, over a ROM's bytes at this map
-abbrev pub FrameVerdict : List ℕ → MemoryMap → List ℕ → ℕ → Window → Result Yes FrameRefusal → Type 0
-FrameVerdict rom map bytes budget w (Ok y) = IsAccepted rom map bytes budget w y
-FrameVerdict rom map bytes budget w (Err r) = IsRefused rom map bytes budget w r
+abbrev pub VerdictOnBytes : List ℕ → MemoryMap → List ℕ → ℕ → Window → Result Yes FrameRefusal → Type 0
+VerdictOnBytes rom map bytes budget w (Ok y) = IsAccepted rom map bytes budget w y
+VerdictOnBytes rom map bytes budget w (Err r) = IsRefused rom map bytes budget w r
 
 -- ---- the verdict over shapes that were judged
 
@@ -103,8 +104,8 @@ is_unread_outcome outcome.Accepted = false
 is_unread_outcome outcome.Refused = false
 is_unread_outcome outcome.NoMemory = false
 
--- what a verdict says of a frame's reader: it was read to its end or to one byte past the limit, with this verdict on the bytes that
--- are judged; of a frame that could not be read the counts of failures tell
+-- what an answer says of a frame's reader: it was read to its end or to one byte past the limit, with this verdict on the bytes that
+-- are judged; `Unread` says nothing of the bytes
 abbrev pub AnswerMeans : (List ℕ → Result Yes FrameRefusal → Type 0) → Option ℕ → Option (List ℕ) → Option (List ℕ) → FrameAnswer → Type 0
 AnswerMeans IsVerdict start old new Unread = Unit {0}
 AnswerMeans IsVerdict start old new (Judged v) =
@@ -114,21 +115,46 @@ AnswerMeans IsVerdict start old new (Judged v) =
 abbrev pub frame_line : List ℕ → FrameAnswer → List ℕ
 frame_line name answer = name ++ frame_line_text answer
 
--- the line of an answer was written, by one write where it fits one, and nothing else; `writes` and `writes_after` are how many
--- writes took their whole piece
-pub record ReportsFrame
-    (IsVerdict : List ℕ → Result Yes FrameRefusal → Type 0) (start : Option ℕ) (name : List ℕ) (frame left : Option (List ℕ))
-    (old new : Option (List ℕ)) (writes writes_after : ℕ) (end : FrameOutcome) : Type 0 where
-  pub answer : FrameAnswer
-  pub means : AnswerMeans IsVerdict start frame left answer
-  pub written : Appends old new (frame_line name answer)
-  pub one_write : TakesOneWrite (frame_line name answer) writes writes_after
-  pub outcome_is : end ≡ frame_outcome_of answer
+-- the outcome is the answer's, or the worse of it and that there was no memory for the account
+abbrev pub IsFrameOutcomeOf : FrameAnswer → List ℕ → FrameOutcome → Type 0
+IsFrameOutcomeOf answer account end =
+    (end ≡ frame_outcome_of answer) ⊎ ((end ≡ worse (frame_outcome_of answer) outcome.NoMemory) × (account ≡ no_account))
 
--- a prefix of it was written, and nothing else
-pub record ReportsFramePrefix
-    (IsVerdict : List ℕ → Result Yes FrameRefusal → Type 0) (start : Option ℕ) (name : List ℕ) (frame left : Option (List ℕ))
-    (old new : Option (List ℕ)) : Type 0 where
-  pub answer : FrameAnswer
-  pub means : AnswerMeans IsVerdict start frame left answer
-  pub written : AppendsPrefix old new (frame_line name answer)
+-- the line of an answer and what the detail asks for behind it were written, by one write if they fit one, and nothing else;
+-- `writes` and `writes_after` count the writes that took their whole piece
+pub record WritesAnswer
+    (detail : Detail) (name : List ℕ) (answer : FrameAnswer) (old new : Option (List ℕ)) (writes writes_after : ℕ) (end : FrameOutcome) : Type 0 where
+  pub account : List ℕ
+  pub behind : IsBehind detail account
+  pub written : Appends old new (frame_line name answer ++ account)
+  pub one_write : TakesOneWrite (frame_line name answer ++ account) writes writes_after
+  pub outcome_is : IsFrameOutcomeOf answer account end
+
+-- a prefix of them was written, and nothing else
+pub record WritesAnswerPrefix (detail : Detail) (name : List ℕ) (answer : FrameAnswer) (old new : Option (List ℕ)) : Type 0 where
+  pub account : List ℕ
+  pub behind : IsBehind detail account
+  pub written : AppendsPrefix old new (frame_line name answer ++ account)
+
+-- how frames are judged: what is a verdict on bytes, and of which ROM, which window and whether exact counts it speaks
+module _ (IsVerdict : List ℕ → Result Yes FrameRefusal → Type 0) (rom : Rom) (w : Window) (IsExact : Type 0) where
+  -- the answer to a frame that a reader held, which still holds `left`; an accepted frame is safe
+  pub record AnswersFrame (start : Option ℕ) (frame left : Option (List ℕ)) (answer : FrameAnswer) : Type 0 where
+    pub means : AnswerMeans IsVerdict start frame left answer
+    pub safe : (yes : Yes) → answer ≡ Judged (Ok yes) → SafeFrame rom w start frame yes
+    pub exact : IsExact → (yes : Yes) → answer ≡ Judged (Ok yes) → CountsFrame rom start frame yes
+
+  -- it was written
+  pub record ReportsFrame
+      (detail : Detail) (start : Option ℕ) (name : List ℕ) (frame left old new : Option (List ℕ)) (writes writes_after : ℕ)
+      (end : FrameOutcome) : Type 0 where
+    pub answer : FrameAnswer
+    pub answers : AnswersFrame start frame left answer
+    pub line : WritesAnswer detail name answer old new writes writes_after end
+
+  -- a prefix of it was written
+  pub record ReportsFramePrefix
+      (detail : Detail) (start : Option ℕ) (name : List ℕ) (frame left old new : Option (List ℕ)) : Type 0 where
+    pub answer : FrameAnswer
+    pub answers : AnswersFrame start frame left answer
+    pub line : WritesAnswerPrefix detail name answer old new

@@ -1,7 +1,9 @@
+pub mod Detail
 pub mod Runs
 pub mod Start
 pub mod SafeFrames
 pub mod Frames
+pub mod SeveralFrames
 pub mod Making
 pub mod MakingFrames
 pub mod Private

@@ -1,13 +1,11 @@
 -- What a run of the maker says of the bytes that its reader held, and what it writes. All of it is profile.
-use Rattle.std.specs.Prelude.{◌≡◌, ℕ, ◌<◌, Bool, true, false, List, ◌++◌, length, codes, Option, IfSome, Result, Err}
+use Rattle.std.specs.Prelude.{◌≡◌, ℕ, Bool, true, false, List, length, Option, IfSome, Result, Err}
 use Rattle.std.specs.Io.KnownBytes.{Appends}
-use Rattle.dvg_words.specs.Values.{MemoryMap, IsMap}
-use Rattle.dvg_words.specs.declared.map.TheConstants.{ADDRESS_END}
+use Rattle.dvg_words.specs.Values.{MemoryMap}
 use Rattle.dvg_words.specs.Memory.{rom_of, IsRomLength}
 use Rattle.dvg_cert.specs.declared.entry.Entry.{Entry}
 use Rattle.dvg_cert.specs.declared.entry.Key.{Key}
-use Rattle.dvg_cert.specs.Entry.{IsKey}
-use Rattle.dvg_cert.specs.Grammar.{address_token, key_token, text_of}
+use Rattle.dvg_cert.specs.Grammar.{text_of}
 use Rattle.dvg_cert.specs.Devices.{AppendsPrefix}
 use Rattle.dvg_make.specs.Made.{Made}
 use Rattle.dvg_make.specs.Refusals.{Refuses}
@@ -27,7 +25,7 @@ blames_maker_writer answer = false
 
 -- ---- what is answered
 
--- all bytes that a reader held; a reader that does not tell its bytes held some bytes, which are not known
+-- all bytes that a reader held; a reader that does not tell its bytes held some that are not known
 abbrev pub Held : Option (List ℕ) → List ℕ → Type 0
 Held reader bytes = IfSome reader (λ held. bytes ≡ held)
 
@@ -38,19 +36,19 @@ pub record Makes (rom : Option (List ℕ)) (map : MemoryMap) (roots : List (ℕ 
   pub rom_length : IsRomLength map (length rom_bytes)
   pub made : Made (rom_of map rom_bytes) roots list
 
--- the text of a list of which this holds was written, and nothing else
+-- the text of a list with this property was written, and nothing else
 pub record WritesMade (IsMade : List Entry → Type 0) (map : MemoryMap) (old new : Option (List ℕ)) : Type 0 where
   pub list : List Entry
   pub made : IsMade list
   pub written : Appends old new (text_of map list)
 
--- a prefix of its text was written, and nothing else
+-- a prefix of the text of such a list was written, and nothing else
 pub record WritesMadePrefix (IsMade : List Entry → Type 0) (map : MemoryMap) (old new : Option (List ℕ)) : Type 0 where
   pub list : List Entry
   pub made : IsMade list
   pub written : AppendsPrefix old new (text_of map list)
 
--- what a fault says of all bytes that a reader held: a wrong length, or what the maker's refusal says, with its cause
+-- what a fault says of all bytes that a reader held: they have a wrong length, or the maker refuses them, with a cause
 abbrev pub MakeFaultMeans : Option (List ℕ) → MemoryMap → List (ℕ × Key) → MakeRunFault → Type 0
 MakeFaultMeans rom map roots fault.RomLength = (bytes : List ℕ) × Held rom bytes × (IsRomLength map (length bytes) → ⊥)
 MakeFaultMeans rom map roots (fault.Make f) = (bytes : List ℕ) × Held rom bytes × IsRomLength map (length bytes)

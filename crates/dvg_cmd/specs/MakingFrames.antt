@@ -6,7 +6,6 @@ use Rattle.dvg_cert.specs.Devices.{count_after}
 use Rattle.dvg_cert.specs.declared.entry.Entry.{Entry}
 use Rattle.dvg_cert.specs.declared.entry.Key.{Key}
 use Rattle.dvg_make.specs.declared.fault.EntryFault.{EntryFault}
-use Rattle.dvg_make.specs.declared.fault.FrameCall.{FrameCall}
 use Rattle.dvg_make.specs.declared.fault.FramesFault.{FramesFault}
 use Rattle.dvg_make.specs.declared.fault.MakeFault.{MakeFault}
 use Rattle.dvg_make.specs.declared.fault.MakeFault.TheVariants as making
@@ -68,7 +67,7 @@ abbrev pub AreFrames : List (List ℕ) → Type 0
 AreFrames [] = Unit {0}
 AreFrames (bytes ∷ rest) = IsFrameLength (length bytes) × AreFrames rest
 
--- the one at this place, counted from 0, is the first that has not
+-- the first without a frame's length is at this index, from 0
 abbrev pub FirstWrong : List (List ℕ) → ℕ → Type 0
 FirstWrong [] n = ⊥
 FirstWrong (bytes ∷ rest) zero = IsFrameLength (length bytes) → ⊥
@@ -85,12 +84,12 @@ pub record Inputs (rom : Option (List ℕ)) (map : MemoryMap) (frames : List (Op
 
 -- ---- what is answered
 
--- this list is made for them
+-- this list is made for all bytes that readers held
 abbrev pub MakesForFrames : Option (List ℕ) → MemoryMap → List (ℕ × Key) → List (Option (List ℕ)) → List Entry → Type 0
 MakesForFrames rom map roots frames list =
     (all : Inputs rom map frames) × FramesMade (rom_of map all.rom_bytes) roots (of_each words_of all.frame_bytes) list
 
--- what the maker's refusal says of them, with its cause
+-- the maker refuses them, with a cause
 abbrev pub RefusesInputs : Option (List ℕ) → MemoryMap → List (ℕ × Key) → List (Option (List ℕ)) → FramesFault → Type 0
 RefusesInputs rom map roots frames refusal =
     (all : Inputs rom map frames) × FramesRefuse (rom_of map all.rom_bytes) roots (of_each words_of all.frame_bytes) refusal
@@ -111,7 +110,7 @@ pub record WrongFrame (rom : Option (List ℕ)) (map : MemoryMap) (frames : List
   pub rom_length : IsRomLength map (length rom_bytes)
   pub wrong : FirstWrong frame_bytes frame
 
--- what a fault says of all bytes that readers held: the first that applies of 1, 2, and what the maker's refusal says
+-- what a fault says of all bytes that readers held: the first that applies of 1, 2, and the maker's refusal
 abbrev pub FramesFaultMeans : Option (List ℕ) → MemoryMap → List (ℕ × Key) → List (Option (List ℕ)) → FramesRunFault → Type 0
 FramesFaultMeans rom map roots frames (fault.Plain maker.RomLength) =
     (bytes : List ℕ) × Held rom bytes × (IsRomLength map (length bytes) → ⊥)

@@ -1,11 +1,9 @@
 -- What a run says of the bytes that its readers held, and what it writes. All of it is profile.
-use Rattle.std.specs.Prelude.{◌≡◌, ◌<◌, ◌≤◌, ℕ, Bool, true, false, List, [], ◌∷◌, length, decimal, Option, IfSome, Result, Ok, Err}
-use Rattle.std.specs.List.{join_with_byte}
+use Rattle.std.specs.Prelude.{◌≡◌, ◌⊎◌, ◌<◌, ◌≤◌, ℕ, Bool, true, false, List, ◌++◌, length, Option, IfSome, Result, Ok, Err, IfOk}
 use Rattle.std.specs.Io.KnownBytes.{Appends, Consumes, IsAtEnd}
-use Rattle.dvg_words.specs.Values.{Window, IsWindow}
-use Rattle.dvg_cert.specs.Devices.{AppendsPrefix}
-use Rattle.dvg_cert.specs.declared.fault.CertWhy.{CertWhy}
-use Rattle.dvg_cert.specs.declared.fault.CertWhy.TheVariants.{Unended, Memory}
+use Rattle.dvg_words.specs.Values.{Window}
+use Rattle.dvg_cert.specs.Devices.{AppendsPrefix, TakesOneWrite}
+use Rattle.dvg_cert.specs.declared.fault.CertWhy.TheVariants.{Unended}
 use Rattle.dvg_cert.specs.declared.fault.CertFault.{CertFault}
 use Rattle.dvg_cert.specs.Order.{Certificate}
 use Rattle.dvg_cert.specs.Reading.{ReadAnswer}
@@ -13,6 +11,7 @@ use Rattle.dvg_check.specs.declared.verdict.Yes.{Yes}
 use Rattle.dvg_check.specs.declared.verdict.Refusal.{Refusal}
 use Rattle.dvg_check.specs.declared.verdict.Refusal.TheVariants as refusal
 use Rattle.dvg_check.specs.declared.fault.Mode.{Mode}
+use Rattle.dvg_check.specs.declared.fault.Mode.TheVariants.{Exact}
 use Rattle.dvg_check.specs.Verdict.{Verdict, SafeOver, CountsOver}
 use Rattle.dvg_spelling.specs.Report.{report_text}
 pub use Rattle.dvg_spelling.specs.declared.outcome.Outcome.{Outcome}
@@ -20,6 +19,7 @@ pub use Rattle.dvg_spelling.specs.declared.outcome.Outcome.TheVariants.{Accepted
 pub use Rattle.dvg_spelling.specs.declared.fault.RunFault.{RunFault}
 pub use Rattle.dvg_spelling.specs.Outcomes.{outcome_of}
 use Rattle.dvg_spelling.specs.declared.fault.RunFault.TheVariants as fault
+use Rattle.dvg_cmd.specs.Detail.{Detail, IsBehind, no_account}
 
 -- ---- which device an answer blames
 
@@ -79,8 +79,7 @@ IsReadFor verdict old new = IsReadTo MOST_TEXT_READ old new
 
 -- ---- what is written
 
--- the verdict on all bytes that three readers held, in a mode and for a window; a reader that does not tell its bytes held
--- some bytes, which are not known
+-- the verdict on all bytes that three readers held, in a mode and for a window; a reader that does not tell its bytes held some that are not known
 pub record Judges (mode : Mode) (w : Window) (rom cert frame : Option (List ℕ)) (budget : ℕ) (verdict : Result Yes Refusal) : Type 0 where
   pub rom_bytes : List ℕ
   pub cert_bytes : List ℕ
@@ -90,39 +89,65 @@ pub record Judges (mode : Mode) (w : Window) (rom cert frame : Option (List ℕ)
   pub frame_held : IfSome frame (λ held. frame_bytes ≡ held)
   pub is : Verdict mode w rom_bytes cert_bytes frame_bytes budget verdict
 
--- the report of this verdict was written, and nothing else; `left` is what the certificate's reader still holds
-pub record Reports
-    (mode : Mode) (w : Window) (rom cert left frame : Option (List ℕ)) (budget : ℕ) (old new : Option (List ℕ))
-    (outcome : Outcome) : Type 0 where
-  pub verdict : Result Yes Refusal
-  pub judges : Judges mode w rom cert frame budget verdict
-  pub read : IsReadFor verdict cert left
-  pub written : Appends old new (report_text verdict)
-  pub outcome_is : outcome ≡ outcome_of verdict
-
--- a prefix of the report was written, and nothing else
-pub record ReportsPrefix
-    (mode : Mode) (w : Window) (rom cert frame : Option (List ℕ)) (budget : ℕ) (old new : Option (List ℕ)) : Type 0 where
-  pub verdict : Result Yes Refusal
-  pub judges : Judges mode w rom cert frame budget verdict
-  pub written : AppendsPrefix old new (report_text verdict)
-
 -- every run over all bytes that three readers told is safe with these counts
 abbrev pub SafeRead : Window → Option (List ℕ) → Option (List ℕ) → Option (List ℕ) → Yes → Type 0
 SafeRead w rom cert frame y = IfSome rom (λ r. IfSome cert (λ c. IfSome frame (λ f. SafeOver w r c f y.words y.depth)))
-
--- an accepted line was written, and every run over these bytes is safe with its counts
-pub record ReportsSafe (w : Window) (rom cert frame : Option (List ℕ)) (old new : Option (List ℕ)) : Type 0 where
-  pub yes : Yes
-  pub written : Appends old new (report_text (Ok yes))
-  pub safe : SafeRead w rom cert frame yes
 
 -- every run over all bytes that three readers told has just these counts at its halt
 abbrev pub CountsRead : Option (List ℕ) → Option (List ℕ) → Option (List ℕ) → Yes → Type 0
 CountsRead rom cert frame y = IfSome rom (λ r. IfSome cert (λ c. IfSome frame (λ f. CountsOver r c f y.words y.depth)))
 
--- an accepted line was written, and every run over these bytes has just its counts
-pub record ReportsCounts (rom cert frame : Option (List ℕ)) (old new : Option (List ℕ)) : Type 0 where
+-- the outcome is the verdict's, or that there was no memory for the account
+abbrev pub IsOutcomeOf : Result Yes Refusal → List ℕ → Outcome → Type 0
+IsOutcomeOf verdict account outcome = (outcome ≡ outcome_of verdict) ⊎ ((outcome ≡ NoMemory) × (account ≡ no_account))
+
+-- the report of a verdict and what the detail asks for behind it were written, by one write if they fit one, and nothing else;
+-- `writes` and `writes_after` count the writes that took their whole piece
+pub record WritesReport
+    (detail : Detail) (verdict : Result Yes Refusal) (old new : Option (List ℕ)) (writes writes_after : ℕ) (outcome : Outcome) : Type 0 where
+  pub account : List ℕ
+  pub behind : IsBehind detail account
+  pub written : Appends old new (report_text verdict ++ account)
+  pub one_write : TakesOneWrite (report_text verdict ++ account) writes writes_after
+  pub outcome_is : IsOutcomeOf verdict account outcome
+
+-- a prefix of them was written, and nothing else
+pub record WritesReportPrefix (detail : Detail) (verdict : Result Yes Refusal) (old new : Option (List ℕ)) : Type 0 where
+  pub account : List ℕ
+  pub behind : IsBehind detail account
+  pub written : AppendsPrefix old new (report_text verdict ++ account)
+
+-- the report of the verdict on all bytes that three readers held was written; the certificate's reader still holds `left`. An
+-- accepted frame is safe, also if there was no memory for its account.
+pub record Reports
+    (detail : Detail) (mode : Mode) (w : Window) (rom cert left frame : Option (List ℕ)) (budget : ℕ) (old new : Option (List ℕ))
+    (writes writes_after : ℕ) (outcome : Outcome) : Type 0 where
+  pub verdict : Result Yes Refusal
+  pub judges : Judges mode w rom cert frame budget verdict
+  pub read : IsReadFor verdict cert left
+  pub safe : IfOk verdict (SafeRead w rom cert frame)
+  pub exact : mode ≡ Exact → IfOk verdict (CountsRead rom cert frame)
+  pub report : WritesReport detail verdict old new writes writes_after outcome
+
+-- a prefix of that report was written
+pub record ReportsPrefix
+    (detail : Detail) (mode : Mode) (w : Window) (rom cert frame : Option (List ℕ)) (budget : ℕ) (old new : Option (List ℕ)) : Type 0 where
+  pub verdict : Result Yes Refusal
+  pub judges : Judges mode w rom cert frame budget verdict
+  pub report : WritesReportPrefix detail verdict old new
+
+-- an accepted line was written, and every run over these bytes is safe with its counts
+pub record ReportsSafe (detail : Detail) (w : Window) (rom cert frame : Option (List ℕ)) (old new : Option (List ℕ)) : Type 0 where
   pub yes : Yes
-  pub written : Appends old new (report_text (Ok yes))
+  pub account : List ℕ
+  pub behind : IsBehind detail account
+  pub written : Appends old new (report_text (Ok yes) ++ account)
+  pub safe : SafeRead w rom cert frame yes
+
+-- an accepted line was written, and every run over these bytes has just its counts
+pub record ReportsCounts (detail : Detail) (rom cert frame : Option (List ℕ)) (old new : Option (List ℕ)) : Type 0 where
+  pub yes : Yes
+  pub account : List ℕ
+  pub behind : IsBehind detail account
+  pub written : Appends old new (report_text (Ok yes) ++ account)
   pub counts : CountsRead rom cert frame yes

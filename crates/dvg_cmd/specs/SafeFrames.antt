@@ -6,6 +6,7 @@ use Rattle.dvg_words.specs.Values.{Window}
 use Rattle.dvg_check.specs.Safety.{Safe, CountsAtHalt}
 use Rattle.dvg_check.specs.declared.verdict.Yes.{Yes}
 use Rattle.dvg_spelling.specs.Report.{accepted_text}
+use Rattle.dvg_cmd.specs.Detail.{Detail, IsBehind}
 use Rattle.dvg_cmd.specs.Start.{started}
 
 -- the whole line of an accepted frame, which begins with its name
@@ -25,28 +26,18 @@ CountsFrame rom start frame y =
 
 -- an accepted line was written, and every run over that frame is safe with its counts
 pub record ReportsFrameSafe
-    (rom : Rom) (w : Window) (start : Option ℕ) (name : List ℕ) (frame old new : Option (List ℕ)) : Type 0 where
-  pub yes : Yes
-  pub written : Appends old new (accepted_line name yes)
-  pub safe : SafeFrame rom w start frame yes
-
--- an accepted line and an account were written, and every run over that frame is safe with the line's counts
-pub record ExplainsFrameSafe
-    (rom : Rom) (w : Window) (start : Option ℕ) (name : List ℕ) (frame old new : Option (List ℕ)) : Type 0 where
+    (detail : Detail) (rom : Rom) (w : Window) (start : Option ℕ) (name : List ℕ) (frame old new : Option (List ℕ)) : Type 0 where
   pub yes : Yes
   pub account : List ℕ
+  pub behind : IsBehind detail account
   pub written : Appends old new (accepted_line name yes ++ account)
   pub safe : SafeFrame rom w start frame yes
 
 -- an accepted line was written, and every run over that frame has just its counts
-pub record ReportsFrameCounts (rom : Rom) (start : Option ℕ) (name : List ℕ) (frame old new : Option (List ℕ)) : Type 0 where
-  pub yes : Yes
-  pub written : Appends old new (accepted_line name yes)
-  pub counts : CountsFrame rom start frame yes
-
--- an accepted line and an account were written, and every run over that frame has just the line's counts
-pub record ExplainsFrameCounts (rom : Rom) (start : Option ℕ) (name : List ℕ) (frame old new : Option (List ℕ)) : Type 0 where
+pub record ReportsFrameCounts
+    (detail : Detail) (rom : Rom) (start : Option ℕ) (name : List ℕ) (frame old new : Option (List ℕ)) : Type 0 where
   pub yes : Yes
   pub account : List ℕ
+  pub behind : IsBehind detail account
   pub written : Appends old new (accepted_line name yes ++ account)
   pub counts : CountsFrame rom start frame yes

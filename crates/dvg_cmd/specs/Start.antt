@@ -1,7 +1,5 @@
 -- A frame that is judged from another word address than 000 on. All of it is profile.
-use Rattle.std.specs.Prelude.{◌≡◌, ◌<◌, ◌+◌, ◌/◌, ◌%◌, ℕ, List, ◌∷◌, Option, Some, None}
-use Rattle.dvg_words.specs.declared.map.TheConstants.{ADDRESS_END}
-use Rattle.dvg_cert.specs.Grammar.{address_token}
+use Rattle.std.specs.Prelude.{◌+◌, ◌/◌, ◌%◌, ℕ, List, ◌∷◌, Option, Some, None}
 
 -- the bytes with the jump (JMPL) to a word address in place of their first word, the low byte first
 abbrev pub jumped : ℕ → List ℕ → List ℕ

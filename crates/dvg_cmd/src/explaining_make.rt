@@ -1,4 +1,4 @@
-//! Running the maker over readers, with an account of what comes of it.
+//! Running the maker over readers, with an account of its answer.
 
 ghost use Rattle.std.specs.Prelude.{◌≡◌, ◌≢◌, ◌⊎◌, ◌++◌, Option, List, ℕ, Err, false, IfOk, IfErr, OnOk, OnErr, is_err, string_bytes};
 ghost use Rattle.std.specs.Io.KnownBytes.{Appends};
@@ -10,7 +10,7 @@ ghost use Rattle.dvg_cmd.specs.Private.Reading.{IsPrefix, ArePrefixes};
 ghost use Rattle.dvg_cmd.specs.Runs.{MOST_ROM_READ, IsReadTo};
 ghost use Rattle.dvg_spelling.specs.declared.fault.MakeRunFault.TheVariants as maker;
 
-use crate::explaining::NO_ACCOUNT;
+use crate::detail::NO_ACCOUNT;
 use crate::making_frames::{FrameBytes, images_of, read_frames};
 use crate::reading::read_rom;
 use dvg_account::{PlainWhy, made_text, plain_text, unmade_text};
@@ -20,7 +20,7 @@ use dvg_spelling::{FramesRunFault, MakeRunFault, Outcome, RunFault, make_line_of
 use dvg_words::{RomImage, RomMap};
 use std::alloc::{AllocError, Global};
 
-/// What the maker comes to: how many entries it makes, or why none, and the account of that, unless there was no memory for it.
+/// The maker's answer: how many entries it makes, or why none, and the account of the answer, if there was memory for it.
 #[derive(Drop)]
 pub struct MakeAnswer {
     pub made: Result<u32, FramesRunFault>,
@@ -28,7 +28,7 @@ pub struct MakeAnswer {
 }
 
 impl MakeAnswer {
-    /// Which frame is to blame, counted from 0, where one is.
+    /// The index of the frame to blame, from 0, if one is.
     pub fn frame(&self) -> Option<usize>
         ensures { result ≡ frame_to_blame self.now.made }
     {
@@ -39,7 +39,7 @@ impl MakeAnswer {
     }
 }
 
-/// A refusal before anything is made.
+/// The answer that nothing is made, because of this fault of the inputs.
 fn unasked(alloc: Global, fault: FramesRunFault, why: PlainWhy) -> MakeAnswer
     ensures { result.made ≡ Err fault }
 {
@@ -49,7 +49,7 @@ fn unasked(alloc: Global, fault: FramesRunFault, why: PlainWhy) -> MakeAnswer
     }
 }
 
-/// Why no frames come of what was read of them.
+/// Why the bytes of these frames are not frames.
 fn length_why(fault: FramesRunFault, frames: &[FrameBytes]) -> PlainWhy {
     match fault.frame().and_then(|frame| frames.get(frame)) {
         Some(bytes) => PlainWhy::FrameLength { bytes: bytes.len() },
@@ -57,7 +57,7 @@ fn length_why(fault: FramesRunFault, frames: &[FrameBytes]) -> PlainWhy {
     }
 }
 
-/// What the maker comes to for what was read of a ROM at this map and of frames.
+/// The maker's answer to the bytes of a ROM at this map and of frames.
 fn answer_on(
     alloc: Global,
     rom: &[u8],
@@ -96,10 +96,10 @@ fn answer_on(
     }
 }
 
-/// Reads a ROM and frames, as [`run_make_frames`](crate::run_make_frames) does, and makes what that would write; answers how many
-/// entries there are, or why none are made, with an account of it (docs/RULES.md). Nothing is written.
+/// Reads a ROM and frames, as [`run_make_frames`](crate::run_make_frames) does, and makes the certificate that it would write. Answers
+/// how many entries it has, or why none are made, with an account of the answer (docs/RULES.md). Nothing is written.
 ///
-/// The faults are those of `run_make_frames` that have no account: a failed read, and that there was no memory for the making.
+/// The faults are those of `run_make_frames` that have no account: a failed read, and that there was no memory to make entries.
 pub fn run_explain_make<R1: CountedRead, R2: CountedRead>(
     alloc: Global,
     rom: &mut R1,
@@ -144,10 +144,10 @@ pub fn run_explain_make<R1: CountedRead, R2: CountedRead>(
     Ok(answer)
 }
 
-/// The number that the maker's refusal has where memory was out.
+/// The number of the maker's refusal if memory was out.
 const NO_MEMORY_NUMBER: u8 = 63;
 
-/// Writes the line of what the maker comes to, behind a name, and a text behind it.
+/// Writes a name, the line of the maker's answer, and a text behind it.
 fn write_make_line_and<W: CountedWrite>(
     name: &str,
     made: &Result<u32, FramesRunFault>,
@@ -169,8 +169,8 @@ fn write_make_line_and<W: CountedWrite>(
     }
 }
 
-/// Writes the line of an answer of [`run_explain_make`], behind this name, and behind the line its account, or that there was no
-/// memory for one. The name is that of the frame to blame, which has no control characters; it is empty where none is.
+/// Writes the line of an answer of [`run_explain_make`], and behind it its account, or that there was no memory for one. The name before
+/// the line is that of the frame to blame, and has no control characters; it is empty if no frame is to blame.
 pub fn write_make_answer<W: CountedWrite>(
     name: &str,
     answer: &MakeAnswer,

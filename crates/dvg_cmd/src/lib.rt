@@ -4,11 +4,10 @@
 //! the verdict. [`run_make`] reads a ROM and writes the certificate that [`make`](dvg_make::make) makes.
 #![tactic(auto)]
 
-mod explaining;
-mod explaining_frames;
+mod detail;
 mod explaining_make;
-mod judging;
-mod judging_own;
+mod frame_judge;
+mod frame_run;
 pub mod laws;
 mod making;
 mod making_frames;
@@ -16,8 +15,10 @@ mod messages;
 mod reading;
 mod rules;
 mod running;
+mod several_frames;
 mod start;
 
+pub use detail::{Behind, Detail};
 pub use dvg_cert::{
     Cert, CertFault, CertWhy, Counted, CountedRead, CountedWrite, Entries, HashIndex, Key,
     MOST_WORDS, WriteFault, write_bytes,
@@ -35,14 +36,13 @@ pub use dvg_spelling::{
     start_of, status_of, window_of,
 };
 pub use dvg_words::{ASTEROIDS, ImageFault, RomImage, RomMap, SCREEN, Window};
-pub use explaining::run_explain_check;
-pub use explaining_frames::{
-    run_explain_frame, run_explain_frame_over, run_explain_refusal, run_explain_unopened,
-};
 pub use explaining_make::{MakeAnswer, run_explain_make, write_make_answer};
-pub use judging::{load_cert, load_rom, run_frame, run_frame_over, run_refusal, run_unopened};
+pub use frame_judge::{FrameJudge, GivenCertificate, OwnCertificates};
+pub use frame_run::{run_frame, run_unopened};
 pub use making::run_make;
 pub use making_frames::run_make_frames;
 pub use messages::{write_make_fault, write_message, write_text};
+pub use reading::{load_cert, load_rom};
 pub use rules::{run_rule, run_rules};
-pub use running::run_check;
+pub use running::{CheckOptions, run_check, run_check_in};
+pub use several_frames::{FrameOptions, NamedFrame, run_frames, run_frames_given};

@@ -1,4 +1,4 @@
-//! Writing messages and texts, by one write where they fit one.
+//! Writing messages and texts, each by one write if it fits one.
 
 ghost use Rattle.std.specs.Prelude.{◌≡◌, ◌<◌, ◌++◌, codes, length, Err, IfErr, OnOk, OnErr, is_err};
 ghost use Rattle.std.specs.Io.KnownBytes.{Appends};
@@ -8,7 +8,7 @@ ghost use Rattle.dvg_spelling.specs.Messages.{frames_message};
 use dvg_cert::{CountedWrite, write_lines};
 use dvg_spelling::{FramesRunFault, RunFault, make_frames_report_of};
 
-/// Writes a text of lines, all of it or a prefix where the writer fails, which is 73.
+/// Writes a text of lines, or a prefix of it if the writer fails, which is 73.
 pub fn write_text<W: CountedWrite>(text: &str, out: &mut W) -> Result<(), RunFault>
     ensures written { OnOk result (Appends (W.contents out.old) (W.contents out.new) text.now) }
     ensures prefix { OnErr result (AppendsPrefix (W.contents out.old) (W.contents out.new) text.now) }
@@ -19,7 +19,7 @@ pub fn write_text<W: CountedWrite>(text: &str, out: &mut W) -> Result<(), RunFau
     Ok(write_lines(text.as_bytes(), &[], &[], out)?)
 }
 
-/// Writes a message, and the LF at its end.
+/// Writes a message and an LF.
 pub fn write_message<W: CountedWrite>(message: &str, out: &mut W) -> Result<(), RunFault>
     ensures written { OnOk result (Appends (W.contents out.old) (W.contents out.new) (message.now ++ codes "\n")) }
     ensures prefix { OnErr result (AppendsPrefix (W.contents out.old) (W.contents out.new) (message.now ++ codes "\n")) }
@@ -30,8 +30,8 @@ pub fn write_message<W: CountedWrite>(message: &str, out: &mut W) -> Result<(), 
     Ok(write_lines(message.as_bytes(), b"\n", &[], out)?)
 }
 
-/// Writes the line of a run of the maker that made no certificate, behind the name of the frame to blame, which has no control
-/// characters; the name is empty where no frame is to blame.
+/// Writes the line of a maker's run that made no certificate. The name before it is that of the frame to blame, and has no control
+/// characters; it is empty if no frame is to blame.
 pub fn write_make_fault<W: CountedWrite>(
     name: &str,
     fault: &FramesRunFault,

@@ -1,6 +1,6 @@
 //! Reading inputs to their limits.
 
-ghost use Rattle.std.specs.Prelude.{◌≡◌, ◌≤◌, ◌<◌, length, take, IfOk, OnOk, IfSome, is_err};
+ghost use Rattle.std.specs.Prelude.{◌≡◌, ◌≤◌, ◌<◌, length, take, IfOk, IfErr, OnOk, IfSome, is_err};
 ghost use Rattle.std.specs.Io.KnownBytes.{Consumes, IsAtEnd};
 ghost use Rattle.dvg_cert.specs.Devices.{count_after};
 ghost use Rattle.dvg_cmd.specs.Runs.{MOST_ROM_READ, MOST_FRAME_READ, IsReadTo, ReadsText};
@@ -9,6 +9,7 @@ ghost use Rattle.dvg_cmd.specs.Private.Reading.{IsPrefix};
 use arrayvec::ArrayVec;
 use dvg_cert::laws::short_text;
 use dvg_cert::{Cert, CertFault, CertReader, CountedRead};
+use dvg_spelling::RunFault;
 use std::alloc::Global;
 use std::io;
 
@@ -112,4 +113,35 @@ pub fn read_certificate<R: CountedRead>(
         }
     }
     Ok(reader.finish())
+}
+
+/// The bytes of a ROM, up to one past the length of the longest, which is 4096. Answers 70 if the reader fails. Takes no
+/// memory.
+#[tactic(auto, unfolding(crate::specs::Private::Reading::limited))]
+pub fn load_rom<R: CountedRead>(rom: &mut R) -> Result<ArrayVec<u8, 4097>, RunFault>
+    ensures bytes { IfOk result (λ bytes. IfSome (R.remaining rom.old) (λ held. bytes.items ≡ take MOST_ROM_READ held)) }
+    ensures read { OnOk result (IsReadTo MOST_ROM_READ (R.remaining rom.old) (R.remaining rom.new)) }
+    ensures fault { IfErr result (λ fault. fault ≡ RunFault.ReadRom) }
+    ensures count { R.failures rom.new ≡ count_after (is_err result) (R.failures rom.old) }
+{
+    match read_rom(rom) {
+        Ok(bytes) => Ok(bytes),
+        Err(_) => Err(RunFault::ReadRom),
+    }
+}
+
+/// The answer to the certificate that a reader holds, which is read as [`run_check`](crate::run_check) reads it. Answers 72 if
+/// the reader fails.
+pub fn load_cert<R: CountedRead>(
+    alloc: Global,
+    cert: &mut R,
+) -> Result<Result<Cert, CertFault>, RunFault>
+    ensures answer { IfOk result (ReadsText (R.remaining cert.old) (R.remaining cert.new)) }
+    ensures fault { IfErr result (λ fault. fault ≡ RunFault.ReadCert) }
+    ensures count { R.failures cert.new ≡ count_after (is_err result) (R.failures cert.old) }
+{
+    match read_certificate(alloc, cert) {
+        Ok(answer) => Ok(answer),
+        Err(_) => Err(RunFault::ReadCert),
+    }
 }

@@ -1,4 +1,4 @@
-//! Runs that write what is told of the numbers that lines name.
+//! Runs that write what the numbers in lines mean.
 
 ghost use Rattle.std.specs.Prelude.{◌≡◌, ◌⊎◌, ◌<◌, length, Err, IfErr, OnOk, OnErr};
 ghost use Rattle.std.specs.Io.KnownBytes.{Appends};
@@ -32,7 +32,7 @@ pub fn run_rules<W: CountedWrite>(
     }
 }
 
-/// Writes all that is told of a rule: its number and what it means, its line, what gets it, and what to do, a line for each.
+/// Writes a rule: its number and what it means, its line, the shortest input that gets it, and what to do, a line for each.
 ///
 /// The faults are those of [`run_rules`].
 pub fn run_rule<W: CountedWrite>(alloc: Global, rule: &Rule, out: &mut W) -> Result<(), RunFault>

@@ -1,22 +1,24 @@
 //! Running a check over readers and a writer.
 
 ghost use Rattle.std.specs.Prelude.{◌≡◌, ◌≢◌, ◌≤◌, ℕ, List, Option, Ok, Err, IfOk, IfErr, OnOk, OnErr, is_err, true};
-ghost use Rattle.std.specs.Io.KnownBytes.{Appends};
 ghost use Rattle.dvg_words.specs.Memory.{rom_of};
-ghost use Rattle.dvg_words.specs.Values.{Window as Places};
 ghost use Rattle.dvg_cert.specs.declared.limits.TheConstants.{MOST_WORDS};
 ghost use Rattle.dvg_check.specs.Safety.{Safe, CountsAtHalt};
 ghost use Rattle.dvg_check.specs.Verdict.{RomVerdict};
 ghost use Rattle.dvg_check.specs.declared.fault.Mode.TheVariants.{Exact};
-ghost use Rattle.dvg_cert.specs.Devices.{AppendsPrefix, count_after};
-ghost use Rattle.dvg_spelling.specs.Report.{report_text};
-ghost use Rattle.dvg_cmd.specs.Runs.{outcome_of, blames_rom, blames_frame, blames_certificate, blames_writer};
-ghost use Rattle.dvg_cmd.specs.Runs.{MOST_ROM_READ, MOST_FRAME_READ, IsReadTo, IsReadFor, Judges, SafeRead, CountsRead, Reports, ReportsPrefix, ReportsSafe, ReportsCounts};
+ghost use Rattle.dvg_cert.specs.Devices.{count_after};
+ghost use Rattle.dvg_cmd.specs.Detail.{IsBehind, behind_text};
+ghost use Rattle.dvg_cmd.specs.Runs.{blames_rom, blames_frame, blames_certificate, blames_writer};
+ghost use Rattle.dvg_cmd.specs.Runs.{MOST_ROM_READ, MOST_FRAME_READ, IsReadTo, IsReadFor, Judges, SafeRead, CountsRead, WritesReport, WritesReportPrefix};
+ghost use Rattle.dvg_cmd.specs.Runs.{Reports, ReportsPrefix, ReportsSafe, ReportsCounts};
+ghost use Rattle.dvg_cmd.specs.declared.detail.Detail.TheVariants as details;
 ghost use Rattle.dvg_cmd.specs.Private.Reading.{IsPrefix};
 
+use crate::detail::{Behind, Detail};
 use crate::reading::{read_certificate, read_frame, read_rom, skip};
+use dvg_account::{Inputs, verdict_text};
 use dvg_cert::laws::prefix_refusal;
-use dvg_cert::{Cert, CountedRead, CountedWrite, write_bytes};
+use dvg_cert::{Cert, CountedRead, CountedWrite, write_lines};
 use dvg_check::{Mode, Refusal, Yes, frame_of};
 use dvg_explain::{RomAccount, explain_rom};
 use dvg_spelling::{Outcome, RunFault, outcome_of, report_of};
@@ -27,13 +29,24 @@ use std::io;
 /// How many bytes of a certificate are read at most: one past its limit.
 const PAST_CERTIFICATE_LIMIT: usize = 1_048_577;
 
+/// What is asked of a frame, a ROM and a certificate.
+#[derive(Clone, Copy)]
+pub struct CheckOptions {
+    /// How many words the frame may take at most.
+    pub budget: u32,
+    /// The part of the screen that may be lit.
+    pub window: Window,
+    /// Whether the certificate's counts are bounds or exact.
+    pub mode: Mode,
+}
+
 /// A verdict on a ROM, a certificate and a frame.
 #[derive(Drop)]
 pub struct Judgment {
     pub verdict: Result<Yes, Refusal>,
-    /// The account of a refusal, where the ROM was looked at.
-    pub account: Option<RomAccount>,
-    /// The certificate that the verdict is by, where one was taken.
+    /// The cause of a refusal, if the ROM was looked at.
+    pub cause: Option<RomAccount>,
+    /// The certificate, if it was taken.
     pub cert: Option<Cert>,
 }
 
@@ -47,45 +60,46 @@ impl Judgment {
     }
 }
 
-/// The verdict in a mode on the bytes of a ROM and on a frame by a certificate, and the account of a refusal.
+/// The verdict on the bytes of a ROM and on a frame by a certificate, and the cause of a refusal.
 fn judge_rom(
     alloc: Global,
     rom: &[u8],
     frame: &FrameImage,
     cert: &Cert,
-    budget: u32,
-    window: Window,
-    mode: Mode,
+    options: &CheckOptions,
 ) -> (Result<Yes, Refusal>, Option<RomAccount>)
-    requires { budget ≤ MOST_WORDS }
-    ensures verdict { RomVerdict mode window rom.now cert.now frame.now budget result.0 }
-    ensures safe { IfOk result.0 (λ yes. Safe (record { frame = frame.now; rom = rom_of cert.now.map rom.now }) window yes.words yes.depth) }
-    ensures exact { mode ≡ Exact → IfOk result.0 (λ yes. CountsAtHalt (record { frame = frame.now; rom = rom_of cert.now.map rom.now }) yes.words yes.depth) }
+    requires { options.now.budget ≤ MOST_WORDS }
+    ensures verdict { RomVerdict options.now.mode options.now.window rom.now cert.now frame.now options.now.budget result.0 }
+    ensures safe { IfOk result.0 (λ yes. Safe (record { frame = frame.now; rom = rom_of cert.now.map rom.now }) options.now.window yes.words yes.depth) }
+    ensures exact { options.now.mode ≡ Exact → IfOk result.0 (λ yes. CountsAtHalt (record { frame = frame.now; rom = rom_of cert.now.map rom.now }) yes.words yes.depth) }
 {
+    let CheckOptions {
+        budget,
+        window,
+        mode,
+    } = *options;
     match explain_rom(alloc, rom, frame, cert, budget, window, mode) {
         Ok(yes) => (Ok(yes), None),
-        Err(account) => (Err(account.refusal()), Some(account)),
+        Err(cause) => (Err(cause.refusal()), Some(cause)),
     }
 }
 
-/// The verdict in a mode on the bytes of a ROM and of a frame and on the certificate that a reader holds. Where the frame or the
-/// budget is refused, the certificate is read all the same, and kept nowhere.
+/// The verdict on the bytes of a ROM and of a frame and on the certificate that a reader holds. If the frame or the budget is
+/// refused, the certificate is read all the same, and nothing of it is kept.
 pub fn read_verdict<R: CountedRead>(
     alloc: Global,
     rom: &[u8],
     cert: &mut R,
     frame: &[u8],
-    budget: u32,
-    window: Window,
-    mode: Mode,
+    options: &CheckOptions,
 ) -> io::Result<Judgment>
     ensures verdict { (rom_held frame_held : Option (List ℕ)) → IsPrefix MOST_ROM_READ rom_held rom.now
         → IsPrefix MOST_FRAME_READ frame_held frame.now
-        → IfOk result (λ judged. Judges mode window rom_held (R.remaining cert.old) frame_held budget judged.verdict) }
+        → IfOk result (λ judged. Judges options.now.mode options.now.window rom_held (R.remaining cert.old) frame_held options.now.budget judged.verdict) }
     ensures safe { (rom_held frame_held : Option (List ℕ)) → IsPrefix MOST_ROM_READ rom_held rom.now
         → IsPrefix MOST_FRAME_READ frame_held frame.now
-        → IfOk result (λ judged. IfOk judged.verdict (SafeRead window rom_held (R.remaining cert.old) frame_held)) }
-    ensures exact { mode ≡ Exact → (rom_held frame_held : Option (List ℕ)) → IsPrefix MOST_ROM_READ rom_held rom.now
+        → IfOk result (λ judged. IfOk judged.verdict (SafeRead options.now.window rom_held (R.remaining cert.old) frame_held)) }
+    ensures exact { options.now.mode ≡ Exact → (rom_held frame_held : Option (List ℕ)) → IsPrefix MOST_ROM_READ rom_held rom.now
         → IsPrefix MOST_FRAME_READ frame_held frame.now
         → IfOk result (λ judged. IfOk judged.verdict (CountsRead rom_held (R.remaining cert.old) frame_held)) }
     ensures read { IfOk result (λ judged. IsReadFor judged.verdict (R.remaining cert.old) (R.remaining cert.new)) }
@@ -93,53 +107,143 @@ pub fn read_verdict<R: CountedRead>(
 {
     // The law by which the refusal of what was read is that of the whole text.
     prefix_refusal();
-    let frame = match frame_of(frame, budget) {
+    let frame = match frame_of(frame, options.budget) {
         Ok(frame) => frame,
         Err(refusal) => {
             skip(cert, PAST_CERTIFICATE_LIMIT)?;
             return Ok(Judgment {
                 verdict: Err(refusal),
-                account: None,
+                cause: None,
                 cert: None,
             });
         }
     };
     match read_certificate(alloc, cert)? {
         Ok(taken) => {
-            let (verdict, account) = judge_rom(alloc, rom, &frame, &taken, budget, window, mode);
+            let (verdict, cause) = judge_rom(alloc, rom, &frame, &taken, options);
             Ok(Judgment {
                 verdict,
-                account,
+                cause,
                 cert: Some(taken),
             })
         }
         Err(fault) => Ok(Judgment {
             verdict: Err(Refusal::Cert(fault)),
-            account: None,
+            cause: None,
             cert: None,
         }),
     }
 }
 
-/// Writes the report of a verdict.
+/// What the detail asks for behind the report of a verdict on these bytes.
+fn account_of(
+    alloc: Global,
+    rom: &[u8],
+    frame: &[u8],
+    judged: &Judgment,
+    options: &CheckOptions,
+    detail: Detail,
+) -> Behind
+    ensures { IsBehind detail (behind_text result) }
+{
+    if matches!(detail, Detail::Line) {
+        return Behind::Nothing;
+    }
+    let inputs = Inputs {
+        rom,
+        map: judged.map(),
+        cert: judged.cert.as_ref(),
+        frame,
+        budget: options.budget,
+        window: options.window,
+        mode: options.mode,
+    };
+    Behind::of(verdict_text(alloc, &inputs, &judged.verdict, judged.cause.as_ref()))
+}
+
+/// Writes the report of a verdict, and a text behind it.
 pub fn write_report<W: CountedWrite>(
     verdict: &Result<Yes, Refusal>,
+    behind: &Behind,
     out: &mut W,
 ) -> Result<Outcome, RunFault>
-    ensures ok { IfOk result (λ outcome. outcome ≡ outcome_of verdict.now) }
-    ensures written { OnOk result (Appends (W.contents out.old) (W.contents out.new) (report_text verdict.now)) }
-    ensures prefix { OnErr result (AppendsPrefix (W.contents out.old) (W.contents out.new) (report_text verdict.now)) }
-    ensures one_write { OnOk result (W.whole_writes out.new ≡ count_after true (W.whole_writes out.old)) }
-    ensures safe { (w : Places) (rom cert frame : Option (List ℕ)) → IfOk verdict.now (SafeRead w rom cert frame)
-        → result ≡ Ok Outcome.Accepted → ReportsSafe w rom cert frame (W.contents out.old) (W.contents out.new) }
-    ensures exact { (rom cert frame : Option (List ℕ)) → IfOk verdict.now (CountsRead rom cert frame)
-        → result ≡ Ok Outcome.Accepted → ReportsCounts rom cert frame (W.contents out.old) (W.contents out.new) }
+    ensures ok { (detail : Detail) → IsBehind detail (behind_text behind.now) → IfOk result (WritesReport detail verdict.now
+        (W.contents out.old) (W.contents out.new) (W.whole_writes out.old) (W.whole_writes out.new)) }
+    ensures prefix { (detail : Detail) → IsBehind detail (behind_text behind.now)
+        → OnErr result (WritesReportPrefix detail verdict.now (W.contents out.old) (W.contents out.new)) }
+    ensures one_write { IsBehind details.Line (behind_text behind.now) → OnOk result (W.whole_writes out.new ≡ count_after true (W.whole_writes out.old)) }
     ensures fault { IfErr result (λ fault. fault ≡ RunFault.Write) }
     ensures count { W.failures out.new ≡ count_after (is_err result) (W.failures out.old) }
 {
     let report = report_of(verdict);
-    write_bytes(report.as_bytes(), out)?;
-    Ok(outcome_of(verdict))
+    write_lines(report.as_bytes(), behind.text().as_bytes(), &[], out)?;
+    match behind {
+        Behind::Nothing | Behind::Account(_) => Ok(outcome_of(verdict)),
+        Behind::NoMemory => Ok(Outcome::NoMemory),
+    }
+}
+
+/// Reads a ROM, a frame and a certificate, in this order, and writes the report of the verdict on them, and an account of it if the
+/// detail asks for one.
+///
+/// It reads and ends as [`run_check`] does.
+pub fn run_check_in<R1: CountedRead, R2: CountedRead, R3: CountedRead, W: CountedWrite>(
+    alloc: Global,
+    rom: &mut R1,
+    cert: &mut R2,
+    frame: &mut R3,
+    options: &CheckOptions,
+    detail: Detail,
+    out: &mut W,
+) -> Result<Outcome, RunFault>
+    // A fault of 70 to 73 comes exactly where its device failed in this call, and the device's count then rises by one.
+    ensures rom_count { R1.failures rom.new ≡ count_after (blames_rom result) (R1.failures rom.old) }
+    ensures cert_count { R2.failures cert.new ≡ count_after (blames_certificate result) (R2.failures cert.old) }
+    ensures frame_count { R3.failures frame.new ≡ count_after (blames_frame result) (R3.failures frame.old) }
+    ensures out_count { W.failures out.new ≡ count_after (blames_writer result) (W.failures out.old) }
+    ensures no_memory { result ≢ Err RunFault.Memory }
+
+    // With an outcome the ROM and the frame were read to their end or to one byte past their limit, whatever was known by
+    // then. After a failed read no later device is touched, and by the counts none is called again.
+    ensures rom_read { OnOk result (IsReadTo MOST_ROM_READ (R1.remaining rom.old) (R1.remaining rom.new)) }
+    ensures frame_read { OnOk result (IsReadTo MOST_FRAME_READ (R3.remaining frame.old) (R3.remaining frame.new)) }
+    ensures frame_unread { result ≡ Err RunFault.ReadRom → frame.new ≡ frame.old }
+    ensures cert_unread { IfErr result (λ fault. fault ≢ RunFault.ReadCert → fault ≢ RunFault.Write → cert.new ≡ cert.old) }
+    ensures nothing { IfErr result (λ fault. fault ≢ RunFault.Write → out.new ≡ out.old) }
+
+    // What is written is the report of the verdict on all bytes that the readers held, with its account, or a prefix of them.
+    ensures report { IfOk result (Reports detail options.now.mode options.now.window (R1.remaining rom.old) (R2.remaining cert.old)
+        (R2.remaining cert.new) (R3.remaining frame.old) options.now.budget (W.contents out.old) (W.contents out.new)
+        (W.whole_writes out.old) (W.whole_writes out.new)) }
+    ensures prefix { result ≡ Err RunFault.Write → ReportsPrefix detail options.now.mode options.now.window (R1.remaining rom.old)
+        (R2.remaining cert.old) (R3.remaining frame.old) options.now.budget (W.contents out.old) (W.contents out.new) }
+    ensures one_write { detail ≡ details.Line → OnOk result (W.whole_writes out.new ≡ count_after true (W.whole_writes out.old)) }
+
+    // What is accepted is safe, with the counts of the line that was written, and in the mode `Exact` these are the counts of
+    // each run.
+    ensures safe { result ≡ Ok Outcome.Accepted → ReportsSafe detail options.now.window (R1.remaining rom.old) (R2.remaining cert.old)
+        (R3.remaining frame.old) (W.contents out.old) (W.contents out.new) }
+    ensures exact { options.now.mode ≡ Exact → result ≡ Ok Outcome.Accepted → ReportsCounts detail (R1.remaining rom.old)
+        (R2.remaining cert.old) (R3.remaining frame.old) (W.contents out.old) (W.contents out.new) }
+{
+    let Ok(rom) = read_rom(rom) else {
+        return Err(RunFault::ReadRom);
+    };
+    let Ok(frame) = read_frame(frame) else {
+        return Err(RunFault::ReadFrame);
+    };
+    let Ok(judged) = read_verdict(alloc, rom.as_slice(), cert, frame.as_slice(), options) else {
+        return Err(RunFault::ReadCert);
+    };
+    let behind = account_of(
+        alloc,
+        rom.as_slice(),
+        frame.as_slice(),
+        &judged,
+        options,
+        detail,
+    );
+    write_report(&judged.verdict, &behind, out)
 }
 
 /// Reads a ROM, a frame and a certificate, in this order, and writes the report of the verdict on them.
@@ -177,9 +281,9 @@ pub fn run_check<R1: CountedRead, R2: CountedRead, R3: CountedRead, W: CountedWr
 
     // What is written is the report of the verdict on all bytes that the readers held, or a prefix of it. The certificate was
     // read as far as the ROM, or so far that its own refusal was known.
-    ensures report { IfOk result (Reports mode window (R1.remaining rom.old) (R2.remaining cert.old) (R2.remaining cert.new)
-        (R3.remaining frame.old) budget (W.contents out.old) (W.contents out.new)) }
-    ensures prefix { result ≡ Err RunFault.Write → ReportsPrefix mode window (R1.remaining rom.old) (R2.remaining cert.old)
+    ensures report { IfOk result (Reports details.Line mode window (R1.remaining rom.old) (R2.remaining cert.old) (R2.remaining cert.new)
+        (R3.remaining frame.old) budget (W.contents out.old) (W.contents out.new) (W.whole_writes out.old) (W.whole_writes out.new)) }
+    ensures prefix { result ≡ Err RunFault.Write → ReportsPrefix details.Line mode window (R1.remaining rom.old) (R2.remaining cert.old)
         (R3.remaining frame.old) budget (W.contents out.old) (W.contents out.new) }
 
     // Just one write took its whole piece: it is the only one, if the writer takes the line whole.
@@ -187,27 +291,15 @@ pub fn run_check<R1: CountedRead, R2: CountedRead, R3: CountedRead, W: CountedWr
 
     // What is accepted is safe, with the counts of the line that was written, and in the mode `Exact` these are the counts of
     // each run.
-    ensures safe { result ≡ Ok Outcome.Accepted → ReportsSafe window (R1.remaining rom.old) (R2.remaining cert.old) (R3.remaining frame.old)
-        (W.contents out.old) (W.contents out.new) }
-    ensures exact { mode ≡ Exact → result ≡ Ok Outcome.Accepted → ReportsCounts (R1.remaining rom.old) (R2.remaining cert.old)
+    ensures safe { result ≡ Ok Outcome.Accepted → ReportsSafe details.Line window (R1.remaining rom.old) (R2.remaining cert.old)
+        (R3.remaining frame.old) (W.contents out.old) (W.contents out.new) }
+    ensures exact { mode ≡ Exact → result ≡ Ok Outcome.Accepted → ReportsCounts details.Line (R1.remaining rom.old) (R2.remaining cert.old)
         (R3.remaining frame.old) (W.contents out.old) (W.contents out.new) }
 {
-    let Ok(rom) = read_rom(rom) else {
-        return Err(RunFault::ReadRom);
-    };
-    let Ok(frame) = read_frame(frame) else {
-        return Err(RunFault::ReadFrame);
-    };
-    let Ok(judged) = read_verdict(
-        alloc,
-        rom.as_slice(),
-        cert,
-        frame.as_slice(),
+    let options = CheckOptions {
         budget,
         window,
         mode,
-    ) else {
-        return Err(RunFault::ReadCert);
     };
-    write_report(&judged.verdict, out)
+    run_check_in(alloc, rom, cert, frame, &options, Detail::Line, out)
 }

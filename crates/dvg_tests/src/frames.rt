@@ -6,8 +6,8 @@ use crate::rows::{bytes_of, map_of, read_window, rom_bytes};
 use crate::running::NEVER;
 use crate::running::devices::{SlowReader, SlowWriter};
 use dvg_cmd::{
-    ASTEROIDS, Counted, CountedRead, CountedWrite, EntryFault, FrameCall, FrameOutcome,
-    FramesRunFault, MakeFault, MakeRunFault, Mode, RomMap, RunFault, SCREEN, Window,
+    ASTEROIDS, Counted, CountedRead, CountedWrite, Detail, EntryFault, FrameCall, FrameOutcome,
+    FramesRunFault, MakeFault, MakeRunFault, Mode, OwnCertificates, RomMap, RunFault, SCREEN, Window,
     frames_status_of, make_frames_report_of, make_frames_status_of, run_check, run_frame,
     run_make_frames, run_unopened, start_of,
 };
@@ -209,18 +209,32 @@ fn read_row(alloc: Global, row: &str) -> Result<Asked, Fail> {
     Ok(asked)
 }
 
+/// The judge of frames by their own certificates over a ROM that lies as in Asteroids.
+pub fn judge_over_asteroids(rom: &[u8]) -> OwnCertificates<'_> {
+    OwnCertificates {
+        rom,
+        map: ASTEROIDS,
+        budget: 20_000,
+        window: SCREEN,
+    }
+}
+
 /// What a run writes of a frame over a reader of one byte a read.
 fn line_of(alloc: Global, asked: &Asked) -> Vec<u8> {
     let mut line = Vec::new(alloc);
+    let judge = OwnCertificates {
+        rom: &asked.rom,
+        map: asked.map,
+        budget: asked.budget,
+        window: asked.window,
+    };
     let _ = run_frame(
         alloc,
-        &asked.rom,
-        asked.map,
+        &judge,
+        asked.start,
         "f",
         &mut Counted::new(SlowReader::new(&asked.frame, 1, NEVER)),
-        asked.start,
-        asked.budget,
-        asked.window,
+        Detail::Line,
         &mut Counted::new(&mut line),
     );
     line
@@ -310,13 +324,11 @@ fn judges_by_full_certificates(rt: HostRuntime) -> Result<(), Fail> {
         let rom = rom_of_calls(rt.alloc(), calls)?;
         let _ = run_frame(
             rt.alloc(),
-            &rom,
-            ASTEROIDS,
+            &judge_over_asteroids(&rom),
+            None,
             "f",
             &mut Counted::new(frame.as_slice()),
-            None,
-            20_000,
-            SCREEN,
+            Detail::Line,
             &mut Counted::new(&mut out),
         );
         expect(&rt, out.as_slice() == line, &calls);
@@ -336,13 +348,11 @@ fn run_zeros(
     let mut reader = Counted::new(SlowReader::new(frame, 1, fails_at));
     let end = run_frame(
         alloc,
-        rom.get(..rom_length).unwrap_or(&rom),
-        ASTEROIDS,
+        &judge_over_asteroids(rom.get(..rom_length).unwrap_or(&rom)),
+        None,
         "name",
         &mut reader,
-        None,
-        20_000,
-        SCREEN,
+        Detail::Line,
         out,
     );
     (
@@ -406,7 +416,7 @@ fn tells_unread_frames(rt: HostRuntime) {
         );
     }
     let mut out = Counted::new(SlowWriter::new(64, NEVER));
-    let end = run_unopened("none", &mut out);
+    let end = run_unopened(rt.alloc(), "none", Detail::Line, &mut out);
     expect_same(&rt, &end, &Ok(FrameOutcome::Unread), &"none");
     expect(
         &rt,

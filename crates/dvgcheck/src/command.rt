@@ -5,61 +5,61 @@ use crate::input::Input;
 use clap::error::ErrorKind;
 use clap::{Arg, ArgAction, ArgMatches, Command, value_parser};
 use dvg_cmd::{
-    ASTEROIDS, Key, MOST_WORDS, Mode, RomMap, Rule, Window, map_of, root_of, rule_of, start_of,
-    window_of,
+    ASTEROIDS, CheckOptions, Detail, FrameOptions, Key, MOST_WORDS, Mode, RomMap, Rule, Window,
+    map_of, root_of, rule_of, start_of, window_of,
 };
 use std::alloc::{AllocError, AllocFailed, Global};
 use std::{env, io};
 
-/// Why the words of the command line ask for no run.
+/// Why the command line asks for no run.
 #[derive(Drop)]
 pub enum Usage {
-    /// Help or the version was asked for.
+    /// It asks for help or for the version: the text.
     Help(String),
-    /// A word is wrong, or none was given.
+    /// `clap` refuses an argument, or there is none: the text for standard error.
     Fault(String),
-    /// `clap` takes the words, but they ask for nothing that there is.
-    Word(WordFault),
+    /// `clap` takes the arguments, but one of them has no meaning.
+    Argument(ArgumentFault),
     OutOfMemory,
 }
 
-/// Why words that `clap` takes ask for no run.
+/// What is wrong with arguments that `clap` takes.
 #[derive(Clone, Copy)]
-pub enum WordFault {
-    /// A word is not UTF-8.
+pub enum ArgumentFault {
+    /// An argument is not UTF-8.
     Unreadable,
-    /// The word given as a map is not one.
+    /// The map is not two word addresses of a ROM.
     Map,
-    /// The word given as a window is not one.
+    /// The window is not four coordinates.
     Window,
-    /// A word given as a root is not one.
+    /// A root is not a word address and a scale.
     Root,
-    /// A word given as a start is not one.
+    /// The start is not a word address.
     Start,
-    /// More than one file is to be standard input.
+    /// More than one file is `-`.
     StandardInputTwice,
-    /// No rule has the given number.
+    /// No rule has the number.
     Number,
 }
 
-impl WordFault {
+impl ArgumentFault {
     /// The line on standard error, without its LF.
     pub fn message(self) -> &'static str {
         match self {
-            WordFault::Unreadable => "dvgcheck: cannot read the command line",
-            WordFault::Map => "dvgcheck: bad map",
-            WordFault::Window => "dvgcheck: bad window",
-            WordFault::Root => "dvgcheck: bad root",
-            WordFault::Start => "dvgcheck: bad start",
-            WordFault::StandardInputTwice => "dvgcheck: standard input is given twice",
-            WordFault::Number => "dvgcheck: no such number",
+            ArgumentFault::Unreadable => "dvgcheck: cannot read the command line",
+            ArgumentFault::Map => "dvgcheck: bad map",
+            ArgumentFault::Window => "dvgcheck: bad window",
+            ArgumentFault::Root => "dvgcheck: bad root",
+            ArgumentFault::Start => "dvgcheck: bad start",
+            ArgumentFault::StandardInputTwice => "dvgcheck: standard input is given twice",
+            ArgumentFault::Number => "dvgcheck: no such number",
         }
     }
 }
 
-impl From<WordFault> for Usage {
-    fn from(fault: WordFault) -> Usage {
-        Usage::Word(fault)
+impl From<ArgumentFault> for Usage {
+    fn from(fault: ArgumentFault) -> Usage {
+        Usage::Argument(fault)
     }
 }
 
@@ -75,24 +75,18 @@ impl From<AllocError> for Usage {
     }
 }
 
-/// What the words ask for.
+/// What the command line asks for.
 #[derive(Drop)]
 pub enum Request<'a> {
-    Frames(FramesWords<'a>),
-    Check(CheckWords<'a>),
-    Make(MakeWords<'a>),
-    /// The answer of a command, with an account of it.
-    Explain(Explained<'a>),
-    /// This rule, all if none.
+    /// `frames`, or `explain frames`.
+    Frames(FramesArgs<'a>, Detail),
+    /// `check`, or `explain check`.
+    Check(CheckArgs<'a>, Detail),
+    Make(MakeArgs<'a>),
+    /// `explain make`.
+    ExplainMake(MakeArgs<'a>),
+    /// `rules` with the rule of this number, or with all rules.
     Rules(Option<Rule>),
-}
-
-/// The command whose answer is explained.
-#[derive(Drop)]
-pub enum Explained<'a> {
-    Check(CheckWords<'a>),
-    Frames(FramesWords<'a>),
-    Make(MakeWords<'a>),
 }
 
 /// What `--version` says behind the program's name: its version, and the logic with which it is proved.
@@ -147,56 +141,50 @@ pub struct Named<'a> {
     pub name: String,
 }
 
-/// By which certificate frames are judged.
+/// The certificates by which frames are judged.
 #[derive(Drop)]
-pub enum Judge<'a> {
-    /// Each by its own, which is made for a ROM that lies there.
-    Own(RomMap),
-    /// All by this one.
+pub enum Certificates<'a> {
+    /// One made for each frame, over a ROM that lies there.
+    Made(RomMap),
+    /// The certificate in this file, for all frames.
     Given(Input<'a>),
 }
 
-/// What `frames` was asked: its files, the certificate, the word address at which each frame starts, if one was
-/// given, the budget of words, and the window.
+/// The arguments of `frames`.
 #[derive(Drop)]
-pub struct FramesWords<'a> {
+pub struct FramesArgs<'a> {
     pub rom: Input<'a>,
     pub frames: Vec<Named<'a>>,
-    pub judge: Judge<'a>,
-    pub start: Option<u16>,
-    pub budget: u32,
-    pub window: Window,
+    pub certificates: Certificates<'a>,
+    pub options: FrameOptions,
 }
 
-/// What `check` was asked: its files, the budget of words, the window, and whether
-/// counts are bounds or exact.
+/// The arguments of `check`.
 #[derive(Drop)]
-pub struct CheckWords<'a> {
+pub struct CheckArgs<'a> {
     pub rom: Input<'a>,
     pub cert: Input<'a>,
     pub frame: Input<'a>,
-    pub budget: u32,
-    pub window: Window,
-    pub mode: Mode,
+    pub options: CheckOptions,
 }
 
-/// What `make` was asked: its ROM, where that lies, the roots, the frames, and the path of the file that the certificate is
-/// written to, standard output if none.
+/// The arguments of `make`.
 #[derive(Drop)]
-pub struct MakeWords<'a> {
+pub struct MakeArgs<'a> {
     pub rom: Input<'a>,
     pub map: RomMap,
     pub roots: Vec<(u16, Key)>,
     pub frames: Vec<Named<'a>>,
+    /// The path of the file for the certificate, or `None` for standard output.
     pub output: Option<&'a str>,
 }
 
-/// The words of the command line, the program's name first.
-pub fn words(rt: &HostRuntime) -> Result<Vec<String>, Usage> {
+/// The arguments of the command line, the program's name first.
+pub fn arguments(rt: &HostRuntime) -> Result<Vec<String>, Usage> {
     match env::args(rt) {
-        Ok(words) => Ok(words.collect(rt.alloc())?),
+        Ok(arguments) => Ok(arguments.collect(rt.alloc())?),
         Err(error) if error.kind() == io::ErrorKind::OutOfMemory => Err(Usage::OutOfMemory),
-        Err(_) => Err(Usage::Word(WordFault::Unreadable)),
+        Err(_) => Err(Usage::Argument(ArgumentFault::Unreadable)),
     }
 }
 
@@ -231,32 +219,50 @@ fn map_option<'a>(alloc: Global) -> Arg<'a> {
         .default_value("800/BFF")
 }
 
-/// The command with the words of `frames`, of which this one names what is judged.
-fn frames_arguments<'a>(
-    alloc: Global,
-    command: Command<'a>,
-    frame: Arg<'a>,
-) -> Result<Command<'a>, AllocError> {
-    let cert = Arg::new(alloc, "cert")
+fn start_option<'a>(alloc: Global) -> Arg<'a> {
+    Arg::new(alloc, "start")
+        .long("start")
+        .value_name("AAA")
+        .help("Judges each frame as though its word 000 were the jump to this word address")
+}
+
+fn cert_option<'a>(alloc: Global) -> Result<Arg<'a>, AllocError> {
+    Arg::new(alloc, "cert")
         .long("cert")
         .value_name("CERT")
         .help(
             "Judges all frames by this certificate of the ROM's shapes, which says where the ROM lies",
         )
-        .conflicts_with("rom")?;
-    let start = Arg::new(alloc, "start")
-        .long("start")
-        .value_name("AAA")
-        .help("Judges each frame as though its word 000 were the jump to this word address");
+        .conflicts_with("rom")
+}
+
+/// The command with the argument ROM, and what its help says of files.
+fn with_rom<'a>(alloc: Global, command: Command<'a>) -> Result<Command<'a>, AllocError> {
     command
         .after_help(INPUT_HELP)
-        .arg(needed(alloc, "ROM", ROM_HELP))?
-        .arg(frame)?
-        .arg(map_option(alloc))?
-        .arg(cert)?
-        .arg(budget_option(alloc))?
-        .arg(window_option(alloc))?
-        .arg(start)
+        .arg(needed(alloc, "ROM", ROM_HELP))
+}
+
+/// The command with the options that say which certificates are used.
+fn with_certificates<'a>(alloc: Global, command: Command<'a>) -> Result<Command<'a>, AllocError> {
+    let cert = cert_option(alloc)?;
+    command.arg(map_option(alloc))?.arg(cert)
+}
+
+/// The command with the options that limit what a frame may do.
+fn with_limits<'a>(alloc: Global, command: Command<'a>) -> Result<Command<'a>, AllocError> {
+    command.arg(budget_option(alloc))?.arg(window_option(alloc))
+}
+
+/// The command with the arguments of `frames`; `frame` is the one that names frames.
+fn frames_arguments<'a>(
+    alloc: Global,
+    command: Command<'a>,
+    frame: Arg<'a>,
+) -> Result<Command<'a>, AllocError> {
+    let command = with_rom(alloc, command)?.arg(frame)?;
+    let command = with_certificates(alloc, command)?;
+    with_limits(alloc, command)?.arg(start_option(alloc))
 }
 
 fn frames_command<'a>(alloc: Global) -> Result<Command<'a>, AllocError> {
@@ -267,58 +273,72 @@ fn frames_command<'a>(alloc: Global) -> Result<Command<'a>, AllocError> {
     frames_arguments(alloc, command, frames)
 }
 
-fn check_command<'a>(alloc: Global) -> Result<Command<'a>, AllocError> {
-    let exact = Arg::new(alloc, "exact")
+fn exact_option<'a>(alloc: Global) -> Arg<'a> {
+    Arg::new(alloc, "exact")
         .long("exact")
         .action(ArgAction::SetTrue)
-        .help("Takes the certificate's words and depths as exact, not as bounds");
-    Command::new(alloc, "check")
-        .about("Judges a frame over a vector ROM and its certificate, and prints the report")
-        .after_help(INPUT_HELP)
-        .arg(needed(alloc, "ROM", ROM_HELP))?
-        .arg(needed(alloc, "CERT", "The certificate of the ROM's shapes"))?
-        .arg(needed(alloc, "FRAME", FRAME_HELP))?
-        .arg(budget_option(alloc))?
-        .arg(window_option(alloc))?
-        .arg(exact)
+        .help("Takes the certificate's words and depths as exact, not as bounds")
 }
 
-/// The command with the words of `make` that say what is made.
-fn make_arguments<'a>(alloc: Global, command: Command<'a>) -> Result<Command<'a>, AllocError> {
+/// The command with the files of `check`.
+fn with_checked_files<'a>(alloc: Global, command: Command<'a>) -> Result<Command<'a>, AllocError> {
+    with_rom(alloc, command)?
+        .arg(needed(alloc, "CERT", "The certificate of the ROM's shapes"))?
+        .arg(needed(alloc, "FRAME", FRAME_HELP))
+}
+
+fn check_command<'a>(alloc: Global) -> Result<Command<'a>, AllocError> {
+    let command = Command::new(alloc, "check").about(
+        "Judges a frame over a vector ROM and its certificate, and prints the report",
+    );
+    let command = with_checked_files(alloc, command)?;
+    with_limits(alloc, command)?.arg(exact_option(alloc))
+}
+
+fn roots_argument<'a>(alloc: Global) -> Result<Arg<'a>, AllocError> {
     let roots = Arg::new(alloc, "ROOT")
         .help(
             "A shape that a program calls: its address, a slash, and a scale of 0 to 15 or any, as 800/0",
         )
-        .required_unless_present("frame")?
-        .num_args(1..);
-    let frame = Arg::new(alloc, "frame")
+        .required_unless_present("frame")?;
+    Ok(roots.num_args(1..))
+}
+
+fn frame_option<'a>(alloc: Global) -> Arg<'a> {
+    Arg::new(alloc, "frame")
         .long("frame")
         .value_name("FRAME")
         .action(ArgAction::Append)
-        .help("A frame, whose calls are roots, too");
-    command
-        .after_help(INPUT_HELP)
-        .arg(needed(alloc, "ROM", ROM_HELP))?
+        .help("A frame, whose calls are roots, too")
+}
+
+/// The command with the arguments of `make` that say what is made.
+fn make_arguments<'a>(alloc: Global, command: Command<'a>) -> Result<Command<'a>, AllocError> {
+    let roots = roots_argument(alloc)?;
+    with_rom(alloc, command)?
         .arg(roots)?
-        .arg(frame)?
+        .arg(frame_option(alloc))?
         .arg(map_option(alloc))
+}
+
+fn output_option<'a>(alloc: Global) -> Arg<'a> {
+    Arg::new(alloc, "output")
+        .short('o')
+        .long("output")
+        .value_name("FILE")
+        .help(
+            "Writes the certificate to this file, which keeps what it holds until the new one is whole",
+        )
 }
 
 fn make_command<'a>(alloc: Global) -> Result<Command<'a>, AllocError> {
     let command = Command::new(alloc, "make").about(
         "Prints the certificate of shapes of a vector ROM, and of all that they call",
     );
-    let output = Arg::new(alloc, "output")
-        .short('o')
-        .long("output")
-        .value_name("FILE")
-        .help(
-            "Writes the certificate to this file, which keeps what it holds until the new one is whole",
-        );
-    make_arguments(alloc, command)?.arg(output)
+    make_arguments(alloc, command)?.arg(output_option(alloc))
 }
 
-/// What stands behind the words of a command that is explained.
+/// What the help of a command says that is explained.
 const EXPLAIN_HELP: &str = "The first line is that of the command, and so is the exit status";
 
 fn explain_frames_command<'a>(alloc: Global) -> Result<Command<'a>, AllocError> {
@@ -377,10 +397,10 @@ fn command<'a>(alloc: Global, tasks: &[Task]) -> Result<Command<'a>, AllocError>
     Ok(command)
 }
 
-/// The command for these words, with the one subcommand that the first of them names, since the others would only cost time;
-/// with all where it names none.
-fn command_for<'a>(alloc: Global, words: &[String]) -> Result<Command<'a>, AllocError> {
-    match words.get(1).and_then(|word| Task::named(word.as_str())) {
+/// The command for these arguments, with the one subcommand that the first of them names, since the others would only cost time;
+/// with all subcommands if it names none.
+fn command_for<'a>(alloc: Global, arguments: &[String]) -> Result<Command<'a>, AllocError> {
+    match arguments.get(1).and_then(|name| Task::named(name.as_str())) {
         Some(task) => command(alloc, &[task]),
         None => command(alloc, &Task::ALL),
     }
@@ -390,34 +410,41 @@ fn needed<'a>(alloc: Global, name: &'a str, help: &'a str) -> Arg<'a> {
     Arg::new(alloc, name).required(true).help(help)
 }
 
-fn window_word<'a>(words: &ArgMatches<'a>) -> Result<Window, WordFault> {
-    window_of(words.get_str("window").unwrap_or("")).ok_or(WordFault::Window)
+fn window_of_args<'a>(args: &ArgMatches<'a>) -> Result<Window, ArgumentFault> {
+    window_of(args.get_str("window").unwrap_or("")).ok_or(ArgumentFault::Window)
 }
 
-fn budget_word<'a>(words: &ArgMatches<'a>) -> u32 {
-    words.get_one::<u32>("budget").unwrap_or(20_000)
+fn budget_of_args<'a>(args: &ArgMatches<'a>) -> u32 {
+    args.get_one::<u32>("budget").unwrap_or(20_000)
 }
 
-fn map_word<'a>(words: &ArgMatches<'a>) -> Result<RomMap, WordFault> {
-    match words.get_str("rom") {
-        Some(word) => map_of(word).ok_or(WordFault::Map),
+fn map_of_args<'a>(args: &ArgMatches<'a>) -> Result<RomMap, ArgumentFault> {
+    match args.get_str("rom") {
+        Some(map) => map_of(map).ok_or(ArgumentFault::Map),
         None => Ok(ASTEROIDS),
     }
 }
 
+fn start_of_args<'a>(args: &ArgMatches<'a>) -> Result<Option<u16>, ArgumentFault> {
+    match args.get_str("start") {
+        Some(start) => Ok(Some(start_of(start).ok_or(ArgumentFault::Start)?)),
+        None => Ok(None),
+    }
+}
+
 /// The file that this argument names.
-fn file_of<'a>(rt: &HostRuntime, words: &ArgMatches<'a>, name: &str) -> Input<'a> {
-    Input::named(rt, words.get_str(name).unwrap_or(""))
+fn file_of<'a>(rt: &HostRuntime, args: &ArgMatches<'a>, name: &str) -> Input<'a> {
+    Input::named(rt, args.get_str(name).unwrap_or(""))
 }
 
 /// The files that this argument names, each with the name that lines show.
 fn files_of<'a>(
     rt: &HostRuntime,
-    words: &ArgMatches<'a>,
+    args: &ArgMatches<'a>,
     name: &str,
 ) -> Result<Vec<Named<'a>>, Usage> {
     let mut files = Vec::new(rt.alloc());
-    for path in words.get_strs(name).unwrap_or(&[]) {
+    for path in args.get_strs(name).unwrap_or(&[]) {
         let input = Input::named(rt, path);
         let name = shown(rt.alloc(), path)?;
         files.push(Named { input, name })?;
@@ -426,53 +453,58 @@ fn files_of<'a>(
 }
 
 /// How many of the files that this argument names are standard input.
-fn standard_inputs<'a>(words: &ArgMatches<'a>, name: &str) -> usize {
-    let files = words.get_strs(name).unwrap_or(&[]);
-    files.iter().filter(|word| **word == "-").count()
+fn standard_inputs<'a>(args: &ArgMatches<'a>, name: &str) -> usize {
+    let files = args.get_strs(name).unwrap_or(&[]);
+    files.iter().filter(|path| **path == "-").count()
 }
 
-/// Refuses words by which more than one of the files that these arguments name is standard input.
-fn one_standard_input<'a>(words: &ArgMatches<'a>, names: &[&str]) -> Result<(), WordFault> {
+/// Refuses arguments if more than one of the files that they name is standard input.
+fn one_standard_input<'a>(args: &ArgMatches<'a>, names: &[&str]) -> Result<(), ArgumentFault> {
     let mut given = 0usize;
     for name in names {
-        given = given.saturating_add(standard_inputs(words, name));
+        given = given.saturating_add(standard_inputs(args, name));
     }
     if given > 1 {
-        return Err(WordFault::StandardInputTwice);
+        return Err(ArgumentFault::StandardInputTwice);
     }
     Ok(())
 }
 
-fn frames_words<'a>(rt: &HostRuntime, frames: &ArgMatches<'a>) -> Result<FramesWords<'a>, Usage> {
-    one_standard_input(frames, &["ROM", "FRAME", "cert"])?;
-    let map = map_word(frames)?;
-    let window = window_word(frames)?;
-    let start = match frames.get_str("start") {
-        Some(word) => Some(start_of(word).ok_or(WordFault::Start)?),
-        None => None,
-    };
-    Ok(FramesWords {
-        rom: file_of(rt, frames, "ROM"),
-        frames: files_of(rt, frames, "FRAME")?,
-        judge: match frames.get_str("cert") {
-            Some(cert) => Judge::Given(Input::named(rt, cert)),
-            None => Judge::Own(map),
+/// The options of `frames`, and where the ROM lies.
+fn frame_options<'a>(args: &ArgMatches<'a>) -> Result<(RomMap, FrameOptions), ArgumentFault> {
+    one_standard_input(args, &["ROM", "FRAME", "cert"])?;
+    let map = map_of_args(args)?;
+    let window = window_of_args(args)?;
+    let start = start_of_args(args)?;
+    let budget = budget_of_args(args);
+    Ok((
+        map,
+        FrameOptions {
+            start,
+            budget,
+            window,
         },
-        start,
-        budget: budget_word(frames),
-        window,
+    ))
+}
+
+fn frames_args<'a>(rt: &HostRuntime, args: &ArgMatches<'a>) -> Result<FramesArgs<'a>, Usage> {
+    let (map, options) = frame_options(args)?;
+    Ok(FramesArgs {
+        rom: file_of(rt, args, "ROM"),
+        frames: files_of(rt, args, "FRAME")?,
+        certificates: match args.get_str("cert") {
+            Some(cert) => Certificates::Given(Input::named(rt, cert)),
+            None => Certificates::Made(map),
+        },
+        options,
     })
 }
 
-fn check_words<'a>(rt: &HostRuntime, check: &ArgMatches<'a>) -> Result<CheckWords<'a>, Usage> {
-    one_standard_input(check, &["ROM", "CERT", "FRAME"])?;
-    Ok(CheckWords {
-        rom: file_of(rt, check, "ROM"),
-        cert: file_of(rt, check, "CERT"),
-        frame: file_of(rt, check, "FRAME"),
-        budget: budget_word(check),
-        window: window_word(check)?,
-        mode: if check.get_flag("exact") {
+fn check_options<'a>(args: &ArgMatches<'a>) -> Result<CheckOptions, ArgumentFault> {
+    Ok(CheckOptions {
+        budget: budget_of_args(args),
+        window: window_of_args(args)?,
+        mode: if args.get_flag("exact") {
             Mode::Exact
         } else {
             Mode::Bound
@@ -480,52 +512,79 @@ fn check_words<'a>(rt: &HostRuntime, check: &ArgMatches<'a>) -> Result<CheckWord
     })
 }
 
-/// What `make` was asked with these words, where its certificate goes to this path.
-fn make_words<'a>(
-    rt: &HostRuntime,
-    make: &ArgMatches<'a>,
-    output: Option<&'a str>,
-) -> Result<MakeWords<'a>, Usage> {
-    one_standard_input(make, &["ROM", "frame"])?;
-    let map = map_word(make)?;
-    let mut roots = Vec::new(rt.alloc());
-    for word in make.get_strs("ROOT").unwrap_or(&[]) {
-        roots.push(root_of(word).ok_or(WordFault::Root)?)?;
+fn check_args<'a>(rt: &HostRuntime, args: &ArgMatches<'a>) -> Result<CheckArgs<'a>, ArgumentFault> {
+    one_standard_input(args, &["ROM", "CERT", "FRAME"])?;
+    Ok(CheckArgs {
+        rom: file_of(rt, args, "ROM"),
+        cert: file_of(rt, args, "CERT"),
+        frame: file_of(rt, args, "FRAME"),
+        options: check_options(args)?,
+    })
+}
+
+/// The roots that the argument names.
+fn roots_of<'a>(alloc: Global, args: &ArgMatches<'a>) -> Result<Vec<(u16, Key)>, Usage> {
+    let mut roots = Vec::new(alloc);
+    for root in args.get_strs("ROOT").unwrap_or(&[]) {
+        roots.push(root_of(root).ok_or(ArgumentFault::Root)?)?;
     }
-    Ok(MakeWords {
-        rom: file_of(rt, make, "ROM"),
+    Ok(roots)
+}
+
+/// The arguments of `make`, whose certificate goes to this path.
+fn make_args<'a>(
+    rt: &HostRuntime,
+    args: &ArgMatches<'a>,
+    output: Option<&'a str>,
+) -> Result<MakeArgs<'a>, Usage> {
+    one_standard_input(args, &["ROM", "frame"])?;
+    let map = map_of_args(args)?;
+    Ok(MakeArgs {
+        rom: file_of(rt, args, "ROM"),
         map,
-        roots,
-        frames: files_of(rt, make, "frame")?,
+        roots: roots_of(rt.alloc(), args)?,
+        frames: files_of(rt, args, "frame")?,
         output,
     })
 }
 
-fn explain_words<'a>(rt: &HostRuntime, explain: &ArgMatches<'a>) -> Result<Explained<'a>, Usage> {
-    match explain.subcommand() {
-        Some(("check", words)) => Ok(Explained::Check(check_words(rt, words)?)),
-        Some(("frames", words)) => Ok(Explained::Frames(frames_words(rt, words)?)),
-        Some(("make", words)) => Ok(Explained::Make(make_words(rt, words, None)?)),
-        _ => Err(Usage::Word(WordFault::Unreadable)),
+/// The command whose answer is explained.
+fn explain_request<'a>(rt: &HostRuntime, args: &ArgMatches<'a>) -> Result<Request<'a>, Usage> {
+    match args.subcommand() {
+        Some(("check", args)) => Ok(Request::Check(check_args(rt, args)?, Detail::Account)),
+        Some(("frames", args)) => Ok(Request::Frames(frames_args(rt, args)?, Detail::Account)),
+        Some(("make", args)) => Ok(Request::ExplainMake(make_args(rt, args, None)?)),
+        _ => Err(Usage::Argument(ArgumentFault::Unreadable)),
     }
 }
 
-fn rule_word<'a>(words: &ArgMatches<'a>) -> Result<Option<Rule>, WordFault> {
-    match words.get_one::<u8>("NN") {
-        Some(number) => Ok(Some(rule_of(number).ok_or(WordFault::Number)?)),
+fn rule_of_args<'a>(args: &ArgMatches<'a>) -> Result<Option<Rule>, ArgumentFault> {
+    match args.get_one::<u8>("NN") {
+        Some(number) => Ok(Some(rule_of(number).ok_or(ArgumentFault::Number)?)),
         None => Ok(None),
     }
 }
 
-/// What `clap` says of words that it doesn't take: what it says of the marked ones, which it takes as little.
-fn told(alloc: Global, words: &[String]) -> Result<Usage, AllocError> {
-    let marked = marked(alloc, words)?;
-    let Some(error) = command(alloc, &Task::ALL)?
-        .try_get_matches_from(&marked)
-        .err()
-    else {
-        return Ok(Usage::Word(WordFault::Unreadable));
-    };
+/// What a subcommand with these arguments asks for.
+fn request_of<'a>(
+    rt: &HostRuntime,
+    task: Task,
+    args: &ArgMatches<'a>,
+) -> Result<Request<'a>, Usage> {
+    match task {
+        Task::Frames => Ok(Request::Frames(frames_args(rt, args)?, Detail::Line)),
+        Task::Check => Ok(Request::Check(check_args(rt, args)?, Detail::Line)),
+        Task::Make => {
+            let output = args.get_str("output").filter(|path| *path != "-");
+            Ok(Request::Make(make_args(rt, args, output)?))
+        }
+        Task::Explain => explain_request(rt, args),
+        Task::Rules => Ok(Request::Rules(rule_of_args(args)?)),
+    }
+}
+
+/// The text of this error, for the user.
+fn usage_of(alloc: Global, error: &clap::Error) -> Result<Usage, AllocError> {
     if error.kind() == ErrorKind::OutOfMemory {
         return Ok(Usage::OutOfMemory);
     }
@@ -537,26 +596,32 @@ fn told(alloc: Global, words: &[String]) -> Result<Usage, AllocError> {
     })
 }
 
-/// What the words ask for. All of them are read before a file is opened.
-pub fn read_words<'a>(rt: &HostRuntime, words: &'a [String]) -> Result<Request<'a>, Usage> {
-    let alloc = rt.alloc();
-    let matches = match command_for(alloc, words)?.try_get_matches_from(words) {
-        Ok(matches) => matches,
-        Err(error) if error.kind() == ErrorKind::OutOfMemory => return Err(Usage::OutOfMemory),
-        Err(_) => return Err(told(alloc, words)?),
-    };
-    let Some((name, words)) = matches.subcommand() else {
-        return Err(Usage::Word(WordFault::Unreadable));
-    };
-    match Task::named(name) {
-        Some(Task::Frames) => Ok(Request::Frames(frames_words(rt, words)?)),
-        Some(Task::Check) => Ok(Request::Check(check_words(rt, words)?)),
-        Some(Task::Make) => {
-            let output = words.get_str("output").filter(|path| *path != "-");
-            Ok(Request::Make(make_words(rt, words, output)?))
-        }
-        Some(Task::Explain) => Ok(Request::Explain(explain_words(rt, words)?)),
-        Some(Task::Rules) => Ok(Request::Rules(rule_word(words)?)),
-        None => Err(Usage::Word(WordFault::Unreadable)),
+/// What `clap` says of arguments that it refuses: what it says of the marked ones, which it refuses, too.
+fn refused(alloc: Global, arguments: &[String]) -> Result<Usage, AllocError> {
+    let marked = marked(alloc, arguments)?;
+    match command(alloc, &Task::ALL)?.try_get_matches_from(&marked) {
+        Ok(_) => Ok(Usage::Argument(ArgumentFault::Unreadable)),
+        Err(error) => usage_of(alloc, &error),
+    }
+}
+
+/// What `clap` makes of the arguments.
+fn matches_of<'a>(alloc: Global, arguments: &'a [String]) -> Result<ArgMatches<'a>, Usage> {
+    match command_for(alloc, arguments)?.try_get_matches_from(arguments) {
+        Ok(matches) => Ok(matches),
+        Err(error) if error.kind() == ErrorKind::OutOfMemory => Err(Usage::OutOfMemory),
+        Err(_) => Err(refused(alloc, arguments)?),
+    }
+}
+
+/// What the arguments ask for. All of them are read before a file is opened.
+pub fn read_arguments<'a>(rt: &HostRuntime, arguments: &'a [String]) -> Result<Request<'a>, Usage> {
+    let matches = matches_of(rt.alloc(), arguments)?;
+    match matches.subcommand() {
+        Some((name, args)) => match Task::named(name) {
+            Some(task) => request_of(rt, task, args),
+            None => Err(Usage::Argument(ArgumentFault::Unreadable)),
+        },
+        None => Err(Usage::Argument(ArgumentFault::Unreadable)),
     }
 }

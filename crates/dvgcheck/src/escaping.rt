@@ -1,23 +1,28 @@
-//! What `clap` says, and the names of files, with the control characters of the command line's words escaped.
+//! Control characters of the command line, escaped in what `clap` says and in names of files.
 
 use std::alloc::{AllocError, Global};
 
-/// The words with NUL, which no word of a command line can hold, for each of their LFs: so whatever LF is in a text about them
-/// is none of theirs.
-pub fn marked(alloc: Global, words: &[String]) -> Result<Vec<String>, AllocError> {
+/// The arguments with NUL, which no argument can hold, for each of their LFs: so no LF in a text about them is one of theirs.
+pub fn marked(alloc: Global, arguments: &[String]) -> Result<Vec<String>, AllocError> {
     let mut marked = Vec::new(alloc);
-    for word in words {
-        let mut copy = String::new(alloc);
-        for c in word.chars() {
-            copy.push(if c == '\n' { '\0' } else { c })?;
-        }
+    for argument in arguments {
+        let copy = marked_argument(alloc, argument.as_str())?;
         marked.push(copy)?;
     }
     Ok(marked)
 }
 
-/// A text about marked words, for the user: each control character is as Rust escapes it, `\n`, `\t`, `\r` or `\u{1b}`, NUL
-/// standing for LF, but for the text's own LFs, which stay.
+/// An argument with NUL for each of its LFs.
+fn marked_argument(alloc: Global, argument: &str) -> Result<String, AllocError> {
+    let mut marked = String::new(alloc);
+    for c in argument.chars() {
+        marked.push(if c == '\n' { '\0' } else { c })?;
+    }
+    Ok(marked)
+}
+
+/// A text about marked arguments, for the user. Each control character is as Rust escapes it, `\n`, `\t`, `\r` or `\u{1b}`; NUL is
+/// escaped as LF, and the text's own LFs stay.
 pub fn escaped(alloc: Global, text: &str) -> Result<String, AllocError> {
     let mut escaped = String::new(alloc);
     for c in text.chars() {

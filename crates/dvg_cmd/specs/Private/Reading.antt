@@ -11,7 +11,7 @@ use Rattle.dvg_cert.specs.Stream.{Stream, Open, Refused}
 unfoldable pub limited : ℕ → List ℕ → List ℕ
 limited most bytes = take most bytes
 
--- these are the first of the bytes that a reader held, up to a limit, or any bytes where it does not tell its own
+-- these are the first of the bytes that a reader held, up to a limit; any bytes if it does not tell its own
 pub record IsPrefix (most : ℕ) (reader : Option (List ℕ)) (bytes : List ℕ) : Type 0 where
   pub first : IfSome reader (λ held. bytes ≡ limited most held)
 
@@ -20,13 +20,13 @@ abbrev pub taken_length : Stream → ℕ
 taken_length (Open text) = length text
 taken_length (Refused f) = 0
 
--- so for each of several readers of frames
+-- each of several readers of frames held such bytes
 abbrev pub ArePrefixes : List (Option (List ℕ)) → List (List ℕ) → Type 0
 ArePrefixes [] [] = Unit {0}
 ArePrefixes (reader ∷ readers) (bytes ∷ rest) = IsPrefix MOST_FRAME_READ reader bytes × ArePrefixes readers rest
 ArePrefixes readers rest = ⊥
 
--- what a fault says of what was read of several frames: which is the first of a wrong length, or that memory was out
+-- why bytes of several frames are not frames: the first has a wrong length, or memory was out
 abbrev pub RefusesLengths : List (List ℕ) → FramesRunFault → Type 0
 RefusesLengths read (fault.FrameLength n) = FirstWrong read n
 RefusesLengths read (fault.Plain (maker.Make making.Memory)) = Unit {0}

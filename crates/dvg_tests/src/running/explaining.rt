@@ -1,6 +1,7 @@
 //! Runs with an account after their line, and runs over a certificate that is read before; the accounts were worked by hand.
 
 use crate::expecting::{expect, expect_same};
+use crate::frames::judge_over_asteroids;
 use crate::making::rom_bytes;
 use crate::rows::{EMPTY, STROKE_CERT, STROKE_FRAME};
 use crate::running::NEVER;
@@ -9,12 +10,13 @@ use crate::texts::{
     ENDED_TEXT, HALT_IN_SHAPE_TEXT, MADE_TEXT, RETURN, RETURN_TEXT, STROKE_TEXT, stroke_rom,
 };
 use dvg_cmd::{
-    ASTEROIDS, CertFault, CertWhy, Counted, FrameOutcome, FramesRunFault, HashIndex, JudgedShapes,
-    Key, MakeAnswer, Mode, Outcome, Refusal, RomImage, RunFault, SCREEN, load_cert, load_rom,
-    make_line_of, run_explain_check, run_explain_frame, run_explain_frame_over, run_explain_make,
-    run_explain_refusal, run_explain_unopened, run_frame_over, run_refusal, write_make_answer,
+    ASTEROIDS, CertFault, CertWhy, CheckOptions, Counted, Detail, FrameOptions, FrameOutcome,
+    FramesRunFault, Key, MakeAnswer, Mode, NamedFrame, Outcome, RunFault, SCREEN, load_cert,
+    load_rom, make_line_of, run_check_in, run_explain_make, run_frame, run_frames_given,
+    run_unopened, write_make_answer,
 };
 use std::alloc::Global;
+use std::iter;
 use std::process::Abort;
 use std::test::Fail;
 
@@ -55,14 +57,18 @@ fn explains_checks(rt: HostRuntime) {
     for &(cert, frame, outcome, line, account) in CHECKED {
         for mode in [Mode::Bound, Mode::Exact] {
             let mut told = Vec::new(rt.alloc());
-            let end = run_explain_check(
+            let options = CheckOptions {
+                budget: 20000,
+                window: SCREEN,
+                mode,
+            };
+            let end = run_check_in(
                 rt.alloc(),
                 &mut Counted::new(SlowReader::new(&rom, 512, NEVER)),
                 &mut Counted::new(SlowReader::new(cert, 1, NEVER)),
                 &mut Counted::new(SlowReader::new(frame, 1, NEVER)),
-                20000,
-                SCREEN,
-                mode,
+                &options,
+                Detail::Account,
                 &mut Counted::new(&mut told),
             );
             expect_same(&rt, &end, &Ok(outcome), &(line, mode));
@@ -94,15 +100,13 @@ fn explain_alone(
     frame: &[u8],
 ) -> (Result<FrameOutcome, RunFault>, Vec<u8>) {
     let mut told = Vec::new(alloc);
-    let end = run_explain_frame(
+    let end = run_frame(
         alloc,
-        rom,
-        ASTEROIDS,
+        &judge_over_asteroids(rom),
+        None,
         "f",
         &mut Counted::new(SlowReader::new(frame, 1, NEVER)),
-        None,
-        20000,
-        SCREEN,
+        Detail::Account,
         &mut Counted::new(&mut told),
     );
     (end, told)
@@ -123,55 +127,39 @@ fn explains_frames_alone(rt: HostRuntime) {
     expect_told(&rt, &told, line, HALT_IN_SHAPE_TEXT);
 }
 
-/// How a run with an account over a frame and the stroke's shapes ends, what it writes, and what a run without one writes.
-fn explain_over(
+/// How a run over a frame and the stroke's certificate ends, and what it writes.
+fn run_over(
     alloc: Global,
+    rom: &[u8],
+    text: &[u8],
     frame: &[u8],
-) -> Result<(Result<FrameOutcome, RunFault>, Vec<u8>, Vec<u8>), Refusal> {
-    let bytes = stroke_rom();
-    let mut reader = Counted::new(STROKE_CERT);
-    let Ok(answer) = load_cert(alloc, &mut reader) else {
-        return Err(Refusal::IndexMemory);
+    detail: Detail,
+) -> Result<(FrameOutcome, Vec<u8>), RunFault> {
+    let cert = load_cert(alloc, &mut Counted::new(SlowReader::new(text, 1, NEVER)))?;
+    let options = FrameOptions {
+        start: None,
+        budget: 20000,
+        window: SCREEN,
     };
-    let cert = answer?;
-    let rom = RomImage::from_bytes(&bytes, cert.map())?;
-    let entries = HashIndex::new(alloc, &cert)?;
-    let shapes = JudgedShapes::judge(&rom, &cert, &entries, SCREEN, Mode::Bound)?;
-    let mut line = Vec::new(alloc);
-    let _ = run_frame_over(
-        &shapes,
-        &cert,
-        "f",
-        &mut Counted::new(SlowReader::new(frame, 1, NEVER)),
-        None,
-        20000,
-        &mut Counted::new(&mut line),
-    );
+    let reader = Some(Counted::new(SlowReader::new(frame, 1, NEVER)));
+    let frames = iter::once(NamedFrame { name: "f", reader });
     let mut told = Vec::new(alloc);
-    let end = run_explain_frame_over(
-        alloc,
-        &bytes,
-        &shapes,
-        &cert,
-        Mode::Bound,
-        "f",
-        &mut Counted::new(SlowReader::new(frame, 1, NEVER)),
-        None,
-        20000,
-        &mut Counted::new(&mut told),
-    );
-    Ok((end, told, line))
+    let mut out = Counted::new(&mut told);
+    let end = run_frames_given(alloc, rom, &cert, &options, frames, detail, &mut out)?;
+    Ok((end, told))
 }
 
 #[test]
 fn explains_frames_over_shapes(rt: HostRuntime) -> Result<(), Fail> {
+    let rom = stroke_rom();
     for &(frame, outcome, line, account) in FRAMES {
-        let Ok((end, told, alone)) = explain_over(rt.alloc(), frame) else {
-            return Err(Fail::new("the shapes were refused"));
-        };
-        expect_same(&rt, &end, &Ok(outcome), &line);
-        expect_told(&rt, &told, line, account);
-        expect_told(&rt, &alone, line, "");
+        for (detail, account) in [(Detail::Line, ""), (Detail::Account, account)] {
+            let Ok((end, told)) = run_over(rt.alloc(), &rom, STROKE_CERT, frame, detail) else {
+                return Err(Fail::new("the run failed"));
+            };
+            expect_same(&rt, &end, &outcome, &line);
+            expect_told(&rt, &told, line, account);
+        }
     }
     Ok(())
 }
@@ -185,7 +173,7 @@ what to do: see that the file is there, that you may read it, and that it is no 
 #[test]
 fn explains_unopened_frames(rt: HostRuntime) {
     let mut told = Vec::new(rt.alloc());
-    let end = run_explain_unopened(rt.alloc(), "f", &mut Counted::new(&mut told));
+    let end = run_unopened(rt.alloc(), "f", Detail::Account, &mut Counted::new(&mut told));
     expect_same(&rt, &end, &Ok(FrameOutcome::Unread), &"f");
     expect_told(&rt, &told, "f: cannot read\n", UNREAD_TEXT);
 }
@@ -199,33 +187,6 @@ what to do: dump the whole vector ROM, and nothing else; \
 see that the certificate is for a ROM that lies there, or name its addresses by `--rom`
 ";
 
-/// What is written where a certificate's text is refused, or else the ROM's length: with an account, and without.
-fn explain_files(alloc: Global, rom: &[u8], text: &[u8]) -> Option<(Vec<u8>, Vec<u8>)> {
-    let mut reader = Counted::new(SlowReader::new(text, 1, NEVER));
-    let Ok(answer) = load_cert(alloc, &mut reader) else {
-        return None;
-    };
-    let mut told = Vec::new(alloc);
-    let mut line = Vec::new(alloc);
-    let mut out = Counted::new(&mut told);
-    match &answer {
-        Err(fault) => {
-            let refusal = Refusal::Cert(*fault);
-            let _ = run_explain_refusal(alloc, rom, None, SCREEN, &refusal, &mut out);
-            let _ = run_refusal(&refusal, &mut Counted::new(&mut line));
-        }
-        Ok(cert) => {
-            let Err(fault) = RomImage::from_bytes(rom, cert.map()) else {
-                return None;
-            };
-            let refusal = Refusal::Image(fault);
-            let _ = run_explain_refusal(alloc, rom, Some(cert), SCREEN, &refusal, &mut out);
-            let _ = run_refusal(&refusal, &mut Counted::new(&mut line));
-        }
-    }
-    Some((told, line))
-}
-
 #[test]
 fn explains_refusals(rt: HostRuntime) {
     let rom = stroke_rom();
@@ -235,12 +196,11 @@ fn explains_refusals(rt: HostRuntime) {
     ];
     for (bytes, text, line, account) in rows {
         let rom = rom.get(..bytes).unwrap_or(&rom);
-        match explain_files(rt.alloc(), rom, text) {
-            Some((told, alone)) => {
-                expect_told(&rt, &told, line, account);
-                expect_told(&rt, &alone, line, "");
+        for (detail, account) in [(Detail::Line, ""), (Detail::Account, account)] {
+            match run_over(rt.alloc(), rom, text, RETURN, detail) {
+                Ok((_, told)) => expect_told(&rt, &told, line, account),
+                Err(_) => expect(&rt, false, &line),
             }
-            None => expect(&rt, false, &line),
         }
     }
 }

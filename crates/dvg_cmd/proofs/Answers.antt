@@ -1,0 +1,137 @@
+-- The answer to a frame, and what an accepted line says of it, over plain values.
+use Rattle.std.proofs.Common.{◌≡◌, refl, sym, ap, ◌∙◌, subst, inl, inr, ℕ, List, [], ◌∷◌, ◌++◌, length, Option, None, Some}
+use Rattle.std.specs.Prelude.{Result, Ok, Err, IfOk, IfSome}
+use Rattle.std.specs.Io.KnownBytes.{Appends}
+use Rattle.dvg_words.specs.Memory.{Rom, words_of, IsFrameLength}
+use Rattle.dvg_words.specs.Values.{Window}
+use Rattle.dvg_check.specs.Safety.{Safe, CountsAtHalt}
+use Rattle.dvg_check.specs.declared.verdict.Refusal.TheVariants as refusal
+use Rattle.dvg_check.specs.declared.verdict.Yes.{Yes}
+use Rattle.dvg_make.specs.declared.fault.EntryFault.TheVariants as entry
+use Rattle.dvg_make.specs.declared.judging.FrameRefusal.{FrameRefusal}
+use Rattle.dvg_make.specs.declared.judging.FrameRefusal.TheVariants as frame
+use Rattle.dvg_spelling.specs.Outcomes.{refusal_outcome_of}
+use Rattle.dvg_spelling.specs.declared.outcome.FrameOutcome.TheVariants as outcome
+use Rattle.dvg_cmd.specs.Detail.{Detail}
+use Rattle.dvg_cmd.specs.Runs.{MOST_FRAME_READ, IsReadTo, RunFault}
+use Rattle.dvg_cmd.specs.Frames.{FrameAnswer, Judged, Unread, FrameOutcome, worse, ReadsFrame, AnswersFrame, WritesAnswer, IsFrameOutcomeOf, frame_outcome_of, frame_line, is_unread, is_unread_outcome}
+use Rattle.dvg_cmd.specs.Start.{jumped, started}
+use Rattle.dvg_cmd.specs.SafeFrames.{ReportsFrameSafe, ReportsFrameCounts}
+
+-- ---- a refusal is not accepted
+
+refused : (r : FrameRefusal) → refusal_outcome_of r ≡ outcome.Accepted → ⊥
+refused frame.NoMemory h = cc
+refused (frame.Make at entry.Memory) h = cc
+refused (frame.Make at (entry.Unstraight word)) h = cc
+refused (frame.Make at entry.Deep) h = cc
+refused (frame.Make at entry.TooManyWords) h = cc
+refused (frame.Make at entry.TooManyEntries) h = cc
+refused (frame.Check (refusal.Image f)) h = cc
+refused (frame.Check refusal.BudgetRange) h = cc
+refused (frame.Check (refusal.Cert f)) h = cc
+refused (frame.Check refusal.IndexMemory) h = cc
+refused (frame.Check (refusal.Shape f)) h = cc
+refused (frame.Check (refusal.Frame f)) h = cc
+
+worse_refused : (o : FrameOutcome) → worse o outcome.NoMemory ≡ outcome.Accepted → ⊥
+worse_refused outcome.Accepted h = cc
+worse_refused outcome.Refused h = cc
+worse_refused outcome.NoMemory h = cc
+worse_refused outcome.Unread h = cc
+
+-- ---- what holds of the bytes that were judged holds of all that the reader held
+
+length_jumped : (to : ℕ) (bytes : List ℕ) → length (jumped to bytes) ≡ length bytes
+length_jumped to [] = refl
+length_jumped to (low ∷ []) = refl
+length_jumped to (low ∷ high ∷ rest) = refl
+
+length_started : (start : Option ℕ) (bytes : List ℕ) → length (started start bytes) ≡ length bytes
+length_started None bytes = refl
+length_started (Some to) bytes = length_jumped to bytes
+
+of_all : (P : List ℕ → Type 0) (reader : Option (List ℕ)) (start : Option ℕ) (bytes : List ℕ) → ReadsFrame reader start bytes → IsFrameLength (length bytes) → P bytes
+    → IfSome reader (λ held. P (started start held))
+of_all P None start bytes reads long holds = tt
+of_all P (Some held) start bytes reads long holds =
+    let same : length bytes ≡ length reads.read = ap (λ (x : List ℕ). length x) reads.is ∙ length_started start reads.read in
+    let whole : reads.read ≡ held = reads.from.whole (subst IsFrameLength same long) in
+    subst P (reads.is ∙ ap (λ (x : List ℕ). started start x) whole) holds
+
+module _ (IsVerdict : List ℕ → Result Yes FrameRefusal → Type 0) (rom : Rom) (w : Window) (IsExact : Type 0) (start : Option ℕ) (reader left : Option (List ℕ)) where
+  judged_yes : (v : Result Yes FrameRefusal) (y : Yes) → Judged v ≡ Judged (Ok y) → v ≡ Ok y
+  judged_yes v y is = cc
+
+  -- what a judge says of bytes that were read is an answer to all that the reader held
+  pub answers_judged : (v : Result Yes FrameRefusal) (bytes slice : List ℕ) → IsReadTo MOST_FRAME_READ reader left → ReadsFrame reader start bytes → slice ≡ bytes → IsVerdict slice v
+      → IfOk v (λ yes. IsFrameLength (length slice))
+      → IfOk v (λ yes. Safe (record { frame = words_of slice; rom = rom }) w yes.words yes.depth)
+      → (IsExact → IfOk v (λ yes. CountsAtHalt (record { frame = words_of slice; rom = rom }) yes.words yes.depth))
+      → AnswersFrame IsVerdict rom w IsExact start reader left (Judged v)
+  answers_judged v bytes slice read reads same verdict long safe exact =
+      let on : (y : Yes) (P : List ℕ → Type 0) → IfOk v (λ z. IsFrameLength (length slice)) → v ≡ Ok y → P slice → IfSome reader (λ held. P (started start held)) =
+      λ y P l is p. of_all P reader start bytes reads (subst (λ (x : List ℕ). IsFrameLength (length x)) same (subst (λ r. IfOk r (λ z. IsFrameLength (length slice))) is l)) (subst P same p) in
+      record {
+        means = (read, (bytes, reads, subst (λ (x : List ℕ). IsVerdict x v) same verdict));
+        safe = λ y is. on y (λ b. Safe (record { frame = words_of b; rom = rom }) w y.words y.depth) long (judged_yes v y is)
+            (subst (λ r. IfOk r (λ z. Safe (record { frame = words_of slice; rom = rom }) w z.words z.depth)) (judged_yes v y is) safe);
+        exact = λ e y is. on y (λ b. CountsAtHalt (record { frame = words_of b; rom = rom }) y.words y.depth) long (judged_yes v y is)
+            (subst (λ r. IfOk r (λ z. CountsAtHalt (record { frame = words_of slice; rom = rom }) z.words z.depth)) (judged_yes v y is) (exact e));
+      }
+
+  pub answers_unread : AnswersFrame IsVerdict rom w IsExact start reader left Unread
+  answers_unread = record { means = tt; safe = λ y is. cc; exact = λ e y is. cc }
+
+-- ---- what an accepted line says
+
+line_accepted : (answer : FrameAnswer) (account : List ℕ) (end : FrameOutcome) → IsFrameOutcomeOf answer account end → end ≡ outcome.Accepted → frame_outcome_of answer ≡ outcome.Accepted
+line_accepted answer account end (inl same) is = sym same ∙ is
+line_accepted answer account end (inr told) is = absurd (worse_refused (frame_outcome_of answer) (sym told.0 ∙ is))
+
+accepted_yes : (answer : FrameAnswer) → frame_outcome_of answer ≡ outcome.Accepted → (y : Yes) × (answer ≡ Judged (Ok y))
+accepted_yes Unread is = cc
+accepted_yes (Judged (Err r)) is = absurd (refused r is)
+accepted_yes (Judged (Ok y)) is = (y, refl)
+
+module _ (IsVerdict : List ℕ → Result Yes FrameRefusal → Type 0) (rom : Rom) (w : Window) (IsExact : Type 0) (detail : Detail) (start : Option ℕ) (name : List ℕ) (reader left old new : Option (List ℕ)) (writes writes_after : ℕ)
+    (answer : FrameAnswer) (answers : AnswersFrame IsVerdict rom w IsExact start reader left answer) where
+  pub frame_safe : (r : Result FrameOutcome RunFault) → IfOk r (WritesAnswer detail name answer old new writes writes_after) → r ≡ Ok outcome.Accepted → ReportsFrameSafe detail rom w start name reader old new
+  frame_safe (Err fault) line is = cc
+  frame_safe (Ok o) line is =
+      let a = accepted_yes answer (line_accepted answer line.account o line.outcome_is cc) in
+      record { yes = a.0; account = line.account; behind = line.behind; written = subst (λ x. Appends old new (frame_line name x ++ line.account)) a.1 line.written; safe = answers.safe a.0 a.1 }
+
+  pub frame_counts : (r : Result FrameOutcome RunFault) → IfOk r (WritesAnswer detail name answer old new writes writes_after) → IsExact → r ≡ Ok outcome.Accepted → ReportsFrameCounts detail rom start name reader old new
+  frame_counts (Err fault) line e is = cc
+  frame_counts (Ok o) line e is =
+      let a = accepted_yes answer (line_accepted answer line.account o line.outcome_is cc) in
+      record { yes = a.0; account = line.account; behind = line.behind; written = subst (λ x. Appends old new (frame_line name x ++ line.account)) a.1 line.written; counts = answers.exact e a.0 a.1 }
+
+-- ---- whether a frame could not be read
+
+-- the outcome of an answer's line says whether it could not be, also where there was no memory for the account
+pub unread_line : (answer : FrameAnswer) → is_unread_outcome (frame_outcome_of answer) ≡ is_unread answer
+unread_line Unread = refl
+unread_line (Judged (Ok y)) = refl
+unread_line (Judged (Err frame.NoMemory)) = refl
+unread_line (Judged (Err (frame.Make at entry.Memory))) = refl
+unread_line (Judged (Err (frame.Make at (entry.Unstraight word)))) = refl
+unread_line (Judged (Err (frame.Make at entry.Deep))) = refl
+unread_line (Judged (Err (frame.Make at entry.TooManyWords))) = refl
+unread_line (Judged (Err (frame.Make at entry.TooManyEntries))) = refl
+unread_line (Judged (Err (frame.Check (refusal.Image f)))) = refl
+unread_line (Judged (Err (frame.Check refusal.BudgetRange))) = refl
+unread_line (Judged (Err (frame.Check (refusal.Cert f)))) = refl
+unread_line (Judged (Err (frame.Check refusal.IndexMemory))) = refl
+unread_line (Judged (Err (frame.Check (refusal.Shape f)))) = refl
+unread_line (Judged (Err (frame.Check (refusal.Frame f)))) = refl
+
+worse_unread : (o : FrameOutcome) → is_unread_outcome (worse o outcome.NoMemory) ≡ is_unread_outcome o
+worse_unread outcome.Accepted = refl
+worse_unread outcome.Refused = refl
+worse_unread outcome.NoMemory = refl
+worse_unread outcome.Unread = refl
+
+pub unread_told : (answer : FrameAnswer) (line end : FrameOutcome) → line ≡ frame_outcome_of answer → end ≡ worse line outcome.NoMemory → is_unread_outcome end ≡ is_unread answer
+unread_told answer line end line_is end_is = ap is_unread_outcome end_is ∙ worse_unread line ∙ ap is_unread_outcome line_is ∙ unread_line answer

@@ -1,0 +1,71 @@
+-- What a run of the checker writes, over plain values.
+use Rattle.std.proofs.Common.{◌≡◌, refl, sym, ◌∙◌, inl, inr, ℕ, List, Option}
+use Rattle.std.specs.Prelude.{Result, IfOk, Ok, Err}
+use Rattle.dvg_words.specs.Values.{Window}
+use Rattle.dvg_cert.specs.declared.fault.CertWhy.{CertWhy}
+use Rattle.dvg_cert.specs.declared.fault.CertWhy.TheVariants as why
+use Rattle.dvg_check.specs.declared.fault.Mode.{Mode}
+use Rattle.dvg_check.specs.declared.fault.Mode.TheVariants.{Exact}
+use Rattle.dvg_check.specs.declared.verdict.Refusal.{Refusal}
+use Rattle.dvg_check.specs.declared.verdict.Refusal.TheVariants as refusal
+use Rattle.dvg_check.specs.declared.verdict.Yes.{Yes}
+use Rattle.dvg_spelling.specs.Outcomes.{cert_outcome}
+use Rattle.dvg_cmd.specs.Detail.{Detail}
+use Rattle.dvg_cmd.specs.Runs.{Outcome, Accepted, RunFault, IsReadFor, Judges, SafeRead, CountsRead, outcome_of, IsOutcomeOf, WritesReport, Reports, ReportsSafe, ReportsCounts}
+
+-- the report of a verdict is that of the one on all bytes that the readers held
+pub reports : (r : Result Outcome RunFault) (detail : Detail) (mode : Mode) (w : Window) (rom cert left frame : Option (List ℕ)) (budget : ℕ) (old new : Option (List ℕ)) (writes writes_after : ℕ) (v : Result Yes Refusal) → Judges mode w rom cert frame budget v → IsReadFor v cert left → IfOk v (SafeRead w rom cert frame) → (mode ≡ Exact → IfOk v (CountsRead rom cert frame)) → IfOk r (WritesReport detail v old new writes writes_after) → IfOk r (Reports detail mode w rom cert left frame budget old new writes writes_after)
+reports (Ok outcome) detail mode w rom cert left frame budget old new writes writes_after v judges read safe exact report =
+    record { verdict = v; judges = judges; read = read; safe = safe; exact = exact; report = report }
+reports (Err fault) detail mode w rom cert left frame budget old new writes writes_after v judges read safe exact report = tt
+
+-- ---- a refusal is not accepted
+
+cert_refused : (w : CertWhy) → cert_outcome w ≡ Accepted → ⊥
+cert_refused why.Form h = cc
+cert_refused why.Order h = cc
+cert_refused why.Count h = cc
+cert_refused why.Unended h = cc
+cert_refused why.After h = cc
+cert_refused why.TooLong h = cc
+cert_refused why.Memory h = cc
+
+refused : (r : Refusal) → outcome_of (Err r) ≡ Accepted → ⊥
+refused (refusal.Image f) h = cc
+refused refusal.BudgetRange h = cc
+refused (refusal.Cert f) h = cert_refused f.why h
+refused refusal.IndexMemory h = cc
+refused (refusal.Shape f) h = cc
+refused (refusal.Frame f) h = cc
+
+verdict_accepted : (v : Result Yes Refusal) (account : List ℕ) (outcome : Outcome) → IsOutcomeOf v account outcome → outcome ≡ Accepted → outcome_of v ≡ Accepted
+verdict_accepted v account outcome (inl same) is = sym same ∙ is
+verdict_accepted v account outcome (inr told) is = cc
+
+module _ (detail : Detail) (outcome : Outcome) (old new : Option (List ℕ)) (writes writes_after : ℕ) where
+  accepted_safe : (v : Result Yes Refusal) → WritesReport detail v old new writes writes_after outcome → outcome ≡ Accepted
+      → (w : Window) (rom cert frame : Option (List ℕ)) → IfOk v (SafeRead w rom cert frame) → ReportsSafe detail w rom cert frame old new
+  accepted_safe (Ok y) h is w rom cert frame safe = record { yes = y; account = h.account; behind = h.behind; written = h.written; safe = safe }
+  accepted_safe (Err r) h is w rom cert frame safe = absurd (refused r (verdict_accepted (Err r) h.account outcome h.outcome_is is))
+
+  accepted_counts : (v : Result Yes Refusal) → WritesReport detail v old new writes writes_after outcome → outcome ≡ Accepted
+      → (rom cert frame : Option (List ℕ)) → IfOk v (CountsRead rom cert frame) → ReportsCounts detail rom cert frame old new
+  accepted_counts (Ok y) h is rom cert frame counts = record { yes = y; account = h.account; behind = h.behind; written = h.written; counts = counts }
+  accepted_counts (Err r) h is rom cert frame counts = absurd (refused r (verdict_accepted (Err r) h.account outcome h.outcome_is is))
+
+ok_accepted : (r : Result Outcome RunFault) (outcome : Outcome) → r ≡ Ok outcome → r ≡ Ok Accepted → outcome ≡ Accepted
+ok_accepted r outcome same is = cc
+
+err_accepted : (r : Result Outcome RunFault) (fault : RunFault) → r ≡ Err fault → r ≡ Ok Accepted → ⊥
+err_accepted r fault same is = cc
+
+module _ (detail : Detail) (old new : Option (List ℕ)) (writes writes_after : ℕ) (v : Result Yes Refusal) where
+  pub reports_safe : (r : Result Outcome RunFault) → IfOk r (WritesReport detail v old new writes writes_after) → r ≡ Ok Accepted
+      → (w : Window) (rom cert frame : Option (List ℕ)) → IfOk v (SafeRead w rom cert frame) → ReportsSafe detail w rom cert frame old new
+  reports_safe (Ok outcome) h is w rom cert frame safe = accepted_safe detail outcome old new writes writes_after v h (ok_accepted (Ok outcome) outcome refl is) w rom cert frame safe
+  reports_safe (Err fault) h is w rom cert frame safe = absurd (err_accepted (Err fault) fault refl is)
+
+  pub reports_counts : (r : Result Outcome RunFault) → IfOk r (WritesReport detail v old new writes writes_after) → r ≡ Ok Accepted
+      → (rom cert frame : Option (List ℕ)) → IfOk v (CountsRead rom cert frame) → ReportsCounts detail rom cert frame old new
+  reports_counts (Ok outcome) h is rom cert frame counts = accepted_counts detail outcome old new writes writes_after v h (ok_accepted (Ok outcome) outcome refl is) rom cert frame counts
+  reports_counts (Err fault) h is rom cert frame counts = absurd (err_accepted (Err fault) fault refl is)

@@ -1,9 +1,0 @@
-use Rattle.dvg_cmd.proofs.Framing.{own_verdict}
-use Rattle.dvg_cmd.proofs.judging.judge_alone.Goals as goal
-
-pub returns-in-Ok : goal.returns-in-Ok
-returns-in-Ok c =
-    own_verdict c.args.rom.now c.args.map c.args.frame.now c.args.budget c.args.window c.in-Ok.frame c.in-Ok.rom c.in-Ok.ensures.ok c.judge.result c.judge.ensures.safe c.judge.ensures.exact c.judge.ensures.least c.judge.ensures.refused c.judge.ensures.verdict c.judge.ensures.told
-
-pub returns-in-Err : goal.returns-in-Err
-returns-in-Err c = c.in-Err.ensures.err c.args.window

@@ -1,0 +1,141 @@
+-- What a run writes of several frames that are judged one after another. All of it is profile.
+use Rattle.std.specs.Prelude.{◌≡◌, ℕ, List, [], ◌∷◌, ◌++◌, length, Option, None, Some, option_map, Result, Ok, Err}
+use Rattle.std.specs.Io.KnownBytes.{Appends}
+use Rattle.dvg_words.specs.Memory.{Rom, rom_of, IsRomLength}
+use Rattle.dvg_words.specs.Values.{Window}
+use Rattle.dvg_words.specs.declared.image.ImageFault.TheVariants.{RomLength}
+use Rattle.dvg_cert.specs.Devices.{AppendsPrefix, TakesOneWrite}
+use Rattle.dvg_cert.specs.Order.{Certificate}
+use Rattle.dvg_cert.specs.declared.fault.CertFault.{CertFault}
+use Rattle.dvg_check.specs.FirstFault.{FirstShapeFault}
+use Rattle.dvg_check.specs.Judged.{Shapes}
+use Rattle.dvg_check.specs.declared.fault.Mode.TheVariants.{Bound, Exact}
+use Rattle.dvg_check.specs.declared.verdict.Refusal.{Refusal}
+use Rattle.dvg_check.specs.declared.verdict.Refusal.TheVariants as refusal
+use Rattle.dvg_check.specs.declared.verdict.Yes.{Yes}
+use Rattle.dvg_make.specs.declared.judging.FrameRefusal.{FrameRefusal}
+use Rattle.dvg_spelling.specs.Outcomes.{plain_outcome}
+use Rattle.dvg_spelling.specs.declared.outcome.FrameOutcome.TheVariants as outcome
+use Rattle.dvg_cmd.specs.Detail.{Detail, IsBehind}
+use Rattle.dvg_cmd.specs.declared.several_frames.NamedFrame.{NamedFrame}
+use Rattle.dvg_cmd.specs.Runs.{Outcome, WritesReport, WritesReportPrefix}
+use Rattle.dvg_cmd.specs.Frames.{FrameAnswer, Unread, FrameOutcome, worse, frame_line, AnswersFrame, IsFrameOutcomeOf, VerdictOver}
+
+-- a frame whose turn it is: its name, and what its reader holds; `None` if it can't be opened
+pub record OpenedFrame : Type 0 where
+  pub name : List ℕ
+  pub held : Option (Option (List ℕ))
+
+abbrev pub opened : {R : Type 0} → (R → Option (List ℕ)) → NamedFrame R → OpenedFrame
+opened remaining frame = record { name = frame.name.now; held = option_map remaining frame.reader }
+
+-- the line of a frame's answer: the name, the answer, the text behind the line, and the outcome
+pub record Line : Type 0 where
+  pub name : List ℕ
+  pub answer : FrameAnswer
+  pub account : List ℕ
+  pub end : FrameOutcome
+
+-- a line and the text behind it
+abbrev pub line_text : Line → List ℕ
+line_text line = frame_line line.name line.answer ++ line.account
+
+-- several of them, one after another
+abbrev pub lines_text : List Line → List ℕ
+lines_text [] = []
+lines_text (line ∷ rest) = line_text line ++ lines_text rest
+
+-- each was written by one write if it fits one
+abbrev pub TakeOneWriteEach : List Line → ℕ → ℕ → Type 0
+TakeOneWriteEach [] old new = new ≡ old
+TakeOneWriteEach (line ∷ rest) old new = (next : ℕ) × TakesOneWrite (line_text line) old next × TakeOneWriteEach rest next new
+
+-- the worst of an outcome and those of lines
+abbrev pub worst_of : FrameOutcome → List Line → FrameOutcome
+worst_of end [] = end
+worst_of end (line ∷ rest) = worst_of (worse end line.end) rest
+
+module _ (IsVerdict : List ℕ → Result Yes FrameRefusal → Type 0) (rom : Rom) (w : Window) (IsExact : Type 0) (detail : Detail)
+    (start : Option ℕ) where
+  -- the answer to a frame: `Unread` if it can't be opened, else the answer to what its reader held
+  abbrev pub AnswersOpened : Option (Option (List ℕ)) → FrameAnswer → Type 0
+  AnswersOpened None answer = answer ≡ Unread
+  AnswersOpened (Some reader) answer = (left : Option (List ℕ)) × AnswersFrame IsVerdict rom w IsExact start reader left answer
+
+  pub record IsLineOf (frame : OpenedFrame) (line : Line) : Type 0 where
+    pub name_is : line.name ≡ frame.name
+    pub answers : AnswersOpened frame.held line.answer
+    pub behind : IsBehind detail line.account
+    pub outcome_is : IsFrameOutcomeOf line.answer line.account line.end
+
+  -- a line for each frame, in the order of the frames
+  abbrev pub AreLinesOf : List OpenedFrame → List Line → Type 0
+  AreLinesOf [] [] = Unit {0}
+  AreLinesOf (frame ∷ frames) (line ∷ lines) = IsLineOf frame line × AreLinesOf frames lines
+  AreLinesOf frames lines = ⊥
+
+  -- a line for each of these frames was written, and nothing else; the outcome is the worst of them
+  pub record ReportsFrames
+      (frames : List OpenedFrame) (old new : Option (List ℕ)) (writes writes_after : ℕ) (end : FrameOutcome) : Type 0 where
+    pub lines : List Line
+    pub lines_of : AreLinesOf frames lines
+    pub written : Appends old new (lines_text lines)
+    pub one_write : TakeOneWriteEach lines writes writes_after
+    pub outcome_is : end ≡ worst_of outcome.Accepted lines
+
+  -- a prefix of the lines of these frames was written, and nothing else
+  pub record ReportsFramesPrefix (frames : List OpenedFrame) (old new : Option (List ℕ)) : Type 0 where
+    pub lines : List Line
+    pub lines_of : AreLinesOf frames lines
+    pub written : AppendsPrefix old new (lines_text lines)
+
+-- ---- by a given certificate
+
+-- what a certificate is refused with over the bytes of a ROM, with counts as bounds: 1 if the ROM's length is not that of its map;
+-- else that memory was out for the index, or the first fault of its shapes
+abbrev pub RefusesShapes : Window → List ℕ → Certificate → Refusal → Type 0
+RefusesShapes w rom c (refusal.Image RomLength) = IsRomLength c.map (length rom) → ⊥
+RefusesShapes w rom c refusal.IndexMemory = IsRomLength c.map (length rom)
+RefusesShapes w rom c (refusal.Shape f) =
+    IsRomLength c.map (length rom) × FirstShapeFault Bound w (rom_of c.map rom) c.entries f
+RefusesShapes w rom c r = ⊥
+
+-- a text was refused as no certificate
+abbrev pub IsCertRefusal : Refusal → Type 0
+IsCertRefusal (refusal.Cert f) = Unit {0}
+IsCertRefusal r = ⊥
+
+-- a refusal for which no frame is opened: of the text of a certificate, or of the certificate over the bytes of a ROM
+abbrev pub RefusesAll : Window → List ℕ → Result Certificate CertFault → Refusal → Type 0
+RefusesAll w rom (Err f) r = r ≡ refusal.Cert f
+RefusesAll w rom (Ok c) r = RefusesShapes w rom c r
+
+-- its report was written, and nothing else
+pub record ReportsRefusal
+    (detail : Detail) (w : Window) (rom : List ℕ) (cert : Result Certificate CertFault) (old new : Option (List ℕ))
+    (writes writes_after : ℕ) (end : FrameOutcome) : Type 0 where
+  pub refused : Refusal
+  pub refuses : RefusesAll w rom cert refused
+  pub plain : Outcome
+  pub report : WritesReport detail (Err refused) old new writes writes_after plain
+  pub outcome_is : end ≡ plain_outcome plain
+
+-- a prefix of its report was written
+pub record ReportsRefusalPrefix
+    (detail : Detail) (w : Window) (rom : List ℕ) (cert : Result Certificate CertFault) (old new : Option (List ℕ)) : Type 0 where
+  pub refused : Refusal
+  pub refuses : RefusesAll w rom cert refused
+  pub report : WritesReportPrefix detail (Err refused) old new
+
+-- the shapes of a certificate over the bytes of a ROM, with counts as bounds
+abbrev pub shapes_of : Window → List ℕ → Certificate → Shapes
+shapes_of w rom c = record { rom = rom_of c.map rom; list = c.entries; window = w; mode = Bound }
+
+-- the lines of frames that are judged over judged shapes, with this count of shapes
+abbrev pub ReportsOver : Shapes → ℕ → ℕ → Detail → Option ℕ → List OpenedFrame → Option (List ℕ) → Option (List ℕ) → ℕ → ℕ → FrameOutcome → Type 0
+ReportsOver shapes count budget =
+    ReportsFrames (λ bytes. VerdictOver shapes count bytes budget) shapes.rom shapes.window (shapes.mode ≡ Exact)
+
+abbrev pub ReportsOverPrefix : Shapes → ℕ → ℕ → Detail → Option ℕ → List OpenedFrame → Option (List ℕ) → Option (List ℕ) → Type 0
+ReportsOverPrefix shapes count budget =
+    ReportsFramesPrefix (λ bytes. VerdictOver shapes count bytes budget) shapes.rom shapes.window (shapes.mode ≡ Exact)

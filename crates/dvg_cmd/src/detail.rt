@@ -1,0 +1,54 @@
+//! What a run writes of an answer: its line, or its line and an account of it.
+
+ghost use Rattle.std.specs.Prelude.{◌≡◌, string_bytes};
+ghost use Rattle.dvg_cmd.specs.Detail.{behind_text};
+ghost use Rattle.dvg_cmd.specs.Explaining.{account_text};
+
+use std::alloc::AllocError;
+
+/// What a run writes of an answer.
+#[derive(Clone, Copy, Debug, PartialEq, Eq)]
+pub enum Detail {
+    /// Its line.
+    Line,
+    /// Its line, and an account of the answer behind it (docs/RULES.md). If there is no memory for the account, the run writes
+    /// `account: out of memory` in its place, and its outcome says so.
+    Account,
+}
+
+/// What is written in the place of an account for which there was no memory.
+pub const NO_ACCOUNT: &str = "account: out of memory\n";
+
+/// What is written behind the line of an answer.
+#[derive(Drop)]
+pub enum Behind {
+    /// Nothing: the line alone was asked for.
+    Nothing,
+    /// An account.
+    Account(String),
+    /// That there was no memory for the account.
+    NoMemory,
+}
+
+impl Behind {
+    /// This account, or that there was no memory for it.
+    pub fn of(account: Result<String, AllocError>) -> Behind
+        ensures { behind_text result ≡ account_text string_bytes account }
+    {
+        match account {
+            Ok(text) => Behind::Account(text),
+            Err(_) => Behind::NoMemory,
+        }
+    }
+
+    /// The text.
+    pub fn text(&self) -> &str
+        ensures { result.now ≡ behind_text self.now }
+    {
+        match self {
+            Behind::Nothing => "",
+            Behind::Account(text) => text.as_str(),
+            Behind::NoMemory => NO_ACCOUNT,
+        }
+    }
+}

@@ -1,0 +1,264 @@
+//! By which certificate a frame is judged: by its own, which is made for it, or by a given one, whose shapes were judged.
+
+ghost use Rattle.std.specs.Prelude.{◌≡◌, ℕ, List, Result, length, Err, IfOk, IfErr};
+ghost use Rattle.dvg_words.specs.Memory.{Rom, IsRomLength, IsFrameLength, rom_of, words_of};
+ghost use Rattle.dvg_words.specs.Values.{Window as Places};
+ghost use Rattle.dvg_check.specs.Safety.{Safe, CountsAtHalt};
+ghost use Rattle.dvg_check.specs.declared.fault.Mode.TheVariants.{Exact};
+ghost use Rattle.dvg_check.specs.declared.verdict.Yes.{Yes as Counts};
+ghost use Rattle.dvg_make.specs.declared.judging.FrameRefusal.{FrameRefusal as Refused};
+ghost use Rattle.dvg_make.specs.declared.judging.FrameRefusal.TheVariants.{Check};
+ghost use Rattle.dvg_cmd.specs.Detail.{IsBehind, behind_text};
+ghost use Rattle.dvg_cmd.specs.Frames.{VerdictOnBytes, VerdictOver};
+ghost use Rattle.dvg_cmd.specs.Private.Judging.{AreImages};
+
+use crate::detail::{Behind, Detail};
+use dvg_account::{Inputs, OwnMaking, frame_text, own_text};
+use dvg_cert::{Cert, Entries};
+use dvg_check::{JudgedShapes, Mode, Refusal, Yes, frame_of};
+use dvg_explain::{RomAccount, explain_frame};
+use dvg_make::{FrameRefusal, explain_judging, judge};
+use dvg_words::{FrameImage, RomImage, RomMap, Window};
+use std::alloc::Global;
+
+/// A judge of frames over a vector ROM.
+pub trait FrameJudge {
+    /// What must hold of it before it judges.
+    ghost valid: { Self → Type 0 };
+
+    /// What is a verdict on the bytes of a frame.
+    ghost is_verdict: { Self → List ℕ → Result Counts Refused → Type 0 };
+
+    /// The ROM that frames call.
+    ghost rom: { Self → Rom };
+
+    /// The part of the screen that may be lit.
+    ghost window: { Self → Places };
+
+    /// The counts of what is accepted are exact.
+    ghost is_exact: { Self → Type 0 };
+
+    /// The verdict on the bytes of a frame, and what the detail asks for behind its line.
+    fn verdict(
+        &self,
+        alloc: Global,
+        frame: &[u8],
+        detail: Detail,
+    ) -> (Result<Yes, FrameRefusal>, Behind)
+        requires { valid self.now }
+        ensures verdict { is_verdict self.now frame.now result.0 }
+        ensures behind { IsBehind detail (behind_text result.1) }
+        ensures whole { IfOk result.0 (λ yes. IsFrameLength (length frame.now)) }
+        ensures safe { IfOk result.0 (λ yes. Safe (record { frame = words_of frame.now; rom = rom self.now }) (window self.now) yes.words yes.depth) }
+        ensures exact { is_exact self.now → IfOk result.0 (λ yes. CountsAtHalt (record { frame = words_of frame.now; rom = rom self.now }) yes.words yes.depth) };
+}
+
+/// The judge of each frame by its own certificate, as [`judge`] judges.
+#[derive(Clone, Copy)]
+pub struct OwnCertificates<'a> {
+    /// The bytes of the ROM.
+    pub rom: &'a [u8],
+    /// Where the ROM lies.
+    pub map: RomMap,
+    /// How many words a frame may take at most.
+    pub budget: u32,
+    /// The part of the screen that may be lit.
+    pub window: Window,
+}
+
+impl<'a> FrameJudge for OwnCertificates<'a> {
+    ghost valid = { λ _. Unit {0} };
+
+    ghost is_verdict = { λ own bytes verdict. VerdictOnBytes own.rom.now own.map bytes own.budget own.window verdict };
+
+    ghost rom = { λ own. rom_of own.map own.rom.now };
+
+    ghost window = { λ own. own.window };
+
+    ghost is_exact = { λ _. Unit {0} };
+
+    fn verdict(
+        &self,
+        alloc: Global,
+        frame: &[u8],
+        detail: Detail,
+    ) -> (Result<Yes, FrameRefusal>, Behind) {
+        match detail {
+            Detail::Line => (verdict_by_own(alloc, self, frame), Behind::Nothing),
+            Detail::Account => explain_by_own(alloc, self, frame),
+        }
+    }
+}
+
+/// The frame and the ROM of these bytes: answers the first that applies of 2, 49 and 1.
+fn images_for<'a>(
+    rom: &'a [u8],
+    map: RomMap,
+    frame: &'a [u8],
+    budget: u32,
+) -> Result<(FrameImage<'a>, RomImage<'a>), Refusal>
+    ensures ok { IfOk result (λ images. AreImages rom.now map frame.now budget images.0 images.1) }
+    ensures err { IfErr result (λ refusal. (w : Places) → VerdictOnBytes rom.now map frame.now budget w (Err (Check refusal))) }
+{
+    let frame = frame_of(frame, budget)?;
+    Ok((frame, RomImage::from_bytes(rom, map)?))
+}
+
+/// The verdict on the bytes of a frame by its own certificate: the first that applies of 2, 49 and 1, else that of [`judge`].
+fn verdict_by_own(alloc: Global, own: &OwnCertificates, frame: &[u8]) -> Result<Yes, FrameRefusal>
+    ensures { VerdictOnBytes own.now.rom.now own.now.map frame.now own.now.budget own.now.window result }
+{
+    match images_for(own.rom, own.map, frame, own.budget) {
+        Ok((frame, rom)) => judge(alloc, &rom, &frame, own.budget, own.window),
+        Err(refusal) => Err(FrameRefusal::Check(refusal)),
+    }
+}
+
+/// The same verdict, and the certificate that it is by, or why none is made.
+fn judge_own(
+    alloc: Global,
+    own: &OwnCertificates,
+    frame: &[u8],
+) -> (Result<Yes, FrameRefusal>, OwnMaking)
+    ensures { VerdictOnBytes own.now.rom.now own.now.map frame.now own.now.budget own.now.window result.0 }
+{
+    match images_for(own.rom, own.map, frame, own.budget) {
+        Ok((frame, rom)) => {
+            let judged = explain_judging(alloc, &rom, &frame, own.budget, own.window);
+            (judged.verdict, OwnMaking::of(alloc, &rom, judged.made))
+        }
+        Err(refusal) => (Err(FrameRefusal::Check(refusal)), OwnMaking::unasked()),
+    }
+}
+
+/// The same verdict, and the account of it.
+fn explain_by_own(
+    alloc: Global,
+    own: &OwnCertificates,
+    frame: &[u8],
+) -> (Result<Yes, FrameRefusal>, Behind)
+    ensures { VerdictOnBytes own.now.rom.now own.now.map frame.now own.now.budget own.now.window result.0 }
+{
+    let (verdict, making) = judge_own(alloc, own, frame);
+    let account = own_text(
+        alloc, own.rom, own.map, frame, own.budget, own.window, &verdict, making,
+    );
+    (verdict, Behind::of(account))
+}
+
+/// The judge of frames over judged shapes: the shapes of a certificate over the bytes of a ROM.
+#[derive(Drop)]
+pub struct GivenCertificate<'a, E: Entries> {
+    /// The bytes of the ROM.
+    pub rom: &'a [u8],
+    pub cert: &'a Cert,
+    pub shapes: &'a JudgedShapes<'a, E>,
+    /// The mode in which the shapes were judged.
+    pub mode: Mode,
+    /// How many words a frame may take at most.
+    pub budget: u32,
+}
+
+impl<'a, E: Entries> GivenCertificate<'a, E> {
+    /// The judge over these shapes, which were judged in this mode by the certificate over the bytes of the ROM.
+    pub fn new(
+        rom: &'a [u8],
+        cert: &'a Cert,
+        shapes: &'a JudgedShapes<'a, E>,
+        mode: Mode,
+        budget: u32,
+    ) -> GivenCertificate<'a, E>
+        requires rom_length { IsRomLength cert.now.map (length rom.now) }
+        requires rom { shapes.now.rom ≡ rom_of cert.now.map rom.now }
+        requires entries { shapes.now.list ≡ cert.now.entries }
+        requires mode { shapes.now.mode ≡ mode }
+        ensures { result ≡ record { rom = rom.entry; cert = cert.entry; shapes = shapes.entry; mode = mode; budget = budget } }
+    {
+        GivenCertificate {
+            rom,
+            cert,
+            shapes,
+            mode,
+            budget,
+        }
+    }
+}
+
+impl<'a, E: Entries> FrameJudge for GivenCertificate<'a, E> {
+    ghost valid = { λ given. IsRomLength given.cert.now.map (length given.rom.now) × (given.shapes.now.rom ≡ rom_of given.cert.now.map given.rom.now) × (given.shapes.now.list ≡ given.cert.now.entries) × (given.shapes.now.mode ≡ given.mode) };
+
+    ghost is_verdict = { λ given bytes verdict. VerdictOver given.shapes.now (length given.cert.now.entries) bytes given.budget verdict };
+
+    ghost rom = { λ given. given.shapes.now.rom };
+
+    ghost window = { λ given. given.shapes.now.window };
+
+    ghost is_exact = { λ given. given.shapes.now.mode ≡ Exact };
+
+    fn verdict(
+        &self,
+        alloc: Global,
+        frame: &[u8],
+        detail: Detail,
+    ) -> (Result<Yes, FrameRefusal>, Behind) {
+        let (verdict, cause) = verdict_over(self.shapes, self.cert, frame, self.budget);
+        let behind = match detail {
+            Detail::Line => Behind::Nothing,
+            Detail::Account => account_over(alloc, self, frame, &verdict, cause.as_ref()),
+        };
+        (verdict, behind)
+    }
+}
+
+/// The verdict on the bytes of a frame over the judged shapes of this certificate: the first that applies of 2, 49, the frame's
+/// first fault, and the yes; and the cause of that fault.
+fn verdict_over<E: Entries>(
+    shapes: &JudgedShapes<E>,
+    cert: &Cert,
+    frame: &[u8],
+    budget: u32,
+) -> (Result<Yes, FrameRefusal>, Option<RomAccount>)
+    ensures { VerdictOver shapes.now (length cert.now.entries) frame.now budget result.0 }
+{
+    let frame = match frame_of(frame, budget) {
+        Ok(frame) => frame,
+        Err(refusal) => return (Err(FrameRefusal::Check(refusal)), None),
+    };
+    match explain_frame(shapes, &frame, budget) {
+        Ok(accepted) => {
+            let yes = Yes {
+                shapes: cert.entries().len() as u32,
+                words: accepted.words,
+                depth: accepted.depth,
+            };
+            (Ok(yes), None)
+        }
+        Err(account) => {
+            let refusal = Refusal::Frame(account.finding.fault);
+            (
+                Err(FrameRefusal::Check(refusal)),
+                Some(RomAccount::Frame(account)),
+            )
+        }
+    }
+}
+
+/// The account of this verdict on the bytes of a frame over judged shapes.
+fn account_over<E: Entries>(
+    alloc: Global,
+    given: &GivenCertificate<E>,
+    frame: &[u8],
+    verdict: &Result<Yes, FrameRefusal>,
+    cause: Option<&RomAccount>,
+) -> Behind {
+    let inputs = Inputs {
+        rom: given.rom,
+        map: Some(given.cert.map()),
+        cert: Some(given.cert),
+        frame,
+        budget: given.budget,
+        window: given.shapes.window(),
+        mode: given.mode,
+    };
+    Behind::of(frame_text(alloc, &inputs, verdict, cause))
+}

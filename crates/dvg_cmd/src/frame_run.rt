@@ -1,0 +1,150 @@
+//! Running a judge of frames on one frame, over a reader and a writer.
+
+ghost use Rattle.std.specs.Prelude.{◌≡◌, Bool, IfOk, IfErr, OnOk, OnErr, Ok, Err, is_err};
+ghost use Rattle.dvg_cert.specs.Devices.{count_after};
+ghost use Rattle.dvg_cmd.specs.Detail.{IsBehind, behind_text};
+ghost use Rattle.dvg_cmd.specs.Runs.{MOST_FRAME_READ, IsReadTo};
+ghost use Rattle.dvg_cmd.specs.Frames.{ReadsFrame, AnswersFrame, ReportsFrame, ReportsFramePrefix, WritesAnswer, WritesAnswerPrefix, is_unread, is_unread_outcome};
+ghost use Rattle.dvg_cmd.specs.SafeFrames.{ReportsFrameSafe, ReportsFrameCounts};
+
+use crate::detail::{Behind, Detail};
+use crate::frame_judge::FrameJudge;
+use crate::reading::read_frame;
+use crate::start::start_at;
+use arrayvec::ArrayVec;
+use dvg_account::{PlainWhy, plain_text};
+use dvg_cert::{CountedRead, CountedWrite, write_lines};
+use dvg_spelling::{FrameAnswer, FrameOutcome, RunFault, frame_outcome_of, frame_report_of};
+use std::alloc::Global;
+use std::io;
+
+/// The bytes of a frame, up to one past its limit, with the jump to its start in place of word 000, if one is given.
+fn read_started<R: CountedRead>(frame: &mut R, start: Option<u16>) -> io::Result<ArrayVec<u8, 2049>>
+    ensures bytes { IfOk result (λ image. ReadsFrame (R.remaining frame.old) start image.items) }
+    ensures read { OnOk result (IsReadTo MOST_FRAME_READ (R.remaining frame.old) (R.remaining frame.new)) }
+    ensures count { R.failures frame.new ≡ count_after (is_err result) (R.failures frame.old) }
+{
+    let mut bytes = read_frame(frame)?;
+    start_at(bytes.as_mut_slice(), start);
+    Ok(bytes)
+}
+
+/// What the detail asks for behind the line of a frame that can't be opened or read.
+fn unread_account(alloc: Global, detail: Detail) -> Behind
+    ensures { IsBehind detail (behind_text result) }
+{
+    match detail {
+        Detail::Line => Behind::Nothing,
+        Detail::Account => Behind::of(plain_text(alloc, 71, PlainWhy::Nothing)),
+    }
+}
+
+/// Reads a frame and judges it: the answer, and what the detail asks for behind its line.
+fn answer_of<J: FrameJudge, R: CountedRead>(
+    alloc: Global,
+    judge: &J,
+    start: Option<u16>,
+    frame: &mut R,
+    detail: Detail,
+) -> (FrameAnswer, Behind)
+    requires { J.valid judge.now }
+    ensures answers { AnswersFrame (J.is_verdict judge.now) (J.rom judge.now) (J.window judge.now) (J.is_exact judge.now)
+        start (R.remaining frame.old) (R.remaining frame.new) result.0 }
+    ensures behind { IsBehind detail (behind_text result.1) }
+    ensures count { R.failures frame.new ≡ count_after (is_unread result.0) (R.failures frame.old) }
+{
+    match read_started(frame, start) {
+        Ok(bytes) => {
+            let (verdict, behind) = judge.verdict(alloc, bytes.as_slice(), detail);
+            (FrameAnswer::Judged(verdict), behind)
+        }
+        Err(_) => (FrameAnswer::Unread, unread_account(alloc, detail)),
+    }
+}
+
+/// Writes the line of an answer, and a text behind it.
+fn write_answer<W: CountedWrite>(
+    name: &str,
+    answer: &FrameAnswer,
+    behind: &Behind,
+    out: &mut W,
+) -> Result<FrameOutcome, RunFault>
+    ensures ok { (detail : Detail) → IsBehind detail (behind_text behind.now) → IfOk result (WritesAnswer detail name.now answer.now
+        (W.contents out.old) (W.contents out.new) (W.whole_writes out.old) (W.whole_writes out.new)) }
+    ensures prefix { (detail : Detail) → IsBehind detail (behind_text behind.now)
+        → OnErr result (WritesAnswerPrefix detail name.now answer.now (W.contents out.old) (W.contents out.new)) }
+    ensures unread { IfOk result (λ outcome. is_unread_outcome outcome ≡ is_unread answer.now) }
+    ensures fault { IfErr result (λ fault. fault ≡ RunFault.Write) }
+    ensures count { W.failures out.new ≡ count_after (is_err result) (W.failures out.old) }
+{
+    let report = frame_report_of(answer);
+    let text = behind.text();
+    write_lines(name.as_bytes(), report.as_bytes(), text.as_bytes(), out)?;
+    let outcome = frame_outcome_of(answer);
+    match behind {
+        Behind::Nothing | Behind::Account(_) => Ok(outcome),
+        Behind::NoMemory => Ok(outcome.or_worse(FrameOutcome::NoMemory)),
+    }
+}
+
+/// Reads a frame, judges it, and writes its line: the name, which has no control characters, a colon, a space, and the report; and
+/// an account of the answer behind it if the detail asks for one.
+///
+/// With a start, which is below 1000 hexadecimal, the frame is judged as though its word 000 were the jump there. The frame is
+/// read to its end, or to one byte past its limit, and nothing is tried again. A frame that can't be read has a line, too; the
+/// only fault is 73, if the writer failed, and then a prefix of the line and of the account was written.
+pub fn run_frame<J: FrameJudge, R: CountedRead, W: CountedWrite>(
+    alloc: Global,
+    judge: &J,
+    start: Option<u16>,
+    name: &str,
+    frame: &mut R,
+    detail: Detail,
+    out: &mut W,
+) -> Result<FrameOutcome, RunFault>
+    requires { J.valid judge.now }
+
+    // The line of an answer is written, or a prefix of it if the writer failed, which alone ends a run.
+    ensures report { IfOk result (ReportsFrame (J.is_verdict judge.now) (J.rom judge.now) (J.window judge.now) (J.is_exact judge.now)
+        detail start name.now (R.remaining frame.old) (R.remaining frame.new) (W.contents out.old) (W.contents out.new)
+        (W.whole_writes out.old) (W.whole_writes out.new)) }
+    ensures prefix { OnErr result (ReportsFramePrefix (J.is_verdict judge.now) (J.rom judge.now) (J.window judge.now) (J.is_exact judge.now)
+        detail start name.now (R.remaining frame.old) (R.remaining frame.new) (W.contents out.old) (W.contents out.new)) }
+
+    // What is accepted is safe, with the counts of the line that was written, and if these are exact, they are those of each run.
+    ensures safe { result ≡ Ok FrameOutcome.Accepted → ReportsFrameSafe detail (J.rom judge.now) (J.window judge.now) start name.now
+        (R.remaining frame.old) (W.contents out.old) (W.contents out.new) }
+    ensures exact { J.is_exact judge.now → result ≡ Ok FrameOutcome.Accepted → ReportsFrameCounts detail (J.rom judge.now) start name.now
+        (R.remaining frame.old) (W.contents out.old) (W.contents out.new) }
+    ensures fault { IfErr result (λ fault. fault ≡ RunFault.Write) }
+
+    // The frame's count rises by one if it could not be read, and by no more if the run ends; the writer's rises there.
+    ensures frame_count { IfOk result (λ outcome. R.failures frame.new ≡ count_after (is_unread_outcome outcome) (R.failures frame.old)) }
+    ensures frame_once { (failed : Bool) × (R.failures frame.new ≡ count_after failed (R.failures frame.old)) }
+    ensures out_count { W.failures out.new ≡ count_after (is_err result) (W.failures out.old) }
+{
+    let (answer, behind) = answer_of(alloc, judge, start, frame, detail);
+    write_answer(name, &answer, &behind, out)
+}
+
+/// Writes the line of a frame that can't be opened, and an account of it if the detail asks for one.
+pub fn run_unopened<W: CountedWrite>(
+    alloc: Global,
+    name: &str,
+    detail: Detail,
+    out: &mut W,
+) -> Result<FrameOutcome, RunFault>
+    ensures ok { IfOk result (WritesAnswer detail name.now FrameAnswer.Unread (W.contents out.old) (W.contents out.new)
+        (W.whole_writes out.old) (W.whole_writes out.new)) }
+    ensures prefix { OnErr result (WritesAnswerPrefix detail name.now FrameAnswer.Unread (W.contents out.old) (W.contents out.new)) }
+    ensures unread { IfOk result (λ outcome. outcome ≡ FrameOutcome.Unread) }
+    ensures fault { IfErr result (λ fault. fault ≡ RunFault.Write) }
+    ensures count { W.failures out.new ≡ count_after (is_err result) (W.failures out.old) }
+{
+    write_answer(
+        name,
+        &FrameAnswer::Unread,
+        &unread_account(alloc, detail),
+        out,
+    )
+}

@@ -1,0 +1,284 @@
+//! Running a judge of frames on several frames, one after another.
+
+ghost use Rattle.std.specs.Prelude.{◌≡◌, ◌⊎◌, List, length, Ok, Err, IfOk, IfErr, IfSome, IfNone, OnErr, is_err};
+ghost use Rattle.std.specs.Iterator.{Drains, Yields, IsFinite};
+ghost use Rattle.dvg_words.specs.Memory.{IsRomLength};
+ghost use Rattle.dvg_cert.specs.Devices.{count_after};
+ghost use Rattle.dvg_spelling.specs.Each.{of_each};
+ghost use Rattle.dvg_spelling.specs.Outcomes.{plain_outcome};
+ghost use Rattle.dvg_spelling.specs.declared.outcome.Outcome.{Outcome as Plain};
+ghost use Rattle.dvg_cmd.specs.Detail.{IsBehind, behind_text};
+ghost use Rattle.dvg_cmd.specs.Runs.{WritesReport, WritesReportPrefix};
+ghost use Rattle.dvg_cmd.specs.SeveralFrames.{opened, ReportsFrames, ReportsFramesPrefix, ReportsOver, ReportsOverPrefix, ReportsRefusal, ReportsRefusalPrefix, RefusesShapes, IsCertRefusal, shapes_of};
+ghost use Rattle.dvg_cmd.specs.Private.Named.{WritesLineOf, WritesLineOfPrefix};
+
+use crate::detail::{Behind, Detail};
+use crate::frame_judge::{FrameJudge, GivenCertificate};
+use crate::frame_run::{run_frame, run_unopened};
+use crate::running::write_report;
+use dvg_account::{Inputs, refusal_text};
+use dvg_cert::{Cert, CertFault, CountedRead, CountedWrite, HashIndex};
+use dvg_check::{JudgedShapes, Mode, Refusal};
+use dvg_spelling::{FrameOutcome, RunFault};
+use dvg_words::{RomImage, Window};
+use std::alloc::Global;
+
+/// A frame whose turn it is.
+#[derive(Drop)]
+pub struct NamedFrame<'a, R> {
+    /// The name in the frame's line, which has no control characters.
+    pub name: &'a str,
+    /// The reader of the frame, or `None` if the frame can't be opened.
+    pub reader: Option<R>,
+}
+
+/// What is asked of frames.
+#[derive(Clone, Copy)]
+pub struct FrameOptions {
+    /// The word address at which each frame starts, if not at word 000.
+    pub start: Option<u16>,
+    /// How many words a frame may take at most.
+    pub budget: u32,
+    /// The part of the screen that may be lit.
+    pub window: Window,
+}
+
+/// Judges a frame whose turn it is, and writes its line.
+fn run_named<J: FrameJudge, R: CountedRead + Drop, W: CountedWrite>(
+    alloc: Global,
+    judge: &J,
+    start: Option<u16>,
+    frame: NamedFrame<'_, R>,
+    detail: Detail,
+    out: &mut W,
+) -> Result<FrameOutcome, RunFault>
+    requires { J.valid judge.now }
+    ensures ok { IfOk result (WritesLineOf (J.is_verdict judge.now) (J.rom judge.now) (J.window judge.now) (J.is_exact judge.now) detail start
+        (opened (λ reader. R.remaining reader) frame.entry) (W.contents out.old) (W.contents out.new) (W.whole_writes out.old) (W.whole_writes out.new)) }
+    ensures prefix { OnErr result (WritesLineOfPrefix (J.is_verdict judge.now) (J.rom judge.now) (J.window judge.now) (J.is_exact judge.now) detail start
+        (opened (λ reader. R.remaining reader) frame.entry) (W.contents out.old) (W.contents out.new)) }
+    ensures fault { IfErr result (λ fault. fault ≡ RunFault.Write) }
+    ensures count { W.failures out.new ≡ count_after (is_err result) (W.failures out.old) }
+{
+    let NamedFrame { name, reader } = frame;
+    match reader {
+        Some(mut reader) => run_frame(alloc, judge, start, name, &mut reader, detail, out),
+        None => run_unopened(alloc, name, detail, out),
+    }
+}
+
+/// Judges frames, one after another, and writes a line for each, as [`run_frame`] does; answers the worst outcome.
+///
+/// The next frame is taken once the line of the one before it is written. The only fault is 73, if the writer failed, and then
+/// a prefix of the lines was written.
+pub fn run_frames<
+    'a,
+    J: FrameJudge,
+    R: CountedRead + Drop,
+    I: Iterator<Item = NamedFrame<'a, R>> + Drop,
+    W: CountedWrite,
+>(
+    alloc: Global,
+    judge: &J,
+    start: Option<u16>,
+    frames: I,
+    detail: Detail,
+    out: &mut W,
+) -> Result<FrameOutcome, RunFault>
+    requires valid { J.valid judge.now }
+    requires can { I.can_next frames }
+    requires ends { IsFinite (I.remaining frames) }
+
+    // A line is written for each frame, in their order, each by one write if it fits one.
+    ensures report { IfOk result (λ end. (taken : List _) × Drains I.next_gives frames taken × ReportsFrames (J.is_verdict judge.now) (J.rom judge.now) (J.window judge.now) (J.is_exact judge.now) detail start
+        (of_each (λ frame. opened (λ reader. R.remaining reader) frame) taken) (W.contents out.old) (W.contents out.new) (W.whole_writes out.old) (W.whole_writes out.new) end) }
+
+    // Where the writer failed, a prefix of the lines of the frames that were taken.
+    ensures prefix { OnErr result ((taken : List _) × (left : I) × Yields I.next_gives frames taken left × ReportsFramesPrefix (J.is_verdict judge.now) (J.rom judge.now) (J.window judge.now) (J.is_exact judge.now) detail start
+        (of_each (λ frame. opened (λ reader. R.remaining reader) frame) taken) (W.contents out.old) (W.contents out.new)) }
+    ensures fault { IfErr result (λ fault. fault ≡ RunFault.Write) }
+    ensures count { W.failures out.new ≡ count_after (is_err result) (W.failures out.old) }
+{
+    let mut worst = FrameOutcome::Accepted;
+    for frame in frames {
+        worst = worst.or_worse(run_named(alloc, judge, start, frame, detail, out)?);
+    }
+    Ok(worst)
+}
+
+/// Judges the shapes of a certificate over the bytes of a ROM, with counts as bounds, and then the frames over them. A refusal comes
+/// before any frame is taken, and nothing was written then.
+fn run_frames_over<
+    'a,
+    R: CountedRead + Drop,
+    I: Iterator<Item = NamedFrame<'a, R>> + Drop,
+    W: CountedWrite,
+>(
+    alloc: Global,
+    rom: &[u8],
+    cert: &Cert,
+    options: &FrameOptions,
+    frames: I,
+    detail: Detail,
+    out: &mut W,
+) -> Result<Result<FrameOutcome, RunFault>, Refusal>
+    requires can { I.can_next frames }
+    requires ends { IsFinite (I.remaining frames) }
+    ensures rom { IfOk result (λ end. IsRomLength cert.now.map (length rom.now)) }
+    ensures report { IfOk result (λ run. IfOk run (λ end. (taken : List _) × Drains I.next_gives frames taken
+        × ReportsOver (shapes_of options.now.window rom.now cert.now) (length cert.now.entries) options.now.budget detail options.now.start
+        (of_each (λ frame. opened (λ reader. R.remaining reader) frame) taken) (W.contents out.old) (W.contents out.new) (W.whole_writes out.old) (W.whole_writes out.new) end)) }
+    ensures prefix { IfOk result (λ run. OnErr run ((taken : List _) × (left : I) × Yields I.next_gives frames taken left
+        × ReportsOverPrefix (shapes_of options.now.window rom.now cert.now) (length cert.now.entries) options.now.budget detail options.now.start
+        (of_each (λ frame. opened (λ reader. R.remaining reader) frame) taken) (W.contents out.old) (W.contents out.new))) }
+    ensures fault { IfOk result (λ run. IfErr run (λ fault. fault ≡ RunFault.Write)) }
+    ensures count { IfOk result (λ run. W.failures out.new ≡ count_after (is_err run) (W.failures out.old)) }
+    ensures refused { IfErr result (RefusesShapes options.now.window rom.now cert.now) }
+    ensures nothing { OnErr result (out.new ≡ out.old) }
+{
+    let image = RomImage::from_bytes(rom, cert.map())?;
+    let entries = HashIndex::new(alloc, cert)?;
+    let mode = Mode::Bound;
+    let shapes = JudgedShapes::judge(&image, cert, &entries, options.window, mode)?;
+    let judge = GivenCertificate::new(rom, cert, &shapes, mode, options.budget);
+    Ok(run_frames(alloc, &judge, options.start, frames, detail, out))
+}
+
+/// What the detail asks for behind the line of a refusal for which no frame was needed.
+fn refusal_account(
+    alloc: Global,
+    rom: &[u8],
+    cert: Option<&Cert>,
+    window: Window,
+    refusal: &Refusal,
+    detail: Detail,
+) -> Behind
+    requires taken { IfSome cert (λ taken. RefusesShapes window rom.now taken.now refusal.now) }
+    requires refused { IfNone cert (IsCertRefusal refusal.now) }
+    ensures { IsBehind detail (behind_text result) }
+{
+    if matches!(detail, Detail::Line) {
+        return Behind::Nothing;
+    }
+    let inputs = Inputs {
+        rom,
+        map: cert.map(|cert| cert.map()),
+        cert,
+        frame: &[],
+        budget: 1,
+        window,
+        mode: Mode::Bound,
+    };
+    Behind::of(refusal_text(alloc, &inputs, refusal))
+}
+
+/// Writes the report of a refusal for which no frame was needed, and an account of it if the detail asks for one.
+fn run_refusal<W: CountedWrite>(
+    alloc: Global,
+    rom: &[u8],
+    cert: Option<&Cert>,
+    window: Window,
+    refusal: &Refusal,
+    detail: Detail,
+    out: &mut W,
+) -> Result<FrameOutcome, RunFault>
+    requires taken { IfSome cert (λ taken. RefusesShapes window rom.now taken.now refusal.now) }
+    requires refused { IfNone cert (IsCertRefusal refusal.now) }
+    ensures ok { IfOk result (λ end. (plain : Plain) × WritesReport detail (Err refusal.now) (W.contents out.old) (W.contents out.new) (W.whole_writes out.old) (W.whole_writes out.new) plain × (end ≡ plain_outcome plain)) }
+    ensures prefix { OnErr result (WritesReportPrefix detail (Err refusal.now) (W.contents out.old) (W.contents out.new)) }
+    ensures fault { IfErr result (λ fault. fault ≡ RunFault.Write) }
+    ensures count { W.failures out.new ≡ count_after (is_err result) (W.failures out.old) }
+{
+    let account = refusal_account(alloc, rom, cert, window, refusal, detail);
+    Ok(write_report(&Err(*refusal), &account, out)?.into())
+}
+
+/// Judges frames by a certificate that was taken, as [`run_frames_given`] does.
+fn run_frames_by<
+    'a,
+    R: CountedRead + Drop,
+    I: Iterator<Item = NamedFrame<'a, R>> + Drop,
+    W: CountedWrite,
+>(
+    alloc: Global,
+    rom: &[u8],
+    cert: &Cert,
+    options: &FrameOptions,
+    frames: I,
+    detail: Detail,
+    out: &mut W,
+) -> Result<FrameOutcome, RunFault>
+    requires can { I.can_next frames }
+    requires ends { IsFinite (I.remaining frames) }
+    ensures report { IfOk result (λ end. ReportsRefusal detail options.now.window rom.now (Ok cert.now) (W.contents out.old) (W.contents out.new) (W.whole_writes out.old) (W.whole_writes out.new) end
+        ⊎ (IsRomLength cert.now.map (length rom.now) × ((taken : List _) × Drains I.next_gives frames taken
+        × ReportsOver (shapes_of options.now.window rom.now cert.now) (length cert.now.entries) options.now.budget detail options.now.start
+        (of_each (λ frame. opened (λ reader. R.remaining reader) frame) taken) (W.contents out.old) (W.contents out.new) (W.whole_writes out.old) (W.whole_writes out.new) end))) }
+    ensures prefix { OnErr result (ReportsRefusalPrefix detail options.now.window rom.now (Ok cert.now) (W.contents out.old) (W.contents out.new)
+        ⊎ (IsRomLength cert.now.map (length rom.now) × ((taken : List _) × (left : I) × Yields I.next_gives frames taken left
+        × ReportsOverPrefix (shapes_of options.now.window rom.now cert.now) (length cert.now.entries) options.now.budget detail options.now.start
+        (of_each (λ frame. opened (λ reader. R.remaining reader) frame) taken) (W.contents out.old) (W.contents out.new)))) }
+    ensures fault { IfErr result (λ fault. fault ≡ RunFault.Write) }
+    ensures count { W.failures out.new ≡ count_after (is_err result) (W.failures out.old) }
+{
+    match run_frames_over(alloc, rom, cert, options, frames, detail, out) {
+        Ok(end) => end,
+        Err(refusal) => {
+            run_refusal(
+                alloc,
+                rom,
+                Some(cert),
+                options.window,
+                &refusal,
+                detail,
+                out,
+            )
+        }
+    }
+}
+
+/// Judges frames by a given certificate, one after another, and writes a line for each, as [`run_frames`] does; or the line of the
+/// refusal of the certificate, of the ROM's length or of a shape, and no frame is taken.
+///
+/// The counts of the certificate are bounds.
+pub fn run_frames_given<
+    'a,
+    R: CountedRead + Drop,
+    I: Iterator<Item = NamedFrame<'a, R>> + Drop,
+    W: CountedWrite,
+>(
+    alloc: Global,
+    rom: &[u8],
+    cert: &Result<Cert, CertFault>,
+    options: &FrameOptions,
+    frames: I,
+    detail: Detail,
+    out: &mut W,
+) -> Result<FrameOutcome, RunFault>
+    requires can { I.can_next frames }
+    requires ends { IsFinite (I.remaining frames) }
+
+    // The report of a refusal is written, or a line for each frame, in their order, each by one write if it fits one.
+    ensures report { IfOk result (λ end. ReportsRefusal detail options.now.window rom.now cert.now (W.contents out.old) (W.contents out.new) (W.whole_writes out.old) (W.whole_writes out.new) end
+        ⊎ IfOk cert.now (λ given. IsRomLength given.map (length rom.now) × ((taken : List _) × Drains I.next_gives frames taken
+        × ReportsOver (shapes_of options.now.window rom.now given) (length given.entries) options.now.budget detail options.now.start
+        (of_each (λ frame. opened (λ reader. R.remaining reader) frame) taken) (W.contents out.old) (W.contents out.new) (W.whole_writes out.old) (W.whole_writes out.new) end))) }
+    // Without a certificate it is the refusal.
+    ensures refused { IfOk result (λ end. IfErr cert.now (λ fault. ReportsRefusal detail options.now.window rom.now cert.now (W.contents out.old) (W.contents out.new) (W.whole_writes out.old) (W.whole_writes out.new) end)) }
+
+    // Where the writer failed, a prefix of them.
+    ensures prefix { OnErr result (ReportsRefusalPrefix detail options.now.window rom.now cert.now (W.contents out.old) (W.contents out.new)
+        ⊎ IfOk cert.now (λ given. IsRomLength given.map (length rom.now) × ((taken : List _) × (left : I) × Yields I.next_gives frames taken left
+        × ReportsOverPrefix (shapes_of options.now.window rom.now given) (length given.entries) options.now.budget detail options.now.start
+        (of_each (λ frame. opened (λ reader. R.remaining reader) frame) taken) (W.contents out.old) (W.contents out.new)))) }
+    ensures fault { IfErr result (λ fault. fault ≡ RunFault.Write) }
+    ensures count { W.failures out.new ≡ count_after (is_err result) (W.failures out.old) }
+{
+    match cert {
+        Ok(given) => run_frames_by(alloc, rom, given, options, frames, detail, out),
+        Err(fault) => {
+            let refusal = Refusal::Cert(*fault);
+            run_refusal(alloc, rom, None, options.window, &refusal, detail, out)
+        }
+    }
+}
