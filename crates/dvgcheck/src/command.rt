@@ -512,7 +512,7 @@ fn check_options<'a>(args: &ArgMatches<'a>) -> Result<CheckOptions, ArgumentFaul
     })
 }
 
-fn check_args<'a>(rt: &HostRuntime, args: &ArgMatches<'a>) -> Result<CheckArgs<'a>, ArgumentFault> {
+fn check_args<'a>(rt: &HostRuntime, args: &ArgMatches<'a>) -> Result<CheckArgs<'a>, Usage> {
     one_standard_input(args, &["ROM", "CERT", "FRAME"])?;
     Ok(CheckArgs {
         rom: file_of(rt, args, "ROM"),
@@ -529,6 +529,14 @@ fn roots_of<'a>(alloc: Global, args: &ArgMatches<'a>) -> Result<Vec<(u16, Key)>,
         roots.push(root_of(root).ok_or(ArgumentFault::Root)?)?;
     }
     Ok(roots)
+}
+
+/// The path of the file for the certificate, or `None` for standard output.
+fn output_of<'a>(args: &ArgMatches<'a>) -> Option<&'a str> {
+    match args.get_str("output") {
+        Some("-") | None => None,
+        Some(path) => Some(path),
+    }
 }
 
 /// The arguments of `make`, whose certificate goes to this path.
@@ -574,10 +582,7 @@ fn request_of<'a>(
     match task {
         Task::Frames => Ok(Request::Frames(frames_args(rt, args)?, Detail::Line)),
         Task::Check => Ok(Request::Check(check_args(rt, args)?, Detail::Line)),
-        Task::Make => {
-            let output = args.get_str("output").filter(|path| *path != "-");
-            Ok(Request::Make(make_args(rt, args, output)?))
-        }
+        Task::Make => Ok(Request::Make(make_args(rt, args, output_of(args))?)),
         Task::Explain => explain_request(rt, args),
         Task::Rules => Ok(Request::Rules(rule_of_args(args)?)),
     }
