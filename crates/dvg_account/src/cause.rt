@@ -1,27 +1,27 @@
-//! A refusal that is judged once more, for its account.
+//! Why something is refused because of an item.
 
-use crate::account::Inputs;
+use crate::inputs::Inputs;
 use dvg_cert::{Cert, HashIndex};
 use dvg_check::{Refusal, frame_of};
 use dvg_explain::{RomAccount, explain_rom, explain_shapes};
 use dvg_words::RomImage;
 use std::alloc::{AllocError, Global};
 
-/// Judges once more what is refused because of an item, for the account of that.
-pub fn tell_again(
+/// The first fault of inputs that are refused because of an item, with its cause. The inputs are judged for it.
+pub fn find_cause(
     alloc: Global,
     inputs: &Inputs,
     refusal: &Refusal,
 ) -> Result<Option<RomAccount>, AllocError> {
     match (refusal, inputs.cert) {
-        (Refusal::Shape(_), Some(cert)) => tell_shapes(alloc, inputs, cert),
-        (Refusal::Frame(_), Some(cert)) => tell_frame(alloc, inputs, cert),
+        (Refusal::Shape(_), Some(cert)) => find_shape_cause(alloc, inputs, cert),
+        (Refusal::Frame(_), Some(cert)) => find_frame_cause(alloc, inputs, cert),
         _ => Ok(None),
     }
 }
 
-/// The account of the first fault of the shapes.
-fn tell_shapes(
+/// The first fault of the shapes.
+fn find_shape_cause(
     alloc: Global,
     inputs: &Inputs,
     cert: &Cert,
@@ -36,8 +36,8 @@ fn tell_shapes(
     }
 }
 
-/// The account of the first fault of the frame.
-fn tell_frame(
+/// The first fault of the frame.
+fn find_frame_cause(
     alloc: Global,
     inputs: &Inputs,
     cert: &Cert,
