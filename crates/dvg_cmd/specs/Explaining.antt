@@ -16,7 +16,8 @@ use Rattle.dvg_check.specs.declared.verdict.Refusal.TheVariants as refusal
 use Rattle.dvg_check.specs.declared.fault.Mode.{Mode}
 use Rattle.dvg_check.specs.declared.fault.Mode.TheVariants.{Bound, Exact}
 use Rattle.dvg_make.specs.declared.judging.FrameRefusal.{FrameRefusal}
-use Rattle.dvg_spelling.specs.Report.{report_text, make_line_text}
+use Rattle.dvg_spelling.specs.Report.{report_text}
+use Rattle.dvg_spelling.specs.Messages.{make_line_text}
 use Rattle.dvg_spelling.specs.Outcomes.{worse}
 use Rattle.dvg_spelling.specs.Faults.{frame_blamed}
 use Rattle.dvg_cmd.specs.MakingFrames.{FramesRunFault, MakesForFrames}

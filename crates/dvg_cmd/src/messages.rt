@@ -3,7 +3,7 @@
 ghost use Rattle.std.specs.Prelude.{◌≡◌, ◌<◌, ◌++◌, codes, length, Err, IfErr, OnOk, OnErr, is_err};
 ghost use Rattle.std.specs.Io.KnownBytes.{Appends};
 ghost use Rattle.dvg_cert.specs.Devices.{AppendsPrefix, TakesOneWrite, count_after};
-ghost use Rattle.dvg_spelling.specs.Status.{frames_message};
+ghost use Rattle.dvg_spelling.specs.Messages.{frames_message};
 
 use dvg_cert::{CountedWrite, write_lines};
 use dvg_spelling::{FramesRunFault, RunFault, make_frames_report_of};

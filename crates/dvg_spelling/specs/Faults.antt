@@ -1,6 +1,8 @@
 -- The numbers of runs that failed. All of it is profile.
 use Rattle.std.specs.Prelude.{ℕ, Option, None, Some}
 use Rattle.dvg_make.specs.Refusals.{fault_number, make_fault_of}
+use Rattle.dvg_make.specs.declared.fault.EntryFault.{EntryFault}
+use Rattle.dvg_make.specs.declared.fault.FrameCall.{FrameCall}
 use Rattle.dvg_spelling.specs.declared.fault.RunFault.{RunFault}
 use Rattle.dvg_spelling.specs.declared.fault.RunFault.TheVariants.{ReadRom, ReadFrame, ReadCert, Write, Memory}
 use Rattle.dvg_spelling.specs.declared.fault.MakeRunFault.{MakeRunFault}

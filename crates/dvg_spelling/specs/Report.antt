@@ -95,14 +95,3 @@ answer_text Unread = codes "cannot read"
 -- the line from behind the frame's name on
 abbrev pub frame_line_text : FrameAnswer → List ℕ
 frame_line_text answer = codes ": " ++ answer_text answer ++ codes "\n"
-
--- ---- what the maker comes to
-
--- how many entries are made, or what `make` says of why none are
-abbrev pub make_answer_text : Result ℕ FramesRunFault → List ℕ
-make_answer_text (Ok entries) = codes "made entries=" ++ decimal entries
-make_answer_text (Err fault) = frames_message fault
-
--- the line, from behind the name of the frame on that is to blame
-abbrev pub make_line_text : Result ℕ FramesRunFault → List ℕ
-make_line_text made = make_answer_text made ++ codes "\n"

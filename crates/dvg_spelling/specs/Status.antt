@@ -1,5 +1,5 @@
--- How the program ends, and what it says on standard error. All of it is profile.
-use Rattle.std.specs.Prelude.{ℕ, List, codes, ◌++◌, Result, Ok, Err}
+-- How the program ends. All of it is profile.
+use Rattle.std.specs.Prelude.{ℕ, Result, Ok, Err}
 use Rattle.dvg_spelling.specs.declared.outcome.Outcome.{Outcome}
 use Rattle.dvg_spelling.specs.declared.outcome.Outcome.TheVariants.{Accepted, Refused, NoMemory}
 use Rattle.dvg_spelling.specs.declared.fault.RunFault.{RunFault}
@@ -12,7 +12,6 @@ use Rattle.dvg_spelling.specs.declared.outcome.FrameOutcome.TheVariants as frame
 use Rattle.dvg_spelling.specs.declared.fault.FramesRunFault.{FramesRunFault}
 use Rattle.dvg_spelling.specs.declared.fault.FramesRunFault.TheVariants as frames
 use Rattle.dvg_make.specs.declared.fault.EntryFault.TheVariants as entry
-use Rattle.dvg_spelling.specs.Report.{hex_address, call_fault_text}
 
 -- the exit status of a run
 abbrev pub exit_status : Result Outcome RunFault → ℕ
@@ -25,14 +24,6 @@ exit_status (Err ReadCert) = 3
 exit_status (Err Write) = 3
 exit_status (Err Memory) = 4
 
--- the line on standard error, without its LF
-abbrev pub fault_message : RunFault → List ℕ
-fault_message ReadRom = codes "dvgcheck: cannot read the ROM"
-fault_message ReadFrame = codes "dvgcheck: cannot read the frame"
-fault_message ReadCert = codes "dvgcheck: cannot read the certificate"
-fault_message Write = codes "dvgcheck: cannot write"
-fault_message Memory = codes "dvgcheck: out of memory"
-
 -- the exit status of a run of the maker
 abbrev pub make_exit_status : Result (Unit {0}) MakeRunFault → ℕ
 make_exit_status (Ok u) = 0
@@ -43,16 +34,6 @@ make_exit_status (Err (maker.Make making.TooLarge)) = 1
 make_exit_status (Err (maker.Make making.Memory)) = 4
 make_exit_status (Err maker.ReadRom) = 3
 make_exit_status (Err maker.Write) = 3
-
--- the line on standard error of a run that made no certificate, without its LF
-abbrev pub make_message : MakeRunFault → List ℕ
-make_message maker.RomLength = codes "refused 1"
-make_message (maker.Make (making.Unstraight word)) = codes "refused 60 at " ++ hex_address word
-make_message (maker.Make making.Deep) = codes "refused 61"
-make_message (maker.Make making.TooLarge) = codes "refused 62"
-make_message (maker.Make making.Memory) = fault_message Memory
-make_message maker.ReadRom = fault_message ReadRom
-make_message maker.Write = fault_message Write
 
 -- the exit status of a run over frames, which ends with the worst outcome
 abbrev pub frames_exit_status : Result FrameOutcome RunFault → ℕ
@@ -65,14 +46,6 @@ frames_exit_status (Err ReadFrame) = 3
 frames_exit_status (Err ReadCert) = 3
 frames_exit_status (Err Write) = 3
 frames_exit_status (Err Memory) = 4
-
--- the line on standard error of a run of the maker for frames that made no certificate, without its LF, from behind the frame's
--- name on where the fault is a frame's
-abbrev pub frames_message : FramesRunFault → List ℕ
-frames_message (frames.Plain f) = make_message f
-frames_message (frames.FrameLength n) = codes ": refused 2"
-frames_message (frames.Call call why) = codes ": " ++ call_fault_text call.at why
-frames_message frames.ReadFrame = fault_message ReadFrame
 
 -- the exit status of a run of the maker for frames
 abbrev pub make_frames_exit_status : Result (Unit {0}) FramesRunFault → ℕ

@@ -2,8 +2,8 @@
 
 ghost use Rattle.std.specs.Prelude.{◌≡◌, ◌+◌, ◌≤◌, ◌<◌, ◌++◌, [], length, codes, decimal};
 ghost use Rattle.dvg_cert.specs.Grammar.{key_token};
-ghost use Rattle.dvg_spelling.specs.Status.{fault_message, make_message, frames_message};
-ghost use Rattle.dvg_spelling.specs.Report.{make_line_text, report_text, verdict_text, accepted_text, refusal_text, cert_fault_text, shape_fault_text, frame_fault_text, hex_digit, hex_address, call_fault_text, frame_refusal_text, answer_text, frame_line_text};
+ghost use Rattle.dvg_spelling.specs.Messages.{fault_message, make_message, frames_message, make_line_text};
+ghost use Rattle.dvg_spelling.specs.Report.{report_text, verdict_text, accepted_text, refusal_text, cert_fault_text, shape_fault_text, frame_fault_text, hex_digit, hex_address, call_fault_text, frame_refusal_text, answer_text, frame_line_text};
 
 use crate::fault::{FramesRunFault, MakeRunFault, RunFault};
 use crate::outcome::FrameAnswer;

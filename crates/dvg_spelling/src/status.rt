@@ -1,7 +1,8 @@
 //! Exit statuses, and what is said on standard error.
 
 ghost use Rattle.std.specs.Prelude.{◌≡◌, ◌++◌, codes};
-ghost use Rattle.dvg_spelling.specs.Status.{exit_status, fault_message, make_exit_status, frames_exit_status, make_frames_exit_status};
+ghost use Rattle.dvg_spelling.specs.Messages.{fault_message};
+ghost use Rattle.dvg_spelling.specs.Status.{exit_status, make_exit_status, frames_exit_status, make_frames_exit_status};
 
 use crate::fault::{FramesRunFault, MakeRunFault, RunFault};
 use crate::outcome::{FrameOutcome, Outcome};
