@@ -1,5 +1,5 @@
 -- The lines of what is accepted. All of it is profile.
-use Rattle.std.specs.Prelude.{◌≡◌, ℕ, List, [], ◌∷◌, ◌++◌, length, Option, Some, None, IfSome, option_to_list}
+use Rattle.std.specs.Prelude.{◌≡◌, ℕ, List, ◌∷◌, ◌++◌, length, Option, Some, None, IfSome, option_to_list}
 use Rattle.dvg_words.specs.Values.{Window}
 use Rattle.dvg_words.specs.Memory.{words_of, rom_of, frame_word, IsFrameLength, IsRomLength}
 use Rattle.dvg_cert.specs.Order.{Certificate}

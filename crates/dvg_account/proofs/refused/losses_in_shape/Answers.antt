@@ -3,9 +3,8 @@ use Rattle.std.specs.Prelude.{IfSome}
 use Rattle.dvg_words.specs.Memory.{rom_word}
 use Rattle.dvg_cert.specs.declared.entry.Entry.{Entry}
 use Rattle.dvg_cert.specs.declared.entry.Key.{Key}
-use Rattle.dvg_items.specs.Known.{Context, shape_context}
 use Rattle.dvg_items.specs.declared.item.Kind.TheVariants.{Shape}
-use Rattle.dvg_items.proofs.Listed.{Listed, listed_at}
+use Rattle.dvg_items.proofs.Listed.{listed_at}
 use Rattle.dvg_explain.specs.Losses.{AreLosses}
 use Rattle.dvg_account.proofs.refused.losses_in_shape.Goals as goal
 
