@@ -5,4 +5,5 @@ pub mod Plain
 pub mod Refused
 pub mod Accepted
 pub mod Making
+pub mod Verdicts
 pub mod Private

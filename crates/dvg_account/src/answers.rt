@@ -1,5 +1,8 @@
 //! The accounts of answers, as lines and as texts.
 
+ghost use Rattle.std.specs.Prelude.{IfOk, option_copied};
+ghost use Rattle.dvg_account.specs.Verdicts.{VerdictLines};
+
 use crate::accepted::accepted_lines;
 use crate::cause::find_cause;
 use crate::inputs::Inputs;
@@ -15,7 +18,9 @@ pub fn verdict_lines(
     inputs: &Inputs,
     verdict: &Result<Yes, Refusal>,
     cause: Option<&RomAccount>,
-) -> Result<Vec<Line>, AllocError> {
+) -> Result<Vec<Line>, AllocError>
+    ensures { IfOk result (λ lines. VerdictLines inputs.now verdict.now (option_copied cause.entry) lines.items) }
+{
     match verdict {
         Ok(yes) => accepted_lines(alloc, inputs, *yes),
         Err(refusal) => refused_lines(alloc, inputs, refusal, cause),

@@ -1,6 +1,7 @@
 //! The account of a refusal because of an item of a frame or of a shape.
 
-ghost use Rattle.std.specs.Prelude.{◌≡◌, IfOk, IfSome};
+ghost use Rattle.dvg_account.specs.Verdicts.{RefusedLines};
+ghost use Rattle.std.specs.Prelude.{◌≡◌, option_copied, IfOk, IfSome};
 ghost use Rattle.dvg_words.specs.Memory.{rom_word};
 ghost use Rattle.dvg_items.specs.Known.{shape_context};
 ghost use Rattle.dvg_explain.specs.Losses.{AreLosses};
@@ -27,18 +28,21 @@ pub fn refused_lines(
     inputs: &Inputs,
     refusal: &Refusal,
     cause: Option<&RomAccount>,
-) -> Result<Vec<Line>, AllocError> {
-    if let Some(RomAccount::Shape(account)) = cause
-        && let Some(cert) = inputs.cert
-        && let Ok(rom) = RomImage::from_bytes(inputs.rom, cert.map())
-    {
-        return shape_lines(alloc, &rom, cert, inputs.frame, account);
-    }
-    if let Some(RomAccount::Frame(account)) = cause
-        && let Some(cert) = inputs.cert
-        && let Ok(frame) = FrameImage::from_bytes(inputs.frame)
-    {
-        return frame_lines(alloc, cert, &frame, account);
+) -> Result<Vec<Line>, AllocError>
+    ensures { IfOk result (λ lines. RefusedLines inputs.now refusal.now (option_copied cause.entry) lines.items) }
+{
+    match (cause, inputs.cert) {
+        (Some(RomAccount::Shape(account)), Some(cert)) => {
+            if let Ok(rom) = RomImage::from_bytes(inputs.rom, cert.map()) {
+                return shape_lines(alloc, &rom, cert, inputs.frame, account);
+            }
+        }
+        (Some(RomAccount::Frame(account)), Some(cert)) => {
+            if let Ok(frame) = FrameImage::from_bytes(inputs.frame) {
+                return frame_lines(alloc, cert, &frame, account);
+            }
+        }
+        _ => {}
     }
     plain_lines(alloc, refusal.number(), inputs.plain_why(refusal))
 }
