@@ -1,5 +1,9 @@
 //! Why something is refused because of an item.
 
+ghost use Rattle.std.specs.Prelude.{IfOk, IfSome};
+ghost use Rattle.dvg_words.specs.Memory.{rom_of, words_of};
+ghost use Rattle.dvg_explain.specs.Verdict.{TellsOf};
+
 use crate::inputs::Inputs;
 use dvg_cert::{Cert, HashIndex};
 use dvg_check::{Refusal, frame_of};
@@ -12,7 +16,10 @@ pub fn find_cause(
     alloc: Global,
     inputs: &Inputs,
     refusal: &Refusal,
-) -> Result<Option<RomAccount>, AllocError> {
+) -> Result<Option<RomAccount>, AllocError>
+    ensures { IfOk result (λ found. IfSome inputs.now.cert (λ cert. IfSome found (TellsOf inputs.now.mode inputs.now.window
+        (rom_of cert.now.map inputs.now.rom.now) cert.now.entries (words_of inputs.now.frame.now) inputs.now.budget))) }
+{
     match (refusal, inputs.cert) {
         (Refusal::Shape(_), Some(cert)) => find_shape_cause(alloc, inputs, cert),
         (Refusal::Frame(_), Some(cert)) => find_frame_cause(alloc, inputs, cert),
@@ -25,7 +32,10 @@ fn find_shape_cause(
     alloc: Global,
     inputs: &Inputs,
     cert: &Cert,
-) -> Result<Option<RomAccount>, AllocError> {
+) -> Result<Option<RomAccount>, AllocError>
+    ensures { IfOk result (λ found. IfSome found (TellsOf inputs.now.mode inputs.now.window (rom_of cert.now.map inputs.now.rom.now)
+        cert.now.entries (words_of inputs.now.frame.now) inputs.now.budget)) }
+{
     let Ok(rom) = RomImage::from_bytes(inputs.rom, cert.map()) else {
         return Ok(None);
     };
@@ -41,7 +51,10 @@ fn find_frame_cause(
     alloc: Global,
     inputs: &Inputs,
     cert: &Cert,
-) -> Result<Option<RomAccount>, AllocError> {
+) -> Result<Option<RomAccount>, AllocError>
+    ensures { IfOk result (λ found. IfSome found (TellsOf inputs.now.mode inputs.now.window (rom_of cert.now.map inputs.now.rom.now)
+        cert.now.entries (words_of inputs.now.frame.now) inputs.now.budget)) }
+{
     let Inputs {
         rom,
         budget,
