@@ -1,7 +1,7 @@
 //! The account of an answer of the maker.
 
 ghost use Rattle.std.specs.Prelude.{◌≡◌, IfOk};
-ghost use Rattle.dvg_account.specs.Making.{made_lines, most_words, most_depth, chain_of, maker_item_lines, UnmadeLines, IsMakerItem};
+ghost use Rattle.dvg_account.specs.Making.{made_lines, most_words, most_depth, chain_of, maker_item_lines, UnmadeLines, IsMakerItem, TellsMaker, TellsBelow};
 ghost use Rattle.dvg_account.specs.Building.{Adds};
 
 use crate::item::RefusedItem;
@@ -89,7 +89,9 @@ fn push_item(lines: &mut Lines, item: &Option<RefusedItem>)
 }
 
 /// The line of why the maker refuses; `None` where memory was out.
-fn why_line(rom: &RomImage, account: &MakeAccount) -> Option<Line> {
+fn why_line(rom: &RomImage, account: &MakeAccount) -> Option<Line>
+    ensures { TellsMaker rom.now account.now.at account.now.chain.items account.now.cause result }
+{
     let at = account.at;
     let why = match account.cause {
         EntryCause::RootOutside | EntryCause::Missing => {
@@ -130,11 +132,9 @@ fn chain_of(account: MakeAccount) -> MakerChain
 }
 
 /// The line of the calls below what the item calls, where calls go too deep by it.
-fn below_line(
-    alloc: Global,
-    rom: &RomImage,
-    cause: EntryCause,
-) -> Result<Option<Line>, AllocError> {
+fn below_line(alloc: Global, rom: &RomImage, cause: EntryCause) -> Result<Option<Line>, AllocError>
+    ensures { IfOk result (TellsBelow cause) }
+{
     let EntryCause::Deep { to, scale } = cause else {
         return Ok(None);
     };

@@ -1,5 +1,8 @@
 //! The account of a frame that is judged by its own certificate.
 
+ghost use Rattle.std.specs.Prelude.{IfOk, option_copied};
+ghost use Rattle.dvg_account.specs.Verdicts.{FrameVerdictLines};
+
 use crate::answers::{refusal_lines, verdict_lines};
 use crate::inputs::{Inputs, PlainWhy, plain_lines};
 use crate::line::Line;
@@ -104,7 +107,9 @@ pub fn frame_lines(
     inputs: &Inputs,
     verdict: &Result<Yes, FrameRefusal>,
     cause: Option<&RomAccount>,
-) -> Result<Vec<Line>, AllocError> {
+) -> Result<Vec<Line>, AllocError>
+    ensures { IfOk result (λ lines. FrameVerdictLines inputs.now verdict.now (option_copied cause.entry) lines.items) }
+{
     match verdict {
         Ok(yes) => verdict_lines(alloc, inputs, &Ok(*yes), None),
         Err(FrameRefusal::Check(refusal)) => { verdict_lines(alloc, inputs, &Err(*refusal), cause) }

@@ -10,9 +10,11 @@ returns c =
     let number_is = c.number-number.ensures ∙ ap fault_number c.from.ensures in
     if_ok c.finish.result c.finish.ensures (λ lines all. record {
       why = c.why_line-why.result;
+      tells = c.why_line-why.ensures;
       item = c.item_of-item.result;
       is_item = c.item_of-item.ensures;
       below = c.in_ok-below.below;
+      deep = c.in_ok-below.ensures;
       told = whole c.new-lines.ensures all
           (then (then (then (then (told_as (ap (λ n. Rule n ∷ []) number_is) c.push.ensures) c.push_some.ensures) c.push_item.ensures)
           (then (told_as (ap (λ chain. Path (MakerChain chain) ∷ []) c.chain_of.ensures) c.push-2.ensures) c.push_some-2.ensures))
