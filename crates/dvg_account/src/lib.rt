@@ -1,19 +1,37 @@
-//! What is told behind the line of an answer.
+//! The account of an answer: what is told behind its line.
 //!
-//! [`verdict_text`] answers the account of a verdict on [`Inputs`], [`refusal_text`] that of a refusal that is judged once more,
-//! [`frame_text`] and [`own_text`] that of a frame, [`made_text`] and [`unmade_text`] what the maker came to, and [`plain_text`] a
-//! refusal before any item was looked at.
+//! An account is a list of [`Line`]s, each with the value that it tells. [`verdict_lines`], [`refusal_lines`], [`frame_lines`] and
+//! [`own_lines`] answer the lines of a verdict, [`made_lines`] and [`unmade_lines`] those of an answer of the maker, [`plain_lines`]
+//! those of a refusal before any item was judged, and their contracts say which lines there are. Beside each of them stands a call
+//! that answers the same account as a text, such as [`verdict_text`].
 #![tactic(auto)]
 
-mod account;
-mod again;
+mod accepted;
+mod answers;
+mod cause;
+mod inputs;
 mod item;
+mod line;
+mod lines;
 mod making;
-mod numbers;
 mod own;
+mod refused;
+mod sentences;
+mod spelling;
 mod text;
+mod texts;
 mod why;
+mod zeros;
 
-pub use account::{Inputs, PlainWhy};
-pub use own::{OwnMaking, frame_text, own_text};
-pub use text::{made_text, plain_text, refusal_text, unmade_text, verdict_text};
+pub use answers::{refusal_lines, verdict_lines};
+pub use inputs::{Inputs, PlainWhy, plain_lines};
+pub use line::{
+    AcceptedLine, EntryName, Instruction, ItemLine, Line, MadeLine, MakerChain, PathLine, Words,
+    Zeros,
+};
+pub use making::{made_lines, unmade_lines};
+pub use own::{OwnMaking, frame_lines, own_lines};
+pub use texts::{
+    frame_text, made_text, own_text, plain_text, refusal_text, unmade_text, verdict_text,
+};
+pub use why::{Addresses, Bounds, ClaimWhy, Corner, InputWhy, MakerWhy, OddWords, Owner, Why};

@@ -1,312 +1,230 @@
-//! The text of an account, line by line.
+//! A text that is put together, and how numbers, places and entries are spelled in it.
 
-use crate::account::{AcceptedAccount, Account, Chain, Inputs, MadeAccount, PlainWhy};
-use crate::again::tell_again;
-use crate::item::{ItemAccount, push_item};
-use crate::making::{MakingAccount, push_making, push_making_why};
-use crate::numbers::{Claims, Distance, Name, Within};
-use crate::why::{Addresses, FrameWhyText, OddWords, ShapeWhyText};
-use dvg_cert::{Cert, Entry, LitBox, MOST_DEPTH, MOST_ENTRIES, MOST_WORDS};
-use dvg_check::{Refusal, Yes};
-use dvg_explain::{Call, FrameAccount, Margins, RomAccount, ShapeAccount};
-use dvg_make::MakeAccount;
-use dvg_spelling::rule_of;
-use dvg_words::{RomImage, RomMap, Window};
+ghost use Rattle.std.specs.Prelude.{◌≡◌, ◌<◌, ◌∷◌, [], Some, IfOk, string_bytes, decimal};
+ghost use Rattle.dvg_cert.specs.Grammar.{key_token};
+ghost use Rattle.dvg_account.specs.Building.{Adds};
+
+use dvg_cert::{End, Entry, Key, LitBox};
+use dvg_spelling::{entry_name, hex_address, hex_word};
+use dvg_words::Point;
+use itoa::{Buffer, Integer};
 use std::alloc::{AllocError, Global};
-use std::fmt;
+use std::marker::Model;
+use std::str;
 
-/// The text of the account of a verdict on these inputs, where that of a refusal because of an item is this one.
-pub fn verdict_text(
-    alloc: Global,
-    inputs: &Inputs,
-    verdict: &Result<Yes, Refusal>,
-    told: Option<&RomAccount>,
-) -> Result<String, AllocError> {
-    match Account::of_verdict(alloc, inputs, verdict, told) {
-        Ok(account) => text_of(alloc, &account),
-        Err(error) => Err(error),
-    }
+/// How many units a screen place has.
+const PLACE: u64 = 1024;
+
+/// A text so far, or that memory ran out. Then nothing is added any more.
+#[derive(Drop)]
+pub struct Text {
+    text: Result<String, AllocError>,
 }
 
-/// The text of the account of a refusal on these inputs, which are judged once more where it is because of an item.
-pub fn refusal_text(
-    alloc: Global,
-    inputs: &Inputs,
-    refusal: &Refusal,
-) -> Result<String, AllocError> {
-    match tell_again(alloc, inputs, refusal) {
-        Ok(told) => verdict_text(alloc, inputs, &Err(*refusal), told.as_ref()),
-        Err(error) => Err(error),
-    }
+impl Model for Text {
+    ghost use Rattle.std.specs.Prelude.{ℕ, List, Option};
+    ghost use Rattle.dvg_account.specs.Private.Texts.{text_so_far};
+
+    ghost Value = { Option (List ℕ) };
+
+    ghost view = { λ t. text_so_far t.text };
 }
 
-/// The text of the account of a refusal before any item was looked at.
-pub fn plain_text(alloc: Global, number: u8, why: PlainWhy) -> Result<String, AllocError> {
-    text_of(alloc, &Account::Plain { number, why })
-}
-
-/// The text of the account of a certificate that is made.
-pub fn made_text(alloc: Global, cert: &Cert) -> Result<String, AllocError> {
-    text_of(alloc, &Account::Made(MadeAccount::of(cert)))
-}
-
-/// The text of the account of a refusal of the maker over a ROM.
-pub fn unmade_text(
-    alloc: Global,
-    rom: &RomImage,
-    account: MakeAccount,
-) -> Result<String, AllocError> {
-    match MakingAccount::new(alloc, rom, account) {
-        Ok(making) => text_of(alloc, &Account::Making(making)),
-        Err(error) => Err(error),
-    }
-}
-
-/// The text of an account.
-pub fn text_of(alloc: Global, account: &Account) -> Result<String, AllocError> {
-    let mut text = String::new(alloc);
-    push_account(&mut text, account)?;
-    Ok(text)
-}
-
-/// Adds all lines of an account.
-fn push_account(text: &mut String, account: &Account) -> Result<(), AllocError> {
-    match account {
-        Account::Plain { number, why } => push_plain(text, *number, why),
-        Account::Frame {
-            account,
-            item,
-            odd,
-            list,
-        } => push_frame(text, account, item, *odd, *list),
-        Account::Shape {
-            account,
-            item,
-            odd,
-            list,
-            chain,
-        } => push_shape(text, account, item, *odd, *list, chain),
-        Account::Making(making) => push_refused(text, making),
-        Account::Accepted(accepted) => push_accepted(text, accepted),
-        Account::Made(made) => push_made(text, made),
-    }
-}
-
-/// Adds what is told of an item of a frame.
-fn push_frame(
-    text: &mut String,
-    account: &FrameAccount,
-    item: &ItemAccount,
-    odd: OddWords,
-    list: Addresses,
-) -> Result<(), AllocError> {
-    let number = account.finding.fault.number();
-    let why = FrameWhyText { account, odd, list };
-    push_rule(text, number)?;
-    writeln!(text, "why: {why}")?;
-    push_item(text, item)?;
-    push_cure(text, number)
-}
-
-/// Adds what is told of an item of a shape, and how the frame comes to the shape.
-fn push_shape(
-    text: &mut String,
-    account: &ShapeAccount,
-    item: &ItemAccount,
-    odd: OddWords,
-    list: Addresses,
-    chain: &Chain,
-) -> Result<(), AllocError> {
-    let number = account.finding.fault.number();
-    let why = ShapeWhyText { account, odd, list };
-    push_rule(text, number)?;
-    writeln!(text, "why: {why}")?;
-    push_item(text, item)?;
-    push_claimed(text, &account.finding.entry, chain)?;
-    push_cure(text, number)
-}
-
-/// Adds what is told of a refusal before any item was looked at.
-fn push_plain(text: &mut String, number: u8, why: &PlainWhy) -> Result<(), AllocError> {
-    push_rule(text, number)?;
-    push_plain_why(text, why)?;
-    push_cure(text, number)
-}
-
-/// Adds what is told of a refusal of the maker.
-fn push_refused(text: &mut String, making: &MakingAccount) -> Result<(), AllocError> {
-    push_rule(text, making.number())?;
-    push_making_why(text, making)?;
-    push_making(text, making)?;
-    push_cure(text, making.number())
-}
-
-/// Adds what an entry claims, and how the frame comes to it.
-fn push_claimed(text: &mut String, entry: &Entry, chain: &Chain) -> Result<(), AllocError> {
-    let claims = Claims(*entry);
-    writeln!(text, "entry claims: {claims}")?;
-    push_chain(text, chain, Name::of(entry))
-}
-
-/// Adds how the frame comes to the entry of this name.
-fn push_chain(text: &mut String, chain: &Chain, name: Name) -> Result<(), AllocError> {
-    match chain {
-        Chain::NoFrame => Ok(()),
-        Chain::Unreached => { writeln!(text, "chain: none, the frame does not come to {name}") }
-        Chain::Calls(calls) => push_links(text, calls),
-    }
-}
-
-/// Adds the calls by which a frame comes to an entry.
-fn push_links(text: &mut String, calls: &[Call]) -> Result<(), AllocError> {
-    let mut before: Option<Name> = None;
-    for call in calls {
-        let at = call.at;
-        let name = Name::of(&call.entry);
-        match before {
-            Some(caller) => writeln!(text, "chain: {caller} at {at:03X} leads to {name}")?,
-            None => writeln!(text, "chain: frame at {at:03X} leads to {name}")?,
+impl Text {
+    pub fn new(alloc: Global) -> Text
+        ensures { result ≡ Some [] }
+    {
+        Text {
+            text: Ok(String::new(alloc)),
         }
-        before = Some(name);
     }
-    Ok(())
-}
 
-/// Adds what a number means.
-fn push_rule(text: &mut String, number: u8) -> Result<(), AllocError> {
-    match rule_of(number) {
-        Some(rule) => {
-            let meaning = rule.meaning;
-            writeln!(text, "rule: {number} {meaning}")
+    /// The whole text, or that memory ran out.
+    pub fn finish(self) -> Result<String, AllocError>
+        ensures { IfOk result (λ text. self ≡ Some (string_bytes text)) }
+    {
+        self.text
+    }
+
+    pub fn push(&mut self, piece: &str)
+        ensures { Adds self.old self.new piece.now }
+    {
+        let pushed = match &mut self.text {
+            Ok(text) => text.push_str(piece),
+            Err(_) => return,
+        };
+        if let Err(error) = pushed {
+            self.text = Err(error);
         }
-        None => Ok(()),
     }
-}
 
-/// Adds what to do about a number.
-fn push_cure(text: &mut String, number: u8) -> Result<(), AllocError> {
-    match rule_of(number) {
-        Some(rule) => {
-            let cure = rule.cure;
-            writeln!(text, "what to do: {cure}")
+    /// A number in decimal, without leading zeros.
+    pub fn push_decimal<N: Integer>(&mut self, number: N) {
+        self.push(Buffer::new().format(number));
+    }
+
+    /// ASCII characters.
+    fn push_ascii(&mut self, piece: &[u8]) {
+        if let Ok(piece) = str::from_utf8(piece) {
+            self.push(piece);
         }
-        None => Ok(()),
     }
-}
 
-/// Adds what is at hand of a refusal before any item was looked at.
-fn push_plain_why(text: &mut String, why: &PlainWhy) -> Result<(), AllocError> {
-    match why {
-        PlainWhy::Nothing => Ok(()),
-        PlainWhy::RomLength { bytes, map } => push_rom_length(text, *bytes, *map),
-        PlainWhy::FrameLength { bytes } if *bytes > MOST_FRAME_BYTES => {
-            writeln!(
-                text,
-                "why: the frame has more than {MOST_FRAME_BYTES} bytes"
-            )
+    /// A word in four hexadecimal capitals.
+    pub fn push_word(&mut self, word: u16) {
+        self.push_ascii(&hex_word(word));
+    }
+
+    /// A word address in three hexadecimal capitals, or in four if it is 1000 or more.
+    pub fn push_address(&mut self, addr: u16) {
+        self.push_ascii(hex_address(addr).as_slice());
+    }
+
+    /// A key as a certificate spells it.
+    pub fn push_key(&mut self, key: Key) {
+        match key {
+            Key::At(scale) => self.push_decimal(scale),
+            Key::Any => self.push("any"),
         }
-        PlainWhy::FrameLength { bytes } => writeln!(text, "why: the frame has {bytes} bytes"),
-        PlainWhy::Budget(budget) => writeln!(text, "why: the budget is {budget}"),
-        PlainWhy::Line(line) => writeln!(text, "certificate line: {line}"),
     }
-}
 
-/// How many bytes a frame has at most, and the longest ROM. Of a longer one, one more is read.
-const MOST_FRAME_BYTES: usize = 2048;
-
-const MOST_ROM_BYTES: usize = 4096;
-
-fn push_rom_length(text: &mut String, bytes: usize, map: RomMap) -> Result<(), AllocError> {
-    let list = Addresses::of_map(map);
-    let needed = list.bytes();
-    if bytes > MOST_ROM_BYTES {
-        write!(text, "why: the ROM has more than {MOST_ROM_BYTES} bytes")?;
-    } else {
-        write!(text, "why: the ROM has {bytes} bytes")?;
+    /// The name of an entry: its address and its key.
+    pub fn push_entry_name(&mut self, addr: u16, key: Key) {
+        self.push_ascii(entry_name(addr, key).as_bytes());
     }
-    writeln!(text, ", and words {list} are {needed} bytes")
-}
 
-/// Adds what is told of what is accepted.
-fn push_accepted(text: &mut String, accepted: &AcceptedAccount) -> Result<(), AllocError> {
-    push_counts(text, &accepted.yes, accepted.budget)?;
-    push_calls(text, &accepted.calls)?;
-    push_lights(text, Lighting::Frame, &accepted.frame, &accepted.window)?;
-    push_lights(text, Lighting::Shapes, &accepted.shapes, &accepted.window)
-}
-
-/// Adds what is told of a certificate that is made, beside its limits.
-fn push_made(text: &mut String, made: &MadeAccount) -> Result<(), AllocError> {
-    let MadeAccount {
-        entries,
-        words,
-        depth,
-    } = *made;
-    writeln!(text, "entries: {entries} of {MOST_ENTRIES}")?;
-    writeln!(text, "words: at most {words} of {MOST_WORDS}")?;
-    writeln!(text, "return places: at most {depth} of {MOST_DEPTH}")
-}
-
-/// Adds the calls of a frame.
-fn push_calls(text: &mut String, calls: &[Call]) -> Result<(), AllocError> {
-    for call in calls {
-        let at = call.at;
-        let claims = Claims(call.entry);
-        writeln!(text, "call: {at:03X} {claims}")?;
+    /// A distance in screen places and 1024ths of one.
+    pub fn push_distance(&mut self, distance: u64) {
+        self.push_places(distance, "+");
     }
-    Ok(())
-}
 
-/// What lights.
-#[derive(Clone, Copy)]
-enum Lighting {
-    Frame,
-    Shapes,
-}
-
-impl fmt::Display for Lighting {
-    fn fmt<W: fmt::Write>(&self, f: &mut fmt::Formatter<W>) -> fmt::Result {
-        f.write_str(match self {
-            Lighting::Frame => "frame",
-            Lighting::Shapes => "shapes",
-        })
+    /// A coordinate in screen places and 1024ths of one.
+    pub fn push_coordinate(&mut self, coordinate: i64) {
+        let size = coordinate.unsigned_abs();
+        if coordinate < 0 {
+            self.push("-");
+            self.push_places(size, "-");
+        } else {
+            self.push_places(size, "+");
+        }
     }
-}
 
-/// Adds the box of what lights, and how far it is from each edge of the window.
-fn push_lights(
-    text: &mut String,
-    lighting: Lighting,
-    lit: &LitBox,
-    window: &Window,
-) -> Result<(), AllocError> {
-    let verb = match lighting {
-        Lighting::Frame => "lights",
-        Lighting::Shapes => "light",
-    };
-    let within = Within(*lit);
-    writeln!(text, "{lighting} {verb} within: {within}")?;
-    let Some(margins) = Margins::within(window, lit) else {
-        return Ok(());
-    };
-    let left = Distance(margins.left);
-    let right = Distance(margins.right);
-    let bottom = Distance(margins.bottom);
-    let top = Distance(margins.top);
-    writeln!(
-        text,
-        "{lighting} margins: left {left}, right {right}, bottom {bottom}, top {top}"
-    )
-}
+    /// Screen places and, behind a sign, 1024ths of one.
+    fn push_places(&mut self, size: u64, sign: &str) {
+        let whole = size / PLACE;
+        let part = size % PLACE;
+        if whole > 0 || part == 0 {
+            self.push_decimal(whole);
+        }
+        if whole > 0 && part > 0 {
+            self.push(sign);
+        }
+        if part > 0 {
+            self.push_decimal(part);
+            self.push("/1024");
+        }
+    }
 
-/// Adds the counts of what is accepted beside their limits.
-fn push_counts(text: &mut String, yes: &Yes, budget: u32) -> Result<(), AllocError> {
-    let Yes {
-        shapes,
-        words,
-        depth,
-    } = *yes;
-    writeln!(text, "shapes: {shapes} of 4096")?;
-    writeln!(text, "words: {words} of the budget {budget}")?;
-    writeln!(text, "return places: {depth} of 4")
+    /// Both coordinates of a point.
+    pub fn push_point(&mut self, x: i64, y: i64) {
+        self.push("X ");
+        self.push_coordinate(x);
+        self.push(", Y ");
+        self.push_coordinate(y);
+    }
+
+    /// A place that is known, or that it is lost.
+    pub fn push_place(&mut self, place: End) {
+        match place {
+            End::Rel { x, y } => {
+                self.push("relative ");
+                self.push_point(x, y);
+            }
+            End::Abs { x, y } => {
+                self.push("absolute ");
+                self.push_point(x, y);
+            }
+            End::Lost => self.push("lost"),
+        }
+    }
+
+    /// A scale that is known, or that it is not.
+    pub fn push_scale(&mut self, scale: Key) {
+        match scale {
+            Key::At(scale) => self.push_decimal(scale),
+            Key::Any => self.push("unknown"),
+        }
+    }
+
+    /// The coordinates between which a box lies.
+    pub fn push_extent(&mut self, lit: &LitBox) {
+        match lit {
+            LitBox::Empty => self.push("nothing"),
+            LitBox::Span {
+                x_min,
+                x_max,
+                y_min,
+                y_max,
+            } => {
+                self.push("X ");
+                self.push_coordinate(*x_min);
+                self.push(" to ");
+                self.push_coordinate(*x_max);
+                self.push(", Y ");
+                self.push_coordinate(*y_min);
+                self.push(" to ");
+                self.push_coordinate(*y_max);
+            }
+        }
+    }
+
+    /// An end as a certificate spells it.
+    pub fn push_end(&mut self, end: End) {
+        match end {
+            End::Rel { x, y } => self.push_pair("rel ", x, y),
+            End::Abs { x, y } => self.push_pair("abs ", x, y),
+            End::Lost => self.push("lost"),
+        }
+    }
+
+    fn push_pair(&mut self, label: &str, x: i64, y: i64) {
+        self.push(label);
+        self.push_decimal(x);
+        self.push(" ");
+        self.push_decimal(y);
+    }
+
+    /// A box as a certificate spells it.
+    fn push_box(&mut self, lit: &LitBox) {
+        match lit {
+            LitBox::Empty => self.push("none"),
+            LitBox::Span {
+                x_min,
+                x_max,
+                y_min,
+                y_max,
+            } => {
+                self.push_pair("", *x_min, *x_max);
+                self.push_pair(" ", *y_min, *y_max);
+            }
+        }
+    }
+
+    /// An entry as a certificate spells it.
+    pub fn push_entry(&mut self, entry: &Entry) {
+        self.push("shape ");
+        self.push_address(entry.addr);
+        self.push(" ");
+        self.push_key(entry.key);
+        self.push(" end ");
+        self.push_end(entry.stop);
+        self.push(" box ");
+        self.push_box(&entry.lit);
+        self.push(" depth ");
+        self.push_decimal(entry.depth);
+        self.push(" words ");
+        self.push_decimal(entry.words);
+        self.push(" scale ");
+        self.push_key(entry.scale);
+    }
 }

@@ -1,52 +1,140 @@
-//! The sentences of accounts: a rule with the numbers of an item.
+//! Why an answer is a refusal: the numbers of the sentence.
 
-use crate::item::{Words, words_at};
-use crate::numbers::{At, ClaimedEnd, Coordinate, Distance, EdgeName, Name, Place, Scale};
+ghost use Rattle.std.specs.Prelude.{◌≡◌, length};
+ghost use Rattle.dvg_account.specs.Why.{addresses_of_map, addresses_of_frame, words_with, missing_word, lost_place, jumps_back, TellsBox, TellsFrame, TellsShape, TellsClaim};
+ghost use Rattle.dvg_account.specs.declared.why.Why.TheVariants.{OddLabs, PastEdge};
+ghost use Rattle.dvg_account.specs.declared.why.ClaimWhy.TheVariants.{TooManyWords};
+ghost use Rattle.dvg_account.specs.declared.why.Corner.{Corner};
+ghost use Rattle.dvg_account.specs.declared.why.OddWords.{OddWords};
+
+use crate::item::words_at;
+use crate::line::{EntryName, Words};
 use dvg_cert::{End, Entry, Key};
 use dvg_check::Found;
-use dvg_explain::{BoxLeaving, Edge, FrameAccount, FrameCause, Leaving, ShapeAccount, ShapeCause};
+use dvg_explain::{BoxLeaving, FrameAccount, FrameCause, Leaving, ShapeAccount, ShapeCause};
 use dvg_items::{LitExtent, Seen};
-use dvg_words::{Fetch, FrameImage, Instr, Point, RomMap};
-use std::fmt;
+use dvg_words::{Fetch, FrameImage, Instr, Point, RomImage, RomMap};
 
-/// Whose words they are.
+/// Why an answer is a refusal, with the numbers of the sentence.
 #[derive(Clone, Copy)]
-enum Whose {
-    Frame,
-    Rom,
+pub enum Why {
+    /// This word of the item is outside these words.
+    MissingWord {
+        word: u16,
+        words: Addresses,
+    },
+    /// The item is a LABS, and these of its words are odd.
+    OddLabs(OddWords),
+    /// A shape has a HALT.
+    Halt,
+    /// A frame has an RTSL.
+    Return,
+    /// The item jumps to this address, its own.
+    JumpsToItself(u16),
+    /// The item jumps to this address, which is lower than its own.
+    JumpsBack(u16),
+    /// The item draws lit at a lost place.
+    DrawsAtLostPlace,
+    /// The entry that the item names has a box, and the place is lost.
+    BoxAtLostPlace,
+    /// The item draws lit at unknown scale.
+    UnknownScale,
+    /// A corner of what the item lights is past an edge.
+    PastEdge {
+        corner: Corner,
+        leaving: Leaving,
+        bounds: Bounds,
+    },
+    /// A corner of what the item lights is here, and the entry claims an empty box.
+    LitOutsideEmptyBox {
+        corner: Corner,
+        at: Point,
+    },
+    /// No entry is named by this address and this scale, `Any` where it is unknown.
+    NoEntry {
+        to: u16,
+        scale: Key,
+    },
+    /// The frame takes so many words up to and with the item, which are over the budget by so many.
+    OverBudget {
+        words: u32,
+        over: u32,
+    },
+    /// The shape breaks a claim of its entry.
+    Claim(ClaimWhy),
+    /// The maker can't make the entry.
+    Maker(MakerWhy),
+    /// An input is refused before any item is judged.
+    Input(InputWhy),
 }
 
-impl fmt::Display for Whose {
-    fn fmt<W: fmt::Write>(&self, f: &mut fmt::Formatter<W>) -> fmt::Result {
-        f.write_str(match self {
-            Whose::Frame => "the frame",
-            Whose::Rom => "the ROM",
-        })
-    }
+/// What an entry claims, and what its shape needs.
+#[derive(Clone, Copy)]
+pub enum ClaimWhy {
+    TooDeep { needed: u8, claimed: u8 },
+    TooManyWords { words: u32, claimed: u32, over: u32 },
+    EndDiffers { end: End, claimed: End },
+    ScaleDiffers { scale: Key, claimed: Key },
+    WordsDiffer { words: u32, claimed: u32 },
+    DepthDiffers { depth: u8, claimed: u8 },
+}
+
+/// Why the maker stops at an item that calls, or that takes words.
+#[derive(Clone, Copy)]
+pub enum MakerWhy {
+    /// It leads to this shape, which needs it.
+    Ring(EntryName),
+    /// It calls this entry, below which calls go as deep as a certificate allows.
+    Deep(EntryName),
+    /// The shape takes so many words up to and with it.
+    TooManyWords(u32),
+    TooManyEntries,
+}
+
+/// Why an input is refused before any item is judged.
+#[derive(Clone, Copy)]
+pub enum InputWhy {
+    /// The ROM has so many bytes, and lies at these addresses.
+    RomLength { bytes: usize, words: Addresses },
+    /// The frame has so many bytes.
+    FrameLength(usize),
+    /// The budget is so many words.
+    Budget(u32),
+}
+
+/// Whether words belong to the frame or to the ROM.
+#[derive(Clone, Copy)]
+pub enum Owner {
+    Frame,
+    Rom,
 }
 
 /// The addresses of the first and the last word of a frame or a ROM.
 #[derive(Clone, Copy)]
 pub struct Addresses {
-    whose: Whose,
-    first: u16,
-    last: u16,
+    pub owner: Owner,
+    pub first: u16,
+    pub last: u16,
 }
 
 impl Addresses {
-    /// Those of a frame's words.
-    pub fn of_frame(frame: &FrameImage) -> Addresses {
+    /// The addresses of a frame's words.
+    pub fn of_frame(frame: &FrameImage) -> Addresses
+        ensures { result ≡ addresses_of_frame frame.now }
+    {
         Addresses {
-            whose: Whose::Frame,
+            owner: Owner::Frame,
             first: 0,
             last: frame.words().saturating_sub(1),
         }
     }
 
-    /// Those of the words of a ROM at this map.
-    pub fn of_map(map: RomMap) -> Addresses {
+    /// The addresses of the words of a ROM at this map.
+    pub fn of_map(map: RomMap) -> Addresses
+        ensures { result ≡ addresses_of_map map }
+    {
         Addresses {
-            whose: Whose::Rom,
+            owner: Owner::Rom,
             first: map.first(),
             last: map.last(),
         }
@@ -56,102 +144,64 @@ impl Addresses {
     pub fn bytes(&self) -> u32 {
         2 * (u32::from(self.last).saturating_sub(u32::from(self.first)) + 1)
     }
-
-    /// The first of an item's words that is not there, of an item at this address that lacks one.
-    fn missing_from(&self, at: u16) -> u16 {
-        if at >= self.first && at <= self.last {
-            at.saturating_add(1)
-        } else {
-            at
-        }
-    }
-}
-
-impl fmt::Display for Addresses {
-    fn fmt<W: fmt::Write>(&self, f: &mut fmt::Formatter<W>) -> fmt::Result {
-        let Addresses { first, last, .. } = *self;
-        write!(f, "{first:03X} to {last:03X}")
-    }
-}
-
-/// That a word of the item at an address is not there.
-#[derive(Clone, Copy)]
-pub struct MissingWord {
-    pub at: u16,
-    pub list: Addresses,
-}
-
-impl fmt::Display for MissingWord {
-    fn fmt<W: fmt::Write>(&self, f: &mut fmt::Formatter<W>) -> fmt::Result {
-        let word = self.list.missing_from(self.at);
-        let list = self.list;
-        let whose = list.whose;
-        write!(
-            f,
-            "word {word:03X} is not in {whose}, whose words are {list}"
-        )
-    }
 }
 
 /// Which words of a LABS are odd.
 #[derive(Clone, Copy)]
-pub struct OddWords {
-    pub first: u16,
-    pub second: u16,
+pub enum OddWords {
+    First,
+    Second,
+    Both,
 }
 
-impl fmt::Display for OddWords {
-    fn fmt<W: fmt::Write>(&self, f: &mut fmt::Formatter<W>) -> fmt::Result {
-        f.write_str("bit 11 or bit 10 is set in ")?;
-        match (is_odd(self.first), is_odd(self.second)) {
-            (true, true) => f.write_str("both its words"),
-            (true, false) => f.write_str("its first word"),
-            _ => f.write_str("its second word"),
+impl OddWords {
+    /// The odd words among those of a LABS.
+    fn of(words: Words) -> OddWords {
+        match words {
+            Words::Two(first, second) if is_odd(first) && is_odd(second) => OddWords::Both,
+            Words::One(first) | Words::Two(first, _) if is_odd(first) => OddWords::First,
+            _ => OddWords::Second,
         }
     }
 }
 
-/// The words of a LABS at a word address.
-pub fn odd_words<F: Fetch>(words: &F, at: u16) -> OddWords {
-    let (first, second) = match words_at(words, at) {
-        Words::Nothing => (0, 0),
-        Words::One(first) => (first, 0),
-        Words::Two(first, second) => (first, second),
-    };
-    OddWords { first, second }
-}
-
+/// Whether bit 11 or bit 10 is set.
 fn is_odd(word: u16) -> bool {
     word & 0x0C00 != 0
 }
 
-/// What a corner of an item is.
+/// What has edges.
 #[derive(Clone, Copy)]
-enum Part {
+pub enum Bounds {
+    Window,
+    ClaimedBox,
+}
+
+/// Which corner of what an item lights: an end of a draw, or a corner of the box of the entry that it calls.
+#[derive(Clone, Copy)]
+pub enum Corner {
     Start,
     End,
     LowerLeft,
     UpperRight,
 }
 
-impl Part {
-    /// What a corner of what an item lights is.
-    fn of(seen: &Seen, corner: &Point) -> Part {
-        match seen.item.instr {
-            Instr::Draw(_) => {
-                if is_place(seen.place, corner) {
-                    Part::Start
-                } else {
-                    Part::End
-                }
-            }
-            _ => {
-                if is_first(seen, corner) {
-                    Part::LowerLeft
-                } else {
-                    Part::UpperRight
-                }
-            }
+impl Corner {
+    /// Which corner stands at a point.
+    fn of(found: &Found, point: &Point) -> Corner {
+        match found {
+            Found::Seen(seen) => Corner::of_seen(seen, point),
+            _ => Corner::End,
+        }
+    }
+
+    fn of_seen(seen: &Seen, point: &Point) -> Corner {
+        let is_first = first_corner(seen) == Some(*point);
+        match (seen.item.instr, is_first) {
+            (Instr::Draw(_), true) => Corner::Start,
+            (Instr::Draw(_), false) => Corner::End,
+            (_, true) => Corner::LowerLeft,
+            (_, false) => Corner::UpperRight,
         }
     }
 }
@@ -159,324 +209,183 @@ impl Part {
 /// The coordinates of a place, relative or absolute.
 fn point_of(place: End) -> Option<Point> {
     match place {
-        End::Rel { x, y } => Some(Point { x, y }),
-        End::Abs { x, y } => Some(Point { x, y }),
+        End::Rel { x, y } | End::Abs { x, y } => Some(Point { x, y }),
         End::Lost => None,
     }
 }
 
-/// Whether a corner is the place before the item.
-fn is_place(place: End, corner: &Point) -> bool {
-    point_of(place) == Some(*corner)
-}
-
-/// Whether a corner is the first of what the item lights.
-fn is_first(seen: &Seen, corner: &Point) -> bool {
-    let LitExtent::Between { from, .. } = seen.extent else {
-        return false;
-    };
-    let Some(place) = point_of(seen.place) else {
-        return false;
-    };
-    place.x.wrapping_add(from.x) == corner.x && place.y.wrapping_add(from.y) == corner.y
-}
-
-impl fmt::Display for Part {
-    fn fmt<W: fmt::Write>(&self, f: &mut fmt::Formatter<W>) -> fmt::Result {
-        f.write_str(match self {
-            Part::Start => "its start",
-            Part::End => "its end",
-            Part::LowerLeft => "the lower left corner of its entry's box",
-            Part::UpperRight => "the upper right corner of its entry's box",
-        })
+/// The start of a draw, or the lower left corner of a called box.
+fn first_corner(seen: &Seen) -> Option<Point> {
+    let place = point_of(seen.place)?;
+    match (seen.item.instr, seen.extent) {
+        (Instr::Draw(_), _) => Some(place),
+        (_, LitExtent::Between { from, .. }) => Some(Point {
+            x: place.x.wrapping_add(from.x),
+            y: place.y.wrapping_add(from.y),
+        }),
+        _ => None,
     }
 }
 
-/// What has edges.
-#[derive(Clone, Copy)]
-enum Bounds {
-    Window,
-    ClaimedBox,
-}
-
-impl fmt::Display for Bounds {
-    fn fmt<W: fmt::Write>(&self, f: &mut fmt::Formatter<W>) -> fmt::Result {
-        f.write_str(match self {
-            Bounds::Window => "the window",
-            Bounds::ClaimedBox => "the claimed box",
-        })
-    }
-}
-
-/// Which edge a corner is past, and by how much.
-#[derive(Clone, Copy)]
-struct PastEdge<'a> {
-    seen: &'a Seen,
-    leaving: Leaving,
-    of: Bounds,
-}
-
-impl<'a> fmt::Display for PastEdge<'a> {
-    fn fmt<W: fmt::Write>(&self, f: &mut fmt::Formatter<W>) -> fmt::Result {
-        let Leaving { corner, edge, by } = self.leaving;
-        let part = Part::of(self.seen, &corner);
-        let at = At(corner);
-        let name = EdgeName(edge);
-        let of = self.of;
-        let (axis, limit) = limit_of(&self.leaving);
-        let by = Distance(by);
-        write!(
-            f,
-            "{part} at {at} is past the {name} edge of {of}, {axis} {limit}, by {by}"
-        )
-    }
-}
-
-/// The axis and the coordinate of the edge that is left.
-fn limit_of(leaving: &Leaving) -> (&'static str, Coordinate) {
-    let by = i64::try_from(leaving.by).unwrap_or(i64::MAX);
-    let Point { x, y } = leaving.corner;
-    match leaving.edge {
-        Edge::Left => ("X", Coordinate(x.wrapping_add(by))),
-        Edge::Right => ("X", Coordinate(x.wrapping_sub(by))),
-        Edge::Bottom => ("Y", Coordinate(y.wrapping_add(by))),
-        Edge::Top => ("Y", Coordinate(y.wrapping_sub(by))),
-    }
-}
-
-/// That no entry is named.
-#[derive(Clone, Copy)]
-struct NoEntry {
-    to: u16,
-    scale: Key,
-}
-
-impl fmt::Display for NoEntry {
-    fn fmt<W: fmt::Write>(&self, f: &mut fmt::Formatter<W>) -> fmt::Result {
-        let to = self.to;
-        match self.scale {
-            Key::At(scale) => write!(
-                f,
-                "no entry is for {to:03X} at scale {scale}, and none for {to:03X} at any"
-            ),
-            Key::Any => write!(
-                f,
-                "the scale is unknown, and no entry is for {to:03X} at any"
-            ),
-        }
-    }
-}
-
-/// What is told of an item that lights at a lost place.
-pub fn lost_place(found: &Found) -> &'static str {
-    match found {
-        Found::Seen(seen) if seen.callee.is_some() => {
-            "the entry that it names has a box, and the place is lost"
-        }
-        _ => "it draws lit at a lost place",
-    }
-}
-
-/// What is told of an item that lights at unknown scale.
-pub const UNKNOWN_SCALE: &str = "it draws lit at unknown scale";
-
-/// What is told of a HALT.
-pub const HALT_IN_SHAPE: &str = "HALT stands in a shape";
-
-/// How many words there are with an item that is there.
-fn words_with(found: &Found) -> u32 {
+/// How many words there are up to and with an item that is there.
+fn words_with(found: &Found) -> u32
+    ensures { result ≡ words_with found.now }
+{
     match found {
         Found::Seen(seen) => seen.after.words,
         _ => 0,
     }
 }
 
-/// Why a frame is refused.
-#[derive(Clone, Copy)]
-pub struct FrameWhyText<'a> {
-    pub account: &'a FrameAccount,
-    pub odd: OddWords,
-    pub list: Addresses,
-}
-
-impl<'a> fmt::Display for FrameWhyText<'a> {
-    fn fmt<W: fmt::Write>(&self, f: &mut fmt::Formatter<W>) -> fmt::Result {
-        let found = &self.account.finding.found;
-        let at = self.account.finding.fault.word;
-        let list = self.list;
-        match self.account.cause {
-            FrameCause::Unmapped => write!(f, "{}", MissingWord { at, list }),
-            FrameCause::Odd => write!(f, "{}", self.odd),
-            FrameCause::ReturnInFrame => {
-                f.write_str("RTSL stands in a frame, and there is no call to return from")
-            }
-            FrameCause::BackJump(to) if to == at => write!(
-                f,
-                "it jumps to {to:03X}, its own address"
-            ),
-            FrameCause::BackJump(to) => write!(f, "it jumps to {to:03X}, a lower address"),
-            FrameCause::BeamUnknown => f.write_str(lost_place(found)),
-            FrameCause::ScaleUnknown => f.write_str(UNKNOWN_SCALE),
-            FrameCause::OffScreen(leaving) => write_leaving(f, found, leaving),
-            FrameCause::NoEntry { to, scale } => write!(f, "{}", NoEntry { to, scale }),
-            FrameCause::Budget(over) => {
-                let words = words_with(found);
-                let budget = words.saturating_sub(over);
-                write!(
-                    f,
-                    "{words} words with it, and the budget is {budget}: over by {over}"
-                )
-            }
-        }
-    }
-}
-
-/// How a corner leaves a claimed box.
-#[derive(Clone, Copy)]
-struct OutOfBox<'a> {
-    seen: &'a Seen,
-    leaving: BoxLeaving,
-}
-
-impl<'a> fmt::Display for OutOfBox<'a> {
-    fn fmt<W: fmt::Write>(&self, f: &mut fmt::Formatter<W>) -> fmt::Result {
-        let seen = self.seen;
-        match self.leaving {
-            BoxLeaving::Empty(corner) => {
-                let part = Part::of(seen, &corner);
-                let at = At(corner);
-                write!(f, "{part} at {at} is lit, and the entry claims box none")
-            }
-            BoxLeaving::Past(leaving) => {
-                let of = Bounds::ClaimedBox;
-                write!(f, "{}", PastEdge { seen, leaving, of })
-            }
-        }
-    }
-}
-
-/// Writes which edge of the window is left.
-fn write_leaving<W: fmt::Write>(
-    f: &mut fmt::Formatter<W>,
-    found: &Found,
-    leaving: Leaving,
-) -> fmt::Result {
+/// What lights at a lost place: a draw, or the box of the entry that the item names.
+fn lost_place(found: &Found) -> Why
+    ensures { result ≡ lost_place found.now }
+{
     match found {
-        Found::Seen(seen) => {
-            let of = Bounds::Window;
-            write!(f, "{}", PastEdge { seen, leaving, of })
-        }
-        _ => Ok(()),
+        Found::Seen(
+            Seen {
+                callee: Some(_),
+                ..
+            },
+        ) => Why::BoxAtLostPlace,
+        _ => Why::DrawsAtLostPlace,
     }
 }
 
-/// Writes how a claimed box is left.
-fn write_box_leaving<W: fmt::Write>(
-    f: &mut fmt::Formatter<W>,
-    found: &Found,
-    leaving: BoxLeaving,
-) -> fmt::Result {
-    match found {
-        Found::Seen(seen) => write!(f, "{}", OutOfBox { seen, leaving }),
-        _ => Ok(()),
+/// A jump of the item at a word address to its own address or a lower one.
+fn jumps_back(at: u16, to: u16) -> Why
+    ensures { result ≡ jumps_back at to }
+{
+    if to == at {
+        Why::JumpsToItself(to)
+    } else {
+        Why::JumpsBack(to)
     }
 }
 
-/// Why a shape is refused.
-#[derive(Clone, Copy)]
-pub struct ShapeWhyText<'a> {
-    pub account: &'a ShapeAccount,
-    pub odd: OddWords,
-    pub list: Addresses,
-}
+impl Why {
+    /// The missing word of the item at a word address, in a memory with these words.
+    pub fn missing<F: Fetch>(memory: &F, at: u16, words: Addresses) -> Why
+        ensures { result ≡ missing_word (F.words memory.now) words at }
+    {
+        let word = match memory.fetch(at) {
+            Some(_) => at + 1,
+            None => at,
+        };
+        Why::MissingWord { word, words }
+    }
 
-impl<'a> fmt::Display for ShapeWhyText<'a> {
-    fn fmt<W: fmt::Write>(&self, f: &mut fmt::Formatter<W>) -> fmt::Result {
-        let found = &self.account.finding.found;
-        let at = self.account.finding.fault.word;
-        let list = self.list;
-        match self.account.cause {
-            ShapeCause::Unmapped => write!(f, "{}", MissingWord { at, list }),
-            ShapeCause::Odd => write!(f, "{}", self.odd),
-            ShapeCause::HaltInShape => f.write_str(HALT_IN_SHAPE),
-            ShapeCause::BeamUnknown => f.write_str(lost_place(found)),
-            ShapeCause::ScaleUnknown => f.write_str(UNKNOWN_SCALE),
-            ShapeCause::OffScreen(leaving) => write_leaving(f, found, leaving),
-            ShapeCause::NoEntry { to, scale } => write!(f, "{}", NoEntry { to, scale }),
-            ShapeCause::BoxTooSmall(leaving) => write_box_leaving(f, found, leaving),
-            claim => write_claim(f, &self.account.finding.entry, found, claim),
+    /// The odd words of the LABS at a word address.
+    pub fn odd<F: Fetch>(memory: &F, at: u16) -> Why
+        ensures { (odd : OddWords) × (result ≡ OddLabs odd) }
+    {
+        Why::OddLabs(OddWords::of(words_at(memory, at)))
+    }
+
+    /// The corner that is past an edge.
+    fn past_edge(found: &Found, leaving: Leaving, bounds: Bounds) -> Why
+        ensures { (corner : Corner) × (result ≡ PastEdge corner leaving bounds) }
+    {
+        Why::PastEdge {
+            corner: Corner::of(found, &leaving.corner),
+            leaving,
+            bounds,
+        }
+    }
+
+    /// How the claimed box is left.
+    fn leaves_box(found: &Found, leaving: BoxLeaving) -> Why
+        ensures { TellsBox leaving result }
+    {
+        match leaving {
+            BoxLeaving::Empty(at) => Why::LitOutsideEmptyBox {
+                corner: Corner::of(found, &at),
+                at,
+            },
+            BoxLeaving::Past(leaving) => Why::past_edge(found, leaving, Bounds::ClaimedBox),
+        }
+    }
+
+    /// Why an item of a frame is refused.
+    pub fn of_frame(account: &FrameAccount, frame: &FrameImage) -> Why
+        ensures { TellsFrame frame.now account.now.finding account.now.cause result }
+    {
+        let found = &account.finding.found;
+        let at = account.finding.fault.word;
+        match account.cause {
+            FrameCause::Unmapped => Why::missing(frame, at, Addresses::of_frame(frame)),
+            FrameCause::Odd => Why::odd(frame, at),
+            FrameCause::ReturnInFrame => Why::Return,
+            FrameCause::BackJump(to) => jumps_back(at, to),
+            FrameCause::BeamUnknown => lost_place(found),
+            FrameCause::ScaleUnknown => Why::UnknownScale,
+            FrameCause::OffScreen(leaving) => Why::past_edge(found, leaving, Bounds::Window),
+            FrameCause::NoEntry { to, scale } => Why::NoEntry { to, scale },
+            FrameCause::Budget(over) => Why::OverBudget {
+                words: words_with(found),
+                over,
+            },
+        }
+    }
+
+    /// Why an item of a shape is refused.
+    pub fn of_shape(account: &ShapeAccount, rom: &RomImage) -> Why
+        ensures { TellsShape rom.now account.now.finding account.now.cause result }
+    {
+        let found = &account.finding.found;
+        let at = account.finding.fault.word;
+        match account.cause {
+            ShapeCause::Unmapped => Why::missing(rom, at, Addresses::of_map(rom.map())),
+            ShapeCause::Odd => Why::odd(rom, at),
+            ShapeCause::HaltInShape => Why::Halt,
+            ShapeCause::BeamUnknown => lost_place(found),
+            ShapeCause::ScaleUnknown => Why::UnknownScale,
+            ShapeCause::OffScreen(leaving) => Why::past_edge(found, leaving, Bounds::Window),
+            ShapeCause::NoEntry { to, scale } => Why::NoEntry { to, scale },
+            ShapeCause::BoxTooSmall(leaving) => Why::leaves_box(found, leaving),
+            claim => Why::Claim(ClaimWhy::of(claim, &account.finding.entry, words_with(found))),
         }
     }
 }
 
-/// Writes which claim differs from what.
-fn write_claim<W: fmt::Write>(
-    f: &mut fmt::Formatter<W>,
-    entry: &Entry,
-    found: &Found,
-    cause: ShapeCause,
-) -> fmt::Result {
-    let Entry {
-        words: claimed,
-        depth,
-        ..
-    } = *entry;
-    match cause {
-        ShapeCause::TooDeep(needed) => {
-            write!(f, "it needs depth {needed}, and the entry claims {depth}")
+impl ClaimWhy {
+    /// Which claim of an entry is broken, where so many words are taken up to and with the item.
+    fn of(cause: ShapeCause, entry: &Entry, words: u32) -> ClaimWhy
+        ensures { TellsClaim entry.now words cause result }
+    {
+        match cause {
+            ShapeCause::TooDeep(needed) => ClaimWhy::TooDeep {
+                needed,
+                claimed: entry.depth,
+            },
+            ShapeCause::EndDiffers(end) => ClaimWhy::EndDiffers {
+                end,
+                claimed: entry.stop,
+            },
+            ShapeCause::ScaleDiffers(scale) => ClaimWhy::ScaleDiffers {
+                scale,
+                claimed: entry.scale,
+            },
+            ShapeCause::WordsDiffer(words) => ClaimWhy::WordsDiffer {
+                words,
+                claimed: entry.words,
+            },
+            ShapeCause::DepthDiffers(depth) => ClaimWhy::DepthDiffers {
+                depth,
+                claimed: entry.depth,
+            },
+            ShapeCause::TooManyWords(over) => ClaimWhy::too_many_words(entry, words, over),
+            _ => ClaimWhy::too_many_words(entry, words, 0),
         }
-        ShapeCause::TooManyWords(over) => {
-            let words = words_with(found);
-            write!(
-                f,
-                "{words} words with it, and the entry claims {claimed}: over by {over}"
-            )
-        }
-        _ => write_end_claim(f, entry, cause),
     }
-}
 
-/// What of an entry's claims the end of its shape breaks; nothing where the cause is another one.
-fn write_end_claim<W: fmt::Write>(
-    f: &mut fmt::Formatter<W>,
-    entry: &Entry,
-    cause: ShapeCause,
-) -> fmt::Result {
-    let Entry {
-        stop,
-        words: claimed,
-        scale,
-        depth,
-        ..
-    } = *entry;
-    match cause {
-        ShapeCause::EndDiffers(end) => {
-            let place = Place(end);
-            let claim = ClaimedEnd(stop);
-            write!(
-                f,
-                "the shape ends at {place}, and the entry claims end {claim}"
-            )
+    fn too_many_words(entry: &Entry, words: u32, over: u32) -> ClaimWhy
+        ensures { result ≡ TooManyWords words entry.now.words over }
+    {
+        ClaimWhy::TooManyWords {
+            words,
+            claimed: entry.words,
+            over,
         }
-        ShapeCause::ScaleDiffers(key) => {
-            let left = Scale(key);
-            write!(
-                f,
-                "the shape ends at scale {left}, and the entry claims scale {scale}"
-            )
-        }
-        ShapeCause::WordsDiffer(words) => {
-            write!(
-                f,
-                "the entry claims {claimed} words, and the shape takes {words}"
-            )
-        }
-        ShapeCause::DepthDiffers(needed) => {
-            write!(
-                f,
-                "the shape needs depth {needed}, and the entry claims {depth}"
-            )
-        }
-        _ => Ok(()),
     }
 }

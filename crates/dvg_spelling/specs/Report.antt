@@ -19,9 +19,13 @@ use Rattle.dvg_make.specs.declared.fault.EntryFault.TheVariants as entry
 use Rattle.dvg_spelling.specs.declared.outcome.FrameAnswer.{FrameAnswer}
 use Rattle.dvg_spelling.specs.declared.outcome.FrameAnswer.TheVariants.{Judged, Unread}
 
+-- a word: four hexadecimal digits in capitals
+abbrev pub hex_word : ℕ → List ℕ
+hex_word n = digit_glyph true (n / 16 ^ 3) ∷ address_token (n % 16 ^ 3)
+
 -- a word address: three hexadecimal digits, or four where they are needed
 abbrev pub hex_address : ℕ → List ℕ
-hex_address n = (if nat_lt n (16 ^ 3) then [] else digit_glyph true (n / 16 ^ 3) ∷ []) ++ address_token (n % 16 ^ 3)
+hex_address n = if nat_lt n (16 ^ 3) then address_token n else hex_word n
 
 -- a certificate's line, counted from 1
 abbrev pub cert_fault_text : CertFault → List ℕ

@@ -18,8 +18,8 @@ pub use arguments::{map_of, root_of, start_of};
 pub use fault::{FramesRunFault, MakeRunFault, RunFault};
 pub use outcome::{FrameAnswer, FrameOutcome, Outcome, frame_outcome_of, outcome_of};
 pub use report::{
-    Report, entry_name, frame_report_of, hex_address, make_frames_report_of, make_line_of,
-    make_report_of, report_of,
+    Report, entry_name, frame_report_of, hex_address, hex_word, make_frames_report_of,
+    make_line_of, make_report_of, report_of,
 };
 pub use rules::{Rule, all_rules, rule_of, text_of_rule, text_of_rules};
 pub use status::{frames_status_of, make_frames_status_of, make_status_of, message_of, status_of};

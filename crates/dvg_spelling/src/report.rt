@@ -2,7 +2,7 @@
 
 ghost use Rattle.std.specs.Prelude.{◌≡◌, ◌+◌, ◌≤◌, ◌<◌, ◌++◌, [], length, codes, decimal};
 ghost use Rattle.dvg_spelling.specs.Messages.{fault_message, make_message, frames_message, make_line_text};
-ghost use Rattle.dvg_spelling.specs.Report.{report_text, verdict_text, accepted_text, refusal_text, cert_fault_text, shape_fault_text, frame_fault_text, entry_text, hex_address, call_fault_text, frame_refusal_text, answer_text, frame_line_text};
+ghost use Rattle.dvg_spelling.specs.Report.{report_text, verdict_text, accepted_text, refusal_text, cert_fault_text, shape_fault_text, frame_fault_text, entry_text, hex_word, hex_address, call_fault_text, frame_refusal_text, answer_text, frame_line_text};
 
 use crate::fault::{FramesRunFault, MakeRunFault, RunFault};
 use crate::outcome::FrameAnswer;
@@ -104,17 +104,30 @@ impl Report {
     }
 }
 
+/// A word in four hexadecimal capitals.
+pub fn hex_word(word: u16) -> [u8; 4]
+    ensures { result ≡ hex_word word }
+{
+    let [.., first] = address_digits(word / ADDRESS_END);
+    let [second, third, fourth] = address_digits(word % ADDRESS_END);
+    [first, second, third, fourth]
+}
+
 /// A word address in hexadecimal capitals: three digits, or four if it is 1000 or more. Takes no memory.
 pub fn hex_address(word: u16) -> ArrayVec<u8, 4>
     ensures { result.items ≡ hex_address word }
 {
-    let mut digits = ArrayVec::new();
-    if word >= ADDRESS_END {
-        let [.., first] = address_digits(word / ADDRESS_END);
-        push_bytes(&mut digits, &[first]);
-    }
-    push_bytes(&mut digits, &address_digits(word % ADDRESS_END));
-    digits
+    let digits = hex_word(word);
+    let mut address = ArrayVec::new();
+    push_bytes(
+        &mut address,
+        if word < ADDRESS_END {
+            &digits[1..]
+        } else {
+            &digits
+        },
+    );
+    address
 }
 
 /// The name of an entry: its address, a slash and its key. Takes no memory.

@@ -1,0 +1,25 @@
+use Rattle.std.proofs.Common.{ap, ◌∙◌, [], ◌∷◌}
+use Rattle.dvg_account.specs.declared.line.Line.TheVariants.{Rule, WhatToDo}
+use Rattle.dvg_account.proofs.Building.{then, told_as, whole, if_ok}
+use Rattle.dvg_account.proofs.refused.shape_lines.Goals as goal
+
+pub returns : goal.returns
+returns c = if_ok c.finish.result c.finish.ensures (λ lines all. record {
+  why = c.of_shape-why.result;
+  tells = c.of_shape-why.ensures;
+  item = record c.new.result { losses = c.losses_in_shape.result };
+  is_item = record {
+    stands = c.new.ensures.stands;
+    holds = c.new.ensures.holds;
+    decoded = c.new.ensures.decoded;
+    named = c.new.ensures.named ∙ c.callee_of-callee.ensures;
+    known = c.new.ensures.known;
+  };
+  lost = c.losses_in_shape.ensures;
+  chain = c.in_ok-chain.chain;
+  reached = c.in_ok-chain.ensures;
+  told = whole c.new-lines.ensures all
+      (then (then (then (told_as (ap (λ n. Rule n ∷ []) c.number-number.ensures) c.push.ensures) (then c.push-2.ensures c.push_lines.ensures))
+      (then c.push-3.ensures c.push_some.ensures))
+      (told_as (ap (λ n. WhatToDo n ∷ []) c.number-number.ensures) c.push-4.ensures));
+})

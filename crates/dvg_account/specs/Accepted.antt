@@ -1,0 +1,49 @@
+-- The lines of what is accepted. All of it is profile.
+use Rattle.std.specs.Prelude.{◌≡◌, ℕ, List, ◌∷◌, ◌++◌, length, Option, Some, None, IfSome, option_to_list}
+use Rattle.dvg_words.specs.Values.{Window}
+use Rattle.dvg_words.specs.Memory.{words_of, rom_of, frame_word, IsFrameLength, IsRomLength}
+use Rattle.dvg_cert.specs.Order.{Certificate}
+use Rattle.dvg_cert.specs.declared.entry.Entry.{Entry}
+use Rattle.dvg_cert.specs.declared.entry.LitBox.{LitBox}
+use Rattle.dvg_cert.specs.declared.entry.LitBox.TheVariants.{Empty}
+use Rattle.dvg_items.specs.Lit.{IsInside}
+use Rattle.dvg_items.specs.Known.{frame_context}
+use Rattle.dvg_check.specs.declared.verdict.Yes.{Yes}
+use Rattle.dvg_explain.specs.declared.calls.Call.{Call}
+use Rattle.dvg_explain.specs.Calls.{AreCalls, IsExtent, IsShapesExtent}
+use Rattle.dvg_explain.specs.Leaving.{window_limits}
+use Rattle.dvg_explain.specs.declared.margins.Margins.{Margins}
+use Rattle.dvg_explain.specs.Margins.{AreMargins, limits_box}
+use Rattle.dvg_account.specs.declared.accepted.Survey.{Survey}
+use Rattle.dvg_account.specs.declared.inputs.Inputs.{Inputs}
+use Rattle.dvg_account.specs.declared.line.Line.{Line}
+use Rattle.dvg_account.specs.declared.line.Line.TheVariants.{Accepted}
+use Rattle.dvg_account.specs.declared.line.AcceptedLine.{AcceptedLine}
+use Rattle.dvg_account.specs.declared.line.AcceptedLine.TheVariants as line
+
+-- the calls of a frame, and the least box of what its own items may light
+pub record FrameSurveyed (list : List Entry) (words : List ℕ) (calls : List Call) (box : LitBox) : Type 0 where
+  pub are_calls : AreCalls (frame_context list) (frame_word words) 0 calls
+  pub is_extent : IsExtent (frame_context list) (frame_word words) 0 box
+
+-- of the bytes of a ROM and a frame, as far as they are of the right length
+pub record Surveyed (cert : Certificate) (rom frame : List ℕ) (s : Survey) : Type 0 where
+  pub frame_is : IsFrameLength (length frame) → FrameSurveyed cert.entries (words_of frame) s.calls.items s.frame
+  pub shapes_are : IsRomLength cert.map (length rom) → IsShapesExtent (rom_of cert.map rom) cert.entries s.shapes
+
+-- how far the box is from each edge of the window; no line where it is empty or reaches outside
+abbrev pub TellsMargins : Window → LitBox → (Margins → AcceptedLine) → Option Line → Type 0
+TellsMargins w box tell None = IsInside box (limits_box (window_limits w)) → box ≡ Empty
+TellsMargins w box tell (Some told) = (m : Margins) × AreMargins (window_limits w) box m × (told ≡ Accepted (tell m))
+
+-- the lines of what is accepted: its counts, the calls of the frame, and where the frame and the shapes light
+pub record AcceptedLines (inputs : Inputs) (yes : Yes) (lines : List Line) : Type 0 where
+  pub survey : Survey
+  pub surveyed : IfSome inputs.cert (λ cert. Surveyed cert.now inputs.rom.now inputs.frame.now survey)
+  pub frame_margins : Option Line
+  pub frame_inside : TellsMargins inputs.window survey.frame line.FrameMargins frame_margins
+  pub shapes_margins : Option Line
+  pub shapes_inside : TellsMargins inputs.window survey.shapes line.ShapesMargins shapes_margins
+  pub told : lines ≡ Accepted (line.Shapes yes.shapes) ∷ Accepted (line.Words yes.words inputs.budget)
+      ∷ Accepted (line.ReturnPlaces yes.depth) ∷ Accepted (line.Calls survey.calls) ∷ Accepted (line.FrameLights survey.frame)
+      ∷ option_to_list frame_margins ++ Accepted (line.ShapesLight survey.shapes) ∷ option_to_list shapes_margins

@@ -1,0 +1,87 @@
+-- The item of a refusal, and its lines. All of it is profile.
+use Rattle.std.specs.Prelude.{◌≡◌, ℕ, ◌+◌, List, ◌∷◌, ◌++◌, map, Option, Some, None, option_map, option_to_list, if◌then◌else◌}
+use Rattle.dvg_words.specs.Decoding.{opcode, is_long_opcode, cell_at}
+use Rattle.dvg_words.specs.declared.instruction.Cell.{Cell}
+use Rattle.dvg_words.specs.declared.instruction.Cell.TheVariants as cell
+use Rattle.dvg_cert.specs.declared.entry.Entry.{Entry}
+use Rattle.dvg_items.specs.declared.item.Item.{Item as Before}
+use Rattle.dvg_items.specs.declared.known.Known.{Known}
+use Rattle.dvg_check.specs.declared.fault.Found.{Found}
+use Rattle.dvg_check.specs.declared.fault.Found.TheVariants.{Seen}
+use Rattle.dvg_explain.specs.declared.losses.Losses.{Losses}
+use Rattle.dvg_account.specs.declared.zeros.Way.{Way}
+use Rattle.dvg_account.specs.declared.line.Zeros.{Zeros}
+pub use Rattle.dvg_account.specs.declared.item.RefusedItem.{RefusedItem}
+pub use Rattle.dvg_account.specs.declared.line.Words.{Words}
+pub use Rattle.dvg_account.specs.declared.line.Words.TheVariants as words
+pub use Rattle.dvg_account.specs.declared.line.Instruction.{Instruction}
+pub use Rattle.dvg_account.specs.declared.line.Line.{Line}
+use Rattle.dvg_account.specs.declared.line.Line.TheVariants.{Item}
+use Rattle.dvg_account.specs.declared.line.ItemLine.{ItemLine}
+use Rattle.dvg_account.specs.declared.line.ItemLine.TheVariants as line
+
+-- the words of an instruction by its first word and the one after it, as far as they are there
+abbrev pub words_with : ℕ → Option ℕ → Words
+words_with first None = words.One first
+words_with first (Some second) = words.Two first second
+
+abbrev pub words_from : Option ℕ → Option ℕ → Words
+words_from None next = words.Nothing
+words_from (Some first) next = if is_long_opcode (opcode first) then words_with first next else words.One first
+
+-- the words of the item at a word address
+abbrev pub words_at : (ℕ → Option ℕ) → ℕ → Words
+words_at word at = words_from (word at) (word (at + 1))
+
+-- the instruction at a word address, if one stands there
+abbrev pub instruction_of : Cell → Option Instruction
+instruction_of (cell.Holds format instr) = Some (record { format = format; instr = instr })
+instruction_of c = None
+
+abbrev pub instruction_at : (ℕ → Option ℕ) → ℕ → Option Instruction
+instruction_at word at = instruction_of (cell_at word at)
+
+-- the entry that an item names
+abbrev pub callee_of : Found → Option Entry
+callee_of (Seen v) = v.callee
+callee_of found = None
+
+-- the item at a word address, before which this is known, and which names this entry
+pub record IsItem (word : ℕ → Option ℕ) (at : ℕ) (before : Known) (callee : Option Entry) (i : RefusedItem) : Type 0 where
+  pub stands : i.at ≡ at
+  pub holds : i.words ≡ words_at word at
+  pub decoded : i.instruction ≡ instruction_at word at
+  pub named : i.callee ≡ callee
+  pub known : i.before ≡ before
+
+-- ---- lines
+
+-- a line, if there is one
+abbrev pub item_line : Option ItemLine → List Line
+item_line l = map Item (option_to_list l)
+
+-- a missing item is told with the item that goes on to it, unless zeros lead there
+abbrev pub unless_zeros : Option Zeros → Option Before → Option ItemLine
+unless_zeros None before = option_map line.ComesFrom before
+unless_zeros (Some zeros) before = None
+
+abbrev pub comes_from : Words → Way → Option ItemLine
+comes_from words.Nothing way = unless_zeros way.zeros way.last
+comes_from held way = None
+
+-- the items by which the place and the scale were lost
+abbrev pub place_lost_by : Option Losses → Option ItemLine
+place_lost_by None = None
+place_lost_by (Some l) = option_map line.PlaceLostBy l.place
+
+abbrev pub scale_lost_by : Option Losses → Option ItemLine
+scale_lost_by None = None
+scale_lost_by (Some l) = option_map line.ScaleLostBy l.scale
+
+-- where the item stands, what it is, what is known before it, by which items the rest was lost, and the zeros that lead to it
+abbrev pub item_lines : RefusedItem → List Line
+item_lines i =
+    Item (line.At i.at) ∷ Item (line.Holds i.words) ∷ Item (line.Instruction i.instruction)
+    ∷ item_line (option_map line.CalledEntry i.callee) ++ item_line (comes_from i.words i.way)
+    ++ Item (line.PlaceBefore i.before.place) ∷ Item (line.ScaleBefore i.before.scale) ∷ Item (line.WordsBefore i.before.words)
+    ∷ item_line (place_lost_by i.losses) ++ item_line (scale_lost_by i.losses) ++ item_line (option_map line.Zeros i.way.zeros)

@@ -1,0 +1,3 @@
+-- Definitions for the code alone; no clause of a public call uses them.
+pub mod Lines
+pub mod Texts

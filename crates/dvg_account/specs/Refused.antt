@@ -1,0 +1,46 @@
+-- The lines of a refusal because of an item. All of it is profile.
+use Rattle.std.specs.Prelude.{◌≡◌, ℕ, List, [], ◌∷◌, ◌++◌, length, Option, Some, None, IfSome, option_to_list}
+use Rattle.dvg_words.specs.Memory.{Rom, rom_word, frame_word, words_of, IsFrameLength}
+use Rattle.dvg_cert.specs.declared.entry.Entry.{Entry}
+use Rattle.dvg_items.specs.Known.{frame_context, shape_context}
+use Rattle.dvg_check.specs.FirstFault.{frame_number, shape_number}
+use Rattle.dvg_explain.specs.declared.calls.Call.{Call}
+use Rattle.dvg_explain.specs.Chains.{IsChain}
+use Rattle.dvg_explain.specs.Losses.{AreLosses}
+use Rattle.dvg_explain.specs.declared.frames.FrameAccount.{FrameAccount}
+use Rattle.dvg_explain.specs.declared.shapes.ShapeAccount.{ShapeAccount}
+use Rattle.dvg_account.specs.Items.{RefusedItem, IsItem, callee_of, item_lines}
+use Rattle.dvg_account.specs.Why.{TellsFrame, TellsShape}
+use Rattle.dvg_account.specs.declared.why.Why.{Why as Sentence}
+use Rattle.dvg_account.specs.declared.line.Line.{Line}
+use Rattle.dvg_account.specs.declared.line.Line.TheVariants.{Rule, Why, Path, WhatToDo}
+use Rattle.dvg_account.specs.declared.line.PathLine.TheVariants as path
+
+-- the lines of the first fault of a frame: its rule, its cause, its item, and what to do
+pub record FrameLines (frame : List ℕ) (list : List Entry) (a : FrameAccount) (lines : List Line) : Type 0 where
+  pub why : Sentence
+  pub tells : TellsFrame frame a.finding a.cause why
+  pub item : RefusedItem
+  pub is_item : IsItem (frame_word frame) a.finding.fault.word a.finding.before (callee_of a.finding.found) item
+  pub lost : IfSome item.losses (AreLosses (frame_context list) (frame_word frame) 0 a.finding.fault.word)
+  pub told : lines ≡ Rule (frame_number a.finding.fault.why) ∷ Why why ∷ item_lines item ++ WhatToDo (frame_number a.finding.fault.why) ∷ []
+
+-- how the frame with these bytes reaches an entry: by these calls, or by none; without a frame there is no line
+abbrev pub TellsChain : Rom → List ℕ → List Entry → Entry → Option Line → Type 0
+TellsChain rom frame list goal None = IsFrameLength (length frame) → ⊥
+TellsChain rom frame list goal (Some (Path (path.Chain calls))) = IsChain rom (words_of frame) list calls.items goal
+TellsChain rom frame list goal (Some (Path (path.NoChain name))) =
+    (name ≡ record { addr = goal.addr; key = goal.key }) × ((calls : List Call) → IsChain rom (words_of frame) list calls goal → ⊥)
+TellsChain rom frame list goal line = ⊥
+
+-- the lines of the first fault of the shapes: its rule, its cause, its item, its entry, how the frame reaches it, and what to do
+pub record ShapeLines (rom : Rom) (frame : List ℕ) (list : List Entry) (a : ShapeAccount) (lines : List Line) : Type 0 where
+  pub why : Sentence
+  pub tells : TellsShape rom a.finding a.cause why
+  pub item : RefusedItem
+  pub is_item : IsItem (rom_word rom) a.finding.fault.word a.finding.before (callee_of a.finding.found) item
+  pub lost : IfSome item.losses (AreLosses (shape_context list a.finding.entry) (rom_word rom) a.finding.entry.addr a.finding.fault.word)
+  pub chain : Option Line
+  pub reached : TellsChain rom frame list a.finding.entry chain
+  pub told : lines ≡ Rule (shape_number a.finding.fault.why) ∷ Why why ∷ item_lines item
+      ++ Path (path.EntryClaims a.finding.entry) ∷ option_to_list chain ++ WhatToDo (shape_number a.finding.fault.why) ∷ []

@@ -1,0 +1,128 @@
+//! The account of what is accepted.
+
+ghost use Rattle.std.specs.Prelude.{◌≡◌, IfOk, IfSome, length};
+ghost use Rattle.dvg_words.specs.Memory.{IsFrameLength, IsRomLength, words_of, rom_of, frame_word};
+ghost use Rattle.dvg_items.specs.Known.{frame_context};
+ghost use Rattle.dvg_explain.specs.Calls.{IsShapesExtent};
+ghost use Rattle.dvg_account.specs.Accepted.{FrameSurveyed, Surveyed, TellsMargins, AcceptedLines};
+ghost use Rattle.dvg_account.specs.declared.line.AcceptedLine.TheVariants.{FrameMargins, ShapesMargins};
+ghost use Rattle.dvg_account.specs.Building.{Adds};
+
+use crate::inputs::Inputs;
+use crate::line::{AcceptedLine, Line};
+use crate::lines::Lines;
+use dvg_cert::{Cert, Entries, HashIndex, LitBox};
+use dvg_check::Yes;
+use dvg_explain::{Call, Margins, frame_calls, frame_extent, shapes_extent};
+use dvg_words::{FrameImage, RomImage, Window};
+use std::alloc::{AllocError, Global};
+
+/// The calls of a frame, and the least boxes of what it and the shapes may light.
+#[derive(Drop)]
+pub struct Survey {
+    pub calls: Vec<Call>,
+    pub frame: LitBox,
+    pub shapes: LitBox,
+}
+
+impl Survey {
+    /// What there is to tell without a certificate.
+    fn nothing(alloc: Global) -> Survey {
+        Survey {
+            calls: Vec::new(alloc),
+            frame: LitBox::Empty,
+            shapes: LitBox::Empty,
+        }
+    }
+
+    /// The survey of these inputs.
+    fn of(alloc: Global, inputs: &Inputs) -> Result<Survey, AllocError>
+        ensures { IfOk result (λ s. IfSome inputs.now.cert (λ cert. Surveyed cert.now inputs.now.rom.now inputs.now.frame.now s)) }
+    {
+        match inputs.cert {
+            Some(cert) => Survey::by(alloc, cert, inputs.rom, inputs.frame),
+            None => Ok(Survey::nothing(alloc)),
+        }
+    }
+
+    /// The survey of a ROM and a frame by a certificate.
+    fn by(alloc: Global, cert: &Cert, rom: &[u8], frame: &[u8]) -> Result<Survey, AllocError>
+        ensures { IfOk result (Surveyed cert.now rom.now frame.now) }
+    {
+        let entries = HashIndex::new(alloc, cert)?;
+        let (calls, lit) = survey_frame(alloc, cert, &entries, frame)?;
+        Ok(Survey {
+            calls,
+            frame: lit,
+            shapes: shapes_box(cert, &entries, rom),
+        })
+    }
+}
+
+/// The calls of a frame, and the least box of what its own items may light.
+fn survey_frame<E: Entries>(
+    alloc: Global,
+    cert: &Cert,
+    entries: &E,
+    frame: &[u8],
+) -> Result<(Vec<Call>, LitBox), AllocError>
+    requires { E.list entries.now ≡ cert.now.entries }
+    ensures { IfOk result (λ s. IsFrameLength (length frame.now) → FrameSurveyed cert.now.entries (words_of frame.now) s.0.items s.1) }
+{
+    match FrameImage::from_bytes(frame) {
+        Ok(frame) => {
+            let calls = frame_calls(alloc, cert, entries, &frame)?;
+            Ok((calls, frame_extent(cert, entries, &frame)))
+        }
+        Err(_) => Ok((Vec::new(alloc), LitBox::Empty)),
+    }
+}
+
+/// The least box of what the shapes light at absolute places.
+fn shapes_box<E: Entries>(cert: &Cert, entries: &E, rom: &[u8]) -> LitBox
+    requires { E.list entries.now ≡ cert.now.entries }
+    ensures { IsRomLength cert.now.map (length rom.now) → IsShapesExtent (rom_of cert.now.map rom.now) cert.now.entries result }
+{
+    match RomImage::from_bytes(rom, cert.map()) {
+        Ok(rom) => shapes_extent(&rom, cert, entries),
+        Err(_) => LitBox::Empty,
+    }
+}
+
+/// The line of how far what the frame lights is from each edge of the window, if it lights something there.
+fn frame_margins(window: &Window, lit: &LitBox) -> Option<Line>
+    ensures { TellsMargins window.now lit.now FrameMargins result }
+{
+    let margins = Margins::within(window, lit)?;
+    Some(Line::Accepted(AcceptedLine::FrameMargins(margins)))
+}
+
+/// The line of how far what the shapes light is from each edge of the window, if they light something there.
+fn shapes_margins(window: &Window, lit: &LitBox) -> Option<Line>
+    ensures { TellsMargins window.now lit.now ShapesMargins result }
+{
+    let margins = Margins::within(window, lit)?;
+    Some(Line::Accepted(AcceptedLine::ShapesMargins(margins)))
+}
+
+/// The lines of what is accepted (profile).
+pub fn accepted_lines(alloc: Global, inputs: &Inputs, yes: Yes) -> Result<Vec<Line>, AllocError>
+    ensures { IfOk result (λ lines. AcceptedLines inputs.now yes lines.items) }
+{
+    let survey = Survey::of(alloc, inputs)?;
+    let frame = survey.frame;
+    let shapes = survey.shapes;
+    let mut lines = Lines::new(alloc);
+    lines.push_accepted(AcceptedLine::Shapes(yes.shapes));
+    lines.push_accepted(AcceptedLine::Words {
+        words: yes.words,
+        budget: inputs.budget,
+    });
+    lines.push_accepted(AcceptedLine::ReturnPlaces(yes.depth));
+    lines.push_accepted(AcceptedLine::Calls(survey.calls));
+    lines.push_accepted(AcceptedLine::FrameLights(frame));
+    lines.push_some(frame_margins(&inputs.window, &frame));
+    lines.push_accepted(AcceptedLine::ShapesLight(shapes));
+    lines.push_some(shapes_margins(&inputs.window, &shapes));
+    lines.finish()
+}

@@ -1,0 +1,41 @@
+//! The accounts of answers, as lines and as texts.
+
+ghost use Rattle.std.specs.Prelude.{IfOk, option_copied};
+ghost use Rattle.dvg_account.specs.Verdicts.{VerdictLines};
+
+use crate::accepted::accepted_lines;
+use crate::cause::find_cause;
+use crate::inputs::Inputs;
+use crate::line::Line;
+use crate::refused::refused_lines;
+use dvg_check::{Refusal, Yes};
+use dvg_explain::RomAccount;
+use std::alloc::{AllocError, Global};
+
+/// The lines of a verdict on these inputs, of which this is the cause, if it is a refusal because of an item (profile).
+pub fn verdict_lines(
+    alloc: Global,
+    inputs: &Inputs,
+    verdict: &Result<Yes, Refusal>,
+    cause: Option<&RomAccount>,
+) -> Result<Vec<Line>, AllocError>
+    ensures { IfOk result (λ lines. VerdictLines inputs.now verdict.now (option_copied cause.entry) lines.items) }
+{
+    match verdict {
+        Ok(yes) => accepted_lines(alloc, inputs, *yes),
+        Err(refusal) => refused_lines(alloc, inputs, refusal, cause),
+    }
+}
+
+/// The lines of a refusal of these inputs (profile). If it is because of an item, its cause is found first.
+pub fn refusal_lines(
+    alloc: Global,
+    inputs: &Inputs,
+    refusal: &Refusal,
+) -> Result<Vec<Line>, AllocError> {
+    match find_cause(alloc, inputs, refusal) {
+        Ok(Some(cause)) => refused_lines(alloc, inputs, refusal, Some(&cause)),
+        Ok(None) => refused_lines(alloc, inputs, refusal, None),
+        Err(error) => Err(error),
+    }
+}

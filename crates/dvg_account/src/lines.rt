@@ -1,0 +1,86 @@
+//! The lines of an account, put together.
+
+ghost use Rattle.std.specs.Prelude.{◌≡◌, [], ◌∷◌, Some, IfOk, map, option_to_list};
+ghost use Rattle.dvg_account.specs.declared.line.Line.TheVariants.{Item, Accepted};
+ghost use Rattle.dvg_account.specs.Building.{Adds};
+
+use crate::line::{AcceptedLine, ItemLine, Line};
+use std::alloc::{AllocError, Global};
+use std::marker::Model;
+
+/// The lines of an account so far, or that memory ran out. Then no line is added any more.
+#[derive(Drop)]
+pub struct Lines {
+    lines: Result<Vec<Line>, AllocError>,
+}
+
+impl Model for Lines {
+    ghost use Rattle.std.specs.Prelude.{List, Option};
+    ghost use Rattle.dvg_account.specs.declared.line.Line.{Line};
+    ghost use Rattle.dvg_account.specs.Private.Lines.{lines_so_far};
+
+    ghost Value = { Option (List Line) };
+
+    ghost view = { λ l. lines_so_far l.lines };
+}
+
+impl Lines {
+    pub fn new(alloc: Global) -> Lines
+        ensures { result ≡ Some [] }
+    {
+        Lines {
+            lines: Ok(Vec::new(alloc)),
+        }
+    }
+
+    pub fn push(&mut self, line: Line)
+        ensures { Adds self.old self.new (line ∷ []) }
+    {
+        let pushed = match &mut self.lines {
+            Ok(lines) => lines.push(line),
+            Err(_) => return,
+        };
+        if pushed.is_err() {
+            self.lines = Err(AllocError);
+        }
+    }
+
+    /// Adds a line, if there is one.
+    pub fn push_some(&mut self, line: Option<Line>)
+        ensures { Adds self.old self.new (option_to_list line) }
+    {
+        if let Some(line) = line {
+            self.push(line);
+        }
+    }
+
+    /// Adds a line about the item of a refusal.
+    pub fn push_item(&mut self, line: ItemLine)
+        ensures { Adds self.old self.new (Item line ∷ []) }
+    {
+        self.push(Line::Item(line));
+    }
+
+    /// Adds a line about the item of a refusal, if there is one.
+    pub fn push_some_item(&mut self, line: Option<ItemLine>)
+        ensures { Adds self.old self.new (map Item (option_to_list line)) }
+    {
+        if let Some(line) = line {
+            self.push(Line::Item(line));
+        }
+    }
+
+    /// Adds a line about what is accepted.
+    pub fn push_accepted(&mut self, line: AcceptedLine)
+        ensures { Adds self.old self.new (Accepted line ∷ []) }
+    {
+        self.push(Line::Accepted(line));
+    }
+
+    /// All lines, or that memory ran out.
+    pub fn finish(self) -> Result<Vec<Line>, AllocError>
+        ensures { IfOk result (λ lines. self ≡ Some lines.items) }
+    {
+        self.lines
+    }
+}

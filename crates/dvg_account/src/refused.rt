@@ -1,0 +1,137 @@
+//! The account of a refusal because of an item of a frame or of a shape.
+
+ghost use Rattle.dvg_account.specs.Verdicts.{RefusedLines};
+ghost use Rattle.std.specs.Prelude.{◌≡◌, option_copied, IfOk, IfSome};
+ghost use Rattle.dvg_words.specs.Memory.{rom_word};
+ghost use Rattle.dvg_items.specs.Known.{shape_context};
+ghost use Rattle.dvg_explain.specs.Losses.{AreLosses};
+ghost use Rattle.dvg_account.specs.Refused.{FrameLines, ShapeLines, TellsChain};
+ghost use Rattle.dvg_account.specs.Building.{Adds};
+
+use crate::inputs::{Inputs, plain_lines};
+use crate::item::{RefusedItem, callee_of};
+use crate::line::{EntryName, Line, PathLine};
+use crate::lines::Lines;
+use crate::why::Why;
+use dvg_cert::{Cert, Entries, Entry, HashIndex, ListIndex};
+use dvg_check::Refusal;
+use dvg_explain::{
+    FrameAccount, Losses, RomAccount, ShapeAccount, find_chain, frame_losses, shape_losses,
+};
+use dvg_items::Kind;
+use dvg_words::{FrameImage, RomImage};
+use std::alloc::{AllocError, Global};
+
+/// The lines of a refusal, of which this is the cause, if it is because of an item.
+pub fn refused_lines(
+    alloc: Global,
+    inputs: &Inputs,
+    refusal: &Refusal,
+    cause: Option<&RomAccount>,
+) -> Result<Vec<Line>, AllocError>
+    ensures { IfOk result (λ lines. RefusedLines inputs.now refusal.now (option_copied cause.entry) lines.items) }
+{
+    match (cause, inputs.cert) {
+        (Some(RomAccount::Shape(account)), Some(cert)) => {
+            if let Ok(rom) = RomImage::from_bytes(inputs.rom, cert.map()) {
+                return shape_lines(alloc, &rom, cert, inputs.frame, account);
+            }
+        }
+        (Some(RomAccount::Frame(account)), Some(cert)) => {
+            if let Ok(frame) = FrameImage::from_bytes(inputs.frame) {
+                return frame_lines(alloc, cert, &frame, account);
+            }
+        }
+        _ => {}
+    }
+    plain_lines(alloc, refusal.number(), inputs.plain_why(refusal))
+}
+
+/// The lines of the first fault of a frame.
+fn frame_lines(
+    alloc: Global,
+    cert: &Cert,
+    frame: &FrameImage,
+    account: &FrameAccount,
+) -> Result<Vec<Line>, AllocError>
+    ensures { IfOk result (λ lines. FrameLines frame.now cert.now.entries account.now lines.items) }
+{
+    let finding = account.finding;
+    let at = finding.fault.word;
+    let number = finding.fault.number();
+    let callee = callee_of(&finding.found);
+    let item = RefusedItem {
+        losses: frame_losses(cert, &ListIndex::new(cert), frame, at),
+        ..RefusedItem::new(frame, Kind::Frame, 0, at, finding.before, callee)
+    };
+    let why = Why::of_frame(account, frame);
+    let mut lines = Lines::new(alloc);
+    lines.push(Line::Rule(number));
+    lines.push(Line::Why(why));
+    item.push_lines(&mut lines);
+    lines.push(Line::WhatToDo(number));
+    lines.finish()
+}
+
+/// The lines of the first fault of the shapes, over the bytes of a frame.
+fn shape_lines(
+    alloc: Global,
+    rom: &RomImage,
+    cert: &Cert,
+    frame: &[u8],
+    account: &ShapeAccount,
+) -> Result<Vec<Line>, AllocError>
+    ensures { IfOk result (λ lines. ShapeLines rom.now frame.now cert.now.entries account.now lines.items) }
+{
+    let finding = account.finding;
+    let entry = finding.entry;
+    let at = finding.fault.word;
+    let number = finding.fault.number();
+    let chain = chain_line(alloc, rom, cert, frame, &entry)?;
+    let callee = callee_of(&finding.found);
+    let item = RefusedItem {
+        losses: losses_in_shape(rom, cert, &entry, at),
+        ..RefusedItem::new(rom, Kind::Shape, entry.addr, at, finding.before, callee)
+    };
+    let why = Why::of_shape(account, rom);
+    let mut lines = Lines::new(alloc);
+    lines.push(Line::Rule(number));
+    lines.push(Line::Why(why));
+    item.push_lines(&mut lines);
+    lines.push(Line::Path(PathLine::EntryClaims(entry)));
+    lines.push_some(chain);
+    lines.push(Line::WhatToDo(number));
+    lines.finish()
+}
+
+/// The line of how the frame with these bytes reaches an entry; `None` where the bytes are no frame.
+fn chain_line(
+    alloc: Global,
+    rom: &RomImage,
+    cert: &Cert,
+    frame: &[u8],
+    goal: &Entry,
+) -> Result<Option<Line>, AllocError>
+    ensures { IfOk result (TellsChain rom.now frame.now cert.now.entries goal.now) }
+{
+    let Ok(frame) = FrameImage::from_bytes(frame) else {
+        return Ok(None);
+    };
+    let entries = HashIndex::new(alloc, cert)?;
+    let line = match find_chain(alloc, rom, cert, &entries, &frame, goal)? {
+        Some(calls) => PathLine::Chain(calls),
+        None => PathLine::NoChain(EntryName::of(goal)),
+    };
+    Ok(Some(Line::Path(line)))
+}
+
+/// The items of an entry's shape by which the place and the scale were lost that are not known before a word.
+fn losses_in_shape(rom: &RomImage, cert: &Cert, entry: &Entry, at: u16) -> Option<Losses>
+    ensures { IfSome result (AreLosses (shape_context cert.now.entries entry.now) (rom_word rom.now) entry.now.addr at) }
+{
+    let entries = ListIndex::new(cert);
+    match entries.find(entry.addr, entry.key) {
+        Some(listed) => shape_losses(rom, cert, &entries, &listed, at),
+        None => None,
+    }
+}

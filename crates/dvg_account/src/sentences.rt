@@ -1,0 +1,260 @@
+//! The sentences that tell why an answer is a refusal.
+
+use crate::line::EntryName;
+use crate::text::Text;
+use crate::why::{Addresses, Bounds, ClaimWhy, Corner, InputWhy, MakerWhy, OddWords, Owner, Why};
+use dvg_cert::{Key, MOST_WORDS};
+use dvg_explain::{Edge, Leaving};
+
+/// The most bytes of a frame. Of a longer one, one byte more is read.
+const MOST_FRAME_BYTES: usize = 2048;
+
+/// The most bytes of a ROM. Of a longer one, one byte more is read.
+const MOST_ROM_BYTES: usize = 4096;
+
+/// The sentence of a refusal.
+pub fn push_why(text: &mut Text, why: &Why) {
+    match why {
+        Why::MissingWord { word, words } => push_missing(text, *word, words),
+        Why::OddLabs(odd) => push_odd(text, *odd),
+        Why::Halt => text.push("HALT stands in a shape"),
+        Why::Return => { text.push("RTSL stands in a frame, and there is no call to return from") }
+        Why::JumpsToItself(to) => push_jump(text, *to, ", its own address"),
+        Why::JumpsBack(to) => push_jump(text, *to, ", a lower address"),
+        Why::DrawsAtLostPlace => text.push("it draws lit at a lost place"),
+        Why::BoxAtLostPlace => {
+            text.push("the entry that it names has a box, and the place is lost")
+        }
+        Why::UnknownScale => text.push("it draws lit at unknown scale"),
+        Why::PastEdge {
+            corner,
+            leaving,
+            bounds,
+        } => push_past_edge(text, *corner, leaving, *bounds),
+        Why::LitOutsideEmptyBox { corner, at } => {
+            push_corner(text, *corner, at.x, at.y);
+            text.push(" is lit, and the entry claims box none");
+        }
+        Why::NoEntry { to, scale } => push_no_entry(text, *to, *scale),
+        Why::OverBudget { words, over } => push_over_budget(text, *words, *over),
+        Why::Claim(claim) => push_claim(text, claim),
+        Why::Maker(why) => push_maker(text, why),
+        Why::Input(why) => push_input(text, why),
+    }
+}
+
+fn push_missing(text: &mut Text, word: u16, words: &Addresses) {
+    text.push("word ");
+    text.push_address(word);
+    text.push(match words.owner {
+        Owner::Frame => " is not in the frame, whose words are ",
+        Owner::Rom => " is not in the ROM, whose words are ",
+    });
+    push_addresses(text, words);
+}
+
+/// The addresses of the first and the last word.
+fn push_addresses(text: &mut Text, words: &Addresses) {
+    text.push_address(words.first);
+    text.push(" to ");
+    text.push_address(words.last);
+}
+
+fn push_odd(text: &mut Text, odd: OddWords) {
+    text.push("bit 11 or bit 10 is set in ");
+    text.push(match odd {
+        OddWords::First => "its first word",
+        OddWords::Second => "its second word",
+        OddWords::Both => "both its words",
+    });
+}
+
+fn push_jump(text: &mut Text, to: u16, which: &str) {
+    text.push("it jumps to ");
+    text.push_address(to);
+    text.push(which);
+}
+
+/// A corner of what an item lights, and where it is.
+fn push_corner(text: &mut Text, corner: Corner, x: i64, y: i64) {
+    text.push(match corner {
+        Corner::Start => "its start at ",
+        Corner::End => "its end at ",
+        Corner::LowerLeft => "the lower left corner of its entry's box at ",
+        Corner::UpperRight => "the upper right corner of its entry's box at ",
+    });
+    text.push_point(x, y);
+}
+
+/// Which edge a corner is past, where the edge is, and by how much.
+fn push_past_edge(text: &mut Text, corner: Corner, leaving: &Leaving, bounds: Bounds) {
+    push_corner(text, corner, leaving.corner.x, leaving.corner.y);
+    text.push(" is past the ");
+    text.push(match leaving.edge {
+        Edge::Left => "left",
+        Edge::Right => "right",
+        Edge::Bottom => "bottom",
+        Edge::Top => "top",
+    });
+    text.push(match bounds {
+        Bounds::Window => " edge of the window, ",
+        Bounds::ClaimedBox => " edge of the claimed box, ",
+    });
+    text.push(match leaving.edge {
+        Edge::Left | Edge::Right => "X ",
+        Edge::Bottom | Edge::Top => "Y ",
+    });
+    text.push_coordinate(edge_of(leaving));
+    text.push(", by ");
+    text.push_distance(leaving.by);
+}
+
+/// The coordinate of the edge that a corner is past.
+fn edge_of(leaving: &Leaving) -> i64 {
+    let by = i64::try_from(leaving.by).unwrap_or(i64::MAX);
+    match leaving.edge {
+        Edge::Left => leaving.corner.x.wrapping_add(by),
+        Edge::Right => leaving.corner.x.wrapping_sub(by),
+        Edge::Bottom => leaving.corner.y.wrapping_add(by),
+        Edge::Top => leaving.corner.y.wrapping_sub(by),
+    }
+}
+
+fn push_no_entry(text: &mut Text, to: u16, scale: Key) {
+    match scale {
+        Key::At(scale) => {
+            text.push("no entry is for ");
+            text.push_address(to);
+            text.push(" at scale ");
+            text.push_decimal(scale);
+            text.push(", and none for ");
+            text.push_address(to);
+            text.push(" at any");
+        }
+        Key::Any => {
+            text.push("the scale is unknown, and no entry is for ");
+            text.push_address(to);
+            text.push(" at any");
+        }
+    }
+}
+
+fn push_over_budget(text: &mut Text, words: u32, over: u32) {
+    text.push_decimal(words);
+    text.push(" words with it, and the budget is ");
+    text.push_decimal(words.saturating_sub(over));
+    text.push(": over by ");
+    text.push_decimal(over);
+}
+
+/// Which claim of an entry its shape breaks.
+fn push_claim(text: &mut Text, claim: &ClaimWhy) {
+    match claim {
+        ClaimWhy::TooDeep { needed, claimed } => {
+            text.push("it needs depth ");
+            text.push_decimal(*needed);
+            push_claimed_depth(text, *claimed);
+        }
+        ClaimWhy::TooManyWords {
+            words,
+            claimed,
+            over,
+        } => push_too_many_words(text, *words, *claimed, *over),
+        ClaimWhy::EndDiffers { end, claimed } => {
+            text.push("the shape ends at ");
+            text.push_place(*end);
+            text.push(", and the entry claims end ");
+            text.push_end(*claimed);
+        }
+        ClaimWhy::ScaleDiffers { scale, claimed } => {
+            text.push("the shape ends at scale ");
+            text.push_scale(*scale);
+            text.push(", and the entry claims scale ");
+            text.push_key(*claimed);
+        }
+        ClaimWhy::WordsDiffer { words, claimed } => push_words_differ(text, *words, *claimed),
+        ClaimWhy::DepthDiffers { depth, claimed } => {
+            text.push("the shape needs depth ");
+            text.push_decimal(*depth);
+            push_claimed_depth(text, *claimed);
+        }
+    }
+}
+
+fn push_claimed_depth(text: &mut Text, claimed: u8) {
+    text.push(", and the entry claims ");
+    text.push_decimal(claimed);
+}
+
+fn push_too_many_words(text: &mut Text, words: u32, claimed: u32, over: u32) {
+    text.push_decimal(words);
+    text.push(" words with it, and the entry claims ");
+    text.push_decimal(claimed);
+    text.push(": over by ");
+    text.push_decimal(over);
+}
+
+fn push_words_differ(text: &mut Text, words: u32, claimed: u32) {
+    text.push("the entry claims ");
+    text.push_decimal(claimed);
+    text.push(" words, and the shape takes ");
+    text.push_decimal(words);
+}
+
+/// Why the maker stops at an item that calls, or that takes words.
+fn push_maker(text: &mut Text, why: &MakerWhy) {
+    match why {
+        MakerWhy::Ring(EntryName { addr, key }) => {
+            text.push("it leads to ");
+            text.push_entry_name(*addr, *key);
+            text.push(", which needs it");
+        }
+        MakerWhy::Deep(EntryName { addr, key }) => {
+            text.push("it calls ");
+            text.push_entry_name(*addr, *key);
+            text.push(
+                ", below which calls go three deep already: with the frame's own they would be five",
+            );
+        }
+        MakerWhy::TooManyWords(words) => {
+            text.push_decimal(*words);
+            text.push(" words with it, and a shape may take ");
+            text.push_decimal(MOST_WORDS);
+            text.push(": over by ");
+            text.push_decimal(words.saturating_sub(MOST_WORDS));
+        }
+        MakerWhy::TooManyEntries => text.push("it would be the 4097th entry"),
+    }
+}
+
+/// Why an input is refused before any item is judged.
+fn push_input(text: &mut Text, why: &InputWhy) {
+    match why {
+        InputWhy::RomLength { bytes, words } => {
+            text.push("the ROM has ");
+            push_length(text, *bytes, MOST_ROM_BYTES);
+            text.push(", and words ");
+            push_addresses(text, words);
+            text.push(" are ");
+            text.push_decimal(words.bytes());
+            text.push(" bytes");
+        }
+        InputWhy::FrameLength(bytes) => {
+            text.push("the frame has ");
+            push_length(text, *bytes, MOST_FRAME_BYTES);
+        }
+        InputWhy::Budget(budget) => {
+            text.push("the budget is ");
+            text.push_decimal(*budget);
+        }
+    }
+}
+
+/// So many bytes, or that they are more than the most.
+fn push_length(text: &mut Text, bytes: usize, most: usize) {
+    if bytes > most {
+        text.push("more than ");
+    }
+    text.push_decimal(bytes.min(most));
+    text.push(" bytes");
+}

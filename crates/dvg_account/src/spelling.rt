@@ -1,0 +1,370 @@
+//! How the lines of an account are spelled.
+
+use crate::line::{
+    AcceptedLine, EntryName, Instruction, ItemLine, Line, MadeLine, MakerChain, PathLine, Words,
+    Zeros,
+};
+use crate::sentences::push_why;
+use crate::text::Text;
+use dvg_cert::{MOST_DEPTH, MOST_ENTRIES, MOST_WORDS};
+use dvg_explain::{Call, Margins};
+use dvg_items::Item;
+use dvg_make::ShapeAt;
+use dvg_spelling::rule_of;
+use dvg_words::{Draw, Format, Instr};
+use itoa::Integer;
+use std::alloc::{AllocError, Global};
+
+/// The text of an account.
+pub fn text_of(alloc: Global, lines: &[Line]) -> Result<String, AllocError> {
+    let mut text = Text::new(alloc);
+    for line in lines {
+        push_line(&mut text, line);
+    }
+    text.finish()
+}
+
+fn push_line(text: &mut Text, line: &Line) {
+    match line {
+        Line::Rule(number) => push_rule(text, *number),
+        Line::Why(why) => {
+            text.push("why: ");
+            push_why(text, why);
+            text.push("\n");
+        }
+        Line::CertificateLine(line) => push_count(text, "certificate line: ", *line, ""),
+        Line::Item(line) => push_item_line(text, line),
+        Line::Path(line) => push_path_line(text, line),
+        Line::Accepted(line) => push_accepted_line(text, line),
+        Line::Made(line) => push_made_line(text, *line),
+        Line::WhatToDo(number) => push_cure(text, *number),
+    }
+}
+
+/// A line of a count between two texts.
+fn push_count(text: &mut Text, before: &str, count: u32, behind: &str) {
+    text.push(before);
+    text.push_decimal(count);
+    text.push(behind);
+    text.push("\n");
+}
+
+/// The meaning of a number, if it has one.
+fn push_rule(text: &mut Text, number: u8) {
+    if let Some(rule) = rule_of(number) {
+        text.push("rule: ");
+        text.push_decimal(number);
+        text.push(" ");
+        text.push(rule.meaning);
+        text.push("\n");
+    }
+}
+
+/// What to do about a number, if it has a meaning.
+fn push_cure(text: &mut Text, number: u8) {
+    if let Some(rule) = rule_of(number) {
+        text.push("what to do: ");
+        text.push(rule.cure);
+        text.push("\n");
+    }
+}
+
+fn push_item_line(text: &mut Text, line: &ItemLine) {
+    match line {
+        ItemLine::At(at) => push_at(text, *at),
+        ItemLine::Holds(words) => push_words(text, *words),
+        ItemLine::Instruction(instruction) => push_instruction_line(text, instruction),
+        ItemLine::CalledEntry(entry) => {
+            text.push("called entry: ");
+            text.push_entry(entry);
+        }
+        ItemLine::ComesFrom(item) => push_item(text, "comes from: ", item),
+        ItemLine::PlaceBefore(place) => {
+            text.push("place before: ");
+            text.push_place(*place);
+        }
+        ItemLine::ScaleBefore(scale) => {
+            text.push("scale before: ");
+            text.push_scale(*scale);
+        }
+        ItemLine::WordsBefore(words) => {
+            text.push("words before: ");
+            text.push_decimal(*words);
+        }
+        ItemLine::PlaceLostBy(item) => push_item(text, "place lost by: ", item),
+        ItemLine::ScaleLostBy(item) => push_item(text, "scale lost by: ", item),
+        ItemLine::Zeros(zeros) => push_zeros(text, zeros),
+    }
+    text.push("\n");
+}
+
+/// The word address of an item, and the processor's address of its first byte.
+fn push_at(text: &mut Text, at: u16) {
+    text.push("item: ");
+    text.push_address(at);
+    text.push(", processor address ");
+    text.push_word(at.wrapping_mul(2).wrapping_add(0x4000));
+}
+
+fn push_words(text: &mut Text, words: Words) {
+    text.push("holds: ");
+    match words {
+        Words::Nothing => text.push("nothing"),
+        Words::One(first) => text.push_word(first),
+        Words::Two(first, second) => {
+            text.push_word(first);
+            text.push(" ");
+            text.push_word(second);
+        }
+    }
+}
+
+fn push_instruction_line(text: &mut Text, instruction: &Option<Instruction>) {
+    text.push("instruction: ");
+    match instruction {
+        Some(Instruction { format, instr }) => push_instruction(text, *format, instr),
+        None => text.push("none"),
+    }
+}
+
+/// An item behind a label: its word address and its instruction.
+fn push_item(text: &mut Text, label: &str, item: &Item) {
+    text.push(label);
+    text.push_address(item.at);
+    text.push(" ");
+    push_instruction(text, item.format, &item.instr);
+}
+
+/// The addresses of zeros, and on a line of its own the item before them.
+fn push_zeros(text: &mut Text, zeros: &Zeros) {
+    text.push("zeros: ");
+    text.push_address(zeros.first);
+    text.push(" to ");
+    text.push_address(zeros.last);
+    text.push("\n");
+    match &zeros.before {
+        Some(item) => push_item(text, "before zeros: ", item),
+        None => text.push("before zeros: none"),
+    }
+}
+
+/// An instruction by its fields.
+fn push_instruction(text: &mut Text, format: Format, instr: &Instr) {
+    match instr {
+        Instr::Draw(draw) => push_draw(text, format, draw),
+        Instr::Labs { x, y, gscale } => {
+            text.push("LABS Y ");
+            text.push_decimal(*y);
+            text.push(", global scale ");
+            text.push_decimal(*gscale);
+            text.push(", X ");
+            text.push_decimal(*x);
+        }
+        Instr::Halt => text.push("HALT"),
+        Instr::Jsrl { to } => {
+            text.push("JSRL address ");
+            text.push_address(*to);
+        }
+        Instr::Rtsl => text.push("RTSL"),
+        Instr::Jmpl { to } => {
+            text.push("JMPL address ");
+            text.push_address(*to);
+        }
+    }
+}
+
+/// A draw by its fields. The scale code of an SVEC is its local scale less 2, and its sizes are 256 times its two-bit numbers.
+fn push_draw(text: &mut Text, format: Format, draw: &Draw) {
+    match format {
+        Format::Long => {
+            text.push("VCTR local scale ");
+            push_fields(text, draw.lscale, draw.dy, draw.bright, draw.dx);
+        }
+        Format::Short => {
+            text.push("SVEC scale code ");
+            let code = draw.lscale.saturating_sub(2);
+            push_fields(text, code, draw.dy / 256, draw.bright, draw.dx / 256);
+        }
+    }
+}
+
+fn push_fields(text: &mut Text, scale: u8, y: i16, intensity: u8, x: i16) {
+    text.push_decimal(scale);
+    text.push(", Y ");
+    text.push_decimal(y);
+    text.push(", intensity ");
+    text.push_decimal(intensity);
+    text.push(", X ");
+    text.push_decimal(x);
+}
+
+fn push_path_line(text: &mut Text, line: &PathLine) {
+    match line {
+        PathLine::EntryClaims(entry) => {
+            text.push("entry claims: ");
+            text.push_entry(entry);
+            text.push("\n");
+        }
+        PathLine::NoChain(name) => {
+            text.push("chain: none, the frame does not come to ");
+            text.push_entry_name(name.addr, name.key);
+            text.push("\n");
+        }
+        PathLine::Chain(calls) => push_chain(text, calls),
+        PathLine::MakerChain(chain) => push_maker_chain(text, chain),
+        PathLine::Below { called, calls } => push_below(text, *called, calls),
+    }
+}
+
+/// The calls by which a frame reaches an entry.
+fn push_chain(text: &mut Text, calls: &[Call]) {
+    let mut caller: Option<EntryName> = None;
+    for call in calls {
+        let called = EntryName::of(&call.entry);
+        text.push("chain: ");
+        match caller {
+            Some(name) => text.push_entry_name(name.addr, name.key),
+            None => text.push("frame"),
+        }
+        push_leads(text, call.at, called);
+        caller = Some(called);
+    }
+}
+
+/// The calls that go deepest below an entry.
+fn push_below(text: &mut Text, called: EntryName, calls: &[Call]) {
+    let mut caller = called;
+    for call in calls {
+        let called = EntryName::of(&call.entry);
+        text.push("below: ");
+        text.push_entry_name(caller.addr, caller.key);
+        push_leads(text, call.at, called);
+        caller = called;
+    }
+}
+
+/// The call at a word address leads to an entry.
+fn push_leads(text: &mut Text, at: u16, called: EntryName) {
+    text.push(" at ");
+    text.push_address(at);
+    text.push(" leads to ");
+    text.push_entry_name(called.addr, called.key);
+    text.push("\n");
+}
+
+/// The shapes on the way to the one that can't be made, and those of them that need one another.
+fn push_maker_chain(text: &mut Text, chain: &MakerChain) {
+    let mut caller: Option<EntryName> = None;
+    for shape in &chain.shapes {
+        text.push("chain: ");
+        match caller {
+            Some(name) => text.push_entry_name(name.addr, name.key),
+            None => push_origin(text, chain),
+        }
+        text.push(" leads to ");
+        push_shape(text, shape);
+        caller = Some(EntryName::of_shape(shape));
+    }
+    if let Some(from) = chain.ring {
+        for shape in chain.shapes.iter().skip(from) {
+            text.push("ring: ");
+            push_shape(text, shape);
+        }
+    }
+}
+
+/// What asks for the first shape of a chain.
+fn push_origin(text: &mut Text, chain: &MakerChain) {
+    match chain.call {
+        Some(call) => {
+            text.push("frame at ");
+            text.push_address(call.at);
+        }
+        None => text.push("root"),
+    }
+}
+
+fn push_shape(text: &mut Text, shape: &ShapeAt) {
+    text.push_entry_name(shape.addr, shape.key);
+    text.push("\n");
+}
+
+fn push_accepted_line(text: &mut Text, line: &AcceptedLine) {
+    match line {
+        AcceptedLine::Shapes(shapes) => push_count(text, "shapes: ", *shapes, " of 4096"),
+        AcceptedLine::Words { words, budget } => {
+            text.push("words: ");
+            text.push_decimal(*words);
+            push_count(text, " of the budget ", *budget, "");
+        }
+        AcceptedLine::ReturnPlaces(depth) => {
+            push_count(text, "return places: ", u32::from(*depth), " of 4")
+        }
+        AcceptedLine::Calls(calls) => push_calls(text, calls),
+        AcceptedLine::FrameLights(lit) => {
+            text.push("frame lights within: ");
+            text.push_extent(lit);
+            text.push("\n");
+        }
+        AcceptedLine::FrameMargins(margins) => push_margins(text, "frame margins: ", margins),
+        AcceptedLine::ShapesLight(lit) => {
+            text.push("shapes light within: ");
+            text.push_extent(lit);
+            text.push("\n");
+        }
+        AcceptedLine::ShapesMargins(margins) => push_margins(text, "shapes margins: ", margins),
+    }
+}
+
+/// The calls of a frame.
+fn push_calls(text: &mut Text, calls: &[Call]) {
+    for call in calls {
+        text.push("call: ");
+        text.push_address(call.at);
+        text.push(" ");
+        text.push_entry(&call.entry);
+        text.push("\n");
+    }
+}
+
+/// How far a box is from each edge of the window.
+fn push_margins(text: &mut Text, label: &str, margins: &Margins) {
+    text.push(label);
+    text.push("left ");
+    text.push_distance(margins.left);
+    text.push(", right ");
+    text.push_distance(margins.right);
+    text.push(", bottom ");
+    text.push_distance(margins.bottom);
+    text.push(", top ");
+    text.push_distance(margins.top);
+    text.push("\n");
+}
+
+/// A number of a made certificate, beside its limit.
+fn push_made_line(text: &mut Text, line: MadeLine) {
+    match line {
+        MadeLine::Entries(entries) => {
+            text.push("entries: ");
+            text.push_decimal(entries);
+            push_limit(text, MOST_ENTRIES)
+        }
+        MadeLine::Words(words) => {
+            text.push("words: at most ");
+            text.push_decimal(words);
+            push_limit(text, MOST_WORDS)
+        }
+        MadeLine::ReturnPlaces(depth) => {
+            text.push("return places: at most ");
+            text.push_decimal(depth);
+            push_limit(text, MOST_DEPTH)
+        }
+    }
+}
+
+/// The limit of a number.
+fn push_limit<N: Integer>(text: &mut Text, limit: N) {
+    text.push(" of ");
+    text.push_decimal(limit);
+    text.push("\n");
+}

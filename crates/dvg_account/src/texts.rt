@@ -1,0 +1,76 @@
+//! The accounts of answers, as texts.
+
+use crate::answers::{refusal_lines, verdict_lines};
+use crate::inputs::{Inputs, PlainWhy, plain_lines};
+use crate::making::{made_lines, unmade_lines};
+use crate::own::{OwnMaking, frame_lines, own_lines};
+use crate::spelling::text_of;
+use dvg_cert::Cert;
+use dvg_check::{Refusal, Yes};
+use dvg_explain::RomAccount;
+use dvg_make::{FrameRefusal, MakeAccount};
+use dvg_words::{RomImage, RomMap, Window};
+use std::alloc::{AllocError, Global};
+
+/// The account of [`verdict_lines`] as a text.
+pub fn verdict_text(
+    alloc: Global,
+    inputs: &Inputs,
+    verdict: &Result<Yes, Refusal>,
+    cause: Option<&RomAccount>,
+) -> Result<String, AllocError> {
+    text_of(alloc, &verdict_lines(alloc, inputs, verdict, cause)?)
+}
+
+/// The account of [`refusal_lines`] as a text.
+pub fn refusal_text(
+    alloc: Global,
+    inputs: &Inputs,
+    refusal: &Refusal,
+) -> Result<String, AllocError> {
+    text_of(alloc, &refusal_lines(alloc, inputs, refusal)?)
+}
+
+/// The account of [`frame_lines`] as a text.
+pub fn frame_text(
+    alloc: Global,
+    inputs: &Inputs,
+    verdict: &Result<Yes, FrameRefusal>,
+    cause: Option<&RomAccount>,
+) -> Result<String, AllocError> {
+    text_of(alloc, &frame_lines(alloc, inputs, verdict, cause)?)
+}
+
+/// The account of [`own_lines`] as a text.
+pub fn own_text(
+    alloc: Global,
+    rom: &[u8],
+    map: RomMap,
+    frame: &[u8],
+    budget: u32,
+    window: Window,
+    verdict: &Result<Yes, FrameRefusal>,
+    making: OwnMaking,
+) -> Result<String, AllocError> {
+    let lines = own_lines(alloc, rom, map, frame, budget, window, verdict, making)?;
+    text_of(alloc, &lines)
+}
+
+/// The account of [`plain_lines`] as a text.
+pub fn plain_text(alloc: Global, number: u8, why: PlainWhy) -> Result<String, AllocError> {
+    text_of(alloc, &plain_lines(alloc, number, why)?)
+}
+
+/// The account of [`made_lines`] as a text.
+pub fn made_text(alloc: Global, cert: &Cert) -> Result<String, AllocError> {
+    text_of(alloc, &made_lines(alloc, cert)?)
+}
+
+/// The account of [`unmade_lines`] as a text.
+pub fn unmade_text(
+    alloc: Global,
+    rom: &RomImage,
+    account: MakeAccount,
+) -> Result<String, AllocError> {
+    text_of(alloc, &unmade_lines(alloc, rom, account)?)
+}
