@@ -1,5 +1,5 @@
 -- The lines of a verdict. All of it is profile.
-use Rattle.std.specs.Prelude.{◌≡◌, List, length, Option, Some, None, Result, Ok, Err, IfSome, option_copied}
+use Rattle.std.specs.Prelude.{◌≡◌, List, length, Option, Some, Result, Ok, Err, IfSome}
 use Rattle.dvg_words.specs.Memory.{words_of, rom_of, IsFrameLength, IsRomLength}
 use Rattle.dvg_check.specs.Numbers.{refusal_number}
 use Rattle.dvg_check.specs.declared.verdict.Yes.{Yes}
