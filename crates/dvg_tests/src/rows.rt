@@ -1,15 +1,13 @@
 //! Worked rows, judged over both indexes and by runs. The reports were found by hand.
 
-ghost use Rattle.std.specs.Prelude.{◌≡◌};
-
 use crate::expecting::expect;
 use crate::running::devices::SlowReader;
-use dvg_cert::{Cert, Counted, ListIndex, read_cert};
+use dvg_cert::{Counted, ListIndex, read_cert};
 use dvg_check::{
     JudgedShapes, Mode, Refusal, Yes, check, check_exact, check_parts, check_parts_exact, frame_of,
 };
 use dvg_cmd::{report_of, run_check, window_of};
-use dvg_words::{FrameImage, RomImage, SCREEN, Window};
+use dvg_words::{RomImage, SCREEN, Window};
 use std::alloc::Global;
 use std::process::Abort;
 
@@ -920,9 +918,9 @@ fn bytes_of(rt: &impl Abort, alloc: Global, words: &str) -> Vec<u8> {
     for word in words.split_whitespace() {
         let (word, times) = word.split_once('*').unwrap_or((word, "1"));
         let pair = hex(rt, word).to_le_bytes();
-        let spelled = if word.len() == 2 { &pair[..1] } else { &pair[..] };
+        let spelled = if word.len() == 2 { 1 } else { 2 };
         for _ in 0..times.parse::<u16>().expect(rt, "a count") {
-            bytes.extend_from_slice(spelled).expect(rt, "memory");
+            bytes.extend_from_slice(&pair[..spelled]).expect(rt, "memory");
         }
     }
     bytes
@@ -942,18 +940,20 @@ fn rom_bytes(rt: &impl Abort, alloc: Global, words: &str, map: &str) -> Vec<u8> 
     bytes
 }
 
-/// The verdict over an index that searches the list.
+/// The verdict over an index that searches the list, where `check_parts` has one that hashes.
 fn judge_by_list(
-    rom: &RomImage,
-    cert: &Cert,
-    frame: &FrameImage,
+    alloc: Global,
+    rom: &[u8],
+    text: &[u8],
+    frame: &[u8],
     asked: &Asked,
-) -> Result<Yes, Refusal>
-    requires { rom.now.map ≡ cert.now.map }
-{
-    let entries = ListIndex::new(cert);
-    let shapes = JudgedShapes::judge(rom, cert, &entries, asked.window, asked.mode)?;
-    let accepted = shapes.check_frame(frame, asked.budget)?;
+) -> Result<Yes, Refusal> {
+    let frame = frame_of(frame, asked.budget)?;
+    let cert = read_cert(alloc, text)?;
+    let rom = RomImage::from_bytes(rom, cert.map())?;
+    let entries = ListIndex::new(&cert);
+    let shapes = JudgedShapes::judge(&rom, &cert, &entries, asked.window, asked.mode)?;
+    let accepted = shapes.check_frame(&frame, asked.budget)?;
     Ok(Yes {
         shapes: cert.entries().len() as u32,
         words: accepted.words,
@@ -961,23 +961,22 @@ fn judge_by_list(
     })
 }
 
-/// The verdicts on images and a certificate that are at hand, over an index that hashes and over one that searches the list.
+/// The verdict on images and entries that are at hand.
 fn judge_parts(
     alloc: Global,
     rom: &[u8],
     text: &[u8],
     frame: &[u8],
     asked: &Asked,
-) -> Result<[Result<Yes, Refusal>; 2], Refusal> {
+) -> Result<Yes, Refusal> {
     let frame = frame_of(frame, asked.budget)?;
     let cert = read_cert(alloc, text)?;
     let rom = RomImage::from_bytes(rom, cert.map())?;
     let Asked { budget, window, .. } = *asked;
-    let hashed = match asked.mode {
+    match asked.mode {
         Mode::Bound => check_parts(alloc, &rom, &frame, &cert, budget, window),
         Mode::Exact => check_parts_exact(alloc, &rom, &frame, &cert, budget, window),
-    };
-    Ok([hashed, judge_by_list(&rom, &cert, &frame, asked)])
+    }
 }
 
 /// What a run writes over readers of one byte a read.
@@ -1016,11 +1015,8 @@ pub fn is_reported(
         Mode::Exact => check_exact(alloc, rom, text, frame, asked.budget, asked.window),
     };
     let line = run_byte_by_byte(alloc, rom, text, frame, asked);
-    let is_same = match judge_parts(alloc, rom, text, frame, asked) {
-        Ok([hashed, listed]) => hashed == verdict && listed == verdict,
-        Err(refusal) => verdict == Err(refusal),
-    };
-    is_same
+    verdict == judge_parts(alloc, rom, text, frame, asked)
+        && verdict == judge_by_list(alloc, rom, text, frame, asked)
         && report_of(&verdict).as_bytes() == line.as_slice()
         && line.strip_suffix(b"\n") == Some(report.as_bytes())
 }

@@ -23,7 +23,7 @@ fn told_of(reader: Counted<SlowReader>) -> Told {
 }
 
 /// Reads a ROM, a frame and a certificate in a run, by readers that give so many bytes a read, and tells of the three.
-fn told_of_readers(alloc: Global, inputs: [&[u8]; 3], most: usize) -> [Told; 3] {
+fn told_of_readers(alloc: Global, inputs: [&[u8]; 3], most: usize) -> ([u32; 3], [usize; 3]) {
     let [rom, frame, cert] = inputs;
     let mut rom = Counted::new(SlowReader::new(rom, most));
     let mut frame = Counted::new(SlowReader::new(frame, most));
@@ -38,44 +38,36 @@ fn told_of_readers(alloc: Global, inputs: [&[u8]; 3], most: usize) -> [Told; 3] 
         Mode::Bound,
         &mut Counted::new(Vec::new(alloc)),
     );
-    [told_of(rom), told_of(frame), told_of(cert)]
+    let (rom, frame, cert) = (told_of(rom), told_of(frame), told_of(cert));
+    ([rom.0, frame.0, cert.0], [rom.1, frame.1, cert.1])
 }
 
-/// Lengths of a ROM, a frame and a certificate of zeros, how many bytes are given a read, and what becomes of their readers. An input
+/// Lengths of a ROM, a frame and a certificate of zeros, how many bytes are given a read, how often each is read, and how many of its bytes
+/// nobody reads. An input
 /// is read to its end, which is met once, or to one byte past its limit. A certificate that is refused is read no further than its
 /// first piece, but as far as the others where the frame was refused before it.
-const LENGTHS: &[([usize; 3], usize, [Told; 3])] = &[
-    ([0, 0, 0], 1, [(1, 0), (1, 0), (1, 0)]),
-    ([2047, 10, 0], 1, [(2048, 0), (11, 0), (1, 0)]),
-    ([2048, 2048, 0], 1, [(2049, 0), (2049, 0), (1, 0)]),
-    ([2049, 2049, 0], 1, [(2050, 0), (2049, 0), (1, 0)]),
-    ([4096, 2049, 0], 1, [(4097, 0), (2049, 0), (1, 0)]),
-    ([4110, 2100, 0], 1, [(4097, 13), (2049, 51), (1, 0)]),
-    (
-        [2048, 10, 1_048_600],
-        1,
-        [(2049, 0), (11, 0), (4096, 1_044_504)],
-    ),
-    (
-        [2048, 0, 1_048_600],
-        1,
-        [(2049, 0), (1, 0), (1_048_577, 23)],
-    ),
-    ([2048, 0, 1_048_600], 4096, [(2, 0), (1, 0), (257, 23)]),
+const LENGTHS: &[([usize; 3], usize, [u32; 3], [usize; 3])] = &[
+    ([0, 0, 0], 1, [1, 1, 1], [0, 0, 0]),
+    ([2047, 10, 0], 1, [2048, 11, 1], [0, 0, 0]),
+    ([2048, 2048, 0], 1, [2049, 2049, 1], [0, 0, 0]),
+    ([2049, 2049, 0], 1, [2050, 2049, 1], [0, 0, 0]),
+    ([4096, 2049, 0], 1, [4097, 2049, 1], [0, 0, 0]),
+    ([4110, 2100, 0], 1, [4097, 2049, 1], [13, 51, 0]),
+    ([2048, 10, 1_048_600], 1, [2049, 11, 4096], [0, 0, 1_044_504]),
+    ([2048, 0, 1_048_600], 1, [2049, 1, 1_048_577], [0, 0, 23]),
+    ([2048, 0, 1_048_600], 4096, [2, 1, 257], [0, 0, 23]),
 ];
 
 #[test]
 fn reads_each_byte_once(rt: HostRuntime) {
     let zeros = vec![in rt.alloc(); 0u8; 1_048_600].expect(&rt, "memory");
-    for &(lengths, most, want) in LENGTHS {
-        let [rom, frame, cert] = lengths;
-        let inputs = [
-            zeros.get(..rom).unwrap_or(&[]),
-            zeros.get(..frame).unwrap_or(&[]),
-            zeros.get(..cert).unwrap_or(&[]),
-        ];
+    for &(lengths, most, reads, left) in LENGTHS {
+        let rom = zeros.get(..lengths[0]).unwrap_or(&[]);
+        let frame = zeros.get(..lengths[1]).unwrap_or(&[]);
+        let cert = zeros.get(..lengths[2]).unwrap_or(&[]);
+        let inputs = [rom, frame, cert];
         let told = told_of_readers(rt.alloc(), inputs, most);
-        expect_same(&rt, &told, &want, &lengths);
+        expect_same(&rt, &told, &(reads, left), &lengths);
     }
 }
 
