@@ -57,19 +57,25 @@ const FRAMES: &[(&[u8], u16, FrameCause)] = &[
     ),
 ];
 
-#[test]
-fn explains_frames(rt: HostRuntime) {
+/// Stops the test unless a frame over a certificate without entries is refused at this word for this cause.
+fn explain_bytes(rt: &impl Abort, alloc: Global, frame: &[u8], word: u16, cause: FrameCause) {
     let bytes = short_rom();
-    let cert = read_cert(rt.alloc(), EMPTY).expect(&rt, "a certificate");
-    let rom = RomImage::from_bytes(&bytes, cert.map()).expect(&rt, "a ROM");
+    let cert = read_cert(alloc, EMPTY).expect(rt, "a certificate");
+    let rom = RomImage::from_bytes(&bytes, cert.map()).expect(rt, "a ROM");
+    let frame = FrameImage::from_bytes(frame).expect(rt, "a frame");
     let entries = ListIndex::new(&cert);
     let judged = JudgedShapes::judge(&rom, &cert, &entries, SCREEN, Mode::Bound);
-    let shapes = judged.expect(&rt, "shapes");
+    let shapes = judged.expect(rt, "shapes");
+    let explained = explain_frame(&shapes, &frame, 3);
+    let account = explained.expect_err(rt, "a refusal");
+    let told = (account.finding.fault.word, account.cause);
+    expect_same(rt, &told, &(word, cause), &word);
+}
+
+#[test]
+fn explains_frames(rt: HostRuntime) {
     for &(frame, word, cause) in FRAMES {
-        let frame = FrameImage::from_bytes(frame).expect(&rt, "a frame");
-        let account = explain_frame(&shapes, &frame, 3).expect_err(&rt, "a refusal");
-        let told = (account.finding.fault.word, account.cause);
-        expect_same(&rt, &told, &(word, cause), &word);
+        explain_bytes(&rt, rt.alloc(), frame, word, cause);
     }
 }
 
