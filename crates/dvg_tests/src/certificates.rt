@@ -207,11 +207,19 @@ fn from_entries(rt: HostRuntime) {
     let cert = read_cert(rt.alloc(), STROKE_CERT).expect(&rt, "a certificate");
     assert_eq!(rt; cert.rom(), (0x800, 0xBFF));
     let mut twice = Vec::from_slice(rt.alloc(), cert.entries()).expect(&rt, "memory");
-    twice.extend_from_slice(cert.entries()).expect(&rt, "memory");
-    let mut once = Cert::from_entries(twice, cert.rom()).err().expect(&rt, "an entry twice");
+    twice
+        .extend_from_slice(cert.entries())
+        .expect(&rt, "memory");
+    let mut once = Cert::from_entries(twice, cert.rom())
+        .err()
+        .expect(&rt, "an entry twice");
     once.pop();
-    let once = Cert::from_entries(once, (0x400, 0x7FF)).err().expect(&rt, "another map");
-    let once = Cert::from_entries(once, (0xBFF, 0x800)).err().expect(&rt, "ends swapped");
+    let once = Cert::from_entries(once, (0x400, 0x7FF))
+        .err()
+        .expect(&rt, "another map");
+    let once = Cert::from_entries(once, (0xBFF, 0x800))
+        .err()
+        .expect(&rt, "ends swapped");
     let again = Cert::from_entries(once, cert.rom()).expect(&rt, "the same entries");
     assert_eq!(rt; again.entries(), cert.entries());
 }
@@ -248,7 +256,13 @@ fn shows_faults(rt: HostRuntime) {
         expect_shown(&rt, rt.alloc(), &fault, "line 4098: ", text);
     }
     assert_eq!(rt; WriteFault::Device.number(), 17);
-    expect_shown(&rt, rt.alloc(), &WriteFault::Device, "", "the writer failed");
+    expect_shown(
+        &rt,
+        rt.alloc(),
+        &WriteFault::Device,
+        "",
+        "the writer failed",
+    );
 }
 
 /// Keys and their texts.

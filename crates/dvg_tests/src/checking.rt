@@ -54,7 +54,11 @@ fn judges_a_rom(rt: HostRuntime) {
         let rom = rom.get(..bytes).unwrap_or(&rom);
         let verdict = check_rom(rt.alloc(), rom, &frame, &cert, 20000, SCREEN, mode);
         let want = match words {
-            Ok(words) => Ok(Yes { shapes: 1, words, depth: 1 }),
+            Ok(words) => Ok(Yes {
+                shapes: 1,
+                words,
+                depth: 1,
+            }),
             Err(refusal) => Err(refusal),
         };
         expect_same(&rt, &verdict, &want, &(bytes, mode));
@@ -259,5 +263,10 @@ const REFUSALS: &[FaultRow<Refusal>] = &[
 
 #[test]
 fn shows_refusals(rt: HostRuntime) {
-    expect_faults(&rt, rt.alloc(), REFUSALS, |refusal: &Refusal| refusal.number());
+    expect_faults(
+        &rt,
+        rt.alloc(),
+        REFUSALS,
+        |refusal: &Refusal| refusal.number(),
+    );
 }

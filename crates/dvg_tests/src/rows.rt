@@ -27,7 +27,7 @@ pub const USUAL: Asked = Asked {
 };
 
 /// The rows. The first line of each says what it shows. Then come its inputs, in any order: `rom`, a word address and the words from
-/// there on, where the ROM is not of zeros alone; `bytes`, how many bytes the ROM has, where its map has more; `frame` and its words;
+/// there on, where the ROM is not of zeros alone; `bytes`, how many bytes the ROM has, where its map has another number; `frame` and its words;
 /// `budget`, where it is not 20,000; `window`, where it is not the screen; `mode exact`, where counts are not bounds. After the report
 /// stands the text of the certificate, where it is not the one without entries.
 const ROWS: &str = "\
@@ -839,6 +839,7 @@ done 1
 
 a word more than that ROM has
 rom 800 92FF 73FF D000
+bytes 2048
 frame A080 0000 C800 B0B0
 refused 1
 dvgcert 2
@@ -920,7 +921,9 @@ fn bytes_of(rt: &impl Abort, alloc: Global, words: &str) -> Vec<u8> {
         let pair = hex(rt, word).to_le_bytes();
         let spelled = if word.len() == 2 { 1 } else { 2 };
         for _ in 0..times.parse::<u16>().expect(rt, "a count") {
-            bytes.extend_from_slice(&pair[..spelled]).expect(rt, "memory");
+            bytes
+                .extend_from_slice(&pair[..spelled])
+                .expect(rt, "memory");
         }
     }
     bytes
@@ -1061,8 +1064,9 @@ fn judge_row(rt: &impl Abort, alloc: Global, row: &str) {
     let map = words_of(text, "rom", "800 BFF");
     let mut rom = rom_bytes(rt, alloc, words_of(inputs, "rom", "800"), map);
     let text = text_of(rt, alloc, text);
-    let bytes = words_of(inputs, "bytes", "4096");
-    rom.truncate(bytes.parse::<usize>().expect(rt, "a length"));
+    if let Ok(length) = words_of(inputs, "bytes", "").parse::<usize>() {
+        rom.resize(length, 0).expect(rt, "memory");
+    }
     let frame = bytes_of(rt, alloc, words_of(inputs, "frame", ""));
     let report = inputs.lines().last().unwrap_or("");
     let is = is_reported(alloc, &rom, &text, &frame, &asked_of(rt, inputs), report);

@@ -6,10 +6,10 @@ use crate::expecting::{FaultRow, expect, expect_faults, expect_same};
 use crate::inputs::EMPTY;
 use devices::SlowReader;
 use dvg_cmd::{
-    Counted, EntryFault, FrameCall, FrameOutcome, FramesRunFault, Key, MakeFault,
-    MakeRunFault, Mode, Outcome, RunFault, SCREEN, Window, frames_status_of,
-    make_frames_report_of, make_frames_status_of, make_report_of, make_status_of, map_of,
-    message_of, root_of, run_check, run_make, start_of, status_of, window_of,
+    Counted, EntryFault, FrameCall, FrameOutcome, FramesRunFault, Key, MakeFault, MakeRunFault,
+    Mode, Outcome, RunFault, SCREEN, Window, frames_status_of, make_frames_report_of,
+    make_frames_status_of, make_report_of, make_status_of, map_of, message_of, root_of, run_check,
+    run_make, start_of, status_of, window_of,
 };
 use std::alloc::Global;
 use std::fmt::Debug;
@@ -53,7 +53,12 @@ const LENGTHS: &[([usize; 3], usize, [u32; 3], [usize; 3])] = &[
     ([2049, 2049, 0], 1, [2050, 2049, 1], [0, 0, 0]),
     ([4096, 2049, 0], 1, [4097, 2049, 1], [0, 0, 0]),
     ([4110, 2100, 0], 1, [4097, 2049, 1], [13, 51, 0]),
-    ([2048, 10, 1_048_600], 1, [2049, 11, 4096], [0, 0, 1_044_504]),
+    (
+        [2048, 10, 1_048_600],
+        1,
+        [2049, 11, 4096],
+        [0, 0, 1_044_504],
+    ),
     ([2048, 0, 1_048_600], 1, [2049, 1, 1_048_577], [0, 0, 23]),
     ([2048, 0, 1_048_600], 4096, [2, 1, 257], [0, 0, 23]),
 ];
@@ -72,11 +77,7 @@ fn reads_each_byte_once(rt: HostRuntime) {
 }
 
 /// Stops the test unless each end of a run has its status, which this gives.
-fn expect_statuses<E: Debug, S: Fn(&E) -> u8>(
-    rt: &impl Abort,
-    statuses: &[(E, u8)],
-    status_of: S,
-)
+fn expect_statuses<E: Debug, S: Fn(&E) -> u8>(rt: &impl Abort, statuses: &[(E, u8)], status_of: S)
     requires { S.IsAlwaysCallable status_of }
 {
     for (end, status) in statuses {
@@ -110,8 +111,16 @@ const FRAME_STATUSES: &[(Result<FrameOutcome, RunFault>, u8)] = &[
 
 #[test]
 fn says_how_it_ended(rt: HostRuntime) {
-    expect_statuses(&rt, STATUSES, |end: &Result<Outcome, RunFault>| status_of(end));
-    expect_statuses(&rt, FRAME_STATUSES, |end: &Result<FrameOutcome, RunFault>| frames_status_of(end));
+    expect_statuses(
+        &rt,
+        STATUSES,
+        |end: &Result<Outcome, RunFault>| status_of(end),
+    );
+    expect_statuses(
+        &rt,
+        FRAME_STATUSES,
+        |end: &Result<FrameOutcome, RunFault>| frames_status_of(end),
+    );
 }
 
 /// Faults of runs, their numbers and their texts.
@@ -131,7 +140,12 @@ fn shows_faults(rt: HostRuntime) {
         let shown = message_of(fault).strip_prefix("dvgcheck: ");
         expect_same(&rt, &shown, &Some(*text), fault);
     }
-    expect_faults(&rt, rt.alloc(), MAKE_FAULTS, |fault: &MakeRunFault| fault.number());
+    expect_faults(
+        &rt,
+        rt.alloc(),
+        MAKE_FAULTS,
+        |fault: &MakeRunFault| fault.number(),
+    );
 }
 
 const UNSTRAIGHT: MakeRunFault = MakeRunFault::Make(MakeFault::Unstraight { word: 0x0AB });
@@ -280,7 +294,12 @@ fn reads_starts_and_roots(rt: HostRuntime) {
         expect(&rt, start_of(word).is_none(), &word);
     }
     expect_same(&rt, &root_of("800/0"), &Some((0x800, Key::At(0))), &"800/0");
-    expect_same(&rt, &root_of("BFF/any"), &Some((0xBFF, Key::Any)), &"BFF/any");
+    expect_same(
+        &rt,
+        &root_of("BFF/any"),
+        &Some((0xBFF, Key::Any)),
+        &"BFF/any",
+    );
 }
 
 /// Windows from words.

@@ -273,7 +273,12 @@ fn expect_written(
     let is_sent = write_cert(cert, &mut out).is_ok();
     let failures = CountedWrite::failures(&out);
     let device = out.into_inner();
-    expect_same(rt, &(is_sent, failures, device.calls), &sent, &(most, fails));
+    expect_same(
+        rt,
+        &(is_sent, failures, device.calls),
+        &sent,
+        &(most, fails),
+    );
     let is_prefix = text.get(..len) == Some(device.taken.as_slice());
     expect(rt, is_prefix, &(most, fails));
 }
@@ -285,7 +290,11 @@ fn sends_a_certificate_once(rt: HostRuntime) {
     let written = (&cert, STROKE_CERT);
     let len = STROKE_CERT.len();
     for at in 0..=len as u32 {
-        let sent = if at as usize == len { (true, 0, at) } else { (false, 1, at.saturating_add(1)) };
+        let sent = if at as usize == len {
+            (true, 0, at)
+        } else {
+            (false, 1, at.saturating_add(1))
+        };
         for fails in [Fails::Error(at), Fails::Idle(at)] {
             expect_written(&rt, rt.alloc(), written, (1, fails), sent, at as usize);
         }
@@ -301,7 +310,8 @@ fn text_of_returns(rt: &impl Abort, alloc: Global) -> String {
         let line = format!(in alloc;
             "shape {addr:03X} {scale} end rel 0 0 box none depth 0 words 1 scale {scale}\n"
         );
-        text.push_str(&line.expect(rt, "memory")).expect(rt, "memory");
+        text.push_str(&line.expect(rt, "memory"))
+            .expect(rt, "memory");
     }
     text.push_str("done 4096\n").expect(rt, "memory");
     text
@@ -332,7 +342,14 @@ fn sends_many_lines_a_write(rt: HostRuntime) {
     let cert = read_cert(rt.alloc(), text).expect(&rt, "a certificate");
     for &(most, calls) in WHOLE_WRITES {
         let device = (most, Fails::Never);
-        expect_written(&rt, rt.alloc(), (&cert, text), device, (true, 0, calls), text.len());
+        expect_written(
+            &rt,
+            rt.alloc(),
+            (&cert, text),
+            device,
+            (true, 0, calls),
+            text.len(),
+        );
     }
     for at in 0..61u32 {
         let lines = if at == 0 { 0 } else { 68 * at as usize + 1 };
