@@ -2,27 +2,18 @@
 
 mod devices;
 
-use crate::expecting::{expect, expect_same, expect_shown, expect_shown_after};
+use crate::expecting::{expect, expect_same, expect_shown};
+use crate::inputs::{EMPTY, STROKE_AT_400, STROKE_CERT, STROKE_TWICE};
 use dvg_cert::*;
-use std::alloc::{AllocError, Global};
+use std::alloc::Global;
 use std::process::Abort;
-use std::test::Fail;
 
 /// What a reader answers: how many entries, or the refusal.
 pub type Answer = Result<usize, CertFault>;
 
-const ONE_ENTRY: &[u8] =
-    b"dvgcert 1\nshape 800 0 end rel 1047552 785408 box 0 1047552 0 785408 depth 0 words 3 scale 0\ndone 1\n";
-
-/// The same for a ROM at 400 to 7FF, and an entry past that.
-const AT_400: &[u8] =
-    b"dvgcert 2\nrom 400 7FF\nshape 400 0 end rel 1047552 785408 box 0 1047552 0 785408 depth 0 words 3 scale 0\ndone 1\n";
-
+/// An entry past the ROM's last word.
 const PAST_7FF: &[u8] =
     b"dvgcert 2\nrom 400 7FF\nshape 800 0 end rel 0 0 box none depth 0 words 3 scale 0\ndone 1\n";
-
-const TWICE: &[u8] =
-    b"dvgcert 1\nshape 800 0 end rel 1047552 785408 box 0 1047552 0 785408 depth 0 words 3 scale 0\nshape 800 0 end rel 1047552 785408 box 0 1047552 0 785408 depth 0 words 3 scale 0\ndone 2\n";
 
 const KEYS_FALL: &[u8] =
     b"dvgcert 1\nshape 800 any end lost box none depth 0 words 1 scale 0\nshape 800 15 end lost box none depth 0 words 1 scale 0\ndone 2\n";
@@ -94,64 +85,52 @@ fn check_row(rt: &impl Abort, alloc: Global, text: &[u8], want: Answer) {
     expect(rt, is_read_back(alloc, text), &want);
 }
 
-/// Where the ROM lies of which a text speaks.
-fn rom_of(alloc: Global, text: &[u8]) -> Option<(u16, u16)> {
-    let cert = read_cert(alloc, text).ok()?;
-    Some(cert.rom())
-}
+/// Texts that are taken, and how many entries they have.
+const TAKEN: &[(&[u8], usize)] = &[
+    (EMPTY, 0),
+    (STROKE_CERT, 1),
+    (LONGEST, 1),
+    (b"dvgcert 2\nrom 400 7FF\ndone 0\n", 0),
+    (b"dvgcert 2\nrom 400 BFF\ndone 0\n", 0),
+    (b"dvgcert 2\nrom BFF BFF\ndone 0\n", 0),
+    (STROKE_AT_400, 1),
+];
 
-/// Texts of version 2: the line of the ROM, addresses of its map, and lines counted from the first.
-#[test]
-fn texts_of_other_maps(rt: HostRuntime) {
-    let rows: [(&[u8], Answer); 16] = [
-        (b"dvgcert 2\nrom 400 7FF\ndone 0\n", Ok(0)),
-        (b"dvgcert 2\nrom 400 BFF\ndone 0\n", Ok(0)),
-        (b"dvgcert 2\nrom BFF BFF\ndone 0\n", Ok(0)),
-        (AT_400, Ok(1)),
-        (b"dvgcert 2", refused(1, CertWhy::Unended)),
-        (b"dvgcert 2\n", refused(2, CertWhy::Unended)),
-        (b"dvgcert 2\nrom 400 7FF\n", refused(3, CertWhy::Unended)),
-        (b"dvgcert 2\nrom 800 BFF\n", refused(2, CertWhy::Form)),
-        (b"dvgcert 2\nrom 7FF 400\n", refused(2, CertWhy::Form)),
-        (b"dvgcert 2\nrom 3FF 7FF\n", refused(2, CertWhy::Form)),
-        (b"dvgcert 2\nrom 400 C00\n", refused(2, CertWhy::Form)),
-        (b"dvgcert 2\nrom 400 7ff\n", refused(2, CertWhy::Form)),
-        (b"dvgcert 3\n", refused(1, CertWhy::Form)),
-        (b"dvgcert 1\nrom 400 7FF\n", refused(2, CertWhy::Form)),
-        (PAST_7FF, refused(3, CertWhy::Form)),
-        (
-            b"dvgcert 2\nrom 400 7FF\ndone 0\nx",
-            refused(4, CertWhy::After),
-        ),
-    ];
-    for (text, want) in rows {
-        check_row(&rt, rt.alloc(), text, want);
-    }
-    let ends = (rom_of(rt.alloc(), AT_400), rom_of(rt.alloc(), ONE_ENTRY));
-    assert_eq!(rt; ends, (Some((0x400, 0x7FF)), Some((0x800, 0xBFF))));
-}
+/// Texts that are refused, the line of the refusal and its reason. Lines are counted from the first, that of the ROM among them.
+const REFUSED: &[(&[u8], u32, CertWhy)] = &[
+    (b"", 1, CertWhy::Unended),
+    (b"dvgcert 1", 1, CertWhy::Unended),
+    (b"dvgcert 1\n", 2, CertWhy::Unended),
+    (b"dvgcert 2\ndone 0\n", 2, CertWhy::Form),
+    (b"dvgcert 1\ndone 0", 2, CertWhy::Unended),
+    (b"dvgcert 1\ndone 00\n", 2, CertWhy::Form),
+    (b"dvgcert 1\ndone 1\n", 2, CertWhy::Count),
+    (b"dvgcert 1\ndone 4097\n", 2, CertWhy::Form),
+    (STROKE_TWICE, 3, CertWhy::Order),
+    (KEYS_FALL, 3, CertWhy::Order),
+    (b"dvgcert 1\ndone 0\n\n", 3, CertWhy::After),
+    (b"dvgcert 1\r\ndone 0\r\n", 1, CertWhy::Form),
+    (b"dvgcert 2", 1, CertWhy::Unended),
+    (b"dvgcert 2\n", 2, CertWhy::Unended),
+    (b"dvgcert 2\nrom 400 7FF\n", 3, CertWhy::Unended),
+    (b"dvgcert 2\nrom 800 BFF\n", 2, CertWhy::Form),
+    (b"dvgcert 2\nrom 7FF 400\n", 2, CertWhy::Form),
+    (b"dvgcert 2\nrom 3FF 7FF\n", 2, CertWhy::Form),
+    (b"dvgcert 2\nrom 400 C00\n", 2, CertWhy::Form),
+    (b"dvgcert 2\nrom 400 7ff\n", 2, CertWhy::Form),
+    (b"dvgcert 3\n", 1, CertWhy::Form),
+    (b"dvgcert 1\nrom 400 7FF\n", 2, CertWhy::Form),
+    (PAST_7FF, 3, CertWhy::Form),
+    (b"dvgcert 2\nrom 400 7FF\ndone 0\nx", 4, CertWhy::After),
+];
 
 #[test]
 fn whole_texts(rt: HostRuntime) {
-    let rows: [(&[u8], Answer); 15] = [
-        (b"dvgcert 1\ndone 0\n", Ok(0)),
-        (ONE_ENTRY, Ok(1)),
-        (LONGEST, Ok(1)),
-        (b"", refused(1, CertWhy::Unended)),
-        (b"dvgcert 1", refused(1, CertWhy::Unended)),
-        (b"dvgcert 1\n", refused(2, CertWhy::Unended)),
-        (b"dvgcert 2\ndone 0\n", refused(2, CertWhy::Form)),
-        (b"dvgcert 1\ndone 0", refused(2, CertWhy::Unended)),
-        (b"dvgcert 1\ndone 00\n", refused(2, CertWhy::Form)),
-        (b"dvgcert 1\ndone 1\n", refused(2, CertWhy::Count)),
-        (b"dvgcert 1\ndone 4097\n", refused(2, CertWhy::Form)),
-        (TWICE, refused(3, CertWhy::Order)),
-        (KEYS_FALL, refused(3, CertWhy::Order)),
-        (b"dvgcert 1\ndone 0\n\n", refused(3, CertWhy::After)),
-        (b"dvgcert 1\r\ndone 0\r\n", refused(1, CertWhy::Form)),
-    ];
-    for (text, want) in rows {
-        check_row(&rt, rt.alloc(), text, want);
+    for &(text, entries) in TAKEN {
+        check_row(&rt, rt.alloc(), text, Ok(entries));
+    }
+    for &(text, line, why) in REFUSED {
+        check_row(&rt, rt.alloc(), text, refused(line, why));
     }
 }
 
@@ -168,8 +147,8 @@ fn long_lines(rt: HostRuntime) {
 /// A text that ends within its entry, in pieces of seven bytes.
 #[test]
 fn unended_texts(rt: HostRuntime) {
-    for at in 0..ONE_ENTRY.len() - 7 {
-        let answer = fed(&rt, rt.alloc(), &ONE_ENTRY[..at], 7, 7);
+    for at in 0..STROKE_CERT.len() - 7 {
+        let answer = fed(&rt, rt.alloc(), &STROKE_CERT[..at], 7, 7);
         expect(&rt, answer.is_err(), &at);
     }
 }
@@ -203,44 +182,46 @@ const WRONG_LINES: &[&[u8]] = &[
 ];
 
 /// A text with this second line.
-fn text_with(alloc: Global, line: &[u8]) -> Result<Vec<u8>, AllocError> {
-    let mut text = Vec::from_slice(alloc, b"dvgcert 1\n")?;
-    text.extend_from_slice(line)?;
-    text.push(b'\n')?;
-    Ok(text)
+fn text_with(rt: &impl Abort, alloc: Global, line: &[u8]) -> Vec<u8> {
+    let mut text = Vec::from_slice(alloc, b"dvgcert 1\n").expect(rt, "memory");
+    text.extend_from_slice(line).expect(rt, "memory");
+    text.push(b'\n').expect(rt, "memory");
+    text
 }
 
 #[test]
-fn lines(rt: HostRuntime) -> Result<(), AllocError> {
+fn lines(rt: HostRuntime) {
     for line in TAKEN_LINES {
-        let text = text_with(rt.alloc(), line)?;
+        let text = text_with(&rt, rt.alloc(), line);
         check_row(&rt, rt.alloc(), &text, refused(3, CertWhy::Unended));
     }
     for line in WRONG_LINES {
-        let text = text_with(rt.alloc(), line)?;
+        let text = text_with(&rt, rt.alloc(), line);
         check_row(&rt, rt.alloc(), &text, refused(2, CertWhy::Form));
     }
-    Ok(())
 }
 
-/// The entries of a certificate are one, and twice the same entry is none.
+/// The entries of a certificate are one, for its own map alone, and twice the same entry is none.
 #[test]
-fn from_entries(rt: HostRuntime) -> Result<(), Fail> {
-    let cert = read_cert(rt.alloc(), ONE_ENTRY)?;
-    let mut entries = Vec::from_slice(rt.alloc(), cert.entries())?;
-    entries.extend_from_slice(cert.entries())?;
-    let Err(mut same) = Cert::from_entries(entries, cert.rom()) else {
-        return Err(Fail::new("an entry was taken twice"));
-    };
-    same.pop();
-    let Err(same) = Cert::from_entries(same, (0x400, 0x7FF)) else {
-        return Err(Fail::new("an address of another map was taken"));
-    };
-    let Err(same) = Cert::from_entries(same, (0xBFF, 0x800)) else {
-        return Err(Fail::new("a map was taken with its ends swapped"));
-    };
-    assert!(rt; Cert::from_entries(same, cert.rom()).is_ok_and(|cert| cert.entries().len() == 1));
-    Ok(())
+fn from_entries(rt: HostRuntime) {
+    let cert = read_cert(rt.alloc(), STROKE_CERT).expect(&rt, "a certificate");
+    assert_eq!(rt; cert.rom(), (0x800, 0xBFF));
+    let mut twice = Vec::from_slice(rt.alloc(), cert.entries()).expect(&rt, "memory");
+    twice
+        .extend_from_slice(cert.entries())
+        .expect(&rt, "memory");
+    let mut once = Cert::from_entries(twice, cert.rom())
+        .err()
+        .expect(&rt, "an entry twice");
+    once.pop();
+    let once = Cert::from_entries(once, (0x400, 0x7FF))
+        .err()
+        .expect(&rt, "another map");
+    let once = Cert::from_entries(once, (0xBFF, 0x800))
+        .err()
+        .expect(&rt, "ends swapped");
+    let again = Cert::from_entries(once, cert.rom()).expect(&rt, "the same entries");
+    assert_eq!(rt; again.entries(), cert.entries());
 }
 
 /// The refusals, their numbers and their texts.
@@ -267,23 +248,34 @@ const FAULTS: &[(CertWhy, u8, &str)] = &[
 ];
 
 #[test]
-fn shows_faults(rt: HostRuntime) -> Result<(), AllocError> {
+fn shows_faults(rt: HostRuntime) {
     for &(why, number, text) in FAULTS {
         let fault = CertFault { line: 4098, why };
-        let numbers = (why.number(), fault.number());
-        expect_same(&rt, &numbers, &(number, number), &text);
-        expect_shown(&rt, rt.alloc(), &why, text)?;
-        expect_shown_after(&rt, rt.alloc(), &fault, "line 4098: ", text)?;
+        expect_same(&rt, &[why.number(), fault.number()], &[number; 2], &text);
+        expect_shown(&rt, rt.alloc(), &why, "", text);
+        expect_shown(&rt, rt.alloc(), &fault, "line 4098: ", text);
     }
     assert_eq!(rt; WriteFault::Device.number(), 17);
-    expect_shown(&rt, rt.alloc(), &WriteFault::Device, "the writer failed")
+    expect_shown(
+        &rt,
+        rt.alloc(),
+        &WriteFault::Device,
+        "",
+        "the writer failed",
+    );
 }
 
-/// The texts of keys.
+/// Keys and their texts.
+const KEYS: &[(Key, &str)] = &[
+    (Key::At(0), "0"),
+    (Key::At(9), "9"),
+    (Key::At(15), "15"),
+    (Key::Any, "any"),
+];
+
 #[test]
-fn shows_keys(rt: HostRuntime) -> Result<(), AllocError> {
-    expect_shown(&rt, rt.alloc(), &Key::At(0), "0")?;
-    expect_shown(&rt, rt.alloc(), &Key::At(9), "9")?;
-    expect_shown(&rt, rt.alloc(), &Key::At(15), "15")?;
-    expect_shown(&rt, rt.alloc(), &Key::Any, "any")
+fn shows_keys(rt: HostRuntime) {
+    for (key, text) in KEYS {
+        expect_shown(&rt, rt.alloc(), key, "", text);
+    }
 }

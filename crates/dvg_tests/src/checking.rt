@@ -1,105 +1,30 @@
-//! Each call once: a shape with a lit stroke and a frame that calls it, accepted and refused. And what faults show.
+//! Verdicts on a ROM, on shapes and on frames by each call: a shape with a lit stroke and a frame that calls it, accepted and
+//! refused. And what faults show.
 
-use crate::expecting::{expect_same, expect_shown, expect_shown_after};
-use dvg_cert::{CertFault, CertWhy, HashIndex, Key, ListIndex, read_cert};
+use crate::expecting::{FaultRow, expect_faults, expect_same, expect_shown};
+use crate::inputs::{STROKE_CERT, STROKE_FRAME, stroke_rom};
+use dvg_cert::{CertFault, CertWhy, Entries, HashIndex, Key, ListIndex, read_cert};
 use dvg_check::{
-    Accepted, FrameFault, FrameWhy, JudgedShapes, Mode, Refusal, ShapeFault, ShapeWhy, Yes, check,
+    Accepted, FrameFault, FrameWhy, JudgedShapes, Mode, Refusal, ShapeFault, ShapeWhy, Yes,
     check_frame, check_rom, check_shapes, frame_of,
 };
 use dvg_words::{FrameImage, ImageFault, RomImage, SCREEN};
-use std::alloc::{AllocError, Global};
+use std::alloc::Global;
+use std::process::Abort;
 
-const CERT: &[u8] =
-    b"dvgcert 1\nshape 800 0 end rel 1047552 785408 box 0 1047552 0 785408 depth 0 words 3 scale 0\ndone 1\n";
-
-/// The box of the stroke is one unit too low.
+/// The certificate of the stroke with a box that is one unit too low, and with one word more than there is.
 const LOW_BOX: &[u8] =
     b"dvgcert 1\nshape 800 0 end rel 1047552 785408 box 0 1047552 0 785407 depth 0 words 3 scale 0\ndone 1\n";
 
-/// A LABS to 0,128 at global scale 0, a call of 800 and HALT.
-const FRAME: &[u8] = &[0x80, 0xA0, 0x00, 0x00, 0x00, 0xC8, 0xB0, 0xB0];
-
-const LOW_BOX_FAULT: ShapeFault = ShapeFault {
-    addr: 0x800,
-    key: Key::At(0),
-    word: 0x800,
-    why: ShapeWhy::BoxTooSmall,
-};
-
-/// A ROM with a stroke by 1023,767 and RTSL at 800, and zeros elsewhere.
-fn rom_bytes() -> [u8; 2048] {
-    let mut bytes = [0; 2048];
-    bytes[..6].copy_from_slice(&[0xFF, 0x92, 0xFF, 0x73, 0x00, 0xD0]);
-    bytes
-}
-
-/// Certificates, budgets and what is answered of the ROM and the frame.
-const VERDICTS: &[(&[u8], u32, Result<Yes, Refusal>)] = &[
-    (
-        CERT,
-        20000,
-        Ok(Yes {
-            shapes: 1,
-            words: 7,
-            depth: 1,
-        }),
-    ),
-    (
-        CERT,
-        6,
-        Err(Refusal::Frame(FrameFault {
-            word: 3,
-            why: FrameWhy::Budget,
-        })),
-    ),
-    (LOW_BOX, 20000, Err(Refusal::Shape(LOW_BOX_FAULT))),
-];
-
-#[test]
-fn judges_bytes(rt: HostRuntime) {
-    let rom = rom_bytes();
-    for &(cert, budget, want) in VERDICTS {
-        let verdict = check(rt.alloc(), &rom, cert, FRAME, budget, SCREEN);
-        expect_same(&rt, &verdict, &want, &budget);
-    }
-}
-
-/// The stroke's certificate, with one word more than there is.
 const MORE_WORDS: &[u8] =
     b"dvgcert 1\nshape 800 0 end rel 1047552 785408 box 0 1047552 0 785408 depth 0 words 4 scale 0\ndone 1\n";
 
-/// How many bytes the ROM has, certificates, modes and what is answered of the ROM and the frame.
-const ROM_VERDICTS: &[(usize, &[u8], Mode, Result<Yes, Refusal>)] = &[
-    (
-        2048,
-        CERT,
-        Mode::Bound,
-        Ok(Yes {
-            shapes: 1,
-            words: 7,
-            depth: 1,
-        }),
-    ),
-    (
-        2048,
-        CERT,
-        Mode::Exact,
-        Ok(Yes {
-            shapes: 1,
-            words: 7,
-            depth: 1,
-        }),
-    ),
-    (
-        2048,
-        MORE_WORDS,
-        Mode::Bound,
-        Ok(Yes {
-            shapes: 1,
-            words: 8,
-            depth: 1,
-        }),
-    ),
+/// How many bytes the ROM has, certificates, modes and what is answered of the ROM and the frame: how many words it takes, or why
+/// it is refused.
+const ROM_VERDICTS: &[(usize, &[u8], Mode, Result<u32, Refusal>)] = &[
+    (2048, STROKE_CERT, Mode::Bound, Ok(7)),
+    (2048, STROKE_CERT, Mode::Exact, Ok(7)),
+    (2048, MORE_WORDS, Mode::Bound, Ok(8)),
     (
         2048,
         MORE_WORDS,
@@ -113,25 +38,29 @@ const ROM_VERDICTS: &[(usize, &[u8], Mode, Result<Yes, Refusal>)] = &[
     ),
     (
         2046,
-        CERT,
+        STROKE_CERT,
         Mode::Bound,
         Err(Refusal::Image(ImageFault::RomLength)),
     ),
 ];
 
 /// The verdict in a mode on the first bytes of the ROM and on the frame, by a certificate that was read before.
-fn judge_rom(alloc: Global, bytes: usize, text: &[u8], mode: Mode) -> Result<Yes, Refusal> {
-    let rom = rom_bytes();
-    let frame = frame_of(FRAME, 20000)?;
-    let cert = read_cert(alloc, text)?;
-    let rom = rom.get(..bytes).unwrap_or(&rom);
-    check_rom(alloc, rom, &frame, &cert, 20000, SCREEN, mode)
-}
-
 #[test]
 fn judges_a_rom(rt: HostRuntime) {
-    for &(bytes, text, mode, want) in ROM_VERDICTS {
-        let verdict = judge_rom(rt.alloc(), bytes, text, mode);
+    let rom = stroke_rom();
+    let frame = frame_of(STROKE_FRAME, 20000).expect(&rt, "a frame");
+    for &(bytes, text, mode, words) in ROM_VERDICTS {
+        let cert = read_cert(rt.alloc(), text).expect(&rt, "a certificate");
+        let rom = rom.get(..bytes).unwrap_or(&rom);
+        let verdict = check_rom(rt.alloc(), rom, &frame, &cert, 20000, SCREEN, mode);
+        let want = match words {
+            Ok(words) => Ok(Yes {
+                shapes: 1,
+                words,
+                depth: 1,
+            }),
+            Err(refusal) => Err(refusal),
+        };
         expect_same(&rt, &verdict, &want, &(bytes, mode));
     }
 }
@@ -144,6 +73,11 @@ fn are_safe(alloc: Global, rom: &[u8], text: &[u8], frames: &[&[u8]]) -> Result<
         return Err(Refusal::IndexMemory);
     };
     let shapes = JudgedShapes::judge(&rom, &cert, &entries, SCREEN, Mode::Bound)?;
+    are_all_safe(&shapes, frames)
+}
+
+/// Says whether all frames are safe over shapes that were judged.
+fn are_all_safe(shapes: &JudgedShapes<HashIndex>, frames: &[&[u8]]) -> Result<bool, Refusal> {
     for bytes in frames {
         let frame = FrameImage::from_bytes(bytes)?;
         if shapes.check_frame(&frame, 20_000).is_err() {
@@ -156,41 +90,55 @@ fn are_safe(alloc: Global, rom: &[u8], text: &[u8], frames: &[&[u8]]) -> Result<
 /// A frame that calls the shape, HALT alone, and a frame that draws before it sets its place.
 #[test]
 fn judges_frames_over_judged_shapes(rt: HostRuntime) {
-    let frames: [&[u8]; 3] = [FRAME, &[0xB0, 0xB0], &[0x00, 0x70, 0x00, 0x70, 0x00, 0xB0]];
-    let rom = rom_bytes();
-    let are_first_safe = are_safe(rt.alloc(), &rom, CERT, &frames[..2]);
+    let frames: [&[u8]; 3] = [
+        STROKE_FRAME,
+        &[0xB0, 0xB0],
+        &[0x00, 0x70, 0x00, 0x70, 0x00, 0xB0],
+    ];
+    let rom = stroke_rom();
+    let are_first_safe = are_safe(rt.alloc(), &rom, STROKE_CERT, &frames[..2]);
     expect_same(&rt, &are_first_safe, &Ok(true), &"the first two");
-    let are_all_safe = are_safe(rt.alloc(), &rom, CERT, &frames);
-    expect_same(&rt, &are_all_safe, &Ok(false), &"all three");
+    let are_three_safe = are_safe(rt.alloc(), &rom, STROKE_CERT, &frames);
+    expect_same(&rt, &are_three_safe, &Ok(false), &"all three");
 }
 
-/// The fault that the half of the shapes finds over the index of a certificate.
-fn shape_fault(alloc: Global, text: &[u8]) -> Option<ShapeFault> {
-    let cert = read_cert(alloc, text).ok()?;
-    let bytes = rom_bytes();
-    let rom = RomImage::from_bytes(&bytes, cert.map()).ok()?;
-    check_shapes(&rom, &cert, &ListIndex::new(&cert), &SCREEN).err()
-}
-
-/// What the half of the frame answers over the same, where it has no fault.
-fn frame_counts(alloc: Global, text: &[u8]) -> Option<Accepted> {
-    let cert = read_cert(alloc, text).ok()?;
-    let bytes = rom_bytes();
-    let rom = RomImage::from_bytes(&bytes, cert.map()).ok()?;
-    let frame = FrameImage::from_bytes(FRAME).ok()?;
-    check_frame(&rom, &frame, &cert, &ListIndex::new(&cert), 20000, &SCREEN).ok()
+/// What each half of the checker answers of a certificate, over an index that searches the list: the shapes, and the frame, whose
+/// half takes the entry's box as it is claimed.
+fn judge_halves(
+    rt: &impl Abort,
+    alloc: Global,
+    text: &[u8],
+) -> (Result<(), ShapeFault>, Result<Accepted, FrameFault>) {
+    let bytes = stroke_rom();
+    let cert = read_cert(alloc, text).expect(rt, "a certificate");
+    let rom = RomImage::from_bytes(&bytes, cert.map()).expect(rt, "a ROM");
+    let frame = FrameImage::from_bytes(STROKE_FRAME).expect(rt, "a frame");
+    let entries = ListIndex::new(&cert);
+    assert!(rt; entries.named(0x800, Key::At(0)).is_some());
+    assert!(rt; entries.named(0x800, Key::Any).is_none());
+    (
+        check_shapes(&rom, &cert, &entries, &SCREEN),
+        check_frame(&rom, &frame, &cert, &entries, 20000, &SCREEN),
+    )
 }
 
 #[test]
 fn judges_halves(rt: HostRuntime) {
-    assert!(rt; shape_fault(rt.alloc(), CERT).is_none());
-    assert_eq!(rt; shape_fault(rt.alloc(), LOW_BOX), Some(LOW_BOX_FAULT));
-    let counts = frame_counts(rt.alloc(), CERT);
-    assert_eq!(rt; counts, Some(Accepted { words: 7, depth: 1 }));
+    let counts = Ok(Accepted { words: 7, depth: 1 });
+    let judged = judge_halves(&rt, rt.alloc(), STROKE_CERT);
+    expect_same(&rt, &judged, &(Ok(()), counts), &"the stroke");
+    let fault = ShapeFault {
+        addr: 0x800,
+        key: Key::At(0),
+        word: 0x800,
+        why: ShapeWhy::BoxTooSmall,
+    };
+    let judged = judge_halves(&rt, rt.alloc(), LOW_BOX);
+    expect_same(&rt, &judged, &(Err(fault), counts), &"a low box");
 }
 
 /// The rules of shapes, their numbers and their texts.
-const SHAPE_RULES: &[(ShapeWhy, u8, &str)] = &[
+const SHAPE_RULES: &[FaultRow<ShapeWhy>] = &[
     (
         ShapeWhy::Unmapped,
         20,
@@ -235,27 +183,18 @@ const SHAPE_RULES: &[(ShapeWhy, u8, &str)] = &[
     (ShapeWhy::DepthDiffers, 33, "the depth is less than claimed"),
 ];
 
-#[test]
-fn shows_shape_faults(rt: HostRuntime) -> Result<(), AllocError> {
-    for &(why, number, text) in SHAPE_RULES {
-        let fault = ShapeFault {
-            addr: 0x8AB,
-            key: Key::Any,
-            word: 0x00C,
-            why,
-        };
-        let refusal = Refusal::Shape(fault);
-        let numbers = [why.number(), fault.number(), refusal.number()];
-        expect_same(&rt, &numbers, &[number; 3], &text);
-        expect_shown(&rt, rt.alloc(), &why, text)?;
-        expect_shown_after(&rt, rt.alloc(), &fault, "shape 8AB/any at 00C: ", text)?;
-        expect_shown_after(&rt, rt.alloc(), &refusal, "shape 8AB/any at 00C: ", text)?;
-    }
-    Ok(())
+/// Stops the test unless a refusal has this number, and its text is this one after its place.
+fn expect_refusal(rt: &impl Abort, alloc: Global, refusal: Refusal, number: u8, text: &str) {
+    let place = match refusal {
+        Refusal::Shape(_) => "shape 8AB/any at 00C: ",
+        _ => "frame at 0E7: ",
+    };
+    expect_same(rt, &refusal.number(), &number, &text);
+    expect_shown(rt, alloc, &refusal, place, text);
 }
 
 /// The rules of frames, their numbers and their texts.
-const FRAME_RULES: &[(FrameWhy, u8, &str)] = &[
+const FRAME_RULES: &[FaultRow<FrameWhy>] = &[
     (
         FrameWhy::Unmapped,
         40,
@@ -276,21 +215,30 @@ const FRAME_RULES: &[(FrameWhy, u8, &str)] = &[
 ];
 
 #[test]
-fn shows_frame_faults(rt: HostRuntime) -> Result<(), AllocError> {
+fn shows_faults(rt: HostRuntime) {
+    expect_faults(&rt, rt.alloc(), SHAPE_RULES, |why: &ShapeWhy| why.number());
+    for &(why, number, text) in SHAPE_RULES {
+        let fault = ShapeFault {
+            addr: 0x8AB,
+            key: Key::Any,
+            word: 0x00C,
+            why,
+        };
+        expect_same(&rt, &fault.number(), &number, &text);
+        expect_shown(&rt, rt.alloc(), &fault, "shape 8AB/any at 00C: ", text);
+        expect_refusal(&rt, rt.alloc(), Refusal::Shape(fault), number, text);
+    }
+    expect_faults(&rt, rt.alloc(), FRAME_RULES, |why: &FrameWhy| why.number());
     for &(why, number, text) in FRAME_RULES {
         let fault = FrameFault { word: 0x0E7, why };
-        let refusal = Refusal::Frame(fault);
-        let numbers = [why.number(), fault.number(), refusal.number()];
-        expect_same(&rt, &numbers, &[number; 3], &text);
-        expect_shown(&rt, rt.alloc(), &why, text)?;
-        expect_shown_after(&rt, rt.alloc(), &fault, "frame at 0E7: ", text)?;
-        expect_shown_after(&rt, rt.alloc(), &refusal, "frame at 0E7: ", text)?;
+        expect_same(&rt, &fault.number(), &number, &text);
+        expect_shown(&rt, rt.alloc(), &fault, "frame at 0E7: ", text);
+        expect_refusal(&rt, rt.alloc(), Refusal::Frame(fault), number, text);
     }
-    Ok(())
 }
 
 /// The other refusals, their numbers and their texts.
-const REFUSALS: &[(Refusal, u8, &str)] = &[
+const REFUSALS: &[FaultRow<Refusal>] = &[
     (
         Refusal::Image(ImageFault::RomLength),
         1,
@@ -314,10 +262,11 @@ const REFUSALS: &[(Refusal, u8, &str)] = &[
 ];
 
 #[test]
-fn shows_refusals(rt: HostRuntime) -> Result<(), AllocError> {
-    for &(refusal, number, text) in REFUSALS {
-        assert_eq!(rt; refusal.number(), number);
-        expect_shown(&rt, rt.alloc(), &refusal, text)?;
-    }
-    Ok(())
+fn shows_refusals(rt: HostRuntime) {
+    expect_faults(
+        &rt,
+        rt.alloc(),
+        REFUSALS,
+        |refusal: &Refusal| refusal.number(),
+    );
 }

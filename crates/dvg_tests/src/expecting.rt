@@ -1,6 +1,6 @@
 //! What tests expect. Each is one function in the place of many assertions, which would be proved wherever they stand.
 
-use std::alloc::{AllocError, Global};
+use std::alloc::Global;
 use std::fmt::{Debug, Display};
 use std::process::Abort;
 
@@ -14,27 +14,32 @@ pub fn expect_same<T: PartialEq + Debug, P: Debug>(rt: &impl Abort, got: &T, wan
     assert_eq!(rt; got, want, "at {at:?}");
 }
 
-/// Stops the test unless this is the text of a value.
+/// Stops the test unless the text of a value is this prefix and then this text.
 pub fn expect_shown<T: Display>(
-    rt: &impl Abort,
-    alloc: Global,
-    value: &T,
-    text: &str,
-) -> Result<(), AllocError> {
-    let shown = format!(in alloc; "{value}")?;
-    assert_eq!(rt; shown.as_str(), text);
-    Ok(())
-}
-
-/// Stops the test unless the text of a value is this one after a prefix.
-pub fn expect_shown_after<T: Display>(
     rt: &impl Abort,
     alloc: Global,
     value: &T,
     prefix: &str,
     text: &str,
-) -> Result<(), AllocError> {
-    let shown = format!(in alloc; "{value}")?;
-    expect_same(rt, &shown.strip_prefix(prefix), &Some(text), &prefix);
-    Ok(())
+) {
+    let shown = format!(in alloc; "{value}").expect(rt, "memory for a text");
+    assert_eq!(rt; shown.strip_prefix(prefix), Some(text));
+}
+
+/// A fault, its number and its text.
+pub type FaultRow<F> = (F, u8, &'static str);
+
+/// Stops the test unless each fault has its number, which this gives, and its text.
+pub fn expect_faults<F: Display + Debug, N: Fn(&F) -> u8>(
+    rt: &impl Abort,
+    alloc: Global,
+    faults: &[FaultRow<F>],
+    number_of: N,
+)
+    requires { N.IsAlwaysCallable number_of }
+{
+    for (fault, number, text) in faults {
+        expect_same(rt, &number_of(fault), number, text);
+        expect_shown(rt, alloc, fault, "", text);
+    }
 }

@@ -1,10 +1,13 @@
 //! Tests of the libraries, through what they give out. They stand in one crate, since a crate that has tests is proved twice.
+//!
+//! What the scripts of tests/ show over the built program is not shown here again: the runs with failing devices or refused memory,
+//! accounts, frames by their own certificates, and most refusals of the maker.
 #![tactic(auto)]
 
 #[cfg(test)]
-mod accounts;
-#[cfg(test)]
 mod certificates;
+#[cfg(test)]
+mod changed;
 #[cfg(test)]
 mod checking;
 #[cfg(test)]
@@ -12,22 +15,14 @@ mod expecting;
 #[cfg(test)]
 mod explaining;
 #[cfg(test)]
-mod frames;
-#[cfg(test)]
-mod hostile;
+mod inputs;
 #[cfg(test)]
 mod items;
-#[cfg(test)]
-mod judging;
 #[cfg(test)]
 mod making;
 #[cfg(test)]
 mod rows;
 #[cfg(test)]
-mod rules;
-#[cfg(test)]
 mod running;
-#[cfg(test)]
-mod texts;
 #[cfg(test)]
 mod words;

@@ -1,43 +1,34 @@
-//! How far inputs are read, and what the statuses and messages of a run are.
+//! How far inputs are read, what the statuses and messages of runs are, and what words of the command line spell.
 
 pub mod devices;
-mod explaining;
-mod making;
 
-use crate::expecting::{expect, expect_same, expect_shown};
-use crate::rows::EMPTY;
-use devices::{SlowReader, SlowWriter};
+use crate::expecting::{FaultRow, expect, expect_faults, expect_same};
+use crate::inputs::EMPTY;
+use devices::SlowReader;
 use dvg_cmd::{
-    Counted, CountedRead, CountedWrite, Mode, Outcome, RunFault, SCREEN, Window, message_of,
-    run_check, status_of, window_of,
+    Counted, EntryFault, FrameCall, FrameOutcome, FramesRunFault, Key, MakeFault, MakeRunFault,
+    Mode, Outcome, RunFault, SCREEN, Window, frames_status_of, make_frames_report_of,
+    make_frames_status_of, make_report_of, make_status_of, map_of, message_of, root_of, run_check,
+    run_make, start_of, status_of, window_of,
 };
-use std::alloc::{AllocError, Global};
+use std::alloc::Global;
+use std::fmt::Debug;
+use std::process::Abort;
 
-const ROM: &[u8] = &[0; 2048];
-
-/// A frame that draws from 1,1 to 0,0.
-const FIRST: &[u8] = &[0x01, 0xA0, 0x01, 0x00, 0x01, 0x94, 0x01, 0x74, 0x00, 0xB0];
-
-/// What became of a reader: the failures that were counted, its reads, and the bytes that nobody read.
-pub type Told = (u32, u32, usize);
+/// How often a reader was read, and how many bytes nobody read.
+type Told = (u32, usize);
 
 fn told_of(reader: Counted<SlowReader>) -> Told {
-    let failures = CountedRead::failures(&reader);
-    let slow = reader.into_inner();
-    (failures, slow.reads(), slow.left())
+    reader.into_inner().told()
 }
 
-/// What a run answers over these readers of a ROM, a frame and a certificate; and what became of them.
-pub fn run_over<W: CountedWrite>(
-    alloc: Global,
-    readers: [SlowReader; 3],
-    out: &mut W,
-) -> (Result<Outcome, RunFault>, [Told; 3]) {
-    let [rom, frame, cert] = readers;
-    let mut rom = Counted::new(rom);
-    let mut frame = Counted::new(frame);
-    let mut cert = Counted::new(cert);
-    let end = run_check(
+/// Reads a ROM, a frame and a certificate in a run, by readers that give so many bytes a read, and tells of the three.
+fn told_of_readers(alloc: Global, inputs: [&[u8]; 3], most: usize) -> ([u32; 3], [usize; 3]) {
+    let [rom, frame, cert] = inputs;
+    let mut rom = Counted::new(SlowReader::new(rom, most));
+    let mut frame = Counted::new(SlowReader::new(frame, most));
+    let mut cert = Counted::new(SlowReader::new(cert, most));
+    let _ = run_check(
         alloc,
         &mut rom,
         &mut cert,
@@ -45,74 +36,53 @@ pub fn run_over<W: CountedWrite>(
         20000,
         SCREEN,
         Mode::Bound,
-        out,
+        &mut Counted::new(Vec::new(alloc)),
     );
-    (end, [told_of(rom), told_of(frame), told_of(cert)])
+    let (rom, frame, cert) = (told_of(rom), told_of(frame), told_of(cert));
+    ([rom.0, frame.0, cert.0], [rom.1, frame.1, cert.1])
 }
 
-/// The same over readers of these bytes that give so many a read, and fail at one read each.
-pub fn run_slow<W: CountedWrite>(
-    alloc: Global,
-    inputs: [&[u8]; 3],
-    most: usize,
-    fails_at: [u32; 3],
-    out: &mut W,
-) -> (Result<Outcome, RunFault>, [Told; 3]) {
-    let readers = [
-        SlowReader::new(inputs[0], most, fails_at[0]),
-        SlowReader::new(inputs[1], most, fails_at[1]),
-        SlowReader::new(inputs[2], most, fails_at[2]),
-    ];
-    run_over(alloc, readers, out)
-}
-
-pub const NEVER: u32 = u32::MAX;
-
-/// What becomes of readers that give one byte a read, and never fail.
-fn byte_by_byte(alloc: Global, rom: &[u8], frame: &[u8], cert: &[u8]) -> [Told; 3] {
-    let mut out = Counted::new(SlowWriter::new(64, NEVER));
-    let (_, told) = run_slow(alloc, [rom, frame, cert], 1, [NEVER; 3], &mut out);
-    told
-}
-
-/// Lengths of a ROM and a frame of zeros, and what becomes of their readers.
-const LENGTHS: &[(usize, usize, Told, Told)] = &[
-    (0, 0, (0, 1, 0), (0, 1, 0)),
-    (2047, 10, (0, 2048, 0), (0, 11, 0)),
-    (2048, 2048, (0, 2049, 0), (0, 2049, 0)),
-    (2049, 2049, (0, 2050, 0), (0, 2049, 0)),
-    (4096, 2049, (0, 4097, 0), (0, 2049, 0)),
-    (4110, 2100, (0, 4097, 13), (0, 2049, 51)),
+/// Lengths of a ROM, a frame and a certificate of zeros, how many bytes are given a read, how often each is read, and how many of its bytes
+/// nobody reads. An input
+/// is read to its end, which is met once, or to one byte past its limit. A certificate that is refused is read no further than its
+/// first piece, but as far as the others where the frame was refused before it.
+const LENGTHS: &[([usize; 3], usize, [u32; 3], [usize; 3])] = &[
+    ([0, 0, 0], 1, [1, 1, 1], [0, 0, 0]),
+    ([2047, 10, 0], 1, [2048, 11, 1], [0, 0, 0]),
+    ([2048, 2048, 0], 1, [2049, 2049, 1], [0, 0, 0]),
+    ([2049, 2049, 0], 1, [2050, 2049, 1], [0, 0, 0]),
+    ([4096, 2049, 0], 1, [4097, 2049, 1], [0, 0, 0]),
+    ([4110, 2100, 0], 1, [4097, 2049, 1], [13, 51, 0]),
+    (
+        [2048, 10, 1_048_600],
+        1,
+        [2049, 11, 4096],
+        [0, 0, 1_044_504],
+    ),
+    ([2048, 0, 1_048_600], 1, [2049, 1, 1_048_577], [0, 0, 23]),
+    ([2048, 0, 1_048_600], 4096, [2, 1, 257], [0, 0, 23]),
 ];
 
-/// A ROM and a frame are read to their end, which is met once, or to one byte past their limit.
 #[test]
 fn reads_each_byte_once(rt: HostRuntime) {
-    let long = [0; 4110];
-    for &(rom_length, frame_length, rom_told, frame_told) in LENGTHS {
-        let rom = long.get(..rom_length).unwrap_or(&[]);
-        let frame = long.get(..frame_length).unwrap_or(&[]);
-        let told = byte_by_byte(rt.alloc(), rom, frame, EMPTY);
-        expect_same(&rt, &told, &[rom_told, frame_told, (0, 18, 0)], &rom_length);
+    let zeros = vec![in rt.alloc(); 0u8; 1_048_600].expect(&rt, "memory");
+    for &(lengths, most, reads, left) in LENGTHS {
+        let rom = zeros.get(..lengths[0]).unwrap_or(&[]);
+        let frame = zeros.get(..lengths[1]).unwrap_or(&[]);
+        let cert = zeros.get(..lengths[2]).unwrap_or(&[]);
+        let inputs = [rom, frame, cert];
+        let told = told_of_readers(rt.alloc(), inputs, most);
+        expect_same(&rt, &told, &(reads, left), &lengths);
     }
 }
 
-/// So is a certificate; one that is refused is read no further than its first piece here, but as far as the others where the
-/// frame was refused before it.
-#[test]
-fn reads_certificates_once(rt: HostRuntime) -> Result<(), AllocError> {
-    let cert = vec![in rt.alloc(); 0u8; 1_048_600]?;
-    let told = byte_by_byte(rt.alloc(), ROM, FIRST, &cert);
-    let want = [(0, 2049, 0), (0, 11, 0), (0, 4096, 1_044_504)];
-    expect_same(&rt, &told, &want, &"a frame that draws");
-    let told = byte_by_byte(rt.alloc(), ROM, &[], &cert);
-    let want = [(0, 2049, 0), (0, 1, 0), (0, 1_048_577, 23)];
-    expect_same(&rt, &told, &want, &"no frame");
-    // and by pieces of 4096 bytes, where the reader gives as much
-    let mut out = Counted::new(SlowWriter::new(64, NEVER));
-    let (_, told) = run_slow(rt.alloc(), [ROM, &[], &cert], 4096, [NEVER; 3], &mut out);
-    assert_eq!(rt; told[2], (0, 257, 23));
-    Ok(())
+/// Stops the test unless each end of a run has its status, which this gives.
+fn expect_statuses<E: Debug, S: Fn(&E) -> u8>(rt: &impl Abort, statuses: &[(E, u8)], status_of: S)
+    requires { S.IsAlwaysCallable status_of }
+{
+    for (end, status) in statuses {
+        expect_same(rt, &status_of(end), status, end);
+    }
 }
 
 /// Ends of runs, and their statuses.
@@ -127,51 +97,209 @@ const STATUSES: &[(Result<Outcome, RunFault>, u8)] = &[
     (Err(RunFault::Memory), 4),
 ];
 
-/// Faults of runs, their numbers, their texts and their messages.
-const FAULTS: &[(RunFault, u8, &str, &str)] = &[
-    (
-        RunFault::ReadRom,
-        70,
-        "cannot read the ROM",
-        "dvgcheck: cannot read the ROM",
-    ),
-    (
-        RunFault::ReadFrame,
-        71,
-        "cannot read the frame",
-        "dvgcheck: cannot read the frame",
-    ),
-    (
-        RunFault::ReadCert,
-        72,
-        "cannot read the certificate",
-        "dvgcheck: cannot read the certificate",
-    ),
-    (
-        RunFault::Write,
-        73,
-        "cannot write",
-        "dvgcheck: cannot write",
-    ),
-    (
-        RunFault::Memory,
-        74,
-        "out of memory",
-        "dvgcheck: out of memory",
-    ),
+/// Ends of runs over frames, and their statuses.
+const FRAME_STATUSES: &[(Result<FrameOutcome, RunFault>, u8)] = &[
+    (Ok(FrameOutcome::Accepted), 0),
+    (Ok(FrameOutcome::Refused), 1),
+    (Ok(FrameOutcome::NoMemory), 4),
+    (Ok(FrameOutcome::Unread), 3),
+    (Err(RunFault::ReadRom), 3),
+    (Err(RunFault::ReadCert), 3),
+    (Err(RunFault::Write), 3),
+    (Err(RunFault::Memory), 4),
 ];
 
 #[test]
-fn says_how_it_ended(rt: HostRuntime) -> Result<(), AllocError> {
-    for (end, status) in STATUSES {
-        expect_same(&rt, &status_of(end), status, end);
+fn says_how_it_ended(rt: HostRuntime) {
+    expect_statuses(
+        &rt,
+        STATUSES,
+        |end: &Result<Outcome, RunFault>| status_of(end),
+    );
+    expect_statuses(
+        &rt,
+        FRAME_STATUSES,
+        |end: &Result<FrameOutcome, RunFault>| frames_status_of(end),
+    );
+}
+
+/// Faults of runs, their numbers and their texts.
+const FAULTS: &[FaultRow<RunFault>] = &[
+    (RunFault::ReadRom, 70, "cannot read the ROM"),
+    (RunFault::ReadFrame, 71, "cannot read the frame"),
+    (RunFault::ReadCert, 72, "cannot read the certificate"),
+    (RunFault::Write, 73, "cannot write"),
+    (RunFault::Memory, 74, "out of memory"),
+];
+
+/// A message is the text after the name of the program.
+#[test]
+fn shows_faults(rt: HostRuntime) {
+    expect_faults(&rt, rt.alloc(), FAULTS, |fault: &RunFault| fault.number());
+    for (fault, _, text) in FAULTS {
+        let shown = message_of(fault).strip_prefix("dvgcheck: ");
+        expect_same(&rt, &shown, &Some(*text), fault);
     }
-    for &(fault, number, text, message) in FAULTS {
-        assert_eq!(rt; fault.number(), number);
-        expect_shown(&rt, rt.alloc(), &fault, text)?;
-        expect_same(&rt, &message_of(&fault), &message, &fault);
+    expect_faults(
+        &rt,
+        rt.alloc(),
+        MAKE_FAULTS,
+        |fault: &MakeRunFault| fault.number(),
+    );
+}
+
+const UNSTRAIGHT: MakeRunFault = MakeRunFault::Make(MakeFault::Unstraight { word: 0x0AB });
+
+/// Faults of the maker, the statuses that they end with, and what is written of them.
+const MAKE_ENDS: &[(MakeRunFault, u8, &[u8])] = &[
+    (MakeRunFault::RomLength, 1, b"refused 1\n"),
+    (UNSTRAIGHT, 1, b"refused 60 at 0AB\n"),
+    (MakeRunFault::Make(MakeFault::Deep), 1, b"refused 61\n"),
+    (MakeRunFault::Make(MakeFault::TooLarge), 1, b"refused 62\n"),
+    (
+        MakeRunFault::Make(MakeFault::Memory),
+        4,
+        b"dvgcheck: out of memory\n",
+    ),
+    (MakeRunFault::ReadRom, 3, b"dvgcheck: cannot read the ROM\n"),
+    (MakeRunFault::Write, 3, b"dvgcheck: cannot write\n"),
+];
+
+/// The same faults, their numbers and their texts.
+const MAKE_FAULTS: &[FaultRow<MakeRunFault>] = &[
+    (MakeRunFault::RomLength, 1, "the ROM has a wrong length"),
+    (UNSTRAIGHT, 60, "no shape can have the item at 0AB"),
+    (
+        MakeRunFault::Make(MakeFault::Deep),
+        61,
+        "the shapes call too deep",
+    ),
+    (
+        MakeRunFault::Make(MakeFault::TooLarge),
+        62,
+        "the shapes are too large for a certificate",
+    ),
+    (
+        MakeRunFault::Make(MakeFault::Memory),
+        63,
+        "there is no memory for the certificate",
+    ),
+    (MakeRunFault::ReadRom, 70, "cannot read the ROM"),
+    (MakeRunFault::Write, 73, "cannot write"),
+];
+
+#[test]
+fn says_how_making_ended(rt: HostRuntime) {
+    assert_eq!(rt; make_status_of(&Ok(())), 0);
+    for &(fault, status, line) in MAKE_ENDS {
+        expect_same(&rt, &make_status_of(&Err(fault)), &status, &fault);
+        expect(&rt, make_report_of(&fault).as_bytes() == line, &fault);
     }
-    Ok(())
+}
+
+const CALL: FrameCall = FrameCall {
+    frame: 3,
+    at: 0x03E,
+};
+
+/// Why the maker has no entry for the call of a frame, with number, status and line.
+const BLAMED: &[(EntryFault, u8, u8, &[u8])] = &[
+    (
+        EntryFault::Unstraight { word: 0x418 },
+        60,
+        1,
+        b": refused 60 at 418 for frame at 03E\n",
+    ),
+    (EntryFault::Deep, 61, 1, b": refused 61 for frame at 03E\n"),
+    (
+        EntryFault::TooManyWords,
+        62,
+        1,
+        b": refused 62 for frame at 03E\n",
+    ),
+    (
+        EntryFault::TooManyEntries,
+        62,
+        1,
+        b": refused 62 by entries for frame at 03E\n",
+    ),
+    (EntryFault::Memory, 63, 4, b": out of memory\n"),
+];
+
+/// Other faults of the maker for frames.
+const FRAMES_FAULTS: &[(FramesRunFault, u8, u8, &[u8])] = &[
+    (
+        FramesRunFault::Plain(MakeRunFault::RomLength),
+        1,
+        1,
+        b"refused 1\n",
+    ),
+    (
+        FramesRunFault::FrameLength { frame: 3 },
+        2,
+        1,
+        b": refused 2\n",
+    ),
+    (
+        FramesRunFault::Plain(MakeRunFault::Make(MakeFault::Memory)),
+        63,
+        4,
+        b"dvgcheck: out of memory\n",
+    ),
+    (
+        FramesRunFault::Plain(MakeRunFault::ReadRom),
+        70,
+        3,
+        b"dvgcheck: cannot read the ROM\n",
+    ),
+    (
+        FramesRunFault::ReadFrame,
+        71,
+        3,
+        b"dvgcheck: cannot read the frame\n",
+    ),
+    (
+        FramesRunFault::Plain(MakeRunFault::Write),
+        73,
+        3,
+        b"dvgcheck: cannot write\n",
+    ),
+];
+
+fn is_told(fault: FramesRunFault, number: u8, status: u8, line: &[u8]) -> bool {
+    fault.number() == number
+        && make_frames_status_of(&Err(fault)) == status
+        && make_frames_report_of(&fault).as_bytes() == line
+        && fault.frame().is_some() == line.starts_with(b": ")
+}
+
+#[test]
+fn says_how_making_for_frames_ended(rt: HostRuntime) {
+    expect_same(&rt, &make_frames_status_of(&Ok(())), &0, &"made");
+    for &(why, number, status, line) in BLAMED {
+        let fault = FramesRunFault::Call { call: CALL, why };
+        expect(&rt, is_told(fault, number, status, line), &fault);
+    }
+    for &(fault, number, status, line) in FRAMES_FAULTS {
+        expect(&rt, is_told(fault, number, status, line), &fault);
+    }
+}
+
+#[test]
+fn reads_starts_and_roots(rt: HostRuntime) {
+    for (word, start) in [("000", 0), ("0A9", 0x0A9), ("FFF", 0xFFF)] {
+        expect_same(&rt, &start_of(word), &Some(start), &word);
+    }
+    for word in ["", "00", "0000", "00a", "00G", " 00", "+00", "00\n"] {
+        expect(&rt, start_of(word).is_none(), &word);
+    }
+    expect_same(&rt, &root_of("800/0"), &Some((0x800, Key::At(0))), &"800/0");
+    expect_same(
+        &rt,
+        &root_of("BFF/any"),
+        &Some((0xBFF, Key::Any)),
+        &"BFF/any",
+    );
 }
 
 /// Windows from words.
@@ -211,5 +339,51 @@ fn reads_windows(rt: HostRuntime) {
     assert!(rt; window_of("0,1023,0,1023") == Some(SCREEN));
     for &word in NO_WINDOWS {
         expect(&rt, window_of(word).is_none(), &word);
+    }
+}
+
+/// Maps, how many zeros the ROM has, and what is written where there is no root.
+const ROOTLESS: &[(&str, usize, Result<(), MakeRunFault>, &[u8])] = &[
+    ("800/BFF", 2048, Ok(()), EMPTY),
+    ("400/7FF", 2048, Ok(()), b"dvgcert 2\nrom 400 7FF\ndone 0\n"),
+    ("BFF/BFF", 2, Ok(()), b"dvgcert 2\nrom BFF BFF\ndone 0\n"),
+    ("BFF/BFF", 2048, Err(MakeRunFault::RomLength), b""),
+];
+
+#[test]
+fn makes_nothing_of_no_roots(rt: HostRuntime) {
+    let zeros = [0; 2048];
+    for &(map, bytes, want, text) in ROOTLESS {
+        let map = map_of(map).expect(&rt, "a map");
+        let mut told = Vec::new(rt.alloc());
+        let rom = zeros.get(..bytes).unwrap_or(&zeros);
+        let mut reader = Counted::new(SlowReader::new(rom, 512));
+        let end = run_make(
+            rt.alloc(),
+            &mut reader,
+            map,
+            &[],
+            &mut Counted::new(&mut told),
+        );
+        expect_same(&rt, &end, &want, &bytes);
+        expect(&rt, told.as_slice() == text, &bytes);
+    }
+}
+
+/// Outcomes, the better ones first.
+const RISING: &[FrameOutcome] = &[
+    FrameOutcome::Accepted,
+    FrameOutcome::Refused,
+    FrameOutcome::NoMemory,
+    FrameOutcome::Unread,
+];
+
+#[test]
+fn answers_the_worst(rt: HostRuntime) {
+    for (index, outcome) in RISING.iter().enumerate() {
+        for (other, with) in RISING.iter().enumerate() {
+            let worst = if index < other { *with } else { *outcome };
+            expect_same(&rt, &outcome.or_worse(*with), &worst, &(index, other));
+        }
     }
 }

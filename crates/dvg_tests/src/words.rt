@@ -2,13 +2,12 @@
 
 ghost use Rattle.dvg_words.specs.Values.{DrawFits};
 
-use crate::expecting::{expect, expect_same, expect_shown};
+use crate::expecting::{FaultRow, expect, expect_faults, expect_same};
 use dvg_words::{
     ASTEROIDS, Draw, Format, FrameImage, ImageFault, Instr, Point, RomImage, RomMap, SCREEN,
     Window, decode, displacement, draw_move, factor, in_window, is_long, labs_place, on_screen,
     shift,
 };
-use std::test::Fail;
 
 fn draw(dx: i16, dy: i16, lscale: u8, bright: u8) -> Option<Instr>
     requires { DrawFits (record { dx = dx; dy = dy; lscale = lscale; bright = bright }) }
@@ -185,29 +184,18 @@ const ROM_WORDS: &[(u16, Option<u16>)] = &[
 ];
 
 #[test]
-fn reads_images(rt: HostRuntime) -> Result<(), Fail> {
+fn reads_images(rt: HostRuntime) {
     let mut bytes = [0u8; 2048];
     bytes[..2].copy_from_slice(&[0xFF, 0x92]);
     bytes[2046..].copy_from_slice(&[0x34, 0x12]);
-    let Ok(rom) = RomImage::from_bytes(&bytes, ASTEROIDS) else {
-        return Err(Fail::from("2048 bytes are a ROM"));
-    };
+    let rom = RomImage::from_bytes(&bytes, ASTEROIDS).expect(&rt, "a ROM");
     for &(addr, word) in ROM_WORDS {
         expect_same(&rt, &rom.word(addr), &word, &addr);
     }
-    Ok(())
-}
-
-/// What a frame of four bytes holds.
-#[test]
-fn reads_frames(rt: HostRuntime) -> Result<(), Fail> {
-    let Ok(frame) = FrameImage::from_bytes(&[0x00, 0x00, 0x34, 0x12]) else {
-        return Err(Fail::from("four bytes are a frame"));
-    };
+    let frame = FrameImage::from_bytes(&[0x00, 0x00, 0x34, 0x12]).expect(&rt, "a frame");
     assert_eq!(rt; frame.words(), 2);
     let words = [frame.word(0), frame.word(1), frame.word(2)];
     expect_same(&rt, &words, &[Some(0), Some(0x1234), None], &"the frame");
-    Ok(())
 }
 
 /// Word addresses of a ROM's first and last word, and whether these are a map's.
@@ -297,16 +285,12 @@ fn refuses_wrong_lengths(rt: HostRuntime) {
 }
 
 /// The faults of images, their numbers and their texts.
-const FAULTS: &[(ImageFault, u8, &str)] = &[
+const FAULTS: &[FaultRow<ImageFault>] = &[
     (ImageFault::RomLength, 1, "the ROM has a wrong length"),
     (ImageFault::FrameLength, 2, "the frame has a wrong length"),
 ];
 
 #[test]
-fn shows_faults(rt: HostRuntime) -> Result<(), Fail> {
-    for &(fault, number, text) in FAULTS {
-        expect_shown(&rt, rt.alloc(), &fault, text)?;
-        assert_eq!(rt; fault.number(), number);
-    }
-    Ok(())
+fn shows_faults(rt: HostRuntime) {
+    expect_faults(&rt, rt.alloc(), FAULTS, |fault: &ImageFault| fault.number());
 }

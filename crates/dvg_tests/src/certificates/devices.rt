@@ -1,13 +1,12 @@
 //! Devices that count their calls and fail once: each counted call is one call of the device, whatever that answers.
 
-use super::ONE_ENTRY;
 use crate::expecting::{expect, expect_same};
-use crate::rows::text_of_returns;
+use crate::inputs::{EMPTY, STROKE_CERT};
 use dvg_cert::*;
-use std::alloc::{AllocError, Global};
+use std::alloc::Global;
 use std::io;
 use std::io::{Read, Write};
-use std::test::Fail;
+use std::process::Abort;
 
 /// How a device fails: at one call alone, and it works again after that.
 #[derive(Clone, Copy, Debug, PartialEq, Eq)]
@@ -167,29 +166,27 @@ fn writes_one(writer: &mut Counted<Device>, buf: &[u8]) -> bool {
 
 /// Buffers and pieces of any size reach the device.
 #[test]
-fn counted_reads_of_any_size(rt: HostRuntime) -> Result<(), AllocError> {
+fn counted_reads_of_any_size(rt: HostRuntime) {
     let mut reader = Counted::new(fake(rt.alloc(), b"", 0, Fails::Never));
     let mut buf = [0; 4200];
     for len in 0..4200 {
         expect(&rt, reads_none(&mut reader, &mut buf[..len]), &len);
     }
-    let mut long = vec![in rt.alloc(); 0u8; 1_048_577]?;
+    let mut long = vec![in rt.alloc(); 0u8; 1_048_577].expect(&rt, "memory");
     expect(&rt, reads_none(&mut reader, &mut long), &"a long one");
     assert_eq!(rt; reader.into_inner().calls, 4201);
-    Ok(())
 }
 
 #[test]
-fn counted_writes_of_any_size(rt: HostRuntime) -> Result<(), AllocError> {
+fn counted_writes_of_any_size(rt: HostRuntime) {
     let mut writer = Counted::new(fake(rt.alloc(), b"", 1, Fails::Never));
-    let long = vec![in rt.alloc(); 0u8; 1_048_577]?;
+    let long = vec![in rt.alloc(); 0u8; 1_048_577].expect(&rt, "memory");
     for len in 0..4200 {
         let piece = long.get(..len).unwrap_or(&[]);
         expect(&rt, writes_one(&mut writer, piece), &len);
     }
     expect(&rt, writes_one(&mut writer, &long), &"a long one");
     assert_eq!(rt; writer.into_inner().calls, 4201);
-    Ok(())
 }
 
 /// Whether a plain read was done, the failures that were counted, and the calls of the device.
@@ -226,75 +223,98 @@ fn plain_calls_are_the_devices(rt: HostRuntime) {
     }
 }
 
-const EMPTY: &[u8] = b"dvgcert 1\ndone 0\n";
-
-/// How many bytes are taken a write of the text without entries, how writes fail, and what then comes of it: whether all was
-/// sent, what was taken, by how many calls, and how many failures were counted.
-const SENDINGS: &[(usize, Fails, bool, &[u8], u32, u32)] = &[
-    (1, Fails::Never, true, EMPTY, 17, 0),
-    (7, Fails::Never, true, EMPTY, 3, 0),
-    (99, Fails::Never, true, EMPTY, 1, 0),
-    (99, Fails::Error(0), false, b"", 1, 1),
-    (7, Fails::Error(1), false, b"dvgcert", 2, 1),
-    (7, Fails::Error(2), false, b"dvgcert 1\ndone", 3, 1),
-    (99, Fails::Idle(0), false, b"", 1, 1),
-    (7, Fails::Idle(1), false, b"dvgcert", 2, 1),
-    (0, Fails::Never, false, b"", 1, 1),
-];
-
-/// Whether sending a text to a device that takes so many bytes a write was answered by `Ok`, the failures that were counted, and
+/// What is told of a text or a certificate that is written: whether all was sent, the failures that were counted, and the calls of
 /// the device.
-fn sent(alloc: Global, text: &[u8], most: usize, fails: Fails) -> (bool, u32, Device) {
+type Sent = (bool, u32, u32);
+
+/// Sends the text without entries to a device that takes so many bytes a write, and gives what it took, too.
+fn send_empty(alloc: Global, most: usize, fails: Fails) -> (Sent, Vec<u8>) {
     let mut out = Counted::new(fake(alloc, b"", most, fails));
-    let is_sent = write_bytes(text, &mut out).is_ok();
+    let is_sent = write_bytes(EMPTY, &mut out).is_ok();
     let failures = CountedWrite::failures(&out);
-    (is_sent, failures, out.into_inner())
+    let device = out.into_inner();
+    ((is_sent, failures, device.calls), device.taken)
 }
+
+/// How many bytes are taken a write, how writes fail, what is told, and how many bytes are taken.
+const SENDINGS: &[(usize, Fails, Sent, usize)] = &[
+    (1, Fails::Never, (true, 0, 17), 17),
+    (7, Fails::Never, (true, 0, 3), 17),
+    (99, Fails::Never, (true, 0, 1), 17),
+    (99, Fails::Error(0), (false, 1, 1), 0),
+    (7, Fails::Error(1), (false, 1, 2), 7),
+    (7, Fails::Error(2), (false, 1, 3), 14),
+    (99, Fails::Idle(0), (false, 1, 1), 0),
+    (7, Fails::Idle(1), (false, 1, 2), 7),
+    (0, Fails::Never, (false, 1, 1), 0),
+];
 
 /// What is sent of this text, and nothing again where a write failed, though the device would take it.
 #[test]
 fn sends_bytes_once(rt: HostRuntime) {
-    for &(most, fails, is_whole, taken, calls, failed) in SENDINGS {
-        let (is_sent, failures, device) = sent(rt.alloc(), EMPTY, most, fails);
-        let told = (is_sent, device.calls, failures);
-        expect_same(&rt, &told, &(is_whole, calls, failed), &(most, fails));
-        expect(&rt, device.taken.as_slice() == taken, &(most, fails));
+    for &(most, fails, sent, len) in SENDINGS {
+        let (told, taken) = send_empty(rt.alloc(), most, fails);
+        expect_same(&rt, &told, &sent, &(most, fails));
+        let is_prefix = EMPTY.get(..len) == Some(taken.as_slice());
+        expect(&rt, is_prefix, &(most, fails));
     }
 }
 
-/// Whether writing a certificate to a device that takes so many bytes a write was answered by `Ok`, the failures that were
-/// counted, and the device.
-fn written(alloc: Global, cert: &Cert, most: usize, fails: Fails) -> (bool, u32, Device) {
+/// Stops the test unless writing a certificate to such a device ends like this, with just the first `len` bytes of its text taken.
+fn expect_written(
+    rt: &impl Abort,
+    alloc: Global,
+    (cert, text): (&Cert, &[u8]),
+    (most, fails): (usize, Fails),
+    sent: Sent,
+    len: usize,
+) {
     let mut out = Counted::new(fake(alloc, b"", most, fails));
     let is_sent = write_cert(cert, &mut out).is_ok();
     let failures = CountedWrite::failures(&out);
-    (is_sent, failures, out.into_inner())
-}
-
-/// Whether just the first `len` bytes of a text were taken, by so many calls.
-fn has_taken(device: &Device, text: &[u8], len: usize, calls: usize) -> bool {
-    let taken = device.taken.as_slice();
-    taken.len() == len && text.starts_with(taken) && device.calls as usize == calls
+    let device = out.into_inner();
+    expect_same(
+        rt,
+        &(is_sent, failures, device.calls),
+        &sent,
+        &(most, fails),
+    );
+    let is_prefix = text.get(..len) == Some(device.taken.as_slice());
+    expect(rt, is_prefix, &(most, fails));
 }
 
 /// A certificate of one entry is written byte by byte, up to the one byte that fails.
 #[test]
-fn sends_a_certificate_once(rt: HostRuntime) -> Result<(), CertFault> {
-    let cert = read_cert(rt.alloc(), ONE_ENTRY)?;
-    for at in 0..ONE_ENTRY.len() {
-        for &fails in [Fails::Error(at as u32), Fails::Idle(at as u32)].as_slice() {
-            let (is_sent, failures, device) = written(rt.alloc(), &cert, 1, fails);
-            expect_same(&rt, &(is_sent, failures), &(false, 1), &fails);
-            expect(&rt, has_taken(&device, ONE_ENTRY, at, at + 1), &fails);
+fn sends_a_certificate_once(rt: HostRuntime) {
+    let cert = read_cert(rt.alloc(), STROKE_CERT).expect(&rt, "a certificate");
+    let written = (&cert, STROKE_CERT);
+    let len = STROKE_CERT.len();
+    for at in 0..=len as u32 {
+        let sent = if at as usize == len {
+            (true, 0, at)
+        } else {
+            (false, 1, at.saturating_add(1))
+        };
+        for fails in [Fails::Error(at), Fails::Idle(at)] {
+            expect_written(&rt, rt.alloc(), written, (1, fails), sent, at as usize);
         }
     }
-    let len = ONE_ENTRY.len();
-    for &fails in [Fails::Error(len as u32), Fails::Idle(len as u32)].as_slice() {
-        let (is_sent, failures, device) = written(rt.alloc(), &cert, 1, fails);
-        expect_same(&rt, &(is_sent, failures), &(true, 0), &fails);
-        expect(&rt, has_taken(&device, ONE_ENTRY, len, len), &fails);
+}
+
+/// The text of 4096 entries for words of RTSL: all 16 scales of 800 to 8FF.
+fn text_of_returns(rt: &impl Abort, alloc: Global) -> String {
+    let mut text = String::new(alloc);
+    text.push_str("dvgcert 1\n").expect(rt, "memory");
+    for index in 0..4096u32 {
+        let (addr, scale) = (0x800 + index / 16, index % 16);
+        let line = format!(in alloc;
+            "shape {addr:03X} {scale} end rel 0 0 box none depth 0 words 1 scale {scale}\n"
+        );
+        text.push_str(&line.expect(rt, "memory"))
+            .expect(rt, "memory");
     }
-    Ok(())
+    text.push_str("done 4096\n").expect(rt, "memory");
+    text
 }
 
 /// How many bytes the first so many lines of a text have that has as many.
@@ -310,37 +330,33 @@ fn heading(text: &[u8], most: usize) -> usize {
 }
 
 /// How many bytes are taken a write of a certificate of 4096 entries, and how many calls that takes.
-const WHOLE_WRITES: &[(usize, usize)] = &[(1, 236_564), (7, 33_825), (4096, 61)];
+const WHOLE_WRITES: &[(usize, u32)] = &[(1, 236_564), (7, 33_825), (4096, 61)];
 
 /// A certificate of 4096 entries takes 61 writes. Each is of 68 lines of entries, but for the last, of 16: 67 of these lines have
 /// 3873 bytes at most, and 68 have 3924 at least, after which another of 200 may not fit 4096. The first has the first line, too.
+/// Where one of them fails, just the lines of those before it stand.
 #[test]
-fn sends_many_lines_a_write(rt: HostRuntime) -> Result<(), Fail> {
-    let text = text_of_returns(rt.alloc(), false)?;
-    let cert = read_cert(rt.alloc(), text.as_bytes())?;
+fn sends_many_lines_a_write(rt: HostRuntime) {
+    let text = text_of_returns(&rt, rt.alloc());
+    let text = text.as_bytes();
+    let cert = read_cert(rt.alloc(), text).expect(&rt, "a certificate");
     for &(most, calls) in WHOLE_WRITES {
-        let (is_sent, failures, device) = written(rt.alloc(), &cert, most, Fails::Never);
-        expect_same(&rt, &(is_sent, failures), &(true, 0), &most);
-        let is_whole = has_taken(&device, text.as_bytes(), text.len(), calls);
-        expect(&rt, is_whole, &most);
+        let device = (most, Fails::Never);
+        expect_written(
+            &rt,
+            rt.alloc(),
+            (&cert, text),
+            device,
+            (true, 0, calls),
+            text.len(),
+        );
     }
-    Ok(())
-}
-
-/// Where one of these writes fails, just the lines of those before it stand.
-#[test]
-fn sends_no_line_after_a_failed_write(rt: HostRuntime) -> Result<(), Fail> {
-    let text = text_of_returns(rt.alloc(), false)?;
-    let cert = read_cert(rt.alloc(), text.as_bytes())?;
     for at in 0..61u32 {
         let lines = if at == 0 { 0 } else { 68 * at as usize + 1 };
-        let len = heading(text.as_bytes(), lines);
-        for &fails in [Fails::Error(at), Fails::Idle(at)].as_slice() {
-            let (is_sent, failures, device) = written(rt.alloc(), &cert, 4096, fails);
-            expect_same(&rt, &(is_sent, failures), &(false, 1), &fails);
-            let is_cut = has_taken(&device, text.as_bytes(), len, at as usize + 1);
-            expect(&rt, is_cut, &fails);
+        let len = heading(text, lines);
+        for fails in [Fails::Error(at), Fails::Idle(at)] {
+            let sent = (false, 1, at + 1);
+            expect_written(&rt, rt.alloc(), (&cert, text), (4096, fails), sent, len);
         }
     }
-    Ok(())
 }

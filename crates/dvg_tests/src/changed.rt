@@ -5,35 +5,55 @@
 //! `one_answer`), so they agree on every text, however it is cut (`cut_refusal`). A text that is taken is the only one of its
 //! list (`one_text`, `one_certificate`), so it is written back as it was (`read_back`). And `check` returns, whatever its bytes.
 
-use super::{FOUR_CERT, FOUR_FRAME, four_rom};
 use crate::certificates::is_written;
 use crate::expecting::{expect, expect_same};
-use crate::rows::{STROKE_CERT, USUAL, is_reported};
+use crate::inputs::{STROKE_CERT, stroke_rom};
+use crate::rows::{USUAL, is_reported};
 use dvg_cert::{Cert, CertFault, CertReader, read_cert};
 use dvg_check::{Refusal, Yes, check};
 use dvg_words::SCREEN;
 use std::alloc::Global;
-use std::test::Fail;
 
-/// The certificate of a shape that sets its place.
-const PLACE_CERT: &[u8; 86] =
-    b"dvgcert 1\nshape 800 any end abs 409600 102400 box none depth 0 words 3 scale 0\ndone 1\n";
+/// The ROM of four shapes that call one another, at 800, 802, 804 and 806: zeros but for `C802 D000 C804 D000 C806 D000 D000`.
+fn four_rom() -> [u8; 2048] {
+    let mut rom = [0; 2048];
+    rom[..14].copy_from_slice(&[
+        0x02, 0xC8, 0x00, 0xD0, 0x04, 0xC8, 0x00, 0xD0, 0x06, 0xC8, 0x00, 0xD0, 0x00, 0xD0,
+    ]);
+    rom
+}
+
+/// Their certificate.
+const FOUR_CERT: &[u8] =
+    b"dvgcert 1\nshape 800 0 end rel 0 0 box none depth 3 words 7 scale 0\nshape 802 0 end rel 0 0 box none depth 2 words 5 scale 0\nshape 804 0 end rel 0 0 box none depth 1 words 3 scale 0\nshape 806 0 end rel 0 0 box none depth 0 words 1 scale 0\ndone 4\n";
+
+/// A frame that calls the first: `A000 0000 C800 B000`.
+const FOUR_FRAME: &[u8] = &[0x00, 0xA0, 0x00, 0x00, 0x00, 0xC8, 0x00, 0xB0];
+
+/// The reports on the certificate of the four shapes, cut in each of its lines.
+const CUT_LINES: &[&str] = &[
+    "refused 13 certificate line 1",
+    "refused 13 certificate line 2",
+    "refused 13 certificate line 3",
+    "refused 13 certificate line 4",
+    "refused 13 certificate line 5",
+    "refused 13 certificate line 6",
+];
 
 /// The certificate of the four shapes, cut after each of its bytes but the last, and before the first.
 #[test]
-fn cut_certificates(rt: HostRuntime) -> Result<(), Fail> {
+fn cut_certificates(rt: HostRuntime) {
     let rom = four_rom();
-    let mut line = 1u32;
+    let mut line = 0usize;
     for at in 0..FOUR_CERT.len() {
-        let report = format!(in rt.alloc(); "refused 13 certificate line {line}")?;
+        let report = CUT_LINES.get(line).copied().unwrap_or("");
         let text = &FOUR_CERT[..at];
-        let is = is_reported(rt.alloc(), &rom, text, FOUR_FRAME, &USUAL, &report);
+        let is = is_reported(rt.alloc(), &rom, text, FOUR_FRAME, &USUAL, report);
         expect(&rt, is, &at);
         if FOUR_CERT[at] == b'\n' {
             line = line.saturating_add(1);
         }
     }
-    Ok(())
 }
 
 /// The reports on the frame that calls them, cut at each place, from no byte on.
@@ -58,6 +78,10 @@ fn cut_frames(rt: HostRuntime) {
         expect(&rt, is, &len);
     }
 }
+
+/// The certificate of a shape that sets its place.
+const PLACE_CERT: &[u8; 86] =
+    b"dvgcert 1\nshape 800 any end abs 409600 102400 box none depth 0 words 3 scale 0\ndone 1\n";
 
 fn read_by_bytes(alloc: Global, text: &[u8]) -> Result<Cert, CertFault> {
     let mut reader = CertReader::new(alloc);
@@ -134,8 +158,7 @@ fn number_of(verdict: Result<Yes, Refusal>) -> u8 {
 /// Each word as the first of a frame.
 #[test]
 fn each_first_word(rt: HostRuntime) {
-    let mut rom = [0; 2048];
-    rom[..6].copy_from_slice(&[0xFF, 0x92, 0xFF, 0x73, 0x00, 0xD0]);
+    let rom = stroke_rom();
     for word in 0..=0xFFFFu16 {
         let [low, high] = word.to_le_bytes();
         let frame = [low, high, 0x00, 0xB0];
