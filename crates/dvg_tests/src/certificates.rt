@@ -96,30 +96,15 @@ const TAKEN: &[(&[u8], usize)] = &[
     (STROKE_AT_400, 1),
 ];
 
-/// Texts that are refused, the line of the refusal and its reason. Lines are counted from the first, that of the ROM among them.
+/// Whole texts that are refused, the line of the refusal and its reason. Lines are counted from the first, and the line of the ROM
+/// counts.
 const REFUSED: &[(&[u8], u32, CertWhy)] = &[
-    (b"", 1, CertWhy::Unended),
-    (b"dvgcert 1", 1, CertWhy::Unended),
-    (b"dvgcert 1\n", 2, CertWhy::Unended),
-    (b"dvgcert 2\ndone 0\n", 2, CertWhy::Form),
-    (b"dvgcert 1\ndone 0", 2, CertWhy::Unended),
-    (b"dvgcert 1\ndone 00\n", 2, CertWhy::Form),
     (b"dvgcert 1\ndone 1\n", 2, CertWhy::Count),
-    (b"dvgcert 1\ndone 4097\n", 2, CertWhy::Form),
     (STROKE_TWICE, 3, CertWhy::Order),
     (KEYS_FALL, 3, CertWhy::Order),
     (b"dvgcert 1\ndone 0\n\n", 3, CertWhy::After),
     (b"dvgcert 1\r\ndone 0\r\n", 1, CertWhy::Form),
-    (b"dvgcert 2", 1, CertWhy::Unended),
-    (b"dvgcert 2\n", 2, CertWhy::Unended),
-    (b"dvgcert 2\nrom 400 7FF\n", 3, CertWhy::Unended),
-    (b"dvgcert 2\nrom 800 BFF\n", 2, CertWhy::Form),
-    (b"dvgcert 2\nrom 7FF 400\n", 2, CertWhy::Form),
-    (b"dvgcert 2\nrom 3FF 7FF\n", 2, CertWhy::Form),
-    (b"dvgcert 2\nrom 400 C00\n", 2, CertWhy::Form),
-    (b"dvgcert 2\nrom 400 7ff\n", 2, CertWhy::Form),
     (b"dvgcert 3\n", 1, CertWhy::Form),
-    (b"dvgcert 1\nrom 400 7FF\n", 2, CertWhy::Form),
     (PAST_7FF, 3, CertWhy::Form),
     (b"dvgcert 2\nrom 400 7FF\ndone 0\nx", 4, CertWhy::After),
 ];
@@ -144,9 +129,24 @@ fn long_lines(rt: HostRuntime) {
     check_row(&rt, rt.alloc(), &line, refused(1, CertWhy::Form));
 }
 
-/// A text that ends within its entry, in pieces of seven bytes.
+/// A text of two lines, and one of three.
+const SHORT_TEXTS: [&[u8]; 2] = [EMPTY, b"dvgcert 2\nrom 400 7FF\ndone 0\n"];
+
+/// A text that is cut is refused at the line that is cut.
 #[test]
 fn unended_texts(rt: HostRuntime) {
+    for text in SHORT_TEXTS {
+        let mut line = 1u32;
+        for at in 0..text.len() {
+            check_row(
+                &rt,
+                rt.alloc(),
+                &text[..at],
+                refused(line, CertWhy::Unended),
+            );
+            line = line.saturating_add(u32::from(text[at] == b'\n'));
+        }
+    }
     for at in 0..STROKE_CERT.len() - 7 {
         let answer = fed(&rt, rt.alloc(), &STROKE_CERT[..at], 7, 7);
         expect(&rt, answer.is_err(), &at);
@@ -159,8 +159,11 @@ const TAKEN_LINES: &[&[u8]] = &[
     b"shape 800 15 end abs 2000000000000 0 box 0 0 -1 -1 depth 0 words 1000000 scale 15",
 ];
 
-/// Lines that are not of the format.
+/// Lines that are not of the format, or not the second line behind `dvgcert 1`.
 const WRONG_LINES: &[&[u8]] = &[
+    b"done 00",
+    b"done 4097",
+    b"rom 400 7FF",
     b"shape 800 0 end lost box none depth 4 words 1 scale 0",
     b"shape 800 0 end lost box 1 0 0 0 depth 0 words 1 scale 0",
     b"shape 800 0 end lost box 0 0 1 0 depth 0 words 1 scale 0",
@@ -181,9 +184,21 @@ const WRONG_LINES: &[&[u8]] = &[
     b"shape 800 0 end lost box none depth 0 words 1 scale 0 ",
 ];
 
-/// A text with this second line.
-fn text_with(rt: &impl Abort, alloc: Global, line: &[u8]) -> Vec<u8> {
-    let mut text = Vec::from_slice(alloc, b"dvgcert 1\n").expect(rt, "memory");
+/// Lines that are no second line behind `dvgcert 2`: no map, the usual map, ends swapped, a map that begins below the ROM's part of
+/// the memory, one that ends above it, and small letters.
+const WRONG_MAPS: &[&[u8]] = &[
+    b"done 0",
+    b"rom 800 BFF",
+    b"rom 7FF 400",
+    b"rom 3FF 7FF",
+    b"rom 400 C00",
+    b"rom 400 7ff",
+];
+
+/// A text with this first and second line.
+fn text_with(rt: &impl Abort, alloc: Global, first: &[u8], line: &[u8]) -> Vec<u8> {
+    let mut text = Vec::from_slice(alloc, first).expect(rt, "memory");
+    text.push(b'\n').expect(rt, "memory");
     text.extend_from_slice(line).expect(rt, "memory");
     text.push(b'\n').expect(rt, "memory");
     text
@@ -192,12 +207,14 @@ fn text_with(rt: &impl Abort, alloc: Global, line: &[u8]) -> Vec<u8> {
 #[test]
 fn lines(rt: HostRuntime) {
     for line in TAKEN_LINES {
-        let text = text_with(&rt, rt.alloc(), line);
+        let text = text_with(&rt, rt.alloc(), b"dvgcert 1", line);
         check_row(&rt, rt.alloc(), &text, refused(3, CertWhy::Unended));
     }
-    for line in WRONG_LINES {
-        let text = text_with(&rt, rt.alloc(), line);
-        check_row(&rt, rt.alloc(), &text, refused(2, CertWhy::Form));
+    for (first, lines) in [(b"dvgcert 1", WRONG_LINES), (b"dvgcert 2", WRONG_MAPS)] {
+        for line in lines {
+            let text = text_with(&rt, rt.alloc(), first, line);
+            check_row(&rt, rt.alloc(), &text, refused(2, CertWhy::Form));
+        }
     }
 }
 

@@ -30,25 +30,17 @@ const FOUR_CERT: &[u8] =
 /// A frame that calls the first: `A000 0000 C800 B000`.
 const FOUR_FRAME: &[u8] = &[0x00, 0xA0, 0x00, 0x00, 0x00, 0xC8, 0x00, 0xB0];
 
-/// The reports on the certificate of the four shapes, cut in each of its lines.
-const CUT_LINES: &[&str] = &[
-    "refused 13 certificate line 1",
-    "refused 13 certificate line 2",
-    "refused 13 certificate line 3",
-    "refused 13 certificate line 4",
-    "refused 13 certificate line 5",
-    "refused 13 certificate line 6",
-];
-
-/// The certificate of the four shapes, cut after each of its bytes but the last, and before the first.
+/// The certificate of the four shapes, cut after each of its bytes but the last, and before the first: refused at the line that is
+/// cut.
 #[test]
 fn cut_certificates(rt: HostRuntime) {
     let rom = four_rom();
-    let mut line = 0usize;
+    let mut line = 1usize;
     for at in 0..FOUR_CERT.len() {
-        let report = CUT_LINES.get(line).copied().unwrap_or("");
+        let report = format!(in rt.alloc(); "refused 13 certificate line {line}");
+        let report = report.expect(&rt, "memory");
         let text = &FOUR_CERT[..at];
-        let is = is_reported(rt.alloc(), &rom, text, FOUR_FRAME, &USUAL, report);
+        let is = is_reported(rt.alloc(), &rom, text, FOUR_FRAME, &USUAL, &report);
         expect(&rt, is, &at);
         if FOUR_CERT[at] == b'\n' {
             line = line.saturating_add(1);
@@ -56,25 +48,26 @@ fn cut_certificates(rt: HostRuntime) {
     }
 }
 
-/// The reports on the frame that calls them, cut at each place, from no byte on.
-const CUT_FRAMES: &[&str] = &[
-    "refused 2",
-    "refused 2",
-    "refused 40 frame at 000",
-    "refused 2",
-    "refused 40 frame at 002",
-    "refused 2",
-    "refused 40 frame at 003",
-    "refused 2",
-    "accepted shapes=4 words=11 depth=4",
+/// The reports on the frame that calls them, cut after each of its words but the last, and whole.
+const CUT_FRAMES: &[(usize, &str)] = &[
+    (2, "refused 40 frame at 000"),
+    (4, "refused 40 frame at 002"),
+    (6, "refused 40 frame at 003"),
+    (8, "accepted shapes=4 words=11 depth=4"),
 ];
 
+/// The frame cut at each place: refused by its length where half a word or nothing is left.
 #[test]
 fn cut_frames(rt: HostRuntime) {
     let rom = four_rom();
-    for len in 0..CUT_FRAMES.len() {
+    for len in [0, 1, 3, 5, 7] {
+        let frame = FOUR_FRAME.get(..len).unwrap_or(FOUR_FRAME);
+        let is = is_reported(rt.alloc(), &rom, FOUR_CERT, frame, &USUAL, "refused 2");
+        expect(&rt, is, &len);
+    }
+    for &(len, report) in CUT_FRAMES {
         let frame = FOUR_FRAME.get(..len).unwrap_or(&[]);
-        let is = is_reported(rt.alloc(), &rom, FOUR_CERT, frame, &USUAL, CUT_FRAMES[len]);
+        let is = is_reported(rt.alloc(), &rom, FOUR_CERT, frame, &USUAL, report);
         expect(&rt, is, &len);
     }
 }

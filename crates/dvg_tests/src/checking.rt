@@ -1,7 +1,7 @@
 //! Verdicts on a ROM, on shapes and on frames by each call: a shape with a lit stroke and a frame that calls it, accepted and
 //! refused. And what faults show.
 
-use crate::expecting::{FaultRow, expect_faults, expect_same, expect_shown};
+use crate::expecting::{FaultRow, expect_same, expect_shown};
 use crate::inputs::{STROKE_CERT, STROKE_FRAME, stroke_rom};
 use dvg_cert::{CertFault, CertWhy, Entries, HashIndex, Key, ListIndex, read_cert};
 use dvg_check::{
@@ -10,6 +10,7 @@ use dvg_check::{
 };
 use dvg_words::{FrameImage, ImageFault, RomImage, SCREEN};
 use std::alloc::Global;
+use std::fmt::Display;
 use std::process::Abort;
 
 /// The certificate of the stroke with a box that is one unit too low, and with one word more than there is.
@@ -137,136 +138,200 @@ fn judges_halves(rt: HostRuntime) {
     expect_same(&rt, &judged, &(Err(fault), counts), &"a low box");
 }
 
-/// The rules of shapes, their numbers and their texts.
-const SHAPE_RULES: &[FaultRow<ShapeWhy>] = &[
+/// What is refused: a shape or a frame by a rule, or the whole.
+#[derive(Clone, Copy, Debug)]
+enum Refused {
+    Shape(ShapeWhy),
+    Frame(FrameWhy),
+    Whole(Refusal),
+}
+
+/// The refusals, their numbers and their texts behind the place.
+const REFUSALS: &[FaultRow<Refused>] = &[
     (
-        ShapeWhy::Unmapped,
+        Refused::Whole(Refusal::Image(ImageFault::RomLength)),
+        1,
+        "the ROM has a wrong length",
+    ),
+    (
+        Refused::Whole(Refusal::Image(ImageFault::FrameLength)),
+        2,
+        "the frame has a wrong length",
+    ),
+    (
+        Refused::Whole(Refusal::Cert(CertFault {
+            line: 12,
+            why: CertWhy::Order,
+        })),
+        11,
+        "certificate line 12: entries are out of order, or one is repeated",
+    ),
+    (
+        Refused::Shape(ShapeWhy::Unmapped),
         20,
         "a word of the item is outside the ROM",
     ),
-    (ShapeWhy::Odd, 21, "the item is an odd LABS"),
-    (ShapeWhy::HaltInShape, 22, "the item is HALT"),
-    (ShapeWhy::BeamUnknown, 23, "it lights at a lost place"),
-    (ShapeWhy::ScaleUnknown, 24, "it lights at unknown scale"),
-    (ShapeWhy::OffScreen, 25, "it lights outside the window"),
-    (ShapeWhy::NoEntry, 26, "it calls a shape that has no entry"),
+    (Refused::Shape(ShapeWhy::Odd), 21, "the item is an odd LABS"),
     (
-        ShapeWhy::TooDeep,
+        Refused::Shape(ShapeWhy::HaltInShape),
+        22,
+        "the item is HALT",
+    ),
+    (
+        Refused::Shape(ShapeWhy::BeamUnknown),
+        23,
+        "it lights at a lost place",
+    ),
+    (
+        Refused::Shape(ShapeWhy::ScaleUnknown),
+        24,
+        "it lights at unknown scale",
+    ),
+    (
+        Refused::Shape(ShapeWhy::OffScreen),
+        25,
+        "it lights outside the window",
+    ),
+    (
+        Refused::Shape(ShapeWhy::NoEntry),
+        26,
+        "it calls a shape that has no entry",
+    ),
+    (
+        Refused::Shape(ShapeWhy::TooDeep),
         27,
         "more return places are needed than claimed",
     ),
     (
-        ShapeWhy::TooManyWords,
+        Refused::Shape(ShapeWhy::TooManyWords),
         28,
         "more words are needed than claimed",
     ),
     (
-        ShapeWhy::EndDiffers,
+        Refused::Shape(ShapeWhy::EndDiffers),
         29,
         "the place at the end is not the claimed one",
     ),
     (
-        ShapeWhy::ScaleDiffers,
+        Refused::Shape(ShapeWhy::ScaleDiffers),
         30,
         "the scale at the end is not the claimed one",
     ),
     (
-        ShapeWhy::BoxTooSmall,
+        Refused::Shape(ShapeWhy::BoxTooSmall),
         31,
         "it lights outside the claimed box",
     ),
     (
-        ShapeWhy::WordsDiffer,
+        Refused::Shape(ShapeWhy::WordsDiffer),
         32,
         "the words are fewer than claimed",
     ),
-    (ShapeWhy::DepthDiffers, 33, "the depth is less than claimed"),
+    (
+        Refused::Shape(ShapeWhy::DepthDiffers),
+        33,
+        "the depth is less than claimed",
+    ),
+    (
+        Refused::Frame(FrameWhy::Unmapped),
+        40,
+        "a word of the item is outside the frame",
+    ),
+    (Refused::Frame(FrameWhy::Odd), 41, "the item is an odd LABS"),
+    (
+        Refused::Frame(FrameWhy::ReturnInFrame),
+        42,
+        "the item is RTSL",
+    ),
+    (
+        Refused::Frame(FrameWhy::BackJump),
+        43,
+        "the item is a jump to its own address or a lower one",
+    ),
+    (
+        Refused::Frame(FrameWhy::BeamUnknown),
+        44,
+        "it lights at a lost place",
+    ),
+    (
+        Refused::Frame(FrameWhy::ScaleUnknown),
+        45,
+        "it lights at unknown scale",
+    ),
+    (
+        Refused::Frame(FrameWhy::OffScreen),
+        46,
+        "it lights outside the window",
+    ),
+    (
+        Refused::Frame(FrameWhy::NoEntry),
+        47,
+        "it calls a shape that has no entry",
+    ),
+    (
+        Refused::Frame(FrameWhy::Budget),
+        48,
+        "the words so far are over the budget",
+    ),
+    (
+        Refused::Whole(Refusal::BudgetRange),
+        49,
+        "the budget is out of range",
+    ),
+    (
+        Refused::Whole(Refusal::IndexMemory),
+        50,
+        "out of memory for the index",
+    ),
 ];
 
-/// Stops the test unless a refusal has this number, and its text is this one after its place.
-fn expect_refusal(rt: &impl Abort, alloc: Global, refusal: Refusal, number: u8, text: &str) {
-    let place = match refusal {
-        Refusal::Shape(_) => "shape 8AB/any at 00C: ",
-        _ => "frame at 0E7: ",
+/// Stops the test unless a rule and its fault have this number, and show this text, the fault behind its place.
+fn expect_fault<W: Display, F: Display>(
+    rt: &impl Abort,
+    alloc: Global,
+    (why, why_number): (&W, u8),
+    (fault, fault_number): (&F, u8),
+    place: &str,
+    (number, text): (u8, &str),
+) {
+    expect_same(rt, &[why_number, fault_number], &[number; 2], &text);
+    expect_shown(rt, alloc, why, "", text);
+    expect_shown(rt, alloc, fault, place, text);
+}
+
+/// Stops the test unless what is refused, by its rule, its fault and the whole refusal, has this number and text.
+fn expect_refused(rt: &impl Abort, alloc: Global, refused: Refused, number: u8, text: &str) {
+    let told = (number, text);
+    let (refusal, place) = match refused {
+        Refused::Shape(why) => {
+            let (addr, key, word) = (0x8AB, Key::Any, 0x00C);
+            let fault = ShapeFault {
+                addr,
+                key,
+                word,
+                why,
+            };
+            let place = "shape 8AB/any at 00C: ";
+            let numbered = (&fault, fault.number());
+            expect_fault(rt, alloc, (&why, why.number()), numbered, place, told);
+            (Refusal::Shape(fault), place)
+        }
+        Refused::Frame(why) => {
+            let fault = FrameFault { word: 0x0E7, why };
+            let place = "frame at 0E7: ";
+            let numbered = (&fault, fault.number());
+            expect_fault(rt, alloc, (&why, why.number()), numbered, place, told);
+            (Refusal::Frame(fault), place)
+        }
+        Refused::Whole(refusal) => (refusal, ""),
     };
     expect_same(rt, &refusal.number(), &number, &text);
     expect_shown(rt, alloc, &refusal, place, text);
 }
 
-/// The rules of frames, their numbers and their texts.
-const FRAME_RULES: &[FaultRow<FrameWhy>] = &[
-    (
-        FrameWhy::Unmapped,
-        40,
-        "a word of the item is outside the frame",
-    ),
-    (FrameWhy::Odd, 41, "the item is an odd LABS"),
-    (FrameWhy::ReturnInFrame, 42, "the item is RTSL"),
-    (
-        FrameWhy::BackJump,
-        43,
-        "the item is a jump to its own address or a lower one",
-    ),
-    (FrameWhy::BeamUnknown, 44, "it lights at a lost place"),
-    (FrameWhy::ScaleUnknown, 45, "it lights at unknown scale"),
-    (FrameWhy::OffScreen, 46, "it lights outside the window"),
-    (FrameWhy::NoEntry, 47, "it calls a shape that has no entry"),
-    (FrameWhy::Budget, 48, "the words so far are over the budget"),
-];
-
-#[test]
-fn shows_faults(rt: HostRuntime) {
-    expect_faults(&rt, rt.alloc(), SHAPE_RULES, |why: &ShapeWhy| why.number());
-    for &(why, number, text) in SHAPE_RULES {
-        let fault = ShapeFault {
-            addr: 0x8AB,
-            key: Key::Any,
-            word: 0x00C,
-            why,
-        };
-        expect_same(&rt, &fault.number(), &number, &text);
-        expect_shown(&rt, rt.alloc(), &fault, "shape 8AB/any at 00C: ", text);
-        expect_refusal(&rt, rt.alloc(), Refusal::Shape(fault), number, text);
-    }
-    expect_faults(&rt, rt.alloc(), FRAME_RULES, |why: &FrameWhy| why.number());
-    for &(why, number, text) in FRAME_RULES {
-        let fault = FrameFault { word: 0x0E7, why };
-        expect_same(&rt, &fault.number(), &number, &text);
-        expect_shown(&rt, rt.alloc(), &fault, "frame at 0E7: ", text);
-        expect_refusal(&rt, rt.alloc(), Refusal::Frame(fault), number, text);
-    }
-}
-
-/// The other refusals, their numbers and their texts.
-const REFUSALS: &[FaultRow<Refusal>] = &[
-    (
-        Refusal::Image(ImageFault::RomLength),
-        1,
-        "the ROM has a wrong length",
-    ),
-    (
-        Refusal::Image(ImageFault::FrameLength),
-        2,
-        "the frame has a wrong length",
-    ),
-    (Refusal::BudgetRange, 49, "the budget is out of range"),
-    (Refusal::IndexMemory, 50, "out of memory for the index"),
-    (
-        Refusal::Cert(CertFault {
-            line: 12,
-            why: CertWhy::Order,
-        }),
-        11,
-        "certificate line 12: entries are out of order, or one is repeated",
-    ),
-];
-
 #[test]
 fn shows_refusals(rt: HostRuntime) {
-    expect_faults(
-        &rt,
-        rt.alloc(),
-        REFUSALS,
-        |refusal: &Refusal| refusal.number(),
-    );
+    for &(refused, number, text) in REFUSALS {
+        expect_refused(&rt, rt.alloc(), refused, number, text);
+    }
 }

@@ -57,8 +57,8 @@ const FRAMES: &[(&[u8], u16, FrameCause)] = &[
     ),
 ];
 
-/// Stops the test unless a frame over a certificate without entries is refused at this word for this cause.
-fn explain_bytes(rt: &impl Abort, alloc: Global, frame: &[u8], word: u16, cause: FrameCause) {
+/// The word and the cause for which a frame over a certificate without entries is refused.
+fn explain_bytes(rt: &impl Abort, alloc: Global, frame: &[u8]) -> (u16, FrameCause) {
     let bytes = short_rom();
     let cert = read_cert(alloc, EMPTY).expect(rt, "a certificate");
     let rom = RomImage::from_bytes(&bytes, cert.map()).expect(rt, "a ROM");
@@ -68,15 +68,7 @@ fn explain_bytes(rt: &impl Abort, alloc: Global, frame: &[u8], word: u16, cause:
     let shapes = judged.expect(rt, "shapes");
     let explained = explain_frame(&shapes, &frame, 3);
     let account = explained.expect_err(rt, "a refusal");
-    let told = (account.finding.fault.word, account.cause);
-    expect_same(rt, &told, &(word, cause), &word);
-}
-
-#[test]
-fn explains_frames(rt: HostRuntime) {
-    for &(frame, word, cause) in FRAMES {
-        explain_bytes(&rt, rt.alloc(), frame, word, cause);
-    }
+    (account.finding.fault.word, account.cause)
 }
 
 /// Certificates for the ROM, the word address of the refusal, and its cause; the shape ends one place to the right, lights that
@@ -128,21 +120,25 @@ const CERTS: &[(&[u8], u16, ShapeCause)] = &[
     ),
 ];
 
-/// Stops the test unless the shapes of a certificate, its counts taken as exact, are refused at this word for this cause.
-fn explain_cert(rt: &impl Abort, alloc: Global, text: &[u8], word: u16, cause: ShapeCause) {
+/// The word and the cause for which the shapes of a certificate, its counts taken as exact, are refused.
+fn explain_cert(rt: &impl Abort, alloc: Global, text: &[u8]) -> (u16, ShapeCause) {
     let bytes = short_rom();
     let cert = read_cert(alloc, text).expect(rt, "a certificate");
     let rom = RomImage::from_bytes(&bytes, cert.map()).expect(rt, "a ROM");
     let entries = HashIndex::new(alloc, &cert).expect(rt, "an index");
     let explained = explain_shapes(&rom, &cert, &entries, &SCREEN, Mode::Exact);
     let account = explained.expect_err(rt, "a refusal");
-    let told = (account.finding.fault.word, account.cause);
-    expect_same(rt, &told, &(word, cause), &word);
+    (account.finding.fault.word, account.cause)
 }
 
 #[test]
-fn explains_shapes(rt: HostRuntime) {
+fn explains_refusals(rt: HostRuntime) {
+    for &(frame, word, cause) in FRAMES {
+        let told = explain_bytes(&rt, rt.alloc(), frame);
+        expect_same(&rt, &told, &(word, cause), &word);
+    }
     for &(text, word, cause) in CERTS {
-        explain_cert(&rt, rt.alloc(), text, word, cause);
+        let told = explain_cert(&rt, rt.alloc(), text);
+        expect_same(&rt, &told, &(word, cause), &word);
     }
 }

@@ -26,10 +26,33 @@ pub const USUAL: Asked = Asked {
     mode: Mode::Bound,
 };
 
-/// The rows. The first line of each says what it shows. Then come its inputs, in any order: `rom`, a word address and the words from
-/// there on, where the ROM is not of zeros alone; `bytes`, how many bytes the ROM has, where its map has another number; `frame` and its words;
-/// `budget`, where it is not 20,000; `window`, where it is not the screen; `mode exact`, where counts are not bounds. After the report
-/// stands the text of the certificate, where it is not the one without entries.
+/// What a row is of, where it gives no ROM, frame or certificate of its own.
+#[derive(Clone, Copy)]
+struct Usual {
+    rom: &'static str,
+    frame: &'static str,
+    /// The text behind its first word and before its last LF.
+    text: &'static str,
+}
+
+/// A ROM of zeros, and a certificate without entries.
+const ZEROS: Usual = Usual {
+    rom: "800",
+    frame: "",
+    text: " 1\ndone 0",
+};
+
+/// The ROM of one lit stroke at 800, its certificate, and a frame that calls it from the screen's lower middle.
+const STROKE: Usual = Usual {
+    rom: "800 92FF 73FF D000",
+    frame: "A080 0000 C800 B0B0",
+    text: " 1\nshape 800 0 end rel 1047552 785408 box 0 1047552 0 785408 depth 0 words 3 scale 0\ndone 1",
+};
+
+/// The rows. The first line of each says what it shows. Then come its inputs, in any order: `shape stroke`, where what it leaves out
+/// is of the stroke; `rom`, a word address and the words from there on, where the ROM is not of zeros alone; `bytes`, how many bytes
+/// the ROM has, where its map has another number; `frame` and its words; `budget`, where it is not 20,000; `window`, where it is not
+/// the screen; `mode exact`, where counts are not bounds. After the report stands the text of the certificate.
 const ROWS: &str = "\
 a frame that halts at once
 frame B000
@@ -68,23 +91,16 @@ frame D000
 refused 42 frame at 000
 
 a stroke to the screen's right edge
-rom 800 92FF 73FF D000
-frame A080 0000 C800 B0B0
+shape stroke
 accepted shapes=1 words=7 depth=1
-dvgcert 1
-shape 800 0 end rel 1047552 785408 box 0 1047552 0 785408 depth 0 words 3 scale 0
-done 1
 
 a call at a scale that no entry is for
-rom 800 92FF 73FF D000
+shape stroke
 frame A080 F000 C800 B0B0
 refused 47 frame at 002
-dvgcert 1
-shape 800 0 end rel 1047552 785408 box 0 1047552 0 785408 depth 0 words 3 scale 0
-done 1
 
 one shape at two scales
-rom 800 92FF 73FF D000
+shape stroke
 frame A080 F000 C800 B0B0
 accepted shapes=2 words=7 depth=1
 dvgcert 1
@@ -144,7 +160,7 @@ shape 800 0 end abs 1048576 0 box none depth 0 words 5 scale 0
 done 1
 
 a box too low
-rom 800 92FF 73FF D000
+shape stroke
 frame B000
 refused 31 shape 800/0 at 800
 dvgcert 1
@@ -152,7 +168,7 @@ shape 800 0 end rel 1047552 785408 box 0 1047552 0 785407 depth 0 words 3 scale 
 done 1
 
 another end
-rom 800 92FF 73FF D000
+shape stroke
 frame B000
 refused 29 shape 800/0 at 802
 dvgcert 1
@@ -160,7 +176,7 @@ shape 800 0 end rel 1047552 785407 box 0 1047552 0 785408 depth 0 words 3 scale 
 done 1
 
 another scale
-rom 800 92FF 73FF D000
+shape stroke
 frame B000
 refused 30 shape 800/0 at 802
 dvgcert 1
@@ -168,7 +184,7 @@ shape 800 0 end rel 1047552 785408 box 0 1047552 0 785408 depth 0 words 3 scale 
 done 1
 
 too few words
-rom 800 92FF 73FF D000
+shape stroke
 frame B000
 refused 28 shape 800/0 at 802
 dvgcert 1
@@ -176,7 +192,7 @@ shape 800 0 end rel 1047552 785408 box 0 1047552 0 785408 depth 0 words 2 scale 
 done 1
 
 a lit stroke at unknown scale
-rom 800 92FF 73FF D000
+shape stroke
 frame B000
 refused 24 shape 800/any at 800
 dvgcert 1
@@ -379,44 +395,29 @@ frame A400
 refused 40 frame at 000
 
 a stroke to the screen's upper edge
-rom 800 92FF 73FF D000
+shape stroke
 frame A100 0000 C800 B0B0
 accepted shapes=1 words=7 depth=1
-dvgcert 1
-shape 800 0 end rel 1047552 785408 box 0 1047552 0 785408 depth 0 words 3 scale 0
-done 1
 
 the same, one place higher
-rom 800 92FF 73FF D000
+shape stroke
 frame A101 0000 C800 B0B0
 refused 46 frame at 002
-dvgcert 1
-shape 800 0 end rel 1047552 785408 box 0 1047552 0 785408 depth 0 words 3 scale 0
-done 1
 
 the same, one place too far to the right
-rom 800 92FF 73FF D000
+shape stroke
 frame A080 0001 C800 B0B0
 refused 46 frame at 002
-dvgcert 1
-shape 800 0 end rel 1047552 785408 box 0 1047552 0 785408 depth 0 words 3 scale 0
-done 1
 
 a call at unknown scale, of what has a number alone
-rom 800 92FF 73FF D000
+shape stroke
 frame C800 B000
 refused 47 frame at 000
-dvgcert 1
-shape 800 0 end rel 1047552 785408 box 0 1047552 0 785408 depth 0 words 3 scale 0
-done 1
 
 a frame without HALT
-rom 800 92FF 73FF D000
+shape stroke
 frame A080 0000
 refused 40 frame at 002
-dvgcert 1
-shape 800 0 end rel 1047552 785408 box 0 1047552 0 785408 depth 0 words 3 scale 0
-done 1
 
 a shape at global scale 15
 rom 800 0001 1000 D000
@@ -463,31 +464,19 @@ shape 808 0 end rel 0 0 box none depth 4 words 1 scale 0
 done 5
 
 a budget of all words
-rom 800 92FF 73FF D000
-frame A080 0000 C800 B0B0
+shape stroke
 budget 7
 accepted shapes=1 words=7 depth=1
-dvgcert 1
-shape 800 0 end rel 1047552 785408 box 0 1047552 0 785408 depth 0 words 3 scale 0
-done 1
 
 a budget of one word less
-rom 800 92FF 73FF D000
-frame A080 0000 C800 B0B0
+shape stroke
 budget 6
 refused 48 frame at 003
-dvgcert 1
-shape 800 0 end rel 1047552 785408 box 0 1047552 0 785408 depth 0 words 3 scale 0
-done 1
 
 no budget
-rom 800 92FF 73FF D000
-frame A080 0000 C800 B0B0
+shape stroke
 budget 0
 refused 49
-dvgcert 1
-shape 800 0 end rel 1047552 785408 box 0 1047552 0 785408 depth 0 words 3 scale 0
-done 1
 
 two shapes that jump to one another
 rom 800 E801 E800
@@ -549,8 +538,7 @@ shape 400 0 end rel 1047552 785408 box 0 1047552 0 785408 depth 0 words 3 scale 
 done 1
 
 a ROM of three words
-rom 800 92FF 73FF D000
-frame A080 0000 C800 B0B0
+shape stroke
 accepted shapes=1 words=7 depth=1
 dvgcert 2
 rom 800 802
@@ -567,7 +555,7 @@ shape 800 0 end rel 1047552 785408 box 0 1047552 0 785408 depth 0 words 3 scale 
 done 1
 
 an address past the ROM's last word
-rom 800 92FF 73FF D000
+shape stroke
 frame B000
 refused 10 certificate line 3
 dvgcert 2
@@ -639,31 +627,19 @@ shape 8FF any end rel 0 0 box none depth 0 words 1 scale any
 done 1
 
 a stroke to the edges of its window
-rom 800 92FF 73FF D000
-frame A080 0000 C800 B0B0
+shape stroke
 window 0,1023,128,895
 accepted shapes=1 words=7 depth=1
-dvgcert 1
-shape 800 0 end rel 1047552 785408 box 0 1047552 0 785408 depth 0 words 3 scale 0
-done 1
 
 the same, with the window's top one place lower
-rom 800 92FF 73FF D000
-frame A080 0000 C800 B0B0
+shape stroke
 window 0,1023,128,894
 refused 46 frame at 002
-dvgcert 1
-shape 800 0 end rel 1047552 785408 box 0 1047552 0 785408 depth 0 words 3 scale 0
-done 1
 
 the same, with the window's left side one place further in
-rom 800 92FF 73FF D000
-frame A080 0000 C800 B0B0
+shape stroke
 window 1,1023,0,1023
 refused 46 frame at 002
-dvgcert 1
-shape 800 0 end rel 1047552 785408 box 0 1047552 0 785408 depth 0 words 3 scale 0
-done 1
 
 a stroke from 1,1 to 0,0 in the least window that holds it
 frame A001 0001 9401 7401 B000
@@ -702,25 +678,19 @@ shape 800 0 end abs 2048 0 box none depth 0 words 5 scale 0
 done 1
 
 a shape with just the words and the depth that it claims
-rom 800 92FF 73FF D000
-frame A080 0000 C800 B0B0
+shape stroke
 mode exact
 accepted shapes=1 words=7 depth=1
-dvgcert 1
-shape 800 0 end rel 1047552 785408 box 0 1047552 0 785408 depth 0 words 3 scale 0
-done 1
 
 one word more claimed than there is
-rom 800 92FF 73FF D000
-frame A080 0000 C800 B0B0
+shape stroke
 accepted shapes=1 words=8 depth=1
 dvgcert 1
 shape 800 0 end rel 1047552 785408 box 0 1047552 0 785408 depth 0 words 4 scale 0
 done 1
 
 the same, where counts are exact
-rom 800 92FF 73FF D000
-frame A080 0000 C800 B0B0
+shape stroke
 mode exact
 refused 32 shape 800/0 at 802
 dvgcert 1
@@ -728,16 +698,14 @@ shape 800 0 end rel 1047552 785408 box 0 1047552 0 785408 depth 0 words 4 scale 
 done 1
 
 one return place more claimed than there is
-rom 800 92FF 73FF D000
-frame A080 0000 C800 B0B0
+shape stroke
 accepted shapes=1 words=7 depth=2
 dvgcert 1
 shape 800 0 end rel 1047552 785408 box 0 1047552 0 785408 depth 1 words 3 scale 0
 done 1
 
 the same, where counts are exact
-rom 800 92FF 73FF D000
-frame A080 0000 C800 B0B0
+shape stroke
 mode exact
 refused 33 shape 800/0 at 802
 dvgcert 1
@@ -745,8 +713,7 @@ shape 800 0 end rel 1047552 785408 box 0 1047552 0 785408 depth 1 words 3 scale 
 done 1
 
 both, where counts are exact
-rom 800 92FF 73FF D000
-frame A080 0000 C800 B0B0
+shape stroke
 mode exact
 refused 32 shape 800/0 at 802
 dvgcert 1
@@ -819,18 +786,13 @@ refused 13 certificate line 2
 dvgcert 1
 
 a ROM of 2046 bytes for the stroke
-rom 800 92FF 73FF D000
+shape stroke
 bytes 2046
-frame A080 0000 C800 B0B0
 refused 1
-dvgcert 1
-shape 800 0 end rel 1047552 785408 box 0 1047552 0 785408 depth 0 words 3 scale 0
-done 1
 
 the same, where the ROM ends at BFE
-rom 800 92FF 73FF D000
+shape stroke
 bytes 2046
-frame A080 0000 C800 B0B0
 accepted shapes=1 words=7 depth=1
 dvgcert 2
 rom 800 BFE
@@ -838,9 +800,8 @@ shape 800 0 end rel 1047552 785408 box 0 1047552 0 785408 depth 0 words 3 scale 
 done 1
 
 a word more than that ROM has
-rom 800 92FF 73FF D000
+shape stroke
 bytes 2048
-frame A080 0000 C800 B0B0
 refused 1
 dvgcert 2
 rom 800 BFE
@@ -848,15 +809,12 @@ shape 800 0 end rel 1047552 785408 box 0 1047552 0 785408 depth 0 words 3 scale 
 done 1
 
 the stroke, and a frame of HALT alone
-rom 800 92FF 73FF D000
+shape stroke
 frame B000
 accepted shapes=1 words=1 depth=0
-dvgcert 1
-shape 800 0 end rel 1047552 785408 box 0 1047552 0 785408 depth 0 words 3 scale 0
-done 1
 
 an address in small letters
-rom 800 92FF 73FF D000
+shape stroke
 frame B000
 refused 10 certificate line 2
 dvgcert 1
@@ -864,7 +822,7 @@ shape 80a 0 end rel 1047552 785408 box 0 1047552 0 785408 depth 0 words 3 scale 
 done 1
 
 a coordinate of -0
-rom 800 92FF 73FF D000
+shape stroke
 frame B000
 refused 10 certificate line 2
 dvgcert 1
@@ -872,7 +830,7 @@ shape 800 0 end rel -0 785408 box 0 1047552 0 785408 depth 0 words 3 scale 0
 done 1
 
 an entry twice
-rom 800 92FF 73FF D000
+shape stroke
 frame B000
 refused 11 certificate line 3
 dvgcert 1
@@ -881,7 +839,7 @@ shape 800 0 end rel 1047552 785408 box 0 1047552 0 785408 depth 0 words 3 scale 
 done 2
 
 another count of entries
-rom 800 92FF 73FF D000
+shape stroke
 frame B000
 refused 12 certificate line 3
 dvgcert 1
@@ -889,14 +847,14 @@ shape 800 0 end rel 1047552 785408 box 0 1047552 0 785408 depth 0 words 3 scale 
 done 2
 
 no last line
-rom 800 92FF 73FF D000
+shape stroke
 frame B000
 refused 13 certificate line 3
 dvgcert 1
 shape 800 0 end rel 1047552 785408 box 0 1047552 0 785408 depth 0 words 3 scale 0
 
 a byte behind the last line
-rom 800 92FF 73FF D000
+shape stroke
 frame B000
 refused 14 certificate line 4
 dvgcert 1
@@ -1036,6 +994,14 @@ fn words_of<'a>(lines: &'a str, first: &str, usual: &'a str) -> &'a str {
     usual
 }
 
+/// What a row is of, where it leaves something out.
+fn usual_of(row: &str) -> Usual {
+    match words_of(row, "shape", "none") {
+        "stroke" => STROKE,
+        _ => ZEROS,
+    }
+}
+
 /// How a row is judged.
 fn asked_of(rt: &impl Abort, inputs: &str) -> Asked {
     let budget = words_of(inputs, "budget", "20000");
@@ -1060,14 +1026,15 @@ fn text_of(rt: &impl Abort, alloc: Global, rest: &str) -> Vec<u8> {
 
 /// Stops the test unless the report of a row is that of its inputs.
 fn judge_row(rt: &impl Abort, alloc: Global, row: &str) {
-    let (inputs, text) = row.split_once("\ndvgcert").unwrap_or((row, " 1\ndone 0"));
+    let usual = usual_of(row);
+    let (inputs, text) = row.split_once("\ndvgcert").unwrap_or((row, usual.text));
     let map = words_of(text, "rom", "800 BFF");
-    let mut rom = rom_bytes(rt, alloc, words_of(inputs, "rom", "800"), map);
+    let mut rom = rom_bytes(rt, alloc, words_of(inputs, "rom", usual.rom), map);
     let text = text_of(rt, alloc, text);
     if let Ok(length) = words_of(inputs, "bytes", "").parse::<usize>() {
         rom.resize(length, 0).expect(rt, "memory");
     }
-    let frame = bytes_of(rt, alloc, words_of(inputs, "frame", ""));
+    let frame = bytes_of(rt, alloc, words_of(inputs, "frame", usual.frame));
     let report = inputs.lines().last().unwrap_or("");
     let is = is_reported(alloc, &rom, &text, &frame, &asked_of(rt, inputs), report);
     expect(rt, is, &row);

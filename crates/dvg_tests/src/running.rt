@@ -76,51 +76,43 @@ fn reads_each_byte_once(rt: HostRuntime) {
     }
 }
 
-/// Stops the test unless each end of a run has its status, which this gives.
+/// Stops the test unless each outcome has its status, which this gives.
 fn expect_statuses<E: Debug, S: Fn(&E) -> u8>(rt: &impl Abort, statuses: &[(E, u8)], status_of: S)
     requires { S.IsAlwaysCallable status_of }
 {
-    for (end, status) in statuses {
-        expect_same(rt, &status_of(end), status, end);
+    for (outcome, status) in statuses {
+        expect_same(rt, &status_of(outcome), status, outcome);
     }
 }
 
-/// Ends of runs, and their statuses.
-const STATUSES: &[(Result<Outcome, RunFault>, u8)] = &[
-    (Ok(Outcome::Accepted), 0),
-    (Ok(Outcome::Refused), 1),
-    (Ok(Outcome::NoMemory), 4),
-    (Err(RunFault::ReadRom), 3),
-    (Err(RunFault::ReadFrame), 3),
-    (Err(RunFault::ReadCert), 3),
-    (Err(RunFault::Write), 3),
-    (Err(RunFault::Memory), 4),
+/// Outcomes of runs, and their statuses.
+const STATUSES: &[(Outcome, u8)] = &[
+    (Outcome::Accepted, 0),
+    (Outcome::Refused, 1),
+    (Outcome::NoMemory, 4),
 ];
 
-/// Ends of runs over frames, and their statuses.
-const FRAME_STATUSES: &[(Result<FrameOutcome, RunFault>, u8)] = &[
-    (Ok(FrameOutcome::Accepted), 0),
-    (Ok(FrameOutcome::Refused), 1),
-    (Ok(FrameOutcome::NoMemory), 4),
-    (Ok(FrameOutcome::Unread), 3),
-    (Err(RunFault::ReadRom), 3),
-    (Err(RunFault::ReadCert), 3),
-    (Err(RunFault::Write), 3),
-    (Err(RunFault::Memory), 4),
+/// Outcomes of runs over frames, and their statuses.
+const FRAME_STATUSES: &[(FrameOutcome, u8)] = &[
+    (FrameOutcome::Accepted, 0),
+    (FrameOutcome::Refused, 1),
+    (FrameOutcome::NoMemory, 4),
+    (FrameOutcome::Unread, 3),
 ];
 
 #[test]
 fn says_how_it_ended(rt: HostRuntime) {
-    expect_statuses(
-        &rt,
-        STATUSES,
-        |end: &Result<Outcome, RunFault>| status_of(end),
-    );
+    expect_statuses(&rt, STATUSES, |outcome: &Outcome| status_of(&Ok(*outcome)));
     expect_statuses(
         &rt,
         FRAME_STATUSES,
-        |end: &Result<FrameOutcome, RunFault>| frames_status_of(end),
+        |outcome: &FrameOutcome| frames_status_of(&Ok(*outcome)),
     );
+    for &(fault, _, _) in FAULTS {
+        let status = if fault == RunFault::Memory { 4 } else { 3 };
+        let statuses = (status_of(&Err(fault)), frames_status_of(&Err(fault)));
+        expect_same(&rt, &statuses, &(status, status), &fault);
+    }
 }
 
 /// Faults of runs, their numbers and their texts.

@@ -120,35 +120,36 @@ fn sets_and_shifts_places(rt: HostRuntime) {
     expect_same(&rt, &to, &end, &"the place after the draw");
 }
 
-/// Places, and whether they are on the screen.
-const SCREEN_PLACES: &[(i64, i64, bool)] = &[
-    (0, 0, true),
-    (1047552, 1047552, true),
-    (1047553, 0, false),
-    (0, 1047553, false),
-    (-1, 0, false),
-    (0, -1, false),
-];
+/// A place by its coordinates.
+type Place = (i64, i64);
+
+#[test]
+fn knows_lengths(rt: HostRuntime) {
+    assert!(rt; is_long(0xA000) && !is_long(0xB000));
+    assert_eq!(rt; (Format::Long.words(), Format::Short.words()), (2, 1));
+}
+
+/// Places on the screen, and places beside it.
+const ON_SCREEN: [Place; 2] = [(0, 0), (1047552, 1047552)];
+
+const OFF_SCREEN: [Place; 4] = [(1047553, 0), (0, 1047553), (-1, 0), (0, -1)];
 
 #[test]
 fn knows_the_screen(rt: HostRuntime) {
-    assert!(rt; is_long(0xA000) && !is_long(0xB000));
-    assert_eq!(rt; (Format::Long.words(), Format::Short.words()), (2, 1));
-    for &(x, y, is_on) in SCREEN_PLACES {
-        let is_right = on_screen(x, y) == is_on && in_window(&SCREEN, x, y) == is_on;
+    for (x, y) in ON_SCREEN {
+        let is_right = on_screen(x, y) && in_window(&SCREEN, x, y);
         expect(&rt, is_right, &(x, y));
+    }
+    for (x, y) in OFF_SCREEN {
+        let is_wrong = on_screen(x, y) || in_window(&SCREEN, x, y);
+        expect(&rt, !is_wrong, &(x, y));
     }
 }
 
-/// Places, and whether they are in the window from 1 to 2 and from 3 to 5.
-const WINDOW_PLACES: &[(i64, i64, bool)] = &[
-    (1024, 3072, true),
-    (2048, 5120, true),
-    (1023, 3072, false),
-    (2049, 3072, false),
-    (1024, 3071, false),
-    (1024, 5121, false),
-];
+/// Places in the window from 1 to 2 and from 3 to 5, and places beside it.
+const IN_WINDOW: [Place; 2] = [(1024, 3072), (2048, 5120)];
+
+const BESIDE_WINDOW: [Place; 4] = [(1023, 3072), (2049, 3072), (1024, 3071), (1024, 5121)];
 
 const NO_WINDOWS: &[(u16, u16, u16, u16)] = &[
     (5, 4, 0, 1),
@@ -164,8 +165,11 @@ fn is_in_a_window(x: i64, y: i64) -> Option<bool> {
 
 #[test]
 fn knows_windows(rt: HostRuntime) {
-    for &(x, y, is_in) in WINDOW_PLACES {
-        expect_same(&rt, &is_in_a_window(x, y), &Some(is_in), &(x, y));
+    for (x, y) in IN_WINDOW {
+        expect_same(&rt, &is_in_a_window(x, y), &Some(true), &(x, y));
+    }
+    for (x, y) in BESIDE_WINDOW {
+        expect_same(&rt, &is_in_a_window(x, y), &Some(false), &(x, y));
     }
     expect(&rt, Window::new(0, 1023, 0, 1023) == Some(SCREEN), &SCREEN);
     for &(x_min, x_max, y_min, y_max) in NO_WINDOWS {
