@@ -99,8 +99,8 @@ fn why_line(rom: &RomImage, account: &MakeAccount) -> Option<Line>
         }
         EntryCause::Odd => Why::odd(rom, at),
         EntryCause::Halt => Why::Halt,
-        EntryCause::LostPlace => Why::DrawsAtLostPlace,
-        EntryCause::UnknownScale => Why::UnknownScale,
+        EntryCause::BeamUnknown => Why::DrawsAtLostPlace,
+        EntryCause::ScaleUnknown => Why::ScaleUnknown,
         EntryCause::Ring { from } => {
             let shape = account.chain.get(from)?;
             Why::Maker(MakerWhy::Ring(EntryName::of_shape(shape)))

@@ -25,7 +25,7 @@ pub fn push_why(text: &mut Text, why: &Why) {
         Why::BoxAtLostPlace => {
             text.push("the entry that it names has a box, and the place is lost")
         }
-        Why::UnknownScale => text.push("it draws lit at unknown scale"),
+        Why::ScaleUnknown => text.push("it draws lit at unknown scale"),
         Why::PastEdge {
             corner,
             leaving,

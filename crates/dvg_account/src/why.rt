@@ -38,7 +38,7 @@ pub enum Why {
     /// The entry that the item names has a box, and the place is lost.
     BoxAtLostPlace,
     /// The item draws lit at unknown scale.
-    UnknownScale,
+    ScaleUnknown,
     /// A corner of what the item lights is past an edge.
     PastEdge {
         corner: Corner,
@@ -318,7 +318,7 @@ impl Why {
             FrameCause::ReturnInFrame => Why::Return,
             FrameCause::BackJump(to) => jumps_back(at, to),
             FrameCause::BeamUnknown => lost_place(found),
-            FrameCause::ScaleUnknown => Why::UnknownScale,
+            FrameCause::ScaleUnknown => Why::ScaleUnknown,
             FrameCause::OffScreen(leaving) => Why::past_edge(found, leaving, Bounds::Window),
             FrameCause::NoEntry { to, scale } => Why::NoEntry { to, scale },
             FrameCause::Budget(over) => Why::OverBudget {
@@ -339,7 +339,7 @@ impl Why {
             ShapeCause::Odd => Why::odd(rom, at),
             ShapeCause::HaltInShape => Why::Halt,
             ShapeCause::BeamUnknown => lost_place(found),
-            ShapeCause::ScaleUnknown => Why::UnknownScale,
+            ShapeCause::ScaleUnknown => Why::ScaleUnknown,
             ShapeCause::OffScreen(leaving) => Why::past_edge(found, leaving, Bounds::Window),
             ShapeCause::NoEntry { to, scale } => Why::NoEntry { to, scale },
             ShapeCause::BoxTooSmall(leaving) => Why::leaves_box(found, leaving),

@@ -36,7 +36,7 @@ impl Way {
                 from = Some(item.at);
             }
             last = Some(item);
-            here = item.next_place(kind);
+            here = item.next_address(kind);
         }
         let own = if are_zeros(words, at) { Some(at) } else { None };
         let zeros = from.or(own).map(|first| Zeros {

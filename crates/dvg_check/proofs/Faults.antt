@@ -12,7 +12,7 @@ use Rattle.dvg_words.specs.declared.instruction.Instr.TheVariants.{Halt}
 use Rattle.dvg_cert.specs.declared.entry.Entry.{Entry}
 use Rattle.dvg_items.proofs.Leading.{Same, same_lead, too_long, shorter, everywhere}
 use Rattle.dvg_check.specs.FirstFault.{AllBefore, FaultAt, frame_number, shape_number, ShapeFaultAt}
-use Rattle.dvg_items.specs.Items.{LeadsTo, next_place}
+use Rattle.dvg_items.specs.Items.{LeadsTo, next_address}
 use Rattle.dvg_items.specs.Known.{words_before, frame_context, depth_before}
 use Rattle.dvg_check.specs.Laws.{OneFault, NoFault, OneCount, NoShapeFault, OneShapeFault}
 use Rattle.dvg_check.specs.Rules.{AllKeep, FramePlaceKeeps, GoodFrame, ShapePlaceKeeps, GoodShape}
@@ -30,7 +30,7 @@ module _ (kind : Kind) (word : ℕ → Option ℕ) (first : ℕ) (Why : Type 0) 
   AllKept earlier p = (why : Why) → keeps earlier p why
 
   -- what a walk to the last item keeps, every place keeps
-  pub all_kept : (items : List Item) (i : Item) → LeadsTo kind word first items i.at → cell_at word i.at ≡ Holds i.format i.instr → next_place kind i ≡ None → AllBefore keeps (i ∷ items) → AllKeep kind word first keeps
+  pub all_kept : (items : List Item) (i : Item) → LeadsTo kind word first items i.at → cell_at word i.at ≡ Holds i.format i.instr → next_address kind i ≡ None → AllBefore keeps (i ∷ items) → AllKeep kind word first keeps
   all_kept items i lead is last kept = everywhere kind word first AllKept items i lead is last kept
 
   module _ (order : Why → ℕ) where

@@ -16,7 +16,7 @@ use Rattle.dvg_words.specs.declared.instruction.Instr.TheVariants.{Rtsl, Jmpl, D
 use Rattle.dvg_cert.specs.declared.entry.Entry.{Entry}
 use Rattle.dvg_cert.specs.declared.entry.LitBox.{LitBox}
 use Rattle.dvg_check.specs.Behaving.{Behaves, Stretch, LitFits, Counts, PlaceFits, ScaleFits, Returned}
-use Rattle.dvg_items.specs.Items.{LeadsTo, address_after, next_place}
+use Rattle.dvg_items.specs.Items.{LeadsTo, address_after, next_address}
 use Rattle.dvg_items.specs.Known.{Context, callee, depth_before, words_before, shape_context, target, scale_before, callee_words, depth_under, place_before, scale_set}
 use Rattle.dvg_check.specs.Laws.{word_of, OneShape, AllShapes}
 use Rattle.dvg_check.specs.Rules.{GoodShape, CellKeeps, ShapeKeeps, AtLast, Good}
@@ -138,7 +138,7 @@ module _ (mode : Mode) (m : Memory) (w : Window) (list : List Entry) (e : Entry)
       let i : Item = record { at = p; format = h.0; instr = h.1 } in
       let more : words_before context (i ∷ items) ≤ e.words = rule items i lead h.2 shape.TooManyWords in
       absurd (omega (arith, more, word_count-some h.0))
-  find_last (suc n) items p lead le = by_after (next_place Shape i) refl (λ q l k. find_last n (i ∷ items) q l k)
+  find_last (suc n) items p lead le = by_after (next_address Shape i) refl (λ q l k. find_last n (i ∷ items) q l k)
     where
       h : (format : Format) × (instr : Instr) × (cell_at (rom_word m.rom) p ≡ Holds format instr)
       h = here items p lead
@@ -146,7 +146,7 @@ module _ (mode : Mode) (m : Memory) (w : Window) (list : List Entry) (e : Entry)
       i : Item
       i = record { at = p; format = h.0; instr = h.1 }
 
-      by_after : (o : Option ℕ) → next_place Shape i ≡ o → ((q : ℕ) → LeadsTo Shape (rom_word m.rom) e.addr (i ∷ items) q → e.words ≤ words_before context (i ∷ items) + n → Last) → Last
+      by_after : (o : Option ℕ) → next_address Shape i ≡ o → ((q : ℕ) → LeadsTo Shape (rom_word m.rom) e.addr (i ∷ items) q → e.words ≤ words_before context (i ∷ items) + n → Last) → Last
       by_after None is more = record { items = items; at = p; format = h.0; instr = h.1; lead = lead; is = h.2; last = is }
       by_after (Some q) is more = more q (lead, h.2, is) (omega (arith, word_count-some h.0))
 
@@ -163,7 +163,7 @@ module _ (mode : Mode) (m : Memory) (w : Window) (list : List Entry) (e : Entry)
     words : Counts mode (words_before context (i ∷ earlier)) e.words
     depth : Counts mode (depth_before context (i ∷ earlier)) e.depth
 
-  finished : (s0 : State) (back : ℕ) (rest : List ℕ) (i : Item) (earlier : List Item) (s t : State) → LeadsTo Shape (rom_word m.rom) e.addr earlier i.at → cell_at (rom_word m.rom) i.at ≡ Holds i.format i.instr → next_place Shape i ≡ None → Totals i earlier → s0.return_stack ≡ back ∷ rest → Stretch mode m (InRom m.rom.map) (LitFits w e.lit s0.place) (words_before context earlier) (length s0.return_stack + depth_before context earlier) s0 s → Finished s0 back rest i earlier s t → Returned mode m w e back rest s0 t
+  finished : (s0 : State) (back : ℕ) (rest : List ℕ) (i : Item) (earlier : List Item) (s t : State) → LeadsTo Shape (rom_word m.rom) e.addr earlier i.at → cell_at (rom_word m.rom) i.at ≡ Holds i.format i.instr → next_address Shape i ≡ None → Totals i earlier → s0.return_stack ≡ back ∷ rest → Stretch mode m (InRom m.rom.map) (LitFits w e.lit s0.place) (words_before context earlier) (length s0.return_stack + depth_before context earlier) s0 s → Finished s0 back rest i earlier s t → Returned mode m w e back rest s0 t
   finished s0 back rest i earlier s t lead is last totals rs stretch f =
       let whole = stretch_on mode m (InRom m.rom.map) (LitFits w e.lit s0.place) (words_before context earlier) _ e.words (length s0.return_stack + depth_before context earlier) _ (length s0.return_stack + e.depth) s0 s t (counts_swap mode _ _ _ totals.words) (counts_deep mode (length s0.return_stack) _ _ _ totals.depth) stretch f.stretch in
       let stop : place_before context (i ∷ earlier) ≡ e.stop = subst (λ o. AtLast o (place_before context (i ∷ earlier) ≡ e.stop)) last (rule earlier i lead is shape.EndDiffers) in

@@ -13,7 +13,7 @@ use Rattle.dvg_cert.specs.declared.entry.Entry.{Entry}
 use Rattle.dvg_cert.specs.declared.entry.Key.{Key}
 use Rattle.dvg_cert.specs.declared.entry.LitBox.{LitBox}
 use Rattle.dvg_cert.specs.declared.entry.LitBox.TheVariants.{Empty, Span}
-use Rattle.dvg_items.specs.Items.{LeadsTo, next_place}
+use Rattle.dvg_items.specs.Items.{LeadsTo, next_address}
 use Rattle.dvg_items.specs.Known.{Context, known_before, known_past, place_past, callee_words, depth_under, target, callee_at, effect_of}
 use Rattle.dvg_items.specs.Lit.{PlaceKnown, ScaleKnown, LitInWindow, LitInBox, InBox, IsInside}
 use Rattle.dvg_items.specs.Seen.{seen_at}
@@ -92,11 +92,11 @@ less_keeps mode w e strong v c h shape.OffScreen = h shape.OffScreen
 less_keeps mode w e strong v c h shape.NoEntry = h shape.NoEntry
 less_keeps mode w e strong v c h shape.TooDeep = let le : depth_under v.item.instr v.callee ≤ strong.depth = h shape.TooDeep in omega (arith, le, counts_le mode strong.depth e.depth c.depth)
 less_keeps mode w e strong v c h shape.TooManyWords = let le : v.after.words ≤ strong.words = h shape.TooManyWords in omega (arith, le, counts_le mode strong.words e.words c.words)
-less_keeps mode w e strong v c h shape.EndDiffers = at_last (next_place Shape v.item) (v.after.place ≡ strong.stop) (v.after.place ≡ e.stop) (λ is. is ∙ sym c.stop) (h shape.EndDiffers)
-less_keeps mode w e strong v c h shape.ScaleDiffers = at_last (next_place Shape v.item) (v.after.scale ≡ strong.scale) (v.after.scale ≡ e.scale) (λ is. is ∙ sym c.scale) (h shape.ScaleDiffers)
+less_keeps mode w e strong v c h shape.EndDiffers = at_last (next_address Shape v.item) (v.after.place ≡ strong.stop) (v.after.place ≡ e.stop) (λ is. is ∙ sym c.stop) (h shape.EndDiffers)
+less_keeps mode w e strong v c h shape.ScaleDiffers = at_last (next_address Shape v.item) (v.after.scale ≡ strong.scale) (v.after.scale ≡ e.scale) (λ is. is ∙ sym c.scale) (h shape.ScaleDiffers)
 less_keeps mode w e strong v c h shape.BoxTooSmall = lit_in_more strong.lit e.lit v.extent v.place c.lit (h shape.BoxTooSmall)
-less_keeps mode w e strong v c h shape.WordsDiffer = at_last (next_place Shape v.item) (AsClaimed mode v.after.words strong.words) (AsClaimed mode v.after.words e.words) (as_claimed mode v.after.words strong.words e.words c.words) (h shape.WordsDiffer)
-less_keeps mode w e strong v c h shape.DepthDiffers = at_last (next_place Shape v.item) (AsClaimed mode v.after.depth strong.depth) (AsClaimed mode v.after.depth e.depth) (as_claimed mode v.after.depth strong.depth e.depth c.depth) (h shape.DepthDiffers)
+less_keeps mode w e strong v c h shape.WordsDiffer = at_last (next_address Shape v.item) (AsClaimed mode v.after.words strong.words) (AsClaimed mode v.after.words e.words) (as_claimed mode v.after.words strong.words e.words c.words) (h shape.WordsDiffer)
+less_keeps mode w e strong v c h shape.DepthDiffers = at_last (next_address Shape v.item) (AsClaimed mode v.after.depth strong.depth) (AsClaimed mode v.after.depth e.depth) (as_claimed mode v.after.depth strong.depth e.depth c.depth) (h shape.DepthDiffers)
 
 -- what an item of a shape keeps of a claim
 abbrev Kept : Mode → Window → List Entry → Entry → Key → List Item → Item → ShapeWhy → Type 0
@@ -177,11 +177,11 @@ over_keeps mode w addr key box first tail v m h = keeps
     keeps shape.NoEntry = h shape.NoEntry
     keeps shape.TooDeep = let le : depth_under v.item.instr v.callee ≤ tail.depth = h shape.TooDeep in omega (arith, le)
     keeps shape.TooManyWords = let le : v.after.words ≤ tail.words = h shape.TooManyWords in omega (arith, le)
-    keeps shape.EndDiffers = at_last (next_place Shape v.item) (v.after.place ≡ tail.stop) _ (ap (place_over first.place)) (h shape.EndDiffers)
+    keeps shape.EndDiffers = at_last (next_address Shape v.item) (v.after.place ≡ tail.stop) _ (ap (place_over first.place)) (h shape.EndDiffers)
     keeps shape.ScaleDiffers = h shape.ScaleDiffers
     keeps shape.BoxTooSmall = lit.boxed
-    keeps shape.WordsDiffer = at_last (next_place Shape v.item) (AsClaimed mode v.after.words tail.words) _ (sum_as_claimed mode v.after.words tail.words first.words) (h shape.WordsDiffer)
-    keeps shape.DepthDiffers = at_last (next_place Shape v.item) (AsClaimed mode v.after.depth tail.depth) _ (max_as_claimed mode v.after.depth tail.depth first.depth) (h shape.DepthDiffers)
+    keeps shape.WordsDiffer = at_last (next_address Shape v.item) (AsClaimed mode v.after.words tail.words) _ (sum_as_claimed mode v.after.words tail.words first.words) (h shape.WordsDiffer)
+    keeps shape.DepthDiffers = at_last (next_address Shape v.item) (AsClaimed mode v.after.depth tail.depth) _ (max_as_claimed mode v.after.depth tail.depth first.depth) (h shape.DepthDiffers)
 
 -- ---- what is known behind what is known
 
@@ -226,7 +226,7 @@ over_none first key is =
 
 -- ---- the items of a shape: the first, and those of the tail
 
-module _ (rom : Rom) (list : List Entry) (key : Key) (i : Item) (tail : Entry) (is : cell_at (rom_word rom) i.at ≡ Holds i.format i.instr) (next : next_place Shape i ≡ Some tail.addr) (scale : tail.key ≡ (first_seen list key i).after.scale) where
+module _ (rom : Rom) (list : List Entry) (key : Key) (i : Item) (tail : Entry) (is : cell_at (rom_word rom) i.at ≡ Holds i.format i.instr) (next : next_address Shape i ≡ Some tail.addr) (scale : tail.key ≡ (first_seen list key i).after.scale) where
   abbrev whole : Context
   whole = record { kind = Shape; list = list; scale = key }
 
@@ -257,7 +257,7 @@ module _ (rom : Rom) (list : List Entry) (key : Key) (i : Item) (tail : Entry) (
       at_first : (earlier ≡ []) × (j.at ≡ i.at) → Place (j ∷ earlier) p
       at_first h =
           let same : j ≡ i = item_same j i h.1 (sym lead.1 ∙ ap (cell_at (rom_word rom)) h.1 ∙ is) in
-          let goes : Some p ≡ Some tail.addr = sym lead.2 ∙ ap (next_place Shape) same ∙ next in
+          let goes : Some p ≡ Some tail.addr = sym lead.2 ∙ ap (next_address Shape) same ∙ next in
           let items : j ∷ earlier ≡ i ∷ [] = cc (same, h.0) in
           inr (record { rest = []; leads = cc goes; knows = ap (known_before whole) items ∙ over_none past tail.key (sym scale) })
 
@@ -289,11 +289,11 @@ at_end : (o : Option ℕ) (P : Known → Type 0) (here end : Known) → (o ≡ N
 at_end None P here end is h = subst P (sym (is refl)) h
 at_end (Some p) P here end is h = tt
 
-first_keeps : (mode : Mode) (w : Window) (rom : Rom) (list : List Entry) (key : Key) (box : LitBox) (i : Item) (end : Known) → MayStandFirst rom list key box i → (first_seen list key i).after.words ≤ end.words → (first_seen list key i).after.depth ≤ end.depth → (next_place Shape i ≡ None → end ≡ (first_seen list key i).after) → (why : ShapeWhy) → Kept mode w list (claimed i.at key box end) key [] i why
+first_keeps : (mode : Mode) (w : Window) (rom : Rom) (list : List Entry) (key : Key) (box : LitBox) (i : Item) (end : Known) → MayStandFirst rom list key box i → (first_seen list key i).after.words ≤ end.words → (first_seen list key i).after.depth ≤ end.depth → (next_address Shape i ≡ None → end ≡ (first_seen list key i).after) → (why : ShapeWhy) → Kept mode w list (claimed i.at key box end) key [] i why
 first_keeps mode w rom list key box i end m words depth ends = keeps
   where
-    last : (P : Known → Type 0) → P (first_seen list key i).after → AtLast (next_place Shape i) (P end)
-    last P h = at_end (next_place Shape i) P (first_seen list key i).after end ends h
+    last : (P : Known → Type 0) → P (first_seen list key i).after → AtLast (next_address Shape i) (P end)
+    last P h = at_end (next_address Shape i) P (first_seen list key i).after end ends h
 
     keeps : (why : ShapeWhy) → Kept mode w list (claimed i.at key box end) key [] i why
     keeps shape.Unmapped = tt
@@ -322,7 +322,7 @@ first_place_keeps mode w rom list e i is h earlier p none at why =
 pub item_before_tail : (mode : Mode) (w : Window) (rom : Rom) (list : List Entry) (key : Key) (box : LitBox) (i : Item) (tail : Entry) → MayStandFirst rom list key box i → IsBehind w list key box i tail → GoodShape mode w rom list tail → GoodShape mode w rom list (after_item list key box i tail)
 item_before_tail mode w rom list key box i tail m b good earlier p lead why = ⊎_elim at_first further (split rom list key i tail m.there b.next b.scale earlier p lead)
   where
-    no_last : next_place Shape i ≡ None → known_over (first_seen list key i).after (known_at_end tail) ≡ (first_seen list key i).after
+    no_last : next_address Shape i ≡ None → known_over (first_seen list key i).after (known_at_end tail) ≡ (first_seen list key i).after
     no_last none = let no : Some tail.addr ≡ None = sym b.next ∙ none in cc no
 
     at_first : (earlier ≡ []) × (p ≡ i.at) → ShapePlaceKeeps mode w rom list (after_item list key box i tail) earlier p why
@@ -337,7 +337,7 @@ item_before_tail mode w rom list key box i tail m b good earlier p lead why = �
             (over_keeps mode w i.at key box (first_seen list key i).after tail (seen_at (record { kind = Shape; list = list; scale = tail.key }) s.rest j) b.lit h x)
 
 -- an item that ends a shape is good alone
-pub last_item_good : (mode : Mode) (w : Window) (rom : Rom) (list : List Entry) (key : Key) (box : LitBox) (i : Item) → MayStandFirst rom list key box i → next_place Shape i ≡ None → GoodShape mode w rom list (last_item list key box i)
+pub last_item_good : (mode : Mode) (w : Window) (rom : Rom) (list : List Entry) (key : Key) (box : LitBox) (i : Item) → MayStandFirst rom list key box i → next_address Shape i ≡ None → GoodShape mode w rom list (last_item list key box i)
 last_item_good mode w rom list key box i m last [] p lead why =
     first_place_keeps mode w rom list (last_item list key box i) i m.there (first_keeps mode w rom list key box i (first_seen list key i).after m (omega arith) (omega arith) (λ none. refl)) [] p refl lead why
 last_item_good mode w rom list key box i m last (j ∷ earlier) p lead why = absurd (too_long Shape (rom_word rom) i.at [] i refl m.there last (j ∷ earlier) p lead (omega arith))

@@ -6,7 +6,7 @@ use Rattle.dvg_words.specs.Values.{Window}
 use Rattle.dvg_words.specs.declared.map.TheConstants.{ADDRESS_END}
 use Rattle.dvg_cert.specs.declared.entry.Entry.{Entry}
 use Rattle.dvg_cert.specs.declared.entry.Key.{Key}
-use Rattle.dvg_items.specs.Items.{next_place}
+use Rattle.dvg_items.specs.Items.{next_address}
 use Rattle.dvg_items.specs.Lit.{IsInside}
 use Rattle.dvg_items.specs.declared.item.Item.{Item}
 use Rattle.dvg_items.specs.declared.item.Kind.TheVariants.{Shape}
@@ -20,14 +20,14 @@ module _ (w : Window) (rom : Rom) (list : List Entry) (key : Key) (i : Item) (fi
   at_item : first.addr ≡ i.at
   at_item = ap (λ (e : Entry). e.addr) is
 
-  pub alone : IsSmall 1 first → i.at < ADDRESS_END → next_place Shape i ≡ None → IsTail w rom list first
+  pub alone : IsSmall 1 first → i.at < ADDRESS_END → next_address Shape i ≡ None → IsTail w rom list first
   alone small near last =
       record {
         good = λ mode. subst (GoodShape mode w rom list) (sym is) (last_item_good mode w rom list key first.lit i stands last);
         small = IsSmall-more 1 (ADDRESS_END + 2 - first.addr) first (omega (arith, near, at_item)) small;
       }
 
-  pub before : (tail whole : Entry) → next_place Shape i ≡ Some tail.addr → tail.key ≡ first.scale → IsTail w rom list tail → whole ≡ claimed first.addr first.key whole.lit (known_over (known_at_end first) (known_at_end tail)) → IsInside first.lit whole.lit → MayStandAt w whole.lit tail.lit first.stop → IsSmall (ADDRESS_END + 2 - tail.addr + 1) whole → tail.addr ≤ ADDRESS_END + 2 → IsTail w rom list whole
+  pub before : (tail whole : Entry) → next_address Shape i ≡ Some tail.addr → tail.key ≡ first.scale → IsTail w rom list tail → whole ≡ claimed first.addr first.key whole.lit (known_over (known_at_end first) (known_at_end tail)) → IsInside first.lit whole.lit → MayStandAt w whole.lit tail.lit first.stop → IsSmall (ADDRESS_END + 2 - tail.addr + 1) whole → tail.addr ≤ ADDRESS_END + 2 → IsTail w rom list whole
   before tail whole goes scale t value inside lit small near =
       record {
         good = λ mode. subst (GoodShape mode w rom list) (sym same) (item_before_tail mode w rom list key whole.lit i tail more behind (t.good mode));
@@ -46,7 +46,7 @@ module _ (w : Window) (rom : Rom) (list : List Entry) (key : Key) (i : Item) (fi
       behind : IsBehind w list key whole.lit i tail
       behind = record { next = goes; scale = scale ∙ ap (λ (e : Entry). e.scale) is; lit = subst (λ (e : Entry). MayStandAt w whole.lit tail.lit e.stop) is lit }
 
-  pub before_some : (tail : Entry) (o : Option Entry) → next_place Shape i ≡ Some tail.addr → tail.key ≡ first.scale → IsTail w rom list tail → IfSome o (λ whole. whole ≡ claimed first.addr first.key whole.lit (known_over (known_at_end first) (known_at_end tail))) → IfSome o (λ whole. IsInside first.lit whole.lit) → IfSome o (λ whole. MayStandAt w whole.lit tail.lit first.stop) → IfSome o (λ whole. (n : ℕ) → IsSmall n tail → IsSmall (n + 1) whole) → tail.addr ≤ ADDRESS_END + 2 → IfSome o (IsTail w rom list)
+  pub before_some : (tail : Entry) (o : Option Entry) → next_address Shape i ≡ Some tail.addr → tail.key ≡ first.scale → IsTail w rom list tail → IfSome o (λ whole. whole ≡ claimed first.addr first.key whole.lit (known_over (known_at_end first) (known_at_end tail))) → IfSome o (λ whole. IsInside first.lit whole.lit) → IfSome o (λ whole. MayStandAt w whole.lit tail.lit first.stop) → IfSome o (λ whole. (n : ℕ) → IsSmall n tail → IsSmall (n + 1) whole) → tail.addr ≤ ADDRESS_END + 2 → IfSome o (IsTail w rom list)
   before_some tail None goes scale t value inside lit small near = tt
   before_some tail (Some whole) goes scale t value inside lit small near =
       before tail whole goes scale t value inside lit (small (ADDRESS_END + 2 - tail.addr) t.small) near

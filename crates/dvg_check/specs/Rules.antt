@@ -12,7 +12,7 @@ use Rattle.dvg_cert.specs.declared.entry.Entry.{Entry}
 use Rattle.dvg_items.specs.declared.item.Kind.{Kind}
 use Rattle.dvg_items.specs.declared.item.Kind.TheVariants.{Shape, Frame}
 use Rattle.dvg_items.specs.declared.item.Item.{Item}
-use Rattle.dvg_items.specs.Items.{next_place, LeadsTo}
+use Rattle.dvg_items.specs.Items.{next_address, LeadsTo}
 use Rattle.dvg_items.specs.Known.{Context, shape_context, frame_context, target, words_before, depth_under, depth_before}
 use Rattle.dvg_items.specs.Seen.{HasCallee, seen_at}
 use Rattle.dvg_items.specs.Lit.{PlaceKnown, ScaleKnown, LitInWindow, LitInBox}
@@ -50,11 +50,11 @@ ShapeKeeps mode w e v shape.OffScreen = LitInWindow w v.extent v.place
 ShapeKeeps mode w e v shape.NoEntry = HasCallee (target Shape v.item.instr) v.callee
 ShapeKeeps mode w e v shape.TooDeep = depth_under v.item.instr v.callee ≤ e.depth
 ShapeKeeps mode w e v shape.TooManyWords = v.after.words ≤ e.words
-ShapeKeeps mode w e v shape.EndDiffers = AtLast (next_place Shape v.item) (v.after.place ≡ e.stop)
-ShapeKeeps mode w e v shape.ScaleDiffers = AtLast (next_place Shape v.item) (v.after.scale ≡ e.scale)
+ShapeKeeps mode w e v shape.EndDiffers = AtLast (next_address Shape v.item) (v.after.place ≡ e.stop)
+ShapeKeeps mode w e v shape.ScaleDiffers = AtLast (next_address Shape v.item) (v.after.scale ≡ e.scale)
 ShapeKeeps mode w e v shape.BoxTooSmall = LitInBox e.lit v.extent v.place
-ShapeKeeps mode w e v shape.WordsDiffer = AtLast (next_place Shape v.item) (AsClaimed mode v.after.words e.words)
-ShapeKeeps mode w e v shape.DepthDiffers = AtLast (next_place Shape v.item) (AsClaimed mode v.after.depth e.depth)
+ShapeKeeps mode w e v shape.WordsDiffer = AtLast (next_address Shape v.item) (AsClaimed mode v.after.words e.words)
+ShapeKeeps mode w e v shape.DepthDiffers = AtLast (next_address Shape v.item) (AsClaimed mode v.after.depth e.depth)
 
 -- what an item of a frame keeps
 abbrev pub FrameKeeps : Window → ℕ → Seen → FrameWhy → Type 0

@@ -108,7 +108,7 @@ impl Needed {
             return;
         };
         let item = Item { at, format, instr };
-        if let Some(next) = item.next_place(Kind::Shape) {
+        if let Some(next) = item.next_address(Kind::Shape) {
             self.add(next, keys_behind(entries, &instr, keys));
         }
     }

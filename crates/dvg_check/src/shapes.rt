@@ -3,7 +3,7 @@
 ghost use Rattle.std.specs.Prelude.{◌≡◌, ◌<◌, ◌≤◌, ◌≤ℤ◌, ◌↔◌, IsTrue, OnOk, IfErr, IfNone, IfSome};
 ghost use Rattle.dvg_cert.specs.declared.entry.LitBox.TheVariants.{Span};
 ghost use Rattle.dvg_items.specs.declared.item.Kind.TheVariants.{Shape};
-ghost use Rattle.dvg_items.specs.Items.{next_place};
+ghost use Rattle.dvg_items.specs.Items.{next_address};
 ghost use Rattle.dvg_items.specs.Lit.{InBox, LitInBox};
 ghost use Rattle.dvg_check.specs.declared.fault.Mode.TheVariants.{Bound, Exact};
 ghost use Rattle.dvg_check.specs.declared.fault.ShapeWhy.TheVariants as shape;
@@ -37,25 +37,25 @@ pub struct ShapeRules {
 /// Whether the place after a shape's last item is the claimed one; true of each item before the last.
 fn ends_there(entry: &Entry, seen: &Seen) -> bool
     requires { seen.now.item.at < ADDRESS_END }
-    ensures { IsTrue result ↔ AtLast (next_place Shape seen.now.item) (seen.now.after.place ≡ entry.now.stop) }
+    ensures { IsTrue result ↔ AtLast (next_address Shape seen.now.item) (seen.now.after.place ≡ entry.now.stop) }
 {
-    seen.item.next_place(Kind::Shape).is_some() || seen.after.place == entry.stop
+    seen.item.next_address(Kind::Shape).is_some() || seen.after.place == entry.stop
 }
 
 /// Whether the scale after a shape's last item is the claimed one; true of each item before the last.
 fn leaves_scale(entry: &Entry, seen: &Seen) -> bool
     requires { seen.now.item.at < ADDRESS_END }
-    ensures { IsTrue result ↔ AtLast (next_place Shape seen.now.item) (seen.now.after.scale ≡ entry.now.scale) }
+    ensures { IsTrue result ↔ AtLast (next_address Shape seen.now.item) (seen.now.after.scale ≡ entry.now.scale) }
 {
-    seen.item.next_place(Kind::Shape).is_some() || seen.after.scale == entry.scale
+    seen.item.next_address(Kind::Shape).is_some() || seen.after.scale == entry.scale
 }
 
 /// Whether a count after a shape's last item is as claimed, where claims are exact; true of each item before the last.
 fn is_as_claimed(mode: Mode, item: &Item, count: u32, claimed: u32) -> bool
     requires { item.now.at < ADDRESS_END }
-    ensures { IsTrue result ↔ AtLast (next_place Shape item.now) (AsClaimed mode count claimed) }
+    ensures { IsTrue result ↔ AtLast (next_address Shape item.now) (AsClaimed mode count claimed) }
 {
-    mode == Mode::Bound || item.next_place(Kind::Shape).is_some() || count == claimed
+    mode == Mode::Bound || item.next_address(Kind::Shape).is_some() || count == claimed
 }
 
 /// The first rule that an item of a shape breaks.

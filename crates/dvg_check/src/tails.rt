@@ -63,7 +63,7 @@ fn tail_at<E: Entries>(
     ensures { IfSome result (IsTail window.now rom.now (E.list entries.now)) }
 {
     let first = last_item(entries, item, key)?;
-    match item.next_place(Kind::Shape) {
+    match item.next_address(Kind::Shape) {
         Some(next) => after_item(window, &first, tail_kept(tails, next, first.scale)?),
         None => Some(first),
     }

@@ -12,7 +12,7 @@ use Rattle.dvg_cert.specs.declared.entry.Key.{Key}
 use Rattle.dvg_cert.specs.declared.entry.LitBox.{LitBox}
 use Rattle.dvg_cert.specs.declared.entry.LitBox.TheVariants.{Empty}
 use Rattle.dvg_items.specs.Bounds.{IsNearPlace}
-use Rattle.dvg_items.specs.Items.{LeadsTo, next_place}
+use Rattle.dvg_items.specs.Items.{LeadsTo, next_address}
 use Rattle.dvg_items.specs.Cursor.{first_cursor}
 use Rattle.dvg_items.specs.Known.{callee_at, known_before, known_past, start, target}
 use Rattle.dvg_items.specs.Least.{HoldsAll, IsLeast, lit_points, absolute_points}
@@ -53,7 +53,7 @@ part_near (Rel x y) box n near h = IsNearBox-moved n box (record { x = x; y = y 
 part_near (Abs x y) box n near h = tt
 part_near Lost box n near h = tt
 
-module _ (rom : Rom) (list : List Entry) (key behind_key : Key) (i : Item) (next : ℕ) (is : cell_at (rom_word rom) i.at ≡ Holds i.format i.instr) (goes : next_place Shape i ≡ Some next) (scale : behind_key ≡ (first_seen list key i).after.scale) where
+module _ (rom : Rom) (list : List Entry) (key behind_key : Key) (i : Item) (next : ℕ) (is : cell_at (rom_word rom) i.at ≡ Holds i.format i.instr) (goes : next_address Shape i ≡ Some next) (scale : behind_key ≡ (first_seen list key i).after.scale) where
   abbrev past : Known
   past = (first_seen list key i).after
 
@@ -203,7 +203,7 @@ module _ (rom : Rom) (list : List Entry) (key behind_key : Key) (i : Item) (next
       own_absolute = subst (λ (k : Key). IsLeast (absolute_points (keyed list k) t.items) tail.lit.absolute) at_key t.absolute
 
 -- an item that ends a shape is a tail alone
-module _ (rom : Rom) (list : List Entry) (key : Key) (i : Item) (is : cell_at (rom_word rom) i.at ≡ Holds i.format i.instr) (ends : next_place Shape i ≡ None) where
+module _ (rom : Rom) (list : List Entry) (key : Key) (i : Item) (is : cell_at (rom_word rom) i.at ≡ Holds i.format i.instr) (ends : next_address Shape i ≡ None) where
   all_alone : AreAll Shape (rom_word rom) i.at (i ∷ [])
   all_alone = record { stand = (refl, is); last = λ n h. let no : None ≡ Some n.at = sym ends ∙ h.0.2 in cc no }
 

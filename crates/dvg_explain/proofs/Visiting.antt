@@ -12,7 +12,7 @@ use Rattle.dvg_words.specs.declared.instruction.Instr.{Instr}
 use Rattle.dvg_cert.specs.declared.entry.Entry.{Entry}
 use Rattle.dvg_cert.specs.declared.entry.Key.{Key}
 use Rattle.dvg_cert.specs.Entry.{IsKey}
-use Rattle.dvg_items.specs.Items.{LeadsTo, next_place}
+use Rattle.dvg_items.specs.Items.{LeadsTo, next_address}
 use Rattle.dvg_items.specs.Known.{callee_at, scale_before, scale_set, shape_context, target}
 use Rattle.dvg_items.specs.declared.item.Item.{Item}
 use Rattle.dvg_items.specs.declared.item.Kind.TheVariants.{Shape}
@@ -40,7 +40,7 @@ module _ (rom : Rom) (list : List Entry) (key : Key) (i : Item) (is : cell_at (r
   -- the items behind the first one lead there from the next place
   record Behind (earlier : List Item) (p : ℕ) : Type 0 where
     next : ℕ
-    goes : next_place Shape i ≡ Some next
+    goes : next_address Shape i ≡ Some next
     rest : List Item
     leads : LeadsTo Shape (rom_word rom) next rest p
     scale : scale_before (keyed list key) earlier ≡ scale_before (keyed list past) rest
@@ -53,7 +53,7 @@ module _ (rom : Rom) (list : List Entry) (key : Key) (i : Item) (is : cell_at (r
       at_first h =
           let same : j ≡ i = item_same j i h.1 (sym lead.1 ∙ ap (cell_at (rom_word rom)) h.1 ∙ is) in
           let items : j ∷ earlier ≡ i ∷ [] = cc (same, h.0) in
-          inr (record { next = p; goes = ap (next_place Shape) (sym same) ∙ lead.2; rest = []; leads = refl; scale = ap (scale_before (keyed list key)) items })
+          inr (record { next = p; goes = ap (next_address Shape) (sym same) ∙ lead.2; rest = []; leads = refl; scale = ap (scale_before (keyed list key)) items })
 
       further : Behind earlier j.at → (((j ∷ earlier) ≡ []) × (p ≡ i.at)) ⊎ Behind (j ∷ earlier) p
       further b =
@@ -73,7 +73,7 @@ module _ (rom : Rom) (list : List Entry) (key : Key) (i : Item) (is : cell_at (r
   -- one from the next place
   record IsFurther (call : Call) : Type 0 where
     next : ℕ
-    goes : next_place Shape i ≡ Some next
+    goes : next_address Shape i ≡ Some next
     calls : CallsFrom rom list (next, past) call
 
   own_or_further : (call : Call) → CallsFrom rom list (i.at, key) call → IsOwn call ⊎ IsFurther call
@@ -207,7 +207,7 @@ module _ (rom : Rom) (list : List Entry) (e : Entry) (old : List Bool) where
             grown ∙ ap (λ (cs : List Call). cs ++ call_of item callee) g.are
             ∙ ap (λ (o : Option Entry). calls_among (shape_context list e) g.items ++ call_of item o) (callee_is ∙ ap (callee_at list (target Shape instr)) g.knows)
 
-        pub walks_on : (past : Key) (next : ℕ) → past ≡ unwrap_or (scale_set instr callee) scale → IsKey past → next_place Shape item ≡ Some next → Goes new more next past
+        pub walks_on : (past : Key) (next : ℕ) → past ≡ unwrap_or (scale_set instr callee) scale → IsKey past → next_address Shape item ≡ Some next → Goes new more next past
         walks_on past next past_is key to =
             record {
               items = item ∷ g.items;
@@ -244,7 +244,7 @@ module _ (rom : Rom) (list : List Entry) (e : Entry) (old : List Bool) where
             on : (call : Call) → IsOpen calls here call → IsOpen more (next, past) call
             on call = ⊎_elim (λ h. inl (still_met call h)) (from_here call)
 
-        pub ends_here : next_place Shape item ≡ None → AreNewCalls rom list e old new more
+        pub ends_here : next_address Shape item ≡ None → AreNewCalls rom list e old new more
         ends_here none =
             record {
               own = subst (AllByRecursion (IsShapeCall rom list e)) (sym more_are) (calls_hold (shape_context list e) (rom_word rom) e.addr (item ∷ g.items) (g.leads, stands));

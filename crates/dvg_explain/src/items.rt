@@ -133,7 +133,7 @@ pub fn new_calls<E: Entries>(
         let named = callee(entries, target(Kind::Shape, &instr), scale);
         push_call(&mut calls, &item, &named)?;
         scale = scale_past(&instr, scale, &named);
-        match item.next_place(Kind::Shape) {
+        match item.next_address(Kind::Shape) {
             Some(next) => at = next,
             None => return Ok(calls),
         }

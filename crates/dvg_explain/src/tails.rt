@@ -143,7 +143,7 @@ fn tail_at<E: Entries>(
     let callee = callee(entries, target(Kind::Shape, &item.instr), key);
     let seen = Cursor::start(Kind::Shape, 0, key).see(item.format, &item.instr, callee);
     let alone = lit_alone(&seen.extent);
-    let lit = match item.next_place(Kind::Shape) {
+    let lit = match item.next_address(Kind::Shape) {
         Some(next) => {
             let tail = tails.get(next, seen.after.scale)?;
             lit_over(&alone, &seen.after.place, &tail.lit)

@@ -3,7 +3,7 @@ use Rattle.std.proofs.Common.{List, Option, length, refl, sym, arith, ap, Some, 
 use Rattle.std.proofs.lemmas.Bool.{cases_lt}
 use Rattle.dvg_words.specs.Decoding.{cell_at}
 use Rattle.dvg_words.specs.declared.instruction.Cell.TheVariants.{Holds}
-use Rattle.dvg_items.specs.Items.{Item, Kind, LeadsTo, next_place, AtEveryPlace, AtEachOf}
+use Rattle.dvg_items.specs.Items.{Item, Kind, LeadsTo, next_address, AtEveryPlace, AtEachOf}
 
 pub record Same (a b : List Item) (p q : ℕ) : Type 0 where
   pub items : a ≡ b
@@ -24,12 +24,12 @@ module _ (kind : Kind) (word : ℕ → Option ℕ) (first : ℕ) where
   same_lead (i ∷ a) (j ∷ b) p q h k e =
       let s = same_lead a b i.at j.at h.0 k.0 (omega arith) in
       let same : i ≡ j = item_same i j s.place (sym h.1 ∙ ap (cell_at word) s.place ∙ k.1) in
-      let goes : next_place kind i ≡ next_place kind j = ap (next_place kind) same in
+      let goes : next_address kind i ≡ next_address kind j = ap (next_address kind) same in
       let place : Some p ≡ Some q = sym h.2 ∙ goes ∙ k.2 in
       record { items = cc (same, s.items); place = cc place }
 
   -- nothing leads past a last item
-  pub too_long : (items : List Item) (i : Item) → LeadsTo kind word first items i.at → cell_at word i.at ≡ Holds i.format i.instr → next_place kind i ≡ None → (earlier : List Item) (q : ℕ) → LeadsTo kind word first earlier q → length items < length earlier → ⊥
+  pub too_long : (items : List Item) (i : Item) → LeadsTo kind word first items i.at → cell_at word i.at ≡ Holds i.format i.instr → next_address kind i ≡ None → (earlier : List Item) (q : ℕ) → LeadsTo kind word first earlier q → length items < length earlier → ⊥
   too_long items i lead is last [] q h lt = omega arith
   too_long items i lead is last (j ∷ earlier) q h lt =
       ⊎_elim
@@ -37,7 +37,7 @@ module _ (kind : Kind) (word : ℕ → Option ℕ) (first : ℕ) where
       (λ le.
       let s = same_lead earlier items j.at i.at h.0 lead (omega arith) in
       let same : j ≡ i = item_same j i s.place (sym h.1 ∙ ap (cell_at word) s.place ∙ is) in
-      let no : Some q ≡ None = sym h.2 ∙ ap (next_place kind) same ∙ last in
+      let no : Some q ≡ None = sym h.2 ∙ ap (next_address kind) same ∙ last in
       cc no)
       (cases_lt (length items) (length earlier))
 
@@ -54,7 +54,7 @@ module _ (kind : Kind) (word : ℕ → Option ℕ) (first : ℕ) where
         (cases_lt (length earlier) (length items))
 
     -- what holds at each item of a walk to the last one holds everywhere
-    pub everywhere : (items : List Item) (i : Item) → LeadsTo kind word first items i.at → cell_at word i.at ≡ Holds i.format i.instr → next_place kind i ≡ None → AtEachOf P (i ∷ items) → AtEveryPlace kind word first P
+    pub everywhere : (items : List Item) (i : Item) → LeadsTo kind word first items i.at → cell_at word i.at ≡ Holds i.format i.instr → next_address kind i ≡ None → AtEachOf P (i ∷ items) → AtEveryPlace kind word first P
     everywhere items i lead is last kept earlier q h =
         ⊎_elim
         (λ less. shorter items i.at lead kept.0 earlier q h less)

@@ -13,7 +13,7 @@ use Rattle.dvg_words.specs.declared.instruction.Instr.{Instr}
 use Rattle.dvg_words.specs.declared.instruction.Instr.TheVariants.{Draw as Draws, Labs, Halt, Jsrl, Rtsl, Jmpl}
 use Rattle.dvg_cert.specs.declared.entry.End.{End}
 use Rattle.dvg_cert.specs.declared.entry.End.TheVariants.{Rel, Abs, Lost}
-use Rattle.dvg_items.specs.Items.{Item, Kind, Shape, Frame, address_after, next_place}
+use Rattle.dvg_items.specs.Items.{Item, Kind, Shape, Frame, address_after, next_address}
 use Rattle.dvg_items.specs.Seen.{Seen}
 use Rattle.dvg_items.specs.Bounds.{IsNear, IsNearPlace, IsSoundCursor, IsSoundSeen}
 
@@ -55,7 +55,7 @@ further Frame at format (Jmpl to) p e = by_test (nat_lt at to) refl e
     by_test true t f = let lt : at < to = grind (arith, nat_tests) in let q : to ≡ p = cc in omega (arith, lt, q)
     by_test false t f = cc
 
-pub next_further : (kind : Kind) (i : Item) (p : ℕ) → next_place kind i ≡ Some p → i.at + 1 ≤ p
+pub next_further : (kind : Kind) (i : Item) (p : ℕ) → next_address kind i ≡ Some p → i.at + 1 ≤ p
 next_further kind i p e = further kind i.at i.format i.instr p e
 
 pub next_near : (kind : Kind) (at : ℕ) (format : Format) (instr : Instr) (p : ℕ) → at < ADDRESS_END → InstrFits instr → address_after kind at format instr ≡ Some p → p ≤ ADDRESS_END + 2
@@ -72,7 +72,7 @@ next_near Frame at format (Jmpl to) p lt h e = by_test (nat_lt at to) e
     by_test false f = cc
 
 -- what is known past an item is known where it leads to
-pub step_sound : (kind : Kind) (v : Seen) (p : ℕ) → IsSoundSeen v → next_place kind v.item ≡ Some p → IsSoundCursor (record { at = p; known = v.after })
+pub step_sound : (kind : Kind) (v : Seen) (p : ℕ) → IsSoundSeen v → next_address kind v.item ≡ Some p → IsSoundCursor (record { at = p; known = v.after })
 step_sound kind v p h goes =
     let further = next_further kind v.item p goes in
     record {

@@ -1,6 +1,6 @@
 -- Where a step past an item leads.
 use Rattle.std.proofs.Common.{Option, None, Some, sym, ap, refl, ◌≡◌, ◌∙◌, ℕ}
-use Rattle.dvg_items.specs.Items.{Kind, next_place}
+use Rattle.dvg_items.specs.Items.{Kind, next_address}
 use Rattle.dvg_items.specs.Known.{Known}
 use Rattle.dvg_items.specs.Seen.{Seen}
 use Rattle.dvg_items.specs.Cursor.{Cursor, Step, Onward, Last, step_to, step_past}
@@ -16,9 +16,9 @@ to_last None known last e = (refl, cc)
 to_last (Some at) known last e = cc
 
 -- to the next item
-pub leads_on : (kind : Kind) (v : Seen) (step : Step) (next : Cursor) → step ≡ Onward next → step ≡ step_past kind v → (next_place kind v.item ≡ Some next.at) × (next.known ≡ v.after)
-leads_on kind v step next is goes = to_next (next_place kind v.item) v.after next (sym is ∙ goes)
+pub leads_on : (kind : Kind) (v : Seen) (step : Step) (next : Cursor) → step ≡ Onward next → step ≡ step_past kind v → (next_address kind v.item ≡ Some next.at) × (next.known ≡ v.after)
+leads_on kind v step next is goes = to_next (next_address kind v.item) v.after next (sym is ∙ goes)
 
 -- past the last one
-pub ends_at : (kind : Kind) (v : Seen) (step : Step) (last : Known) → step ≡ Last last → step ≡ step_past kind v → (next_place kind v.item ≡ None) × (last ≡ v.after)
-ends_at kind v step last is goes = to_last (next_place kind v.item) v.after last (sym is ∙ goes)
+pub ends_at : (kind : Kind) (v : Seen) (step : Step) (last : Known) → step ≡ Last last → step ≡ step_past kind v → (next_address kind v.item ≡ None) × (last ≡ v.after)
+ends_at kind v step last is goes = to_last (next_address kind v.item) v.after last (sym is ∙ goes)

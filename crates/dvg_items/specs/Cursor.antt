@@ -1,7 +1,7 @@
 -- Where a walk over items stands, and where one item leads it. All of it is profile.
 use Rattle.std.specs.Prelude.{ℕ, Option, Some, None}
 use Rattle.dvg_cert.specs.declared.entry.Key.{Key}
-use Rattle.dvg_items.specs.Items.{Kind, next_place}
+use Rattle.dvg_items.specs.Items.{Kind, next_address}
 use Rattle.dvg_items.specs.Known.{Known, start}
 use Rattle.dvg_items.specs.Seen.{Seen}
 pub use Rattle.dvg_items.specs.declared.cursor.Cursor.{Cursor}
@@ -19,4 +19,4 @@ step_to (Some at) known = Onward (record { at = at; known = known })
 
 -- past an item as the rules see it
 abbrev pub step_past : Kind → Seen → Step
-step_past kind v = step_to (next_place kind v.item) v.after
+step_past kind v = step_to (next_address kind v.item) v.after

@@ -20,14 +20,14 @@ address_after Shape at format (Jmpl to) = None
 address_after Frame at format (Jmpl to) = if nat_lt at to then Some to else None
 
 -- the word address of the next item; none after the last one
-abbrev pub next_place : Kind → Item → Option ℕ
-next_place kind i = address_after kind i.at i.format i.instr
+abbrev pub next_address : Kind → Item → Option ℕ
+next_address kind i = address_after kind i.at i.format i.instr
 
 -- these items, the latest first, lead from the first word address to this one, in a memory that is read by `word` (profile)
 abbrev pub LeadsTo : Kind → (ℕ → Option ℕ) → ℕ → List Item → ℕ → Type 0
 LeadsTo kind word first [] p = p ≡ first
 LeadsTo kind word first (i ∷ earlier) p =
-    LeadsTo kind word first earlier i.at × (cell_at word i.at ≡ Holds i.format i.instr) × (next_place kind i ≡ Some p)
+    LeadsTo kind word first earlier i.at × (cell_at word i.at ≡ Holds i.format i.instr) × (next_address kind i ≡ Some p)
 
 -- this holds at each word address that items lead to, with the items before it
 abbrev pub AtEveryPlace : Kind → (ℕ → Option ℕ) → ℕ → (List Item → ℕ → Type 0) → Type 0

@@ -2,7 +2,7 @@
 
 ghost use Rattle.std.specs.Prelude.{◌≡◌, ◌<◌};
 ghost use Rattle.dvg_words.specs.declared.map.TheConstants.{ADDRESS_END};
-ghost use Rattle.dvg_items.specs.Items.{next_place};
+ghost use Rattle.dvg_items.specs.Items.{next_address};
 ghost use Rattle.dvg_items.specs.Known.{target};
 
 use dvg_words::{Format, Instr};
@@ -26,9 +26,9 @@ impl Item {
     /// Where the item after this one stands, `None` after the last: past its words, or where a frame's jump leads. Nothing
     /// follows HALT, RTSL, a shape's JMPL, or a frame's JMPL to its own place or a lower one (profile).
     #[inline(always)]
-    pub fn next_place(&self, kind: Kind) -> Option<u16>
+    pub fn next_address(&self, kind: Kind) -> Option<u16>
         requires { self.now.at < ADDRESS_END }
-        ensures { result ≡ next_place kind self.now }
+        ensures { result ≡ next_address kind self.now }
     {
         match (kind, self.instr) {
             (_, Instr::Halt | Instr::Rtsl) | (Kind::Shape, Instr::Jmpl { .. }) => None,

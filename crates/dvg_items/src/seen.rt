@@ -30,7 +30,7 @@ impl Seen {
         ensures value { result ≡ step_past kind self.now }
         ensures sound { IsSoundStep result }
     {
-        match self.item.next_place(kind) {
+        match self.item.next_address(kind) {
             Some(at) => Step::Onward(Cursor {
                 at,
                 known: self.after,

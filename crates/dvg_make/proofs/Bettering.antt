@@ -19,7 +19,7 @@ use Rattle.dvg_cert.specs.declared.entry.Key.TheVariants.{Any}
 use Rattle.dvg_cert.specs.declared.entry.LitBox.{LitBox}
 use Rattle.dvg_cert.specs.declared.entry.LitBox.TheVariants.{Empty, Span}
 use Rattle.dvg_cert.proofs.OnlyEntries.{at_holds}
-use Rattle.dvg_items.specs.Items.{next_place, LeadsTo}
+use Rattle.dvg_items.specs.Items.{next_address, LeadsTo}
 use Rattle.dvg_items.specs.Known.{Context, shape_context, target, callee_at, callee, callee_words, scale_before, place_before, words_before, depth_before, depth_under, known_before}
 use Rattle.dvg_items.specs.Lit.{InBox, IsInside, relative_corners}
 use Rattle.dvg_items.specs.Seen.{extent, seen_at, HasCallee}
@@ -242,7 +242,7 @@ module _ (rom : Rom) (list : List Entry) (up : Upholds rom list) where
           i : Item
           leads : LeadsTo Shape (rom_word rom) e.addr items i.at
           is : cell_at (rom_word rom) i.at ≡ Holds i.format i.instr
-          last : next_place Shape i ≡ None
+          last : next_address Shape i ≡ None
           walked : Walked (i ∷ items)
 
         to_end : (n : ℕ) (items : List Item) (p : ℕ) → LeadsTo Shape (rom_word rom) e.addr items p → Walked items → e.words ≤ words_before c items + n → Ended
@@ -251,7 +251,7 @@ module _ (rom : Rom) (list : List Entry) (up : Upholds rom list) where
             let i : Item = record { at = p; format = h.0; instr = h.1 } in
             let more : words_before c (i ∷ items) ≤ e.words = rule items i lead h.2 shape.TooManyWords (λ q. cc q) in
             absurd (omega (arith, more, le, word_count-some h.0))
-        to_end (suc n) items p lead w le = by_next (next_place Shape i) refl (λ q l k. to_end n (i ∷ items) q l (walk_on items i lead h.2 w) k)
+        to_end (suc n) items p lead w le = by_next (next_address Shape i) refl (λ q l k. to_end n (i ∷ items) q l (walk_on items i lead h.2 w) k)
           where
             h : (format : Format) × (instr : Instr) × (cell_at (rom_word rom) p ≡ Holds format instr)
             h = here items p lead
@@ -259,7 +259,7 @@ module _ (rom : Rom) (list : List Entry) (up : Upholds rom list) where
             i : Item
             i = record { at = p; format = h.0; instr = h.1 }
 
-            by_next : (o : Option ℕ) → next_place Shape i ≡ o → ((q : ℕ) → LeadsTo Shape (rom_word rom) e.addr (i ∷ items) q → e.words ≤ words_before c (i ∷ items) + n → Ended) → Ended
+            by_next : (o : Option ℕ) → next_address Shape i ≡ o → ((q : ℕ) → LeadsTo Shape (rom_word rom) e.addr (i ∷ items) q → e.words ≤ words_before c (i ∷ items) + n → Ended) → Ended
             by_next None is more = record { items = items; i = i; leads = lead; is = h.2; last = is; walked = walk_on items i lead h.2 w }
             by_next (Some q) is more = more q (lead, h.2, is) (omega (arith, le, word_count-some h.0))
 
@@ -280,10 +280,10 @@ module _ (rom : Rom) (list : List Entry) (up : Upholds rom list) where
           made_f = ends_made rom made f (record { stops = record { items = h.items; i = h.i; leads = h.leads; is = h.is; last = h.last }; sums = record { known = refl; box = box.1 }; fine = h.walked.tracked.fine })
 
           stop : place_before c (h.i ∷ h.items) ≡ e.stop
-          stop = at_last (next_place Shape h.i) _ h.last (rule h.items h.i h.leads h.is shape.EndDiffers (λ q. cc q))
+          stop = at_last (next_address Shape h.i) _ h.last (rule h.items h.i h.leads h.is shape.EndDiffers (λ q. cc q))
 
           left : scale_before c (h.i ∷ h.items) ≡ e.scale
-          left = at_last (next_place Shape h.i) _ h.last (rule h.items h.i h.leads h.is shape.ScaleDiffers (λ q. cc q))
+          left = at_last (next_address Shape h.i) _ h.last (rule h.items h.i h.leads h.is shape.ScaleDiffers (λ q. cc q))
 
           many : words_before c (h.i ∷ h.items) ≤ e.words
           many = rule h.items h.i h.leads h.is shape.TooManyWords (λ q. cc q)

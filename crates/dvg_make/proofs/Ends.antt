@@ -12,7 +12,7 @@ use Rattle.dvg_cert.specs.Lookup.{entry_at}
 use Rattle.dvg_cert.specs.declared.entry.Entry.{Entry}
 use Rattle.dvg_cert.specs.declared.entry.Key.{Key}
 use Rattle.dvg_check.specs.FirstFault.{AllBefore}
-use Rattle.dvg_items.specs.Items.{next_place, LeadsTo}
+use Rattle.dvg_items.specs.Items.{next_address, LeadsTo}
 use Rattle.dvg_items.specs.Known.{Context, shape_context, target, callee_at, callee, callee_words, scale_before, place_before, words_before, depth_before, depth_under, known_before}
 use Rattle.dvg_items.specs.Seen.{extent, seen_at, HasCallee}
 use Rattle.dvg_items.proofs.Lists.{all_left, all_right}
@@ -75,13 +75,13 @@ pub at_last : (o : Option ℕ) (P : Type 0) → o ≡ None → AtLast o P → P
 at_last None P e h = h
 at_last (Some p) P e h = cc
 
-pub sums_of : (rom : Rom) (list : List Entry) (e : Entry) → MadeEntry rom list e → (earlier : List Item) (i : Item) → LeadsTo Shape (rom_word rom) e.addr earlier i.at → cell_at (rom_word rom) i.at ≡ Holds i.format i.instr → next_place Shape i ≡ None → Sums list (i ∷ earlier) e
+pub sums_of : (rom : Rom) (list : List Entry) (e : Entry) → MadeEntry rom list e → (earlier : List Item) (i : Item) → LeadsTo Shape (rom_word rom) e.addr earlier i.at → cell_at (rom_word rom) i.at ≡ Holds i.format i.instr → next_address Shape i ≡ None → Sums list (i ∷ earlier) e
 sums_of rom list e made earlier i lead is last =
     let k = rule_at rom list e made earlier i lead is screen in
-    let place = at_last (next_place Shape i) _ last (k shape.EndDiffers (λ q. cc q)) in
-    let scale = at_last (next_place Shape i) _ last (k shape.ScaleDiffers (λ q. cc q)) in
-    let words = at_last (next_place Shape i) _ last (k shape.WordsDiffer (λ q. cc q)) in
-    let depth = at_last (next_place Shape i) _ last (k shape.DepthDiffers (λ q. cc q)) in
+    let place = at_last (next_address Shape i) _ last (k shape.EndDiffers (λ q. cc q)) in
+    let scale = at_last (next_address Shape i) _ last (k shape.ScaleDiffers (λ q. cc q)) in
+    let words = at_last (next_address Shape i) _ last (k shape.WordsDiffer (λ q. cc q)) in
+    let depth = at_last (next_address Shape i) _ last (k shape.DepthDiffers (λ q. cc q)) in
     record { known = λ x. record { place = place x; scale = scale x; words = words x; depth = depth x }; box = made.box earlier i lead is last }
 
 -- entries with the same address, key and sums are the same
@@ -99,7 +99,7 @@ pub record Stops (rom : Rom) (addr : ℕ) : Type 0 where
   pub i : Item
   pub leads : LeadsTo Shape (rom_word rom) addr items i.at
   pub is : cell_at (rom_word rom) i.at ≡ Holds i.format i.instr
-  pub last : next_place Shape i ≡ None
+  pub last : next_address Shape i ≡ None
 
 module _ (rom : Rom) (list : List Entry) (e : Entry) (made : MadeEntry rom list e) where
   pub stands_at : (items : List Item) (p : ℕ) → LeadsTo Shape (rom_word rom) e.addr items p → (format : Format) × (instr : Instr) × (cell_at (rom_word rom) p ≡ Holds format instr)
@@ -116,7 +116,7 @@ module _ (rom : Rom) (list : List Entry) (e : Entry) (made : MadeEntry rom list 
       let i : Item = record { at = p; format = h.0; instr = h.1 } in
       let more : words_before (shape_context list e) (i ∷ items) ≤ e.words = (allows_at rom list e made items i lead h.2).many in
       absurd (omega (arith, more, le, word_count-some h.0))
-  find_last (suc n) items p lead le = by_next (next_place Shape i) refl (λ q l k. find_last n (i ∷ items) q l k)
+  find_last (suc n) items p lead le = by_next (next_address Shape i) refl (λ q l k. find_last n (i ∷ items) q l k)
     where
       h : (format : Format) × (instr : Instr) × (cell_at (rom_word rom) p ≡ Holds format instr)
       h = stands_at items p lead
@@ -124,7 +124,7 @@ module _ (rom : Rom) (list : List Entry) (e : Entry) (made : MadeEntry rom list 
       i : Item
       i = record { at = p; format = h.0; instr = h.1 }
 
-      by_next : (o : Option ℕ) → next_place Shape i ≡ o → ((q : ℕ) → LeadsTo Shape (rom_word rom) e.addr (i ∷ items) q → e.words ≤ words_before (shape_context list e) (i ∷ items) + n → Stops rom e.addr) → Stops rom e.addr
+      by_next : (o : Option ℕ) → next_address Shape i ≡ o → ((q : ℕ) → LeadsTo Shape (rom_word rom) e.addr (i ∷ items) q → e.words ≤ words_before (shape_context list e) (i ∷ items) + n → Stops rom e.addr) → Stops rom e.addr
       by_next None is more = record { items = items; i = i; leads = lead; is = h.2; last = is }
       by_next (Some q) is more = more q (lead, h.2, is) (omega (arith, le, word_count-some h.0))
 
@@ -181,7 +181,7 @@ module _ (rom : Rom) (list : List Entry) (e : Entry) where
     deep : depth_under i.instr (callee c earlier i.instr) ≤ e.depth
     many : words_before c (i ∷ earlier) ≤ e.words
     holds : HoldsAll e.lit (relative_corners (extent c earlier i.instr) (place_before c earlier))
-    known : AtLast (next_place Shape i) (known_before c (i ∷ earlier) ≡ known_of e)
+    known : AtLast (next_address Shape i) (known_before c (i ∷ earlier) ≡ known_of e)
 
   kept_at : (earlier : List Item) (i : Item) → AtItem earlier i → (w : Window) (why : ShapeWhy) → why ≢ shape.OffScreen → ShapeKeeps Exact w e (seen_at c earlier i) why
   kept_at earlier i h w shape.Unmapped not = tt
@@ -193,11 +193,11 @@ module _ (rom : Rom) (list : List Entry) (e : Entry) where
   kept_at earlier i h w shape.NoEntry not = has_callee list (target Shape i.instr) (scale_before c earlier) h.fine.keyed
   kept_at earlier i h w shape.TooDeep not = h.deep
   kept_at earlier i h w shape.TooManyWords not = h.many
-  kept_at earlier i h w shape.EndDiffers not = last_map (next_place Shape i) _ _ (λ (k : Known). k.place) h.known
-  kept_at earlier i h w shape.ScaleDiffers not = last_map (next_place Shape i) _ _ (λ (k : Known). k.scale) h.known
+  kept_at earlier i h w shape.EndDiffers not = last_map (next_address Shape i) _ _ (λ (k : Known). k.place) h.known
+  kept_at earlier i h w shape.ScaleDiffers not = last_map (next_address Shape i) _ _ (λ (k : Known). k.scale) h.known
   kept_at earlier i h w shape.BoxTooSmall not = h.holds
-  kept_at earlier i h w shape.WordsDiffer not = last_map (next_place Shape i) _ _ (λ (k : Known). k.words) h.known
-  kept_at earlier i h w shape.DepthDiffers not = last_map (next_place Shape i) _ _ (λ (k : Known). k.depth) h.known
+  kept_at earlier i h w shape.WordsDiffer not = last_map (next_address Shape i) _ _ (λ (k : Known). k.words) h.known
+  kept_at earlier i h w shape.DepthDiffers not = last_map (next_address Shape i) _ _ (λ (k : Known). k.depth) h.known
 
   kept_place : (earlier : List Item) (i : Item) → cell_at (rom_word rom) i.at ≡ Holds i.format i.instr → AtItem earlier i → (why : ShapeWhy) → MadeKeeps rom list e earlier i.at why
   kept_place earlier i is h why w not =
@@ -236,12 +236,12 @@ module _ (rom : Rom) (list : List Entry) (e : Entry) where
     fine_each [] f = tt
     fine_each (i ∷ earlier) f = (fine_each earlier f.0, f.1)
 
-    end_each : (Q : List Item → Type 0) (items : List Item) (p : ℕ) → LeadsTo Shape (rom_word rom) e.addr items p → AllHold (λ earlier j. next_place Shape j ≡ None → Q (j ∷ earlier)) items
+    end_each : (Q : List Item → Type 0) (items : List Item) (p : ℕ) → LeadsTo Shape (rom_word rom) e.addr items p → AllHold (λ earlier j. next_address Shape j ≡ None → Q (j ∷ earlier)) items
     end_each Q [] p lead = tt
     end_each Q (i ∷ earlier) p lead = (end_each Q earlier i.at lead.0, λ last. let no : Some p ≡ None = sym lead.2 ∙ last in cc no)
 
     at_end : (Q : List Item → Type 0) → Q (h.stops.i ∷ h.stops.items) → AtEnd rom e.addr Q
-    at_end Q q = each_item (λ earlier j. next_place Shape j ≡ None → Q (j ∷ earlier)) (end_each Q h.stops.items h.stops.i.at h.stops.leads, λ x. q)
+    at_end Q q = each_item (λ earlier j. next_address Shape j ≡ None → Q (j ∷ earlier)) (end_each Q h.stops.items h.stops.i.at h.stops.leads, λ x. q)
 
     pub ends_made : MadeEntry rom list e
     ends_made =

@@ -13,7 +13,7 @@ use Rattle.dvg_cert.specs.declared.entry.LitBox.{LitBox}
 use Rattle.dvg_cert.specs.declared.entry.LitBox.TheVariants.{Empty, Span}
 use Rattle.dvg_words.specs.Example.{example_rom}
 use Rattle.dvg_check.specs.Example.{example_entry, example_list}
-use Rattle.dvg_items.specs.Items.{next_place}
+use Rattle.dvg_items.specs.Items.{next_address}
 use Rattle.dvg_items.specs.Known.{shape_context, target, scale_before}
 use Rattle.dvg_items.specs.Lit.{IsInside}
 use Rattle.dvg_check.specs.Rules.{AllKeep}
@@ -74,7 +74,7 @@ example_entry_made =
     record {
       keeps = example_keeps;
       keyed = both_items (λ earlier i. (to : ℕ) → target Shape i.instr ≡ Some to → HasEntry example_list to (scale_before (shape_context example_list example_entry) earlier)) (λ to e. cc e) (λ to e. cc e);
-      box = both_items (λ earlier i. next_place Shape i ≡ None → IsLeast (lit_points (shape_context example_list example_entry) (i ∷ earlier)) example_entry.lit) (λ e. cc e) (λ e. example_least);
+      box = both_items (λ earlier i. next_address Shape i ≡ None → IsLeast (lit_points (shape_context example_list example_entry) (i ∷ earlier)) example_entry.lit) (λ e. cc e) (λ e. example_least);
     }
 
 -- the stroke at 800 at global scale 0

@@ -16,7 +16,7 @@ use Rattle.dvg_cert.specs.declared.entry.Entry.{Entry}
 use Rattle.dvg_cert.specs.declared.entry.Key.{Key}
 use Rattle.dvg_cert.specs.declared.entry.Key.TheVariants.{Any}
 use Rattle.dvg_cert.specs.declared.limits.TheConstants.{MOST_ENTRIES}
-use Rattle.dvg_items.specs.Items.{LeadsTo, next_place, AtEachOf, AtEveryPlace}
+use Rattle.dvg_items.specs.Items.{LeadsTo, next_address, AtEachOf, AtEveryPlace}
 use Rattle.dvg_items.specs.Bounds.{IsClaim}
 use Rattle.dvg_items.proofs.Near.{next_near}
 use Rattle.dvg_items.specs.Known.{frame_context, target, scale_set, callee_at, scale_before, known_before, known_past}
@@ -156,7 +156,7 @@ module _ (words : List ℕ) (list : List Entry) where
       (f.0, ap (λ (z : Key). entry_at list to z) (sym c.scale_is) ∙ f.1)
 
   -- where the items end
-  pub ends_last : (items : List Item) (i : Item) → LeadsTo Frame word 0 items i.at → cell_at word i.at ≡ Holds i.format i.instr → next_place Frame i ≡ None → AllKeyed list (i ∷ items) → HasCalls words list
+  pub ends_last : (items : List Item) (i : Item) → LeadsTo Frame word 0 items i.at → cell_at word i.at ≡ Holds i.format i.instr → next_address Frame i ≡ None → AllKeyed list (i ∷ items) → HasCalls words list
   ends_last items i lead is last keyed = has_all (everywhere Frame word 0 KeyedThere items i lead is last (each_there items i.at lead keyed.0, there items i is keyed.1))
 
   pub ends_nowhere : (items : List Item) (p : ℕ) → LeadsTo Frame word 0 items p → AllKeyed list items → ((format : Format) (instr : Instr) → cell_at word p ≡ Holds format instr → ⊥) → HasCalls words list
@@ -360,7 +360,7 @@ module _ (rom : Rom) (words : List ℕ) (old done : List Entry) (at : ℕ) (scal
     pub callee_claim : IfSome callee IsClaim
     callee_claim = (called last new callee c).claim
 
-    pub goes_on : (past : Key) → past ≡ unwrap_or (scale_set instr callee) scale → IsKey past → at < ADDRESS_END → InstrFits instr → (next : ℕ) → next_place Frame item ≡ Some next → FrameWalk rom words old new next past
+    pub goes_on : (past : Key) → past ≡ unwrap_or (scale_set instr callee) scale → IsKey past → at < ADDRESS_END → InstrFits instr → (next : ℕ) → next_address Frame item ≡ Some next → FrameWalk rom words old new next past
     goes_on past past_is key near fits next goes =
         let h = called last new callee c in
         let list_scale : scale ≡ scale_before (frame_context new) h.partial.items = h.partial.scale_is in
@@ -379,7 +379,7 @@ module _ (rom : Rom) (words : List ℕ) (old done : List Entry) (at : ℕ) (scal
           forced = h.partial.forced;
         }
 
-    pub at_last : next_place Frame item ≡ None → IsFramed rom words old new
+    pub at_last : next_address Frame item ≡ None → IsFramed rom words old new
     at_last ends =
         let h = called last new callee c in
         record {

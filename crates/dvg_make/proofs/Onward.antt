@@ -12,7 +12,7 @@ use Rattle.dvg_cert.specs.Entry.{IsEntry}
 use Rattle.dvg_cert.specs.declared.entry.Entry.{Entry}
 use Rattle.dvg_cert.specs.declared.entry.Key.{Key}
 use Rattle.dvg_cert.specs.declared.limits.TheConstants.{MOST_DEPTH, MOST_WORDS}
-use Rattle.dvg_items.specs.Items.{next_place, LeadsTo}
+use Rattle.dvg_items.specs.Items.{next_address, LeadsTo}
 use Rattle.dvg_items.specs.Known.{Context, shape_context, target, callee_at, callee, scale_before, words_before, depth_before, known_before}
 use Rattle.dvg_items.specs.Seen.{seen_at, seen_with}
 use Rattle.dvg_items.specs.Bounds.{IsClaim, IsSoundStep}
@@ -110,8 +110,8 @@ module _ (rom : Rom) (list : List Entry) (w : PartialEntry) where
 -- where a cause says something of an item, it is not as asked
 not_as_asked : (scale : Key) (v : Seen) (why : EntryCause) → SaysOf scale v why → IsAsked v → ⊥
 not_as_asked scale v cause.Halt says a = a.straight.no_halt says
-not_as_asked scale v cause.LostPlace says a = says a.straight.place
-not_as_asked scale v cause.UnknownScale says a = says.1 a.straight.scale
+not_as_asked scale v cause.BeamUnknown says a = says a.straight.place
+not_as_asked scale v cause.ScaleUnknown says a = says.1 a.straight.scale
 not_as_asked scale v (cause.Deep to key) says a = omega (arith, says.2, a.deep)
 not_as_asked scale v (cause.TooManyWords words) says a = omega (arith, says.0, says.1, a.many)
 not_as_asked scale v cause.RootOutside says a = says
@@ -130,8 +130,8 @@ said_at rom list chain at before i o why here is nm says = by_cause why (subst (
 
     by_cause : (why : EntryCause) → SaysOf before.scale (seen_with (callee_at list (target Shape i.instr) before.scale) before i) why → CauseAt rom list chain at before why
     by_cause cause.Halt says = seen_so cause.Halt says
-    by_cause cause.LostPlace says = seen_so cause.LostPlace says
-    by_cause cause.UnknownScale says = seen_so cause.UnknownScale says
+    by_cause cause.BeamUnknown says = seen_so cause.BeamUnknown says
+    by_cause cause.ScaleUnknown says = seen_so cause.ScaleUnknown says
     by_cause (cause.Deep to key) says = seen_so (cause.Deep to key) says
     by_cause (cause.TooManyWords words) says = seen_so (cause.TooManyWords words) says
     by_cause cause.RootOutside says = says
@@ -146,8 +146,8 @@ absent_at : (rom : Rom) (list : List Entry) (chain : List ShapeAt) (at : ℕ) (b
 absent_at rom list chain at before cause.Missing h = h
 absent_at rom list chain at before cause.Odd h = h
 absent_at rom list chain at before cause.Halt h = absurd h
-absent_at rom list chain at before cause.LostPlace h = absurd h
-absent_at rom list chain at before cause.UnknownScale h = absurd h
+absent_at rom list chain at before cause.BeamUnknown h = absurd h
+absent_at rom list chain at before cause.ScaleUnknown h = absurd h
 absent_at rom list chain at before (cause.Deep to key) h = absurd h
 absent_at rom list chain at before (cause.TooManyWords words) h = absurd h
 absent_at rom list chain at before cause.RootOutside h = h
@@ -264,7 +264,7 @@ module _ (rom : Rom) (list : List Entry) (from w : PartialEntry) (h : Walking ro
             }
 
         module _ (step : Step) (last : Known) (step_is : step ≡ Last last) (goes : step ≡ step_past Shape seen) where
-          pub end : (next_place Shape i ≡ None) × (last ≡ seen.after)
+          pub end : (next_address Shape i ≡ None) × (last ≡ seen.after)
           end = ends_at Shape seen step last step_is goes
 
           pub knows_last : KnowsAt (keyed_context list w.key) (i ∷ h.partial.items) last lit

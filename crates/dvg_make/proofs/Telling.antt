@@ -49,8 +49,8 @@ cause_more rom list chain room at before cause.RootOutside h = h
 cause_more rom list chain room at before cause.Missing h = h
 cause_more rom list chain room at before cause.Odd h = h
 cause_more rom list chain room at before cause.Halt h = h
-cause_more rom list chain room at before cause.LostPlace h = h
-cause_more rom list chain room at before cause.UnknownScale h = h
+cause_more rom list chain room at before cause.BeamUnknown h = h
+cause_more rom list chain room at before cause.ScaleUnknown h = h
 cause_more rom list chain room at before (cause.Ring index) h = none_at index h.0 h.1
 cause_more rom list chain room at before (cause.Deep to key) h = h
 cause_more rom list chain room at before (cause.TooManyWords words) h = h
@@ -108,8 +108,8 @@ module _ (rom : Rom) (from : List Entry) (root : ℕ × Key) (done : List Entry)
     not_begun cause.Missing b = absurd b
     not_begun cause.Odd b = absurd b
     not_begun cause.Halt b = absurd b
-    not_begun cause.LostPlace b = absurd b
-    not_begun cause.UnknownScale b = absurd b
+    not_begun cause.BeamUnknown b = absurd b
+    not_begun cause.ScaleUnknown b = absurd b
     not_begun (cause.Deep to key) b = absurd b
     not_begun (cause.TooManyWords words) b = absurd b
 
@@ -145,8 +145,8 @@ first_cause rom done addr key unique none cause.RootOutside b = absurd b
 first_cause rom done addr key unique none cause.Missing b = absurd b
 first_cause rom done addr key unique none cause.Odd b = absurd b
 first_cause rom done addr key unique none cause.Halt b = absurd b
-first_cause rom done addr key unique none cause.LostPlace b = absurd b
-first_cause rom done addr key unique none cause.UnknownScale b = absurd b
+first_cause rom done addr key unique none cause.BeamUnknown b = absurd b
+first_cause rom done addr key unique none cause.ScaleUnknown b = absurd b
 first_cause rom done addr key unique none (cause.Deep to other) b = absurd b
 first_cause rom done addr key unique none (cause.TooManyWords words) b = absurd b
 

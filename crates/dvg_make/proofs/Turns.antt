@@ -167,8 +167,8 @@ module _ (rom : Rom) (from : List Entry) (root : ℕ × Key) (done : List Entry)
   refuses at cause.Missing b = absurd b
   refuses at cause.Odd b = absurd b
   refuses at cause.Halt b = absurd b
-  refuses at cause.LostPlace b = absurd b
-  refuses at cause.UnknownScale b = absurd b
+  refuses at cause.BeamUnknown b = absurd b
+  refuses at cause.ScaleUnknown b = absurd b
   refuses at (cause.Deep to key) b = absurd b
   refuses at (cause.TooManyWords words) b = absurd b
 
@@ -217,8 +217,8 @@ first_refused rom done addr key h none at cause.RootOutside b = absurd b
 first_refused rom done addr key h none at cause.Missing b = absurd b
 first_refused rom done addr key h none at cause.Odd b = absurd b
 first_refused rom done addr key h none at cause.Halt b = absurd b
-first_refused rom done addr key h none at cause.LostPlace b = absurd b
-first_refused rom done addr key h none at cause.UnknownScale b = absurd b
+first_refused rom done addr key h none at cause.BeamUnknown b = absurd b
+first_refused rom done addr key h none at cause.ScaleUnknown b = absurd b
 first_refused rom done addr key h none at (cause.Deep to other) b = absurd b
 first_refused rom done addr key h none at (cause.TooManyWords words) b = absurd b
 

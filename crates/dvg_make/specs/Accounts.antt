@@ -24,7 +24,7 @@ use Rattle.dvg_make.specs.declared.fault.EntryFault.TheVariants as fault
 pub use Rattle.dvg_make.specs.declared.account.MakeAccount.{MakeAccount}
 pub use Rattle.dvg_make.specs.declared.account.ShapeAt.{ShapeAt}
 pub use Rattle.dvg_make.specs.declared.account.EntryCause.{EntryCause}
-pub use Rattle.dvg_make.specs.declared.account.EntryCause.TheVariants.{RootOutside, Missing, Odd, Halt, LostPlace, UnknownScale, Ring, Deep, TooManyWords, TooManyEntries, Memory}
+pub use Rattle.dvg_make.specs.declared.account.EntryCause.TheVariants.{RootOutside, Missing, Odd, Halt, BeamUnknown, ScaleUnknown, Ring, Deep, TooManyWords, TooManyEntries, Memory}
 
 -- ---- the items that the maker passes
 
@@ -93,9 +93,9 @@ last_shape shape (next ∷ chain) = last_shape next chain
 abbrev pub SaysOf : Key → Seen → EntryCause → Type 0
 SaysOf scale v Halt = v.item.instr ≡ instr.Halt
 -- it lights at a lost place
-SaysOf scale v LostPlace = PlaceKnown v.extent v.place → ⊥
+SaysOf scale v BeamUnknown = PlaceKnown v.extent v.place → ⊥
 -- it lights at unknown scale, and not at a lost place
-SaysOf scale v UnknownScale = PlaceKnown v.extent v.place × (ScaleKnown v.extent → ⊥)
+SaysOf scale v ScaleUnknown = PlaceKnown v.extent v.place × (ScaleKnown v.extent → ⊥)
 -- it is straight and calls the entry for this address and key, and calls nest deeper under it than a certificate allows
 SaysOf scale v (Deep to key) =
     (target Shape v.item.instr ≡ Some to) × (scale ≡ key) × (MOST_DEPTH < depth_under v.item.instr v.callee) × IsStraight v

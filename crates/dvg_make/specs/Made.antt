@@ -9,7 +9,7 @@ use Rattle.dvg_cert.specs.declared.entry.Key.{Key}
 use Rattle.dvg_cert.specs.Order.{IsCertificate}
 use Rattle.dvg_cert.specs.declared.limits.TheConstants.{MOST_DEPTH, MOST_WORDS}
 use Rattle.dvg_cert.specs.Lookup.{entry_at}
-use Rattle.dvg_items.specs.Items.{next_place, LeadsTo}
+use Rattle.dvg_items.specs.Items.{next_address, LeadsTo}
 use Rattle.dvg_items.specs.declared.item.Kind.TheVariants.{Shape}
 use Rattle.dvg_items.specs.declared.item.Item.{Item}
 use Rattle.dvg_items.specs.Known.{Context, shape_context, target, callee, scale_before}
@@ -38,7 +38,7 @@ AllHold P (i ∷ earlier) = AllHold P earlier × P earlier i
 
 -- holds of all items of the shape at an address, up to and with the last one (profile)
 abbrev pub AtEnd : Rom → ℕ → (List Item → Type 0) → Type 0
-AtEnd rom addr P = EachItem rom addr (λ earlier i. next_place Shape i ≡ None → P (i ∷ earlier))
+AtEnd rom addr P = EachItem rom addr (λ earlier i. next_address Shape i ≡ None → P (i ∷ earlier))
 
 -- the rules of shapes with exact counts, but for what is lit at absolute places (profile)
 abbrev pub MadeKeeps : Rom → List Entry → Entry → List Item → ℕ → ShapeWhy → Type 0

@@ -33,9 +33,9 @@ pub enum EntryCause {
     /// 60: the item is HALT.
     Halt,
     /// 60: the item lights at a lost place.
-    LostPlace,
+    BeamUnknown,
     /// 60: the item lights at unknown scale.
-    UnknownScale,
+    ScaleUnknown,
     /// 61: the item calls or tail jumps to the shape of the chain at this index, counted from 0, the outermost.
     Ring { from: usize },
     /// 61: the item calls the entry for this address and scale, which stores three return places at once already.
@@ -58,8 +58,8 @@ impl EntryCause {
             | EntryCause::Missing
             | EntryCause::Odd
             | EntryCause::Halt
-            | EntryCause::LostPlace
-            | EntryCause::UnknownScale => EntryFault::Unstraight { word: at },
+            | EntryCause::BeamUnknown
+            | EntryCause::ScaleUnknown => EntryFault::Unstraight { word: at },
             EntryCause::Ring { .. } | EntryCause::Deep { .. } => EntryFault::Deep,
             EntryCause::TooManyWords { .. } => EntryFault::TooManyWords,
             EntryCause::TooManyEntries => EntryFault::TooManyEntries,

@@ -75,7 +75,7 @@ pub fn make_frame(
         };
         scale = scale_past(&instr, scale, &callee);
         let item = Item { at, format, instr };
-        match item.next_place(Kind::Frame) {
+        match item.next_address(Kind::Frame) {
             Some(next) => at = next,
             None => return Ok(()),
         }

@@ -166,10 +166,10 @@ fn unstraight(seen: &Seen) -> Option<EntryCause>
         return Some(EntryCause::Halt);
     }
     if !place_known(&seen.extent, &seen.place) {
-        return Some(EntryCause::LostPlace);
+        return Some(EntryCause::BeamUnknown);
     }
     if !scale_known(&seen.extent) {
-        return Some(EntryCause::UnknownScale);
+        return Some(EntryCause::ScaleUnknown);
     }
     None
 }

@@ -84,7 +84,7 @@ fn marks(
         push_mark(&mut marks, done, rom, at, scale)?;
         scale = scale_past(&instr, scale, &made_callee(done, &instr, scale));
         let item = Item { at, format, instr };
-        match item.next_place(Kind::Shape) {
+        match item.next_address(Kind::Shape) {
             Some(next) => at = next,
             None => return Ok(marks),
         }

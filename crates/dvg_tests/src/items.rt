@@ -17,7 +17,7 @@ fn ends_and_jumps(rt: HostRuntime) {
             format: Format::Short,
             instr,
         };
-        assert_eq!(rt; item.next_place(kind), next);
+        assert_eq!(rt; item.next_address(kind), next);
     }
 }
 

@@ -5,7 +5,7 @@ use Rattle.dvg_words.specs.Decoding.{cell_at}
 use Rattle.dvg_cert.specs.declared.entry.Entry.{Entry}
 use Rattle.dvg_items.specs.declared.item.Kind.{Kind}
 use Rattle.dvg_items.specs.declared.item.Item.{Item}
-use Rattle.dvg_items.specs.Items.{next_place, LeadsTo}
+use Rattle.dvg_items.specs.Items.{next_address, LeadsTo}
 use Rattle.dvg_items.specs.Known.{Context, target, callee_at, known_before}
 use Rattle.dvg_items.specs.declared.known.Known.{Known}
 use Rattle.dvg_items.specs.declared.seen.Seen.{Seen}
@@ -70,5 +70,5 @@ pub record WalksTo {Why : Type 0} (c : Context) (word : ℕ → Option ℕ) (fir
   pub last : Item
   pub leads : LeadsTo c.kind word first items last.at
   pub stands : cell_at word last.at ≡ Holds last.format last.instr
-  pub ends : next_place c.kind last ≡ None
+  pub ends : next_address c.kind last ≡ None
   pub knows : known ≡ known_before c (last ∷ items)

@@ -20,7 +20,7 @@ use Rattle.dvg_cert.specs.declared.limits.TheConstants.{MOST_WORDS}
 use Rattle.dvg_items.specs.declared.item.Kind.TheVariants.{Shape}
 use Rattle.dvg_items.specs.declared.item.Item.{Item}
 use Rattle.dvg_items.specs.declared.known.Known.{Known}
-use Rattle.dvg_items.specs.Items.{next_place}
+use Rattle.dvg_items.specs.Items.{next_address}
 use Rattle.dvg_items.specs.Known.{place_past, stop_effect, start, target}
 use Rattle.dvg_items.specs.Lit.{ScaleKnown, LitInBox, IsInside}
 use Rattle.dvg_items.specs.Seen.{HasCallee}
@@ -99,7 +99,7 @@ pub record MayStandFirst (rom : Rom) (list : List Entry) (key : Key) (box : LitB
 
 -- the tail stands behind the item, at the scale that the item leaves, and may light what it does from there
 pub record IsBehind (w : Window) (list : List Entry) (key : Key) (box : LitBox) (i : Item) (tail : Entry) : Type 0 where
-  pub next : next_place Shape i ≡ Some tail.addr
+  pub next : next_address Shape i ≡ Some tail.addr
   pub scale : tail.key ≡ (first_seen list key i).after.scale
   pub lit : MayStandAt w box tail.lit (first_seen list key i).after.place
 

@@ -4,7 +4,7 @@ use Rattle.dvg_cert.specs.declared.entry.End.{End}
 use Rattle.dvg_cert.specs.declared.entry.End.TheVariants.{Rel}
 use Rattle.dvg_cert.specs.declared.entry.Entry.{Entry}
 use Rattle.dvg_items.specs.Bounds.{IsNearPlace}
-use Rattle.dvg_items.specs.Items.{next_place}
+use Rattle.dvg_items.specs.Items.{next_address}
 use Rattle.dvg_items.specs.Least.{IsLeast}
 use Rattle.dvg_items.specs.declared.cursor.Cursor.{Cursor}
 use Rattle.dvg_items.specs.declared.lit.LitExtent.{LitExtent}
@@ -35,15 +35,15 @@ returns-clause-tail g c =
     let lone = subst (λ (lit : LitExtent). IsLeast (relative_corners lit (Rel (pos 0) (pos 0))) c.lit_alone-alone.result) same.0 c.lit_alone-alone.ensures.least in
     let first_at : c.see-seen.result.item.at ≡ 0 = ap (λ (v : Seen). v.item.at) c.see-seen.ensures.value ∙ ap (λ (b : Cursor). b.at) c.start.ensures.value in
     let after = subst (λ (n : ℕ). IsNearPlace (n + 1) c.see-seen.result.after.place) first_at (c.see-seen.ensures.sound).place_after in
-    elim c.match-next_place.branch [
+    elim c.match-next_address.branch [
       | in-Some+in_ok-tail-in-Some w ↦
           let tail : LitFrom = w.in_ok-tail-in-Some.tail.now in
           let h = w.in_ok-tail-in-Some.ensures in
-          let goes : next_place Shape i ≡ Some w.in-Some.next = sym c.next_place.ensures ∙ w.in-Some.is in
+          let goes : next_address Shape i ≡ Some w.in-Some.next = sym c.next_address.ensures ∙ w.in-Some.is in
           let scale = ap (λ (k : Known). k.scale) same.1 in
           let place : End = (first_seen list key i).after.place in
           let at_place : c.see-seen.result.after.place ≡ place = ap (λ (k : Known). k.place) same.1 in
-          let whole : LitFrom = record { addr = i.at; key = key; lit = c.match-next_place.lit } in
+          let whole : LitFrom = record { addr = i.at; key = key; lit = c.match-next_address.lit } in
           let relative = subst (λ (l : Lit). AreJoined c.lit_alone-alone.result (relative_part place tail.lit.relative) l.relative) (sym w.lit-is)
           (subst (λ (p : End). AreJoined c.lit_alone-alone.result (relative_part p tail.lit.relative) w.lit_over-lit.result.relative) at_place w.lit_over-lit.ensures.relative) in
           let absolute = subst (λ (l : Lit). AreJoined tail.lit.absolute (absolute_part place tail.lit.relative) l.absolute) (sym w.lit-is)
@@ -54,7 +54,7 @@ returns-clause-tail g c =
           (record { first = absolute.first; second = absolute.second; least = absolute.least })
           (λ n h. part_near place tail.lit.relative n (subst (IsNearPlace 1) at_place after) h)
       | in-None w ↦
-          ending c.args.rom.now list key i c.requires.there (sym c.next_place.ensures ∙ w.in-None.is) (record { addr = i.at; key = key; lit = c.match-next_place.lit }) c.requires.near refl refl
+          ending c.args.rom.now list key i c.requires.there (sym c.next_address.ensures ∙ w.in-None.is) (record { addr = i.at; key = key; lit = c.match-next_address.lit }) c.requires.near refl refl
           (subst (λ (l : Lit). IsLeast (relative_corners (first_seen list key i).extent (Rel (pos 0) (pos 0))) l.relative) (sym w.lit-is) lone)
           (subst (λ (l : Lit). IsNearBox 1 l.relative) (sym w.lit-is) c.lit_alone-alone.ensures.near)
           (ap (λ (l : Lit). l.absolute) w.lit-is)
