@@ -25,6 +25,7 @@ impl Model for Lines {
 }
 
 impl Lines {
+    /// No line so far. Takes no memory.
     pub fn new(alloc: Global) -> Lines
         ensures { result ≡ Some [] }
     {
@@ -33,6 +34,7 @@ impl Lines {
         }
     }
 
+    /// Adds a line, if memory has not run out.
     pub fn push(&mut self, line: Line)
         ensures { Adds self.old self.new (line ∷ []) }
     {

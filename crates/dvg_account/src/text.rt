@@ -31,6 +31,7 @@ impl Model for Text {
 }
 
 impl Text {
+    /// The empty text. Takes no memory.
     pub fn new(alloc: Global) -> Text
         ensures { result ≡ Some [] }
     {
@@ -46,6 +47,7 @@ impl Text {
         self.text
     }
 
+    /// Adds a piece, if memory has not run out.
     pub fn push(&mut self, piece: &str)
         ensures { Adds self.old self.new piece.now }
     {

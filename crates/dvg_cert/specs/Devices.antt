@@ -1,4 +1,4 @@
--- What readers and writers tell of their failures, and of what they took.
+-- Readers and writers that count their failed calls, and the writes that took their whole piece.
 use Rattle.std.specs.Prelude.{◌≡◌, ℕ, ◌+◌, ◌-◌, ◌^◌, ◌≤◌, Bool, true, false, ◌==◌, ◌&&◌, not, nat_lt, List, length, take, Option, Result, Ok, Err, if◌then◌else◌}
 use Rattle.std.specs.Io.KnownBytes.{Appends}
 use Rattle.dvg_cert.specs.declared.limits.TheConstants.{MOST_AT_ONCE}
@@ -24,8 +24,8 @@ abbrev pub took_whole : {E : Type 0} → Result ℕ E → List ℕ → Bool
 took_whole (Ok n) bytes = n == length bytes
 took_whole (Err e) bytes = false
 
--- of the writes of a text of at most 4,096 bytes just one took its whole piece: it is the only one, if the writer takes each piece
--- whole (profile)
+-- exactly one write of a text of at most 4,096 bytes took its whole piece. If the writer takes each piece whole, it is the only
+-- write (profile)
 abbrev pub TakesOneWrite : List ℕ → ℕ → ℕ → Type 0
 TakesOneWrite text old new = length text ≤ MOST_AT_ONCE → new ≡ count_after true old
 

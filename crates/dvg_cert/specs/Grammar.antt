@@ -32,10 +32,11 @@ abbrev pub entry_tokens : Entry → List (List ℕ)
 entry_tokens e = codes "shape" ∷ address_token e.addr ∷ key_token e.key ∷ codes "end" ∷ end_tokens e.stop ++ codes "box" ∷ box_tokens e.lit
     ++ codes "depth" ∷ decimal e.depth ∷ codes "words" ∷ decimal e.words ∷ codes "scale" ∷ key_token e.scale ∷ []
 
--- the first line: of version 1 for the ROM of Asteroids, of version 2 for a ROM elsewhere (profile)
+-- the first line of version 1, for the ROM of Asteroids (profile)
 abbrev pub first_version_line : List ℕ
 first_version_line = codes "dvgcert 1"
 
+-- the first line of version 2, for a ROM elsewhere (profile)
 abbrev pub second_version_line : List ℕ
 second_version_line = codes "dvgcert 2"
 
@@ -47,10 +48,11 @@ rom_line map = join_with_byte SPACE (codes "rom" ∷ address_token map.rom_first
 abbrev pub heading : MemoryMap → List (List ℕ)
 heading map = if is_asteroids map then first_version_line ∷ [] else second_version_line ∷ rom_line map ∷ []
 
--- the other lines of a certificate, without their ends (profile)
+-- the line of an entry, without its end (profile)
 abbrev pub entry_line : Entry → List ℕ
 entry_line e = join_with_byte SPACE (entry_tokens e)
 
+-- the last line, with the number of entries, without its end (profile)
 abbrev pub done_line : ℕ → List ℕ
 done_line n = join_with_byte SPACE (codes "done" ∷ decimal n ∷ [])
 

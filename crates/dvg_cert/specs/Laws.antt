@@ -64,7 +64,7 @@ CutRefusal = (text piece after : List ℕ) (new : Stream) (f : CertFault) (answe
     → FeedsTo (Open text) piece new (Err f) → f.why ≢ Memory → ReadAnswer ((text ++ piece) ++ after) answer
     → NotMemory answer → answer ≡ Err f
 
--- in a certificate's list an entry found at an address and key is the only one there, and where none is found none is
+-- an entry found at an address and key of a certificate is the only one there; if none is found, there is none
 abbrev pub OnlyEntry : Type 0
 OnlyEntry = (map : MemoryMap) (es : List Entry) (addr : ℕ) (key : Key) → IsCertificate map es
     → IfSome (entry_at es addr key) (IsOnlyAt es addr key) × IfNone (entry_at es addr key) (HasNoneAt es addr key)

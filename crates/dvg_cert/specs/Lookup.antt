@@ -9,6 +9,7 @@ same_key (At m) Any = false
 same_key Any (At n) = false
 same_key Any Any = true
 
+-- the entry has this address and key
 abbrev pub is_at : ℕ → Key → Entry → Bool
 is_at addr key e = (addr == e.addr) && same_key key e.key
 
@@ -25,7 +26,7 @@ IsOnlyAt list addr key e = Contains list e × (e.addr ≡ addr) × (e.key ≡ ke
 abbrev pub HasNoneAt : List Entry → ℕ → Key → Type 0
 HasNoneAt list addr key = (f : Entry) → Contains list f → f.addr ≡ addr → f.key ≡ key → ⊥
 
--- the entry that a call names by its address and the known scale, `Any` for an unknown one: the entry at the scale, else the one at any
--- scale (profile)
+-- the entry that a call names by its address and the known scale, `Any` if it is unknown: the entry at exactly this scale, or else
+-- the one at any scale (profile)
 abbrev pub named_entry : List Entry → ℕ → Key → Option Entry
 named_entry list addr scale = option_or (entry_at list addr scale) (entry_at list addr Any)

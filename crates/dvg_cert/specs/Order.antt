@@ -1,20 +1,21 @@
--- The order of a certificate's entries, certificates, and which lists are a certificate's.
+-- The order of entries, and which lists of entries are a certificate's.
 use Rattle.std.specs.Prelude.{◌≡◌, ◌<◌, ◌≤◌, ◌⊎◌, List, [], ◌∷◌, length}
 use Rattle.std.specs.List.{AllByRecursion}
 use Rattle.dvg_words.specs.Values.{MemoryMap, IsMap}
 use Rattle.dvg_cert.specs.Limits.{MOST_ENTRIES}
 use Rattle.dvg_cert.specs.Entry.{Entry, Key, At, Any, IsEntry}
 
--- any stands after 15 (profile)
+-- the order of keys: any stands after 15 (profile)
 abbrev pub KeyBefore : Key → Key → Type 0
 KeyBefore (At m) (At n) = m < n
 KeyBefore (At m) Any = Unit {0}
 KeyBefore Any key = ⊥
 
--- by address, then by key (profile)
+-- the order of entries: by address, then by key (profile)
 abbrev pub Before : Entry → Entry → Type 0
 Before e f = (e.addr < f.addr) ⊎ ((e.addr ≡ f.addr) × KeyBefore e.key f.key)
 
+-- each entry comes before the next one
 abbrev pub IsRising : List Entry → Type 0
 IsRising [] = Unit {0}
 IsRising (e ∷ []) = Unit {0}
@@ -26,7 +27,7 @@ StandsAfter [] e = Unit {0}
 StandsAfter (f ∷ []) e = Before f e
 StandsAfter (f ∷ g ∷ es) e = StandsAfter (g ∷ es) e
 
--- a certificate: where the ROM lies that it speaks of, and its entries (profile)
+-- a certificate: the map of its ROM, and its entries (profile)
 pub record Certificate : Type 0 where
   pub map : MemoryMap
   pub entries : List Entry

@@ -1,4 +1,4 @@
--- The reader's answer, stated on prefixes of the text. The lines that were taken say where the ROM lies.
+-- The reader's answer, stated on prefixes of the text.
 use Rattle.std.specs.Prelude.{◌≡◌, ◌≢◌, ℕ, ◌+◌, ◌-◌, ◌<◌, ◌≤◌, ◌⊎◌, List, [], ◌∷◌, ◌++◌, length, false, ◌==◌, Result, Ok, Err}
 use Rattle.dvg_words.specs.Values.{MemoryMap, IsMap, is_asteroids}
 use Rattle.dvg_cert.specs.Limits.{MOST_ENTRIES, LONGEST_LINE, LINE_FEED}
@@ -19,7 +19,7 @@ abbrev pub IsLine : ℕ → ℕ → Line → List ℕ → Type 0
 IsLine first last (EntryLine e) bytes = IsEntry first last e × (bytes ≡ entry_line e)
 IsLine first last (DoneLine n) bytes = (n ≤ MOST_ENTRIES) × (bytes ≡ done_line n)
 
--- a ROM that is not where that of Asteroids is, so that a certificate of version 2 speaks of it (profile)
+-- the map of a ROM other than the Asteroids one: its certificates are of version 2 (profile)
 abbrev pub IsElsewhere : MemoryMap → Type 0
 IsElsewhere map = IsMap map × (is_asteroids map ≡ false)
 
@@ -30,31 +30,33 @@ pub data Taken : Type 0 where
   Begun : MemoryMap → List Entry → Taken
   Whole : MemoryMap → List Entry → Taken
 
+-- the text of these lines
 abbrev pub text_taken : Taken → List ℕ
 text_taken Nothing = []
 text_taken Versioned = ended second_version_line
 text_taken (Begun map es) = begun_with map es
 text_taken (Whole map es) = text_of map es
 
--- the line after them, counted from 1 (profile)
+-- the number of the line after these, counted from 1 (profile)
 abbrev pub line_number : Taken → ℕ
 line_number Nothing = 1
 line_number Versioned = 2
 line_number (Begun map es) = length (heading map) + length es + 1
 line_number (Whole map es) = length (heading map) + length es + 2
 
+-- the map and the entries of these lines are a certificate's
 abbrev pub IsTaken : Taken → Type 0
 IsTaken Nothing = Unit {0}
 IsTaken Versioned = Unit {0}
 IsTaken (Begun map es) = IsCertificate map es
 IsTaken (Whole map es) = IsCertificate map es
 
--- the byte stands nowhere in these
+-- the byte is none of these bytes
 abbrev pub Without : ℕ → List ℕ → Type 0
 Without c [] = Unit {0}
 Without c (b ∷ bs) = ((b == c) ≡ false) × Without c bs
 
--- what may follow these lines: a line begun that has room for its end, or nothing after all lines (profile)
+-- what may follow these lines: a begun line with room for its LF, or after the last line nothing (profile)
 abbrev pub IsRest : Taken → List ℕ → Type 0
 IsRest (Whole map es) rest = rest ≡ []
 IsRest taken rest = Without LINE_FEED rest × (length rest < LONGEST_LINE)
@@ -91,7 +93,7 @@ abbrev pub Meets : Taken → List ℕ → ℕ → CertWhy → Type 0
 Meets (Whole map es) rest b why = why ≡ After
 Meets taken rest b why = ((b ≢ LINE_FEED) × (length rest ≡ LONGEST_LINE - 1) × (why ≡ TooLong)) ⊎ ((b ≡ LINE_FEED) × IsWrong taken rest why)
 
--- the line is that of an entry which could still be taken (profile)
+-- the line is an entry's, and it and all lines before it can be taken (profile)
 abbrev pub HasEntryAt : List ℕ → ℕ → Type 0
 HasEntryAt text line = (map : MemoryMap) × (es : List Entry) × (after : List ℕ) × IsCertificate map es × (0 < length es)
     × (text ≡ begun_with map es ++ after) × (line ≡ length (heading map) + length es)

@@ -40,7 +40,7 @@ fn number_of_eight(bytes: &[u8; 8], count: usize) -> u64
 {
     // The values of the digits, in the highest bytes of a word. The bytes below are 0.
     let values = u64::from_le_bytes(*bytes).wrapping_sub(0x3030_3030_3030_3030) << (64 - 8 * count);
-    // First every second byte has the number of two digits, then every second pair of bytes that of four.
+    // First every second byte has the number of two digits, then every second pair of bytes the number of four digits.
     let pairs = (values.wrapping_mul(10 * 256 + 1) >> 8) & 0x00FF_00FF_00FF_00FF;
     let fours = pairs.wrapping_mul(100 * 65_536 + 1) >> 16;
     fours % 65_536 * 10_000 + (fours >> 32)

@@ -30,9 +30,9 @@ impl fmt::Display for Key {
 /// The numbers of a certificate are -2,000,000,000,000 to 2,000,000,000,000.
 #[derive(Clone, Copy, Debug, PartialEq, Eq)]
 pub enum End {
-    /// Moved by that much since the call.
+    /// Moved by this much since the call.
     Rel { x: i64, y: i64 },
-    /// At that place.
+    /// At this place.
     Abs { x: i64, y: i64 },
     /// Anywhere: nothing is claimed.
     Lost,
@@ -43,7 +43,7 @@ pub enum End {
 pub enum LitBox {
     /// Nothing.
     Empty,
-    /// All of it between these coordinates, ends included.
+    /// All that it lights lies between these coordinates, ends included.
     Span {
         x_min: i64,
         x_max: i64,
@@ -62,8 +62,8 @@ pub struct Entry {
     /// What it lights before its place is set, by a LABS of its own or of a shape that it calls, relative to the beam at the
     /// call.
     pub lit: LitBox,
-    /// How many words are fetched at most from its first word through its return, those of the shapes that it
-    /// calls among them: 1 to 1,000,000.
+    /// The most words fetched from its first word through its return, with the words of the shapes that it calls: 1 to
+    /// 1,000,000.
     pub words: u32,
     /// The word address of the shape's first word.
     pub addr: u16,

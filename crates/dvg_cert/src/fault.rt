@@ -23,7 +23,7 @@ pub enum CertWhy {
     /// 14: something comes after the last line.
     #[error("something comes after the last line")]
     After,
-    /// 15: the 200th byte of the line is not LF, or the line is that of an entry past the 4096th.
+    /// 15: the 200th byte of the line is not LF, or the line is the 4,097th entry's.
     #[error("the line or the list is too long")]
     TooLong,
     /// 16: there was no memory for an entry that could be taken.
@@ -32,7 +32,7 @@ pub enum CertWhy {
 }
 
 impl CertWhy {
-    /// 10 to 16.
+    /// The number of the refusal, 10 to 16.
     pub fn number(self) -> u8
         ensures { result ≡ cert_number self }
     {
@@ -57,7 +57,7 @@ pub struct CertFault {
 }
 
 impl CertFault {
-    /// 10 to 16.
+    /// The number of the refusal, 10 to 16.
     pub fn number(self) -> u8
         ensures { result ≡ cert_number self.why }
     {
@@ -74,7 +74,7 @@ pub enum WriteFault {
 }
 
 impl WriteFault {
-    /// 17.
+    /// The number of the refusal, 17.
     pub fn number(self) -> u8
         ensures { result ≡ write_number self }
     {

@@ -13,7 +13,7 @@ use crate::fields::Fields;
 use crate::limits::{LINE_FEED, MOST_ENTRIES};
 use dvg_words::{ADDRESS_END, RomMap};
 
-/// Where the ROM lies by this line, which comes without its end. `None` if it says no such thing, or the place of Asteroids.
+/// The map that a line spells, which comes without its end. `None` if it spells no map, or the Asteroids map.
 pub fn elsewhere_of(line: &[u8]) -> Option<RomMap>
     ensures found { IfSome result (λ map. IsElsewhere map × (line.now ≡ rom_line map)) }
     ensures none { IfNone result ((map : MemoryMap) → IsElsewhere map → line.now ≢ rom_line map) }

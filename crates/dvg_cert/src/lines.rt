@@ -13,7 +13,7 @@ use crate::line_buffer::{WriteBuffer, push_bytes};
 use crate::writer::write_bytes;
 use memchr::memrchr;
 
-/// Writes the whole lines that a buffer holds, and keeps the rest; all that it holds, where no line ends in it.
+/// Writes the whole lines that a buffer holds, and keeps the rest. If no line ends in it, writes all that it holds.
 fn send_lines<W: CountedWrite>(held: &mut WriteBuffer, out: &mut W) -> Result<(), WriteFault>
     requires { 0 < array_vec_len held.old }
     ensures ok { OnOk result (Buffered (W.contents out.old) (W.contents out.new) held.new.items held.old.items) }
@@ -33,13 +33,13 @@ fn send_lines<W: CountedWrite>(held: &mut WriteBuffer, out: &mut W) -> Result<()
     Ok(())
 }
 
-/// Puts a text after what a buffer holds. Where that is more than the buffer has room for, whole lines are written.
+/// Puts a text behind what a buffer holds. If the buffer has no room for all of it, whole lines are written.
 fn put<W: CountedWrite>(held: &mut WriteBuffer, text: &[u8], out: &mut W) -> Result<(), WriteFault>
     ensures ok { OnOk result (Buffered (W.contents out.old) (W.contents out.new) held.new.items (held.old.items ++ text.now)) }
     ensures prefix { OnErr result (AppendsPrefix (W.contents out.old) (W.contents out.new) (held.old.items ++ text.now)) }
     ensures count { W.failures out.new ≡ count_after (is_err result) (W.failures out.old) }
 
-    // Where it has room, nothing is written.
+    // If the buffer has room, nothing is written.
     ensures fits { array_vec_len held.old + length text.now ≤ MOST_AT_ONCE
         → (is_err result ≡ false) × (held.new.items ≡ held.old.items ++ text.now) × (out.new ≡ out.old) }
 {

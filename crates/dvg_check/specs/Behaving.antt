@@ -17,13 +17,13 @@ use Rattle.dvg_items.specs.Lit.{InBox}
 use Rattle.dvg_check.specs.Rules.{Mode, Bound, Exact}
 use Rattle.dvg_check.specs.Safety.{Ends}
 
--- a count against its claim: at most it, or exactly it
+-- the count is at most the claimed one, or in the mode Exact just the claimed one
 abbrev pub Counts : Mode → ℕ → ℕ → Type 0
 Counts Bound n claimed = n ≤ claimed
 Counts Exact n claimed = n ≡ claimed
 
--- From one running state to another, within so many steps and by so many further words. A halt or a fault has no step,
--- so there is none on the way.
+-- A run leads from one running state to another, by at most `most` steps and words, in the mode Exact just so many words. A halt
+-- or a fault has no step, so there is none on the way.
 pub record Stretch
     (mode : Mode) (m : Memory) (Fetched : ℕ → Type 0) (Lit : Stroke → Type 0) (most deep : ℕ) (from to : State) : Type 0 where
   pub steps : ℕ
@@ -38,26 +38,27 @@ pub record Stretch
   pub lit : AllByRecursion Lit strokes
   pub stored : Counts mode to.max_stack (max from.max_stack deep)
 
--- a scale that agrees with what is known of it
+-- the scale is the known one; any scale fits an unknown one
 abbrev pub ScaleFits : Key → ℕ → Type 0
 ScaleFits (At known) scale = scale ≡ known
 ScaleFits Any scale = Unit {0}
 
--- a place at the return that agrees with what is claimed, of a call at this place
+-- the place `to` at the return is as claimed, for a call at the place `from`
 abbrev pub PlaceFits : End → Point → Point → Type 0
 PlaceFits (Rel x y) from to = to ≡ shift from (record { x = x; y = y })
 PlaceFits (Abs x y) from to = to ≡ record { x = x; y = y }
 PlaceFits Lost from to = Unit {0}
 
+-- a box, moved from the origin to a place
 abbrev pub box_at : LitBox → Point → LitBox
 box_at Empty p = Empty
 box_at (Span x_min x_max y_min y_max) p = Span (p.x +ℤ x_min) (p.x +ℤ x_max) (p.y +ℤ y_min) (p.y +ℤ y_max)
 
--- both ends in the window, or both in the box
+-- both ends of the stroke are in the window, or both are in the box at the place `base`
 abbrev pub LitFits : Window → LitBox → Point → Stroke → Type 0
 LitFits w box base stroke = Ends (InWindow w) stroke ⊎ Ends (InBox (box_at box base)) stroke
 
--- from a state at a shape's first word to the state just past its return
+-- a run leads from a state at a shape's first word to the state just past its return, as the entry claims
 pub record Returned (mode : Mode) (m : Memory) (w : Window) (e : Entry) (back : ℕ) (rest : List ℕ) (from to : State) : Type 0 where
   pub stretch : Stretch mode m (InRom m.rom.map) (LitFits w e.lit from.place) e.words (length from.return_stack + e.depth) from to
   pub some : 1 ≤ stretch.steps

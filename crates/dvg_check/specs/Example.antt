@@ -11,7 +11,7 @@ use Rattle.dvg_cert.specs.declared.entry.Entry.{Entry}
 use Rattle.dvg_cert.specs.Order.{IsCertificate}
 use Rattle.dvg_check.specs.Rules.{Bound, Exact, Good, GoodFrame}
 
--- what is claimed of that shape at global scale 0, in units of 1/1024 of a screen place
+-- what the certificate claims of that stroke at global scale 0, in units of 1/1024 of a screen place
 abbrev pub example_entry : Entry
 example_entry =
     record {
@@ -24,7 +24,7 @@ example_entry =
       scale = At 0;
     }
 
--- a certificate of that entry alone
+-- the entries of the certificate: this one alone
 abbrev pub example_list : List Entry
 example_list = example_entry ∷ []
 

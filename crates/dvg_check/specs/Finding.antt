@@ -1,4 +1,4 @@
--- What is known where the first fault is: what stands there, and what is known before it. All of it is profile.
+-- The first fault, with what stands there and what is known before it. All of it is profile.
 use Rattle.std.specs.Prelude.{◌≡◌, ℕ, List, Option}
 use Rattle.dvg_words.specs.Values.{Window}
 use Rattle.dvg_words.specs.Memory.{Rom, rom_word, frame_word}
@@ -31,26 +31,26 @@ pub record FaultFound {Why : Type 0} (order : Why → ℕ) (c : Context) (word :
   pub known : before ≡ known_before c fault.items
   pub stands : IsFound c word fault.items at found
 
--- the first fault of a frame, with what is known and stands there
+-- the first fault of a frame, with what is known before it and what stands there
 abbrev pub FirstFrameFound : Window → List ℕ → List Entry → ℕ → FrameFinding → Type 0
 FirstFrameFound w words list budget f =
     FaultFound frame_number (frame_context list) (frame_word words) 0 (FramePlaceKeeps w words list budget)
     f.fault.word f.fault.why f.before f.found
 
--- the first fault of an entry's shape, with what is known and stands there
+-- the first fault of an entry's shape, with what is known before it and what stands there
 abbrev pub ShapeFaultFound : Mode → Window → Rom → List Entry → Entry → ShapeFinding → Type 0
 ShapeFaultFound mode w rom list e f =
     FaultFound shape_number (shape_context list e) (rom_word rom) e.addr (ShapePlaceKeeps mode w rom list e)
     f.fault.word f.fault.why f.before f.found
 
--- the first fault of a certificate, the entry whose shape it is, and what is known and stands there
+-- the first fault of a certificate, the entry of its shape, what is known before it, and what stands there
 pub record FirstShapeFound (mode : Mode) (w : Window) (rom : Rom) (list : List Entry) (f : ShapeFinding) : Type 0 where
   pub first : FirstShapeFault mode w rom list f.fault
   pub entry : f.entry ≡ first.entry
   pub known : f.before ≡ known_before (shape_context list f.entry) first.fault.items
   pub stands : IsFound (shape_context list f.entry) (rom_word rom) first.fault.items f.fault.word f.found
 
--- the numbers of what is seen are within the limits of the code: no rule stands here
+-- if an item is found, the numbers of what the rules see are within the limits of the code: no rule stands here
 abbrev pub IsSoundFound : Found → Type 0
 IsSoundFound Missing = Unit {0}
 IsSoundFound Odd = Unit {0}

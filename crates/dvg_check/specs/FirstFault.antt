@@ -14,6 +14,7 @@ use Rattle.dvg_check.specs.declared.fault.FrameWhy.TheVariants as frame
 pub use Rattle.dvg_check.specs.declared.fault.ShapeFault.{ShapeFault}
 pub use Rattle.dvg_check.specs.declared.fault.FrameFault.{FrameFault}
 
+-- the number of each rule on an item of a shape
 abbrev pub shape_number : ShapeWhy → ℕ
 shape_number shape.Unmapped = 20
 shape_number shape.Odd = 21
@@ -30,6 +31,7 @@ shape_number shape.BoxTooSmall = 31
 shape_number shape.WordsDiffer = 32
 shape_number shape.DepthDiffers = 33
 
+-- the number of each rule on an item of a frame
 abbrev pub frame_number : FrameWhy → ℕ
 frame_number frame.Unmapped = 40
 frame_number frame.Odd = 41
@@ -41,11 +43,11 @@ frame_number frame.OffScreen = 46
 frame_number frame.NoEntry = 47
 frame_number frame.Budget = 48
 
--- every place of these items keeps every rule
+-- the word address of each of these items keeps every rule, after the items before it
 abbrev pub AllBefore : {Why : Type 0} → (List Item → ℕ → Why → Type 0) → List Item → Type 0
 AllBefore {Why} keeps items = AtEachOf (λ earlier p. (why : Why) → keeps earlier p why) items
 
--- the first place that breaks a rule, and the lowest rule that it breaks
+-- the first word address that breaks a rule, and the rule of the lowest number that it breaks
 pub record FaultAt {Why : Type 0} (order : Why → ℕ) (kind : Kind) (word : ℕ → Option ℕ) (first : ℕ)
     (keeps : List Item → ℕ → Why → Type 0) (at : ℕ) (why : Why) : Type 0 where
   pub items : List Item
@@ -58,7 +60,7 @@ pub record FaultAt {Why : Type 0} (order : Why → ℕ) (kind : Kind) (word : �
 abbrev pub ShapeFaultAt : Mode → Window → Rom → List Entry → Entry → ℕ → ShapeWhy → Type 0
 ShapeFaultAt mode w rom list e at why = FaultAt shape_number Shape (rom_word rom) e.addr (ShapePlaceKeeps mode w rom list e) at why
 
--- the first fault of a certificate: that of the first entry which has one
+-- the first fault of a certificate: the first fault of the first entry whose shape has one
 pub record FirstShapeFault (mode : Mode) (w : Window) (rom : Rom) (list : List Entry) (f : ShapeFault) : Type 0 where
   pub before : List Entry
   pub entry : Entry

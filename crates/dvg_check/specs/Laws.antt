@@ -1,4 +1,4 @@
--- The laws, over the definitions alone, for every map, window and mode, except ExactIsExact, which is for the mode Exact.
+-- The laws, over the definitions alone. They are for every map, window and mode, but ExactIsExact is for the mode Exact.
 use Rattle.std.specs.Prelude.{◌≡◌, ℕ, ℤ, ◌+◌, ◌<◌, ◌≤◌, ◌⊎◌, ◌≤ℤ◌, length, List, [], ◌∷◌, ◌++◌, Option, Contains, Result}
 use Rattle.dvg_words.specs.Values.{Window}
 use Rattle.dvg_words.specs.declared.instruction.Instr.TheVariants.{Draw as Draws, Labs}
@@ -49,12 +49,12 @@ pub record Past (m : Memory) (base : Point) (i : Item) (known : End) (scale : Ke
   pub return_stack : t.return_stack ≡ s.return_stack
   pub max_stack : t.max_stack ≡ s.max_stack
 
--- the words that the items of a shape or of a frame stand in
+-- where items are read: the items of a shape in the ROM, the items of a frame in the frame
 abbrev pub word_of : Kind → Memory → ℕ → Option ℕ
 word_of Shape m = rom_word m.rom
 word_of Frame m = frame_word m.frame
 
--- a draw or a LABS leads from a state that agrees with what is known before it to one that agrees with what is known after it
+-- one step past a draw or a LABS: if the state before fits what is known there, so does the state after
 abbrev pub OneItem : Type 0
 OneItem =
     (m : Memory) (c : Context) (first : ℕ) (earlier : List Item) (i : Item) (base : Point) (s : State)
@@ -69,7 +69,7 @@ OneItem =
 
 -- ---- shapes
 
--- a good shape behaves where each with fewer words does
+-- a good shape behaves as claimed, if each shape with fewer words does
 abbrev pub OneShape : Mode → Type 0
 OneShape mode =
     (m : Memory) (w : Window) (list : List Entry) (e : Entry)
@@ -79,7 +79,7 @@ OneShape mode =
     → ((f : Entry) → Contains list f → f.words < e.words → Behaves mode m w f)
     → Behaves mode m w e
 
--- all good shapes behave
+-- all good shapes behave as claimed
 abbrev pub AllShapes : Mode → Type 0
 AllShapes mode =
     (m : Memory) (w : Window) (list : List Entry)
@@ -89,7 +89,7 @@ AllShapes mode =
 
 -- ---- frames
 
--- what is good is safe
+-- a good frame over good shapes is safe
 abbrev pub GoodIsSafe : Type 0
 GoodIsSafe =
     (mode : Mode) (m : Memory) (w : Window) (list : List Entry) (budget words depth : ℕ)
@@ -99,7 +99,7 @@ GoodIsSafe =
     → GoodFrame w m.frame list budget words depth
     → Safe m w words depth
 
--- where the counts of the shapes are exact, so are those of the frame
+-- if the counts of the shapes are exact, the counts of the frame are exact too
 abbrev pub ExactIsExact : Type 0
 ExactIsExact =
     (m : Memory) (w : Window) (list : List Entry) (budget words depth : ℕ)
@@ -109,7 +109,7 @@ ExactIsExact =
     → GoodFrame w m.frame list budget words depth
     → CountsAtHalt m words depth
 
--- a frame has one first fault at most
+-- a frame has at most one first fault
 abbrev pub OneFault : Type 0
 OneFault =
     (w : Window) (words : List ℕ) (list : List Entry) (budget : ℕ) (f g : FrameFault)
@@ -121,29 +121,30 @@ NoFault =
     (w : Window) (words : List ℕ) (list : List Entry) (budget count depth : ℕ) (f : FrameFault)
     → GoodFrame w words list budget count depth → FirstFrameFault w words list budget f → ⊥
 
--- a certificate has one first faulty shape at most
+-- a certificate has at most one first fault
 abbrev pub OneShapeFault : Type 0
 OneShapeFault =
     (mode : Mode) (w : Window) (rom : Rom) (list : List Entry) (f g : ShapeFault)
     → FirstShapeFault mode w rom list f → FirstShapeFault mode w rom list g → f ≡ g
 
--- a certificate of good shapes has none
+-- a certificate of good shapes has no fault
 abbrev pub NoShapeFault : Type 0
 NoShapeFault =
     (mode : Mode) (w : Window) (rom : Rom) (list : List Entry) (f : ShapeFault)
     → Good mode w rom list → FirstShapeFault mode w rom list f → ⊥
 
--- a good frame has one count and one depth
+-- two counts and two depths are the same
 pub record SameCounts (count depth count' depth' : ℕ) : Type 0 where
   pub count_is : count ≡ count'
   pub depth_is : depth ≡ depth'
 
+-- a good frame has one count and one depth
 abbrev pub OneCount : Type 0
 OneCount =
     (w : Window) (words : List ℕ) (list : List Entry) (budget count depth count' depth' : ℕ)
     → GoodFrame w words list budget count depth → GoodFrame w words list budget count' depth' → SameCounts count depth count' depth'
 
--- there is one verdict at most, running out of memory aside
+-- there is at most one verdict, running out of memory aside
 abbrev pub OneVerdict : Type 0
 OneVerdict =
     (mode : Mode) (w : Window) (rom cert words : List ℕ) (budget : ℕ) (a b : Result Yes Refusal)
@@ -151,19 +152,19 @@ OneVerdict =
 
 -- ---- strokes
 
--- a coordinate between two others
+-- the coordinate lies between two others, in either order
 abbrev pub IsBetween : ℤ → ℤ → ℤ → Type 0
 IsBetween a b v = ((a ≤ℤ v) × (v ≤ℤ b)) ⊎ ((b ≤ℤ v) × (v ≤ℤ a))
 
--- a straight stroke lies between its ends on each axis, so it lies in the window where both ends do
+-- a straight stroke lies between its ends on each axis, so it lies in the window if both ends do
 abbrev pub StrokeInWindow : Type 0
 StrokeInWindow = (w : Window) (a b p : Point) → InWindow w a → InWindow w b → IsBetween a.x b.x p.x → IsBetween a.y b.y p.y → InWindow w p
 
--- a point of a straight stroke
+-- the point lies between the ends of a stroke on each axis, as each point of a straight stroke does
 abbrev pub IsOn : Stroke → Point → Type 0
 IsOn stroke p = IsBetween stroke.from.x stroke.to.x p.x × IsBetween stroke.from.y stroke.to.y p.y
 
--- over a safe memory, what holds of the state of every run after every number of steps
+-- P holds of every state of every run over a safe memory
 abbrev pub InEachRun : (Memory → Window → ℕ → ℕ → State → Type 0) → Type 0
 InEachRun P =
     (m : Memory) (w : Window) (words depth : ℕ) → Safe m w words depth

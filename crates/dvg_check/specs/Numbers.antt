@@ -6,7 +6,7 @@ use Rattle.dvg_check.specs.FirstFault.{shape_number, frame_number}
 use Rattle.dvg_check.specs.declared.verdict.Refusal.{Refusal}
 use Rattle.dvg_check.specs.declared.verdict.Refusal.TheVariants as refusal
 
--- why a ROM, a certificate and a frame are refused (profile)
+-- the number of the refusal of a ROM, a certificate and a frame (profile)
 abbrev pub refusal_number : Refusal → ℕ
 refusal_number (refusal.Image f) = image_number f
 refusal_number refusal.BudgetRange = 49

@@ -1,4 +1,4 @@
--- The rules on one item, number by number, said as what an item keeps. All of it is profile.
+-- The rules on one item, one by one: what an item must keep. All of it is profile.
 use Rattle.std.specs.Prelude.{◌≡◌, ◌≢◌, ℕ, ◌+◌, ◌≤◌, ◌<◌, List, Option, Some, None, Contains}
 use Rattle.dvg_words.specs.Values.{Window}
 use Rattle.dvg_words.specs.declared.instruction.Instr.TheVariants.{Halt, Rtsl, Jmpl}
@@ -24,22 +24,22 @@ pub use Rattle.dvg_check.specs.declared.fault.ShapeWhy.TheVariants as shape
 pub use Rattle.dvg_check.specs.declared.fault.FrameWhy.{FrameWhy}
 pub use Rattle.dvg_check.specs.declared.fault.FrameWhy.TheVariants as frame
 
--- what the last item keeps
+-- if there is no next item, P holds
 abbrev pub AtLast : Option ℕ → Type 0 → Type 0
 AtLast None P = P
 AtLast (Some next) P = Unit {0}
 
--- what exact counts keep
+-- in the mode Exact, the count is the claimed one
 abbrev pub AsClaimed : Mode → ℕ → ℕ → Type 0
 AsClaimed Bound n claimed = Unit {0}
 AsClaimed Exact n claimed = n ≡ claimed
 
--- a jump at this place leads to a higher one
+-- a jump at this word address leads to a higher one
 abbrev pub IsForward : ℕ → Instr → Type 0
 IsForward at (Jmpl to) = at < to
 IsForward at i = Unit {0}
 
--- what an item of an entry's shape keeps; whether it is there, and not odd, is asked below
+-- what an item of an entry's shape keeps by each rule; CellKeeps says that it is there and not odd
 abbrev pub ShapeKeeps : Mode → Window → Entry → Seen → ShapeWhy → Type 0
 ShapeKeeps mode w e v shape.Unmapped = Unit {0}
 ShapeKeeps mode w e v shape.Odd = Unit {0}
@@ -56,7 +56,7 @@ ShapeKeeps mode w e v shape.BoxTooSmall = LitInBox e.lit v.extent v.place
 ShapeKeeps mode w e v shape.WordsDiffer = AtLast (next_address Shape v.item) (AsClaimed mode v.after.words e.words)
 ShapeKeeps mode w e v shape.DepthDiffers = AtLast (next_address Shape v.item) (AsClaimed mode v.after.depth e.depth)
 
--- what an item of a frame keeps
+-- what an item of a frame keeps by each rule
 abbrev pub FrameKeeps : Window → ℕ → Seen → FrameWhy → Type 0
 FrameKeeps w budget v frame.Unmapped = Unit {0}
 FrameKeeps w budget v frame.Odd = Unit {0}
@@ -68,23 +68,25 @@ FrameKeeps w budget v frame.OffScreen = LitInWindow w v.extent v.place
 FrameKeeps w budget v frame.NoEntry = HasCallee (target Frame v.item.instr) v.callee
 FrameKeeps w budget v frame.Budget = v.after.words ≤ budget
 
--- what stands at a place must be there, must not be odd, and must keep the item's rules
+-- a missing cell breaks the rule `missing`, an odd LABS breaks the rule `odd`, and an item keeps a rule as `keeps` says
 abbrev pub CellKeeps : {Why : Type 0} → Why → Why → (Item → Why → Type 0) → ℕ → Cell → Why → Type 0
 CellKeeps missing odd keeps at Missing why = why ≢ missing
 CellKeeps missing odd keeps at Odd why = why ≢ odd
 CellKeeps missing odd keeps at (Holds format i) why = keeps (record { at = at; format = format; instr = i }) why
 
--- what stands at a place keeps, after these items
+-- the cell at a word address keeps a rule, after these items
 abbrev pub PlaceKeeps : {Why : Type 0} → Why → Why → (Seen → Why → Type 0) → Context → (ℕ → Option ℕ) → List Item → ℕ → Why → Type 0
 PlaceKeeps missing odd keeps c word earlier p why = CellKeeps missing odd (λ i. keeps (seen_at c earlier i)) p (cell_at word p) why
 
+-- the cell at a word address of an entry's shape keeps a rule, after these items
 abbrev pub ShapePlaceKeeps : Mode → Window → Rom → List Entry → Entry → List Item → ℕ → ShapeWhy → Type 0
 ShapePlaceKeeps mode w rom list e = PlaceKeeps shape.Unmapped shape.Odd (ShapeKeeps mode w e) (shape_context list e) (rom_word rom)
 
+-- the cell at a word address of a frame keeps a rule, after these items
 abbrev pub FramePlaceKeeps : Window → List ℕ → List Entry → ℕ → List Item → ℕ → FrameWhy → Type 0
 FramePlaceKeeps w words list budget = PlaceKeeps frame.Unmapped frame.Odd (FrameKeeps w budget) (frame_context list) (frame_word words)
 
--- every place that items lead to keeps every rule
+-- every word address that items lead to keeps every rule
 abbrev pub AllKeep : {Why : Type 0} → Kind → (ℕ → Option ℕ) → ℕ → (List Item → ℕ → Why → Type 0) → Type 0
 AllKeep {Why} kind word first keeps = (earlier : List Item) (p : ℕ) → LeadsTo kind word first earlier p → (why : Why) → keeps earlier p why
 
@@ -92,11 +94,11 @@ AllKeep {Why} kind word first keeps = (earlier : List Item) (p : ℕ) → LeadsT
 abbrev pub GoodShape : Mode → Window → Rom → List Entry → Entry → Type 0
 GoodShape mode w rom list e = AllKeep Shape (rom_word rom) e.addr (ShapePlaceKeeps mode w rom list e)
 
--- all shapes of a certificate do
+-- all shapes of a certificate keep all rules
 abbrev pub Good : Mode → Window → Rom → List Entry → Type 0
 Good mode w rom list = (e : Entry) → Contains list e → GoodShape mode w rom list e
 
--- a frame keeps all rules, and these are its count and its depth at its HALT
+-- a frame keeps all rules, and `count` and `depth` are its words and its depth at its HALT
 pub record GoodFrame (w : Window) (words : List ℕ) (list : List Entry) (budget count depth : ℕ) : Type 0 where
   pub keeps : AllKeep Frame (frame_word words) 0 (FramePlaceKeeps w words list budget)
   pub items : List Item

@@ -15,23 +15,24 @@ IsMapped m p = InFrame m.frame p ⊎ InRom m.rom.map p
 abbrev pub Ends : (Point → Type 0) → Stroke → Type 0
 Ends P stroke = P stroke.from × P stroke.to
 
--- what holds of a state that a run has reached by so many steps
+-- a state that a run reaches by this many steps is safe
 pub record IsSafeState (m : Memory) (w : Window) (words depth steps : ℕ) (s : State) : Type 0 where
   pub within : steps ≤ words
-  -- fetches at most so many words, and words of the frame and the ROM alone
+  -- at most `words` words were fetched, all of them words of the frame or of the ROM
   pub few : length s.fetched ≤ words
   pub mapped : AllByRecursion (IsMapped m) s.fetched
-  -- has stored at most so many return places at once
+  -- at most `depth` return places were stored at once
   pub stored : s.max_stack ≤ depth
-  -- has lit strokes in the window alone
+  -- all lit strokes are in the window
   pub lit : AllByRecursion (Ends (InWindow w)) s.strokes
 
+-- a running or halted state is safe, and a fault is not
 abbrev pub IsSafeStatus : Memory → Window → ℕ → ℕ → ℕ → Status → Type 0
 IsSafeStatus m w words depth steps (Running s) = IsSafeState m w words depth steps s
 IsSafeStatus m w words depth steps (Halted s) = IsSafeState m w words depth steps s
 IsSafeStatus m w words depth steps (Fault s) = ⊥
 
--- a run from this place and this scale reaches HALT within so many steps
+-- a run from this place and this scale reaches HALT within `words` steps
 abbrev pub HaltsWithin : Memory → ℕ → Point → ℕ → Type 0
 HaltsWithin m words place scale =
     (steps : ℕ) × (h : State) × (steps ≤ words) × Reached m steps (Running (start place scale)) (Halted h)
@@ -41,14 +42,14 @@ abbrev pub StaysSafe : Memory → Window → ℕ → ℕ → Point → ℕ → T
 StaysSafe m w words depth place scale =
     (steps : ℕ) (s : Status) → Reached m steps (Running (start place scale)) s → IsSafeStatus m w words depth steps s
 
--- From the frame's first word, at any beam place and any global scale, every run reaches HALT within so many steps, and
+-- From the frame's first word, at any beam place and any global scale, every run reaches HALT within `words` steps, and
 -- every state on the way is safe.
 pub record Safe (m : Memory) (w : Window) (words depth : ℕ) : Type 0 where
   pub four : depth ≤ 4
   pub halts : (place : Point) (scale : ℕ) → scale ≤ 15 → HaltsWithin m words place scale
   pub each : (place : Point) (scale : ℕ) → scale ≤ 15 → StaysSafe m w words depth place scale
 
--- at each halt so many words were fetched, and so many return places were stored at once
+-- at each halt exactly `words` words were fetched, and the most return places stored at once were `depth`
 abbrev pub CountsAtHalt : Memory → ℕ → ℕ → Type 0
 CountsAtHalt m words depth =
     (place : Point) (scale steps : ℕ) (h : State) → scale ≤ 15 → Reached m steps (Running (start place scale)) (Halted h)

@@ -1,6 +1,6 @@
--- The verdict on the bytes of a ROM, of a certificate and of a frame, under a budget of words: the first that applies of 2, 49,
--- the certificate's refusal, 1, the first fault of the shapes, that of the frame, accepted; out of memory for the index may stand
--- in the place of each that comes after 1. All of it is profile.
+-- The verdict on the bytes of a ROM, a certificate and a frame, under a budget of words. It is the first that applies of: 2, 49,
+-- the certificate's refusal, 1, the first fault of the shapes, the first fault of the frame, accepted. In place of those after 1
+-- it may be 50, that there was no memory for the index. All of it is profile.
 use Rattle.std.specs.Prelude.{◌≡◌, ◌≢◌, ℕ, ◌≤◌, List, length, Result, Ok, Err}
 use Rattle.dvg_words.specs.Values.{Window}
 use Rattle.dvg_words.specs.Memory.{Rom, words_of, rom_of, IsRomLength, IsFrameLength}
@@ -43,7 +43,7 @@ PartsVerdict mode w rom list words budget (Err (refusal.Frame f)) = Good mode w 
 PartsVerdict mode w rom list words budget (Err refusal.IndexMemory) = Unit {0}
 PartsVerdict mode w rom list words budget (Err r) = ⊥
 
--- the verdict on a ROM's bytes and a frame by a certificate: 1 where the certificate's map wants another length
+-- the verdict on a ROM's bytes and a frame by a certificate: 1 if the ROM has not the length of the certificate's map
 abbrev pub RomVerdict : Mode → Window → List ℕ → Certificate → List ℕ → ℕ → Result Yes Refusal → Type 0
 RomVerdict mode w rom c words budget (Err (refusal.Image RomLength)) = IsRomLength c.map (length rom) → ⊥
 RomVerdict mode w rom c words budget answer =
@@ -64,12 +64,12 @@ Verdict mode w rom cert frame budget (Err refusal.BudgetRange) = RangeRefusal fr
 Verdict mode w rom cert frame budget (Err (refusal.Cert f)) = InRange frame budget × ReadAnswer cert (Err f)
 Verdict mode w rom cert frame budget answer = CertVerdict mode w rom cert frame budget answer
 
--- every run is safe from the frame's first word, over the ROM at the map of the certificate that is spelled
+-- every run from the frame's first word is safe, with the ROM at the map of the certificate that `cert` spells
 abbrev pub SafeOver : Window → List ℕ → List ℕ → List ℕ → ℕ → ℕ → Type 0
 SafeOver w rom cert frame words depth =
     (c : Certificate) × Spells c cert × Safe (record { frame = words_of frame; rom = rom_of c.map rom }) w words depth
 
--- every run has just these counts at its halt, over the same
+-- every run over the same frame and ROM has just these counts at its halt
 abbrev pub CountsOver : List ℕ → List ℕ → List ℕ → ℕ → ℕ → Type 0
 CountsOver rom cert frame words depth =
     (c : Certificate) × Spells c cert × CountsAtHalt (record { frame = words_of frame; rom = rom_of c.map rom }) words depth

@@ -28,7 +28,7 @@ pub use Rattle.dvg_spelling.specs.declared.outcome.FrameOutcome.TheVariants as o
 pub use Rattle.dvg_spelling.specs.Outcomes.{frame_outcome_of, worse}
 
 -- these bytes were read of what a reader held: the first of them up to one past the limit, and all of them if they are a frame's
--- length; of a reader that does not tell its bytes nothing is known
+-- length; this says nothing if the bytes that the reader held are not known
 pub record IsReadFrom (reader : Option (List ℕ)) (read : List ℕ) : Type 0 where
   pub first : IfSome reader (λ held. read ≡ take MOST_FRAME_READ held)
   pub whole : IsFrameLength (length read) → IfSome reader (λ held. read ≡ held)
@@ -123,7 +123,8 @@ IsFrameOutcomeOf answer account end =
 -- the line of an answer and what the detail asks for behind it were written, by one write if they fit one, and nothing else;
 -- `writes` and `writes_after` count the writes that took their whole piece
 pub record WritesAnswer
-    (detail : Detail) (name : List ℕ) (answer : FrameAnswer) (old new : Option (List ℕ)) (writes writes_after : ℕ) (end : FrameOutcome) : Type 0 where
+    (detail : Detail) (name : List ℕ) (answer : FrameAnswer) (old new : Option (List ℕ)) (writes writes_after : ℕ)
+    (end : FrameOutcome) : Type 0 where
   pub account : List ℕ
   pub behind : IsBehind detail account
   pub written : Appends old new (frame_line name answer ++ account)

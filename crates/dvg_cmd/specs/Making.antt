@@ -15,21 +15,23 @@ use Rattle.dvg_spelling.specs.declared.fault.MakeRunFault.TheVariants as fault
 
 -- ---- which device an answer blames
 
+-- the answer blames the ROM's reader
 abbrev pub blames_maker_rom : {A : Type 0} → Result A MakeRunFault → Bool
 blames_maker_rom (Err fault.ReadRom) = true
 blames_maker_rom answer = false
 
+-- the answer blames the writer
 abbrev pub blames_maker_writer : {A : Type 0} → Result A MakeRunFault → Bool
 blames_maker_writer (Err fault.Write) = true
 blames_maker_writer answer = false
 
 -- ---- what is answered
 
--- all bytes that a reader held; a reader that does not tell its bytes held some that are not known
+-- these are all bytes that a reader held; any bytes, if they are not known
 abbrev pub Held : Option (List ℕ) → List ℕ → Type 0
 Held reader bytes = IfSome reader (λ held. bytes ≡ held)
 
--- this list is made for all bytes that a reader held, of a ROM at this map
+-- the list is made for a ROM at this map, with all bytes that its reader held
 pub record Makes (rom : Option (List ℕ)) (map : MemoryMap) (roots : List (ℕ × Key)) (list : List Entry) : Type 0 where
   pub rom_bytes : List ℕ
   pub held : Held rom rom_bytes
@@ -48,7 +50,7 @@ pub record WritesMadePrefix (IsMade : List Entry → Type 0) (map : MemoryMap) (
   pub made : IsMade list
   pub written : AppendsPrefix old new (text_of map list)
 
--- what a fault says of all bytes that a reader held: they have a wrong length, or the maker refuses them, with a cause
+-- what a fault says of all bytes that the ROM's reader held: their length is wrong, or the maker refuses them, with a cause
 abbrev pub MakeFaultMeans : Option (List ℕ) → MemoryMap → List (ℕ × Key) → MakeRunFault → Type 0
 MakeFaultMeans rom map roots fault.RomLength = (bytes : List ℕ) × Held rom bytes × (IsRomLength map (length bytes) → ⊥)
 MakeFaultMeans rom map roots (fault.Make f) = (bytes : List ℕ) × Held rom bytes × IsRomLength map (length bytes)

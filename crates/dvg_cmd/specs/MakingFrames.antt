@@ -21,21 +21,24 @@ use Rattle.dvg_spelling.specs.declared.fault.FramesRunFault.TheVariants as fault
 
 -- ---- which device an answer blames
 
+-- the answer blames the ROM's reader
 abbrev pub blames_frames_rom : {A : Type 0} → Result A FramesRunFault → Bool
 blames_frames_rom (Err (fault.Plain maker.ReadRom)) = true
 blames_frames_rom answer = false
 
+-- the answer blames a frame's reader
 abbrev pub blames_a_frame : {A : Type 0} → Result A FramesRunFault → Bool
 blames_a_frame (Err fault.ReadFrame) = true
 blames_a_frame answer = false
 
+-- the answer blames the writer
 abbrev pub blames_frames_writer : {A : Type 0} → Result A FramesRunFault → Bool
 blames_frames_writer (Err (fault.Plain maker.Write)) = true
 blames_frames_writer answer = false
 
 -- ---- several readers
 
--- the count of one of them is that after a call that failed, and the others' are as they were
+-- one reader counts one more failed call, and the counts of the others stay
 pub record OneFailed (old new : List ℕ) : Type 0 where
   pub before : List ℕ
   pub count : ℕ
@@ -43,18 +46,18 @@ pub record OneFailed (old new : List ℕ) : Type 0 where
   pub old_is : old ≡ before ++ count ∷ after
   pub new_is : new ≡ before ++ count_after true count ∷ after
 
--- one of them failed, or none
+-- one of the readers failed, or none did
 abbrev pub FailedAfter : Bool → List ℕ → List ℕ → Type 0
 FailedAfter true old new = OneFailed old new
 FailedAfter false old new = new ≡ old
 
--- each was read to its end, or to one byte past a frame's limit, and no further
+-- each reader was read to its end, or to one byte past a frame's limit, and no further
 abbrev pub EachRead : List (Option (List ℕ)) → List (Option (List ℕ)) → Type 0
 EachRead [] [] = Unit {0}
 EachRead (old ∷ olds) (new ∷ news) = IsReadTo MOST_FRAME_READ old new × EachRead olds news
 EachRead olds news = ⊥
 
--- each held these bytes, in this order
+-- these are all bytes that each reader held, in the order of the readers
 abbrev pub EachHeld : List (Option (List ℕ)) → List (List ℕ) → Type 0
 EachHeld [] [] = Unit {0}
 EachHeld (reader ∷ readers) (bytes ∷ rest) = Held reader bytes × EachHeld readers rest
@@ -62,18 +65,18 @@ EachHeld readers rest = ⊥
 
 -- ---- frames
 
--- each has a frame's length
+-- the bytes of every frame have a frame's length
 abbrev pub AreFrames : List (List ℕ) → Type 0
 AreFrames [] = Unit {0}
 AreFrames (bytes ∷ rest) = IsFrameLength (length bytes) × AreFrames rest
 
--- the first without a frame's length is at this index, from 0
+-- the first frame of a wrong length is at this index, from 0
 abbrev pub FirstWrong : List (List ℕ) → ℕ → Type 0
 FirstWrong [] n = ⊥
 FirstWrong (bytes ∷ rest) zero = IsFrameLength (length bytes) → ⊥
 FirstWrong (bytes ∷ rest) (suc n) = IsFrameLength (length bytes) × FirstWrong rest n
 
--- all bytes that readers held, of a ROM at this map and of frames
+-- all bytes that the readers held, of a ROM at this map and of frames, each of its right length
 pub record Inputs (rom : Option (List ℕ)) (map : MemoryMap) (frames : List (Option (List ℕ))) : Type 0 where
   pub rom_bytes : List ℕ
   pub frame_bytes : List (List ℕ)
@@ -84,24 +87,24 @@ pub record Inputs (rom : Option (List ℕ)) (map : MemoryMap) (frames : List (Op
 
 -- ---- what is answered
 
--- this list is made for all bytes that readers held
+-- the list is made for all bytes that the readers held
 abbrev pub MakesForFrames : Option (List ℕ) → MemoryMap → List (ℕ × Key) → List (Option (List ℕ)) → List Entry → Type 0
 MakesForFrames rom map roots frames list =
     (all : Inputs rom map frames) × FramesMade (rom_of map all.rom_bytes) roots (of_each words_of all.frame_bytes) list
 
--- the maker refuses them, with a cause
+-- the maker refuses all bytes that the readers held, with a cause
 abbrev pub RefusesInputs : Option (List ℕ) → MemoryMap → List (ℕ × Key) → List (Option (List ℕ)) → FramesFault → Type 0
 RefusesInputs rom map roots frames refusal =
     (all : Inputs rom map frames) × FramesRefuse (rom_of map all.rom_bytes) roots (of_each words_of all.frame_bytes) refusal
     × HasCause (rom_of map all.rom_bytes) roots (of_each words_of all.frame_bytes) refusal
 
--- a refusal that names no frame
+-- the maker refuses them with a refusal that names no frame; 63 says nothing
 abbrev pub RefusesRoots : Option (List ℕ) → MemoryMap → List (ℕ × Key) → List (Option (List ℕ)) → MakeFault → Type 0
 RefusesRoots rom map roots frames making.Memory = Unit {0}
 RefusesRoots rom map roots frames f =
     (why : EntryFault) × (make_fault_of why ≡ f) × RefusesInputs rom map roots frames (record { call = None; why = why })
 
--- a ROM of its map's length, and the first frame of a wrong length
+-- the ROM has its map's length, and the first frame of a wrong length is at this index, from 0
 pub record WrongFrame (rom : Option (List ℕ)) (map : MemoryMap) (frames : List (Option (List ℕ))) (frame : ℕ) : Type 0 where
   pub rom_bytes : List ℕ
   pub frame_bytes : List (List ℕ)
@@ -110,7 +113,7 @@ pub record WrongFrame (rom : Option (List ℕ)) (map : MemoryMap) (frames : List
   pub rom_length : IsRomLength map (length rom_bytes)
   pub wrong : FirstWrong frame_bytes frame
 
--- what a fault says of all bytes that readers held: the first that applies of 1, 2, and the maker's refusal
+-- what a fault says of all bytes that the readers held: the first that applies of 1, 2, and the maker's refusal
 abbrev pub FramesFaultMeans : Option (List ℕ) → MemoryMap → List (ℕ × Key) → List (Option (List ℕ)) → FramesRunFault → Type 0
 FramesFaultMeans rom map roots frames (fault.Plain maker.RomLength) =
     (bytes : List ℕ) × Held rom bytes × (IsRomLength map (length bytes) → ⊥)

@@ -79,7 +79,7 @@ IsReadFor verdict old new = IsReadTo MOST_TEXT_READ old new
 
 -- ---- what is written
 
--- the verdict on all bytes that three readers held, in a mode and for a window; a reader that does not tell its bytes held some that are not known
+-- the verdict on all bytes that three readers held, in a mode and for a window; if the bytes of a reader are not known, some bytes
 pub record Judges (mode : Mode) (w : Window) (rom cert frame : Option (List ℕ)) (budget : ℕ) (verdict : Result Yes Refusal) : Type 0 where
   pub rom_bytes : List ℕ
   pub cert_bytes : List ℕ
@@ -89,11 +89,11 @@ pub record Judges (mode : Mode) (w : Window) (rom cert frame : Option (List ℕ)
   pub frame_held : IfSome frame (λ held. frame_bytes ≡ held)
   pub is : Verdict mode w rom_bytes cert_bytes frame_bytes budget verdict
 
--- every run over all bytes that three readers told is safe with these counts
+-- every run over all bytes that three readers held is safe with these counts, if all of them are known
 abbrev pub SafeRead : Window → Option (List ℕ) → Option (List ℕ) → Option (List ℕ) → Yes → Type 0
 SafeRead w rom cert frame y = IfSome rom (λ r. IfSome cert (λ c. IfSome frame (λ f. SafeOver w r c f y.words y.depth)))
 
--- every run over all bytes that three readers told has just these counts at its halt
+-- every run over all bytes that three readers held has just these counts at its halt, if all of them are known
 abbrev pub CountsRead : Option (List ℕ) → Option (List ℕ) → Option (List ℕ) → Yes → Type 0
 CountsRead rom cert frame y = IfSome rom (λ r. IfSome cert (λ c. IfSome frame (λ f. CountsOver r c f y.words y.depth)))
 
@@ -104,7 +104,8 @@ IsOutcomeOf verdict account outcome = (outcome ≡ outcome_of verdict) ⊎ ((out
 -- the report of a verdict and what the detail asks for behind it were written, by one write if they fit one, and nothing else;
 -- `writes` and `writes_after` count the writes that took their whole piece
 pub record WritesReport
-    (detail : Detail) (verdict : Result Yes Refusal) (old new : Option (List ℕ)) (writes writes_after : ℕ) (outcome : Outcome) : Type 0 where
+    (detail : Detail) (verdict : Result Yes Refusal) (old new : Option (List ℕ)) (writes writes_after : ℕ)
+    (outcome : Outcome) : Type 0 where
   pub account : List ℕ
   pub behind : IsBehind detail account
   pub written : Appends old new (report_text verdict ++ account)

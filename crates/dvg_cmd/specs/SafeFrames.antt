@@ -13,13 +13,13 @@ use Rattle.dvg_cmd.specs.Start.{started}
 abbrev pub accepted_line : List ℕ → Yes → List ℕ
 accepted_line name y = name ++ (codes ": " ++ accepted_text y ++ codes "\n")
 
--- every run over a ROM and the bytes that a frame's reader told, with the jump to a start if one is given, is safe with these counts;
--- of a reader that does not tell its bytes this says nothing
+-- every run over a ROM and the bytes that a frame's reader held, with the jump to a start if one is given, is safe with these counts;
+-- this says nothing if the bytes are not known
 abbrev pub SafeFrame : Rom → Window → Option ℕ → Option (List ℕ) → Yes → Type 0
 SafeFrame rom w start frame y =
     IfSome frame (λ held. Safe (record { frame = words_of (started start held); rom = rom }) w y.words y.depth)
 
--- every run over the same has just these counts at its halt; of a reader that does not tell its bytes this says nothing
+-- every run over the same ROM and bytes has just these counts at its halt; this says nothing if the bytes are not known
 abbrev pub CountsFrame : Rom → Option ℕ → Option (List ℕ) → Yes → Type 0
 CountsFrame rom start frame y =
     IfSome frame (λ held. CountsAtHalt (record { frame = words_of (started start held); rom = rom }) y.words y.depth)

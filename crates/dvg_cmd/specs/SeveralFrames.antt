@@ -132,10 +132,12 @@ abbrev pub shapes_of : Window → List ℕ → Certificate → Shapes
 shapes_of w rom c = record { rom = rom_of c.map rom; list = c.entries; window = w; mode = Bound }
 
 -- the lines of frames that are judged over judged shapes, with this count of shapes
-abbrev pub ReportsOver : Shapes → ℕ → ℕ → Detail → Option ℕ → List OpenedFrame → Option (List ℕ) → Option (List ℕ) → ℕ → ℕ → FrameOutcome → Type 0
+abbrev pub ReportsOver : Shapes → ℕ → ℕ → Detail → Option ℕ → List OpenedFrame → Option (List ℕ) → Option (List ℕ)
+    → ℕ → ℕ → FrameOutcome → Type 0
 ReportsOver shapes count budget =
     ReportsFrames (λ bytes. VerdictOver shapes count bytes budget) shapes.rom shapes.window (shapes.mode ≡ Exact)
 
+-- a prefix of these lines was written, and nothing else
 abbrev pub ReportsOverPrefix : Shapes → ℕ → ℕ → Detail → Option ℕ → List OpenedFrame → Option (List ℕ) → Option (List ℕ) → Type 0
 ReportsOverPrefix shapes count budget =
     ReportsFramesPrefix (λ bytes. VerdictOver shapes count bytes budget) shapes.rom shapes.window (shapes.mode ≡ Exact)

@@ -1,6 +1,6 @@
--- Limits within which the code's numbers stay: no rule stands here. An item moves the place by 2^41 at most, adds the words of an
--- entry and two more at most, and stands one word further on at least. So no sum over a shape or a frame leaves 64 bits, nor a sum
--- of words 32.
+-- Limits for the code's numbers: no rule stands here. An item moves the place by at most 2^41, adds at most two words and an
+-- entry's words, and stands at least one word past the item before. So no sum over a shape or a frame leaves 64 bits, and no sum
+-- of words leaves 32.
 use Rattle.std.specs.Prelude.{ℕ, ◌+◌, ◌*◌, ◌^◌, ◌<◌, ◌≤◌, List, IfSome}
 use Rattle.dvg_words.specs.declared.map.TheConstants.{ADDRESS_END}
 use Rattle.dvg_words.specs.Decoding.{InstrFits}
@@ -30,37 +30,41 @@ pub record IsClaim (e : Entry) : Type 0 where
   pub scale : IsKey e.scale
   pub addr : e.addr < ADDRESS_END
 
--- the list is a certificate's, for some ROM
+-- the list is a certificate's, for a ROM at some map
 abbrev pub IsSomeCertificate : List Entry → Type 0
 IsSomeCertificate list = (map : MemoryMap) × IsCertificate map list
 
 -- ---- places
 
--- so many items move the place no further than this
+-- the point is no further from 0 than n items can move it
 abbrev pub IsNear : ℕ → Point → Type 0
 IsNear n p = IsWithin (2 ^ 41 * n) p
 
+-- the same for a place; a lost one has no numbers
 abbrev pub IsNearPlace : ℕ → End → Type 0
 IsNearPlace n (Rel x y) = IsNear n (record { x = x; y = y })
 IsNearPlace n (Abs x y) = IsNear n (record { x = x; y = y })
 IsNearPlace n Lost = Unit {0}
 
+-- the same for what one item does to the place
 abbrev pub IsNearEffect : Effect → Type 0
 IsNearEffect (Sets p) = IsNear 1 p
 IsNearEffect Loses = Unit {0}
 IsNearEffect (Moves d) = IsNear 1 d
 
+-- the same for the corners of what one item lights
 abbrev pub IsNearExtent : LitExtent → Type 0
 IsNearExtent Nothing = Unit {0}
 IsNearExtent (Between a b) = IsNear 1 a × IsNear 1 b
 IsNearExtent Anywhere = Unit {0}
 
--- so many items add no more words than this
+-- the words are no more than n items can add
 abbrev pub IsFewWords : ℕ → ℕ → Type 0
 IsFewWords n words = words ≤ (MOST_WORDS + 2) * n
 
--- ---- where a walk stands, and what it sees there
+-- ---- cursors, and what the rules see there
 
+-- the numbers of a cursor are within the limits
 pub record IsSoundCursor (c : Cursor) : Type 0 where
   pub at : c.at ≤ ADDRESS_END + 2
   pub place : IsNearPlace c.at c.known.place
@@ -68,6 +72,7 @@ pub record IsSoundCursor (c : Cursor) : Type 0 where
   pub words : IsFewWords c.at c.known.words
   pub depth : c.known.depth ≤ 4
 
+-- the numbers of what the rules see are within the limits
 pub record IsSoundSeen (v : Seen) : Type 0 where
   pub at : v.item.at < ADDRESS_END
   pub fields : InstrFits v.item.instr
@@ -79,6 +84,7 @@ pub record IsSoundSeen (v : Seen) : Type 0 where
   pub words_after : IsFewWords (v.item.at + 1) v.after.words
   pub depth_after : v.after.depth ≤ 4
 
+-- if the step leads on, the numbers of its cursor are within the limits
 abbrev pub IsSoundStep : Step → Type 0
 IsSoundStep (Onward c) = IsSoundCursor c
 IsSoundStep (Last known) = Unit {0}

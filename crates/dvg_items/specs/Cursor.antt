@@ -8,15 +8,15 @@ pub use Rattle.dvg_items.specs.declared.cursor.Cursor.{Cursor}
 pub use Rattle.dvg_items.specs.declared.cursor.Step.{Step}
 pub use Rattle.dvg_items.specs.declared.cursor.Step.TheVariants.{Onward, Last}
 
--- before the first item, which stands at an address
+-- the cursor at the first item, which stands at this word address
 abbrev pub first_cursor : Kind → ℕ → Key → Cursor
 first_cursor kind first scale = record { at = first; known = start kind scale }
 
--- to the next item's place, if there is one
+-- the step to the next item, if there is one
 abbrev pub step_to : Option ℕ → Known → Step
 step_to None known = Last known
 step_to (Some at) known = Onward (record { at = at; known = known })
 
--- past an item as the rules see it
+-- the step past an item, from what the rules see of it
 abbrev pub step_past : Kind → Seen → Step
 step_past kind v = step_to (next_address kind v.item) v.after

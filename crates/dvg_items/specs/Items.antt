@@ -29,11 +29,11 @@ LeadsTo kind word first [] p = p ≡ first
 LeadsTo kind word first (i ∷ earlier) p =
     LeadsTo kind word first earlier i.at × (cell_at word i.at ≡ Holds i.format i.instr) × (next_address kind i ≡ Some p)
 
--- this holds at each word address that items lead to, with the items before it
+-- P holds at each word address that items lead to, with the items before it
 abbrev pub AtEveryPlace : Kind → (ℕ → Option ℕ) → ℕ → (List Item → ℕ → Type 0) → Type 0
 AtEveryPlace kind word first P = (earlier : List Item) (p : ℕ) → LeadsTo kind word first earlier p → P earlier p
 
--- this holds at the address of each of these items, with the items before it
+-- P holds at the address of each of these items, with the items before it
 abbrev pub AtEachOf : (List Item → ℕ → Type 0) → List Item → Type 0
 AtEachOf P [] = Unit {0}
 AtEachOf P (i ∷ earlier) = AtEachOf P earlier × P earlier i.at

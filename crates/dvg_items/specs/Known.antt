@@ -24,17 +24,17 @@ pub record Context : Type 0 where
   pub list : List Entry
   pub scale : Key
 
--- a shape starts at its key
+-- the context of an entry's shape, which starts at the scale of the entry's key
 abbrev pub shape_context : List Entry → Entry → Context
 shape_context list e = record { kind = Shape; list = list; scale = e.key }
 
--- a frame starts at unknown scale
+-- the context of a frame, which starts at unknown scale
 abbrev pub frame_context : List Entry → Context
 frame_context list = record { kind = Frame; list = list; scale = Any }
 
 -- ---- the entry that an item calls
 
--- where a call leads, or a shape's tail jump
+-- the word address to which a call or a shape's tail jump leads
 abbrev pub target : Kind → Instr → Option ℕ
 target kind (Draws d) = None
 target kind (Labs x y gscale) = None
@@ -44,13 +44,13 @@ target kind Rtsl = None
 target Shape (Jmpl to) = Some to
 target Frame (Jmpl to) = None
 
--- the entry named by a target and a known scale
+-- the entry that a target and a known scale name
 abbrev pub callee_at : List Entry → Option ℕ → Key → Option Entry
 callee_at list target scale = option_and_then (λ to. named_entry list to scale) target
 
 -- ---- what an item does to scale, place, words and depth
 
--- a LABS sets its number, and a call or tail jump what its entry leaves; `Any` is unknown
+-- the scale that an instruction sets: a LABS its number, a call or tail jump the one that its entry leaves; `Any` is unknown
 abbrev pub scale_set : Instr → Option Entry → Option Key
 scale_set (Labs x y gscale) named = Some (At gscale)
 scale_set (Jsrl to) (Some e) = Some e.scale
@@ -62,11 +62,13 @@ abbrev pub draw_effect : DrawFields → Key → Effect
 draw_effect d (At gscale) = Moves (displacement d gscale)
 draw_effect d Any = Loses
 
+-- what a called shape does to the place, from the entry's end
 abbrev pub stop_effect : End → Effect
 stop_effect (Rel x y) = Moves (record { x = x; y = y })
 stop_effect (Abs x y) = Sets (record { x = x; y = y })
 stop_effect Lost = Loses
 
+-- what a call or tail jump does to the place; nothing without an entry
 abbrev pub callee_effect : Option Entry → Effect
 callee_effect None = Moves origin
 callee_effect (Some e) = stop_effect e.stop
@@ -80,7 +82,7 @@ effect_of Rtsl scale named = Moves origin
 effect_of (Jsrl to) scale named = callee_effect named
 effect_of (Jmpl to) scale named = callee_effect named
 
--- a place is an `End` as of an entry: relative to the beam at the call, absolute, or lost
+-- a place, moved; a place is an `End`: relative to the beam at the call, absolute, or lost
 abbrev pub place_moved_by : End → Point → End
 place_moved_by (Rel x y) d = Rel (x +ℤ d.x) (y +ℤ d.y)
 place_moved_by (Abs x y) d = Abs (x +ℤ d.x) (y +ℤ d.y)
@@ -92,6 +94,7 @@ place_past (Sets p) place = Abs p.x p.y
 place_past Loses place = Lost
 place_past (Moves d) place = place_moved_by place d
 
+-- the words that the called entry claims; 0 without an entry
 abbrev pub callee_words : Option Entry → ℕ
 callee_words None = 0
 callee_words (Some e) = e.words
@@ -105,16 +108,16 @@ depth_under i (Some e) = 0
 
 -- ---- what is known
 
--- a shape starts where it is called, and a frame anywhere
+-- the place at the start: a shape starts where it is called, and a frame anywhere
 abbrev pub first_place : Kind → End
 first_place Shape = Rel (pos 0) (pos 0)
 first_place Frame = Lost
 
--- before the first item
+-- what is known before the first item
 abbrev pub start : Kind → Key → Known
 start kind scale = record { place = first_place kind; scale = scale; words = 0; depth = 0 }
 
--- past an item that calls this entry: words are added, and the depth is the greatest
+-- what is known past an item that calls this entry: words are added, and the greater depth stays
 abbrev pub known_past : Item → Option Entry → Known → Known
 known_past i named before =
     record {
@@ -124,21 +127,25 @@ known_past i named before =
       depth = max (depth_under i.instr named) before.depth;
     }
 
--- before the item after these, of which the latest comes first
+-- what is known after these items, the latest first
 abbrev pub known_before : Context → List Item → Known
 known_before c [] = start c.kind c.scale
 known_before c (i ∷ earlier) =
     known_past i (callee_at c.list (target c.kind i.instr) (known_before c earlier).scale) (known_before c earlier)
 
+-- the known place after these items
 abbrev pub place_before : Context → List Item → End
 place_before c earlier = (known_before c earlier).place
 
+-- the known scale after these items
 abbrev pub scale_before : Context → List Item → Key
 scale_before c earlier = (known_before c earlier).scale
 
+-- the words of these items
 abbrev pub words_before : Context → List Item → ℕ
 words_before c earlier = (known_before c earlier).words
 
+-- the depth that these items need
 abbrev pub depth_before : Context → List Item → ℕ
 depth_before c earlier = (known_before c earlier).depth
 

@@ -27,10 +27,12 @@ abbrev pub box_extent : LitBox → LitExtent
 box_extent Empty = Nothing
 box_extent (Span x_min x_max y_min y_max) = Between (record { x = x_min; y = y_min }) (record { x = x_max; y = y_max })
 
+-- what a call or tail jump lights; nothing without an entry
 abbrev pub callee_extent : Option Entry → LitExtent
 callee_extent None = Nothing
 callee_extent (Some e) = box_extent e.lit
 
+-- what an instruction lights, with the entry that it calls
 abbrev pub extent_of : Instr → Key → Option Entry → LitExtent
 extent_of (Draws d) scale named = draw_extent d.bright d scale
 extent_of (Labs x y gscale) scale named = Nothing
@@ -41,19 +43,19 @@ extent_of (Jmpl to) scale named = callee_extent named
 
 -- ---- what a place and a box allow
 
--- what is lit is lit at a known place
+-- if something is lit, the place is known
 abbrev pub PlaceKnown : LitExtent → End → Type 0
 PlaceKnown Nothing place = Unit {0}
 PlaceKnown (Between a b) place = place ≢ Lost
 PlaceKnown Anywhere place = place ≢ Lost
 
--- what is lit is lit at a known scale
+-- if something is lit, the scale is known
 abbrev pub ScaleKnown : LitExtent → Type 0
 ScaleKnown Nothing = Unit {0}
 ScaleKnown (Between a b) = Unit {0}
 ScaleKnown Anywhere = ⊥
 
--- both corners of what is lit, from a place
+-- both corners of what is lit from a place
 abbrev pub corners : LitExtent → Point → List Point
 corners Nothing p = []
 corners (Between a b) p = shift p a ∷ shift p b ∷ []
@@ -71,13 +73,14 @@ relative_corners lit (Rel x y) = corners lit (record { x = x; y = y })
 relative_corners lit (Abs x y) = []
 relative_corners lit Lost = []
 
+-- the point lies between these coordinates, ends included
 pub record InSpan (x_min x_max y_min y_max : ℤ) (p : Point) : Type 0 where
   pub left : x_min ≤ℤ p.x
   pub right : p.x ≤ℤ x_max
   pub bottom : y_min ≤ℤ p.y
   pub top : p.y ≤ℤ y_max
 
--- nothing is in the empty box
+-- the point is in the box; no point is in the empty box
 abbrev pub InBox : LitBox → Point → Type 0
 InBox Empty p = ⊥
 InBox (Span x_min x_max y_min y_max) p = InSpan x_min x_max y_min y_max p
@@ -90,7 +93,7 @@ LitInWindow w lit place = AllByRecursion (InWindow w) (absolute_corners lit plac
 abbrev pub LitInBox : LitBox → LitExtent → End → Type 0
 LitInBox box lit place = AllByRecursion (InBox box) (relative_corners lit place)
 
--- the one box is part of the other
+-- the first box lies in the second
 abbrev pub IsInside : LitBox → LitBox → Type 0
 IsInside Empty outer = Unit {0}
 IsInside (Span x_min x_max y_min y_max) Empty = ⊥

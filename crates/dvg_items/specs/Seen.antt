@@ -27,7 +27,7 @@ seen_at c earlier i = seen_with (callee c earlier i.instr) (known_before c earli
 abbrev pub extent : Context → List Item → Instr → LitExtent
 extent c earlier i = extent_of i (scale_before c earlier) (callee c earlier i)
 
--- where there is a target, it has an entry
+-- if there is a target, it has an entry
 abbrev pub HasCallee : Option ℕ → Option Entry → Type 0
 HasCallee None named = Unit {0}
 HasCallee (Some to) None = ⊥

@@ -31,7 +31,7 @@ pub fn is_in_box(lit: &LitBox, p: &Point) -> bool
     }
 }
 
-/// The corners of a box, the lower left one and the upper right one; `None` where it is empty.
+/// The corners of a box, the lower left one and the upper right one; `None` if it is empty.
 #[inline(always)]
 pub fn box_corners(lit: &LitBox) -> Option<(Point, Point)>
     ensures some { IfSome result (λ c. lit.now ≡ Span c.0.x c.1.x c.0.y c.1.y) }
@@ -58,7 +58,7 @@ pub fn box_corners(lit: &LitBox) -> Option<(Point, Point)>
     }
 }
 
-/// The least box of two points.
+/// The least box that holds two points.
 pub fn spanning(p: &Point, q: &Point) -> LitBox
     ensures first { InBox result p.now }
     ensures second { InBox result q.now }
@@ -72,7 +72,7 @@ pub fn spanning(p: &Point, q: &Point) -> LitBox
     }
 }
 
-/// The least box that has two boxes as parts.
+/// The least box that holds two boxes.
 pub fn joined(first: &LitBox, second: &LitBox) -> LitBox
     ensures first { IsInside first.now result }
     ensures second { IsInside second.now result }
@@ -102,7 +102,7 @@ pub fn joined(first: &LitBox, second: &LitBox) -> LitBox
     }
 }
 
-/// The least box of a box and two points.
+/// The least box that holds a box and two points.
 pub fn widened(lit: &LitBox, p: &Point, q: &Point) -> LitBox
     ensures { (ps : List Point) → IsLeast ps lit.now → IsLeast (p.now ∷ q.now ∷ ps) result }
 {

@@ -15,7 +15,7 @@ use crate::seen::Seen;
 use dvg_cert::{Entry, Key};
 use dvg_words::{Format, Instr};
 
-/// The word address where an item stands, and what is known before it.
+/// The word address of an item, and what is known before it.
 #[derive(Clone, Copy)]
 pub struct Cursor {
     pub at: u16,
@@ -30,7 +30,7 @@ pub enum Step {
 }
 
 impl Cursor {
-    /// The cursor at the first item of a shape or of a frame: its word address, and a known scale (`Any` where it is unknown).
+    /// The cursor at the first item of a shape or of a frame, from its word address and its scale (`Any` if unknown).
     pub fn start(kind: Kind, first: u16, scale: Key) -> Cursor
         ensures value { result ≡ first_cursor kind first scale }
         ensures sound { first < ADDRESS_END → IsKey scale → IsSoundCursor result }
@@ -41,7 +41,7 @@ impl Cursor {
         }
     }
 
-    /// What the rules see of the instruction that stands here, with the entry that it calls.
+    /// What the rules see of this instruction at the cursor, with the entry that it calls.
     #[inline(always)]
     pub fn see(&self, format: Format, instr: &Instr, callee: Option<Entry>) -> Seen
         requires here { IsSoundCursor self.now }

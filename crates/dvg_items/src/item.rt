@@ -1,4 +1,4 @@
-//! Items: instructions at their places.
+//! Items: instructions at their word addresses.
 
 ghost use Rattle.std.specs.Prelude.{◌≡◌, ◌<◌};
 ghost use Rattle.dvg_words.specs.declared.map.TheConstants.{ADDRESS_END};
@@ -7,7 +7,7 @@ ghost use Rattle.dvg_items.specs.Known.{target};
 
 use dvg_words::{Format, Instr};
 
-/// Whose items they are.
+/// Whether items are of a shape or of a frame.
 #[derive(Clone, Copy)]
 pub enum Kind {
     Shape,
@@ -23,8 +23,8 @@ pub struct Item {
 }
 
 impl Item {
-    /// Where the item after this one stands, `None` after the last: past its words, or where a frame's jump leads. Nothing
-    /// follows HALT, RTSL, a shape's JMPL, or a frame's JMPL to its own place or a lower one (profile).
+    /// The word address of the next item: past this one's words, or where a frame's jump leads. `None` after the last item: HALT,
+    /// RTSL, a shape's JMPL, or a frame's JMPL to its own address or a lower one (profile).
     #[inline(always)]
     pub fn next_address(&self, kind: Kind) -> Option<u16>
         requires { self.now.at < ADDRESS_END }
@@ -38,7 +38,7 @@ impl Item {
     }
 }
 
-/// Where a call leads, or a shape's tail jump. `None` for every other instruction.
+/// The word address to which a call or a shape's tail jump leads. `None` for every other instruction.
 #[inline(always)]
 pub fn target(kind: Kind, instr: &Instr) -> Option<u16>
     ensures { result ≡ target kind instr.now }

@@ -21,7 +21,7 @@ pub enum Effect {
     Moves(Point),
 }
 
-/// What is known before an item: the place, the scale (`Any` where it is unknown), the words so far, and the most return places
+/// What is known before an item: the place, the scale (`Any` if it is unknown), the words so far, and the most return places
 /// stored at once.
 #[derive(Clone, Copy, Debug, PartialEq, Eq)]
 pub struct Known {
@@ -123,7 +123,7 @@ pub fn scale_past(instr: &Instr, scale: Key, callee: &Option<Entry>) -> Key
     }
 }
 
-/// How many return places are stored at once under an instruction, with the entry that it calls.
+/// The most return places stored at once under an instruction, with the entry that it calls.
 pub fn depth_under(instr: &Instr, callee: &Option<Entry>) -> u8
     requires { IfSome callee.now IsClaim }
     ensures value { result ≡ depth_under instr.now callee.now }
@@ -136,7 +136,7 @@ pub fn depth_under(instr: &Instr, callee: &Option<Entry>) -> u8
     }
 }
 
-/// The words that the called entry claims, 0 where none is called.
+/// The words that the called entry claims, 0 if none is called.
 fn callee_words(callee: &Option<Entry>) -> u32
     requires { IfSome callee.now IsClaim }
     ensures value { result ≡ callee_words callee.now }
@@ -148,7 +148,7 @@ fn callee_words(callee: &Option<Entry>) -> u32
     }
 }
 
-/// The entry that is named by a target and a known scale, `Any` where it is unknown.
+/// The entry that a target and a known scale name. The scale is `Any` if it is unknown.
 #[inline(always)]
 pub fn callee<E: Entries>(entries: &E, target: Option<u16>, scale: Key) -> Option<Entry>
     requires { IsSomeCertificate (E.list entries.now) }
@@ -162,7 +162,7 @@ pub fn callee<E: Entries>(entries: &E, target: Option<u16>, scale: Key) -> Optio
 }
 
 impl Known {
-    /// What is known before the first item of a shape or of a frame, at a scale, `Any` where it is unknown.
+    /// What is known before the first item of a shape or of a frame, at a scale, `Any` if it is unknown.
     pub fn start(kind: Kind, scale: Key) -> Known
         ensures { result ≡ start kind scale }
     {

@@ -7,19 +7,19 @@ pub fn place_from_all()
     ensures { PlaceFromAll }
 {}
 
-/// The known scale is the one set by the latest item that sets one, or the one at the start where none does: a LABS sets its
-/// own number, a call or tail jump what the entry that it names leaves.
+/// The known scale is the latest scale that an item set, or the start's if no item set one. A LABS sets its own number. A call
+/// or tail jump sets the scale that its entry leaves.
 pub fn scale_from_all()
     ensures { ScaleFromAll }
 {}
 
-/// The words so far are the sum, over all items, of the item's own words and those of the entry that it names.
+/// The words so far are a sum over all items: each adds its own words, and the words of the entry that it calls.
 pub fn words_from_all()
     ensures { WordsFromAll }
 {}
 
-/// The depth so far is the greatest, over all items, of what the item needs, and 0 where there are none: a call needs one more
-/// than its entry's depth, a tail jump its entry's, and any other item none.
+/// The depth so far is the greatest depth that an item needs, or 0 if there is no item. A call needs one more than its entry's
+/// depth, a tail jump its entry's depth, and any other item 0.
 pub fn depth_from_all()
     ensures { DepthFromAll }
 {}

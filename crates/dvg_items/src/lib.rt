@@ -1,8 +1,8 @@
 //! Items: the instructions of a shape or of a frame, one after another, what is known before each, and what each lights.
 //!
-//! A [`Cursor`] stands where an item stands, with what is known there ([`Known`]). [`Cursor::see`] tells what the rules see
-//! of that item ([`Seen`]), and [`Seen::step`] leads past it. What judges, makes or explains shapes and frames goes over
-//! their items so.
+//! A [`Cursor`] has the word address of an item, and what is known there ([`Known`]). [`Cursor::see`] gives what the rules see
+//! of that item ([`Seen`]), and [`Seen::step`] leads past it. The crates that judge, make and explain shapes and frames walk
+//! over items in this way.
 #![tactic(auto)]
 
 mod boxes;

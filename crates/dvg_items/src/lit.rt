@@ -1,4 +1,4 @@
-//! What an item lights, and the tests of where that may be.
+//! What an item lights, and whether it may light there.
 
 ghost use Rattle.std.specs.Prelude.{◌≡◌, ◌↔◌, [], ◌∷◌, IsTrue, IfSome, IfNone};
 ghost use Rattle.dvg_words.specs.Beam.{InWindow};
@@ -15,9 +15,9 @@ use dvg_words::{Draw, Instr, Point, Window, draw_move, in_window, shift};
 #[derive(Clone, Copy)]
 pub enum LitExtent {
     Nothing,
-    /// All of it between two corners.
+    /// All that it lights lies between two corners.
     Between { from: Point, to: Point },
-    /// A lit draw at unknown scale: it may be anywhere.
+    /// It is a lit draw at unknown scale, which may light anywhere.
     Anywhere,
 }
 
@@ -76,7 +76,7 @@ pub fn extent_of(instr: &Instr, scale: Key, callee: &Option<Entry>) -> LitExtent
     }
 }
 
-/// Whether what an item lights is at a known place; true where it lights nothing.
+/// Whether the place is known if an item lights. True if it lights nothing.
 pub fn place_known(extent: &LitExtent, place: &End) -> bool
     ensures { IsTrue result ↔ PlaceKnown extent.now place.now }
 {
@@ -87,14 +87,14 @@ pub fn place_known(extent: &LitExtent, place: &End) -> bool
     }
 }
 
-/// Whether what an item lights is at a known scale; true where it lights nothing.
+/// Whether the scale is known if an item lights. True if it lights nothing.
 pub fn scale_known(extent: &LitExtent) -> bool
     ensures { IsTrue result ↔ ScaleKnown extent.now }
 {
     !matches!(extent, LitExtent::Anywhere)
 }
 
-/// Both corners of what an item lights, from the point before it. `None` where it lights nothing, or its scale is unknown.
+/// Both corners of what an item lights, from the point before it. `None` if it lights nothing, or its scale is unknown.
 fn corners(extent: &LitExtent, x: i64, y: i64) -> Option<(Point, Point)>
     requires place { IsNear ADDRESS_END (record { x = x; y = y }) }
     requires extent { IsNearExtent extent.now }
@@ -110,7 +110,7 @@ fn corners(extent: &LitExtent, x: i64, y: i64) -> Option<(Point, Point)>
     }
 }
 
-/// Both corners of what an item lights at an absolute place. `None` where it lights nothing there, or its scale is unknown.
+/// Both corners of what an item lights at an absolute place. `None` if it lights nothing there, or its scale is unknown.
 pub fn absolute_corners(extent: &LitExtent, place: &End) -> Option<(Point, Point)>
     requires place { IsNearPlace ADDRESS_END place.now }
     requires extent { IsNearExtent extent.now }
@@ -123,7 +123,7 @@ pub fn absolute_corners(extent: &LitExtent, place: &End) -> Option<(Point, Point
     }
 }
 
-/// Both corners of what an item lights at a relative place, seen from the beam at the call. `None` where it lights nothing there,
+/// Both corners of what an item lights at a relative place, seen from the beam at the call. `None` if it lights nothing there,
 /// or its scale is unknown.
 pub fn relative_corners(extent: &LitExtent, place: &End) -> Option<(Point, Point)>
     requires place { IsNearPlace ADDRESS_END place.now }
@@ -144,7 +144,7 @@ fn is_in_window(window: &Window, p: &Point) -> bool
     in_window(window, p.x, p.y)
 }
 
-/// Whether both corners of what an item lights at an absolute place are in the window; true where there are none.
+/// Whether both corners of what an item lights at an absolute place are in the window. True if there are none.
 #[inline(always)]
 pub fn lit_in_window(window: &Window, extent: &LitExtent, place: &End) -> bool
     requires place { IsNearPlace ADDRESS_END place.now }
@@ -157,7 +157,7 @@ pub fn lit_in_window(window: &Window, extent: &LitExtent, place: &End) -> bool
     }
 }
 
-/// Whether both corners of what an item lights at a relative place are in the box; true where there are none.
+/// Whether both corners of what an item lights at a relative place are in the box. True if there are none.
 pub fn lit_in_box(lit: &LitBox, extent: &LitExtent, place: &End) -> bool
     requires place { IsNearPlace ADDRESS_END place.now }
     requires extent { IsNearExtent extent.now }

@@ -40,7 +40,7 @@ impl Seen {
     }
 }
 
-/// Whether a call or tail jump names an entry; true of every other item.
+/// Whether a call or tail jump has its entry. True for every other item.
 pub fn has_callee(target: Option<u16>, callee: &Option<Entry>) -> bool
     ensures { IsTrue result ↔ HasCallee target callee.now }
 {

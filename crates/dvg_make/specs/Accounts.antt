@@ -55,14 +55,14 @@ AllTaken c items = AllHold (IsTaken c) items
 
 -- ---- from shape to shape
 
--- the maker passes the items of the shape up to a place, and this is known there (profile)
+-- the maker passes the items of the shape before this word address, and `before` is known there (profile)
 pub record Reaches (rom : Rom) (list : List Entry) (shape : ShapeAt) (at : ℕ) (before : Known) : Type 0 where
   pub items : List Item
   pub leads : LeadsTo Shape (rom_word rom) shape.addr items at
   pub taken : AllTaken (keyed_context list shape.key) items
   pub known : before ≡ known_before (keyed_context list shape.key) items
 
--- the item at this place calls or tail jumps to the shape, at the scale that is known there (profile)
+-- the item at this word address calls or tail jumps to the shape, at the scale that is known there (profile)
 pub record CallsAt (rom : Rom) (at : ℕ) (before : Known) (shape : ShapeAt) : Type 0 where
   pub item : Item
   pub at_is : item.at ≡ at
@@ -104,7 +104,7 @@ SaysOf scale v (TooManyWords words) =
     (words ≡ v.after.words) × (MOST_WORDS < words) × IsStraight v × (depth_under v.item.instr v.callee ≤ MOST_DEPTH)
 SaysOf scale v cause = ⊥
 
--- the cause holds of the item at a place, with the entry of the list that it calls (profile)
+-- the cause holds of the item at this word address, and what the item calls has its entry in the list (profile)
 pub record SaysAt (rom : Rom) (list : List Entry) (at : ℕ) (before : Known) (cause : EntryCause) : Type 0 where
   pub item : Item
   pub at_is : item.at ≡ at
@@ -128,7 +128,7 @@ pub record IsFull (list : List Entry) (chain : List ShapeAt) : Type 0 where
   pub unmade : AreUnmade list chain
   pub many : MOST_ENTRIES ≤ length list + length chain
 
--- what a cause means of a place in the last shape of a chain (profile)
+-- what a cause means at a word address of the last shape of a chain (profile)
 abbrev pub CauseAt : Rom → List Entry → List ShapeAt → ℕ → Known → EntryCause → Type 0
 CauseAt rom list chain at before RootOutside = ⊥
 CauseAt rom list chain at before Missing = cell_at (rom_word rom) at ≡ cell.Missing
@@ -149,8 +149,8 @@ CauseOf rom list asked TooManyEntries = (entry_at list asked.addr asked.key ≡ 
 CauseOf rom list asked Memory = Unit {0}
 CauseOf rom list asked cause = ⊥
 
--- the chain begins with the shape that is asked for, each of its shapes calls the next, and the cause holds of the place in the
--- last one. If the chain is empty, the shape was not begun, and the place is its address (profile)
+-- the chain begins with the shape that is asked for, each of its shapes calls the next, and the cause holds at a word address of
+-- the last one. If the chain is empty, the shape was not begun, and the word address is its own (profile)
 abbrev pub Tells : Rom → List Entry → ShapeAt → List ShapeAt → ℕ → Known → EntryCause → Type 0
 Tells rom list asked [] at before cause = (at ≡ asked.addr) × (before ≡ start Shape asked.key) × CauseOf rom list asked cause
 Tells rom list asked (shape ∷ chain) at before cause =
@@ -159,8 +159,8 @@ Tells rom list asked (shape ∷ chain) at before cause =
 
 -- ---- what was asked for
 
--- the shape is a root, if no call is named, or else the one that this call of a frame calls. The list has an entry for all that is
--- asked for before it: the roots in their order, then the frames in theirs, and the calls of each (profile)
+-- the shape is a root, if no call is named; else this call of a frame calls it. The list has an entry for all that is asked for
+-- before: roots in their order, then the calls of each frame in their order (profile)
 abbrev pub IsNamedBy : List (ℕ × Key) → List (List ℕ) → List Entry → Option FrameCall → ShapeAt → Type 0
 IsNamedBy roots frames list None asked =
     (root : ℕ) × (slice_get roots root ≡ Some (asked.addr, asked.key)) × HasAsked (take root roots) [] list
@@ -186,7 +186,7 @@ AllNeeded rom roots frames list chain =
 abbrev pub AllWithin : Rom → List Entry → Type 0
 AllWithin rom list = (e : Entry) → Contains list e → IsEntry rom.map.rom_first rom.map.rom_last e
 
--- all that is told of a refusal holds, by some list of made and needed entries (profile)
+-- the account of a refusal is right, by some list of made and needed entries (profile)
 pub record IsTold
     (rom : Rom) (roots : List (ℕ × Key)) (frames : List (List ℕ)) (call : Option FrameCall) (chain : List ShapeAt) (at : ℕ)
     (before : Known) (cause : EntryCause) : Type 0 where
@@ -207,12 +207,12 @@ abbrev pub UnlessMemory : EntryCause → Type 0 → Type 0
 UnlessMemory Memory T = Unit {0}
 UnlessMemory cause T = T
 
--- what an account tells holds; if memory was out, it tells nothing (profile)
+-- the account is right; if memory was out, it says nothing (profile)
 abbrev pub IsAccount : Rom → List (ℕ × Key) → List (List ℕ) → MakeAccount → Type 0
 IsAccount rom roots frames a =
     UnlessMemory a.cause (IsTold rom roots frames a.fault.call a.chain.items a.at a.before a.cause)
 
--- the refusal to which a cause at a place leads (profile)
+-- the refusal to which a cause at a word address leads (profile)
 abbrev pub entry_fault : ℕ → EntryCause → EntryFault
 entry_fault at (Ring from) = fault.Deep
 entry_fault at (Deep to key) = fault.Deep
@@ -223,7 +223,7 @@ entry_fault at cause = fault.Unstraight at
 
 -- ---- refusals
 
--- some cause at some place leads to the refusal, and what is told of it holds; if memory was out, nothing is told (profile)
+-- some cause at some word address leads to the refusal, with a right account, unless memory was out (profile)
 pub record HasCause (rom : Rom) (roots : List (ℕ × Key)) (frames : List (List ℕ)) (fault : FramesFault) : Type 0 where
   pub chain : List ShapeAt
   pub at : ℕ

@@ -35,7 +35,7 @@ pub record CallAt (words : List ℕ) (list : List Entry) (at : ℕ) (to : ℕ) (
   pub at_is : calls.item.at ≡ at
   pub before : AllKeyed list calls.earlier
 
--- a root, or what one of the frames calls (profile)
+-- the address and the key are a root, or one of the frames calls them (profile)
 abbrev pub IsAskedFor : List (ℕ × Key) → List (List ℕ) → List Entry → ℕ → Key → Type 0
 IsAskedFor roots frames list addr key =
     Contains roots (addr, key) ⊎ ((words : List ℕ) × Contains frames words × FrameAsksFor words list addr key)
@@ -44,10 +44,10 @@ IsAskedFor roots frames list addr key =
 abbrev pub HasAsked : List (ℕ × Key) → List (List ℕ) → List Entry → Type 0
 HasAsked roots frames list = (addr : ℕ) (key : Key) → IsAskedFor roots frames list addr key → HasEntry list addr key
 
--- the list that is made for the roots and for what the frames call, at the scales that are known by this very list (profile)
+-- the list is made for the roots and for what the frames call, at the scales that are known by this very list (profile)
 abbrev pub FramesMade : Rom → List (ℕ × Key) → List (List ℕ) → List Entry → Type 0
 FramesMade rom roots frames list = MadeFor rom (IsAskedFor roots frames list) list
 
--- the list of one frame and no roots (profile)
+-- the list is made for one frame and no roots (profile)
 abbrev pub FrameMade : Rom → List ℕ → List Entry → Type 0
 FrameMade rom words list = FramesMade rom [] (words ∷ []) list

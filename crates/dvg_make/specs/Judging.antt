@@ -25,7 +25,7 @@ abbrev pub NoneWithin : Rom → List ℕ → Window → ℕ → Type 0
 NoneWithin rom words w most =
     (mode : Mode) (list : List Entry) (budget n d : ℕ) → budget ≤ most → Accepts rom words w mode list budget n d → ⊥
 
--- what a refusal of the checker means, by the made certificate; it gives no other refusal here (profile)
+-- what a refusal of the checker means, by the made certificate; the checker gives no other refusal here (profile)
 abbrev pub CheckMeans : Rom → List ℕ → Window → ℕ → Refusal → Type 0
 CheckMeans rom words w budget (refusal.Shape f) = NoneWithin rom words w budget
 CheckMeans rom words w budget (refusal.Frame f) = NoneWithin rom words w budget

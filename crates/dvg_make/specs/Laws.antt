@@ -21,15 +21,15 @@ use Rattle.dvg_make.specs.Made.{EachItem, Made}
 use Rattle.dvg_make.specs.Frames.{FramesMade, FrameMade}
 use Rattle.dvg_make.specs.Refusals.{Accepts}
 
--- points have one least box at most
+-- points have at most one least box
 abbrev pub OneLeast : Type 0
 OneLeast = (ps : List Point) (a b : LitBox) → IsLeast ps a → IsLeast ps b → a ≡ b
 
--- a ROM and roots have one made list at most
+-- a ROM and roots have at most one made list
 abbrev pub OneMade : Type 0
 OneMade = (rom : Rom) (roots : List (ℕ × Key)) (a b : List Entry) → Made rom roots a → Made rom roots b → a ≡ b
 
--- a ROM, roots and frames have one made list at most
+-- a ROM, roots and frames have at most one made list
 abbrev pub OneFramesMade : Type 0
 OneFramesMade =
     (rom : Rom) (roots : List (ℕ × Key)) (frames : List (List ℕ)) (a b : List Entry)
@@ -43,12 +43,12 @@ ItemInWindow w c earlier i = LitInWindow w (extent c earlier i.instr) (place_bef
 abbrev pub AllInWindow : Window → Rom → List Entry → Type 0
 AllInWindow w rom list = (e : Entry) → Contains list e → EachItem rom e.addr (ItemInWindow w (shape_context list e))
 
--- a made list is good exactly there, and its counts are then exact
+-- a made list is good exactly if nothing of it leaves the window, and then its counts are exact
 abbrev pub GoodInWindow : Type 0
 GoodInWindow = (rom : Rom) (roots : List (ℕ × Key)) (list : List Entry) (w : Window) → Made rom roots list
     → (Good Bound w rom list ↔ AllInWindow w rom list) × (Good Exact w rom list ↔ AllInWindow w rom list)
 
--- no certificate does better for a frame than the list that is made for it: that one gets it accepted too, with exact counts, no
+-- no certificate does better for a frame than its made list: the made list gets the frame accepted too, with exact counts, no
 -- more words and no more depth
 abbrev pub NoneBetter : Type 0
 NoneBetter =

@@ -25,18 +25,18 @@ use Rattle.dvg_items.specs.Least.{lit_points, IsLeast}
 abbrev pub HasEntry : List Entry → ℕ → Key → Type 0
 HasEntry list addr key = (e : Entry) × (entry_at list addr key ≡ Some e)
 
--- holds of each item of the shape at an address, with the items before it; a missing or odd item is none (profile)
+-- P holds of each item of the shape at an address, with the items before it; a missing or odd cell is no item (profile)
 abbrev pub EachItem : Rom → ℕ → (List Item → Item → Type 0) → Type 0
 EachItem rom addr P =
     (earlier : List Item) (i : Item) → LeadsTo Shape (rom_word rom) addr earlier i.at
     → cell_at (rom_word rom) i.at ≡ Holds i.format i.instr → P earlier i
 
--- holds of each of these items, with those before it (profile)
+-- P holds of each of these items, with the items before it (profile)
 abbrev pub AllHold : (List Item → Item → Type 0) → List Item → Type 0
 AllHold P [] = Unit {0}
 AllHold P (i ∷ earlier) = AllHold P earlier × P earlier i
 
--- holds of all items of the shape at an address, up to and with the last one (profile)
+-- P holds of all items of the shape at an address, up to and with the last one (profile)
 abbrev pub AtEnd : Rom → ℕ → (List Item → Type 0) → Type 0
 AtEnd rom addr P = EachItem rom addr (λ earlier i. next_address Shape i ≡ None → P (i ∷ earlier))
 
@@ -50,20 +50,20 @@ HasEntryAtScale list c earlier i = (to : ℕ) → target Shape i.instr ≡ Some 
 
 -- the entry that a shape needs: exact counts, end and scale, the least box, and an entry for each call at the very scale (profile)
 pub record MadeEntry (rom : Rom) (list : List Entry) (e : Entry) : Type 0 where
-  -- its counts are exact, its end and its scale are what is known there
+  -- its counts are exact, and its end and its scale are the ones known at the end
   pub keeps : AllKeep Shape (rom_word rom) e.addr (MadeKeeps rom list e)
   -- each call and tail jump has an entry at the very scale that is known there
   pub keyed : EachItem rom e.addr (HasEntryAtScale list (shape_context list e))
   -- its box is the least one
   pub box : AtEnd rom e.addr (λ items. IsLeast (lit_points (shape_context list e) items) e.lit)
 
--- the entry is a made one, and its counts are within the limits (profile)
+-- the entry is made, and its counts are within the limits (profile)
 pub record IsMade (rom : Rom) (list : List Entry) (e : Entry) : Type 0 where
   pub made : MadeEntry rom list e
   pub words : e.words ≤ MOST_WORDS
   pub depth : e.depth ≤ MOST_DEPTH
 
--- each entry of the list is a made one, within the limits (profile)
+-- each entry of the list is made, and its counts are within the limits (profile)
 abbrev pub AllMade : Rom → List Entry → Type 0
 AllMade rom list = (e : Entry) → Contains list e → IsMade rom list e
 
@@ -85,7 +85,7 @@ pub record Needs (rom : Rom) (list : List Entry) (e f : Entry) : Type 0 where
 pub record MadeFor (rom : Rom) (IsAsked : ℕ → Key → Type 0) (list : List Entry) : Type 0 where
   -- its entries are those of a certificate
   pub certificate : IsCertificate rom.map list
-  -- each of its entries is a made one
+  -- each of its entries is made
   pub each : (e : Entry) → Contains list e → MadeEntry rom list e
   -- what is asked for has its entry
   pub rooted : (addr : ℕ) (key : Key) → IsAsked addr key → HasEntry list addr key

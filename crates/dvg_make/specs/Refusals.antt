@@ -84,7 +84,7 @@ BarsFrame rom words TooManyWords = NoneAccepts rom words
 BarsFrame rom words TooManyEntries = Unit {0}
 BarsFrame rom words Memory = Unit {0}
 
--- what it says of the entry that the call needs: no list of made entries has it (profile)
+-- what a refusal at a call says of the entry that the call needs: no list of made entries has it (profile)
 abbrev pub BarsEntry : Rom → ℕ → Key → EntryFault → Type 0
 BarsEntry rom addr key (Unstraight word) = Barred rom addr key
 BarsEntry rom addr key Deep = Barred rom addr key
@@ -108,4 +108,5 @@ pub record FramesRefuse (rom : Rom) (roots : List (ℕ × Key)) (frames : List (
   pub list : BarsList rom roots frames fault.why
   pub root : IfNone fault.call (BarsList rom roots [] fault.why)
   pub frame : IfSome fault.call (λ call.
-      (words : List ℕ) × (slice_get frames call.frame ≡ Some words) × CallBarredAt rom words call.at fault.why × BarsFrame rom words fault.why)
+      (words : List ℕ) × (slice_get frames call.frame ≡ Some words)
+      × CallBarredAt rom words call.at fault.why × BarsFrame rom words fault.why)

@@ -3,18 +3,19 @@ use Rattle.std.specs.Prelude.{ℕ, pos, neg_ℤ, ◌+◌, ◌*◌, ◌%◌, ◌^
 use Rattle.dvg_words.specs.Values.{DrawFields, Window}
 pub use Rattle.dvg_words.specs.declared.beam.Point.{Point}
 
--- the effective scale (profile)
+-- the effective scale: local plus global scale, modulo 16 (profile)
 abbrev pub effective_scale : ℕ → ℕ → ℕ
 effective_scale local global = (local + global) % 16
 
--- what a size is multiplied by (profile)
+-- the factor of a draw's sizes, 1 to 1024 (profile)
 abbrev pub factor : ℕ → ℕ → ℕ
 factor local global = if nat_le (effective_scale local global) 9 then 2 ^ (effective_scale local global + 1) else 1
 
+-- the place 0, 0; as a move it leaves the beam where it is
 abbrev pub origin : Point
 origin = record { x = pos 0; y = pos 0 }
 
--- a place, moved
+-- the place that a move leads to from a place
 abbrev pub shift : Point → Point → Point
 shift p d = record { x = p.x +ℤ d.x; y = p.y +ℤ d.y }
 
@@ -26,7 +27,7 @@ displacement d global = record { x = d.dx *ℤ pos (factor d.lscale global); y =
 abbrev pub labs_place : ℕ → ℕ → Point
 labs_place x y = record { x = pos (1024 * x); y = pos (1024 * y) }
 
--- the place is within the window (profile)
+-- the place is in the window, edges included (profile)
 pub record InWindow (w : Window) (p : Point) : Type 0 where
   pub left : pos (1024 * w.x_min) ≤ℤ p.x
   pub right : p.x ≤ℤ pos (1024 * w.x_max)

@@ -28,6 +28,7 @@ pub record State : Type 0 where
   -- the word addresses that were fetched so far, mapped or not
   pub fetched : List ℕ
 
+-- a running state, a halt or a fault
 pub data Status : Type 0 where
   Running : State → Status
   Halted : State → Status
@@ -87,20 +88,21 @@ after_cell Missing s = Fault s
 after_cell Odd s = Fault s
 after_cell (Holds format i) s = after_instruction i format s
 
+-- the state once the words of its instruction are fetched
 abbrev pub after_fetch : Memory → State → State
 after_fetch m s = record s { fetched = fetches (word_at m s.pc) s.pc ++ s.fetched }
 
--- what comes after a running state
+-- the status after a running state
 unfoldable pub next_status : Memory → State → Status
 next_status m s = after_cell (cell_at (word_at m) s.pc) (after_fetch m s)
 
--- one step; none leads on from a halt or a fault
+-- one step leads from the first status to the second; none leads on from a halt or a fault
 abbrev pub Step : Memory → Status → Status → Type 0
 Step m (Running s) after = next_status m s ≡ after
 Step m (Halted s) after = ⊥
 Step m (Fault s) after = ⊥
 
--- by exactly so many steps
+-- exactly this many steps lead from the first status to the second
 abbrev pub Reached : Memory → ℕ → Status → Status → Type 0
 Reached m zero from to = from ≡ to
 Reached m (suc n) from to = (mid : Status) × Step m from mid × Reached m n mid to

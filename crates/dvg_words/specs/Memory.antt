@@ -8,11 +8,11 @@ words_of [] = []
 words_of (low ∷ []) = []
 words_of (low ∷ high ∷ bytes) = (low + 256 * high) ∷ words_of bytes
 
--- the length in bytes of a ROM: two for each of its addresses
+-- the number of bytes of a ROM: two for each of its addresses
 abbrev pub IsRomLength : MemoryMap → ℕ → Type 0
 IsRomLength map n = n + 2 * map.rom_first ≡ 2 * (map.rom_last + 1)
 
--- the lengths in bytes that a frame may have (profile)
+-- the numbers of bytes that a frame may have (profile)
 pub record IsFrameLength (n : ℕ) : Type 0 where
   pub some : 2 ≤ n
   pub few : n ≤ 2 * RAM_WORDS
@@ -42,22 +42,24 @@ pub record Memory : Type 0 where
   pub frame : List ℕ
   pub rom : Rom
 
+-- the frame and the ROM are allowed ones
 pub record IsMemory (m : Memory) : Type 0 where
   pub frame : IsFrame m.frame
   pub rom : IsRom m.rom
 
--- an address of the frame's words, or of the ROM's
+-- the word address is in the frame
 abbrev pub InFrame : List ℕ → ℕ → Type 0
 InFrame frame p = p < length frame
 
+-- the word address is in the ROM
 abbrev pub InRom : MemoryMap → ℕ → Type 0
 InRom map p = (map.rom_first ≤ p) × (p ≤ map.rom_last)
 
--- the frame's word at an address
+-- the word of the frame at an address
 abbrev pub frame_word : List ℕ → ℕ → Option ℕ
 frame_word frame p = slice_get frame p
 
--- the ROM's word at an address
+-- the word of the ROM at an address
 abbrev pub rom_word : Rom → ℕ → Option ℕ
 rom_word rom p = if nat_le rom.map.rom_first p && nat_le p rom.map.rom_last then slice_get rom.words (p - rom.map.rom_first) else None
 

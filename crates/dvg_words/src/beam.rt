@@ -14,11 +14,11 @@ pub struct Point {
 }
 
 impl Point {
-    /// The place 0, 0, and the move that stays.
+    /// The place 0, 0. As a move it leaves the beam where it is.
     pub const ORIGIN: Point = Point { x: 0, y: 0 };
 }
 
-/// A place, moved.
+/// The place that a move leads to from a place.
 pub fn shift(place: &Point, by: &Point) -> Point
     requires x { FitsSigned w64 (place.now.x +ℤ by.now.x) }
     requires y { FitsSigned w64 (place.now.y +ℤ by.now.y) }
@@ -41,8 +41,8 @@ pub fn labs_place(x: u16, y: u16) -> Point
     }
 }
 
-/// What a size is multiplied by at a local scale of 0 to 9 and a global scale of 0 to 15, 1 to 1024: the product is in units
-/// of 1/1024 of a screen place (profile).
+/// The factor of a draw's sizes, 1 to 1024, at a local scale of 0 to 9 and a global scale of 0 to 15. Size times factor is in
+/// units of 1/1024 of a screen place (profile).
 pub fn factor(local: u8, global: u8) -> u16
     requires local { local ≤ 9 }
     requires global { global ≤ 15 }

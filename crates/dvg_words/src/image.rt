@@ -11,7 +11,7 @@ use byteorder::{ByteOrder, LittleEndian};
 use std::marker::Model;
 use thiserror::Error;
 
-/// Why bytes are no image.
+/// Why bytes are no ROM, or no frame.
 #[derive(Clone, Copy, Debug, PartialEq, Eq, Error)]
 pub enum ImageFault {
     /// 1: a ROM has exactly two bytes for each of its addresses.
@@ -23,7 +23,7 @@ pub enum ImageFault {
 }
 
 impl ImageFault {
-    /// The number of the refusal, as a report has it.
+    /// The number of the refusal in a report, 1 or 2.
     pub fn number(self) -> u8
         ensures { result ≡ image_number self }
     {
@@ -34,10 +34,10 @@ impl ImageFault {
     }
 }
 
-/// How many bytes a frame has at most.
+/// The most bytes of a frame.
 const MOST_FRAME_BYTES: usize = 2 * RAM_WORDS as usize;
 
-/// The word of this number among the bytes, the low byte first (Asteroids schematics).
+/// The word at this index among the bytes, the low byte first (Asteroids schematics).
 fn word_at(bytes: &[u8], index: u16) -> u16
     requires { 2 * index + 2 ≤ length bytes.now }
     ensures { slice_get (words_of bytes.now) index ≡ Some result }
@@ -65,8 +65,8 @@ impl<'a> Model for RomImage<'a> {
 }
 
 impl<'a> RomImage<'a> {
-    /// The image of these bytes, which it borrows, for a ROM at this map. Refuses 1 where they are not exactly two for each of its
-    /// addresses.
+    /// The image of these bytes, which it borrows, for a ROM at this map. Refuses 1 unless there are exactly two bytes for each
+    /// of its addresses.
     pub fn from_bytes(bytes: &'a [u8], map: RomMap) -> Result<RomImage<'a>, ImageFault>
         ensures image { MatchResult result
             (λ rom. IsRomLength map (length bytes.now) × (rom ≡ rom_of map bytes.now))
@@ -128,7 +128,7 @@ impl<'a> Model for FrameImage<'a> {
 }
 
 impl<'a> FrameImage<'a> {
-    /// The image of these bytes, which it borrows. Refuses 2 where they are not 2 to 2048, or an odd number.
+    /// The image of these bytes, which it borrows. Refuses 2 if they are fewer than 2, more than 2048, or an odd number.
     pub fn from_bytes(bytes: &'a [u8]) -> Result<FrameImage<'a>, ImageFault>
         ensures image { MatchResult result
             (λ frame. IsFrameLength (length bytes.now) × (frame ≡ words_of bytes.now))

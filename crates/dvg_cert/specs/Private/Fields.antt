@@ -11,7 +11,7 @@ infixl 10 ◌>>=◌
 abbrev pub ◌>>=◌ : {A B : Type 0} → Option A → (A → Option B) → Option B
 o >>= f = option_and_then f o
 
--- the result and the bytes left are those that reading gives
+-- reading gives this result and leaves these bytes
 abbrev pub Reads : {X : Type 0} → Option X → List ℕ → Option (X × List ℕ) → Type 0
 Reads None rest read = read ≡ None
 Reads (Some x) rest read = read ≡ Some (x, rest)

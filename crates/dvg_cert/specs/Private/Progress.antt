@@ -69,7 +69,7 @@ TakesLater map old line new (Ok Ended) = IsCertificate map new × (text_of map n
 TakesLater map old line new (Ok stage) = ⊥
 TakesLater map old line new (Err why) = IsCertificate map new × IsLineRefused (Begun map old) line why
 
--- what taking the entries gives with whose whole lines the bytes begin; `bytes` reads the bytes that are left
+-- the bytes begin with whole lines of entries: what taking these entries gives; `bytes` reads the bytes that are left
 abbrev pub TakesFirst : {X : Type 0} → (X → List ℕ) → Taken → List ℕ → Taken → Result X CertWhy → Type 0
 TakesFirst bytes old rest new (Ok after) = IsTaken new × (text_taken old ++ rest ≡ text_taken new ++ bytes after) × (length (bytes after) ≤ length rest)
 TakesFirst bytes old rest new (Err why) = (why ≡ Memory) × HasEntryAt (text_taken old ++ rest) (line_number new)

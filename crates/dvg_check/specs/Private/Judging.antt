@@ -1,4 +1,4 @@
--- What the code says of the rules while it goes over items: no rule stands here.
+-- How the code tests the rules, item by item. No rule stands here.
 use Rattle.std.specs.Prelude.{◌≡◌, ℕ, ◌-◌, ◌<◌, List, [], ◌∷◌, take, Option, None}
 use Rattle.dvg_words.specs.declared.instruction.Cell.TheVariants.{Holds}
 use Rattle.dvg_words.specs.Decoding.{cell_at}
@@ -24,24 +24,27 @@ seen_by list kind before i = seen_with (callee_at list (target kind i.instr) bef
 
 -- ---- rules in the order in which the code tests them
 
+-- each of these rules is kept
 abbrev pub EachKept : {Why : Type 0} → (Why → Type 0) → List Why → Type 0
 EachKept K [] = Unit {0}
 EachKept K (why ∷ rest) = K why × EachKept K rest
 
+-- the rules on an item of a frame, by their numbers
 abbrev pub frame_rules : List FrameWhy
 frame_rules = frame.Unmapped ∷ frame.Odd ∷ frame.ReturnInFrame ∷ frame.BackJump ∷ frame.BeamUnknown ∷ frame.ScaleUnknown ∷ frame.OffScreen ∷ frame.NoEntry ∷ frame.Budget ∷ []
 
--- where a rule stands among them
+-- the index of a rule among these
 abbrev pub frame_index : FrameWhy → ℕ
 frame_index why = frame_number why - 40
 
+-- the rules on an item of a shape, by their numbers
 abbrev pub shape_rules : List ShapeWhy
 shape_rules = shape.Unmapped ∷ shape.Odd ∷ shape.HaltInShape ∷ shape.BeamUnknown ∷ shape.ScaleUnknown ∷ shape.OffScreen ∷ shape.NoEntry ∷ shape.TooDeep ∷ shape.TooManyWords ∷ shape.EndDiffers ∷ shape.ScaleDiffers ∷ shape.BoxTooSmall ∷ shape.WordsDiffer ∷ shape.DepthDiffers ∷ []
 
 abbrev pub shape_index : ShapeWhy → ℕ
 shape_index why = shape_number why - 20
 
--- this rule is broken, and all that are tested before it are kept
+-- this rule is broken, and each rule before it is kept
 abbrev pub FrameBrokenFirst : (FrameWhy → Type 0) → FrameWhy → Type 0
 FrameBrokenFirst K why = EachKept K (take (frame_index why) frame_rules) × (K why → ⊥)
 
@@ -56,7 +59,7 @@ pub record KeepsAll {Why : Type 0} (Keeps : Seen → Why → Type 0) (kind : Kin
   pub leads : step ≡ step_past kind v
   pub sound : IsSoundStep step
 
--- this rule is broken, and all that come before it are kept
+-- this rule is broken, and each rule of a lower number is kept
 pub record BreaksFirst {Why : Type 0} (order : Why → ℕ) (Keeps : Seen → Why → Type 0) (v : Seen) (why : Why) : Type 0 where
   pub broken : Keeps v why → ⊥
   pub lowest : (other : Why) → order other < order why → Keeps v other

@@ -1,4 +1,4 @@
--- Tails: the parts of shapes from a word on, told as the entries that claim exactly what they do. No rule stands here.
+-- Tails: the part of a shape from a word on, as the entry that claims exactly what it does. No rule stands here.
 use Rattle.std.specs.Prelude.{◌≡◌, ◌≢◌, ◌+◌, ◌-◌, ◌*◌, ◌≤◌, max, ◌+ℤ◌, ℕ, List, Option, Some, None, slice_index_or}
 use Rattle.dvg_words.specs.Values.{Window}
 use Rattle.dvg_words.specs.declared.beam.Point.{Point}
@@ -31,8 +31,8 @@ use Rattle.dvg_check.specs.Private.Judging.{seen_by}
 
 -- ---- what is claimed
 
--- the one entry claims of a shape no more than the other: a box that holds its box, and counts that are no smaller, in the mode
--- Exact the same
+-- `e` claims no more of a shape than `strong`: its box holds the box of `strong`, and its counts are no smaller, in the mode Exact
+-- the same
 pub record ClaimsLess (mode : Mode) (e strong : Entry) : Type 0 where
   pub addr : e.addr ≡ strong.addr
   pub key : e.key ≡ strong.key
@@ -42,18 +42,18 @@ pub record ClaimsLess (mode : Mode) (e strong : Entry) : Type 0 where
   pub words : Counts mode strong.words e.words
   pub scale : e.scale ≡ strong.scale
 
--- what an entry claims is known at its end
+-- what an entry claims of its end, as what is known there
 abbrev pub known_at_end : Entry → Known
 known_at_end e = record { place = e.stop; scale = e.scale; words = e.words; depth = e.depth }
 
--- the entry that claims it
+-- the entry that claims this end
 abbrev pub claimed : ℕ → Key → LitBox → Known → Entry
 claimed addr key lit end =
     record { addr = addr; key = key; stop = end.place; lit = lit; depth = end.depth; words = end.words; scale = end.scale }
 
 -- ---- an item and what stands behind it
 
--- the place past a tail that starts at this place and ends so: as past a call
+-- the place past a tail that starts at this place and has this end: the same as past a call
 abbrev pub place_over : End → End → End
 place_over place stop = place_past (stop_effect stop) place
 
@@ -71,11 +71,12 @@ known_over first second =
 abbrev pub first_seen : List Entry → Key → Item → Seen
 first_seen list key i = seen_by list Shape (start Shape key) i
 
+-- a box, moved
 abbrev pub moved : LitBox → Point → LitBox
 moved Empty d = Empty
 moved (Span x_min x_max y_min y_max) d = Span (x_min +ℤ d.x) (x_max +ℤ d.x) (y_min +ℤ d.y) (y_max +ℤ d.y)
 
--- both corners are in the window
+-- both corners of the box are in the window
 abbrev pub BoxInWindow : Window → LitBox → Type 0
 BoxInWindow w Empty = Unit {0}
 BoxInWindow w (Span x_min x_max y_min y_max) =
@@ -97,16 +98,17 @@ pub record MayStandFirst (rom : Rom) (list : List Entry) (key : Key) (box : LitB
   pub named : HasCallee (target Shape i.instr) (first_seen list key i).callee
   pub boxed : LitInBox box (first_seen list key i).extent (first_seen list key i).place
 
--- the tail stands behind the item, at the scale that the item leaves, and may light what it does from there
+-- the tail stands behind the item, has the scale that the item leaves as its key, and may be lit from there
 pub record IsBehind (w : Window) (list : List Entry) (key : Key) (box : LitBox) (i : Item) (tail : Entry) : Type 0 where
   pub next : next_address Shape i ≡ Some tail.addr
   pub scale : tail.key ≡ (first_seen list key i).after.scale
   pub lit : MayStandAt w box tail.lit (first_seen list key i).after.place
 
--- the entry of an item alone, and of an item and the tail behind it
+-- the entry of a last item alone
 abbrev pub last_item : List Entry → Key → LitBox → Item → Entry
 last_item list key box i = claimed i.at key box (first_seen list key i).after
 
+-- the entry of an item and the tail behind it
 abbrev pub after_item : List Entry → Key → LitBox → Item → Entry → Entry
 after_item list key box i tail = claimed i.at key box (known_over (first_seen list key i).after (known_at_end tail))
 
@@ -119,6 +121,7 @@ key_number Any = 16
 
 -- ---- tails, and how large their numbers are
 
+-- the corners of the box are no further from 0 than n items can move them
 abbrev pub IsNearBox : ℕ → LitBox → Type 0
 IsNearBox n Empty = Unit {0}
 IsNearBox n (Span x_min x_max y_min y_max) =

@@ -11,7 +11,7 @@ use Rattle.dvg_cert.specs.Stream.{Stream, Open, Refused}
 unfoldable pub limited : ℕ → List ℕ → List ℕ
 limited most bytes = take most bytes
 
--- these are the first of the bytes that a reader held, up to a limit; any bytes if it does not tell its own
+-- these are the first of the bytes that a reader held, up to a limit; any bytes, if those are not known
 pub record IsPrefix (most : ℕ) (reader : Option (List ℕ)) (bytes : List ℕ) : Type 0 where
   pub first : IfSome reader (λ held. bytes ≡ limited most held)
 

@@ -1,4 +1,4 @@
--- Which entries stand for which, and how what the one list knows stands to what the other does.
+-- Which entries claim all that others claim, and which knowledge has all of other knowledge. No rule stands here.
 use Rattle.std.specs.Prelude.{◌≡◌, ◌≢◌, ℕ, ◌≤◌, List, Contains}
 use Rattle.dvg_words.specs.Values.{Window}
 use Rattle.dvg_words.specs.Memory.{Rom, rom_word}
@@ -19,36 +19,36 @@ use Rattle.dvg_check.specs.declared.fault.ShapeWhy.TheVariants as shape
 
 -- ---- what is known
 
--- the one scale is unknown, or it is the other
+-- the first scale is unknown, or it is the second
 abbrev pub Loosens : Key → Key → Type 0
 Loosens (At n) key = key ≡ At n
 Loosens Any key = Unit {0}
 
--- the one place is lost, or it is the other
+-- the first place is lost, or it is the second
 abbrev pub LoosensPlace : End → End → Type 0
 LoosensPlace (Rel x y) place = place ≡ Rel x y
 LoosensPlace (Abs x y) place = place ≡ Abs x y
 LoosensPlace Lost place = Unit {0}
 
--- the one knows no more than the other, and counts no less
+-- `weak` knows no more than `strong`, and counts no less
 pub record KnowsMore (weak strong : Known) : Type 0 where
   pub place : LoosensPlace weak.place strong.place
   pub scale : Loosens weak.scale strong.scale
   pub words : strong.words ≤ weak.words
   pub depth : strong.depth ≤ weak.depth
 
--- what an entry claims of the place, the scale and the counts at its end
+-- what an entry claims of its end, as what is known there
 abbrev pub known_of : Entry → Known
 known_of e = record { place = e.stop; scale = e.scale; words = e.words; depth = e.depth }
 
 -- ---- entries
 
--- the first entry claims all that the second does, and counts and lights no more
+-- the first entry claims all that the second claims, and counts and lights no more
 pub record Refines (f e : Entry) : Type 0 where
   pub known : KnowsMore (known_of e) (known_of f)
   pub lit : IsInside f.lit e.lit
 
--- an entry for this address, at this key or at `any`
+-- the entry has this address, and this key or `any`
 pub record Covers (e : Entry) (to : ℕ) (scale : Key) : Type 0 where
   pub addr : e.addr ≡ to
   pub key : Loosens e.key scale

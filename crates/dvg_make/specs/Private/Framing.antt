@@ -27,11 +27,11 @@ pub record IsCalledBy (rom : Rom) (old : List Entry) (instr : Instr) (scale : Ke
   pub none : target Frame instr ≡ None → (new ≡ old) × (callee ≡ None)
   pub some : (to : ℕ) → target Frame instr ≡ Some to → InProgress rom old (to, scale) new [] × HasEntry new to scale × (callee ≡ entry_at new to scale)
 
--- the entry that it calls can't be made, with this refusal
+-- the entry that the instruction calls can't be made, with this refusal
 abbrev pub BarsTarget : Rom → List Entry → Instr → Key → EntryFault → Type 0
 BarsTarget rom old instr scale why = (to : ℕ) × (target Frame instr ≡ Some to) × Bars rom old (to, scale) why
 
--- what is told of that entry
+-- the account of that entry is right
 abbrev pub TellsTarget : Rom → List Entry → Instr → Key → List PartialEntry → Obstacle → Type 0
 TellsTarget rom old instr scale chain obstacle =
     (to : ℕ) × (target Frame instr ≡ Some to) × IsToldFrom rom old (to, scale) chain obstacle × IsNoRoot obstacle
@@ -60,7 +60,7 @@ BarsCalls rom words old TooManyWords = NoneHasCalls rom words old
 BarsCalls rom words old TooManyEntries = LongHasCalls rom words old
 BarsCalls rom words old Memory = Unit {0}
 
--- what it says of such lists, of the call at a place, and of the frame
+-- what a refusal says of such lists, of the call at a word address, and of the frame
 abbrev pub BarsHere : Rom → List ℕ → List Entry → ℕ → EntryFault → Type 0
 BarsHere rom words old at why = BarsCalls rom words old why × CallBarredAt rom words at why × BarsFrame rom words why
 
@@ -79,7 +79,7 @@ AllCalledHere rom words old list chain =
     (asked : List (ℕ × Key)) → Collected rom asked old → (addr : ℕ) (key : Key) → HasEntry list addr key
     → IsGivenHere words asked list addr key ⊎ IsCalled rom list chain addr key
 
--- what is told of the call at a place holds, by a list of made and needed entries
+-- the account of the call at a word address is right, by a list of made and needed entries
 pub record TellsHere (rom : Rom) (words : List ℕ) (old : List Entry) (at : ℕ) (chain : List PartialEntry) (obstacle : Obstacle) : Type 0 where
   pub list : List Entry
   pub within : AllWithin rom list
@@ -95,7 +95,7 @@ pub record TellsHere (rom : Rom) (words : List ℕ) (old : List Entry) (at : ℕ
 
 -- ---- frame after frame
 
--- an address and a key are asked for by a root, or by the call of a frame
+-- each of these addresses and keys is a root, or a call of a frame asks for it
 abbrev pub AreAskedFor : List (ℕ × Key) → List (List ℕ) → List Entry → List (ℕ × Key) → Type 0
 AreAskedFor roots frames list asked = (addr : ℕ) (key : Key) → Contains asked (addr, key) → IsAskedFor roots frames list addr key
 

@@ -1,4 +1,4 @@
--- What is said of the verdict on a frame by the certificate that is made for it.
+-- The verdict on a frame by the certificate that is made for it. No rule stands here.
 use Rattle.std.specs.Prelude.{ℕ, List, Result, IfOk, IfErr}
 use Rattle.dvg_words.specs.Memory.{Rom}
 use Rattle.dvg_words.specs.Values.{Window}

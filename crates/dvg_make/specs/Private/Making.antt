@@ -35,7 +35,7 @@ abbrev pub ArePartial : Rom → List Entry → List PartialEntry → Type 0
 ArePartial rom done [] = Unit {0}
 ArePartial rom done (w ∷ stack) = IsPartial rom done w × ArePartial rom done stack
 
--- the list has an entry for each of these shapes, the first with fewer words than `most`, each with fewer than the one before, and more than n
+-- the list has an entry for each of these shapes: the first has fewer words than `most`, each next one fewer, and all more than n
 abbrev pub Chain : List Entry → ℕ → List PartialEntry → ℕ → Type 0
 Chain made most [] n = n < most
 Chain made most (w ∷ stack) n = (e : Entry) × (entry_at made w.addr w.key ≡ Some e) × (e.words < most) × Chain made e.words stack n
@@ -72,7 +72,7 @@ pub record IsAim (rom : Rom) (from : List Entry) (root : ℕ × Key) (made : Lis
 abbrev pub IsGiven : List Entry → ℕ × Key → ℕ → Key → Type 0
 IsGiven from root addr key = HasEntry from addr key ⊎ ((root.0 ≡ addr) × (root.1 ≡ key))
 
--- what holds of the entries that are made
+-- the entries made so far are right, and no two have the same address and key
 pub record IsDone (rom : Rom) (done : List Entry) : Type 0 where
   pub entries : (e : Entry) → Contains done e → IsEntry rom.map.rom_first rom.map.rom_last e
   pub made : (e : Entry) → Contains done e → MadeEntry rom done e
@@ -121,7 +121,7 @@ StaysInProgress rom old stack new rest = (from : List Entry) (root : ℕ × Key)
 abbrev pub NoAim : Rom → List Entry → ℕ × Key → Type 0
 NoAim rom from root = (made : List Entry) → IsAim rom from root made → ⊥
 
--- what a refusal means: there is no aim, or each aim is too long for a certificate
+-- what a refusal means: there is no such aim, or each is too long for a certificate
 abbrev pub Bars : Rom → List Entry → ℕ × Key → EntryFault → Type 0
 Bars rom from root (Unstraight word) = NoAim rom from root
 Bars rom from root Deep = NoAim rom from root
@@ -137,7 +137,7 @@ BarsAll rom done stack fault = (from : List Entry) (root : ℕ × Key) → InPro
 abbrev pub obstacle_fault : Obstacle → EntryFault
 obstacle_fault obstacle = entry_fault obstacle.cursor.at obstacle.cause
 
--- the chain, and the place and the cause of the obstacle, are told rightly
+-- the account of the obstacle is right: its chain, its word address and its cause
 abbrev pub TellsObstacle : Rom → List Entry → ℕ × Key → List PartialEntry → Obstacle → Type 0
 TellsObstacle rom list root chain obstacle = Tells rom list (asked_shape root) (shapes chain) obstacle.cursor.at obstacle.cursor.known obstacle.cause
 
@@ -179,7 +179,7 @@ pub record IsBegun (done : List Entry) (old new : List PartialEntry) (addr : ℕ
 abbrev pub HasAll : List (ℕ × Key) → List Entry → Type 0
 HasAll asked list = (addr : ℕ) (key : Key) → Contains asked (addr, key) → HasEntry list addr key
 
--- what is made where these were asked for, one after another
+-- what is made once these were asked for, one after another
 pub record Collected (rom : Rom) (asked : List (ℕ × Key)) (done : List Entry) : Type 0 where
   pub is_done : IsDone rom done
   pub rooted : HasAll asked done
@@ -202,8 +202,9 @@ BarsRoots rom asked TooManyWords = NoneHas rom asked
 BarsRoots rom asked TooManyEntries = LongHas rom asked
 BarsRoots rom asked Memory = Unit {0}
 
--- ---- what is told of a refusal
+-- ---- accounts of refusals
 
+-- the account of the obstacle is right, for these roots and frames and this call
 abbrev pub IsToldOf : Rom → List (ℕ × Key) → List (List ℕ) → Option FrameCall → List PartialEntry → Obstacle → Type 0
 IsToldOf rom roots frames call chain obstacle = IsTold rom roots frames call (shapes chain) obstacle.cursor.at obstacle.cursor.known obstacle.cause
 
@@ -211,7 +212,7 @@ IsToldOf rom roots frames call chain obstacle = IsTold rom roots frames call (sh
 abbrev pub blocked_fault : BlockedCall → FramesFault
 blocked_fault refusal = record { call = refusal.call; why = obstacle_fault refusal.blocked.obstacle }
 
--- the account says all that is known of the refusal
+-- the account has the fault, the chain, the word address, the knowledge and the cause of the refusal
 pub record TellsIt (refusal : BlockedCall) (account : MakeAccount) : Type 0 where
   pub fault : account.fault ≡ blocked_fault refusal
   pub chain : account.chain.items ≡ shapes refusal.blocked.chain

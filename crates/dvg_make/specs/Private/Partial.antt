@@ -34,7 +34,7 @@ use Rattle.dvg_make.specs.declared.obstacle.Obstacle.{Obstacle}
 use Rattle.dvg_make.specs.Accounts.{ShapeAt, EntryCause, Missing, Odd, Reaches, CauseAt}
 pub use Rattle.dvg_make.specs.Accounts.{keyed_context, IsStraight, IsAsked}
 
--- before the first item
+-- the partial entry before the first item
 abbrev pub start : ℕ → Key → PartialEntry
 start addr key = record { addr = addr; key = key; cursor = first_cursor Shape addr key; lit = Empty }
 
@@ -62,6 +62,7 @@ pub record KnowsAt (c : Context) (items : List Item) (known : Known) (lit : LitB
   pub least : IsLeast (lit_points c items) lit
   pub fine : AllFine c items
 
+-- the partial entry is right, as far as its items were passed
 pub record IsPartial (rom : Rom) (list : List Entry) (w : PartialEntry) : Type 0 where
   pub items : List Item
   pub leads : LeadsTo Shape (rom_word rom) w.addr items w.cursor.at
@@ -71,11 +72,11 @@ pub record IsPartial (rom : Rom) (list : List Entry) (w : PartialEntry) : Type 0
   pub few : w.cursor.known.words ≤ MOST_WORDS
   pub keyed : IsKey w.key
 
--- the other list has all entries of the one
+-- the second list has all entries of the first
 abbrev pub Extends : List Entry → List Entry → Type 0
 Extends a b = (addr : ℕ) (key : Key) (e : Entry) → entry_at a addr key ≡ Some e → entry_at b addr key ≡ Some e
 
--- no list of made entries that has those of this one has one at this address and key
+-- no list of made entries that extends this list has an entry at this address and key
 abbrev pub NeverAt : Rom → List Entry → ℕ → Key → Type 0
 NeverAt rom list addr key = (made : List Entry) → AllMade rom made → Extends list made → HasEntry made addr key → ⊥
 
@@ -138,6 +139,7 @@ pub record IsWaiting (rom : Rom) (list : List Entry) (w new : PartialEntry) (add
   pub near : addr < ADDRESS_END
   pub scale : IsKey new.cursor.known.scale
 
+-- how far a shape was made: finished, or waiting for an entry
 abbrev pub Advances : Rom → List Entry → PartialEntry → Progress → Type 0
 Advances rom list w (Finished e at) = IsFinished rom list w e
 Advances rom list w (Waiting new addr) = IsWaiting rom list w new addr
@@ -152,7 +154,7 @@ pub record IsStopped (rom : Rom) (list : List Entry) (w : PartialEntry) (obstacl
   pub reaches : Reaches rom list (shape_of w) obstacle.cursor.at obstacle.cursor.known
   pub cause : CauseAt rom list [] obstacle.cursor.at obstacle.cursor.known obstacle.cause
 
--- no item stands at this place of the ROM
+-- no item stands at this word address of the ROM
 abbrev pub IsAbsent : Rom → ℕ → EntryCause → Type 0
 IsAbsent rom at Missing = cell_at (rom_word rom) at ≡ cell.Missing
 IsAbsent rom at Odd = cell_at (rom_word rom) at ≡ cell.Odd
