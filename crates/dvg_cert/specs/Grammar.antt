@@ -64,7 +64,7 @@ ended line = line ++ LINE_FEED ∷ []
 unfoldable pub begun_with : MemoryMap → List Entry → List ℕ
 begun_with map es = flat_map ended (heading map) ++ flat_map (λ e. ended (entry_line e)) es
 
--- the one spelling of a map and a list: these lines, and a last one with the number of entries (profile)
+-- the only text of a map and a list: these lines, and a last line with the number of entries (profile)
 abbrev pub text_of : MemoryMap → List Entry → List ℕ
 text_of map es = begun_with map es ++ ended (done_line (length es))
 

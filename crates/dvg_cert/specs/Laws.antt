@@ -49,7 +49,7 @@ abbrev pub LineNumber : Type 0
 LineNumber = (text : List ℕ) (taken : Taken) (rest : List ℕ) → Holds text taken rest
     → line_number taken ≡ count_by (λ b. b == LINE_FEED) text + 1
 
--- a text whose whole lines were all taken is no longer than so many of the longest lines: one for each entry, and three
+-- a text whose whole lines were all taken is no longer than MOST_ENTRIES + 3 of the longest lines
 abbrev pub ShortText : Type 0
 ShortText = (text : List ℕ) → MayStand text → length text ≤ (MOST_ENTRIES + 3) * LONGEST_LINE
 

@@ -16,8 +16,8 @@ use std::marker::Model;
 /// The number of pairs of an address and a key: each word of the longest ROM, at sixteen scales and at `any`.
 const ALL_KEYS: usize = 17 * MOST_ROM_WORDS;
 
-/// For how many keys the table has room. The hash is known to all, so somebody can choose keys that are looked for in the same
-/// few places; with room for so many more keys than there are entries, not many find a place far from there.
+/// The number of keys for which the table has room. Anybody can compute the hash, and so choose keys that all belong in a few
+/// places of the table. The room is far larger than the number of entries, so that few keys end up far from their places.
 fn room_for(entries: usize) -> usize
     requires { entries ≤ MOST_ENTRIES }
     ensures { result ≡ min (16 * entries) ALL_KEYS }

@@ -22,8 +22,8 @@ abbrev pub Counts : Mode → ℕ → ℕ → Type 0
 Counts Bound n claimed = n ≤ claimed
 Counts Exact n claimed = n ≡ claimed
 
--- A run leads from one running state to another, by at most `most` steps and words, in the mode Exact just so many words. A halt
--- or a fault has no step, so there is none on the way.
+-- A run leads from one running state to another. It takes at most `most` steps and fetches at most `most` words, in the mode Exact
+-- exactly `most` words. A halt or a fault has no step, so there is none on the way.
 pub record Stretch
     (mode : Mode) (m : Memory) (Fetched : ℕ → Type 0) (Lit : Stroke → Type 0) (most deep : ℕ) (from to : State) : Type 0 where
   pub steps : ℕ

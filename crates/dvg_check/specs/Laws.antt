@@ -33,6 +33,7 @@ abbrev pub lit_on : Instr → Point → Point → List Stroke
 lit_on (Draws d) from to = lit_by d.bright (record { from = from; to = to })
 lit_on i from to = []
 
+-- the instruction is VCTR, SVEC or LABS
 abbrev pub IsDrawOrLabs : Instr → Type 0
 IsDrawOrLabs (Draws d) = Unit {0}
 IsDrawOrLabs (Labs x y gscale) = Unit {0}
@@ -175,6 +176,6 @@ InEachRun P =
 abbrev pub SafeStrokes : Type 0
 SafeStrokes = InEachRun (λ m w words depth s. (stroke : Stroke) → Contains s.strokes stroke → (p : Point) → IsOn stroke p → InWindow w p)
 
--- at most so many return places are stored, and four at most
+-- at most `depth` return places are stored, and at most four
 abbrev pub SafeStack : Type 0
 SafeStack = InEachRun (λ m w words depth s. (length s.return_stack ≤ depth) × (length s.return_stack ≤ 4))

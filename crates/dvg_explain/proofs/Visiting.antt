@@ -27,7 +27,7 @@ use Rattle.dvg_explain.proofs.AllItems.{stand_before}
 use Rattle.dvg_explain.proofs.Coming.{calls_hold}
 use Rattle.dvg_explain.proofs.Marks.{there_or_here}
 
--- ---- the calls from a place: that of the item there, and those from the next place
+-- ---- the calls from a word address on: the call of the item there, and the calls from the next address on
 
 module _ (rom : Rom) (list : List Entry) (key : Key) (i : Item) (is : cell_at (rom_word rom) i.at ≡ Holds i.format i.instr) where
   abbrev named : Option Entry
@@ -37,7 +37,7 @@ module _ (rom : Rom) (list : List Entry) (key : Key) (i : Item) (is : cell_at (r
   abbrev past : Key
   past = unwrap_or (scale_set i.instr named) key
 
-  -- the items behind the first one lead there from the next place
+  -- the items behind the first one lead there from the next address
   record Behind (earlier : List Item) (p : ℕ) : Type 0 where
     next : ℕ
     goes : next_address Shape i ≡ Some next
@@ -70,7 +70,7 @@ module _ (rom : Rom) (list : List Entry) (key : Key) (i : Item) (is : cell_at (r
     at : call.at ≡ i.at
     entry : named ≡ Some call.entry
 
-  -- one from the next place
+  -- a call from the next address on
   record IsFurther (call : Call) : Type 0 where
     next : ℕ
     goes : next_address Shape i ≡ Some next

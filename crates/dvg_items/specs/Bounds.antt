@@ -40,19 +40,19 @@ IsSomeCertificate list = (map : MemoryMap) × IsCertificate map list
 abbrev pub IsNear : ℕ → Point → Type 0
 IsNear n p = IsWithin (2 ^ 41 * n) p
 
--- the same for a place; a lost one has no numbers
+-- a place is no further from 0 than n items can move it; a lost place has no numbers
 abbrev pub IsNearPlace : ℕ → End → Type 0
 IsNearPlace n (Rel x y) = IsNear n (record { x = x; y = y })
 IsNearPlace n (Abs x y) = IsNear n (record { x = x; y = y })
 IsNearPlace n Lost = Unit {0}
 
--- the same for what one item does to the place
+-- the point that an effect sets or moves by is no further from 0 than one item can move the place
 abbrev pub IsNearEffect : Effect → Type 0
 IsNearEffect (Sets p) = IsNear 1 p
 IsNearEffect Loses = Unit {0}
 IsNearEffect (Moves d) = IsNear 1 d
 
--- the same for the corners of what one item lights
+-- the corners of what an item lights are no further from 0 than one item can move the place
 abbrev pub IsNearExtent : LitExtent → Type 0
 IsNearExtent Nothing = Unit {0}
 IsNearExtent (Between a b) = IsNear 1 a × IsNear 1 b

@@ -50,7 +50,7 @@ callee_at list target scale = option_and_then (λ to. named_entry list to scale)
 
 -- ---- what an item does to scale, place, words and depth
 
--- the scale that an instruction sets: a LABS its number, a call or tail jump the one that its entry leaves; `Any` is unknown
+-- the scale that an instruction sets: a LABS its number, a call or tail jump the scale that its entry leaves; `Any` is unknown
 abbrev pub scale_set : Instr → Option Entry → Option Key
 scale_set (Labs x y gscale) named = Some (At gscale)
 scale_set (Jsrl to) (Some e) = Some e.scale

@@ -19,7 +19,7 @@ corner_points corners_at c (i ∷ earlier) =
 abbrev pub lit_points : Context → List Item → List Point
 lit_points c items = corner_points relative_corners c items
 
--- the same at absolute places (profile)
+-- at absolute places, both ends of each lit draw, and both corners of each called box, moved to the place (profile)
 abbrev pub absolute_points : Context → List Item → List Point
 absolute_points c items = corner_points absolute_corners c items
 

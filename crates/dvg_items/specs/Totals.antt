@@ -7,7 +7,7 @@ use Rattle.dvg_items.specs.Items.{Item}
 use Rattle.dvg_items.specs.Known.{Context, callee, scale_set, callee_words, depth_under, scale_before, words_before, depth_before}
 use Rattle.dvg_items.specs.Places.{map_with_earlier}
 
--- the scale that an item after these sets: a LABS its number, a call or tail jump the one that its entry leaves (profile)
+-- the scale that an item after these sets: a LABS its number, a call or tail jump the scale that its entry leaves (profile)
 abbrev pub scale_of : Context → List Item → Item → Option Key
 scale_of c earlier i = scale_set i.instr (callee c earlier i.instr)
 

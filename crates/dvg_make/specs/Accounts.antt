@@ -70,7 +70,7 @@ pub record CallsAt (rom : Rom) (at : ℕ) (before : Known) (shape : ShapeAt) : T
   pub target_is : target Shape item.instr ≡ Some shape.addr
   pub key_is : before.scale ≡ shape.key
 
--- an item of the one shape calls or tail jumps to the other (profile)
+-- an item of the first shape calls or tail jumps to the second (profile)
 pub record Precedes (rom : Rom) (list : List Entry) (shape next : ShapeAt) : Type 0 where
   pub at : ℕ
   pub before : Known
@@ -232,7 +232,7 @@ pub record HasCause (rom : Rom) (roots : List (ℕ × Key)) (frames : List (List
   pub why_is : fault.why ≡ entry_fault at cause
   pub told : UnlessMemory cause (IsTold rom roots frames fault.call chain at before cause)
 
--- the same for a refusal of roots alone (profile)
+-- a refusal of roots alone has a cause (profile)
 abbrev pub HasRootCause : Rom → List (ℕ × Key) → MakeFault → Type 0
 HasRootCause rom roots f =
     (why : EntryFault) × (make_fault_of why ≡ f) × HasCause rom roots [] (record { call = None; why = why })

@@ -73,7 +73,7 @@ Barred rom addr key = (list : List Entry) → AllMade rom list → HasEntry list
 
 -- ---- the list
 
--- an item of the one entry's shape calls or tail jumps to the other entry (profile)
+-- an item of the first entry's shape calls or tail jumps to the second entry (profile)
 pub record Needs (rom : Rom) (list : List Entry) (e f : Entry) : Type 0 where
   pub earlier : List Item
   pub item : Item
@@ -83,7 +83,7 @@ pub record Needs (rom : Rom) (list : List Entry) (e f : Entry) : Type 0 where
 
 -- the list that is made for a ROM and for the addresses and keys that are asked for (profile)
 pub record MadeFor (rom : Rom) (IsAsked : ℕ → Key → Type 0) (list : List Entry) : Type 0 where
-  -- its entries are those of a certificate
+  -- its entries are a certificate's
   pub certificate : IsCertificate rom.map list
   -- each of its entries is made
   pub each : (e : Entry) → Contains list e → MadeEntry rom list e

@@ -21,7 +21,7 @@ taken_of map es Rom = Versioned
 taken_of map es Later = Begun map es
 taken_of map es Ended = Whole map es
 
--- what is known of the map and the entries; until a line says where the ROM lies, the map is that of Asteroids
+-- what is known of the map and the entries; until a line says where the ROM lies, it is the Asteroids map
 abbrev pub IsStaged : MemoryMap → List Entry → Stage → Type 0
 IsStaged map es First = (es ≡ []) × (map ≡ asteroids)
 IsStaged map es Rom = es ≡ []

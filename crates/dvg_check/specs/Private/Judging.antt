@@ -41,6 +41,7 @@ frame_index why = frame_number why - 40
 abbrev pub shape_rules : List ShapeWhy
 shape_rules = shape.Unmapped ∷ shape.Odd ∷ shape.HaltInShape ∷ shape.BeamUnknown ∷ shape.ScaleUnknown ∷ shape.OffScreen ∷ shape.NoEntry ∷ shape.TooDeep ∷ shape.TooManyWords ∷ shape.EndDiffers ∷ shape.ScaleDiffers ∷ shape.BoxTooSmall ∷ shape.WordsDiffer ∷ shape.DepthDiffers ∷ []
 
+-- the index of a rule among these
 abbrev pub shape_index : ShapeWhy → ℕ
 shape_index why = shape_number why - 20
 
@@ -48,6 +49,7 @@ shape_index why = shape_number why - 20
 abbrev pub FrameBrokenFirst : (FrameWhy → Type 0) → FrameWhy → Type 0
 FrameBrokenFirst K why = EachKept K (take (frame_index why) frame_rules) × (K why → ⊥)
 
+-- this rule of a shape is broken, and each rule before it is kept
 abbrev pub ShapeBrokenFirst : (ShapeWhy → Type 0) → ShapeWhy → Type 0
 ShapeBrokenFirst K why = EachKept K (take (shape_index why) shape_rules) × (K why → ⊥)
 

@@ -31,8 +31,8 @@ use Rattle.dvg_check.specs.Private.Judging.{seen_by}
 
 -- ---- what is claimed
 
--- `e` claims no more of a shape than `strong`: its box holds the box of `strong`, and its counts are no smaller, in the mode Exact
--- the same
+-- `e` claims no more of a shape than `strong`: its box holds the box of `strong`, and its counts are no smaller. In the mode
+-- Exact its counts are the same
 pub record ClaimsLess (mode : Mode) (e strong : Entry) : Type 0 where
   pub addr : e.addr ≡ strong.addr
   pub key : e.key ≡ strong.key
@@ -127,7 +127,7 @@ IsNearBox n Empty = Unit {0}
 IsNearBox n (Span x_min x_max y_min y_max) =
     IsNear n (record { x = x_min; y = y_min }) × IsNear n (record { x = x_max; y = y_max })
 
--- the numbers of an entry are within the limits for a shape of so many items
+-- the numbers of an entry are within the limits for a shape of n items
 pub record IsSmall (n : ℕ) (e : Entry) : Type 0 where
   pub key : IsKey e.key
   pub stop : IsNearPlace n e.stop

@@ -108,11 +108,11 @@ pub record AllFramed (rom : Rom) (roots : List (ℕ × Key)) (frames : List (Lis
   pub collected : Collected rom asked done
   pub forced : (list : List Entry) → AllMade rom list → HasAll roots list → ((words : List ℕ) → Contains frames words → HasCalls words list) → Extends done list
 
--- the entries are those of a ROM at this map and of some roots and frames
+-- the entries are made for a ROM at this map and for some roots and frames
 abbrev pub IsForSome : MemoryMap → List Entry → Type 0
 IsForSome map done = (rom : Rom) × (rom.map ≡ map) × (roots : List (ℕ × Key)) × (frames : List (List ℕ)) × AllFramed rom roots frames done
 
--- the list is the one that is made for these
+-- the list is made for each ROM, roots and frames for which these entries were made
 abbrev pub MakesFor : MemoryMap → List Entry → List Entry → Type 0
 MakesFor map done list =
     (rom : Rom) (roots : List (ℕ × Key)) (frames : List (List ℕ)) → rom.map ≡ map → AllFramed rom roots frames done → FramesMade rom roots frames list

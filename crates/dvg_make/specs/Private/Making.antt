@@ -129,7 +129,7 @@ Bars rom from root TooManyWords = NoAim rom from root
 Bars rom from root TooManyEntries = (made : List Entry) → IsAim rom from root made → MOST_ENTRIES < length made
 Bars rom from root Memory = Unit {0}
 
--- the same for each root whose making may be in progress
+-- the refusal means this for each root whose making may be in progress
 abbrev pub BarsAll : Rom → List Entry → List PartialEntry → EntryFault → Type 0
 BarsAll rom done stack fault = (from : List Entry) (root : ℕ × Key) → InProgress rom from root done stack → Bars rom from root fault
 
@@ -141,13 +141,13 @@ obstacle_fault obstacle = entry_fault obstacle.cursor.at obstacle.cause
 abbrev pub TellsObstacle : Rom → List Entry → ℕ × Key → List PartialEntry → Obstacle → Type 0
 TellsObstacle rom list root chain obstacle = Tells rom list (asked_shape root) (shapes chain) obstacle.cursor.at obstacle.cursor.known obstacle.cause
 
--- the same for each root whose making may be in progress, by the entries that are made, which are needed and no more than may be
+-- the account is right for each root whose making may be in progress, by the entries that are made, all needed and not too many
 abbrev pub TellsAll : Rom → List Entry → List PartialEntry → List PartialEntry → Obstacle → Type 0
 TellsAll rom done stack chain obstacle =
     (from : List Entry) (root : ℕ × Key) → InProgress rom from root done stack
     → TellsObstacle rom done root chain obstacle × AllCalled rom from root done chain × (length done + length chain ≤ MOST_ENTRIES)
 
--- the same by some list of made and needed entries, which has all of `from`
+-- the account of the obstacle is right by some list of made and needed entries, which has all of `from`
 pub record IsToldFrom (rom : Rom) (from : List Entry) (root : ℕ × Key) (chain : List PartialEntry) (obstacle : Obstacle) : Type 0 where
   pub list : List Entry
   pub is_done : IsDone rom list

@@ -8,5 +8,6 @@ use Rattle.dvg_make.specs.declared.partial.PartialEntry.{PartialEntry}
 abbrev pub IsOwnPartial : (ℕ × Key) × PartialEntry → Type 0
 IsOwnPartial p = p.0 ≡ (p.1.addr, p.1.key)
 
+-- each of these shapes stands at its own address and key
 abbrev pub AreOwn : List ((ℕ × Key) × PartialEntry) → Type 0
 AreOwn ps = All IsOwnPartial ps
