@@ -17,7 +17,7 @@ use Rattle.dvg_items.specs.Lit.{InBox}
 use Rattle.dvg_check.specs.Rules.{Mode, Bound, Exact}
 use Rattle.dvg_check.specs.Safety.{Ends}
 
--- the count is at most the claimed one, or in the mode Exact just the claimed one
+-- the count is at most the claimed one; in the mode Exact it is the claimed one
 abbrev pub Counts : Mode → ℕ → ℕ → Type 0
 Counts Bound n claimed = n ≤ claimed
 Counts Exact n claimed = n ≡ claimed

@@ -141,7 +141,7 @@ place_before c earlier = (known_before c earlier).place
 abbrev pub scale_before : Context → List Item → Key
 scale_before c earlier = (known_before c earlier).scale
 
--- the words of these items
+-- the words of these items and of the entries that they call
 abbrev pub words_before : Context → List Item → ℕ
 words_before c earlier = (known_before c earlier).words
 

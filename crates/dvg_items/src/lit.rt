@@ -76,7 +76,7 @@ pub fn extent_of(instr: &Instr, scale: Key, callee: &Option<Entry>) -> LitExtent
     }
 }
 
-/// Whether the place is known if an item lights. True if it lights nothing.
+/// Whether the place is known at which an item lights. True if it lights nothing.
 pub fn place_known(extent: &LitExtent, place: &End) -> bool
     ensures { IsTrue result ↔ PlaceKnown extent.now place.now }
 {
@@ -87,7 +87,7 @@ pub fn place_known(extent: &LitExtent, place: &End) -> bool
     }
 }
 
-/// Whether the scale is known if an item lights. True if it lights nothing.
+/// Whether the scale is known at which an item lights. True if it lights nothing.
 pub fn scale_known(extent: &LitExtent) -> bool
     ensures { IsTrue result ↔ ScaleKnown extent.now }
 {

@@ -43,7 +43,7 @@ ItemInWindow w c earlier i = LitInWindow w (extent c earlier i.instr) (place_bef
 abbrev pub AllInWindow : Window → Rom → List Entry → Type 0
 AllInWindow w rom list = (e : Entry) → Contains list e → EachItem rom e.addr (ItemInWindow w (shape_context list e))
 
--- a made list is good exactly if nothing of it leaves the window, and then its counts are exact
+-- a made list is good exactly if all that it lights at absolute places lies in the window; then its counts are exact
 abbrev pub GoodInWindow : Type 0
 GoodInWindow = (rom : Rom) (roots : List (ℕ × Key)) (list : List Entry) (w : Window) → Made rom roots list
     → (Good Bound w rom list ↔ AllInWindow w rom list) × (Good Exact w rom list ↔ AllInWindow w rom list)

@@ -35,7 +35,7 @@ abbrev pub ArePartial : Rom → List Entry → List PartialEntry → Type 0
 ArePartial rom done [] = Unit {0}
 ArePartial rom done (w ∷ stack) = IsPartial rom done w × ArePartial rom done stack
 
--- the list has an entry for each of these shapes: the first has fewer words than `most`, each next one fewer, and all more than n
+-- the list has an entry for each of these shapes; the words of these entries fall, from fewer than `most` to more than n
 abbrev pub Chain : List Entry → ℕ → List PartialEntry → ℕ → Type 0
 Chain made most [] n = n < most
 Chain made most (w ∷ stack) n = (e : Entry) × (entry_at made w.addr w.key ≡ Some e) × (e.words < most) × Chain made e.words stack n
