@@ -97,12 +97,8 @@ fn first_broken(mode: Mode, window: &Window, entry: &Entry, seen: &Seen) -> Opti
     if !is_as_claimed(mode, &seen.item, seen.after.words, entry.words) {
         return Some(ShapeWhy::WordsDiffer);
     }
-    if !is_as_claimed(
-        mode,
-        &seen.item,
-        u32::from(seen.after.depth),
-        u32::from(entry.depth),
-    ) {
+    let depth = u32::from(seen.after.depth);
+    if !is_as_claimed(mode, &seen.item, depth, u32::from(entry.depth)) {
         return Some(ShapeWhy::DepthDiffers);
     }
     None

@@ -3,7 +3,7 @@
 //! A tail is the part of a shape from a word of the ROM on. What it does depends on this word and on the known scale there alone.
 //! So a tail is told as an entry: the one that claims exactly what a shape does that starts at this word.
 
-ghost use Rattle.std.specs.Prelude.{◌≡◌, ◌+◌, ◌<◌, ◌≤◌, ℕ, pos, IfSome, IsTrue};
+ghost use Rattle.std.specs.Prelude.{◌≡◌, ◌+◌, ◌<◌, ◌≤◌, ◌≤ℤ◌, ◌↔◌, ℕ, pos, IfSome, IsTrue};
 ghost use Rattle.dvg_words.specs.Decoding.{InstrFits, cell_at};
 ghost use Rattle.dvg_words.specs.Memory.{Rom, rom_word};
 ghost use Rattle.dvg_words.specs.declared.instruction.Cell.TheVariants.{Holds};
@@ -11,6 +11,7 @@ ghost use Rattle.dvg_words.specs.declared.map.TheConstants.{ADDRESS_END};
 ghost use Rattle.dvg_cert.specs.Entry.{IsKey};
 ghost use Rattle.dvg_cert.specs.declared.entry.End.TheVariants.{Rel};
 ghost use Rattle.dvg_cert.specs.declared.entry.LitBox.{LitBox};
+ghost use Rattle.dvg_cert.specs.declared.entry.LitBox.TheVariants.{Span};
 ghost use Rattle.dvg_items.specs.Lit.{IsInside, ScaleKnown, LitInBox};
 ghost use Rattle.dvg_items.specs.declared.item.Kind.TheVariants.{Shape};
 ghost use Rattle.dvg_items.specs.Known.{start};
@@ -20,7 +21,7 @@ ghost use Rattle.dvg_check.specs.Private.Tails.{ClaimsLess, known_at_end, claime
 
 use crate::fault::Mode;
 use dvg_cert::{End, Entries, Entry, Key, LitBox};
-use dvg_items::{Cursor, Item, Kind, LitExtent, box_corners, callee, is_in_box, joined, spanning};
+use dvg_items::{Cursor, Item, Kind, LitExtent, box_corners, callee, joined, spanning};
 use dvg_words::{Instr, Point, Window, in_window, shift};
 
 /// The place at the end of a tail, seen from the start of the item before it: `place` is the place past this item, and `stop` the
@@ -74,11 +75,14 @@ pub fn moved(lit: &LitBox, by: &Point) -> LitBox
 fn is_in_window(window: &Window, lit: &LitBox) -> bool
     ensures { IsTrue result → BoxInWindow window.now lit.now }
 {
-    match box_corners(lit) {
-        None => true,
-        Some((low, high)) => {
-            in_window(window, low.x, low.y) && in_window(window, high.x, high.y)
-        }
+    match lit {
+        LitBox::Span {
+            x_min,
+            x_max,
+            y_min,
+            y_max,
+        } => in_window(window, *x_min, *y_min) && in_window(window, *x_max, *y_max),
+        LitBox::Empty => true,
     }
 }
 
@@ -193,13 +197,29 @@ fn item_calling(item: &Item, key: Key, callee: Option<Entry>) -> Option<Entry>
     })
 }
 
+/// Whether the one range is a part of the other.
+fn is_range_inside(low: &i64, high: &i64, from: &i64, to: &i64) -> bool
+    ensures { IsTrue result ↔ (from.now ≤ℤ low.now) × (high.now ≤ℤ to.now) }
+{
+    from <= low && high <= to
+}
+
+/// Whether the box of two corners, the lower left one and the upper right one, is a part of another.
+fn is_span_inside(low: &Point, high: &Point, from: &Point, to: &Point) -> bool
+    ensures { IsTrue result → IsInside (Span low.now.x high.now.x low.now.y high.now.y) (Span from.now.x to.now.x from.now.y to.now.y) }
+{
+    is_range_inside(&low.x, &high.x, &from.x, &to.x)
+        && is_range_inside(&low.y, &high.y, &from.y, &to.y)
+}
+
 /// Whether the one box is a part of the other.
 fn is_inside(part: &LitBox, whole: &LitBox) -> bool
     ensures { IsTrue result → IsInside part.now whole.now }
 {
-    match box_corners(part) {
-        None => true,
-        Some((low, high)) => is_in_box(whole, &low) && is_in_box(whole, &high),
+    match (box_corners(part), box_corners(whole)) {
+        (None, _) => true,
+        (_, None) => false,
+        (Some((low, high)), Some((from, to))) => is_span_inside(&low, &high, &from, &to),
     }
 }
 
