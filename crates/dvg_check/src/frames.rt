@@ -114,11 +114,11 @@ pub struct Accepted {
 
 /// Judges a frame by entries: its words and its depth where it keeps all rules, else its first fault and what is known there.
 pub fn find_frame_fault<E: Entries>(
+    machine: Machine,
     frame: &FrameImage,
     entries: &E,
     budget: u32,
     window: &Window,
-    machine: Machine,
 ) -> Result<Accepted, FrameFinding>
     requires entries { IsSomeCertificate (E.list entries.now) }
     requires budget { budget ≤ MOST_WORDS }
@@ -168,7 +168,7 @@ pub fn check_frame<E: Entries>(
     let _map = rom.map();
     // Its clause says that the list is that of a certificate.
     let _entries = cert.entries();
-    match find_frame_fault(frame, entries, budget, window, rom.machine()) {
+    match find_frame_fault(rom.machine(), frame, entries, budget, window) {
         Ok(accepted) => Ok(accepted),
         Err(finding) => Err(finding.fault),
     }

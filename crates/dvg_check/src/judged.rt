@@ -89,13 +89,8 @@ impl<'a, E: Entries> JudgedShapes<'a, E> {
     {
         // Its clause says that the frame is whole.
         let _words = frame.words();
-        find_frame_fault(
-            frame,
-            self.entries,
-            budget,
-            &self.window,
-            self.rom.machine(),
-        )
+        let machine = self.rom.machine();
+        find_frame_fault(machine, frame, self.entries, budget, &self.window)
     }
 
     /// Shapes that are known to be good in this mode, such as those that [`judge`](JudgedShapes::judge) took before, kept with
