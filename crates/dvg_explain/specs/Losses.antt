@@ -1,4 +1,5 @@
 -- The items by which the known place and the known scale were lost. All of it is profile.
+use Rattle.dvg_words.specs.Values.{Source}
 use Rattle.std.specs.Prelude.{◌≡◌, ℕ, List, [], ◌∷◌, Option, Some, None}
 use Rattle.dvg_cert.specs.declared.entry.End.{End}
 use Rattle.dvg_cert.specs.declared.entry.End.TheVariants.{Lost}
@@ -33,7 +34,7 @@ scale_lost_by c [] = None
 scale_lost_by c (i ∷ earlier) = scale_loss i (scale_before c earlier) (scale_before c (i ∷ earlier)) (scale_lost_by c earlier)
 
 -- these are the losses of the items that lead to a word address (profile)
-pub record AreLosses (c : Context) (word : ℕ → Option ℕ) (first at : ℕ) (l : Losses) : Type 0 where
+pub record AreLosses (c : Context) (word : Source) (first at : ℕ) (l : Losses) : Type 0 where
   pub items : List Item
   pub leads : LeadsTo c.kind word first items at
   pub place : l.place ≡ place_lost_by c items
