@@ -19,7 +19,7 @@ use Rattle.dvg_cmd.proofs.SeveralFrames.{of_each_append}
 use Rattle.dvg_cmd.specs.Detail.{Detail}
 use Rattle.dvg_cmd.specs.declared.detail.Detail.TheVariants as details
 use Rattle.dvg_cmd.specs.Runs.{RunFault}
-use Rattle.dvg_cmd.specs.Frames.{FrameOutcome, worse, Unread, JudgesOver, WritesAnswer, WritesAnswerPrefix, ReportsFrame, ReportsFramePrefix}
+use Rattle.dvg_cmd.specs.Frames.{FrameOutcome, worse, Unread, MayJudgeOver, WritesAnswer, WritesAnswerPrefix, ReportsFrame, ReportsFramePrefix}
 use Rattle.dvg_cmd.specs.SeveralFrames.{OpenedFrame, opened, Line, line_text, line_outcome, lines_text, TakeOneWriteEach, worst_of, IsLineOf, AreLinesOf, ReportsFrames, ReportsFramesPrefix, shapes_of}
 use Rattle.dvg_cmd.specs.declared.several_frames.NamedFrame.{NamedFrame}
 use Rattle.dvg_cmd.specs.Private.Named.{WritesLineOf, WritesLineOfPrefix}
@@ -169,7 +169,7 @@ pub shapes_by : (w : Window) (rom : List ℕ) (c : Certificate) (map : MemoryMap
 shapes_by w rom c map image shapes is image_is map_is = is ∙ ap (shapes_with w c) (image_is ∙ ap (λ m. rom_of m rom) map_is)
 
 pub judges_over : (shapes : Shapes) (c : Certificate) (rom : List ℕ) (mode : Mode) → IsRomLength c.map (length rom) → shapes.rom ≡ rom_of c.map rom → shapes.list ≡ c.entries → shapes.mode ≡ mode
-    → (detail : Detail) → JudgesOver shapes c rom mode detail
+    → (detail : Detail) → MayJudgeOver shapes c rom mode detail
 judges_over shapes c rom mode long rom_is list_is mode_is details.Line = (ap (λ r. r.map) rom_is, list_is)
 judges_over shapes c rom mode long rom_is list_is mode_is details.Account = (long, rom_is, list_is, mode_is)
 

@@ -77,11 +77,11 @@ VerdictOnBytes rom map bytes budget w (Err r) = IsRefused rom map bytes budget w
 
 -- ---- the verdict over shapes that were judged
 
--- what a judge over these shapes needs to judge with a detail: for a line, they are the certificate's entries over a ROM at its map;
--- for an account, this is that ROM, and they were judged in this mode
-abbrev pub JudgesOver : Shapes → Certificate → List ℕ → Mode → Detail → Type 0
-JudgesOver shapes c rom mode details.Line = (shapes.rom.map ≡ c.map) × (shapes.list ≡ c.entries)
-JudgesOver shapes c rom mode details.Account =
+-- when a judge over these shapes may judge with a detail: they are shapes of the certificate's entries, over a ROM at its map; for an
+-- account, the ROM is also that of these bytes, and the mode is that in which the shapes were judged
+abbrev pub MayJudgeOver : Shapes → Certificate → List ℕ → Mode → Detail → Type 0
+MayJudgeOver shapes c rom mode details.Line = (shapes.rom.map ≡ c.map) × (shapes.list ≡ c.entries)
+MayJudgeOver shapes c rom mode details.Account =
     IsRomLength c.map (length rom) × (shapes.rom ≡ rom_of c.map rom) × (shapes.list ≡ c.entries) × (shapes.mode ≡ mode)
 
 -- the frame is good by the list; every run is safe with these counts, and has just these where the shapes are good in exact mode

@@ -9,7 +9,7 @@ ghost use Rattle.dvg_check.specs.declared.verdict.Yes.{Yes as Counts};
 ghost use Rattle.dvg_make.specs.declared.judging.FrameRefusal.{FrameRefusal as Refused};
 ghost use Rattle.dvg_make.specs.declared.judging.FrameRefusal.TheVariants.{Check};
 ghost use Rattle.dvg_cmd.specs.Detail.{IsBehind};
-ghost use Rattle.dvg_cmd.specs.Frames.{JudgesOver, VerdictOnBytes, VerdictOver};
+ghost use Rattle.dvg_cmd.specs.Frames.{MayJudgeOver, VerdictOnBytes, VerdictOver};
 ghost use Rattle.dvg_cmd.specs.declared.detail.Detail.{Detail};
 ghost use Rattle.dvg_cmd.specs.declared.detail.Detail.TheVariants as details;
 ghost use Rattle.dvg_cmd.specs.Private.Judging.{AreImages};
@@ -185,7 +185,7 @@ impl<'a, E: Entries> GivenCertificate<'a, E> {
 }
 
 impl<'a, E: Entries> FrameJudge for GivenCertificate<'a, E> {
-    ghost valid = { λ given detail. JudgesOver given.shapes.now given.cert.now given.rom.now given.mode detail };
+    ghost valid = { λ given detail. MayJudgeOver given.shapes.now given.cert.now given.rom.now given.mode detail };
 
     ghost is_verdict = { λ given bytes verdict. VerdictOver given.shapes.now (length given.cert.now.entries) bytes given.budget verdict };
 
