@@ -1,14 +1,16 @@
 -- The lines of a refusal because of an item. All of it is profile.
-use Rattle.std.specs.Prelude.{◌≡◌, ℕ, List, [], ◌∷◌, ◌++◌, length, Option, Some, None, IfSome, option_to_list}
+use Rattle.std.specs.Prelude.{◌≡◌, ℕ, List, [], ◌∷◌, ◌++◌, length, Option, Some, None, IfSome, IfNone, option_to_list}
 use Rattle.dvg_words.specs.Memory.{Rom, rom_word, frame_word, words_of, IsFrameLength}
 use Rattle.dvg_cert.specs.declared.entry.Entry.{Entry}
 use Rattle.dvg_items.specs.Known.{frame_context, shape_context}
+use Rattle.dvg_items.specs.declared.item.Kind.TheVariants.{Frame, Shape}
 use Rattle.dvg_check.specs.FirstFault.{frame_number, shape_number}
 use Rattle.dvg_explain.specs.declared.calls.Call.{Call}
 use Rattle.dvg_explain.specs.Chains.{IsChain}
-use Rattle.dvg_explain.specs.Losses.{AreLosses}
+use Rattle.dvg_explain.specs.Losses.{AreLosses, NoneLead}
 use Rattle.dvg_explain.specs.declared.frames.FrameAccount.{FrameAccount}
 use Rattle.dvg_explain.specs.declared.shapes.ShapeAccount.{ShapeAccount}
+use Rattle.dvg_make.specs.Made.{HasEntry}
 use Rattle.dvg_account.specs.Items.{RefusedItem, IsItem, callee_of, item_lines}
 use Rattle.dvg_account.specs.Why.{TellsFrame, TellsShape}
 use Rattle.dvg_account.specs.declared.why.Why.{Why as Sentence}
@@ -16,13 +18,14 @@ use Rattle.dvg_account.specs.declared.line.Line.{Line}
 use Rattle.dvg_account.specs.declared.line.Line.TheVariants.{Rule, Why, Path, WhatToDo}
 use Rattle.dvg_account.specs.declared.line.PathLine.TheVariants as path
 
--- the lines of the first fault of a frame: its rule, its cause, its item, and what to do
+-- the lines of the first fault of a frame: its rule, its cause, its item, and what to do. No losses are told where no items lead there
 pub record FrameLines (frame : List ℕ) (list : List Entry) (a : FrameAccount) (lines : List Line) : Type 0 where
   pub why : Sentence
   pub tells : TellsFrame frame a.finding a.cause why
   pub item : RefusedItem
   pub is_item : IsItem (frame_word frame) a.finding.fault.word a.finding.before (callee_of a.finding.found) item
   pub lost : IfSome item.losses (AreLosses (frame_context list) (frame_word frame) 0 a.finding.fault.word)
+  pub unled : IfNone item.losses (NoneLead Frame (frame_word frame) 0 a.finding.fault.word)
   pub told : lines ≡ Rule (frame_number a.finding.fault.why) ∷ Why why ∷ item_lines item ++ WhatToDo (frame_number a.finding.fault.why) ∷ []
 
 -- how the frame with these bytes reaches an entry: by these calls, or by none; without a frame there is no line
@@ -40,6 +43,8 @@ pub record ShapeLines (rom : Rom) (frame : List ℕ) (list : List Entry) (a : Sh
   pub item : RefusedItem
   pub is_item : IsItem (rom_word rom) a.finding.fault.word a.finding.before (callee_of a.finding.found) item
   pub lost : IfSome item.losses (AreLosses (shape_context list a.finding.entry) (rom_word rom) a.finding.entry.addr a.finding.fault.word)
+  pub unled : IfNone item.losses (HasEntry list a.finding.entry.addr a.finding.entry.key
+      → NoneLead Shape (rom_word rom) a.finding.entry.addr a.finding.fault.word)
   pub chain : Option Line
   pub reached : TellsChain rom frame list a.finding.entry chain
   pub told : lines ≡ Rule (shape_number a.finding.fault.why) ∷ Why why ∷ item_lines item

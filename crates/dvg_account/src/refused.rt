@@ -1,10 +1,12 @@
 //! The account of a refusal because of an item of a frame or of a shape.
 
 ghost use Rattle.dvg_account.specs.Verdicts.{RefusedLines};
-ghost use Rattle.std.specs.Prelude.{◌≡◌, option_copied, IfOk, IfSome};
+ghost use Rattle.std.specs.Prelude.{◌≡◌, option_copied, IfOk, IfSome, IfNone};
 ghost use Rattle.dvg_words.specs.Memory.{rom_word};
 ghost use Rattle.dvg_items.specs.Known.{shape_context};
-ghost use Rattle.dvg_explain.specs.Losses.{AreLosses};
+ghost use Rattle.dvg_items.specs.declared.item.Kind.TheVariants.{Shape};
+ghost use Rattle.dvg_explain.specs.Losses.{AreLosses, NoneLead};
+ghost use Rattle.dvg_make.specs.Made.{HasEntry};
 ghost use Rattle.dvg_account.specs.Refused.{FrameLines, ShapeLines, TellsChain};
 ghost use Rattle.dvg_account.specs.Building.{Adds};
 
@@ -127,7 +129,8 @@ fn chain_line(
 
 /// The items of an entry's shape by which the place and the scale were lost that are not known before a word.
 fn losses_in_shape(rom: &RomImage, cert: &Cert, entry: &Entry, at: u16) -> Option<Losses>
-    ensures { IfSome result (AreLosses (shape_context cert.now.entries entry.now) (rom_word rom.now) entry.now.addr at) }
+    ensures some { IfSome result (AreLosses (shape_context cert.now.entries entry.now) (rom_word rom.now) entry.now.addr at) }
+    ensures none { IfNone result (HasEntry cert.now.entries entry.now.addr entry.now.key → NoneLead Shape (rom_word rom.now) entry.now.addr at) }
 {
     let entries = ListIndex::new(cert);
     match entries.find(entry.addr, entry.key) {

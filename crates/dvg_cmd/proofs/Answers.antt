@@ -1,9 +1,10 @@
 -- The answer to a frame, and what an accepted line says of it, over plain values.
-use Rattle.std.proofs.Common.{◌≡◌, refl, sym, ap, ◌∙◌, subst, inl, inr, ℕ, List, [], ◌∷◌, ◌++◌, length, Option, None, Some}
-use Rattle.std.specs.Prelude.{Result, Ok, Err, IfOk, IfSome}
+use Rattle.std.proofs.Common.{◌≡◌, refl, sym, ap, ◌∙◌, subst, ℕ, List, [], ◌∷◌, ◌++◌, length, Option, None, Some}
+use Rattle.std.specs.Prelude.{Result, Ok, Err, IfOk, OnOk, OnErr, IfSome}
 use Rattle.std.specs.Io.KnownBytes.{Appends}
 use Rattle.dvg_words.specs.Memory.{Rom, words_of, IsFrameLength}
 use Rattle.dvg_words.specs.Values.{Window}
+use Rattle.dvg_cert.specs.Devices.{AppendsPrefix, TakesOneWrite}
 use Rattle.dvg_check.specs.Safety.{Safe, CountsAtHalt}
 use Rattle.dvg_check.specs.declared.verdict.Refusal.TheVariants as refusal
 use Rattle.dvg_check.specs.declared.verdict.Yes.{Yes}
@@ -12,9 +13,10 @@ use Rattle.dvg_make.specs.declared.judging.FrameRefusal.{FrameRefusal}
 use Rattle.dvg_make.specs.declared.judging.FrameRefusal.TheVariants as frame
 use Rattle.dvg_spelling.specs.Outcomes.{refusal_outcome_of}
 use Rattle.dvg_spelling.specs.declared.outcome.FrameOutcome.TheVariants as outcome
-use Rattle.dvg_cmd.specs.Detail.{Detail}
+use Rattle.dvg_cmd.specs.Detail.{Detail, Behind, IsBehind, behind_text, frame_outcome_behind}
+use Rattle.dvg_cmd.specs.declared.detail.Behind.TheVariants as behind
 use Rattle.dvg_cmd.specs.Runs.{MOST_FRAME_READ, IsReadTo, RunFault}
-use Rattle.dvg_cmd.specs.Frames.{FrameAnswer, Judged, Unread, FrameOutcome, worse, ReadsFrame, AnswersFrame, WritesAnswer, IsFrameOutcomeOf, frame_outcome_of, frame_line, is_unread, is_unread_outcome}
+use Rattle.dvg_cmd.specs.Frames.{FrameAnswer, Judged, Unread, FrameOutcome, worse, ReadsFrame, AnswersFrame, WritesAnswer, WritesAnswerPrefix, ReportsFrame, ReportsFramePrefix, frame_outcome_of, frame_line, is_unread, is_unread_outcome}
 use Rattle.dvg_cmd.specs.Start.{jumped, started}
 use Rattle.dvg_cmd.specs.SafeFrames.{ReportsFrameSafe, ReportsFrameCounts}
 
@@ -83,11 +85,39 @@ module _ (IsVerdict : List ℕ → Result Yes FrameRefusal → Type 0) (rom : Ro
   pub answers_unread : AnswersFrame IsVerdict rom w IsExact start reader left Unread
   answers_unread = record { means = tt; safe = λ y is. cc; exact = λ e y is. cc }
 
+-- ---- what is written
+
+-- what was written of an answer and behind it is its line, if the detail asks for that
+module _ (detail : Detail) (what : Behind) (asked : IsBehind detail what) (name : List ℕ) (answer : FrameAnswer) (old new : Option (List ℕ)) where
+  pub writes_answer : (r : Result FrameOutcome RunFault) (writes writes_after : ℕ) → IfOk r (λ end. end ≡ frame_outcome_behind what (frame_outcome_of answer)) → OnOk r (Appends old new (frame_line name answer ++ behind_text what))
+      → OnOk r (TakesOneWrite (frame_line name answer ++ behind_text what) writes writes_after) → IfOk r (WritesAnswer detail name answer old new writes writes_after)
+  writes_answer (Ok end) writes writes_after is text one = record { behind = what; asked = asked; written = text; one_write = one; outcome_is = is }
+  writes_answer (Err fault) writes writes_after is text one = tt
+
+  pub cuts_answer : (r : Result FrameOutcome RunFault) → OnErr r (AppendsPrefix old new (frame_line name answer ++ behind_text what)) → OnErr r (WritesAnswerPrefix detail name answer old new)
+  cuts_answer (Ok end) text = tt
+  cuts_answer (Err fault) text = record { behind = what; asked = asked; written = text }
+
+module _ (IsVerdict : List ℕ → Result Yes FrameRefusal → Type 0) (rom : Rom) (w : Window) (IsExact : Type 0) (detail : Detail) (start : Option ℕ) (name : List ℕ) (reader left old new : Option (List ℕ))
+    (answer : FrameAnswer) (answers : AnswersFrame IsVerdict rom w IsExact start reader left answer) where
+  pub reports_frame : (r : Result FrameOutcome RunFault) (writes writes_after : ℕ) → IfOk r (WritesAnswer detail name answer old new writes writes_after)
+      → IfOk r (ReportsFrame IsVerdict rom w IsExact detail start name reader left old new writes writes_after)
+  reports_frame (Ok end) writes writes_after line = record { answer = answer; answers = answers; line = line }
+  reports_frame (Err fault) writes writes_after line = tt
+
+  pub cuts_frame : (r : Result FrameOutcome RunFault) → OnErr r (WritesAnswerPrefix detail name answer old new) → OnErr r (ReportsFramePrefix IsVerdict rom w IsExact detail start name reader left old new)
+  cuts_frame (Ok end) line = tt
+  cuts_frame (Err fault) line = record { answer = answer; answers = answers; line = line }
+
 -- ---- what an accepted line says
 
-line_accepted : (answer : FrameAnswer) (account : List ℕ) (end : FrameOutcome) → IsFrameOutcomeOf answer account end → end ≡ outcome.Accepted → frame_outcome_of answer ≡ outcome.Accepted
-line_accepted answer account end (inl same) is = sym same ∙ is
-line_accepted answer account end (inr told) is = absurd (worse_refused (frame_outcome_of answer) (sym told.0 ∙ is))
+line_accepted : (what : Behind) (line : FrameOutcome) → frame_outcome_behind what line ≡ outcome.Accepted → line ≡ outcome.Accepted
+line_accepted behind.Nothing line is = is
+line_accepted (behind.Account text) line is = is
+line_accepted behind.NoMemory line is = absurd (worse_refused line is)
+
+ok_accepted : (r : Result FrameOutcome RunFault) (o : FrameOutcome) → r ≡ Ok o → r ≡ Ok outcome.Accepted → o ≡ outcome.Accepted
+ok_accepted r o same is = cc
 
 accepted_yes : (answer : FrameAnswer) → frame_outcome_of answer ≡ outcome.Accepted → (y : Yes) × (answer ≡ Judged (Ok y))
 accepted_yes Unread is = cc
@@ -99,14 +129,14 @@ module _ (IsVerdict : List ℕ → Result Yes FrameRefusal → Type 0) (rom : Ro
   pub frame_safe : (r : Result FrameOutcome RunFault) → IfOk r (WritesAnswer detail name answer old new writes writes_after) → r ≡ Ok outcome.Accepted → ReportsFrameSafe detail rom w start name reader old new
   frame_safe (Err fault) line is = cc
   frame_safe (Ok o) line is =
-      let a = accepted_yes answer (line_accepted answer line.account o line.outcome_is cc) in
-      record { yes = a.0; account = line.account; behind = line.behind; written = subst (λ x. Appends old new (frame_line name x ++ line.account)) a.1 line.written; safe = answers.safe a.0 a.1 }
+      let a = accepted_yes answer (line_accepted line.behind (frame_outcome_of answer) (sym line.outcome_is ∙ ok_accepted (Ok o) o refl is)) in
+      record { yes = a.0; behind = line.behind; asked = line.asked; written = subst (λ x. Appends old new (frame_line name x ++ behind_text line.behind)) a.1 line.written; safe = answers.safe a.0 a.1 }
 
   pub frame_counts : (r : Result FrameOutcome RunFault) → IfOk r (WritesAnswer detail name answer old new writes writes_after) → IsExact → r ≡ Ok outcome.Accepted → ReportsFrameCounts detail rom start name reader old new
   frame_counts (Err fault) line e is = cc
   frame_counts (Ok o) line e is =
-      let a = accepted_yes answer (line_accepted answer line.account o line.outcome_is cc) in
-      record { yes = a.0; account = line.account; behind = line.behind; written = subst (λ x. Appends old new (frame_line name x ++ line.account)) a.1 line.written; counts = answers.exact e a.0 a.1 }
+      let a = accepted_yes answer (line_accepted line.behind (frame_outcome_of answer) (sym line.outcome_is ∙ ok_accepted (Ok o) o refl is)) in
+      record { yes = a.0; behind = line.behind; asked = line.asked; written = subst (λ x. Appends old new (frame_line name x ++ behind_text line.behind)) a.1 line.written; counts = answers.exact e a.0 a.1 }
 
 -- ---- whether a frame could not be read
 

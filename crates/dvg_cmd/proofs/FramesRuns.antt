@@ -1,5 +1,5 @@
 -- What a run of the maker for frames answers, over plain values.
-use Rattle.std.proofs.Common.{◌≡◌, ℕ, List, length, Option, None, Some, refl, sym, ap, ◌∙◌, subst}
+use Rattle.std.proofs.Common.{◌≡◌, ◌<◌, ◌⊎◌, ℕ, List, [], ◌∷◌, length, Option, None, Some, inl, inr, refl, sym, ap, ◌∙◌, subst, arith}
 use Rattle.std.specs.Prelude.{Result, Ok, Err, IfErr, IsErrAnd}
 use Rattle.std.specs.Io.KnownBytes.{Appends}
 use Rattle.dvg_cert.specs.Devices.{AppendsPrefix}
@@ -20,7 +20,7 @@ use Rattle.dvg_make.specs.declared.fault.MakeFault.TheVariants as making
 use Rattle.dvg_spelling.specs.Faults.{told_fault}
 use Rattle.dvg_spelling.specs.declared.fault.MakeRunFault.TheVariants as maker
 use Rattle.dvg_spelling.specs.declared.fault.FramesRunFault.TheVariants as fault
-use Rattle.dvg_cmd.specs.MakingFrames.{of_each, AreFrames, Inputs, MakesForFrames, RefusesInputs, FramesRunFault, FramesFaultMeans}
+use Rattle.dvg_cmd.specs.MakingFrames.{of_each, AreFrames, Inputs, MakesForFrames, RefusesInputs, RefusesMemory, FramesRunFault, FramesFaultMeans}
 use Rattle.dvg_cmd.specs.Private.Reading.{IsPrefix, ArePrefixes, RefusesLengths}
 use Rattle.dvg_cmd.proofs.Whole.{held_bytes, held_told}
 use Rattle.dvg_cmd.proofs.MakerRuns.{whole_length, whole_image}
@@ -30,6 +30,24 @@ use Rattle.dvg_cmd.proofs.SeveralFrames.{held_each, each_held, each_same, first_
 pub told_err : {A : Type 0} (r : Result A FramesRunFault) (f : FramesRunFault) (P : FramesRunFault → Type 0) → IsErrAnd r (λ x. x ≡ f) → P f → IfErr r P
 told_err (Ok a) f P is h = tt
 told_err (Err x) f P is h = subst P (sym is) h
+
+-- where there are readers, that memory was out says nothing
+pub memory_refused : (rom : Option (List ℕ)) (map : MemoryMap) (roots : List (ℕ × Key)) (readers : List (Option (List ℕ))) → 0 < length readers → RefusesMemory rom map roots readers
+memory_refused rom map roots [] some = absurd (omega (arith, some))
+memory_refused rom map roots (r ∷ readers) some = tt
+
+some_readers : (readers : List (Option (List ℕ))) (frames : List (List ℕ)) → ArePrefixes readers frames → 0 < length frames → 0 < length readers
+some_readers [] [] h some = some
+some_readers (r ∷ readers) (b ∷ frames) h some = omega arith
+some_readers [] (b ∷ frames) h some = absurd h
+some_readers (r ∷ readers) [] h some = absurd h
+
+-- a fault of reading frames says no more than that there are some
+pub reading_refused : {A : Type 0} (r : Result A FramesRunFault) (rom : Option (List ℕ)) (map : MemoryMap) (roots : List (ℕ × Key)) (readers : List (Option (List ℕ))) (f : FramesRunFault)
+    → (f ≡ fault.ReadFrame) ⊎ (f ≡ fault.Plain (maker.Make making.Memory)) → 0 < length readers → IsErrAnd r (λ x. x ≡ f) → IfErr r (FramesFaultMeans rom map roots readers)
+reading_refused r rom map roots readers f (inl is) some same = told_err r f (FramesFaultMeans rom map roots readers) same (subst (λ x. FramesFaultMeans rom map roots readers x) (sym is) tt)
+reading_refused r rom map roots readers f (inr is) some same =
+    told_err r f (FramesFaultMeans rom map roots readers) same (subst (λ x. FramesFaultMeans rom map roots readers x) (sym is) (memory_refused rom map roots readers some))
 
 module _ (map : MemoryMap) (is : IsMap map) (rom : Option (List ℕ)) (roots : List (ℕ × Key)) (rb : List ℕ) (image : Rom) (read : IsPrefix 4097 rom rb) (h : IsRomLength map (length rb) × (image ≡ rom_of map rb))
     (readers : List (Option (List ℕ))) (frames : List (List ℕ)) (prefixes : ArePrefixes readers frames) where
@@ -66,13 +84,17 @@ module _ (map : MemoryMap) (is : IsMap map) (rom : Option (List ℕ)) (roots : L
           (subst (λ l. HasCause image roots l f) words_same told),
     )
 
+    told_memory : (rs : List (Option (List ℕ))) → RefusesInputs rom map roots rs (record { call = None; why = entry.Memory }) → RefusesMemory rom map roots rs
+    told_memory [] refuses = refuses
+    told_memory (r ∷ rs) refuses = tt
+
     told_at : (call : Option FrameCall) (why : EntryFault) → RefusesInputs rom map roots readers (record { call = call; why = why }) → FramesFaultMeans rom map roots readers (told_fault call why)
     told_at (Some call) why refuses = refuses
     told_at None (entry.Unstraight word) refuses = (entry.Unstraight word, refl, refuses)
     told_at None entry.Deep refuses = (entry.Deep, refl, refuses)
     told_at None entry.TooManyWords refuses = (entry.TooManyWords, refl, refuses)
     told_at None entry.TooManyEntries refuses = (entry.TooManyEntries, refl, refuses)
-    told_at None entry.Memory refuses = tt
+    told_at None entry.Memory refuses = told_memory readers refuses
 
     pub frames_refused : (f : FramesFault) → FramesRefuse image roots words f → HasCause image roots words f → FramesFaultMeans rom map roots readers (told_fault f.call f.why)
     frames_refused f refuses told = told_at f.call f.why (refused_all f refuses told)
@@ -87,7 +109,7 @@ module _ (map : MemoryMap) (is : IsMap map) (rom : Option (List ℕ)) (roots : L
         rom_length = whole_length map is rom rb read h.0;
         wrong = first_wrong readers frames n prefixes wrong;
       }
-  lengths_refused (fault.Plain (maker.Make making.Memory)) wrong = tt
+  lengths_refused (fault.Plain (maker.Make making.Memory)) wrong = memory_refused rom map roots readers (some_readers readers frames prefixes wrong)
   lengths_refused (fault.Plain (maker.Make (making.Unstraight word))) wrong = absurd wrong
   lengths_refused (fault.Plain (maker.Make making.Deep)) wrong = absurd wrong
   lengths_refused (fault.Plain (maker.Make making.TooLarge)) wrong = absurd wrong

@@ -5,6 +5,7 @@ pub mod Reporting
 pub mod SeveralFrames
 pub mod MakerRuns
 pub mod FramesRuns
+pub mod RootsRuns
 pub mod Framing
 pub mod Reported
 pub mod Answers

@@ -1,7 +1,9 @@
 -- What a run of the checker writes, over plain values.
-use Rattle.std.proofs.Common.{◌≡◌, refl, sym, ◌∙◌, inl, inr, ℕ, List, Option}
-use Rattle.std.specs.Prelude.{Result, IfOk, Ok, Err}
+use Rattle.std.proofs.Common.{◌≡◌, ◌++◌, refl, sym, ◌∙◌, ℕ, List, Option}
+use Rattle.std.specs.Prelude.{Result, IfOk, OnOk, OnErr, Ok, Err}
+use Rattle.std.specs.Io.KnownBytes.{Appends}
 use Rattle.dvg_words.specs.Values.{Window}
+use Rattle.dvg_cert.specs.Devices.{AppendsPrefix, TakesOneWrite}
 use Rattle.dvg_cert.specs.declared.fault.CertWhy.{CertWhy}
 use Rattle.dvg_cert.specs.declared.fault.CertWhy.TheVariants as why
 use Rattle.dvg_check.specs.declared.fault.Mode.{Mode}
@@ -10,8 +12,21 @@ use Rattle.dvg_check.specs.declared.verdict.Refusal.{Refusal}
 use Rattle.dvg_check.specs.declared.verdict.Refusal.TheVariants as refusal
 use Rattle.dvg_check.specs.declared.verdict.Yes.{Yes}
 use Rattle.dvg_spelling.specs.Outcomes.{cert_outcome}
-use Rattle.dvg_cmd.specs.Detail.{Detail}
-use Rattle.dvg_cmd.specs.Runs.{Outcome, Accepted, RunFault, IsReadFor, Judges, SafeRead, CountsRead, outcome_of, IsOutcomeOf, WritesReport, Reports, ReportsSafe, ReportsCounts}
+use Rattle.dvg_spelling.specs.Report.{report_text}
+use Rattle.dvg_cmd.specs.Detail.{Detail, Behind, IsBehind, behind_text, outcome_behind}
+use Rattle.dvg_cmd.specs.declared.detail.Behind.TheVariants as behind
+use Rattle.dvg_cmd.specs.Runs.{Outcome, Accepted, RunFault, IsReadFor, Judges, SafeRead, CountsRead, outcome_of, WritesReport, WritesReportPrefix, Reports, ReportsSafe, ReportsCounts}
+
+-- what was written of a verdict and behind it is its report, if the detail asks for that
+module _ (detail : Detail) (what : Behind) (asked : IsBehind detail what) (v : Result Yes Refusal) (old new : Option (List ℕ)) where
+  pub writes_report : (r : Result Outcome RunFault) (writes writes_after : ℕ) → IfOk r (λ outcome. outcome ≡ outcome_behind what (outcome_of v)) → OnOk r (Appends old new (report_text v ++ behind_text what))
+      → OnOk r (TakesOneWrite (report_text v ++ behind_text what) writes writes_after) → IfOk r (WritesReport detail v old new writes writes_after)
+  writes_report (Ok outcome) writes writes_after is text one = record { behind = what; asked = asked; written = text; one_write = one; outcome_is = is }
+  writes_report (Err fault) writes writes_after is text one = tt
+
+  pub cuts_report : (r : Result Outcome RunFault) → OnErr r (AppendsPrefix old new (report_text v ++ behind_text what)) → OnErr r (WritesReportPrefix detail v old new)
+  cuts_report (Ok outcome) text = tt
+  cuts_report (Err fault) text = record { behind = what; asked = asked; written = text }
 
 -- the report of a verdict is that of the one on all bytes that the readers held
 pub reports : (r : Result Outcome RunFault) (detail : Detail) (mode : Mode) (w : Window) (rom cert left frame : Option (List ℕ)) (budget : ℕ) (old new : Option (List ℕ)) (writes writes_after : ℕ) (v : Result Yes Refusal) → Judges mode w rom cert frame budget v → IsReadFor v cert left → IfOk v (SafeRead w rom cert frame) → (mode ≡ Exact → IfOk v (CountsRead rom cert frame)) → IfOk r (WritesReport detail v old new writes writes_after) → IfOk r (Reports detail mode w rom cert left frame budget old new writes writes_after)
@@ -38,20 +53,21 @@ refused refusal.IndexMemory h = cc
 refused (refusal.Shape f) h = cc
 refused (refusal.Frame f) h = cc
 
-verdict_accepted : (v : Result Yes Refusal) (account : List ℕ) (outcome : Outcome) → IsOutcomeOf v account outcome → outcome ≡ Accepted → outcome_of v ≡ Accepted
-verdict_accepted v account outcome (inl same) is = sym same ∙ is
-verdict_accepted v account outcome (inr told) is = cc
+line_accepted : (what : Behind) (line : Outcome) → outcome_behind what line ≡ Accepted → line ≡ Accepted
+line_accepted behind.Nothing line is = is
+line_accepted (behind.Account text) line is = is
+line_accepted behind.NoMemory line is = cc
 
 module _ (detail : Detail) (outcome : Outcome) (old new : Option (List ℕ)) (writes writes_after : ℕ) where
   accepted_safe : (v : Result Yes Refusal) → WritesReport detail v old new writes writes_after outcome → outcome ≡ Accepted
       → (w : Window) (rom cert frame : Option (List ℕ)) → IfOk v (SafeRead w rom cert frame) → ReportsSafe detail w rom cert frame old new
-  accepted_safe (Ok y) h is w rom cert frame safe = record { yes = y; account = h.account; behind = h.behind; written = h.written; safe = safe }
-  accepted_safe (Err r) h is w rom cert frame safe = absurd (refused r (verdict_accepted (Err r) h.account outcome h.outcome_is is))
+  accepted_safe (Ok y) h is w rom cert frame safe = record { yes = y; behind = h.behind; asked = h.asked; written = h.written; safe = safe }
+  accepted_safe (Err r) h is w rom cert frame safe = absurd (refused r (line_accepted h.behind (outcome_of (Err r)) (sym h.outcome_is ∙ is)))
 
   accepted_counts : (v : Result Yes Refusal) → WritesReport detail v old new writes writes_after outcome → outcome ≡ Accepted
       → (rom cert frame : Option (List ℕ)) → IfOk v (CountsRead rom cert frame) → ReportsCounts detail rom cert frame old new
-  accepted_counts (Ok y) h is rom cert frame counts = record { yes = y; account = h.account; behind = h.behind; written = h.written; counts = counts }
-  accepted_counts (Err r) h is rom cert frame counts = absurd (refused r (verdict_accepted (Err r) h.account outcome h.outcome_is is))
+  accepted_counts (Ok y) h is rom cert frame counts = record { yes = y; behind = h.behind; asked = h.asked; written = h.written; counts = counts }
+  accepted_counts (Err r) h is rom cert frame counts = absurd (refused r (line_accepted h.behind (outcome_of (Err r)) (sym h.outcome_is ∙ is)))
 
 ok_accepted : (r : Result Outcome RunFault) (outcome : Outcome) → r ≡ Ok outcome → r ≡ Ok Accepted → outcome ≡ Accepted
 ok_accepted r outcome same is = cc

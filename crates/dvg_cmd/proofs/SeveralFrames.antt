@@ -21,7 +21,7 @@ of_each_append f (x ∷ xs) ys = ap (λ l. f x ∷ l) (of_each_append f xs ys)
 of_each_next : {A B : Type 0} (f : A → B) (xs : List A) (i : ℕ) (d : A) → i < length xs → of_each f (take (suc i) xs) ≡ of_each f (take i xs) ++ f (get_or xs i d) ∷ []
 of_each_next f xs i d lt = ap (λ l. of_each f l) (take-suc xs i d lt) ∙ of_each_append f (take i xs) (get_or xs i d ∷ [])
 
-length_of_each : {A B : Type 0} (f : A → B) (xs : List A) → length (of_each f xs) ≡ length xs
+pub length_of_each : {A B : Type 0} (f : A → B) (xs : List A) → length (of_each f xs) ≡ length xs
 length_of_each f [] = refl
 length_of_each f (x ∷ xs) = ap suc (length_of_each f xs)
 

@@ -1,13 +1,14 @@
 -- The lines of several frames, one after another, over plain values.
-use Rattle.std.proofs.Common.{◌≡◌, refl, sym, ap, ◌∙◌, subst, inl, ℕ, ◌+◌, List, [], ◌∷◌, ◌++◌, length, take, Option, None, Some, append-nil, append_assoc, length-append, arith}
+use Rattle.std.proofs.Common.{◌≡◌, refl, sym, ap, ◌∙◌, subst, ℕ, ◌+◌, List, [], ◌∷◌, ◌++◌, length, take, Option, None, Some, append-nil, append_assoc, length-append, arith}
 use Rattle.std.proofs.Math.Seq.{take-append-add}
 use Rattle.std.specs.Prelude.{Result, Ok, Err, IfOk, OnErr, option_map}
 use Rattle.std.specs.Io.KnownBytes.{Appends}
 use Rattle.std.proofs.KnownBytes.{Appends-nil, Appends-trans}
-use Rattle.dvg_words.specs.Memory.{Rom, rom_of}
+use Rattle.dvg_words.specs.Memory.{Rom, rom_of, IsRomLength}
 use Rattle.dvg_words.specs.Values.{MemoryMap, Window}
 use Rattle.dvg_cert.specs.Devices.{AppendsPrefix, TakesOneWrite}
 use Rattle.dvg_check.specs.Judged.{Shapes}
+use Rattle.dvg_check.specs.declared.fault.Mode.{Mode}
 use Rattle.dvg_check.specs.declared.fault.Mode.TheVariants.{Bound}
 use Rattle.dvg_check.specs.declared.verdict.Yes.{Yes}
 use Rattle.dvg_cert.specs.Order.{Certificate}
@@ -16,9 +17,10 @@ use Rattle.dvg_spelling.specs.declared.outcome.FrameOutcome.TheVariants as outco
 use Rattle.dvg_spelling.specs.Each.{of_each}
 use Rattle.dvg_cmd.proofs.SeveralFrames.{of_each_append}
 use Rattle.dvg_cmd.specs.Detail.{Detail}
+use Rattle.dvg_cmd.specs.declared.detail.Detail.TheVariants as details
 use Rattle.dvg_cmd.specs.Runs.{RunFault}
-use Rattle.dvg_cmd.specs.Frames.{FrameOutcome, worse, Unread, frame_outcome_of, WritesAnswer, WritesAnswerPrefix, ReportsFrame, ReportsFramePrefix}
-use Rattle.dvg_cmd.specs.SeveralFrames.{OpenedFrame, opened, Line, line_text, lines_text, TakeOneWriteEach, worst_of, IsLineOf, AreLinesOf, ReportsFrames, ReportsFramesPrefix, shapes_of}
+use Rattle.dvg_cmd.specs.Frames.{FrameOutcome, worse, Unread, MayJudgeOver, WritesAnswer, WritesAnswerPrefix, ReportsFrame, ReportsFramePrefix}
+use Rattle.dvg_cmd.specs.SeveralFrames.{OpenedFrame, opened, Line, line_text, line_outcome, lines_text, TakeOneWriteEach, worst_of, IsLineOf, AreLinesOf, ReportsFrames, ReportsFramesPrefix, shapes_of}
 use Rattle.dvg_cmd.specs.declared.several_frames.NamedFrame.{NamedFrame}
 use Rattle.dvg_cmd.specs.Private.Named.{WritesLineOf, WritesLineOfPrefix}
 
@@ -37,9 +39,9 @@ one_write_on : (lines : List Line) (line : Line) (old mid new : ℕ) → TakeOne
 one_write_on [] line old mid new h one = (new, subst (λ n. TakesOneWrite (line_text line) n new) h one, refl)
 one_write_on (l ∷ lines) line old mid new h one = (h.0, h.1, one_write_on lines line h.0 mid new h.2 one)
 
-worst_on : (end : FrameOutcome) (lines : List Line) (line : Line) → worst_of end (lines ++ line ∷ []) ≡ worse (worst_of end lines) line.end
+worst_on : (end : FrameOutcome) (lines : List Line) (line : Line) → worst_of end (lines ++ line ∷ []) ≡ worse (worst_of end lines) (line_outcome line)
 worst_on end [] line = refl
-worst_on end (l ∷ lines) line = worst_on (worse end l.end) lines line
+worst_on end (l ∷ lines) line = worst_on (worse end (line_outcome l)) lines line
 
 module _ (IsVerdict : List ℕ → Result Yes FrameRefusal → Type 0) (rom : Rom) (w : Window) (IsExact : Type 0) (detail : Detail) (start : Option ℕ) where
   lines_of_on : (frames : List OpenedFrame) (lines : List Line) (frame : OpenedFrame) (line : Line) → AreLinesOf IsVerdict rom w IsExact detail start frames lines → IsLineOf IsVerdict rom w IsExact detail start frame line
@@ -101,11 +103,11 @@ module _ (IsVerdict : List ℕ → Result Yes FrameRefusal → Type 0) (rom : Ro
     line_of_frame reader left writes writes_after (Ok end) frame is h =
         subst (λ f. WritesLineOf IsVerdict rom w IsExact detail start f old new writes writes_after end) (sym is)
         (record {
-          line = record { name = name; answer = h.answer; account = h.line.account; end = end };
-          line_of = record { name_is = refl; answers = (left, h.answers); behind = h.line.behind; outcome_is = h.line.outcome_is };
+          line = record { name = name; answer = h.answer; behind = h.line.behind };
+          line_of = record { name_is = refl; answers = (left, h.answers); asked = h.line.asked };
           written = h.line.written;
           one_write = h.line.one_write;
-          end_is = refl;
+          end_is = sym h.line.outcome_is;
         })
 
     pub cut_frame : (reader left : Option (List ℕ)) (r : Result FrameOutcome RunFault) (frame : OpenedFrame) → frame ≡ record { name = name; held = Some reader }
@@ -115,8 +117,8 @@ module _ (IsVerdict : List ℕ → Result Yes FrameRefusal → Type 0) (rom : Ro
     cut_frame reader left (Err fault) frame is h =
         subst (λ f. WritesLineOfPrefix IsVerdict rom w IsExact detail start f old new) (sym is)
         (record {
-          line = record { name = name; answer = h.answer; account = h.line.account; end = frame_outcome_of h.answer };
-          line_of = record { name_is = refl; answers = (left, h.answers); behind = h.line.behind; outcome_is = inl refl };
+          line = record { name = name; answer = h.answer; behind = h.line.behind };
+          line_of = record { name_is = refl; answers = (left, h.answers); asked = h.line.asked };
           written = h.line.written;
         })
 
@@ -127,11 +129,11 @@ module _ (IsVerdict : List ℕ → Result Yes FrameRefusal → Type 0) (rom : Ro
     line_of_unopened writes writes_after (Ok end) frame is h =
         subst (λ f. WritesLineOf IsVerdict rom w IsExact detail start f old new writes writes_after end) (sym is)
         (record {
-          line = record { name = name; answer = Unread; account = h.account; end = end };
-          line_of = record { name_is = refl; answers = refl; behind = h.behind; outcome_is = h.outcome_is };
+          line = record { name = name; answer = Unread; behind = h.behind };
+          line_of = record { name_is = refl; answers = refl; asked = h.asked };
           written = h.written;
           one_write = h.one_write;
-          end_is = refl;
+          end_is = sym h.outcome_is;
         })
 
     pub cut_unopened : (r : Result FrameOutcome RunFault) (frame : OpenedFrame) → frame ≡ record { name = name; held = None }
@@ -141,8 +143,8 @@ module _ (IsVerdict : List ℕ → Result Yes FrameRefusal → Type 0) (rom : Ro
     cut_unopened (Err fault) frame is h =
         subst (λ f. WritesLineOfPrefix IsVerdict rom w IsExact detail start f old new) (sym is)
         (record {
-          line = record { name = name; answer = Unread; account = h.account; end = outcome.Unread };
-          line_of = record { name_is = refl; answers = refl; behind = h.behind; outcome_is = inl refl };
+          line = record { name = name; answer = Unread; behind = h.behind };
+          line_of = record { name_is = refl; answers = refl; asked = h.asked };
           written = h.written;
         })
 
@@ -165,6 +167,11 @@ shapes_with w c rom = record { rom = rom; list = c.entries; window = w; mode = B
 
 pub shapes_by : (w : Window) (rom : List ℕ) (c : Certificate) (map : MemoryMap) (image : Rom) (shapes : Shapes) → shapes ≡ record { rom = image; list = c.entries; window = w; mode = Bound } → image ≡ rom_of map rom → map ≡ c.map → shapes ≡ shapes_of w rom c
 shapes_by w rom c map image shapes is image_is map_is = is ∙ ap (shapes_with w c) (image_is ∙ ap (λ m. rom_of m rom) map_is)
+
+pub judges_over : (shapes : Shapes) (c : Certificate) (rom : List ℕ) (mode : Mode) → IsRomLength c.map (length rom) → shapes.rom ≡ rom_of c.map rom → shapes.list ≡ c.entries → shapes.mode ≡ mode
+    → (detail : Detail) → MayJudgeOver shapes c rom mode detail
+judges_over shapes c rom mode long rom_is list_is mode_is details.Line = (ap (λ r. r.map) rom_is, list_is)
+judges_over shapes c rom mode long rom_is list_is mode_is details.Account = (long, rom_is, list_is, mode_is)
 
 pub over_same : (P : Shapes → ℕ → ℕ → Type 0) (s t : Shapes) → s ≡ t → (m n : ℕ) → m ≡ n → (a b : ℕ) → a ≡ b → P s m a → P t n b
 over_same P s t st m n mn a b ab h = subst (λ x. P x n b) st (subst (λ x. P s x b) mn (subst (λ x. P s m x) ab h))

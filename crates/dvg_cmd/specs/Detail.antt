@@ -1,5 +1,10 @@
 -- What a run writes behind the line of an answer. All of it is profile.
-use Rattle.std.specs.Prelude.{◌≡◌, ℕ, List, [], codes, string_bytes}
+use Rattle.std.specs.Prelude.{◌≡◌, ◌≢◌, ℕ, List, [], codes, string_bytes}
+use Rattle.dvg_spelling.specs.Outcomes.{worse}
+use Rattle.dvg_spelling.specs.declared.outcome.Outcome.{Outcome}
+use Rattle.dvg_spelling.specs.declared.outcome.Outcome.TheVariants.{NoMemory}
+use Rattle.dvg_spelling.specs.declared.outcome.FrameOutcome.{FrameOutcome}
+use Rattle.dvg_spelling.specs.declared.outcome.FrameOutcome.TheVariants as frame
 pub use Rattle.dvg_cmd.specs.declared.detail.Detail.{Detail}
 pub use Rattle.dvg_cmd.specs.declared.detail.Detail.TheVariants as detail
 pub use Rattle.dvg_cmd.specs.declared.detail.Behind.{Behind}
@@ -9,13 +14,25 @@ pub use Rattle.dvg_cmd.specs.declared.detail.Behind.TheVariants as behind
 abbrev pub no_account : List ℕ
 no_account = codes "account: out of memory\n"
 
--- a text that may be written behind a line: none if the line alone is asked for, else any account
-abbrev pub IsBehind : Detail → List ℕ → Type 0
-IsBehind detail.Line text = text ≡ []
-IsBehind detail.Account text = Unit {0}
+-- what a detail asks for behind a line: nothing, or else an account, or that there was no memory for it
+abbrev pub IsBehind : Detail → Behind → Type 0
+IsBehind detail.Line what = what ≡ behind.Nothing
+IsBehind detail.Account what = what ≢ behind.Nothing
 
 -- the text that is written behind a line
 abbrev pub behind_text : Behind → List ℕ
 behind_text behind.Nothing = []
 behind_text (behind.Account text) = string_bytes text
 behind_text behind.NoMemory = no_account
+
+-- the outcome of a run, from that of its line and what is behind the line: if there was no memory for the account, it says so
+abbrev pub outcome_behind : Behind → Outcome → Outcome
+outcome_behind behind.Nothing line = line
+outcome_behind (behind.Account text) line = line
+outcome_behind behind.NoMemory line = NoMemory
+
+-- the same of a frame: the worse of the two
+abbrev pub frame_outcome_behind : Behind → FrameOutcome → FrameOutcome
+frame_outcome_behind behind.Nothing line = line
+frame_outcome_behind (behind.Account text) line = line
+frame_outcome_behind behind.NoMemory line = worse line frame.NoMemory

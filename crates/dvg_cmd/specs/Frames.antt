@@ -1,14 +1,16 @@
 -- The verdict on a frame by its own certificate, or over judged shapes, and what a run writes of it. All of it is profile.
-use Rattle.std.specs.Prelude.{◌≡◌, ◌⊎◌, ℕ, Bool, true, false, List, ◌++◌, take, length, Option, IfSome, Result, Ok, Err}
+use Rattle.std.specs.Prelude.{◌≡◌, ℕ, Bool, true, false, List, ◌++◌, take, length, Option, IfSome, Result, Ok, Err}
 use Rattle.std.specs.Io.KnownBytes.{Appends}
 use Rattle.dvg_words.specs.Values.{MemoryMap, Window}
 use Rattle.dvg_words.specs.Memory.{Rom, words_of, rom_of, IsRomLength, IsFrameLength}
 use Rattle.dvg_words.specs.declared.image.ImageFault.TheVariants.{RomLength, FrameLength}
 use Rattle.dvg_cert.specs.Devices.{AppendsPrefix, TakesOneWrite}
+use Rattle.dvg_cert.specs.Order.{Certificate}
 use Rattle.dvg_check.specs.Safety.{Safe, CountsAtHalt}
 use Rattle.dvg_check.specs.Judged.{Shapes}
 use Rattle.dvg_check.specs.Rules.{GoodFrame}
 use Rattle.dvg_check.specs.FirstFault.{FirstFrameFault}
+use Rattle.dvg_check.specs.declared.fault.Mode.{Mode}
 use Rattle.dvg_check.specs.declared.fault.Mode.TheVariants.{Exact}
 use Rattle.dvg_check.specs.Verdict.{InRange, RangeRefusal}
 use Rattle.dvg_check.specs.declared.verdict.Yes.{Yes}
@@ -17,7 +19,8 @@ use Rattle.dvg_make.specs.declared.judging.FrameRefusal.{FrameRefusal}
 use Rattle.dvg_make.specs.declared.judging.FrameRefusal.TheVariants.{Check}
 use Rattle.dvg_make.specs.Judging.{AreLeast, FrameRefused, HasCallCause, VerdictByMade}
 use Rattle.dvg_spelling.specs.Report.{frame_line_text}
-use Rattle.dvg_cmd.specs.Detail.{Detail, IsBehind, no_account}
+use Rattle.dvg_cmd.specs.Detail.{Detail, Behind, IsBehind, behind_text, frame_outcome_behind}
+use Rattle.dvg_cmd.specs.declared.detail.Detail.TheVariants as details
 use Rattle.dvg_cmd.specs.Runs.{MOST_FRAME_READ, IsReadTo}
 use Rattle.dvg_cmd.specs.SafeFrames.{SafeFrame, CountsFrame}
 use Rattle.dvg_cmd.specs.Start.{started}
@@ -74,6 +77,13 @@ VerdictOnBytes rom map bytes budget w (Err r) = IsRefused rom map bytes budget w
 
 -- ---- the verdict over shapes that were judged
 
+-- when a judge over these shapes may judge with a detail: they are shapes of the certificate's entries, over a ROM at its map; for an
+-- account, the ROM is also that of these bytes, and the mode is that in which the shapes were judged
+abbrev pub MayJudgeOver : Shapes → Certificate → List ℕ → Mode → Detail → Type 0
+MayJudgeOver shapes c rom mode details.Line = (shapes.rom.map ≡ c.map) × (shapes.list ≡ c.entries)
+MayJudgeOver shapes c rom mode details.Account =
+    IsRomLength c.map (length rom) × (shapes.rom ≡ rom_of c.map rom) × (shapes.list ≡ c.entries) × (shapes.mode ≡ mode)
+
 -- the frame is good by the list; every run is safe with these counts, and has just these where the shapes are good in exact mode
 pub record IsAcceptedOver (shapes : Shapes) (bytes : List ℕ) (budget : ℕ) (y : Yes) : Type 0 where
   pub in_range : InRange bytes budget
@@ -115,27 +125,22 @@ AnswerMeans IsVerdict start old new (Judged v) =
 abbrev pub frame_line : List ℕ → FrameAnswer → List ℕ
 frame_line name answer = name ++ frame_line_text answer
 
--- the outcome is the answer's, or the worse of it and that there was no memory for the account
-abbrev pub IsFrameOutcomeOf : FrameAnswer → List ℕ → FrameOutcome → Type 0
-IsFrameOutcomeOf answer account end =
-    (end ≡ frame_outcome_of answer) ⊎ ((end ≡ worse (frame_outcome_of answer) outcome.NoMemory) × (account ≡ no_account))
-
 -- the line of an answer and what the detail asks for behind it were written, by one write if they fit one, and nothing else;
 -- `writes` and `writes_after` count the writes that took their whole piece
 pub record WritesAnswer
     (detail : Detail) (name : List ℕ) (answer : FrameAnswer) (old new : Option (List ℕ)) (writes writes_after : ℕ)
     (end : FrameOutcome) : Type 0 where
-  pub account : List ℕ
-  pub behind : IsBehind detail account
-  pub written : Appends old new (frame_line name answer ++ account)
-  pub one_write : TakesOneWrite (frame_line name answer ++ account) writes writes_after
-  pub outcome_is : IsFrameOutcomeOf answer account end
+  pub behind : Behind
+  pub asked : IsBehind detail behind
+  pub written : Appends old new (frame_line name answer ++ behind_text behind)
+  pub one_write : TakesOneWrite (frame_line name answer ++ behind_text behind) writes writes_after
+  pub outcome_is : end ≡ frame_outcome_behind behind (frame_outcome_of answer)
 
 -- a prefix of them was written, and nothing else
 pub record WritesAnswerPrefix (detail : Detail) (name : List ℕ) (answer : FrameAnswer) (old new : Option (List ℕ)) : Type 0 where
-  pub account : List ℕ
-  pub behind : IsBehind detail account
-  pub written : AppendsPrefix old new (frame_line name answer ++ account)
+  pub behind : Behind
+  pub asked : IsBehind detail behind
+  pub written : AppendsPrefix old new (frame_line name answer ++ behind_text behind)
 
 -- how frames are judged: what is a verdict on bytes, and of which ROM, which window and whether exact counts it speaks
 module _ (IsVerdict : List ℕ → Result Yes FrameRefusal → Type 0) (rom : Rom) (w : Window) (IsExact : Type 0) where

@@ -6,6 +6,7 @@ use Rattle.dvg_cert.specs.Devices.{count_after}
 use Rattle.dvg_cert.specs.declared.entry.Entry.{Entry}
 use Rattle.dvg_cert.specs.declared.entry.Key.{Key}
 use Rattle.dvg_make.specs.declared.fault.EntryFault.{EntryFault}
+use Rattle.dvg_make.specs.declared.fault.EntryFault.TheVariants.{Memory}
 use Rattle.dvg_make.specs.declared.fault.FramesFault.{FramesFault}
 use Rattle.dvg_make.specs.declared.fault.MakeFault.{MakeFault}
 use Rattle.dvg_make.specs.declared.fault.MakeFault.TheVariants as making
@@ -98,9 +99,14 @@ RefusesInputs rom map roots frames refusal =
     (all : Inputs rom map frames) × FramesRefuse (rom_of map all.rom_bytes) roots (of_each words_of all.frame_bytes) refusal
     × HasCause (rom_of map all.rom_bytes) roots (of_each words_of all.frame_bytes) refusal
 
+-- that memory was out: without frames, it was the maker's; with frames, it may have been out as they were read, and this says nothing
+abbrev pub RefusesMemory : Option (List ℕ) → MemoryMap → List (ℕ × Key) → List (Option (List ℕ)) → Type 0
+RefusesMemory rom map roots [] = RefusesInputs rom map roots [] (record { call = None; why = Memory })
+RefusesMemory rom map roots (frame ∷ frames) = Unit {0}
+
 -- the maker refuses them with a refusal that names no frame; 63 says nothing
 abbrev pub RefusesRoots : Option (List ℕ) → MemoryMap → List (ℕ × Key) → List (Option (List ℕ)) → MakeFault → Type 0
-RefusesRoots rom map roots frames making.Memory = Unit {0}
+RefusesRoots rom map roots frames making.Memory = RefusesMemory rom map roots frames
 RefusesRoots rom map roots frames f =
     (why : EntryFault) × (make_fault_of why ≡ f) × RefusesInputs rom map roots frames (record { call = None; why = why })
 

@@ -1,5 +1,5 @@
 -- What a run says of the bytes that its readers held, and what it writes. All of it is profile.
-use Rattle.std.specs.Prelude.{◌≡◌, ◌⊎◌, ◌<◌, ◌≤◌, ℕ, Bool, true, false, List, ◌++◌, length, Option, IfSome, Result, Ok, Err, IfOk}
+use Rattle.std.specs.Prelude.{◌≡◌, ◌<◌, ◌≤◌, ℕ, Bool, true, false, List, ◌++◌, length, Option, IfSome, Result, Ok, Err, IfOk}
 use Rattle.std.specs.Io.KnownBytes.{Appends, Consumes, IsAtEnd}
 use Rattle.dvg_words.specs.Values.{Window}
 use Rattle.dvg_cert.specs.Devices.{AppendsPrefix, TakesOneWrite}
@@ -19,7 +19,7 @@ pub use Rattle.dvg_spelling.specs.declared.outcome.Outcome.TheVariants.{Accepted
 pub use Rattle.dvg_spelling.specs.declared.fault.RunFault.{RunFault}
 pub use Rattle.dvg_spelling.specs.Outcomes.{outcome_of}
 use Rattle.dvg_spelling.specs.declared.fault.RunFault.TheVariants as fault
-use Rattle.dvg_cmd.specs.Detail.{Detail, IsBehind, no_account}
+use Rattle.dvg_cmd.specs.Detail.{Detail, Behind, IsBehind, behind_text, outcome_behind}
 
 -- ---- which device an answer blames
 
@@ -97,26 +97,22 @@ SafeRead w rom cert frame y = IfSome rom (λ r. IfSome cert (λ c. IfSome frame 
 abbrev pub CountsRead : Option (List ℕ) → Option (List ℕ) → Option (List ℕ) → Yes → Type 0
 CountsRead rom cert frame y = IfSome rom (λ r. IfSome cert (λ c. IfSome frame (λ f. CountsOver r c f y.words y.depth)))
 
--- the outcome is the verdict's, or that there was no memory for the account
-abbrev pub IsOutcomeOf : Result Yes Refusal → List ℕ → Outcome → Type 0
-IsOutcomeOf verdict account outcome = (outcome ≡ outcome_of verdict) ⊎ ((outcome ≡ NoMemory) × (account ≡ no_account))
-
 -- the report of a verdict and what the detail asks for behind it were written, by one write if they fit one, and nothing else;
 -- `writes` and `writes_after` count the writes that took their whole piece
 pub record WritesReport
     (detail : Detail) (verdict : Result Yes Refusal) (old new : Option (List ℕ)) (writes writes_after : ℕ)
     (outcome : Outcome) : Type 0 where
-  pub account : List ℕ
-  pub behind : IsBehind detail account
-  pub written : Appends old new (report_text verdict ++ account)
-  pub one_write : TakesOneWrite (report_text verdict ++ account) writes writes_after
-  pub outcome_is : IsOutcomeOf verdict account outcome
+  pub behind : Behind
+  pub asked : IsBehind detail behind
+  pub written : Appends old new (report_text verdict ++ behind_text behind)
+  pub one_write : TakesOneWrite (report_text verdict ++ behind_text behind) writes writes_after
+  pub outcome_is : outcome ≡ outcome_behind behind (outcome_of verdict)
 
 -- a prefix of them was written, and nothing else
 pub record WritesReportPrefix (detail : Detail) (verdict : Result Yes Refusal) (old new : Option (List ℕ)) : Type 0 where
-  pub account : List ℕ
-  pub behind : IsBehind detail account
-  pub written : AppendsPrefix old new (report_text verdict ++ account)
+  pub behind : Behind
+  pub asked : IsBehind detail behind
+  pub written : AppendsPrefix old new (report_text verdict ++ behind_text behind)
 
 -- the report of the verdict on all bytes that three readers held was written; the certificate's reader still holds `left`. An
 -- accepted frame is safe, also if there was no memory for its account.
@@ -140,15 +136,15 @@ pub record ReportsPrefix
 -- an accepted line was written, and every run over these bytes is safe with its counts
 pub record ReportsSafe (detail : Detail) (w : Window) (rom cert frame : Option (List ℕ)) (old new : Option (List ℕ)) : Type 0 where
   pub yes : Yes
-  pub account : List ℕ
-  pub behind : IsBehind detail account
-  pub written : Appends old new (report_text (Ok yes) ++ account)
+  pub behind : Behind
+  pub asked : IsBehind detail behind
+  pub written : Appends old new (report_text (Ok yes) ++ behind_text behind)
   pub safe : SafeRead w rom cert frame yes
 
 -- an accepted line was written, and every run over these bytes has just its counts
 pub record ReportsCounts (detail : Detail) (rom cert frame : Option (List ℕ)) (old new : Option (List ℕ)) : Type 0 where
   pub yes : Yes
-  pub account : List ℕ
-  pub behind : IsBehind detail account
-  pub written : Appends old new (report_text (Ok yes) ++ account)
+  pub behind : Behind
+  pub asked : IsBehind detail behind
+  pub written : Appends old new (report_text (Ok yes) ++ behind_text behind)
   pub counts : CountsRead rom cert frame yes

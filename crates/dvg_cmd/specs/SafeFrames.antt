@@ -6,7 +6,7 @@ use Rattle.dvg_words.specs.Values.{Window}
 use Rattle.dvg_check.specs.Safety.{Safe, CountsAtHalt}
 use Rattle.dvg_check.specs.declared.verdict.Yes.{Yes}
 use Rattle.dvg_spelling.specs.Report.{accepted_text}
-use Rattle.dvg_cmd.specs.Detail.{Detail, IsBehind}
+use Rattle.dvg_cmd.specs.Detail.{Detail, Behind, IsBehind, behind_text}
 use Rattle.dvg_cmd.specs.Start.{started}
 
 -- the whole line of an accepted frame, which begins with its name
@@ -28,16 +28,16 @@ CountsFrame rom start frame y =
 pub record ReportsFrameSafe
     (detail : Detail) (rom : Rom) (w : Window) (start : Option ℕ) (name : List ℕ) (frame old new : Option (List ℕ)) : Type 0 where
   pub yes : Yes
-  pub account : List ℕ
-  pub behind : IsBehind detail account
-  pub written : Appends old new (accepted_line name yes ++ account)
+  pub behind : Behind
+  pub asked : IsBehind detail behind
+  pub written : Appends old new (accepted_line name yes ++ behind_text behind)
   pub safe : SafeFrame rom w start frame yes
 
 -- an accepted line was written, and every run over that frame has just its counts
 pub record ReportsFrameCounts
     (detail : Detail) (rom : Rom) (start : Option ℕ) (name : List ℕ) (frame old new : Option (List ℕ)) : Type 0 where
   pub yes : Yes
-  pub account : List ℕ
-  pub behind : IsBehind detail account
-  pub written : Appends old new (accepted_line name yes ++ account)
+  pub behind : Behind
+  pub asked : IsBehind detail behind
+  pub written : Appends old new (accepted_line name yes ++ behind_text behind)
   pub counts : CountsFrame rom start frame yes

@@ -16,10 +16,10 @@ use Rattle.dvg_check.specs.declared.verdict.Yes.{Yes}
 use Rattle.dvg_make.specs.declared.judging.FrameRefusal.{FrameRefusal}
 use Rattle.dvg_spelling.specs.Outcomes.{plain_outcome}
 use Rattle.dvg_spelling.specs.declared.outcome.FrameOutcome.TheVariants as outcome
-use Rattle.dvg_cmd.specs.Detail.{Detail, IsBehind}
+use Rattle.dvg_cmd.specs.Detail.{Detail, Behind, IsBehind, behind_text, frame_outcome_behind}
 use Rattle.dvg_cmd.specs.declared.several_frames.NamedFrame.{NamedFrame}
 use Rattle.dvg_cmd.specs.Runs.{Outcome, WritesReport, WritesReportPrefix}
-use Rattle.dvg_cmd.specs.Frames.{FrameAnswer, Unread, FrameOutcome, worse, frame_line, AnswersFrame, IsFrameOutcomeOf, VerdictOver}
+use Rattle.dvg_cmd.specs.Frames.{FrameAnswer, Unread, FrameOutcome, frame_outcome_of, worse, frame_line, AnswersFrame, VerdictOver}
 
 -- a frame whose turn it is: its name, and what its reader holds; `None` if it can't be opened
 pub record OpenedFrame : Type 0 where
@@ -29,16 +29,19 @@ pub record OpenedFrame : Type 0 where
 abbrev pub opened : {R : Type 0} → (R → Option (List ℕ)) → NamedFrame R → OpenedFrame
 opened remaining frame = record { name = frame.name.now; held = option_map remaining frame.reader }
 
--- the line of a frame's answer: the name, the answer, the text behind the line, and the outcome
+-- the line of a frame's answer: the name, the answer, and what is behind the line
 pub record Line : Type 0 where
   pub name : List ℕ
   pub answer : FrameAnswer
-  pub account : List ℕ
-  pub end : FrameOutcome
+  pub behind : Behind
 
 -- a line and the text behind it
 abbrev pub line_text : Line → List ℕ
-line_text line = frame_line line.name line.answer ++ line.account
+line_text line = frame_line line.name line.answer ++ behind_text line.behind
+
+-- its outcome
+abbrev pub line_outcome : Line → FrameOutcome
+line_outcome line = frame_outcome_behind line.behind (frame_outcome_of line.answer)
 
 -- several of them, one after another
 abbrev pub lines_text : List Line → List ℕ
@@ -53,7 +56,7 @@ TakeOneWriteEach (line ∷ rest) old new = (next : ℕ) × TakesOneWrite (line_t
 -- the worst of an outcome and those of lines
 abbrev pub worst_of : FrameOutcome → List Line → FrameOutcome
 worst_of end [] = end
-worst_of end (line ∷ rest) = worst_of (worse end line.end) rest
+worst_of end (line ∷ rest) = worst_of (worse end (line_outcome line)) rest
 
 module _ (IsVerdict : List ℕ → Result Yes FrameRefusal → Type 0) (rom : Rom) (w : Window) (IsExact : Type 0) (detail : Detail)
     (start : Option ℕ) where
@@ -65,8 +68,7 @@ module _ (IsVerdict : List ℕ → Result Yes FrameRefusal → Type 0) (rom : Ro
   pub record IsLineOf (frame : OpenedFrame) (line : Line) : Type 0 where
     pub name_is : line.name ≡ frame.name
     pub answers : AnswersOpened frame.held line.answer
-    pub behind : IsBehind detail line.account
-    pub outcome_is : IsFrameOutcomeOf line.answer line.account line.end
+    pub asked : IsBehind detail line.behind
 
   -- a line for each frame, in the order of the frames
   abbrev pub AreLinesOf : List OpenedFrame → List Line → Type 0

@@ -1,8 +1,9 @@
 //! What a run writes of an answer: its line, or its line and an account of it.
 
-ghost use Rattle.std.specs.Prelude.{◌≡◌, string_bytes};
-ghost use Rattle.dvg_cmd.specs.Detail.{behind_text};
-ghost use Rattle.dvg_cmd.specs.Explaining.{account_text};
+ghost use Rattle.std.specs.Prelude.{◌≡◌, IfOk, OnErr};
+ghost use Rattle.dvg_cmd.specs.Detail.{IsBehind, behind_text};
+ghost use Rattle.dvg_cmd.specs.declared.detail.Detail.TheVariants as details;
+ghost use Rattle.dvg_cmd.specs.declared.detail.Behind.TheVariants as behinds;
 
 use std::alloc::AllocError;
 
@@ -33,7 +34,9 @@ pub enum Behind {
 impl Behind {
     /// This account, or that there was no memory for it.
     pub fn of(account: Result<String, AllocError>) -> Behind
-        ensures { behind_text result ≡ account_text string_bytes account }
+        ensures account { IfOk account (λ text. result ≡ behinds.Account text) }
+        ensures no_memory { OnErr account (result ≡ behinds.NoMemory) }
+        ensures asked { IsBehind details.Account result }
     {
         match account {
             Ok(text) => Behind::Account(text),

@@ -1,15 +1,17 @@
 //! By which certificate a frame is judged: by its own, which is made for it, or by a given one, whose shapes were judged.
 
 ghost use Rattle.std.specs.Prelude.{◌≡◌, ℕ, List, Result, length, Err, IfOk, IfErr};
-ghost use Rattle.dvg_words.specs.Memory.{Rom, IsRomLength, IsFrameLength, rom_of, words_of};
+ghost use Rattle.dvg_words.specs.Memory.{Rom, IsFrameLength, rom_of, words_of};
 ghost use Rattle.dvg_words.specs.Values.{Window as Places};
 ghost use Rattle.dvg_check.specs.Safety.{Safe, CountsAtHalt};
 ghost use Rattle.dvg_check.specs.declared.fault.Mode.TheVariants.{Exact};
 ghost use Rattle.dvg_check.specs.declared.verdict.Yes.{Yes as Counts};
 ghost use Rattle.dvg_make.specs.declared.judging.FrameRefusal.{FrameRefusal as Refused};
 ghost use Rattle.dvg_make.specs.declared.judging.FrameRefusal.TheVariants.{Check};
-ghost use Rattle.dvg_cmd.specs.Detail.{IsBehind, behind_text};
-ghost use Rattle.dvg_cmd.specs.Frames.{VerdictOnBytes, VerdictOver};
+ghost use Rattle.dvg_cmd.specs.Detail.{IsBehind};
+ghost use Rattle.dvg_cmd.specs.Frames.{MayJudgeOver, VerdictOnBytes, VerdictOver};
+ghost use Rattle.dvg_cmd.specs.declared.detail.Detail.{Detail};
+ghost use Rattle.dvg_cmd.specs.declared.detail.Detail.TheVariants as details;
 ghost use Rattle.dvg_cmd.specs.Private.Judging.{AreImages};
 
 use crate::detail::{Behind, Detail};
@@ -23,8 +25,8 @@ use std::alloc::Global;
 
 /// A judge of frames over a vector ROM.
 pub trait FrameJudge {
-    /// What must hold of it before it judges.
-    ghost valid: { Self → Type 0 };
+    /// What must hold of it before it judges with this detail.
+    ghost valid: { Self → Detail → Type 0 };
 
     /// What is a verdict on the bytes of a frame.
     ghost is_verdict: { Self → List ℕ → Result Counts Refused → Type 0 };
@@ -45,9 +47,9 @@ pub trait FrameJudge {
         frame: &[u8],
         detail: Detail,
     ) -> (Result<Yes, FrameRefusal>, Behind)
-        requires { valid self.now }
+        requires { valid self.now detail }
         ensures verdict { is_verdict self.now frame.now result.0 }
-        ensures behind { IsBehind detail (behind_text result.1) }
+        ensures behind { IsBehind detail result.1 }
         ensures whole { IfOk result.0 (λ yes. IsFrameLength (length frame.now)) }
         ensures safe { IfOk result.0 (λ yes. Safe (record { frame = words_of frame.now; rom = rom self.now }) (window self.now) yes.words yes.depth) }
         ensures exact { is_exact self.now → IfOk result.0 (λ yes. CountsAtHalt (record { frame = words_of frame.now; rom = rom self.now }) yes.words yes.depth) };
@@ -67,7 +69,7 @@ pub struct OwnCertificates<'a> {
 }
 
 impl<'a> FrameJudge for OwnCertificates<'a> {
-    ghost valid = { λ _. Unit {0} };
+    ghost valid = { λ _ _. Unit {0} };
 
     ghost is_verdict = { λ own bytes verdict. VerdictOnBytes own.rom.now own.map bytes own.budget own.window verdict };
 
@@ -137,7 +139,8 @@ fn explain_by_own(
     own: &OwnCertificates,
     frame: &[u8],
 ) -> (Result<Yes, FrameRefusal>, Behind)
-    ensures { VerdictOnBytes own.now.rom.now own.now.map frame.now own.now.budget own.now.window result.0 }
+    ensures verdict { VerdictOnBytes own.now.rom.now own.now.map frame.now own.now.budget own.now.window result.0 }
+    ensures behind { IsBehind details.Account result.1 }
 {
     let (verdict, making) = judge_own(alloc, own, frame);
     let account = own_text(
@@ -160,7 +163,8 @@ pub struct GivenCertificate<'a, E: Entries> {
 }
 
 impl<'a, E: Entries> GivenCertificate<'a, E> {
-    /// The judge over these shapes, which were judged in this mode by the certificate over the bytes of the ROM.
+    /// The judge over these shapes. Before it judges, they must be those of the certificate's entries over a ROM at its map; and for an
+    /// account, they must be over these bytes of the ROM, and judged in this mode.
     pub fn new(
         rom: &'a [u8],
         cert: &'a Cert,
@@ -168,10 +172,6 @@ impl<'a, E: Entries> GivenCertificate<'a, E> {
         mode: Mode,
         budget: u32,
     ) -> GivenCertificate<'a, E>
-        requires rom_length { IsRomLength cert.now.map (length rom.now) }
-        requires rom { shapes.now.rom ≡ rom_of cert.now.map rom.now }
-        requires entries { shapes.now.list ≡ cert.now.entries }
-        requires mode { shapes.now.mode ≡ mode }
         ensures { result ≡ record { rom = rom.entry; cert = cert.entry; shapes = shapes.entry; mode = mode; budget = budget } }
     {
         GivenCertificate {
@@ -185,7 +185,7 @@ impl<'a, E: Entries> GivenCertificate<'a, E> {
 }
 
 impl<'a, E: Entries> FrameJudge for GivenCertificate<'a, E> {
-    ghost valid = { λ given. IsRomLength given.cert.now.map (length given.rom.now) × (given.shapes.now.rom ≡ rom_of given.cert.now.map given.rom.now) × (given.shapes.now.list ≡ given.cert.now.entries) × (given.shapes.now.mode ≡ given.mode) };
+    ghost valid = { λ given detail. MayJudgeOver given.shapes.now given.cert.now given.rom.now given.mode detail };
 
     ghost is_verdict = { λ given bytes verdict. VerdictOver given.shapes.now (length given.cert.now.entries) bytes given.budget verdict };
 
@@ -250,7 +250,9 @@ fn account_over<E: Entries>(
     frame: &[u8],
     verdict: &Result<Yes, FrameRefusal>,
     cause: Option<&RomAccount>,
-) -> Behind {
+) -> Behind
+    ensures { IsBehind details.Account result }
+{
     let inputs = Inputs {
         rom: given.rom,
         map: Some(given.cert.map()),

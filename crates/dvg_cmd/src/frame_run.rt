@@ -1,10 +1,11 @@
 //! Running a judge of frames on one frame, over a reader and a writer.
 
-ghost use Rattle.std.specs.Prelude.{◌≡◌, Bool, IfOk, IfErr, OnOk, OnErr, Ok, Err, is_err};
-ghost use Rattle.dvg_cert.specs.Devices.{count_after};
-ghost use Rattle.dvg_cmd.specs.Detail.{IsBehind, behind_text};
+ghost use Rattle.std.specs.Prelude.{◌≡◌, ◌++◌, Bool, IfOk, IfErr, OnOk, OnErr, Ok, Err, is_err};
+ghost use Rattle.std.specs.Io.KnownBytes.{Appends};
+ghost use Rattle.dvg_cert.specs.Devices.{AppendsPrefix, TakesOneWrite, count_after};
+ghost use Rattle.dvg_cmd.specs.Detail.{IsBehind, behind_text, frame_outcome_behind};
 ghost use Rattle.dvg_cmd.specs.Runs.{MOST_FRAME_READ, IsReadTo};
-ghost use Rattle.dvg_cmd.specs.Frames.{ReadsFrame, AnswersFrame, ReportsFrame, ReportsFramePrefix, WritesAnswer, WritesAnswerPrefix, is_unread, is_unread_outcome};
+ghost use Rattle.dvg_cmd.specs.Frames.{ReadsFrame, AnswersFrame, ReportsFrame, ReportsFramePrefix, WritesAnswer, WritesAnswerPrefix, frame_line, frame_outcome_of, is_unread, is_unread_outcome};
 ghost use Rattle.dvg_cmd.specs.SafeFrames.{ReportsFrameSafe, ReportsFrameCounts};
 
 use crate::detail::{Behind, Detail};
@@ -31,7 +32,7 @@ fn read_started<R: CountedRead>(frame: &mut R, start: Option<u16>) -> io::Result
 
 /// What the detail asks for behind the line of a frame that can't be opened or read.
 fn unread_account(alloc: Global, detail: Detail) -> Behind
-    ensures { IsBehind detail (behind_text result) }
+    ensures { IsBehind detail result }
 {
     match detail {
         Detail::Line => Behind::Nothing,
@@ -47,10 +48,10 @@ fn answer_of<J: FrameJudge, R: CountedRead>(
     frame: &mut R,
     detail: Detail,
 ) -> (FrameAnswer, Behind)
-    requires { J.valid judge.now }
+    requires { J.valid judge.now detail }
     ensures answers { AnswersFrame (J.is_verdict judge.now) (J.rom judge.now) (J.window judge.now) (J.is_exact judge.now)
         start (R.remaining frame.old) (R.remaining frame.new) result.0 }
-    ensures behind { IsBehind detail (behind_text result.1) }
+    ensures behind { IsBehind detail result.1 }
     ensures count { R.failures frame.new ≡ count_after (is_unread result.0) (R.failures frame.old) }
 {
     match read_started(frame, start) {
@@ -69,10 +70,11 @@ fn write_answer<W: CountedWrite>(
     behind: &Behind,
     out: &mut W,
 ) -> Result<FrameOutcome, RunFault>
-    ensures ok { (detail : Detail) → IsBehind detail (behind_text behind.now) → IfOk result (WritesAnswer detail name.now answer.now
-        (W.contents out.old) (W.contents out.new) (W.whole_writes out.old) (W.whole_writes out.new)) }
-    ensures prefix { (detail : Detail) → IsBehind detail (behind_text behind.now)
-        → OnErr result (WritesAnswerPrefix detail name.now answer.now (W.contents out.old) (W.contents out.new)) }
+    ensures outcome { IfOk result (λ outcome. outcome ≡ frame_outcome_behind behind.now (frame_outcome_of answer.now)) }
+    ensures written { OnOk result (Appends (W.contents out.old) (W.contents out.new) (frame_line name.now answer.now ++ behind_text behind.now)) }
+    ensures one_write { OnOk result (TakesOneWrite (frame_line name.now answer.now ++ behind_text behind.now)
+        (W.whole_writes out.old) (W.whole_writes out.new)) }
+    ensures prefix { OnErr result (AppendsPrefix (W.contents out.old) (W.contents out.new) (frame_line name.now answer.now ++ behind_text behind.now)) }
     ensures unread { IfOk result (λ outcome. is_unread_outcome outcome ≡ is_unread answer.now) }
     ensures fault { IfErr result (λ fault. fault ≡ RunFault.Write) }
     ensures count { W.failures out.new ≡ count_after (is_err result) (W.failures out.old) }
@@ -102,7 +104,7 @@ pub fn run_frame<J: FrameJudge, R: CountedRead, W: CountedWrite>(
     detail: Detail,
     out: &mut W,
 ) -> Result<FrameOutcome, RunFault>
-    requires { J.valid judge.now }
+    requires { J.valid judge.now detail }
 
     // The line of an answer is written, or a prefix of it if the writer failed, which alone ends a run.
     ensures report { IfOk result (ReportsFrame (J.is_verdict judge.now) (J.rom judge.now) (J.window judge.now) (J.is_exact judge.now)

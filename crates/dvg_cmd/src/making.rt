@@ -1,41 +1,16 @@
 //! Running the maker over a reader and a writer.
 
-ghost use Rattle.std.specs.Prelude.{◌≡◌, ◌≢◌, ℕ, List, [], Option, Err, IfOk, IfErr, OnOk};
+ghost use Rattle.std.specs.Prelude.{◌≡◌, ◌≢◌, [], Err, IfErr, OnOk};
 ghost use Rattle.std.specs.Io.KnownBytes.{Appends};
 ghost use Rattle.dvg_cert.specs.Devices.{count_after};
 ghost use Rattle.dvg_cmd.specs.Making.{blames_maker_rom, blames_maker_writer, Makes, WritesMade, WritesMadePrefix, MakeFaultMeans};
 ghost use Rattle.dvg_cmd.specs.Runs.{MOST_ROM_READ, IsReadTo};
-ghost use Rattle.dvg_cmd.specs.Private.Reading.{IsPrefix};
 
-use crate::reading::read_rom;
-use dvg_cert::{Cert, CountedRead, CountedWrite, Key, write_cert};
-use dvg_make::make;
-use dvg_spelling::MakeRunFault;
-use dvg_words::{RomImage, RomMap};
+use crate::making_frames::run_make_frames;
+use dvg_cert::{CountedRead, CountedWrite, Key};
+use dvg_spelling::{FramesRunFault, MakeRunFault};
+use dvg_words::RomMap;
 use std::alloc::Global;
-
-/// The certificate for what was read of a ROM at this map, which is one for all that its reader held.
-fn make_on(
-    alloc: Global,
-    bytes: &[u8],
-    map: RomMap,
-    roots: &[(u16, Key)],
-) -> Result<Cert, MakeRunFault>
-    ensures ok { (rom : Option (List ℕ)) → IsPrefix MOST_ROM_READ rom bytes.now
-        → IfOk result (λ cert. Makes rom map roots.now cert.entries) }
-    ensures map { IfOk result (λ cert. cert.map ≡ map) }
-    ensures refused { (rom : Option (List ℕ)) → IsPrefix MOST_ROM_READ rom bytes.now
-        → IfErr result (MakeFaultMeans rom map roots.now) }
-    ensures fault { IfErr result (λ fault. (fault ≢ MakeRunFault.ReadRom) × (fault ≢ MakeRunFault.Write)) }
-{
-    let Ok(rom) = RomImage::from_bytes(bytes, map) else {
-        return Err(MakeRunFault::RomLength);
-    };
-    match make(alloc, &rom, roots) {
-        Ok(cert) => Ok(cert),
-        Err(fault) => Err(MakeRunFault::Make(fault)),
-    }
-}
 
 /// Reads a ROM and writes the certificate of the shapes at these roots, and of all that they call or tail jump to.
 ///
@@ -65,12 +40,11 @@ pub fn run_make<R: CountedRead, W: CountedWrite>(
     // 1 comes for a wrong length alone, and 60 to 62 only where no made list exists, as the maker tells them.
     ensures refused { IfErr result (MakeFaultMeans (R.remaining rom.old) map roots.now) }
 {
-    let Ok(bytes) = read_rom(rom) else {
-        return Err(MakeRunFault::ReadRom);
-    };
-    let cert = make_on(alloc, bytes.as_slice(), map, roots)?;
-    match write_cert(&cert, out) {
+    // No frame is read.
+    let frames: &mut [R] = &mut [];
+    match run_make_frames(alloc, rom, map, roots, frames, out) {
         Ok(()) => Ok(()),
-        Err(_) => Err(MakeRunFault::Write),
+        Err(FramesRunFault::Plain(fault)) => Err(fault),
+        Err(_) => unreachable!(),
     }
 }

@@ -1,6 +1,6 @@
 //! Running the maker for roots and frames over readers and a writer.
 
-ghost use Rattle.std.specs.Prelude.{◌≡◌, ◌≢◌, ◌⊎◌, List, ℕ, [], Option, Err, IfOk, IfErr, OnOk, OnErr};
+ghost use Rattle.std.specs.Prelude.{◌≡◌, ◌≢◌, ◌<◌, ◌⊎◌, length, List, ℕ, [], Option, Err, IfOk, IfErr, OnOk, OnErr};
 ghost use Rattle.std.specs.Io.KnownBytes.{Appends};
 ghost use Rattle.dvg_words.specs.Memory.{words_of};
 ghost use Rattle.dvg_cert.specs.Devices.{count_after};
@@ -32,6 +32,7 @@ pub fn read_frames<R: CountedRead>(
     ensures read { OnOk result (EachRead (of_each (λ frame. R.remaining frame) frames.old) (of_each (λ frame. R.remaining frame) frames.new)) }
     ensures counts { FailedAfter (blames_a_frame result) (of_each (λ frame. R.failures frame) frames.old) (of_each (λ frame. R.failures frame) frames.new) }
     ensures fault { IfErr result (λ fault. (fault ≡ FramesRunFault.ReadFrame) ⊎ (fault ≡ FramesRunFault.Plain (maker.Make making.Memory))) }
+    ensures some { OnErr result (0 < length frames.old) }
 {
     let mut read = Vec::new(alloc);
     for frame in frames {

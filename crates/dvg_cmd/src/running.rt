@@ -1,15 +1,17 @@
 //! Running a check over readers and a writer.
 
-ghost use Rattle.std.specs.Prelude.{◌≡◌, ◌≢◌, ◌≤◌, ℕ, List, Option, Ok, Err, IfOk, IfErr, OnOk, OnErr, is_err, true};
+ghost use Rattle.std.specs.Prelude.{◌≡◌, ◌≢◌, ◌≤◌, ◌++◌, ℕ, List, Option, Ok, Err, IfOk, IfErr, OnOk, OnErr, is_err, true};
+ghost use Rattle.std.specs.Io.KnownBytes.{Appends};
 ghost use Rattle.dvg_words.specs.Memory.{rom_of};
 ghost use Rattle.dvg_cert.specs.declared.limits.TheConstants.{MOST_WORDS};
 ghost use Rattle.dvg_check.specs.Safety.{Safe, CountsAtHalt};
 ghost use Rattle.dvg_check.specs.Verdict.{RomVerdict};
 ghost use Rattle.dvg_check.specs.declared.fault.Mode.TheVariants.{Exact};
-ghost use Rattle.dvg_cert.specs.Devices.{count_after};
-ghost use Rattle.dvg_cmd.specs.Detail.{IsBehind, behind_text};
+ghost use Rattle.dvg_cert.specs.Devices.{AppendsPrefix, TakesOneWrite, count_after};
+ghost use Rattle.dvg_spelling.specs.Report.{report_text};
+ghost use Rattle.dvg_cmd.specs.Detail.{IsBehind, behind_text, outcome_behind};
 ghost use Rattle.dvg_cmd.specs.Runs.{blames_rom, blames_frame, blames_certificate, blames_writer};
-ghost use Rattle.dvg_cmd.specs.Runs.{MOST_ROM_READ, MOST_FRAME_READ, IsReadTo, IsReadFor, Judges, SafeRead, CountsRead, WritesReport, WritesReportPrefix};
+ghost use Rattle.dvg_cmd.specs.Runs.{MOST_ROM_READ, MOST_FRAME_READ, IsReadTo, IsReadFor, Judges, SafeRead, CountsRead, outcome_of};
 ghost use Rattle.dvg_cmd.specs.Runs.{Reports, ReportsPrefix, ReportsSafe, ReportsCounts};
 ghost use Rattle.dvg_cmd.specs.declared.detail.Detail.TheVariants as details;
 ghost use Rattle.dvg_cmd.specs.Private.Reading.{IsPrefix};
@@ -144,7 +146,7 @@ fn account_of(
     options: &CheckOptions,
     detail: Detail,
 ) -> Behind
-    ensures { IsBehind detail (behind_text result) }
+    ensures { IsBehind detail result }
 {
     if matches!(detail, Detail::Line) {
         return Behind::Nothing;
@@ -167,11 +169,12 @@ pub fn write_report<W: CountedWrite>(
     behind: &Behind,
     out: &mut W,
 ) -> Result<Outcome, RunFault>
-    ensures ok { (detail : Detail) → IsBehind detail (behind_text behind.now) → IfOk result (WritesReport detail verdict.now
-        (W.contents out.old) (W.contents out.new) (W.whole_writes out.old) (W.whole_writes out.new)) }
-    ensures prefix { (detail : Detail) → IsBehind detail (behind_text behind.now)
-        → OnErr result (WritesReportPrefix detail verdict.now (W.contents out.old) (W.contents out.new)) }
-    ensures one_write { IsBehind details.Line (behind_text behind.now) → OnOk result (W.whole_writes out.new ≡ count_after true (W.whole_writes out.old)) }
+    ensures outcome { IfOk result (λ outcome. outcome ≡ outcome_behind behind.now (outcome_of verdict.now)) }
+    ensures written { OnOk result (Appends (W.contents out.old) (W.contents out.new) (report_text verdict.now ++ behind_text behind.now)) }
+    ensures one_write { OnOk result (TakesOneWrite (report_text verdict.now ++ behind_text behind.now)
+        (W.whole_writes out.old) (W.whole_writes out.new)) }
+    ensures prefix { OnErr result (AppendsPrefix (W.contents out.old) (W.contents out.new) (report_text verdict.now ++ behind_text behind.now)) }
+    ensures line_write { IsBehind details.Line behind.now → OnOk result (W.whole_writes out.new ≡ count_after true (W.whole_writes out.old)) }
     ensures fault { IfErr result (λ fault. fault ≡ RunFault.Write) }
     ensures count { W.failures out.new ≡ count_after (is_err result) (W.failures out.old) }
 {

@@ -7,7 +7,7 @@ ghost use Rattle.dvg_cert.specs.Devices.{count_after};
 ghost use Rattle.dvg_spelling.specs.Each.{of_each};
 ghost use Rattle.dvg_spelling.specs.Outcomes.{plain_outcome};
 ghost use Rattle.dvg_spelling.specs.declared.outcome.Outcome.{Outcome as Plain};
-ghost use Rattle.dvg_cmd.specs.Detail.{IsBehind, behind_text};
+ghost use Rattle.dvg_cmd.specs.Detail.{IsBehind};
 ghost use Rattle.dvg_cmd.specs.Runs.{WritesReport, WritesReportPrefix};
 ghost use Rattle.dvg_cmd.specs.SeveralFrames.{opened, ReportsFrames, ReportsFramesPrefix, ReportsOver, ReportsOverPrefix, ReportsRefusal, ReportsRefusalPrefix, RefusesShapes, IsCertRefusal, shapes_of};
 ghost use Rattle.dvg_cmd.specs.Private.Named.{WritesLineOf, WritesLineOfPrefix};
@@ -52,7 +52,7 @@ fn run_named<J: FrameJudge, R: CountedRead + Drop, W: CountedWrite>(
     detail: Detail,
     out: &mut W,
 ) -> Result<FrameOutcome, RunFault>
-    requires { J.valid judge.now }
+    requires { J.valid judge.now detail }
     ensures ok { IfOk result (WritesLineOf (J.is_verdict judge.now) (J.rom judge.now) (J.window judge.now) (J.is_exact judge.now) detail start
         (opened (λ reader. R.remaining reader) frame.entry) (W.contents out.old) (W.contents out.new) (W.whole_writes out.old) (W.whole_writes out.new)) }
     ensures prefix { OnErr result (WritesLineOfPrefix (J.is_verdict judge.now) (J.rom judge.now) (J.window judge.now) (J.is_exact judge.now) detail start
@@ -85,7 +85,7 @@ pub fn run_frames<
     detail: Detail,
     out: &mut W,
 ) -> Result<FrameOutcome, RunFault>
-    requires valid { J.valid judge.now }
+    requires valid { J.valid judge.now detail }
     requires can { I.can_next frames }
     requires ends { IsFinite (I.remaining frames) }
 
@@ -155,7 +155,7 @@ fn refusal_account(
 ) -> Behind
     requires taken { IfSome cert (λ taken. RefusesShapes window rom.now taken.now refusal.now) }
     requires refused { IfNone cert (IsCertRefusal refusal.now) }
-    ensures { IsBehind detail (behind_text result) }
+    ensures { IsBehind detail result }
 {
     if matches!(detail, Detail::Line) {
         return Behind::Nothing;

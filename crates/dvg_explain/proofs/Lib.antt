@@ -1,5 +1,6 @@
 pub mod Broken
 pub mod AllItems
+pub mod Losing
 pub mod Walking
 pub mod AllShapes
 pub mod Marks

@@ -5,6 +5,7 @@ use Rattle.dvg_cert.specs.declared.entry.End.TheVariants.{Lost}
 use Rattle.dvg_cert.specs.declared.entry.Key.{Key}
 use Rattle.dvg_cert.specs.declared.entry.Key.TheVariants.{Any}
 use Rattle.dvg_items.specs.declared.item.Item.{Item}
+use Rattle.dvg_items.specs.declared.item.Kind.{Kind}
 use Rattle.dvg_items.specs.Items.{LeadsTo}
 use Rattle.dvg_items.specs.Known.{Context, place_before, scale_before}
 pub use Rattle.dvg_explain.specs.declared.losses.Losses.{Losses}
@@ -31,6 +32,10 @@ place_lost_by c (i ∷ earlier) = place_loss i (place_before c earlier) (place_b
 abbrev pub scale_lost_by : Context → List Item → Option Item
 scale_lost_by c [] = None
 scale_lost_by c (i ∷ earlier) = scale_loss i (scale_before c earlier) (scale_before c (i ∷ earlier)) (scale_lost_by c earlier)
+
+-- no items lead from the first word address to this one (profile)
+abbrev pub NoneLead : Kind → (ℕ → Option ℕ) → ℕ → ℕ → Type 0
+NoneLead kind word first at = (items : List Item) → LeadsTo kind word first items at → ⊥
 
 -- these are the losses of the items that lead to a word address (profile)
 pub record AreLosses (c : Context) (word : ℕ → Option ℕ) (first at : ℕ) (l : Losses) : Type 0 where

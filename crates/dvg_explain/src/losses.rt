@@ -1,12 +1,13 @@
 //! The items by which the known place and the known scale were lost before a word.
 
-ghost use Rattle.std.specs.Prelude.{◌≡◌, ◌<◌, Contains, IfSome};
+ghost use Rattle.std.specs.Prelude.{◌≡◌, ◌<◌, Contains, IfSome, IfNone};
 ghost use Rattle.dvg_words.specs.Memory.{frame_word, rom_word};
 ghost use Rattle.dvg_words.specs.declared.map.TheConstants.{ADDRESS_END};
 ghost use Rattle.dvg_cert.specs.Entry.{IsKey};
 ghost use Rattle.dvg_items.specs.Bounds.{IsSomeCertificate};
 ghost use Rattle.dvg_items.specs.Known.{frame_context, shape_context};
-ghost use Rattle.dvg_explain.specs.Losses.{AreLosses, place_loss, scale_loss};
+ghost use Rattle.dvg_items.specs.declared.item.Kind.TheVariants.{Frame, Shape};
+ghost use Rattle.dvg_explain.specs.Losses.{AreLosses, NoneLead, place_loss, scale_loss};
 ghost use Rattle.dvg_explain.specs.Private.Walking.{context_of};
 
 use crate::items::{WalkContext, see};
@@ -75,7 +76,8 @@ fn losses_before<F: Fetch, E: Entries>(
     requires entries { IsSomeCertificate (E.list entries.now) }
     requires first { walk.now.first < ADDRESS_END }
     requires scale { IsKey walk.now.scale }
-    ensures { IfSome result (AreLosses (context_of (E.list entries.now) walk.now) (F.words memory.now) walk.now.first at) }
+    ensures some { IfSome result (AreLosses (context_of (E.list entries.now) walk.now) (F.words memory.now) walk.now.first at) }
+    ensures none { IfNone result (NoneLead walk.now.kind (F.words memory.now) walk.now.first at) }
 {
     let mut losses = Losses::NONE;
     let mut cursor = Cursor::start(walk.kind, walk.first, walk.scale);
@@ -102,7 +104,8 @@ pub fn frame_losses<E: Entries>(
     at: u16,
 ) -> Option<Losses>
     requires { E.list entries.now ≡ cert.now.entries }
-    ensures { IfSome result (AreLosses (frame_context cert.now.entries) (frame_word frame.now) 0 at) }
+    ensures some { IfSome result (AreLosses (frame_context cert.now.entries) (frame_word frame.now) 0 at) }
+    ensures none { IfNone result (NoneLead Frame (frame_word frame.now) 0 at) }
 {
     // Its clause says that the list is that of a certificate.
     let _entries = cert.entries();
@@ -120,7 +123,8 @@ pub fn shape_losses<E: Entries>(
 ) -> Option<Losses>
     requires entries { E.list entries.now ≡ cert.now.entries }
     requires entry { Contains cert.now.entries entry.now }
-    ensures { IfSome result (AreLosses (shape_context cert.now.entries entry.now) (rom_word rom.now) entry.now.addr at) }
+    ensures some { IfSome result (AreLosses (shape_context cert.now.entries entry.now) (rom_word rom.now) entry.now.addr at) }
+    ensures none { IfNone result (NoneLead Shape (rom_word rom.now) entry.now.addr at) }
 {
     // Its clause says that the list is that of a certificate.
     let _entries = cert.entries();

@@ -8,7 +8,7 @@ use Rattle.dvg_check.specs.declared.verdict.Yes.{Yes}
 use Rattle.dvg_make.specs.declared.judging.FrameRefusal.{FrameRefusal}
 use Rattle.dvg_cmd.specs.Detail.{Detail}
 use Rattle.dvg_cmd.specs.Frames.{FrameOutcome}
-use Rattle.dvg_cmd.specs.SeveralFrames.{OpenedFrame, Line, line_text, IsLineOf}
+use Rattle.dvg_cmd.specs.SeveralFrames.{OpenedFrame, Line, line_text, line_outcome, IsLineOf}
 
 module _ (IsVerdict : List ℕ → Result Yes FrameRefusal → Type 0) (rom : Rom) (w : Window) (IsExact : Type 0) (detail : Detail)
     (start : Option ℕ) (frame : OpenedFrame) (old new : Option (List ℕ)) where
@@ -18,7 +18,7 @@ module _ (IsVerdict : List ℕ → Result Yes FrameRefusal → Type 0) (rom : Ro
     pub line_of : IsLineOf IsVerdict rom w IsExact detail start frame line
     pub written : Appends old new (line_text line)
     pub one_write : TakesOneWrite (line_text line) writes writes_after
-    pub end_is : line.end ≡ end
+    pub end_is : line_outcome line ≡ end
 
   -- a prefix of it was written
   pub record WritesLineOfPrefix : Type 0 where

@@ -1,5 +1,5 @@
 -- What is read of an input, up to its limit.
-use Rattle.std.specs.Prelude.{◌≡◌, ℕ, List, [], ◌∷◌, take, length, Option, IfSome}
+use Rattle.std.specs.Prelude.{◌≡◌, ◌<◌, ℕ, List, [], ◌∷◌, take, length, Option, IfSome}
 use Rattle.dvg_make.specs.declared.fault.MakeFault.TheVariants as making
 use Rattle.dvg_cmd.specs.Runs.{MOST_FRAME_READ}
 use Rattle.dvg_spelling.specs.declared.fault.MakeRunFault.TheVariants as maker
@@ -26,8 +26,8 @@ ArePrefixes [] [] = Unit {0}
 ArePrefixes (reader ∷ readers) (bytes ∷ rest) = IsPrefix MOST_FRAME_READ reader bytes × ArePrefixes readers rest
 ArePrefixes readers rest = ⊥
 
--- why bytes of several frames are not frames: the first has a wrong length, or memory was out
+-- why bytes of several frames are not frames: the first has a wrong length, or memory was out, which no frames need
 abbrev pub RefusesLengths : List (List ℕ) → FramesRunFault → Type 0
 RefusesLengths read (fault.FrameLength n) = FirstWrong read n
-RefusesLengths read (fault.Plain (maker.Make making.Memory)) = Unit {0}
+RefusesLengths read (fault.Plain (maker.Make making.Memory)) = 0 < length read
 RefusesLengths read f = ⊥

@@ -15,7 +15,8 @@ returns c = if_ok c.finish.result c.finish.ensures (λ lines all. record {
     named = c.new-2.ensures.named ∙ c.callee_of-callee.ensures;
     known = c.new-2.ensures.known;
   };
-  lost = c.frame_losses.ensures;
+  lost = c.frame_losses.ensures.some;
+  unled = c.frame_losses.ensures.none;
   told = whole c.new-lines.ensures all
       (then (then (told_as (ap (λ n. Rule n ∷ []) c.number-number.ensures) c.push.ensures) (then c.push-2.ensures c.push_lines.ensures))
       (told_as (ap (λ n. WhatToDo n ∷ []) c.number-number.ensures) c.push-3.ensures));

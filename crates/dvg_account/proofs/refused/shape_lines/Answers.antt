@@ -15,7 +15,8 @@ returns c = if_ok c.finish.result c.finish.ensures (λ lines all. record {
     named = c.new.ensures.named ∙ c.callee_of-callee.ensures;
     known = c.new.ensures.known;
   };
-  lost = c.losses_in_shape.ensures;
+  lost = c.losses_in_shape.ensures.some;
+  unled = c.losses_in_shape.ensures.none;
   chain = c.in_ok-chain.chain;
   reached = c.in_ok-chain.ensures;
   told = whole c.new-lines.ensures all

@@ -1,8 +1,14 @@
-use Rattle.std.proofs.Common.{sym, subst}
+use Rattle.std.proofs.Common.{◌<◌, sym, subst}
 use Rattle.dvg_cmd.specs.MakingFrames.{of_each, MakesForFrames}
 use Rattle.dvg_cmd.specs.Private.Reading.{IsPrefix, ArePrefixes}
-use Rattle.dvg_cmd.proofs.FramesRuns.{writes, writes_prefix}
+use Rattle.dvg_cmd.proofs.FramesRuns.{reading_refused, writes, writes_prefix}
+use Rattle.dvg_cmd.proofs.SeveralFrames.{length_of_each}
 use Rattle.dvg_cmd.proofs.making_frames.run_make_frames.Goals as goal
+
+pub returns-in_err-frames-clause-refused : goal.returns-in_err-frames-clause-refused
+returns-in_err-frames-clause-refused g c =
+    reading_refused c.from_residual.result (g.R1.Read.remaining c.args.rom.now) c.args.map c.args.roots.now (of_each (λ frame. g.R2.Read.remaining frame) c.args.frames.now) _ c.in_err-frames.ensures.fault
+    (subst (λ n. 0 < n) (sym (length_of_each (λ frame. g.R2.Read.remaining frame) c.args.frames.now)) c.in_err-frames.ensures.some) c.from_residual.ensures.1
 
 pub returns-in-Ok-write_cert-clause-text : goal.returns-in-Ok-write_cert-clause-text
 returns-in-Ok-write_cert-clause-text g c =

@@ -3,6 +3,7 @@ use Rattle.dvg_words.specs.declared.map.TheConstants.{ADDRESS_END}
 use Rattle.dvg_items.specs.declared.item.Item.{Item}
 use Rattle.dvg_explain.specs.Losses.{place_lost_by, scale_lost_by}
 use Rattle.dvg_explain.specs.Private.Walking.{context_of}
+use Rattle.dvg_explain.proofs.Losing.{NoneAt}
 use Rattle.dvg_explain.proofs.Walking.{Walked}
 use Rattle.dvg_explain.proofs.losses.losses_before.Given as goal
 
@@ -10,7 +11,7 @@ abbrev pub invariant-items : goal.invariant-items
 invariant-items g l =
     let c = context_of (g.E.Entries.list l.entries) l.walk in
     (items : List Item) × Walked c (g.F.Fetch.words l.memory) l.walk.first items l.cursor
-    × (l.losses.place ≡ place_lost_by c items) × (l.losses.scale ≡ scale_lost_by c items)
+    × (l.losses.place ≡ place_lost_by c items) × (l.losses.scale ≡ scale_lost_by c items) × NoneAt l.at items
 
 abbrev pub decreases-items : goal.decreases-items
 decreases-items g l = ADDRESS_END + 2 - l.cursor.at
