@@ -13,7 +13,7 @@ use crate::obstacle::BlockedChain;
 use crate::shapes::need;
 use dvg_cert::{Entry, Key};
 use dvg_items::{Item, Kind, scale_past, target};
-use dvg_words::{Cell, FrameImage, Instr, RomImage, read_cell};
+use dvg_words::{Cell, FrameImage, FrameOn, Instr, RomImage, read_cell};
 use std::alloc::Global;
 
 /// A call of a frame whose entry can't be made.
@@ -66,9 +66,10 @@ pub fn make_frame(
     ensures err { IfErr result (λ fault. BarsHere rom.now frame.now done.old fault.at (obstacle_fault fault.blocked.obstacle)) }
     ensures told { IfErr result (λ fault. TellsHere rom.now frame.now done.old fault.at fault.blocked.chain fault.blocked.obstacle) }
 {
+    let framed = FrameOn::new(rom.machine(), frame);
     let mut at = 0;
     let mut scale = Key::Any;
-    while let Cell::Holds { format, instr } = read_cell(frame, at) {
+    while let Cell::Holds { format, instr } = read_cell(&framed, at) {
         let callee = match make_call(alloc, rom, done, tails, &instr, scale) {
             Ok(callee) => callee,
             Err(blocked) => return Err(CallFault { at, blocked }),
