@@ -122,7 +122,7 @@ unfolding cell_at instruction_of
 halt_there = refl
 
 -- what the rules of frames ask of an item that is there
-frame_item : (v : Seen) → v.item.instr ≢ Rtsl → IsForward v.item.at v.item.instr → PlaceKnown v.extent v.place → ScaleKnown v.extent → LitInWindow screen v.extent v.place
+pub frame_item : (v : Seen) → v.item.instr ≢ Rtsl → IsForward v.item.at v.item.instr → PlaceKnown v.extent v.place → ScaleKnown v.extent → LitInWindow screen v.extent v.place
     → HasCallee (target Frame v.item.instr) v.callee → v.after.words ≤ 20000 → (why : FrameWhy) → FrameKeeps screen 20000 v why
 frame_item v no_return forward place scale lit named few frame.Unmapped = tt
 frame_item v no_return forward place scale lit named few frame.Odd = tt
