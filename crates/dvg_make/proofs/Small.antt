@@ -11,7 +11,7 @@ use Rattle.std.proofs.lemmas.Nat.{mul-le}
 use Rattle.std.specs.List.{AllByRecursion}
 use Rattle.std.specs.Prelude.{Contains, IfSome, ◌≤ℤ◌, ◌*ℤ◌, ◌==◌, ◌&&◌, if◌then◌else◌, slice_get}
 use Rattle.dvg_words.specs.Beam.{origin, shift, effective_scale, factor, rounded, rounded_move, axis_move, displacement, labs_coordinate, labs_place, IsWithin}
-use Rattle.dvg_words.specs.Decoding.{opcode, is_long_opcode, target_of, is_plain_labs, labs_field, magnitude_and_sign, vctr_draw, svec_draw, instruction_of, word_count, format_of, cell_holding, cell_of_words, cell_of_format, cell_at}
+use Rattle.dvg_words.specs.Decoding.{opcode, is_long_opcode, target_of, is_plain_labs, labs_field, magnitude_and_sign, vctr_draw, svec_draw, instruction_of, word_count, cell_holding, cell_of_words, cell_of_format, cell_at}
 use Rattle.dvg_words.specs.Memory.{Rom, rom_word, word_of_rom}
 use Rattle.dvg_words.specs.Values.{DrawFields}
 use Rattle.dvg_words.specs.declared.beam.Point.{Point}
