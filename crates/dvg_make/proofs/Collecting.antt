@@ -200,7 +200,7 @@ root_told rom roots i d done lt h chain obstacle b frames =
     record {
       list = b.list;
       within = b.is_done.entries;
-      needed = λ shape has. ⊎_elim (λ r. inl r) (λ c. inr (needed_by rom b.list chain shape.addr shape.key c)) (called_told rom done b.list (get_or roots i d) chain (IsNamed roots frames b.list) b.extends b.needed was (None, here) shape.addr shape.key has);
+      needed = λ shape has. ⊎_elim (λ r. inl r) (λ c. inr (needed_by rom b.list chain shape.addr shape.key c)) (called_told rom done b.list (get_or roots i d) chain (IsNamed rom.machine roots frames b.list) b.extends b.needed was (None, here) shape.addr shape.key has);
       made = done_made rom b.list b.is_done;
       asked = asked_shape (get_or roots i d);
       named = here;
@@ -215,8 +215,8 @@ root_told rom roots i d done lt h chain obstacle b frames =
     here : IsNamedBy rom.machine roots frames b.list None (asked_shape (get_or roots i d))
     here = (i, got roots i d lt, has_roots rom.machine (take i roots) b.list before)
 
-    was : (a : ℕ) (k : Key) → HasEntry done a k → IsNamed roots frames b.list a k ⊎ IsCalled rom done [] a k
-    was a k has = ⊎_elim (λ c. inl (named_taken roots frames b.list i before a k c)) (λ c. inr c) (h.needed a k has)
+    was : (a : ℕ) (k : Key) → HasEntry done a k → IsNamed rom.machine roots frames b.list a k ⊎ IsCalled rom done [] a k
+    was a k has = ⊎_elim (λ c. inl (named_taken rom.machine roots frames b.list i before a k c)) (λ c. inr c) (h.needed a k has)
 
 module _ (rom : Rom) (roots : List (ℕ × Key)) (i : ℕ) (d : ℕ × Key) (done : List Entry) (lt : i < length roots) (h : Collected rom (take i roots) done) where
   outside_at : (r : Bool) → r ≡ false → (IsTrue r ↔ (InRom rom.map (get_or roots i d).0 × IsKey (get_or roots i d).1)) → InRom rom.map (get_or roots i d).0 × IsKey (get_or roots i d).1 → ⊥

@@ -69,9 +69,9 @@ module _ (rom : Rom) (words : List ℕ) (w : Window) (budget : ℕ) (made : List
   pub judged_least : (y : Yes) → PartsVerdict Exact w rom made words budget (Ok y) → AreLeast rom words w y.words y.depth
   judged_least y v mode list b n d a =
       let best = none_better rom words w mode list made b n d a m in
-      let here = raised w words made budget (max budget b) y.words y.depth (omega arith) v.1 in
-      let there = raised w words made b (max budget b) best.0 best.1 (omega arith) best.4.frame in
-      let same = one_count w words made (max budget b) y.words y.depth best.0 best.1 here there in
+      let here = raised rom.machine w words made budget (max budget b) y.words y.depth (omega arith) v.1 in
+      let there = raised rom.machine w words made b (max budget b) best.0 best.1 (omega arith) best.4.frame in
+      let same = one_count w rom.machine words made (max budget b) y.words y.depth best.0 best.1 here there in
       (omega (arith, same.count_is, best.2), omega (arith, same.depth_is, best.3))
 
   pub judged_refused : (r : Refusal) → PartsVerdict Exact w rom made words budget (Err r) → CheckMeans rom words w budget r
@@ -82,7 +82,7 @@ module _ (rom : Rom) (words : List ℕ) (w : Window) (budget : ℕ) (made : List
   judged_refused (refusal.Shape f) v = λ mode list b n d le a. no_shape_fault Exact w rom made f (none_better rom words w mode list made b n d a m).4.good v
   judged_refused (refusal.Frame f) v = λ mode list b n d le a.
       let best = none_better rom words w mode list made b n d a m in
-      no_fault w words made budget best.0 best.1 f (raised w words made b budget best.0 best.1 le best.4.frame) v.1
+      no_fault w rom.machine words made budget best.0 best.1 f (raised rom.machine w words made b budget best.0 best.1 le best.4.frame) v.1
 
 -- what the fault of the maker means, of one frame
 only_frame : (words other : List ℕ) (i : ℕ) → slice_get (words ∷ []) i ≡ Some other → words ≡ other

@@ -1,7 +1,8 @@
--- What the maker makes has only small numbers: a word moves the beam by 1023 * 1024 at most.
+-- What the maker makes has only small numbers: on either machine a word moves the beam by 1024 screen places at most.
 use Rattle.dvg_words.specs.Values.{Source}
 use Rattle.dvg_words.specs.declared.machine.Machine.{Machine}
-use Rattle.std.proofs.Common.{◌≡◌, ℕ, ℤ, pos, negsuc, neg_ℤ, zero, suc, ◌+◌, ◌-◌, ◌*◌, ◌/◌, ◌%◌, ◌^◌, ◌<◌, ◌≤◌, nat_le, List, [], ◌∷◌, Bool, true, false, Option, Some, None, refl, sym, ap, ◌∙◌, subst, arith}
+use Rattle.dvg_words.specs.declared.machine.Machine.TheVariants.{Profile, Board}
+use Rattle.std.proofs.Common.{◌≡◌, ℕ, ℤ, pos, negsuc, neg_ℤ, zero, suc, ◌+◌, ◌-◌, ◌*◌, ◌/◌, ◌%◌, ◌^◌, ◌<◌, ◌≤◌, nat_le, ◌+ℤ◌, List, [], ◌∷◌, Bool, true, false, Option, Some, None, refl, sym, ap, ◌∙◌, subst, arith}
 use Rattle.std.proofs.Math.IntN.{pos-*ℤ-pos, negsuc-*ℤ-pos}
 use Rattle.std.proofs.Math.Pow.{pow_mono}
 use Rattle.std.proofs.lemmas.Bool.Decides.{nat_tests}
@@ -9,8 +10,8 @@ use Rattle.std.proofs.lemmas.Int.{ints}
 use Rattle.std.proofs.lemmas.Nat.{mul-le}
 use Rattle.std.specs.List.{AllByRecursion}
 use Rattle.std.specs.Prelude.{Contains, IfSome, ◌≤ℤ◌, ◌*ℤ◌, ◌==◌, ◌&&◌, if◌then◌else◌, slice_get}
-use Rattle.dvg_words.specs.Beam.{origin, shift, effective_scale, factor, displacement, labs_place, IsWithin}
-use Rattle.dvg_words.specs.Decoding.{opcode, target_of, is_plain_labs, labs_field, magnitude_and_sign, vctr_draw, svec_draw, instruction_of, word_count, format_of, cell_holding, cell_of_words, cell_of_format, cell_at}
+use Rattle.dvg_words.specs.Beam.{origin, shift, effective_scale, factor, rounded, rounded_move, axis_move, displacement, labs_coordinate, labs_place, IsWithin}
+use Rattle.dvg_words.specs.Decoding.{opcode, is_long_opcode, target_of, is_plain_labs, labs_field, magnitude_and_sign, vctr_draw, svec_draw, instruction_of, word_count, cell_holding, cell_of_words, cell_of_format, cell_at}
 use Rattle.dvg_words.specs.Memory.{Rom, rom_word, word_of_rom}
 use Rattle.dvg_words.specs.Values.{DrawFields}
 use Rattle.dvg_words.specs.declared.beam.Point.{Point}
@@ -118,68 +119,20 @@ small_corners m n Anywhere (Rel x y) h k = tt
 small_corners m n lit (Abs x y) h k = tt
 small_corners m n lit Lost h k = tt
 
--- ---- what an instruction says
+-- ---- what a draw does
 
--- its sizes are ten bits and a sign, and its screen places ten bits
+-- no further from 0 than so many words move the beam
+record IsSmallNumber (n : ℕ) (z : ℤ) : Type 0 where
+  low : neg_ℤ (pos (1048576 * n)) ≤ℤ z
+  high : z ≤ℤ pos (1048576 * n)
+
+-- a size has ten bits and a sign
 record IsSmallSize (z : ℤ) : Type 0 where
   low : neg_ℤ (pos 1023) ≤ℤ z
   high : z ≤ℤ pos 1023
 
-abbrev IsSmallInstr : Instr → Type 0
-IsSmallInstr (Draws d) = IsSmallSize d.dx × IsSmallSize d.dy
-IsSmallInstr (Labs x y g) = (x ≤ 4095) × (y ≤ 4095)
-IsSmallInstr i = Unit {0}
-
-small_size : (sign magnitude : ℕ) → magnitude ≤ 1023 → IsSmallSize (magnitude_and_sign sign magnitude)
-small_size sign magnitude le = by_test (sign == 1)
-  where
-    by_test : (b : Bool) → IsSmallSize (if b then neg_ℤ (pos magnitude) else pos magnitude)
-    by_test true = record { low = omega (arith, ints, le); high = omega (arith, ints, le) }
-    by_test false = record { low = omega (arith, ints, le); high = omega (arith, ints, le) }
-
-by_opcode : (a b c d e f z : Bool) (v s : DrawFields) (x y g t : ℕ) → IsSmallInstr (Draws v) → IsSmallInstr (Draws s) → IsSmallInstr (Labs x y g) → IfSome (if a then Some (Draws v) else if b then (if z then Some (Labs x y g) else None) else if c then Some Halt else if d then Some (Jsrl t) else if e then Some Rtsl else if f then Some (Jmpl t) else Some (Draws s)) IsSmallInstr
-by_opcode true b c d e f z v s x y g t h k l = h
-by_opcode false true c d e f true v s x y g t h k l = l
-by_opcode false true c d e f false v s x y g t h k l = tt
-by_opcode false false true d e f z v s x y g t h k l = tt
-by_opcode false false false true e f z v s x y g t h k l = tt
-by_opcode false false false false true f z v s x y g t h k l = tt
-by_opcode false false false false false true z v s x y g t h k l = tt
-by_opcode false false false false false false z v s x y g t h k l = k
-
-small_instr : (machine : Machine) (first second : ℕ) → IfSome (instruction_of machine first second) IsSmallInstr
-unfolding instruction_of
-small_instr machine first second =
-    by_opcode (nat_le (opcode first) 9) (opcode first == 10) (opcode first == 11) (opcode first == 12) (opcode first == 13) (opcode first == 14) (is_plain_labs machine first second) (vctr_draw first second) (svec_draw first) (labs_field machine second) (labs_field machine first) (opcode second) (target_of first)
-    (small_size (second / 1024 % 2) (second % 1024) (omega arith), small_size (first / 1024 % 2) (first % 1024) (omega arith))
-    (small_size (first / 4 % 2) (256 * (first % 4)) (omega arith), small_size (first / 1024 % 2) (256 * (first / 256 % 4)) (omega arith))
-    (omega arith, omega arith)
-
-abbrev IsSmallCell : Cell → Type 0
-IsSmallCell (Holds format i) = IsSmallInstr i
-IsSmallCell cell = Unit {0}
-
-small_holding : (format : Format) (o : Option Instr) → IfSome o IsSmallInstr → IsSmallCell (cell_holding format o)
-small_holding format None h = tt
-small_holding format (Some i) h = h
-
-small_cell : (word : Source) (p : ℕ) → IsSmallCell (cell_at word p)
-unfolding cell_at
-small_cell word p = by_words (word.word p) (word.word (p + 1))
-  where
-    by_format : (format : Format) (first : ℕ) (o : Option ℕ) → IsSmallCell (cell_of_format word.machine format first o)
-    by_format Short first o = small_holding Short (instruction_of word.machine first 0) (small_instr word.machine first 0)
-    by_format Long first None = tt
-    by_format Long first (Some second) = small_holding Long (instruction_of word.machine first second) (small_instr word.machine first second)
-
-    by_words : (a b : Option ℕ) → IsSmallCell (cell_of_words word.machine a b)
-    by_words None b = tt
-    by_words (Some first) b = by_format (format_of first) first b
-
-small_held : (word : Source) (i : Item) → cell_at word i.at ≡ Holds i.format i.instr → IsSmallInstr i.instr
-small_held word i is = subst IsSmallCell is (small_cell word i.at)
-
--- ---- what an item does
+abbrev IsSmallDraw : DrawFields → Type 0
+IsSmallDraw d = IsSmallSize d.dx × IsSmallSize d.dy
 
 small_factor : (local global : ℕ) → factor local global ≤ 1024
 small_factor local global = by_test (nat_le (effective_scale local global) 9) refl
@@ -187,10 +140,6 @@ small_factor local global = by_test (nat_le (effective_scale local global) 9) re
     by_test : (b : Bool) → nat_le (effective_scale local global) 9 ≡ b → (if b then 2 ^ (effective_scale local global + 1) else 1) ≤ 1024
     by_test true e = let le : effective_scale local global + 1 ≤ 10 = grind (arith, nat_tests) in pow_mono {i = effective_scale local global + 1} {j = 10} le
     by_test false e = omega arith
-
-record IsSmallNumber (n : ℕ) (z : ℤ) : Type 0 where
-  low : neg_ℤ (pos (1048576 * n)) ≤ℤ z
-  high : z ≤ℤ pos (1048576 * n)
 
 small_product : (z : ℤ) (f : ℕ) → IsSmallSize z → f ≤ 1024 → IsSmallNumber 1 (z *ℤ pos f)
 small_product (pos a) f h le =
@@ -202,24 +151,117 @@ small_product (negsuc a) f h le =
     let p : suc a * f ≤ 1023 * 1024 = mul-le (suc a) f 1023 1024 m le in
     subst (IsSmallNumber 1) (sym (negsuc-*ℤ-pos a f)) (record { low = omega (arith, ints, p); high = omega (arith, ints, p) })
 
-small_displacement : (machine : Machine) (d : DrawFields) (g : ℕ) → IsSmallInstr (Draws d) → IsSmall 1 (displacement machine d g)
+rounded_few : (n : ℕ) → n ≤ 1048576 → rounded n ≤ 1048576
+rounded_few n le = omega (arith, le)
+
+small_rounded : (z : ℤ) → IsSmallNumber 1 z → IsSmallNumber 1 (rounded_move z)
+small_rounded (pos n) h = let few : rounded n ≤ 1048576 = rounded_few n (omega (arith, ints, h.high)) in record { low = omega (arith, ints); high = omega (arith, ints, few) }
+small_rounded (negsuc n) h = let few : rounded (suc n) ≤ 1048576 = rounded_few (suc n) (omega (arith, ints, h.low)) in record { low = omega (arith, ints, few); high = omega (arith, ints, few) }
+
+small_move : (machine : Machine) (size : ℤ) (local global : ℕ) → IsSmallSize size → IsSmallNumber 1 (axis_move machine size local global)
+small_move Profile size local global h = small_product size (factor local global) h (small_factor local global)
+small_move Board size local global h = by_test (nat_le (effective_scale local global) 9)
+  where
+    by_test : (b : Bool) → IsSmallNumber 1 (if b then rounded_move (size *ℤ pos (factor local global)) else pos 0)
+    by_test true = small_rounded (size *ℤ pos (factor local global)) (small_product size (factor local global) h (small_factor local global))
+    by_test false = record { low = omega (arith, ints); high = omega (arith, ints) }
+
+small_displacement : (machine : Machine) (d : DrawFields) (g : ℕ) → IsSmallDraw d → IsSmall 1 (displacement machine d g)
 unfolding displacement
 small_displacement machine d g h =
-    let x = small_product d.dx (factor d.lscale g) h.0 (small_factor d.lscale g) in
-    let y = small_product d.dy (factor d.lscale g) h.1 (small_factor d.lscale g) in
+    let x = small_move machine d.dx d.lscale g h.0 in
+    let y = small_move machine d.dy d.lscale g h.1 in
     record { left = x.low; right = x.high; down = y.low; up = y.high }
 
-small_labs : (machine : Machine) (x y : ℕ) → x ≤ 1023 → y ≤ 1023 → IsSmall 1 (labs_place machine x y)
-small_labs machine x y h k = record { left = omega (arith, ints, h); right = omega (arith, ints, h); down = omega (arith, ints, k); up = omega (arith, ints, k) }
-
-small_draw : (machine : Machine) (d : DrawFields) (scale : Key) → IsSmallInstr (Draws d) → IsSmallEffect 1 (draw_effect machine d scale)
+small_draw : (machine : Machine) (d : DrawFields) (scale : Key) → IsSmallDraw d → IsSmallEffect 1 (draw_effect machine d scale)
 small_draw machine d (At g) h = small_displacement machine d g h
 small_draw machine d Any h = tt
 
-small_drawn : (machine : Machine) (bright : ℕ) (d : DrawFields) (scale : Key) → IsSmallInstr (Draws d) → IsSmallExtent 1 (draw_extent machine bright d scale)
+small_drawn : (machine : Machine) (bright : ℕ) (d : DrawFields) (scale : Key) → IsSmallDraw d → IsSmallExtent 1 (draw_extent machine bright d scale)
 small_drawn machine zero d scale h = tt
 small_drawn machine (suc n) d (At g) h = (small_origin 1, small_displacement machine d g h)
 small_drawn machine (suc n) d Any h = tt
+
+-- ---- what an instruction says
+
+-- an instruction of this format: a LABS sets the beam no further than its words may move it
+abbrev IsSmallInstr : Machine → Format → Instr → Type 0
+IsSmallInstr machine format (Draws d) = IsSmallDraw d
+IsSmallInstr machine format (Labs x y g) = IsSmall (word_count format) (labs_place machine x y)
+IsSmallInstr machine format i = Unit {0}
+
+small_size : (sign magnitude : ℕ) → magnitude ≤ 1023 → IsSmallSize (magnitude_and_sign sign magnitude)
+small_size sign magnitude le = by_test (sign == 1)
+  where
+    by_test : (b : Bool) → IsSmallSize (if b then neg_ℤ (pos magnitude) else pos magnitude)
+    by_test true = record { low = omega (arith, ints, le); high = omega (arith, ints, le) }
+    by_test false = record { low = omega (arith, ints, le); high = omega (arith, ints, le) }
+
+-- a LABS has two words
+small_field : (machine : Machine) (word : ℕ) → IsSmallNumber 2 (labs_coordinate machine (labs_field machine word))
+small_field Profile word = let few : word % 1024 ≤ 1023 = omega arith in record { low = omega (arith, ints); high = omega (arith, ints, few) }
+small_field Board word = by_test (nat_le (word % 4096) 2047) refl
+  where
+    few : word % 4096 ≤ 4095
+    few = omega arith
+
+    by_test : (b : Bool) → nat_le (word % 4096) 2047 ≡ b → IsSmallNumber 2 (pos 1024 *ℤ (if b then pos (word % 4096) else pos (word % 4096) +ℤ negsuc 4095))
+    by_test true e = let under : word % 4096 ≤ 2047 = grind (arith, nat_tests) in record { low = omega (arith, ints, under); high = omega (arith, ints, under) }
+    by_test false e = let over : 2047 < word % 4096 = grind (arith, nat_tests) in record { low = omega (arith, ints, few, over); high = omega (arith, ints, few, over) }
+
+small_labs : (machine : Machine) (first second : ℕ) → IsSmall 2 (labs_place machine (labs_field machine second) (labs_field machine first))
+small_labs machine first second =
+    let x = small_field machine second in
+    let y = small_field machine first in
+    record { left = x.low; right = x.high; down = y.low; up = y.high }
+
+by_opcode : (machine : Machine) (format : Format) (a b c d e f z : Bool) (v s : DrawFields) (x y g t : ℕ) → IsSmallDraw v → IsSmallDraw s → (b ≡ true → IsSmallInstr machine format (Labs x y g)) → IfSome (if a then Some (Draws v) else if b then (if z then Some (Labs x y g) else None) else if c then Some Halt else if d then Some (Jsrl t) else if e then Some Rtsl else if f then Some (Jmpl t) else Some (Draws s)) (IsSmallInstr machine format)
+by_opcode machine format true b c d e f z v s x y g t h k l = h
+by_opcode machine format false true c d e f true v s x y g t h k l = l refl
+by_opcode machine format false true c d e f false v s x y g t h k l = tt
+by_opcode machine format false false true d e f z v s x y g t h k l = tt
+by_opcode machine format false false false true e f z v s x y g t h k l = tt
+by_opcode machine format false false false false true f z v s x y g t h k l = tt
+by_opcode machine format false false false false false true z v s x y g t h k l = tt
+by_opcode machine format false false false false false false z v s x y g t h k l = k
+
+small_instr : (machine : Machine) (format : Format) (first second : ℕ) → ((opcode first == 10) ≡ true → 2 ≤ word_count format) → IfSome (instruction_of machine first second) (IsSmallInstr machine format)
+unfolding instruction_of
+small_instr machine format first second long =
+    by_opcode machine format (nat_le (opcode first) 9) (opcode first == 10) (opcode first == 11) (opcode first == 12) (opcode first == 13) (opcode first == 14) (is_plain_labs machine first second) (vctr_draw first second) (svec_draw first) (labs_field machine second) (labs_field machine first) (opcode second) (target_of first)
+    (small_size (second / 1024 % 2) (second % 1024) (omega arith), small_size (first / 1024 % 2) (first % 1024) (omega arith))
+    (small_size (first / 4 % 2) (256 * (first % 4)) (omega arith), small_size (first / 1024 % 2) (256 * (first / 256 % 4)) (omega arith))
+    (λ e. small_more 2 (word_count format) (labs_place machine (labs_field machine second) (labs_field machine first)) (long e) (small_labs machine first second))
+
+abbrev IsSmallCell : Machine → Cell → Type 0
+IsSmallCell machine (Holds format i) = IsSmallInstr machine format i
+IsSmallCell machine cell = Unit {0}
+
+small_holding : (machine : Machine) (format : Format) (o : Option Instr) → IfSome o (IsSmallInstr machine format) → IsSmallCell machine (cell_holding format o)
+small_holding machine format None h = tt
+small_holding machine format (Some i) h = h
+
+-- the opcode of LABS is a long one
+long_labs : (op : ℕ) → nat_le op 10 ≡ false → (op == 10) ≡ true → 2 ≤ 1
+long_labs op short e = let more : 10 < op = grind (arith, nat_tests) in let same : op ≡ 10 = grind (arith, nat_tests) in omega (arith, more, same)
+
+small_cell : (word : Source) (p : ℕ) → IsSmallCell word.machine (cell_at word p)
+unfolding cell_at
+small_cell word p = by_words (word.word p) (word.word (p + 1))
+  where
+    by_format : (long : Bool) (first : ℕ) (o : Option ℕ) → is_long_opcode (opcode first) ≡ long → IsSmallCell word.machine (cell_of_format word.machine (if long then Long else Short) first o)
+    by_format true first None e = tt
+    by_format true first (Some second) e = small_holding word.machine Long (instruction_of word.machine first second) (small_instr word.machine Long first second (λ q. omega arith))
+    by_format false first o e = small_holding word.machine Short (instruction_of word.machine first 0) (small_instr word.machine Short first 0 (long_labs (opcode first) e))
+
+    by_words : (a b : Option ℕ) → IsSmallCell word.machine (cell_of_words word.machine a b)
+    by_words None b = tt
+    by_words (Some first) b = by_format (is_long_opcode (opcode first)) first b refl
+
+small_held : (word : Source) (i : Item) → cell_at word i.at ≡ Holds i.format i.instr → IsSmallInstr word.machine i.format i.instr
+small_held word i is = subst (IsSmallCell word.machine) is (small_cell word i.at)
+
+-- ---- what a called shape does
 
 small_stop : (n : ℕ) (stop : End) → IsSmallPlace n stop → IsSmallEffect n (stop_effect stop)
 small_stop n (Rel x y) h = h
@@ -238,27 +280,29 @@ small_shown : (o : Option Entry) → IfSome o IsSmallEntry → IsSmallExtent (ca
 small_shown None h = tt
 small_shown (Some e) h = small_boxed e.words e.lit h.lit
 
-small_effect : (machine : Machine) (n : ℕ) (i : Instr) (scale : Key) (o : Option Entry) → 1 ≤ n → IsSmallInstr i → IfSome o IsSmallEntry → IsSmallEffect (n + callee_words o) (effect_of machine i scale o)
-small_effect machine n (Draws d) scale o le h k = effect_more 1 (n + callee_words o) (draw_effect machine d scale) (omega (arith, le)) (small_draw machine d scale h)
-small_effect machine n (Labs x y g) scale o le h k = small_more 1 (n + callee_words o) (labs_place machine x y) (omega (arith, le)) (small_labs machine x y h.0 h.1)
-small_effect machine n Halt scale o le h k = small_origin (n + callee_words o)
-small_effect machine n Rtsl scale o le h k = small_origin (n + callee_words o)
-small_effect machine n (Jsrl to) scale o le h k = effect_more (callee_words o) (n + callee_words o) (callee_effect o) (omega arith) (small_called o k)
-small_effect machine n (Jmpl to) scale o le h k = effect_more (callee_words o) (n + callee_words o) (callee_effect o) (omega arith) (small_called o k)
+-- ---- what an item does
 
-small_extent : (machine : Machine) (n : ℕ) (i : Instr) (scale : Key) (o : Option Entry) → 1 ≤ n → IsSmallInstr i → IfSome o IsSmallEntry → IsSmallExtent (n + callee_words o) (extent_of machine i scale o)
-small_extent machine n (Draws d) scale o le h k = extent_more 1 (n + callee_words o) (draw_extent machine d.bright d scale) (omega (arith, le)) (small_drawn machine d.bright d scale h)
-small_extent machine n (Labs x y g) scale o le h k = tt
-small_extent machine n Halt scale o le h k = tt
-small_extent machine n Rtsl scale o le h k = tt
-small_extent machine n (Jsrl to) scale o le h k = extent_more (callee_words o) (n + callee_words o) (callee_extent o) (omega arith) (small_shown o k)
-small_extent machine n (Jmpl to) scale o le h k = extent_more (callee_words o) (n + callee_words o) (callee_extent o) (omega arith) (small_shown o k)
+small_effect : (machine : Machine) (format : Format) (i : Instr) (scale : Key) (o : Option Entry) → IsSmallInstr machine format i → IfSome o IsSmallEntry → IsSmallEffect (word_count format + callee_words o) (effect_of machine i scale o)
+small_effect machine format (Draws d) scale o h k = effect_more 1 (word_count format + callee_words o) (draw_effect machine d scale) (omega (arith, word_count-some format)) (small_draw machine d scale h)
+small_effect machine format (Labs x y g) scale o h k = small_more (word_count format) (word_count format + callee_words o) (labs_place machine x y) (omega arith) h
+small_effect machine format Halt scale o h k = small_origin (word_count format + callee_words o)
+small_effect machine format Rtsl scale o h k = small_origin (word_count format + callee_words o)
+small_effect machine format (Jsrl to) scale o h k = effect_more (callee_words o) (word_count format + callee_words o) (callee_effect o) (omega arith) (small_called o k)
+small_effect machine format (Jmpl to) scale o h k = effect_more (callee_words o) (word_count format + callee_words o) (callee_effect o) (omega arith) (small_called o k)
+
+small_extent : (machine : Machine) (format : Format) (i : Instr) (scale : Key) (o : Option Entry) → IsSmallInstr machine format i → IfSome o IsSmallEntry → IsSmallExtent (word_count format + callee_words o) (extent_of machine i scale o)
+small_extent machine format (Draws d) scale o h k = extent_more 1 (word_count format + callee_words o) (draw_extent machine d.bright d scale) (omega (arith, word_count-some format)) (small_drawn machine d.bright d scale h)
+small_extent machine format (Labs x y g) scale o h k = tt
+small_extent machine format Halt scale o h k = tt
+small_extent machine format Rtsl scale o h k = tt
+small_extent machine format (Jsrl to) scale o h k = extent_more (callee_words o) (word_count format + callee_words o) (callee_extent o) (omega arith) (small_shown o k)
+small_extent machine format (Jmpl to) scale o h k = extent_more (callee_words o) (word_count format + callee_words o) (callee_extent o) (omega arith) (small_shown o k)
 
 -- ---- along the items
 
 -- the fields of each item, and the entry that it calls, are small
 record IsSmallItem (c : Context) (earlier : List Item) (i : Item) : Type 0 where
-  fields : IsSmallInstr i.instr
+  fields : IsSmallInstr c.machine i.format i.instr
   callee : IfSome (callee c earlier i.instr) IsSmallEntry
 
 abbrev AllSmall : Context → List Item → Type 0
@@ -274,7 +318,7 @@ module _ (machine : Machine) (list : List Entry) (key : Key) where
   place_small (i ∷ earlier) h =
       small_past (words_before c earlier) (word_count i.format + callee_words (callee c earlier i.instr)) (place_before c earlier) (effect_of machine i.instr (scale_before c earlier) (callee c earlier i.instr))
       (place_small earlier h.0)
-      (small_effect machine (word_count i.format) i.instr (scale_before c earlier) (callee c earlier i.instr) (word_count-some i.format) h.1.fields h.1.callee)
+      (small_effect machine i.format i.instr (scale_before c earlier) (callee c earlier i.instr) h.1.fields h.1.callee)
 
   points_small : (items : List Item) → AllSmall c items → AllByRecursion (IsSmall (words_before c items)) (lit_points c items)
   points_small [] h = tt
@@ -282,7 +326,7 @@ module _ (machine : Machine) (list : List Entry) (key : Key) where
       all_append (IsSmall (words_before c (i ∷ earlier))) (relative_corners (extent c earlier i.instr) (place_before c earlier)) (lit_points c earlier)
       (small_corners (words_before c earlier) (word_count i.format + callee_words (callee c earlier i.instr)) (extent c earlier i.instr) (place_before c earlier)
       (place_small earlier h.0)
-      (small_extent machine (word_count i.format) i.instr (scale_before c earlier) (callee c earlier i.instr) (word_count-some i.format) h.1.fields h.1.callee))
+      (small_extent machine i.format i.instr (scale_before c earlier) (callee c earlier i.instr) h.1.fields h.1.callee))
       (all_map (IsSmall (words_before c earlier)) (IsSmall (words_before c (i ∷ earlier))) (lit_points c earlier) (λ p. small_more (words_before c earlier) (words_before c (i ∷ earlier)) p (omega arith)) (points_small earlier h.0))
 
 -- ---- the least box
