@@ -79,7 +79,12 @@ fn moves_of(first: u16, second: u16, gscale: u8) -> Option<[(i32, i32); 2]> {
 fn moves_on_both(rt: HostRuntime) {
     for &(first, second, gscale, profile, board) in MOVES {
         let moves = moves_of(first, second, gscale);
-        expect_same(&rt, &moves, &Some([profile, board]), &(first, second, gscale));
+        expect_same(
+            &rt,
+            &moves,
+            &Some([profile, board]),
+            &(first, second, gscale),
+        );
     }
 }
 
@@ -106,8 +111,18 @@ fn sets_places(rt: HostRuntime) {
     for &(first, second, (x, y, gscale), place, is_plain) in LABS {
         let labs = Some(Instr::Labs { x, y, gscale });
         let profile = if is_plain { labs } else { None };
-        expect_same(&rt, &decode_on(Machine::Board, first, second), &labs, &first);
-        expect_same(&rt, &decode_on(Machine::Profile, first, second), &profile, &first);
+        expect_same(
+            &rt,
+            &decode_on(Machine::Board, first, second),
+            &labs,
+            &first,
+        );
+        expect_same(
+            &rt,
+            &decode_on(Machine::Profile, first, second),
+            &profile,
+            &first,
+        );
         expect_same(&rt, &decode(first, second), &profile, &first);
         let (x, y) = (labs_place(Machine::Board, x, y), place);
         expect_same(&rt, &x, &Point { x: y.0, y: y.1 }, &first);
