@@ -6,7 +6,7 @@ use Rattle.dvg_make.proofs.frames.make_frame.Given as goal
 abbrev pub invariant-loop-format : goal.invariant-loop-format
 invariant-loop-format l =
     record {
-      partial : FrameWalk l.rom l.framed.frame l.fn.done l.done l.at l.scale;
+      partial : FrameWalk l.rom l.frame l.fn.done l.done l.at l.scale;
       tails : AreTails l.rom l.done l.tails;
     }
 

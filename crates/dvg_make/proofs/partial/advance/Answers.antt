@@ -34,7 +34,7 @@ loop-format-preserved c =
 pub returns-in-Last-clause-ok : goal.returns-in-Last-clause-ok
 returns-in-Last-clause-ok c =
     let claim = claim_of c.args.rom.now c.args.done.now c.in-Holds.instr c.loop-format.partial.cursor.known.scale c.in-Ok.callee (omega (arith, c.requires.map.inside)) c.requires.done.entries c.in-Ok.ensures.ok in
-    subst (IsFinished c.args.rom.now c.args.done.now c.args.from) (sym c.entry-entry.ensures) (ended c.args.rom.now c.args.done.now c.requires.done c.args.from c.loop-format.partial c.loop-format.invariant c.in-Holds.format c.in-Holds.instr (sym c.in-Holds.ensures.value) c.in-Ok.callee c.in-Ok.ensures.ok c.in-Holds.ensures.fields claim c.in_ok-step.lit (rw c.machine-machine.ensures at c.in_ok-step.ensures.ok) c.in_ok-step.step c.in-Last.known c.in-Last.is c.in_ok-step.ensures.step)
+    subst (IsFinished c.args.rom.now c.args.done.now c.args.from) (sym c.entry-entry.ensures) (ended c.args.rom.now c.args.done.now c.requires.done c.args.from c.loop-format.partial c.loop-format.invariant c.in-Holds.format c.in-Holds.instr (sym c.in-Holds.ensures.value) c.in-Ok.callee c.in-Ok.ensures.ok c.in-Holds.ensures.fields claim c.in_ok-step.lit (rw c.machine-machine.ensures at c.in_ok-step.ensures.ok) c.in_ok-step.step c.in-Last.known c.in-Last.is (rw c.machine-machine.ensures at c.in_ok-step.ensures.step))
 
 pub returns-clause-err : goal.returns-clause-err
 returns-clause-err c =
