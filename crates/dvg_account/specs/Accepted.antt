@@ -1,7 +1,8 @@
 -- The lines of what is accepted. All of it is profile.
 use Rattle.std.specs.Prelude.{◌≡◌, ℕ, List, ◌∷◌, ◌++◌, length, Option, Some, None, IfSome, option_to_list}
+use Rattle.dvg_words.specs.declared.machine.Machine.{Machine}
 use Rattle.dvg_words.specs.Values.{Window}
-use Rattle.dvg_words.specs.Memory.{words_of, rom_of, frame_word, IsFrameLength, IsRomLength}
+use Rattle.dvg_words.specs.Memory.{words_of, rom_on, frame_word, IsFrameLength, IsRomLength}
 use Rattle.dvg_cert.specs.Order.{Certificate}
 use Rattle.dvg_cert.specs.declared.entry.Entry.{Entry}
 use Rattle.dvg_cert.specs.declared.entry.LitBox.{LitBox}
@@ -21,15 +22,15 @@ use Rattle.dvg_account.specs.declared.line.Line.TheVariants.{Accepted}
 use Rattle.dvg_account.specs.declared.line.AcceptedLine.{AcceptedLine}
 use Rattle.dvg_account.specs.declared.line.AcceptedLine.TheVariants as line
 
--- the calls of a frame, and the least box of what its own items may light
-pub record FrameSurveyed (list : List Entry) (words : List ℕ) (calls : List Call) (box : LitBox) : Type 0 where
-  pub are_calls : AreCalls (frame_context list) (frame_word words) 0 calls
-  pub is_extent : IsExtent (frame_context list) (frame_word words) 0 box
+-- the calls of a frame on a machine, and the least box of what its own items may light
+pub record FrameSurveyed (machine : Machine) (list : List Entry) (words : List ℕ) (calls : List Call) (box : LitBox) : Type 0 where
+  pub are_calls : AreCalls (frame_context machine list) (frame_word machine words) 0 calls
+  pub is_extent : IsExtent (frame_context machine list) (frame_word machine words) 0 box
 
 -- of the bytes of a ROM and a frame, as far as they are of the right length
-pub record Surveyed (cert : Certificate) (rom frame : List ℕ) (s : Survey) : Type 0 where
-  pub frame_is : IsFrameLength (length frame) → FrameSurveyed cert.entries (words_of frame) s.calls.items s.frame
-  pub shapes_are : IsRomLength cert.map (length rom) → IsShapesExtent (rom_of cert.map rom) cert.entries s.shapes
+pub record Surveyed (machine : Machine) (cert : Certificate) (rom frame : List ℕ) (s : Survey) : Type 0 where
+  pub frame_is : IsFrameLength (length frame) → FrameSurveyed machine cert.entries (words_of frame) s.calls.items s.frame
+  pub shapes_are : IsRomLength cert.map (length rom) → IsShapesExtent (rom_on machine cert.map rom) cert.entries s.shapes
 
 -- how far the box is from each edge of the window; no line where it is empty or reaches outside
 abbrev pub TellsMargins : Window → LitBox → (Margins → AcceptedLine) → Option Line → Type 0
@@ -39,7 +40,7 @@ TellsMargins w box tell (Some told) = (m : Margins) × AreMargins (window_limits
 -- the lines of what is accepted: its counts, the calls of the frame, and where the frame and the shapes light
 pub record AcceptedLines (inputs : Inputs) (yes : Yes) (lines : List Line) : Type 0 where
   pub survey : Survey
-  pub surveyed : IfSome inputs.cert (λ cert. Surveyed cert.now inputs.rom.now inputs.frame.now survey)
+  pub surveyed : IfSome inputs.cert (λ cert. Surveyed inputs.machine cert.now inputs.rom.now inputs.frame.now survey)
   pub frame_margins : Option Line
   pub frame_inside : TellsMargins inputs.window survey.frame line.FrameMargins frame_margins
   pub shapes_margins : Option Line

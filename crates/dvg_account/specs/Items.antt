@@ -1,5 +1,6 @@
 -- The item of a refusal, and its lines. All of it is profile.
 use Rattle.std.specs.Prelude.{◌≡◌, ℕ, ◌+◌, List, ◌∷◌, ◌++◌, map, Option, Some, None, option_map, option_to_list, if◌then◌else◌}
+use Rattle.dvg_words.specs.Values.{Source}
 use Rattle.dvg_words.specs.Decoding.{opcode, is_long_opcode, cell_at}
 use Rattle.dvg_words.specs.declared.instruction.Cell.{Cell}
 use Rattle.dvg_words.specs.declared.instruction.Cell.TheVariants as cell
@@ -30,16 +31,16 @@ words_from None next = words.Nothing
 words_from (Some first) next = if is_long_opcode (opcode first) then words_with first next else words.One first
 
 -- the words of the item at a word address
-abbrev pub words_at : (ℕ → Option ℕ) → ℕ → Words
-words_at word at = words_from (word at) (word (at + 1))
+abbrev pub words_at : Source → ℕ → Words
+words_at source at = words_from (source.word at) (source.word (at + 1))
 
 -- the instruction at a word address, if one stands there
 abbrev pub instruction_of : Cell → Option Instruction
 instruction_of (cell.Holds format instr) = Some (record { format = format; instr = instr })
 instruction_of c = None
 
-abbrev pub instruction_at : (ℕ → Option ℕ) → ℕ → Option Instruction
-instruction_at word at = instruction_of (cell_at word at)
+abbrev pub instruction_at : Source → ℕ → Option Instruction
+instruction_at source at = instruction_of (cell_at source at)
 
 -- the entry that an item names
 abbrev pub callee_of : Found → Option Entry
@@ -47,10 +48,10 @@ callee_of (Seen v) = v.callee
 callee_of found = None
 
 -- the item at a word address, before which this is known, and which names this entry
-pub record IsItem (word : ℕ → Option ℕ) (at : ℕ) (before : Known) (callee : Option Entry) (i : RefusedItem) : Type 0 where
+pub record IsItem (source : Source) (at : ℕ) (before : Known) (callee : Option Entry) (i : RefusedItem) : Type 0 where
   pub stands : i.at ≡ at
-  pub holds : i.words ≡ words_at word at
-  pub decoded : i.instruction ≡ instruction_at word at
+  pub holds : i.words ≡ words_at source at
+  pub decoded : i.instruction ≡ instruction_at source at
   pub named : i.callee ≡ callee
   pub known : i.before ≡ before
 

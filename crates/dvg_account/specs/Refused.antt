@@ -1,5 +1,6 @@
 -- The lines of a refusal because of an item. All of it is profile.
 use Rattle.std.specs.Prelude.{◌≡◌, ℕ, List, [], ◌∷◌, ◌++◌, length, Option, Some, None, IfSome, IfNone, option_to_list}
+use Rattle.dvg_words.specs.declared.machine.Machine.{Machine}
 use Rattle.dvg_words.specs.Memory.{Rom, rom_word, frame_word, words_of, IsFrameLength}
 use Rattle.dvg_cert.specs.declared.entry.Entry.{Entry}
 use Rattle.dvg_items.specs.Known.{frame_context, shape_context}
@@ -19,13 +20,13 @@ use Rattle.dvg_account.specs.declared.line.Line.TheVariants.{Rule, Why, Path, Wh
 use Rattle.dvg_account.specs.declared.line.PathLine.TheVariants as path
 
 -- the lines of the first fault of a frame: its rule, its cause, its item, and what to do. No losses are told where no items lead there
-pub record FrameLines (frame : List ℕ) (list : List Entry) (a : FrameAccount) (lines : List Line) : Type 0 where
+pub record FrameLines (machine : Machine) (frame : List ℕ) (list : List Entry) (a : FrameAccount) (lines : List Line) : Type 0 where
   pub why : Sentence
-  pub tells : TellsFrame frame a.finding a.cause why
+  pub tells : TellsFrame machine frame a.finding a.cause why
   pub item : RefusedItem
-  pub is_item : IsItem (frame_word frame) a.finding.fault.word a.finding.before (callee_of a.finding.found) item
-  pub lost : IfSome item.losses (AreLosses (frame_context list) (frame_word frame) 0 a.finding.fault.word)
-  pub unled : IfNone item.losses (NoneLead Frame (frame_word frame) 0 a.finding.fault.word)
+  pub is_item : IsItem (frame_word machine frame) a.finding.fault.word a.finding.before (callee_of a.finding.found) item
+  pub lost : IfSome item.losses (AreLosses (frame_context machine list) (frame_word machine frame) 0 a.finding.fault.word)
+  pub unled : IfNone item.losses (NoneLead Frame (frame_word machine frame) 0 a.finding.fault.word)
   pub told : lines ≡ Rule (frame_number a.finding.fault.why) ∷ Why why ∷ item_lines item ++ WhatToDo (frame_number a.finding.fault.why) ∷ []
 
 -- how the frame with these bytes reaches an entry: by these calls, or by none; without a frame there is no line
@@ -42,7 +43,7 @@ pub record ShapeLines (rom : Rom) (frame : List ℕ) (list : List Entry) (a : Sh
   pub tells : TellsShape rom a.finding a.cause why
   pub item : RefusedItem
   pub is_item : IsItem (rom_word rom) a.finding.fault.word a.finding.before (callee_of a.finding.found) item
-  pub lost : IfSome item.losses (AreLosses (shape_context list a.finding.entry) (rom_word rom) a.finding.entry.addr a.finding.fault.word)
+  pub lost : IfSome item.losses (AreLosses (shape_context rom.machine list a.finding.entry) (rom_word rom) a.finding.entry.addr a.finding.fault.word)
   pub unled : IfNone item.losses (HasEntry list a.finding.entry.addr a.finding.entry.key
       → NoneLead Shape (rom_word rom) a.finding.entry.addr a.finding.fault.word)
   pub chain : Option Line

@@ -1,6 +1,6 @@
 -- The lines of a verdict. All of it is profile.
 use Rattle.std.specs.Prelude.{◌≡◌, List, length, Option, Some, Result, Ok, Err, IfSome}
-use Rattle.dvg_words.specs.Memory.{words_of, rom_of, IsFrameLength, IsRomLength}
+use Rattle.dvg_words.specs.Memory.{words_of, rom_on, IsFrameLength, IsRomLength}
 use Rattle.dvg_check.specs.Numbers.{refusal_number}
 use Rattle.dvg_check.specs.declared.verdict.Yes.{Yes}
 use Rattle.dvg_check.specs.declared.verdict.Refusal.{Refusal}
@@ -19,9 +19,9 @@ use Rattle.dvg_make.specs.declared.judging.FrameRefusal.TheVariants.{Check}
 -- the lines of a refusal of inputs: those of the first fault of the shapes or the frame, where that is its cause, else of its number
 abbrev pub RefusedLines : Inputs → Refusal → Option RomAccount → List Line → Type 0
 RefusedLines inputs refusal (Some (account.Shape a)) lines = IfSome inputs.cert (λ cert. IsRomLength cert.now.map (length inputs.rom.now)
-    → ShapeLines (rom_of cert.now.map inputs.rom.now) inputs.frame.now cert.now.entries a lines)
+    → ShapeLines (rom_on inputs.machine cert.now.map inputs.rom.now) inputs.frame.now cert.now.entries a lines)
 RefusedLines inputs refusal (Some (account.Frame a)) lines = IfSome inputs.cert (λ cert. IsFrameLength (length inputs.frame.now)
-    → FrameLines (words_of inputs.frame.now) cert.now.entries a lines)
+    → FrameLines inputs.machine (words_of inputs.frame.now) cert.now.entries a lines)
 RefusedLines inputs refusal cause lines = (why : PlainWhy) × (lines ≡ plain_lines (refusal_number refusal) why)
 
 -- the lines of a verdict on inputs

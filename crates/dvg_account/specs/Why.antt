@@ -1,6 +1,7 @@
 -- What the sentence of a refusal tells of its cause. All of it is profile.
 use Rattle.std.specs.Prelude.{◌≡◌, ℕ, ◌+◌, ◌-◌, nat_eq, if◌then◌else◌, List, length, Option, Some, None}
-use Rattle.dvg_words.specs.Values.{MemoryMap}
+use Rattle.dvg_words.specs.declared.machine.Machine.{Machine}
+use Rattle.dvg_words.specs.Values.{MemoryMap, Source}
 use Rattle.dvg_words.specs.Memory.{Rom, frame_word, rom_word}
 use Rattle.dvg_cert.specs.declared.entry.Entry.{Entry}
 use Rattle.dvg_check.specs.declared.fault.Found.{Found}
@@ -40,8 +41,8 @@ abbrev pub missing_at : Option ℕ → ℕ → ℕ
 missing_at None at = at
 missing_at (Some first) at = at + 1
 
-abbrev pub missing_word : (ℕ → Option ℕ) → Addresses → ℕ → Why
-missing_word word list at = why.MissingWord (missing_at (word at) at) list
+abbrev pub missing_word : Source → Addresses → ℕ → Why
+missing_word source list at = why.MissingWord (missing_at (source.word at) at) list
 
 -- what lights at a lost place: the box of the entry that the item names, or a draw
 abbrev pub box_or_draw : Option Entry → Why
@@ -62,16 +63,16 @@ TellsBox (left.Empty p) told = (corner : Corner) × (told ≡ why.LitOutsideEmpt
 TellsBox (left.Past leaving) told = (corner : Corner) × (told ≡ why.PastEdge corner leaving ClaimedBox)
 
 -- the numbers of a cause of frames; which words of a LABS are odd is only tested
-abbrev pub TellsFrame : List ℕ → FrameFinding → FrameCause → Why → Type 0
-TellsFrame words f frame.Unmapped told = told ≡ missing_word (frame_word words) (addresses_of_frame words) f.fault.word
-TellsFrame words f frame.Odd told = (odd : OddWords) × (told ≡ why.OddLabs odd)
-TellsFrame words f frame.ReturnInFrame told = told ≡ why.Return
-TellsFrame words f (frame.BackJump to) told = told ≡ jumps_back f.fault.word to
-TellsFrame words f frame.BeamUnknown told = told ≡ lost_place f.found
-TellsFrame words f frame.ScaleUnknown told = told ≡ why.ScaleUnknown
-TellsFrame words f (frame.OffScreen leaving) told = (corner : Corner) × (told ≡ why.PastEdge corner leaving Window)
-TellsFrame words f (frame.NoEntry to scale) told = told ≡ why.NoEntry to scale
-TellsFrame words f (frame.Budget over) told = told ≡ why.OverBudget (words_with f.found) over
+abbrev pub TellsFrame : Machine → List ℕ → FrameFinding → FrameCause → Why → Type 0
+TellsFrame machine words f frame.Unmapped told = told ≡ missing_word (frame_word machine words) (addresses_of_frame words) f.fault.word
+TellsFrame machine words f frame.Odd told = (odd : OddWords) × (told ≡ why.OddLabs odd)
+TellsFrame machine words f frame.ReturnInFrame told = told ≡ why.Return
+TellsFrame machine words f (frame.BackJump to) told = told ≡ jumps_back f.fault.word to
+TellsFrame machine words f frame.BeamUnknown told = told ≡ lost_place f.found
+TellsFrame machine words f frame.ScaleUnknown told = told ≡ why.ScaleUnknown
+TellsFrame machine words f (frame.OffScreen leaving) told = (corner : Corner) × (told ≡ why.PastEdge corner leaving Window)
+TellsFrame machine words f (frame.NoEntry to scale) told = told ≡ why.NoEntry to scale
+TellsFrame machine words f (frame.Budget over) told = told ≡ why.OverBudget (words_with f.found) over
 
 -- what the entry claims, and the numbers of a cause of its shape
 abbrev pub TellsClaim : Entry → ℕ → ShapeCause → ClaimWhy → Type 0

@@ -1,7 +1,7 @@
 //! The account of what is accepted.
 
 ghost use Rattle.std.specs.Prelude.{◌≡◌, IfOk, IfSome, length};
-ghost use Rattle.dvg_words.specs.Memory.{IsFrameLength, IsRomLength, words_of, rom_of, frame_word};
+ghost use Rattle.dvg_words.specs.Memory.{IsFrameLength, IsRomLength, words_of, rom_on, frame_word};
 ghost use Rattle.dvg_items.specs.Known.{frame_context};
 ghost use Rattle.dvg_explain.specs.Calls.{IsShapesExtent};
 ghost use Rattle.dvg_account.specs.Accepted.{FrameSurveyed, Surveyed, TellsMargins, AcceptedLines};
@@ -14,7 +14,7 @@ use crate::lines::Lines;
 use dvg_cert::{Cert, Entries, HashIndex, LitBox};
 use dvg_check::Yes;
 use dvg_explain::{Call, Margins, frame_calls, frame_extent, shapes_extent};
-use dvg_words::{FrameImage, RomImage, Window};
+use dvg_words::{FrameImage, Machine, RomImage, Window};
 use std::alloc::{AllocError, Global};
 
 /// The calls of a frame, and the least boxes of what it and the shapes may light.
@@ -37,53 +37,60 @@ impl Survey {
 
     /// The survey of these inputs.
     fn of(alloc: Global, inputs: &Inputs) -> Result<Survey, AllocError>
-        ensures { IfOk result (λ s. IfSome inputs.now.cert (λ cert. Surveyed cert.now inputs.now.rom.now inputs.now.frame.now s)) }
+        ensures { IfOk result (λ s. IfSome inputs.now.cert (λ cert. Surveyed inputs.now.machine cert.now inputs.now.rom.now inputs.now.frame.now s)) }
     {
         match inputs.cert {
-            Some(cert) => Survey::by(alloc, cert, inputs.rom, inputs.frame),
+            Some(cert) => Survey::by(alloc, inputs.machine, cert, inputs.rom, inputs.frame),
             None => Ok(Survey::nothing(alloc)),
         }
     }
 
-    /// The survey of a ROM and a frame by a certificate.
-    fn by(alloc: Global, cert: &Cert, rom: &[u8], frame: &[u8]) -> Result<Survey, AllocError>
-        ensures { IfOk result (Surveyed cert.now rom.now frame.now) }
+    /// The survey of a ROM and a frame on a machine by a certificate.
+    fn by(
+        alloc: Global,
+        machine: Machine,
+        cert: &Cert,
+        rom: &[u8],
+        frame: &[u8],
+    ) -> Result<Survey, AllocError>
+        ensures { IfOk result (Surveyed machine cert.now rom.now frame.now) }
     {
         let entries = HashIndex::new(alloc, cert)?;
-        let (calls, lit) = survey_frame(alloc, cert, &entries, frame)?;
+        let (calls, lit) = survey_frame(alloc, machine, cert, &entries, frame)?;
         Ok(Survey {
             calls,
             frame: lit,
-            shapes: shapes_box(cert, &entries, rom),
+            shapes: shapes_box(machine, cert, &entries, rom),
         })
     }
 }
 
-/// The calls of a frame, and the least box of what its own items may light.
+/// The calls of a frame on a machine, and the least box of what its own items may light.
 fn survey_frame<E: Entries>(
     alloc: Global,
+    machine: Machine,
     cert: &Cert,
     entries: &E,
     frame: &[u8],
 ) -> Result<(Vec<Call>, LitBox), AllocError>
     requires { E.list entries.now ≡ cert.now.entries }
-    ensures { IfOk result (λ s. IsFrameLength (length frame.now) → FrameSurveyed cert.now.entries (words_of frame.now) s.0.items s.1) }
+    ensures { IfOk result (λ s. IsFrameLength (length frame.now) → FrameSurveyed machine cert.now.entries (words_of frame.now) s.0.items s.1) }
 {
     match FrameImage::from_bytes(frame) {
         Ok(frame) => {
-            let calls = frame_calls(alloc, cert, entries, &frame)?;
-            Ok((calls, frame_extent(cert, entries, &frame)))
+            let calls = frame_calls(alloc, machine, cert, entries, &frame)?;
+            Ok((calls, frame_extent(machine, cert, entries, &frame)))
         }
         Err(_) => Ok((Vec::new(alloc), LitBox::Empty)),
     }
 }
 
-/// The least box of what the shapes light at absolute places.
-fn shapes_box<E: Entries>(cert: &Cert, entries: &E, rom: &[u8]) -> LitBox
+/// The least box of what the shapes light at absolute places on a machine.
+fn shapes_box<E: Entries>(machine: Machine, cert: &Cert, entries: &E, rom: &[u8]) -> LitBox
     requires { E.list entries.now ≡ cert.now.entries }
-    ensures { IsRomLength cert.now.map (length rom.now) → IsShapesExtent (rom_of cert.now.map rom.now) cert.now.entries result }
+    ensures { IsRomLength cert.now.map (length rom.now) → IsShapesExtent (rom_on machine cert.now.map rom.now) cert.now.entries result }
 {
-    match RomImage::from_bytes(rom, cert.map()) {
+    match RomImage::from_bytes_on(machine, rom, cert.map()) {
         Ok(rom) => shapes_extent(&rom, cert, entries),
         Err(_) => LitBox::Empty,
     }

@@ -1,7 +1,7 @@
 //! Why something is refused because of an item.
 
 ghost use Rattle.std.specs.Prelude.{IfOk, IfSome};
-ghost use Rattle.dvg_words.specs.Memory.{rom_of, words_of};
+ghost use Rattle.dvg_words.specs.Memory.{rom_on, words_of};
 ghost use Rattle.dvg_explain.specs.Verdict.{TellsOf};
 
 use crate::inputs::Inputs;
@@ -18,7 +18,7 @@ pub fn find_cause(
     refusal: &Refusal,
 ) -> Result<Option<RomAccount>, AllocError>
     ensures { IfOk result (λ found. IfSome inputs.now.cert (λ cert. IfSome found (TellsOf inputs.now.mode inputs.now.window
-        (rom_of cert.now.map inputs.now.rom.now) cert.now.entries (words_of inputs.now.frame.now) inputs.now.budget))) }
+        (rom_on inputs.now.machine cert.now.map inputs.now.rom.now) cert.now.entries (words_of inputs.now.frame.now) inputs.now.budget))) }
 {
     match (refusal, inputs.cert) {
         (Refusal::Shape(_), Some(cert)) => find_shape_cause(alloc, inputs, cert),
@@ -33,10 +33,10 @@ fn find_shape_cause(
     inputs: &Inputs,
     cert: &Cert,
 ) -> Result<Option<RomAccount>, AllocError>
-    ensures { IfOk result (λ found. IfSome found (TellsOf inputs.now.mode inputs.now.window (rom_of cert.now.map inputs.now.rom.now)
+    ensures { IfOk result (λ found. IfSome found (TellsOf inputs.now.mode inputs.now.window (rom_on inputs.now.machine cert.now.map inputs.now.rom.now)
         cert.now.entries (words_of inputs.now.frame.now) inputs.now.budget)) }
 {
-    let Ok(rom) = RomImage::from_bytes(inputs.rom, cert.map()) else {
+    let Ok(rom) = RomImage::from_bytes_on(inputs.machine, inputs.rom, cert.map()) else {
         return Ok(None);
     };
     let entries = HashIndex::new(alloc, cert)?;
@@ -52,10 +52,11 @@ fn find_frame_cause(
     inputs: &Inputs,
     cert: &Cert,
 ) -> Result<Option<RomAccount>, AllocError>
-    ensures { IfOk result (λ found. IfSome found (TellsOf inputs.now.mode inputs.now.window (rom_of cert.now.map inputs.now.rom.now)
+    ensures { IfOk result (λ found. IfSome found (TellsOf inputs.now.mode inputs.now.window (rom_on inputs.now.machine cert.now.map inputs.now.rom.now)
         cert.now.entries (words_of inputs.now.frame.now) inputs.now.budget)) }
 {
     let Inputs {
+        machine,
         rom,
         budget,
         window,
@@ -65,7 +66,7 @@ fn find_frame_cause(
     let Ok(frame) = frame_of(inputs.frame, budget) else {
         return Ok(None);
     };
-    match explain_rom(alloc, rom, &frame, cert, budget, window, mode) {
+    match explain_rom(machine, alloc, rom, &frame, cert, budget, window, mode) {
         Ok(_) => Ok(None),
         Err(RomAccount::IndexMemory) => Err(AllocError),
         Err(account) => Ok(Some(account)),

@@ -9,13 +9,14 @@ use crate::lines::Lines;
 use crate::why::{Addresses, InputWhy, Why};
 use dvg_cert::Cert;
 use dvg_check::{Mode, Refusal};
-use dvg_words::{ImageFault, RomMap, Window};
+use dvg_words::{ImageFault, Machine, RomMap, Window};
 use std::alloc::{AllocError, Global};
 
-/// What was judged: the bytes that were read of a ROM and of a frame, where the ROM lies, if that is known, and the certificate,
-/// if one was taken or made.
+/// What was judged: the machine, the bytes that were read of a ROM and of a frame, where the ROM lies, if that is known, and the
+/// certificate, if one was taken or made.
 #[derive(Clone, Copy)]
 pub struct Inputs<'a> {
+    pub machine: Machine,
     pub rom: &'a [u8],
     pub map: Option<RomMap>,
     pub cert: Option<&'a Cert>,

@@ -11,7 +11,7 @@ use dvg_cert::Cert;
 use dvg_check::{Mode, Yes};
 use dvg_explain::RomAccount;
 use dvg_make::{EntryCause, FrameRefusal, MakeAccount};
-use dvg_words::{RomImage, RomMap, Window};
+use dvg_words::RomImage;
 use std::alloc::{AllocError, Global};
 
 /// The number of the refusal that the maker had no memory.
@@ -53,50 +53,37 @@ impl OwnMaking {
     }
 }
 
-/// The lines of a verdict on the bytes of a frame by its own certificate, over the bytes of a ROM at a map (profile).
+/// The lines of a verdict on the frame of these inputs by its own certificate, in the place of theirs and in the mode `Exact`
+/// (profile).
 pub fn own_lines(
     alloc: Global,
-    rom: &[u8],
-    map: RomMap,
-    frame: &[u8],
-    budget: u32,
-    window: Window,
+    inputs: &Inputs,
     verdict: &Result<Yes, FrameRefusal>,
     making: OwnMaking,
 ) -> Result<Vec<Line>, AllocError> {
     match making.certificate {
-        OwnCertificate::Unasked => lines_by(alloc, rom, map, None, frame, budget, window, verdict),
+        OwnCertificate::Unasked => lines_by(alloc, inputs, None, verdict),
         OwnCertificate::NoMemory => plain_lines(alloc, NO_MEMORY, PlainWhy::Nothing),
-        OwnCertificate::Made(cert) => {
-            lines_by(alloc, rom, map, Some(&cert), frame, budget, window, verdict)
-        }
+        OwnCertificate::Made(cert) => lines_by(alloc, inputs, Some(&cert), verdict),
         OwnCertificate::Refused(lines) => lines,
     }
 }
 
-/// The lines of a verdict on the bytes of a frame by this certificate, if there is one.
-fn lines_by<'a>(
+/// The lines of a verdict on the frame of these inputs by this certificate, if there is one.
+fn lines_by(
     alloc: Global,
-    rom: &'a [u8],
-    map: RomMap,
-    cert: Option<&'a Cert>,
-    frame: &'a [u8],
-    budget: u32,
-    window: Window,
+    inputs: &Inputs,
+    cert: Option<&Cert>,
     verdict: &Result<Yes, FrameRefusal>,
 ) -> Result<Vec<Line>, AllocError> {
-    let inputs = &Inputs {
-        rom,
-        map: Some(map),
+    let by_cert = Inputs {
         cert,
-        frame,
-        budget,
-        window,
         mode: Mode::Exact,
+        ..*inputs
     };
     match verdict {
-        Err(FrameRefusal::Check(refusal)) => refusal_lines(alloc, inputs, refusal),
-        _ => frame_lines(alloc, inputs, verdict, None),
+        Err(FrameRefusal::Check(refusal)) => refusal_lines(alloc, &by_cert, refusal),
+        _ => frame_lines(alloc, &by_cert, verdict, None),
     }
 }
 

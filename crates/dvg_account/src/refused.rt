@@ -21,7 +21,7 @@ use dvg_explain::{
     FrameAccount, Losses, RomAccount, ShapeAccount, find_chain, frame_losses, shape_losses,
 };
 use dvg_items::Kind;
-use dvg_words::{FrameImage, RomImage};
+use dvg_words::{FrameImage, FrameOn, Machine, RomImage};
 use std::alloc::{AllocError, Global};
 
 /// The lines of a refusal, of which this is the cause, if it is because of an item.
@@ -35,13 +35,13 @@ pub fn refused_lines(
 {
     match (cause, inputs.cert) {
         (Some(RomAccount::Shape(account)), Some(cert)) => {
-            if let Ok(rom) = RomImage::from_bytes(inputs.rom, cert.map()) {
+            if let Ok(rom) = RomImage::from_bytes_on(inputs.machine, inputs.rom, cert.map()) {
                 return shape_lines(alloc, &rom, cert, inputs.frame, account);
             }
         }
         (Some(RomAccount::Frame(account)), Some(cert)) => {
             if let Ok(frame) = FrameImage::from_bytes(inputs.frame) {
-                return frame_lines(alloc, cert, &frame, account);
+                return frame_lines(alloc, inputs.machine, cert, &frame, account);
             }
         }
         _ => {}
@@ -49,24 +49,26 @@ pub fn refused_lines(
     plain_lines(alloc, refusal.number(), inputs.plain_why(refusal))
 }
 
-/// The lines of the first fault of a frame.
+/// The lines of the first fault of a frame on a machine.
 fn frame_lines(
     alloc: Global,
+    machine: Machine,
     cert: &Cert,
     frame: &FrameImage,
     account: &FrameAccount,
 ) -> Result<Vec<Line>, AllocError>
-    ensures { IfOk result (λ lines. FrameLines frame.now cert.now.entries account.now lines.items) }
+    ensures { IfOk result (λ lines. FrameLines machine frame.now cert.now.entries account.now lines.items) }
 {
     let finding = account.finding;
     let at = finding.fault.word;
     let number = finding.fault.number();
     let callee = callee_of(&finding.found);
+    let framed = FrameOn::new(machine, frame);
     let item = RefusedItem {
-        losses: frame_losses(cert, &ListIndex::new(cert), frame, at),
-        ..RefusedItem::new(frame, Kind::Frame, 0, at, finding.before, callee)
+        losses: frame_losses(machine, cert, &ListIndex::new(cert), frame, at),
+        ..RefusedItem::new(&framed, Kind::Frame, 0, at, finding.before, callee)
     };
-    let why = Why::of_frame(account, frame);
+    let why = Why::of_frame(machine, account, frame);
     let mut lines = Lines::new(alloc);
     lines.push(Line::Rule(number));
     lines.push(Line::Why(why));
@@ -129,7 +131,7 @@ fn chain_line(
 
 /// The items of an entry's shape by which the place and the scale were lost that are not known before a word.
 fn losses_in_shape(rom: &RomImage, cert: &Cert, entry: &Entry, at: u16) -> Option<Losses>
-    ensures some { IfSome result (AreLosses (shape_context cert.now.entries entry.now) (rom_word rom.now) entry.now.addr at) }
+    ensures some { IfSome result (AreLosses (shape_context rom.now.machine cert.now.entries entry.now) (rom_word rom.now) entry.now.addr at) }
     ensures none { IfNone result (HasEntry cert.now.entries entry.now.addr entry.now.key → NoneLead Shape (rom_word rom.now) entry.now.addr at) }
 {
     let entries = ListIndex::new(cert);

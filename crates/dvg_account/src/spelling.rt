@@ -1,5 +1,8 @@
 //! How the lines of an account are spelled.
 
+ghost use Rattle.std.specs.Prelude.{◌≡◌};
+ghost use Rattle.dvg_words.specs.Beam.{signed_field};
+
 use crate::line::{
     AcceptedLine, EntryName, Instruction, ItemLine, Line, MadeLine, MakerChain, PathLine, Words,
     Zeros,
@@ -154,11 +157,11 @@ fn push_instruction(text: &mut Text, format: Format, instr: &Instr) {
         Instr::Draw(draw) => push_draw(text, format, draw),
         Instr::Labs { x, y, gscale } => {
             text.push("LABS Y ");
-            text.push_decimal(*y);
+            text.push_decimal(signed_field(*y));
             text.push(", global scale ");
             text.push_decimal(*gscale);
             text.push(", X ");
-            text.push_decimal(*x);
+            text.push_decimal(signed_field(*x));
         }
         Instr::Halt => text.push("HALT"),
         Instr::Jsrl { to } => {
@@ -170,6 +173,17 @@ fn push_instruction(text: &mut Text, format: Format, instr: &Instr) {
             text.push("JMPL address ");
             text.push_address(*to);
         }
+    }
+}
+
+/// A field of a LABS as a number of screen places. One over 2047, which the board alone loads, is below 0.
+fn signed_field(field: u16) -> i32
+    ensures { result ≡ signed_field field }
+{
+    if field > 2047 {
+        i32::from(field) - 4096
+    } else {
+        i32::from(field)
     }
 }
 

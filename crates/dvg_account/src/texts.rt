@@ -9,7 +9,7 @@ use dvg_cert::Cert;
 use dvg_check::{Refusal, Yes};
 use dvg_explain::RomAccount;
 use dvg_make::{FrameRefusal, MakeAccount};
-use dvg_words::{RomImage, RomMap, Window};
+use dvg_words::RomImage;
 use std::alloc::{AllocError, Global};
 
 /// The account of [`verdict_lines`] as a text.
@@ -44,16 +44,11 @@ pub fn frame_text(
 /// The account of [`own_lines`] as a text.
 pub fn own_text(
     alloc: Global,
-    rom: &[u8],
-    map: RomMap,
-    frame: &[u8],
-    budget: u32,
-    window: Window,
+    inputs: &Inputs,
     verdict: &Result<Yes, FrameRefusal>,
     making: OwnMaking,
 ) -> Result<String, AllocError> {
-    let lines = own_lines(alloc, rom, map, frame, budget, window, verdict, making)?;
-    text_of(alloc, &lines)
+    text_of(alloc, &own_lines(alloc, inputs, verdict, making)?)
 }
 
 /// The account of [`plain_lines`] as a text.

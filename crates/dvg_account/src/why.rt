@@ -13,7 +13,7 @@ use dvg_cert::{End, Entry, Key};
 use dvg_check::Found;
 use dvg_explain::{BoxLeaving, FrameAccount, FrameCause, Leaving, ShapeAccount, ShapeCause};
 use dvg_items::{LitExtent, Seen};
-use dvg_words::{Fetch, FrameImage, Instr, Point, RomImage, RomMap};
+use dvg_words::{Fetch, FrameImage, FrameOn, Instr, Machine, Point, RomImage, RomMap};
 
 /// Why an answer is a refusal, with the numbers of the sentence.
 #[derive(Clone, Copy)]
@@ -306,15 +306,16 @@ impl Why {
         }
     }
 
-    /// Why an item of a frame is refused.
-    pub fn of_frame(account: &FrameAccount, frame: &FrameImage) -> Why
-        ensures { TellsFrame frame.now account.now.finding account.now.cause result }
+    /// Why an item of a frame is refused on a machine.
+    pub fn of_frame(machine: Machine, account: &FrameAccount, frame: &FrameImage) -> Why
+        ensures { TellsFrame machine frame.now account.now.finding account.now.cause result }
     {
         let found = &account.finding.found;
         let at = account.finding.fault.word;
+        let framed = FrameOn::new(machine, frame);
         match account.cause {
-            FrameCause::Unmapped => Why::missing(frame, at, Addresses::of_frame(frame)),
-            FrameCause::Odd => Why::odd(frame, at),
+            FrameCause::Unmapped => Why::missing(&framed, at, Addresses::of_frame(frame)),
+            FrameCause::Odd => Why::odd(&framed, at),
             FrameCause::ReturnInFrame => Why::Return,
             FrameCause::BackJump(to) => jumps_back(at, to),
             FrameCause::BeamUnknown => lost_place(found),

@@ -1,5 +1,6 @@
 -- What is kept stands for what was judged.
 use Rattle.std.proofs.Common.{◌≡◌, ◌∙◌, ℕ, ◌+◌, ◌-◌, ◌*◌, List, length, take, ap, arith}
+use Rattle.dvg_words.specs.declared.machine.Machine.TheVariants.{Profile}
 use Rattle.dvg_words.specs.Values.{MemoryMap}
 use Rattle.dvg_words.specs.Memory.{words_of, rom_of, IsRomLength}
 use Rattle.dvg_cert.specs.declared.entry.Entry.{Entry}
@@ -17,7 +18,7 @@ same_shapes map mode w judged first last count bytes rom kept list first_is last
     let size : 2 * (last + 1 - first) ≡ length rom = omega (arith, first_is, last_is, rom_length) in
     let words = ap words_of (ap (λ n. take n bytes) size ∙ bytes_are) in
     λ i. record {
-      rom = record { map = record { rom_first = first_is i; rom_last = last_is i }; words = words i };
+      rom = record { map = record { rom_first = first_is i; rom_last = last_is i }; machine = Profile; words = words i };
       list = list_is i;
       window = window_of w;
       mode = mode_is i;

@@ -134,7 +134,7 @@ CellKeeps-prop mode w e see at (Holds format i) why = ShapeKeeps-prop mode w e _
 
 Good-prop : (mode : Mode) (w : Window) (rom : Rom) (list : List Entry) → IsProp (Good mode w rom list)
 Good-prop mode w rom list =
-    Π_prop (λ e. →_prop (Π_prop (λ earlier. Π_prop (λ p. →_prop (Π_prop (λ why. CellKeeps-prop mode w e (λ i. seen_at (shape_context list e) earlier i) p (cell_at (rom_word rom) p) why))))))
+    Π_prop (λ e. →_prop (Π_prop (λ earlier. Π_prop (λ p. →_prop (Π_prop (λ why. CellKeeps-prop mode w e (λ i. seen_at (shape_context rom.machine list e) earlier i) p (cell_at (rom_word rom) p) why))))))
 
 -- ---- what is kept
 

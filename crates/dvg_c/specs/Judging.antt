@@ -55,9 +55,9 @@ pub record IsJudgement (mode : Mode) (w : Window) (rom cert : List ℕ) (s : Kep
 -- what a frame comes to by shapes: the first that applies of 2, 49, its first fault, accepted
 abbrev pub FrameVerdict : Shapes → List ℕ → ℕ → Result Yes Refusal → Type 0
 FrameVerdict s frame budget (Ok y) =
-    InRange frame budget × GoodFrame s.window (words_of frame) s.list budget y.words y.depth × (y.shapes ≡ length s.list)
+    InRange frame budget × GoodFrame s.window s.rom.machine (words_of frame) s.list budget y.words y.depth × (y.shapes ≡ length s.list)
 FrameVerdict s frame budget (Err (refusal.Frame f)) =
-    InRange frame budget × FirstFrameFault s.window (words_of frame) s.list budget f
+    InRange frame budget × FirstFrameFault s.window s.rom.machine (words_of frame) s.list budget f
 FrameVerdict s frame budget (Err r) = RangeRefusal frame budget r
 
 -- every run from the first word of a frame is safe, over the ROM of the shapes and in their window

@@ -32,8 +32,8 @@ fn check_over(
     requires list { IsSomeCertificate entries.now }
     requires good { Good mode window rom.now entries.now }
     requires budget { budget ≤ MOST_WORDS }
-    ensures ok { IfOk result (λ yes. GoodFrame window frame.now entries.now budget yes.words yes.depth) }
-    ensures err { IfErr result (FirstFrameFault window frame.now entries.now budget) }
+    ensures ok { IfOk result (λ yes. GoodFrame window rom.now.machine frame.now entries.now budget yes.words yes.depth) }
+    ensures err { IfErr result (FirstFrameFault window rom.now.machine frame.now entries.now budget) }
     ensures safe { IfOk result (λ yes. Safe (record { frame = frame.now; rom = rom.now }) window yes.words yes.depth) }
     ensures exact { mode ≡ Exact → IfOk result (λ yes. CountsAtHalt (record { frame = frame.now; rom = rom.now }) yes.words yes.depth) }
 {

@@ -1,7 +1,8 @@
 -- What is accepted is safe, and there is one verdict.
+use Rattle.dvg_words.specs.declared.machine.Machine.{Machine}
 use Rattle.std.proofs.Common.{List, length, sym, subst, ap, refl, ◌≡◌, ◌∙◌, ℕ}
 use Rattle.std.specs.Prelude.{Err, Ok, Result, IfOk}
-use Rattle.dvg_words.specs.Memory.{Rom, IsFrame, IsRom, IsRomLength, words_of, rom_of}
+use Rattle.dvg_words.specs.Memory.{Rom, IsFrame, IsRom, IsRomLength, words_of, rom_on}
 use Rattle.dvg_words.specs.Values.{Window}
 use Rattle.dvg_words.specs.declared.image.ImageFault.TheVariants.{RomLength, FrameLength}
 use Rattle.dvg_cert.specs.Laws.{OneCertificate, OneAnswer, NotMemory as HasMemory}
@@ -17,7 +18,7 @@ use Rattle.dvg_check.specs.Rules.{Good, GoodFrame}
 use Rattle.dvg_check.specs.Safety.{Safe}
 use Rattle.dvg_check.specs.Judged.{Shapes, IsJudged}
 use Rattle.dvg_check.specs.declared.frames.Accepted.{Accepted}
-use Rattle.dvg_check.specs.Verdict.{RangeRefusal, PartsVerdict, RomVerdict, CertVerdict, Verdict, NotMemory}
+use Rattle.dvg_check.specs.Verdict.{RangeRefusal, PartsVerdict, RomVerdict, CertVerdict, VerdictOn, NotMemory}
 use Rattle.dvg_check.specs.declared.fault.Mode.{Mode}
 use Rattle.dvg_check.specs.declared.fault.Mode.TheVariants.{Exact}
 use Rattle.dvg_check.specs.declared.verdict.Refusal.{Refusal}
@@ -28,48 +29,48 @@ use Rattle.dvg_check.proofs.FrameLaws.{good_is_safe, exact_is_exact}
 use Rattle.dvg_items.proofs.Listed.{listed_claim}
 
 -- the shapes and the frame of a certificate's list are safe
-safe_of_good : (mode : Mode) (w : Window) (frame : List ℕ) (rom : Rom) (list : List Entry) (budget words depth : ℕ) → IsSomeCertificate list → IsFrame frame → IsRom rom → Good mode w rom list → GoodFrame w frame list budget words depth → Safe (record { frame = frame; rom = rom }) w words depth
+safe_of_good : (mode : Mode) (w : Window) (frame : List ℕ) (rom : Rom) (list : List Entry) (budget words depth : ℕ) → IsSomeCertificate list → IsFrame frame → IsRom rom → Good mode w rom list → GoodFrame w rom.machine frame list budget words depth → Safe (record { frame = frame; rom = rom }) w words depth
 safe_of_good mode w frame rom list budget words depth some is_frame is_rom good good_frame =
     good_is_safe mode (record { frame = frame; rom = rom }) w list budget words depth (record { frame = is_frame; rom = is_rom }) (λ e listed. (listed_claim list e some listed).depth) good good_frame
 
 -- and their counts are exact where they are claimed so
-exact_of_good : (w : Window) (frame : List ℕ) (rom : Rom) (list : List Entry) (budget words depth : ℕ) → IsSomeCertificate list → IsFrame frame → IsRom rom → Good Exact w rom list → GoodFrame w frame list budget words depth → CountsAtHalt (record { frame = frame; rom = rom }) words depth
+exact_of_good : (w : Window) (frame : List ℕ) (rom : Rom) (list : List Entry) (budget words depth : ℕ) → IsSomeCertificate list → IsFrame frame → IsRom rom → Good Exact w rom list → GoodFrame w rom.machine frame list budget words depth → CountsAtHalt (record { frame = frame; rom = rom }) words depth
 exact_of_good w frame rom list budget words depth some is_frame is_rom good good_frame =
     exact_is_exact (record { frame = frame; rom = rom }) w list budget words depth (record { frame = is_frame; rom = is_rom }) (λ e listed. (listed_claim list e some listed).depth) good good_frame
 
 -- an accepted frame over judged shapes is safe
-pub safe_over : {F : Type 0} (shapes : Shapes) (frame : List ℕ) (budget : ℕ) (answer : Result Accepted F) → IsJudged shapes → IsFrame frame → IfOk answer (λ yes. GoodFrame shapes.window frame shapes.list budget yes.words yes.depth) → IfOk answer (λ yes. Safe (record { frame = frame; rom = shapes.rom }) shapes.window yes.words yes.depth)
+pub safe_over : {F : Type 0} (shapes : Shapes) (frame : List ℕ) (budget : ℕ) (answer : Result Accepted F) → IsJudged shapes → IsFrame frame → IfOk answer (λ yes. GoodFrame shapes.window shapes.rom.machine frame shapes.list budget yes.words yes.depth) → IfOk answer (λ yes. Safe (record { frame = frame; rom = shapes.rom }) shapes.window yes.words yes.depth)
 safe_over shapes frame budget (Ok a) h is_frame good = safe_of_good shapes.mode shapes.window frame shapes.rom shapes.list budget a.words a.depth h.list is_frame h.rom h.good good
 safe_over shapes frame budget (Err f) h is_frame good = tt
 
 -- and its counts are exact over shapes that were judged so
-pub exact_over : {F : Type 0} (shapes : Shapes) (frame : List ℕ) (budget : ℕ) (answer : Result Accepted F) → IsJudged shapes → IsFrame frame → IfOk answer (λ yes. GoodFrame shapes.window frame shapes.list budget yes.words yes.depth) → shapes.mode ≡ Exact → IfOk answer (λ yes. CountsAtHalt (record { frame = frame; rom = shapes.rom }) yes.words yes.depth)
+pub exact_over : {F : Type 0} (shapes : Shapes) (frame : List ℕ) (budget : ℕ) (answer : Result Accepted F) → IsJudged shapes → IsFrame frame → IfOk answer (λ yes. GoodFrame shapes.window shapes.rom.machine frame shapes.list budget yes.words yes.depth) → shapes.mode ≡ Exact → IfOk answer (λ yes. CountsAtHalt (record { frame = frame; rom = shapes.rom }) yes.words yes.depth)
 exact_over shapes frame budget (Ok a) h is_frame good exact = exact_of_good shapes.window frame shapes.rom shapes.list budget a.words a.depth h.list is_frame h.rom (subst (λ mode. Good mode shapes.window shapes.rom shapes.list) exact h.good) good
 exact_over shapes frame budget (Err f) h is_frame good exact = tt
 
 -- what is out of range is refused, whatever the certificate
-pub out_of_range : (mode : Mode) (w : Window) (rom cert words : List ℕ) (budget : ℕ) (r : Refusal) → RangeRefusal words budget r → Verdict mode w rom cert words budget (Err r)
-out_of_range mode w rom cert words budget (refusal.Image FrameLength) h = h
-out_of_range mode w rom cert words budget (refusal.Image RomLength) h = absurd h
-out_of_range mode w rom cert words budget refusal.BudgetRange h = h
-out_of_range mode w rom cert words budget (refusal.Cert f) h = absurd h
-out_of_range mode w rom cert words budget refusal.IndexMemory h = absurd h
-out_of_range mode w rom cert words budget (refusal.Shape f) h = absurd h
-out_of_range mode w rom cert words budget (refusal.Frame f) h = absurd h
+pub out_of_range : (machine : Machine) (mode : Mode) (w : Window) (rom cert words : List ℕ) (budget : ℕ) (r : Refusal) → RangeRefusal words budget r → VerdictOn machine mode w rom cert words budget (Err r)
+out_of_range machine mode w rom cert words budget (refusal.Image FrameLength) h = h
+out_of_range machine mode w rom cert words budget (refusal.Image RomLength) h = absurd h
+out_of_range machine mode w rom cert words budget refusal.BudgetRange h = h
+out_of_range machine mode w rom cert words budget (refusal.Cert f) h = absurd h
+out_of_range machine mode w rom cert words budget refusal.IndexMemory h = absurd h
+out_of_range machine mode w rom cert words budget (refusal.Shape f) h = absurd h
+out_of_range machine mode w rom cert words budget (refusal.Frame f) h = absurd h
 
 -- ---- one verdict
 
-same_yes : (w : Window) (words : List ℕ) (list : List Entry) (budget : ℕ) (y z : Yes) → GoodFrame w words list budget y.words y.depth → GoodFrame w words list budget z.words z.depth → y.shapes ≡ length list → z.shapes ≡ length list → y ≡ z
-same_yes w words list budget y z g h p q =
-    let s = one_count w words list budget y.words y.depth z.words z.depth g h in
+same_yes : (w : Window) (machine : Machine) (words : List ℕ) (list : List Entry) (budget : ℕ) (y z : Yes) → GoodFrame w machine words list budget y.words y.depth → GoodFrame w machine words list budget z.words z.depth → y.shapes ≡ length list → z.shapes ≡ length list → y ≡ z
+same_yes w machine words list budget y z g h p q =
+    let s = one_count w machine words list budget y.words y.depth z.words z.depth g h in
     let shapes : y.shapes ≡ z.shapes = p ∙ sym q in
     λ i. record { shapes = shapes i; words = s.count_is i; depth = s.depth_is i }
 
 -- the shapes and the frame of one list come to one answer
 same_parts : (mode : Mode) (w : Window) (rom : Rom) (list : List Entry) (words : List ℕ) (budget : ℕ) (a b : Result Yes Refusal) → PartsVerdict mode w rom list words budget a → PartsVerdict mode w rom list words budget b → NotMemory a → NotMemory b → a ≡ b
-same_parts mode w rom list words budget (Ok y) (Ok z) h k m n = ap Ok (same_yes w words list budget y z h.1 k.1 h.2 k.2)
+same_parts mode w rom list words budget (Ok y) (Ok z) h k m n = ap Ok (same_yes w rom.machine words list budget y z h.1 k.1 h.2 k.2)
 same_parts mode w rom list words budget (Ok y) (Err (refusal.Shape g)) h k m n = absurd (no_shape_fault mode w rom list g h.0 k)
-same_parts mode w rom list words budget (Ok y) (Err (refusal.Frame g)) h k m n = absurd (no_fault w words list budget y.words y.depth g h.1 k.1)
+same_parts mode w rom list words budget (Ok y) (Err (refusal.Frame g)) h k m n = absurd (no_fault w rom.machine words list budget y.words y.depth g h.1 k.1)
 same_parts mode w rom list words budget (Ok y) (Err (refusal.Image g)) h k m n = absurd k
 same_parts mode w rom list words budget (Ok y) (Err refusal.BudgetRange) h k m n = absurd k
 same_parts mode w rom list words budget (Ok y) (Err (refusal.Cert g)) h k m n = absurd k
@@ -81,9 +82,9 @@ same_parts mode w rom list words budget (Err (refusal.Shape f)) (Err (refusal.Im
 same_parts mode w rom list words budget (Err (refusal.Shape f)) (Err refusal.BudgetRange) h k m n = absurd k
 same_parts mode w rom list words budget (Err (refusal.Shape f)) (Err (refusal.Cert g)) h k m n = absurd k
 same_parts mode w rom list words budget (Err (refusal.Shape f)) (Err refusal.IndexMemory) h k m n = absurd n
-same_parts mode w rom list words budget (Err (refusal.Frame f)) (Ok z) h k m n = absurd (no_fault w words list budget z.words z.depth f k.1 h.1)
+same_parts mode w rom list words budget (Err (refusal.Frame f)) (Ok z) h k m n = absurd (no_fault w rom.machine words list budget z.words z.depth f k.1 h.1)
 same_parts mode w rom list words budget (Err (refusal.Frame f)) (Err (refusal.Shape g)) h k m n = absurd (no_shape_fault mode w rom list g h.0 k)
-same_parts mode w rom list words budget (Err (refusal.Frame f)) (Err (refusal.Frame g)) h k m n = ap (λ x. Err (refusal.Frame x)) (one_fault w words list budget f g h.1 k.1)
+same_parts mode w rom list words budget (Err (refusal.Frame f)) (Err (refusal.Frame g)) h k m n = ap (λ x. Err (refusal.Frame x)) (one_fault w rom.machine words list budget f g h.1 k.1)
 same_parts mode w rom list words budget (Err (refusal.Frame f)) (Err (refusal.Image g)) h k m n = absurd k
 same_parts mode w rom list words budget (Err (refusal.Frame f)) (Err refusal.BudgetRange) h k m n = absurd k
 same_parts mode w rom list words budget (Err (refusal.Frame f)) (Err (refusal.Cert g)) h k m n = absurd k
@@ -94,40 +95,40 @@ same_parts mode w rom list words budget (Err (refusal.Cert f)) b h k m n = absur
 same_parts mode w rom list words budget (Err refusal.IndexMemory) b h k m n = absurd m
 
 -- an answer by the shapes and the frame is the one on a ROM's bytes
-by_parts : (mode : Mode) (w : Window) (rom : List ℕ) (c : Certificate) (words : List ℕ) (budget : ℕ) (a b : Result Yes Refusal) → IsRomLength c.map (length rom)
-    → PartsVerdict mode w (rom_of c.map rom) c.entries words budget a → RomVerdict mode w rom c words budget b → NotMemory a → NotMemory b → a ≡ b
-by_parts mode w rom c words budget a (Err (refusal.Image RomLength)) whole h k m n = absurd (k whole)
-by_parts mode w rom c words budget a (Err (refusal.Shape g)) whole h k m n = same_parts mode w (rom_of c.map rom) c.entries words budget a (Err (refusal.Shape g)) h k.1 m n
-by_parts mode w rom c words budget a (Err (refusal.Frame g)) whole h k m n = same_parts mode w (rom_of c.map rom) c.entries words budget a (Err (refusal.Frame g)) h k.1 m n
-by_parts mode w rom c words budget a (Ok z) whole h k m n = same_parts mode w (rom_of c.map rom) c.entries words budget a (Ok z) h k.1 m n
-by_parts mode w rom c words budget a (Err (refusal.Image FrameLength)) whole h k m n = absurd k.1
-by_parts mode w rom c words budget a (Err refusal.BudgetRange) whole h k m n = absurd k.1
-by_parts mode w rom c words budget a (Err (refusal.Cert g)) whole h k m n = absurd k.1
-by_parts mode w rom c words budget a (Err refusal.IndexMemory) whole h k m n = absurd n
+by_parts : (machine : Machine) (mode : Mode) (w : Window) (rom : List ℕ) (c : Certificate) (words : List ℕ) (budget : ℕ) (a b : Result Yes Refusal) → IsRomLength c.map (length rom)
+    → PartsVerdict mode w (rom_on machine c.map rom) c.entries words budget a → RomVerdict machine mode w rom c words budget b → NotMemory a → NotMemory b → a ≡ b
+by_parts machine mode w rom c words budget a (Err (refusal.Image RomLength)) whole h k m n = absurd (k whole)
+by_parts machine mode w rom c words budget a (Err (refusal.Shape g)) whole h k m n = same_parts mode w (rom_on machine c.map rom) c.entries words budget a (Err (refusal.Shape g)) h k.1 m n
+by_parts machine mode w rom c words budget a (Err (refusal.Frame g)) whole h k m n = same_parts mode w (rom_on machine c.map rom) c.entries words budget a (Err (refusal.Frame g)) h k.1 m n
+by_parts machine mode w rom c words budget a (Ok z) whole h k m n = same_parts mode w (rom_on machine c.map rom) c.entries words budget a (Ok z) h k.1 m n
+by_parts machine mode w rom c words budget a (Err (refusal.Image FrameLength)) whole h k m n = absurd k.1
+by_parts machine mode w rom c words budget a (Err refusal.BudgetRange) whole h k m n = absurd k.1
+by_parts machine mode w rom c words budget a (Err (refusal.Cert g)) whole h k m n = absurd k.1
+by_parts machine mode w rom c words budget a (Err refusal.IndexMemory) whole h k m n = absurd n
 
 -- a ROM's bytes come to one answer by one certificate
-same_rom : (mode : Mode) (w : Window) (rom : List ℕ) (c : Certificate) (words : List ℕ) (budget : ℕ) (a b : Result Yes Refusal) → RomVerdict mode w rom c words budget a → RomVerdict mode w rom c words budget b → NotMemory a → NotMemory b → a ≡ b
-same_rom mode w rom c words budget (Err (refusal.Image RomLength)) (Err (refusal.Image RomLength)) h k m n = refl
-same_rom mode w rom c words budget (Err (refusal.Image RomLength)) (Err (refusal.Shape g)) h k m n = absurd (h k.0)
-same_rom mode w rom c words budget (Err (refusal.Image RomLength)) (Err (refusal.Frame g)) h k m n = absurd (h k.0)
-same_rom mode w rom c words budget (Err (refusal.Image RomLength)) (Ok z) h k m n = absurd (h k.0)
-same_rom mode w rom c words budget (Err (refusal.Image RomLength)) (Err (refusal.Image FrameLength)) h k m n = absurd k.1
-same_rom mode w rom c words budget (Err (refusal.Image RomLength)) (Err refusal.BudgetRange) h k m n = absurd k.1
-same_rom mode w rom c words budget (Err (refusal.Image RomLength)) (Err (refusal.Cert g)) h k m n = absurd k.1
-same_rom mode w rom c words budget (Err (refusal.Image RomLength)) (Err refusal.IndexMemory) h k m n = absurd n
-same_rom mode w rom c words budget (Err (refusal.Shape f)) b h k m n = by_parts mode w rom c words budget (Err (refusal.Shape f)) b h.0 h.1 k m n
-same_rom mode w rom c words budget (Err (refusal.Frame f)) b h k m n = by_parts mode w rom c words budget (Err (refusal.Frame f)) b h.0 h.1 k m n
-same_rom mode w rom c words budget (Ok y) b h k m n = by_parts mode w rom c words budget (Ok y) b h.0 h.1 k m n
-same_rom mode w rom c words budget (Err (refusal.Image FrameLength)) b h k m n = absurd h.1
-same_rom mode w rom c words budget (Err refusal.BudgetRange) b h k m n = absurd h.1
-same_rom mode w rom c words budget (Err (refusal.Cert f)) b h k m n = absurd h.1
-same_rom mode w rom c words budget (Err refusal.IndexMemory) b h k m n = absurd m
+same_rom : (machine : Machine) (mode : Mode) (w : Window) (rom : List ℕ) (c : Certificate) (words : List ℕ) (budget : ℕ) (a b : Result Yes Refusal) → RomVerdict machine mode w rom c words budget a → RomVerdict machine mode w rom c words budget b → NotMemory a → NotMemory b → a ≡ b
+same_rom machine mode w rom c words budget (Err (refusal.Image RomLength)) (Err (refusal.Image RomLength)) h k m n = refl
+same_rom machine mode w rom c words budget (Err (refusal.Image RomLength)) (Err (refusal.Shape g)) h k m n = absurd (h k.0)
+same_rom machine mode w rom c words budget (Err (refusal.Image RomLength)) (Err (refusal.Frame g)) h k m n = absurd (h k.0)
+same_rom machine mode w rom c words budget (Err (refusal.Image RomLength)) (Ok z) h k m n = absurd (h k.0)
+same_rom machine mode w rom c words budget (Err (refusal.Image RomLength)) (Err (refusal.Image FrameLength)) h k m n = absurd k.1
+same_rom machine mode w rom c words budget (Err (refusal.Image RomLength)) (Err refusal.BudgetRange) h k m n = absurd k.1
+same_rom machine mode w rom c words budget (Err (refusal.Image RomLength)) (Err (refusal.Cert g)) h k m n = absurd k.1
+same_rom machine mode w rom c words budget (Err (refusal.Image RomLength)) (Err refusal.IndexMemory) h k m n = absurd n
+same_rom machine mode w rom c words budget (Err (refusal.Shape f)) b h k m n = by_parts machine mode w rom c words budget (Err (refusal.Shape f)) b h.0 h.1 k m n
+same_rom machine mode w rom c words budget (Err (refusal.Frame f)) b h k m n = by_parts machine mode w rom c words budget (Err (refusal.Frame f)) b h.0 h.1 k m n
+same_rom machine mode w rom c words budget (Ok y) b h k m n = by_parts machine mode w rom c words budget (Ok y) b h.0 h.1 k m n
+same_rom machine mode w rom c words budget (Err (refusal.Image FrameLength)) b h k m n = absurd h.1
+same_rom machine mode w rom c words budget (Err refusal.BudgetRange) b h k m n = absurd h.1
+same_rom machine mode w rom c words budget (Err (refusal.Cert f)) b h k m n = absurd h.1
+same_rom machine mode w rom c words budget (Err refusal.IndexMemory) b h k m n = absurd m
 
-module _ (one_certificate : OneCertificate) (one_answer : OneAnswer) (mode : Mode) (w : Window) (rom cert words : List ℕ) (budget : ℕ) where
-  same_lists : (a b : Result Yes Refusal) → CertVerdict mode w rom cert words budget a → CertVerdict mode w rom cert words budget b → NotMemory a → NotMemory b → a ≡ b
+module _ (one_certificate : OneCertificate) (one_answer : OneAnswer) (machine : Machine) (mode : Mode) (w : Window) (rom cert words : List ℕ) (budget : ℕ) where
+  same_lists : (a b : Result Yes Refusal) → CertVerdict machine mode w rom cert words budget a → CertVerdict machine mode w rom cert words budget b → NotMemory a → NotMemory b → a ≡ b
   same_lists a b h k m n =
       let same : k.certificate ≡ h.certificate = one_certificate k.certificate h.certificate cert k.spells h.spells in
-      same_rom mode w rom h.certificate (words_of words) budget a b h.by_it (subst (λ (c : Certificate). RomVerdict mode w rom c (words_of words) budget b) same k.by_it) m n
+      same_rom machine mode w rom h.certificate (words_of words) budget a b h.by_it (subst (λ (c : Certificate). RomVerdict machine mode w rom c (words_of words) budget b) same k.by_it) m n
 
   -- a text has one answer
   same_read : (a b : Result Certificate CertFault) → ReadAnswer cert a → ReadAnswer cert b → HasMemory a → HasMemory b → a ≡ b
@@ -140,7 +141,7 @@ module _ (one_certificate : OneCertificate) (one_answer : OneAnswer) (mode : Mod
   no_refusal f c h k m = let e = same_read (Ok c) (Err f) k h tt m in cc
 
   -- an answer that comes after the certificate was read is the verdict
-  by_lists : (a b : Result Yes Refusal) → CertVerdict mode w rom cert words budget a → Verdict mode w rom cert words budget b → NotMemory a → NotMemory b → a ≡ b
+  by_lists : (a b : Result Yes Refusal) → CertVerdict machine mode w rom cert words budget a → VerdictOn machine mode w rom cert words budget b → NotMemory a → NotMemory b → a ≡ b
   by_lists a (Err (refusal.Image FrameLength)) h k m n = absurd (k h.in_range.frame_length)
   by_lists a (Err refusal.BudgetRange) h k m n = absurd (k.1 h.in_range.budget_range)
   by_lists a (Err (refusal.Cert g)) h k m n = absurd (no_refusal g h.certificate k.1 h.spells n)
@@ -150,7 +151,7 @@ module _ (one_certificate : OneCertificate) (one_answer : OneAnswer) (mode : Mod
   by_lists a (Ok z) h k m n = same_lists a (Ok z) h k m n
   by_lists a (Err refusal.IndexMemory) h k m n = absurd n
 
-  same_verdict : (a b : Result Yes Refusal) → Verdict mode w rom cert words budget a → Verdict mode w rom cert words budget b → NotMemory a → NotMemory b → a ≡ b
+  same_verdict : (a b : Result Yes Refusal) → VerdictOn machine mode w rom cert words budget a → VerdictOn machine mode w rom cert words budget b → NotMemory a → NotMemory b → a ≡ b
   same_verdict (Err (refusal.Image FrameLength)) (Err (refusal.Image FrameLength)) h k m n = refl
   same_verdict (Err (refusal.Image FrameLength)) (Err refusal.BudgetRange) h k m n = absurd (h k.0)
   same_verdict (Err (refusal.Image FrameLength)) (Err (refusal.Cert g)) h k m n = absurd (h k.0.frame_length)
@@ -182,4 +183,4 @@ module _ (one_certificate : OneCertificate) (one_answer : OneAnswer) (mode : Mod
   same_verdict (Err refusal.IndexMemory) b h k m n = absurd m
 
 pub one_verdict : OneCertificate → OneAnswer → OneVerdict
-one_verdict one_certificate one_answer mode w rom cert words budget a b h k m n = same_verdict one_certificate one_answer mode w rom cert words budget a b h k m n
+one_verdict one_certificate one_answer machine mode w rom cert words budget a b h k m n = same_verdict one_certificate one_answer machine mode w rom cert words budget a b h k m n

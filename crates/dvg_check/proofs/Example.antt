@@ -45,7 +45,7 @@ pub return_there : cell_at (rom_word example_rom) 2050 ≡ Holds Short Rtsl
 unfolding cell_at instruction_of
 return_there = refl
 
-draw_keeps : (mode : Mode) (why : ShapeWhy) → ShapeKeeps mode screen example_entry (seen_at (shape_context example_list example_entry) [] draw_item) why
+draw_keeps : (mode : Mode) (why : ShapeWhy) → ShapeKeeps mode screen example_entry (seen_at (shape_context example_rom.machine example_list example_entry) [] draw_item) why
 unfolding displacement
 draw_keeps mode shape.Unmapped = tt
 draw_keeps mode shape.Odd = tt
@@ -67,7 +67,7 @@ as_claimed : (mode : Mode) (n : ℕ) → AsClaimed mode n n
 as_claimed Bound n = tt
 as_claimed Exact n = refl
 
-return_keeps : (mode : Mode) (why : ShapeWhy) → ShapeKeeps mode screen example_entry (seen_at (shape_context example_list example_entry) (draw_item ∷ []) return_item) why
+return_keeps : (mode : Mode) (why : ShapeWhy) → ShapeKeeps mode screen example_entry (seen_at (shape_context example_rom.machine example_list example_entry) (draw_item ∷ []) return_item) why
 unfolding displacement
 return_keeps mode shape.Unmapped = tt
 return_keeps mode shape.Odd = tt
@@ -85,9 +85,9 @@ return_keeps mode shape.WordsDiffer = as_claimed mode 3
 return_keeps mode shape.DepthDiffers = as_claimed mode 0
 
 -- what stands at an item of the shape keeps what the item keeps
-shape_there : (mode : Mode) (earlier : List Item) (i : Item) → cell_at (rom_word example_rom) i.at ≡ Holds i.format i.instr → ((why : ShapeWhy) → ShapeKeeps mode screen example_entry (seen_at (shape_context example_list example_entry) earlier i) why) → (why : ShapeWhy) → ShapePlaceKeeps mode screen example_rom example_list example_entry earlier i.at why
+shape_there : (mode : Mode) (earlier : List Item) (i : Item) → cell_at (rom_word example_rom) i.at ≡ Holds i.format i.instr → ((why : ShapeWhy) → ShapeKeeps mode screen example_entry (seen_at (shape_context example_rom.machine example_list example_entry) earlier i) why) → (why : ShapeWhy) → ShapePlaceKeeps mode screen example_rom example_list example_entry earlier i.at why
 shape_there mode earlier i is kept why =
-    subst (λ cell. CellKeeps shape.Unmapped shape.Odd (λ j. ShapeKeeps mode screen example_entry (seen_at (shape_context example_list example_entry) earlier j)) i.at cell why) (sym is) (kept why)
+    subst (λ cell. CellKeeps shape.Unmapped shape.Odd (λ j. ShapeKeeps mode screen example_entry (seen_at (shape_context example_rom.machine example_list example_entry) earlier j)) i.at cell why) (sym is) (kept why)
 
 shape_good : (mode : Mode) → GoodShape mode screen example_rom example_list example_entry
 shape_good mode =
@@ -109,20 +109,20 @@ call_item = record { at = 2; format = Short; instr = Jsrl 2048 }
 abbrev halt_item : Item
 halt_item = record { at = 3; format = Short; instr = Halt }
 
-labs_there : cell_at (frame_word example_frame) 0 ≡ Holds Long (Labs 0 128 0)
+labs_there : cell_at (frame_word example_rom.machine example_frame) 0 ≡ Holds Long (Labs 0 128 0)
 unfolding cell_at instruction_of
 labs_there = refl
 
-call_there : cell_at (frame_word example_frame) 2 ≡ Holds Short (Jsrl 2048)
+call_there : cell_at (frame_word example_rom.machine example_frame) 2 ≡ Holds Short (Jsrl 2048)
 unfolding cell_at instruction_of
 call_there = refl
 
-halt_there : cell_at (frame_word example_frame) 3 ≡ Holds Short Halt
+halt_there : cell_at (frame_word example_rom.machine example_frame) 3 ≡ Holds Short Halt
 unfolding cell_at instruction_of
 halt_there = refl
 
 -- what the rules of frames ask of an item that is there
-frame_item : (v : Seen) → v.item.instr ≢ Rtsl → IsForward v.item.at v.item.instr → PlaceKnown v.extent v.place → ScaleKnown v.extent → LitInWindow screen v.extent v.place
+pub frame_item : (v : Seen) → v.item.instr ≢ Rtsl → IsForward v.item.at v.item.instr → PlaceKnown v.extent v.place → ScaleKnown v.extent → LitInWindow screen v.extent v.place
     → HasCallee (target Frame v.item.instr) v.callee → v.after.words ≤ 20000 → (why : FrameWhy) → FrameKeeps screen 20000 v why
 frame_item v no_return forward place scale lit named few frame.Unmapped = tt
 frame_item v no_return forward place scale lit named few frame.Odd = tt
@@ -134,26 +134,26 @@ frame_item v no_return forward place scale lit named few frame.OffScreen = lit
 frame_item v no_return forward place scale lit named few frame.NoEntry = named
 frame_item v no_return forward place scale lit named few frame.Budget = few
 
-labs_keeps : (why : FrameWhy) → FrameKeeps screen 20000 (seen_at (frame_context example_list) [] labs_item) why
-labs_keeps = frame_item (seen_at (frame_context example_list) [] labs_item) (λ e. cc) tt tt tt tt tt (omega arith)
+labs_keeps : (why : FrameWhy) → FrameKeeps screen 20000 (seen_at (frame_context example_rom.machine example_list) [] labs_item) why
+labs_keeps = frame_item (seen_at (frame_context example_rom.machine example_list) [] labs_item) (λ e. cc) tt tt tt tt tt (omega arith)
 
-call_keeps : (why : FrameWhy) → FrameKeeps screen 20000 (seen_at (frame_context example_list) (labs_item ∷ []) call_item) why
+call_keeps : (why : FrameWhy) → FrameKeeps screen 20000 (seen_at (frame_context example_rom.machine example_list) (labs_item ∷ []) call_item) why
 call_keeps =
-    frame_item (seen_at (frame_context example_list) (labs_item ∷ []) call_item) (λ e. cc) tt (λ e. cc) tt
+    frame_item (seen_at (frame_context example_rom.machine example_list) (labs_item ∷ []) call_item) (λ e. cc) tt (λ e. cc) tt
     (record { left = omega (arith, ints); right = omega (arith, ints); bottom = omega (arith, ints); top = omega (arith, ints) }, (record { left = omega (arith, ints); right = omega (arith, ints); bottom = omega (arith, ints); top = omega (arith, ints) }, tt))
     tt (omega arith)
 
-halt_keeps : (why : FrameWhy) → FrameKeeps screen 20000 (seen_at (frame_context example_list) (call_item ∷ labs_item ∷ []) halt_item) why
-halt_keeps = frame_item (seen_at (frame_context example_list) (call_item ∷ labs_item ∷ []) halt_item) (λ e. cc) tt tt tt tt tt (omega arith)
+halt_keeps : (why : FrameWhy) → FrameKeeps screen 20000 (seen_at (frame_context example_rom.machine example_list) (call_item ∷ labs_item ∷ []) halt_item) why
+halt_keeps = frame_item (seen_at (frame_context example_rom.machine example_list) (call_item ∷ labs_item ∷ []) halt_item) (λ e. cc) tt tt tt tt tt (omega arith)
 
 -- what stands at an item of the frame keeps what the item keeps
-frame_there : (earlier : List Item) (i : Item) → cell_at (frame_word example_frame) i.at ≡ Holds i.format i.instr → ((why : FrameWhy) → FrameKeeps screen 20000 (seen_at (frame_context example_list) earlier i) why) → (why : FrameWhy) → FramePlaceKeeps screen example_frame example_list 20000 earlier i.at why
+frame_there : (earlier : List Item) (i : Item) → cell_at (frame_word example_rom.machine example_frame) i.at ≡ Holds i.format i.instr → ((why : FrameWhy) → FrameKeeps screen 20000 (seen_at (frame_context example_rom.machine example_list) earlier i) why) → (why : FrameWhy) → FramePlaceKeeps screen example_rom.machine example_frame example_list 20000 earlier i.at why
 frame_there earlier i is kept why =
-    subst (λ cell. CellKeeps frame.Unmapped frame.Odd (λ j. FrameKeeps screen 20000 (seen_at (frame_context example_list) earlier j)) i.at cell why) (sym is) (kept why)
+    subst (λ cell. CellKeeps frame.Unmapped frame.Odd (λ j. FrameKeeps screen 20000 (seen_at (frame_context example_rom.machine example_list) earlier j)) i.at cell why) (sym is) (kept why)
 
-frame_keeps : AllKeep Frame (frame_word example_frame) 0 (FramePlaceKeeps screen example_frame example_list 20000)
+frame_keeps : AllKeep Frame (frame_word example_rom.machine example_frame) 0 (FramePlaceKeeps screen example_rom.machine example_frame example_list 20000)
 frame_keeps =
-    all_kept Frame (frame_word example_frame) 0 FrameWhy (FramePlaceKeeps screen example_frame example_list 20000) (call_item ∷ labs_item ∷ []) halt_item ((refl, labs_there, refl), call_there, refl) halt_there refl
+    all_kept Frame (frame_word example_rom.machine example_frame) 0 FrameWhy (FramePlaceKeeps screen example_rom.machine example_frame example_list 20000) (call_item ∷ labs_item ∷ []) halt_item ((refl, labs_there, refl), call_there, refl) halt_there refl
     (((tt, frame_there [] labs_item labs_there labs_keeps), frame_there (labs_item ∷ []) call_item call_there call_keeps), frame_there (call_item ∷ labs_item ∷ []) halt_item halt_there halt_keeps)
 
 -- ---- all

@@ -1,5 +1,7 @@
 -- The items of a shape or of a frame are determined: so a walk to the last one has met them all, and there is one first
 -- fault at most.
+use Rattle.dvg_words.specs.Values.{Source}
+use Rattle.dvg_words.specs.declared.machine.Machine.{Machine}
 use Rattle.std.proofs.Common.{List, Option, length, refl, sym, arith, ap, None, subst, suc, ◌≡◌, ◌+◌, ◌<◌, ◌∷◌, ◌++◌, ◌∙◌, ℕ, ⊎_elim, []}
 use Rattle.std.proofs.lemmas.Bool.{cases_lt}
 use Rattle.std.specs.List.{AllByRecursion}
@@ -24,7 +26,7 @@ use Rattle.dvg_items.specs.declared.item.Item.{Item}
 use Rattle.dvg_items.specs.declared.item.Kind.{Kind}
 use Rattle.dvg_items.specs.declared.item.Kind.TheVariants.{Frame, Shape}
 
-module _ (kind : Kind) (word : ℕ → Option ℕ) (first : ℕ) (Why : Type 0) (keeps : List Item → ℕ → Why → Type 0) where
+module _ (kind : Kind) (word : Source) (first : ℕ) (Why : Type 0) (keeps : List Item → ℕ → Why → Type 0) where
   -- what each rule says of a place
   abbrev AllKept : List Item → ℕ → Type 0
   AllKept earlier p = (why : Why) → keeps earlier p why
@@ -87,38 +89,38 @@ rule_of-number frame.NoEntry = refl
 rule_of-number frame.Budget = refl
 
 pub one_fault : OneFault
-one_fault w words list budget f g a b =
-    let keeps = FramePlaceKeeps w words list budget in
-    let s = same_items Frame (frame_word words) 0 FrameWhy keeps frame_number f.word g.word f.why g.why a b in
-    let o = same_order Frame (frame_word words) 0 FrameWhy keeps frame_number f.word g.word f.why g.why a b in
+one_fault w machine words list budget f g a b =
+    let keeps = FramePlaceKeeps w machine words list budget in
+    let s = same_items Frame (frame_word machine words) 0 FrameWhy keeps frame_number f.word g.word f.why g.why a b in
+    let o = same_order Frame (frame_word machine words) 0 FrameWhy keeps frame_number f.word g.word f.why g.why a b in
     let why : f.why ≡ g.why = sym (rule_of-number f.why) ∙ ap rule_of o ∙ rule_of-number g.why in
     λ x. record { word = s.place x; why = why x }
 
 pub no_fault : NoFault
-no_fault w words list budget count depth f good fault = fault_or_none Frame (frame_word words) 0 FrameWhy (FramePlaceKeeps w words list budget) frame_number f.word f.why fault good.keeps
+no_fault w machine words list budget count depth f good fault = fault_or_none Frame (frame_word machine words) 0 FrameWhy (FramePlaceKeeps w machine words list budget) frame_number f.word f.why fault good.keeps
 
 -- the last items of two walks are one
-last_same : (w : Window) (words : List ℕ) (list : List Entry) (budget count depth count' depth' : ℕ) (a : GoodFrame w words list budget count depth) (b : GoodFrame w words list budget count' depth') → Same a.items b.items a.at b.at
-last_same w words list budget count depth count' depth' a b =
+last_same : (w : Window) (machine : Machine) (words : List ℕ) (list : List Entry) (budget count depth count' depth' : ℕ) (a : GoodFrame w machine words list budget count depth) (b : GoodFrame w machine words list budget count' depth') → Same a.items b.items a.at b.at
+last_same w machine words list budget count depth count' depth' a b =
     let i : Item = record { at = a.at; format = a.format; instr = Halt } in
     let j : Item = record { at = b.at; format = b.format; instr = Halt } in
     ⊎_elim
-    (λ less. absurd (too_long Frame (frame_word words) 0 a.items i a.leads a.halts refl b.items b.at b.leads less))
+    (λ less. absurd (too_long Frame (frame_word machine words) 0 a.items i a.leads a.halts refl b.items b.at b.leads less))
     (λ le. ⊎_elim
-    (λ more. absurd (too_long Frame (frame_word words) 0 b.items j b.leads b.halts refl a.items a.at a.leads more))
-    (λ ge. same_lead Frame (frame_word words) 0 a.items b.items a.at b.at a.leads b.leads (omega arith))
+    (λ more. absurd (too_long Frame (frame_word machine words) 0 b.items j b.leads b.halts refl a.items a.at a.leads more))
+    (λ ge. same_lead Frame (frame_word machine words) 0 a.items b.items a.at b.at a.leads b.leads (omega arith))
     (cases_lt (length b.items) (length a.items)))
     (cases_lt (length a.items) (length b.items))
 
 pub one_count : OneCount
-one_count w words list budget count depth count' depth' a b =
-    let s = last_same w words list budget count depth count' depth' a b in
-    let cells : Holds a.format Halt ≡ Holds b.format Halt = sym a.halts ∙ ap (cell_at (frame_word words)) s.place ∙ b.halts in
+one_count w machine words list budget count depth count' depth' a b =
+    let s = last_same w machine words list budget count depth count' depth' a b in
+    let cells : Holds a.format Halt ≡ Holds b.format Halt = sym a.halts ∙ ap (cell_at (frame_word machine words)) s.place ∙ b.halts in
     let format : a.format ≡ b.format = cc cells in
-    let before : words_before (frame_context list) a.items ≡ words_before (frame_context list) b.items = ap (words_before (frame_context list)) s.items in
+    let before : words_before (frame_context machine list) a.items ≡ words_before (frame_context machine list) b.items = ap (words_before (frame_context machine list)) s.items in
     record {
-      count_is = a.count_is ∙ ap (λ n. n + word_count a.format) before ∙ ap (λ x. words_before (frame_context list) b.items + word_count x) format ∙ sym b.count_is;
-      depth_is = a.depth_is ∙ ap (depth_before (frame_context list)) s.items ∙ sym b.depth_is;
+      count_is = a.count_is ∙ ap (λ n. n + word_count a.format) before ∙ ap (λ x. words_before (frame_context machine list) b.items + word_count x) format ∙ sym b.count_is;
+      depth_is = a.depth_is ∙ ap (depth_before (frame_context machine list)) s.items ∙ sym b.depth_is;
     }
 
 -- ---- shapes

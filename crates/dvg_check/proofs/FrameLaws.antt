@@ -1,4 +1,5 @@
 -- A frame from any start to its halt.
+use Rattle.dvg_words.specs.declared.machine.Machine.{Machine}
 use Rattle.std.proofs.Common.{List, Option, Some, None, arith, refl, length, inl, inr, max, ap, length-append, sym, subst, zero, suc, ◌≡◌, ◌+◌, ◌≤◌, ◌⊎◌, ◌∷◌, ◌++◌, ◌∙◌, ℕ, []}
 use Rattle.std.specs.List.{AllByRecursion}
 use Rattle.std.specs.Prelude.{Contains}
@@ -61,9 +62,9 @@ by_effect (Sets p) k h = tt
 by_effect Loses k h = tt
 by_effect (Moves d) k h = by_move k d h
 
-frame_place : (list : List Entry) (items : List Item) → NotRelative (place_before (frame_context list) items)
-frame_place list [] = tt
-frame_place list (i ∷ items) = by_effect _ (place_before (frame_context list) items) (frame_place list items)
+frame_place : (a : Machine) (list : List Entry) (items : List Item) → NotRelative (place_before (frame_context a list) items)
+frame_place a list [] = tt
+frame_place a list (i ∷ items) = by_effect _ (place_before (frame_context a list) items) (frame_place a list items)
 
 no_box : (box : LitBox) (l : LitExtent) (k : End) → NotRelative k → LitInBox box l k
 no_box box l (Rel x y) h = absurd h
@@ -81,11 +82,11 @@ depth_under-four Rtsl (Some f) h = omega arith
 depth_under-four (Jsrl to) (Some f) h = omega (arith, h f refl)
 depth_under-four (Jmpl to) (Some f) h = omega (arith, h f refl)
 
-depth_before-four : (list : List Entry) → ((e : Entry) → Contains list e → e.depth ≤ 3) → (items : List Item) → depth_before (frame_context list) items ≤ 4
-depth_before-four list three [] = omega arith
-depth_before-four list three (i ∷ earlier) =
-    let here = depth_under-four i.instr (callee (frame_context list) earlier i.instr) (λ f n. three f (named_listed list _ _ f n)) in
-    omega (arith, here, depth_before-four list three earlier)
+depth_before-four : (a : Machine) (list : List Entry) → ((e : Entry) → Contains list e → e.depth ≤ 3) → (items : List Item) → depth_before (frame_context a list) items ≤ 4
+depth_before-four a list three [] = omega arith
+depth_before-four a list three (i ∷ earlier) =
+    let here = depth_under-four i.instr (callee (frame_context a list) earlier i.instr) (λ f n. three f (named_listed list _ _ f n)) in
+    omega (arith, here, depth_before-four a list three earlier)
 
 -- ---- the halt
 
@@ -151,32 +152,33 @@ safe_status m w words depth n s a r reached =
 
 -- ---- the whole
 
-module _ (mode : Mode) (m : Memory) (w : Window) (list : List Entry) (budget : ℕ) (mem : IsMemory m) (good : Good mode w m.rom list) (keep : AllKeep Frame (frame_word m.frame) 0 (FramePlaceKeeps w m.frame list budget)) where
-  frame_rule : (earlier : List Item) (i : Item) → LeadsTo Frame (frame_word m.frame) 0 earlier i.at → cell_at (frame_word m.frame) i.at ≡ Holds i.format i.instr → (why : FrameWhy) → FrameKeeps w budget (seen_at (frame_context list) earlier i) why
-  frame_rule earlier i lead is why = subst (λ c. CellKeeps frame.Unmapped frame.Odd (λ j. FrameKeeps w budget (seen_at (frame_context list) earlier j)) i.at c why) is (keep earlier i.at lead why)
+module _ (mode : Mode) (m : Memory) (w : Window) (list : List Entry) (budget : ℕ) (mem : IsMemory m) (good : Good mode w m.rom list) (keep : AllKeep Frame (frame_word m.rom.machine m.frame) 0 (FramePlaceKeeps w m.rom.machine m.frame list budget)) where
+  frame_rule : (earlier : List Item) (i : Item) → LeadsTo Frame (frame_word m.rom.machine m.frame) 0 earlier i.at → cell_at (frame_word m.rom.machine m.frame) i.at ≡ Holds i.format i.instr → (why : FrameWhy) → FrameKeeps w budget (seen_at (frame_context m.rom.machine list) earlier i) why
+  frame_rule earlier i lead is why = subst (λ c. CellKeeps frame.Unmapped frame.Odd (λ j. FrameKeeps w budget (seen_at (frame_context m.rom.machine list) earlier j)) i.at c why) is (keep earlier i.at lead why)
 
-  frame_facts : (earlier : List Item) (i : Item) → LeadsTo Frame (frame_word m.frame) 0 earlier i.at → cell_at (frame_word m.frame) i.at ≡ Holds i.format i.instr → Facts mode m w (frame_context list) Empty (λ q. InFrame m.frame q ⊎ InRom m.rom.map q) earlier i
+  frame_facts : (earlier : List Item) (i : Item) → LeadsTo Frame (frame_word m.rom.machine m.frame) 0 earlier i.at → cell_at (frame_word m.rom.machine m.frame) i.at ≡ Holds i.format i.instr → Facts mode m w (frame_context m.rom.machine list) Empty (λ q. InFrame m.frame q ⊎ InRom m.rom.map q) earlier i
   frame_facts earlier i lead is =
-      let c = frame_context list in
+      let c = frame_context m.rom.machine list in
       record {
+        moves = refl;
         own = all_map (InFrame m.frame) (λ q. InFrame m.frame q ⊎ InRom m.rom.map q) (places i.format i.at) (λ q h. inl h) (own Frame m i.at i.format i.instr mem is);
         fits =
             record {
               known = frame_rule earlier i lead is frame.BeamUnknown;
               scale_known = frame_rule earlier i lead is frame.ScaleUnknown;
               shown = frame_rule earlier i lead is frame.OffScreen;
-              boxed = no_box Empty (extent c earlier i.instr) (place_before c earlier) (frame_place list earlier);
+              boxed = no_box Empty (extent c earlier i.instr) (place_before c earlier) (frame_place m.rom.machine list earlier);
               named = frame_rule earlier i lead is frame.NoEntry;
             };
         calls = λ f n. all_shapes mode m w list mem good f (named_listed list _ _ f n);
       }
 
-run : (mode : Mode) (m : Memory) (w : Window) (list : List Entry) (budget words depth : ℕ) → IsMemory m → ((e : Entry) → Contains list e → e.depth ≤ 3) → Good mode w m.rom list → GoodFrame w m.frame list budget words depth → (p : Point) (scale : ℕ) → Halts mode m w words depth (start p scale)
+run : (mode : Mode) (m : Memory) (w : Window) (list : List Entry) (budget words depth : ℕ) → IsMemory m → ((e : Entry) → Contains list e → e.depth ≤ 3) → Good mode w m.rom list → GoodFrame w m.rom.machine m.frame list budget words depth → (p : Point) (scale : ℕ) → Halts mode m w words depth (start p scale)
 run mode m w list budget words depth mem three good gf p scale =
-    let c = frame_context list in
+    let c = frame_context m.rom.machine list in
     let Ok : ℕ → Type 0 = λ q. InFrame m.frame q ⊎ InRom m.rom.map q in
     let st : Stands c origin [] [] 0 (start p scale) = record { pc = refl; return_stack = refl; room = omega arith; place = tt; scale = tt } in
-    let a = arrive mode m w c Empty origin Ok 0 [] (start p scale) mem (λ q h. inr h) (frame_facts mode m w list budget mem good gf.keeps) st gf.items gf.at gf.leads (omega (arith, depth_before-four list three gf.items)) in
+    let a = arrive mode m w c Empty origin Ok 0 [] (start p scale) mem (λ q h. inr h) (frame_facts mode m w list budget mem good gf.keeps) st gf.items gf.at gf.leads (omega (arith, depth_before-four m.rom.machine list three gf.items)) in
     let mine = all_map (InFrame m.frame) Ok (places gf.format gf.at) (λ q h. inl h) (own Frame m gf.at gf.format Halt mem gf.halts) in
     let come = stretch_as mode m Ok (LitFits w Empty origin) (words_before c gf.items) (words_before c gf.items) _ depth (start p scale) a.0 refl (omega (arith, gf.depth_is)) a.1 in
     halt mode m w (words_before c gf.items) words depth gf.at gf.format origin p scale a.0 (stands Frame m gf.at gf.format Halt mem gf.halts) mine a.2.pc gf.count_is come
@@ -185,7 +187,7 @@ pub good_is_safe : GoodIsSafe
 good_is_safe mode m w list budget words depth mem three good gf =
     let bound = in_bound w m.rom list mode good in
     record {
-      four = omega (arith, gf.depth_is, depth_before-four list three gf.items);
+      four = omega (arith, gf.depth_is, depth_before-four m.rom.machine list three gf.items);
       halts = λ p scale g. let r = run Bound m w list budget words depth mem three bound gf p scale in (r.n, r.h, r.within, r.reached);
       each = λ p scale g n s reached. safe_status m w words depth n (start p scale) s (run Bound m w list budget words depth mem three bound gf p scale) reached;
     }

@@ -1,4 +1,5 @@
 -- What a walk over a frame's items gives.
+use Rattle.dvg_words.specs.declared.machine.Machine.{Machine}
 use Rattle.std.proofs.Common.{None, refl, nat_lt, true, arith, Some, ap, List, subst, ◌≡◌, ◌∷◌, ℕ}
 use Rattle.std.proofs.lemmas.Bool.Decides.{nat_tests}
 use Rattle.std.specs.Prelude.{if◌then◌else◌}
@@ -34,13 +35,13 @@ last_halts at format (Jmpl to) e r f =
     cc (some, e)
 
 -- a walk that ends at a halt
-at_halt : (w : Window) (words : List ℕ) (list : List Entry) (budget : ℕ) (end : Known) → AllKeep Frame (frame_word words) 0 (FramePlaceKeeps w words list budget) → (items : List Item) (at : ℕ) (format : Format) (instr : Instr) → LeadsTo Frame (frame_word words) 0 items at → cell_at (frame_word words) at ≡ Holds format instr → end ≡ known_before (frame_context list) (record { at = at; format = format; instr = instr } ∷ items) → instr ≡ Halt → GoodFrame w words list budget end.words end.depth
-at_halt w words list budget end keeps items at format (Draws d) leads is knows h = cc
-at_halt w words list budget end keeps items at format (Labs x y g) leads is knows h = cc
-at_halt w words list budget end keeps items at format (Jsrl to) leads is knows h = cc
-at_halt w words list budget end keeps items at format Rtsl leads is knows h = cc
-at_halt w words list budget end keeps items at format (Jmpl to) leads is knows h = cc
-at_halt w words list budget end keeps items at format Halt leads is knows h =
+at_halt : (w : Window) (machine : Machine) (words : List ℕ) (list : List Entry) (budget : ℕ) (end : Known) → AllKeep Frame (frame_word machine words) 0 (FramePlaceKeeps w machine words list budget) → (items : List Item) (at : ℕ) (format : Format) (instr : Instr) → LeadsTo Frame (frame_word machine words) 0 items at → cell_at (frame_word machine words) at ≡ Holds format instr → end ≡ known_before (frame_context machine list) (record { at = at; format = format; instr = instr } ∷ items) → instr ≡ Halt → GoodFrame w machine words list budget end.words end.depth
+at_halt w machine words list budget end keeps items at format (Draws d) leads is knows h = cc
+at_halt w machine words list budget end keeps items at format (Labs x y g) leads is knows h = cc
+at_halt w machine words list budget end keeps items at format (Jsrl to) leads is knows h = cc
+at_halt w machine words list budget end keeps items at format Rtsl leads is knows h = cc
+at_halt w machine words list budget end keeps items at format (Jmpl to) leads is knows h = cc
+at_halt w machine words list budget end keeps items at format Halt leads is knows h =
     record {
       keeps = keeps;
       items = items;
@@ -52,8 +53,8 @@ at_halt w words list budget end keeps items at format Halt leads is knows h =
       depth_is = let e = ap (λ (p : Known). p.depth) knows in omega (arith, e);
     }
 
-pub good_frame : (w : Window) (words : List ℕ) (list : List Entry) (budget : ℕ) (end : Known) → WalksTo (frame_context list) (frame_word words) 0 (FramePlaceKeeps w words list budget) end → GoodFrame w words list budget end.words end.depth
-good_frame w words list budget end u = at_halt w words list budget end u.keeps_all u.items u.last.at u.last.format u.last.instr u.leads u.stands u.knows (last_halts u.last.at u.last.format u.last.instr u.ends (kept frame.ReturnInFrame) (kept frame.BackJump))
+pub good_frame : (w : Window) (machine : Machine) (words : List ℕ) (list : List Entry) (budget : ℕ) (end : Known) → WalksTo (frame_context machine list) (frame_word machine words) 0 (FramePlaceKeeps w machine words list budget) end → GoodFrame w machine words list budget end.words end.depth
+good_frame w machine words list budget end u = at_halt w machine words list budget end u.keeps_all u.items u.last.at u.last.format u.last.instr u.leads u.stands u.knows (last_halts u.last.at u.last.format u.last.instr u.ends (kept frame.ReturnInFrame) (kept frame.BackJump))
   where
-    kept : (why : FrameWhy) → FrameKeeps w budget (seen_at (frame_context list) u.items u.last) why
-    kept why = subst (λ cell. CellKeeps frame.Unmapped frame.Odd (λ i. FrameKeeps w budget (seen_at (frame_context list) u.items i)) u.last.at cell why) u.stands (u.keeps_all u.items u.last.at u.leads why)
+    kept : (why : FrameWhy) → FrameKeeps w budget (seen_at (frame_context machine list) u.items u.last) why
+    kept why = subst (λ cell. CellKeeps frame.Unmapped frame.Odd (λ i. FrameKeeps w budget (seen_at (frame_context machine list) u.items i)) u.last.at cell why) u.stands (u.keeps_all u.items u.last.at u.leads why)

@@ -11,6 +11,7 @@ pub mod Accepting
 pub mod Listed
 pub mod Safety
 pub mod Example
+pub mod MachinesExample
 pub mod TailLaws
 pub mod TailSizes
 pub mod TailSteps

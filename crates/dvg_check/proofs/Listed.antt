@@ -32,8 +32,8 @@ found_at mode w rom list items i d f same lt good found addr key entry =
         fault = found.fault;
       };
       entry = entry;
-      known = subst (λ e. f.before ≡ known_before (shape_context list e) found.fault.items) (sym entry) found.known;
-      stands = subst (λ e. IsFound (shape_context list e) (rom_word rom) found.fault.items f.fault.word f.found) (sym entry) found.stands;
+      known = subst (λ e. f.before ≡ known_before (shape_context rom.machine list e) found.fault.items) (sym entry) found.known;
+      stands = subst (λ e. IsFound (shape_context rom.machine list e) (rom_word rom) found.fault.items f.fault.word f.found) (sym entry) found.stands;
     }
 
 pub faulty_found : (mode : Mode) (w : Window) (rom : Rom) (list items other : List Entry) (i : ℕ) (d : Entry) (f : ShapeFinding) → items ≡ list → other ≡ list → i < length items → AllByRecursion (GoodShape mode w rom list) (take i list)

@@ -1,4 +1,6 @@
 -- What the loop over items keeps, and what follows where it stops.
+use Rattle.dvg_words.specs.Values.{Source}
+use Rattle.dvg_words.specs.declared.machine.Machine.{Machine}
 use Rattle.std.proofs.Common.{arith, refl, Option, List, subst, sym, ap, ◌≡◌, ◌≢◌, ◌∷◌, ◌∙◌, ℕ, []}
 use Rattle.dvg_words.specs.Decoding.{cell_at}
 use Rattle.dvg_words.specs.declared.instruction.Cell.{Cell}
@@ -30,19 +32,22 @@ use Rattle.dvg_check.proofs.Faults.{all_kept}
 -- ---- the loop
 
 -- the items so far: they lead to the cursor, their places keep all rules, and what is known is known of them
-pub record Walked {Why : Type 0} (c : Context) (word : ℕ → Option ℕ) (first : ℕ) (keeps : List Item → ℕ → Why → Type 0) (cursor : Cursor) : Type 0 where
+pub record Walked {Why : Type 0} (c : Context) (word : Source) (first : ℕ) (keeps : List Item → ℕ → Why → Type 0) (cursor : Cursor) : Type 0 where
   pub items : List Item
   pub leads : LeadsTo c.kind word first items cursor.at
   pub kept : AllBefore keeps items
   pub knows : cursor.known ≡ known_before c items
   pub sound : IsSoundCursor cursor
 
-pub seen_known : (c : Context) (earlier : List Item) (i : Item) (known : Known) → known ≡ known_before c earlier → seen_at c earlier i ≡ seen_by c.list c.kind known i
-seen_known c earlier i known is = ap (λ (k : Known). seen_by c.list c.kind k i) (sym is)
+pub seen_known : (c : Context) (earlier : List Item) (i : Item) (known : Known) → known ≡ known_before c earlier → seen_at c earlier i ≡ seen_by c.machine c.list c.kind known i
+seen_known c earlier i known is = ap (λ (k : Known). seen_by c.machine c.list c.kind k i) (sym is)
 
-module _ (Why : Type 0) (order : Why → ℕ) (missing odd : Why) (Keeps : Seen → Why → Type 0) (kind : Kind) (list : List Entry) (scale : Key) (word : ℕ → Option ℕ) (first : ℕ) where
+module _ (Why : Type 0) (order : Why → ℕ) (missing odd : Why) (Keeps : Seen → Why → Type 0) (kind : Kind) (list : List Entry) (scale : Key) (word : Source) (first : ℕ) where
+  abbrev machine : Machine
+  machine = word.machine
+
   abbrev context : Context
-  context = record { kind = kind; list = list; scale = scale }
+  context = record { kind = kind; machine = machine; list = list; scale = scale }
 
   abbrev keeps : List Item → ℕ → Why → Type 0
   keeps = PlaceKeeps missing odd Keeps context word
@@ -87,7 +92,7 @@ module _ (Why : Type 0) (order : Why → ℕ) (missing odd : Why) (Keeps : Seen 
     item = record { at = cursor.at; format = format; instr = instr }
 
     abbrev seen : Seen
-    seen = seen_by list kind cursor.known item
+    seen = seen_by machine list kind cursor.known item
 
     same : seen_at context k.items item ≡ seen
     same = seen_known context k.items item cursor.known k.knows
@@ -95,9 +100,9 @@ module _ (Why : Type 0) (order : Why → ℕ) (missing odd : Why) (Keeps : Seen 
     kept_here : (why : Why) → Keeps seen why → keeps k.items cursor.at why
     kept_here why h = subst (CellKept k.items cursor.at why) (sym is) (subst (λ x. Keeps x why) (sym same) h)
 
-    pub broken : (es : List Entry) (why : Why) → es ≡ list → BreaksFirst order Keeps (seen_by es kind cursor.known item) why → FaultAt order kind word first keeps cursor.at why
+    pub broken : (es : List Entry) (why : Why) → es ≡ list → BreaksFirst order Keeps (seen_by machine es kind cursor.known item) why → FaultAt order kind word first keeps cursor.at why
     broken es why es_are breaks =
-        let b = subst (λ (l : List Entry). BreaksFirst order Keeps (seen_by l kind cursor.known item) why) es_are breaks in
+        let b = subst (λ (l : List Entry). BreaksFirst order Keeps (seen_by machine l kind cursor.known item) why) es_are breaks in
         record {
           items = k.items;
           leads = k.leads;
@@ -109,19 +114,19 @@ module _ (Why : Type 0) (order : Why → ℕ) (missing odd : Why) (Keeps : Seen 
     seen_found : (s : Seen) → s ≡ seen → IsFound context word k.items cursor.at (found.Seen s)
     seen_found s s_is = subst (λ x. IsFound context word k.items cursor.at (found.Seen x)) (sym s_is) (refl, is, sym same)
 
-    pub found_broken : (es : List Entry) (why : Why) (s : Seen) → es ≡ list → BreaksFirst order Keeps (seen_by es kind cursor.known item) why → s ≡ seen_by es kind cursor.known item
+    pub found_broken : (es : List Entry) (why : Why) (s : Seen) → es ≡ list → BreaksFirst order Keeps (seen_by machine es kind cursor.known item) why → s ≡ seen_by machine es kind cursor.known item
         → FaultFound order context word first keeps cursor.at why cursor.known (found.Seen s)
     unfolding broken
     found_broken es why s es_are breaks s_is =
-        record { fault = broken es why es_are breaks; known = k.knows; stands = seen_found s (s_is ∙ ap (λ (l : List Entry). seen_by l kind cursor.known item) es_are) }
+        record { fault = broken es why es_are breaks; known = k.knows; stands = seen_found s (s_is ∙ ap (λ (l : List Entry). seen_by machine l kind cursor.known item) es_are) }
 
-    kept_by : (es : List Entry) (step : Step) → es ≡ list → KeepsAll Keeps kind (seen_by es kind cursor.known item) step → KeepsAll Keeps kind seen step
-    kept_by es step es_are h = subst (λ (l : List Entry). KeepsAll Keeps kind (seen_by l kind cursor.known item) step) es_are h
+    kept_by : (es : List Entry) (step : Step) → es ≡ list → KeepsAll Keeps kind (seen_by machine es kind cursor.known item) step → KeepsAll Keeps kind seen step
+    kept_by es step es_are h = subst (λ (l : List Entry). KeepsAll Keeps kind (seen_by machine l kind cursor.known item) step) es_are h
 
     known_on : (after : Known) → after ≡ seen.after → after ≡ known_before context (item ∷ k.items)
     known_on after e = e ∙ ap (λ (x : Seen). x.after) (sym same)
 
-    pub onward : (es : List Entry) (step : Step) (next : Cursor) → es ≡ list → step ≡ Onward next → KeepsAll Keeps kind (seen_by es kind cursor.known item) step → Walked context word first keeps next
+    pub onward : (es : List Entry) (step : Step) (next : Cursor) → es ≡ list → step ≡ Onward next → KeepsAll Keeps kind (seen_by machine es kind cursor.known item) step → Walked context word first keeps next
     onward es step next es_are step_is keeps_all =
         let h = kept_by es step es_are keeps_all in
         let on = leads_on kind seen step next step_is h.leads in
@@ -133,7 +138,7 @@ module _ (Why : Type 0) (order : Why → ℕ) (missing odd : Why) (Keeps : Seen 
           sound = subst IsSoundStep step_is h.sound;
         }
 
-    pub done : (es : List Entry) (step : Step) (known : Known) → es ≡ list → step ≡ Last known → KeepsAll Keeps kind (seen_by es kind cursor.known item) step → WalksTo context word first keeps known
+    pub done : (es : List Entry) (step : Step) (known : Known) → es ≡ list → step ≡ Last known → KeepsAll Keeps kind (seen_by machine es kind cursor.known item) step → WalksTo context word first keeps known
     done es step known es_are step_is keeps_all =
         let h = kept_by es step es_are keeps_all in
         let end = ends_at kind seen step known step_is h.leads in

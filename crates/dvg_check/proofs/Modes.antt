@@ -40,7 +40,7 @@ bound_kept w e v shape.DepthDiffers h = last_any _
 module _ (w : Window) (rom : Rom) (list : List Entry) where
   -- what is asked of a cell
   abbrev Kept : Mode → Entry → List Item → ℕ → Cell → ShapeWhy → Type 0
-  Kept mode e earlier p cell why = CellKeeps shape.Unmapped shape.Odd (λ i. ShapeKeeps mode w e (seen_at (shape_context list e) earlier i)) p cell why
+  Kept mode e earlier p cell why = CellKeeps shape.Unmapped shape.Odd (λ i. ShapeKeeps mode w e (seen_at (shape_context rom.machine list e) earlier i)) p cell why
 
   bound_cell : (e : Entry) (earlier : List Item) (p : ℕ) (cell : Cell) (why : ShapeWhy) → Kept Exact e earlier p cell why → Kept Bound e earlier p cell why
   bound_cell e earlier p Missing why h = h

@@ -1,4 +1,6 @@
 -- From one item to the next, over calls too.
+use Rattle.dvg_words.specs.Values.{Source}
+use Rattle.dvg_words.specs.declared.machine.Machine.{Machine}
 use Rattle.std.proofs.Common.{Option, None, Some, Bool, false, true, refl, nat_le, arith, subst, inl, sym, ap, inr, zero, suc, List, max, length, nat_lt, unwrap_or, ◌≡◌, ◌+◌, ◌/◌, ◌<◌, ◌≤◌, ◌⊎◌, ◌∷◌, ◌++◌, ◌∙◌, ℕ, ⊎_elim, []}
 use Rattle.std.proofs.lemmas.Bool.Decides.{nat_tests}
 use Rattle.std.proofs.lemmas.Int.{ints}
@@ -52,9 +54,9 @@ long_tests false true true d x y g rest h = tt
 long_tests false true false d x y g rest h = tt
 long_tests false false z d x y g rest h = absurd (h refl refl)
 
-long_by : (first second : ℕ) (i : Instr) → nat_le (first / 4096) 10 ≡ true → instruction_of first second ≡ Some i → IsDrawOrLabs i
+long_by : (machine : Machine) (first second : ℕ) (i : Instr) → nat_le (first / 4096) 10 ≡ true → instruction_of machine first second ≡ Some i → IsDrawOrLabs i
 unfolding instruction_of
-long_by first second i l e =
+long_by machine first second i l e =
     let not_both : nat_le (first / 4096) 9 ≡ false → (first / 4096 == 10) ≡ false → ⊥ = λ p q. grind (arith, nat_tests) in
     subst IfThere e (long_tests (nat_le (first / 4096) 9) (first / 4096 == 10) _ _ _ _ _ _ not_both)
 
@@ -62,25 +64,25 @@ held_instruction : (format : Format) (o : Option Instr) (i : Instr) → cell_hol
 held_instruction format None i e = cc
 held_instruction format (Some j) i e = cc
 
-long_two : (first : ℕ) (o : Option ℕ) (i : Instr) → nat_le (first / 4096) 10 ≡ true → long_cell first o ≡ Holds Long i → IsDrawOrLabs i
-long_two first None i l e = cc
-long_two first (Some second) i l e = long_by first second i l (held_instruction Long _ i e)
+long_two : (machine : Machine) (first : ℕ) (o : Option ℕ) (i : Instr) → nat_le (first / 4096) 10 ≡ true → long_cell machine first o ≡ Holds Long i → IsDrawOrLabs i
+long_two machine first None i l e = cc
+long_two machine first (Some second) i l e = long_by machine first second i l (held_instruction Long _ i e)
 
 no_long : (o : Option Instr) (i : Instr) → cell_holding Short o ≡ Holds Long i → ⊥
 no_long None i e = cc
 no_long (Some j) i e = cc
 
-long_first : (a b : Option ℕ) (i : Instr) → cell_of_words a b ≡ Holds Long i → IsDrawOrLabs i
-long_first None b i e = cc
-long_first (Some first) b i e = by_test (nat_le (first / 4096) 10) refl e
+long_first : (machine : Machine) (a b : Option ℕ) (i : Instr) → cell_of_words machine a b ≡ Holds Long i → IsDrawOrLabs i
+long_first machine None b i e = cc
+long_first machine (Some first) b i e = by_test (nat_le (first / 4096) 10) refl e
   where
-    by_test : (l : Bool) → nat_le (first / 4096) 10 ≡ l → cell_of_format (if l then Long else Short) first b ≡ Holds Long i → IsDrawOrLabs i
-    by_test true p f = long_two first b i p f
-    by_test false p f = absurd (no_long (instruction_of first 0) i f)
+    by_test : (l : Bool) → nat_le (first / 4096) 10 ≡ l → cell_of_format machine (if l then Long else Short) first b ≡ Holds Long i → IsDrawOrLabs i
+    by_test true p f = long_two machine first b i p f
+    by_test false p f = absurd (no_long (instruction_of machine first 0) i f)
 
-pub long_there : (get : ℕ → Option ℕ) (p : ℕ) (i : Instr) → cell_at get p ≡ Holds Long i → IsDrawOrLabs i
+pub long_there : (get : Source) (p : ℕ) (i : Instr) → cell_at get p ≡ Holds Long i → IsDrawOrLabs i
 unfolding cell_at
-long_there get p i e = long_first (get p) (get (p + 1)) i e
+long_there get p i e = long_first get.machine (get.word p) (get.word (p + 1)) i e
 
 -- ---- boxes
 
@@ -133,16 +135,16 @@ fits_apart base p q d (Rel x y) n h g = g ∙ sym (shift_shift base (record { x 
 fits_apart base p q d (Abs x y) n h g = g ∙ ap (λ v. shift v d) (sym h)
 fits_apart base p q d Lost n h g = absurd (n refl)
 
-lit_draw : (w : Window) (box : LitBox) (base p q : Point) (bright : ℕ) (d : DrawFields) (k : End) (sc : Key) → PlaceFits k base p → PlaceFits (place_past (draw_effect d sc) k) base q → PlaceKnown (draw_extent bright d sc) k → ScaleKnown (draw_extent bright d sc) → LitInWindow w (draw_extent bright d sc) k → LitInBox box (draw_extent bright d sc) k → AllByRecursion (LitFits w box base) (lit_by bright (record { from = p; to = q }))
-lit_draw w box base p q zero d k sc h g known scale shown boxed = tt
-lit_draw w box base p q (suc bright) d k Any h g known scale shown boxed = absurd scale
-lit_draw w box base p q (suc bright) d k (At x) h g known scale shown boxed =
-    let there = fits_apart base p q (displacement d x) k known h g in
+lit_draw : (a : Machine) (w : Window) (box : LitBox) (base p q : Point) (bright : ℕ) (d : DrawFields) (k : End) (sc : Key) → PlaceFits k base p → PlaceFits (place_past (draw_effect a d sc) k) base q → PlaceKnown (draw_extent a bright d sc) k → ScaleKnown (draw_extent a bright d sc) → LitInWindow w (draw_extent a bright d sc) k → LitInBox box (draw_extent a bright d sc) k → AllByRecursion (LitFits w box base) (lit_by bright (record { from = p; to = q }))
+lit_draw a w box base p q zero d k sc h g known scale shown boxed = tt
+lit_draw a w box base p q (suc bright) d k Any h g known scale shown boxed = absurd scale
+lit_draw a w box base p q (suc bright) d k (At x) h g known scale shown boxed =
+    let there = fits_apart base p q (displacement a d x) k known h g in
     let here = shift_origin p in (
       ⊎_elim
           (λ c. inl (subst (InWindow w) here c.0, subst (InWindow w) (sym there) c.1))
           (λ c. inr (subst (InBox (box_at box base)) here c.0, subst (InBox (box_at box base)) (sym there) c.1))
-          (lit_points w box base p origin (displacement d x) k h known shown boxed),
+          (lit_points w box base p origin (displacement a d x) k h known shown boxed),
       tt,
     )
 
@@ -211,7 +213,7 @@ room : (n : ℕ) → n < 4 → (to : ℕ) (s : State) → after_call (nat_lt n 4
 room n lt to s = let t : nat_lt n 4 ≡ true = grind (arith, nat_tests) in ap (λ b. after_call b to s) t
 
 lit_item : (w : Window) (c : Context) (box : LitBox) (earlier : List Item) (instr : Instr) (base p q : Point) → IsDrawOrLabs instr → Fits w c box earlier instr → PlaceFits (place_before c earlier) base p → PlaceFits (place_past (effect c earlier instr) (place_before c earlier)) base q → AllByRecursion (LitFits w box base) (lit_on instr p q)
-lit_item w c box earlier (Draws d) base p q kind f h g = lit_draw w box base p q d.bright d (place_before c earlier) (scale_before c earlier) h g f.known f.scale_known f.shown f.boxed
+lit_item w c box earlier (Draws d) base p q kind f h g = lit_draw c.machine w box base p q d.bright d (place_before c earlier) (scale_before c earlier) h g f.known f.scale_known f.shown f.boxed
 lit_item w c box earlier (Labs x y g) base p q kind f h g' = tt
 lit_item w c box earlier Halt base p q kind f h g = tt
 lit_item w c box earlier (Jsrl to) base p q kind f h g = tt
@@ -275,10 +277,10 @@ module _ (mode : Mode) (m : Memory) (w : Window) (box : LitBox) (base : Point) (
       (r.0, stretch_on mode m Ok Lit (word_count Short) f.words (1 + f.words) (length s.return_stack + 1) (length s2.return_stack + f.depth) _ s s2 r.0 (counts_same mode _ _ refl) (counts_same mode _ _ (omega arith)) one rest, r.1.pc ∙ ap (λ p. p + 1) pc, r.1.return_stack, r.1.place, r.1.scale)
 
   -- a draw or a LABS
-  over_plain : (c : Context) (first : ℕ) (earlier : List Item) (i : Item) (rs : List ℕ) (s : State) → IsMemory m → AllByRecursion Ok (places i.format i.at) → LeadsTo c.kind (word_of c.kind m) first earlier i.at → cell_at (word_of c.kind m) i.at ≡ Holds i.format i.instr → IsDrawOrLabs i.instr → Fits w c box earlier i.instr → Stands c base rs earlier i.at s
+  over_plain : (c : Context) (first : ℕ) (earlier : List Item) (i : Item) (rs : List ℕ) (s : State) → IsMemory m → c.machine ≡ m.rom.machine → AllByRecursion Ok (places i.format i.at) → LeadsTo c.kind (word_of c.kind m) first earlier i.at → cell_at (word_of c.kind m) i.at ≡ Holds i.format i.instr → IsDrawOrLabs i.instr → Fits w c box earlier i.instr → Stands c base rs earlier i.at s
       → (t : State) × Stretch mode m Ok Lit (word_count i.format) (length rs) s t × Stands c base rs (i ∷ earlier) (i.at + word_count i.format) t
-  over_plain c first earlier i rs s mem own lead e kind fits st =
-      let r = one_item m c first earlier i base s mem lead e kind st.pc st.place st.scale in
+  over_plain c first earlier i rs s mem same own lead e kind fits st =
+      let r = one_item m c first earlier i base s mem same lead e kind st.pc st.place st.scale in
       let q = r.1 in (
         r.0,
         one_step mode m Ok Lit (length rs) i.format i.at s r.0 (lit_on i.instr s.place r.0.place) q.step q.fetched own q.strokes (lit_item w c box earlier i.instr base s.place r.0.place kind fits st.place q.place) (omega (arith, q.max_stack, st.room)),
@@ -290,9 +292,9 @@ module _ (mode : Mode) (m : Memory) (w : Window) (box : LitBox) (base : Point) (
   Onward c earlier i p rs s =
       (t : State) × Stretch mode m Ok Lit (word_count i.format + callee_words (callee c earlier i.instr)) (length rs + depth_under i.instr (callee c earlier i.instr)) s t × Stands c base rs (i ∷ earlier) p t
 
-  plain_onward : (c : Context) (first : ℕ) (earlier : List Item) (i : Item) (p : ℕ) (rs : List ℕ) (s : State) → callee c earlier i.instr ≡ None → IsMemory m → AllByRecursion Ok (places i.format i.at) → LeadsTo c.kind (word_of c.kind m) first earlier i.at → cell_at (word_of c.kind m) i.at ≡ Holds i.format i.instr → IsDrawOrLabs i.instr → Fits w c box earlier i.instr → i.at + word_count i.format ≡ p → Stands c base rs earlier i.at s → Onward c earlier i p rs s
-  plain_onward c first earlier i p rs s none mem own lead e kind fits goes st =
-      let r = over_plain c first earlier i rs s mem own lead e kind fits st in
+  plain_onward : (c : Context) (first : ℕ) (earlier : List Item) (i : Item) (p : ℕ) (rs : List ℕ) (s : State) → callee c earlier i.instr ≡ None → IsMemory m → c.machine ≡ m.rom.machine → AllByRecursion Ok (places i.format i.at) → LeadsTo c.kind (word_of c.kind m) first earlier i.at → cell_at (word_of c.kind m) i.at ≡ Holds i.format i.instr → IsDrawOrLabs i.instr → Fits w c box earlier i.instr → i.at + word_count i.format ≡ p → Stands c base rs earlier i.at s → Onward c earlier i p rs s
+  plain_onward c first earlier i p rs s none mem same own lead e kind fits goes st =
+      let r = over_plain c first earlier i rs s mem same own lead e kind fits st in
       let no_words : callee_words (callee c earlier i.instr) ≡ 0 = ap callee_words none in
       let no_need : depth_under i.instr (callee c earlier i.instr) ≡ 0 = ap (depth_under i.instr) none in
       (r.0, stretch_as mode m Ok Lit (word_count i.format) _ (length rs) _ s r.0 (omega arith) (omega arith) r.1, stands_at c base rs (i ∷ earlier) (i.at + word_count i.format) p r.0 goes r.2)
@@ -335,17 +337,17 @@ module _ (mode : Mode) (m : Memory) (w : Window) (box : LitBox) (base : Point) (
       )
 
   -- any item but the last
-  pub over_item : (c : Context) (first : ℕ) (earlier : List Item) (at : ℕ) (format : Format) (instr : Instr) (p : ℕ) (rs : List ℕ) (s : State) → IsMemory m → AllByRecursion Ok (places format at) → LeadsTo c.kind (word_of c.kind m) first earlier at → cell_at (word_of c.kind m) at ≡ Holds format instr → address_after c.kind at format instr ≡ Some p → Fits w c box earlier instr → length rs + depth_under instr (callee c earlier instr) ≤ 4 → ((f : Entry) → callee c earlier instr ≡ Some f → Behaves mode m w f) → Stands c base rs earlier at s → Onward c earlier (record { at = at; format = format; instr = instr }) p rs s
-  over_item c first earlier at format (Draws d) p rs s mem own lead e goes fits le calls st = plain_onward c first earlier (record { at = at; format = format; instr = Draws d }) p rs s refl mem own lead e tt fits (cc) st
-  over_item c first earlier at format (Labs x y g) p rs s mem own lead e goes fits le calls st = plain_onward c first earlier (record { at = at; format = format; instr = Labs x y g }) p rs s refl mem own lead e tt fits (cc) st
-  over_item c first earlier at format Halt p rs s mem own lead e goes fits le calls st = cc
-  over_item c first earlier at Long (Jsrl to) p rs s mem own lead e goes fits le calls st = absurd (long_there (word_of c.kind m) at (Jsrl to) e)
-  over_item c first earlier at Short (Jsrl to) p rs s mem own lead e goes fits le calls st = by_name (callee c earlier (Jsrl to)) refl
+  pub over_item : (c : Context) (first : ℕ) (earlier : List Item) (at : ℕ) (format : Format) (instr : Instr) (p : ℕ) (rs : List ℕ) (s : State) → IsMemory m → c.machine ≡ m.rom.machine → AllByRecursion Ok (places format at) → LeadsTo c.kind (word_of c.kind m) first earlier at → cell_at (word_of c.kind m) at ≡ Holds format instr → address_after c.kind at format instr ≡ Some p → Fits w c box earlier instr → length rs + depth_under instr (callee c earlier instr) ≤ 4 → ((f : Entry) → callee c earlier instr ≡ Some f → Behaves mode m w f) → Stands c base rs earlier at s → Onward c earlier (record { at = at; format = format; instr = instr }) p rs s
+  over_item c first earlier at format (Draws d) p rs s mem same own lead e goes fits le calls st = plain_onward c first earlier (record { at = at; format = format; instr = Draws d }) p rs s refl mem same own lead e tt fits (cc) st
+  over_item c first earlier at format (Labs x y g) p rs s mem same own lead e goes fits le calls st = plain_onward c first earlier (record { at = at; format = format; instr = Labs x y g }) p rs s refl mem same own lead e tt fits (cc) st
+  over_item c first earlier at format Halt p rs s mem same own lead e goes fits le calls st = cc
+  over_item c first earlier at Long (Jsrl to) p rs s mem same own lead e goes fits le calls st = absurd (long_there (word_of c.kind m) at (Jsrl to) e)
+  over_item c first earlier at Short (Jsrl to) p rs s mem same own lead e goes fits le calls st = by_name (callee c earlier (Jsrl to)) refl
     where
       by_name : (o : Option Entry) → callee c earlier (Jsrl to) ≡ o → Onward c earlier (record { at = at; format = Short; instr = Jsrl to }) p rs s
       by_name None is = absurd (subst (HasCallee (Some to)) is fits.named)
       by_name (Some f) is = call_onward c earlier at to p f rs s is (stands c.kind m at Short (Jsrl to) mem e) (cc) own fits le (calls f is) st
-  over_item c first earlier at format Rtsl p rs s mem own lead e goes fits le calls st = cc
-  over_item c first earlier at format (Jmpl to) p rs s mem own lead e goes fits le calls st =
+  over_item c first earlier at format Rtsl p rs s mem same own lead e goes fits le calls st = cc
+  over_item c first earlier at format (Jmpl to) p rs s mem same own lead e goes fits le calls st =
       let j = jumps c.kind at format to p goes in
       jump_onward c earlier at to p format rs s (ap (λ x. callee_at c.list (target x (Jmpl to)) (scale_before c earlier)) j.frame) (stands c.kind m at format (Jmpl to) mem e) j.there own st

@@ -1,4 +1,5 @@
 -- Runs: they go on, they are determined, and what is recorded only grows.
+use Rattle.dvg_words.specs.declared.machine.Machine.{Machine}
 use Rattle.std.proofs.Common.{List, zero, arith, subst, sym, suc, ap, append_assoc, refl, Bool, true, false, nat_lt, length, max, length-append, ◌≡◌, ◌+◌, ◌≤◌, ◌∷◌, ◌++◌, ◌∙◌, ℕ, []}
 use Rattle.dvg_words.specs.Decoding.{cell_at}
 use Rattle.dvg_words.specs.Generator.{Status, Reached, Step, Running, Halted, Fault, State, Stroke, after_call, after_return, after_instruction, lit_by, after_cell, next_status, after_fetch, fetches}
@@ -69,24 +70,24 @@ grows_back : (rs : List ℕ) (s : State) → Grows s (state_of (after_return rs 
 grows_back [] s = stays s
 grows_back (r ∷ rs) s = record { words = []; fetched = refl; strokes = []; drew = refl; stored = omega arith }
 
-grows_perform : (i : Instr) (format : Format) (s : State) → Grows s (state_of (after_instruction i format s))
-grows_perform (Draws d) format s = record { words = []; fetched = refl; strokes = lit_by d.bright _; drew = refl; stored = omega arith }
-grows_perform (Labs x y g) format s = record { words = []; fetched = refl; strokes = []; drew = refl; stored = omega arith }
-grows_perform Halt format s = stays s
-grows_perform (Jsrl to) format s = grows_call (nat_lt (length s.return_stack) 4) to s
-grows_perform Rtsl format s = grows_back s.return_stack s
-grows_perform (Jmpl to) format s = record { words = []; fetched = refl; strokes = []; drew = refl; stored = omega arith }
+grows_perform : (a : Machine) (i : Instr) (format : Format) (s : State) → Grows s (state_of (after_instruction a i format s))
+grows_perform a (Draws d) format s = record { words = []; fetched = refl; strokes = lit_by d.bright _; drew = refl; stored = omega arith }
+grows_perform a (Labs x y g) format s = record { words = []; fetched = refl; strokes = []; drew = refl; stored = omega arith }
+grows_perform a Halt format s = stays s
+grows_perform a (Jsrl to) format s = grows_call (nat_lt (length s.return_stack) 4) to s
+grows_perform a Rtsl format s = grows_back s.return_stack s
+grows_perform a (Jmpl to) format s = record { words = []; fetched = refl; strokes = []; drew = refl; stored = omega arith }
 
-grows_act : (f : Cell) (s : State) → Grows s (state_of (after_cell f s))
-grows_act Missing s = stays s
-grows_act Odd s = stays s
-grows_act (Holds format i) s = grows_perform i format s
+grows_act : (a : Machine) (f : Cell) (s : State) → Grows s (state_of (after_cell a f s))
+grows_act a Missing s = stays s
+grows_act a Odd s = stays s
+grows_act a (Holds format i) s = grows_perform a i format s
 
 grows_next : (m : Memory) (s : State) → Grows s (state_of (next_status m s))
 unfolding next_status
 grows_next m s =
-    let f : Grows s (after_fetch m s) = record { words = fetches (word_at m s.pc) s.pc; fetched = refl; strokes = []; drew = refl; stored = omega arith } in
-    grows_on s (after_fetch m s) _ f (grows_act (cell_at (word_at m) s.pc) (after_fetch m s))
+    let f : Grows s (after_fetch m s) = record { words = fetches ((word_at m).word s.pc) s.pc; fetched = refl; strokes = []; drew = refl; stored = omega arith } in
+    grows_on s (after_fetch m s) _ f (grows_act m.rom.machine (cell_at (word_at m) s.pc) (after_fetch m s))
 
 grows_step : (m : Memory) (a b : Status) → Step m a b → Grows (state_of a) (state_of b)
 grows_step m (Running s) b p = subst (λ x. Grows s (state_of x)) p (grows_next m s)

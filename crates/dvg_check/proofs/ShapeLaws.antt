@@ -37,6 +37,7 @@ use Rattle.dvg_items.proofs.Points.{shift_origin}
 -- ---- any kind: along the items that lead to a place
 
 pub record Facts (mode : Mode) (m : Memory) (w : Window) (c : Context) (box : LitBox) (Ok : ℕ → Type 0) (earlier : List Item) (i : Item) : Type 0 where
+  pub moves : c.machine ≡ m.rom.machine
   pub own : AllByRecursion Ok (places i.format i.at)
   pub fits : Fits w c box earlier i.instr
   pub calls : (f : Entry) → callee c earlier i.instr ≡ Some f → Behaves mode m w f
@@ -49,7 +50,7 @@ arrive mode m w c box base Ok first rs s mem rom facts st [] p lead le =
 arrive mode m w c box base Ok first rs s mem rom facts st (i ∷ earlier) p lead le =
     let a = arrive mode m w c box base Ok first rs s mem rom facts st earlier i.at lead.0 (omega arith) in
     let f = facts earlier i lead.0 lead.1 in
-    let b = over_item mode m w box base Ok rom c first earlier i.at i.format i.instr p rs a.0 mem f.own lead.0 lead.1 lead.2 f.fits (omega arith) f.calls a.2 in
+    let b = over_item mode m w box base Ok rom c first earlier i.at i.format i.instr p rs a.0 mem f.moves f.own lead.0 lead.1 lead.2 f.fits (omega arith) f.calls a.2 in
     (b.0, stretch_on mode m Ok (LitFits w box base) (words_before c earlier) _ _ (length rs + depth_before c earlier) _ _ s a.0 b.0 (counts_same mode _ _ (omega arith)) (counts_same mode _ _ (omega arith)) a.1 b.1, b.2)
 
 -- a run that removes a return place takes at least one step
@@ -74,7 +75,7 @@ counts_deep Exact l a b d h = omega (arith, h)
 
 module _ (mode : Mode) (m : Memory) (w : Window) (list : List Entry) (e : Entry) (mem : IsMemory m) (keep : GoodShape mode w m.rom list e) where
   abbrev context : Context
-  context = shape_context list e
+  context = shape_context m.rom.machine list e
 
   -- what stands at a place keeps
   abbrev Kept : List Item → ℕ → Cell → ShapeWhy → Type 0
@@ -96,6 +97,7 @@ module _ (mode : Mode) (m : Memory) (w : Window) (list : List Entry) (e : Entry)
   item_facts : ((f : Entry) → Contains list f → f.words < e.words → Behaves mode m w f) → (earlier : List Item) (i : Item) → LeadsTo Shape (rom_word m.rom) e.addr earlier i.at → cell_at (rom_word m.rom) i.at ≡ Holds i.format i.instr → Facts mode m w context e.lit (InRom m.rom.map) earlier i
   item_facts smaller earlier i lead is =
       record {
+        moves = refl;
         own = own Shape m i.at i.format i.instr mem is;
         fits = item_fits earlier i lead is;
         calls = λ f n. smaller f (named_listed list (target Shape i.instr) (scale_before context earlier) f n) (fewer f n);
@@ -240,14 +242,14 @@ module _ (mode : Mode) (m : Memory) (w : Window) (list : List Entry) (e : Entry)
 totals : (mode : Mode) (m : Memory) (w : Window) (list : List Entry) (e : Entry) (mem : IsMemory m) (good : GoodShape mode w m.rom list e) (l : Last mode m w list e mem good) → Totals mode m w list e mem good (record { at = l.at; format = l.format; instr = l.instr }) l.items
 totals Bound m w list e mem good l =
     let i : Item = record { at = l.at; format = l.format; instr = l.instr } in
-    let need : depth_under l.instr (callee (shape_context list e) l.items l.instr) ≤ e.depth = rule Bound m w list e mem good l.items i l.lead l.is shape.TooDeep in
+    let need : depth_under l.instr (callee (shape_context m.rom.machine list e) l.items l.instr) ≤ e.depth = rule Bound m w list e mem good l.items i l.lead l.is shape.TooDeep in
     record {
       words = rule Bound m w list e mem good l.items i l.lead l.is shape.TooManyWords;
       depth = omega (arith, need, depth_fits Bound m w list e mem good l.items l.at l.lead);
     }
 totals Exact m w list e mem good l =
     let i : Item = record { at = l.at; format = l.format; instr = l.instr } in
-    let c = shape_context list e in
+    let c = shape_context m.rom.machine list e in
     record {
       words = subst (λ o. AtLast o (words_before c (i ∷ l.items) ≡ e.words)) l.last (rule Exact m w list e mem good l.items i l.lead l.is shape.WordsDiffer);
       depth = subst (λ o. AtLast o (depth_before c (i ∷ l.items) ≡ e.depth)) l.last (rule Exact m w list e mem good l.items i l.lead l.is shape.DepthDiffers);
@@ -256,7 +258,7 @@ totals Exact m w list e mem good l =
 pub one_shape : (mode : Mode) → OneShape mode
 one_shape mode m w list e mem good listed smaller s back rest room pc scale rs four =
     let keep = good e listed in
-    let c = shape_context list e in
+    let c = shape_context m.rom.machine list e in
     let l = find_last mode m w list e mem keep e.words [] e.addr refl (omega arith) in
     let st : Stands c s.place (back ∷ rest) [] e.addr s = record { pc = pc; return_stack = rs; room = omega (arith, room, ap length rs); place = sym (shift_origin s.place) ∙ ap (shift s.place) (sym (shift_origin origin)); scale = scale } in
     let same : length s.return_stack ≡ length (back ∷ rest) = ap length rs in

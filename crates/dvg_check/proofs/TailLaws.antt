@@ -1,4 +1,5 @@
 -- A weaker claim of a good shape is good, and so is an item before a good tail.
+use Rattle.dvg_words.specs.declared.machine.Machine.{Machine}
 use Rattle.std.proofs.Common.{arith, List, Option, None, Some, refl, sym, ap, subst, inl, inr, max, pos, ⊎_elim, ◌≡◌, ◌⊎◌, ◌+◌, ◌≤◌, ◌∷◌, ◌∙◌, ℕ, ◌+ℤ◌, []}
 use Rattle.std.proofs.lemmas.Int.{ints}
 use Rattle.dvg_words.specs.Decoding.{cell_at, word_count}
@@ -99,19 +100,19 @@ less_keeps mode w e strong v c h shape.WordsDiffer = at_last (next_address Shape
 less_keeps mode w e strong v c h shape.DepthDiffers = at_last (next_address Shape v.item) (AsClaimed mode v.after.depth strong.depth) (AsClaimed mode v.after.depth e.depth) (as_claimed mode v.after.depth strong.depth e.depth c.depth) (h shape.DepthDiffers)
 
 -- what an item of a shape keeps of a claim
-abbrev Kept : Mode → Window → List Entry → Entry → Key → List Item → Item → ShapeWhy → Type 0
-Kept mode w list e key earlier i = ShapeKeeps mode w e (seen_at (record { kind = Shape; list = list; scale = key }) earlier i)
+abbrev Kept : Machine → Mode → Window → List Entry → Entry → Key → List Item → Item → ShapeWhy → Type 0
+Kept a mode w list e key earlier i = ShapeKeeps mode w e (seen_at (record { kind = Shape; machine = a; list = list; scale = key }) earlier i)
 
 -- a weaker claim of a good shape is good
 pub weaker_claim : (mode : Mode) (w : Window) (rom : Rom) (list : List Entry) (e strong : Entry) → ClaimsLess mode e strong → GoodShape mode w rom list strong → GoodShape mode w rom list e
 weaker_claim mode w rom list e strong c good earlier p lead why =
-    cell_keeps (Kept mode w list strong strong.key earlier) (Kept mode w list e e.key earlier) p (cell_at (rom_word rom) p) on (good earlier p there) why
+    cell_keeps (Kept rom.machine mode w list strong strong.key earlier) (Kept rom.machine mode w list e e.key earlier) p (cell_at (rom_word rom) p) on (good earlier p there) why
   where
     there : LeadsTo Shape (rom_word rom) strong.addr earlier p
     there = subst (λ (a : ℕ). LeadsTo Shape (rom_word rom) a earlier p) c.addr lead
 
-    on : (i : Item) → ((x : ShapeWhy) → Kept mode w list strong strong.key earlier i x) → (x : ShapeWhy) → Kept mode w list e e.key earlier i x
-    on i h = less_keeps mode w e strong (seen_at (record { kind = Shape; list = list; scale = e.key }) earlier i) c (λ x. subst (λ (k : Key). Kept mode w list strong k earlier i x) (sym c.key) (h x))
+    on : (i : Item) → ((x : ShapeWhy) → Kept rom.machine mode w list strong strong.key earlier i x) → (x : ShapeWhy) → Kept rom.machine mode w list e e.key earlier i x
+    on i h = less_keeps mode w e strong (seen_at (record { kind = Shape; machine = rom.machine; list = list; scale = e.key }) earlier i) c (λ x. subst (λ (k : Key). Kept rom.machine mode w list strong k earlier i x) (sym c.key) (h x))
 
 -- ---- rules behind what is known
 
@@ -192,18 +193,18 @@ effect_over (Moves d) place (Rel x y) = sym (moves_on place (record { x = x; y =
 effect_over (Moves d) place (Abs x y) = refl
 effect_over (Moves d) place Lost = refl
 
-pub past_over : (i : Item) (callee : Option Entry) (first second : Known) → known_past i callee (known_over first second) ≡ known_over first (known_past i callee second)
-past_over i callee first second =
-    let place = effect_over (effect_of i.instr second.scale callee) first.place second.place in
-    let scale = (known_past i callee second).scale in
+pub past_over : (a : Machine) (i : Item) (callee : Option Entry) (first second : Known) → known_past a i callee (known_over first second) ≡ known_over first (known_past a i callee second)
+past_over a i callee first second =
+    let place = effect_over (effect_of a i.instr second.scale callee) first.place second.place in
+    let scale = (known_past a i callee second).scale in
     let words : word_count i.format + callee_words callee + (second.words + first.words) ≡ word_count i.format + callee_words callee + second.words + first.words = omega arith in
     let depth : max (depth_under i.instr callee) (max second.depth first.depth) ≡ max (max (depth_under i.instr callee) second.depth) first.depth = omega arith in
     λ x. record { place = place x; scale = scale; words = words x; depth = depth x }
 
-pub seen_by_over : (list : List Entry) (first second : Known) (i : Item) → seen_by list Shape (known_over first second) i ≡ seen_over first (seen_by list Shape second i)
-seen_by_over list first second i =
-    let v : Seen = seen_by list Shape (known_over first second) i in
-    ap (λ (after : Known). record v { after = after }) (past_over i (callee_at list (target Shape i.instr) second.scale) first second)
+pub seen_by_over : (a : Machine) (list : List Entry) (first second : Known) (i : Item) → seen_by a list Shape (known_over first second) i ≡ seen_over first (seen_by a list Shape second i)
+seen_by_over a list first second i =
+    let v : Seen = seen_by a list Shape (known_over first second) i in
+    ap (λ (after : Known). record v { after = after }) (past_over a i (callee_at list (target Shape i.instr) second.scale) first second)
 
 over_origin : (place : End) → place ≡ place_over place (Rel (pos 0) (pos 0))
 over_origin (Rel x y) =
@@ -226,15 +227,15 @@ over_none first key is =
 
 -- ---- the items of a shape: the first, and those of the tail
 
-module _ (rom : Rom) (list : List Entry) (key : Key) (i : Item) (tail : Entry) (is : cell_at (rom_word rom) i.at ≡ Holds i.format i.instr) (next : next_address Shape i ≡ Some tail.addr) (scale : tail.key ≡ (first_seen list key i).after.scale) where
+module _ (rom : Rom) (list : List Entry) (key : Key) (i : Item) (tail : Entry) (is : cell_at (rom_word rom) i.at ≡ Holds i.format i.instr) (next : next_address Shape i ≡ Some tail.addr) (scale : tail.key ≡ (first_seen rom.machine list key i).after.scale) where
   abbrev whole : Context
-  whole = record { kind = Shape; list = list; scale = key }
+  whole = record { kind = Shape; machine = rom.machine; list = list; scale = key }
 
   abbrev behind : Context
-  behind = record { kind = Shape; list = list; scale = tail.key }
+  behind = record { kind = Shape; machine = rom.machine; list = list; scale = tail.key }
 
   abbrev past : Known
-  past = (first_seen list key i).after
+  past = (first_seen rom.machine list key i).after
 
   -- the items behind the first lead there from the tail's address
   record Split (earlier : List Item) (p : ℕ) : Type 0 where
@@ -248,7 +249,7 @@ module _ (rom : Rom) (list : List Entry) (key : Key) (i : Item) (tail : Entry) (
 
   knows_on : (earlier rest : List Item) (j : Item) → known_before whole earlier ≡ known_over past (known_before behind rest) → seen_at whole earlier j ≡ seen_over past (seen_at behind rest j)
   knows_on earlier rest j knows =
-      ap (λ (k : Known). seen_by list Shape k j) knows ∙ seen_by_over list past (known_before behind rest) j
+      ap (λ (k : Known). seen_by rom.machine list Shape k j) knows ∙ seen_by_over rom.machine list past (known_before behind rest) j
 
   split : (earlier : List Item) (p : ℕ) → LeadsTo Shape (rom_word rom) i.at earlier p → Place earlier p
   split [] p lead = inl (refl, lead)
@@ -289,55 +290,55 @@ at_end : (o : Option ℕ) (P : Known → Type 0) (here end : Known) → (o ≡ N
 at_end None P here end is h = subst P (sym (is refl)) h
 at_end (Some p) P here end is h = tt
 
-first_keeps : (mode : Mode) (w : Window) (rom : Rom) (list : List Entry) (key : Key) (box : LitBox) (i : Item) (end : Known) → MayStandFirst rom list key box i → (first_seen list key i).after.words ≤ end.words → (first_seen list key i).after.depth ≤ end.depth → (next_address Shape i ≡ None → end ≡ (first_seen list key i).after) → (why : ShapeWhy) → Kept mode w list (claimed i.at key box end) key [] i why
+first_keeps : (mode : Mode) (w : Window) (rom : Rom) (list : List Entry) (key : Key) (box : LitBox) (i : Item) (end : Known) → MayStandFirst rom list key box i → (first_seen rom.machine list key i).after.words ≤ end.words → (first_seen rom.machine list key i).after.depth ≤ end.depth → (next_address Shape i ≡ None → end ≡ (first_seen rom.machine list key i).after) → (why : ShapeWhy) → Kept rom.machine mode w list (claimed i.at key box end) key [] i why
 first_keeps mode w rom list key box i end m words depth ends = keeps
   where
-    last : (P : Known → Type 0) → P (first_seen list key i).after → AtLast (next_address Shape i) (P end)
-    last P h = at_end (next_address Shape i) P (first_seen list key i).after end ends h
+    last : (P : Known → Type 0) → P (first_seen rom.machine list key i).after → AtLast (next_address Shape i) (P end)
+    last P h = at_end (next_address Shape i) P (first_seen rom.machine list key i).after end ends h
 
-    keeps : (why : ShapeWhy) → Kept mode w list (claimed i.at key box end) key [] i why
+    keeps : (why : ShapeWhy) → Kept rom.machine mode w list (claimed i.at key box end) key [] i why
     keeps shape.Unmapped = tt
     keeps shape.Odd = tt
     keeps shape.HaltInShape = m.goes_on
-    keeps shape.BeamUnknown = known_first (first_seen list key i).extent
+    keeps shape.BeamUnknown = known_first (first_seen rom.machine list key i).extent
     keeps shape.ScaleUnknown = m.scale_known
-    keeps shape.OffScreen = shown_first w (first_seen list key i).extent
+    keeps shape.OffScreen = shown_first w (first_seen rom.machine list key i).extent
     keeps shape.NoEntry = m.named
     keeps shape.TooDeep = omega (arith, depth)
     keeps shape.TooManyWords = words
-    keeps shape.EndDiffers = last (λ (k : Known). (first_seen list key i).after.place ≡ k.place) refl
-    keeps shape.ScaleDiffers = last (λ (k : Known). (first_seen list key i).after.scale ≡ k.scale) refl
+    keeps shape.EndDiffers = last (λ (k : Known). (first_seen rom.machine list key i).after.place ≡ k.place) refl
+    keeps shape.ScaleDiffers = last (λ (k : Known). (first_seen rom.machine list key i).after.scale ≡ k.scale) refl
     keeps shape.BoxTooSmall = m.boxed
-    keeps shape.WordsDiffer = last (λ (k : Known). AsClaimed mode (first_seen list key i).after.words k.words) (same_count mode (first_seen list key i).after.words)
-    keeps shape.DepthDiffers = last (λ (k : Known). AsClaimed mode (first_seen list key i).after.depth k.depth) (same_count mode (first_seen list key i).after.depth)
+    keeps shape.WordsDiffer = last (λ (k : Known). AsClaimed mode (first_seen rom.machine list key i).after.words k.words) (same_count mode (first_seen rom.machine list key i).after.words)
+    keeps shape.DepthDiffers = last (λ (k : Known). AsClaimed mode (first_seen rom.machine list key i).after.depth k.depth) (same_count mode (first_seen rom.machine list key i).after.depth)
 
 -- what the first item keeps, its place keeps
-first_place_keeps : (mode : Mode) (w : Window) (rom : Rom) (list : List Entry) (e : Entry) (i : Item) → cell_at (rom_word rom) i.at ≡ Holds i.format i.instr → ((why : ShapeWhy) → ShapeKeeps mode w e (first_seen list e.key i) why) → (earlier : List Item) (p : ℕ) → earlier ≡ [] → p ≡ i.at → (why : ShapeWhy) → ShapePlaceKeeps mode w rom list e earlier p why
+first_place_keeps : (mode : Mode) (w : Window) (rom : Rom) (list : List Entry) (e : Entry) (i : Item) → cell_at (rom_word rom) i.at ≡ Holds i.format i.instr → ((why : ShapeWhy) → ShapeKeeps mode w e (first_seen rom.machine list e.key i) why) → (earlier : List Item) (p : ℕ) → earlier ≡ [] → p ≡ i.at → (why : ShapeWhy) → ShapePlaceKeeps mode w rom list e earlier p why
 first_place_keeps mode w rom list e i is h earlier p none at why =
     subst (λ (x : List Item). ShapePlaceKeeps mode w rom list e x p why) (sym none)
     (subst (λ (x : ℕ). ShapePlaceKeeps mode w rom list e [] x why) (sym at)
-    (subst (λ (c : Cell). CellKeeps shape.Unmapped shape.Odd (λ j. ShapeKeeps mode w e (first_seen list e.key j)) i.at c why) (sym is) (h why)))
+    (subst (λ (c : Cell). CellKeeps shape.Unmapped shape.Odd (λ j. ShapeKeeps mode w e (first_seen rom.machine list e.key j)) i.at c why) (sym is) (h why)))
 
 -- an item before a good tail is good
-pub item_before_tail : (mode : Mode) (w : Window) (rom : Rom) (list : List Entry) (key : Key) (box : LitBox) (i : Item) (tail : Entry) → MayStandFirst rom list key box i → IsBehind w list key box i tail → GoodShape mode w rom list tail → GoodShape mode w rom list (after_item list key box i tail)
+pub item_before_tail : (mode : Mode) (w : Window) (rom : Rom) (list : List Entry) (key : Key) (box : LitBox) (i : Item) (tail : Entry) → MayStandFirst rom list key box i → IsBehind w rom.machine list key box i tail → GoodShape mode w rom list tail → GoodShape mode w rom list (after_item rom.machine list key box i tail)
 item_before_tail mode w rom list key box i tail m b good earlier p lead why = ⊎_elim at_first further (split rom list key i tail m.there b.next b.scale earlier p lead)
   where
-    no_last : next_address Shape i ≡ None → known_over (first_seen list key i).after (known_at_end tail) ≡ (first_seen list key i).after
+    no_last : next_address Shape i ≡ None → known_over (first_seen rom.machine list key i).after (known_at_end tail) ≡ (first_seen rom.machine list key i).after
     no_last none = let no : Some tail.addr ≡ None = sym b.next ∙ none in cc no
 
-    at_first : (earlier ≡ []) × (p ≡ i.at) → ShapePlaceKeeps mode w rom list (after_item list key box i tail) earlier p why
-    at_first h = first_place_keeps mode w rom list (after_item list key box i tail) i m.there (first_keeps mode w rom list key box i (known_over (first_seen list key i).after (known_at_end tail)) m (omega arith) (omega arith) no_last) earlier p h.0 h.1 why
+    at_first : (earlier ≡ []) × (p ≡ i.at) → ShapePlaceKeeps mode w rom list (after_item rom.machine list key box i tail) earlier p why
+    at_first h = first_place_keeps mode w rom list (after_item rom.machine list key box i tail) i m.there (first_keeps mode w rom list key box i (known_over (first_seen rom.machine list key i).after (known_at_end tail)) m (omega arith) (omega arith) no_last) earlier p h.0 h.1 why
 
-    further : Split rom list key i tail m.there b.next b.scale earlier p → ShapePlaceKeeps mode w rom list (after_item list key box i tail) earlier p why
-    further s = cell_keeps (Kept mode w list tail tail.key s.rest) (Kept mode w list (after_item list key box i tail) key earlier) p (cell_at (rom_word rom) p) on (good s.rest p s.leads) why
+    further : Split rom list key i tail m.there b.next b.scale earlier p → ShapePlaceKeeps mode w rom list (after_item rom.machine list key box i tail) earlier p why
+    further s = cell_keeps (Kept rom.machine mode w list tail tail.key s.rest) (Kept rom.machine mode w list (after_item rom.machine list key box i tail) key earlier) p (cell_at (rom_word rom) p) on (good s.rest p s.leads) why
       where
-        on : (j : Item) → ((x : ShapeWhy) → Kept mode w list tail tail.key s.rest j x) → (x : ShapeWhy) → Kept mode w list (after_item list key box i tail) key earlier j x
+        on : (j : Item) → ((x : ShapeWhy) → Kept rom.machine mode w list tail tail.key s.rest j x) → (x : ShapeWhy) → Kept rom.machine mode w list (after_item rom.machine list key box i tail) key earlier j x
         on j h x =
-            subst (λ (v : Seen). ShapeKeeps mode w (after_item list key box i tail) v x) (sym (knows_on rom list key i tail m.there b.next b.scale earlier s.rest j s.knows))
-            (over_keeps mode w i.at key box (first_seen list key i).after tail (seen_at (record { kind = Shape; list = list; scale = tail.key }) s.rest j) b.lit h x)
+            subst (λ (v : Seen). ShapeKeeps mode w (after_item rom.machine list key box i tail) v x) (sym (knows_on rom list key i tail m.there b.next b.scale earlier s.rest j s.knows))
+            (over_keeps mode w i.at key box (first_seen rom.machine list key i).after tail (seen_at (record { kind = Shape; machine = rom.machine; list = list; scale = tail.key }) s.rest j) b.lit h x)
 
 -- an item that ends a shape is good alone
-pub last_item_good : (mode : Mode) (w : Window) (rom : Rom) (list : List Entry) (key : Key) (box : LitBox) (i : Item) → MayStandFirst rom list key box i → next_address Shape i ≡ None → GoodShape mode w rom list (last_item list key box i)
+pub last_item_good : (mode : Mode) (w : Window) (rom : Rom) (list : List Entry) (key : Key) (box : LitBox) (i : Item) → MayStandFirst rom list key box i → next_address Shape i ≡ None → GoodShape mode w rom list (last_item rom.machine list key box i)
 last_item_good mode w rom list key box i m last [] p lead why =
-    first_place_keeps mode w rom list (last_item list key box i) i m.there (first_keeps mode w rom list key box i (first_seen list key i).after m (omega arith) (omega arith) (λ none. refl)) [] p refl lead why
+    first_place_keeps mode w rom list (last_item rom.machine list key box i) i m.there (first_keeps mode w rom list key box i (first_seen rom.machine list key i).after m (omega arith) (omega arith) (λ none. refl)) [] p refl lead why
 last_item_good mode w rom list key box i m last (j ∷ earlier) p lead why = absurd (too_long Shape (rom_word rom) i.at [] i refl m.there last (j ∷ earlier) p lead (omega arith))

@@ -16,7 +16,7 @@ use Rattle.dvg_check.specs.Rules.{GoodShape}
 use Rattle.dvg_check.proofs.TailLaws.{item_before_tail, last_item_good, lit_in_more}
 use Rattle.dvg_check.proofs.TailSizes.{IsSmall-more}
 
-module _ (w : Window) (rom : Rom) (list : List Entry) (key : Key) (i : Item) (first : Entry) (is : first ≡ last_item list key first.lit i) (stands : MayStandFirst rom list key first.lit i) where
+module _ (w : Window) (rom : Rom) (list : List Entry) (key : Key) (i : Item) (first : Entry) (is : first ≡ last_item rom.machine list key first.lit i) (stands : MayStandFirst rom list key first.lit i) where
   at_item : first.addr ≡ i.at
   at_item = ap (λ (e : Entry). e.addr) is
 
@@ -37,13 +37,13 @@ module _ (w : Window) (rom : Rom) (list : List Entry) (key : Key) (i : Item) (fi
       at_whole : whole.addr ≡ i.at
       at_whole = ap (λ (e : Entry). e.addr) value ∙ at_item
 
-      same : whole ≡ claimed i.at key whole.lit (known_over (first_seen list key i).after (known_at_end tail))
+      same : whole ≡ claimed i.at key whole.lit (known_over (first_seen rom.machine list key i).after (known_at_end tail))
       same = value ∙ ap (λ (e : Entry). claimed e.addr e.key whole.lit (known_over (known_at_end e) (known_at_end tail))) is
 
       more : MayStandFirst rom list key whole.lit i
-      more = record { there = stands.there; goes_on = stands.goes_on; scale_known = stands.scale_known; named = stands.named; boxed = lit_in_more first.lit whole.lit (first_seen list key i).extent (first_seen list key i).place inside stands.boxed }
+      more = record { there = stands.there; goes_on = stands.goes_on; scale_known = stands.scale_known; named = stands.named; boxed = lit_in_more first.lit whole.lit (first_seen rom.machine list key i).extent (first_seen rom.machine list key i).place inside stands.boxed }
 
-      behind : IsBehind w list key whole.lit i tail
+      behind : IsBehind w rom.machine list key whole.lit i tail
       behind = record { next = goes; scale = scale ∙ ap (λ (e : Entry). e.scale) is; lit = subst (λ (e : Entry). MayStandAt w whole.lit tail.lit e.stop) is lit }
 
   pub before_some : (tail : Entry) (o : Option Entry) → next_address Shape i ≡ Some tail.addr → tail.key ≡ first.scale → IsTail w rom list tail → IfSome o (λ whole. whole ≡ claimed first.addr first.key whole.lit (known_over (known_at_end first) (known_at_end tail))) → IfSome o (λ whole. IsInside first.lit whole.lit) → IfSome o (λ whole. MayStandAt w whole.lit tail.lit first.stop) → IfSome o (λ whole. (n : ℕ) → IsSmall n tail → IsSmall (n + 1) whole) → tail.addr ≤ ADDRESS_END + 2 → IfSome o (IsTail w rom list)

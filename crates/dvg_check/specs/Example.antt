@@ -35,4 +35,4 @@ pub record WorkedExample : Type 0 where
   pub certificate : IsCertificate asteroids example_list
   pub shapes : Good Bound screen example_rom example_list
   pub exact : Good Exact screen example_rom example_list
-  pub frame : GoodFrame screen example_frame example_list 20000 7 1
+  pub frame : GoodFrame screen example_rom.machine example_frame example_list 20000 7 1

@@ -1,4 +1,6 @@
 -- The first fault: the first item that breaks a rule, and the lowest number that it breaks. All of it is profile.
+use Rattle.dvg_words.specs.Values.{Source}
+use Rattle.dvg_words.specs.declared.machine.Machine.{Machine}
 use Rattle.std.specs.Prelude.{◌≡◌, ℕ, ◌<◌, List, ◌∷◌, ◌++◌, Option}
 use Rattle.std.specs.List.{AllByRecursion}
 use Rattle.dvg_words.specs.Values.{Window}
@@ -48,7 +50,7 @@ abbrev pub AllBefore : {Why : Type 0} → (List Item → ℕ → Why → Type 0)
 AllBefore {Why} keeps items = AtEachOf (λ earlier p. (why : Why) → keeps earlier p why) items
 
 -- the first word address that breaks a rule, and the rule of the lowest number that it breaks
-pub record FaultAt {Why : Type 0} (order : Why → ℕ) (kind : Kind) (word : ℕ → Option ℕ) (first : ℕ)
+pub record FaultAt {Why : Type 0} (order : Why → ℕ) (kind : Kind) (word : Source) (first : ℕ)
     (keeps : List Item → ℕ → Why → Type 0) (at : ℕ) (why : Why) : Type 0 where
   pub items : List Item
   pub leads : LeadsTo kind word first items at
@@ -72,5 +74,5 @@ pub record FirstShapeFault (mode : Mode) (w : Window) (rom : Rom) (list : List E
   pub fault : ShapeFaultAt mode w rom list entry f.word f.why
 
 -- the first fault of a frame
-abbrev pub FirstFrameFault : Window → List ℕ → List Entry → ℕ → FrameFault → Type 0
-FirstFrameFault w words list budget f = FaultAt frame_number Frame (frame_word words) 0 (FramePlaceKeeps w words list budget) f.word f.why
+abbrev pub FirstFrameFault : Window → Machine → List ℕ → List Entry → ℕ → FrameFault → Type 0
+FirstFrameFault w machine words list budget f = FaultAt frame_number Frame (frame_word machine words) 0 (FramePlaceKeeps w machine words list budget) f.word f.why

@@ -1,4 +1,6 @@
 -- The laws, over the definitions alone. They are for every map, window and mode, but ExactIsExact is for the mode Exact.
+use Rattle.dvg_words.specs.Values.{Source}
+use Rattle.dvg_words.specs.declared.machine.Machine.{Machine}
 use Rattle.std.specs.Prelude.{◌≡◌, ℕ, ℤ, ◌+◌, ◌<◌, ◌≤◌, ◌⊎◌, ◌≤ℤ◌, length, List, [], ◌∷◌, ◌++◌, Option, Contains, Result}
 use Rattle.dvg_words.specs.Values.{Window}
 use Rattle.dvg_words.specs.declared.instruction.Instr.TheVariants.{Draw as Draws, Labs}
@@ -21,7 +23,7 @@ use Rattle.dvg_items.specs.Items.{LeadsTo}
 use Rattle.dvg_items.specs.Known.{Context, scale_before, place_before}
 use Rattle.dvg_check.specs.Rules.{Mode, Exact, Good, GoodFrame}
 use Rattle.dvg_check.specs.FirstFault.{ShapeFault, FirstShapeFault, FrameFault, FirstFrameFault}
-use Rattle.dvg_check.specs.Verdict.{Yes, Refusal, Verdict, NotMemory}
+use Rattle.dvg_check.specs.Verdict.{Yes, Refusal, VerdictOn, NotMemory}
 use Rattle.dvg_check.specs.Behaving.{ScaleFits, PlaceFits, Behaves}
 use Rattle.dvg_check.specs.Safety.{Safe}
 pub use Rattle.dvg_check.specs.Safety.{CountsAtHalt}
@@ -51,15 +53,16 @@ pub record Past (m : Memory) (base : Point) (i : Item) (known : End) (scale : Ke
   pub max_stack : t.max_stack ≡ s.max_stack
 
 -- where items are read: the items of a shape in the ROM, the items of a frame in the frame
-abbrev pub word_of : Kind → Memory → ℕ → Option ℕ
+abbrev pub word_of : Kind → Memory → Source
 word_of Shape m = rom_word m.rom
-word_of Frame m = frame_word m.frame
+word_of Frame m = frame_word m.rom.machine m.frame
 
 -- one step past a draw or a LABS: if the state before fits what is known there, so does the state after
 abbrev pub OneItem : Type 0
 OneItem =
     (m : Memory) (c : Context) (first : ℕ) (earlier : List Item) (i : Item) (base : Point) (s : State)
     → IsMemory m
+    → c.machine ≡ m.rom.machine
     → LeadsTo c.kind (word_of c.kind m) first earlier i.at
     → cell_at (word_of c.kind m) i.at ≡ Holds i.format i.instr
     → IsDrawOrLabs i.instr
@@ -97,7 +100,7 @@ GoodIsSafe =
     → IsMemory m
     → ((e : Entry) → Contains list e → e.depth ≤ MOST_DEPTH)
     → Good mode w m.rom list
-    → GoodFrame w m.frame list budget words depth
+    → GoodFrame w m.rom.machine m.frame list budget words depth
     → Safe m w words depth
 
 -- if the counts of the shapes are exact, the counts of the frame are exact too
@@ -107,20 +110,20 @@ ExactIsExact =
     → IsMemory m
     → ((e : Entry) → Contains list e → e.depth ≤ MOST_DEPTH)
     → Good Exact w m.rom list
-    → GoodFrame w m.frame list budget words depth
+    → GoodFrame w m.rom.machine m.frame list budget words depth
     → CountsAtHalt m words depth
 
 -- a frame has at most one first fault
 abbrev pub OneFault : Type 0
 OneFault =
-    (w : Window) (words : List ℕ) (list : List Entry) (budget : ℕ) (f g : FrameFault)
-    → FirstFrameFault w words list budget f → FirstFrameFault w words list budget g → f ≡ g
+    (w : Window) (machine : Machine) (words : List ℕ) (list : List Entry) (budget : ℕ) (f g : FrameFault)
+    → FirstFrameFault w machine words list budget f → FirstFrameFault w machine words list budget g → f ≡ g
 
 -- a good frame has no fault
 abbrev pub NoFault : Type 0
 NoFault =
-    (w : Window) (words : List ℕ) (list : List Entry) (budget count depth : ℕ) (f : FrameFault)
-    → GoodFrame w words list budget count depth → FirstFrameFault w words list budget f → ⊥
+    (w : Window) (machine : Machine) (words : List ℕ) (list : List Entry) (budget count depth : ℕ) (f : FrameFault)
+    → GoodFrame w machine words list budget count depth → FirstFrameFault w machine words list budget f → ⊥
 
 -- a certificate has at most one first fault
 abbrev pub OneShapeFault : Type 0
@@ -142,14 +145,14 @@ pub record SameCounts (count depth count' depth' : ℕ) : Type 0 where
 -- a good frame has one count and one depth
 abbrev pub OneCount : Type 0
 OneCount =
-    (w : Window) (words : List ℕ) (list : List Entry) (budget count depth count' depth' : ℕ)
-    → GoodFrame w words list budget count depth → GoodFrame w words list budget count' depth' → SameCounts count depth count' depth'
+    (w : Window) (machine : Machine) (words : List ℕ) (list : List Entry) (budget count depth count' depth' : ℕ)
+    → GoodFrame w machine words list budget count depth → GoodFrame w machine words list budget count' depth' → SameCounts count depth count' depth'
 
 -- there is at most one verdict, running out of memory aside
 abbrev pub OneVerdict : Type 0
 OneVerdict =
-    (mode : Mode) (w : Window) (rom cert words : List ℕ) (budget : ℕ) (a b : Result Yes Refusal)
-    → Verdict mode w rom cert words budget a → Verdict mode w rom cert words budget b → NotMemory a → NotMemory b → a ≡ b
+    (machine : Machine) (mode : Mode) (w : Window) (rom cert words : List ℕ) (budget : ℕ) (a b : Result Yes Refusal)
+    → VerdictOn machine mode w rom cert words budget a → VerdictOn machine mode w rom cert words budget b → NotMemory a → NotMemory b → a ≡ b
 
 -- ---- strokes
 

@@ -8,4 +8,5 @@ pub mod Behaving
 pub mod Safety
 pub mod Laws
 pub mod Example
+pub mod MachinesExample
 pub mod Private

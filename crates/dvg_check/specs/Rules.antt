@@ -1,4 +1,6 @@
 -- The rules on one item, one by one: what an item must keep. All of it is profile.
+use Rattle.dvg_words.specs.Values.{Source}
+use Rattle.dvg_words.specs.declared.machine.Machine.{Machine}
 use Rattle.std.specs.Prelude.{◌≡◌, ◌≢◌, ℕ, ◌+◌, ◌≤◌, ◌<◌, List, Option, Some, None, Contains}
 use Rattle.dvg_words.specs.Values.{Window}
 use Rattle.dvg_words.specs.declared.instruction.Instr.TheVariants.{Halt, Rtsl, Jmpl}
@@ -75,19 +77,19 @@ CellKeeps missing odd keeps at Odd why = why ≢ odd
 CellKeeps missing odd keeps at (Holds format i) why = keeps (record { at = at; format = format; instr = i }) why
 
 -- the cell at a word address keeps a rule, after these items
-abbrev pub PlaceKeeps : {Why : Type 0} → Why → Why → (Seen → Why → Type 0) → Context → (ℕ → Option ℕ) → List Item → ℕ → Why → Type 0
+abbrev pub PlaceKeeps : {Why : Type 0} → Why → Why → (Seen → Why → Type 0) → Context → Source → List Item → ℕ → Why → Type 0
 PlaceKeeps missing odd keeps c word earlier p why = CellKeeps missing odd (λ i. keeps (seen_at c earlier i)) p (cell_at word p) why
 
 -- the cell at a word address of an entry's shape keeps a rule, after these items
 abbrev pub ShapePlaceKeeps : Mode → Window → Rom → List Entry → Entry → List Item → ℕ → ShapeWhy → Type 0
-ShapePlaceKeeps mode w rom list e = PlaceKeeps shape.Unmapped shape.Odd (ShapeKeeps mode w e) (shape_context list e) (rom_word rom)
+ShapePlaceKeeps mode w rom list e = PlaceKeeps shape.Unmapped shape.Odd (ShapeKeeps mode w e) (shape_context rom.machine list e) (rom_word rom)
 
 -- the cell at a word address of a frame keeps a rule, after these items
-abbrev pub FramePlaceKeeps : Window → List ℕ → List Entry → ℕ → List Item → ℕ → FrameWhy → Type 0
-FramePlaceKeeps w words list budget = PlaceKeeps frame.Unmapped frame.Odd (FrameKeeps w budget) (frame_context list) (frame_word words)
+abbrev pub FramePlaceKeeps : Window → Machine → List ℕ → List Entry → ℕ → List Item → ℕ → FrameWhy → Type 0
+FramePlaceKeeps w machine words list budget = PlaceKeeps frame.Unmapped frame.Odd (FrameKeeps w budget) (frame_context machine list) (frame_word machine words)
 
 -- every word address that items lead to keeps every rule
-abbrev pub AllKeep : {Why : Type 0} → Kind → (ℕ → Option ℕ) → ℕ → (List Item → ℕ → Why → Type 0) → Type 0
+abbrev pub AllKeep : {Why : Type 0} → Kind → Source → ℕ → (List Item → ℕ → Why → Type 0) → Type 0
 AllKeep {Why} kind word first keeps = (earlier : List Item) (p : ℕ) → LeadsTo kind word first earlier p → (why : Why) → keeps earlier p why
 
 -- an entry's shape keeps all rules
@@ -99,12 +101,12 @@ abbrev pub Good : Mode → Window → Rom → List Entry → Type 0
 Good mode w rom list = (e : Entry) → Contains list e → GoodShape mode w rom list e
 
 -- a frame keeps all rules, and `count` and `depth` are its words and its depth at its HALT
-pub record GoodFrame (w : Window) (words : List ℕ) (list : List Entry) (budget count depth : ℕ) : Type 0 where
-  pub keeps : AllKeep Frame (frame_word words) 0 (FramePlaceKeeps w words list budget)
+pub record GoodFrame (w : Window) (machine : Machine) (words : List ℕ) (list : List Entry) (budget count depth : ℕ) : Type 0 where
+  pub keeps : AllKeep Frame (frame_word machine words) 0 (FramePlaceKeeps w machine words list budget)
   pub items : List Item
   pub at : ℕ
   pub format : Format
-  pub leads : LeadsTo Frame (frame_word words) 0 items at
-  pub halts : cell_at (frame_word words) at ≡ Holds format Halt
-  pub count_is : count ≡ words_before (frame_context list) items + word_count format
-  pub depth_is : depth ≡ depth_before (frame_context list) items
+  pub leads : LeadsTo Frame (frame_word machine words) 0 items at
+  pub halts : cell_at (frame_word machine words) at ≡ Holds format Halt
+  pub count_is : count ≡ words_before (frame_context machine list) items + word_count format
+  pub depth_is : depth ≡ depth_before (frame_context machine list) items

@@ -3,7 +3,9 @@
 -- it may be 50, that there was no memory for the index. All of it is profile.
 use Rattle.std.specs.Prelude.{◌≡◌, ◌≢◌, ℕ, ◌≤◌, List, length, Result, Ok, Err}
 use Rattle.dvg_words.specs.Values.{Window}
-use Rattle.dvg_words.specs.Memory.{Rom, words_of, rom_of, IsRomLength, IsFrameLength}
+use Rattle.dvg_words.specs.declared.machine.Machine.{Machine}
+use Rattle.dvg_words.specs.declared.machine.Machine.TheVariants.{Profile}
+use Rattle.dvg_words.specs.Memory.{Rom, words_of, rom_on, IsRomLength, IsFrameLength}
 use Rattle.dvg_words.specs.declared.image.ImageFault.TheVariants.{RomLength, FrameLength}
 use Rattle.dvg_cert.specs.declared.entry.Entry.{Entry}
 use Rattle.dvg_cert.specs.declared.fault.CertWhy.TheVariants.{Memory}
@@ -37,42 +39,54 @@ RangeRefusal frame budget r = ⊥
 -- the verdict on the shapes of a list and on a frame, or no memory for the index
 abbrev pub PartsVerdict : Mode → Window → Rom → List Entry → List ℕ → ℕ → Result Yes Refusal → Type 0
 PartsVerdict mode w rom list words budget (Ok y) =
-    Good mode w rom list × GoodFrame w words list budget y.words y.depth × (y.shapes ≡ length list)
+    Good mode w rom list × GoodFrame w rom.machine words list budget y.words y.depth × (y.shapes ≡ length list)
 PartsVerdict mode w rom list words budget (Err (refusal.Shape f)) = FirstShapeFault mode w rom list f
-PartsVerdict mode w rom list words budget (Err (refusal.Frame f)) = Good mode w rom list × FirstFrameFault w words list budget f
+PartsVerdict mode w rom list words budget (Err (refusal.Frame f)) = Good mode w rom list × FirstFrameFault w rom.machine words list budget f
 PartsVerdict mode w rom list words budget (Err refusal.IndexMemory) = Unit {0}
 PartsVerdict mode w rom list words budget (Err r) = ⊥
 
 -- the verdict on a ROM's bytes and a frame by a certificate: 1 if the ROM has not the length of the certificate's map
-abbrev pub RomVerdict : Mode → Window → List ℕ → Certificate → List ℕ → ℕ → Result Yes Refusal → Type 0
-RomVerdict mode w rom c words budget (Err (refusal.Image RomLength)) = IsRomLength c.map (length rom) → ⊥
-RomVerdict mode w rom c words budget answer =
-    IsRomLength c.map (length rom) × PartsVerdict mode w (rom_of c.map rom) c.entries words budget answer
+abbrev pub RomVerdict : Machine → Mode → Window → List ℕ → Certificate → List ℕ → ℕ → Result Yes Refusal → Type 0
+RomVerdict machine mode w rom c words budget (Err (refusal.Image RomLength)) = IsRomLength c.map (length rom) → ⊥
+RomVerdict machine mode w rom c words budget answer =
+    IsRomLength c.map (length rom) × PartsVerdict mode w (rom_on machine c.map rom) c.entries words budget answer
 
 -- the certificate that the text spells, and the verdict on the ROM and the frame by it
-pub record CertVerdict (mode : Mode) (w : Window) (rom cert frame : List ℕ) (budget : ℕ) (answer : Result Yes Refusal) : Type 0 where
+pub record CertVerdict (machine : Machine) (mode : Mode) (w : Window) (rom cert frame : List ℕ) (budget : ℕ) (answer : Result Yes Refusal) : Type 0 where
   pub in_range : InRange frame budget
   pub certificate : Certificate
   pub spells : Spells certificate cert
-  pub by_it : RomVerdict mode w rom certificate (words_of frame) budget answer
+  pub by_it : RomVerdict machine mode w rom certificate (words_of frame) budget answer
 
 -- the verdict on the bytes of a ROM, of a certificate and of a frame: the first refusal that applies, or the counts of what is
 -- accepted
+abbrev pub VerdictOn : Machine → Mode → Window → List ℕ → List ℕ → List ℕ → ℕ → Result Yes Refusal → Type 0
+VerdictOn machine mode w rom cert frame budget (Err (refusal.Image FrameLength)) = RangeRefusal frame budget (refusal.Image FrameLength)
+VerdictOn machine mode w rom cert frame budget (Err refusal.BudgetRange) = RangeRefusal frame budget refusal.BudgetRange
+VerdictOn machine mode w rom cert frame budget (Err (refusal.Cert f)) = InRange frame budget × ReadAnswer cert (Err f)
+VerdictOn machine mode w rom cert frame budget answer = CertVerdict machine mode w rom cert frame budget answer
+
+-- the same on the profile's machine
 abbrev pub Verdict : Mode → Window → List ℕ → List ℕ → List ℕ → ℕ → Result Yes Refusal → Type 0
-Verdict mode w rom cert frame budget (Err (refusal.Image FrameLength)) = RangeRefusal frame budget (refusal.Image FrameLength)
-Verdict mode w rom cert frame budget (Err refusal.BudgetRange) = RangeRefusal frame budget refusal.BudgetRange
-Verdict mode w rom cert frame budget (Err (refusal.Cert f)) = InRange frame budget × ReadAnswer cert (Err f)
-Verdict mode w rom cert frame budget answer = CertVerdict mode w rom cert frame budget answer
+Verdict = VerdictOn Profile
 
 -- every run from the frame's first word is safe, with the ROM at the map of the certificate that `cert` spells
+abbrev pub SafeOn : Machine → Window → List ℕ → List ℕ → List ℕ → ℕ → ℕ → Type 0
+SafeOn machine w rom cert frame words depth =
+    (c : Certificate) × Spells c cert × Safe (record { frame = words_of frame; rom = rom_on machine c.map rom }) w words depth
+
+-- the same on the profile's machine
 abbrev pub SafeOver : Window → List ℕ → List ℕ → List ℕ → ℕ → ℕ → Type 0
-SafeOver w rom cert frame words depth =
-    (c : Certificate) × Spells c cert × Safe (record { frame = words_of frame; rom = rom_of c.map rom }) w words depth
+SafeOver = SafeOn Profile
 
 -- every run over the same frame and ROM has just these counts at its halt
+abbrev pub CountsOn : Machine → List ℕ → List ℕ → List ℕ → ℕ → ℕ → Type 0
+CountsOn machine rom cert frame words depth =
+    (c : Certificate) × Spells c cert × CountsAtHalt (record { frame = words_of frame; rom = rom_on machine c.map rom }) words depth
+
+-- the same on the profile's machine
 abbrev pub CountsOver : List ℕ → List ℕ → List ℕ → ℕ → ℕ → Type 0
-CountsOver rom cert frame words depth =
-    (c : Certificate) × Spells c cert × CountsAtHalt (record { frame = words_of frame; rom = rom_of c.map rom }) words depth
+CountsOver = CountsOn Profile
 
 -- the answer is not that memory was short for the certificate or its index
 abbrev pub NotMemory : Result Yes Refusal → Type 0

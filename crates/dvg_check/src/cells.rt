@@ -1,16 +1,21 @@
 //! What stands at the word addresses of a ROM and of a frame.
 
-ghost use Rattle.std.specs.Prelude.{◌≡◌, ℕ, Option};
+ghost use Rattle.std.specs.Prelude.{◌≡◌};
+ghost use Rattle.dvg_words.specs.Values.{Source};
 ghost use Rattle.dvg_words.specs.declared.map.TheConstants.{ADDRESS_END};
 ghost use Rattle.dvg_words.specs.Decoding.{cell_at, CellFits, StandsBelow};
 ghost use Rattle.dvg_words.specs.Memory.{rom_word, frame_word};
 
-use dvg_words::{Cell, FrameImage, RomImage, read_cell};
+use dvg_words::{Cell, Fetch, FrameOn, Machine, RomImage, read_cell};
 
 /// What stands at word addresses.
 pub trait Cells {
-    /// The word at each address, none where there is none.
-    ghost words: { Self → ℕ → Option ℕ };
+    /// The word at each address, none where there is none, and the machine that decodes it.
+    ghost words: { Self → Source };
+
+    /// The machine that decodes the words.
+    fn machine(&self) -> Machine
+        ensures { result ≡ (words self.now).machine };
 
     /// What stands at a word address.
     fn cell(&self, at: u16) -> Cell
@@ -19,8 +24,12 @@ pub trait Cells {
         ensures near { StandsBelow ADDRESS_END at result };
 }
 
-impl<'a> Cells for FrameImage<'a> {
-    ghost words = { λ s. frame_word s };
+impl<'a> Cells for FrameOn<'a> {
+    ghost words = { λ s. frame_word s.machine s.frame };
+
+    fn machine(&self) -> Machine {
+        Fetch::machine(self)
+    }
 
     fn cell(&self, at: u16) -> Cell {
         read_cell(self, at)
@@ -29,6 +38,10 @@ impl<'a> Cells for FrameImage<'a> {
 
 impl<'a> Cells for RomImage<'a> {
     ghost words = { λ s. rom_word s };
+
+    fn machine(&self) -> Machine {
+        RomImage::machine(self)
+    }
 
     fn cell(&self, at: u16) -> Cell {
         read_cell(self, at)

@@ -16,7 +16,7 @@ use crate::rules::Rules;
 use crate::walk::walk;
 use dvg_cert::{Cert, Entries, Key};
 use dvg_items::{Item, Kind, Seen, has_callee, lit_in_window, place_known, scale_known, target};
-use dvg_words::{FrameImage, Instr, RomImage, Window};
+use dvg_words::{FrameImage, FrameOn, Instr, Machine, RomImage, Window};
 
 /// What is asked of a frame: how many words it may take at most, and in which window it may light.
 #[derive(Drop)]
@@ -114,6 +114,7 @@ pub struct Accepted {
 
 /// Judges a frame by entries: its words and its depth where it keeps all rules, else its first fault and what is known there.
 pub fn find_frame_fault<E: Entries>(
+    machine: Machine,
     frame: &FrameImage,
     entries: &E,
     budget: u32,
@@ -121,15 +122,15 @@ pub fn find_frame_fault<E: Entries>(
 ) -> Result<Accepted, FrameFinding>
     requires entries { IsSomeCertificate (E.list entries.now) }
     requires budget { budget ≤ MOST_WORDS }
-    ensures ok { IfOk result (λ yes. GoodFrame window.now frame.now (E.list entries.now) budget yes.words yes.depth) }
-    ensures err { IfErr result (FirstFrameFound window.now frame.now (E.list entries.now) budget) }
+    ensures ok { IfOk result (λ yes. GoodFrame window.now machine frame.now (E.list entries.now) budget yes.words yes.depth) }
+    ensures err { IfErr result (FirstFrameFound window.now machine frame.now (E.list entries.now) budget) }
     ensures sound { IfErr result (λ finding. IsSoundFound finding.found) }
 {
     let rules = FrameRules {
         budget,
         window: *window,
     };
-    match walk(frame, entries, &rules, 0) {
+    match walk(&FrameOn::new(machine, frame), entries, &rules, 0) {
         Ok(end) => Ok(Accepted {
             words: end.words,
             depth: end.depth,
@@ -161,13 +162,13 @@ pub fn check_frame<E: Entries>(
     requires entries { E.list entries.now ≡ cert.now.entries }
     requires map { rom.now.map ≡ cert.now.map }
     requires budget { budget ≤ MOST_WORDS }
-    ensures ok { IfOk result (λ yes. GoodFrame window.now frame.now cert.now.entries budget yes.words yes.depth) }
-    ensures err { IfErr result (FirstFrameFault window.now frame.now cert.now.entries budget) }
+    ensures ok { IfOk result (λ yes. GoodFrame window.now rom.now.machine frame.now cert.now.entries budget yes.words yes.depth) }
+    ensures err { IfErr result (FirstFrameFault window.now rom.now.machine frame.now cert.now.entries budget) }
 {
     let _map = rom.map();
     // Its clause says that the list is that of a certificate.
     let _entries = cert.entries();
-    match find_frame_fault(frame, entries, budget, window) {
+    match find_frame_fault(rom.machine(), frame, entries, budget, window) {
         Ok(accepted) => Ok(accepted),
         Err(finding) => Err(finding.fault),
     }

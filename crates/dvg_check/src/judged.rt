@@ -81,15 +81,16 @@ impl<'a, E: Entries> JudgedShapes<'a, E> {
     /// is known there: place, scale, words and depth before the item that breaks a rule, and what stands there (profile).
     pub fn find_fault(&self, frame: &FrameImage, budget: u32) -> Result<Accepted, FrameFinding>
         requires { budget ≤ MOST_WORDS }
-        ensures ok { IfOk result (λ yes. GoodFrame self.now.window frame.now self.now.list budget yes.words yes.depth) }
-        ensures err { IfErr result (FirstFrameFound self.now.window frame.now self.now.list budget) }
+        ensures ok { IfOk result (λ yes. GoodFrame self.now.window self.now.rom.machine frame.now self.now.list budget yes.words yes.depth) }
+        ensures err { IfErr result (FirstFrameFound self.now.window self.now.rom.machine frame.now self.now.list budget) }
         ensures sound { IfErr result (λ finding. IsSoundFound finding.found) }
         ensures safe { IfOk result (λ yes. Safe (record { frame = frame.now; rom = self.now.rom }) self.now.window yes.words yes.depth) }
         ensures exact { self.now.mode ≡ Exact → IfOk result (λ yes. CountsAtHalt (record { frame = frame.now; rom = self.now.rom }) yes.words yes.depth) }
     {
         // Its clause says that the frame is whole.
         let _words = frame.words();
-        find_frame_fault(frame, self.entries, budget, &self.window)
+        let machine = self.rom.machine();
+        find_frame_fault(machine, frame, self.entries, budget, &self.window)
     }
 
     /// Shapes that are known to be good in this mode, such as those that [`judge`](JudgedShapes::judge) took before, kept with
@@ -124,8 +125,8 @@ impl<'a, E: Entries> JudgedShapes<'a, E> {
     /// [`Exact`](Mode::Exact) it fetches just so many words, and has stored just so many return places at once. Takes no memory.
     pub fn check_frame(&self, frame: &FrameImage, budget: u32) -> Result<Accepted, FrameFault>
         requires { budget ≤ MOST_WORDS }
-        ensures ok { IfOk result (λ yes. GoodFrame self.now.window frame.now self.now.list budget yes.words yes.depth) }
-        ensures err { IfErr result (FirstFrameFault self.now.window frame.now self.now.list budget) }
+        ensures ok { IfOk result (λ yes. GoodFrame self.now.window self.now.rom.machine frame.now self.now.list budget yes.words yes.depth) }
+        ensures err { IfErr result (FirstFrameFault self.now.window self.now.rom.machine frame.now self.now.list budget) }
         ensures safe { IfOk result (λ yes. Safe (record { frame = frame.now; rom = self.now.rom }) self.now.window yes.words yes.depth) }
         ensures exact { self.now.mode ≡ Exact → IfOk result (λ yes. CountsAtHalt (record { frame = frame.now; rom = self.now.rom }) yes.words yes.depth) }
     {

@@ -4,6 +4,7 @@
 ghost use Rattle.dvg_check.specs.Rules.{Mode};
 ghost use Rattle.dvg_check.specs.Laws.{OneItem, OneShape, AllShapes, GoodIsSafe, ExactIsExact, OneFault, NoFault, OneShapeFault, NoShapeFault, OneCount, OneVerdict, StrokeInWindow, SafeStrokes, SafeStack};
 ghost use Rattle.dvg_check.specs.Example.{WorkedExample};
+ghost use Rattle.dvg_check.specs.MachinesExample.{WorkedMachines};
 
 use dvg_cert::laws::{one_answer, one_certificate};
 use dvg_words::laws::stack_within_max;
@@ -90,4 +91,11 @@ pub fn safe_stack()
 /// The worked example is good: a lit stroke as a shape of the ROM at 800, and a frame that calls it.
 pub fn worked_example()
     ensures { WorkedExample }
+{}
+
+/// Two worked frames without calls. The profile accepts one whose two draws of half a place end at the screen's edge, where the
+/// board, which draws a whole place each time, leaves the screen: it refuses the second with 46. The board accepts one that a LABS
+/// begins left of the screen, which the profile refuses with 41.
+pub fn worked_machines()
+    ensures { WorkedMachines }
 {}

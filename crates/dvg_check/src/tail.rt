@@ -22,7 +22,7 @@ ghost use Rattle.dvg_check.specs.Private.Tails.{ClaimsLess, known_at_end, claime
 use crate::fault::Mode;
 use dvg_cert::{End, Entries, Entry, Key, LitBox};
 use dvg_items::{Cursor, Item, Kind, LitExtent, box_corners, callee, joined, spanning};
-use dvg_words::{Instr, Point, Window, in_window, shift};
+use dvg_words::{Instr, Machine, Point, Window, in_window, shift};
 
 /// The place at the end of a tail, seen from the start of the item before it: `place` is the place past this item, and `stop` the
 /// end of the tail, seen from its own start.
@@ -148,12 +148,12 @@ fn box_of(extent: &LitExtent) -> Option<LitBox>
 
 /// An item at a key, told as the entry of a shape that has this item alone. `None` where no shape may have it: it is HALT, it calls
 /// an address where no entry is named, or it lights at unknown scale.
-pub fn last_item<E: Entries>(entries: &E, item: &Item, key: Key) -> Option<Entry>
+pub fn last_item<E: Entries>(machine: Machine, entries: &E, item: &Item, key: Key) -> Option<Entry>
     requires entries { IsSomeCertificate (E.list entries.now) }
     requires key { IsKey key }
     requires fields { InstrFits item.now.instr }
-    ensures value { IfSome result (λ first. first ≡ last_item (E.list entries.now) key first.lit item.now) }
-    ensures stands { IfSome result (λ first. (rom : Rom) →
+    ensures value { IfSome result (λ first. first ≡ last_item machine (E.list entries.now) key first.lit item.now) }
+    ensures stands { IfSome result (λ first. (rom : Rom) → rom.machine ≡ machine →
         cell_at (rom_word rom) item.now.at ≡ Holds item.now.format item.now.instr →
         MayStandFirst rom (E.list entries.now) key first.lit item.now) }
     ensures small { IfSome result (IsSmall 1) }
@@ -162,29 +162,29 @@ pub fn last_item<E: Entries>(entries: &E, item: &Item, key: Key) -> Option<Entry
         Instr::Halt => None,
         Instr::Jsrl { to } | Instr::Jmpl { to } => {
             let callee = callee(entries, Some(*to), key)?;
-            item_calling(item, key, Some(callee))
+            item_calling(machine, item, key, Some(callee))
         }
         // Draws are by themselves, so that their tails are made with no further look at what they are.
-        Instr::Draw(_) => item_calling(item, key, None),
-        Instr::Labs { .. } | Instr::Rtsl => item_calling(item, key, None),
+        Instr::Draw(_) => item_calling(machine, item, key, None),
+        Instr::Labs { .. } | Instr::Rtsl => item_calling(machine, item, key, None),
     }
 }
 
 /// An item at a key that calls this entry, or calls none, told as the entry of a shape that has this item alone. `None` where it
 /// lights at unknown scale.
 #[inline(always)]
-fn item_calling(item: &Item, key: Key, callee: Option<Entry>) -> Option<Entry>
+fn item_calling(machine: Machine, item: &Item, key: Key, callee: Option<Entry>) -> Option<Entry>
     requires key { IsKey key }
     requires callee { IfSome callee IsClaim }
     requires fields { InstrFits item.now.instr }
-    ensures value { IfSome result (λ first. first ≡ claimed item.now.at key first.lit (seen_with callee (start Shape key) item.now).after) }
-    ensures scale { IfSome result (λ first. ScaleKnown (seen_with callee (start Shape key) item.now).extent) }
-    ensures boxed { IfSome result (λ first. LitInBox first.lit (seen_with callee (start Shape key) item.now).extent
-        (seen_with callee (start Shape key) item.now).place) }
+    ensures value { IfSome result (λ first. first ≡ claimed item.now.at key first.lit (seen_with machine callee (start Shape key) item.now).after) }
+    ensures scale { IfSome result (λ first. ScaleKnown (seen_with machine callee (start Shape key) item.now).extent) }
+    ensures boxed { IfSome result (λ first. LitInBox first.lit (seen_with machine callee (start Shape key) item.now).extent
+        (seen_with machine callee (start Shape key) item.now).place) }
     ensures small { IfSome result (IsSmall 1) }
 {
     // What is seen of the first item doesn't depend on where it stands.
-    let seen = Cursor::start(Kind::Shape, 0, key).see(item.format, &item.instr, callee);
+    let seen = Cursor::start(Kind::Shape, 0, key).see(machine, item.format, &item.instr, callee);
     let lit = box_of(&seen.extent)?;
     Some(Entry {
         addr: item.at,

@@ -62,7 +62,7 @@ fn tail_at<E: Entries>(
     requires tails { AreTails window.now rom.now (E.list entries.now) tails.now.slots }
     ensures { IfSome result (IsTail window.now rom.now (E.list entries.now)) }
 {
-    let first = last_item(entries, item, key)?;
+    let first = last_item(rom.machine(), entries, item, key)?;
     match item.next_address(Kind::Shape) {
         Some(next) => after_item(window, &first, tail_kept(tails, next, first.scale)?),
         None => Some(first),

@@ -1,9 +1,9 @@
 //! The verdict on bytes.
 
 ghost use Rattle.std.specs.Prelude.{◌≡◌, ◌≤◌, OnOk, IfOk, IfErr};
-ghost use Rattle.dvg_words.specs.Memory.{words_of, rom_of};
+ghost use Rattle.dvg_words.specs.Memory.{words_of, rom_on};
 ghost use Rattle.dvg_check.specs.Rules.{Bound, Exact};
-ghost use Rattle.dvg_check.specs.Verdict.{InRange, RangeRefusal, PartsVerdict, RomVerdict, Verdict, SafeOver, CountsOver};
+ghost use Rattle.dvg_check.specs.Verdict.{InRange, RangeRefusal, PartsVerdict, RomVerdict, VerdictOn, Verdict, SafeOn, SafeOver, CountsOn, CountsOver};
 ghost use Rattle.dvg_check.specs.Numbers.{refusal_number};
 ghost use Rattle.dvg_check.specs.Safety.{Safe};
 ghost use Rattle.dvg_check.specs.Laws.{CountsAtHalt};
@@ -12,7 +12,7 @@ ghost use Rattle.dvg_check.specs.declared.verdict.Refusal.TheVariants as refusal
 use crate::fault::{FrameFault, Mode, ShapeFault};
 use crate::judged::JudgedShapes;
 use dvg_cert::{Cert, CertFault, HashIndex, MOST_WORDS, read_cert};
-use dvg_words::{FrameImage, ImageFault, RomImage, Window};
+use dvg_words::{FrameImage, ImageFault, Machine, RomImage, Window};
 use std::alloc::{AllocError, Global};
 use thiserror::Error;
 
@@ -121,8 +121,10 @@ pub fn frame_of(frame: &[u8], budget: u32) -> Result<FrameImage<'_>, Refusal>
     Ok(frame)
 }
 
-/// Judges a frame over the bytes of a vector ROM and of its certificate in a mode.
-fn check_in(
+/// Judges a frame over the bytes of a vector ROM and of its certificate on a machine in a mode, as [`check`] and [`check_exact`] do
+/// on the profile's machine.
+pub fn check_on(
+    machine: Machine,
     alloc: Global,
     rom: &[u8],
     cert: &[u8],
@@ -131,13 +133,13 @@ fn check_in(
     window: Window,
     mode: Mode,
 ) -> Result<Yes, Refusal>
-    ensures verdict { Verdict mode window rom.now cert.now frame.now budget result }
-    ensures safe { IfOk result (λ yes. SafeOver window rom.now cert.now frame.now yes.words yes.depth) }
-    ensures exact { mode ≡ Exact → IfOk result (λ yes. CountsOver rom.now cert.now frame.now yes.words yes.depth) }
+    ensures verdict { VerdictOn machine mode window rom.now cert.now frame.now budget result }
+    ensures safe { IfOk result (λ yes. SafeOn machine window rom.now cert.now frame.now yes.words yes.depth) }
+    ensures exact { mode ≡ Exact → IfOk result (λ yes. CountsOn machine rom.now cert.now frame.now yes.words yes.depth) }
 {
     let frame = frame_of(frame, budget)?;
     let cert = read_cert(alloc, cert)?;
-    check_rom(alloc, rom, &frame, &cert, budget, window, mode)
+    check_rom(machine, alloc, rom, &frame, &cert, budget, window, mode)
 }
 
 /// Judges a frame over the bytes of a vector ROM and the entries of its certificate in a mode, as [`check`] and [`check_exact`] do
@@ -147,6 +149,7 @@ fn check_in(
 /// two for each address of the certificate's map, else that of [`check_parts`] or [`check_parts_exact`]. It takes the memory that
 /// these take, and carries the same theorem.
 pub fn check_rom(
+    machine: Machine,
     alloc: Global,
     rom: &[u8],
     frame: &FrameImage,
@@ -156,11 +159,11 @@ pub fn check_rom(
     mode: Mode,
 ) -> Result<Yes, Refusal>
     requires { budget ≤ MOST_WORDS }
-    ensures verdict { RomVerdict mode window rom.now cert.now frame.now budget result }
-    ensures safe { IfOk result (λ yes. Safe (record { frame = frame.now; rom = rom_of cert.now.map rom.now }) window yes.words yes.depth) }
-    ensures exact { mode ≡ Exact → IfOk result (λ yes. CountsAtHalt (record { frame = frame.now; rom = rom_of cert.now.map rom.now }) yes.words yes.depth) }
+    ensures verdict { RomVerdict machine mode window rom.now cert.now frame.now budget result }
+    ensures safe { IfOk result (λ yes. Safe (record { frame = frame.now; rom = rom_on machine cert.now.map rom.now }) window yes.words yes.depth) }
+    ensures exact { mode ≡ Exact → IfOk result (λ yes. CountsAtHalt (record { frame = frame.now; rom = rom_on machine cert.now.map rom.now }) yes.words yes.depth) }
 {
-    let rom = RomImage::from_bytes(rom, cert.map())?;
+    let rom = RomImage::from_bytes_on(machine, rom, cert.map())?;
     check_parts_in(alloc, &rom, frame, cert, budget, window, mode)
 }
 
@@ -215,7 +218,16 @@ pub fn check(
     ensures verdict { Verdict Bound window rom.now cert.now frame.now budget result }
     ensures safe { IfOk result (λ yes. SafeOver window rom.now cert.now frame.now yes.words yes.depth) }
 {
-    check_in(alloc, rom, cert, frame, budget, window, Mode::Bound)
+    check_on(
+        Machine::Profile,
+        alloc,
+        rom,
+        cert,
+        frame,
+        budget,
+        window,
+        Mode::Bound,
+    )
 }
 
 /// Judges a frame over a vector ROM and the entries of its certificate, as [`check`] does from the shapes on.
@@ -258,7 +270,16 @@ pub fn check_exact(
     ensures safe { IfOk result (λ yes. SafeOver window rom.now cert.now frame.now yes.words yes.depth) }
     ensures exact { IfOk result (λ yes. CountsOver rom.now cert.now frame.now yes.words yes.depth) }
 {
-    check_in(alloc, rom, cert, frame, budget, window, Mode::Exact)
+    check_on(
+        Machine::Profile,
+        alloc,
+        rom,
+        cert,
+        frame,
+        budget,
+        window,
+        Mode::Exact,
+    )
 }
 
 /// Judges a frame over a vector ROM and the entries of its certificate, as [`check_exact`] does from the shapes on.

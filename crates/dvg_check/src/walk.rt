@@ -15,12 +15,13 @@ use crate::fault::{Fault, Found};
 use crate::rules::Rules;
 use dvg_cert::{Entries, Entry};
 use dvg_items::{Cursor, Kind, Known, Seen, Step, callee, target};
-use dvg_words::{Cell, Format, Instr};
+use dvg_words::{Cell, Format, Instr, Machine};
 
 /// Judges an instruction that calls this entry: the first rule that it breaks, or where it leads.
 #[inline(always)]
 fn judge_calling<R: Rules>(
     rules: &R,
+    machine: Machine,
     cursor: &Cursor,
     format: Format,
     instr: &Instr,
@@ -31,12 +32,12 @@ fn judge_calling<R: Rules>(
     requires near { cursor.now.at < ADDRESS_END }
     requires fields { InstrFits instr.now }
     requires callee { IfSome callee IsClaim }
-    ensures kept { IfOk result (KeepsAll (R.keeps rules.now) R.kind (seen_with callee cursor.now.known
+    ensures kept { IfOk result (KeepsAll (R.keeps rules.now) R.kind (seen_with machine callee cursor.now.known
         (record { at = cursor.now.at; format = format; instr = instr.now }))) }
-    ensures broken { IfErr result (BreaksFirst R.order (R.keeps rules.now) (seen_with callee cursor.now.known
+    ensures broken { IfErr result (BreaksFirst R.order (R.keeps rules.now) (seen_with machine callee cursor.now.known
         (record { at = cursor.now.at; format = format; instr = instr.now }))) }
 {
-    let seen = cursor.see(format, instr, callee);
+    let seen = cursor.see(machine, format, instr, callee);
     match rules.first_broken(&seen) {
         Some(why) => Err(why),
         None => Ok(seen.step(rules.kind())),
@@ -47,6 +48,7 @@ fn judge_calling<R: Rules>(
 #[inline(always)]
 fn judge<E: Entries, R: Rules>(
     rules: &R,
+    machine: Machine,
     callees: &mut Callees<E>,
     cursor: &Cursor,
     format: Format,
@@ -57,31 +59,39 @@ fn judge<E: Entries, R: Rules>(
     requires here { IsSoundCursor cursor.now }
     requires near { cursor.now.at < ADDRESS_END }
     requires fields { InstrFits instr.now }
-    ensures kept { IfOk result (KeepsAll (R.keeps rules.now) R.kind (seen_by callees.old R.kind cursor.now.known
+    ensures kept { IfOk result (KeepsAll (R.keeps rules.now) R.kind (seen_by machine callees.old R.kind cursor.now.known
         (record { at = cursor.now.at; format = format; instr = instr.now }))) }
-    ensures broken { IfErr result (BreaksFirst R.order (R.keeps rules.now) (seen_by callees.old R.kind cursor.now.known
+    ensures broken { IfErr result (BreaksFirst R.order (R.keeps rules.now) (seen_by machine callees.old R.kind cursor.now.known
         (record { at = cursor.now.at; format = format; instr = instr.now }))) }
     ensures same { callees.new ≡ callees.old }
 {
     match target(rules.kind(), instr) {
         Some(to) => {
             let callee = callees.named(to, cursor.known.scale);
-            judge_calling(rules, cursor, format, instr, callee)
+            judge_calling(rules, machine, cursor, format, instr, callee)
         }
-        None => judge_calling(rules, cursor, format, instr, None),
+        None => judge_calling(rules, machine, cursor, format, instr, None),
     }
 }
 
 /// What the rules see of the instruction at a cursor. The loop passes copies, so that it needs no address of what it goes by.
-fn see<E: Entries>(kind: Kind, entries: &E, here: Cursor, format: Format, instr: Instr) -> Seen
+fn see<E: Entries>(
+    kind: Kind,
+    machine: Machine,
+    entries: &E,
+    here: Cursor,
+    format: Format,
+    instr: Instr,
+) -> Seen
     requires entries { IsSomeCertificate (E.list entries.now) }
     requires here { IsSoundCursor here }
     requires near { here.at < ADDRESS_END }
     requires fields { InstrFits instr }
-    ensures value { result ≡ seen_by (E.list entries.now) kind here.known (record { at = here.at; format = format; instr = instr }) }
+    ensures value { result ≡ seen_by machine (E.list entries.now) kind here.known (record { at = here.at; format = format; instr = instr }) }
     ensures sound { IsSoundSeen result }
 {
     here.see(
+        machine,
         format,
         &instr,
         callee(entries, target(kind, &instr), here.known.scale),
@@ -98,15 +108,16 @@ pub fn walk<C: Cells, E: Entries, R: Rules>(
     requires entries { IsSomeCertificate (E.list entries.now) }
     requires rules { R.valid rules.now }
     requires first { first < ADDRESS_END }
-    ensures ok { IfOk result (λ known. WalksTo (record { kind = R.kind; list = E.list entries.now; scale = R.scale rules.now })
+    ensures ok { IfOk result (λ known. WalksTo (record { kind = R.kind; machine = (C.words cells.now).machine; list = E.list entries.now; scale = R.scale rules.now })
         (C.words cells.now) first (PlaceKeeps R.unmapped R.odd (R.keeps rules.now)
-        (record { kind = R.kind; list = E.list entries.now; scale = R.scale rules.now }) (C.words cells.now)) known) }
-    ensures err { IfErr result (λ fault. FaultFound R.order (record { kind = R.kind; list = E.list entries.now; scale = R.scale rules.now })
+        (record { kind = R.kind; machine = (C.words cells.now).machine; list = E.list entries.now; scale = R.scale rules.now }) (C.words cells.now)) known) }
+    ensures err { IfErr result (λ fault. FaultFound R.order (record { kind = R.kind; machine = (C.words cells.now).machine; list = E.list entries.now; scale = R.scale rules.now })
         (C.words cells.now) first (PlaceKeeps R.unmapped R.odd (R.keeps rules.now)
-        (record { kind = R.kind; list = E.list entries.now; scale = R.scale rules.now }) (C.words cells.now))
+        (record { kind = R.kind; machine = (C.words cells.now).machine; list = E.list entries.now; scale = R.scale rules.now }) (C.words cells.now))
         fault.at fault.why fault.before fault.found) }
     ensures sound { IfErr result (λ fault. IsSoundFound fault.found) }
 {
+    let machine = cells.machine();
     let mut callees = Callees::new(entries);
     let mut cursor = Cursor::start(rules.kind(), first, rules.scale());
     'items: loop {
@@ -130,9 +141,9 @@ pub fn walk<C: Cells, E: Entries, R: Rules>(
             }
             Cell::Holds { format, instr } => (format, instr),
         };
-        match judge(rules, &mut callees, &cursor, format, &instr) {
+        match judge(rules, machine, &mut callees, &cursor, format, &instr) {
             Err(why) => {
-                let seen = see(rules.kind(), entries, cursor, format, instr);
+                let seen = see(rules.kind(), machine, entries, cursor, format, instr);
                 return Err(Fault {
                     at,
                     why,

@@ -1,6 +1,7 @@
 -- The verdict on what was read is the one on all, and what is reported of it, over plain values.
 use Rattle.std.proofs.Common.{Option, List, [], None, Some, subst, ◌≡◌, ℕ}
 use Rattle.std.specs.Prelude.{Result, IfOk, IfSome, Ok, Err}
+use Rattle.dvg_words.specs.declared.machine.Machine.TheVariants.{Profile}
 use Rattle.dvg_words.specs.Memory.{Memory, words_of, rom_of}
 use Rattle.dvg_words.specs.Values.{Window}
 use Rattle.dvg_words.specs.declared.image.ImageFault.TheVariants.{RomLength, FrameLength}
@@ -33,7 +34,7 @@ judges mode w budget v rb cb fb rom cert frame_held is =
     }
 
 -- what the ROM and the frame come to by the certificate is the verdict
-of_cert : (mode : Mode) (w : Window) (rb cb fb : List ℕ) (budget : ℕ) (v : Result Yes Refusal) → CertVerdict mode w rb cb fb budget v → Verdict mode w rb cb fb budget v
+of_cert : (mode : Mode) (w : Window) (rb cb fb : List ℕ) (budget : ℕ) (v : Result Yes Refusal) → CertVerdict Profile mode w rb cb fb budget v → Verdict mode w rb cb fb budget v
 of_cert mode w rb cb fb budget (Ok y) h = h
 of_cert mode w rb cb fb budget (Err refusal.IndexMemory) h = h
 of_cert mode w rb cb fb budget (Err (refusal.Shape f)) h = h
@@ -53,7 +54,7 @@ module _ (mode : Mode) (w : Window) (budget : ℕ) (rb fb : List ℕ) (rom frame
   -- out of range: the ROM and the certificate are nothing to the verdict
   pub judges_range : (cert : Option (List ℕ)) (r : Refusal) → RangeRefusal fb budget r → Judges mode w rom cert frame_held budget (Err r)
   judges_range cert r h =
-      judges mode w budget (Err r) rb [] fb rom cert frame_held (out_of_range mode w (held_bytes rom rb) (held_bytes cert []) (held_bytes frame_held fb) budget r (range_whole budget fb (held_bytes frame_held fb) frame_prefix r h))
+      judges mode w budget (Err r) rb [] fb rom cert frame_held (out_of_range Profile mode w (held_bytes rom rb) (held_bytes cert []) (held_bytes frame_held fb) budget r (range_whole budget fb (held_bytes frame_held fb) frame_prefix r h))
 
   -- the certificate was refused
   pub judges_refused : PrefixRefusal → (cert left : Option (List ℕ)) (f : CertFault) → InRange fb budget → ReadsText cert left (Err f) → Judges mode w rom cert frame_held budget (Err (refusal.Cert f))
@@ -64,19 +65,19 @@ module _ (mode : Mode) (w : Window) (budget : ℕ) (rb fb : List ℕ) (rom frame
       )
 
   -- the certificate was taken
-  pub judges_cert : (cert left : Option (List ℕ)) (c : Certificate) (v : Result Yes Refusal) → InRange fb budget → ReadsText cert left (Ok c) → RomVerdict mode w rb c (words_of fb) budget v → Judges mode w rom cert frame_held budget v
+  pub judges_cert : (cert left : Option (List ℕ)) (c : Certificate) (v : Result Yes Refusal) → InRange fb budget → ReadsText cert left (Ok c) → RomVerdict Profile mode w rb c (words_of fb) budget v → Judges mode w rom cert frame_held budget v
   judges_cert cert left c v range text h =
       judges mode w budget v rb text.bytes fb rom cert frame_held (of_cert mode w (held_bytes rom rb) (held_bytes cert text.bytes) (held_bytes frame_held fb) budget v (record {
         in_range = in_range budget fb (held_bytes frame_held fb) frame_prefix range;
         certificate = c;
         spells = subst (λ (x : List ℕ). Spells c x) ((text_of_held cert left (Ok c) text).whole tt) text.is;
-        by_it = subst (λ (x : List ℕ). RomVerdict mode w (held_bytes rom rb) c (words_of x) budget v) (frame_same budget fb (held_bytes frame_held fb) frame_prefix range.frame_length) (rom_whole rb (held_bytes rom rb) rom_prefix c text.is.0.map_is mode w (words_of fb) budget v h);
+        by_it = subst (λ (x : List ℕ). RomVerdict Profile mode w (held_bytes rom rb) c (words_of x) budget v) (frame_same budget fb (held_bytes frame_held fb) frame_prefix range.frame_length) (rom_whole rb (held_bytes rom rb) rom_prefix c text.is.0.map_is mode w (words_of fb) budget v h);
       }))
 
 -- ---- safety and exact counts
 
 -- what holds of the memory that was read holds of all
-over : (P : Yes → Memory → Type 0) (mode : Mode) (w : Window) (budget : ℕ) (v : Result Yes Refusal) (rb fb : List ℕ) (c : Certificate) (cert left : Option (List ℕ)) → InRange fb budget → ReadsText cert left (Ok c) → RomVerdict mode w rb c (words_of fb) budget v → IfOk v (λ yes. P yes (record { frame = words_of fb; rom = rom_of c.map rb }))
+over : (P : Yes → Memory → Type 0) (mode : Mode) (w : Window) (budget : ℕ) (v : Result Yes Refusal) (rb fb : List ℕ) (c : Certificate) (cert left : Option (List ℕ)) → InRange fb budget → ReadsText cert left (Ok c) → RomVerdict Profile mode w rb c (words_of fb) budget v → IfOk v (λ yes. P yes (record { frame = words_of fb; rom = rom_of c.map rb }))
     → (rom frame_held : Option (List ℕ)) → IsPrefix 4097 rom rb → IsPrefix 2049 frame_held fb → IfOk v (λ yes. IfSome rom (λ r. IfSome cert (λ t. IfSome frame_held (λ f. (d : Certificate) × Spells d t × P yes (record { frame = words_of f; rom = rom_of d.map r })))))
 over P mode w budget (Err r) rb fb c cert left range text h holds rom frame_held rom_read frame_read = tt
 over P mode w budget (Ok y) rb fb c cert left range text h holds None frame_held rom_read frame_read = tt
@@ -90,10 +91,10 @@ over P mode w budget (Ok y) rb fb c (Some t) left range text h holds (Some r) (S
       subst (λ (x : List ℕ). P y (record { frame = words_of f; rom = rom_of c.map x })) same_rom (subst (λ (x : List ℕ). P y (record { frame = words_of x; rom = rom_of c.map rb })) same_frame holds),
     )
 
-pub safe_read : (mode : Mode) (w : Window) (budget : ℕ) (v : Result Yes Refusal) (rb fb : List ℕ) (c : Certificate) (cert left : Option (List ℕ)) → InRange fb budget → ReadsText cert left (Ok c) → RomVerdict mode w rb c (words_of fb) budget v → IfOk v (λ yes. Safe (record { frame = words_of fb; rom = rom_of c.map rb }) w yes.words yes.depth)
+pub safe_read : (mode : Mode) (w : Window) (budget : ℕ) (v : Result Yes Refusal) (rb fb : List ℕ) (c : Certificate) (cert left : Option (List ℕ)) → InRange fb budget → ReadsText cert left (Ok c) → RomVerdict Profile mode w rb c (words_of fb) budget v → IfOk v (λ yes. Safe (record { frame = words_of fb; rom = rom_of c.map rb }) w yes.words yes.depth)
     → (rom frame_held : Option (List ℕ)) → IsPrefix 4097 rom rb → IsPrefix 2049 frame_held fb → IfOk v (SafeRead w rom cert frame_held)
 safe_read mode w = over (λ y m. Safe m w y.words y.depth) mode w
 
-pub counts_read : (mode : Mode) (w : Window) (budget : ℕ) (v : Result Yes Refusal) (rb fb : List ℕ) (c : Certificate) (cert left : Option (List ℕ)) → InRange fb budget → ReadsText cert left (Ok c) → RomVerdict mode w rb c (words_of fb) budget v → IfOk v (λ yes. CountsAtHalt (record { frame = words_of fb; rom = rom_of c.map rb }) yes.words yes.depth)
+pub counts_read : (mode : Mode) (w : Window) (budget : ℕ) (v : Result Yes Refusal) (rb fb : List ℕ) (c : Certificate) (cert left : Option (List ℕ)) → InRange fb budget → ReadsText cert left (Ok c) → RomVerdict Profile mode w rb c (words_of fb) budget v → IfOk v (λ yes. CountsAtHalt (record { frame = words_of fb; rom = rom_of c.map rb }) yes.words yes.depth)
     → (rom frame_held : Option (List ℕ)) → IsPrefix 4097 rom rb → IsPrefix 2049 frame_held fb → IfOk v (CountsRead rom cert frame_held)
 counts_read = over (λ y m. CountsAtHalt m y.words y.depth)

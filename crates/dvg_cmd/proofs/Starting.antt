@@ -1,6 +1,7 @@
 -- The word that a start puts in, over plain values.
 use Rattle.std.proofs.Common.{◌≡◌, ◌+◌, ◌*◌, ◌/◌, ◌%◌, ◌<◌, ℕ, [], ◌∷◌, Option, Some, arith}
 use Rattle.dvg_words.specs.Decoding.{opcode, target_of, instruction_of, cell_at, cell_of_words}
+use Rattle.dvg_words.specs.declared.machine.Machine.{Machine}
 use Rattle.dvg_words.specs.declared.instruction.Cell.TheVariants.{Holds}
 use Rattle.dvg_words.specs.declared.instruction.Format.TheVariants.{Short}
 use Rattle.dvg_words.specs.declared.instruction.Instr.TheVariants.{Jmpl}
@@ -12,12 +13,12 @@ jump_opcode addr few = omega arith
 jump_target : (addr : ℕ) → addr < 4096 → target_of (addr % 256 + 256 * (224 + addr / 256 % 16)) ≡ addr
 jump_target addr few = omega arith
 
-jump_cell : (first : ℕ) (second : Option ℕ) (to : ℕ) → opcode first ≡ 14 → target_of first ≡ to → cell_of_words (Some first) second ≡ Holds Short (Jmpl to)
+jump_cell : (machine : Machine) (first : ℕ) (second : Option ℕ) (to : ℕ) → opcode first ≡ 14 → target_of first ≡ to → cell_of_words machine (Some first) second ≡ Holds Short (Jmpl to)
 unfolding instruction_of
-jump_cell first second to op target = simp (op, target)
+jump_cell machine first second to op target = simp (op, target)
 
 pub start_is_jump : StartIsJump
 unfolding cell_at
-start_is_jump addr [] few some = absurd (omega arith)
-start_is_jump addr (low ∷ []) few some = absurd (omega arith)
-start_is_jump addr (low ∷ high ∷ rest) few some = jump_cell _ _ addr (jump_opcode addr few) (jump_target addr few)
+start_is_jump machine addr [] few some = absurd (omega arith)
+start_is_jump machine addr (low ∷ []) few some = absurd (omega arith)
+start_is_jump machine addr (low ∷ high ∷ rest) few some = jump_cell machine _ _ addr (jump_opcode addr few) (jump_target addr few)

@@ -87,7 +87,7 @@ MayJudgeOver shapes c rom mode details.Account =
 -- the frame is good by the list; every run is safe with these counts, and has just these where the shapes are good in exact mode
 pub record IsAcceptedOver (shapes : Shapes) (bytes : List ℕ) (budget : ℕ) (y : Yes) : Type 0 where
   pub in_range : InRange bytes budget
-  pub good : GoodFrame shapes.window (words_of bytes) shapes.list budget y.words y.depth
+  pub good : GoodFrame shapes.window shapes.rom.machine (words_of bytes) shapes.list budget y.words y.depth
   pub safe : Safe (record { frame = words_of bytes; rom = shapes.rom }) shapes.window y.words y.depth
   pub exact : shapes.mode ≡ Exact → CountsAtHalt (record { frame = words_of bytes; rom = shapes.rom }) y.words y.depth
 
@@ -97,7 +97,7 @@ VerdictOver shapes count bytes budget (Ok y) = IsAcceptedOver shapes bytes budge
 VerdictOver shapes count bytes budget (Err (Check (refusal.Image FrameLength))) = RangeRefusal bytes budget (refusal.Image FrameLength)
 VerdictOver shapes count bytes budget (Err (Check refusal.BudgetRange)) = RangeRefusal bytes budget refusal.BudgetRange
 VerdictOver shapes count bytes budget (Err (Check (refusal.Frame f))) =
-    InRange bytes budget × FirstFrameFault shapes.window (words_of bytes) shapes.list budget f
+    InRange bytes budget × FirstFrameFault shapes.window shapes.rom.machine (words_of bytes) shapes.list budget f
 VerdictOver shapes count bytes budget (Err r) = ⊥
 
 -- ---- what is written

@@ -20,7 +20,7 @@ use dvg_cert::{Cert, Entries};
 use dvg_check::{JudgedShapes, Mode, Refusal, Yes, frame_of};
 use dvg_explain::{RomAccount, explain_frame};
 use dvg_make::{FrameRefusal, explain_judging, judge};
-use dvg_words::{FrameImage, RomImage, RomMap, Window};
+use dvg_words::{FrameImage, Machine, RomImage, RomMap, Window};
 use std::alloc::Global;
 
 /// A judge of frames over a vector ROM.
@@ -143,9 +143,17 @@ fn explain_by_own(
     ensures behind { IsBehind details.Account result.1 }
 {
     let (verdict, making) = judge_own(alloc, own, frame);
-    let account = own_text(
-        alloc, own.rom, own.map, frame, own.budget, own.window, &verdict, making,
-    );
+    let inputs = Inputs {
+        machine: Machine::Profile,
+        rom: own.rom,
+        map: Some(own.map),
+        cert: None,
+        frame,
+        budget: own.budget,
+        window: own.window,
+        mode: Mode::Exact,
+    };
+    let account = own_text(alloc, &inputs, &verdict, making);
     (verdict, Behind::of(account))
 }
 
@@ -254,6 +262,7 @@ fn account_over<E: Entries>(
     ensures { IsBehind details.Account result }
 {
     let inputs = Inputs {
+        machine: Machine::Profile,
         rom: given.rom,
         map: Some(given.cert.map()),
         cert: Some(given.cert),

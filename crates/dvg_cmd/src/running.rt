@@ -3,6 +3,7 @@
 ghost use Rattle.std.specs.Prelude.{◌≡◌, ◌≢◌, ◌≤◌, ◌++◌, ℕ, List, Option, Ok, Err, IfOk, IfErr, OnOk, OnErr, is_err, true};
 ghost use Rattle.std.specs.Io.KnownBytes.{Appends};
 ghost use Rattle.dvg_words.specs.Memory.{rom_of};
+ghost use Rattle.dvg_words.specs.declared.machine.Machine.TheVariants.{Profile};
 ghost use Rattle.dvg_cert.specs.declared.limits.TheConstants.{MOST_WORDS};
 ghost use Rattle.dvg_check.specs.Safety.{Safe, CountsAtHalt};
 ghost use Rattle.dvg_check.specs.Verdict.{RomVerdict};
@@ -24,7 +25,7 @@ use dvg_cert::{Cert, CountedRead, CountedWrite, write_lines};
 use dvg_check::{Mode, Refusal, Yes, frame_of};
 use dvg_explain::{RomAccount, explain_rom};
 use dvg_spelling::{Outcome, RunFault, outcome_of, report_of};
-use dvg_words::{FrameImage, RomMap, Window};
+use dvg_words::{FrameImage, Machine, RomMap, Window};
 use std::alloc::Global;
 use std::io;
 
@@ -71,7 +72,7 @@ fn judge_rom(
     options: &CheckOptions,
 ) -> (Result<Yes, Refusal>, Option<RomAccount>)
     requires { options.now.budget ≤ MOST_WORDS }
-    ensures verdict { RomVerdict options.now.mode options.now.window rom.now cert.now frame.now options.now.budget result.0 }
+    ensures verdict { RomVerdict Profile options.now.mode options.now.window rom.now cert.now frame.now options.now.budget result.0 }
     ensures safe { IfOk result.0 (λ yes. Safe (record { frame = frame.now; rom = rom_of cert.now.map rom.now }) options.now.window yes.words yes.depth) }
     ensures exact { options.now.mode ≡ Exact → IfOk result.0 (λ yes. CountsAtHalt (record { frame = frame.now; rom = rom_of cert.now.map rom.now }) yes.words yes.depth) }
 {
@@ -80,7 +81,17 @@ fn judge_rom(
         window,
         mode,
     } = *options;
-    match explain_rom(alloc, rom, frame, cert, budget, window, mode) {
+    let judged = explain_rom(
+        Machine::Profile,
+        alloc,
+        rom,
+        frame,
+        cert,
+        budget,
+        window,
+        mode,
+    );
+    match judged {
         Ok(yes) => (Ok(yes), None),
         Err(cause) => (Err(cause.refusal()), Some(cause)),
     }
@@ -152,6 +163,7 @@ fn account_of(
         return Behind::Nothing;
     }
     let inputs = Inputs {
+        machine: Machine::Profile,
         rom,
         map: judged.map(),
         cert: judged.cert.as_ref(),

@@ -20,7 +20,7 @@ use dvg_account::{Inputs, refusal_text};
 use dvg_cert::{Cert, CertFault, CountedRead, CountedWrite, HashIndex};
 use dvg_check::{JudgedShapes, Mode, Refusal};
 use dvg_spelling::{FrameOutcome, RunFault};
-use dvg_words::{RomImage, Window};
+use dvg_words::{Machine, RomImage, Window};
 use std::alloc::Global;
 
 /// A frame whose turn it is.
@@ -161,6 +161,7 @@ fn refusal_account(
         return Behind::Nothing;
     }
     let inputs = Inputs {
+        machine: Machine::Profile,
         rom,
         map: cert.map(|cert| cert.map()),
         cert,

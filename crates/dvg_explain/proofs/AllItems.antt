@@ -1,4 +1,5 @@
 -- All items from a place on are determined, and so are the calls among them.
+use Rattle.dvg_words.specs.Values.{Source}
 use Rattle.std.proofs.Common.{◌≡◌, ℕ, ◌<◌, List, [], ◌∷◌, length, Option, refl, sym, ap, ◌∙◌, subst, arith, ⊎_elim}
 use Rattle.std.proofs.lemmas.Bool.{cases_lt}
 use Rattle.dvg_words.specs.Decoding.{cell_at}
@@ -8,7 +9,7 @@ use Rattle.dvg_items.specs.Items.{LeadsTo}
 use Rattle.dvg_items.proofs.Leading.{item_same, same_lead}
 use Rattle.dvg_explain.specs.Calls.{Stand, AreAll}
 
-module _ (kind : Kind) (word : ℕ → Option ℕ) (first : ℕ) where
+module _ (kind : Kind) (word : Source) (first : ℕ) where
   pub stand_before : (items : List Item) (p : ℕ) → LeadsTo kind word first items p → Stand kind word first items
   stand_before [] p h = tt
   stand_before (i ∷ earlier) p h = (h.0, h.1)

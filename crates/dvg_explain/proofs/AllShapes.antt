@@ -32,12 +32,12 @@ module _ (rom : Rom) (list : List Entry) where
       record { holds = λ e listed. subst (HoldsShape rom list box) listed.2 (h.holds listed.0 e (omega (arith, le)) listed.1); least = h.least }
 
   wider : (a b : LitBox) → IsInside a b → (e : Entry) → HoldsShape rom list a e → HoldsShape rom list b e
-  wider a b inside e h items all = all_map (InBox a) (InBox b) (absolute_points (shape_context list e) items) (λ p. in_wider a b p inside) (h items all)
+  wider a b inside e h items all = all_map (InBox a) (InBox b) (absolute_points (shape_context rom.machine list e) items) (λ p. in_wider a b p inside) (h items all)
 
   -- what one entry's shape lights
-  module _ (e : Entry) (one : LitBox) (extent : IsExtent (shape_context list e) (rom_word rom) e.addr one) where
+  module _ (e : Entry) (one : LitBox) (extent : IsExtent (shape_context rom.machine list e) (rom_word rom) e.addr one) where
     one_holds : HoldsShape rom list one e
-    one_holds items all = subst (λ x. HoldsAll one (absolute_points (shape_context list e) x)) (one_all Shape (rom_word rom) e.addr extent.0 items extent.1 all) extent.2.holds
+    one_holds items all = subst (λ x. HoldsAll one (absolute_points (shape_context rom.machine list e) x)) (one_all Shape (rom_word rom) e.addr extent.0 items extent.1 all) extent.2.holds
 
     one_inside : Contains list e → (other : LitBox) → HoldsShapes rom list other → IsInside one other
     one_inside listed other h = extent.2.least other (h e listed extent.0 extent.1)

@@ -26,13 +26,13 @@ use Rattle.dvg_explain.proofs.Walking.{Walked, seen_is, here_leads, here_stands}
 
 module _ (rom : Rom) (list : List Entry) (e : Entry) where
   abbrev here_in : Context
-  here_in = shape_context list e
+  here_in = shape_context rom.machine list e
 
   -- no call of these items does
   abbrev pub NoneBears : List Item → Type 0
   NoneBears items = AllByRecursion (BearsNot rom list e) (calls_among here_in items)
 
-  module _ (items : List Item) (here : Cursor) (w : Walked here_in (rom_word rom) e.addr items here) (v : Seen) (s : IsSeenAt list Shape (rom_word rom) here v) (before : NoneBears items) where
+  module _ (items : List Item) (here : Cursor) (w : Walked here_in (rom_word rom) e.addr items here) (v : Seen) (s : IsSeenAt rom.machine list Shape (rom_word rom) here v) (before : NoneBears items) where
     callee_is : v.callee ≡ callee here_in items v.item.instr
     callee_is = ap (λ (x : Seen). x.callee) (seen_is here_in (rom_word rom) e.addr items here w v s)
 
@@ -83,7 +83,7 @@ module _ (rom : Rom) (list : List Entry) (e : Entry) (most : ℕ) where
         let c = here.0.calls in
         subst (λ (cs : List Call). Down cs call.entry (count + 1)) (sym is)
         (record {
-          claim = listed_claim list call.entry some (named_listed list (target Shape c.item.instr) (scale_before (shape_context list last) c.earlier) call.entry c.callee_is);
+          claim = listed_claim list call.entry some (named_listed list (target Shape c.item.instr) (scale_before (shape_context rom.machine list last) c.earlier) call.entry c.callee_is);
           goes = λ left rest all g. subst (λ (cs : List Call). GoDeepest most rom list e cs) (sym (append_assoc calls (call ∷ []) rest)) (down.goes (suc left) (call ∷ rest) (omega (arith, all)) (here, g));
         })
 

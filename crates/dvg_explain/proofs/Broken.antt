@@ -1,4 +1,5 @@
 -- The rule that a finding names is broken by what stands there.
+use Rattle.dvg_words.specs.declared.machine.Machine.{Machine}
 use Rattle.std.proofs.Common.{sym, ◌≡◌, ◌≢◌, ℕ, List, Option, None, Some, ap, ◌∙◌, subst, arith, ⊎_elim}
 use Rattle.std.proofs.lemmas.Bool.{cases_lt}
 use Rattle.dvg_words.specs.Values.{Window}
@@ -41,24 +42,24 @@ only {Why} number rule back why one h = sym (back why) ∙ ap rule same ∙ back
         (cases_lt (number one) (number why)))
         (cases_lt (number why) (number one))
 
-module _ (w : Window) (words : List ℕ) (list : List Entry) (budget : ℕ) (f : FrameFinding) (h : FirstFrameFound w words list budget f) where
+module _ (w : Window) (machine : Machine) (words : List ℕ) (list : List Entry) (budget : ℕ) (f : FrameFinding) (h : FirstFrameFound w machine words list budget f) where
   -- what the cell at the place does not keep
-  breaks_at : (c : Cell) → cell_at (frame_word words) f.fault.word ≡ c
-      → CellKeeps frame.Unmapped frame.Odd (λ i. FrameKeeps w budget (seen_at (frame_context list) h.fault.items i)) f.fault.word c f.fault.why → ⊥
-  breaks_at c is = subst (λ x. CellKeeps frame.Unmapped frame.Odd (λ i. FrameKeeps w budget (seen_at (frame_context list) h.fault.items i)) f.fault.word x f.fault.why → ⊥) is h.fault.breaks
+  breaks_at : (c : Cell) → cell_at (frame_word machine words) f.fault.word ≡ c
+      → CellKeeps frame.Unmapped frame.Odd (λ i. FrameKeeps w budget (seen_at (frame_context machine list) h.fault.items i)) f.fault.word c f.fault.why → ⊥
+  breaks_at c is = subst (λ x. CellKeeps frame.Unmapped frame.Odd (λ i. FrameKeeps w budget (seen_at (frame_context machine list) h.fault.items i)) f.fault.word x f.fault.why → ⊥) is h.fault.breaks
 
-  module _ (v : SeenItem) (at_is : v.item.at ≡ f.fault.word) (stands : cell_at (frame_word words) f.fault.word ≡ cell.Holds v.item.format v.item.instr)
-      (seen : v ≡ seen_at (frame_context list) h.fault.items v.item) where
+  module _ (v : SeenItem) (at_is : v.item.at ≡ f.fault.word) (stands : cell_at (frame_word machine words) f.fault.word ≡ cell.Holds v.item.format v.item.instr)
+      (seen : v ≡ seen_at (frame_context machine list) h.fault.items v.item) where
     same_item : v.item ≡ record { at = f.fault.word; format = v.item.format; instr = v.item.instr }
     same_item = ap (λ at. record { at = at; format = v.item.format; instr = v.item.instr }) at_is
 
-    same_seen : v ≡ seen_at (frame_context list) h.fault.items (record { at = f.fault.word; format = v.item.format; instr = v.item.instr })
-    same_seen = seen ∙ ap (λ i. seen_at (frame_context list) h.fault.items i) same_item
+    same_seen : v ≡ seen_at (frame_context machine list) h.fault.items (record { at = f.fault.word; format = v.item.format; instr = v.item.instr })
+    same_seen = seen ∙ ap (λ i. seen_at (frame_context machine list) h.fault.items i) same_item
 
     seen_breaks : FrameKeeps w budget v f.fault.why → ⊥
     seen_breaks keeps = breaks_at (cell.Holds v.item.format v.item.instr) stands (subst (λ x. FrameKeeps w budget x f.fault.why) same_seen keeps)
 
-  broken_at : (found : Found) → IsFound (frame_context list) (frame_word words) h.fault.items f.fault.word found → IsBrokenAt w budget f found
+  broken_at : (found : Found) → IsFound (frame_context machine list) (frame_word machine words) h.fault.items f.fault.word found → IsBrokenAt w budget f found
   broken_at Missing stands = only frame_number rule_of rule_of-number f.fault.why frame.Unmapped (breaks_at cell.Missing stands)
   broken_at Odd stands = only frame_number rule_of rule_of-number f.fault.why frame.Odd (breaks_at cell.Odd stands)
   broken_at (Seen v) stands = seen_breaks v stands.0 stands.1 stands.2
@@ -70,23 +71,23 @@ module _ (w : Window) (words : List ℕ) (list : List Entry) (budget : ℕ) (f :
 
 module _ (mode : Mode) (w : Window) (rom : Rom) (list : List Entry) (f : ShapeFinding) (h : FirstShapeFound mode w rom list f) where
   shape_breaks_at : (c : Cell) → cell_at (rom_word rom) f.fault.word ≡ c
-      → CellKeeps shape.Unmapped shape.Odd (λ i. ShapeKeeps mode w f.entry (seen_at (shape_context list f.entry) h.first.fault.items i)) f.fault.word c f.fault.why → ⊥
+      → CellKeeps shape.Unmapped shape.Odd (λ i. ShapeKeeps mode w f.entry (seen_at (shape_context rom.machine list f.entry) h.first.fault.items i)) f.fault.word c f.fault.why → ⊥
   shape_breaks_at c is =
-      subst (λ x. CellKeeps shape.Unmapped shape.Odd (λ i. ShapeKeeps mode w f.entry (seen_at (shape_context list f.entry) h.first.fault.items i)) f.fault.word x f.fault.why → ⊥) is
+      subst (λ x. CellKeeps shape.Unmapped shape.Odd (λ i. ShapeKeeps mode w f.entry (seen_at (shape_context rom.machine list f.entry) h.first.fault.items i)) f.fault.word x f.fault.why → ⊥) is
       (subst (λ e. ShapePlaceKeeps mode w rom list e h.first.fault.items f.fault.word f.fault.why → ⊥) (sym h.entry) h.first.fault.breaks)
 
   module _ (v : SeenItem) (at_is : v.item.at ≡ f.fault.word) (stands : cell_at (rom_word rom) f.fault.word ≡ cell.Holds v.item.format v.item.instr)
-      (seen : v ≡ seen_at (shape_context list f.entry) h.first.fault.items v.item) where
+      (seen : v ≡ seen_at (shape_context rom.machine list f.entry) h.first.fault.items v.item) where
     shape_same_item : v.item ≡ record { at = f.fault.word; format = v.item.format; instr = v.item.instr }
     shape_same_item = ap (λ at. record { at = at; format = v.item.format; instr = v.item.instr }) at_is
 
-    shape_same_seen : v ≡ seen_at (shape_context list f.entry) h.first.fault.items (record { at = f.fault.word; format = v.item.format; instr = v.item.instr })
-    shape_same_seen = seen ∙ ap (λ i. seen_at (shape_context list f.entry) h.first.fault.items i) shape_same_item
+    shape_same_seen : v ≡ seen_at (shape_context rom.machine list f.entry) h.first.fault.items (record { at = f.fault.word; format = v.item.format; instr = v.item.instr })
+    shape_same_seen = seen ∙ ap (λ i. seen_at (shape_context rom.machine list f.entry) h.first.fault.items i) shape_same_item
 
     shape_seen_breaks : ShapeKeeps mode w f.entry v f.fault.why → ⊥
     shape_seen_breaks keeps = shape_breaks_at (cell.Holds v.item.format v.item.instr) stands (subst (λ x. ShapeKeeps mode w f.entry x f.fault.why) shape_same_seen keeps)
 
-  shape_broken_at : (found : Found) → IsFound (shape_context list f.entry) (rom_word rom) h.first.fault.items f.fault.word found → IsShapeBrokenAt mode w f found
+  shape_broken_at : (found : Found) → IsFound (shape_context rom.machine list f.entry) (rom_word rom) h.first.fault.items f.fault.word found → IsShapeBrokenAt mode w f found
   shape_broken_at Missing stands = only shape_number shape_rule_of shape_rule_of-number f.fault.why shape.Unmapped (shape_breaks_at cell.Missing stands)
   shape_broken_at Odd stands = only shape_number shape_rule_of shape_rule_of-number f.fault.why shape.Odd (shape_breaks_at cell.Odd stands)
   shape_broken_at (Seen v) stands = shape_seen_breaks v stands.0 stands.1 stands.2

@@ -1,4 +1,5 @@
 -- What a frame comes to, link after link: each link is a step, and in the end no entry that the frame comes to is left out.
+use Rattle.dvg_words.specs.Values.{Source}
 use Rattle.std.proofs.Common.{◌≡◌, ℕ, ◌<◌, ◌≤◌, List, [], ◌∷◌, ◌++◌, length, Option, Some, None, refl, sym, ap, ◌∙◌, subst, arith, ⊎_elim}
 use Rattle.std.proofs.lemmas.Bool.{cases_lt}
 use Rattle.std.specs.List.{AllByRecursion}
@@ -21,7 +22,7 @@ use Rattle.dvg_explain.proofs.Linking.{at_or_new, at_still, reach_keeps}
 
 -- ---- the calls of all items
 
-module _ (c : Context) (word : ℕ → Option ℕ) (first : ℕ) where
+module _ (c : Context) (word : Source) (first : ℕ) where
   one_call : (i : Item) (earlier : List Item) → Stand c.kind word first (i ∷ earlier) → (o : Option Entry) → callee c earlier i.instr ≡ o → AllByRecursion (Calls c word first) (call_of i o)
   one_call i earlier h None e = tt
   one_call i earlier h (Some f) e = (record { earlier = earlier; item = i; leads = h.0; stands = h.1; at = refl; callee_is = e }, tt)

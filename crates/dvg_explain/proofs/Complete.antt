@@ -1,4 +1,6 @@
 -- No entry that a frame comes to is left out.
+use Rattle.dvg_words.specs.declared.machine.Machine.{Machine}
+use Rattle.dvg_words.specs.Values.{Source}
 use Rattle.std.proofs.Common.{◌≡◌, ℕ, zero, suc, ◌+◌, ◌<◌, ◌≤◌, Bool, true, false, List, [], ◌∷◌, ◌++◌, length, Option, Some, None, is_some, if◌then◌else◌, refl, sym, ap, ◌∙◌, subst, arith, ⊎_elim}
 use Rattle.std.proofs.lemmas.Option.{slice_get_within}
 use Rattle.std.proofs.lemmas.Bool.{cases_lt}
@@ -185,15 +187,15 @@ module _ (rom : Rom) (words : List ℕ) (list : List Entry) where
     pub record Comes (links : List Link) (visited : List Bool) (head : ℕ) : Type 0 where
       pub steps : AllSteps rom words list links
       pub back : IsBackward links
-      pub framed : (call : Call) → IsFrameCall words list call → Has links call.entry
+      pub framed : (call : Call) → IsFrameCall rom.machine words list call → Has links call.entry
       pub shaped : (k : ℕ) (l : Link) → k < head → slice_get links k ≡ Some l → (call : Call) → IsShapeCall rom list l.call.entry call → Has links call.entry
       pub gone_over : (place : KeyedWord) → HasWord visited place → (call : Call) → CallsFrom rom list place call → Has links call.entry
       pub missed : (k : ℕ) (l : Link) → k < head → slice_get links k ≡ Some l → l.call.entry ≡ goal → ⊥
       pub counted : left_of links list + length links ≤ length list
 
-    pub begins : (calls : List Call) (visited : List Bool) → AreCalls (frame_context list) (frame_word words) 0 calls → ((place : KeyedWord) → HasWord visited place → ⊥) → Comes (reach_all [] None calls) visited 0
+    pub begins : (calls : List Call) (visited : List Bool) → AreCalls (frame_context rom.machine list) (frame_word rom.machine words) 0 calls → ((place : KeyedWord) → HasWord visited place → ⊥) → Comes (reach_all [] None calls) visited 0
     begins calls visited are none_yet =
-        let steps = subst (AllByRecursion (IsFrameCall words list)) (sym are.2) (calls_hold (frame_context list) (frame_word words) 0 are.0 are.1.stand) in
+        let steps = subst (AllByRecursion (IsFrameCall rom.machine words list)) (sym are.2) (calls_hold (frame_context rom.machine list) (frame_word rom.machine words) 0 are.0 are.1.stand) in
         let no_steps : AllSteps rom words list [] = λ k l e. cc e in
         let no_back : IsBackward [] = λ k l e. cc e in
         let has = has_calls rom words list [] None calls no_steps steps in
@@ -201,7 +203,7 @@ module _ (rom : Rom) (words : List ℕ) (list : List Entry) where
         record {
           steps = all_steps rom words list [] None calls no_steps steps;
           back = all_back [] None calls no_back tt;
-          framed = λ call f. is_among (frame_context list) (frame_word words) 0 (λ (x : Call). Has (reach_all [] None calls) x.entry) call f are.0 are.1 (subst (AllByRecursion (λ (x : Call). Has (reach_all [] None calls) x.entry)) are.2 has);
+          framed = λ call f. is_among (frame_context rom.machine list) (frame_word rom.machine words) 0 (λ (x : Call). Has (reach_all [] None calls) x.entry) call f are.0 are.1 (subst (AllByRecursion (λ (x : Call). Has (reach_all [] None calls) x.entry)) are.2 has);
           shaped = λ k l lt. absurd (omega (arith, lt));
           gone_over = λ place there. absurd (none_yet place there);
           missed = λ k l lt. absurd (omega (arith, lt));
@@ -283,9 +285,9 @@ module _ (rom : Rom) (words : List ℕ) (list : List Entry) where
     none_at_end links visited head h end = no_chain links visited head h (λ k l is. omega (arith, slice_get_within links k l is, h.counted, end))
 
     -- as the code has it: by the list by which the calls were made
-    pub begun : (list_used : List Entry) (links : List Link) (visited : List Bool) → list_used ≡ list → IsReachedByFrame words list_used links → AreNone visited → Comes links visited 0
+    pub begun : (list_used : List Entry) (links : List Link) (visited : List Bool) → list_used ≡ list → IsReachedByFrame rom.machine words list_used links → AreNone visited → Comes links visited 0
     begun list_used links visited same reached none =
-        let by_list = subst (λ (l : List Entry). IsReachedByFrame words l links) same reached in
+        let by_list = subst (λ (l : List Entry). IsReachedByFrame rom.machine words l links) same reached in
         let none_yet : (place : KeyedWord) → HasWord visited place → ⊥ =
         λ place there. let no : true ≡ false = sym there.1 ∙ none place in cc no
         in
@@ -305,27 +307,27 @@ module _ (rom : Rom) (words : List ℕ) (list : List Entry) where
 -- ---- as the code adds links
 
 -- the entries of calls are in the list, and so within its limits
-called_claims : (c : Context) (word : ℕ → Option ℕ) (first : ℕ) (calls : List Call) → IsSomeCertificate c.list → AllByRecursion (Calls c word first) calls → All (λ (x : Call). IsClaim x.entry) calls
+called_claims : (c : Context) (word : Source) (first : ℕ) (calls : List Call) → IsSomeCertificate c.list → AllByRecursion (Calls c word first) calls → All (λ (x : Call). IsClaim x.entry) calls
 called_claims c word first [] some are = All-nil (λ (x : Call). IsClaim x.entry)
 called_claims c word first (call ∷ rest) some are =
     let claim = listed_claim c.list call.entry some (listed_at c.list call.entry.addr call.entry.key call.entry (named_self c.list _ _ call.entry are.0.callee_is)).listed in
     All-cons (λ (x : Call). IsClaim x.entry) call rest claim (called_claims c word first rest some are.1)
 
-module _ (words : List ℕ) (list : List Entry) (walk : WalkContext) (calls : List Call) (is : walk ≡ record { kind = Frame; first = 0; scale = Any })
-    (are : AreCalls (context_of list walk) (frame_word words) walk.first calls) where
-  at_start : AreCalls (frame_context list) (frame_word words) 0 calls
-  at_start = subst (λ (w : WalkContext). AreCalls (context_of list w) (frame_word words) w.first calls) is are
+module _ (machine : Machine) (words : List ℕ) (list : List Entry) (walk : WalkContext) (calls : List Call) (is : walk ≡ record { kind = Frame; first = 0; scale = Any })
+    (are : AreCalls (context_of machine list walk) (frame_word machine words) walk.first calls) where
+  at_start : AreCalls (frame_context machine list) (frame_word machine words) 0 calls
+  at_start = subst (λ (w : WalkContext). AreCalls (context_of machine list w) (frame_word machine words) w.first calls) is are
 
   pub frame_claims : IsSomeCertificate list → All (λ (x : Call). IsClaim x.entry) calls
   frame_claims some =
-      called_claims (frame_context list) (frame_word words) 0 calls some
-      (subst (AllByRecursion (Calls (frame_context list) (frame_word words) 0)) (sym at_start.2) (calls_hold (frame_context list) (frame_word words) 0 at_start.0 at_start.1.stand))
+      called_claims (frame_context machine list) (frame_word machine words) 0 calls some
+      (subst (AllByRecursion (Calls (frame_context machine list) (frame_word machine words) 0)) (sym at_start.2) (calls_hold (frame_context machine list) (frame_word machine words) 0 at_start.0 at_start.1.stand))
 
-  pub frame_reaches : (old new : List Link) → old ≡ [] → new ≡ reach_all old None calls → IsReachedByFrame words list new
+  pub frame_reaches : (old new : List Link) → old ≡ [] → new ≡ reach_all old None calls → IsReachedByFrame machine words list new
   frame_reaches old new empty reached = (calls, at_start, reached ∙ ap (λ ls. reach_all ls None calls) empty)
 
 pub shape_claims : (rom : Rom) (list : List Entry) (e : Entry) (visited visited_new : List Bool) (calls : List Call) → IsSomeCertificate list → AreNewCalls rom list e visited visited_new calls → All (λ (x : Call). IsClaim x.entry) calls
-shape_claims rom list e visited visited_new calls some are = called_claims (shape_context list e) (rom_word rom) e.addr calls some are.own
+shape_claims rom list e visited visited_new calls some are = called_claims (shape_context rom.machine list e) (rom_word rom) e.addr calls some are.own
 
 pub is_none : {A : Type 0} (o : Option A) → ((x : A) → o ≡ Some x → ⊥) → o ≡ None
 is_none None h = refl

@@ -1,6 +1,7 @@
 -- Where no items lead.
 use Rattle.std.proofs.Common.{◌≡◌, ℕ, ◌<◌, List, [], ◌∷◌, length, Option, None, refl, sym, arith, ⊎_elim}
 use Rattle.std.proofs.lemmas.Bool.{cases_lt}
+use Rattle.dvg_words.specs.Values.{Source}
 use Rattle.dvg_words.specs.Decoding.{cell_at}
 use Rattle.dvg_words.specs.declared.instruction.Cell.TheVariants.{Holds}
 use Rattle.dvg_items.specs.declared.item.Item.{Item}
@@ -15,7 +16,7 @@ use Rattle.dvg_explain.proofs.AllItems.{stand_before, no_more}
 abbrev pub NoneAt : ℕ → List Item → Type 0
 NoneAt at items = AtEachOf (λ earlier p. p ≡ at → ⊥) items
 
-module _ (kind : Kind) (word : ℕ → Option ℕ) (first at : ℕ) (items : List Item) where
+module _ (kind : Kind) (word : Source) (first at : ℕ) (items : List Item) where
   -- all items lead to another place, and none of them stands here
   pub none_past : (p : ℕ) → LeadsTo kind word first items p → AreAll kind word first items → NoneAt at items → (p ≡ at → ⊥) → NoneLead kind word first at
   none_past p leads all passed other others h =

@@ -1,4 +1,5 @@
 -- An item and what stands behind it light together what the shape from the item on lights.
+use Rattle.dvg_words.specs.declared.machine.Machine.{Machine}
 use Rattle.std.proofs.Common.{◌≡◌, ℕ, pos, ◌+◌, ◌-◌, ◌<◌, ◌≤◌, List, [], ◌∷◌, ◌++◌, Option, Some, None, refl, sym, ap, ◌∙◌, subst, arith}
 use Rattle.dvg_words.specs.Decoding.{cell_at}
 use Rattle.dvg_words.specs.Memory.{Rom, rom_word}
@@ -36,12 +37,12 @@ use Rattle.dvg_explain.proofs.TailPoints.{relative_from, absolute_from, relative
 use Rattle.dvg_explain.proofs.Walking.{least_none}
 
 -- what is seen of the first item doesn't depend on where it stands
-pub seen_first : (list : List Entry) (key : Key) (i : Item) (named : Option Entry) (to : Option ℕ) (begin : Cursor) (v : Seen)
-    → v ≡ seen_with named begin.known (record { at = begin.at; format = i.format; instr = i.instr }) → begin ≡ first_cursor Shape 0 key
-    → named ≡ callee_at list to key → to ≡ target Shape i.instr → (v.extent ≡ (first_seen list key i).extent) × (v.after ≡ (first_seen list key i).after)
-seen_first list key i named to begin v value begins names leads = (
-  ap (λ (x : Seen). x.extent) value ∙ ap (λ (b : Cursor). extent_of i.instr b.known.scale named) begins ∙ ap (λ (n : Option Entry). extent_of i.instr key n) is,
-  ap (λ (x : Seen). x.after) value ∙ ap (λ (b : Cursor). known_past i named b.known) begins ∙ ap (λ (n : Option Entry). known_past i n (start Shape key)) is,
+pub seen_first : (machine : Machine) (list : List Entry) (key : Key) (i : Item) (named : Option Entry) (to : Option ℕ) (begin : Cursor) (v : Seen)
+    → v ≡ seen_with machine named begin.known (record { at = begin.at; format = i.format; instr = i.instr }) → begin ≡ first_cursor Shape 0 key
+    → named ≡ callee_at list to key → to ≡ target Shape i.instr → (v.extent ≡ (first_seen machine list key i).extent) × (v.after ≡ (first_seen machine list key i).after)
+seen_first machine list key i named to begin v value begins names leads = (
+  ap (λ (x : Seen). x.extent) value ∙ ap (λ (b : Cursor). extent_of machine i.instr b.known.scale named) begins ∙ ap (λ (n : Option Entry). extent_of machine i.instr key n) is,
+  ap (λ (x : Seen). x.after) value ∙ ap (λ (b : Cursor). known_past machine i named b.known) begins ∙ ap (λ (n : Option Entry). known_past machine i n (start Shape key)) is,
 )
   where
     is : named ≡ callee_at list (target Shape i.instr) key
@@ -53,9 +54,9 @@ part_near (Rel x y) box n near h = IsNearBox-moved n box (record { x = x; y = y 
 part_near (Abs x y) box n near h = tt
 part_near Lost box n near h = tt
 
-module _ (rom : Rom) (list : List Entry) (key behind_key : Key) (i : Item) (next : ℕ) (is : cell_at (rom_word rom) i.at ≡ Holds i.format i.instr) (goes : next_address Shape i ≡ Some next) (scale : behind_key ≡ (first_seen list key i).after.scale) where
+module _ (rom : Rom) (list : List Entry) (key behind_key : Key) (i : Item) (next : ℕ) (is : cell_at (rom_word rom) i.at ≡ Holds i.format i.instr) (goes : next_address Shape i ≡ Some next) (scale : behind_key ≡ (first_seen rom.machine list key i).after.scale) where
   abbrev past : Known
-  past = (first_seen list key i).after
+  past = (first_seen rom.machine list key i).after
 
   -- ---- the items of the shape from the item on
 
@@ -76,98 +77,98 @@ module _ (rom : Rom) (list : List Entry) (key behind_key : Key) (i : Item) (next
 
   -- ---- what is known of them
 
-  sees_by : (rest : List Item) (j : Item) → known_before (keyed list key) (rest ++ i ∷ []) ≡ known_over past (known_before (keyed list behind_key) rest)
-      → seen_at (keyed list key) (rest ++ i ∷ []) j ≡ seen_over past (seen_at (keyed list behind_key) rest j)
-  sees_by rest j knows = ap (λ (k : Known). seen_by list Shape k j) knows ∙ seen_by_over list past (known_before (keyed list behind_key) rest) j
+  sees_by : (rest : List Item) (j : Item) → known_before (keyed rom.machine list key) (rest ++ i ∷ []) ≡ known_over past (known_before (keyed rom.machine list behind_key) rest)
+      → seen_at (keyed rom.machine list key) (rest ++ i ∷ []) j ≡ seen_over past (seen_at (keyed rom.machine list behind_key) rest j)
+  sees_by rest j knows = ap (λ (k : Known). seen_by rom.machine list Shape k j) knows ∙ seen_by_over rom.machine list past (known_before (keyed rom.machine list behind_key) rest) j
 
-  knows : (rest : List Item) → known_before (keyed list key) (rest ++ i ∷ []) ≡ known_over past (known_before (keyed list behind_key) rest)
+  knows : (rest : List Item) → known_before (keyed rom.machine list key) (rest ++ i ∷ []) ≡ known_over past (known_before (keyed rom.machine list behind_key) rest)
   knows [] = over_none past behind_key (sym scale)
   knows (j ∷ rest) = ap (λ (v : Seen). v.after) (sees_by rest j (knows rest))
 
-  sees : (rest : List Item) (j : Item) → seen_at (keyed list key) (rest ++ i ∷ []) j ≡ seen_over past (seen_at (keyed list behind_key) rest j)
+  sees : (rest : List Item) (j : Item) → seen_at (keyed rom.machine list key) (rest ++ i ∷ []) j ≡ seen_over past (seen_at (keyed rom.machine list behind_key) rest j)
   sees rest j = sees_by rest j (knows rest)
 
   -- ---- what they light
 
   -- what the first one lights
   abbrev alone : List Point
-  alone = relative_corners (first_seen list key i).extent (Rel (pos 0) (pos 0))
+  alone = relative_corners (first_seen rom.machine list key i).extent (Rel (pos 0) (pos 0))
 
-  relative_one : (rest : List Item) (j : Item) → relative_corners (seen_at (keyed list key) (rest ++ i ∷ []) j).extent (seen_at (keyed list key) (rest ++ i ∷ []) j).place
-      ≡ relative_from past.place (relative_corners (seen_at (keyed list behind_key) rest j).extent (seen_at (keyed list behind_key) rest j).place)
+  relative_one : (rest : List Item) (j : Item) → relative_corners (seen_at (keyed rom.machine list key) (rest ++ i ∷ []) j).extent (seen_at (keyed rom.machine list key) (rest ++ i ∷ []) j).place
+      ≡ relative_from past.place (relative_corners (seen_at (keyed rom.machine list behind_key) rest j).extent (seen_at (keyed rom.machine list behind_key) rest j).place)
   relative_one rest j =
       ap (λ (v : Seen). relative_corners v.extent v.place) (sees rest j)
-      ∙ relative_over (seen_at (keyed list behind_key) rest j).extent past.place (seen_at (keyed list behind_key) rest j).place
+      ∙ relative_over (seen_at (keyed rom.machine list behind_key) rest j).extent past.place (seen_at (keyed rom.machine list behind_key) rest j).place
 
-  absolute_one : (rest : List Item) (j : Item) → absolute_corners (seen_at (keyed list key) (rest ++ i ∷ []) j).extent (seen_at (keyed list key) (rest ++ i ∷ []) j).place
-      ≡ absolute_corners (seen_at (keyed list behind_key) rest j).extent (seen_at (keyed list behind_key) rest j).place
-      ++ absolute_from past.place (relative_corners (seen_at (keyed list behind_key) rest j).extent (seen_at (keyed list behind_key) rest j).place)
+  absolute_one : (rest : List Item) (j : Item) → absolute_corners (seen_at (keyed rom.machine list key) (rest ++ i ∷ []) j).extent (seen_at (keyed rom.machine list key) (rest ++ i ∷ []) j).place
+      ≡ absolute_corners (seen_at (keyed rom.machine list behind_key) rest j).extent (seen_at (keyed rom.machine list behind_key) rest j).place
+      ++ absolute_from past.place (relative_corners (seen_at (keyed rom.machine list behind_key) rest j).extent (seen_at (keyed rom.machine list behind_key) rest j).place)
   absolute_one rest j =
       ap (λ (v : Seen). absolute_corners v.extent v.place) (sees rest j)
-      ∙ absolute_over (seen_at (keyed list behind_key) rest j).extent past.place (seen_at (keyed list behind_key) rest j).place
+      ∙ absolute_over (seen_at (keyed rom.machine list behind_key) rest j).extent past.place (seen_at (keyed rom.machine list behind_key) rest j).place
 
   module _ (box : LitBox) where
-    relative_into : (rest : List Item) → HoldsAll box alone → HoldsAll box (relative_from past.place (lit_points (keyed list behind_key) rest)) → HoldsAll box (lit_points (keyed list key) (rest ++ i ∷ []))
+    relative_into : (rest : List Item) → HoldsAll box alone → HoldsAll box (relative_from past.place (lit_points (keyed rom.machine list behind_key) rest)) → HoldsAll box (lit_points (keyed rom.machine list key) (rest ++ i ∷ []))
     relative_into [] h k = all_append (InBox box) alone [] h tt
     relative_into (j ∷ rest) h k =
-        let here : List Point = relative_corners (seen_at (keyed list behind_key) rest j).extent (seen_at (keyed list behind_key) rest j).place in
-        let both = subst (HoldsAll box) (relative_from_both past.place here (lit_points (keyed list behind_key) rest)) k in
-        let one = subst (HoldsAll box) (sym (relative_one rest j)) (all_left (InBox box) (relative_from past.place here) (relative_from past.place (lit_points (keyed list behind_key) rest)) both) in
-        let more = relative_into rest h (all_right (InBox box) (relative_from past.place here) (relative_from past.place (lit_points (keyed list behind_key) rest)) both) in
-        all_append (InBox box) (relative_corners (seen_at (keyed list key) (rest ++ i ∷ []) j).extent (seen_at (keyed list key) (rest ++ i ∷ []) j).place) (lit_points (keyed list key) (rest ++ i ∷ [])) one more
+        let here : List Point = relative_corners (seen_at (keyed rom.machine list behind_key) rest j).extent (seen_at (keyed rom.machine list behind_key) rest j).place in
+        let both = subst (HoldsAll box) (relative_from_both past.place here (lit_points (keyed rom.machine list behind_key) rest)) k in
+        let one = subst (HoldsAll box) (sym (relative_one rest j)) (all_left (InBox box) (relative_from past.place here) (relative_from past.place (lit_points (keyed rom.machine list behind_key) rest)) both) in
+        let more = relative_into rest h (all_right (InBox box) (relative_from past.place here) (relative_from past.place (lit_points (keyed rom.machine list behind_key) rest)) both) in
+        all_append (InBox box) (relative_corners (seen_at (keyed rom.machine list key) (rest ++ i ∷ []) j).extent (seen_at (keyed rom.machine list key) (rest ++ i ∷ []) j).place) (lit_points (keyed rom.machine list key) (rest ++ i ∷ [])) one more
 
-    relative_first : (rest : List Item) → HoldsAll box (lit_points (keyed list key) (rest ++ i ∷ [])) → HoldsAll box alone
+    relative_first : (rest : List Item) → HoldsAll box (lit_points (keyed rom.machine list key) (rest ++ i ∷ [])) → HoldsAll box alone
     relative_first [] h = all_left (InBox box) alone [] h
     relative_first (j ∷ rest) h =
-        relative_first rest (all_right (InBox box) (relative_corners (seen_at (keyed list key) (rest ++ i ∷ []) j).extent (seen_at (keyed list key) (rest ++ i ∷ []) j).place) (lit_points (keyed list key) (rest ++ i ∷ [])) h)
+        relative_first rest (all_right (InBox box) (relative_corners (seen_at (keyed rom.machine list key) (rest ++ i ∷ []) j).extent (seen_at (keyed rom.machine list key) (rest ++ i ∷ []) j).place) (lit_points (keyed rom.machine list key) (rest ++ i ∷ [])) h)
 
-    relative_rest : (rest : List Item) → HoldsAll box (lit_points (keyed list key) (rest ++ i ∷ [])) → HoldsAll box (relative_from past.place (lit_points (keyed list behind_key) rest))
+    relative_rest : (rest : List Item) → HoldsAll box (lit_points (keyed rom.machine list key) (rest ++ i ∷ [])) → HoldsAll box (relative_from past.place (lit_points (keyed rom.machine list behind_key) rest))
     relative_rest [] h = no_relative box past.place
     relative_rest (j ∷ rest) h =
-        let here : List Point = relative_corners (seen_at (keyed list behind_key) rest j).extent (seen_at (keyed list behind_key) rest j).place in
-        let whole : List Point = relative_corners (seen_at (keyed list key) (rest ++ i ∷ []) j).extent (seen_at (keyed list key) (rest ++ i ∷ []) j).place in
-        let one = subst (HoldsAll box) (relative_one rest j) (all_left (InBox box) whole (lit_points (keyed list key) (rest ++ i ∷ [])) h) in
-        let more = relative_rest rest (all_right (InBox box) whole (lit_points (keyed list key) (rest ++ i ∷ [])) h) in
-        subst (HoldsAll box) (sym (relative_from_both past.place here (lit_points (keyed list behind_key) rest)))
-        (all_append (InBox box) (relative_from past.place here) (relative_from past.place (lit_points (keyed list behind_key) rest)) one more)
+        let here : List Point = relative_corners (seen_at (keyed rom.machine list behind_key) rest j).extent (seen_at (keyed rom.machine list behind_key) rest j).place in
+        let whole : List Point = relative_corners (seen_at (keyed rom.machine list key) (rest ++ i ∷ []) j).extent (seen_at (keyed rom.machine list key) (rest ++ i ∷ []) j).place in
+        let one = subst (HoldsAll box) (relative_one rest j) (all_left (InBox box) whole (lit_points (keyed rom.machine list key) (rest ++ i ∷ [])) h) in
+        let more = relative_rest rest (all_right (InBox box) whole (lit_points (keyed rom.machine list key) (rest ++ i ∷ [])) h) in
+        subst (HoldsAll box) (sym (relative_from_both past.place here (lit_points (keyed rom.machine list behind_key) rest)))
+        (all_append (InBox box) (relative_from past.place here) (relative_from past.place (lit_points (keyed rom.machine list behind_key) rest)) one more)
 
-    absolute_into : (rest : List Item) → HoldsAll box (absolute_points (keyed list behind_key) rest) → HoldsAll box (absolute_from past.place (lit_points (keyed list behind_key) rest))
-        → HoldsAll box (absolute_points (keyed list key) (rest ++ i ∷ []))
+    absolute_into : (rest : List Item) → HoldsAll box (absolute_points (keyed rom.machine list behind_key) rest) → HoldsAll box (absolute_from past.place (lit_points (keyed rom.machine list behind_key) rest))
+        → HoldsAll box (absolute_points (keyed rom.machine list key) (rest ++ i ∷ []))
     absolute_into [] h k = tt
     absolute_into (j ∷ rest) h k =
-        let v : Seen = seen_at (keyed list behind_key) rest j in
+        let v : Seen = seen_at (keyed rom.machine list behind_key) rest j in
         let here : List Point = absolute_corners v.extent v.place in
         let part : List Point = relative_corners v.extent v.place in
-        let whole : List Point = absolute_corners (seen_at (keyed list key) (rest ++ i ∷ []) j).extent (seen_at (keyed list key) (rest ++ i ∷ []) j).place in
-        let both = subst (HoldsAll box) (absolute_from_both past.place part (lit_points (keyed list behind_key) rest)) k in
-        let parts = all_left (InBox box) (absolute_from past.place part) (absolute_from past.place (lit_points (keyed list behind_key) rest)) both in
-        let one = subst (HoldsAll box) (sym (absolute_one rest j)) (all_append (InBox box) here (absolute_from past.place part) (all_left (InBox box) here (absolute_points (keyed list behind_key) rest) h) parts) in
-        let more = absolute_into rest (all_right (InBox box) here (absolute_points (keyed list behind_key) rest) h) (all_right (InBox box) (absolute_from past.place part) (absolute_from past.place (lit_points (keyed list behind_key) rest)) both) in
-        all_append (InBox box) whole (absolute_points (keyed list key) (rest ++ i ∷ [])) one more
+        let whole : List Point = absolute_corners (seen_at (keyed rom.machine list key) (rest ++ i ∷ []) j).extent (seen_at (keyed rom.machine list key) (rest ++ i ∷ []) j).place in
+        let both = subst (HoldsAll box) (absolute_from_both past.place part (lit_points (keyed rom.machine list behind_key) rest)) k in
+        let parts = all_left (InBox box) (absolute_from past.place part) (absolute_from past.place (lit_points (keyed rom.machine list behind_key) rest)) both in
+        let one = subst (HoldsAll box) (sym (absolute_one rest j)) (all_append (InBox box) here (absolute_from past.place part) (all_left (InBox box) here (absolute_points (keyed rom.machine list behind_key) rest) h) parts) in
+        let more = absolute_into rest (all_right (InBox box) here (absolute_points (keyed rom.machine list behind_key) rest) h) (all_right (InBox box) (absolute_from past.place part) (absolute_from past.place (lit_points (keyed rom.machine list behind_key) rest)) both) in
+        all_append (InBox box) whole (absolute_points (keyed rom.machine list key) (rest ++ i ∷ [])) one more
 
-    absolute_rest : (rest : List Item) → HoldsAll box (absolute_points (keyed list key) (rest ++ i ∷ [])) → HoldsAll box (absolute_points (keyed list behind_key) rest)
+    absolute_rest : (rest : List Item) → HoldsAll box (absolute_points (keyed rom.machine list key) (rest ++ i ∷ [])) → HoldsAll box (absolute_points (keyed rom.machine list behind_key) rest)
     absolute_rest [] h = tt
     absolute_rest (j ∷ rest) h =
-        let v : Seen = seen_at (keyed list behind_key) rest j in
+        let v : Seen = seen_at (keyed rom.machine list behind_key) rest j in
         let here : List Point = absolute_corners v.extent v.place in
         let part : List Point = relative_corners v.extent v.place in
-        let whole : List Point = absolute_corners (seen_at (keyed list key) (rest ++ i ∷ []) j).extent (seen_at (keyed list key) (rest ++ i ∷ []) j).place in
-        let one = subst (HoldsAll box) (absolute_one rest j) (all_left (InBox box) whole (absolute_points (keyed list key) (rest ++ i ∷ [])) h) in
-        all_append (InBox box) here (absolute_points (keyed list behind_key) rest) (all_left (InBox box) here (absolute_from past.place part) one)
-        (absolute_rest rest (all_right (InBox box) whole (absolute_points (keyed list key) (rest ++ i ∷ [])) h))
+        let whole : List Point = absolute_corners (seen_at (keyed rom.machine list key) (rest ++ i ∷ []) j).extent (seen_at (keyed rom.machine list key) (rest ++ i ∷ []) j).place in
+        let one = subst (HoldsAll box) (absolute_one rest j) (all_left (InBox box) whole (absolute_points (keyed rom.machine list key) (rest ++ i ∷ [])) h) in
+        all_append (InBox box) here (absolute_points (keyed rom.machine list behind_key) rest) (all_left (InBox box) here (absolute_from past.place part) one)
+        (absolute_rest rest (all_right (InBox box) whole (absolute_points (keyed rom.machine list key) (rest ++ i ∷ [])) h))
 
-    absolute_part_of : (rest : List Item) → HoldsAll box (absolute_points (keyed list key) (rest ++ i ∷ [])) → HoldsAll box (absolute_from past.place (lit_points (keyed list behind_key) rest))
+    absolute_part_of : (rest : List Item) → HoldsAll box (absolute_points (keyed rom.machine list key) (rest ++ i ∷ [])) → HoldsAll box (absolute_from past.place (lit_points (keyed rom.machine list behind_key) rest))
     absolute_part_of [] h = no_absolute box past.place
     absolute_part_of (j ∷ rest) h =
-        let v : Seen = seen_at (keyed list behind_key) rest j in
+        let v : Seen = seen_at (keyed rom.machine list behind_key) rest j in
         let here : List Point = absolute_corners v.extent v.place in
         let part : List Point = relative_corners v.extent v.place in
-        let whole : List Point = absolute_corners (seen_at (keyed list key) (rest ++ i ∷ []) j).extent (seen_at (keyed list key) (rest ++ i ∷ []) j).place in
-        let one = subst (HoldsAll box) (absolute_one rest j) (all_left (InBox box) whole (absolute_points (keyed list key) (rest ++ i ∷ [])) h) in
-        subst (HoldsAll box) (sym (absolute_from_both past.place part (lit_points (keyed list behind_key) rest)))
-        (all_append (InBox box) (absolute_from past.place part) (absolute_from past.place (lit_points (keyed list behind_key) rest))
+        let whole : List Point = absolute_corners (seen_at (keyed rom.machine list key) (rest ++ i ∷ []) j).extent (seen_at (keyed rom.machine list key) (rest ++ i ∷ []) j).place in
+        let one = subst (HoldsAll box) (absolute_one rest j) (all_left (InBox box) whole (absolute_points (keyed rom.machine list key) (rest ++ i ∷ [])) h) in
+        subst (HoldsAll box) (sym (absolute_from_both past.place part (lit_points (keyed rom.machine list behind_key) rest)))
+        (all_append (InBox box) (absolute_from past.place part) (absolute_from past.place (lit_points (keyed rom.machine list behind_key) rest))
         (all_right (InBox box) here (absolute_from past.place part) one)
-        (absolute_part_of rest (all_right (InBox box) whole (absolute_points (keyed list key) (rest ++ i ∷ [])) h)))
+        (absolute_part_of rest (all_right (InBox box) whole (absolute_points (keyed rom.machine list key) (rest ++ i ∷ [])) h)))
 
   -- ---- the tail
 
@@ -180,15 +181,15 @@ module _ (rom : Rom) (list : List Entry) (key behind_key : Key) (i : Item) (next
       record {
         items = t.items ++ i ∷ [];
         all = subst (λ (a : ℕ). AreAll Shape (rom_word rom) a (t.items ++ i ∷ [])) (sym at_item) (all_over t.items (subst (λ (a : ℕ). AreAll Shape (rom_word rom) a t.items) at_next t.all));
-        relative = subst (λ (k : Key). IsLeast (lit_points (keyed list k) (t.items ++ i ∷ [])) whole.lit.relative) (sym of_key)
-            (both_least alone (relative_from past.place (lit_points (keyed list behind_key) t.items)) (lit_points (keyed list key) (t.items ++ i ∷ []))
+        relative = subst (λ (k : Key). IsLeast (lit_points (keyed rom.machine list k) (t.items ++ i ∷ [])) whole.lit.relative) (sym of_key)
+            (both_least alone (relative_from past.place (lit_points (keyed rom.machine list behind_key) t.items)) (lit_points (keyed rom.machine list key) (t.items ++ i ∷ []))
             first (relative_part past.place tail.lit.relative) whole.lit.relative relative lone
-            (relative_least past.place (lit_points (keyed list behind_key) t.items) tail.lit.relative own_relative)
+            (relative_least past.place (lit_points (keyed rom.machine list behind_key) t.items) tail.lit.relative own_relative)
             (λ box. relative_into box t.items) (λ box. relative_first box t.items) (λ box. relative_rest box t.items));
-        absolute = subst (λ (k : Key). IsLeast (absolute_points (keyed list k) (t.items ++ i ∷ [])) whole.lit.absolute) (sym of_key)
-            (both_least (absolute_points (keyed list behind_key) t.items) (absolute_from past.place (lit_points (keyed list behind_key) t.items)) (absolute_points (keyed list key) (t.items ++ i ∷ []))
+        absolute = subst (λ (k : Key). IsLeast (absolute_points (keyed rom.machine list k) (t.items ++ i ∷ [])) whole.lit.absolute) (sym of_key)
+            (both_least (absolute_points (keyed rom.machine list behind_key) t.items) (absolute_from past.place (lit_points (keyed rom.machine list behind_key) t.items)) (absolute_points (keyed rom.machine list key) (t.items ++ i ∷ []))
             tail.lit.absolute (absolute_part past.place tail.lit.relative) whole.lit.absolute absolute own_absolute
-            (absolute_least past.place (lit_points (keyed list behind_key) t.items) tail.lit.relative own_relative)
+            (absolute_least past.place (lit_points (keyed rom.machine list behind_key) t.items) tail.lit.relative own_relative)
             (λ box. absolute_into box t.items) (λ box. absolute_rest box t.items) (λ box. absolute_part_of box t.items));
         near = IsNearBox-more (ADDRESS_END + 2 - tail.addr + 1) (ADDRESS_END + 2 - whole.addr) whole.lit.relative (omega (arith, next_further Shape i next goes, near, at_next, at_item))
             (IsNearBox-joined (ADDRESS_END + 2 - tail.addr + 1) first (relative_part past.place tail.lit.relative) whole.lit.relative
@@ -196,11 +197,11 @@ module _ (rom : Rom) (list : List Entry) (key behind_key : Key) (i : Item) (next
             relative.first relative.second relative.least);
       }
     where
-      own_relative : IsLeast (lit_points (keyed list behind_key) t.items) tail.lit.relative
-      own_relative = subst (λ (k : Key). IsLeast (lit_points (keyed list k) t.items) tail.lit.relative) at_key t.relative
+      own_relative : IsLeast (lit_points (keyed rom.machine list behind_key) t.items) tail.lit.relative
+      own_relative = subst (λ (k : Key). IsLeast (lit_points (keyed rom.machine list k) t.items) tail.lit.relative) at_key t.relative
 
-      own_absolute : IsLeast (absolute_points (keyed list behind_key) t.items) tail.lit.absolute
-      own_absolute = subst (λ (k : Key). IsLeast (absolute_points (keyed list k) t.items) tail.lit.absolute) at_key t.absolute
+      own_absolute : IsLeast (absolute_points (keyed rom.machine list behind_key) t.items) tail.lit.absolute
+      own_absolute = subst (λ (k : Key). IsLeast (absolute_points (keyed rom.machine list k) t.items) tail.lit.absolute) at_key t.absolute
 
 -- an item that ends a shape is a tail alone
 module _ (rom : Rom) (list : List Entry) (key : Key) (i : Item) (is : cell_at (rom_word rom) i.at ≡ Holds i.format i.instr) (ends : next_address Shape i ≡ None) where
@@ -208,12 +209,12 @@ module _ (rom : Rom) (list : List Entry) (key : Key) (i : Item) (is : cell_at (r
   all_alone = record { stand = (refl, is); last = λ n h. let no : None ≡ Some n.at = sym ends ∙ h.0.2 in cc no }
 
   pub ending : (whole : LitFrom) → i.at < ADDRESS_END → whole.addr ≡ i.at → whole.key ≡ key
-      → IsLeast (relative_corners (first_seen list key i).extent (Rel (pos 0) (pos 0))) whole.lit.relative → IsNearBox 1 whole.lit.relative → whole.lit.absolute ≡ Empty → IsLitFrom rom list whole
+      → IsLeast (relative_corners (first_seen rom.machine list key i).extent (Rel (pos 0) (pos 0))) whole.lit.relative → IsNearBox 1 whole.lit.relative → whole.lit.absolute ≡ Empty → IsLitFrom rom list whole
   ending whole near at_item of_key lone small none =
       record {
         items = i ∷ [];
         all = subst (λ (a : ℕ). AreAll Shape (rom_word rom) a (i ∷ [])) (sym at_item) all_alone;
-        relative = subst (λ (k : Key). IsLeast (lit_points (keyed list k) (i ∷ [])) whole.lit.relative) (sym of_key) (subst (λ (l : List Point). IsLeast l whole.lit.relative) (and_none (relative_corners (first_seen list key i).extent (Rel (pos 0) (pos 0)))) lone);
+        relative = subst (λ (k : Key). IsLeast (lit_points (keyed rom.machine list k) (i ∷ [])) whole.lit.relative) (sym of_key) (subst (λ (l : List Point). IsLeast l whole.lit.relative) (and_none (relative_corners (first_seen rom.machine list key i).extent (Rel (pos 0) (pos 0)))) lone);
         absolute = subst (IsLeast []) (sym none) least_none;
         near = IsNearBox-more 1 (ADDRESS_END + 2 - whole.addr) whole.lit.relative (omega (arith, near, at_item)) small;
       }

@@ -43,7 +43,7 @@ module _ (rom : Rom) (list : List Entry) (key : Key) (i : Item) (is : cell_at (r
     goes : next_address Shape i ≡ Some next
     rest : List Item
     leads : LeadsTo Shape (rom_word rom) next rest p
-    scale : scale_before (keyed list key) earlier ≡ scale_before (keyed list past) rest
+    scale : scale_before (keyed rom.machine list key) earlier ≡ scale_before (keyed rom.machine list past) rest
 
   split : (earlier : List Item) (p : ℕ) → LeadsTo Shape (rom_word rom) i.at earlier p → ((earlier ≡ []) × (p ≡ i.at)) ⊎ Behind earlier p
   split [] p lead = inl (refl, lead)
@@ -53,7 +53,7 @@ module _ (rom : Rom) (list : List Entry) (key : Key) (i : Item) (is : cell_at (r
       at_first h =
           let same : j ≡ i = item_same j i h.1 (sym lead.1 ∙ ap (cell_at (rom_word rom)) h.1 ∙ is) in
           let items : j ∷ earlier ≡ i ∷ [] = cc (same, h.0) in
-          inr (record { next = p; goes = ap (next_address Shape) (sym same) ∙ lead.2; rest = []; leads = refl; scale = ap (scale_before (keyed list key)) items })
+          inr (record { next = p; goes = ap (next_address Shape) (sym same) ∙ lead.2; rest = []; leads = refl; scale = ap (scale_before (keyed rom.machine list key)) items })
 
       further : Behind earlier j.at → (((j ∷ earlier) ≡ []) × (p ≡ i.at)) ⊎ Behind (j ∷ earlier) p
       further b =
@@ -85,7 +85,7 @@ module _ (rom : Rom) (list : List Entry) (key : Key) (i : Item) (is : cell_at (r
           inl (record {
             at = c.at ∙ h.1;
             entry = ap (λ (j : Item). callee_at list (target Shape j.instr) key) (sym same)
-                ∙ ap (λ (x : List Item). callee_at list (target Shape c.item.instr) (scale_before (keyed list key) x)) (sym h.0) ∙ c.callee_is;
+                ∙ ap (λ (x : List Item). callee_at list (target Shape c.item.instr) (scale_before (keyed rom.machine list key) x)) (sym h.0) ∙ c.callee_is;
           })
 
       further : Behind c.earlier c.item.at → IsOwn call ⊎ IsFurther call
@@ -137,9 +137,9 @@ module _ (rom : Rom) (list : List Entry) (e : Entry) (old : List Bool) where
   pub record Goes (now : List Bool) (calls : List Call) (at : ℕ) (scale : Key) : Type 0 where
     pub items : List Item
     pub leads : LeadsTo Shape (rom_word rom) e.addr items at
-    pub knows : scale ≡ scale_before (shape_context list e) items
+    pub knows : scale ≡ scale_before (shape_context rom.machine list e) items
     pub key : IsKey scale
-    pub are : calls ≡ calls_among (shape_context list e) items
+    pub are : calls ≡ calls_among (shape_context rom.machine list e) items
     pub all : AllOpen calls (at, scale) (e.addr, e.key)
     pub visited : (place : KeyedWord) → HasWord now place → AllOpen calls (at, scale) place
     pub before : (place : KeyedWord) → HasWord now place → HasWord old place ⊎ (place.0 < at)
@@ -162,7 +162,7 @@ module _ (rom : Rom) (list : List Entry) (e : Entry) (old : List Bool) where
     here = (at, scale)
 
     held : AllByRecursion (IsShapeCall rom list e) calls
-    held = subst (AllByRecursion (IsShapeCall rom list e)) (sym g.are) (calls_hold (shape_context list e) (rom_word rom) e.addr g.items (stand_before Shape (rom_word rom) e.addr g.items at g.leads))
+    held = subst (AllByRecursion (IsShapeCall rom list e)) (sym g.are) (calls_hold (shape_context rom.machine list e) (rom_word rom) e.addr g.items (stand_before Shape (rom_word rom) e.addr g.items at g.leads))
 
     -- where each call from where the walk stands was met, all were
     closed : AllMet rom list old calls here → AreNewCalls rom list e old now calls
@@ -202,10 +202,10 @@ module _ (rom : Rom) (list : List Entry) (e : Entry) (old : List Bool) where
         own_met call o =
             inl (subst (λ (cs : List Call). Contains cs call) (sym grown) (Contains-append_right calls (call_of item callee) call (at_call item call callee o.at (callee_is ∙ o.entry))))
 
-        more_are : more ≡ calls_among (shape_context list e) (item ∷ g.items)
+        more_are : more ≡ calls_among (shape_context rom.machine list e) (item ∷ g.items)
         more_are =
             grown ∙ ap (λ (cs : List Call). cs ++ call_of item callee) g.are
-            ∙ ap (λ (o : Option Entry). calls_among (shape_context list e) g.items ++ call_of item o) (callee_is ∙ ap (callee_at list (target Shape instr)) g.knows)
+            ∙ ap (λ (o : Option Entry). calls_among (shape_context rom.machine list e) g.items ++ call_of item o) (callee_is ∙ ap (callee_at list (target Shape instr)) g.knows)
 
         pub walks_on : (past : Key) (next : ℕ) → past ≡ unwrap_or (scale_set instr callee) scale → IsKey past → next_address Shape item ≡ Some next → Goes new more next past
         walks_on past next past_is key to =
@@ -247,7 +247,7 @@ module _ (rom : Rom) (list : List Entry) (e : Entry) (old : List Bool) where
         pub ends_here : next_address Shape item ≡ None → AreNewCalls rom list e old new more
         ends_here none =
             record {
-              own = subst (AllByRecursion (IsShapeCall rom list e)) (sym more_are) (calls_hold (shape_context list e) (rom_word rom) e.addr (item ∷ g.items) (g.leads, stands));
+              own = subst (AllByRecursion (IsShapeCall rom list e)) (sym more_are) (calls_hold (shape_context rom.machine list e) (rom_word rom) e.addr (item ∷ g.items) (g.leads, stands));
               all = λ call c. ⊎_elim (still_met call) (from_here call) (g.all call c);
               visited = λ place there call c. ⊎_elim
                   (λ h. ⊎_elim (still_met call) (from_here call) (g.visited place h call c))

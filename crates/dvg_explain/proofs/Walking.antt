@@ -1,4 +1,5 @@
 -- What a walk over all items keeps, and what follows where it stops.
+use Rattle.dvg_words.specs.Values.{Source}
 use Rattle.std.proofs.Common.{◌≡◌, ℕ, List, [], ◌∷◌, Option, Some, None, refl, sym, ap, ◌∙◌, ◌++◌, subst}
 use Rattle.std.specs.Prelude.{IfNone}
 use Rattle.dvg_words.specs.Decoding.{cell_at}
@@ -28,12 +29,12 @@ use Rattle.dvg_explain.specs.Private.Walking.{IsSeenAt}
 use Rattle.dvg_explain.proofs.AllItems.{stand_before}
 
 -- these items lead to where the walk stands, and what is known there is known of them
-pub record Walked (c : Context) (word : ℕ → Option ℕ) (first : ℕ) (items : List Item) (here : Cursor) : Type 0 where
+pub record Walked (c : Context) (word : Source) (first : ℕ) (items : List Item) (here : Cursor) : Type 0 where
   pub leads : LeadsTo c.kind word first items here.at
   pub knows : here.known ≡ known_before c items
   pub sound : IsSoundCursor here
 
-module _ (c : Context) (word : ℕ → Option ℕ) (first : ℕ) where
+module _ (c : Context) (word : Source) (first : ℕ) where
   pub begins : (here : Cursor) → here ≡ first_cursor c.kind first c.scale → IsSoundCursor here → Walked c word first [] here
   begins here is sound = record { leads = ap (λ (x : Cursor). x.at) is; knows = ap (λ (x : Cursor). x.known) is; sound = sound }
 
@@ -49,10 +50,10 @@ module _ (c : Context) (word : ℕ → Option ℕ) (first : ℕ) where
         last : (all : List Item) → LeadsTo c.kind word first all here.at → (next : Item) → Stand c.kind word first (next ∷ all) → ⊥
         last all h next k = none next.format next.instr (ap (cell_at word) (same_place all h next.at k.0) ∙ k.1)
 
-    module _ (v : Seen) (s : IsSeenAt c.list c.kind word here v) where
+    module _ (v : Seen) (s : IsSeenAt c.machine c.list c.kind word here v) where
       -- the item as the definitions see it
       pub seen_is : v ≡ seen_at c items v.item
-      seen_is = s.seen ∙ ap (λ (k : Known). seen_with (callee_at c.list (target c.kind v.item.instr) k.scale) k v.item) w.knows
+      seen_is = s.seen ∙ ap (λ (k : Known). seen_with c.machine (callee_at c.list (target c.kind v.item.instr) k.scale) k v.item) w.knows
 
       pub here_leads : LeadsTo c.kind word first items v.item.at
       here_leads = subst (λ p. LeadsTo c.kind word first items p) (sym s.at) w.leads

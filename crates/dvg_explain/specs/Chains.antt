@@ -1,4 +1,6 @@
 -- The calls by which a frame comes to an entry, by the claims of a list. All of it is profile.
+use Rattle.dvg_words.specs.Values.{Source}
+use Rattle.dvg_words.specs.declared.machine.Machine.{Machine}
 use Rattle.std.specs.Prelude.{◌≡◌, ℕ, List, [], ◌∷◌, Option, Some}
 use Rattle.dvg_words.specs.Memory.{Rom, rom_word, frame_word}
 use Rattle.dvg_words.specs.Decoding.{cell_at}
@@ -10,7 +12,7 @@ use Rattle.dvg_items.specs.Known.{Context, callee, frame_context, shape_context}
 use Rattle.dvg_explain.specs.Calls.{Call}
 
 -- one of the items from a word address on stands at the call's address, and calls or tail jumps to the call's entry (profile)
-pub record Calls (c : Context) (word : ℕ → Option ℕ) (first : ℕ) (call : Call) : Type 0 where
+pub record Calls (c : Context) (word : Source) (first : ℕ) (call : Call) : Type 0 where
   pub earlier : List Item
   pub item : Item
   pub leads : LeadsTo c.kind word first earlier item.at
@@ -19,12 +21,12 @@ pub record Calls (c : Context) (word : ℕ → Option ℕ) (first : ℕ) (call :
   pub callee_is : callee c earlier item.instr ≡ Some call.entry
 
 -- the call is one of a frame with these words, by the entries of a list (profile)
-abbrev pub IsFrameCall : List ℕ → List Entry → Call → Type 0
-IsFrameCall words list call = Calls (frame_context list) (frame_word words) 0 call
+abbrev pub IsFrameCall : Machine → List ℕ → List Entry → Call → Type 0
+IsFrameCall machine words list call = Calls (frame_context machine list) (frame_word machine words) 0 call
 
 -- the call is one of an entry's shape (profile)
 abbrev pub IsShapeCall : Rom → List Entry → Entry → Call → Type 0
-IsShapeCall rom list e call = Calls (shape_context list e) (rom_word rom) e.addr call
+IsShapeCall rom list e call = Calls (shape_context rom.machine list e) (rom_word rom) e.addr call
 
 -- from an entry these calls lead to the goal: each stands in the shape of the entry before it, and the last names the goal
 -- (profile)
@@ -35,4 +37,4 @@ LeadsOn rom list e (call ∷ rest) goal = IsShapeCall rom list e call × LeadsOn
 -- from a frame these calls lead to the goal, and the first is the frame's own (profile)
 abbrev pub IsChain : Rom → List ℕ → List Entry → List Call → Entry → Type 0
 IsChain rom words list [] goal = ⊥
-IsChain rom words list (call ∷ rest) goal = IsFrameCall words list call × LeadsOn rom list call.entry rest goal
+IsChain rom words list (call ∷ rest) goal = IsFrameCall rom.machine words list call × LeadsOn rom list call.entry rest goal

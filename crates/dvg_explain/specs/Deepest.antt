@@ -21,7 +21,7 @@ BearsNot rom list e call = BearsOut rom list e call → ⊥
 -- the call bears it out, and no call before it does (profile)
 abbrev pub FirstBears : Rom → List Entry → Entry → Call → Type 0
 FirstBears rom list e call =
-    (b : BearsOut rom list e call) × AllByRecursion (BearsNot rom list e) (calls_among (shape_context list e) b.calls.earlier)
+    (b : BearsOut rom list e call) × AllByRecursion (BearsNot rom list e) (calls_among (shape_context rom.machine list e) b.calls.earlier)
 
 -- each of these calls is the first that bears out the depth of the entry before it; they end where none does, or when they are so
 -- many (profile)

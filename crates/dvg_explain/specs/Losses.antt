@@ -1,4 +1,5 @@
 -- The items by which the known place and the known scale were lost. All of it is profile.
+use Rattle.dvg_words.specs.Values.{Source}
 use Rattle.std.specs.Prelude.{◌≡◌, ℕ, List, [], ◌∷◌, Option, Some, None}
 use Rattle.dvg_cert.specs.declared.entry.End.{End}
 use Rattle.dvg_cert.specs.declared.entry.End.TheVariants.{Lost}
@@ -34,11 +35,11 @@ scale_lost_by c [] = None
 scale_lost_by c (i ∷ earlier) = scale_loss i (scale_before c earlier) (scale_before c (i ∷ earlier)) (scale_lost_by c earlier)
 
 -- no items lead from the first word address to this one (profile)
-abbrev pub NoneLead : Kind → (ℕ → Option ℕ) → ℕ → ℕ → Type 0
+abbrev pub NoneLead : Kind → Source → ℕ → ℕ → Type 0
 NoneLead kind word first at = (items : List Item) → LeadsTo kind word first items at → ⊥
 
 -- these are the losses of the items that lead to a word address (profile)
-pub record AreLosses (c : Context) (word : ℕ → Option ℕ) (first at : ℕ) (l : Losses) : Type 0 where
+pub record AreLosses (c : Context) (word : Source) (first at : ℕ) (l : Losses) : Type 0 where
   pub items : List Item
   pub leads : LeadsTo c.kind word first items at
   pub place : l.place ≡ place_lost_by c items

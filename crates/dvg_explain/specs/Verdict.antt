@@ -28,5 +28,5 @@ verdict_of (Err a) = Err (refusal_of a)
 -- an account of an item says what is known where the first fault is, and the rule's own numbers (profile)
 abbrev pub TellsOf : Mode → Window → Rom → List Entry → List ℕ → ℕ → RomAccount → Type 0
 TellsOf mode w rom list words budget (account.Shape a) = FirstShapeFound mode w rom list a.finding × ShapeCauseOf w a.finding a.cause
-TellsOf mode w rom list words budget (account.Frame a) = FirstFrameFound w words list budget a.finding × CauseOf w budget a.finding a.cause
+TellsOf mode w rom list words budget (account.Frame a) = FirstFrameFound w rom.machine words list budget a.finding × CauseOf w budget a.finding a.cause
 TellsOf mode w rom list words budget a = Unit {0}

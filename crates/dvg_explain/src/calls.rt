@@ -7,7 +7,7 @@ ghost use Rattle.dvg_explain.specs.Calls.{AreCalls, IsExtent};
 
 use crate::items::{WalkContext, calls_from, extent_from};
 use dvg_cert::{Cert, Entries, Entry, LitBox};
-use dvg_words::FrameImage;
+use dvg_words::{FrameImage, FrameOn, Machine};
 use std::alloc::{AllocError, Global};
 
 /// A call or tail jump: the word address of its item, and the entry that it names.
@@ -21,26 +21,41 @@ pub struct Call {
 /// names none is left out; an accepted frame has no such call. `entries` are those of the certificate.
 pub fn frame_calls<E: Entries>(
     alloc: Global,
+    machine: Machine,
     cert: &Cert,
     entries: &E,
     frame: &FrameImage,
 ) -> Result<Vec<Call>, AllocError>
     requires { E.list entries.now ≡ cert.now.entries }
-    ensures { IfOk result (λ calls. AreCalls (frame_context cert.now.entries) (frame_word frame.now) 0 calls.items) }
+    ensures { IfOk result (λ calls. AreCalls (frame_context machine cert.now.entries) (frame_word machine frame.now) 0 calls.items) }
 {
     // Its clause says that the list is that of a certificate.
     let _entries = cert.entries();
-    calls_from(alloc, frame, entries, &WalkContext::frame())
+    calls_from(
+        alloc,
+        &FrameOn::new(machine, frame),
+        entries,
+        &WalkContext::frame(),
+    )
 }
 
 /// The least box of what a frame's own items may light at absolute places, in 1/1024 of a screen place: both ends of its lit draws,
 /// and the corners of the boxes of the shapes that it calls, by the certificate's claims (profile). It leaves out what these shapes
 /// themselves light at absolute places. `entries` are those of the certificate. Takes no memory.
-pub fn frame_extent<E: Entries>(cert: &Cert, entries: &E, frame: &FrameImage) -> LitBox
+pub fn frame_extent<E: Entries>(
+    machine: Machine,
+    cert: &Cert,
+    entries: &E,
+    frame: &FrameImage,
+) -> LitBox
     requires { E.list entries.now ≡ cert.now.entries }
-    ensures { IsExtent (frame_context cert.now.entries) (frame_word frame.now) 0 result }
+    ensures { IsExtent (frame_context machine cert.now.entries) (frame_word machine frame.now) 0 result }
 {
     // Its clause says that the list is that of a certificate.
     let _entries = cert.entries();
-    extent_from(frame, entries, &WalkContext::frame())
+    extent_from(
+        &FrameOn::new(machine, frame),
+        entries,
+        &WalkContext::frame(),
+    )
 }

@@ -11,20 +11,22 @@ use crate::items::{WalkContext, calls_from, new_calls};
 use crate::keyed_words::KeyedWords;
 use crate::reached::Reached;
 use dvg_cert::{Cert, Entries, Entry};
-use dvg_words::{FrameImage, RomImage};
+use dvg_words::{FrameImage, FrameOn, Machine, RomImage};
 use std::alloc::{AllocError, Global};
 
 /// The entries that a frame's own items call.
 fn reached_by_frame<E: Entries>(
     alloc: Global,
+    machine: Machine,
     entries: &E,
     frame: &FrameImage,
 ) -> Result<Reached, AllocError>
     requires { IsSomeCertificate (E.list entries.now) }
-    ensures { IfOk result (λ reached. IsReachedByFrame frame.now (E.list entries.now) reached) }
+    ensures { IfOk result (λ reached. IsReachedByFrame machine frame.now (E.list entries.now) reached) }
 {
     let mut reached = Reached::new(alloc)?;
-    let calls = calls_from(alloc, frame, entries, &WalkContext::frame())?;
+    let framed = FrameOn::new(machine, frame);
+    let calls = calls_from(alloc, &framed, entries, &WalkContext::frame())?;
     reached.add_all(&calls, None)?;
     Ok(reached)
 }
@@ -65,7 +67,7 @@ pub fn find_chain<E: Entries>(
     ensures none { IfOk result (λ found. IfNone found ((calls : List Call) → IsChain rom.now frame.now cert.now.entries calls goal.now → ⊥)) }
 {
     let listed = cert.entries().len();
-    let mut reached = reached_by_frame(alloc, entries, frame)?;
+    let mut reached = reached_by_frame(alloc, rom.machine(), entries, frame)?;
     let mut visited = KeyedWords::new(alloc)?;
     for next in 0..listed {
         let Some(link) = reached.get(next) else {

@@ -103,8 +103,8 @@ pub fn explain_frame<E: Entries>(
     budget: u32,
 ) -> Result<Accepted, FrameAccount>
     requires { budget ≤ MOST_WORDS }
-    ensures ok { IfOk result (λ yes. GoodFrame shapes.now.window frame.now shapes.now.list budget yes.words yes.depth) }
-    ensures err { IfErr result (λ account. FirstFrameFound shapes.now.window frame.now shapes.now.list budget account.finding) }
+    ensures ok { IfOk result (λ yes. GoodFrame shapes.now.window shapes.now.rom.machine frame.now shapes.now.list budget yes.words yes.depth) }
+    ensures err { IfErr result (λ account. FirstFrameFound shapes.now.window shapes.now.rom.machine frame.now shapes.now.list budget account.finding) }
     ensures cause { IfErr result (λ account. CauseOf shapes.now.window budget account.finding account.cause) }
     ensures safe { IfOk result (λ yes. Safe (record { frame = frame.now; rom = shapes.now.rom }) shapes.now.window yes.words yes.depth) }
     ensures exact { shapes.now.mode ≡ Exact → IfOk result (λ yes. CountsAtHalt (record { frame = frame.now; rom = shapes.now.rom }) yes.words yes.depth) }

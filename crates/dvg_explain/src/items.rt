@@ -62,7 +62,7 @@ impl WalkContext {
 pub fn see<F: Fetch, E: Entries>(memory: &F, entries: &E, kind: Kind, here: &Cursor) -> Option<Seen>
     requires entries { IsSomeCertificate (E.list entries.now) }
     requires here { IsSoundCursor here.now }
-    ensures some { IfSome result (IsSeenAt (E.list entries.now) kind (F.words memory.now) here.now) }
+    ensures some { IfSome result (IsSeenAt (F.words memory.now).machine (E.list entries.now) kind (F.words memory.now) here.now) }
     ensures sound { IfSome result IsSoundSeen }
     ensures none { IfNone result ((format : Format) (instr : Instr) → cell_at (F.words memory.now) here.now.at ≡ Holds format instr → ⊥) }
 {
@@ -70,7 +70,7 @@ pub fn see<F: Fetch, E: Entries>(memory: &F, entries: &E, kind: Kind, here: &Cur
         return None;
     };
     let named = callee(entries, target(kind, &instr), here.known.scale);
-    Some(here.see(format, &instr, named))
+    Some(here.see(memory.machine(), format, &instr, named))
 }
 
 /// Adds the call of an item, if it names an entry.
@@ -93,7 +93,7 @@ pub fn calls_from<F: Fetch, E: Entries>(
     requires entries { IsSomeCertificate (E.list entries.now) }
     requires first { walk.now.first < ADDRESS_END }
     requires scale { IsKey walk.now.scale }
-    ensures { IfOk result (λ calls. AreCalls (context_of (E.list entries.now) walk.now) (F.words memory.now) walk.now.first calls.items) }
+    ensures { IfOk result (λ calls. AreCalls (context_of (F.words memory.now).machine (E.list entries.now) walk.now) (F.words memory.now) walk.now.first calls.items) }
 {
     let mut calls = Vec::new(alloc);
     let mut cursor = Cursor::start(walk.kind, walk.first, walk.scale);
@@ -157,7 +157,7 @@ pub fn extent_from<F: Fetch, E: Entries>(memory: &F, entries: &E, walk: &WalkCon
     requires entries { IsSomeCertificate (E.list entries.now) }
     requires first { walk.now.first < ADDRESS_END }
     requires scale { IsKey walk.now.scale }
-    ensures { IsExtent (context_of (E.list entries.now) walk.now) (F.words memory.now) walk.now.first result }
+    ensures { IsExtent (context_of (F.words memory.now).machine (E.list entries.now) walk.now) (F.words memory.now) walk.now.first result }
 {
     let mut lit = LitBox::Empty;
     let mut cursor = Cursor::start(walk.kind, walk.first, walk.scale);

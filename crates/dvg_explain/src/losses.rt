@@ -13,7 +13,7 @@ ghost use Rattle.dvg_explain.specs.Private.Walking.{context_of};
 use crate::items::{WalkContext, see};
 use dvg_cert::{Cert, End, Entries, Entry, Key};
 use dvg_items::{Cursor, Item, Known, Seen, Step};
-use dvg_words::{Fetch, FrameImage, RomImage};
+use dvg_words::{Fetch, FrameImage, FrameOn, Machine, RomImage};
 
 /// The item by which the known place was lost, and the item by which the known scale was lost, if nothing has set it since. `None`
 /// where it is known, or never was.
@@ -76,7 +76,7 @@ fn losses_before<F: Fetch, E: Entries>(
     requires entries { IsSomeCertificate (E.list entries.now) }
     requires first { walk.now.first < ADDRESS_END }
     requires scale { IsKey walk.now.scale }
-    ensures some { IfSome result (AreLosses (context_of (E.list entries.now) walk.now) (F.words memory.now) walk.now.first at) }
+    ensures some { IfSome result (AreLosses (context_of (F.words memory.now).machine (E.list entries.now) walk.now) (F.words memory.now) walk.now.first at) }
     ensures none { IfNone result (NoneLead walk.now.kind (F.words memory.now) walk.now.first at) }
 {
     let mut losses = Losses::NONE;
@@ -98,18 +98,24 @@ fn losses_before<F: Fetch, E: Entries>(
 /// certificate (profile). `None` where the frame's items don't lead to this word. `entries` are those of the certificate. Takes no
 /// memory.
 pub fn frame_losses<E: Entries>(
+    machine: Machine,
     cert: &Cert,
     entries: &E,
     frame: &FrameImage,
     at: u16,
 ) -> Option<Losses>
     requires { E.list entries.now ≡ cert.now.entries }
-    ensures some { IfSome result (AreLosses (frame_context cert.now.entries) (frame_word frame.now) 0 at) }
-    ensures none { IfNone result (NoneLead Frame (frame_word frame.now) 0 at) }
+    ensures some { IfSome result (AreLosses (frame_context machine cert.now.entries) (frame_word machine frame.now) 0 at) }
+    ensures none { IfNone result (NoneLead Frame (frame_word machine frame.now) 0 at) }
 {
     // Its clause says that the list is that of a certificate.
     let _entries = cert.entries();
-    losses_before(frame, entries, &WalkContext::frame(), at)
+    losses_before(
+        &FrameOn::new(machine, frame),
+        entries,
+        &WalkContext::frame(),
+        at,
+    )
 }
 
 /// The items of an entry's shape by which the known place and the known scale were lost before a word of the ROM, as
@@ -123,7 +129,7 @@ pub fn shape_losses<E: Entries>(
 ) -> Option<Losses>
     requires entries { E.list entries.now ≡ cert.now.entries }
     requires entry { Contains cert.now.entries entry.now }
-    ensures some { IfSome result (AreLosses (shape_context cert.now.entries entry.now) (rom_word rom.now) entry.now.addr at) }
+    ensures some { IfSome result (AreLosses (shape_context rom.now.machine cert.now.entries entry.now) (rom_word rom.now) entry.now.addr at) }
     ensures none { IfNone result (NoneLead Shape (rom_word rom.now) entry.now.addr at) }
 {
     // Its clause says that the list is that of a certificate.

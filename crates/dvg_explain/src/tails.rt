@@ -141,7 +141,12 @@ fn tail_at<E: Entries>(
 {
     // What is seen of the first item doesn't depend on where it stands.
     let callee = callee(entries, target(Kind::Shape, &item.instr), key);
-    let seen = Cursor::start(Kind::Shape, 0, key).see(item.format, &item.instr, callee);
+    let seen = Cursor::start(Kind::Shape, 0, key).see(
+        rom.machine(),
+        item.format,
+        &item.instr,
+        callee,
+    );
     let alone = lit_alone(&seen.extent);
     let lit = match item.next_address(Kind::Shape) {
         Some(next) => {
@@ -215,7 +220,7 @@ fn extent_of<E: Entries>(rom: &RomImage, entries: &E, entry: &Entry, tails: &Tai
     requires addr { entry.now.addr < ADDRESS_END }
     requires key { IsKey entry.now.key }
     requires tails { AreTails rom.now (E.list entries.now) tails.now.slots }
-    ensures { IsExtent (shape_context (E.list entries.now) entry.now) (rom_word rom.now) entry.now.addr result }
+    ensures { IsExtent (shape_context rom.now.machine (E.list entries.now) entry.now) (rom_word rom.now) entry.now.addr result }
 {
     match tails.get(entry.addr, entry.key) {
         Some(tail) => tail.lit.absolute,

@@ -1,7 +1,7 @@
 //! The verdict on a ROM and a frame by a certificate, and why they are refused, in numbers.
 
 ghost use Rattle.std.specs.Prelude.{◌≡◌, ◌≤◌, IfOk, IfErr};
-ghost use Rattle.dvg_words.specs.Memory.{rom_of};
+ghost use Rattle.dvg_words.specs.Memory.{rom_on};
 ghost use Rattle.dvg_cert.specs.declared.limits.TheConstants.{MOST_WORDS};
 ghost use Rattle.dvg_check.specs.declared.fault.Mode.TheVariants.{Exact};
 ghost use Rattle.dvg_check.specs.Verdict.{RomVerdict};
@@ -12,7 +12,7 @@ use crate::frames::{FrameAccount, explain_frame};
 use crate::shapes::{ShapeAccount, explain_shapes};
 use dvg_cert::{Cert, HashIndex};
 use dvg_check::{JudgedShapes, Mode, Refusal, Yes};
-use dvg_words::{FrameImage, ImageFault, RomImage, Window};
+use dvg_words::{FrameImage, ImageFault, Machine, RomImage, Window};
 use std::alloc::Global;
 
 /// Why a ROM and a frame are refused by a certificate, in numbers.
@@ -49,6 +49,7 @@ impl RomAccount {
 /// `budget` is how many words the frame may take at most, up to 1,000,000, `window` the part of the screen that may be lit. What is
 /// accepted is safe, and in the mode `Exact` the counts are those of each run. Takes memory for the index of the entries alone.
 pub fn explain_rom(
+    machine: Machine,
     alloc: Global,
     rom: &[u8],
     frame: &FrameImage,
@@ -58,12 +59,12 @@ pub fn explain_rom(
     mode: Mode,
 ) -> Result<Yes, RomAccount>
     requires { budget ≤ MOST_WORDS }
-    ensures verdict { RomVerdict mode window rom.now cert.now frame.now budget (verdict_of result) }
-    ensures account { IfErr result (TellsOf mode window (rom_of cert.now.map rom.now) cert.now.entries frame.now budget) }
-    ensures safe { IfOk result (λ yes. Safe (record { frame = frame.now; rom = rom_of cert.now.map rom.now }) window yes.words yes.depth) }
-    ensures exact { mode ≡ Exact → IfOk result (λ yes. CountsAtHalt (record { frame = frame.now; rom = rom_of cert.now.map rom.now }) yes.words yes.depth) }
+    ensures verdict { RomVerdict machine mode window rom.now cert.now frame.now budget (verdict_of result) }
+    ensures account { IfErr result (TellsOf mode window (rom_on machine cert.now.map rom.now) cert.now.entries frame.now budget) }
+    ensures safe { IfOk result (λ yes. Safe (record { frame = frame.now; rom = rom_on machine cert.now.map rom.now }) window yes.words yes.depth) }
+    ensures exact { mode ≡ Exact → IfOk result (λ yes. CountsAtHalt (record { frame = frame.now; rom = rom_on machine cert.now.map rom.now }) yes.words yes.depth) }
 {
-    let Ok(rom) = RomImage::from_bytes(rom, cert.map()) else {
+    let Ok(rom) = RomImage::from_bytes_on(machine, rom, cert.map()) else {
         return Err(RomAccount::RomLength);
     };
     let listed = cert.entries().len();

@@ -1,6 +1,7 @@
 -- The items of a shape or of a frame are determined, so a walk to the last one has met them all.
 use Rattle.std.proofs.Common.{List, Option, length, refl, sym, arith, ap, Some, None, subst, ◌≡◌, ◌<◌, ◌∷◌, ◌∙◌, ℕ, ⊎_elim, []}
 use Rattle.std.proofs.lemmas.Bool.{cases_lt}
+use Rattle.dvg_words.specs.Values.{Source}
 use Rattle.dvg_words.specs.Decoding.{cell_at}
 use Rattle.dvg_words.specs.declared.instruction.Cell.TheVariants.{Holds}
 use Rattle.dvg_items.specs.Items.{Item, Kind, LeadsTo, next_address, AtEveryPlace, AtEachOf}
@@ -15,7 +16,7 @@ item_same i j a e =
     let k : i.instr ≡ j.instr = cc in
     λ x. record { at = a x; format = l x; instr = k x }
 
-module _ (kind : Kind) (word : ℕ → Option ℕ) (first : ℕ) where
+module _ (kind : Kind) (word : Source) (first : ℕ) where
   -- as many items lead to one place
   pub same_lead : (a b : List Item) (p q : ℕ) → LeadsTo kind word first a p → LeadsTo kind word first b q → length a ≡ length b → Same a b p q
   same_lead [] [] p q h k e = record { items = refl; place = h ∙ sym k }

@@ -36,5 +36,5 @@ first_still Frame = refl
 pub place_from_all : PlaceFromAll
 place_from_all c [] = sym (first_still c.kind)
 place_from_all c (i ∷ earlier) =
-    ap (place_past (effect_of i.instr (scale_before c earlier) (callee c earlier i.instr))) (place_from_all c earlier)
-    ∙ sym (by_effect (first_place c.kind) (effect_of i.instr (scale_before c earlier) (callee c earlier i.instr)) (effects c earlier))
+    ap (place_past (effect_of c.machine i.instr (scale_before c earlier) (callee c earlier i.instr))) (place_from_all c earlier)
+    ∙ sym (by_effect (first_place c.kind) (effect_of c.machine i.instr (scale_before c earlier) (callee c earlier i.instr)) (effects c earlier))

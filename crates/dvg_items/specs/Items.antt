@@ -1,5 +1,6 @@
 -- The items of a shape or of a frame: one instruction after another, up to where it ends. All of it is profile.
 use Rattle.std.specs.Prelude.{◌≡◌, ℕ, ◌+◌, List, [], ◌∷◌, Option, Some, None, nat_lt, if◌then◌else◌}
+use Rattle.dvg_words.specs.Values.{Source}
 use Rattle.dvg_words.specs.declared.instruction.Instr.TheVariants.{Draw as Draws, Labs, Halt, Jsrl, Rtsl, Jmpl}
 use Rattle.dvg_words.specs.declared.instruction.Instr.{Instr}
 use Rattle.dvg_words.specs.declared.instruction.Format.{Format}
@@ -23,15 +24,15 @@ address_after Frame at format (Jmpl to) = if nat_lt at to then Some to else None
 abbrev pub next_address : Kind → Item → Option ℕ
 next_address kind i = address_after kind i.at i.format i.instr
 
--- these items, the latest first, lead from the first word address to this one, in a memory that is read by `word` (profile)
-abbrev pub LeadsTo : Kind → (ℕ → Option ℕ) → ℕ → List Item → ℕ → Type 0
-LeadsTo kind word first [] p = p ≡ first
-LeadsTo kind word first (i ∷ earlier) p =
-    LeadsTo kind word first earlier i.at × (cell_at word i.at ≡ Holds i.format i.instr) × (next_address kind i ≡ Some p)
+-- these items, the latest first, lead from the first word address to this one, in what is read (profile)
+abbrev pub LeadsTo : Kind → Source → ℕ → List Item → ℕ → Type 0
+LeadsTo kind source first [] p = p ≡ first
+LeadsTo kind source first (i ∷ earlier) p =
+    LeadsTo kind source first earlier i.at × (cell_at source i.at ≡ Holds i.format i.instr) × (next_address kind i ≡ Some p)
 
 -- P holds at each word address that items lead to, with the items before it
-abbrev pub AtEveryPlace : Kind → (ℕ → Option ℕ) → ℕ → (List Item → ℕ → Type 0) → Type 0
-AtEveryPlace kind word first P = (earlier : List Item) (p : ℕ) → LeadsTo kind word first earlier p → P earlier p
+abbrev pub AtEveryPlace : Kind → Source → ℕ → (List Item → ℕ → Type 0) → Type 0
+AtEveryPlace kind source first P = (earlier : List Item) (p : ℕ) → LeadsTo kind source first earlier p → P earlier p
 
 -- P holds at the address of each of these items, with the items before it
 abbrev pub AtEachOf : (List Item → ℕ → Type 0) → List Item → Type 0

@@ -6,6 +6,7 @@ use Rattle.dvg_words.specs.declared.instruction.Instr.TheVariants.{Draw as Draws
 use Rattle.dvg_words.specs.declared.instruction.Instr.{Instr}
 use Rattle.dvg_words.specs.Decoding.{word_count}
 use Rattle.dvg_words.specs.declared.beam.Point.{Point}
+use Rattle.dvg_words.specs.declared.machine.Machine.{Machine}
 use Rattle.dvg_words.specs.Beam.{origin, displacement, labs_place}
 use Rattle.dvg_cert.specs.declared.entry.Key.{Key}
 use Rattle.dvg_cert.specs.declared.entry.Key.TheVariants.{At, Any}
@@ -18,19 +19,20 @@ pub use Rattle.dvg_items.specs.declared.known.Effect.{Effect}
 pub use Rattle.dvg_items.specs.declared.known.Effect.TheVariants.{Sets, Loses, Moves}
 pub use Rattle.dvg_items.specs.declared.known.Known.{Known}
 
--- the context of items: whether they are a shape's or a frame's, the certificate's entries, and the scale at the start
+-- the context of items: whether they are a shape's or a frame's, the machine that runs them, the certificate's entries, and the scale at the start
 pub record Context : Type 0 where
   pub kind : Kind
+  pub machine : Machine
   pub list : List Entry
   pub scale : Key
 
 -- the context of an entry's shape, which starts at the scale of the entry's key
-abbrev pub shape_context : List Entry → Entry → Context
-shape_context list e = record { kind = Shape; list = list; scale = e.key }
+abbrev pub shape_context : Machine → List Entry → Entry → Context
+shape_context machine list e = record { kind = Shape; machine = machine; list = list; scale = e.key }
 
 -- the context of a frame, which starts at unknown scale
-abbrev pub frame_context : List Entry → Context
-frame_context list = record { kind = Frame; list = list; scale = Any }
+abbrev pub frame_context : Machine → List Entry → Context
+frame_context machine list = record { kind = Frame; machine = machine; list = list; scale = Any }
 
 -- ---- the entry that an item calls
 
@@ -58,9 +60,9 @@ scale_set (Jmpl to) (Some e) = Some e.scale
 scale_set i named = None
 
 -- a draw moves the place at a known scale, and loses it at unknown scale
-abbrev pub draw_effect : DrawFields → Key → Effect
-draw_effect d (At gscale) = Moves (displacement d gscale)
-draw_effect d Any = Loses
+abbrev pub draw_effect : Machine → DrawFields → Key → Effect
+draw_effect machine d (At gscale) = Moves (displacement machine d gscale)
+draw_effect machine d Any = Loses
 
 -- what a called shape does to the place, from the entry's end
 abbrev pub stop_effect : End → Effect
@@ -74,13 +76,13 @@ callee_effect None = Moves origin
 callee_effect (Some e) = stop_effect e.stop
 
 -- what an instruction does to the place
-abbrev pub effect_of : Instr → Key → Option Entry → Effect
-effect_of (Draws d) scale named = draw_effect d scale
-effect_of (Labs x y gscale) scale named = Sets (labs_place x y)
-effect_of Halt scale named = Moves origin
-effect_of Rtsl scale named = Moves origin
-effect_of (Jsrl to) scale named = callee_effect named
-effect_of (Jmpl to) scale named = callee_effect named
+abbrev pub effect_of : Machine → Instr → Key → Option Entry → Effect
+effect_of machine (Draws d) scale named = draw_effect machine d scale
+effect_of machine (Labs x y gscale) scale named = Sets (labs_place machine x y)
+effect_of machine Halt scale named = Moves origin
+effect_of machine Rtsl scale named = Moves origin
+effect_of machine (Jsrl to) scale named = callee_effect named
+effect_of machine (Jmpl to) scale named = callee_effect named
 
 -- a place, moved; a place is an `End`: relative to the beam at the call, absolute, or lost
 abbrev pub place_moved_by : End → Point → End
@@ -118,10 +120,10 @@ abbrev pub start : Kind → Key → Known
 start kind scale = record { place = first_place kind; scale = scale; words = 0; depth = 0 }
 
 -- what is known past an item that calls this entry: words are added, and the greater depth stays
-abbrev pub known_past : Item → Option Entry → Known → Known
-known_past i named before =
+abbrev pub known_past : Machine → Item → Option Entry → Known → Known
+known_past machine i named before =
     record {
-      place = place_past (effect_of i.instr before.scale named) before.place;
+      place = place_past (effect_of machine i.instr before.scale named) before.place;
       scale = unwrap_or (scale_set i.instr named) before.scale;
       words = word_count i.format + callee_words named + before.words;
       depth = max (depth_under i.instr named) before.depth;
@@ -131,7 +133,7 @@ known_past i named before =
 abbrev pub known_before : Context → List Item → Known
 known_before c [] = start c.kind c.scale
 known_before c (i ∷ earlier) =
-    known_past i (callee_at c.list (target c.kind i.instr) (known_before c earlier).scale) (known_before c earlier)
+    known_past c.machine i (callee_at c.list (target c.kind i.instr) (known_before c earlier).scale) (known_before c earlier)
 
 -- the known place after these items
 abbrev pub place_before : Context → List Item → End

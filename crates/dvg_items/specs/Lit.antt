@@ -5,6 +5,7 @@ use Rattle.dvg_words.specs.Values.{DrawFields, Window}
 use Rattle.dvg_words.specs.declared.instruction.Instr.TheVariants.{Draw as Draws, Labs, Halt, Jsrl, Rtsl, Jmpl}
 use Rattle.dvg_words.specs.declared.instruction.Instr.{Instr}
 use Rattle.dvg_words.specs.declared.beam.Point.{Point}
+use Rattle.dvg_words.specs.declared.machine.Machine.{Machine}
 use Rattle.dvg_words.specs.Beam.{origin, shift, displacement, InWindow}
 use Rattle.dvg_cert.specs.declared.entry.Key.{Key}
 use Rattle.dvg_cert.specs.declared.entry.Key.TheVariants.{At, Any}
@@ -17,10 +18,10 @@ pub use Rattle.dvg_items.specs.declared.lit.LitExtent.{LitExtent}
 pub use Rattle.dvg_items.specs.declared.lit.LitExtent.TheVariants.{Nothing, Between, Anywhere}
 
 -- seen from the place before it, a lit draw lights what lies between its ends; intensity 0 is dark
-abbrev pub draw_extent : ℕ → DrawFields → Key → LitExtent
-draw_extent zero d scale = Nothing
-draw_extent (suc n) d (At gscale) = Between origin (displacement d gscale)
-draw_extent (suc n) d Any = Anywhere
+abbrev pub draw_extent : Machine → ℕ → DrawFields → Key → LitExtent
+draw_extent machine zero d scale = Nothing
+draw_extent machine (suc n) d (At gscale) = Between origin (displacement machine d gscale)
+draw_extent machine (suc n) d Any = Anywhere
 
 -- a called shape lights what lies between the corners of its box
 abbrev pub box_extent : LitBox → LitExtent
@@ -33,13 +34,13 @@ callee_extent None = Nothing
 callee_extent (Some e) = box_extent e.lit
 
 -- what an instruction lights, with the entry that it calls
-abbrev pub extent_of : Instr → Key → Option Entry → LitExtent
-extent_of (Draws d) scale named = draw_extent d.bright d scale
-extent_of (Labs x y gscale) scale named = Nothing
-extent_of Halt scale named = Nothing
-extent_of Rtsl scale named = Nothing
-extent_of (Jsrl to) scale named = callee_extent named
-extent_of (Jmpl to) scale named = callee_extent named
+abbrev pub extent_of : Machine → Instr → Key → Option Entry → LitExtent
+extent_of machine (Draws d) scale named = draw_extent machine d.bright d scale
+extent_of machine (Labs x y gscale) scale named = Nothing
+extent_of machine Halt scale named = Nothing
+extent_of machine Rtsl scale named = Nothing
+extent_of machine (Jsrl to) scale named = callee_extent named
+extent_of machine (Jmpl to) scale named = callee_extent named
 
 -- ---- what a place and a box allow
 

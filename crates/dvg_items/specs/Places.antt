@@ -15,7 +15,7 @@ map_with_earlier f (i ∷ earlier) = f earlier i ∷ map_with_earlier f earlier
 
 -- the effects of the items, the latest first
 abbrev pub effects : Context → List Item → List Effect
-effects c earlier = map_with_earlier (λ before i. effect_of i.instr (scale_before c before) (callee c before i.instr)) earlier
+effects c earlier = map_with_earlier (λ before i. effect_of c.machine i.instr (scale_before c before) (callee c before i.instr)) earlier
 
 -- the place that the latest setting or losing effect leaves, or the start if there is none
 abbrev pub fixed_place : End → List Effect → End

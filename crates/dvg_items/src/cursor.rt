@@ -13,7 +13,7 @@ use crate::known::Known;
 use crate::lit::extent_of;
 use crate::seen::Seen;
 use dvg_cert::{Entry, Key};
-use dvg_words::{Format, Instr};
+use dvg_words::{Format, Instr, Machine};
 
 /// The word address of an item, and what is known before it.
 #[derive(Clone, Copy)]
@@ -43,12 +43,18 @@ impl Cursor {
 
     /// What the rules see of this instruction at the cursor, with the entry that it calls.
     #[inline(always)]
-    pub fn see(&self, format: Format, instr: &Instr, callee: Option<Entry>) -> Seen
+    pub fn see(
+        &self,
+        machine: Machine,
+        format: Format,
+        instr: &Instr,
+        callee: Option<Entry>,
+    ) -> Seen
         requires here { IsSoundCursor self.now }
         requires near { self.now.at < ADDRESS_END }
         requires fields { InstrFits instr.now }
         requires callee { IfSome callee IsClaim }
-        ensures value { result ≡ seen_with callee self.now.known (record { at = self.now.at; format = format; instr = instr.now }) }
+        ensures value { result ≡ seen_with machine callee self.now.known (record { at = self.now.at; format = format; instr = instr.now }) }
         ensures sound { IsSoundSeen result }
     {
         let item = Item {
@@ -59,9 +65,9 @@ impl Cursor {
         Seen {
             item,
             place: self.known.place,
-            extent: extent_of(instr, self.known.scale, &callee),
+            extent: extent_of(machine, instr, self.known.scale, &callee),
             callee,
-            after: self.known.past(&item, &callee),
+            after: self.known.past(machine, &item, &callee),
         }
     }
 }

@@ -11,7 +11,7 @@ ghost use Rattle.dvg_items.specs.Bounds.{IsNear, IsNearPlace, IsNearEffect, IsCl
 
 use crate::item::{Item, Kind};
 use dvg_cert::{End, Entries, Entry, Key};
-use dvg_words::{Draw, Instr, Point, draw_move, labs_place, shift};
+use dvg_words::{Draw, Instr, Machine, Point, draw_move, labs_place, shift};
 
 /// What an item does to the place.
 #[derive(Clone, Copy)]
@@ -32,13 +32,13 @@ pub struct Known {
 }
 
 /// What a draw does to the place.
-fn draw_effect(draw: &Draw, scale: Key) -> Effect
+fn draw_effect(machine: Machine, draw: &Draw, scale: Key) -> Effect
     requires { IsKey scale }
-    ensures effect { result ≡ draw_effect draw.now scale }
+    ensures effect { result ≡ draw_effect machine draw.now scale }
     ensures near { IsNearEffect result }
 {
     match scale {
-        Key::At(gscale) => Effect::Moves(draw_move(draw, gscale)),
+        Key::At(gscale) => Effect::Moves(draw_move(machine, draw, gscale)),
         Key::Any => Effect::Loses,
     }
 }
@@ -58,15 +58,15 @@ fn stop_effect(stop: End) -> Effect
 
 /// What an instruction does to the place, with the entry that it calls.
 #[inline(always)]
-fn effect_of(instr: &Instr, scale: Key, callee: &Option<Entry>) -> Effect
+fn effect_of(machine: Machine, instr: &Instr, scale: Key, callee: &Option<Entry>) -> Effect
     requires scale { IsKey scale }
     requires callee { IfSome callee.now IsClaim }
-    ensures effect { result ≡ effect_of instr.now scale callee.now }
+    ensures effect { result ≡ effect_of machine instr.now scale callee.now }
     ensures near { IsNearEffect result }
 {
     match (instr, callee) {
-        (Instr::Draw(draw), _) => draw_effect(draw, scale),
-        (Instr::Labs { x, y, .. }, _) => Effect::Sets(labs_place(*x, *y)),
+        (Instr::Draw(draw), _) => draw_effect(machine, draw, scale),
+        (Instr::Labs { x, y, .. }, _) => Effect::Sets(labs_place(machine, *x, *y)),
         (Instr::Jsrl { .. } | Instr::Jmpl { .. }, Some(e)) => stop_effect(e.stop),
         _ => Effect::Moves(Point::ORIGIN),
     }
@@ -180,18 +180,18 @@ impl Known {
 
     /// What is known past an item that calls this entry.
     #[inline(always)]
-    pub fn past(&self, item: &Item, callee: &Option<Entry>) -> Known
+    pub fn past(&self, machine: Machine, item: &Item, callee: &Option<Entry>) -> Known
         requires before { IsSoundCursor (record { at = item.now.at; known = self.now }) }
         requires callee { IfSome callee.now IsClaim }
         requires near { item.now.at < ADDRESS_END }
         requires fields { InstrFits item.now.instr }
-        ensures value { result ≡ known_past item.now callee.now self.now }
+        ensures value { result ≡ known_past machine item.now callee.now self.now }
         ensures place { IsNearPlace (item.now.at + 1) result.place }
         ensures key { IsKey result.scale }
         ensures words { IsFewWords (item.now.at + 1) result.words }
         ensures depth { result.depth ≤ 4 }
     {
-        let effect = effect_of(&item.instr, self.scale, callee);
+        let effect = effect_of(machine, &item.instr, self.scale, callee);
         Known {
             place: place_past(&effect, &self.place, item.at),
             scale: scale_past(&item.instr, self.scale, callee),

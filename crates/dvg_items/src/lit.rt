@@ -9,7 +9,7 @@ ghost use Rattle.dvg_items.specs.Bounds.{IsNearPlace, IsNear, IsNearExtent, IsCl
 
 use crate::boxes::is_in_box;
 use dvg_cert::{End, Entry, Key, LitBox};
-use dvg_words::{Draw, Instr, Point, Window, draw_move, in_window, shift};
+use dvg_words::{Draw, Instr, Machine, Point, Window, draw_move, in_window, shift};
 
 /// What an item lights, seen from the place before it.
 #[derive(Clone, Copy)]
@@ -23,9 +23,9 @@ pub enum LitExtent {
 
 /// What a draw lights.
 #[inline(always)]
-fn draw_extent(draw: &Draw, scale: Key) -> LitExtent
+fn draw_extent(machine: Machine, draw: &Draw, scale: Key) -> LitExtent
     requires { IsKey scale }
-    ensures extent { result ≡ draw_extent draw.now.bright draw.now scale }
+    ensures extent { result ≡ draw_extent machine draw.now.bright draw.now scale }
     ensures near { IsNearExtent result }
 {
     if draw.bright == 0 {
@@ -34,7 +34,7 @@ fn draw_extent(draw: &Draw, scale: Key) -> LitExtent
     match scale {
         Key::At(gscale) => LitExtent::Between {
             from: Point::ORIGIN,
-            to: draw_move(draw, gscale),
+            to: draw_move(machine, draw, gscale),
         },
         Key::Any => LitExtent::Anywhere,
     }
@@ -63,14 +63,19 @@ fn box_extent(lit: LitBox) -> LitExtent
 
 /// What an instruction lights, with the entry that it calls.
 #[inline(always)]
-pub fn extent_of(instr: &Instr, scale: Key, callee: &Option<Entry>) -> LitExtent
+pub fn extent_of(
+    machine: Machine,
+    instr: &Instr,
+    scale: Key,
+    callee: &Option<Entry>,
+) -> LitExtent
     requires scale { IsKey scale }
     requires callee { IfSome callee.now IsClaim }
-    ensures extent { result ≡ extent_of instr.now scale callee.now }
+    ensures extent { result ≡ extent_of machine instr.now scale callee.now }
     ensures near { IsNearExtent result }
 {
     match (instr, callee) {
-        (Instr::Draw(draw), _) => draw_extent(draw, scale),
+        (Instr::Draw(draw), _) => draw_extent(machine, draw, scale),
         (Instr::Jsrl { .. } | Instr::Jmpl { .. }, Some(e)) => box_extent(e.lit),
         _ => LitExtent::Nothing,
     }

@@ -23,17 +23,17 @@ module _ (rom : Rom) (a b : List Entry) (made_a : (e : Entry) → Contains a e �
   Agree n = (addr : ℕ) (key : Key) (e f : Entry) → entry_at a addr key ≡ Some e → entry_at b addr key ≡ Some f → e.words < n → e ≡ f
 
   module _ (e f : Entry) (made_e : MadeEntry rom a e) (made_f : MadeEntry rom b f) (addr : e.addr ≡ f.addr) (key : e.key ≡ f.key) (agree : Agree e.words) where
-    same_at : (earlier : List Item) (i : Item) → LeadsTo Shape (rom_word rom) e.addr earlier i.at → cell_at (rom_word rom) i.at ≡ Holds i.format i.instr → Matched a b e.key earlier → (o : Option ℕ) → target Shape i.instr ≡ o → SameAt a b o (scale_before (keyed_context a e.key) earlier)
+    same_at : (earlier : List Item) (i : Item) → LeadsTo Shape (rom_word rom) e.addr earlier i.at → cell_at (rom_word rom) i.at ≡ Holds i.format i.instr → Matched rom.machine a b e.key earlier → (o : Option ℕ) → target Shape i.instr ≡ o → SameAt a b o (scale_before (keyed_context rom.machine a e.key) earlier)
     same_at earlier i lead is m None t = tt
     same_at earlier i lead is m (Some to) t =
         let g = made_e.keyed earlier i lead is to t in
         let h = made_f.keyed earlier i (subst (λ x. LeadsTo Shape (rom_word rom) x earlier i.at) addr lead) is to t in
-        let scale : scale_before (keyed_context a e.key) earlier ≡ scale_before (keyed_context b f.key) earlier = ap (λ (x : Gathered). x.known.scale) (gathered_same a b e.key earlier m) ∙ ap (λ (k : Key). scale_before (keyed_context b k) earlier) key in
-        let there : entry_at b to (scale_before (keyed_context a e.key) earlier) ≡ Some h.0 = ap (λ (s : Key). entry_at b to s) scale ∙ h.1 in
-        let same = agree to (scale_before (keyed_context a e.key) earlier) g.0 h.0 g.1 there (callee_less rom a e made_e earlier i lead is to g.0 t g.1) in
+        let scale : scale_before (keyed_context rom.machine a e.key) earlier ≡ scale_before (keyed_context rom.machine b f.key) earlier = ap (λ (x : Gathered). x.known.scale) (gathered_same rom.machine a b e.key earlier m) ∙ ap (λ (k : Key). scale_before (keyed_context rom.machine b k) earlier) key in
+        let there : entry_at b to (scale_before (keyed_context rom.machine a e.key) earlier) ≡ Some h.0 = ap (λ (s : Key). entry_at b to s) scale ∙ h.1 in
+        let same = agree to (scale_before (keyed_context rom.machine a e.key) earlier) g.0 h.0 g.1 there (callee_less rom a e made_e earlier i lead is to g.0 t g.1) in
         (g.0, g.1, there ∙ ap Some (sym same))
 
-    matched : (items : List Item) (p : ℕ) → LeadsTo Shape (rom_word rom) e.addr items p → Matched a b e.key items
+    matched : (items : List Item) (p : ℕ) → LeadsTo Shape (rom_word rom) e.addr items p → Matched rom.machine a b e.key items
     matched [] p lead = tt
     matched (i ∷ earlier) p lead =
         let m = matched earlier i.at lead.0 in
@@ -43,7 +43,7 @@ module _ (rom : Rom) (a b : List Entry) (made_a : (e : Entry) → Contains a e �
     same_entry =
         let l = made_ends rom a e made_e in
         let m = matched l.stops.items l.stops.i.at l.stops.leads in
-        same_sums a b (l.stops.i ∷ l.stops.items) e f addr key (m, same_at l.stops.items l.stops.i l.stops.leads l.stops.is m (target Shape l.stops.i.instr) refl) l.sums (sums_of rom b f made_f l.stops.items l.stops.i (subst (λ x. LeadsTo Shape (rom_word rom) x l.stops.items l.stops.i.at) addr l.stops.leads) l.stops.is l.stops.last)
+        same_sums rom.machine a b (l.stops.i ∷ l.stops.items) e f addr key (m, same_at l.stops.items l.stops.i l.stops.leads l.stops.is m (target Shape l.stops.i.instr) refl) l.sums (sums_of rom b f made_f l.stops.items l.stops.i (subst (λ x. LeadsTo Shape (rom_word rom) x l.stops.items l.stops.i.at) addr l.stops.leads) l.stops.is l.stops.last)
 
   agree_up_to : (n : ℕ) → Agree n
   agree_up_to zero addr key e f p q lt = absurd (omega arith)
@@ -56,5 +56,5 @@ module _ (rom : Rom) (a b : List Entry) (made_a : (e : Entry) → Contains a e �
   agree addr key e f p q = agree_up_to (e.words + 1) addr key e f p q (omega arith)
 
   -- the items of an entry of both find the same entries
-  pub matched_made : (e : Entry) → MadeEntry rom a e → MadeEntry rom b e → (items : List Item) (p : ℕ) → LeadsTo Shape (rom_word rom) e.addr items p → Matched a b e.key items
+  pub matched_made : (e : Entry) → MadeEntry rom a e → MadeEntry rom b e → (items : List Item) (p : ℕ) → LeadsTo Shape (rom_word rom) e.addr items p → Matched rom.machine a b e.key items
   matched_made e made_e made_f items p lead = matched e e made_e made_f refl refl (λ to k g h u v less. agree to k g h u v) items p lead

@@ -76,7 +76,7 @@ least_ordered [] (Span a b c d) h = absurd (h.least Empty tt)
 least_ordered (p ∷ ps) (Span a b c d) h = let i = h.holds.0 in (omega (arith, ints, i.left, i.right), omega (arith, ints, i.bottom, i.top))
 
 pub made_ordered : (rom : Rom) (list : List Entry) (f : Entry) → MadeEntry rom list f → IsOrdered f.lit
-made_ordered rom list f made = let h = made_ends rom list f made in least_ordered (lit_points (shape_context list f) (h.stops.i ∷ h.stops.items)) f.lit h.sums.box
+made_ordered rom list f made = let h = made_ends rom list f made in least_ordered (lit_points (shape_context rom.machine list f) (h.stops.i ∷ h.stops.items)) f.lit h.sums.box
 
 -- ---- the entry that a list names for a call
 
@@ -115,7 +115,7 @@ pub record Better (rom : Rom) (addr : ℕ) (key : Key) (e : Entry) : Type 0 wher
 module _ (rom : Rom) (list : List Entry) (up : Upholds rom list) where
   module _ (e : Entry) (listed : Contains list e) where
     abbrev c : Context
-    c = shape_context list e
+    c = shape_context rom.machine list e
 
     abbrev Kept : List Item → ℕ → Cell → ShapeWhy → Type 0
     Kept earlier p cell why = CellKeeps shape.Unmapped shape.Odd (λ j. ShapeKeeps Bound screen e (seen_at c earlier j)) p cell why
@@ -151,48 +151,48 @@ module _ (rom : Rom) (list : List Entry) (up : Upholds rom list) where
     -- along the items of this shape, what is known by the other list
     module _ (key : Key) where
       pub record Tracked (made : List Entry) (items : List Item) : Type 0 where
-        pub fine : AllFine (keyed_context made key) items
-        pub knows : KnowsMore (known_before c items) (known_before (keyed_context made key) items)
-        pub holds : HoldsAll e.lit (lit_points (keyed_context made key) items)
+        pub fine : AllFine (keyed_context rom.machine made key) items
+        pub knows : KnowsMore (known_before c items) (known_before (keyed_context rom.machine made key) items)
+        pub holds : HoldsAll e.lit (lit_points (keyed_context rom.machine made key) items)
 
       -- the entries that the two lists have for the call
       pub record Ready (made : List Entry) (earlier : List Item) (i : Item) : Type 0 where
         pub tracked : Tracked made earlier
-        pub keyed : (to : ℕ) → target Shape i.instr ≡ Some to → HasEntry made to (scale_before (keyed_context made key) earlier)
-        pub refines : CalleeRefines (callee c earlier i.instr) (callee (keyed_context made key) earlier i.instr)
+        pub keyed : (to : ℕ) → target Shape i.instr ≡ Some to → HasEntry made to (scale_before (keyed_context rom.machine made key) earlier)
+        pub refines : CalleeRefines (callee c earlier i.instr) (callee (keyed_context rom.machine made key) earlier i.instr)
 
-      pub lights : (made : List Entry) (earlier : List Item) (i : Item) → LeadsTo Shape (rom_word rom) e.addr earlier i.at → cell_at (rom_word rom) i.at ≡ Holds i.format i.instr → Ready made earlier i → LightsLess (extent c earlier i.instr) (extent (keyed_context made key) earlier i.instr) (place_before c earlier) (place_before (keyed_context made key) earlier)
+      pub lights : (made : List Entry) (earlier : List Item) (i : Item) → LeadsTo Shape (rom_word rom) e.addr earlier i.at → cell_at (rom_word rom) i.at ≡ Holds i.format i.instr → Ready made earlier i → LightsLess (extent c earlier i.instr) (extent (keyed_context rom.machine made key) earlier i.instr) (place_before c earlier) (place_before (keyed_context rom.machine made key) earlier)
       lights made earlier i lead is r =
-          lights_less i.instr (callee c earlier i.instr) (callee (keyed_context made key) earlier i.instr) (known_before c earlier) (known_before (keyed_context made key) earlier) r.tracked.knows r.refines (rule earlier i lead is shape.BeamUnknown (λ q. cc q)) (rule earlier i lead is shape.ScaleUnknown (λ q. cc q))
+          lights_less rom.machine i.instr (callee c earlier i.instr) (callee (keyed_context rom.machine made key) earlier i.instr) (known_before c earlier) (known_before (keyed_context rom.machine made key) earlier) r.tracked.knows r.refines (rule earlier i lead is shape.BeamUnknown (λ q. cc q)) (rule earlier i lead is shape.ScaleUnknown (λ q. cc q))
 
       track_on : (made : List Entry) (earlier : List Item) (i : Item) → LeadsTo Shape (rom_word rom) e.addr earlier i.at → cell_at (rom_word rom) i.at ≡ Holds i.format i.instr → Ready made earlier i → Tracked made (i ∷ earlier)
       track_on made earlier i lead is r =
           let less = lights made earlier i lead is r in
           record {
             fine = (r.tracked.fine, record { straight = record { no_halt = rule earlier i lead is shape.HaltInShape (λ q. cc q); place = less.known; scale = less.scale_known }; keyed = r.keyed });
-            knows = more_after i (callee c earlier i.instr) (callee (keyed_context made key) earlier i.instr) (known_before c earlier) (known_before (keyed_context made key) earlier) r.tracked.knows r.refines;
-            holds = all_append (InBox e.lit) (relative_corners (extent (keyed_context made key) earlier i.instr) (place_before (keyed_context made key) earlier)) (lit_points (keyed_context made key) earlier) (less.boxed e.lit (rule earlier i lead is shape.BoxTooSmall (λ q. cc q))) r.tracked.holds;
+            knows = more_after rom.machine i (callee c earlier i.instr) (callee (keyed_context rom.machine made key) earlier i.instr) (known_before c earlier) (known_before (keyed_context rom.machine made key) earlier) r.tracked.knows r.refines;
+            holds = all_append (InBox e.lit) (relative_corners (extent (keyed_context rom.machine made key) earlier i.instr) (place_before (keyed_context rom.machine made key) earlier)) (lit_points (keyed_context rom.machine made key) earlier) (less.boxed e.lit (rule earlier i lead is shape.BoxTooSmall (λ q. cc q))) r.tracked.holds;
           }
 
       grow_tracked : (a b : List Entry) (items : List Item) → Extends a b → Tracked a items → Tracked b items
       grow_tracked a b items ext t =
-          let same = gathered_same a b key items (matched_fine a b key ext items t.fine) in
+          let same = gathered_same rom.machine a b key items (matched_fine rom.machine a b key ext items t.fine) in
           record {
-            fine = fine_grows a b key ext items t.fine;
+            fine = fine_grows rom.machine a b key ext items t.fine;
             knows = subst (λ (g : Gathered). KnowsMore (known_before c items) g.known) same t.knows;
             holds = subst (λ (g : Gathered). HoldsAll e.lit g.lit) same t.holds;
           }
 
       -- the call's entries, of which the made one refines the other
-      ready_call : (made : List Entry) (earlier : List Item) (i : Item) (to : ℕ) → target Shape i.instr ≡ Some to → Tracked made earlier → (call : Call list to (scale_before c earlier) (scale_before (keyed_context made key) earlier)) → (f : Entry) → entry_at made to (scale_before (keyed_context made key) earlier) ≡ Some f → Refines f call.g → IsOrdered f.lit → Ready made earlier i
+      ready_call : (made : List Entry) (earlier : List Item) (i : Item) (to : ℕ) → target Shape i.instr ≡ Some to → Tracked made earlier → (call : Call list to (scale_before c earlier) (scale_before (keyed_context rom.machine made key) earlier)) → (f : Entry) → entry_at made to (scale_before (keyed_context rom.machine made key) earlier) ≡ Some f → Refines f call.g → IsOrdered f.lit → Ready made earlier i
       ready_call made earlier i to t tracked call f is refines ordered =
-          let scale : Key = scale_before (keyed_context made key) earlier in
+          let scale : Key = scale_before (keyed_context rom.machine made key) earlier in
           let weak : callee c earlier i.instr ≡ Some call.g = ap (λ o. callee_at list o (scale_before c earlier)) t ∙ call.is in
-          let strong : callee (keyed_context made key) earlier i.instr ≡ Some f = ap (λ o. callee_at made o scale) t ∙ exact_named made to scale f is in
+          let strong : callee (keyed_context rom.machine made key) earlier i.instr ≡ Some f = ap (λ o. callee_at made o scale) t ∙ exact_named made to scale f is in
           record {
             tracked = tracked;
             keyed = λ other q. (f, ap (λ o. entry_at made o scale) (same_some other to (sym q ∙ t)) ∙ is);
-            refines = subst (λ o. CalleeRefines o (callee (keyed_context made key) earlier i.instr)) (sym weak) (subst (λ o. CalleeRefines (Some call.g) o) (sym strong) (refines, ordered));
+            refines = subst (λ o. CalleeRefines o (callee (keyed_context rom.machine made key) earlier i.instr)) (sym weak) (subst (λ o. CalleeRefines (Some call.g) o) (sym strong) (refines, ordered));
           }
         where
           same_some : (x y : ℕ) → Some x ≡ Some y → x ≡ y
@@ -201,11 +201,11 @@ module _ (rom : Rom) (list : List Entry) (up : Upholds rom list) where
       ready_none : (made : List Entry) (earlier : List Item) (i : Item) → target Shape i.instr ≡ None → Tracked made earlier → Ready made earlier i
       ready_none made earlier i t tracked =
           let weak : callee c earlier i.instr ≡ None = ap (λ o. callee_at list o (scale_before c earlier)) t in
-          let strong : callee (keyed_context made key) earlier i.instr ≡ None = ap (λ o. callee_at made o (scale_before (keyed_context made key) earlier)) t in
+          let strong : callee (keyed_context rom.machine made key) earlier i.instr ≡ None = ap (λ o. callee_at made o (scale_before (keyed_context rom.machine made key) earlier)) t in
           record {
             tracked = tracked;
             keyed = λ other q. let no : None ≡ Some other = sym t ∙ q in cc no;
-            refines = subst (λ o. CalleeRefines o (callee (keyed_context made key) earlier i.instr)) (sym weak) (subst (λ o. CalleeRefines None o) (sym strong) tt);
+            refines = subst (λ o. CalleeRefines o (callee (keyed_context rom.machine made key) earlier i.instr)) (sym weak) (subst (λ o. CalleeRefines None o) (sym strong) tt);
           }
 
       -- ---- the made entry of this shape
@@ -222,13 +222,13 @@ module _ (rom : Rom) (list : List Entry) (up : Upholds rom list) where
             by_target : (o : Option ℕ) → target Shape i.instr ≡ o → Walked (i ∷ earlier)
             by_target None t = record { made = w.made; all = w.all; tracked = track_on w.made earlier i lead is (ready_none w.made earlier i t w.tracked) }
             by_target (Some to) t =
-                let k : Key = scale_before (keyed_context w.made key) earlier in
+                let k : Key = scale_before (keyed_context rom.machine w.made key) earlier in
                 let call = called earlier i lead is to t k w.tracked.knows.scale in
                 let weak : callee c earlier i.instr ≡ Some call.g = ap (λ o. callee_at list o (scale_before c earlier)) t ∙ call.is in
                 let b = smaller call.g call.listed k call.covers.key (fewer earlier i lead is call.g weak) in
                 let both : List Entry = w.made ++ b.list in
                 let tracked = grow_tracked w.made both earlier (extends_more w.made b.list) w.tracked in
-                let scale : k ≡ scale_before (keyed_context both key) earlier = ap (λ (g : Gathered). g.known.scale) (gathered_same w.made both key earlier (matched_fine w.made both key (extends_more w.made b.list) earlier w.tracked.fine)) in
+                let scale : k ≡ scale_before (keyed_context rom.machine both key) earlier = ap (λ (g : Gathered). g.known.scale) (gathered_same rom.machine w.made both key earlier (matched_fine rom.machine w.made both key (extends_more w.made b.list) earlier w.tracked.fine)) in
                 let there : entry_at both to k ≡ Some b.f = extends_second rom w.made b.list w.all b.all to k b.f (subst (λ a. entry_at b.list a k ≡ Some b.f) call.covers.addr b.found_it) in
                 let all = all_merged rom w.made b.list w.all b.all in
                 record {
@@ -268,7 +268,7 @@ module _ (rom : Rom) (list : List Entry) (up : Upholds rom list) where
           made = h.walked.made
 
           abbrev d : Context
-          d = keyed_context made key
+          d = keyed_context rom.machine made key
 
           box : (b : LitBox) × IsLeast (lit_points d (h.i ∷ h.items)) b
           box = least_box (lit_points d (h.i ∷ h.items))
@@ -350,7 +350,7 @@ module _ (rom : Rom) (list : List Entry) (up : Upholds rom list) where
       by_target : (o : Option ℕ) → target Shape i.instr ≡ o → Ready e listed f.key made earlier i
       by_target None q = ready_none e listed f.key made earlier i q t
       by_target (Some to) q =
-          let k : Key = scale_before (keyed_context made f.key) earlier in
+          let k : Key = scale_before (keyed_context rom.machine made f.key) earlier in
           let g = (all f in_made).made.keyed earlier i (subst (λ a. LeadsTo Shape (rom_word rom) a earlier i.at) covers.addr lead) is to q in
           let call = called e listed earlier i lead is to q k t.knows.scale in
           let made_g = (all g.0 (listed_at made to k g.0 g.1).listed).made in

@@ -90,8 +90,8 @@ module _ (rom : Rom) (from : List Entry) (root : ℕ × Key) (done : List Entry)
         let i : Item = w.item in
         let lead : LeadsTo Shape (rom_word rom) p.f.addr w.partial.items i.at = subst (λ x. LeadsTo Shape (rom_word rom) p.f.addr w.partial.items x) (sym w.at) (subst (λ x. LeadsTo Shape (rom_word rom) x w.partial.items new.cursor.at) addr_is w.partial.leads) in
         let g = is.keyed w.partial.items i lead w.stands addr w.target_is in
-        let scale : scale_before (shape_context made p.f) w.partial.items ≡ at_key =
-        ap (λ (x : Key). scale_before (keyed_context made x) w.partial.items) (sym key_is) ∙ sym (scale_grows done made new.key ext w.partial.items w.partial.knows.fine) ∙ sym (ap (λ (x : Known). x.scale) w.partial.knows.known_is)
+        let scale : scale_before (shape_context rom.machine made p.f) w.partial.items ≡ at_key =
+        ap (λ (x : Key). scale_before (keyed_context rom.machine made x) w.partial.items) (sym key_is) ∙ sym (scale_grows rom.machine done made new.key ext w.partial.items w.partial.knows.fine) ∙ sym (ap (λ (x : Known). x.scale) w.partial.knows.known_is)
         in
         let there : entry_at made addr at_key ≡ Some g.0 = subst (λ (x : Key). entry_at made addr x ≡ Some g.0) scale g.1 in
         let gl = listed_at made addr at_key g.0 there in
@@ -238,9 +238,9 @@ called_grows rom a b old new ext present addr key c =
       item = c.item;
       leads = c.leads;
       stands = c.stands;
-      taken = taken_grows a b c.from_key ext c.earlier c.taken;
+      taken = taken_grows rom.machine a b c.from_key ext c.earlier c.taken;
       target_is = c.target_is;
-      key_is = sym (scale_grows a b c.from_key ext c.earlier (fine_taken (keyed_context a c.from_key) c.earlier c.taken)) ∙ c.key_is;
+      key_is = sym (scale_grows rom.machine a b c.from_key ext c.earlier (fine_taken (keyed_context rom.machine a c.from_key) c.earlier c.taken)) ∙ c.key_is;
     }
 
 abbrev pub IsNeeded : Rom → List Entry → ℕ × Key → List Entry → List PartialEntry → ℕ → Key → Type 0

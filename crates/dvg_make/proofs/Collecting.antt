@@ -1,4 +1,5 @@
 -- Root after root, and frame after frame.
+use Rattle.dvg_words.specs.declared.machine.Machine.{Machine}
 use Rattle.std.proofs.Common.{◌≡◌, ℕ, zero, suc, ◌+◌, ◌<◌, ◌≤◌, List, [], ◌∷◌, ◌++◌, length, take, get_or, Option, Some, None, refl, sym, ap, ◌∙◌, subst, arith, ◌⊎◌, inl, inr, ⊎_elim}
 use Rattle.std.specs.Prelude.{Contains, slice_get, Bool, false, IsTrue, ◌↔◌}
 use Rattle.dvg_words.specs.Memory.{Rom, InRom}
@@ -146,7 +147,7 @@ needed_by rom list chain addr key c =
       there = ⊎_elim (λ has. inl has) (λ m. inr (in_links chain c.from c.from_key m)) c.present;
       precedes = record {
         at = c.item.at;
-        before = known_before (keyed_context list c.from_key) c.earlier;
+        before = known_before (keyed_context rom.machine list c.from_key) c.earlier;
         reaches = record { items = c.earlier; leads = c.leads; taken = c.taken; known = refl };
         calls = record { item = c.item; at_is = refl; stands = c.stands; target_is = c.target_is; key_is = c.key_is };
       };
@@ -156,16 +157,16 @@ room_of_links : (list : List Entry) (chain : List PartialEntry) → length list 
 room_of_links list chain room = let long = length_links chain in omega (arith, long, room)
 
 -- roots alone
-has_roots : (asked : List (ℕ × Key)) (list : List Entry) → HasAll asked list → HasAsked asked [] list
-has_roots asked list has a k (inl c) = has a k c
-has_roots asked list has a k (inr c) = absurd (omega (arith, c.1.1))
+has_roots : (machine : Machine) (asked : List (ℕ × Key)) (list : List Entry) → HasAll asked list → HasAsked machine asked [] list
+has_roots machine asked list has a k (inl c) = has a k c
+has_roots machine asked list has a k (inr c) = absurd (omega (arith, c.1.1))
 
-module _ (roots : List (ℕ × Key)) (frames : List (List ℕ)) (list : List Entry) where
+module _ (machine : Machine) (roots : List (ℕ × Key)) (frames : List (List ℕ)) (list : List Entry) where
   abbrev IsNamed : ℕ → Key → Type 0
-  IsNamed addr key = (call : Option FrameCall) × IsNamedBy roots frames list call (asked_shape (addr, key))
+  IsNamed addr key = (call : Option FrameCall) × IsNamedBy machine roots frames list call (asked_shape (addr, key))
 
   named_at : (root : ℕ) (addr : ℕ) (key : Key) → slice_get roots root ≡ Some (addr, key) → HasAll (take root roots) list → IsNamed addr key
-  named_at root addr key is has = (None, (root, is, has_roots (take root roots) list has))
+  named_at root addr key is has = (None, (root, is, has_roots machine (take root roots) list has))
 
   -- one of so many roots
   named_taken : (n : ℕ) → HasAll (take n roots) list → (addr : ℕ) (key : Key) → Contains (take n roots) (addr, key) → IsNamed addr key
@@ -179,17 +180,17 @@ module _ (roots : List (ℕ × Key)) (frames : List (List ℕ)) (list : List Ent
       named_at g.0 addr key g.1 (λ a k b. has a k (in_taken roots g.0 (a, k) b))
 
   -- a call of a frame
-  named_call : (frame : ℕ) (words : List ℕ) → slice_get frames frame ≡ Some words → HasAsked roots (take frame frames) list → (addr : ℕ) (key : Key) → KeyedCall words list addr key → IsNamed addr key
+  named_call : (frame : ℕ) (words : List ℕ) → slice_get frames frame ≡ Some words → HasAsked machine roots (take frame frames) list → (addr : ℕ) (key : Key) → KeyedCall machine words list addr key → IsNamed addr key
   named_call frame words is has addr key k =
       (Some (record { frame = frame; at = k.calls.item.at }), (words, is, record { calls = k.calls; at_is = refl; before = k.keyed }, has))
 
   -- of one of so many
-  named_before : (n : ℕ) (words : List ℕ) → Contains (take n frames) words → HasAsked roots (take n frames) list → (addr : ℕ) (key : Key) → KeyedCall words list addr key → IsNamed addr key
+  named_before : (n : ℕ) (words : List ℕ) → Contains (take n frames) words → HasAsked machine roots (take n frames) list → (addr : ℕ) (key : Key) → KeyedCall machine words list addr key → IsNamed addr key
   named_before n words c has addr key k =
       let g = got_somewhere (take n frames) words c in
       named_call g.0 words (taken_at frames n g.0 words g.1) (fewer g.0 g.1) addr key k
     where
-      fewer : (i : ℕ) → slice_get (take n frames) i ≡ Some words → HasAsked roots (take i frames) list
+      fewer : (i : ℕ) → slice_get (take n frames) i ≡ Some words → HasAsked machine roots (take i frames) list
       fewer i is a k (inl r) = has a k (inl r)
       fewer i is a k (inr b) = has a k (inr (b.0, taken_before frames n i words b.0 is b.1, b.2))
 
@@ -199,7 +200,7 @@ root_told rom roots i d done lt h chain obstacle b frames =
     record {
       list = b.list;
       within = b.is_done.entries;
-      needed = λ shape has. ⊎_elim (λ r. inl r) (λ c. inr (needed_by rom b.list chain shape.addr shape.key c)) (called_told rom done b.list (get_or roots i d) chain (IsNamed roots frames b.list) b.extends b.needed was (None, here) shape.addr shape.key has);
+      needed = λ shape has. ⊎_elim (λ r. inl r) (λ c. inr (needed_by rom b.list chain shape.addr shape.key c)) (called_told rom done b.list (get_or roots i d) chain (IsNamed rom.machine roots frames b.list) b.extends b.needed was (None, here) shape.addr shape.key has);
       made = done_made rom b.list b.is_done;
       asked = asked_shape (get_or roots i d);
       named = here;
@@ -211,11 +212,11 @@ root_told rom roots i d done lt h chain obstacle b frames =
     before : HasAll (take i roots) b.list
     before a k c = let f = h.rooted a k c in (f.0, b.extends a k f.0 f.1)
 
-    here : IsNamedBy roots frames b.list None (asked_shape (get_or roots i d))
-    here = (i, got roots i d lt, has_roots (take i roots) b.list before)
+    here : IsNamedBy rom.machine roots frames b.list None (asked_shape (get_or roots i d))
+    here = (i, got roots i d lt, has_roots rom.machine (take i roots) b.list before)
 
-    was : (a : ℕ) (k : Key) → HasEntry done a k → IsNamed roots frames b.list a k ⊎ IsCalled rom done [] a k
-    was a k has = ⊎_elim (λ c. inl (named_taken roots frames b.list i before a k c)) (λ c. inr c) (h.needed a k has)
+    was : (a : ℕ) (k : Key) → HasEntry done a k → IsNamed rom.machine roots frames b.list a k ⊎ IsCalled rom done [] a k
+    was a k has = ⊎_elim (λ c. inl (named_taken rom.machine roots frames b.list i before a k c)) (λ c. inr c) (h.needed a k has)
 
 module _ (rom : Rom) (roots : List (ℕ × Key)) (i : ℕ) (d : ℕ × Key) (done : List Entry) (lt : i < length roots) (h : Collected rom (take i roots) done) where
   outside_at : (r : Bool) → r ≡ false → (IsTrue r ↔ (InRom rom.map (get_or roots i d).0 × IsKey (get_or roots i d).1)) → InRom rom.map (get_or roots i d).0 × IsKey (get_or roots i d).1 → ⊥
@@ -257,17 +258,17 @@ call_told rom roots frames i d old lt h at chain obstacle t =
     rooted : HasAll roots t.list
     rooted a k r = let f = h.rooted a k r in (f.0, t.extends a k f.0 f.1)
 
-    before : HasAsked roots (take i frames) t.list
+    before : HasAsked rom.machine roots (take i frames) t.list
     before a k (inl r) = rooted a k r
-    before a k (inr c) = has_calls_grow c.0 old t.list t.extends (h.has_calls c.0 c.1) a k c.2
+    before a k (inr c) = has_calls_grow rom.machine c.0 old t.list t.extends (h.has_calls c.0 c.1) a k c.2
 
-    asked_before : (a : ℕ) (k : Key) → IsAskedFor roots (take i frames) old a k → IsNamed roots frames t.list a k
-    asked_before a k (inl r) = named_root roots frames t.list rooted a k r
-    asked_before a k (inr c) = named_before roots frames t.list i c.0 c.1 before a k (call_grows c.0 old t.list t.extends a k (keyed_call c.0 old (h.has_calls c.0 c.1) a k c.2))
+    asked_before : (a : ℕ) (k : Key) → IsAskedFor rom.machine roots (take i frames) old a k → IsNamed rom.machine roots frames t.list a k
+    asked_before a k (inl r) = named_root rom.machine roots frames t.list rooted a k r
+    asked_before a k (inr c) = named_before rom.machine roots frames t.list i c.0 c.1 before a k (call_grows rom.machine c.0 old t.list t.extends a k (keyed_call rom.machine c.0 old (h.has_calls c.0 c.1) a k c.2))
 
-    asked_here : (a : ℕ) (k : Key) → IsGivenHere (get_or frames i d) h.asked t.list a k → IsNamed roots frames t.list a k
+    asked_here : (a : ℕ) (k : Key) → IsGivenHere rom.machine (get_or frames i d) h.asked t.list a k → IsNamed rom.machine roots frames t.list a k
     asked_here a k (inl c) = asked_before a k (h.asked_for a k c)
-    asked_here a k (inr c) = named_call roots frames t.list i (get_or frames i d) (got frames i d lt) before a k c
+    asked_here a k (inr c) = named_call rom.machine roots frames t.list i (get_or frames i d) (got frames i d lt) before a k c
 
 pub made_all : (rom : Rom) (P : ℕ → Key → Type 0) (list : List Entry) → MadeFor rom P list → AllMade rom list
 made_all rom P list m e c = let is = listed_entry rom.map.rom_first rom.map.rom_last list e m.certificate.each c in record { made = m.each e c; words = is.words_high; depth = is.depth }
@@ -298,15 +299,15 @@ module _ (rom : Rom) (roots : List (ℕ × Key)) (frames : List (List ℕ)) (i :
   now_taken = subst (λ l. Contains l now) (sym (taken_next frames i d lt)) (in_right (take i frames) (now ∷ []) now (0, omega arith, refl))
 
   module _ (new : List Entry) (ext : Extends old new) (f : IsFramed rom now old new) where
-    still_asked : (addr : ℕ) (key : Key) → IsAskedFor roots (take i frames) old addr key → IsAskedFor roots (take (suc i) frames) new addr key
+    still_asked : (addr : ℕ) (key : Key) → IsAskedFor rom.machine roots (take i frames) old addr key → IsAskedFor rom.machine roots (take (suc i) frames) new addr key
     still_asked addr key (inl r) = inl r
-    still_asked addr key (inr c) = inr (c.0, was_taken c.0 c.1, calls_grow c.0 old new ext (h.has_calls c.0 c.1) addr key c.2)
+    still_asked addr key (inr c) = inr (c.0, was_taken c.0 c.1, calls_grow rom.machine c.0 old new ext (h.has_calls c.0 c.1) addr key c.2)
 
     framed_next : AllFramed rom roots (take (suc i) frames) new
     framed_next =
         record {
           rooted = λ addr key r. let x = h.rooted addr key r in (x.0, ext addr key x.0 x.1);
-          has_calls = λ words c. ⊎_elim (λ x. has_calls_grow words old new ext (h.has_calls words x)) (λ e. subst (λ z. HasCalls z new) e f.has_calls) (one_more frames i d words lt c);
+          has_calls = λ words c. ⊎_elim (λ x. has_calls_grow rom.machine words old new ext (h.has_calls words x)) (λ e. subst (λ z. HasCalls rom.machine z new) e f.has_calls) (one_more frames i d words lt c);
           asked = h.asked ++ f.calls;
           asked_for = λ addr key c. ⊎_elim (λ x. still_asked addr key (h.asked_for addr key x)) (λ x. inr (now, now_taken, f.calls_are addr key x)) (in_either h.asked f.calls (addr, key) c);
           collected = f.collected h.asked h.collected;
@@ -319,15 +320,15 @@ module _ (rom : Rom) (roots : List (ℕ × Key)) (frames : List (List ℕ)) (i :
   -- ---- a call whose entry is not made
 
   -- a list that has all that is asked for has what is made so far, and the calls of this frame
-  module _ (list : List Entry) (all : AllMade rom list) (has : (addr : ℕ) (key : Key) → IsAskedFor roots frames list addr key → HasEntry list addr key) where
+  module _ (list : List Entry) (all : AllMade rom list) (has : (addr : ℕ) (key : Key) → IsAskedFor rom.machine roots frames list addr key → HasEntry list addr key) where
     has_before : Extends old list
     has_before = h.forced list all (λ a k r. has a k (inl r)) (λ words c to scale calls. has to scale (inr (words, in_taken frames i words c, calls)))
 
-    has_now : HasCalls now list
+    has_now : HasCalls rom.machine now list
     has_now to scale calls = has to scale (inr (now, at_index frames i d lt, calls))
 
   none_framed : NoneHasCalls rom now old → NoFramesMade rom roots frames
-  none_framed none list m = let all = made_all rom (IsAskedFor roots frames list) list m in none list all (has_before list all m.rooted) (has_now list all m.rooted)
+  none_framed none list m = let all = made_all rom (IsAskedFor rom.machine roots frames list) list m in none list all (has_before list all m.rooted) (has_now list all m.rooted)
 
   list_barred : (why : EntryFault) → BarsCalls rom now old why → BarsList rom roots frames why
   list_barred (Unstraight word) b = none_framed b
@@ -345,7 +346,7 @@ frames_framed rom roots frames i done le h = subst (λ f. AllFramed rom roots f 
 -- ---- roots that are refused
 
 roots_none : (rom : Rom) (roots : List (ℕ × Key)) (frames : List (List ℕ)) → NoneHas rom roots → NoFramesMade rom roots frames
-roots_none rom roots frames none list m = none list m.certificate (made_all rom (IsAskedFor roots frames list) list m) (λ a k r. m.rooted a k (inl r))
+roots_none rom roots frames none list m = none list m.certificate (made_all rom (IsAskedFor rom.machine roots frames list) list m) (λ a k r. m.rooted a k (inl r))
 
 roots_list : (rom : Rom) (roots : List (ℕ × Key)) (frames : List (List ℕ)) (why : EntryFault) → BarsRoots rom roots why → BarsList rom roots frames why
 roots_list rom roots frames (Unstraight word) b = roots_none rom roots frames b

@@ -37,7 +37,7 @@ scale_key (Jmpl to) None scale fits claim is = is
 scale_key (Jmpl to) (Some e) scale fits claim is = claim.scale
 
 module _ (rom : Rom) (list : List Entry) (done : IsDone rom list) (from w : PartialEntry) (h : Walking rom list from w) (format : Format) (instr : Instr) (is : cell_at (rom_word rom) w.cursor.at ≡ Holds format instr) (o : Option Entry) (nm : IsCallee list instr w.cursor.known.scale o) where
-  pub ended : InstrFits instr → IfSome o IsClaim → (lit : LitBox) (s : Passes (seen_with o w.cursor.known (record { at = w.cursor.at; format = format; instr = instr })) w.lit lit) (step : Step) (last : Known) → step ≡ Last last → step ≡ step_past Shape (seen_with o w.cursor.known (record { at = w.cursor.at; format = format; instr = instr })) → IsFinished rom list from (entry_of w.addr w.key last lit)
+  pub ended : InstrFits instr → IfSome o IsClaim → (lit : LitBox) (s : Passes (seen_with rom.machine o w.cursor.known (record { at = w.cursor.at; format = format; instr = instr })) w.lit lit) (step : Step) (last : Known) → step ≡ Last last → step ≡ step_past Shape (seen_with rom.machine o w.cursor.known (record { at = w.cursor.at; format = format; instr = instr })) → IsFinished rom list from (entry_of w.addr w.key last lit)
   ended fits claim lit s step last step_is goes =
       let e = end rom list from w h format instr is o nm lit s step last step_is goes in
       let k = knows_last rom list from w h format instr is o nm lit s step last step_is goes in

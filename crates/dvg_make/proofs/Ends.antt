@@ -1,4 +1,5 @@
 -- What a made entry says of its shape: at each item, and at the end.
+use Rattle.dvg_words.specs.declared.machine.Machine.{Machine}
 use Rattle.std.proofs.Common.{◌≡◌, ◌≢◌, ℕ, zero, suc, ◌+◌, ◌<◌, ◌≤◌, List, [], ◌∷◌, Option, Some, None, refl, sym, ap, ◌∙◌, subst, arith}
 use Rattle.dvg_words.specs.Decoding.{cell_at}
 use Rattle.dvg_words.specs.Memory.{Rom, rom_word}
@@ -36,9 +37,9 @@ use Rattle.dvg_make.proofs.Matching.{Gathered, gathered, Matched, gathered_same,
 
 -- ---- at an item
 
-rule_at : (rom : Rom) (list : List Entry) (e : Entry) → MadeEntry rom list e → (earlier : List Item) (i : Item) → LeadsTo Shape (rom_word rom) e.addr earlier i.at → cell_at (rom_word rom) i.at ≡ Holds i.format i.instr → (w : Window) (why : ShapeWhy) → why ≢ shape.OffScreen → ShapeKeeps Exact w e (seen_at (shape_context list e) earlier i) why
+rule_at : (rom : Rom) (list : List Entry) (e : Entry) → MadeEntry rom list e → (earlier : List Item) (i : Item) → LeadsTo Shape (rom_word rom) e.addr earlier i.at → cell_at (rom_word rom) i.at ≡ Holds i.format i.instr → (w : Window) (why : ShapeWhy) → why ≢ shape.OffScreen → ShapeKeeps Exact w e (seen_at (shape_context rom.machine list e) earlier i) why
 rule_at rom list e made earlier i lead is w why not =
-    subst (λ cell. CellKeeps shape.Unmapped shape.Odd (λ j. ShapeKeeps Exact w e (seen_at (shape_context list e) earlier j)) i.at cell why) is (made.keeps earlier i.at lead why w not)
+    subst (λ cell. CellKeeps shape.Unmapped shape.Odd (λ j. ShapeKeeps Exact w e (seen_at (shape_context rom.machine list e) earlier j)) i.at cell why) is (made.keeps earlier i.at lead why w not)
 
 -- what a made entry says of an item that is seen
 pub record Allows (e : Entry) (v : Seen) : Type 0 where
@@ -46,7 +47,7 @@ pub record Allows (e : Entry) (v : Seen) : Type 0 where
   pub deep : depth_under v.item.instr v.callee ≤ e.depth
   pub many : v.after.words ≤ e.words
 
-pub allows_at : (rom : Rom) (list : List Entry) (e : Entry) → MadeEntry rom list e → (earlier : List Item) (i : Item) → LeadsTo Shape (rom_word rom) e.addr earlier i.at → cell_at (rom_word rom) i.at ≡ Holds i.format i.instr → Allows e (seen_at (shape_context list e) earlier i)
+pub allows_at : (rom : Rom) (list : List Entry) (e : Entry) → MadeEntry rom list e → (earlier : List Item) (i : Item) → LeadsTo Shape (rom_word rom) e.addr earlier i.at → cell_at (rom_word rom) i.at ≡ Holds i.format i.instr → Allows e (seen_at (shape_context rom.machine list e) earlier i)
 allows_at rom list e made earlier i lead is =
     let k = rule_at rom list e made earlier i lead is screen in
     record {
@@ -56,26 +57,26 @@ allows_at rom list e made earlier i lead is =
     }
 
 -- a called entry has fewer words
-pub callee_less : (rom : Rom) (list : List Entry) (e : Entry) → MadeEntry rom list e → (earlier : List Item) (i : Item) → LeadsTo Shape (rom_word rom) e.addr earlier i.at → cell_at (rom_word rom) i.at ≡ Holds i.format i.instr → (to : ℕ) (g : Entry) → target Shape i.instr ≡ Some to → entry_at list to (scale_before (shape_context list e) earlier) ≡ Some g → g.words < e.words
+pub callee_less : (rom : Rom) (list : List Entry) (e : Entry) → MadeEntry rom list e → (earlier : List Item) (i : Item) → LeadsTo Shape (rom_word rom) e.addr earlier i.at → cell_at (rom_word rom) i.at ≡ Holds i.format i.instr → (to : ℕ) (g : Entry) → target Shape i.instr ≡ Some to → entry_at list to (scale_before (shape_context rom.machine list e) earlier) ≡ Some g → g.words < e.words
 callee_less rom list e made earlier i lead is to g t h =
     let allows = allows_at rom list e made earlier i lead is in
-    let scale : Key = scale_before (shape_context list e) earlier in
-    let named : callee (shape_context list e) earlier i.instr ≡ Some g = ap (λ o. callee_at list o scale) t ∙ exact_named list to scale g h in
-    let words : callee_words (callee (shape_context list e) earlier i.instr) ≡ g.words = ap callee_words named in
+    let scale : Key = scale_before (shape_context rom.machine list e) earlier in
+    let named : callee (shape_context rom.machine list e) earlier i.instr ≡ Some g = ap (λ o. callee_at list o scale) t ∙ exact_named list to scale g h in
+    let words : callee_words (callee (shape_context rom.machine list e) earlier i.instr) ≡ g.words = ap callee_words named in
     omega (arith, allows.many, words, word_count-some i.format)
 
 -- ---- at the end
 
 -- what a made entry says at the end of its items
-pub record Sums (list : List Entry) (items : List Item) (e : Entry) : Type 0 where
-  pub known : known_before (shape_context list e) items ≡ known_of e
-  pub box : IsLeast (lit_points (shape_context list e) items) e.lit
+pub record Sums (machine : Machine) (list : List Entry) (items : List Item) (e : Entry) : Type 0 where
+  pub known : known_before (shape_context machine list e) items ≡ known_of e
+  pub box : IsLeast (lit_points (shape_context machine list e) items) e.lit
 
 pub at_last : (o : Option ℕ) (P : Type 0) → o ≡ None → AtLast o P → P
 at_last None P e h = h
 at_last (Some p) P e h = cc
 
-pub sums_of : (rom : Rom) (list : List Entry) (e : Entry) → MadeEntry rom list e → (earlier : List Item) (i : Item) → LeadsTo Shape (rom_word rom) e.addr earlier i.at → cell_at (rom_word rom) i.at ≡ Holds i.format i.instr → next_address Shape i ≡ None → Sums list (i ∷ earlier) e
+pub sums_of : (rom : Rom) (list : List Entry) (e : Entry) → MadeEntry rom list e → (earlier : List Item) (i : Item) → LeadsTo Shape (rom_word rom) e.addr earlier i.at → cell_at (rom_word rom) i.at ≡ Holds i.format i.instr → next_address Shape i ≡ None → Sums rom.machine list (i ∷ earlier) e
 sums_of rom list e made earlier i lead is last =
     let k = rule_at rom list e made earlier i lead is screen in
     let place = at_last (next_address Shape i) _ last (k shape.EndDiffers (λ q. cc q)) in
@@ -85,11 +86,11 @@ sums_of rom list e made earlier i lead is last =
     record { known = λ x. record { place = place x; scale = scale x; words = words x; depth = depth x }; box = made.box earlier i lead is last }
 
 -- entries with the same address, key and sums are the same
-pub same_sums : (a b : List Entry) (items : List Item) (e f : Entry) → e.addr ≡ f.addr → e.key ≡ f.key → Matched a b e.key items → Sums a items e → Sums b items f → e ≡ f
-same_sums a b items e f addr key m s t =
-    let all : gathered (keyed_context a e.key) items ≡ gathered (keyed_context b f.key) items = gathered_same a b e.key items m ∙ ap (λ (k : Key). gathered (keyed_context b k) items) key in
+pub same_sums : (machine : Machine) (a b : List Entry) (items : List Item) (e f : Entry) → e.addr ≡ f.addr → e.key ≡ f.key → Matched machine a b e.key items → Sums machine a items e → Sums machine b items f → e ≡ f
+same_sums machine a b items e f addr key m s t =
+    let all : gathered (keyed_context machine a e.key) items ≡ gathered (keyed_context machine b f.key) items = gathered_same machine a b e.key items m ∙ ap (λ (k : Key). gathered (keyed_context machine b k) items) key in
     let known : known_of e ≡ known_of f = sym s.known ∙ ap (λ (g : Gathered). g.known) all ∙ t.known in
-    let lit = one_least (lit_points (shape_context b f) items) e.lit f.lit (subst (λ l. IsLeast l e.lit) (ap (λ (g : Gathered). g.lit) all) s.box) t.box in
+    let lit = one_least (lit_points (shape_context machine b f) items) e.lit f.lit (subst (λ l. IsLeast l e.lit) (ap (λ (g : Gathered). g.lit) all) s.box) t.box in
     λ x. record { addr = addr x; key = key x; stop = (known x).place; lit = lit x; depth = (known x).depth; words = (known x).words; scale = (known x).scale }
 
 -- ---- the items end
@@ -106,15 +107,15 @@ module _ (rom : Rom) (list : List Entry) (e : Entry) (made : MadeEntry rom list 
   stands_at items p lead = by_cell (cell_at (rom_word rom) p) refl
     where
       by_cell : (c : Cell) → cell_at (rom_word rom) p ≡ c → (format : Format) × (instr : Instr) × (c ≡ Holds format instr)
-      by_cell Missing q = absurd (subst (λ cell. CellKeeps shape.Unmapped shape.Odd (λ j. ShapeKeeps Exact screen e (seen_at (shape_context list e) items j)) p cell shape.Unmapped) q (made.keeps items p lead shape.Unmapped screen (λ x. cc x)) refl)
-      by_cell Odd q = absurd (subst (λ cell. CellKeeps shape.Unmapped shape.Odd (λ j. ShapeKeeps Exact screen e (seen_at (shape_context list e) items j)) p cell shape.Odd) q (made.keeps items p lead shape.Odd screen (λ x. cc x)) refl)
+      by_cell Missing q = absurd (subst (λ cell. CellKeeps shape.Unmapped shape.Odd (λ j. ShapeKeeps Exact screen e (seen_at (shape_context rom.machine list e) items j)) p cell shape.Unmapped) q (made.keeps items p lead shape.Unmapped screen (λ x. cc x)) refl)
+      by_cell Odd q = absurd (subst (λ cell. CellKeeps shape.Unmapped shape.Odd (λ j. ShapeKeeps Exact screen e (seen_at (shape_context rom.machine list e) items j)) p cell shape.Odd) q (made.keeps items p lead shape.Odd screen (λ x. cc x)) refl)
       by_cell (Holds format instr) q = (format, instr, refl)
 
-  find_last : (n : ℕ) (items : List Item) (p : ℕ) → LeadsTo Shape (rom_word rom) e.addr items p → e.words ≤ words_before (shape_context list e) items + n → Stops rom e.addr
+  find_last : (n : ℕ) (items : List Item) (p : ℕ) → LeadsTo Shape (rom_word rom) e.addr items p → e.words ≤ words_before (shape_context rom.machine list e) items + n → Stops rom e.addr
   find_last zero items p lead le =
       let h = stands_at items p lead in
       let i : Item = record { at = p; format = h.0; instr = h.1 } in
-      let more : words_before (shape_context list e) (i ∷ items) ≤ e.words = (allows_at rom list e made items i lead h.2).many in
+      let more : words_before (shape_context rom.machine list e) (i ∷ items) ≤ e.words = (allows_at rom list e made items i lead h.2).many in
       absurd (omega (arith, more, le, word_count-some h.0))
   find_last (suc n) items p lead le = by_next (next_address Shape i) refl (λ q l k. find_last n (i ∷ items) q l k)
     where
@@ -124,7 +125,7 @@ module _ (rom : Rom) (list : List Entry) (e : Entry) (made : MadeEntry rom list 
       i : Item
       i = record { at = p; format = h.0; instr = h.1 }
 
-      by_next : (o : Option ℕ) → next_address Shape i ≡ o → ((q : ℕ) → LeadsTo Shape (rom_word rom) e.addr (i ∷ items) q → e.words ≤ words_before (shape_context list e) (i ∷ items) + n → Stops rom e.addr) → Stops rom e.addr
+      by_next : (o : Option ℕ) → next_address Shape i ≡ o → ((q : ℕ) → LeadsTo Shape (rom_word rom) e.addr (i ∷ items) q → e.words ≤ words_before (shape_context rom.machine list e) (i ∷ items) + n → Stops rom e.addr) → Stops rom e.addr
       by_next None is more = record { items = items; i = i; leads = lead; is = h.2; last = is }
       by_next (Some q) is more = more q (lead, h.2, is) (omega (arith, le, word_count-some h.0))
 
@@ -135,14 +136,14 @@ module _ (rom : Rom) (list : List Entry) (e : Entry) (made : MadeEntry rom list 
 
 pub record Ends (rom : Rom) (list : List Entry) (e : Entry) : Type 0 where
   pub stops : Stops rom e.addr
-  pub sums : Sums list (stops.i ∷ stops.items) e
-  pub fine : AllFine (shape_context list e) (stops.i ∷ stops.items)
+  pub sums : Sums rom.machine list (stops.i ∷ stops.items) e
+  pub fine : AllFine (shape_context rom.machine list e) (stops.i ∷ stops.items)
 
-fine_at : (rom : Rom) (list : List Entry) (e : Entry) → MadeEntry rom list e → (earlier : List Item) (i : Item) → LeadsTo Shape (rom_word rom) e.addr earlier i.at → cell_at (rom_word rom) i.at ≡ Holds i.format i.instr → IsFine (shape_context list e) earlier i
+fine_at : (rom : Rom) (list : List Entry) (e : Entry) → MadeEntry rom list e → (earlier : List Item) (i : Item) → LeadsTo Shape (rom_word rom) e.addr earlier i.at → cell_at (rom_word rom) i.at ≡ Holds i.format i.instr → IsFine (shape_context rom.machine list e) earlier i
 fine_at rom list e made earlier i lead is =
     record { straight = (allows_at rom list e made earlier i lead is).straight; keyed = made.keyed earlier i lead is }
 
-pub all_fine : (rom : Rom) (list : List Entry) (e : Entry) → MadeEntry rom list e → (items : List Item) (p : ℕ) → LeadsTo Shape (rom_word rom) e.addr items p → AllFine (shape_context list e) items
+pub all_fine : (rom : Rom) (list : List Entry) (e : Entry) → MadeEntry rom list e → (items : List Item) (p : ℕ) → LeadsTo Shape (rom_word rom) e.addr items p → AllFine (shape_context rom.machine list e) items
 all_fine rom list e made [] p lead = tt
 all_fine rom list e made (i ∷ earlier) p lead = (all_fine rom list e made earlier i.at lead.0, fine_at rom list e made earlier i lead.0 lead.1)
 
@@ -159,7 +160,7 @@ made_ends rom list e made =
 pub made_some : (rom : Rom) (list : List Entry) (e : Entry) → MadeEntry rom list e → 1 ≤ e.words
 made_some rom list e made =
     let h = made_ends rom list e made in
-    let words : words_before (shape_context list e) (h.stops.i ∷ h.stops.items) ≡ e.words = ap (λ (k : Known). k.words) h.sums.known in
+    let words : words_before (shape_context rom.machine list e) (h.stops.i ∷ h.stops.items) ≡ e.words = ap (λ (k : Known). k.words) h.sums.known in
     omega (arith, words, word_count-some h.stops.i.format)
 
 -- ---- and the other way round
@@ -174,7 +175,7 @@ last_map (Some p) x y f h = tt
 
 module _ (rom : Rom) (list : List Entry) (e : Entry) where
   abbrev c : Context
-  c = shape_context list e
+  c = shape_context rom.machine list e
 
   record AtItem (earlier : List Item) (i : Item) : Type 0 where
     fine : IsFine c earlier i

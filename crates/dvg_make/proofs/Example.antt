@@ -55,7 +55,7 @@ example_keeps earlier p lead why w not = other_window Exact example_rom example_
 
 -- ---- its box
 
-example_least : IsLeast (lit_points (shape_context example_list example_entry) (return_item ∷ draw_item ∷ [])) example_entry.lit
+example_least : IsLeast (lit_points (shape_context example_rom.machine example_list example_entry) (return_item ∷ draw_item ∷ [])) example_entry.lit
 unfolding displacement
 example_least =
     record {
@@ -63,7 +63,7 @@ example_least =
       least = inside;
     }
   where
-    inside : (other : LitBox) → HoldsAll other (lit_points (shape_context example_list example_entry) (return_item ∷ draw_item ∷ [])) → IsInside example_entry.lit other
+    inside : (other : LitBox) → HoldsAll other (lit_points (shape_context example_rom.machine example_list example_entry) (return_item ∷ draw_item ∷ [])) → IsInside example_entry.lit other
     inside Empty h = absurd h.0
     inside (Span a b c d) h = (h.0.left, h.1.0.right, h.0.bottom, h.1.0.top)
 
@@ -73,8 +73,8 @@ example_entry_made : MadeEntry example_rom example_list example_entry
 example_entry_made =
     record {
       keeps = example_keeps;
-      keyed = both_items (λ earlier i. (to : ℕ) → target Shape i.instr ≡ Some to → HasEntry example_list to (scale_before (shape_context example_list example_entry) earlier)) (λ to e. cc e) (λ to e. cc e);
-      box = both_items (λ earlier i. next_address Shape i ≡ None → IsLeast (lit_points (shape_context example_list example_entry) (i ∷ earlier)) example_entry.lit) (λ e. cc e) (λ e. example_least);
+      keyed = both_items (λ earlier i. (to : ℕ) → target Shape i.instr ≡ Some to → HasEntry example_list to (scale_before (shape_context example_rom.machine example_list example_entry) earlier)) (λ to e. cc e) (λ to e. cc e);
+      box = both_items (λ earlier i. next_address Shape i ≡ None → IsLeast (lit_points (shape_context example_rom.machine example_list example_entry) (i ∷ earlier)) example_entry.lit) (λ e. cc e) (λ e. example_least);
     }
 
 -- the stroke at 800 at global scale 0

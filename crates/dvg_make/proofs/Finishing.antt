@@ -43,7 +43,7 @@ module _ (rom : Rom) (roots : List (ℕ × Key)) (frames : List (List ℕ)) (don
       by_present (inr m) = absurd m
       by_present (inl has) =
           let l = listed_at list c.from c.from_key has.0 (ext c.from c.from_key has.0 has.1) in
-          let scale : scale_before (shape_context list has.0) c.earlier ≡ f.key = ap (λ (k : Key). scale_before (keyed_context list k) c.earlier) l.key_is ∙ sym (scale_grows done list c.from_key ext c.earlier (fine_taken (keyed_context done c.from_key) c.earlier c.taken)) ∙ c.key_is in
+          let scale : scale_before (shape_context rom.machine list has.0) c.earlier ≡ f.key = ap (λ (k : Key). scale_before (keyed_context rom.machine list k) c.earlier) l.key_is ∙ sym (scale_grows rom.machine done list c.from_key ext c.earlier (fine_taken (keyed_context rom.machine done c.from_key) c.earlier c.taken)) ∙ c.key_is in
           let named : callee_at list (Some f.addr) f.key ≡ Some f = exact_named list f.addr f.key f (found_listed list f rises listed_f) in (
             has.0,
             l.listed,
@@ -52,17 +52,17 @@ module _ (rom : Rom) (roots : List (ℕ × Key)) (frames : List (List ℕ)) (don
               item = c.item;
               leads = subst (λ a. LeadsTo Shape (rom_word rom) a c.earlier c.item.at) (sym l.addr_is) c.leads;
               stands = c.stands;
-              callee_is = ap (λ o. callee_at list o (scale_before (shape_context list has.0) c.earlier)) c.target_is ∙ ap (λ (k : Key). callee_at list (Some f.addr) k) scale ∙ named;
+              callee_is = ap (λ o. callee_at list o (scale_before (shape_context rom.machine list has.0) c.earlier)) c.target_is ∙ ap (λ (k : Key). callee_at list (Some f.addr) k) scale ∙ named;
             },
           )
 
-  asked_has : (addr : ℕ) (key : Key) → IsAskedFor roots frames list addr key → HasEntry list addr key
+  asked_has : (addr : ℕ) (key : Key) → IsAskedFor rom.machine roots frames list addr key → HasEntry list addr key
   asked_has addr key (inl r) = let x = h.rooted addr key r in (x.0, ext addr key x.0 x.1)
-  asked_has addr key (inr c) = let x = h.has_calls c.0 c.1 addr key (calls_shrink c.0 done list ext (h.has_calls c.0 c.1) addr key c.2) in (x.0, ext addr key x.0 x.1)
+  asked_has addr key (inr c) = let x = h.has_calls c.0 c.1 addr key (calls_shrink rom.machine c.0 done list ext (h.has_calls c.0 c.1) addr key c.2) in (x.0, ext addr key x.0 x.1)
 
-  asked_grows : (addr : ℕ) (key : Key) → IsAskedFor roots frames done addr key → IsAskedFor roots frames list addr key
+  asked_grows : (addr : ℕ) (key : Key) → IsAskedFor rom.machine roots frames done addr key → IsAskedFor rom.machine roots frames list addr key
   asked_grows addr key (inl r) = inl r
-  asked_grows addr key (inr c) = inr (c.0, c.1, calls_grow c.0 done list ext (h.has_calls c.0 c.1) addr key c.2)
+  asked_grows addr key (inr c) = inr (c.0, c.1, calls_grow rom.machine c.0 done list ext (h.has_calls c.0 c.1) addr key c.2)
 
   pub is_made : IsMap rom.map → FramesMade rom roots frames list
   is_made is =
@@ -77,13 +77,13 @@ module _ (rom : Rom) (roots : List (ℕ × Key)) (frames : List (List ℕ)) (don
 pub made_roots : (rom : Rom) (roots : List (ℕ × Key)) (list : List Entry) → FramesMade rom roots [] list → Made rom roots list
 made_roots rom roots list m = record { certificate = m.certificate; each = m.each; rooted = λ addr key r. m.rooted addr key (inl r); needed = λ f c. ⊎_elim (λ a. inl (root_of f.addr f.key a)) (λ n. inr n) (m.needed f c) }
   where
-    root_of : (addr : ℕ) (key : Key) → IsAskedFor roots [] list addr key → Contains roots (addr, key)
+    root_of : (addr : ℕ) (key : Key) → IsAskedFor rom.machine roots [] list addr key → Contains roots (addr, key)
     root_of addr key (inl r) = r
     root_of addr key (inr c) = absurd (omega (arith, c.1.1))
 
 pub roots_made : (rom : Rom) (roots : List (ℕ × Key)) (list : List Entry) → Made rom roots list → FramesMade rom roots [] list
 roots_made rom roots list m = record { certificate = m.certificate; each = m.each; rooted = has; needed = λ f c. ⊎_elim (λ r. inl (inl r)) (λ n. inr n) (m.needed f c) }
   where
-    has : (addr : ℕ) (key : Key) → IsAskedFor roots [] list addr key → HasEntry list addr key
+    has : (addr : ℕ) (key : Key) → IsAskedFor rom.machine roots [] list addr key → HasEntry list addr key
     has addr key (inl r) = m.rooted addr key r
     has addr key (inr c) = absurd (omega (arith, c.1.1))

@@ -40,7 +40,7 @@ module _ (rom : Rom) (list : List Entry) (w : Window) where
   pub upheld : IsCertificate rom.map list → Good Bound w rom list → Upholds rom list
   upheld cert good e c = (listed_entry rom.map.rom_first rom.map.rom_last list e cert.each c, λ earlier p lead why v not. other_window Bound rom list e w v earlier p why not (good e c earlier p lead why))
 
-  off_screen : Good Bound w rom list → (e : Entry) → Contains list e → (earlier : List Item) (i : Item) → LeadsTo Shape (rom_word rom) e.addr earlier i.at → cell_at (rom_word rom) i.at ≡ Holds i.format i.instr → LitInWindow w (extent (shape_context list e) earlier i.instr) (place_before (shape_context list e) earlier)
+  off_screen : Good Bound w rom list → (e : Entry) → Contains list e → (earlier : List Item) (i : Item) → LeadsTo Shape (rom_word rom) e.addr earlier i.at → cell_at (rom_word rom) i.at ≡ Holds i.format i.instr → LitInWindow w (extent (shape_context rom.machine list e) earlier i.instr) (place_before (shape_context rom.machine list e) earlier)
   off_screen good = in_window rom list w Bound good
 
 -- ---- a made list whose roots are covered
@@ -53,7 +53,7 @@ module _ (rom : Rom) (list : List Entry) (up : Upholds rom list) (IsAsked : ℕ 
     needed_cover : (e f : Entry) → Contains made e → Needs rom made e f → HasCover list e.addr e.key → HasCover list f.addr f.key
     needed_cover e f in_made n cover =
         let d : Entry = cover.0 in
-        let k : Key = scale_before (shape_context made e) n.earlier in
+        let k : Key = scale_before (shape_context rom.machine made e) n.earlier in
         let t = target_of made (target Shape n.item.instr) k f n.callee_is ((m.each e in_made).keyed n.earlier n.item n.leads n.stands) in
         let lead : LeadsTo Shape (rom_word rom) d.addr n.earlier n.item.at = subst (λ a. LeadsTo Shape (rom_word rom) a n.earlier n.item.at) (sym cover.2.addr) n.leads in
         let tracked = tracks rom list up made all_made e in_made d cover.1 cover.2 n.earlier n.item.at lead in
@@ -63,7 +63,7 @@ module _ (rom : Rom) (list : List Entry) (up : Upholds rom list) (IsAsked : ℕ 
 
     needs_less : (e f : Entry) → Contains made e → Needs rom made e f → f.words < e.words
     needs_less e f in_made n =
-        let t = target_of made (target Shape n.item.instr) (scale_before (shape_context made e) n.earlier) f n.callee_is ((m.each e in_made).keyed n.earlier n.item n.leads n.stands) in
+        let t = target_of made (target Shape n.item.instr) (scale_before (shape_context rom.machine made e) n.earlier) f n.callee_is ((m.each e in_made).keyed n.earlier n.item n.leads n.stands) in
         callee_less rom made e (m.each e in_made) n.earlier n.item n.leads n.stands t.0 f t.1 t.2
 
     covered_up_to : (n : ℕ) (f : Entry) → Contains made f → MOST_WORDS + 1 ≤ f.words + n → HasCover list f.addr f.key
@@ -88,26 +88,26 @@ module _ (rom : Rom) (list : List Entry) (up : Upholds rom list) (IsAsked : ℕ 
 
 -- ---- along the items of a frame
 
-module _ (rom : Rom) (list : List Entry) (up : Upholds rom list) (words : List ℕ) (w : Window) (budget : ℕ) (keeps : AllKeep Frame (frame_word words) 0 (FramePlaceKeeps w words list budget)) where
+module _ (rom : Rom) (list : List Entry) (up : Upholds rom list) (words : List ℕ) (w : Window) (budget : ℕ) (keeps : AllKeep Frame (frame_word rom.machine words) 0 (FramePlaceKeeps w rom.machine words list budget)) where
   abbrev c : Context
-  c = frame_context list
+  c = frame_context rom.machine list
 
-  frame_rule : (earlier : List Item) (i : Item) → LeadsTo Frame (frame_word words) 0 earlier i.at → cell_at (frame_word words) i.at ≡ Holds i.format i.instr → (why : FrameWhy) → FrameKeeps w budget (seen_at c earlier i) why
+  frame_rule : (earlier : List Item) (i : Item) → LeadsTo Frame (frame_word rom.machine words) 0 earlier i.at → cell_at (frame_word rom.machine words) i.at ≡ Holds i.format i.instr → (why : FrameWhy) → FrameKeeps w budget (seen_at c earlier i) why
   frame_rule earlier i lead is why = subst (λ cell. CellKeeps frame.Unmapped frame.Odd (λ j. FrameKeeps w budget (seen_at c earlier j)) i.at cell why) is (keeps earlier i.at lead why)
 
   -- what a list of made entries knows along them
   module _ (made : List Entry) (all : AllMade rom made) where
     abbrev d : Context
-    d = frame_context made
+    d = frame_context rom.machine made
 
     abbrev Tracks : List Item → Type 0
     Tracks items = KnowsMore (known_before c items) (known_before d items)
 
-    frame_call : (earlier : List Item) (i : Item) → LeadsTo Frame (frame_word words) 0 earlier i.at → cell_at (frame_word words) i.at ≡ Holds i.format i.instr → Tracks earlier → (to : ℕ) → target Frame i.instr ≡ Some to → Call list to (scale_before c earlier) (scale_before d earlier)
+    frame_call : (earlier : List Item) (i : Item) → LeadsTo Frame (frame_word rom.machine words) 0 earlier i.at → cell_at (frame_word rom.machine words) i.at ≡ Holds i.format i.instr → Tracks earlier → (to : ℕ) → target Frame i.instr ≡ Some to → Call list to (scale_before c earlier) (scale_before d earlier)
     frame_call earlier i lead is k to t =
         call_of list to (scale_before c earlier) (scale_before d earlier) k.scale (subst (λ o. HasCallee o (callee_at list o (scale_before c earlier))) t (frame_rule earlier i lead is frame.NoEntry))
 
-    frame_refines : (earlier : List Item) (i : Item) → LeadsTo Frame (frame_word words) 0 earlier i.at → cell_at (frame_word words) i.at ≡ Holds i.format i.instr → Tracks earlier → IsKeyed made earlier i → CalleeRefines (callee c earlier i.instr) (callee d earlier i.instr)
+    frame_refines : (earlier : List Item) (i : Item) → LeadsTo Frame (frame_word rom.machine words) 0 earlier i.at → cell_at (frame_word rom.machine words) i.at ≡ Holds i.format i.instr → Tracks earlier → IsKeyed rom.machine made earlier i → CalleeRefines (callee c earlier i.instr) (callee d earlier i.instr)
     frame_refines earlier i lead is k keyed = by_target (target Frame i.instr) refl
       where
         by_target : (o : Option ℕ) → target Frame i.instr ≡ o → CalleeRefines (callee c earlier i.instr) (callee d earlier i.instr)
@@ -123,29 +123,29 @@ module _ (rom : Rom) (list : List Entry) (up : Upholds rom list) (words : List �
             let made_f = (all f.0 (listed_at made to (scale_before d earlier) f.0 f.1).listed).made in
             subst (λ o. CalleeRefines o (callee d earlier i.instr)) (sym weak) (subst (λ o. CalleeRefines (Some call.g) o) (sym strong) (refined rom list up made all to (scale_before d earlier) f.0 f.1 call.g call.listed call.covers, made_ordered rom made f.0 made_f))
 
-    pub frame_tracks : (items : List Item) (p : ℕ) → LeadsTo Frame (frame_word words) 0 items p → AllKeyed made items → Tracks items
+    pub frame_tracks : (items : List Item) (p : ℕ) → LeadsTo Frame (frame_word rom.machine words) 0 items p → AllKeyed rom.machine made items → Tracks items
     frame_tracks [] p lead keyed = record { place = tt; scale = tt; words = omega arith; depth = omega arith }
     frame_tracks (i ∷ earlier) p lead keyed =
         let k = frame_tracks earlier i.at lead.0 keyed.0 in
-        more_after i (callee c earlier i.instr) (callee d earlier i.instr) (known_before c earlier) (known_before d earlier) k (frame_refines earlier i lead.0 lead.1 k keyed.1)
+        more_after rom.machine i (callee c earlier i.instr) (callee d earlier i.instr) (known_before c earlier) (known_before d earlier) k (frame_refines earlier i lead.0 lead.1 k keyed.1)
 
     -- what a frame calls, the list has an entry for
-    pub frame_cover : (earlier : List Item) (i : Item) → LeadsTo Frame (frame_word words) 0 earlier i.at → cell_at (frame_word words) i.at ≡ Holds i.format i.instr → AllKeyed made earlier → (to : ℕ) → target Frame i.instr ≡ Some to → HasCover list to (scale_before d earlier)
+    pub frame_cover : (earlier : List Item) (i : Item) → LeadsTo Frame (frame_word rom.machine words) 0 earlier i.at → cell_at (frame_word rom.machine words) i.at ≡ Holds i.format i.instr → AllKeyed rom.machine made earlier → (to : ℕ) → target Frame i.instr ≡ Some to → HasCover list to (scale_before d earlier)
     frame_cover earlier i lead is keyed to t =
         let call = frame_call earlier i lead is (frame_tracks earlier i.at lead keyed) to t in
         (call.g, call.listed, call.covers)
 
     -- ---- the frame is good by them, where they have an entry for each call
 
-    module _ (keyed : (earlier : List Item) (i : Item) → LeadsTo Frame (frame_word words) 0 earlier i.at → cell_at (frame_word words) i.at ≡ Holds i.format i.instr → IsKeyed made earlier i) where
-      all_keyed : (items : List Item) (p : ℕ) → LeadsTo Frame (frame_word words) 0 items p → AllKeyed made items
+    module _ (keyed : (earlier : List Item) (i : Item) → LeadsTo Frame (frame_word rom.machine words) 0 earlier i.at → cell_at (frame_word rom.machine words) i.at ≡ Holds i.format i.instr → IsKeyed rom.machine made earlier i) where
+      all_keyed : (items : List Item) (p : ℕ) → LeadsTo Frame (frame_word rom.machine words) 0 items p → AllKeyed rom.machine made items
       all_keyed [] p lead = tt
       all_keyed (i ∷ earlier) p lead = (all_keyed earlier i.at lead.0, keyed earlier i lead.0 lead.1)
 
-      pub along : (items : List Item) (p : ℕ) → LeadsTo Frame (frame_word words) 0 items p → Tracks items
+      pub along : (items : List Item) (p : ℕ) → LeadsTo Frame (frame_word rom.machine words) 0 items p → Tracks items
       along items p lead = frame_tracks items p lead (all_keyed items p lead)
 
-      item_kept : (earlier : List Item) (i : Item) → LeadsTo Frame (frame_word words) 0 earlier i.at → cell_at (frame_word words) i.at ≡ Holds i.format i.instr → (why : FrameWhy) → FrameKeeps w budget (seen_at d earlier i) why
+      item_kept : (earlier : List Item) (i : Item) → LeadsTo Frame (frame_word rom.machine words) 0 earlier i.at → cell_at (frame_word rom.machine words) i.at ≡ Holds i.format i.instr → (why : FrameWhy) → FrameKeeps w budget (seen_at d earlier i) why
       item_kept earlier i lead is why = by_rule why
         where
           before : Tracks earlier
@@ -155,10 +155,10 @@ module _ (rom : Rom) (list : List Entry) (up : Upholds rom list) (words : List �
           refines = frame_refines earlier i lead is before (keyed earlier i lead is)
 
           after : Tracks (i ∷ earlier)
-          after = more_after i (callee c earlier i.instr) (callee d earlier i.instr) (known_before c earlier) (known_before d earlier) before refines
+          after = more_after rom.machine i (callee c earlier i.instr) (callee d earlier i.instr) (known_before c earlier) (known_before d earlier) before refines
 
           less : LightsLess (extent c earlier i.instr) (extent d earlier i.instr) (place_before c earlier) (place_before d earlier)
-          less = lights_less i.instr (callee c earlier i.instr) (callee d earlier i.instr) (known_before c earlier) (known_before d earlier) before refines (frame_rule earlier i lead is frame.BeamUnknown) (frame_rule earlier i lead is frame.ScaleUnknown)
+          less = lights_less rom.machine i.instr (callee c earlier i.instr) (callee d earlier i.instr) (known_before c earlier) (known_before d earlier) before refines (frame_rule earlier i lead is frame.BeamUnknown) (frame_rule earlier i lead is frame.ScaleUnknown)
 
           by_rule : (why : FrameWhy) → FrameKeeps w budget (seen_at d earlier i) why
           by_rule frame.Unmapped = tt
@@ -175,10 +175,10 @@ module _ (rom : Rom) (list : List Entry) (up : Upholds rom list) (words : List �
       abbrev AtCell : Context → List Item → ℕ → FrameWhy → Cell → Type 0
       AtCell x earlier p why cell = CellKeeps frame.Unmapped frame.Odd (λ j. FrameKeeps w budget (seen_at x earlier j)) p cell why
 
-      pub frame_kept : AllKeep Frame (frame_word words) 0 (FramePlaceKeeps w words made budget)
-      frame_kept earlier p lead why = by_cell (cell_at (frame_word words) p) refl (keeps earlier p lead why)
+      pub frame_kept : AllKeep Frame (frame_word rom.machine words) 0 (FramePlaceKeeps w rom.machine words made budget)
+      frame_kept earlier p lead why = by_cell (cell_at (frame_word rom.machine words) p) refl (keeps earlier p lead why)
         where
-          by_cell : (cell : Cell) → cell_at (frame_word words) p ≡ cell → AtCell c earlier p why (cell_at (frame_word words) p) → AtCell d earlier p why (cell_at (frame_word words) p)
+          by_cell : (cell : Cell) → cell_at (frame_word rom.machine words) p ≡ cell → AtCell c earlier p why (cell_at (frame_word rom.machine words) p) → AtCell d earlier p why (cell_at (frame_word rom.machine words) p)
           by_cell Missing q h = subst (AtCell d earlier p why) (sym q) (subst (AtCell c earlier p why) q h)
           by_cell Odd q h = subst (AtCell d earlier p why) (sym q) (subst (AtCell c earlier p why) q h)
           by_cell (Holds format instr) q h = subst (AtCell d earlier p why) (sym q) (item_kept earlier (record { at = p; format = format; instr = instr }) lead q why)
@@ -191,18 +191,18 @@ only_frame words other (suc k, lt, is) = absurd (omega (arith, lt))
 
 pub none_better : NoneBetter
 none_better rom words w mode list made budget count depth accepted m = (
-  words_before (frame_context made) gf.items + word_count gf.format,
-  depth_before (frame_context made) gf.items,
+  words_before (frame_context rom.machine made) gf.items + word_count gf.format,
+  depth_before (frame_context rom.machine made) gf.items,
   fewer,
   shallower,
   record {
     certificate = m.certificate;
-    good = made_good rom list up (IsAskedFor [] (words ∷ []) made) made m roots w bound;
+    good = made_good rom list up (IsAskedFor rom.machine [] (words ∷ []) made) made m roots w bound;
     frame = framed;
   },
 )
   where
-    gf : GoodFrame w words list budget count depth
+    gf : GoodFrame w rom.machine words list budget count depth
     gf = accepted.frame
 
     bound : Good Bound w rom list
@@ -212,27 +212,27 @@ none_better rom words w mode list made budget count depth accepted m = (
     up = upheld rom list w accepted.certificate bound
 
     all : AllMade rom made
-    all = all_made rom list up (IsAskedFor [] (words ∷ []) made) made m
+    all = all_made rom list up (IsAskedFor rom.machine [] (words ∷ []) made) made m
 
-    keyed : (earlier : List Item) (i : Item) → LeadsTo Frame (frame_word words) 0 earlier i.at → cell_at (frame_word words) i.at ≡ Holds i.format i.instr → IsKeyed made earlier i
-    keyed earlier i lead is to t = m.rooted to (scale_before (frame_context made) earlier) (inr (words, (0, omega arith, refl), record { earlier = earlier; item = i; leads = lead; stands = is; target_is = t; scale_is = refl }))
+    keyed : (earlier : List Item) (i : Item) → LeadsTo Frame (frame_word rom.machine words) 0 earlier i.at → cell_at (frame_word rom.machine words) i.at ≡ Holds i.format i.instr → IsKeyed rom.machine made earlier i
+    keyed earlier i lead is to t = m.rooted to (scale_before (frame_context rom.machine made) earlier) (inr (words, (0, omega arith, refl), record { earlier = earlier; item = i; leads = lead; stands = is; target_is = t; scale_is = refl }))
 
-    roots : (addr : ℕ) (key : Key) → IsAskedFor [] (words ∷ []) made addr key → HasCover list addr key
+    roots : (addr : ℕ) (key : Key) → IsAskedFor rom.machine [] (words ∷ []) made addr key → HasCover list addr key
     roots addr key (inl x) = absurd (omega (arith, x.1))
     roots addr key (inr x) =
-        let calls : FrameAsksFor words made addr key = subst (λ z. FrameAsksFor z made addr key) (sym (only_frame words x.0 x.1)) x.2 in
+        let calls : FrameAsksFor rom.machine words made addr key = subst (λ z. FrameAsksFor rom.machine z made addr key) (sym (only_frame words x.0 x.1)) x.2 in
         subst (λ (k : Key). HasCover list addr k) calls.scale_is (frame_cover rom list up words w budget gf.keeps made all calls.earlier calls.item calls.leads calls.stands (all_keyed rom list up words w budget gf.keeps made all keyed calls.earlier calls.item.at calls.leads) addr calls.target_is)
 
-    end : KnowsMore (known_before (frame_context list) gf.items) (known_before (frame_context made) gf.items)
+    end : KnowsMore (known_before (frame_context rom.machine list) gf.items) (known_before (frame_context rom.machine made) gf.items)
     end = along rom list up words w budget gf.keeps made all keyed gf.items gf.at gf.leads
 
-    fewer : words_before (frame_context made) gf.items + word_count gf.format ≤ count
+    fewer : words_before (frame_context rom.machine made) gf.items + word_count gf.format ≤ count
     fewer = omega (arith, end.words, gf.count_is)
 
-    shallower : depth_before (frame_context made) gf.items ≤ depth
+    shallower : depth_before (frame_context rom.machine made) gf.items ≤ depth
     shallower = omega (arith, end.depth, gf.depth_is)
 
-    framed : GoodFrame w words made budget (words_before (frame_context made) gf.items + word_count gf.format) (depth_before (frame_context made) gf.items)
+    framed : GoodFrame w rom.machine words made budget (words_before (frame_context rom.machine made) gf.items + word_count gf.format) (depth_before (frame_context rom.machine made) gf.items)
     framed =
         record {
           keeps = frame_kept rom list up words w budget gf.keeps made all keyed;

@@ -1,4 +1,6 @@
 -- A frame whose calls are made one after another.
+use Rattle.dvg_words.specs.Values.{Source}
+use Rattle.dvg_words.specs.declared.machine.Machine.{Machine}
 use Rattle.std.proofs.Common.{◌≡◌, ℕ, zero, suc, ◌+◌, ◌<◌, ◌≤◌, List, [], ◌∷◌, ◌++◌, length, unwrap_or, Option, Some, None, refl, sym, ap, ◌∙◌, subst, arith, ◌⊎◌, inl, inr, ⊎_elim, append_assoc}
 use Rattle.std.proofs.lemmas.List.{append-nil}
 use Rattle.std.proofs.lemmas.Bool.{cases_lt}
@@ -46,88 +48,88 @@ pub done_made : (rom : Rom) (done : List Entry) → IsDone rom done → AllMade 
 done_made rom done h e c = let is = h.entries e c in record { made = h.made e c; words = is.words_high; depth = is.depth }
 
 -- what is known along a frame's items by a list is known by each that has more
-same_next : (a b : List Entry) → Extends a b → (earlier : List Item) (i : Item) → IsKeyed a earlier i → known_before (frame_context a) earlier ≡ known_before (frame_context b) earlier → known_before (frame_context a) (i ∷ earlier) ≡ known_before (frame_context b) (i ∷ earlier)
-same_next a b ext earlier i keyed before = by_target (target Frame i.instr) refl
+same_next : (machine : Machine) (a b : List Entry) → Extends a b → (earlier : List Item) (i : Item) → IsKeyed machine a earlier i → known_before (frame_context machine a) earlier ≡ known_before (frame_context machine b) earlier → known_before (frame_context machine a) (i ∷ earlier) ≡ known_before (frame_context machine b) (i ∷ earlier)
+same_next machine a b ext earlier i keyed before = by_target (target Frame i.instr) refl
   where
     k : Key
-    k = scale_before (frame_context a) earlier
+    k = scale_before (frame_context machine a) earlier
 
     j : Key
-    j = scale_before (frame_context b) earlier
+    j = scale_before (frame_context machine b) earlier
 
     same : k ≡ j
     same = ap (λ (x : Known). x.scale) before
 
-    past : callee_at a (target Frame i.instr) k ≡ callee_at b (target Frame i.instr) j → known_before (frame_context a) (i ∷ earlier) ≡ known_before (frame_context b) (i ∷ earlier)
-    past e = ap (λ o. known_past i o (known_before (frame_context a) earlier)) e ∙ ap (λ (x : Known). known_past i (callee_at b (target Frame i.instr) j) x) before
+    past : callee_at a (target Frame i.instr) k ≡ callee_at b (target Frame i.instr) j → known_before (frame_context machine a) (i ∷ earlier) ≡ known_before (frame_context machine b) (i ∷ earlier)
+    past e = ap (λ o. known_past machine i o (known_before (frame_context machine a) earlier)) e ∙ ap (λ (x : Known). known_past machine i (callee_at b (target Frame i.instr) j) x) before
 
-    by_target : (o : Option ℕ) → target Frame i.instr ≡ o → known_before (frame_context a) (i ∷ earlier) ≡ known_before (frame_context b) (i ∷ earlier)
+    by_target : (o : Option ℕ) → target Frame i.instr ≡ o → known_before (frame_context machine a) (i ∷ earlier) ≡ known_before (frame_context machine b) (i ∷ earlier)
     by_target None t = past (ap (λ o. callee_at a o k) t ∙ sym (ap (λ o. callee_at b o j) t))
     by_target (Some to) t =
         let f = keyed to t in
         let there : entry_at b to j ≡ Some f.0 = ap (λ (z : Key). entry_at b to z) (sym same) ∙ ext to k f.0 f.1 in
         past (ap (λ o. callee_at a o k) t ∙ exact_named a to k f.0 f.1 ∙ sym (exact_named b to j f.0 there) ∙ sym (ap (λ o. callee_at b o j) t))
 
-known_same : (a b : List Entry) → Extends a b → (items : List Item) → AllKeyed a items → known_before (frame_context a) items ≡ known_before (frame_context b) items
-known_same a b ext [] h = refl
-known_same a b ext (i ∷ earlier) h = same_next a b ext earlier i h.1 (known_same a b ext earlier h.0)
+known_same : (machine : Machine) (a b : List Entry) → Extends a b → (items : List Item) → AllKeyed machine a items → known_before (frame_context machine a) items ≡ known_before (frame_context machine b) items
+known_same machine a b ext [] h = refl
+known_same machine a b ext (i ∷ earlier) h = same_next machine a b ext earlier i h.1 (known_same machine a b ext earlier h.0)
 
-scale_same : (a b : List Entry) → Extends a b → (items : List Item) → AllKeyed a items → scale_before (frame_context a) items ≡ scale_before (frame_context b) items
-scale_same a b ext items h = ap (λ (x : Known). x.scale) (known_same a b ext items h)
+scale_same : (machine : Machine) (a b : List Entry) → Extends a b → (items : List Item) → AllKeyed machine a items → scale_before (frame_context machine a) items ≡ scale_before (frame_context machine b) items
+scale_same machine a b ext items h = ap (λ (x : Known). x.scale) (known_same machine a b ext items h)
 
-keyed_grows : (a b : List Entry) → Extends a b → (items : List Item) → AllKeyed a items → AllKeyed b items
-keyed_grows a b ext [] h = tt
-keyed_grows a b ext (i ∷ earlier) h =
-    (keyed_grows a b ext earlier h.0, λ to t. let f = h.1 to t in (f.0, ap (λ (z : Key). entry_at b to z) (sym (scale_same a b ext earlier h.0)) ∙ ext to _ f.0 f.1))
+keyed_grows : (machine : Machine) (a b : List Entry) → Extends a b → (items : List Item) → AllKeyed machine a items → AllKeyed machine b items
+keyed_grows machine a b ext [] h = tt
+keyed_grows machine a b ext (i ∷ earlier) h =
+    (keyed_grows machine a b ext earlier h.0, λ to t. let f = h.1 to t in (f.0, ap (λ (z : Key). entry_at b to z) (sym (scale_same machine a b ext earlier h.0)) ∙ ext to _ f.0 f.1))
 
 -- ---- calls
 
-pub call_grows : (words : List ℕ) (a b : List Entry) → Extends a b → (to : ℕ) (scale : Key) → KeyedCall words a to scale → KeyedCall words b to scale
-call_grows words a b ext to scale c =
+pub call_grows : (machine : Machine) (words : List ℕ) (a b : List Entry) → Extends a b → (to : ℕ) (scale : Key) → KeyedCall machine words a to scale → KeyedCall machine words b to scale
+call_grows machine words a b ext to scale c =
     record {
-      calls = record { earlier = c.calls.earlier; item = c.calls.item; leads = c.calls.leads; stands = c.calls.stands; target_is = c.calls.target_is; scale_is = sym (scale_same a b ext c.calls.earlier c.keyed) ∙ c.calls.scale_is };
-      keyed = keyed_grows a b ext c.calls.earlier c.keyed;
+      calls = record { earlier = c.calls.earlier; item = c.calls.item; leads = c.calls.leads; stands = c.calls.stands; target_is = c.calls.target_is; scale_is = sym (scale_same machine a b ext c.calls.earlier c.keyed) ∙ c.calls.scale_is };
+      keyed = keyed_grows machine a b ext c.calls.earlier c.keyed;
     }
 
 -- where each call of a frame has its entry
-module _ (words : List ℕ) (list : List Entry) (has : HasCalls words list) where
-  keyed_at : (earlier : List Item) (i : Item) → LeadsTo Frame (frame_word words) 0 earlier i.at → cell_at (frame_word words) i.at ≡ Holds i.format i.instr → IsKeyed list earlier i
-  keyed_at earlier i lead is to t = has to (scale_before (frame_context list) earlier) (record { earlier = earlier; item = i; leads = lead; stands = is; target_is = t; scale_is = refl })
+module _ (machine : Machine) (words : List ℕ) (list : List Entry) (has : HasCalls machine words list) where
+  keyed_at : (earlier : List Item) (i : Item) → LeadsTo Frame (frame_word machine words) 0 earlier i.at → cell_at (frame_word machine words) i.at ≡ Holds i.format i.instr → IsKeyed machine list earlier i
+  keyed_at earlier i lead is to t = has to (scale_before (frame_context machine list) earlier) (record { earlier = earlier; item = i; leads = lead; stands = is; target_is = t; scale_is = refl })
 
-  keyed_all : (items : List Item) (p : ℕ) → LeadsTo Frame (frame_word words) 0 items p → AllKeyed list items
+  keyed_all : (items : List Item) (p : ℕ) → LeadsTo Frame (frame_word machine words) 0 items p → AllKeyed machine list items
   keyed_all [] p lead = tt
   keyed_all (i ∷ earlier) p lead = (keyed_all earlier i.at lead.0, keyed_at earlier i lead.0 lead.1)
 
-  pub keyed_call : (to : ℕ) (scale : Key) → FrameAsksFor words list to scale → KeyedCall words list to scale
+  pub keyed_call : (to : ℕ) (scale : Key) → FrameAsksFor machine words list to scale → KeyedCall machine words list to scale
   keyed_call to scale c = record { calls = c; keyed = keyed_all c.earlier c.item.at c.leads }
 
-pub calls_grow : (words : List ℕ) (a b : List Entry) → Extends a b → HasCalls words a → (to : ℕ) (scale : Key) → FrameAsksFor words a to scale → FrameAsksFor words b to scale
-calls_grow words a b ext has to scale c = (call_grows words a b ext to scale (keyed_call words a has to scale c)).calls
+pub calls_grow : (machine : Machine) (words : List ℕ) (a b : List Entry) → Extends a b → HasCalls machine words a → (to : ℕ) (scale : Key) → FrameAsksFor machine words a to scale → FrameAsksFor machine words b to scale
+calls_grow machine words a b ext has to scale c = (call_grows machine words a b ext to scale (keyed_call machine words a has to scale c)).calls
 
 -- and the other way round
-pub calls_shrink : (words : List ℕ) (a b : List Entry) → Extends a b → HasCalls words a → (to : ℕ) (scale : Key) → FrameAsksFor words b to scale → FrameAsksFor words a to scale
-calls_shrink words a b ext has to scale c =
-    record { earlier = c.earlier; item = c.item; leads = c.leads; stands = c.stands; target_is = c.target_is; scale_is = scale_same a b ext c.earlier (keyed_all words a has c.earlier c.item.at c.leads) ∙ c.scale_is }
+pub calls_shrink : (machine : Machine) (words : List ℕ) (a b : List Entry) → Extends a b → HasCalls machine words a → (to : ℕ) (scale : Key) → FrameAsksFor machine words b to scale → FrameAsksFor machine words a to scale
+calls_shrink machine words a b ext has to scale c =
+    record { earlier = c.earlier; item = c.item; leads = c.leads; stands = c.stands; target_is = c.target_is; scale_is = scale_same machine a b ext c.earlier (keyed_all machine words a has c.earlier c.item.at c.leads) ∙ c.scale_is }
 
-pub has_calls_grow : (words : List ℕ) (a b : List Entry) → Extends a b → HasCalls words a → HasCalls words b
-has_calls_grow words a b ext has to scale c = let f = has to scale (calls_shrink words a b ext has to scale c) in (f.0, ext to scale f.0 f.1)
+pub has_calls_grow : (machine : Machine) (words : List ℕ) (a b : List Entry) → Extends a b → HasCalls machine words a → HasCalls machine words b
+has_calls_grow machine words a b ext has to scale c = let f = has to scale (calls_shrink machine words a b ext has to scale c) in (f.0, ext to scale f.0 f.1)
 
 -- ---- the items of a frame end
 
-module _ (words : List ℕ) (list : List Entry) where
-  abbrev word : ℕ → Option ℕ
-  word = frame_word words
+module _ (machine : Machine) (words : List ℕ) (list : List Entry) where
+  abbrev word : Source
+  word = frame_word machine words
 
   abbrev KeyedThere : List Item → ℕ → Type 0
-  KeyedThere earlier p = (format : Format) (instr : Instr) → cell_at word p ≡ Holds format instr → IsKeyed list earlier (record { at = p; format = format; instr = instr })
+  KeyedThere earlier p = (format : Format) (instr : Instr) → cell_at word p ≡ Holds format instr → IsKeyed machine list earlier (record { at = p; format = format; instr = instr })
 
   same_instr : (format other : Format) (i j : Instr) → Holds format i ≡ Holds other j → i ≡ j
   same_instr format other i j e = cc e
 
-  there : (earlier : List Item) (i : Item) → cell_at word i.at ≡ Holds i.format i.instr → IsKeyed list earlier i → KeyedThere earlier i.at
+  there : (earlier : List Item) (i : Item) → cell_at word i.at ≡ Holds i.format i.instr → IsKeyed machine list earlier i → KeyedThere earlier i.at
   there earlier i is keyed format instr e to t = keyed to (ap (target Frame) (same_instr i.format format i.instr instr (sym is ∙ e)) ∙ t)
 
-  each_there : (items : List Item) (p : ℕ) → LeadsTo Frame word 0 items p → AllKeyed list items → AtEachOf KeyedThere items
+  each_there : (items : List Item) (p : ℕ) → LeadsTo Frame word 0 items p → AllKeyed machine list items → AtEachOf KeyedThere items
   each_there [] p lead keyed = tt
   each_there (i ∷ earlier) p lead keyed = (each_there earlier i.at lead.0 keyed.0, there earlier i lead.1 keyed.1)
 
@@ -140,7 +142,7 @@ module _ (words : List ℕ) (list : List Entry) where
       (λ le. let s = same_lead Frame word 0 earlier items j.at p h.0 lead (omega (arith, lt, le)) in not j.format j.instr (sym (ap (cell_at word) s.place) ∙ h.1))
       (cases_lt (length items) (length earlier))
 
-  nothing_there : (items : List Item) (p : ℕ) → LeadsTo Frame word 0 items p → AllKeyed list items → ((format : Format) (instr : Instr) → cell_at word p ≡ Holds format instr → ⊥) → AtEveryPlace Frame word 0 KeyedThere
+  nothing_there : (items : List Item) (p : ℕ) → LeadsTo Frame word 0 items p → AllKeyed machine list items → ((format : Format) (instr : Instr) → cell_at word p ≡ Holds format instr → ⊥) → AtEveryPlace Frame word 0 KeyedThere
   nothing_there items p lead keyed not earlier q h =
       ⊎_elim
       (λ less. shorter Frame word 0 KeyedThere items p lead (each_there items p lead keyed) earlier q h less)
@@ -150,16 +152,16 @@ module _ (words : List ℕ) (list : List Entry) where
       (cases_lt (length items) (length earlier)))
       (cases_lt (length earlier) (length items))
 
-  has_all : AtEveryPlace Frame word 0 KeyedThere → HasCalls words list
+  has_all : AtEveryPlace Frame word 0 KeyedThere → HasCalls machine words list
   has_all all to scale c =
       let f = all c.earlier c.item.at c.leads c.item.format c.item.instr c.stands to c.target_is in
       (f.0, ap (λ (z : Key). entry_at list to z) (sym c.scale_is) ∙ f.1)
 
   -- where the items end
-  pub ends_last : (items : List Item) (i : Item) → LeadsTo Frame word 0 items i.at → cell_at word i.at ≡ Holds i.format i.instr → next_address Frame i ≡ None → AllKeyed list (i ∷ items) → HasCalls words list
+  pub ends_last : (items : List Item) (i : Item) → LeadsTo Frame word 0 items i.at → cell_at word i.at ≡ Holds i.format i.instr → next_address Frame i ≡ None → AllKeyed machine list (i ∷ items) → HasCalls machine words list
   ends_last items i lead is last keyed = has_all (everywhere Frame word 0 KeyedThere items i lead is last (each_there items i.at lead keyed.0, there items i is keyed.1))
 
-  pub ends_nowhere : (items : List Item) (p : ℕ) → LeadsTo Frame word 0 items p → AllKeyed list items → ((format : Format) (instr : Instr) → cell_at word p ≡ Holds format instr → ⊥) → HasCalls words list
+  pub ends_nowhere : (items : List Item) (p : ℕ) → LeadsTo Frame word 0 items p → AllKeyed machine list items → ((format : Format) (instr : Instr) → cell_at word p ≡ Holds format instr → ⊥) → HasCalls machine words list
   ends_nowhere items p lead keyed not = has_all (nothing_there items p lead keyed not)
 
 -- ---- what is asked for, one more
@@ -225,15 +227,15 @@ pub record FrameWalk (rom : Rom) (words : List ℕ) (old done : List Entry) (at 
   pub is_done : IsDone rom done
   pub grows : Extends old done
   pub items : List Item
-  pub leads : LeadsTo Frame (frame_word words) 0 items at
-  pub keyed : AllKeyed done items
-  pub scale_is : scale ≡ scale_before (frame_context done) items
+  pub leads : LeadsTo Frame (frame_word rom.machine words) 0 items at
+  pub keyed : AllKeyed rom.machine done items
+  pub scale_is : scale ≡ scale_before (frame_context rom.machine done) items
   pub is_key : IsKey scale
   pub near : at ≤ ADDRESS_END + 2
   pub calls : List (ℕ × Key)
-  pub calls_are : (to : ℕ) (key : Key) → Contains calls (to, key) → KeyedCall words done to key
+  pub calls_are : (to : ℕ) (key : Key) → Contains calls (to, key) → KeyedCall rom.machine words done to key
   pub collected : (asked : List (ℕ × Key)) → Collected rom asked old → Collected rom (asked ++ calls) done
-  pub forced : (list : List Entry) → AllMade rom list → Extends old list → HasCalls words list → Extends done list
+  pub forced : (list : List Entry) → AllMade rom list → Extends old list → HasCalls rom.machine words list → Extends done list
 
 pub starts : (rom : Rom) (words : List ℕ) (done : List Entry) → IsDone rom done → FrameWalk rom words done done 0 Any
 starts rom words done h =
@@ -252,17 +254,17 @@ starts rom words done h =
       forced = λ list all ext has. ext;
     }
 
-module _ (rom : Rom) (words : List ℕ) (old done : List Entry) (at : ℕ) (scale : Key) (w : FrameWalk rom words old done at scale) (format : Format) (instr : Instr) (is : cell_at (frame_word words) at ≡ Holds format instr) where
+module _ (rom : Rom) (words : List ℕ) (old done : List Entry) (at : ℕ) (scale : Key) (w : FrameWalk rom words old done at scale) (format : Format) (instr : Instr) (is : cell_at (frame_word rom.machine words) at ≡ Holds format instr) where
   abbrev item : Item
   item = record { at = at; format = format; instr = instr }
 
   module _ (to : ℕ) (t : target Frame instr ≡ Some to) where
     -- the call by a list that has the entries so far
-    called_by : (list : List Entry) → Extends done list → KeyedCall words list to scale
+    called_by : (list : List Entry) → Extends done list → KeyedCall rom.machine words list to scale
     called_by list ext =
         record {
-          calls = record { earlier = w.items; item = item; leads = w.leads; stands = is; target_is = t; scale_is = sym (scale_same done list ext w.items w.keyed) ∙ sym w.scale_is };
-          keyed = keyed_grows done list ext w.items w.keyed;
+          calls = record { earlier = w.items; item = item; leads = w.leads; stands = is; target_is = t; scale_is = sym (scale_same rom.machine done list ext w.items w.keyed) ∙ sym w.scale_is };
+          keyed = keyed_grows rom.machine done list ext w.items w.keyed;
         }
 
     pub call_made : (new : List Entry) → InProgress rom done (to, scale) new [] → HasEntry new to scale → FrameWalk rom words old new at scale
@@ -272,12 +274,12 @@ module _ (rom : Rom) (words : List ℕ) (old done : List Entry) (at : ℕ) (scal
           grows = λ a k e q. m.extends a k e (w.grows a k e q);
           items = w.items;
           leads = w.leads;
-          keyed = keyed_grows done new m.extends w.items w.keyed;
-          scale_is = w.scale_is ∙ scale_same done new m.extends w.items w.keyed;
+          keyed = keyed_grows rom.machine done new m.extends w.items w.keyed;
+          scale_is = w.scale_is ∙ scale_same rom.machine done new m.extends w.items w.keyed;
           is_key = w.is_key;
           near = w.near;
           calls = w.calls ++ (to, scale) ∷ [];
-          calls_are = λ a k c. ⊎_elim (λ x. call_grows words done new m.extends a k (w.calls_are a k x)) (λ x. subst (λ (r : ℕ × Key). KeyedCall words new r.0 r.1) (in_one (to, scale) (a, k) x) (called_by new m.extends)) (in_either w.calls ((to, scale) ∷ []) (a, k) c);
+          calls_are = λ a k c. ⊎_elim (λ x. call_grows rom.machine words done new m.extends a k (w.calls_are a k x)) (λ x. subst (λ (r : ℕ × Key). KeyedCall rom.machine words new r.0 r.1) (in_one (to, scale) (a, k) x) (called_by new m.extends)) (in_either w.calls ((to, scale) ∷ []) (a, k) c);
           collected = λ asked c. subst (λ a. Collected rom a new) (append_assoc asked w.calls ((to, scale) ∷ [])) (collected_more rom (asked ++ w.calls) done new to scale (w.collected asked c) m has);
           forced = λ list all ext has_calls. let e = w.forced list all ext has_calls in (m.forced list (record { all = all; extends = e; has = has_calls to scale (called_by list e).calls })).0;
         }
@@ -308,7 +310,7 @@ module _ (rom : Rom) (words : List ℕ) (old done : List Entry) (at : ℕ) (scal
       none_accepts v mode list budget count depth a =
           let up = upheld rom list v a.certificate (in_bound v rom list mode a.good) in
           let cover = frame_cover rom list up words v budget a.frame.keeps done (done_made rom done w.is_done) w.items item w.leads is w.keyed to t in
-          let key : Key = scale_before (frame_context done) w.items in
+          let key : Key = scale_before (frame_context rom.machine done) w.items in
           let b = better rom list up cover.0 cover.1 key cover.2.key in
           entry_barred b.list b.all (b.f, subst (λ (k : Key). entry_at b.list to k ≡ Some b.f) (sym w.scale_is) (subst (λ a. entry_at b.list a key ≡ Some b.f) cover.2.addr b.found_it))
 
@@ -327,22 +329,22 @@ module _ (rom : Rom) (words : List ℕ) (old done : List Entry) (at : ℕ) (scal
   -- its entry is made, if it calls one
   record Called (new : List Entry) (callee : Option Entry) : Type 0 where
     partial : FrameWalk rom words old new at scale
-    its : IsKeyed new partial.items item
-    callee_is : callee ≡ callee_at new (target Frame instr) (scale_before (frame_context new) partial.items)
+    its : IsKeyed rom.machine new partial.items item
+    callee_is : callee ≡ callee_at new (target Frame instr) (scale_before (frame_context rom.machine new) partial.items)
     claim : IfSome callee IsClaim
 
   called_none : target Frame instr ≡ None → Called done None
-  called_none t = record { partial = w; its = λ to q. let no : None ≡ Some to = sym t ∙ q in cc no; callee_is = sym (ap (λ o. callee_at done o (scale_before (frame_context done) w.items)) t); claim = tt }
+  called_none t = record { partial = w; its = λ to q. let no : None ≡ Some to = sym t ∙ q in cc no; callee_is = sym (ap (λ o. callee_at done o (scale_before (frame_context rom.machine done) w.items)) t); claim = tt }
 
   called_some : (last : rom.map.rom_last < ADDRESS_END) (to : ℕ) → target Frame instr ≡ Some to → (new : List Entry) (f : Entry) → InProgress rom done (to, scale) new [] → entry_at new to scale ≡ Some f → Called new (Some f)
   called_some last to t new f m found_f =
       let partial = call_made to t new m (f, found_f) in
-      let there : entry_at new to (scale_before (frame_context new) partial.items) ≡ Some f = subst (λ (k : Key). entry_at new to k ≡ Some f) partial.scale_is found_f in
+      let there : entry_at new to (scale_before (frame_context rom.machine new) partial.items) ≡ Some f = subst (λ (k : Key). entry_at new to k ≡ Some f) partial.scale_is found_f in
       let entry = m.is_done.entries f (listed_at new to scale f found_f).listed in
       record {
         partial = partial;
-        its = λ other q. (f, ap (λ o. entry_at new o (scale_before (frame_context new) partial.items)) (some_same other to (sym q ∙ t)) ∙ there);
-        callee_is = sym (ap (λ o. callee_at new o (scale_before (frame_context new) partial.items)) t ∙ exact_named new to (scale_before (frame_context new) partial.items) f there);
+        its = λ other q. (f, ap (λ o. entry_at new o (scale_before (frame_context rom.machine new) partial.items)) (some_same other to (sym q ∙ t)) ∙ there);
+        callee_is = sym (ap (λ o. callee_at new o (scale_before (frame_context rom.machine new) partial.items)) t ∙ exact_named new to (scale_before (frame_context rom.machine new) partial.items) f there);
         claim = record { key = entry.key; stop = entry.stop; lit = entry.lit; depth = entry.depth; words = entry.words_high; scale = entry.scale; addr = omega (arith, entry.addr_high, last) };
       }
     where
@@ -363,14 +365,14 @@ module _ (rom : Rom) (words : List ℕ) (old done : List Entry) (at : ℕ) (scal
     pub goes_on : (past : Key) → past ≡ unwrap_or (scale_set instr callee) scale → IsKey past → at < ADDRESS_END → InstrFits instr → (next : ℕ) → next_address Frame item ≡ Some next → FrameWalk rom words old new next past
     goes_on past past_is key near fits next goes =
         let h = called last new callee c in
-        let list_scale : scale ≡ scale_before (frame_context new) h.partial.items = h.partial.scale_is in
+        let list_scale : scale ≡ scale_before (frame_context rom.machine new) h.partial.items = h.partial.scale_is in
         record {
           is_done = h.partial.is_done;
           grows = h.partial.grows;
           items = item ∷ h.partial.items;
           leads = (h.partial.leads, is, goes);
           keyed = (h.partial.keyed, h.its);
-          scale_is = past_is ∙ ap (λ o. unwrap_or (scale_set instr o) scale) h.callee_is ∙ ap (λ (k : Key). unwrap_or (scale_set instr (callee_at new (target Frame instr) (scale_before (frame_context new) h.partial.items))) k) list_scale;
+          scale_is = past_is ∙ ap (λ o. unwrap_or (scale_set instr o) scale) h.callee_is ∙ ap (λ (k : Key). unwrap_or (scale_set instr (callee_at new (target Frame instr) (scale_before (frame_context rom.machine new) h.partial.items))) k) list_scale;
           is_key = key;
           near = next_near Frame at format instr next near fits goes;
           calls = h.partial.calls;
@@ -383,7 +385,7 @@ module _ (rom : Rom) (words : List ℕ) (old done : List Entry) (at : ℕ) (scal
     at_last ends =
         let h = called last new callee c in
         record {
-          has_calls = ends_last words new h.partial.items item h.partial.leads is ends (h.partial.keyed, h.its);
+          has_calls = ends_last rom.machine words new h.partial.items item h.partial.leads is ends (h.partial.keyed, h.its);
           calls = h.partial.calls;
           calls_are = λ to key x. (h.partial.calls_are to key x).calls;
           collected = h.partial.collected;
@@ -393,21 +395,21 @@ module _ (rom : Rom) (words : List ℕ) (old done : List Entry) (at : ℕ) (scal
     pub all_grow : Extends old new
     all_grow = (called last new callee c).partial.grows
 
-pub at_nothing : (rom : Rom) (words : List ℕ) (old done : List Entry) (at : ℕ) (scale : Key) → FrameWalk rom words old done at scale → ((format : Format) (instr : Instr) → cell_at (frame_word words) at ≡ Holds format instr → ⊥) → IsFramed rom words old done
+pub at_nothing : (rom : Rom) (words : List ℕ) (old done : List Entry) (at : ℕ) (scale : Key) → FrameWalk rom words old done at scale → ((format : Format) (instr : Instr) → cell_at (frame_word rom.machine words) at ≡ Holds format instr → ⊥) → IsFramed rom words old done
 at_nothing rom words old done at scale w not =
     record {
-      has_calls = ends_nowhere words done w.items at w.leads w.keyed not;
+      has_calls = ends_nowhere rom.machine words done w.items at w.leads w.keyed not;
       calls = w.calls;
       calls_are = λ to key x. (w.calls_are to key x).calls;
       collected = w.collected;
       forced = w.forced;
     }
 
-pub target_barred : (rom : Rom) (words : List ℕ) (old done : List Entry) (at : ℕ) (scale : Key) → FrameWalk rom words old done at scale → (format : Format) (instr : Instr) → cell_at (frame_word words) at ≡ Holds format instr → (why : EntryFault) → BarsTarget rom done instr scale why → BarsHere rom words old at why
+pub target_barred : (rom : Rom) (words : List ℕ) (old done : List Entry) (at : ℕ) (scale : Key) → FrameWalk rom words old done at scale → (format : Format) (instr : Instr) → cell_at (frame_word rom.machine words) at ≡ Holds format instr → (why : EntryFault) → BarsTarget rom done instr scale why → BarsHere rom words old at why
 target_barred rom words old done at scale w format instr is why b = call_barred rom words old done at scale w format instr is b.0 b.1 why b.2
 
 -- what is told of it
-pub target_told : (rom : Rom) (words : List ℕ) (old done : List Entry) (at : ℕ) (scale : Key) → FrameWalk rom words old done at scale → (format : Format) (instr : Instr) → cell_at (frame_word words) at ≡ Holds format instr → (chain : List PartialEntry) (obstacle : Obstacle) → TellsTarget rom done instr scale chain obstacle → TellsHere rom words old at chain obstacle
+pub target_told : (rom : Rom) (words : List ℕ) (old done : List Entry) (at : ℕ) (scale : Key) → FrameWalk rom words old done at scale → (format : Format) (instr : Instr) → cell_at (frame_word rom.machine words) at ≡ Holds format instr → (chain : List PartialEntry) (obstacle : Obstacle) → TellsTarget rom done instr scale chain obstacle → TellsHere rom words old at chain obstacle
 unfolding called_by
 target_told rom words old done at scale w format instr is chain obstacle b =
     let call = called_by rom words old done at scale w format instr is b.0 b.1 b.2.list b.2.extends in
@@ -419,16 +421,16 @@ target_told rom words old done at scale w format instr is chain obstacle b =
       scale = scale;
       call = record { calls = call.calls; at_is = refl; before = call.keyed };
       extends = λ a k e q. b.2.extends a k e (w.grows a k e q);
-      needed = λ asked h. called_told rom done b.2.list (b.0, scale) chain (IsGivenHere words asked b.2.list) b.2.extends b.2.needed (given asked h) (inr call);
+      needed = λ asked h. called_told rom done b.2.list (b.0, scale) chain (IsGivenHere rom.machine words asked b.2.list) b.2.extends b.2.needed (given asked h) (inr call);
       room = b.2.room;
       tells = b.2.tells;
       no_root = b.3;
     }
   where
-    given : (asked : List (ℕ × Key)) → Collected rom asked old → (a : ℕ) (k : Key) → HasEntry done a k → IsGivenHere words asked b.2.list a k ⊎ IsCalled rom done [] a k
+    given : (asked : List (ℕ × Key)) → Collected rom asked old → (a : ℕ) (k : Key) → HasEntry done a k → IsGivenHere rom.machine words asked b.2.list a k ⊎ IsCalled rom done [] a k
     given asked h a k has =
         ⊎_elim
-        (λ c. inl (⊎_elim (λ x. inl x) (λ x. inr (call_grows words done b.2.list b.2.extends a k (w.calls_are a k x))) (in_either asked w.calls (a, k) c)))
+        (λ c. inl (⊎_elim (λ x. inl x) (λ x. inr (call_grows rom.machine words done b.2.list b.2.extends a k (w.calls_are a k x))) (in_either asked w.calls (a, k) c)))
         (λ c. inr c)
         ((w.collected asked h).needed a k has)
 

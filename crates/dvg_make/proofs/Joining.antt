@@ -1,4 +1,5 @@
 -- A shape so far and the tail behind it are a made entry.
+use Rattle.dvg_words.specs.declared.machine.Machine.{Machine}
 use Rattle.std.proofs.Common.{◌≡◌, ℕ, ◌+◌, ◌-◌, ◌<◌, ◌≤◌, ◌≤ℤ◌, ℤ, neg_ℤ, List, [], ◌∷◌, ◌++◌, Option, Some, None, refl, sym, ap, ◌∙◌, subst, arith, zero, suc, ⊎_elim}
 use Rattle.std.specs.Prelude.{Contains, IfSome}
 use Rattle.std.proofs.lemmas.Int.{ints}
@@ -119,18 +120,18 @@ corners_back (Span l r d t) (Span l' r' d' t') (Rel u v) h =
 
 -- ---- the items before a tail, and those of the tail
 
-module _ (rom : Rom) (list : List Entry) (key : Key) (before : List Item) (t : Entry) (scale : scale_before (keyed_context list key) before ≡ t.key) where
+module _ (rom : Rom) (list : List Entry) (key : Key) (before : List Item) (t : Entry) (scale : scale_before (keyed_context rom.machine list key) before ≡ t.key) where
   abbrev c : Context
-  c = keyed_context list key
+  c = keyed_context rom.machine list key
 
   abbrev behind : Context
-  behind = keyed_context list t.key
+  behind = keyed_context rom.machine list t.key
 
   abbrev here : Known
   here = known_before c before
 
   seen_on : (rest : List Item) (i : Item) → known_before c (rest ++ before) ≡ known_over here (known_before behind rest) → seen_at c (rest ++ before) i ≡ seen_over here (seen_at behind rest i)
-  seen_on rest i knows = ap (λ (k : Known). seen_by list Shape k i) knows ∙ seen_by_over list here (known_before behind rest) i
+  seen_on rest i knows = ap (λ (k : Known). seen_by rom.machine list Shape k i) knows ∙ seen_by_over rom.machine list here (known_before behind rest) i
 
   pub knows_on : (rest : List Item) → known_before c (rest ++ before) ≡ known_over here (known_before behind rest)
   knows_on [] = over_none here t.key scale
@@ -210,22 +211,22 @@ pub joined : (rom : Rom) (list : List Entry) → IsDone rom list → (w : Partia
 joined rom list done w h t tail at key e ends =
     let m = made_ends rom list t tail.made in
     let is = h.knows.known_is in
-    let scale : scale_before (keyed_context list w.key) h.items ≡ t.key = sym (key ∙ ap (λ (k : Known). k.scale) is) in
-    let place : PlaceKnown (box_extent t.lit) (place_before (keyed_context list w.key) h.items) = subst (λ (k : Known). PlaceKnown (box_extent t.lit) k.place) is ends.place in
+    let scale : scale_before (keyed_context rom.machine list w.key) h.items ≡ t.key = sym (key ∙ ap (λ (k : Known). k.scale) is) in
+    let place : PlaceKnown (box_extent t.lit) (place_before (keyed_context rom.machine list w.key) h.items) = subst (λ (k : Known). PlaceKnown (box_extent t.lit) k.place) is ends.place in
     let all : List Item = m.stops.i ∷ m.stops.items ++ h.items in
     let leads = leads_through rom list w.key h.items t scale w.addr m.stops.i.at m.stops.items (subst (LeadsTo Shape (rom_word rom) w.addr h.items) (sym at) h.leads) m.stops.leads in
     let fine = fine_through rom list w.key h.items t scale place (m.stops.i ∷ m.stops.items) h.knows.fine m.fine m.sums.box.holds in
-    let grown : IsLeast (relative_corners (box_extent t.lit) (place_before (keyed_context list w.key) h.items) ++ lit_points (keyed_context list w.key) h.items) ends.lit = subst (λ (k : Known). IsLeast (relative_corners (box_extent t.lit) k.place ++ lit_points (keyed_context list w.key) h.items) ends.lit) is (ends.grows (lit_points (keyed_context list w.key) h.items) h.knows.least) in
+    let grown : IsLeast (relative_corners (box_extent t.lit) (place_before (keyed_context rom.machine list w.key) h.items) ++ lit_points (keyed_context rom.machine list w.key) h.items) ends.lit = subst (λ (k : Known). IsLeast (relative_corners (box_extent t.lit) k.place ++ lit_points (keyed_context rom.machine list w.key) h.items) ends.lit) is (ends.grows (lit_points (keyed_context rom.machine list w.key) h.items) h.knows.least) in
     let least = least_through rom list w.key h.items t scale ends.lit (m.stops.i ∷ m.stops.items) (ordered_box t.lit tail.entry.lit) m.sums.box grown in
-    let knows : ends.known ≡ known_before (keyed_context list w.key) all = ends.known_is ∙ ap (λ (k : Known). known_over k (known_at_end t)) is ∙ ap (known_over (known_before (keyed_context list w.key) h.items)) (sym m.sums.known) ∙ sym (knows_on rom list w.key h.items t scale (m.stops.i ∷ m.stops.items)) in
+    let knows : ends.known ≡ known_before (keyed_context rom.machine list w.key) all = ends.known_is ∙ ap (λ (k : Known). known_over k (known_at_end t)) is ∙ ap (known_over (known_before (keyed_context rom.machine list w.key) h.items)) (sym m.sums.known) ∙ sym (knows_on rom list w.key h.items t scale (m.stops.i ∷ m.stops.items)) in
     let depth : ends.known.depth ≤ MOST_DEPTH = omega (arith, ap (λ (k : Known). k.depth) ends.known_is, h.shallow, tail.entry.depth) in
     let scale_is : IsKey ends.known.scale = subst (λ (k : Known). IsKey k.scale) (sym ends.known_is) tail.entry.scale in
-    let entry : IsEntry rom.map.rom_first rom.map.rom_last (entry_of w.addr w.key (known_before (keyed_context list w.key) all) ends.lit) =
+    let entry : IsEntry rom.map.rom_first rom.map.rom_last (entry_of w.addr w.key (known_before (keyed_context rom.machine list w.key) all) ends.lit) =
     made_is_entry rom list done.made w.addr w.key (m.stops.items ++ h.items) m.stops.i ends.lit leads m.stops.is fine least
     (subst (λ (k : Known). k.words ≤ MOST_WORDS) knows ends.words) (subst (λ (k : Known). k.depth ≤ MOST_DEPTH) knows depth) h.keyed (subst (λ (k : Known). IsKey k.scale) knows scale_is) in
-    let value : entry_of w.addr w.key (known_before (keyed_context list w.key) all) ends.lit ≡ e = sym (ends.entry_is ∙ ap (λ (k : Known). entry_of w.addr w.key k ends.lit) knows) in
-    let its_made : MadeEntry rom list (entry_of w.addr w.key (known_before (keyed_context list w.key) all) ends.lit) =
-    ends_made rom list (entry_of w.addr w.key (known_before (keyed_context list w.key) all) ends.lit)
+    let value : entry_of w.addr w.key (known_before (keyed_context rom.machine list w.key) all) ends.lit ≡ e = sym (ends.entry_is ∙ ap (λ (k : Known). entry_of w.addr w.key k ends.lit) knows) in
+    let its_made : MadeEntry rom list (entry_of w.addr w.key (known_before (keyed_context rom.machine list w.key) all) ends.lit) =
+    ends_made rom list (entry_of w.addr w.key (known_before (keyed_context rom.machine list w.key) all) ends.lit)
     (record { stops = record { items = m.stops.items ++ h.items; i = m.stops.i; leads = leads; is = m.stops.is; last = m.stops.last }; sums = record { known = refl; box = least }; fine = fine }) in
     record {
       addr = ap (λ (x : Entry). x.addr) (sym value);
@@ -250,9 +251,9 @@ tail_claim rom list tails last are t c =
     record { key = is.key; stop = is.stop; lit = is.lit; depth = is.depth; words = is.words_high; scale = is.scale; addr = omega (arith, is.addr_high, last) }
 
 -- past a tail jump the same is known as past the tail, but for the word of the jump
-pub ends_by : (w : PartialEntry) (t : Entry) (to : ℕ) (lit : LitBox) (last : Known) (words : ℕ) (e : Entry) → Passes (seen_with (Some t) w.cursor.known (record { at = w.cursor.at; format = Short; instr = Jmpl to })) w.lit lit → Last last ≡ step_past Shape (seen_with (Some t) w.cursor.known (record { at = w.cursor.at; format = Short; instr = Jmpl to })) → words ≡ last.words - 1 → e ≡ entry_of w.addr w.key (record last { words = words }) lit → EndsBy w t e
-ends_by w t to lit last words e p goes less is =
-    let after : last ≡ (seen_with (Some t) w.cursor.known (record { at = w.cursor.at; format = Short; instr = Jmpl to })).after = cc goes in
+pub ends_by : (machine : Machine) (w : PartialEntry) (t : Entry) (to : ℕ) (lit : LitBox) (last : Known) (words : ℕ) (e : Entry) → Passes (seen_with machine (Some t) w.cursor.known (record { at = w.cursor.at; format = Short; instr = Jmpl to })) w.lit lit → Last last ≡ step_past Shape (seen_with machine (Some t) w.cursor.known (record { at = w.cursor.at; format = Short; instr = Jmpl to })) → words ≡ last.words - 1 → e ≡ entry_of w.addr w.key (record last { words = words }) lit → EndsBy w t e
+ends_by machine w t to lit last words e p goes less is =
+    let after : last ≡ (seen_with machine (Some t) w.cursor.known (record { at = w.cursor.at; format = Short; instr = Jmpl to })).after = cc goes in
     let count : words ≡ t.words + w.cursor.known.words = omega (arith, less, ap (λ (k : Known). k.words) after) in
     record {
       known = record last { words = words };

@@ -1,4 +1,5 @@
 -- Who knows more before an item knows more after it, and lights no more.
+use Rattle.dvg_words.specs.declared.machine.Machine.{Machine}
 use Rattle.std.proofs.Common.{◌≡◌, ◌≢◌, ℕ, zero, suc, ◌≤◌, unwrap_or, Option, Some, None, refl, sym, ap, subst, arith}
 use Rattle.std.proofs.lemmas.Int.{ints}
 use Rattle.std.specs.Prelude.{ℤ, ◌≤ℤ◌}
@@ -60,9 +61,9 @@ stop_more (Rel x y) q h = ap stop_effect h
 stop_more (Abs x y) q h = ap stop_effect h
 stop_more Lost q h = tt
 
-draw_more : (d : DrawFields) (s t : Key) → Loosens s t → LoosensEffect (draw_effect d s) (draw_effect d t)
-draw_more d (At n) t h = ap (λ z. draw_effect d z) h
-draw_more d Any t h = tt
+draw_more : (machine : Machine) (d : DrawFields) (s t : Key) → Loosens s t → LoosensEffect (draw_effect machine d s) (draw_effect machine d t)
+draw_more machine d (At n) t h = ap (λ z. draw_effect machine d z) h
+draw_more machine d Any t h = tt
 
 -- what holds of no callee, and of each two of which the one refines the other
 by_callee : (R : Option Entry → Option Entry → Type 0) → R None None → ((e f : Entry) → CalleeRefines (Some e) (Some f) → R (Some e) (Some f)) → (o p : Option Entry) → CalleeRefines o p → R o p
@@ -71,13 +72,13 @@ by_callee R none some None (Some f) c = absurd c
 by_callee R none some (Some e) None c = absurd c
 by_callee R none some (Some e) (Some f) c = some e f c
 
-effect_more : (i : Instr) (s t : Key) (o p : Option Entry) → Loosens s t → CalleeRefines o p → LoosensEffect (effect_of i s o) (effect_of i t p)
-effect_more (Draws d) s t o p h c = draw_more d s t h
-effect_more (Labs x y g) s t o p h c = refl
-effect_more Halt s t o p h c = refl
-effect_more Rtsl s t o p h c = refl
-effect_more (Jsrl to) s t o p h c = by_callee (λ a b. LoosensEffect (effect_of (Jsrl to) s a) (effect_of (Jsrl to) t b)) refl (λ e f r. stop_more e.stop f.stop r.0.known.place) o p c
-effect_more (Jmpl to) s t o p h c = by_callee (λ a b. LoosensEffect (effect_of (Jmpl to) s a) (effect_of (Jmpl to) t b)) refl (λ e f r. stop_more e.stop f.stop r.0.known.place) o p c
+effect_more : (machine : Machine) (i : Instr) (s t : Key) (o p : Option Entry) → Loosens s t → CalleeRefines o p → LoosensEffect (effect_of machine i s o) (effect_of machine i t p)
+effect_more machine (Draws d) s t o p h c = draw_more machine d s t h
+effect_more machine (Labs x y g) s t o p h c = refl
+effect_more machine Halt s t o p h c = refl
+effect_more machine Rtsl s t o p h c = refl
+effect_more machine (Jsrl to) s t o p h c = by_callee (λ a b. LoosensEffect (effect_of machine (Jsrl to) s a) (effect_of machine (Jsrl to) t b)) refl (λ e f r. stop_more e.stop f.stop r.0.known.place) o p c
+effect_more machine (Jmpl to) s t o p h c = by_callee (λ a b. LoosensEffect (effect_of machine (Jmpl to) s a) (effect_of machine (Jmpl to) t b)) refl (λ e f r. stop_more e.stop f.stop r.0.known.place) o p c
 
 -- ---- scales and counts
 
@@ -107,12 +108,12 @@ depth_more (Jsrl to) (Some e) (Some f) c = let h = c.0.known.depth in omega (ari
 depth_more (Jmpl to) (Some e) (Some f) c = c.0.known.depth
 
 -- who knows more before an item knows more after it
-pub more_after : (i : Item) (o p : Option Entry) (weak strong : Known) → KnowsMore weak strong → CalleeRefines o p → KnowsMore (known_past i o weak) (known_past i p strong)
-more_after i o p weak strong k c =
+pub more_after : (machine : Machine) (i : Item) (o p : Option Entry) (weak strong : Known) → KnowsMore weak strong → CalleeRefines o p → KnowsMore (known_past machine i o weak) (known_past machine i p strong)
+more_after machine i o p weak strong k c =
     let words = words_more o p c in
     let depth = depth_more i.instr o p c in
     record {
-      place = place_more (effect_of i.instr weak.scale o) (effect_of i.instr strong.scale p) weak.place strong.place (effect_more i.instr weak.scale strong.scale o p k.scale c) k.place;
+      place = place_more (effect_of machine i.instr weak.scale o) (effect_of machine i.instr strong.scale p) weak.place strong.place (effect_more machine i.instr weak.scale strong.scale o p k.scale c) k.place;
       scale = scale_more i.instr weak.scale strong.scale o p k.scale c;
       words = omega (arith, words, k.words);
       depth = omega (arith, depth, k.depth);
@@ -137,10 +138,10 @@ same_lit a b (Rel x y) q n h = subst (λ z. LightsLess (Between a b) (Between a 
 same_lit a b (Abs x y) q n h = subst (λ z. LightsLess (Between a b) (Between a b) (Abs x y) z) (sym h) (record { known = λ e. cc e; scale_known = tt; shown = λ w i. i; boxed = λ box i. i })
 same_lit a b Lost q n h = absurd (n refl)
 
-draw_less : (bright : ℕ) (d : DrawFields) (s t : Key) (p q : End) → Loosens s t → LoosensPlace p q → PlaceKnown (draw_extent bright d s) p → ScaleKnown (draw_extent bright d s) → LightsLess (draw_extent bright d s) (draw_extent bright d t) p q
-draw_less zero d s t p q h l known scale = none_lit Nothing p q
-draw_less (suc n) d (At g) t p q h l known scale = subst (λ z. LightsLess (draw_extent (suc n) d (At g)) (draw_extent (suc n) d z) p q) (sym h) (same_lit _ _ p q known l)
-draw_less (suc n) d Any t p q h l known scale = absurd scale
+draw_less : (machine : Machine) (bright : ℕ) (d : DrawFields) (s t : Key) (p q : End) → Loosens s t → LoosensPlace p q → PlaceKnown (draw_extent machine bright d s) p → ScaleKnown (draw_extent machine bright d s) → LightsLess (draw_extent machine bright d s) (draw_extent machine bright d t) p q
+draw_less machine zero d s t p q h l known scale = none_lit Nothing p q
+draw_less machine (suc n) d (At g) t p q h l known scale = subst (λ z. LightsLess (draw_extent machine (suc n) d (At g)) (draw_extent machine (suc n) d z) p q) (sym h) (same_lit _ _ p q known l)
+draw_less machine (suc n) d Any t p q h l known scale = absurd scale
 
 -- corners in a box, and those of a part of what they span
 part_in_box : (box : LitBox) (x y a0 a1 b0 b1 c0 c1 d0 d1 : ℤ) → IsOrdered (Span c0 c1 d0 d1) → IsInside (Span c0 c1 d0 d1) (Span a0 a1 b0 b1) → LitInBox box (Between (record { x = a0; y = b0 }) (record { x = a1; y = b1 })) (Rel x y) → LitInBox box (Between (record { x = c0; y = d0 }) (record { x = c1; y = d1 })) (Rel x y)
@@ -168,16 +169,16 @@ box_less (Span a0 a1 b0 b1) (Span c0 c1 d0 d1) (Abs x y) q i o l known =
 box_less (Span a0 a1 b0 b1) (Span c0 c1 d0 d1) Lost q i o l known = absurd (known refl)
 
 -- who knows more before an item lights no more there
-pub lights_less : (i : Instr) (o p : Option Entry) (weak strong : Known) → KnowsMore weak strong → CalleeRefines o p → PlaceKnown (extent_of i weak.scale o) weak.place → ScaleKnown (extent_of i weak.scale o) → LightsLess (extent_of i weak.scale o) (extent_of i strong.scale p) weak.place strong.place
-lights_less (Draws d) o p weak strong k c known scale = draw_less d.bright d weak.scale strong.scale weak.place strong.place k.scale k.place known scale
-lights_less (Labs x y g) o p weak strong k c known scale = none_lit Nothing weak.place strong.place
-lights_less Halt o p weak strong k c known scale = none_lit Nothing weak.place strong.place
-lights_less Rtsl o p weak strong k c known scale = none_lit Nothing weak.place strong.place
-lights_less (Jsrl to) None None weak strong k c known scale = none_lit Nothing weak.place strong.place
-lights_less (Jsrl to) None (Some f) weak strong k c known scale = absurd c
-lights_less (Jsrl to) (Some e) None weak strong k c known scale = absurd c
-lights_less (Jsrl to) (Some e) (Some f) weak strong k c known scale = box_less e.lit f.lit weak.place strong.place c.0.lit c.1 k.place known
-lights_less (Jmpl to) None None weak strong k c known scale = none_lit Nothing weak.place strong.place
-lights_less (Jmpl to) None (Some f) weak strong k c known scale = absurd c
-lights_less (Jmpl to) (Some e) None weak strong k c known scale = absurd c
-lights_less (Jmpl to) (Some e) (Some f) weak strong k c known scale = box_less e.lit f.lit weak.place strong.place c.0.lit c.1 k.place known
+pub lights_less : (machine : Machine) (i : Instr) (o p : Option Entry) (weak strong : Known) → KnowsMore weak strong → CalleeRefines o p → PlaceKnown (extent_of machine i weak.scale o) weak.place → ScaleKnown (extent_of machine i weak.scale o) → LightsLess (extent_of machine i weak.scale o) (extent_of machine i strong.scale p) weak.place strong.place
+lights_less machine (Draws d) o p weak strong k c known scale = draw_less machine d.bright d weak.scale strong.scale weak.place strong.place k.scale k.place known scale
+lights_less machine (Labs x y g) o p weak strong k c known scale = none_lit Nothing weak.place strong.place
+lights_less machine Halt o p weak strong k c known scale = none_lit Nothing weak.place strong.place
+lights_less machine Rtsl o p weak strong k c known scale = none_lit Nothing weak.place strong.place
+lights_less machine (Jsrl to) None None weak strong k c known scale = none_lit Nothing weak.place strong.place
+lights_less machine (Jsrl to) None (Some f) weak strong k c known scale = absurd c
+lights_less machine (Jsrl to) (Some e) None weak strong k c known scale = absurd c
+lights_less machine (Jsrl to) (Some e) (Some f) weak strong k c known scale = box_less e.lit f.lit weak.place strong.place c.0.lit c.1 k.place known
+lights_less machine (Jmpl to) None None weak strong k c known scale = none_lit Nothing weak.place strong.place
+lights_less machine (Jmpl to) None (Some f) weak strong k c known scale = absurd c
+lights_less machine (Jmpl to) (Some e) None weak strong k c known scale = absurd c
+lights_less machine (Jmpl to) (Some e) (Some f) weak strong k c known scale = box_less e.lit f.lit weak.place strong.place c.0.lit c.1 k.place known

@@ -19,8 +19,8 @@ module _ (rom : Rom) (a b : List Entry) (ext : Extends a b) where
       record {
         items = r.items;
         leads = r.leads;
-        taken = taken_grows a b shape.key ext r.items r.taken;
-        known = r.known ∙ known_grows a b shape.key ext r.items (fine_taken (keyed_context a shape.key) r.items r.taken);
+        taken = taken_grows rom.machine a b shape.key ext r.items r.taken;
+        known = r.known ∙ known_grows rom.machine a b shape.key ext r.items (fine_taken (keyed_context rom.machine a shape.key) r.items r.taken);
       }
 
   linked_grows : (shape : ShapeAt) (chain : List ShapeAt) → IsLinked rom a shape chain → IsLinked rom b shape chain

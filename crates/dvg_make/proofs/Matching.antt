@@ -1,4 +1,5 @@
 -- Two lists that have the same entries for what items call know the same after them.
+use Rattle.dvg_words.specs.declared.machine.Machine.{Machine}
 use Rattle.std.proofs.Common.{◌≡◌, ℕ, List, [], ◌∷◌, ◌++◌, Option, Some, None, refl, sym, ap, ◌∙◌}
 use Rattle.std.specs.Prelude.{Bool, true, false, if◌then◌else◌, Contains, IfSome, IfNone}
 use Rattle.dvg_words.specs.declared.beam.Point.{Point}
@@ -27,10 +28,10 @@ pub record Gathered : Type 0 where
 abbrev pub gathered : Context → List Item → Gathered
 gathered c items = record { known = known_before c items; lit = lit_points c items }
 
-abbrev pub gathered_past : Item → Option Entry → Gathered → Gathered
-gathered_past i o g = record { known = known_past i o g.known; lit = relative_corners (extent_of i.instr g.known.scale o) g.known.place ++ g.lit }
+abbrev pub gathered_past : Machine → Item → Option Entry → Gathered → Gathered
+gathered_past machine i o g = record { known = known_past machine i o g.known; lit = relative_corners (extent_of machine i.instr g.known.scale o) g.known.place ++ g.lit }
 
-pub gathered-cons : (c : Context) (earlier : List Item) (i : Item) → gathered c (i ∷ earlier) ≡ gathered_past i (callee c earlier i.instr) (gathered c earlier)
+pub gathered-cons : (c : Context) (earlier : List Item) (i : Item) → gathered c (i ∷ earlier) ≡ gathered_past c.machine i (callee c earlier i.instr) (gathered c earlier)
 gathered-cons c earlier i = refl
 
 -- ---- from list to list
@@ -40,9 +41,9 @@ abbrev pub SameAt : List Entry → List Entry → Option ℕ → Key → Type 0
 SameAt a b None scale = Unit {0}
 SameAt a b (Some to) scale = (e : Entry) × (entry_at a to scale ≡ Some e) × (entry_at b to scale ≡ Some e)
 
-abbrev pub Matched : List Entry → List Entry → Key → List Item → Type 0
-Matched a b key [] = Unit {0}
-Matched a b key (i ∷ earlier) = Matched a b key earlier × SameAt a b (target Shape i.instr) (scale_before (keyed_context a key) earlier)
+abbrev pub Matched : Machine → List Entry → List Entry → Key → List Item → Type 0
+Matched machine a b key [] = Unit {0}
+Matched machine a b key (i ∷ earlier) = Matched machine a b key earlier × SameAt a b (target Shape i.instr) (scale_before (keyed_context machine a key) earlier)
 
 pub exact_named : (list : List Entry) (to : ℕ) (scale : Key) (e : Entry) → entry_at list to scale ≡ Some e → named_entry list to scale ≡ Some e
 exact_named list to scale e h = ap (λ o. option_or o (entry_at list to Any)) h
@@ -52,19 +53,19 @@ callee_same a b None scale h = refl
 callee_same a b (Some to) scale h = exact_named a to scale h.0 h.1 ∙ sym (exact_named b to scale h.0 h.2)
 
 -- whatever is said of what is gathered and of the entry that is called next
-both_same : {X : Type 0} (F : Option Entry → Gathered → X) (a b : List Entry) (key : Key) (earlier : List Item) (t : Option ℕ) → gathered (keyed_context a key) earlier ≡ gathered (keyed_context b key) earlier → SameAt a b t (scale_before (keyed_context a key) earlier)
-    → F (callee_at a t (scale_before (keyed_context a key) earlier)) (gathered (keyed_context a key) earlier) ≡ F (callee_at b t (scale_before (keyed_context b key) earlier)) (gathered (keyed_context b key) earlier)
-both_same F a b key earlier t e h =
-    ap (λ o. F o (gathered (keyed_context a key) earlier)) (callee_same a b t _ h) ∙ ap (λ (g : Gathered). F (callee_at b t g.known.scale) g) e
+both_same : {X : Type 0} (machine : Machine) (F : Option Entry → Gathered → X) (a b : List Entry) (key : Key) (earlier : List Item) (t : Option ℕ) → gathered (keyed_context machine a key) earlier ≡ gathered (keyed_context machine b key) earlier → SameAt a b t (scale_before (keyed_context machine a key) earlier)
+    → F (callee_at a t (scale_before (keyed_context machine a key) earlier)) (gathered (keyed_context machine a key) earlier) ≡ F (callee_at b t (scale_before (keyed_context machine b key) earlier)) (gathered (keyed_context machine b key) earlier)
+both_same machine F a b key earlier t e h =
+    ap (λ o. F o (gathered (keyed_context machine a key) earlier)) (callee_same a b t _ h) ∙ ap (λ (g : Gathered). F (callee_at b t g.known.scale) g) e
 
-pub gathered_same : (a b : List Entry) (key : Key) (items : List Item) → Matched a b key items → gathered (keyed_context a key) items ≡ gathered (keyed_context b key) items
-gathered_same a b key [] h = refl
-gathered_same a b key (i ∷ earlier) h =
-    gathered-cons (keyed_context a key) earlier i ∙ both_same (gathered_past i) a b key earlier (target Shape i.instr) (gathered_same a b key earlier h.0) h.1 ∙ sym (gathered-cons (keyed_context b key) earlier i)
+pub gathered_same : (machine : Machine) (a b : List Entry) (key : Key) (items : List Item) → Matched machine a b key items → gathered (keyed_context machine a key) items ≡ gathered (keyed_context machine b key) items
+gathered_same machine a b key [] h = refl
+gathered_same machine a b key (i ∷ earlier) h =
+    gathered-cons (keyed_context machine a key) earlier i ∙ both_same machine (gathered_past machine i) a b key earlier (target Shape i.instr) (gathered_same machine a b key earlier h.0) h.1 ∙ sym (gathered-cons (keyed_context machine b key) earlier i)
 
-pub seen_matched : (a b : List Entry) (key : Key) (earlier : List Item) (i : Item) → Matched a b key (i ∷ earlier) → seen_at (keyed_context a key) earlier i ≡ seen_at (keyed_context b key) earlier i
-seen_matched a b key earlier i h =
-    both_same (λ o g. seen_with o g.known i) a b key earlier (target Shape i.instr) (gathered_same a b key earlier h.0) h.1
+pub seen_matched : (machine : Machine) (a b : List Entry) (key : Key) (earlier : List Item) (i : Item) → Matched machine a b key (i ∷ earlier) → seen_at (keyed_context machine a key) earlier i ≡ seen_at (keyed_context machine b key) earlier i
+seen_matched machine a b key earlier i h =
+    both_same machine (λ o g. seen_with machine o g.known i) a b key earlier (target Shape i.instr) (gathered_same machine a b key earlier h.0) h.1
 
 -- ---- lists that grow
 

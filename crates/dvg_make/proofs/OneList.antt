@@ -53,7 +53,7 @@ module _ (rom : Rom) (P Q : ℕ → Key → Type 0) (a b : List Entry) (made_a :
   needs_less : (e f : Entry) → Contains a e → Needs rom a e f → f.words < e.words
   needs_less e f in_a n =
       let made = made_a.each e in_a in
-      let t = target_of a (target Shape n.item.instr) (scale_before (shape_context a e) n.earlier) f n.callee_is (made.keyed n.earlier n.item n.leads n.stands) in
+      let t = target_of a (target Shape n.item.instr) (scale_before (shape_context rom.machine a e) n.earlier) f n.callee_is (made.keyed n.earlier n.item n.leads n.stands) in
       callee_less rom a e made n.earlier n.item n.leads n.stands t.0 f t.1 t.2
 
   -- what an entry of both needs in the one list, the other has
@@ -61,11 +61,11 @@ module _ (rom : Rom) (P Q : ℕ → Key → Type 0) (a b : List Entry) (made_a :
   needed_there e f in_a in_b n =
       let e_a = made_a.each e in_a in
       let e_b = made_b.each e in_b in
-      let scale : Key = scale_before (shape_context a e) n.earlier in
+      let scale : Key = scale_before (shape_context rom.machine a e) n.earlier in
       let t = target_of a (target Shape n.item.instr) scale f n.callee_is (e_a.keyed n.earlier n.item n.leads n.stands) in
       let l = listed_at a t.0 scale f t.2 in
       let g = e_b.keyed n.earlier n.item n.leads n.stands t.0 t.1 in
-      let same : scale ≡ scale_before (shape_context b e) n.earlier = ap (λ (x : Gathered). x.known.scale) (gathered_same a b e.key n.earlier (matched_made rom a b made_a.each made_b.each e e_a e_b n.earlier n.item.at n.leads)) in
+      let same : scale ≡ scale_before (shape_context rom.machine b e) n.earlier = ap (λ (x : Gathered). x.known.scale) (gathered_same rom.machine a b e.key n.earlier (matched_made rom a b made_a.each made_b.each e e_a e_b n.earlier n.item.at n.leads)) in
       let there : entry_at b t.0 scale ≡ Some g.0 = ap (λ (k : Key). entry_at b t.0 k) same ∙ g.1 in
       (g.0, subst (λ x. entry_at b x f.key ≡ Some g.0) (sym l.addr_is) (subst (λ (k : Key). entry_at b t.0 k ≡ Some g.0) (sym l.key_is) there))
 

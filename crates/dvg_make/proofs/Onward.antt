@@ -1,4 +1,5 @@
 -- A shape in the making, item by item.
+use Rattle.dvg_words.specs.declared.machine.Machine.{Machine}
 use Rattle.std.proofs.Common.{◌≡◌, ℕ, ◌<◌, ◌≤◌, List, [], ◌∷◌, ◌++◌, Option, Some, None, refl, sym, ap, ◌∙◌, subst, arith}
 use Rattle.std.specs.Prelude.{Contains, IfSome}
 use Rattle.std.specs.List.{AllByRecursion}
@@ -42,10 +43,10 @@ use Rattle.dvg_make.proofs.Ends.{Allows, allows_at, stands_at, ends_made}
 
 -- ---- one item further
 
-seen_same : (c : Context) (items : List Item) (i : Item) (o : Option Entry) (known : Known) → o ≡ callee c items i.instr → known ≡ known_before c items → seen_with o known i ≡ seen_at c items i
-seen_same c items i o known e k = ap (λ x. seen_with x known i) e ∙ ap (λ (x : Known). seen_with (callee c items i.instr) x i) k
+seen_same : (c : Context) (items : List Item) (i : Item) (o : Option Entry) (known : Known) → o ≡ callee c items i.instr → known ≡ known_before c items → seen_with c.machine o known i ≡ seen_at c items i
+seen_same c items i o known e k = ap (λ x. seen_with c.machine x known i) e ∙ ap (λ (x : Known). seen_with c.machine (callee c items i.instr) x i) k
 
-knows_more : (c : Context) (items : List Item) (i : Item) (o : Option Entry) (known : Known) (lit new : LitBox) → o ≡ callee c items i.instr → ((to : ℕ) → target Shape i.instr ≡ Some to → HasEntry c.list to (scale_before c items)) → KnowsAt c items known lit → Passes (seen_with o known i) lit new → KnowsAt c (i ∷ items) (seen_with o known i).after new
+knows_more : (c : Context) (items : List Item) (i : Item) (o : Option Entry) (known : Known) (lit new : LitBox) → o ≡ callee c items i.instr → ((to : ℕ) → target Shape i.instr ≡ Some to → HasEntry c.list to (scale_before c items)) → KnowsAt c items known lit → Passes (seen_with c.machine o known i) lit new → KnowsAt c (i ∷ items) (seen_with c.machine o known i).after new
 knows_more c items i o known lit new e keyed k s =
     let v = seen_same c items i o known e k.known_is in
     record {
@@ -62,9 +63,9 @@ same_if a b scale ext (Some to) h =
     let f = h to refl in
     (f.0, f.1, ext to scale f.0 f.1)
 
-pub matched_fine : (a b : List Entry) (key : Key) → Extends a b → (items : List Item) → AllFine (keyed_context a key) items → Matched a b key items
-matched_fine a b key ext [] h = tt
-matched_fine a b key ext (i ∷ items) h = (matched_fine a b key ext items h.0, same_if a b _ ext (target Shape i.instr) h.1.keyed)
+pub matched_fine : (machine : Machine) (a b : List Entry) (key : Key) → Extends a b → (items : List Item) → AllFine (keyed_context machine a key) items → Matched machine a b key items
+matched_fine machine a b key ext [] h = tt
+matched_fine machine a b key ext (i ∷ items) h = (matched_fine machine a b key ext items h.0, same_if a b _ ext (target Shape i.instr) h.1.keyed)
 
 -- the made entry of the shape
 record Its (rom : Rom) (made : List Entry) (w : PartialEntry) : Type 0 where
@@ -83,7 +84,7 @@ its rom made w all h =
 
 module _ (rom : Rom) (list : List Entry) (w : PartialEntry) where
   abbrev c : Context
-  c = keyed_context list w.key
+  c = keyed_context rom.machine list w.key
 
   lead_of : (made : List Entry) (t : Its rom made w) (items : List Item) (p : ℕ) → LeadsTo Shape (rom_word rom) w.addr items p → LeadsTo Shape (rom_word rom) t.f.addr items p
   lead_of made t items p l = subst (λ a. LeadsTo Shape (rom_word rom) a items p) (sym t.addr) l
@@ -96,13 +97,13 @@ module _ (rom : Rom) (list : List Entry) (w : PartialEntry) where
       not h.0 h.1 h.2
 
   -- the item is not as it is asked
-  none_asked : (items : List Item) (i : Item) (o : Option Entry) → LeadsTo Shape (rom_word rom) w.addr items i.at → cell_at (rom_word rom) i.at ≡ Holds i.format i.instr → KnowsAt c items w.cursor.known w.lit → o ≡ callee c items i.instr → ((to : ℕ) → target Shape i.instr ≡ Some to → HasEntry list to (scale_before c items)) → (IsAsked (seen_with o w.cursor.known i) → ⊥) → NeverAt rom list w.addr w.key
+  none_asked : (items : List Item) (i : Item) (o : Option Entry) → LeadsTo Shape (rom_word rom) w.addr items i.at → cell_at (rom_word rom) i.at ≡ Holds i.format i.instr → KnowsAt c items w.cursor.known w.lit → o ≡ callee c items i.instr → ((to : ℕ) → target Shape i.instr ≡ Some to → HasEntry list to (scale_before c items)) → (IsAsked (seen_with rom.machine o w.cursor.known i) → ⊥) → NeverAt rom list w.addr w.key
   none_asked items i o lead is k e keyed not made all ext has =
       let t = its rom made w all has in
       let allows = allows_at rom made t.f t.is.made items i (lead_of made t items i.at lead) is in
-      let match : Matched list made w.key (i ∷ items) = (matched_fine list made w.key ext items k.fine, same_if list made _ ext (target Shape i.instr) keyed) in
-      let v : seen_at (shape_context made t.f) items i ≡ seen_with o w.cursor.known i = ap (λ (x : Key). seen_at (keyed_context made x) items i) t.key ∙ sym (seen_matched list made w.key items i match) ∙ sym (seen_same c items i o w.cursor.known e k.known_is) in
-      let here : Allows t.f (seen_with o w.cursor.known i) = subst (Allows t.f) v allows in
+      let match : Matched rom.machine list made w.key (i ∷ items) = (matched_fine rom.machine list made w.key ext items k.fine, same_if list made _ ext (target Shape i.instr) keyed) in
+      let v : seen_at (shape_context rom.machine made t.f) items i ≡ seen_with rom.machine o w.cursor.known i = ap (λ (x : Key). seen_at (keyed_context rom.machine made x) items i) t.key ∙ sym (seen_matched rom.machine list made w.key items i match) ∙ sym (seen_same c items i o w.cursor.known e k.known_is) in
+      let here : Allows t.f (seen_with rom.machine o w.cursor.known i) = subst (Allows t.f) v allows in
       not (record { straight = here.straight; deep = omega (arith, here.deep, t.is.depth); many = omega (arith, here.many, t.is.words) })
 
 -- ---- why it stops
@@ -122,13 +123,13 @@ not_as_asked scale v cause.TooManyEntries says a = says
 not_as_asked scale v cause.Memory says a = says
 
 -- what a cause says of the item at a place
-said_at : (rom : Rom) (list : List Entry) (chain : List ShapeAt) (at : ℕ) (before : Known) (i : Item) (o : Option Entry) (why : EntryCause) → i.at ≡ at → cell_at (rom_word rom) i.at ≡ Holds i.format i.instr → IsCallee list i.instr before.scale o → SaysOf before.scale (seen_with o before i) why → CauseAt rom list chain at before why
-said_at rom list chain at before i o why here is nm says = by_cause why (subst (λ x. SaysOf before.scale (seen_with x before i) why) nm.value says)
+said_at : (rom : Rom) (list : List Entry) (chain : List ShapeAt) (at : ℕ) (before : Known) (i : Item) (o : Option Entry) (why : EntryCause) → i.at ≡ at → cell_at (rom_word rom) i.at ≡ Holds i.format i.instr → IsCallee list i.instr before.scale o → SaysOf before.scale (seen_with rom.machine o before i) why → CauseAt rom list chain at before why
+said_at rom list chain at before i o why here is nm says = by_cause why (subst (λ x. SaysOf before.scale (seen_with rom.machine x before i) why) nm.value says)
   where
-    seen_so : (why : EntryCause) → SaysOf before.scale (seen_with (callee_at list (target Shape i.instr) before.scale) before i) why → SaysAt rom list at before why
+    seen_so : (why : EntryCause) → SaysOf before.scale (seen_with rom.machine (callee_at list (target Shape i.instr) before.scale) before i) why → SaysAt rom list at before why
     seen_so why says = record { item = i; at_is = here; stands = is; keyed = nm.keyed; says = says }
 
-    by_cause : (why : EntryCause) → SaysOf before.scale (seen_with (callee_at list (target Shape i.instr) before.scale) before i) why → CauseAt rom list chain at before why
+    by_cause : (why : EntryCause) → SaysOf before.scale (seen_with rom.machine (callee_at list (target Shape i.instr) before.scale) before i) why → CauseAt rom list chain at before why
     by_cause cause.Halt says = seen_so cause.Halt says
     by_cause cause.BeamUnknown says = seen_so cause.BeamUnknown says
     by_cause cause.ScaleUnknown says = seen_so cause.ScaleUnknown says
@@ -162,10 +163,10 @@ fine_taken c [] h = tt
 fine_taken c (i ∷ earlier) h = (fine_taken c earlier h.0, record { straight = h.1.asked.straight; keyed = h.1.keyed })
 
 -- the depth before an item is the greatest, and the words before it are the most
-all_taken : (list : List Entry) (key : Key) (items : List Item) → AllFine (keyed_context list key) items → depth_before (keyed_context list key) items ≤ MOST_DEPTH → words_before (keyed_context list key) items ≤ MOST_WORDS → AllTaken (keyed_context list key) items
-all_taken list key [] fine deep many = tt
-all_taken list key (i ∷ earlier) fine deep many =
-    (all_taken list key earlier fine.0 (omega (arith, deep)) (omega (arith, many)), record { asked = record { straight = fine.1.straight; deep = omega (arith, deep); many = many }; keyed = fine.1.keyed })
+all_taken : (machine : Machine) (list : List Entry) (key : Key) (items : List Item) → AllFine (keyed_context machine list key) items → depth_before (keyed_context machine list key) items ≤ MOST_DEPTH → words_before (keyed_context machine list key) items ≤ MOST_WORDS → AllTaken (keyed_context machine list key) items
+all_taken machine list key [] fine deep many = tt
+all_taken machine list key (i ∷ earlier) fine deep many =
+    (all_taken machine list key earlier fine.0 (omega (arith, deep)) (omega (arith, many)), record { asked = record { straight = fine.1.straight; deep = omega (arith, deep); many = many }; keyed = fine.1.keyed })
 
 -- where a shape in the making stands
 pub reached : (rom : Rom) (list : List Entry) (w : PartialEntry) → IsPartial rom list w → Reaches rom list (shape_of w) w.cursor.at w.cursor.known
@@ -173,7 +174,7 @@ reached rom list w h =
     let is = h.knows.known_is in
     let depth = subst (λ (k : Known). k.depth ≤ MOST_DEPTH) is h.shallow in
     let words = subst (λ (k : Known). k.words ≤ MOST_WORDS) is h.few in
-    record { items = h.items; leads = h.leads; taken = all_taken list w.key h.items h.knows.fine depth words; known = is }
+    record { items = h.items; leads = h.leads; taken = all_taken rom.machine list w.key h.items h.knows.fine depth words; known = is }
 
 -- ---- the walk
 
@@ -187,8 +188,8 @@ record IsCalled (c : Context) (items : List Item) (i : Item) (o : Option Entry) 
   is : o ≡ callee c items i.instr
   keyed : (to : ℕ) → target Shape i.instr ≡ Some to → HasEntry c.list to (scale_before c items)
 
-called_now : (list : List Entry) (key : Key) (items : List Item) (i : Item) (scale : Key) (o : Option Entry) → scale ≡ scale_before (keyed_context list key) items → IsCallee list i.instr scale o → IsCalled (keyed_context list key) items i o
-called_now list key items i scale o e h =
+called_now : (machine : Machine) (list : List Entry) (key : Key) (items : List Item) (i : Item) (scale : Key) (o : Option Entry) → scale ≡ scale_before (keyed_context machine list key) items → IsCallee list i.instr scale o → IsCalled (keyed_context machine list key) items i o
+called_now machine list key items i scale o e h =
     record { is = h.value ∙ ap (callee_at list (target Shape i.instr)) e; keyed = λ to t. subst (HasEntry list to) e (h.keyed to t) }
 
 fits_target : (i : Instr) (to : ℕ) → InstrFits i → target Shape i ≡ Some to → to < ADDRESS_END
@@ -229,22 +230,22 @@ module _ (rom : Rom) (list : List Entry) (from w : PartialEntry) (h : Walking ro
         record { same_addr = h.addr; same_key = h.key; partial = h.partial; item = i; at = refl; stands = is; target_is = m.target_is; none = m.none; near = fits_target instr addr fits m.target_is; scale = h.partial.sound.scale }
 
     module _ (o : Option Entry) (nm : IsCallee list instr w.cursor.known.scale o) where
-      known : IsCalled (keyed_context list w.key) h.partial.items i o
-      known = called_now list w.key h.partial.items i w.cursor.known.scale o (ap (λ (k : Known). k.scale) h.partial.knows.known_is) nm
+      known : IsCalled (keyed_context rom.machine list w.key) h.partial.items i o
+      known = called_now rom.machine list w.key h.partial.items i w.cursor.known.scale o (ap (λ (k : Known). k.scale) h.partial.knows.known_is) nm
 
-      not_asked : (IsAsked (seen_with o w.cursor.known i) → ⊥) → NeverAt rom list from.addr from.key
+      not_asked : (IsAsked (seen_with rom.machine o w.cursor.known i) → ⊥) → NeverAt rom list from.addr from.key
       not_asked not = as_from (none_asked rom list w h.partial.items i o h.partial.leads is h.partial.knows known.is known.keyed not)
 
-      pub stops_said : (obstacle : Obstacle) → obstacle.cursor ≡ w.cursor → SaysOf w.cursor.known.scale (seen_with o w.cursor.known i) obstacle.cause → IsStopped rom list from obstacle
-      stops_said obstacle here says = stops_here obstacle here (not_asked (not_as_asked w.cursor.known.scale (seen_with o w.cursor.known i) obstacle.cause says)) (said_at rom list [] w.cursor.at w.cursor.known i o obstacle.cause refl is nm says)
+      pub stops_said : (obstacle : Obstacle) → obstacle.cursor ≡ w.cursor → SaysOf w.cursor.known.scale (seen_with rom.machine o w.cursor.known i) obstacle.cause → IsStopped rom list from obstacle
+      stops_said obstacle here says = stops_here obstacle here (not_asked (not_as_asked w.cursor.known.scale (seen_with rom.machine o w.cursor.known i) obstacle.cause says)) (said_at rom list [] w.cursor.at w.cursor.known i o obstacle.cause refl is nm says)
 
       -- what the rules see of the instruction here
       abbrev seen : Seen
-      seen = seen_with o w.cursor.known i
+      seen = seen_with rom.machine o w.cursor.known i
 
       module _ (lit : LitBox) (s : Passes seen w.lit lit) where
-        knows_next : KnowsAt (keyed_context list w.key) (i ∷ h.partial.items) seen.after lit
-        knows_next = knows_more (keyed_context list w.key) h.partial.items i o w.cursor.known w.lit lit known.is known.keyed h.partial.knows s
+        knows_next : KnowsAt (keyed_context rom.machine list w.key) (i ∷ h.partial.items) seen.after lit
+        knows_next = knows_more (keyed_context rom.machine list w.key) h.partial.items i o w.cursor.known w.lit lit known.is known.keyed h.partial.knows s
 
         pub onward : (step : Step) (next : Cursor) → step ≡ Onward next → step ≡ step_past Shape seen → IsSoundStep step → Walking rom list from (record { addr = w.addr; key = w.key; cursor = next; lit = lit })
         onward step next step_is goes sound =
@@ -255,7 +256,7 @@ module _ (rom : Rom) (list : List Entry) (from w : PartialEntry) (h : Walking ro
               partial = record {
                 items = i ∷ h.partial.items;
                 leads = (h.partial.leads, is, on.0);
-                knows = subst (λ (k : Known). KnowsAt (keyed_context list w.key) (i ∷ h.partial.items) k lit) (sym on.1) knows_next;
+                knows = subst (λ (k : Known). KnowsAt (keyed_context rom.machine list w.key) (i ∷ h.partial.items) k lit) (sym on.1) knows_next;
                 sound = subst IsSoundStep step_is sound;
                 shallow = omega (arith, ap (λ (k : Known). k.depth) on.1, s.asked.deep, h.partial.shallow);
                 few = omega (arith, ap (λ (k : Known). k.words) on.1, s.asked.many);
@@ -267,8 +268,8 @@ module _ (rom : Rom) (list : List Entry) (from w : PartialEntry) (h : Walking ro
           pub end : (next_address Shape i ≡ None) × (last ≡ seen.after)
           end = ends_at Shape seen step last step_is goes
 
-          pub knows_last : KnowsAt (keyed_context list w.key) (i ∷ h.partial.items) last lit
-          knows_last = subst (λ (k : Known). KnowsAt (keyed_context list w.key) (i ∷ h.partial.items) k lit) (sym end.1) knows_next
+          pub knows_last : KnowsAt (keyed_context rom.machine list w.key) (i ∷ h.partial.items) last lit
+          knows_last = subst (λ (k : Known). KnowsAt (keyed_context rom.machine list w.key) (i ∷ h.partial.items) k lit) (sym end.1) knows_next
 
           -- the entry of the shape
           pub finished : IsEntry rom.map.rom_first rom.map.rom_last (entry_of w.addr w.key last lit) → IsFinished rom list from (entry_of w.addr w.key last lit)

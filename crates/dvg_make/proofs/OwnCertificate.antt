@@ -1,4 +1,5 @@
 -- A frame judged by the certificate that is made for it.
+use Rattle.dvg_words.specs.declared.machine.Machine.{Machine}
 use Rattle.std.proofs.Common.{◌≡◌, ℕ, zero, suc, ◌≤◌, max, List, [], ◌∷◌, Option, Some, sym, subst, arith}
 use Rattle.std.specs.Prelude.{◌≢◌, slice_get, Ok, Err, IfSome}
 use Rattle.dvg_words.specs.Decoding.{cell_at}
@@ -38,20 +39,20 @@ raised_rule w a b v frame.OffScreen le h = h
 raised_rule w a b v frame.NoEntry le h = h
 raised_rule w a b v frame.Budget le h = omega (arith, h, le)
 
-module _ (w : Window) (words : List ℕ) (list : List Entry) where
+module _ (machine : Machine) (w : Window) (words : List ℕ) (list : List Entry) where
   abbrev Kept : ℕ → List Item → ℕ → FrameWhy → Cell → Type 0
-  Kept budget earlier p why cell = CellKeeps frame.Unmapped frame.Odd (λ i. FrameKeeps w budget (seen_at (frame_context list) earlier i)) p cell why
+  Kept budget earlier p why cell = CellKeeps frame.Unmapped frame.Odd (λ i. FrameKeeps w budget (seen_at (frame_context machine list) earlier i)) p cell why
 
   raised_cell : (a b : ℕ) (earlier : List Item) (p : ℕ) (why : FrameWhy) (cell : Cell) → a ≤ b → Kept a earlier p why cell → Kept b earlier p why cell
   raised_cell a b earlier p why Missing le h = h
   raised_cell a b earlier p why Odd le h = h
-  raised_cell a b earlier p why (Holds format i) le h = raised_rule w a b (seen_at (frame_context list) earlier (record { at = p; format = format; instr = i })) why le h
+  raised_cell a b earlier p why (Holds format i) le h = raised_rule w a b (seen_at (frame_context machine list) earlier (record { at = p; format = format; instr = i })) why le h
 
   -- a frame that is good within a budget is so within each greater one
-  raised : (a b count depth : ℕ) → a ≤ b → GoodFrame w words list a count depth → GoodFrame w words list b count depth
+  raised : (a b count depth : ℕ) → a ≤ b → GoodFrame w machine words list a count depth → GoodFrame w machine words list b count depth
   raised a b count depth le g =
       record {
-        keeps = λ earlier p lead why. raised_cell a b earlier p why (cell_at (frame_word words) p) le (g.keeps earlier p lead why);
+        keeps = λ earlier p lead why. raised_cell a b earlier p why (cell_at (frame_word machine words) p) le (g.keeps earlier p lead why);
         items = g.items;
         at = g.at;
         format = g.format;
@@ -68,9 +69,9 @@ module _ (rom : Rom) (words : List ℕ) (w : Window) (budget : ℕ) (made : List
   pub judged_least : (y : Yes) → PartsVerdict Exact w rom made words budget (Ok y) → AreLeast rom words w y.words y.depth
   judged_least y v mode list b n d a =
       let best = none_better rom words w mode list made b n d a m in
-      let here = raised w words made budget (max budget b) y.words y.depth (omega arith) v.1 in
-      let there = raised w words made b (max budget b) best.0 best.1 (omega arith) best.4.frame in
-      let same = one_count w words made (max budget b) y.words y.depth best.0 best.1 here there in
+      let here = raised rom.machine w words made budget (max budget b) y.words y.depth (omega arith) v.1 in
+      let there = raised rom.machine w words made b (max budget b) best.0 best.1 (omega arith) best.4.frame in
+      let same = one_count w rom.machine words made (max budget b) y.words y.depth best.0 best.1 here there in
       (omega (arith, same.count_is, best.2), omega (arith, same.depth_is, best.3))
 
   pub judged_refused : (r : Refusal) → PartsVerdict Exact w rom made words budget (Err r) → CheckMeans rom words w budget r
@@ -81,7 +82,7 @@ module _ (rom : Rom) (words : List ℕ) (w : Window) (budget : ℕ) (made : List
   judged_refused (refusal.Shape f) v = λ mode list b n d le a. no_shape_fault Exact w rom made f (none_better rom words w mode list made b n d a m).4.good v
   judged_refused (refusal.Frame f) v = λ mode list b n d le a.
       let best = none_better rom words w mode list made b n d a m in
-      no_fault w words made budget best.0 best.1 f (raised w words made b budget best.0 best.1 le best.4.frame) v.1
+      no_fault w rom.machine words made budget best.0 best.1 f (raised rom.machine w words made b budget best.0 best.1 le best.4.frame) v.1
 
 -- what the fault of the maker means, of one frame
 only_frame : (words other : List ℕ) (i : ℕ) → slice_get (words ∷ []) i ≡ Some other → words ≡ other

@@ -1,5 +1,8 @@
--- What the maker makes has only small numbers: a word moves the beam by 1023 * 1024 at most.
-use Rattle.std.proofs.Common.{◌≡◌, ℕ, ℤ, pos, negsuc, neg_ℤ, zero, suc, ◌+◌, ◌-◌, ◌*◌, ◌/◌, ◌%◌, ◌^◌, ◌<◌, ◌≤◌, nat_le, List, [], ◌∷◌, Bool, true, false, Option, Some, None, refl, sym, ap, ◌∙◌, subst, arith}
+-- What the maker makes has only small numbers: on either machine a word moves the beam by 1024 screen places at most.
+use Rattle.dvg_words.specs.Values.{Source}
+use Rattle.dvg_words.specs.declared.machine.Machine.{Machine}
+use Rattle.dvg_words.specs.declared.machine.Machine.TheVariants.{Profile, Board}
+use Rattle.std.proofs.Common.{◌≡◌, ℕ, ℤ, pos, negsuc, neg_ℤ, zero, suc, ◌+◌, ◌-◌, ◌*◌, ◌/◌, ◌%◌, ◌^◌, ◌<◌, ◌≤◌, nat_le, ◌+ℤ◌, List, [], ◌∷◌, Bool, true, false, Option, Some, None, refl, sym, ap, ◌∙◌, subst, arith}
 use Rattle.std.proofs.Math.IntN.{pos-*ℤ-pos, negsuc-*ℤ-pos}
 use Rattle.std.proofs.Math.Pow.{pow_mono}
 use Rattle.std.proofs.lemmas.Bool.Decides.{nat_tests}
@@ -7,9 +10,9 @@ use Rattle.std.proofs.lemmas.Int.{ints}
 use Rattle.std.proofs.lemmas.Nat.{mul-le}
 use Rattle.std.specs.List.{AllByRecursion}
 use Rattle.std.specs.Prelude.{Contains, IfSome, ◌≤ℤ◌, ◌*ℤ◌, ◌==◌, ◌&&◌, if◌then◌else◌, slice_get}
-use Rattle.dvg_words.specs.Beam.{origin, shift, effective_scale, factor, displacement, labs_place, IsWithin}
-use Rattle.dvg_words.specs.Decoding.{opcode, target_of, is_plain_labs, magnitude_and_sign, vctr_draw, svec_draw, instruction_of, word_count, format_of, cell_holding, cell_of_words, cell_of_format, cell_at}
-use Rattle.dvg_words.specs.Memory.{Rom, rom_word}
+use Rattle.dvg_words.specs.Beam.{origin, shift, effective_scale, factor, rounded, rounded_move, axis_move, displacement, labs_coordinate, labs_place, IsWithin}
+use Rattle.dvg_words.specs.Decoding.{opcode, is_long_opcode, target_of, is_plain_labs, labs_field, magnitude_and_sign, vctr_draw, svec_draw, instruction_of, word_count, cell_holding, cell_of_words, cell_of_format, cell_at}
+use Rattle.dvg_words.specs.Memory.{Rom, rom_word, word_of_rom}
 use Rattle.dvg_words.specs.Values.{DrawFields}
 use Rattle.dvg_words.specs.declared.beam.Point.{Point}
 use Rattle.dvg_words.specs.declared.instruction.Cell.{Cell}
@@ -52,7 +55,7 @@ use Rattle.dvg_make.proofs.Ends.{callee_less, made_ends}
 
 -- so many words move the place no further than this
 abbrev IsSmall : ℕ → Point → Type 0
-IsSmall n p = IsWithin (1047552 * n) p
+IsSmall n p = IsWithin (1048576 * n) p
 
 abbrev IsSmallPlace : ℕ → End → Type 0
 IsSmallPlace n (Rel x y) = IsSmall n (record { x = x; y = y })
@@ -116,68 +119,20 @@ small_corners m n Anywhere (Rel x y) h k = tt
 small_corners m n lit (Abs x y) h k = tt
 small_corners m n lit Lost h k = tt
 
--- ---- what an instruction says
+-- ---- what a draw does
 
--- its sizes are ten bits and a sign, and its screen places ten bits
+-- no further from 0 than so many words move the beam
+record IsSmallNumber (n : ℕ) (z : ℤ) : Type 0 where
+  low : neg_ℤ (pos (1048576 * n)) ≤ℤ z
+  high : z ≤ℤ pos (1048576 * n)
+
+-- a size has ten bits and a sign
 record IsSmallSize (z : ℤ) : Type 0 where
   low : neg_ℤ (pos 1023) ≤ℤ z
   high : z ≤ℤ pos 1023
 
-abbrev IsSmallInstr : Instr → Type 0
-IsSmallInstr (Draws d) = IsSmallSize d.dx × IsSmallSize d.dy
-IsSmallInstr (Labs x y g) = (x ≤ 1023) × (y ≤ 1023)
-IsSmallInstr i = Unit {0}
-
-small_size : (sign magnitude : ℕ) → magnitude ≤ 1023 → IsSmallSize (magnitude_and_sign sign magnitude)
-small_size sign magnitude le = by_test (sign == 1)
-  where
-    by_test : (b : Bool) → IsSmallSize (if b then neg_ℤ (pos magnitude) else pos magnitude)
-    by_test true = record { low = omega (arith, ints, le); high = omega (arith, ints, le) }
-    by_test false = record { low = omega (arith, ints, le); high = omega (arith, ints, le) }
-
-by_opcode : (a b c d e f z : Bool) (v s : DrawFields) (x y g t : ℕ) → IsSmallInstr (Draws v) → IsSmallInstr (Draws s) → IsSmallInstr (Labs x y g) → IfSome (if a then Some (Draws v) else if b then (if z then Some (Labs x y g) else None) else if c then Some Halt else if d then Some (Jsrl t) else if e then Some Rtsl else if f then Some (Jmpl t) else Some (Draws s)) IsSmallInstr
-by_opcode true b c d e f z v s x y g t h k l = h
-by_opcode false true c d e f true v s x y g t h k l = l
-by_opcode false true c d e f false v s x y g t h k l = tt
-by_opcode false false true d e f z v s x y g t h k l = tt
-by_opcode false false false true e f z v s x y g t h k l = tt
-by_opcode false false false false true f z v s x y g t h k l = tt
-by_opcode false false false false false true z v s x y g t h k l = tt
-by_opcode false false false false false false z v s x y g t h k l = k
-
-small_instr : (first second : ℕ) → IfSome (instruction_of first second) IsSmallInstr
-unfolding instruction_of
-small_instr first second =
-    by_opcode (nat_le (opcode first) 9) (opcode first == 10) (opcode first == 11) (opcode first == 12) (opcode first == 13) (opcode first == 14) (is_plain_labs first second) (vctr_draw first second) (svec_draw first) (second % 1024) (first % 1024) (opcode second) (target_of first)
-    (small_size (second / 1024 % 2) (second % 1024) (omega arith), small_size (first / 1024 % 2) (first % 1024) (omega arith))
-    (small_size (first / 4 % 2) (256 * (first % 4)) (omega arith), small_size (first / 1024 % 2) (256 * (first / 256 % 4)) (omega arith))
-    (omega arith, omega arith)
-
-abbrev IsSmallCell : Cell → Type 0
-IsSmallCell (Holds format i) = IsSmallInstr i
-IsSmallCell cell = Unit {0}
-
-small_holding : (format : Format) (o : Option Instr) → IfSome o IsSmallInstr → IsSmallCell (cell_holding format o)
-small_holding format None h = tt
-small_holding format (Some i) h = h
-
-small_cell : (word : ℕ → Option ℕ) (p : ℕ) → IsSmallCell (cell_at word p)
-unfolding cell_at
-small_cell word p = by_words (word p) (word (p + 1))
-  where
-    by_format : (format : Format) (first : ℕ) (o : Option ℕ) → IsSmallCell (cell_of_format format first o)
-    by_format Short first o = small_holding Short (instruction_of first 0) (small_instr first 0)
-    by_format Long first None = tt
-    by_format Long first (Some second) = small_holding Long (instruction_of first second) (small_instr first second)
-
-    by_words : (a b : Option ℕ) → IsSmallCell (cell_of_words a b)
-    by_words None b = tt
-    by_words (Some first) b = by_format (format_of first) first b
-
-small_held : (word : ℕ → Option ℕ) (i : Item) → cell_at word i.at ≡ Holds i.format i.instr → IsSmallInstr i.instr
-small_held word i is = subst IsSmallCell is (small_cell word i.at)
-
--- ---- what an item does
+abbrev IsSmallDraw : DrawFields → Type 0
+IsSmallDraw d = IsSmallSize d.dx × IsSmallSize d.dy
 
 small_factor : (local global : ℕ) → factor local global ≤ 1024
 small_factor local global = by_test (nat_le (effective_scale local global) 9) refl
@@ -185,10 +140,6 @@ small_factor local global = by_test (nat_le (effective_scale local global) 9) re
     by_test : (b : Bool) → nat_le (effective_scale local global) 9 ≡ b → (if b then 2 ^ (effective_scale local global + 1) else 1) ≤ 1024
     by_test true e = let le : effective_scale local global + 1 ≤ 10 = grind (arith, nat_tests) in pow_mono {i = effective_scale local global + 1} {j = 10} le
     by_test false e = omega arith
-
-record IsSmallNumber (n : ℕ) (z : ℤ) : Type 0 where
-  low : neg_ℤ (pos (1047552 * n)) ≤ℤ z
-  high : z ≤ℤ pos (1047552 * n)
 
 small_product : (z : ℤ) (f : ℕ) → IsSmallSize z → f ≤ 1024 → IsSmallNumber 1 (z *ℤ pos f)
 small_product (pos a) f h le =
@@ -200,24 +151,117 @@ small_product (negsuc a) f h le =
     let p : suc a * f ≤ 1023 * 1024 = mul-le (suc a) f 1023 1024 m le in
     subst (IsSmallNumber 1) (sym (negsuc-*ℤ-pos a f)) (record { low = omega (arith, ints, p); high = omega (arith, ints, p) })
 
-small_displacement : (d : DrawFields) (g : ℕ) → IsSmallInstr (Draws d) → IsSmall 1 (displacement d g)
+rounded_few : (n : ℕ) → n ≤ 1048576 → rounded n ≤ 1048576
+rounded_few n le = omega (arith, le)
+
+small_rounded : (z : ℤ) → IsSmallNumber 1 z → IsSmallNumber 1 (rounded_move z)
+small_rounded (pos n) h = let few : rounded n ≤ 1048576 = rounded_few n (omega (arith, ints, h.high)) in record { low = omega (arith, ints); high = omega (arith, ints, few) }
+small_rounded (negsuc n) h = let few : rounded (suc n) ≤ 1048576 = rounded_few (suc n) (omega (arith, ints, h.low)) in record { low = omega (arith, ints, few); high = omega (arith, ints, few) }
+
+small_move : (machine : Machine) (size : ℤ) (local global : ℕ) → IsSmallSize size → IsSmallNumber 1 (axis_move machine size local global)
+small_move Profile size local global h = small_product size (factor local global) h (small_factor local global)
+small_move Board size local global h = by_test (nat_le (effective_scale local global) 9)
+  where
+    by_test : (b : Bool) → IsSmallNumber 1 (if b then rounded_move (size *ℤ pos (factor local global)) else pos 0)
+    by_test true = small_rounded (size *ℤ pos (factor local global)) (small_product size (factor local global) h (small_factor local global))
+    by_test false = record { low = omega (arith, ints); high = omega (arith, ints) }
+
+small_displacement : (machine : Machine) (d : DrawFields) (g : ℕ) → IsSmallDraw d → IsSmall 1 (displacement machine d g)
 unfolding displacement
-small_displacement d g h =
-    let x = small_product d.dx (factor d.lscale g) h.0 (small_factor d.lscale g) in
-    let y = small_product d.dy (factor d.lscale g) h.1 (small_factor d.lscale g) in
+small_displacement machine d g h =
+    let x = small_move machine d.dx d.lscale g h.0 in
+    let y = small_move machine d.dy d.lscale g h.1 in
     record { left = x.low; right = x.high; down = y.low; up = y.high }
 
-small_labs : (x y : ℕ) → x ≤ 1023 → y ≤ 1023 → IsSmall 1 (labs_place x y)
-small_labs x y h k = record { left = omega (arith, ints, h); right = omega (arith, ints, h); down = omega (arith, ints, k); up = omega (arith, ints, k) }
+small_draw : (machine : Machine) (d : DrawFields) (scale : Key) → IsSmallDraw d → IsSmallEffect 1 (draw_effect machine d scale)
+small_draw machine d (At g) h = small_displacement machine d g h
+small_draw machine d Any h = tt
 
-small_draw : (d : DrawFields) (scale : Key) → IsSmallInstr (Draws d) → IsSmallEffect 1 (draw_effect d scale)
-small_draw d (At g) h = small_displacement d g h
-small_draw d Any h = tt
+small_drawn : (machine : Machine) (bright : ℕ) (d : DrawFields) (scale : Key) → IsSmallDraw d → IsSmallExtent 1 (draw_extent machine bright d scale)
+small_drawn machine zero d scale h = tt
+small_drawn machine (suc n) d (At g) h = (small_origin 1, small_displacement machine d g h)
+small_drawn machine (suc n) d Any h = tt
 
-small_drawn : (bright : ℕ) (d : DrawFields) (scale : Key) → IsSmallInstr (Draws d) → IsSmallExtent 1 (draw_extent bright d scale)
-small_drawn zero d scale h = tt
-small_drawn (suc n) d (At g) h = (small_origin 1, small_displacement d g h)
-small_drawn (suc n) d Any h = tt
+-- ---- what an instruction says
+
+-- an instruction of this format: a LABS sets the beam no further than its words may move it
+abbrev IsSmallInstr : Machine → Format → Instr → Type 0
+IsSmallInstr machine format (Draws d) = IsSmallDraw d
+IsSmallInstr machine format (Labs x y g) = IsSmall (word_count format) (labs_place machine x y)
+IsSmallInstr machine format i = Unit {0}
+
+small_size : (sign magnitude : ℕ) → magnitude ≤ 1023 → IsSmallSize (magnitude_and_sign sign magnitude)
+small_size sign magnitude le = by_test (sign == 1)
+  where
+    by_test : (b : Bool) → IsSmallSize (if b then neg_ℤ (pos magnitude) else pos magnitude)
+    by_test true = record { low = omega (arith, ints, le); high = omega (arith, ints, le) }
+    by_test false = record { low = omega (arith, ints, le); high = omega (arith, ints, le) }
+
+-- a LABS has two words
+small_field : (machine : Machine) (word : ℕ) → IsSmallNumber 2 (labs_coordinate machine (labs_field machine word))
+small_field Profile word = let few : word % 1024 ≤ 1023 = omega arith in record { low = omega (arith, ints); high = omega (arith, ints, few) }
+small_field Board word = by_test (nat_le (word % 4096) 2047) refl
+  where
+    few : word % 4096 ≤ 4095
+    few = omega arith
+
+    by_test : (b : Bool) → nat_le (word % 4096) 2047 ≡ b → IsSmallNumber 2 (pos 1024 *ℤ (if b then pos (word % 4096) else pos (word % 4096) +ℤ negsuc 4095))
+    by_test true e = let under : word % 4096 ≤ 2047 = grind (arith, nat_tests) in record { low = omega (arith, ints, under); high = omega (arith, ints, under) }
+    by_test false e = let over : 2047 < word % 4096 = grind (arith, nat_tests) in record { low = omega (arith, ints, few, over); high = omega (arith, ints, few, over) }
+
+small_labs : (machine : Machine) (first second : ℕ) → IsSmall 2 (labs_place machine (labs_field machine second) (labs_field machine first))
+small_labs machine first second =
+    let x = small_field machine second in
+    let y = small_field machine first in
+    record { left = x.low; right = x.high; down = y.low; up = y.high }
+
+by_opcode : (machine : Machine) (format : Format) (a b c d e f z : Bool) (v s : DrawFields) (x y g t : ℕ) → IsSmallDraw v → IsSmallDraw s → (b ≡ true → IsSmallInstr machine format (Labs x y g)) → IfSome (if a then Some (Draws v) else if b then (if z then Some (Labs x y g) else None) else if c then Some Halt else if d then Some (Jsrl t) else if e then Some Rtsl else if f then Some (Jmpl t) else Some (Draws s)) (IsSmallInstr machine format)
+by_opcode machine format true b c d e f z v s x y g t h k l = h
+by_opcode machine format false true c d e f true v s x y g t h k l = l refl
+by_opcode machine format false true c d e f false v s x y g t h k l = tt
+by_opcode machine format false false true d e f z v s x y g t h k l = tt
+by_opcode machine format false false false true e f z v s x y g t h k l = tt
+by_opcode machine format false false false false true f z v s x y g t h k l = tt
+by_opcode machine format false false false false false true z v s x y g t h k l = tt
+by_opcode machine format false false false false false false z v s x y g t h k l = k
+
+small_instr : (machine : Machine) (format : Format) (first second : ℕ) → ((opcode first == 10) ≡ true → 2 ≤ word_count format) → IfSome (instruction_of machine first second) (IsSmallInstr machine format)
+unfolding instruction_of
+small_instr machine format first second long =
+    by_opcode machine format (nat_le (opcode first) 9) (opcode first == 10) (opcode first == 11) (opcode first == 12) (opcode first == 13) (opcode first == 14) (is_plain_labs machine first second) (vctr_draw first second) (svec_draw first) (labs_field machine second) (labs_field machine first) (opcode second) (target_of first)
+    (small_size (second / 1024 % 2) (second % 1024) (omega arith), small_size (first / 1024 % 2) (first % 1024) (omega arith))
+    (small_size (first / 4 % 2) (256 * (first % 4)) (omega arith), small_size (first / 1024 % 2) (256 * (first / 256 % 4)) (omega arith))
+    (λ e. small_more 2 (word_count format) (labs_place machine (labs_field machine second) (labs_field machine first)) (long e) (small_labs machine first second))
+
+abbrev IsSmallCell : Machine → Cell → Type 0
+IsSmallCell machine (Holds format i) = IsSmallInstr machine format i
+IsSmallCell machine cell = Unit {0}
+
+small_holding : (machine : Machine) (format : Format) (o : Option Instr) → IfSome o (IsSmallInstr machine format) → IsSmallCell machine (cell_holding format o)
+small_holding machine format None h = tt
+small_holding machine format (Some i) h = h
+
+-- the opcode of LABS is a long one
+long_labs : (op : ℕ) → nat_le op 10 ≡ false → (op == 10) ≡ true → 2 ≤ 1
+long_labs op short e = let more : 10 < op = grind (arith, nat_tests) in let same : op ≡ 10 = grind (arith, nat_tests) in omega (arith, more, same)
+
+small_cell : (word : Source) (p : ℕ) → IsSmallCell word.machine (cell_at word p)
+unfolding cell_at
+small_cell word p = by_words (word.word p) (word.word (p + 1))
+  where
+    by_format : (long : Bool) (first : ℕ) (o : Option ℕ) → is_long_opcode (opcode first) ≡ long → IsSmallCell word.machine (cell_of_format word.machine (if long then Long else Short) first o)
+    by_format true first None e = tt
+    by_format true first (Some second) e = small_holding word.machine Long (instruction_of word.machine first second) (small_instr word.machine Long first second (λ q. omega arith))
+    by_format false first o e = small_holding word.machine Short (instruction_of word.machine first 0) (small_instr word.machine Short first 0 (long_labs (opcode first) e))
+
+    by_words : (a b : Option ℕ) → IsSmallCell word.machine (cell_of_words word.machine a b)
+    by_words None b = tt
+    by_words (Some first) b = by_format (is_long_opcode (opcode first)) first b refl
+
+small_held : (word : Source) (i : Item) → cell_at word i.at ≡ Holds i.format i.instr → IsSmallInstr word.machine i.format i.instr
+small_held word i is = subst (IsSmallCell word.machine) is (small_cell word i.at)
+
+-- ---- what a called shape does
 
 small_stop : (n : ℕ) (stop : End) → IsSmallPlace n stop → IsSmallEffect n (stop_effect stop)
 small_stop n (Rel x y) h = h
@@ -236,43 +280,45 @@ small_shown : (o : Option Entry) → IfSome o IsSmallEntry → IsSmallExtent (ca
 small_shown None h = tt
 small_shown (Some e) h = small_boxed e.words e.lit h.lit
 
-small_effect : (n : ℕ) (i : Instr) (scale : Key) (o : Option Entry) → 1 ≤ n → IsSmallInstr i → IfSome o IsSmallEntry → IsSmallEffect (n + callee_words o) (effect_of i scale o)
-small_effect n (Draws d) scale o le h k = effect_more 1 (n + callee_words o) (draw_effect d scale) (omega (arith, le)) (small_draw d scale h)
-small_effect n (Labs x y g) scale o le h k = small_more 1 (n + callee_words o) (labs_place x y) (omega (arith, le)) (small_labs x y h.0 h.1)
-small_effect n Halt scale o le h k = small_origin (n + callee_words o)
-small_effect n Rtsl scale o le h k = small_origin (n + callee_words o)
-small_effect n (Jsrl to) scale o le h k = effect_more (callee_words o) (n + callee_words o) (callee_effect o) (omega arith) (small_called o k)
-small_effect n (Jmpl to) scale o le h k = effect_more (callee_words o) (n + callee_words o) (callee_effect o) (omega arith) (small_called o k)
+-- ---- what an item does
 
-small_extent : (n : ℕ) (i : Instr) (scale : Key) (o : Option Entry) → 1 ≤ n → IsSmallInstr i → IfSome o IsSmallEntry → IsSmallExtent (n + callee_words o) (extent_of i scale o)
-small_extent n (Draws d) scale o le h k = extent_more 1 (n + callee_words o) (draw_extent d.bright d scale) (omega (arith, le)) (small_drawn d.bright d scale h)
-small_extent n (Labs x y g) scale o le h k = tt
-small_extent n Halt scale o le h k = tt
-small_extent n Rtsl scale o le h k = tt
-small_extent n (Jsrl to) scale o le h k = extent_more (callee_words o) (n + callee_words o) (callee_extent o) (omega arith) (small_shown o k)
-small_extent n (Jmpl to) scale o le h k = extent_more (callee_words o) (n + callee_words o) (callee_extent o) (omega arith) (small_shown o k)
+small_effect : (machine : Machine) (format : Format) (i : Instr) (scale : Key) (o : Option Entry) → IsSmallInstr machine format i → IfSome o IsSmallEntry → IsSmallEffect (word_count format + callee_words o) (effect_of machine i scale o)
+small_effect machine format (Draws d) scale o h k = effect_more 1 (word_count format + callee_words o) (draw_effect machine d scale) (omega (arith, word_count-some format)) (small_draw machine d scale h)
+small_effect machine format (Labs x y g) scale o h k = small_more (word_count format) (word_count format + callee_words o) (labs_place machine x y) (omega arith) h
+small_effect machine format Halt scale o h k = small_origin (word_count format + callee_words o)
+small_effect machine format Rtsl scale o h k = small_origin (word_count format + callee_words o)
+small_effect machine format (Jsrl to) scale o h k = effect_more (callee_words o) (word_count format + callee_words o) (callee_effect o) (omega arith) (small_called o k)
+small_effect machine format (Jmpl to) scale o h k = effect_more (callee_words o) (word_count format + callee_words o) (callee_effect o) (omega arith) (small_called o k)
+
+small_extent : (machine : Machine) (format : Format) (i : Instr) (scale : Key) (o : Option Entry) → IsSmallInstr machine format i → IfSome o IsSmallEntry → IsSmallExtent (word_count format + callee_words o) (extent_of machine i scale o)
+small_extent machine format (Draws d) scale o h k = extent_more 1 (word_count format + callee_words o) (draw_extent machine d.bright d scale) (omega (arith, word_count-some format)) (small_drawn machine d.bright d scale h)
+small_extent machine format (Labs x y g) scale o h k = tt
+small_extent machine format Halt scale o h k = tt
+small_extent machine format Rtsl scale o h k = tt
+small_extent machine format (Jsrl to) scale o h k = extent_more (callee_words o) (word_count format + callee_words o) (callee_extent o) (omega arith) (small_shown o k)
+small_extent machine format (Jmpl to) scale o h k = extent_more (callee_words o) (word_count format + callee_words o) (callee_extent o) (omega arith) (small_shown o k)
 
 -- ---- along the items
 
 -- the fields of each item, and the entry that it calls, are small
 record IsSmallItem (c : Context) (earlier : List Item) (i : Item) : Type 0 where
-  fields : IsSmallInstr i.instr
+  fields : IsSmallInstr c.machine i.format i.instr
   callee : IfSome (callee c earlier i.instr) IsSmallEntry
 
 abbrev AllSmall : Context → List Item → Type 0
 AllSmall c [] = Unit {0}
 AllSmall c (i ∷ earlier) = AllSmall c earlier × IsSmallItem c earlier i
 
-module _ (list : List Entry) (key : Key) where
+module _ (machine : Machine) (list : List Entry) (key : Key) where
   abbrev c : Context
-  c = keyed_context list key
+  c = keyed_context machine list key
 
   place_small : (items : List Item) → AllSmall c items → IsSmallPlace (words_before c items) (place_before c items)
   place_small [] h = small_origin 0
   place_small (i ∷ earlier) h =
-      small_past (words_before c earlier) (word_count i.format + callee_words (callee c earlier i.instr)) (place_before c earlier) (effect_of i.instr (scale_before c earlier) (callee c earlier i.instr))
+      small_past (words_before c earlier) (word_count i.format + callee_words (callee c earlier i.instr)) (place_before c earlier) (effect_of machine i.instr (scale_before c earlier) (callee c earlier i.instr))
       (place_small earlier h.0)
-      (small_effect (word_count i.format) i.instr (scale_before c earlier) (callee c earlier i.instr) (word_count-some i.format) h.1.fields h.1.callee)
+      (small_effect machine i.format i.instr (scale_before c earlier) (callee c earlier i.instr) h.1.fields h.1.callee)
 
   points_small : (items : List Item) → AllSmall c items → AllByRecursion (IsSmall (words_before c items)) (lit_points c items)
   points_small [] h = tt
@@ -280,14 +326,14 @@ module _ (list : List Entry) (key : Key) where
       all_append (IsSmall (words_before c (i ∷ earlier))) (relative_corners (extent c earlier i.instr) (place_before c earlier)) (lit_points c earlier)
       (small_corners (words_before c earlier) (word_count i.format + callee_words (callee c earlier i.instr)) (extent c earlier i.instr) (place_before c earlier)
       (place_small earlier h.0)
-      (small_extent (word_count i.format) i.instr (scale_before c earlier) (callee c earlier i.instr) (word_count-some i.format) h.1.fields h.1.callee))
+      (small_extent machine i.format i.instr (scale_before c earlier) (callee c earlier i.instr) h.1.fields h.1.callee))
       (all_map (IsSmall (words_before c earlier)) (IsSmall (words_before c (i ∷ earlier))) (lit_points c earlier) (λ p. small_more (words_before c earlier) (words_before c (i ∷ earlier)) p (omega arith)) (points_small earlier h.0))
 
 -- ---- the least box
 
 -- the greatest box within a bound
 abbrev wall : ℕ → LitBox
-wall n = Span (neg_ℤ (pos (1047552 * n))) (pos (1047552 * n)) (neg_ℤ (pos (1047552 * n))) (pos (1047552 * n))
+wall n = Span (neg_ℤ (pos (1048576 * n))) (pos (1048576 * n)) (neg_ℤ (pos (1048576 * n))) (pos (1048576 * n))
 
 -- its ends are in order
 abbrev IsOrdered : LitBox → Type 0
@@ -333,16 +379,16 @@ small_callee list (Some to) scale has small =
 abbrev SmallCalls : Rom → List Entry → ℕ → Key → Type 0
 SmallCalls rom list addr key =
     (earlier : List Item) (i : Item) → LeadsTo Shape (rom_word rom) addr earlier i.at → cell_at (rom_word rom) i.at ≡ Holds i.format i.instr
-    → (to : ℕ) (g : Entry) → target Shape i.instr ≡ Some to → entry_at list to (scale_before (keyed_context list key) earlier) ≡ Some g → IsSmallEntry g
+    → (to : ℕ) (g : Entry) → target Shape i.instr ≡ Some to → entry_at list to (scale_before (keyed_context rom.machine list key) earlier) ≡ Some g → IsSmallEntry g
 
-all_small : (rom : Rom) (list : List Entry) (addr : ℕ) (key : Key) → SmallCalls rom list addr key → (items : List Item) (i : Item) → LeadsTo Shape (rom_word rom) addr items i.at → cell_at (rom_word rom) i.at ≡ Holds i.format i.instr → AllFine (keyed_context list key) (i ∷ items) → AllSmall (keyed_context list key) (i ∷ items)
+all_small : (rom : Rom) (list : List Entry) (addr : ℕ) (key : Key) → SmallCalls rom list addr key → (items : List Item) (i : Item) → LeadsTo Shape (rom_word rom) addr items i.at → cell_at (rom_word rom) i.at ≡ Holds i.format i.instr → AllFine (keyed_context rom.machine list key) (i ∷ items) → AllSmall (keyed_context rom.machine list key) (i ∷ items)
 all_small rom list addr key calls items i lead is fine =
-    (before items i.at lead fine.0, record { fields = small_held (rom_word rom) i is; callee = small_callee list (target Shape i.instr) (scale_before (keyed_context list key) items) fine.1.keyed (calls items i lead is) })
+    (before items i.at lead fine.0, record { fields = small_held (rom_word rom) i is; callee = small_callee list (target Shape i.instr) (scale_before (keyed_context rom.machine list key) items) fine.1.keyed (calls items i lead is) })
   where
-    before : (items : List Item) (p : ℕ) → LeadsTo Shape (rom_word rom) addr items p → AllFine (keyed_context list key) items → AllSmall (keyed_context list key) items
+    before : (items : List Item) (p : ℕ) → LeadsTo Shape (rom_word rom) addr items p → AllFine (keyed_context rom.machine list key) items → AllSmall (keyed_context rom.machine list key) items
     before [] p lead fine = tt
     before (j ∷ earlier) p lead fine =
-        (before earlier j.at lead.0 fine.0, record { fields = small_held (rom_word rom) j lead.1; callee = small_callee list (target Shape j.instr) (scale_before (keyed_context list key) earlier) fine.1.keyed (calls earlier j lead.0 lead.1) })
+        (before earlier j.at lead.0 fine.0, record { fields = small_held (rom_word rom) j lead.1; callee = small_callee list (target Shape j.instr) (scale_before (keyed_context rom.machine list key) earlier) fine.1.keyed (calls earlier j lead.0 lead.1) })
 
 -- by the number of words
 small_up_to : (rom : Rom) (list : List Entry) → ((e : Entry) → Contains list e → MadeEntry rom list e) → (n : ℕ) (e : Entry) → MadeEntry rom list e → e.words < n → IsSmallEntry e
@@ -351,10 +397,10 @@ small_up_to rom list all (suc n) e made lt =
     let h = made_ends rom list e made in
     let calls : SmallCalls rom list e.addr e.key = λ earlier j l k to g t f. small_up_to rom list all n g (all g (listed_at list to _ g f).listed) (let less : g.words < e.words = callee_less rom list e made earlier j l k to g t f in omega (arith, lt, less)) in
     let small = all_small rom list e.addr e.key calls h.stops.items h.stops.i h.stops.leads h.stops.is h.fine in
-    let place : IsSmallPlace e.words e.stop = subst (λ (k : Known). IsSmallPlace k.words k.place) h.sums.known (place_small list e.key (h.stops.i ∷ h.stops.items) small) in
-    let many : words_before (shape_context list e) (h.stops.i ∷ h.stops.items) ≡ e.words = ap (λ (k : Known). k.words) h.sums.known in
-    let points = subst (λ n. AllByRecursion (IsSmall n) (lit_points (shape_context list e) (h.stops.i ∷ h.stops.items))) many (points_small list e.key (h.stops.i ∷ h.stops.items) small) in
-    record { stop = place; lit = (least_good e.words (lit_points (shape_context list e) (h.stops.i ∷ h.stops.items)) e.lit points h.sums.box).small }
+    let place : IsSmallPlace e.words e.stop = subst (λ (k : Known). IsSmallPlace k.words k.place) h.sums.known (place_small rom.machine list e.key (h.stops.i ∷ h.stops.items) small) in
+    let many : words_before (shape_context rom.machine list e) (h.stops.i ∷ h.stops.items) ≡ e.words = ap (λ (k : Known). k.words) h.sums.known in
+    let points = subst (λ n. AllByRecursion (IsSmall n) (lit_points (shape_context rom.machine list e) (h.stops.i ∷ h.stops.items))) many (points_small rom.machine list e.key (h.stops.i ∷ h.stops.items) small) in
+    record { stop = place; lit = (least_good e.words (lit_points (shape_context rom.machine list e) (h.stops.i ∷ h.stops.items)) e.lit points h.sums.box).small }
 
 made_small : (rom : Rom) (list : List Entry) → ((e : Entry) → Contains list e → MadeEntry rom list e) → (e : Entry) → Contains list e → IsSmallEntry e
 made_small rom list all e c = small_up_to rom list all (e.words + 1) e (all e c) (omega arith)
@@ -376,19 +422,19 @@ box_within n (Span a b c d) le h = (
 -- ---- its address
 
 -- something stands where the items start
-first_stands : (word : ℕ → Option ℕ) (addr : ℕ) (items : List Item) (p : ℕ) (format : Format) (i : Instr) → LeadsTo Shape word addr items p → cell_at word p ≡ Holds format i → (f : Format) × (j : Instr) × (cell_at word addr ≡ Holds f j)
+first_stands : (word : Source) (addr : ℕ) (items : List Item) (p : ℕ) (format : Format) (i : Instr) → LeadsTo Shape word addr items p → cell_at word p ≡ Holds format i → (f : Format) × (j : Instr) × (cell_at word addr ≡ Holds f j)
 first_stands word addr [] p format i lead is = (format, i, ap (cell_at word) (sym lead) ∙ is)
 first_stands word addr (j ∷ earlier) p format i lead is = first_stands word addr earlier j.at j.format j.instr lead.0 lead.1
 
-cell_some : (word : ℕ → Option ℕ) (p : ℕ) (format : Format) (i : Instr) → cell_at word p ≡ Holds format i → (w : ℕ) × (word p ≡ Some w)
+cell_some : (word : Source) (p : ℕ) (format : Format) (i : Instr) → cell_at word p ≡ Holds format i → (w : ℕ) × (word.word p ≡ Some w)
 unfolding cell_at
-cell_some word p format i is = by_word (word p) refl is
+cell_some word p format i is = by_word (word.word p) refl is
   where
-    by_word : (o : Option ℕ) → word p ≡ o → cell_of_words o (word (p + 1)) ≡ Holds format i → (w : ℕ) × (word p ≡ Some w)
+    by_word : (o : Option ℕ) → word.word p ≡ o → cell_of_words word.machine o (word.word (p + 1)) ≡ Holds format i → (w : ℕ) × (word.word p ≡ Some w)
     by_word None e f = cc
     by_word (Some w) e f = (w, e)
 
-in_rom : (rom : Rom) (p w : ℕ) → rom_word rom p ≡ Some w → (rom.map.rom_first ≤ p) × (p ≤ rom.map.rom_last)
+in_rom : (rom : Rom) (p w : ℕ) → word_of_rom rom p ≡ Some w → (rom.map.rom_first ≤ p) × (p ≤ rom.map.rom_last)
 in_rom rom p w e = by_tests (nat_le rom.map.rom_first p) (nat_le p rom.map.rom_last) refl refl e
   where
     by_tests : (a b : Bool) → nat_le rom.map.rom_first p ≡ a → nat_le p rom.map.rom_last ≡ b → (if a && b then slice_get rom.words (p - rom.map.rom_first) else None) ≡ Some w → (rom.map.rom_first ≤ p) × (p ≤ rom.map.rom_last)
@@ -401,14 +447,14 @@ in_rom rom p w e = by_tests (nat_le rom.map.rom_first p) (nat_le p rom.map.rom_l
 pub made_is_entry : (rom : Rom) (list : List Entry) → ((e : Entry) → Contains list e → MadeEntry rom list e)
     → (addr : ℕ) (key : Key) (items : List Item) (i : Item) (lit : LitBox)
     → LeadsTo Shape (rom_word rom) addr items i.at → cell_at (rom_word rom) i.at ≡ Holds i.format i.instr
-    → AllFine (keyed_context list key) (i ∷ items) → IsLeast (lit_points (keyed_context list key) (i ∷ items)) lit
-    → words_before (keyed_context list key) (i ∷ items) ≤ MOST_WORDS → depth_before (keyed_context list key) (i ∷ items) ≤ MOST_DEPTH
-    → IsKey key → IsKey (scale_before (keyed_context list key) (i ∷ items))
-    → IsEntry rom.map.rom_first rom.map.rom_last (entry_of addr key (known_before (keyed_context list key) (i ∷ items)) lit)
+    → AllFine (keyed_context rom.machine list key) (i ∷ items) → IsLeast (lit_points (keyed_context rom.machine list key) (i ∷ items)) lit
+    → words_before (keyed_context rom.machine list key) (i ∷ items) ≤ MOST_WORDS → depth_before (keyed_context rom.machine list key) (i ∷ items) ≤ MOST_DEPTH
+    → IsKey key → IsKey (scale_before (keyed_context rom.machine list key) (i ∷ items))
+    → IsEntry rom.map.rom_first rom.map.rom_last (entry_of addr key (known_before (keyed_context rom.machine list key) (i ∷ items)) lit)
 made_is_entry rom list made addr key items i lit lead is fine least words depth key_is scale_is =
     let small = all_small rom list addr key (λ earlier j l k to g t f. made_small rom list made g (listed_at list to _ g f).listed) items i lead is fine in
-    let n : ℕ = words_before (keyed_context list key) (i ∷ items) in
-    let box = least_good n (lit_points (keyed_context list key) (i ∷ items)) lit (points_small list key (i ∷ items) small) least in
+    let n : ℕ = words_before (keyed_context rom.machine list key) (i ∷ items) in
+    let box = least_good n (lit_points (keyed_context rom.machine list key) (i ∷ items)) lit (points_small rom.machine list key (i ∷ items) small) least in
     let first = first_stands (rom_word rom) addr items i.at i.format i.instr lead is in
     let some = cell_some (rom_word rom) addr first.0 first.1 first.2 in
     let there = in_rom rom addr some.0 some.1 in
@@ -416,7 +462,7 @@ made_is_entry rom list made addr key items i lit lead is fine least words depth 
       addr_low = there.0;
       addr_high = there.1;
       key = key_is;
-      stop = place_within n (place_before (keyed_context list key) (i ∷ items)) words (place_small list key (i ∷ items) small);
+      stop = place_within n (place_before (keyed_context rom.machine list key) (i ∷ items)) words (place_small rom.machine list key (i ∷ items) small);
       lit = box_within n lit words box;
       depth = depth;
       words_low = omega (arith, word_count-some i.format);

@@ -1,4 +1,5 @@
 -- A made list is good where nothing that is lit at an absolute place leaves the window.
+use Rattle.dvg_words.specs.declared.machine.Machine.{Machine}
 use Rattle.std.proofs.Common.{◌≡◌, ◌≢◌, ℕ, List, refl, sym, subst, ◌⊎◌, inl, inr, ⊎_elim}
 use Rattle.std.specs.Prelude.{Contains}
 use Rattle.dvg_words.specs.Decoding.{cell_at}
@@ -54,25 +55,25 @@ rule_aside mode w v e s shape.WordsDiffer not h = h
 rule_aside mode w v e s shape.DepthDiffers not h = h
 
 -- what is asked of a cell
-abbrev Kept : Mode → List Entry → Window → Entry → List Item → ℕ → Cell → ShapeWhy → Type 0
-Kept mode list w e earlier p cell why = CellKeeps shape.Unmapped shape.Odd (λ i. ShapeKeeps mode w e (seen_at (shape_context list e) earlier i)) p cell why
+abbrev Kept : Machine → Mode → List Entry → Window → Entry → List Item → ℕ → Cell → ShapeWhy → Type 0
+Kept machine mode list w e earlier p cell why = CellKeeps shape.Unmapped shape.Odd (λ i. ShapeKeeps mode w e (seen_at (shape_context machine list e) earlier i)) p cell why
 
 pub other_window : (mode : Mode) (rom : Rom) (list : List Entry) (e : Entry) (w v : Window) (earlier : List Item) (p : ℕ) (why : ShapeWhy) → why ≢ shape.OffScreen → ShapePlaceKeeps mode w rom list e earlier p why → ShapePlaceKeeps mode v rom list e earlier p why
 other_window mode rom list e w v earlier p why not = by (cell_at (rom_word rom) p)
   where
-    by : (cell : Cell) → Kept mode list w e earlier p cell why → Kept mode list v e earlier p cell why
+    by : (cell : Cell) → Kept rom.machine mode list w e earlier p cell why → Kept rom.machine mode list v e earlier p cell why
     by Missing h = h
     by Odd h = h
-    by (Holds format i) h = rule_aside mode w v e (seen_at (shape_context list e) earlier (record { at = p; format = format; instr = i })) why not h
+    by (Holds format i) h = rule_aside mode w v e (seen_at (shape_context rom.machine list e) earlier (record { at = p; format = format; instr = i })) why not h
 
 module _ (rom : Rom) (list : List Entry) (w : Window) where
   pub in_window : (mode : Mode) → Good mode w rom list → AllInWindow w rom list
-  in_window mode good e c earlier i lead is = subst (λ cell. Kept mode list w e earlier i.at cell shape.OffScreen) is (good e c earlier i.at lead shape.OffScreen)
+  in_window mode good e c earlier i lead is = subst (λ cell. Kept rom.machine mode list w e earlier i.at cell shape.OffScreen) is (good e c earlier i.at lead shape.OffScreen)
 
   pub in_exact : ((e : Entry) → Contains list e → MadeEntry rom list e) → AllInWindow w rom list → Good Exact w rom list
   in_exact each all e c earlier p lead why = ⊎_elim (λ off. subst (ShapePlaceKeeps Exact w rom list e earlier p) (sym off) (by_cell (cell_at (rom_word rom) p) refl)) (λ not. (each e c).keeps earlier p lead why w not) (is_off_screen why)
     where
-      by_cell : (cell : Cell) → cell_at (rom_word rom) p ≡ cell → Kept Exact list w e earlier p cell shape.OffScreen
+      by_cell : (cell : Cell) → cell_at (rom_word rom) p ≡ cell → Kept rom.machine Exact list w e earlier p cell shape.OffScreen
       by_cell Missing q = λ x. cc x
       by_cell Odd q = λ x. cc x
       by_cell (Holds format i) q = all e c earlier (record { at = p; format = format; instr = i }) lead q

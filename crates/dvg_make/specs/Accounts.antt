@@ -1,4 +1,5 @@
 -- Why an entry can't be made: the shapes on the way to the faulty item, the item, and the cause. All of it is profile.
+use Rattle.dvg_words.specs.declared.machine.Machine.{Machine}
 use Rattle.std.specs.Prelude.{◌≡◌, ◌≢◌, ℕ, ◌+◌, ◌<◌, ◌≤◌, ◌⊎◌, List, [], ◌∷◌, length, take, Option, Some, None, Contains, slice_get}
 use Rattle.dvg_words.specs.Memory.{Rom, InRom, rom_word}
 use Rattle.dvg_words.specs.Decoding.{cell_at}
@@ -29,8 +30,8 @@ pub use Rattle.dvg_make.specs.declared.account.EntryCause.TheVariants.{RootOutsi
 -- ---- the items that the maker passes
 
 -- the context of a shape's items, if the shape is called at this key
-abbrev pub keyed_context : List Entry → Key → Context
-keyed_context list key = record { kind = Shape; list = list; scale = key }
+abbrev pub keyed_context : Machine → List Entry → Key → Context
+keyed_context machine list key = record { kind = Shape; machine = machine; list = list; scale = key }
 
 -- the item is no HALT, and lights only at a known place and scale (profile)
 pub record IsStraight (v : Seen) : Type 0 where
@@ -59,8 +60,8 @@ AllTaken c items = AllHold (IsTaken c) items
 pub record Reaches (rom : Rom) (list : List Entry) (shape : ShapeAt) (at : ℕ) (before : Known) : Type 0 where
   pub items : List Item
   pub leads : LeadsTo Shape (rom_word rom) shape.addr items at
-  pub taken : AllTaken (keyed_context list shape.key) items
-  pub known : before ≡ known_before (keyed_context list shape.key) items
+  pub taken : AllTaken (keyed_context rom.machine list shape.key) items
+  pub known : before ≡ known_before (keyed_context rom.machine list shape.key) items
 
 -- the item at this word address calls or tail jumps to the shape, at the scale that is known there (profile)
 pub record CallsAt (rom : Rom) (at : ℕ) (before : Known) (shape : ShapeAt) : Type 0 where
@@ -110,7 +111,7 @@ pub record SaysAt (rom : Rom) (list : List Entry) (at : ℕ) (before : Known) (c
   pub at_is : item.at ≡ at
   pub stands : cell_at (rom_word rom) item.at ≡ cell.Holds item.format item.instr
   pub keyed : (to : ℕ) → target Shape item.instr ≡ Some to → HasEntry list to before.scale
-  pub says : SaysOf before.scale (seen_with (callee_at list (target Shape item.instr) before.scale) before item) cause
+  pub says : SaysOf before.scale (seen_with rom.machine (callee_at list (target Shape item.instr) before.scale) before item) cause
 
 -- no two entries have the same address and key
 abbrev pub IsUnique : List Entry → Type 0
@@ -161,13 +162,13 @@ Tells rom list asked (shape ∷ chain) at before cause =
 
 -- the shape is a root, if no call is named; else this call of a frame calls it. The list has an entry for all that is asked for
 -- before: roots in their order, then the calls of each frame in their order (profile)
-abbrev pub IsNamedBy : List (ℕ × Key) → List (List ℕ) → List Entry → Option FrameCall → ShapeAt → Type 0
-IsNamedBy roots frames list None asked =
-    (root : ℕ) × (slice_get roots root ≡ Some (asked.addr, asked.key)) × HasAsked (take root roots) [] list
-IsNamedBy roots frames list (Some call) asked =
+abbrev pub IsNamedBy : Machine → List (ℕ × Key) → List (List ℕ) → List Entry → Option FrameCall → ShapeAt → Type 0
+IsNamedBy machine roots frames list None asked =
+    (root : ℕ) × (slice_get roots root ≡ Some (asked.addr, asked.key)) × HasAsked machine (take root roots) [] list
+IsNamedBy machine roots frames list (Some call) asked =
     (words : List ℕ) × (slice_get frames call.frame ≡ Some words)
-    × CallAt words list call.at asked.addr asked.key
-    × HasAsked roots (take call.frame frames) list
+    × CallAt machine words list call.at asked.addr asked.key
+    × HasAsked machine roots (take call.frame frames) list
 
 -- the shape of an entry, or a shape of the chain, calls or tail jumps to this shape (profile)
 pub record IsNeededBy (rom : Rom) (list : List Entry) (chain : List ShapeAt) (shape : ShapeAt) : Type 0 where
@@ -180,7 +181,7 @@ pub record IsNeededBy (rom : Rom) (list : List Entry) (chain : List ShapeAt) (sh
 abbrev pub AllNeeded : Rom → List (ℕ × Key) → List (List ℕ) → List Entry → List ShapeAt → Type 0
 AllNeeded rom roots frames list chain =
     (shape : ShapeAt) → HasEntry list shape.addr shape.key
-    → ((call : Option FrameCall) × IsNamedBy roots frames list call shape) ⊎ IsNeededBy rom list chain shape
+    → ((call : Option FrameCall) × IsNamedBy rom.machine roots frames list call shape) ⊎ IsNeededBy rom list chain shape
 
 -- each entry of the list may stand in a certificate for the ROM (profile)
 abbrev pub AllWithin : Rom → List Entry → Type 0
@@ -194,7 +195,7 @@ pub record IsTold
   pub within : AllWithin rom list
   pub made : AllMade rom list
   pub asked : ShapeAt
-  pub named : IsNamedBy roots frames list call asked
+  pub named : IsNamedBy rom.machine roots frames list call asked
   pub needed : AllNeeded rom roots frames list chain
   -- with the shapes of the chain they are no more than a certificate may have
   pub room : length list + length chain ≤ MOST_ENTRIES

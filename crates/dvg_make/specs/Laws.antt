@@ -41,7 +41,7 @@ ItemInWindow w c earlier i = LitInWindow w (extent c earlier i.instr) (place_bef
 
 -- no lit stroke and no called box at an absolute place leaves the window
 abbrev pub AllInWindow : Window → Rom → List Entry → Type 0
-AllInWindow w rom list = (e : Entry) → Contains list e → EachItem rom e.addr (ItemInWindow w (shape_context list e))
+AllInWindow w rom list = (e : Entry) → Contains list e → EachItem rom e.addr (ItemInWindow w (shape_context rom.machine list e))
 
 -- a made list is good exactly if all that it lights at absolute places lies in the window; then its counts are exact
 abbrev pub GoodInWindow : Type 0

@@ -53,9 +53,9 @@ pub record MadeEntry (rom : Rom) (list : List Entry) (e : Entry) : Type 0 where
   -- its counts are exact, and its end and its scale are the ones known at the end
   pub keeps : AllKeep Shape (rom_word rom) e.addr (MadeKeeps rom list e)
   -- each call and tail jump has an entry at the very scale that is known there
-  pub keyed : EachItem rom e.addr (HasEntryAtScale list (shape_context list e))
+  pub keyed : EachItem rom e.addr (HasEntryAtScale list (shape_context rom.machine list e))
   -- its box is the least one
-  pub box : AtEnd rom e.addr (λ items. IsLeast (lit_points (shape_context list e) items) e.lit)
+  pub box : AtEnd rom e.addr (λ items. IsLeast (lit_points (shape_context rom.machine list e) items) e.lit)
 
 -- the entry is made, and its counts are within the limits (profile)
 pub record IsMade (rom : Rom) (list : List Entry) (e : Entry) : Type 0 where
@@ -79,7 +79,7 @@ pub record Needs (rom : Rom) (list : List Entry) (e f : Entry) : Type 0 where
   pub item : Item
   pub leads : LeadsTo Shape (rom_word rom) e.addr earlier item.at
   pub stands : cell_at (rom_word rom) item.at ≡ Holds item.format item.instr
-  pub callee_is : callee (shape_context list e) earlier item.instr ≡ Some f
+  pub callee_is : callee (shape_context rom.machine list e) earlier item.instr ≡ Some f
 
 -- the list that is made for a ROM and for the addresses and keys that are asked for (profile)
 pub record MadeFor (rom : Rom) (IsAsked : ℕ → Key → Type 0) (list : List Entry) : Type 0 where

@@ -53,7 +53,7 @@ NoFramesMade rom roots frames = (list : List Entry) → FramesMade rom roots fra
 abbrev pub AllTooLong : Rom → List (ℕ × Key) → List (List ℕ) → Type 0
 AllTooLong rom roots frames =
     (list : List Entry) → AllMade rom list
-    → ((addr : ℕ) (key : Key) → IsAskedFor roots frames list addr key → HasEntry list addr key) → MOST_ENTRIES < length list
+    → ((addr : ℕ) (key : Key) → IsAskedFor rom.machine roots frames list addr key → HasEntry list addr key) → MOST_ENTRIES < length list
 
 -- 60, 61 and 62 for too many words say that no made list exists, 62 for too many entries that each is too long; 63 says nothing
 -- (profile)
@@ -69,7 +69,7 @@ BarsList rom roots frames Memory = Unit {0}
 pub record Accepts (rom : Rom) (words : List ℕ) (w : Window) (mode : Mode) (list : List Entry) (budget count depth : ℕ) : Type 0 where
   pub certificate : IsCertificate rom.map list
   pub good : Good mode w rom list
-  pub frame : GoodFrame w words list budget count depth
+  pub frame : GoodFrame w rom.machine words list budget count depth
 
 -- no certificate gets the frame accepted, whatever the window and the budget (profile)
 abbrev pub NoneAccepts : Rom → List ℕ → Type 0
@@ -99,7 +99,7 @@ pub record CallBarredAt (rom : Rom) (words : List ℕ) (at : ℕ) (why : EntryFa
   pub made : AllMade rom list
   pub to : ℕ
   pub scale : Key
-  pub call : CallAt words list at to scale
+  pub call : CallAt rom.machine words list at to scale
   pub barred : BarsEntry rom to scale why
 
 -- what a refusal says of the made list, and of the frame whose call it names. If it names none, it holds of the roots alone

@@ -1,8 +1,10 @@
 //! The entries that a frame calls, one call after another.
 
-ghost use Rattle.std.specs.Prelude.{OnOk, IfOk, IfErr};
+ghost use Rattle.std.specs.Prelude.{◌≡◌, OnOk, IfOk, IfErr};
 ghost use Rattle.dvg_words.specs.Values.{IsMap};
-ghost use Rattle.dvg_words.specs.Decoding.{InstrFits};
+ghost use Rattle.dvg_words.specs.Memory.{frame_word};
+ghost use Rattle.dvg_words.specs.Decoding.{InstrFits, CellFits, StandsBelow, cell_at};
+ghost use Rattle.dvg_words.specs.declared.map.TheConstants.{ADDRESS_END};
 ghost use Rattle.dvg_cert.specs.Entry.{IsKey};
 ghost use Rattle.dvg_make.specs.Private.Making.{IsDone, obstacle_fault};
 ghost use Rattle.dvg_make.specs.Private.Partial.{AreTails, Extends};
@@ -13,7 +15,7 @@ use crate::obstacle::BlockedChain;
 use crate::shapes::need;
 use dvg_cert::{Entry, Key};
 use dvg_items::{Item, Kind, scale_past, target};
-use dvg_words::{Cell, FrameImage, Instr, RomImage, read_cell};
+use dvg_words::{Cell, FrameImage, FrameOn, Instr, RomImage, read_cell};
 use std::alloc::Global;
 
 /// A call of a frame whose entry can't be made.
@@ -49,6 +51,15 @@ fn make_call(
     Ok(done.find(to, scale))
 }
 
+/// What stands at a word address of a frame, as the machine of the ROM reads it.
+fn frame_cell(rom: &RomImage, frame: &FrameImage, at: u16) -> Cell
+    ensures value { result ≡ cell_at (frame_word rom.now.machine frame.now) at }
+    ensures fields { CellFits result }
+    ensures near { StandsBelow ADDRESS_END at result }
+{
+    read_cell(&FrameOn::new(rom.machine(), frame), at)
+}
+
 /// Makes the entries that a frame calls, each at the scale that is known before the call, and all that these need.
 pub fn make_frame(
     alloc: Global,
@@ -68,7 +79,7 @@ pub fn make_frame(
 {
     let mut at = 0;
     let mut scale = Key::Any;
-    while let Cell::Holds { format, instr } = read_cell(frame, at) {
+    while let Cell::Holds { format, instr } = frame_cell(rom, frame, at) {
         let callee = match make_call(alloc, rom, done, tails, &instr, scale) {
             Ok(callee) => callee,
             Err(blocked) => return Err(CallFault { at, blocked }),

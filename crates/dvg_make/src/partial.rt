@@ -27,7 +27,7 @@ use crate::obstacle::Obstacle;
 use crate::tails::is_mark;
 use dvg_cert::{Entry, Key, LitBox, MOST_DEPTH, MOST_WORDS};
 use dvg_items::{Cursor, Kind, Known, Seen, Step, depth_under, place_known, scale_known, target};
-use dvg_words::{Cell, Format, Instr, RomImage, read_cell};
+use dvg_words::{Cell, Format, Instr, Machine, RomImage, read_cell};
 
 /// The entry of a shape, as far as the shape's items were passed.
 #[derive(Clone, Copy)]
@@ -83,6 +83,7 @@ impl PartialEntry {
     #[inline(always)]
     fn pass(
         &self,
+        machine: Machine,
         format: Format,
         instr: &Instr,
         callee: Option<Entry>,
@@ -91,12 +92,12 @@ impl PartialEntry {
         requires near { self.now.cursor.at < ADDRESS_END }
         requires fields { InstrFits instr.now }
         requires callee { IfSome callee IsClaim }
-        ensures ok { IfOk result (λ past. Passes (seen_with callee self.now.cursor.known (record { at = self.now.cursor.at; format = format; instr = instr.now })) self.now.lit past.1) }
-        ensures step { IfOk result (λ past. past.0 ≡ step_past Shape (seen_with callee self.now.cursor.known (record { at = self.now.cursor.at; format = format; instr = instr.now }))) }
+        ensures ok { IfOk result (λ past. Passes (seen_with machine callee self.now.cursor.known (record { at = self.now.cursor.at; format = format; instr = instr.now })) self.now.lit past.1) }
+        ensures step { IfOk result (λ past. past.0 ≡ step_past Shape (seen_with machine callee self.now.cursor.known (record { at = self.now.cursor.at; format = format; instr = instr.now }))) }
         ensures sound { IfOk result (λ past. IsSoundStep past.0) }
-        ensures err { IfErr result (λ obstacle. (obstacle.cursor ≡ self.now.cursor) × SaysOf self.now.cursor.known.scale (seen_with callee self.now.cursor.known (record { at = self.now.cursor.at; format = format; instr = instr.now })) obstacle.cause) }
+        ensures err { IfErr result (λ obstacle. (obstacle.cursor ≡ self.now.cursor) × SaysOf self.now.cursor.known.scale (seen_with machine callee self.now.cursor.known (record { at = self.now.cursor.at; format = format; instr = instr.now })) obstacle.cause) }
     {
-        let seen = self.cursor.see(format, instr, callee);
+        let seen = self.cursor.see(machine, format, instr, callee);
         if let Some(cause) = unstraight(&seen) {
             return Err(self.obstacle(cause));
         }
@@ -115,7 +116,7 @@ impl PartialEntry {
     /// The whole entry, by the tail from the next item on. `None` if what the tail lights would lie at an unknown place, or if
     /// the depth, or one word more than the words, would pass the limit.
     #[inline(never)]
-    fn end_by(&self, tail: &Entry) -> Option<Entry>
+    fn end_by(&self, machine: Machine, tail: &Entry) -> Option<Entry>
         requires here { IsSoundCursor self.now.cursor }
         requires near { self.now.cursor.at < ADDRESS_END }
         requires tail { IsClaim tail.now }
@@ -123,7 +124,7 @@ impl PartialEntry {
     {
         // A tail jump to the tail's shape has the same effect, and fetches one word more: its own.
         let jump = Instr::Jmpl { to: tail.addr };
-        match self.pass(Format::Short, &jump, Some(*tail)) {
+        match self.pass(machine, Format::Short, &jump, Some(*tail)) {
             Ok((Step::Last(known), lit)) => {
                 let words = known.words - 1;
                 Some(self.entry(&Known { words, ..known }, lit))
@@ -133,7 +134,7 @@ impl PartialEntry {
     }
 
     /// The whole entry, if a tail from the next item on was kept and can be used.
-    fn known_end(&self, tails: &MadeEntries) -> Option<Entry>
+    fn known_end(&self, machine: Machine, tails: &MadeEntries) -> Option<Entry>
         requires here { IsSoundCursor self.now.cursor }
         requires near { self.now.cursor.at < ADDRESS_END }
         requires tails { (tail : EntryValue) → Contains tails.now tail → IsClaim tail }
@@ -143,7 +144,7 @@ impl PartialEntry {
             return None;
         }
         let tail = tails.find(self.cursor.at, self.cursor.known.scale)?;
-        self.end_by(&tail)
+        self.end_by(machine, &tail)
     }
 }
 
@@ -226,17 +227,18 @@ pub fn advance(
     ensures ok { IfOk result (Advances rom.now done.now from) }
     ensures err { IfErr result (IsStopped rom.now done.now from) }
 {
+    let machine = rom.machine();
     let mut partial = from;
     while let Cell::Holds { format, instr } = read_cell(rom, partial.cursor.at) {
         let at = partial.cursor.at;
-        if let Some(entry) = partial.known_end(tails) {
+        if let Some(entry) = partial.known_end(machine, tails) {
             return Ok(Progress::Finished { entry, at });
         }
         let callee = match look_up(done, &instr, partial.cursor.known.scale) {
             Ok(callee) => callee,
             Err(addr) => return Ok(Progress::Waiting { partial, addr }),
         };
-        let (step, lit) = partial.pass(format, &instr, callee)?;
+        let (step, lit) = partial.pass(machine, format, &instr, callee)?;
         match step {
             Step::Onward(cursor) => partial = PartialEntry {
                 cursor,

@@ -2,13 +2,13 @@
 //! refused. And what faults show.
 
 use crate::expecting::{FaultRow, expect_same, expect_shown};
-use crate::inputs::{STROKE_CERT, STROKE_FRAME, stroke_rom};
+use crate::inputs::{EMPTY, STROKE_CERT, STROKE_FRAME, stroke_rom};
 use dvg_cert::{CertFault, CertWhy, Entries, HashIndex, Key, ListIndex, read_cert};
 use dvg_check::{
     Accepted, FrameFault, FrameWhy, JudgedShapes, Mode, Refusal, ShapeFault, ShapeWhy, Yes,
     check_frame, check_rom, check_shapes, frame_of,
 };
-use dvg_words::{FrameImage, ImageFault, RomImage, SCREEN};
+use dvg_words::{FrameImage, ImageFault, Machine, RomImage, SCREEN, Window};
 use std::alloc::Global;
 use std::fmt::Display;
 use std::process::Abort;
@@ -53,7 +53,16 @@ fn judges_a_rom(rt: HostRuntime) {
     for &(bytes, text, mode, words) in ROM_VERDICTS {
         let cert = read_cert(rt.alloc(), text).expect(&rt, "a certificate");
         let rom = rom.get(..bytes).unwrap_or(&rom);
-        let verdict = check_rom(rt.alloc(), rom, &frame, &cert, 20000, SCREEN, mode);
+        let verdict = check_rom(
+            Machine::Profile,
+            rt.alloc(),
+            rom,
+            &frame,
+            &cert,
+            20000,
+            SCREEN,
+            mode,
+        );
         let want = match words {
             Ok(words) => Ok(Yes {
                 shapes: 1,
@@ -63,6 +72,51 @@ fn judges_a_rom(rt: HostRuntime) {
             Err(refusal) => Err(refusal),
         };
         expect_same(&rt, &verdict, &want, &(bytes, mode));
+    }
+}
+
+/// A LABS at 0, 0, two lit draws to the right, by half a screen place each, and HALT.
+const TWO_HALVES: &[u8] = &[
+    0x00, 0xA0, 0x00, 0x00, 0x00, 0x80, 0x01, 0x70, 0x00, 0x80, 0x01, 0x70, 0x00, 0xB0,
+];
+
+/// The machines, and what is answered of the two draws in a window of two places: on the board each moves by a whole place.
+const TWO_HALVES_VERDICTS: &[(Machine, Result<Yes, Refusal>)] = &[
+    (
+        Machine::Profile,
+        Ok(Yes {
+            shapes: 0,
+            words: 7,
+            depth: 0,
+        }),
+    ),
+    (
+        Machine::Board,
+        Err(Refusal::Frame(FrameFault {
+            word: 4,
+            why: FrameWhy::OffScreen,
+        })),
+    ),
+];
+
+#[test]
+fn judges_on_each_machine(rt: HostRuntime) {
+    let rom = stroke_rom();
+    let frame = frame_of(TWO_HALVES, 20000).expect(&rt, "a frame");
+    let cert = read_cert(rt.alloc(), EMPTY).expect(&rt, "a certificate");
+    let window = Window::new(0, 1, 0, 1).expect(&rt, "a window");
+    for &(machine, want) in TWO_HALVES_VERDICTS {
+        let verdict = check_rom(
+            machine,
+            rt.alloc(),
+            &rom,
+            &frame,
+            &cert,
+            20000,
+            window,
+            Mode::Exact,
+        );
+        expect_same(&rt, &verdict, &want, &machine);
     }
 }
 

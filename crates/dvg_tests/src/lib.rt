@@ -5,6 +5,8 @@
 #![tactic(auto)]
 
 #[cfg(test)]
+mod board;
+#[cfg(test)]
 mod certificates;
 #[cfg(test)]
 mod changed;

@@ -4,16 +4,18 @@ use crate::expecting::expect;
 use crate::running::devices::SlowReader;
 use dvg_cert::{Counted, ListIndex, read_cert};
 use dvg_check::{
-    JudgedShapes, Mode, Refusal, Yes, check, check_exact, check_parts, check_parts_exact, frame_of,
+    JudgedShapes, Mode, Refusal, Yes, check, check_exact, check_on, check_parts, check_parts_exact,
+    frame_of,
 };
 use dvg_cmd::{report_of, run_check, window_of};
-use dvg_words::{RomImage, SCREEN, Window};
+use dvg_words::{Machine, RomImage, SCREEN, Window};
 use std::alloc::Global;
 use std::process::Abort;
 
-/// How a ROM, a certificate and a frame are judged: by a budget of words, for a window, and in a mode.
+/// How a ROM, a certificate and a frame are judged: on a machine, by a budget of words, for a window, and in a mode.
 #[derive(Clone, Copy)]
 pub struct Asked {
+    pub machine: Machine,
     pub budget: u32,
     pub window: Window,
     pub mode: Mode,
@@ -21,6 +23,7 @@ pub struct Asked {
 
 /// What the program asks where its options are left out.
 pub const USUAL: Asked = Asked {
+    machine: Machine::Profile,
     budget: 20000,
     window: SCREEN,
     mode: Mode::Bound,
@@ -52,7 +55,8 @@ const STROKE: Usual = Usual {
 /// The rows. The first line of each says what it shows. Then come its inputs, in any order: `shape stroke`, where what it leaves out
 /// is of the stroke; `rom`, a word address and the words from there on, where the ROM is not of zeros alone; `bytes`, how many bytes
 /// the ROM has, where its map has another number; `frame` and its words; `budget`, where it is not 20,000; `window`, where it is not
-/// the screen; `mode exact`, where counts are not bounds. After the report stands the text of the certificate.
+/// the screen; `mode exact`, where counts are not bounds; `board` and the board's report, where the row is judged on the board too.
+/// The report is the profile's. After it stands the text of the certificate.
 const ROWS: &str = "\
 a frame that halts at once
 frame B000
@@ -871,17 +875,24 @@ fn hex(rt: &impl Abort, word: &str) -> u16 {
     u16::from_str_radix(word, 16).expect(rt, "a word in hexadecimal")
 }
 
-/// The words of a text as bytes, the low byte first. `CBFF*3` is a word three times, and `CB` a byte alone.
-fn bytes_of(rt: &impl Abort, alloc: Global, words: &str) -> Vec<u8> {
-    let mut bytes = Vec::new(alloc);
-    for word in words.split_whitespace() {
-        let (word, times) = word.split_once('*').unwrap_or((word, "1"));
+/// Appends words that stand between commas, the low byte of each first.
+fn push_words(rt: &impl Abort, bytes: &mut Vec<u8>, words: &str) {
+    for word in words.split(',') {
         let pair = hex(rt, word).to_le_bytes();
         let spelled = if word.len() == 2 { 1 } else { 2 };
+        bytes
+            .extend_from_slice(&pair[..spelled])
+            .expect(rt, "memory");
+    }
+}
+
+/// The words of a text as bytes. `CBFF*3` is a word three times, `9000,03FF*3` two words three times, and `CB` a byte alone.
+fn bytes_of(rt: &impl Abort, alloc: Global, words: &str) -> Vec<u8> {
+    let mut bytes = Vec::new(alloc);
+    for words in words.split_whitespace() {
+        let (words, times) = words.split_once('*').unwrap_or((words, "1"));
         for _ in 0..times.parse::<u16>().expect(rt, "a count") {
-            bytes
-                .extend_from_slice(&pair[..spelled])
-                .expect(rt, "memory");
+            push_words(rt, &mut bytes, words);
         }
     }
     bytes
@@ -911,7 +922,7 @@ fn judge_by_list(
 ) -> Result<Yes, Refusal> {
     let frame = frame_of(frame, asked.budget)?;
     let cert = read_cert(alloc, text)?;
-    let rom = RomImage::from_bytes(rom, cert.map())?;
+    let rom = RomImage::from_bytes_on(asked.machine, rom, cert.map())?;
     let entries = ListIndex::new(&cert);
     let shapes = JudgedShapes::judge(&rom, &cert, &entries, asked.window, asked.mode)?;
     let accepted = shapes.check_frame(&frame, asked.budget)?;
@@ -932,7 +943,7 @@ fn judge_parts(
 ) -> Result<Yes, Refusal> {
     let frame = frame_of(frame, asked.budget)?;
     let cert = read_cert(alloc, text)?;
-    let rom = RomImage::from_bytes(rom, cert.map())?;
+    let rom = RomImage::from_bytes_on(asked.machine, rom, cert.map())?;
     let Asked { budget, window, .. } = *asked;
     match asked.mode {
         Mode::Bound => check_parts(alloc, &rom, &frame, &cert, budget, window),
@@ -962,7 +973,43 @@ fn run_byte_by_byte(
     line
 }
 
-/// Whether this is the report over both indexes, of `check` or `check_exact` and of a run.
+/// The verdict on bytes.
+fn judge_bytes(
+    alloc: Global,
+    rom: &[u8],
+    text: &[u8],
+    frame: &[u8],
+    asked: &Asked,
+) -> Result<Yes, Refusal> {
+    let Asked {
+        machine,
+        budget,
+        window,
+        mode,
+    } = *asked;
+    match (machine, mode) {
+        (Machine::Profile, Mode::Bound) => check(alloc, rom, text, frame, budget, window),
+        (Machine::Profile, Mode::Exact) => check_exact(alloc, rom, text, frame, budget, window),
+        _ => check_on(machine, alloc, rom, text, frame, budget, window, mode),
+    }
+}
+
+/// Whether a run writes this report. A run is on the profile's machine.
+fn is_run(
+    alloc: Global,
+    rom: &[u8],
+    text: &[u8],
+    frame: &[u8],
+    asked: &Asked,
+    report: &[u8],
+) -> bool {
+    match asked.machine {
+        Machine::Profile => run_byte_by_byte(alloc, rom, text, frame, asked).as_slice() == report,
+        Machine::Board => true,
+    }
+}
+
+/// Whether this is the report over both indexes, of the call over bytes and of a run.
 pub fn is_reported(
     alloc: Global,
     rom: &[u8],
@@ -971,15 +1018,12 @@ pub fn is_reported(
     asked: &Asked,
     report: &str,
 ) -> bool {
-    let verdict = match asked.mode {
-        Mode::Bound => check(alloc, rom, text, frame, asked.budget, asked.window),
-        Mode::Exact => check_exact(alloc, rom, text, frame, asked.budget, asked.window),
-    };
-    let line = run_byte_by_byte(alloc, rom, text, frame, asked);
+    let verdict = judge_bytes(alloc, rom, text, frame, asked);
+    let line = report_of(&verdict);
     verdict == judge_parts(alloc, rom, text, frame, asked)
         && verdict == judge_by_list(alloc, rom, text, frame, asked)
-        && report_of(&verdict).as_bytes() == line.as_slice()
-        && line.strip_suffix(b"\n") == Some(report.as_bytes())
+        && is_run(alloc, rom, text, frame, asked, line.as_bytes())
+        && line.as_bytes().strip_suffix(b"\n") == Some(report.as_bytes())
 }
 
 /// What stands behind the first word of a line: of the first line that begins so, or this where there is none.
@@ -1002,11 +1046,12 @@ fn usual_of(row: &str) -> Usual {
     }
 }
 
-/// How a row is judged.
+/// How a row is judged on the profile's machine.
 fn asked_of(rt: &impl Abort, inputs: &str) -> Asked {
     let budget = words_of(inputs, "budget", "20000");
     let window = words_of(inputs, "window", "0,1023,0,1023");
     Asked {
+        machine: Machine::Profile,
         budget: budget.parse::<u32>().expect(rt, "a budget"),
         window: window_of(window).expect(rt, "a window"),
         mode: match words_of(inputs, "mode", "bound") {
@@ -1024,25 +1069,72 @@ fn text_of(rt: &impl Abort, alloc: Global, rest: &str) -> Vec<u8> {
     text
 }
 
-/// Stops the test unless the report of a row is that of its inputs.
-fn judge_row(rt: &impl Abort, alloc: Global, row: &str) {
-    let usual = usual_of(row);
-    let (inputs, text) = row.split_once("\ndvgcert").unwrap_or((row, usual.text));
-    let map = words_of(text, "rom", "800 BFF");
-    let mut rom = rom_bytes(rt, alloc, words_of(inputs, "rom", usual.rom), map);
-    let text = text_of(rt, alloc, text);
-    if let Ok(length) = words_of(inputs, "bytes", "").parse::<usize>() {
-        rom.resize(length, 0).expect(rt, "memory");
+/// A row, read.
+#[derive(Drop)]
+pub struct Row<'a> {
+    pub rom: Vec<u8>,
+    pub text: Vec<u8>,
+    pub frame: Vec<u8>,
+    /// How it is judged on the profile's machine.
+    pub asked: Asked,
+    /// What the profile's machine reports.
+    pub report: &'a str,
+    /// What the board reports, empty where the row is not judged on it.
+    pub board_report: &'a str,
+    /// The lines of its inputs.
+    inputs: &'a str,
+}
+
+impl<'a> Row<'a> {
+    /// Reads a row from its lines.
+    pub fn read(rt: &impl Abort, alloc: Global, row: &'a str) -> Row<'a> {
+        let usual = usual_of(row);
+        let (inputs, text) = row.split_once("\ndvgcert").unwrap_or((row, usual.text));
+        let map = words_of(text, "rom", "800 BFF");
+        let mut rom = rom_bytes(rt, alloc, words_of(inputs, "rom", usual.rom), map);
+        if let Ok(length) = words_of(inputs, "bytes", "").parse::<usize>() {
+            rom.resize(length, 0).expect(rt, "memory");
+        }
+        Row {
+            rom,
+            text: text_of(rt, alloc, text),
+            frame: bytes_of(rt, alloc, words_of(inputs, "frame", usual.frame)),
+            asked: asked_of(rt, inputs),
+            report: inputs.lines().last().unwrap_or(""),
+            board_report: words_of(inputs, "board", ""),
+            inputs,
+        }
     }
-    let frame = bytes_of(rt, alloc, words_of(inputs, "frame", usual.frame));
-    let report = inputs.lines().last().unwrap_or("");
-    let is = is_reported(alloc, &rom, &text, &frame, &asked_of(rt, inputs), report);
-    expect(rt, is, &row);
+
+    /// Whether a machine reports this of the row.
+    pub fn is_reported(&self, alloc: Global, machine: Machine, report: &str) -> bool {
+        let asked = Asked {
+            machine,
+            ..self.asked
+        };
+        is_reported(alloc, &self.rom, &self.text, &self.frame, &asked, report)
+    }
+
+    /// What stands behind this word in the inputs, empty where no line begins with it.
+    pub fn words(&self, first: &str) -> &'a str {
+        words_of(self.inputs, first, "")
+    }
+}
+
+/// Stops the test unless the reports of each row are those of its inputs.
+pub fn judge_rows(rt: &impl Abort, alloc: Global, rows: &str) {
+    for text in rows.split("\n\n") {
+        let row = Row::read(rt, alloc, text);
+        let is = row.is_reported(alloc, Machine::Profile, row.report);
+        expect(rt, is, &text);
+        if !row.board_report.is_empty() {
+            let is = row.is_reported(alloc, Machine::Board, row.board_report);
+            expect(rt, is, &("on the board", text));
+        }
+    }
 }
 
 #[test]
 fn judges_rows(rt: HostRuntime) {
-    for row in ROWS.split("\n\n") {
-        judge_row(&rt, rt.alloc(), row);
-    }
+    judge_rows(&rt, rt.alloc(), ROWS);
 }

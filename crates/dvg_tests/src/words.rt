@@ -4,9 +4,9 @@ ghost use Rattle.dvg_words.specs.Values.{DrawFits};
 
 use crate::expecting::{FaultRow, expect, expect_faults, expect_same};
 use dvg_words::{
-    ASTEROIDS, Draw, Format, FrameImage, ImageFault, Instr, Point, RomImage, RomMap, SCREEN,
-    Window, decode, displacement, draw_move, factor, in_window, is_long, labs_place, on_screen,
-    shift,
+    ASTEROIDS, Draw, Format, FrameImage, ImageFault, Instr, Machine, Point, RomImage, RomMap,
+    SCREEN, Window, decode, decode_on, displacement, displacement_on, draw_move, factor, in_window,
+    is_long, labs_place, on_screen, shift,
 };
 
 fn draw(dx: i16, dy: i16, lscale: u8, bright: u8) -> Option<Instr>
@@ -69,6 +69,20 @@ fn decodes_other_instructions(rt: HostRuntime) {
     }
 }
 
+/// A LABS of the board, which has twelve bits of each place and is never odd.
+#[test]
+fn decodes_labs_of_the_board(rt: HostRuntime) {
+    for (first, second, x, y, gscale) in [
+        (0xA3FF, 0xF3FF, 1023, 1023, 15),
+        (0xAFFF, 0x0FFF, 4095, 4095, 0),
+        (0xA800, 0x1400, 1024, 2048, 1),
+    ] {
+        let labs = Some(Instr::Labs { x, y, gscale });
+        let got = decode_on(Machine::Board, first, second);
+        expect_same(&rt, &got, &labs, &(first, second));
+    }
+}
+
 const LONG: Draw = Draw {
     dx: 1023,
     dy: 767,
@@ -106,17 +120,59 @@ fn moves_the_beam(rt: HostRuntime) {
     }
 }
 
+/// Global scales, and how far the same draws move the beam on the board at them.
+const LONG_MOVES_OF_BOARD: &[(u8, (i32, i32))] = &[
+    (0, (1047552, 785408)),
+    (15, (524288, 393216)),
+    (6, (0, 0)),
+];
+
+const SHORT_MOVES_OF_BOARD: &[(u8, (i32, i32))] = &[
+    (0, (-49152, -49152)),
+    (5, (0, 0)),
+    (11, (-2048, -2048)),
+];
+
+#[test]
+fn moves_the_beam_of_the_board(rt: HostRuntime) {
+    for &(gscale, by) in LONG_MOVES_OF_BOARD {
+        let got = displacement_on(Machine::Board, &LONG, gscale % 16);
+        expect_same(&rt, &got, &by, &gscale);
+    }
+    for &(gscale, by) in SHORT_MOVES_OF_BOARD {
+        let got = displacement_on(Machine::Board, &SHORT, gscale % 16);
+        expect_same(&rt, &got, &by, &gscale);
+    }
+}
+
+/// The fields of a LABS, X before Y, and where it sets the beam on the board.
+const LABS_OF_BOARD: &[(u16, u16, Place)] = &[
+    (1023, 2047, (1047552, 2096128)),
+    (4095, 2048, (-1024, -2097152)),
+];
+
+#[test]
+fn sets_places_of_the_board(rt: HostRuntime) {
+    for &(x, y, (want_x, want_y)) in LABS_OF_BOARD {
+        let want = Point {
+            x: want_x,
+            y: want_y,
+        };
+        expect_same(&rt, &labs_place(Machine::Board, x, y), &want, &(x, y));
+    }
+}
+
 #[test]
 fn sets_and_shifts_places(rt: HostRuntime) {
     assert_eq!(rt; factor(LONG.lscale, 15), 512);
-    let from = labs_place(0, 128);
+    let from = labs_place(Machine::Profile, 0, 128);
     let start = Point { x: 0, y: 131072 };
     expect_same(&rt, &from, &start, &"the place of the LABS");
     let end = Point {
         x: 1047552,
         y: 916480,
     };
-    let to = shift(&from, &draw_move(&LONG, 0));
+    let to = shift(&from, &draw_move(Machine::Profile, &LONG, 0));
     expect_same(&rt, &to, &end, &"the place after the draw");
 }
 

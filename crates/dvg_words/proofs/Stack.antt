@@ -1,5 +1,6 @@
 -- The stored return places are at most `max_stack`, in each state of each run.
 use Rattle.std.proofs.Common.{arith, subst, zero, suc, ◌≤◌, ◌∷◌, ℕ, [], List, Bool, true, false, nat_lt, length}
+use Rattle.dvg_words.specs.Values.{Machine}
 use Rattle.dvg_words.specs.Decoding.{Format, Cell, Instr, Missing, Odd, Holds, cell_at}
 use Rattle.dvg_words.specs.Generator.{State, Status, Running, Halted, Fault, Step, Reached, after_call, after_return, after_instruction, after_cell, after_fetch, next_status}
 use Rattle.dvg_words.specs.Laws.{state_of, StackWithinMax}
@@ -19,22 +20,22 @@ within_return : (stack : List ℕ) (s : State) → length stack ≤ s.max_stack 
 within_return [] s some h = h
 within_return (back ∷ rest) s some h = omega (arith, some)
 
-within_instruction : (i : Instr) (format : Format) (s : State) → StackWithin s → StackWithin (state_of (after_instruction i format s))
-within_instruction (Draws d) format s h = h
-within_instruction (Labs x y gscale) format s h = h
-within_instruction Halt format s h = h
-within_instruction (Jsrl to) format s h = within_call (nat_lt (length s.return_stack) 4) to s h
-within_instruction Rtsl format s h = within_return s.return_stack s h h
-within_instruction (Jmpl to) format s h = h
+within_instruction : (machine : Machine) (i : Instr) (format : Format) (s : State) → StackWithin s → StackWithin (state_of (after_instruction machine i format s))
+within_instruction machine (Draws d) format s h = h
+within_instruction machine (Labs x y gscale) format s h = h
+within_instruction machine Halt format s h = h
+within_instruction machine (Jsrl to) format s h = within_call (nat_lt (length s.return_stack) 4) to s h
+within_instruction machine Rtsl format s h = within_return s.return_stack s h h
+within_instruction machine (Jmpl to) format s h = h
 
-within_cell : (cell : Cell) (s : State) → StackWithin s → StackWithin (state_of (after_cell cell s))
-within_cell Missing s h = h
-within_cell Odd s h = h
-within_cell (Holds format i) s h = within_instruction i format s h
+within_cell : (machine : Machine) (cell : Cell) (s : State) → StackWithin s → StackWithin (state_of (after_cell machine cell s))
+within_cell machine Missing s h = h
+within_cell machine Odd s h = h
+within_cell machine (Holds format i) s h = within_instruction machine i format s h
 
 within_next : (m : Memory) (s : State) → StackWithin s → StackWithin (state_of (next_status m s))
 unfolding next_status
-within_next m s h = within_cell (cell_at (word_at m) s.pc) (after_fetch m s) h
+within_next m s h = within_cell m.rom.machine (cell_at (word_at m) s.pc) (after_fetch m s) h
 
 within_step : (m : Memory) (a b : Status) → Step m a b → StackWithin (state_of a) → StackWithin (state_of b)
 within_step m (Running s) b step h = subst (λ status. StackWithin (state_of status)) step (within_next m s h)

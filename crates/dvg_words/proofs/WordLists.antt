@@ -1,7 +1,7 @@
 -- The words of a list of bytes, by their places.
 use Rattle.std.proofs.Common.{◌≡◌, ℕ, ◌+◌, ◌*◌, ◌/◌, ◌≤◌, zero, suc, List, [], ◌∷◌, length, get_or, slice_get, Some, refl, arith}
-use Rattle.dvg_words.specs.Values.{MemoryMap, IsMap}
-use Rattle.dvg_words.specs.Memory.{words_of, rom_of, IsRom, IsRomLength, IsFrame, IsFrameLength}
+use Rattle.dvg_words.specs.Values.{MemoryMap, IsMap, Machine}
+use Rattle.dvg_words.specs.Memory.{words_of, rom_on, IsRom, IsRomLength, IsFrame, IsFrameLength}
 
 -- two bytes to a word
 pub length-words_of : (bs : List ℕ) → length (words_of bs) ≡ length bs / 2
@@ -20,8 +20,8 @@ word_at_place (low ∷ high ∷ bs) (suc i) h =
     rw (e1, e) (word_at_place bs i (omega arith))
 
 -- bytes of a ROM's length fill it
-pub rom_of_is_rom : (map : MemoryMap) (bytes : List ℕ) → IsMap map → IsRomLength map (length bytes) → IsRom (rom_of map bytes)
-rom_of_is_rom map bytes is long =
+pub rom_of_is_rom : (machine : Machine) (map : MemoryMap) (bytes : List ℕ) → IsMap map → IsRomLength map (length bytes) → IsRom (rom_on machine map bytes)
+rom_of_is_rom machine map bytes is long =
     record {
       map = is;
       filled = omega (arith, length-words_of bytes, long, is.ordered);

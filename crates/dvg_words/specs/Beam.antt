@@ -1,6 +1,6 @@
--- Where draws move the beam. Places are whole numbers in units of 1/1024 of a screen place (profile).
-use Rattle.std.specs.Prelude.{ℕ, pos, neg_ℤ, ◌+◌, ◌*◌, ◌%◌, ◌^◌, ◌+ℤ◌, ◌≤ℤ◌, ◌*ℤ◌, nat_le, if◌then◌else◌}
-use Rattle.dvg_words.specs.Values.{DrawFields, Window}
+-- Where draws move the beam. Places are whole numbers in units of 1/1024 of a screen place.
+use Rattle.std.specs.Prelude.{ℕ, ℤ, pos, negsuc, neg_ℤ, suc, ◌+◌, ◌*◌, ◌/◌, ◌%◌, ◌^◌, ◌+ℤ◌, ◌≤ℤ◌, ◌*ℤ◌, nat_le, if◌then◌else◌}
+use Rattle.dvg_words.specs.Values.{Machine, Profile, Board, DrawFields, Window}
 pub use Rattle.dvg_words.specs.declared.beam.Point.{Point}
 
 -- the effective scale: local plus global scale, modulo 16 (profile)
@@ -19,13 +19,37 @@ origin = record { x = pos 0; y = pos 0 }
 abbrev pub shift : Point → Point → Point
 shift p d = record { x = p.x +ℤ d.x; y = p.y +ℤ d.y }
 
--- how far a draw moves the beam: size times factor on each axis (profile)
-unfoldable pub displacement : DrawFields → ℕ → Point
-displacement d global = record { x = d.dx *ℤ pos (factor d.lscale global); y = d.dy *ℤ pos (factor d.lscale global) }
+-- a distance, rounded half up to whole screen places
+abbrev pub rounded : ℕ → ℕ
+rounded distance = 1024 * ((distance + 512) / 1024)
 
--- where a LABS sets the beam: its fields are screen places, here in units of 1/1024 (profile)
-abbrev pub labs_place : ℕ → ℕ → Point
-labs_place x y = record { x = pos (1024 * x); y = pos (1024 * y) }
+-- a move along an axis, its distance rounded
+abbrev pub rounded_move : ℤ → ℤ
+rounded_move (pos n) = pos (rounded n)
+rounded_move (negsuc n) = neg_ℤ (pos (rounded (suc n)))
+
+-- how far a size moves the beam: size times factor (profile); on the board that is rounded, and is 0 at effective scales over 9
+abbrev pub axis_move : Machine → ℤ → ℕ → ℕ → ℤ
+axis_move Profile size local global = size *ℤ pos (factor local global)
+axis_move Board size local global =
+    if nat_le (effective_scale local global) 9 then rounded_move (size *ℤ pos (factor local global)) else pos 0
+
+-- how far a draw moves the beam
+unfoldable pub displacement : Machine → DrawFields → ℕ → Point
+displacement machine d global = record { x = axis_move machine d.dx d.lscale global; y = axis_move machine d.dy d.lscale global }
+
+-- twelve bits as two's complement: -2048 to 2047
+abbrev pub signed_field : ℕ → ℤ
+signed_field field = if nat_le field 2047 then pos field else pos field +ℤ negsuc 4095
+
+-- where a LABS sets the beam on an axis: its field is a screen place, signed on the board, here in units of 1/1024
+abbrev pub labs_coordinate : Machine → ℕ → ℤ
+labs_coordinate Profile field = pos (1024 * field)
+labs_coordinate Board field = pos 1024 *ℤ signed_field field
+
+-- where a LABS sets the beam
+abbrev pub labs_place : Machine → ℕ → ℕ → Point
+labs_place machine x y = record { x = labs_coordinate machine x; y = labs_coordinate machine y }
 
 -- the place is in the window, edges included (profile)
 pub record InWindow (w : Window) (p : Point) : Type 0 where

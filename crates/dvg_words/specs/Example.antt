@@ -1,13 +1,13 @@
 -- A worked run of the generator: a frame that sets the beam and calls a ROM's lit stroke.
 use Rattle.std.specs.Prelude.{ℕ, pos, List, [], ◌∷◌, replicate}
-use Rattle.dvg_words.specs.Values.{asteroids}
+use Rattle.dvg_words.specs.Values.{asteroids, Profile}
 use Rattle.dvg_words.specs.Memory.{Memory, Rom}
 use Rattle.dvg_words.specs.Beam.{Point}
 use Rattle.dvg_words.specs.Generator.{State, Status, Running, Halted, Step, Reached, start}
 
 -- at 800 a lit draw by 1023 screen places to the right and 767 up, as VCTR at local scale 9, then RTSL; zeros elsewhere
 abbrev pub example_rom : Rom
-example_rom = record { map = asteroids; words = 0x92FF ∷ 0x73FF ∷ 0xD000 ∷ replicate 1021 0 }
+example_rom = record { map = asteroids; machine = Profile; words = 0x92FF ∷ 0x73FF ∷ 0xD000 ∷ replicate 1021 0 }
 
 -- LABS to place 0, 128 and global scale 0, JSRL to 800, HALT
 abbrev pub example_frame : List ℕ

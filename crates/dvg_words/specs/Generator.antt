@@ -1,6 +1,6 @@
 -- The generator: its states, its step and its runs.
 use Rattle.std.specs.Prelude.{◌≡◌, ℕ, zero, suc, ◌+◌, max, Bool, true, false, List, [], ◌∷◌, ◌++◌, length, Option, Some, None, nat_lt}
-use Rattle.dvg_words.specs.Values.{DrawFields}
+use Rattle.dvg_words.specs.Values.{Machine, DrawFields}
 use Rattle.dvg_words.specs.declared.instruction.Instr.TheVariants.{Draw as Draws, Labs, Halt, Jsrl, Rtsl, Jmpl}
 use Rattle.dvg_words.specs.Decoding.{Instr, Format, Short, Long, Cell, Missing, Odd, Holds, format_of, word_count, cell_at}
 use Rattle.dvg_words.specs.Memory.{Memory, word_at}
@@ -50,9 +50,9 @@ lit_by zero stroke = []
 lit_by (suc n) stroke = stroke ∷ []
 
 -- a draw moves the beam (DVG documentation)
-abbrev pub after_draw : DrawFields → Format → State → State
-after_draw d format s =
-    let to = shift s.place (displacement d s.scale) in
+abbrev pub after_draw : Machine → DrawFields → Format → State → State
+after_draw machine d format s =
+    let to = shift s.place (displacement machine d s.scale) in
     record s {
       pc = s.pc + word_count format;
       place = to;
@@ -74,27 +74,28 @@ after_return [] s = Fault s
 after_return (back ∷ rest) s = Running (record s { pc = back; return_stack = rest })
 
 -- what an instruction does (DVG documentation)
-abbrev pub after_instruction : Instr → Format → State → Status
-after_instruction (Draws d) format s = Running (after_draw d format s)
-after_instruction (Labs x y gscale) format s = Running (record s { pc = s.pc + word_count format; place = labs_place x y; scale = gscale })
-after_instruction Halt format s = Halted s
-after_instruction (Jsrl to) format s = after_call (nat_lt (length s.return_stack) 4) to s
-after_instruction Rtsl format s = after_return s.return_stack s
-after_instruction (Jmpl to) format s = Running (record s { pc = to })
+abbrev pub after_instruction : Machine → Instr → Format → State → Status
+after_instruction machine (Draws d) format s = Running (after_draw machine d format s)
+after_instruction machine (Labs x y gscale) format s =
+    Running (record s { pc = s.pc + word_count format; place = labs_place machine x y; scale = gscale })
+after_instruction machine Halt format s = Halted s
+after_instruction machine (Jsrl to) format s = after_call (nat_lt (length s.return_stack) 4) to s
+after_instruction machine Rtsl format s = after_return s.return_stack s
+after_instruction machine (Jmpl to) format s = Running (record s { pc = to })
 
 -- a missing or an odd instruction is a fault (profile)
-abbrev pub after_cell : Cell → State → Status
-after_cell Missing s = Fault s
-after_cell Odd s = Fault s
-after_cell (Holds format i) s = after_instruction i format s
+abbrev pub after_cell : Machine → Cell → State → Status
+after_cell machine Missing s = Fault s
+after_cell machine Odd s = Fault s
+after_cell machine (Holds format i) s = after_instruction machine i format s
 
 -- the state once the words of its instruction are fetched
 abbrev pub after_fetch : Memory → State → State
-after_fetch m s = record s { fetched = fetches (word_at m s.pc) s.pc ++ s.fetched }
+after_fetch m s = record s { fetched = fetches ((word_at m).word s.pc) s.pc ++ s.fetched }
 
 -- the status after a running state
 unfoldable pub next_status : Memory → State → Status
-next_status m s = after_cell (cell_at (word_at m) s.pc) (after_fetch m s)
+next_status m s = after_cell m.rom.machine (cell_at (word_at m) s.pc) (after_fetch m s)
 
 -- one step leads from the first status to the second; none leads on from a halt or a fault
 abbrev pub Step : Memory → Status → Status → Type 0

@@ -1,6 +1,6 @@
 -- The words of byte lists, and which word the generator fetches at a word address.
 use Rattle.std.specs.Prelude.{◌≡◌, ◌≤◌, ◌<◌, ℕ, ◌+◌, ◌-◌, ◌*◌, ◌%◌, nat_le, nat_lt, ◌&&◌, List, [], ◌∷◌, length, slice_get, Option, None, if◌then◌else◌}
-use Rattle.dvg_words.specs.Values.{RAM_WORDS, MemoryMap, IsMap}
+use Rattle.dvg_words.specs.Values.{RAM_WORDS, MemoryMap, IsMap, Machine, Profile, Source}
 
 -- two bytes to a word, the low byte at the even address (Asteroids schematics); a last byte alone is no word
 abbrev pub words_of : List ℕ → List ℕ
@@ -23,9 +23,10 @@ pub record IsFrame (frame : List ℕ) : Type 0 where
   pub some : 1 ≤ length frame
   pub few : length frame ≤ RAM_WORDS
 
--- a vector ROM: where it lies, and its words
+-- a vector ROM: where it lies, the machine that runs it, and its words
 pub record Rom : Type 0 where
   pub map : MemoryMap
+  pub machine : Machine
   pub words : List ℕ
 
 -- a ROM has a word for each of its addresses
@@ -33,9 +34,13 @@ pub record IsRom (rom : Rom) : Type 0 where
   pub map : IsMap rom.map
   pub filled : rom.map.rom_first + length rom.words ≡ rom.map.rom_last + 1
 
--- the ROM of these bytes
+-- the ROM of these bytes on a machine
+abbrev pub rom_on : Machine → MemoryMap → List ℕ → Rom
+rom_on machine map bytes = record { map = map; machine = machine; words = words_of bytes }
+
+-- the same on the profile's machine
 abbrev pub rom_of : MemoryMap → List ℕ → Rom
-rom_of map bytes = record { map = map; words = words_of bytes }
+rom_of map bytes = rom_on Profile map bytes
 
 -- all that the generator can fetch
 pub record Memory : Type 0 where
@@ -55,14 +60,27 @@ InFrame frame p = p < length frame
 abbrev pub InRom : MemoryMap → ℕ → Type 0
 InRom map p = (map.rom_first ≤ p) × (p ≤ map.rom_last)
 
--- the word of the frame at an address
-abbrev pub frame_word : List ℕ → ℕ → Option ℕ
-frame_word frame p = slice_get frame p
+-- a frame, and the machine that runs it
+pub record FrameOn : Type 0 where
+  pub machine : Machine
+  pub frame : List ℕ
+
+-- a frame's words, by their addresses
+abbrev pub frame_word : Machine → List ℕ → Source
+frame_word machine frame = record { machine = machine; word = λ p. slice_get frame p }
 
 -- the word of the ROM at an address
-abbrev pub rom_word : Rom → ℕ → Option ℕ
-rom_word rom p = if nat_le rom.map.rom_first p && nat_le p rom.map.rom_last then slice_get rom.words (p - rom.map.rom_first) else None
+abbrev pub word_of_rom : Rom → ℕ → Option ℕ
+word_of_rom rom p = if nat_le rom.map.rom_first p && nat_le p rom.map.rom_last then slice_get rom.words (p - rom.map.rom_first) else None
+
+-- a ROM's words, by their addresses
+abbrev pub rom_word : Rom → Source
+rom_word rom = record { machine = rom.machine; word = λ p. word_of_rom rom p }
 
 -- the word that is fetched at an address: the frame's, else the ROM's (Asteroids schematics), else none (profile)
-abbrev pub word_at : Memory → ℕ → Option ℕ
-word_at m p = if nat_lt p (length m.frame) then frame_word m.frame p else rom_word m.rom p
+abbrev pub fetched_at : Memory → ℕ → Option ℕ
+fetched_at m p = if nat_lt p (length m.frame) then slice_get m.frame p else word_of_rom m.rom p
+
+-- all words that can be fetched, by their addresses
+abbrev pub word_at : Memory → Source
+word_at m = record { machine = m.rom.machine; word = λ p. fetched_at m p }

@@ -1,10 +1,12 @@
 //! Where the beam goes. Places are in units of 1/1024 of a screen place, and y grows upwards (profile).
 
-ghost use Rattle.std.specs.Prelude.{◌≡◌, ◌≤◌, pos, negsuc, ◌^◌, ◌+ℤ◌, ◌≤ℤ◌, ◌*ℤ◌, FitsSigned};
+ghost use Rattle.std.specs.Prelude.{◌≡◌, ◌≤◌, pos, negsuc, neg_ℤ, ◌*◌, ◌^◌, ◌+ℤ◌, ◌≤ℤ◌, ◌*ℤ◌, FitsSigned};
 ghost use Rattle.std.specs.Int.{w64};
-ghost use Rattle.dvg_words.specs.Beam.{factor, displacement, shift, labs_place, IsWithin};
+ghost use Rattle.dvg_words.specs.Beam.{factor, rounded, rounded_move, axis_move, displacement, shift, labs_coordinate, labs_place, IsWithin};
+ghost use Rattle.dvg_words.specs.Values.{Profile};
 
 use crate::instruction::Draw;
+use crate::machine::Machine;
 
 /// A place of the beam, or a move, in units of 1/1024 of a screen place.
 #[derive(Clone, Copy, Debug, PartialEq, Eq)]
@@ -30,14 +32,26 @@ pub fn shift(place: &Point, by: &Point) -> Point
     }
 }
 
-/// Where a LABS of these fields, in screen places, sets the beam.
-pub fn labs_place(x: u16, y: u16) -> Point
-    ensures value { result ≡ labs_place x y }
+/// A field of a LABS, 0 to 4095, as the machine loads it: -2048 to 2047 on the board, as two's complement.
+fn labs_coordinate(machine: Machine, field: u16) -> i64
+    ensures value { result ≡ labs_coordinate machine field }
+    ensures low { neg_ℤ (pos (2 ^ 31)) ≤ℤ result }
+    ensures high { result ≤ℤ pos (2 ^ 31) }
+{
+    match machine {
+        Machine::Board if field > 2047 => 1024 * (i64::from(field) - 4096),
+        _ => 1024 * i64::from(field),
+    }
+}
+
+/// Where a LABS of these fields sets the beam on a machine, in units of 1/1024 of a screen place.
+pub fn labs_place(machine: Machine, x: u16, y: u16) -> Point
+    ensures value { result ≡ labs_place machine x y }
     ensures near { IsWithin (2 ^ 31) result }
 {
     Point {
-        x: 1024 * i64::from(x),
-        y: 1024 * i64::from(y),
+        x: labs_coordinate(machine, x),
+        y: labs_coordinate(machine, y),
     }
 }
 
@@ -60,29 +74,78 @@ fn scaled(size: i16, factor: u16) -> i32
     requires size_low { negsuc 1022 ≤ℤ size }
     requires size_high { size ≤ℤ pos 1023 }
     requires factor { factor ≤ 1024 }
-    ensures { result ≡ size *ℤ pos factor }
+    ensures value { result ≡ size *ℤ pos factor }
+    ensures low { neg_ℤ (pos (1023 * 1024)) ≤ℤ result }
+    ensures high { result ≤ℤ pos (1023 * 1024) }
 {
     i32::from(size) * i32::from(factor)
 }
 
-#[tactic(auto, unfolding(crate::specs::Beam::displacement))]
-/// How far a draw moves the beam at a global scale of 0 to 15, as (x, y) in units of 1/1024 of a screen place.
-pub fn displacement(draw: &Draw, gscale: u8) -> (i32, i32)
-    requires { gscale ≤ 15 }
-    ensures x { result.0 ≡ (displacement draw.now gscale).x }
-    ensures y { result.1 ≡ (displacement draw.now gscale).y }
+/// A distance, rounded half up to whole screen places.
+fn rounded(distance: u32) -> i32
+    requires { distance ≤ 1023 * 1024 }
+    ensures value { result ≡ pos (rounded distance) }
+    ensures near { result ≤ℤ pos (1024 * 1024) }
 {
-    let factor = factor(draw.lscale, gscale);
-    (scaled(draw.dx, factor), scaled(draw.dy, factor))
+    1024 * ((distance + 512) / 1024) as i32
 }
 
-/// How far a draw moves the beam at a global scale of 0 to 15.
-pub fn draw_move(draw: &Draw, gscale: u8) -> Point
+/// A move along an axis, its distance rounded.
+fn rounded_move(by: i32) -> i32
+    requires low { neg_ℤ (pos (1023 * 1024)) ≤ℤ by }
+    requires high { by ≤ℤ pos (1023 * 1024) }
+    ensures { result ≡ rounded_move by }
+{
+    let distance = rounded(by.unsigned_abs());
+    if by < 0 { -distance } else { distance }
+}
+
+/// How far a size of a draw moves the beam on a machine at a local and a global scale.
+fn axis_move(machine: Machine, size: i16, local: u8, global: u8) -> i32
+    requires size_low { negsuc 1022 ≤ℤ size }
+    requires size_high { size ≤ℤ pos 1023 }
+    requires local { local ≤ 9 }
+    requires global { global ≤ 15 }
+    ensures { result ≡ axis_move machine size local global }
+{
+    let exact = scaled(size, factor(local, global));
+    match machine {
+        Machine::Profile => exact,
+        Machine::Board if (local + global) % 16 <= 9 => rounded_move(exact),
+        Machine::Board => 0,
+    }
+}
+
+/// How far a draw moves the beam on the profile's machine at a global scale of 0 to 15, as (x, y) in units of 1/1024 of a screen
+/// place.
+pub fn displacement(draw: &Draw, gscale: u8) -> (i32, i32)
     requires { gscale ≤ 15 }
-    ensures value { result ≡ displacement draw.now gscale }
+    ensures x { result.0 ≡ (displacement Profile draw.now gscale).x }
+    ensures y { result.1 ≡ (displacement Profile draw.now gscale).y }
+{
+    displacement_on(Machine::Profile, draw, gscale)
+}
+
+#[tactic(auto, unfolding(crate::specs::Beam::displacement))]
+/// How far a draw moves the beam on a machine at a global scale of 0 to 15, as (x, y) in units of 1/1024 of a screen place.
+pub fn displacement_on(machine: Machine, draw: &Draw, gscale: u8) -> (i32, i32)
+    requires { gscale ≤ 15 }
+    ensures x { result.0 ≡ (displacement machine draw.now gscale).x }
+    ensures y { result.1 ≡ (displacement machine draw.now gscale).y }
+{
+    (
+        axis_move(machine, draw.dx, draw.lscale, gscale),
+        axis_move(machine, draw.dy, draw.lscale, gscale),
+    )
+}
+
+/// How far a draw moves the beam on a machine at a global scale of 0 to 15.
+pub fn draw_move(machine: Machine, draw: &Draw, gscale: u8) -> Point
+    requires { gscale ≤ 15 }
+    ensures value { result ≡ displacement machine draw.now gscale }
     ensures near { IsWithin (2 ^ 31) result }
 {
-    let (dx, dy) = displacement(draw, gscale);
+    let (dx, dy) = displacement_on(machine, draw, gscale);
     Point {
         x: i64::from(dx),
         y: i64::from(dy),

@@ -2,10 +2,11 @@
 
 ghost use Rattle.std.specs.Prelude.{◌≡◌, ◌≢◌, ◌+◌, ◌*◌, ◌<◌, ◌≤◌, Some, IfSome, IfOk, MatchResult, length, slice_get};
 ghost use Rattle.dvg_words.specs.Values.{IsMap};
-ghost use Rattle.dvg_words.specs.Memory.{words_of, rom_of, rom_word, frame_word, IsRom, IsRomLength, IsFrame, IsFrameLength};
+ghost use Rattle.dvg_words.specs.Memory.{words_of, rom_of, rom_on, word_of_rom, rom_word, frame_word, IsRom, IsRomLength, IsFrame, IsFrameLength};
 ghost use Rattle.dvg_words.specs.Numbers.{image_number};
 
 use crate::decoding::Fetch;
+use crate::machine::Machine;
 use crate::map::{ADDRESS_END, RAM_WORDS, RomMap};
 use byteorder::{ByteOrder, LittleEndian};
 use std::marker::Model;
@@ -50,23 +51,24 @@ fn word_at(bytes: &[u8], index: u16) -> u16
 pub struct RomImage<'a> {
     bytes: &'a [u8],
     map: RomMap,
+    machine: Machine,
 }
 
 impl<'a> Model for RomImage<'a> {
     ghost use Rattle.std.specs.Prelude.{length};
     ghost use Rattle.dvg_words.specs.Values.{IsMap};
-    ghost use Rattle.dvg_words.specs.Memory.{Rom, rom_of, IsRomLength};
+    ghost use Rattle.dvg_words.specs.Memory.{Rom, rom_on, IsRomLength};
 
     ghost Value = { Rom };
 
-    ghost view = { λ r. rom_of r.map r.bytes.now };
+    ghost view = { λ r. rom_on r.machine r.map r.bytes.now };
 
     ghost invariant = { λ r. IsMap r.map × IsRomLength r.map (length r.bytes.now) };
 }
 
 impl<'a> RomImage<'a> {
-    /// The image of these bytes, which it borrows, for a ROM at this map. Refuses 1 unless there are exactly two bytes for each
-    /// of its addresses.
+    /// The image of these bytes, which it borrows, for a ROM at this map on the profile's machine. Refuses 1 unless there are
+    /// exactly two bytes for each of its addresses.
     pub fn from_bytes(bytes: &'a [u8], map: RomMap) -> Result<RomImage<'a>, ImageFault>
         ensures image { MatchResult result
             (λ rom. IsRomLength map (length bytes.now) × (rom ≡ rom_of map bytes.now))
@@ -74,10 +76,22 @@ impl<'a> RomImage<'a> {
         ensures whole { IfOk result IsRom }
         ensures map { IsMap map }
     {
+        RomImage::from_bytes_on(Machine::Profile, bytes, map)
+    }
+
+    /// The image of these bytes, which it borrows, for a ROM at this map on a machine. Refuses 1 unless there are exactly two bytes
+    /// for each of its addresses.
+    pub fn from_bytes_on(machine: Machine, bytes: &'a [u8], map: RomMap) -> Result<RomImage<'a>, ImageFault>
+        ensures image { MatchResult result
+            (λ rom. IsRomLength map (length bytes.now) × (rom ≡ rom_on machine map bytes.now))
+            (λ fault. (IsRomLength map (length bytes.now) → ⊥) × (fault ≡ ImageFault.RomLength)) }
+        ensures whole { IfOk result IsRom }
+        ensures map { IsMap map }
+    {
         if bytes.len() != 2 * (map.last() - map.first() + 1) as usize {
             return Err(ImageFault::RomLength);
         }
-        Ok(RomImage { bytes, map })
+        Ok(RomImage { bytes, map, machine })
     }
 
     /// Where the ROM lies.
@@ -88,13 +102,20 @@ impl<'a> RomImage<'a> {
         self.map
     }
 
+    /// The machine that runs the ROM.
+    pub fn machine(&self) -> Machine
+        ensures { result ≡ self.now.machine }
+    {
+        self.machine
+    }
+
     /// The word at a word address, `None` outside the ROM.
     pub fn word(&self, addr: u16) -> Option<u16>
-        ensures word { result ≡ rom_word self.now addr }
+        ensures word { result ≡ word_of_rom self.now addr }
         ensures near { IfSome result (λ _. addr < ADDRESS_END) }
         ensures rom { IsRom self.now }
     {
-        let Self { bytes, map } = self;
+        let Self { bytes, map, .. } = self;
         if addr < map.first() || addr > map.last() {
             return None;
         }
@@ -104,6 +125,10 @@ impl<'a> RomImage<'a> {
 
 impl<'a> Fetch for RomImage<'a> {
     ghost words = { λ s. rom_word s };
+
+    fn machine(&self) -> Machine {
+        self.machine
+    }
 
     fn fetch(&self, addr: u16) -> Option<u16> {
         self.word(addr)
@@ -151,7 +176,7 @@ impl<'a> FrameImage<'a> {
 
     /// The word at a word address, `None` past the last word.
     pub fn word(&self, addr: u16) -> Option<u16>
-        ensures word { result ≡ frame_word self.now addr }
+        ensures word { result ≡ slice_get self.now addr }
         ensures near { IfSome result (λ _. addr < ADDRESS_END) }
     {
         if addr >= self.words() {
@@ -161,10 +186,38 @@ impl<'a> FrameImage<'a> {
     }
 }
 
-impl<'a> Fetch for FrameImage<'a> {
-    ghost words = { λ s. frame_word s };
+/// A frame as a machine reads it.
+#[derive(Drop)]
+pub struct FrameOn<'a> {
+    frame: &'a FrameImage<'a>,
+    machine: Machine,
+}
+
+impl<'a> Model for FrameOn<'a> {
+    ghost use Rattle.dvg_words.specs.Memory.{FrameOn as Framed};
+
+    ghost Value = { Framed };
+
+    ghost view = { λ f. record { machine = f.machine; frame = f.frame.now } };
+}
+
+impl<'a> FrameOn<'a> {
+    /// This frame, as this machine reads it.
+    pub fn new(machine: Machine, frame: &'a FrameImage<'a>) -> FrameOn<'a>
+        ensures { result ≡ record { machine = machine; frame = frame.now } }
+    {
+        FrameOn { frame, machine }
+    }
+}
+
+impl<'a> Fetch for FrameOn<'a> {
+    ghost words = { λ s. frame_word s.machine s.frame };
+
+    fn machine(&self) -> Machine {
+        self.machine
+    }
 
     fn fetch(&self, addr: u16) -> Option<u16> {
-        self.word(addr)
+        self.frame.word(addr)
     }
 }

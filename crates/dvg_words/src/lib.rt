@@ -11,13 +11,15 @@ mod decoding;
 mod image;
 mod instruction;
 pub mod laws;
+mod machine;
 mod map;
 mod window;
 
-pub use beam::{Point, displacement, draw_move, factor, labs_place, shift};
-pub use decoding::{Fetch, decode, is_long, read_cell};
-pub use image::{FrameImage, ImageFault, RomImage};
+pub use beam::{Point, displacement, displacement_on, draw_move, factor, labs_place, shift};
+pub use decoding::{Fetch, decode, decode_on, is_long, read_cell};
+pub use image::{FrameImage, FrameOn, ImageFault, RomImage};
 pub use instruction::{Cell, Draw, Format, Instr};
+pub use machine::Machine;
 pub use map::{
     ADDRESS_END, ASTEROIDS, MEMORY_LAST, MOST_ROM_WORDS, RAM_WORDS, ROM_FIRST, ROM_LAST, RomMap,
 };

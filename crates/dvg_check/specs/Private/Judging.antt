@@ -1,4 +1,6 @@
 -- How the code tests the rules, item by item. No rule stands here.
+use Rattle.dvg_words.specs.Values.{Source}
+use Rattle.dvg_words.specs.declared.machine.Machine.{Machine}
 use Rattle.std.specs.Prelude.{◌≡◌, ℕ, ◌-◌, ◌<◌, List, [], ◌∷◌, take, Option, None}
 use Rattle.dvg_words.specs.declared.instruction.Cell.TheVariants.{Holds}
 use Rattle.dvg_words.specs.Decoding.{cell_at}
@@ -19,8 +21,8 @@ use Rattle.dvg_check.specs.declared.fault.ShapeWhy.TheVariants as shape
 use Rattle.dvg_check.specs.declared.fault.FrameWhy.TheVariants as frame
 
 -- what the rules see of an item, by the entries of a list
-abbrev pub seen_by : List Entry → Kind → Known → Item → Seen
-seen_by list kind before i = seen_with (callee_at list (target kind i.instr) before.scale) before i
+abbrev pub seen_by : Machine → List Entry → Kind → Known → Item → Seen
+seen_by machine list kind before i = seen_with machine (callee_at list (target kind i.instr) before.scale) before i
 
 -- ---- rules in the order in which the code tests them
 
@@ -69,7 +71,7 @@ pub record BreaksFirst {Why : Type 0} (order : Why → ℕ) (Keeps : Seen → Wh
 -- ---- a walk over all items
 
 -- every rule is kept, and this is known after the last item
-pub record WalksTo {Why : Type 0} (c : Context) (word : ℕ → Option ℕ) (first : ℕ) (keeps : List Item → ℕ → Why → Type 0) (known : Known) : Type 0 where
+pub record WalksTo {Why : Type 0} (c : Context) (word : Source) (first : ℕ) (keeps : List Item → ℕ → Why → Type 0) (known : Known) : Type 0 where
   pub keeps_all : AllKeep c.kind word first keeps
   pub items : List Item
   pub last : Item

@@ -1,4 +1,5 @@
 -- Tails: the part of a shape from a word on, as the entry that claims exactly what it does. No rule stands here.
+use Rattle.dvg_words.specs.declared.machine.Machine.{Machine}
 use Rattle.std.specs.Prelude.{◌≡◌, ◌≢◌, ◌+◌, ◌-◌, ◌*◌, ◌≤◌, max, ◌+ℤ◌, ℕ, List, Option, Some, None, slice_index_or}
 use Rattle.dvg_words.specs.Values.{Window}
 use Rattle.dvg_words.specs.declared.beam.Point.{Point}
@@ -68,8 +69,8 @@ known_over first second =
     }
 
 -- the first item of a shape at this key, as the rules see it
-abbrev pub first_seen : List Entry → Key → Item → Seen
-first_seen list key i = seen_by list Shape (start Shape key) i
+abbrev pub first_seen : Machine → List Entry → Key → Item → Seen
+first_seen machine list key i = seen_by machine list Shape (start Shape key) i
 
 -- a box, moved
 abbrev pub moved : LitBox → Point → LitBox
@@ -94,23 +95,23 @@ MayStandAt w whole (Span l r b t) Lost = ⊥
 pub record MayStandFirst (rom : Rom) (list : List Entry) (key : Key) (box : LitBox) (i : Item) : Type 0 where
   pub there : cell_at (rom_word rom) i.at ≡ Holds i.format i.instr
   pub goes_on : i.instr ≢ Halt
-  pub scale_known : ScaleKnown (first_seen list key i).extent
-  pub named : HasCallee (target Shape i.instr) (first_seen list key i).callee
-  pub boxed : LitInBox box (first_seen list key i).extent (first_seen list key i).place
+  pub scale_known : ScaleKnown (first_seen rom.machine list key i).extent
+  pub named : HasCallee (target Shape i.instr) (first_seen rom.machine list key i).callee
+  pub boxed : LitInBox box (first_seen rom.machine list key i).extent (first_seen rom.machine list key i).place
 
 -- the tail stands behind the item, has the scale that the item leaves as its key, and may be lit from there
-pub record IsBehind (w : Window) (list : List Entry) (key : Key) (box : LitBox) (i : Item) (tail : Entry) : Type 0 where
+pub record IsBehind (w : Window) (machine : Machine) (list : List Entry) (key : Key) (box : LitBox) (i : Item) (tail : Entry) : Type 0 where
   pub next : next_address Shape i ≡ Some tail.addr
-  pub scale : tail.key ≡ (first_seen list key i).after.scale
-  pub lit : MayStandAt w box tail.lit (first_seen list key i).after.place
+  pub scale : tail.key ≡ (first_seen machine list key i).after.scale
+  pub lit : MayStandAt w box tail.lit (first_seen machine list key i).after.place
 
 -- the entry of a last item alone
-abbrev pub last_item : List Entry → Key → LitBox → Item → Entry
-last_item list key box i = claimed i.at key box (first_seen list key i).after
+abbrev pub last_item : Machine → List Entry → Key → LitBox → Item → Entry
+last_item machine list key box i = claimed i.at key box (first_seen machine list key i).after
 
 -- the entry of an item and the tail behind it
-abbrev pub after_item : List Entry → Key → LitBox → Item → Entry → Entry
-after_item list key box i tail = claimed i.at key box (known_over (first_seen list key i).after (known_at_end tail))
+abbrev pub after_item : Machine → List Entry → Key → LitBox → Item → Entry → Entry
+after_item machine list key box i tail = claimed i.at key box (known_over (first_seen machine list key i).after (known_at_end tail))
 
 -- ---- keys
 

@@ -1,4 +1,5 @@
 -- What shapes light from a word on, seen from the place there.
+use Rattle.dvg_words.specs.declared.machine.Machine.{Machine}
 use Rattle.std.specs.Prelude.{◌≡◌, ◌+◌, ◌-◌, ℕ, List, Option, None, Some, slice_index_or}
 use Rattle.dvg_words.specs.Memory.{Rom, rom_word}
 use Rattle.dvg_words.specs.declared.map.TheConstants.{ADDRESS_END}
@@ -36,15 +37,15 @@ pub record AreJoined (a b box : LitBox) : Type 0 where
   pub least : (other : LitBox) → IsInside a other → IsInside b other → IsInside box other
 
 -- the context of the items of a shape that starts at this key
-abbrev pub keyed : List Entry → Key → Context
-keyed list key = record { kind = Shape; list = list; scale = key }
+abbrev pub keyed : Machine → List Entry → Key → Context
+keyed machine list key = record { kind = Shape; machine = machine; list = list; scale = key }
 
 -- the boxes are the least ones of what all items from the address on light, and their numbers are within the limits
 pub record IsLitFrom (rom : Rom) (list : List Entry) (t : LitFrom) : Type 0 where
   pub items : List Item
   pub all : AreAll Shape (rom_word rom) t.addr items
-  pub relative : IsLeast (lit_points (keyed list t.key) items) t.lit.relative
-  pub absolute : IsLeast (absolute_points (keyed list t.key) items) t.lit.absolute
+  pub relative : IsLeast (lit_points (keyed rom.machine list t.key) items) t.lit.relative
+  pub absolute : IsLeast (absolute_points (keyed rom.machine list t.key) items) t.lit.absolute
   pub near : IsNearBox (ADDRESS_END + 2 - t.addr) t.lit.relative
 
 -- each of these slots is empty or holds what is lit from a word on

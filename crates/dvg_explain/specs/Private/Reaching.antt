@@ -1,4 +1,5 @@
 -- The entries that a frame comes to, each with the call by which it was reached first.
+use Rattle.dvg_words.specs.declared.machine.Machine.{Machine}
 use Rattle.std.specs.Prelude.{◌≡◌, ℕ, ◌<◌, Bool, List, [], ◌∷◌, ◌++◌, map, slice_get, is_some, Option, None, Some, IfSome, if◌then◌else◌}
 use Rattle.dvg_words.specs.Memory.{Rom, frame_word}
 use Rattle.dvg_cert.specs.declared.entry.Entry.{Entry}
@@ -32,8 +33,8 @@ reach_all links from [] = links
 reach_all links from (call ∷ rest) = reach_all (reach links (record { call = call; from = from })) from rest
 
 -- the links of the entries that a frame with these words calls
-abbrev pub IsReachedByFrame : List ℕ → List Entry → List Link → Type 0
-IsReachedByFrame words list links = (calls : List Call) × AreCalls (frame_context list) (frame_word words) 0 calls × (links ≡ reach_all [] None calls)
+abbrev pub IsReachedByFrame : Machine → List ℕ → List Entry → List Link → Type 0
+IsReachedByFrame machine words list links = (calls : List Call) × AreCalls (frame_context machine list) (frame_word machine words) 0 calls × (links ≡ reach_all [] None calls)
 
 -- the links, with those of the entries that the shape of an entry calls where no walk came by before; its own link stands at this
 -- index
@@ -43,7 +44,7 @@ IsReachedByShape rom list e from visited visited_new links new =
 
 -- the call is the frame's own, or stands in the shape of the entry of the link at this index
 abbrev pub IsStep : Rom → List ℕ → List Entry → List Link → Option ℕ → Call → Type 0
-IsStep rom words list links None call = IsFrameCall words list call
+IsStep rom words list links None call = IsFrameCall rom.machine words list call
 IsStep rom words list links (Some j) call = (f : Link) × (slice_get links j ≡ Some f) × IsShapeCall rom list f.call.entry call
 
 abbrev pub AllSteps : Rom → List ℕ → List Entry → List Link → Type 0

@@ -10,7 +10,7 @@ use Rattle.dvg_explain.specs.Private.KeyedWords.{KeyedWord, HasWord}
 
 -- a shape that starts at this word and key has the call, by the entries of a list
 abbrev pub CallsFrom : Rom → List Entry → KeyedWord → Call → Type 0
-CallsFrom rom list place call = Calls (keyed list place.1) (rom_word rom) place.0 call
+CallsFrom rom list place call = Calls (keyed rom.machine list place.1) (rom_word rom) place.0 call
 
 -- the call is one of these, or one from a word that was visited before
 abbrev pub IsMet : Rom → List Entry → List Bool → List Call → Call → Type 0

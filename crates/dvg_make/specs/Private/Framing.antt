@@ -1,4 +1,5 @@
 -- A frame whose calls are made one after another.
+use Rattle.dvg_words.specs.declared.machine.Machine.{Machine}
 use Rattle.std.specs.Prelude.{◌≡◌, ℕ, ◌+◌, ◌<◌, ◌≤◌, ◌++◌, ◌⊎◌, List, [], length, Option, Some, None, Contains}
 use Rattle.dvg_words.specs.Memory.{Rom}
 use Rattle.dvg_words.specs.Values.{MemoryMap}
@@ -19,8 +20,8 @@ use Rattle.dvg_make.specs.declared.obstacle.Obstacle.{Obstacle}
 use Rattle.dvg_make.specs.Private.Making.{HasAll, InProgress, Bars, IsCalled, Collected, TellsObstacle, IsToldFrom, IsNoRoot}
 
 -- the list has an entry for each call of the frame with these words
-abbrev pub HasCalls : List ℕ → List Entry → Type 0
-HasCalls words list = (to : ℕ) (scale : Key) → FrameAsksFor words list to scale → HasEntry list to scale
+abbrev pub HasCalls : Machine → List ℕ → List Entry → Type 0
+HasCalls machine words list = (to : ℕ) (scale : Key) → FrameAsksFor machine words list to scale → HasEntry list to scale
 
 -- from the old list on, the entry that an instruction of a frame calls at this scale is made
 pub record IsCalledBy (rom : Rom) (old : List Entry) (instr : Instr) (scale : Key) (new : List Entry) (callee : Option Entry) : Type 0 where
@@ -38,19 +39,19 @@ TellsTarget rom old instr scale chain obstacle =
 
 -- from the old list on, the entries for all calls of a frame are made
 pub record IsFramed (rom : Rom) (words : List ℕ) (old new : List Entry) : Type 0 where
-  pub has_calls : HasCalls words new
+  pub has_calls : HasCalls rom.machine words new
   pub calls : List (ℕ × Key)
-  pub calls_are : (to : ℕ) (scale : Key) → Contains calls (to, scale) → FrameAsksFor words new to scale
+  pub calls_are : (to : ℕ) (scale : Key) → Contains calls (to, scale) → FrameAsksFor rom.machine words new to scale
   pub collected : (asked : List (ℕ × Key)) → Collected rom asked old → Collected rom (asked ++ calls) new
-  pub forced : (list : List Entry) → AllMade rom list → Extends old list → HasCalls words list → Extends new list
+  pub forced : (list : List Entry) → AllMade rom list → Extends old list → HasCalls rom.machine words list → Extends new list
 
 -- no list of made entries has all of the old list and an entry for each call of the frame
 abbrev pub NoneHasCalls : Rom → List ℕ → List Entry → Type 0
-NoneHasCalls rom words old = (list : List Entry) → AllMade rom list → Extends old list → HasCalls words list → ⊥
+NoneHasCalls rom words old = (list : List Entry) → AllMade rom list → Extends old list → HasCalls rom.machine words list → ⊥
 
 -- each list that has all of these is too long for a certificate
 abbrev pub LongHasCalls : Rom → List ℕ → List Entry → Type 0
-LongHasCalls rom words old = (list : List Entry) → AllMade rom list → Extends old list → HasCalls words list → MOST_ENTRIES < length list
+LongHasCalls rom words old = (list : List Entry) → AllMade rom list → Extends old list → HasCalls rom.machine words list → MOST_ENTRIES < length list
 
 -- what a refusal says of such lists
 abbrev pub BarsCalls : Rom → List ℕ → List Entry → EntryFault → Type 0
@@ -65,19 +66,19 @@ abbrev pub BarsHere : Rom → List ℕ → List Entry → ℕ → EntryFault →
 BarsHere rom words old at why = BarsCalls rom words old why × CallBarredAt rom words at why × BarsFrame rom words why
 
 -- a call after items whose calls have their entries
-pub record KeyedCall (words : List ℕ) (list : List Entry) (to : ℕ) (scale : Key) : Type 0 where
-  pub calls : FrameAsksFor words list to scale
-  pub keyed : AllKeyed list calls.earlier
+pub record KeyedCall (machine : Machine) (words : List ℕ) (list : List Entry) (to : ℕ) (scale : Key) : Type 0 where
+  pub calls : FrameAsksFor machine words list to scale
+  pub keyed : AllKeyed machine list calls.earlier
 
 -- the address and the key were asked for before, or the frame calls them
-abbrev pub IsGivenHere : List ℕ → List (ℕ × Key) → List Entry → ℕ → Key → Type 0
-IsGivenHere words asked list addr key = Contains asked (addr, key) ⊎ KeyedCall words list addr key
+abbrev pub IsGivenHere : Machine → List ℕ → List (ℕ × Key) → List Entry → ℕ → Key → Type 0
+IsGivenHere machine words asked list addr key = Contains asked (addr, key) ⊎ KeyedCall machine words list addr key
 
 -- each entry is asked for, or the frame calls it, or another shape does
 abbrev pub AllCalledHere : Rom → List ℕ → List Entry → List Entry → List PartialEntry → Type 0
 AllCalledHere rom words old list chain =
     (asked : List (ℕ × Key)) → Collected rom asked old → (addr : ℕ) (key : Key) → HasEntry list addr key
-    → IsGivenHere words asked list addr key ⊎ IsCalled rom list chain addr key
+    → IsGivenHere rom.machine words asked list addr key ⊎ IsCalled rom list chain addr key
 
 -- the account of the call at a word address is right, by a list of made and needed entries
 pub record TellsHere (rom : Rom) (words : List ℕ) (old : List Entry) (at : ℕ) (chain : List PartialEntry) (obstacle : Obstacle) : Type 0 where
@@ -86,7 +87,7 @@ pub record TellsHere (rom : Rom) (words : List ℕ) (old : List Entry) (at : ℕ
   pub made : AllMade rom list
   pub to : ℕ
   pub scale : Key
-  pub call : CallAt words list at to scale
+  pub call : CallAt rom.machine words list at to scale
   pub extends : Extends old list
   pub needed : AllCalledHere rom words old list chain
   pub room : length list + length chain ≤ MOST_ENTRIES
@@ -96,17 +97,17 @@ pub record TellsHere (rom : Rom) (words : List ℕ) (old : List Entry) (at : ℕ
 -- ---- frame after frame
 
 -- each of these addresses and keys is a root, or a call of a frame asks for it
-abbrev pub AreAskedFor : List (ℕ × Key) → List (List ℕ) → List Entry → List (ℕ × Key) → Type 0
-AreAskedFor roots frames list asked = (addr : ℕ) (key : Key) → Contains asked (addr, key) → IsAskedFor roots frames list addr key
+abbrev pub AreAskedFor : Machine → List (ℕ × Key) → List (List ℕ) → List Entry → List (ℕ × Key) → Type 0
+AreAskedFor machine roots frames list asked = (addr : ℕ) (key : Key) → Contains asked (addr, key) → IsAskedFor machine roots frames list addr key
 
 -- the entries for the roots and for all calls of these frames are made
 pub record AllFramed (rom : Rom) (roots : List (ℕ × Key)) (frames : List (List ℕ)) (done : List Entry) : Type 0 where
   pub rooted : HasAll roots done
-  pub has_calls : (words : List ℕ) → Contains frames words → HasCalls words done
+  pub has_calls : (words : List ℕ) → Contains frames words → HasCalls rom.machine words done
   pub asked : List (ℕ × Key)
-  pub asked_for : AreAskedFor roots frames done asked
+  pub asked_for : AreAskedFor rom.machine roots frames done asked
   pub collected : Collected rom asked done
-  pub forced : (list : List Entry) → AllMade rom list → HasAll roots list → ((words : List ℕ) → Contains frames words → HasCalls words list) → Extends done list
+  pub forced : (list : List Entry) → AllMade rom list → HasAll roots list → ((words : List ℕ) → Contains frames words → HasCalls rom.machine words list) → Extends done list
 
 -- the entries are made for a ROM at this map and for some roots and frames
 abbrev pub IsForSome : MemoryMap → List Entry → Type 0

@@ -58,9 +58,9 @@ pub record IsCalled (rom : Rom) (done : List Entry) (stack : List PartialEntry) 
   pub item : Item
   pub leads : LeadsTo Shape (rom_word rom) from earlier item.at
   pub stands : cell_at (rom_word rom) item.at ≡ Holds item.format item.instr
-  pub taken : AllTaken (keyed_context done from_key) earlier
+  pub taken : AllTaken (keyed_context rom.machine done from_key) earlier
   pub target_is : target Shape item.instr ≡ Some addr
-  pub key_is : scale_before (keyed_context done from_key) earlier ≡ key
+  pub key_is : scale_before (keyed_context rom.machine done from_key) earlier ≡ key
 
 -- what the making aims at: a list of made entries that has all of `from`, and one for the root
 pub record IsAim (rom : Rom) (from : List Entry) (root : ℕ × Key) (made : List Entry) : Type 0 where

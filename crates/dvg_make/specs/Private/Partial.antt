@@ -66,7 +66,7 @@ pub record KnowsAt (c : Context) (items : List Item) (known : Known) (lit : LitB
 pub record IsPartial (rom : Rom) (list : List Entry) (w : PartialEntry) : Type 0 where
   pub items : List Item
   pub leads : LeadsTo Shape (rom_word rom) w.addr items w.cursor.at
-  pub knows : KnowsAt (keyed_context list w.key) items w.cursor.known w.lit
+  pub knows : KnowsAt (keyed_context rom.machine list w.key) items w.cursor.known w.lit
   pub sound : IsSoundCursor w.cursor
   pub shallow : w.cursor.known.depth ≤ MOST_DEPTH
   pub few : w.cursor.known.words ≤ MOST_WORDS

@@ -1,19 +1,24 @@
 use Rattle.std.proofs.Common.{ap, ◌∙◌, [], ◌∷◌}
+use Rattle.dvg_words.specs.Memory.{frame_word}
+use Rattle.dvg_account.specs.Items.{IsItem}
 use Rattle.dvg_account.specs.declared.line.Line.TheVariants.{Rule, WhatToDo}
 use Rattle.dvg_account.proofs.Building.{then, told_as, whole, if_ok}
 use Rattle.dvg_account.proofs.refused.frame_lines.Goals as goal
 
 pub returns : goal.returns
-returns c = if_ok c.finish.result c.finish.ensures (λ lines all. record {
+returns c =
+    let framed : IsItem (frame_word c.args.machine c.args.frame.now) c.args.account.now.finding.fault.word c.args.account.now.finding.before c.callee_of-callee.result c.new-2.result =
+    rw c.new-framed.ensures at c.new-2.ensures in
+    if_ok c.finish.result c.finish.ensures (λ lines all. record {
   why = c.of_frame-why.result;
   tells = c.of_frame-why.ensures;
   item = record c.new-2.result { losses = c.frame_losses.result };
   is_item = record {
-    stands = c.new-2.ensures.stands;
-    holds = c.new-2.ensures.holds;
-    decoded = c.new-2.ensures.decoded;
-    named = c.new-2.ensures.named ∙ c.callee_of-callee.ensures;
-    known = c.new-2.ensures.known;
+    stands = framed.stands;
+    holds = framed.holds;
+    decoded = framed.decoded;
+    named = framed.named ∙ c.callee_of-callee.ensures;
+    known = framed.known;
   };
   lost = c.frame_losses.ensures.some;
   unled = c.frame_losses.ensures.none;

@@ -23,7 +23,7 @@ pub returns-in-Some-clause-some : goal.returns-in-Some-clause-some
 returns-in-Some-clause-some c =
     let l = listed_at c.new-entries.result c.args.entry.now.addr c.args.entry.now.key c.in-Some.listed (sym c.find.ensures ∙ c.in-Some.is) in
     let losses = λ (key : Key) (addr : ℕ). IfSome c.shape_losses.result (AreLosses
-    (record { kind = Shape; list = c.args.cert.now.entries; scale = key }) (rom_word c.args.rom.now) addr c.args.at) in
+    (record { kind = Shape; machine = c.args.rom.now.machine; list = c.args.cert.now.entries; scale = key }) (rom_word c.args.rom.now) addr c.args.at) in
     subst (λ (key : Key). losses key c.args.entry.now.addr) l.key_is
     (subst (λ (addr : ℕ). losses c.in-Some.listed.key addr) l.addr_is c.shape_losses.ensures.some)
 

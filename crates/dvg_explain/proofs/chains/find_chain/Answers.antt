@@ -9,7 +9,7 @@ use Rattle.dvg_explain.proofs.chains.find_chain.Goals as goal
 pub loop-next-init : goal.loop-next-init
 loop-next-init g c =
     begun c.args.rom.now c.args.frame.now c.args.cert.now.entries c.args.goal.now (g.E.Entries.list c.args.entries.now) c.in_ok-reached.reached c.in_ok-visited.visited
-    c.requires c.in_ok-reached.ensures c.in_ok-visited.ensures
+    c.requires (rw c.machine.ensures at c.in_ok-reached.ensures) c.in_ok-visited.ensures
 
 pub chain-requires-clause-last : goal.chain-requires-clause-last
 chain-requires-clause-last g c = slice_get_within c.loop-next.reached c.loop-next.next c.in-Some.link (sym c.get.ensures ∙ c.in-Some.is)

@@ -10,7 +10,7 @@ use Rattle.dvg_explain.proofs.deepest.first_bearing.Given as goal
 abbrev pub invariant-loop-seen : goal.invariant-loop-seen
 invariant-loop-seen g l =
     let list = g.E.Entries.list l.entries in
-    (items : List Item) × Walked (shape_context list l.entry) (rom_word l.rom) l.entry.addr items l.cursor × NoneBears l.rom list l.entry items
+    (items : List Item) × Walked (shape_context l.rom.machine list l.entry) (rom_word l.rom) l.entry.addr items l.cursor × NoneBears l.rom list l.entry items
 
 abbrev pub decreases-loop-seen : goal.decreases-loop-seen
 decreases-loop-seen g l = ADDRESS_END + 2 - l.cursor.at

@@ -8,7 +8,7 @@ use Rattle.dvg_explain.proofs.items.calls_from.Given as goal
 
 abbrev pub invariant-loop-seen : goal.invariant-loop-seen
 invariant-loop-seen g l =
-    let c = context_of (g.E.Entries.list l.entries) l.walk in
+    let c = context_of (g.F.Fetch.words l.memory).machine (g.E.Entries.list l.entries) l.walk in
     (items : List Item) × Walked c (g.F.Fetch.words l.memory) l.walk.first items l.cursor × (l.calls.items ≡ calls_among c items)
 
 abbrev pub decreases-loop-seen : goal.decreases-loop-seen

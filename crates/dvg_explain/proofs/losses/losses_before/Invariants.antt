@@ -9,7 +9,7 @@ use Rattle.dvg_explain.proofs.losses.losses_before.Given as goal
 
 abbrev pub invariant-items : goal.invariant-items
 invariant-items g l =
-    let c = context_of (g.E.Entries.list l.entries) l.walk in
+    let c = context_of (g.F.Fetch.words l.memory).machine (g.E.Entries.list l.entries) l.walk in
     (items : List Item) × Walked c (g.F.Fetch.words l.memory) l.walk.first items l.cursor
     × (l.losses.place ≡ place_lost_by c items) × (l.losses.scale ≡ scale_lost_by c items) × NoneAt l.at items
 

@@ -13,5 +13,5 @@ returns-in-Some g c =
     let t = c.in-Some.ensures.tail c.args.rom.now list c.requires.tails in (
       t.items,
       subst (λ (a : ℕ). AreAll Shape (rom_word c.args.rom.now) a t.items) c.in-Some.ensures.addr t.all,
-      subst (λ (k : Key). IsLeast (absolute_points (keyed list k) t.items) c.in-Some.tail.now.lit.absolute) c.in-Some.ensures.key t.absolute,
+      subst (λ (k : Key). IsLeast (absolute_points (keyed c.args.rom.now.machine list k) t.items) c.in-Some.tail.now.lit.absolute) c.in-Some.ensures.key t.absolute,
     )

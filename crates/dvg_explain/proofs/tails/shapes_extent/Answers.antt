@@ -29,7 +29,7 @@ entries-preserved g c =
       before = omega (arith, c.entries.invariant.before);
       tails = c.make_all.ensures;
       boxed = one_more c.args.rom.now list e c.extent_of.result
-          (subst (λ (l : List Entry). IsExtent (shape_context l e) (rom_word c.args.rom.now) e.addr c.extent_of.result) c.requires c.extent_of.ensures)
+          (subst (λ (l : List Entry). IsExtent (shape_context c.args.rom.now.machine l e) (rom_word c.args.rom.now) e.addr c.extent_of.result) c.requires c.extent_of.ensures)
           k none c.entries.lit c.joined-lit.result (omega (arith, here, ap length same)) (ap (λ (l : List Entry). get_or l k none) same)
           (record { first = c.joined-lit.ensures.first; second = c.joined-lit.ensures.second; least = c.joined-lit.ensures.least })
           (subst (λ (n : ℕ). Boxed c.args.rom.now list n c.entries.lit) next c.entries.invariant.boxed);

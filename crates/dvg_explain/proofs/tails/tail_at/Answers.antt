@@ -31,7 +31,7 @@ returns-clause-tail g c =
     let list : List Entry = g.E.Entries.list c.args.entries.now in
     let i = c.args.item.now in
     let key = c.args.key in
-    let same = seen_first list key i c.callee-callee.result c.target.result c.start.result c.see-seen.result c.see-seen.ensures.value c.start.ensures.value c.callee-callee.ensures.value c.target.ensures in
+    let same = seen_first c.args.rom.now.machine list key i c.callee-callee.result c.target.result c.start.result c.see-seen.result (rw c.machine.ensures at c.see-seen.ensures.value) c.start.ensures.value c.callee-callee.ensures.value c.target.ensures in
     let lone = subst (λ (lit : LitExtent). IsLeast (relative_corners lit (Rel (pos 0) (pos 0))) c.lit_alone-alone.result) same.0 c.lit_alone-alone.ensures.least in
     let first_at : c.see-seen.result.item.at ≡ 0 = ap (λ (v : Seen). v.item.at) c.see-seen.ensures.value ∙ ap (λ (b : Cursor). b.at) c.start.ensures.value in
     let after = subst (λ (n : ℕ). IsNearPlace (n + 1) c.see-seen.result.after.place) first_at (c.see-seen.ensures.sound).place_after in
@@ -41,7 +41,7 @@ returns-clause-tail g c =
           let h = w.in_ok-tail-in-Some.ensures in
           let goes : next_address Shape i ≡ Some w.in-Some.next = sym c.next_address.ensures ∙ w.in-Some.is in
           let scale = ap (λ (k : Known). k.scale) same.1 in
-          let place : End = (first_seen list key i).after.place in
+          let place : End = (first_seen c.args.rom.now.machine list key i).after.place in
           let at_place : c.see-seen.result.after.place ≡ place = ap (λ (k : Known). k.place) same.1 in
           let whole : LitFrom = record { addr = i.at; key = key; lit = c.match-next_address.lit } in
           let relative = subst (λ (l : Lit). AreJoined c.lit_alone-alone.result (relative_part place tail.lit.relative) l.relative) (sym w.lit-is)
@@ -55,7 +55,7 @@ returns-clause-tail g c =
           (λ n h. part_near place tail.lit.relative n (subst (IsNearPlace 1) at_place after) h)
       | in-None w ↦
           ending c.args.rom.now list key i c.requires.there (sym c.next_address.ensures ∙ w.in-None.is) (record { addr = i.at; key = key; lit = c.match-next_address.lit }) c.requires.near refl refl
-          (subst (λ (l : Lit). IsLeast (relative_corners (first_seen list key i).extent (Rel (pos 0) (pos 0))) l.relative) (sym w.lit-is) lone)
+          (subst (λ (l : Lit). IsLeast (relative_corners (first_seen c.args.rom.now.machine list key i).extent (Rel (pos 0) (pos 0))) l.relative) (sym w.lit-is) lone)
           (subst (λ (l : Lit). IsNearBox 1 l.relative) (sym w.lit-is) c.lit_alone-alone.ensures.near)
           (ap (λ (l : Lit). l.absolute) w.lit-is)
     ]

@@ -37,7 +37,7 @@ pub returns : goal.returns
 returns c =
     record {
       grows = c.loop-format.invariant.partial.grows;
-      ok = at_nothing c.args.rom.now c.args.frame.now c.args.done.now c.loop-format.done c.loop-format.at c.loop-format.scale c.loop-format.invariant.partial (λ format i e. c.in_default.not-Holds _ _ (c.read_cell.ensures.value ∙ e));
+      ok = at_nothing c.args.rom.now c.args.frame.now c.args.done.now c.loop-format.done c.loop-format.at c.loop-format.scale c.loop-format.invariant.partial (λ format i e. c.in_default.not-Holds _ _ (c.frame_cell.ensures.value ∙ e));
       tails = c.loop-format.invariant.tails;
       err = tt;
       told = tt;

@@ -25,16 +25,16 @@ pass-requires-clause-callee c =
 pub returns-in_err-step-clause-err : goal.returns-in_err-step-clause-err
 returns-in_err-step-clause-err c =
     if_err_same c.from_residual.result c.in_err-step.field-0.0 _ c.from_residual.ensures.1
-    (stops_said c.args.rom.now c.args.done.now c.args.from c.loop-format.partial c.loop-format.invariant c.in-Holds.format c.in-Holds.instr (sym c.in-Holds.ensures.value) c.in-Ok.callee c.in-Ok.ensures.ok c.in_err-step.field-0.0 c.in_err-step.ensures.err.0 c.in_err-step.ensures.err.1)
+    (stops_said c.args.rom.now c.args.done.now c.args.from c.loop-format.partial c.loop-format.invariant c.in-Holds.format c.in-Holds.instr (sym c.in-Holds.ensures.value) c.in-Ok.callee c.in-Ok.ensures.ok c.in_err-step.field-0.0 (rw c.machine-machine.ensures at c.in_err-step.ensures.err).0 (rw c.machine-machine.ensures at c.in_err-step.ensures.err).1)
 
 pub loop-format-preserved : goal.loop-format-preserved
 loop-format-preserved c =
-    onward c.args.rom.now c.args.done.now c.args.from c.loop-format.partial c.loop-format.invariant c.in-Holds.format c.in-Holds.instr (sym c.in-Holds.ensures.value) c.in-Ok.callee c.in-Ok.ensures.ok c.in_ok-step.lit c.in_ok-step.ensures.ok c.in_ok-step.step c.in-Onward.cursor c.in-Onward.is c.in_ok-step.ensures.step c.in_ok-step.ensures.sound
+    onward c.args.rom.now c.args.done.now c.args.from c.loop-format.partial c.loop-format.invariant c.in-Holds.format c.in-Holds.instr (sym c.in-Holds.ensures.value) c.in-Ok.callee c.in-Ok.ensures.ok c.in_ok-step.lit (rw c.machine-machine.ensures at c.in_ok-step.ensures.ok) c.in_ok-step.step c.in-Onward.cursor c.in-Onward.is (rw c.machine-machine.ensures at c.in_ok-step.ensures.step) c.in_ok-step.ensures.sound
 
 pub returns-in-Last-clause-ok : goal.returns-in-Last-clause-ok
 returns-in-Last-clause-ok c =
     let claim = claim_of c.args.rom.now c.args.done.now c.in-Holds.instr c.loop-format.partial.cursor.known.scale c.in-Ok.callee (omega (arith, c.requires.map.inside)) c.requires.done.entries c.in-Ok.ensures.ok in
-    subst (IsFinished c.args.rom.now c.args.done.now c.args.from) (sym c.entry-entry.ensures) (ended c.args.rom.now c.args.done.now c.requires.done c.args.from c.loop-format.partial c.loop-format.invariant c.in-Holds.format c.in-Holds.instr (sym c.in-Holds.ensures.value) c.in-Ok.callee c.in-Ok.ensures.ok c.in-Holds.ensures.fields claim c.in_ok-step.lit c.in_ok-step.ensures.ok c.in_ok-step.step c.in-Last.known c.in-Last.is c.in_ok-step.ensures.step)
+    subst (IsFinished c.args.rom.now c.args.done.now c.args.from) (sym c.entry-entry.ensures) (ended c.args.rom.now c.args.done.now c.requires.done c.args.from c.loop-format.partial c.loop-format.invariant c.in-Holds.format c.in-Holds.instr (sym c.in-Holds.ensures.value) c.in-Ok.callee c.in-Ok.ensures.ok c.in-Holds.ensures.fields claim c.in_ok-step.lit (rw c.machine-machine.ensures at c.in_ok-step.ensures.ok) c.in_ok-step.step c.in-Last.known c.in-Last.is (rw c.machine-machine.ensures at c.in_ok-step.ensures.step))
 
 pub returns-clause-err : goal.returns-clause-err
 returns-clause-err c =

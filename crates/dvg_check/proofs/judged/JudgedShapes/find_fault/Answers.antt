@@ -11,10 +11,10 @@ pub returns-clause-safe : goal.returns-clause-safe
 returns-clause-safe g c =
     let shapes : Shapes = record { rom = c.self.inside.rom.now; list = g.E.Entries.list c.self.inside.entries.now; window = c.self.inside.window; mode = c.self.inside.mode } in
     let Told : Shapes → Type 0 = λ s. IfOk c.find_frame_fault.result (λ a. Safe (record { frame = c.args.frame.now; rom = s.rom }) s.window a.words a.depth) in
-    subst Told c.self.view_is (safe_over shapes c.args.frame.now c.args.budget c.find_frame_fault.result c.self.invariant c.words-words.ensures.frame c.find_frame_fault.ensures.ok)
+    subst Told c.self.view_is (safe_over shapes c.args.frame.now c.args.budget c.find_frame_fault.result c.self.invariant c.words-words.ensures.frame (rw c.machine-machine.ensures at c.find_frame_fault.ensures.ok))
 
 pub returns-clause-exact : goal.returns-clause-exact
 returns-clause-exact g c =
     let shapes : Shapes = record { rom = c.self.inside.rom.now; list = g.E.Entries.list c.self.inside.entries.now; window = c.self.inside.window; mode = c.self.inside.mode } in
     let Told : Shapes → Type 0 = λ s. s.mode ≡ Exact → IfOk c.find_frame_fault.result (λ a. CountsAtHalt (record { frame = c.args.frame.now; rom = s.rom }) a.words a.depth) in
-    subst Told c.self.view_is (exact_over shapes c.args.frame.now c.args.budget c.find_frame_fault.result c.self.invariant c.words-words.ensures.frame c.find_frame_fault.ensures.ok)
+    subst Told c.self.view_is (exact_over shapes c.args.frame.now c.args.budget c.find_frame_fault.result c.self.invariant c.words-words.ensures.frame (rw c.machine-machine.ensures at c.find_frame_fault.ensures.ok))

@@ -1,0 +1,240 @@
+-- The two frames that one machine accepts and the other refuses, item by item.
+use Rattle.std.proofs.Common.{arith, List, refl, sym, subst, pos, ◌≡◌, ◌∷◌, ◌<◌, ℕ, []}
+use Rattle.std.proofs.lemmas.Int.{ints}
+use Rattle.dvg_words.specs.Beam.{displacement, screen}
+use Rattle.dvg_words.specs.Decoding.{cell_at, instruction_of}
+use Rattle.dvg_words.specs.Memory.{frame_word}
+use Rattle.dvg_words.specs.Values.{Machine, Profile, Board, DrawFields}
+use Rattle.dvg_words.specs.declared.instruction.Cell.TheVariants.{Holds, Odd}
+use Rattle.dvg_words.specs.declared.instruction.Format.TheVariants.{Long, Short}
+use Rattle.dvg_words.specs.declared.instruction.Instr.TheVariants.{Draw as Draws, Labs, Halt}
+use Rattle.dvg_check.specs.FirstFault.{FirstFrameFault, frame_number}
+use Rattle.dvg_check.specs.MachinesExample.{edge_frame, left_frame, WorkedMachines}
+use Rattle.dvg_check.specs.Rules.{Seen, FrameKeeps, FramePlaceKeeps, CellKeeps, GoodFrame}
+use Rattle.dvg_check.specs.declared.fault.FrameWhy.{FrameWhy}
+use Rattle.dvg_check.specs.declared.fault.FrameWhy.TheVariants as frame
+use Rattle.dvg_items.specs.Known.{frame_context}
+use Rattle.dvg_items.specs.Seen.{seen_at}
+use Rattle.dvg_items.specs.declared.item.Item.{Item}
+use Rattle.dvg_items.specs.declared.item.Kind.TheVariants.{Frame}
+use Rattle.dvg_check.proofs.Example.{frame_item}
+use Rattle.dvg_check.proofs.Faults.{all_kept}
+
+-- ---- what is there
+
+abbrev half : DrawFields
+half = record { dx = pos 1; dy = pos 0; lscale = 8; bright = 7 }
+
+abbrev back : DrawFields
+back = record { dx = pos 8; dy = pos 0; lscale = 9; bright = 0 }
+
+abbrev draw_at : ℕ → DrawFields → Item
+draw_at at d = record { at = at; format = Long; instr = Draws d }
+
+abbrev labs_at : ℕ → Item
+labs_at x = record { at = 0; format = Long; instr = Labs x 100 0 }
+
+abbrev halt_item : Item
+halt_item = record { at = 6; format = Short; instr = Halt }
+
+module _ (machine : Machine) (words : List ℕ) where
+  abbrev IsThere : Item → Type 0
+  IsThere i = cell_at (frame_word machine words) i.at ≡ Holds i.format i.instr
+
+  -- what the rules see of an item of a frame without calls
+  abbrev seen : List Item → Item → Seen
+  seen earlier i = seen_at (frame_context machine []) earlier i
+
+  -- what stands at an item keeps a rule where the item does
+  there : (earlier : List Item) (i : Item) (why : FrameWhy) → IsThere i → FrameKeeps screen 20000 (seen earlier i) why → FramePlaceKeeps screen machine words [] 20000 earlier i.at why
+  there earlier i why is kept = subst (λ cell. CellKeeps frame.Unmapped frame.Odd (λ j. FrameKeeps screen 20000 (seen earlier j)) i.at cell why) (sym is) kept
+
+  -- and the item keeps a rule where what stands there does
+  back_there : (earlier : List Item) (i : Item) (why : FrameWhy) → IsThere i → FramePlaceKeeps screen machine words [] 20000 earlier i.at why → FrameKeeps screen 20000 (seen earlier i) why
+  back_there earlier i why is kept = subst (λ cell. CellKeeps frame.Unmapped frame.Odd (λ j. FrameKeeps screen 20000 (seen earlier j)) i.at cell why) is kept
+
+  -- an item that lights nothing, or in the window
+  abbrev KeepsAll : List Item → Item → Type 0
+  KeepsAll earlier i = (why : FrameWhy) → FrameKeeps screen 20000 (seen earlier i) why
+
+-- ---- the frame at the edge
+
+edge_labs : (machine : Machine) → IsThere machine edge_frame (labs_at 1022)
+unfolding cell_at instruction_of
+edge_labs Profile = refl
+edge_labs Board = refl
+
+edge_first : (machine : Machine) → IsThere machine edge_frame (draw_at 2 half)
+unfolding cell_at instruction_of
+edge_first Profile = refl
+edge_first Board = refl
+
+edge_second : (machine : Machine) → IsThere machine edge_frame (draw_at 4 half)
+unfolding cell_at instruction_of
+edge_second Profile = refl
+edge_second Board = refl
+
+edge_halt : (machine : Machine) → IsThere machine edge_frame halt_item
+unfolding cell_at instruction_of
+edge_halt Profile = refl
+edge_halt Board = refl
+
+edge_labs_keeps : (machine : Machine) → KeepsAll machine edge_frame [] (labs_at 1022)
+edge_labs_keeps machine = frame_item (seen machine edge_frame [] (labs_at 1022)) (λ e. cc) tt tt tt tt tt (omega arith)
+
+edge_first_keeps : (machine : Machine) → KeepsAll machine edge_frame (labs_at 1022 ∷ []) (draw_at 2 half)
+unfolding displacement
+edge_first_keeps Profile =
+    frame_item (seen Profile edge_frame (labs_at 1022 ∷ []) (draw_at 2 half)) (λ e. cc) tt (λ e. cc) tt
+    (record { left = omega (arith, ints); right = omega (arith, ints); bottom = omega (arith, ints); top = omega (arith, ints) }, (record { left = omega (arith, ints); right = omega (arith, ints); bottom = omega (arith, ints); top = omega (arith, ints) }, tt))
+    tt (omega arith)
+edge_first_keeps Board =
+    frame_item (seen Board edge_frame (labs_at 1022 ∷ []) (draw_at 2 half)) (λ e. cc) tt (λ e. cc) tt
+    (record { left = omega (arith, ints); right = omega (arith, ints); bottom = omega (arith, ints); top = omega (arith, ints) }, (record { left = omega (arith, ints); right = omega (arith, ints); bottom = omega (arith, ints); top = omega (arith, ints) }, tt))
+    tt (omega arith)
+
+edge_second_keeps : KeepsAll Profile edge_frame (draw_at 2 half ∷ labs_at 1022 ∷ []) (draw_at 4 half)
+unfolding displacement
+edge_second_keeps =
+    frame_item (seen Profile edge_frame (draw_at 2 half ∷ labs_at 1022 ∷ []) (draw_at 4 half)) (λ e. cc) tt (λ e. cc) tt
+    (record { left = omega (arith, ints); right = omega (arith, ints); bottom = omega (arith, ints); top = omega (arith, ints) }, (record { left = omega (arith, ints); right = omega (arith, ints); bottom = omega (arith, ints); top = omega (arith, ints) }, tt))
+    tt (omega arith)
+
+edge_halt_keeps : KeepsAll Profile edge_frame (draw_at 4 half ∷ draw_at 2 half ∷ labs_at 1022 ∷ []) halt_item
+edge_halt_keeps = frame_item (seen Profile edge_frame (draw_at 4 half ∷ draw_at 2 half ∷ labs_at 1022 ∷ []) halt_item) (λ e. cc) tt tt tt tt tt (omega arith)
+
+edge_accepted : GoodFrame screen Profile edge_frame [] 20000 7 0
+edge_accepted =
+    record {
+      keeps =
+          all_kept Frame (frame_word Profile edge_frame) 0 FrameWhy (FramePlaceKeeps screen Profile edge_frame [] 20000) (draw_at 4 half ∷ draw_at 2 half ∷ labs_at 1022 ∷ []) halt_item
+          (((refl, edge_labs Profile, refl), edge_first Profile, refl), edge_second Profile, refl)
+          (edge_halt Profile) refl
+          ((((tt, λ why. there Profile edge_frame [] (labs_at 1022) why (edge_labs Profile) (edge_labs_keeps Profile why)),
+          λ why. there Profile edge_frame (labs_at 1022 ∷ []) (draw_at 2 half) why (edge_first Profile) (edge_first_keeps Profile why)),
+          λ why. there Profile edge_frame (draw_at 2 half ∷ labs_at 1022 ∷ []) (draw_at 4 half) why (edge_second Profile) (edge_second_keeps why)),
+          λ why. there Profile edge_frame (draw_at 4 half ∷ draw_at 2 half ∷ labs_at 1022 ∷ []) halt_item why (edge_halt Profile) (edge_halt_keeps why));
+      items = draw_at 4 half ∷ draw_at 2 half ∷ labs_at 1022 ∷ [];
+      at = 6;
+      format = Short;
+      leads = (((refl, edge_labs Profile, refl), edge_first Profile, refl), edge_second Profile, refl);
+      halts = edge_halt Profile;
+      count_is = refl;
+      depth_is = refl;
+    }
+
+-- the second draw of the board ends right of the window
+off_screen : FrameKeeps screen 20000 (seen Board edge_frame (draw_at 2 half ∷ labs_at 1022 ∷ []) (draw_at 4 half)) frame.OffScreen → ⊥
+unfolding displacement
+off_screen (first, (second, rest)) = omega (arith, ints, second.right)
+
+-- and keeps each rule of a lower number
+below_off_screen : (other : FrameWhy) → frame_number other < 46 → FrameKeeps screen 20000 (seen Board edge_frame (draw_at 2 half ∷ labs_at 1022 ∷ []) (draw_at 4 half)) other
+below_off_screen frame.Unmapped low = tt
+below_off_screen frame.Odd low = tt
+below_off_screen frame.ReturnInFrame low = λ e. cc
+below_off_screen frame.BackJump low = tt
+below_off_screen frame.BeamUnknown low = λ e. cc
+below_off_screen frame.ScaleUnknown low = tt
+below_off_screen frame.OffScreen low = absurd (omega (arith, low))
+below_off_screen frame.NoEntry low = tt
+below_off_screen frame.Budget low = absurd (omega (arith, low))
+
+edge_refused : FirstFrameFault screen Board edge_frame [] 20000 (record { word = 4; why = frame.OffScreen })
+edge_refused =
+    record {
+      items = draw_at 2 half ∷ labs_at 1022 ∷ [];
+      leads = ((refl, edge_labs Board, refl), edge_first Board, refl);
+      before = (
+        (tt, λ why. there Board edge_frame [] (labs_at 1022) why (edge_labs Board) (edge_labs_keeps Board why)),
+        λ why. there Board edge_frame (labs_at 1022 ∷ []) (draw_at 2 half) why (edge_first Board) (edge_first_keeps Board why)
+      );
+      breaks = λ kept. off_screen (back_there Board edge_frame (draw_at 2 half ∷ labs_at 1022 ∷ []) (draw_at 4 half) frame.OffScreen (edge_second Board) kept);
+      lowest = λ other low. there Board edge_frame (draw_at 2 half ∷ labs_at 1022 ∷ []) (draw_at 4 half) other (edge_second Board) (below_off_screen other low);
+    }
+
+-- ---- the frame from the left
+
+left_labs : IsThere Board left_frame (labs_at 4088)
+unfolding cell_at instruction_of
+left_labs = refl
+
+left_back : IsThere Board left_frame (draw_at 2 back)
+unfolding cell_at instruction_of
+left_back = refl
+
+left_draw : IsThere Board left_frame (draw_at 4 half)
+unfolding cell_at instruction_of
+left_draw = refl
+
+left_halt : IsThere Board left_frame halt_item
+unfolding cell_at instruction_of
+left_halt = refl
+
+left_labs_keeps : KeepsAll Board left_frame [] (labs_at 4088)
+left_labs_keeps = frame_item (seen Board left_frame [] (labs_at 4088)) (λ e. cc) tt tt tt tt tt (omega arith)
+
+left_back_keeps : KeepsAll Board left_frame (labs_at 4088 ∷ []) (draw_at 2 back)
+left_back_keeps = frame_item (seen Board left_frame (labs_at 4088 ∷ []) (draw_at 2 back)) (λ e. cc) tt tt tt tt tt (omega arith)
+
+left_draw_keeps : KeepsAll Board left_frame (draw_at 2 back ∷ labs_at 4088 ∷ []) (draw_at 4 half)
+unfolding displacement
+left_draw_keeps =
+    frame_item (seen Board left_frame (draw_at 2 back ∷ labs_at 4088 ∷ []) (draw_at 4 half)) (λ e. cc) tt (λ e. cc) tt
+    (record { left = omega (arith, ints); right = omega (arith, ints); bottom = omega (arith, ints); top = omega (arith, ints) }, (record { left = omega (arith, ints); right = omega (arith, ints); bottom = omega (arith, ints); top = omega (arith, ints) }, tt))
+    tt (omega arith)
+
+left_halt_keeps : KeepsAll Board left_frame (draw_at 4 half ∷ draw_at 2 back ∷ labs_at 4088 ∷ []) halt_item
+left_halt_keeps = frame_item (seen Board left_frame (draw_at 4 half ∷ draw_at 2 back ∷ labs_at 4088 ∷ []) halt_item) (λ e. cc) tt tt tt tt tt (omega arith)
+
+left_accepted : GoodFrame screen Board left_frame [] 20000 7 0
+left_accepted =
+    record {
+      keeps =
+          all_kept Frame (frame_word Board left_frame) 0 FrameWhy (FramePlaceKeeps screen Board left_frame [] 20000) (draw_at 4 half ∷ draw_at 2 back ∷ labs_at 4088 ∷ []) halt_item
+          (((refl, left_labs, refl), left_back, refl), left_draw, refl)
+          left_halt refl
+          ((((tt, λ why. there Board left_frame [] (labs_at 4088) why left_labs (left_labs_keeps why)),
+          λ why. there Board left_frame (labs_at 4088 ∷ []) (draw_at 2 back) why left_back (left_back_keeps why)),
+          λ why. there Board left_frame (draw_at 2 back ∷ labs_at 4088 ∷ []) (draw_at 4 half) why left_draw (left_draw_keeps why)),
+          λ why. there Board left_frame (draw_at 4 half ∷ draw_at 2 back ∷ labs_at 4088 ∷ []) halt_item why left_halt (left_halt_keeps why));
+      items = draw_at 4 half ∷ draw_at 2 back ∷ labs_at 4088 ∷ [];
+      at = 6;
+      format = Short;
+      leads = (((refl, left_labs, refl), left_back, refl), left_draw, refl);
+      halts = left_halt;
+      count_is = refl;
+      depth_is = refl;
+    }
+
+-- the profile decodes no LABS to -8
+left_odd : cell_at (frame_word Profile left_frame) 0 ≡ Odd
+unfolding cell_at instruction_of
+left_odd = refl
+
+abbrev OddKeeps : FrameWhy → Type 0
+OddKeeps why = CellKeeps frame.Unmapped frame.Odd (λ j. FrameKeeps screen 20000 (seen Profile left_frame [] j)) 0 Odd why
+
+below_odd : (other : FrameWhy) → frame_number other < 41 → OddKeeps other
+below_odd frame.Unmapped low = λ e. cc
+below_odd frame.Odd low = absurd (omega (arith, low))
+below_odd frame.ReturnInFrame low = absurd (omega (arith, low))
+below_odd frame.BackJump low = absurd (omega (arith, low))
+below_odd frame.BeamUnknown low = absurd (omega (arith, low))
+below_odd frame.ScaleUnknown low = absurd (omega (arith, low))
+below_odd frame.OffScreen low = absurd (omega (arith, low))
+below_odd frame.NoEntry low = absurd (omega (arith, low))
+below_odd frame.Budget low = absurd (omega (arith, low))
+
+left_refused : FirstFrameFault screen Profile left_frame [] 20000 (record { word = 0; why = frame.Odd })
+left_refused =
+    record {
+      items = [];
+      leads = refl;
+      before = tt;
+      breaks = λ kept. subst (λ cell. CellKeeps frame.Unmapped frame.Odd (λ j. FrameKeeps screen 20000 (seen Profile left_frame [] j)) 0 cell frame.Odd) left_odd kept refl;
+      lowest = λ other low. subst (λ cell. CellKeeps frame.Unmapped frame.Odd (λ j. FrameKeeps screen 20000 (seen Profile left_frame [] j)) 0 cell other) (sym left_odd) (below_odd other low);
+    }
+
+pub worked_machines : WorkedMachines
+worked_machines = record { edge_accepted = edge_accepted; edge_refused = edge_refused; left_accepted = left_accepted; left_refused = left_refused }
