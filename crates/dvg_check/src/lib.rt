@@ -29,5 +29,5 @@ pub use needed::Needed;
 pub use shapes::{check_shapes, check_shapes_exact, find_shape_fault};
 pub use tail::moved;
 pub use verdict::{
-    Refusal, Yes, check, check_exact, check_parts, check_parts_exact, check_rom, frame_of,
+    Refusal, Yes, check, check_exact, check_on, check_parts, check_parts_exact, check_rom, frame_of,
 };
