@@ -43,11 +43,16 @@ at_next : (m : Memory) (s : State) (c : Course) → s.place ≡ place_of c → I
 unfolding next_status
 at_next m s c h = at_cell m.rom.machine (cell_at (word_at m) s.pc) (after_fetch m s) c h
 
-at_along : (m : Memory) (steps : ℕ) (from to : Status) (run : Reached m steps from to) (c : Course) → IsAt c from → IsAt (course_along m steps from to run c) to
-at_along m zero from to run c h = subst (IsAt c) run h
-at_along m (suc steps) (Running s) to run c h = at_along m steps run.0 to run.2 (course_after m (Running s) c) (subst (IsAt (course_after m (Running s) c)) run.1 (at_next m s c h))
-at_along m (suc steps) (Halted s) to run c h = absurd run.1
-at_along m (suc steps) (Fault s) to run c h = absurd run.1
+-- what each step keeps of course and status holds all along a run
+pub along :
+    (m : Memory) (P : Course → Status → Type 0) → ((c : Course) (s : State) → P c (Running s) → P (course_after m (Running s) c) (next_status m s))
+    → (steps : ℕ) (c : Course) (from to : Status) (run : Reached m steps from to) → P c from → P (course_along m steps from to run c) to
+along m P kept zero c from to run h = subst (P c) run h
+along m P kept (suc steps) c (Running s) to run h =
+    along m P kept steps (course_after m (Running s) c) run.0 to run.2 (subst (P (course_after m (Running s) c)) run.1 (kept c s h))
+along m P kept (suc steps) c (Halted s) to run h = absurd run.1
+along m P kept (suc steps) c (Fault s) to run h = absurd run.1
 
 pub place_is_sum : PlaceIsSum
-place_is_sum m place scale steps after run = at_along m steps (Running (start place scale)) after run (course_at_start place) (sym (shift_origin place))
+place_is_sum m place scale steps after run =
+    along m IsAt (λ c s h. at_next m s c h) steps (course_at_start place) (Running (start place scale)) after run (sym (shift_origin place))

@@ -16,6 +16,7 @@ pub mod Beside
 pub mod Drift
 pub mod Example
 pub mod MachinesExample
+pub mod CourseExample
 pub mod TailLaws
 pub mod TailSizes
 pub mod TailSteps

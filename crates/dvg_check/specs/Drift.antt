@@ -105,8 +105,8 @@ Both P (Halted s) (Halted t) = P s t
 Both P (Fault s) (Fault t) = P s t
 Both P s t = ⊥
 
--- where runs on machine a differ by rounding alone, as many steps on machine b lead to the same state, but for the place: on each
--- axis it is at most half a screen place away, 512 units, for each draw since the beam was last set
+-- where runs on machine a differ by rounding alone, as many steps on machine b lead to the same state, but for strokes and
+-- place: on each axis it is at most half a screen place away, 512 units, for each draw since the beam was last set
 abbrev pub HalfPlaceEach : Type 0
 HalfPlaceEach =
     (a b : Machine) (m : Memory) (place : Point) (scale steps : ℕ) (after : Status)
