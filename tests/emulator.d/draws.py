@@ -128,8 +128,8 @@ def main(program, folder):
     runs = emulate(os.path.join(folder, "draws"), batches)
     compared, differences = 0, []
     for lot, (rom, addresses) in zip(lots, roms):
-        seen = [next(runs) for _ in SCALES]
-        lines, ours = spelled(lot, addresses, seen), made(program, folder, rom, addresses)
+        ours = made(program, folder, rom, addresses)
+        lines = spelled(lot, addresses, [next(runs) for _ in SCALES])
         compared += len(lot) * len(SCALES)
         if len(lines) != len(ours):
             differences.append((f"{len(ours)} lines", f"{len(lines)} lines"))

@@ -140,7 +140,8 @@ class Counts:
         if self.differ <= FEW:
             print(f"FAILED: the program says '{line}', the emulator shows '{emulated}'")
         if self.differ == 1:
-            print(f"with --window {spelled(lot.window)}, of the frame {as_bytes(run.frame).hex()} over the ROM {as_bytes(lot.rom).hex()}")
+            print(f"with --window {spelled(lot.window)}, of the frame {as_bytes(run.frame).hex()}, "
+                  f"over the ROM {as_bytes(lot.rom).hex()}")
 
     def compare(self, lot, run, line, seen):
         lit = strokes(seen)

@@ -1,5 +1,5 @@
-"""Random ROMs of small shapes, and random lists that are made to be hard: near the edges, with many draws after one LABS, with calls
-four deep, at scales that wrap, from places off the screen. Each list halts. The seed says all."""
+"""Random ROMs of small shapes, and random lists over them that are hard to judge: near the edges, with many draws after one LABS,
+with calls four deep, at scales that wrap, from places off the screen. Each list halts."""
 
 import random
 from typing import NamedTuple

@@ -118,7 +118,7 @@ local function run(x, y, scale, pointer, hex)
   space:write_u8(0x3000, 0)
   wait_for_halt()
   running = false
-  note_item(11)
+  note_item(11) -- after the last: no instruction comes
   return table.concat(items, " ") .. " / " .. points() .. "\n"
 end
 
