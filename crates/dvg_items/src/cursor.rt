@@ -8,9 +8,9 @@ ghost use Rattle.dvg_items.specs.Seen.{seen_with};
 ghost use Rattle.dvg_items.specs.Cursor.{first_cursor};
 ghost use Rattle.dvg_items.specs.Bounds.{IsClaim, IsSoundCursor, IsSoundSeen};
 
+use crate::action::action_of;
 use crate::item::{Item, Kind};
-use crate::known::{Known, effect_of};
-use crate::lit::extent_of;
+use crate::known::Known;
 use crate::seen::Seen;
 use dvg_cert::{Entry, Key};
 use dvg_words::{Format, Instr, Machine};
@@ -62,13 +62,13 @@ impl Cursor {
             format,
             instr: *instr,
         };
-        let effect = effect_of(machine, instr, self.known.scale, &callee);
+        let action = action_of(machine, instr, self.known.scale, &callee);
         Seen {
             item,
             place: self.known.place,
-            extent: extent_of(instr, &effect, &callee),
+            extent: action.extent,
             callee,
-            after: self.known.past(&effect, &item, &callee),
+            after: self.known.past(&action.effect, &item, &callee),
         }
     }
 }

@@ -5,13 +5,13 @@ ghost use Rattle.dvg_words.specs.declared.map.TheConstants.{ADDRESS_END};
 ghost use Rattle.dvg_words.specs.Decoding.{InstrFits};
 ghost use Rattle.dvg_cert.specs.Entry.{IsKey, IsEnd};
 ghost use Rattle.dvg_cert.specs.declared.limits.TheConstants.{MOST_WORDS};
-ghost use Rattle.dvg_items.specs.Known.{callee_at, scale_set, draw_effect, stop_effect, callee_effect, effect_of, place_past, callee_words, depth_under, known_past, start};
+ghost use Rattle.dvg_items.specs.Known.{callee_at, scale_set, draw_effect, stop_effect, effect_of, place_past, callee_words, depth_under, known_past, start};
 ghost use Rattle.dvg_words.specs.Beam.{shift};
 ghost use Rattle.dvg_items.specs.Bounds.{IsNear, IsNearPlace, IsNearEffect, IsClaim, IsFewWords, IsSomeCertificate, IsSoundCursor};
 
 use crate::item::{Item, Kind};
 use dvg_cert::{End, Entries, Entry, Key};
-use dvg_words::{Draw, Instr, Machine, Point, draw_move, labs_place, shift};
+use dvg_words::{Draw, Instr, Machine, Point, draw_move, shift};
 
 /// What an item does to the place.
 #[derive(Clone, Copy)]
@@ -32,7 +32,7 @@ pub struct Known {
 }
 
 /// What a draw does to the place.
-fn draw_effect(machine: Machine, draw: &Draw, scale: Key) -> Effect
+pub fn draw_effect(machine: Machine, draw: &Draw, scale: Key) -> Effect
     requires { IsKey scale }
     ensures effect { result ≡ draw_effect machine draw.now scale }
     ensures near { IsNearEffect result }
@@ -44,7 +44,7 @@ fn draw_effect(machine: Machine, draw: &Draw, scale: Key) -> Effect
 }
 
 /// What a called shape does to the place.
-fn stop_effect(stop: End) -> Effect
+pub fn stop_effect(stop: End) -> Effect
     requires { IsEnd stop }
     ensures effect { result ≡ stop_effect stop }
     ensures near { IsNearEffect result }
@@ -53,22 +53,6 @@ fn stop_effect(stop: End) -> Effect
         End::Rel { x, y } => Effect::Moves(Point { x, y }),
         End::Abs { x, y } => Effect::Sets(Point { x, y }),
         End::Lost => Effect::Loses,
-    }
-}
-
-/// What an instruction does to the place, with the entry that it calls.
-#[inline(always)]
-pub fn effect_of(machine: Machine, instr: &Instr, scale: Key, callee: &Option<Entry>) -> Effect
-    requires scale { IsKey scale }
-    requires callee { IfSome callee.now IsClaim }
-    ensures effect { result ≡ effect_of machine instr.now scale callee.now }
-    ensures near { IsNearEffect result }
-{
-    match (instr, callee) {
-        (Instr::Draw(draw), _) => draw_effect(machine, draw, scale),
-        (Instr::Labs { x, y, .. }, _) => Effect::Sets(labs_place(machine, *x, *y)),
-        (Instr::Jsrl { .. } | Instr::Jmpl { .. }, Some(e)) => stop_effect(e.stop),
-        _ => Effect::Moves(Point::ORIGIN),
     }
 }
 

@@ -5,6 +5,7 @@
 //! over items in this way.
 #![tactic(auto)]
 
+mod action;
 mod boxes;
 mod cursor;
 mod item;

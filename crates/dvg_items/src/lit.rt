@@ -6,14 +6,14 @@ ghost use Rattle.dvg_words.specs.declared.map.TheConstants.{ADDRESS_END};
 ghost use Rattle.dvg_words.specs.declared.machine.Machine.{Machine};
 ghost use Rattle.dvg_cert.specs.declared.entry.Key.{Key};
 ghost use Rattle.dvg_cert.specs.Entry.{IsBox};
-ghost use Rattle.dvg_items.specs.Known.{draw_effect, effect_of};
-ghost use Rattle.dvg_items.specs.Lit.{draw_extent, box_extent, callee_extent, extent_of, corners, absolute_corners, relative_corners, PlaceKnown, ScaleKnown, LitInWindow, LitInBox};
-ghost use Rattle.dvg_items.specs.Bounds.{IsNearPlace, IsNear, IsNearEffect, IsNearExtent, IsClaim};
+ghost use Rattle.dvg_items.specs.Known.{draw_effect};
+ghost use Rattle.dvg_items.specs.Lit.{draw_extent, box_extent, corners, absolute_corners, relative_corners, PlaceKnown, ScaleKnown, LitInWindow, LitInBox};
+ghost use Rattle.dvg_items.specs.Bounds.{IsNearPlace, IsNear, IsNearEffect, IsNearExtent};
 
 use crate::boxes::is_in_box;
 use crate::known::Effect;
-use dvg_cert::{End, Entry, LitBox};
-use dvg_words::{Draw, Instr, Point, Window, in_window, shift};
+use dvg_cert::{End, LitBox};
+use dvg_words::{Draw, Point, Window, in_window, shift};
 
 /// What an item lights, seen from the place before it.
 #[derive(Clone, Copy)]
@@ -27,7 +27,7 @@ pub enum LitExtent {
 
 /// What a draw lights, by its effect on the place: it moves it, or loses it if the scale is unknown.
 #[inline(always)]
-fn draw_extent(draw: &Draw, effect: &Effect) -> LitExtent
+pub fn draw_extent(draw: &Draw, effect: &Effect) -> LitExtent
     requires { IsNearEffect effect.now }
     ensures extent { (machine : Machine) (scale : Key) → effect.now ≡ draw_effect machine draw.now scale
         → result ≡ draw_extent machine draw.now.bright draw.now scale }
@@ -45,7 +45,7 @@ fn draw_extent(draw: &Draw, effect: &Effect) -> LitExtent
 
 /// What a called shape may light.
 #[inline(always)]
-fn box_extent(lit: LitBox) -> LitExtent
+pub fn box_extent(lit: LitBox) -> LitExtent
     requires { IsBox lit }
     ensures extent { result ≡ box_extent lit }
     ensures near { IsNearExtent result }
@@ -61,22 +61,6 @@ fn box_extent(lit: LitBox) -> LitExtent
             from: Point { x: x_min, y: y_min },
             to: Point { x: x_max, y: y_max },
         },
-    }
-}
-
-/// What an instruction lights, by its effect on the place, with the entry that it calls.
-#[inline(always)]
-pub fn extent_of(instr: &Instr, effect: &Effect, callee: &Option<Entry>) -> LitExtent
-    requires effect { IsNearEffect effect.now }
-    requires callee { IfSome callee.now IsClaim }
-    ensures extent { (machine : Machine) (scale : Key) → effect.now ≡ effect_of machine instr.now scale callee.now
-        → result ≡ extent_of machine instr.now scale callee.now }
-    ensures near { IsNearExtent result }
-{
-    match (instr, callee) {
-        (Instr::Draw(draw), _) => draw_extent(draw, effect),
-        (Instr::Jsrl { .. } | Instr::Jmpl { .. }, Some(e)) => box_extent(e.lit),
-        _ => LitExtent::Nothing,
     }
 }
 

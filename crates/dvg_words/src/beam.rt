@@ -2,8 +2,8 @@
 
 ghost use Rattle.std.specs.Prelude.{◌≡◌, ◌≤◌, pos, negsuc, neg_ℤ, ◌*◌, ◌^◌, ◌+ℤ◌, ◌≤ℤ◌, ◌*ℤ◌, FitsSigned};
 ghost use Rattle.std.specs.Int.{w64};
-ghost use Rattle.dvg_words.specs.Beam.{factor, rounded_move, axis_move, displacement, shift, labs_coordinate, labs_place, IsWithin};
-ghost use Rattle.dvg_words.specs.Values.{Profile};
+ghost use Rattle.dvg_words.specs.Beam.{factor, rounded_move, displacement, shift, labs_coordinate, labs_place, IsWithin};
+ghost use Rattle.dvg_words.specs.Values.{Profile, Board};
 
 use crate::instruction::Draw;
 use crate::machine::Machine;
@@ -32,26 +32,33 @@ pub fn shift(place: &Point, by: &Point) -> Point
     }
 }
 
-/// A field of a LABS, 0 to 4095, as the machine loads it: -2048 to 2047 on the board, as two's complement.
-fn labs_coordinate(machine: Machine, field: u16) -> i64
-    ensures value { result ≡ labs_coordinate machine field }
+/// Where a field of a LABS sets the beam on an axis of the board, which loads it as two's complement of twelve bits.
+fn signed_coordinate(field: u16) -> i64
+    ensures value { result ≡ labs_coordinate Board field }
     ensures low { neg_ℤ (pos (2 ^ 31)) ≤ℤ result }
     ensures high { result ≤ℤ pos (2 ^ 31) }
 {
-    match machine {
-        Machine::Board if field > 2047 => 1024 * (i64::from(field) - 4096),
-        _ => 1024 * i64::from(field),
+    if field > 2047 {
+        1024 * (i64::from(field) - 4096)
+    } else {
+        1024 * i64::from(field)
     }
 }
 
-/// Where a LABS of these fields sets the beam on a machine, in units of 1/1024 of a screen place.
+/// Where a LABS of these fields, 0 to 4095, sets the beam on a machine, in units of 1/1024 of a screen place.
 pub fn labs_place(machine: Machine, x: u16, y: u16) -> Point
     ensures value { result ≡ labs_place machine x y }
     ensures near { IsWithin (2 ^ 31) result }
 {
-    Point {
-        x: labs_coordinate(machine, x),
-        y: labs_coordinate(machine, y),
+    match machine {
+        Machine::Profile => Point {
+            x: 1024 * i64::from(x),
+            y: 1024 * i64::from(y),
+        },
+        Machine::Board => Point {
+            x: signed_coordinate(x),
+            y: signed_coordinate(y),
+        },
     }
 }
 
@@ -94,22 +101,6 @@ fn rounded_move(by: i32) -> i32
     raised - raised.rem_euclid(1024)
 }
 
-/// How far a size of a draw moves the beam on a machine at a local and a global scale.
-fn axis_move(machine: Machine, size: i16, local: u8, global: u8) -> i32
-    requires size_low { negsuc 1022 ≤ℤ size }
-    requires size_high { size ≤ℤ pos 1023 }
-    requires local { local ≤ 9 }
-    requires global { global ≤ 15 }
-    ensures { result ≡ axis_move machine size local global }
-{
-    let exact = scaled(size, factor(local, global));
-    match machine {
-        Machine::Profile => exact,
-        Machine::Board if (local + global) % 16 <= 9 => rounded_move(exact),
-        Machine::Board => 0,
-    }
-}
-
 /// How far a draw moves the beam on the profile's machine at a global scale of 0 to 15, as (x, y) in units of 1/1024 of a screen
 /// place.
 pub fn displacement(draw: &Draw, gscale: u8) -> (i32, i32)
@@ -127,10 +118,13 @@ pub fn displacement_on(machine: Machine, draw: &Draw, gscale: u8) -> (i32, i32)
     ensures x { result.0 ≡ (displacement machine draw.now gscale).x }
     ensures y { result.1 ≡ (displacement machine draw.now gscale).y }
 {
-    (
-        axis_move(machine, draw.dx, draw.lscale, gscale),
-        axis_move(machine, draw.dy, draw.lscale, gscale),
-    )
+    let factor = factor(draw.lscale, gscale);
+    let (dx, dy) = (scaled(draw.dx, factor), scaled(draw.dy, factor));
+    match machine {
+        Machine::Profile => (dx, dy),
+        Machine::Board if (draw.lscale + gscale) % 16 <= 9 => (rounded_move(dx), rounded_move(dy)),
+        Machine::Board => (0, 0),
+    }
 }
 
 /// How far a draw moves the beam on a machine at a global scale of 0 to 15.
