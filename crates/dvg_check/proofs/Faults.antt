@@ -2,7 +2,7 @@
 -- fault at most.
 use Rattle.dvg_words.specs.Values.{Source}
 use Rattle.dvg_words.specs.declared.machine.Machine.{Machine}
-use Rattle.std.proofs.Common.{List, Option, length, refl, sym, arith, ap, None, subst, suc, ◌≡◌, ◌+◌, ◌<◌, ◌∷◌, ◌++◌, ◌∙◌, ℕ, ⊎_elim, []}
+use Rattle.std.proofs.Common.{List, length, refl, sym, arith, ap, None, subst, suc, ◌≡◌, ◌+◌, ◌<◌, ◌∷◌, ◌++◌, ◌∙◌, ℕ, ⊎_elim, []}
 use Rattle.std.proofs.lemmas.Bool.{cases_lt}
 use Rattle.std.specs.List.{AllByRecursion}
 use Rattle.std.specs.Prelude.{Contains, ◌==◌, if◌then◌else◌}

@@ -1,7 +1,7 @@
 -- What the loop over items keeps, and what follows where it stops.
 use Rattle.dvg_words.specs.Values.{Source}
 use Rattle.dvg_words.specs.declared.machine.Machine.{Machine}
-use Rattle.std.proofs.Common.{arith, refl, Option, List, subst, sym, ap, ◌≡◌, ◌≢◌, ◌∷◌, ◌∙◌, ℕ, []}
+use Rattle.std.proofs.Common.{arith, refl, List, subst, sym, ap, ◌≡◌, ◌≢◌, ◌∷◌, ◌∙◌, ℕ, []}
 use Rattle.dvg_words.specs.Decoding.{cell_at}
 use Rattle.dvg_words.specs.declared.instruction.Cell.{Cell}
 use Rattle.dvg_words.specs.declared.instruction.Cell.TheVariants.{Missing, Odd, Holds}

@@ -1,6 +1,6 @@
--- The first fault, with what stands there and what is known before it. All of it is profile.
+-- The first fault, with what stands there and what is known before it. All of it is this project's own.
 use Rattle.dvg_words.specs.declared.machine.Machine.{Machine}
-use Rattle.std.specs.Prelude.{◌≡◌, ℕ, List, Option}
+use Rattle.std.specs.Prelude.{◌≡◌, ℕ, List}
 use Rattle.dvg_words.specs.Values.{Window, Source}
 use Rattle.dvg_words.specs.Memory.{Rom, rom_word, frame_word}
 use Rattle.dvg_words.specs.Decoding.{cell_at}

@@ -1,7 +1,7 @@
--- The first fault: the first item that breaks a rule, and the lowest number that it breaks. All of it is profile.
+-- The first fault: the first item that breaks a rule, and the lowest number that it breaks. All of it is this project's own.
 use Rattle.dvg_words.specs.Values.{Source}
 use Rattle.dvg_words.specs.declared.machine.Machine.{Machine}
-use Rattle.std.specs.Prelude.{◌≡◌, ℕ, ◌<◌, List, ◌∷◌, ◌++◌, Option}
+use Rattle.std.specs.Prelude.{◌≡◌, ℕ, ◌<◌, List, ◌∷◌, ◌++◌}
 use Rattle.std.specs.List.{AllByRecursion}
 use Rattle.dvg_words.specs.Values.{Window}
 use Rattle.dvg_words.specs.Memory.{Rom, rom_word, frame_word}

@@ -1,7 +1,7 @@
 -- The laws, over the definitions alone. They are for every map, window and mode, but ExactIsExact is for the mode Exact.
 use Rattle.dvg_words.specs.Values.{Source}
 use Rattle.dvg_words.specs.declared.machine.Machine.{Machine}
-use Rattle.std.specs.Prelude.{◌≡◌, ℕ, ℤ, ◌+◌, ◌<◌, ◌≤◌, ◌⊎◌, ◌≤ℤ◌, length, List, [], ◌∷◌, ◌++◌, Option, Contains, Result}
+use Rattle.std.specs.Prelude.{◌≡◌, ℕ, ℤ, ◌+◌, ◌<◌, ◌≤◌, ◌⊎◌, ◌≤ℤ◌, length, List, [], ◌∷◌, ◌++◌, Contains, Result}
 use Rattle.dvg_words.specs.Values.{Window}
 use Rattle.dvg_words.specs.declared.instruction.Instr.TheVariants.{Draw as Draws, Labs}
 use Rattle.dvg_words.specs.declared.instruction.Instr.{Instr}

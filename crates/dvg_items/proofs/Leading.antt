@@ -1,5 +1,5 @@
 -- The items of a shape or of a frame are determined, so a walk to the last one has met them all.
-use Rattle.std.proofs.Common.{List, Option, length, refl, sym, arith, ap, Some, None, subst, ◌≡◌, ◌<◌, ◌∷◌, ◌∙◌, ℕ, ⊎_elim, []}
+use Rattle.std.proofs.Common.{List, length, refl, sym, arith, ap, Some, None, subst, ◌≡◌, ◌<◌, ◌∷◌, ◌∙◌, ℕ, ⊎_elim, []}
 use Rattle.std.proofs.lemmas.Bool.{cases_lt}
 use Rattle.dvg_words.specs.Values.{Source}
 use Rattle.dvg_words.specs.Decoding.{cell_at}

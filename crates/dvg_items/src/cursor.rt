@@ -9,7 +9,7 @@ ghost use Rattle.dvg_items.specs.Cursor.{first_cursor};
 ghost use Rattle.dvg_items.specs.Bounds.{IsClaim, IsSoundCursor, IsSoundSeen};
 
 use crate::item::{Item, Kind};
-use crate::known::Known;
+use crate::known::{Known, effect_of};
 use crate::lit::extent_of;
 use crate::seen::Seen;
 use dvg_cert::{Entry, Key};
@@ -62,12 +62,13 @@ impl Cursor {
             format,
             instr: *instr,
         };
+        let effect = effect_of(machine, instr, self.known.scale, &callee);
         Seen {
             item,
             place: self.known.place,
-            extent: extent_of(machine, instr, self.known.scale, &callee),
+            extent: extent_of(instr, &effect, &callee),
             callee,
-            after: self.known.past(machine, &item, &callee),
+            after: self.known.past(&effect, &item, &callee),
         }
     }
 }

@@ -58,7 +58,7 @@ fn stop_effect(stop: End) -> Effect
 
 /// What an instruction does to the place, with the entry that it calls.
 #[inline(always)]
-fn effect_of(machine: Machine, instr: &Instr, scale: Key, callee: &Option<Entry>) -> Effect
+pub fn effect_of(machine: Machine, instr: &Instr, scale: Key, callee: &Option<Entry>) -> Effect
     requires scale { IsKey scale }
     requires callee { IfSome callee.now IsClaim }
     ensures effect { result ≡ effect_of machine instr.now scale callee.now }
@@ -178,22 +178,23 @@ impl Known {
         }
     }
 
-    /// What is known past an item that calls this entry.
+    /// What is known past an item with this effect on the place that calls this entry.
     #[inline(always)]
-    pub fn past(&self, machine: Machine, item: &Item, callee: &Option<Entry>) -> Known
+    pub fn past(&self, effect: &Effect, item: &Item, callee: &Option<Entry>) -> Known
         requires before { IsSoundCursor (record { at = item.now.at; known = self.now }) }
+        requires effect { IsNearEffect effect.now }
         requires callee { IfSome callee.now IsClaim }
         requires near { item.now.at < ADDRESS_END }
         requires fields { InstrFits item.now.instr }
-        ensures value { result ≡ known_past machine item.now callee.now self.now }
+        ensures value { (machine : Machine) → effect.now ≡ effect_of machine item.now.instr self.now.scale callee.now
+            → result ≡ known_past machine item.now callee.now self.now }
         ensures place { IsNearPlace (item.now.at + 1) result.place }
         ensures key { IsKey result.scale }
         ensures words { IsFewWords (item.now.at + 1) result.words }
         ensures depth { result.depth ≤ 4 }
     {
-        let effect = effect_of(machine, &item.instr, self.scale, callee);
         Known {
-            place: place_past(&effect, &self.place, item.at),
+            place: place_past(effect, &self.place, item.at),
             scale: scale_past(&item.instr, self.scale, callee),
             words: u32::from(item.format.words()) + callee_words(callee) + self.words,
             depth: depth_under(&item.instr, callee).max(self.depth),

@@ -3,13 +3,17 @@
 ghost use Rattle.std.specs.Prelude.{◌≡◌, ◌↔◌, [], ◌∷◌, IsTrue, IfSome, IfNone};
 ghost use Rattle.dvg_words.specs.Beam.{InWindow};
 ghost use Rattle.dvg_words.specs.declared.map.TheConstants.{ADDRESS_END};
-ghost use Rattle.dvg_cert.specs.Entry.{IsKey, IsBox};
+ghost use Rattle.dvg_words.specs.declared.machine.Machine.{Machine};
+ghost use Rattle.dvg_cert.specs.declared.entry.Key.{Key};
+ghost use Rattle.dvg_cert.specs.Entry.{IsBox};
+ghost use Rattle.dvg_items.specs.Known.{draw_effect, effect_of};
 ghost use Rattle.dvg_items.specs.Lit.{draw_extent, box_extent, callee_extent, extent_of, corners, absolute_corners, relative_corners, PlaceKnown, ScaleKnown, LitInWindow, LitInBox};
-ghost use Rattle.dvg_items.specs.Bounds.{IsNearPlace, IsNear, IsNearExtent, IsClaim};
+ghost use Rattle.dvg_items.specs.Bounds.{IsNearPlace, IsNear, IsNearEffect, IsNearExtent, IsClaim};
 
 use crate::boxes::is_in_box;
-use dvg_cert::{End, Entry, Key, LitBox};
-use dvg_words::{Draw, Instr, Machine, Point, Window, draw_move, in_window, shift};
+use crate::known::Effect;
+use dvg_cert::{End, Entry, LitBox};
+use dvg_words::{Draw, Instr, Point, Window, in_window, shift};
 
 /// What an item lights, seen from the place before it.
 #[derive(Clone, Copy)]
@@ -21,22 +25,21 @@ pub enum LitExtent {
     Anywhere,
 }
 
-/// What a draw lights.
+/// What a draw lights, by its effect on the place: it moves it, or loses it if the scale is unknown.
 #[inline(always)]
-fn draw_extent(machine: Machine, draw: &Draw, scale: Key) -> LitExtent
-    requires { IsKey scale }
-    ensures extent { result ≡ draw_extent machine draw.now.bright draw.now scale }
+fn draw_extent(draw: &Draw, effect: &Effect) -> LitExtent
+    requires { IsNearEffect effect.now }
+    ensures extent { (machine : Machine) (scale : Key) → effect.now ≡ draw_effect machine draw.now scale
+        → result ≡ draw_extent machine draw.now.bright draw.now scale }
     ensures near { IsNearExtent result }
 {
-    if draw.bright == 0 {
-        return LitExtent::Nothing;
-    }
-    match scale {
-        Key::At(gscale) => LitExtent::Between {
+    match (draw.bright, effect) {
+        (0, _) => LitExtent::Nothing,
+        (_, Effect::Moves(to)) => LitExtent::Between {
             from: Point::ORIGIN,
-            to: draw_move(machine, draw, gscale),
+            to: *to,
         },
-        Key::Any => LitExtent::Anywhere,
+        _ => LitExtent::Anywhere,
     }
 }
 
@@ -61,21 +64,17 @@ fn box_extent(lit: LitBox) -> LitExtent
     }
 }
 
-/// What an instruction lights, with the entry that it calls.
+/// What an instruction lights, by its effect on the place, with the entry that it calls.
 #[inline(always)]
-pub fn extent_of(
-    machine: Machine,
-    instr: &Instr,
-    scale: Key,
-    callee: &Option<Entry>,
-) -> LitExtent
-    requires scale { IsKey scale }
+pub fn extent_of(instr: &Instr, effect: &Effect, callee: &Option<Entry>) -> LitExtent
+    requires effect { IsNearEffect effect.now }
     requires callee { IfSome callee.now IsClaim }
-    ensures extent { result ≡ extent_of machine instr.now scale callee.now }
+    ensures extent { (machine : Machine) (scale : Key) → effect.now ≡ effect_of machine instr.now scale callee.now
+        → result ≡ extent_of machine instr.now scale callee.now }
     ensures near { IsNearExtent result }
 {
     match (instr, callee) {
-        (Instr::Draw(draw), _) => draw_extent(machine, draw, scale),
+        (Instr::Draw(draw), _) => draw_extent(draw, effect),
         (Instr::Jsrl { .. } | Instr::Jmpl { .. }, Some(e)) => box_extent(e.lit),
         _ => LitExtent::Nothing,
     }

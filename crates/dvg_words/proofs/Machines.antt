@@ -1,10 +1,10 @@
 -- The laws of the two machines.
-use Rattle.std.proofs.Common.{arith, refl, ap, sym, subst, ◌≡◌, ◌∙◌, ◌+◌, ◌*◌, ◌/◌, ◌^◌, ◌≤◌, ◌<◌, ℕ, ℤ, zero, suc, pos, negsuc, neg_ℤ, ◌+ℤ◌, ◌*ℤ◌, ◌≤ℤ◌, nat_le, Bool, true, false}
+use Rattle.std.proofs.Common.{arith, refl, ap, sym, subst, ◌≡◌, ◌∙◌, ◌+◌, ◌*◌, ◌/◌, ◌^◌, ◌≤◌, ◌<◌, ℕ, ℤ, zero, suc, pos, negsuc, neg_ℤ, ◌*ℤ◌, nat_le, Bool, true, false}
 use Rattle.std.specs.Prelude.{if◌then◌else◌}
 use Rattle.std.proofs.lemmas.Int.{ints}
 use Rattle.std.proofs.lemmas.Bool.Decides.{nat_tests}
 use Rattle.dvg_words.specs.Values.{Profile, Board, DrawFields}
-use Rattle.dvg_words.specs.Beam.{Point, effective_scale, factor, rounded, rounded_move, axis_move, displacement, labs_place}
+use Rattle.dvg_words.specs.Beam.{effective_scale, factor, rounded_move, axis_move, displacement}
 use Rattle.dvg_words.specs.Machines.{ProfileMoves, BoardMoves, IsNearMove, HalfPlace}
 
 -- ---- the profile's

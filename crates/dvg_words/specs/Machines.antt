@@ -1,7 +1,7 @@
 -- The laws of the two machines: the profile's is the one of the documents, and the board differs from it by half a place at most.
 use Rattle.std.specs.Prelude.{◌≡◌, ℕ, ℤ, pos, neg_ℤ, ◌+◌, ◌*◌, ◌/◌, ◌^◌, ◌≤◌, ◌<◌, ◌+ℤ◌, ◌*ℤ◌, ◌≤ℤ◌}
 use Rattle.dvg_words.specs.Values.{Profile, Board, DrawFields}
-use Rattle.dvg_words.specs.Beam.{Point, effective_scale, factor, axis_move, displacement, labs_place}
+use Rattle.dvg_words.specs.Beam.{effective_scale, factor, axis_move, displacement, labs_place}
 
 -- on the profile's machine a draw moves by size times factor, and a LABS sets its fields as screen places
 pub record ProfileMoves : Type 0 where

@@ -2,7 +2,7 @@
 
 ghost use Rattle.std.specs.Prelude.{◌≡◌, ◌≤◌, pos, negsuc, neg_ℤ, ◌*◌, ◌^◌, ◌+ℤ◌, ◌≤ℤ◌, ◌*ℤ◌, FitsSigned};
 ghost use Rattle.std.specs.Int.{w64};
-ghost use Rattle.dvg_words.specs.Beam.{factor, rounded, rounded_move, axis_move, displacement, shift, labs_coordinate, labs_place, IsWithin};
+ghost use Rattle.dvg_words.specs.Beam.{factor, rounded_move, axis_move, displacement, shift, labs_coordinate, labs_place, IsWithin};
 ghost use Rattle.dvg_words.specs.Values.{Profile};
 
 use crate::instruction::Draw;
@@ -81,23 +81,17 @@ fn scaled(size: i16, factor: u16) -> i32
     i32::from(size) * i32::from(factor)
 }
 
-/// A distance, rounded half up to whole screen places.
-fn rounded(distance: u32) -> i32
-    requires { distance ≤ 1023 * 1024 }
-    ensures value { result ≡ pos (rounded distance) }
-    ensures near { result ≤ℤ pos (1024 * 1024) }
-{
-    1024 * ((distance + 512) / 1024) as i32
-}
-
-/// A move along an axis, its distance rounded.
+/// A move along an axis, its distance rounded half up to whole screen places.
 fn rounded_move(by: i32) -> i32
     requires low { neg_ℤ (pos (1023 * 1024)) ≤ℤ by }
     requires high { by ≤ℤ pos (1023 * 1024) }
     ensures { result ≡ rounded_move by }
 {
-    let distance = rounded(by.unsigned_abs());
-    if by < 0 { -distance } else { distance }
+    // Half a place is added, and what is then over a whole place dropped. One unit less to the left or down, so that halves go
+    // away from 0 there, too.
+    let half = if by < 0 { 511 } else { 512 };
+    let raised = by + half;
+    raised - raised.rem_euclid(1024)
 }
 
 /// How far a size of a draw moves the beam on a machine at a local and a global scale.

@@ -1,8 +1,8 @@
-use Rattle.std.proofs.Common.{ℕ, List, Result, Ok, Err, length, subst, ◌≡◌, ◌∙◌, ap}
+use Rattle.std.proofs.Common.{ℕ, List, Result, Err, length, subst, ◌≡◌, ◌∙◌, ap}
 use Rattle.dvg_words.specs.Values.{Window}
 use Rattle.dvg_words.specs.Memory.{Rom, rom_on, IsRomLength}
 use Rattle.dvg_words.specs.declared.machine.Machine.{Machine}
-use Rattle.dvg_words.specs.declared.image.ImageFault.TheVariants.{RomLength, FrameLength}
+use Rattle.dvg_words.specs.declared.image.ImageFault.TheVariants.{RomLength}
 use Rattle.dvg_cert.specs.Order.{Certificate}
 use Rattle.dvg_check.specs.declared.fault.Mode.{Mode}
 use Rattle.dvg_check.specs.declared.verdict.Yes.{Yes}

@@ -1,0 +1,343 @@
+-- How far apart runs of the two machines are, and what is safe on one of them by the other.
+use Rattle.std.proofs.Common.{arith, List, zero, subst, sym, suc, ap, refl, Bool, true, false, nat_lt, length, ℤ, pos, negsuc, neg_ℤ, ◌≡◌, ◌+◌, ◌*◌, ◌≤◌, ◌∷◌, ◌++◌, ◌∙◌, ◌+ℤ◌, ℕ, []}
+use Rattle.std.specs.List.{AllByRecursion}
+use Rattle.std.proofs.lemmas.Int.{ints}
+use Rattle.dvg_words.specs.declared.machine.Machine.{Machine}
+use Rattle.dvg_words.specs.declared.machine.Machine.TheVariants.{Profile, Board}
+use Rattle.dvg_words.specs.declared.beam.Point.{Point}
+use Rattle.dvg_words.specs.declared.instruction.Cell.{Cell}
+use Rattle.dvg_words.specs.declared.instruction.Cell.TheVariants.{Missing, Odd, Holds}
+use Rattle.dvg_words.specs.declared.instruction.Format.{Format}
+use Rattle.dvg_words.specs.declared.instruction.Instr.{Instr}
+use Rattle.dvg_words.specs.declared.instruction.Instr.TheVariants.{Draw as Draws, Labs, Halt, Jsrl, Rtsl, Jmpl}
+use Rattle.dvg_words.specs.Values.{DrawFields, Window}
+use Rattle.dvg_words.specs.Beam.{effective_scale, axis_move, shift, displacement, labs_coordinate, labs_place, InWindow}
+use Rattle.dvg_words.specs.Decoding.{cell_at}
+use Rattle.dvg_words.specs.Generator.{Stroke, State, Status, Running, Halted, Fault, Reached, start, lit_by, after_call, after_return, after_instruction, after_cell, after_fetch, next_status}
+use Rattle.dvg_words.specs.Machines.{IsNearMove, HalfPlace}
+use Rattle.dvg_words.specs.Memory.{Memory, word_at}
+use Rattle.dvg_words.specs.Laws.{state_of}
+use Rattle.dvg_items.proofs.Points.{point_is}
+use Rattle.dvg_check.specs.Drift.{Course, course_past, course_at, course_after, course_along, course_at_start, course_of, on, OnlyRounds, RunsOnlyRound, IsNear, Both, HalfPlaceEach, IsInset, InsetIsSafe}
+use Rattle.dvg_check.specs.Safety.{Safe, Ends, IsMapped, IsSafeState, IsSafeStatus, HaltsWithin, StaysSafe}
+use Rattle.dvg_check.proofs.Alike.{same_cell, coordinate_same}
+use Rattle.dvg_check.proofs.Beside.{both_with, of_both, moved, drawn_on, Relation, IsKept, Beside, not_odd, beside_next, run_on, run_back, Rounds, rounds_on}
+use Rattle.dvg_check.proofs.Safety.{safe_state}
+
+-- ---- places of the two machines
+
+abbrev AreNear : ℕ → Point → Point → Type 0
+AreNear most p q = IsNearMove most p.x q.x × IsNearMove most p.y q.y
+
+near_here : (most : ℕ) (v : ℤ) → IsNearMove most v v
+near_here most v = record { low = omega (arith, ints); high = omega (arith, ints) }
+
+near_on : (most more : ℕ) (v u d e : ℤ) → most + 512 ≡ more → IsNearMove most v u → IsNearMove 512 d e → IsNearMove more (v +ℤ d) (u +ℤ e)
+near_on most more v u d e is near moved = record { low = omega (arith, ints, is, near.low, moved.low); high = omega (arith, ints, is, near.high, moved.high) }
+
+labs_near : (a b : Machine) (x y : ℕ) (most : ℕ) → (x ≤ 1023) × (y ≤ 1023) → AreNear most (labs_place a x y) (labs_place b x y)
+labs_near a b x y most low = (
+  subst (λ v. IsNearMove most (labs_coordinate a x) v) (coordinate_same a b x low.0) (near_here most (labs_coordinate a x)),
+  subst (λ v. IsNearMove most (labs_coordinate a y) v) (coordinate_same a b y low.1) (near_here most (labs_coordinate a y)),
+)
+
+module _ (half : HalfPlace) where
+  axis_near : (a b : Machine) (size : ℤ) (local global : ℕ) → effective_scale local global ≤ 9 → IsNearMove 512 (axis_move a size local global) (axis_move b size local global)
+  axis_near Profile Profile size local global le = near_here 512 _
+  axis_near Profile Board size local global le = half size local global le
+  axis_near Board Profile size local global le = let near = half size local global le in record { low = near.high; high = near.low }
+  axis_near Board Board size local global le = near_here 512 _
+
+  draw_near : (a b : Machine) (d : DrawFields) (global most more : ℕ) (p q : Point) → effective_scale d.lscale global ≤ 9 → most + 512 ≡ more → AreNear most p q → AreNear more (shift p (displacement a d global)) (shift q (displacement b d global))
+  unfolding displacement
+  draw_near a b d global most more p q le is near =
+      (near_on most more _ _ _ _ is near.0 (axis_near a b d.dx d.lscale global le), near_on most more _ _ _ _ is near.1 (axis_near a b d.dy d.lscale global le))
+
+-- ---- one step of the two machines
+
+abbrev NearBy : Course → State → State → Type 0
+NearBy c s t = IsNear (512 * length c.moves) s t
+
+abbrev PlacesNear : Relation
+PlacesNear c p k q l = AreNear (512 * length c.moves) p q
+
+module _ (half : HalfPlace) (a b : Machine) where
+  places_kept : IsKept a b PlacesNear
+  places_kept =
+      record {
+        draws = λ c d global p q k l low near. draw_near half a b d global (512 * length c.moves) (512 * length (displacement a d global ∷ c.moves)) p q low (omega arith) near;
+        sets = λ c x y gscale scale p q k l low near. labs_near a b x y 0 low;
+      }
+
+  near_next :
+      (m : Memory) (c : Course) (s t : State) → OnlyRounds s.scale (cell_at (word_at (on Profile m)) s.pc) → NearBy c s t
+      → Both (NearBy (course_after (on a m) (Running s) c)) (next_status (on a m) s) (next_status (on b m) t)
+  near_next m c s t rounds near =
+      let next = course_after (on a m) (Running s) c in
+      both_with (Beside PlacesNear next) (λ u v. Unit {0}) (NearBy next) (next_status (on a m) s) (next_status (on b m) t)
+      (λ u v beside any. record { same = beside.same; x = beside.related.0; y = beside.related.1 })
+      (beside_next a b PlacesNear places_kept m c s t rounds (record { same = near.same; related = (near.x, near.y) })) tt
+
+start_near : (place : Point) (scale : ℕ) → NearBy (course_at_start place) (start place scale) (start place scale)
+start_near place scale = record { same = refl; x = near_here 0 place.x; y = near_here 0 place.y }
+
+pub half_place_each : HalfPlace → HalfPlaceEach
+half_place_each half a b m place scale steps after small rounds run =
+    run_on (on a m) (on b m) (λ c from. Rounds a m from) NearBy
+    (λ c s ok. rounds_on a m s ok) (λ c s t ok near. near_next half a b m c s t (ok 0 s refl) near)
+    steps (course_at_start place) (Running (start place scale)) after (Running (start place scale)) run
+    (λ k s. rounds place scale k s small) (start_near place scale)
+
+-- ---- strokes before the first LABS
+
+abbrev strokes_by : Point → List Stroke → List Stroke
+strokes_by e [] = []
+strokes_by e (stroke ∷ strokes) = record { from = shift stroke.from e; to = shift stroke.to e } ∷ strokes_by e strokes
+
+-- until a LABS comes, a run from another place has the same places and strokes, shifted
+abbrev Shifted : Point → Relation
+Shifted e c p k q l = c.by_labs ≡ false → (q ≡ shift p e) × (l ≡ strokes_by e k)
+
+shift_swap : (p e d : Point) → shift (shift p e) d ≡ shift (shift p d) e
+shift_swap p e d = point_is _ _ (omega (arith, ints)) (omega (arith, ints))
+
+shifted_kept : (a : Machine) (e : Point) → IsKept a a (Shifted e)
+shifted_kept a e = record { draws = draws; sets = λ c x y gscale scale p q k l low shifted. λ unset. cc }
+  where
+    draws :
+        (c : Course) (d : DrawFields) (global : ℕ) (p q : Point) (k l : List Stroke) → effective_scale d.lscale global ≤ 9 → Shifted e c p k q l
+        → Shifted e (course_past a (Draws d) global c) (shift p (displacement a d global)) (drawn_on a d global p k) (shift q (displacement a d global)) (drawn_on a d global q l)
+    draws c d global p q k l low shifted unset =
+        let (place, strokes) = shifted unset in
+        let to = ap (λ v. shift v (displacement a d global)) place ∙ shift_swap p e (displacement a d global) in
+        (to, by_bright d.bright p q _ _ k l place to strokes)
+      where
+        by_bright :
+            (bright : ℕ) (p q p' q' : Point) (k l : List Stroke) → q ≡ shift p e → q' ≡ shift p' e → l ≡ strokes_by e k
+            → lit_by bright (record { from = q; to = q' }) ++ l ≡ strokes_by e (lit_by bright (record { from = p; to = p' }) ++ k)
+        by_bright zero p q p' q' k l from to strokes = strokes
+        by_bright (suc n) p q p' q' k l from to strokes = λ i. record { from = from i; to = to i } ∷ strokes i
+
+-- a run that is safe from any place lights nothing before the first LABS: from a place far enough to the left that would be outside
+module _ (a : Machine) (m : Memory) (w : Window) (words depth : ℕ) (rounds : RunsOnlyRound a m) (safe : Safe (on a m) w words depth) where
+  bare :
+      (place : Point) (scale steps : ℕ) (to : Status) → scale ≤ 15 → (run : Reached (on a m) steps (Running (start place scale)) to)
+      → (course_of (on a m) place scale steps to run).by_labs ≡ false → (state_of to).strokes ≡ []
+  bare place scale steps to small run unset = by_strokes (state_of to).strokes refl
+    where
+      by_strokes : (drawn : List Stroke) → (state_of to).strokes ≡ drawn → (state_of to).strokes ≡ []
+      by_strokes [] is = is
+      by_strokes (stroke ∷ drawn) is =
+          let e : Point = record { x = neg_ℤ stroke.from.x +ℤ negsuc 0; y = pos 0 } in
+          let c = course_of (on a m) place scale steps to run in
+          let other =
+          run_on (on a m) (on a m) (λ c from. Rounds a m from) (Beside (Shifted e))
+          (λ c s ok. rounds_on a m s ok) (λ c s t ok beside. beside_next a a (Shifted e) (shifted_kept a e) m c s t (ok 0 s refl) beside)
+          steps (course_at_start place) (Running (start place scale)) to (Running (start (shift place e) scale)) run
+          (λ k s. rounds place scale k s small) (record { same = refl; related = λ u. (refl, refl) }) in
+          let beside = of_both (Beside (Shifted e) c) to other.0 other.2 in
+          let strokes = (beside.related unset).1 ∙ ap (strokes_by e) is in
+          let state = safe_state (on a m) w words depth steps other.0 (safe.each (shift place e) scale small steps other.0 other.1) in
+          let lit = subst (λ l. AllByRecursion (Ends (InWindow w)) l) strokes state.lit in
+          absurd (omega (arith, ints, lit.0.0.left))
+
+-- ---- windows
+
+near_window : (n k : ℕ) (outer inner : Window) (p q : Point) → IsInset n outer inner → k ≤ n → AreNear (512 * k) p q → InWindow inner p → InWindow outer q
+near_window n k outer inner p q inset few near there =
+    record {
+      left = omega (arith, ints, inset.left, few, near.0.low, there.left);
+      right = omega (arith, ints, inset.right, few, near.0.high, there.right);
+      bottom = omega (arith, ints, inset.bottom, few, near.1.low, there.bottom);
+      top = omega (arith, ints, inset.top, few, near.1.high, there.top);
+    }
+
+abbrev Lit : Window → List Stroke → Type 0
+Lit w strokes = AllByRecursion (Ends (InWindow w)) strokes
+
+-- a draw that is lit in the inner window on the one machine is lit in the outer one on the other
+lit_draw :
+    (outer inner : Window) (bright : ℕ) (first second : Stroke) (drawn other : List Stroke)
+    → (InWindow inner first.from → InWindow outer second.from) → (InWindow inner first.to → InWindow outer second.to)
+    → Lit inner (lit_by bright first ++ drawn) → Lit outer other → Lit outer (lit_by bright second ++ other)
+lit_draw outer inner zero first second drawn other from to lit all = all
+lit_draw outer inner (suc n) first second drawn other from to lit all = ((from lit.0.0, to lit.0.1), all)
+
+lit_call : (w : Window) (room : Bool) (to : ℕ) (s : State) → Lit w s.strokes → Lit w (state_of (after_call room to s)).strokes
+lit_call w true to s all = all
+lit_call w false to s all = all
+
+lit_return : (w : Window) (stack : List ℕ) (s : State) → Lit w s.strokes → Lit w (state_of (after_return stack s)).strokes
+lit_return w [] s all = all
+lit_return w (back ∷ rest) s all = all
+
+-- and if it lights nothing on the one machine, it lights nothing on the other
+dark_draw : (outer : Window) (bright : ℕ) (first second : Stroke) (drawn other : List Stroke) → lit_by bright first ++ drawn ≡ [] → Lit outer other → Lit outer (lit_by bright second ++ other)
+dark_draw outer zero first second drawn other none all = all
+dark_draw outer (suc n) first second drawn other none all = cc
+
+module _ (outer inner : Window) (a b : Machine) (s t : State) (c : Course) (all : Lit outer t.strokes) where
+  -- the place is in the outer window on the second machine, if it is in the inner one on the first, once a LABS has come
+  abbrev Moves : State → State → Type 0
+  Moves u v = c.by_labs ≡ true → InWindow inner u.place → InWindow outer v.place
+
+  lit_instruction :
+      (i : Instr) (format : Format) → Moves s t → Moves (state_of (after_instruction a i format s)) (state_of (after_instruction b i format t))
+      → ((course_past a i s.scale c).by_labs ≡ false → (state_of (after_instruction a i format s)).strokes ≡ [])
+      → Lit inner (state_of (after_instruction a i format s)).strokes → Lit outer (state_of (after_instruction b i format t)).strokes
+  lit_instruction (Draws d) format from to none lit = by_labs c.by_labs refl
+    where
+      by_labs : (set : Bool) → c.by_labs ≡ set → Lit outer (drawn_on b d t.scale t.place t.strokes)
+      by_labs true is = lit_draw outer inner d.bright _ _ s.strokes t.strokes (from is) (to is) lit all
+      by_labs false is = dark_draw outer d.bright _ _ s.strokes t.strokes (none is) all
+  lit_instruction (Labs x y gscale) format from to none lit = all
+  lit_instruction Halt format from to none lit = all
+  lit_instruction (Jsrl next) format from to none lit = lit_call outer (nat_lt (length t.return_stack) 4) next t all
+  lit_instruction Rtsl format from to none lit = lit_return outer t.return_stack t all
+  lit_instruction (Jmpl next) format from to none lit = all
+
+  lit_cell :
+      (cell : Cell) → Moves s t → Moves (state_of (after_cell a cell s)) (state_of (after_cell b cell t))
+      → ((course_at a cell s.scale c).by_labs ≡ false → (state_of (after_cell a cell s)).strokes ≡ [])
+      → Lit inner (state_of (after_cell a cell s)).strokes → Lit outer (state_of (after_cell b cell t)).strokes
+  lit_cell Missing from to none lit = all
+  lit_cell Odd from to none lit = all
+  lit_cell (Holds format i) from to none lit = lit_instruction i format from to none lit
+
+-- the same of what stands at an address, as each machine reads it
+abbrev LitKept : Window → Window → Machine → Machine → Course → State → State → Cell → Cell → Type 0
+LitKept outer inner a b c here there u v =
+    (c.by_labs ≡ true → InWindow inner here.place → InWindow outer there.place)
+    → (c.by_labs ≡ true → InWindow inner (state_of (after_cell a u here)).place → InWindow outer (state_of (after_cell b v there)).place)
+    → ((course_at a u here.scale c).by_labs ≡ false → (state_of (after_cell a u here)).strokes ≡ [])
+    → Lit inner (state_of (after_cell a u here)).strokes → Lit outer (state_of (after_cell b v there)).strokes
+
+lit_next :
+    (outer inner : Window) (a b : Machine) (m : Memory) (c : Course) (s t : State) → OnlyRounds s.scale (cell_at (word_at (on Profile m)) s.pc) → t.pc ≡ s.pc
+    → (c.by_labs ≡ true → InWindow inner s.place → InWindow outer t.place)
+    → (c.by_labs ≡ true → InWindow inner (state_of (next_status (on a m) s)).place → InWindow outer (state_of (next_status (on b m) t)).place)
+    → ((course_after (on a m) (Running s) c).by_labs ≡ false → (state_of (next_status (on a m) s)).strokes ≡ [])
+    → Lit inner (state_of (next_status (on a m) s)).strokes → Lit outer t.strokes → Lit outer (state_of (next_status (on b m) t)).strokes
+unfolding next_status
+lit_next outer inner a b m c s t rounds pc from to none lit all =
+    let cell = cell_at (word_at (on Profile m)) s.pc in
+    let read = not_odd s.scale cell rounds in
+    let here = after_fetch (on a m) s in
+    let there = after_fetch (on b m) t in
+    let first = lit_cell outer inner a b here there c all cell in
+    let second = subst (λ u. LitKept outer inner a b c here there u cell) (sym (same_cell a m s.pc read)) first in
+    let third = subst (λ v. LitKept outer inner a b c here there (cell_at (word_at (on a m)) s.pc) v) (sym (ap (λ p. cell_at (word_at (on b m)) p) pc ∙ same_cell b m s.pc read)) second in
+    third from to none lit
+
+-- once a LABS has come, it has come
+still_set : (a : Machine) (cell : Cell) (scale : ℕ) (c : Course) → c.by_labs ≡ true → (course_at a cell scale c).by_labs ≡ true
+still_set a Missing scale c set = set
+still_set a Odd scale c set = set
+still_set a (Holds format (Draws d)) scale c set = set
+still_set a (Holds format (Labs x y gscale)) scale c set = refl
+still_set a (Holds format Halt) scale c set = set
+still_set a (Holds format (Jsrl to)) scale c set = set
+still_set a (Holds format Rtsl) scale c set = set
+still_set a (Holds format (Jmpl to)) scale c set = set
+
+-- ---- runs in windows
+
+abbrev IsNearLit : Window → Course → State → State → Type 0
+IsNearLit w c s t = NearBy c s t × Lit w t.strokes
+
+-- what is known of all that a run from here comes to: it is rounded alike, and from the first LABS on it has few draws and is lit in the
+-- inner window
+record Ahead (a : Machine) (m : Memory) (n : ℕ) (inner : Window) (c : Course) (from : Status) : Type 0 where
+  rounds : Rounds a m from
+  few : (steps : ℕ) (to : Status) (run : Reached (on a m) steps from to) → (course_along (on a m) steps from to run c).by_labs ≡ true → length (course_along (on a m) steps from to run c).moves ≤ n
+  none : (steps : ℕ) (to : Status) (run : Reached (on a m) steps from to) → (course_along (on a m) steps from to run c).by_labs ≡ false → (state_of to).strokes ≡ []
+  lit : (steps : ℕ) (to : Status) → Reached (on a m) steps from to → Lit inner (state_of to).strokes
+
+module _ (half : HalfPlace) (a b : Machine) (m : Memory) (n : ℕ) (outer inner : Window) (inset : IsInset n outer inner) where
+  ahead_on : (c : Course) (s : State) → Ahead a m n inner c (Running s) → Ahead a m n inner (course_after (on a m) (Running s) c) (next_status (on a m) s)
+  ahead_on c s ahead =
+      record {
+        rounds = rounds_on a m s ahead.rounds;
+        few = λ steps to run. ahead.few (suc steps) to (next_status (on a m) s, refl, run);
+        none = λ steps to run. ahead.none (suc steps) to (next_status (on a m) s, refl, run);
+        lit = λ steps to run. ahead.lit (suc steps) to (next_status (on a m) s, refl, run);
+      }
+
+  ahead_kept :
+      (c : Course) (s t : State) → Ahead a m n inner c (Running s) → IsNearLit outer c s t
+      → Both (IsNearLit outer (course_after (on a m) (Running s) c)) (next_status (on a m) s) (next_status (on b m) t)
+  ahead_kept c s t ahead (near, lit) =
+      let next = course_after (on a m) (Running s) c in
+      let rest = ahead_on c s ahead in
+      let rounds = ahead.rounds 0 s refl in
+      let nears = near_next half a b m c s t rounds near in
+      let ends = of_both (NearBy next) (next_status (on a m) s) (next_status (on b m) t) nears in
+      let set = still_set a (cell_at (word_at (on a m)) s.pc) s.scale c in
+      let from = λ (is : c.by_labs ≡ true). near_window n (length c.moves) outer inner s.place t.place inset (ahead.few 0 (Running s) refl is) (near.x, near.y) in
+      let to =
+      λ (is : c.by_labs ≡ true).
+      near_window n (length next.moves) outer inner (state_of (next_status (on a m) s)).place (state_of (next_status (on b m) t)).place inset
+      (rest.few 0 (next_status (on a m) s) refl (set is)) (ends.x, ends.y) in
+      let all =
+      lit_next outer inner a b m c s t rounds (ap (λ u. u.pc) near.same) from to (rest.none 0 (next_status (on a m) s) refl)
+      (rest.lit 0 (next_status (on a m) s) refl) lit in
+      both_with (NearBy next) (λ u v. Lit outer v.strokes) (IsNearLit outer next) (next_status (on a m) s) (next_status (on b m) t) (λ u v p q. (p, q)) nears all
+
+  safe_as :
+      (words depth steps : ℕ) (s t : State) (most : ℕ) → IsNear most s t → Lit outer t.strokes → IsSafeState (on a m) inner words depth steps s
+      → IsSafeState (on b m) outer words depth steps t
+  safe_as words depth steps s t most near lit safe =
+      let fetched : s.fetched ≡ t.fetched = sym (ap (λ u. u.fetched) near.same) in
+      record {
+        within = safe.within;
+        few = subst (λ l. length l ≤ words) fetched safe.few;
+        mapped = subst (λ l. AllByRecursion (IsMapped (on b m)) l) fetched safe.mapped;
+        stored = subst (λ k. k ≤ depth) (sym (ap (λ u. u.max_stack) near.same)) safe.stored;
+        lit = lit;
+      }
+
+  safe_like :
+      (words depth steps : ℕ) (c : Course) (from to : Status) → Both (IsNearLit outer c) from to → IsSafeStatus (on a m) inner words depth steps from
+      → IsSafeStatus (on b m) outer words depth steps to
+  safe_like words depth steps c (Running s) (Running t) near safe = safe_as words depth steps s t (512 * length c.moves) near.0 near.1 safe
+  safe_like words depth steps c (Halted s) (Halted t) near safe = safe_as words depth steps s t (512 * length c.moves) near.0 near.1 safe
+  safe_like words depth steps c (Running s) (Halted t) near safe = absurd near
+  safe_like words depth steps c (Running s) (Fault t) near safe = absurd near
+  safe_like words depth steps c (Halted s) (Running t) near safe = absurd near
+  safe_like words depth steps c (Halted s) (Fault t) near safe = absurd near
+  safe_like words depth steps c (Fault s) to near safe = absurd safe
+
+halts_too : (P : State → State → Type 0) (h : State) (to : Status) → Both P (Halted h) to → (t : State) × (to ≡ Halted t)
+halts_too P h (Halted t) both = (t, refl)
+halts_too P h (Running t) both = absurd both
+halts_too P h (Fault t) both = absurd both
+
+pub inset_is_safe : HalfPlace → InsetIsSafe
+inset_is_safe half a b m n outer inner words depth inset rounds few safe = record { four = safe.four; halts = halts; each = each }
+  where
+    ahead : (place : Point) (scale : ℕ) → scale ≤ 15 → Ahead a m n inner (course_at_start place) (Running (start place scale))
+    ahead place scale small =
+        record {
+          rounds = λ steps s. rounds place scale steps s small;
+          few = λ steps to run. few place scale steps to small run;
+          none = λ steps to run. bare a m inner words depth rounds safe place scale steps to small run;
+          lit = λ steps to run. (safe_state (on a m) inner words depth steps to (safe.each place scale small steps to run)).lit;
+        }
+
+    halts : (place : Point) (scale : ℕ) → scale ≤ 15 → HaltsWithin (on b m) words place scale
+    halts place scale small =
+        let first = Running (start place scale) in
+        let (steps, h, le, run) = safe.halts place scale small in
+        let other =
+        run_on (on a m) (on b m) (Ahead a m n inner) (IsNearLit outer) (ahead_on half a b m n outer inner inset) (ahead_kept half a b m n outer inner inset)
+        steps (course_at_start place) first (Halted h) first run (ahead place scale small) (start_near place scale, tt) in
+        let end = halts_too (IsNearLit outer (course_of (on a m) place scale steps (Halted h) run)) h other.0 other.2 in
+        (steps, end.0, le, subst (λ x. Reached (on b m) steps first x) end.1 other.1)
+
+    each : (place : Point) (scale : ℕ) → scale ≤ 15 → StaysSafe (on b m) outer words depth place scale
+    each place scale small steps end run =
+        let first = Running (start place scale) in
+        let other =
+        run_back (on a m) (on b m) (Ahead a m n inner) (IsNearLit outer) (ahead_on half a b m n outer inner inset) (ahead_kept half a b m n outer inner inset)
+        steps (course_at_start place) first first end run (ahead place scale small) (start_near place scale, tt) in
+        safe_like half a b m n outer inner inset words depth steps (course_of (on a m) place scale steps other.0 other.1) other.0 end other.2 (safe.each place scale small steps other.0 other.1)
