@@ -8,7 +8,7 @@ ghost use Rattle.dvg_items.specs.Seen.{seen_with};
 ghost use Rattle.dvg_items.specs.Cursor.{first_cursor};
 ghost use Rattle.dvg_items.specs.Bounds.{IsClaim, IsSoundCursor, IsSoundSeen};
 
-use crate::action::action_of;
+use crate::action::action_at;
 use crate::item::{Item, Kind};
 use crate::known::Known;
 use crate::seen::Seen;
@@ -62,13 +62,13 @@ impl Cursor {
             format,
             instr: *instr,
         };
-        let action = action_of(machine, instr, self.known.scale, &callee);
+        let action = action_at(machine, self, instr, &callee);
         Seen {
             item,
             place: self.known.place,
             extent: action.extent,
             callee,
-            after: self.known.past(&action.effect, &item, &callee),
+            after: self.known.past(action.place, &item, &callee),
         }
     }
 }

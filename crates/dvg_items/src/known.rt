@@ -162,15 +162,15 @@ impl Known {
         }
     }
 
-    /// What is known past an item with this effect on the place that calls this entry.
+    /// What is known past an item that leaves the beam at this place, with the entry that it calls.
     #[inline(always)]
-    pub fn past(&self, effect: &Effect, item: &Item, callee: &Option<Entry>) -> Known
+    pub fn past(&self, place: End, item: &Item, callee: &Option<Entry>) -> Known
         requires before { IsSoundCursor (record { at = item.now.at; known = self.now }) }
-        requires effect { IsNearEffect effect.now }
+        requires place { IsNearPlace (item.now.at + 1) place }
         requires callee { IfSome callee.now IsClaim }
         requires near { item.now.at < ADDRESS_END }
         requires fields { InstrFits item.now.instr }
-        ensures value { (machine : Machine) → effect.now ≡ effect_of machine item.now.instr self.now.scale callee.now
+        ensures value { (machine : Machine) → place ≡ place_past (effect_of machine item.now.instr self.now.scale callee.now) self.now.place
             → result ≡ known_past machine item.now callee.now self.now }
         ensures place { IsNearPlace (item.now.at + 1) result.place }
         ensures key { IsKey result.scale }
@@ -178,7 +178,7 @@ impl Known {
         ensures depth { result.depth ≤ 4 }
     {
         Known {
-            place: place_past(effect, &self.place, item.at),
+            place,
             scale: scale_past(&item.instr, self.scale, callee),
             words: u32::from(item.format.words()) + callee_words(callee) + self.words,
             depth: depth_under(&item.instr, callee).max(self.depth),

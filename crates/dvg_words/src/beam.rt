@@ -1,8 +1,8 @@
 //! Where the beam goes. Places are in units of 1/1024 of a screen place, and y grows upwards (profile).
 
-ghost use Rattle.std.specs.Prelude.{◌≡◌, ◌≤◌, pos, negsuc, neg_ℤ, ◌*◌, ◌^◌, ◌+ℤ◌, ◌≤ℤ◌, ◌*ℤ◌, FitsSigned};
+ghost use Rattle.std.specs.Prelude.{ℤ, ◌≡◌, ◌≤◌, pos, negsuc, neg_ℤ, ◌*◌, ◌^◌, ◌+ℤ◌, ◌≤ℤ◌, ◌*ℤ◌, FitsSigned};
 ghost use Rattle.std.specs.Int.{w64};
-ghost use Rattle.dvg_words.specs.Beam.{factor, rounded_move, displacement, shift, labs_coordinate, labs_place, IsWithin};
+ghost use Rattle.dvg_words.specs.Beam.{axis_move, factor, rounded_move, displacement, shift, labs_coordinate, labs_place, IsWithin};
 ghost use Rattle.dvg_words.specs.Values.{Profile, Board};
 
 use crate::instruction::Draw;
@@ -70,9 +70,23 @@ pub fn factor(local: u8, global: u8) -> u16
     ensures value { result ≡ factor local global }
     ensures small { result ≤ 1024 }
 {
+    factor_on(Machine::Profile, local, global)
+}
+
+/// The same on a machine: 0 on the board where it draws nothing.
+fn factor_on(machine: Machine, local: u8, global: u8) -> u16
+    requires local { local ≤ 9 }
+    requires global { global ≤ 15 }
+    ensures profile { machine ≡ Profile → result ≡ factor local global }
+    ensures board { machine ≡ Board → (size : ℤ) → rounded_move (size *ℤ pos result) ≡ axis_move Board size local global }
+    ensures small { result ≤ 1024 }
+{
     match (local + global) % 16 {
         scale @ 0..=9 => 2 << scale,
-        _ => 1,
+        _ => match machine {
+            Machine::Profile => 1,
+            Machine::Board => 0,
+        },
     }
 }
 
@@ -118,12 +132,11 @@ pub fn displacement_on(machine: Machine, draw: &Draw, gscale: u8) -> (i32, i32)
     ensures x { result.0 ≡ (displacement machine draw.now gscale).x }
     ensures y { result.1 ≡ (displacement machine draw.now gscale).y }
 {
-    let factor = factor(draw.lscale, gscale);
+    let factor = factor_on(machine, draw.lscale, gscale);
     let (dx, dy) = (scaled(draw.dx, factor), scaled(draw.dy, factor));
     match machine {
         Machine::Profile => (dx, dy),
-        Machine::Board if (draw.lscale + gscale) % 16 <= 9 => (rounded_move(dx), rounded_move(dy)),
-        Machine::Board => (0, 0),
+        Machine::Board => (rounded_move(dx), rounded_move(dy)),
     }
 }
 
