@@ -11,6 +11,7 @@ SVECs a sixteenth is dark.
 import os
 import subprocess
 import sys
+from itertools import product
 from typing import NamedTuple
 
 from emulator import Run, emulate
@@ -43,8 +44,8 @@ def vectors():
 
 
 def short_vectors():
-    for low_bits in range(4096):
-        yield Shape(short_vector(low_bits), start(low_bits & 4), start(low_bits & 0x400))
+    for code, y, x, intensity in product(range(4), range(8), range(8), range(16)):
+        yield Shape(short_vector(code, y, x, intensity), start(x & 4), start(y & 4))
 
 
 def places():

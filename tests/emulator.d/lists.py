@@ -56,7 +56,7 @@ class Rom(NamedTuple):
 def small_draw(chance):
     """A draw of a shape: some places at global scale 0."""
     if chance.one_in(2):
-        return short_vector(chance.between(0, 4095) & 0x7F7 | chance.between(0, 1) << 11)
+        return short_vector(chance.between(0, 1), chance.between(0, 7), chance.between(0, 7), chance.intensity())
     scale = chance.between(0, 9)
     most = min(1023, 8 << 9 - scale)
     y, x = (chance.between(0, most) | chance.between(0, 1) << 10 for _ in range(2))
@@ -76,7 +76,7 @@ def shape(chance, levels, level):
             words += call(chance.one_of(levels[chance.between(0, level - 1)]))
         if chance.one_in(4):
             return words + jump(chance.one_of(levels[chance.between(0, level - 1)]))
-    return words + [RETURN]
+    return words + [RETURN | chance.between(0, 0xFFF)]
 
 
 def some_rom(chance):
@@ -106,12 +106,16 @@ class Author:
         self.words += labs(x, y, scale)
         self.scale, self.x, self.y = scale, x * FINE, y * FINE
 
+    def moved(self, scale, y, x, is_down, is_left):
+        """A draw of these sizes at an effective scale was written."""
+        if scale in FACTORS:
+            self.x += (x << scale) * (-1 if is_left else 1)
+            self.y += (y << scale) * (-1 if is_down else 1)
+
     def draw(self, scale, y, x, intensity):
         """A VCTR of these signed sizes at an effective scale."""
         self.words += vector((scale - self.scale) % 16, y, x, intensity, self.chance.between(0, 3))
-        if scale in FACTORS:
-            self.x += ((x & 0x3FF) << scale) * (-1 if x & 0x400 else 1)
-            self.y += ((y & 0x3FF) << scale) * (-1 if y & 0x400 else 1)
+        self.moved(scale, y & 0x3FF, x & 0x3FF, y & 0x400, x & 0x400)
 
     def scales(self):
         """The effective scales that a VCTR can have now, and at which it moves."""
@@ -124,6 +128,14 @@ class Author:
         scale = self.chance.one_of(far) if far else max(self.scales(), default=None)
         if scale is not None:
             self.draw(scale, towards(up, scale), towards(across, scale), intensity)
+
+    def go_short(self):
+        """An SVEC, inward on each axis."""
+        code, y, x = (self.chance.between(0, 3) for _ in range(3))
+        left, right, bottom, top = self.window
+        is_left, is_down = 2 * self.x > (left + right) * FINE, 2 * self.y > (bottom + top) * FINE
+        self.words += short_vector(code, y | is_down << 2, x | is_left << 2, self.chance.intensity())
+        self.moved((2 + code + self.scale) % 16, 256 * y, 256 * x, is_down, is_left)
 
     def go_far(self, x, y):
         """Dark draws of whole places to this place."""
@@ -156,6 +168,12 @@ class Author:
             return x, y
         return min(max(x, left * FINE), right * FINE), min(max(y, bottom * FINE), top * FINE)
 
+    def step(self, most, times):
+        if self.chance.one_in(15):
+            self.go_short()
+        else:
+            self.go(*self.near_by(most, times), self.chance.intensity())
+
     # the parts of a list, each of which begins with a LABS
 
     def edges(self):
@@ -163,7 +181,7 @@ class Author:
             x, y = self.some_place(20)
             self.labs(x // FINE, y // FINE, self.chance.one_of((0, 0, 1, 2, 14, 15)))
             for _ in range(self.chance.between(1, 6)):
-                self.go(*self.near_by(40, 60), self.chance.intensity())
+                self.step(40, 60)
 
     def long(self):
         """Many draws after one LABS."""
@@ -171,7 +189,7 @@ class Author:
         self.labs(x // FINE, y // FINE, self.chance.one_of((0, 0, 1, 2, 13, 15)))
         most = self.chance.one_of((2, 5, 15, 60))
         for _ in range(self.chance.between(30, (1000 - len(self.words)) // 2)):
-            self.go(*self.near_by(most, 5000), self.chance.intensity())
+            self.step(most, 5000)
 
     def calls(self):
         reach = self.chance.one_of((20, 100, 300))
@@ -190,7 +208,7 @@ class Author:
             local = self.chance.between(0, 9)
             scale = (local + self.scale) % 16
             if scale in FACTORS:
-                self.go(*self.near_by(20, 200), self.chance.intensity())
+                self.step(20, 200)
             else:
                 y, x = (self.chance.between(0, 2047) for _ in range(2))
                 self.draw(scale, y, x, self.chance.intensity())
@@ -216,7 +234,7 @@ class Author:
         x, y = self.some_place(60)
         self.go_far(x // FINE, y // FINE)
         for _ in range(self.chance.between(1, 20)):
-            self.go(*self.near_by(20, 100), self.chance.intensity())
+            self.step(20, 100)
 
     # what stands before and between them
 
@@ -241,7 +259,7 @@ class Author:
             self.chance.one_of((self.edges, self.long, self.calls, self.calls, self.wraps, self.away, self.around))()
             if len(self.words) > 300:
                 break
-        return self.words + [HALT]
+        return self.words + [HALT | self.chance.between(0, 0xFFF)]
 
 
 def some_list(chance, rom, window):

@@ -5,16 +5,17 @@ RETURN = 0xD000
 
 
 def vector(scale, y, x, intensity, spare=0):
-    """A VCTR: `y` and `x` are a size and its sign in bit 10; bit 11 of each word is ignored."""
+    """A VCTR: `y` and `x` are a size of ten bits, and its sign in bit 10; bit 11 of each word is ignored."""
     return [scale << 12 | (spare & 1) << 11 | y, intensity << 12 | (spare >> 1 & 1) << 11 | x]
+
+
+def short_vector(code, y, x, intensity):
+    """An SVEC: `y` and `x` are a number of two bits, and its sign in bit 2."""
+    return [0xF000 | (code & 1) << 11 | y << 8 | intensity << 4 | code >> 1 << 3 | x]
 
 
 def labs(x, y, scale):
     return [0xA000 | y & 0xFFF, scale << 12 | x & 0xFFF]
-
-
-def short_vector(low_bits):
-    return [0xF000 | low_bits]
 
 
 def call(address):
