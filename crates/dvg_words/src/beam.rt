@@ -135,9 +135,8 @@ pub fn displacement_on(machine: Machine, draw: &Draw, gscale: u8) -> (i32, i32)
     let factor = factor_on(machine, draw.lscale, gscale);
     let (dx, dy) = (scaled(draw.dx, factor), scaled(draw.dy, factor));
     match machine {
-        // With the greatest factor all moves are whole.
-        Machine::Board if factor < 1024 => (rounded_move(dx), rounded_move(dy)),
-        _ => (dx, dy),
+        Machine::Profile => (dx, dy),
+        Machine::Board => (rounded_move(dx), rounded_move(dy)),
     }
 }
 
