@@ -40,12 +40,17 @@ impl MakeAnswer {
 }
 
 /// The answer that nothing is made, because of this fault of the inputs.
-fn unasked(alloc: Global, fault: FramesRunFault, why: PlainWhy) -> MakeAnswer
+fn unasked(
+    machine: Machine,
+    alloc: Global,
+    fault: FramesRunFault,
+    why: PlainWhy,
+) -> MakeAnswer
     ensures { result.made ≡ Err fault }
 {
     MakeAnswer {
         made: Err(fault),
-        account: plain_text(alloc, fault.number(), why),
+        account: plain_text(machine, alloc, fault.number(), why),
     }
 }
 
@@ -79,16 +84,16 @@ fn answer_on(
             bytes: rom.len(),
             map,
         };
-        return unasked(alloc, MakeRunFault::RomLength.into(), why);
+        return unasked(machine, alloc, MakeRunFault::RomLength.into(), why);
     };
     let images = match images_of(alloc, frames) {
         Ok(images) => images,
-        Err(fault) => return unasked(alloc, fault, length_why(fault, frames)),
+        Err(fault) => return unasked(machine, alloc, fault, length_why(fault, frames)),
     };
     match explain_making(alloc, &image, roots, &images) {
         Ok(cert) => MakeAnswer {
             made: Ok(cert.entries().len() as u32),
-            account: made_text(alloc, &cert),
+            account: made_text(machine, alloc, &cert),
         },
         Err(account) => MakeAnswer {
             made: Err(account.fault.into()),

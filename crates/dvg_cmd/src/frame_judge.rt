@@ -40,6 +40,9 @@ pub trait FrameJudge {
     /// The counts of what is accepted are exact.
     ghost is_exact: { Self → Type 0 };
 
+    /// The machine that accounts name.
+    fn machine(&self) -> Machine;
+
     /// The verdict on the bytes of a frame, and what the detail asks for behind its line.
     fn verdict(
         &self,
@@ -80,6 +83,10 @@ impl<'a> FrameJudge for OwnCertificates<'a> {
     ghost window = { λ own. own.window };
 
     ghost is_exact = { λ _. Unit {0} };
+
+    fn machine(&self) -> Machine {
+        self.machine
+    }
 
     fn verdict(
         &self,
@@ -209,6 +216,10 @@ impl<'a, E: Entries> FrameJudge for GivenCertificate<'a, E> {
     ghost window = { λ given. given.shapes.now.window };
 
     ghost is_exact = { λ given. given.shapes.now.mode ≡ Exact };
+
+    fn machine(&self) -> Machine {
+        self.machine
+    }
 
     fn verdict(
         &self,

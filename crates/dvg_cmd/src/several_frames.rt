@@ -65,7 +65,7 @@ fn run_named<J: FrameJudge, R: CountedRead + Drop, W: CountedWrite>(
     let NamedFrame { name, reader } = frame;
     match reader {
         Some(mut reader) => run_frame(alloc, judge, start, name, &mut reader, detail, out),
-        None => run_unopened(alloc, name, detail, out),
+        None => run_unopened(judge.machine(), alloc, name, detail, out),
     }
 }
 
