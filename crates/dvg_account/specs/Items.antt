@@ -1,4 +1,4 @@
--- The item of a refusal, and its lines. All of it is profile.
+-- The item of a refusal, and its lines. All of it is this project's own.
 use Rattle.std.specs.Prelude.{◌≡◌, ℕ, ◌+◌, List, ◌∷◌, ◌++◌, map, Option, Some, None, option_map, option_to_list, if◌then◌else◌}
 use Rattle.dvg_words.specs.Values.{Source}
 use Rattle.dvg_words.specs.Decoding.{opcode, is_long_opcode, cell_at}

@@ -1,4 +1,4 @@
--- The lines about the machine. All of it is profile.
+-- The lines about the machine. All of it is this project's own.
 use Rattle.std.specs.Prelude.{List, [], ◌∷◌, Option, Some, None}
 use Rattle.dvg_words.specs.declared.machine.Machine.{Machine}
 use Rattle.dvg_words.specs.declared.machine.Machine.TheVariants.{Profile, Board}

@@ -1,4 +1,4 @@
--- The lines of an answer of the maker. All of it is profile.
+-- The lines of an answer of the maker. All of it is this project's own.
 use Rattle.std.specs.Prelude.{◌≡◌, ℕ, max, List, [], ◌∷◌, ◌++◌, length, fold, Option, Some, None, slice_get, option_to_list}
 use Rattle.std.specs.Global.{Vec}
 use Rattle.dvg_words.specs.declared.machine.Machine.{Machine}

@@ -1,4 +1,4 @@
--- The lines of a refusal before any item was judged. All of it is profile.
+-- The lines of a refusal before any item was judged. All of it is this project's own.
 use Rattle.std.specs.Prelude.{ℕ, List, [], ◌∷◌, ◌++◌, Option, Some, None, option_to_list}
 use Rattle.dvg_words.specs.declared.machine.Machine.{Machine}
 use Rattle.dvg_account.specs.Machines.{machine_lines}

@@ -1,4 +1,4 @@
--- The lines of a refusal because of an item. All of it is profile.
+-- The lines of a refusal because of an item. All of it is this project's own.
 use Rattle.std.specs.Prelude.{◌≡◌, ℕ, List, [], ◌∷◌, ◌++◌, length, Option, Some, None, IfSome, IfNone, option_to_list}
 use Rattle.dvg_words.specs.declared.machine.Machine.{Machine}
 use Rattle.dvg_words.specs.Memory.{Rom, rom_word, frame_word, words_of, IsFrameLength}

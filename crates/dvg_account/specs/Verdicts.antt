@@ -1,4 +1,4 @@
--- The lines of a verdict. All of it is profile.
+-- The lines of a verdict. All of it is this project's own.
 use Rattle.std.specs.Prelude.{◌≡◌, List, length, Option, Some, Result, Ok, Err, IfSome}
 use Rattle.dvg_words.specs.Memory.{words_of, rom_on, IsFrameLength, IsRomLength}
 use Rattle.dvg_check.specs.Numbers.{refusal_number}

@@ -1,4 +1,4 @@
--- What the sentence of a refusal tells of its cause. All of it is profile.
+-- What the sentence of a refusal tells of its cause. All of it is this project's own.
 use Rattle.std.specs.Prelude.{◌≡◌, ℕ, ◌+◌, ◌-◌, nat_eq, if◌then◌else◌, List, length, Option, Some, None}
 use Rattle.dvg_words.specs.declared.machine.Machine.{Machine}
 use Rattle.dvg_words.specs.Values.{MemoryMap, Source}

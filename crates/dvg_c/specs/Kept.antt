@@ -1,4 +1,4 @@
--- Shapes that were judged, as they are kept in plain numbers. All of it is profile.
+-- Shapes that were judged, as they are kept in plain numbers. All of it is this project's own.
 use Rattle.std.specs.Prelude.{ℕ, ◌+◌, ◌-◌, ◌*◌, ◌==◌, nat_lt, List, map, take, if◌then◌else◌}
 use Rattle.dvg_words.specs.declared.machine.Machine.{Machine}
 use Rattle.dvg_words.specs.declared.machine.Machine.TheVariants.{Profile, Board}

@@ -1,4 +1,4 @@
--- What the plain structs that C sees stand for. All of it is profile.
+-- What the plain structs that C sees stand for. All of it is this project's own.
 use Rattle.std.specs.Prelude.{◌≡◌, ℕ, Result, Ok, Err}
 use Rattle.dvg_words.specs.Values.{Window}
 use Rattle.dvg_cert.specs.declared.entry.Key.{Key}

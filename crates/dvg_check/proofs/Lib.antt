@@ -10,6 +10,7 @@ pub mod FrameWalk
 pub mod Accepting
 pub mod Listed
 pub mod Safety
+pub mod Drift
 pub mod Example
 pub mod MachinesExample
 pub mod TailLaws

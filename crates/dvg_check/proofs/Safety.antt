@@ -10,7 +10,7 @@ use Rattle.dvg_check.specs.Laws.{StrokeInWindow, SafeStrokes, SafeStack}
 use Rattle.dvg_check.specs.Safety.{Ends, IsSafeState, IsSafeStatus}
 
 -- what is safe is no fault
-safe_state : (m : Memory) (w : Window) (words depth steps : ℕ) (after : Status) → IsSafeStatus m w words depth steps after → IsSafeState m w words depth steps (state_of after)
+pub safe_state : (m : Memory) (w : Window) (words depth steps : ℕ) (after : Status) → IsSafeStatus m w words depth steps after → IsSafeState m w words depth steps (state_of after)
 safe_state m w words depth steps (Running s) h = h
 safe_state m w words depth steps (Halted s) h = h
 safe_state m w words depth steps (Fault s) h = absurd h

@@ -1,4 +1,4 @@
--- The first fault, with what stands there and what is known before it. All of it is profile.
+-- The first fault, with what stands there and what is known before it. All of it is this project's own.
 use Rattle.dvg_words.specs.declared.machine.Machine.{Machine}
 use Rattle.std.specs.Prelude.{◌≡◌, ℕ, List, Option}
 use Rattle.dvg_words.specs.Values.{Window, Source}

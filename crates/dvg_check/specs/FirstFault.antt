@@ -1,4 +1,4 @@
--- The first fault: the first item that breaks a rule, and the lowest number that it breaks. All of it is profile.
+-- The first fault: the first item that breaks a rule, and the lowest number that it breaks. All of it is this project's own.
 use Rattle.dvg_words.specs.Values.{Source}
 use Rattle.dvg_words.specs.declared.machine.Machine.{Machine}
 use Rattle.std.specs.Prelude.{◌≡◌, ℕ, ◌<◌, List, ◌∷◌, ◌++◌, Option}

@@ -1,9 +1,10 @@
 -- Two worked frames without calls: each machine accepts one of them, and refuses the other.
 use Rattle.std.specs.Prelude.{ℕ, List, [], ◌∷◌}
-use Rattle.dvg_words.specs.Values.{Profile, Board}
+use Rattle.dvg_words.specs.declared.machine.Machine.TheVariants.{Profile, Board}
 use Rattle.dvg_words.specs.Beam.{screen}
-use Rattle.dvg_check.specs.Rules.{GoodFrame, frame}
+use Rattle.dvg_check.specs.Rules.{GoodFrame}
 use Rattle.dvg_check.specs.FirstFault.{FirstFrameFault}
+use Rattle.dvg_check.specs.declared.fault.FrameWhy.TheVariants as frame
 
 -- LABS to place 1022, 100 and global scale 0; twice lit, size 1 to the right at local scale 8; HALT
 abbrev pub edge_frame : List ℕ

@@ -1,4 +1,4 @@
--- The rules on one item, one by one: what an item must keep. All of it is profile.
+-- The rules on one item, one by one: what an item must keep. All of it is this project's own.
 use Rattle.dvg_words.specs.Values.{Source}
 use Rattle.dvg_words.specs.declared.machine.Machine.{Machine}
 use Rattle.std.specs.Prelude.{◌≡◌, ◌≢◌, ℕ, ◌+◌, ◌≤◌, ◌<◌, List, Option, Some, None, Contains}

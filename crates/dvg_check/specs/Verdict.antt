@@ -1,6 +1,6 @@
 -- The verdict on the bytes of a ROM, a certificate and a frame, under a budget of words. It is the first that applies of: 2, 49,
 -- the certificate's refusal, 1, the first fault of the shapes, the first fault of the frame, accepted. In place of those after 1
--- it may be 50, that there was no memory for the index. All of it is profile.
+-- it may be 50, that there was no memory for the index. All of it is this project's own.
 use Rattle.std.specs.Prelude.{◌≡◌, ◌≢◌, ℕ, ◌≤◌, List, length, Result, Ok, Err}
 use Rattle.dvg_words.specs.Values.{Window}
 use Rattle.dvg_words.specs.declared.machine.Machine.{Machine}

@@ -3,11 +3,12 @@
 
 ghost use Rattle.dvg_check.specs.Rules.{Mode};
 ghost use Rattle.dvg_check.specs.Laws.{OneItem, OneShape, AllShapes, GoodIsSafe, ExactIsExact, OneFault, NoFault, OneShapeFault, NoShapeFault, OneCount, OneVerdict, StrokeInWindow, SafeStrokes, SafeStack};
+ghost use Rattle.dvg_check.specs.Drift.{PlaceIsSum, HalfPlaceEach, InsetIsSafe};
 ghost use Rattle.dvg_check.specs.Example.{WorkedExample};
 ghost use Rattle.dvg_check.specs.MachinesExample.{WorkedMachines};
 
 use dvg_cert::laws::{one_answer, one_certificate};
-use dvg_words::laws::stack_within_max;
+use dvg_words::laws::{half_place, stack_within_max};
 
 /// A draw or a LABS leads from a state that agrees with what is known before it to one that agrees with what is known
 /// after it.
@@ -86,6 +87,29 @@ pub fn safe_stack()
     ensures { SafeStack }
 {
     stack_within_max();
+}
+
+/// In each state of each run, on either machine, the beam is where it was last set, moved by the sum of the moves of all draws
+/// since then.
+pub fn place_is_sum()
+    ensures { PlaceIsSum }
+{}
+
+/// Where no draw of a machine's runs has an effective scale over 9 and no LABS is odd, as many steps of the other machine lead to
+/// the same state, but for the place: on each axis it is at most half a screen place away for each draw since the beam was last set,
+/// dark or lit.
+pub fn half_place_each()
+    ensures { HalfPlaceEach }
+{
+    half_place();
+}
+
+/// Where, besides, at most n draws come since the beam was last set, in each state of each run of the one machine, what is safe
+/// there in a window that is n / 2 places smaller on each side, rounded up, is safe in the window on the other machine.
+pub fn inset_is_safe()
+    ensures { InsetIsSafe }
+{
+    half_place();
 }
 
 /// The worked example is good: a lit stroke as a shape of the ROM at 800, and a frame that calls it.

@@ -1,4 +1,4 @@
--- What a run writes behind the line of an answer. All of it is profile.
+-- What a run writes behind the line of an answer. All of it is this project's own.
 use Rattle.std.specs.Prelude.{◌≡◌, ◌≢◌, ℕ, List, [], codes, string_bytes}
 use Rattle.dvg_spelling.specs.Outcomes.{worse}
 use Rattle.dvg_spelling.specs.declared.outcome.Outcome.{Outcome}

@@ -1,4 +1,4 @@
--- What a run of the maker says of what it makes, and of why it makes nothing, and what is written of it. All of it is profile.
+-- What a run of the maker says of what it makes, and of why it makes nothing, and what is written of it. All of it is this project's own.
 use Rattle.std.specs.Prelude.{◌≡◌, ℕ, List, ◌++◌, length, Option, None, Result, Ok, Err}
 use Rattle.std.specs.Io.KnownBytes.{Appends}
 use Rattle.dvg_words.specs.declared.machine.Machine.{Machine}

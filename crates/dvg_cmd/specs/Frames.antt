@@ -1,4 +1,4 @@
--- The verdict on a frame by its own certificate, or over judged shapes, and what a run writes of it. All of it is profile.
+-- The verdict on a frame by its own certificate, or over judged shapes, and what a run writes of it. All of it is this project's own.
 use Rattle.std.specs.Prelude.{◌≡◌, ℕ, Bool, true, false, List, ◌++◌, take, length, Option, IfSome, Result, Ok, Err}
 use Rattle.std.specs.Io.KnownBytes.{Appends}
 use Rattle.dvg_words.specs.declared.machine.Machine.{Machine}

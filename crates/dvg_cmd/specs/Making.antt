@@ -1,4 +1,4 @@
--- What a run of the maker says of the bytes that its reader held, and what it writes. All of it is profile.
+-- What a run of the maker says of the bytes that its reader held, and what it writes. All of it is this project's own.
 use Rattle.std.specs.Prelude.{◌≡◌, ℕ, Bool, true, false, List, length, Option, IfSome, Result, Err}
 use Rattle.std.specs.Io.KnownBytes.{Appends}
 use Rattle.dvg_words.specs.declared.machine.Machine.{Machine}

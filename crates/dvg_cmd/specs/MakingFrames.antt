@@ -1,4 +1,4 @@
--- What a run of the maker for frames says of the bytes that its readers held, and what it writes. All of it is profile.
+-- What a run of the maker for frames says of the bytes that its readers held, and what it writes. All of it is this project's own.
 use Rattle.std.specs.Prelude.{◌≡◌, ℕ, zero, suc, Bool, true, false, List, [], ◌∷◌, ◌++◌, length, Option, None, Some, Result, Err}
 use Rattle.dvg_words.specs.declared.machine.Machine.{Machine}
 use Rattle.dvg_words.specs.Values.{MemoryMap}

@@ -1,4 +1,4 @@
--- What a run says of the bytes that its readers held, and what it writes. All of it is profile.
+-- What a run says of the bytes that its readers held, and what it writes. All of it is this project's own.
 use Rattle.std.specs.Prelude.{◌≡◌, ◌<◌, ◌≤◌, ℕ, Bool, true, false, List, ◌++◌, length, Option, IfSome, Result, Ok, Err, IfOk}
 use Rattle.std.specs.Io.KnownBytes.{Appends, Consumes, IsAtEnd}
 use Rattle.dvg_words.specs.declared.machine.Machine.{Machine}

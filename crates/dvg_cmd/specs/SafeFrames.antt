@@ -1,4 +1,4 @@
--- What an accepted line says of a frame that a reader held. All of it is profile.
+-- What an accepted line says of a frame that a reader held. All of it is this project's own.
 use Rattle.std.specs.Prelude.{ℕ, List, ◌++◌, codes, Option, IfSome}
 use Rattle.std.specs.Io.KnownBytes.{Appends}
 use Rattle.dvg_words.specs.Memory.{Rom, words_of}

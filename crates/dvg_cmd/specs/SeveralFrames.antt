@@ -1,4 +1,4 @@
--- What a run writes of several frames that are judged one after another. All of it is profile.
+-- What a run writes of several frames that are judged one after another. All of it is this project's own.
 use Rattle.std.specs.Prelude.{◌≡◌, ℕ, List, [], ◌∷◌, ◌++◌, length, Option, None, Some, option_map, Result, Ok, Err}
 use Rattle.std.specs.Io.KnownBytes.{Appends}
 use Rattle.dvg_words.specs.declared.machine.Machine.{Machine}

@@ -1,4 +1,4 @@
--- A frame that is judged from another word address than 000 on. All of it is profile.
+-- A frame that is judged from another word address than 000 on. All of it is this project's own.
 use Rattle.std.specs.Prelude.{◌+◌, ◌/◌, ◌%◌, ℕ, List, ◌∷◌, Option, Some, None}
 
 -- the bytes with the jump (JMPL) to a word address in place of their first word, the low byte first

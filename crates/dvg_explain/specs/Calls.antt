@@ -1,4 +1,4 @@
--- The calls of a frame or of a shape, and what their items may light at absolute places. All of it is profile.
+-- The calls of a frame or of a shape, and what their items may light at absolute places. All of it is this project's own.
 use Rattle.dvg_words.specs.Values.{Source}
 use Rattle.std.specs.Prelude.{◌≡◌, ℕ, List, [], ◌∷◌, ◌++◌, Option, None, Some, Contains}
 use Rattle.dvg_words.specs.Memory.{Rom, rom_word}

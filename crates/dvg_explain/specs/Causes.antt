@@ -1,4 +1,4 @@
--- Why a frame or a certificate's shapes are refused, in numbers. All of it is profile.
+-- Why a frame or a certificate's shapes are refused, in numbers. All of it is this project's own.
 use Rattle.std.specs.Prelude.{◌≡◌, ◌≢◌, ℕ, ◌-◌, ◌<◌, Some, None}
 use Rattle.dvg_words.specs.Values.{Window}
 use Rattle.dvg_words.specs.declared.instruction.Instr.TheVariants.{Jmpl}

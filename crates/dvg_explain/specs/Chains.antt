@@ -1,4 +1,4 @@
--- The calls by which a frame comes to an entry, by the claims of a list. All of it is profile.
+-- The calls by which a frame comes to an entry, by the claims of a list. All of it is this project's own.
 use Rattle.dvg_words.specs.Values.{Source}
 use Rattle.dvg_words.specs.declared.machine.Machine.{Machine}
 use Rattle.std.specs.Prelude.{◌≡◌, ℕ, List, [], ◌∷◌, Option, Some}

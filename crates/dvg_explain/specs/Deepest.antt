@@ -1,4 +1,4 @@
--- The calls below an entry that go deepest, by the claims of a list. All of it is profile.
+-- The calls below an entry that go deepest, by the claims of a list. All of it is this project's own.
 use Rattle.std.specs.Prelude.{◌≡◌, ℕ, zero, suc, ◌<◌, List, [], ◌∷◌, Some}
 use Rattle.std.specs.List.{AllByRecursion}
 use Rattle.dvg_words.specs.Memory.{Rom}

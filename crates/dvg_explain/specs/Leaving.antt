@@ -1,4 +1,4 @@
--- Which edge of a window a corner of what is lit is past, and by how much. All of it is profile.
+-- Which edge of a window a corner of what is lit is past, and by how much. All of it is this project's own.
 use Rattle.std.specs.Prelude.{◌≡◌, ℕ, pos, ◌*◌, ◌-ℤ◌, ◌<ℤ◌, ◌≤ℤ◌, ◌⊎◌, unsigned_abs, List, [], ◌∷◌}
 use Rattle.dvg_words.specs.Values.{Window}
 use Rattle.dvg_words.specs.declared.beam.Point.{Point}

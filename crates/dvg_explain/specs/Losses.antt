@@ -1,4 +1,4 @@
--- The items by which the known place and the known scale were lost. All of it is profile.
+-- The items by which the known place and the known scale were lost. All of it is this project's own.
 use Rattle.dvg_words.specs.Values.{Source}
 use Rattle.std.specs.Prelude.{◌≡◌, ℕ, List, [], ◌∷◌, Option, Some, None}
 use Rattle.dvg_cert.specs.declared.entry.End.{End}

@@ -1,4 +1,4 @@
--- How far a box is from each edge of a window. All of it is profile.
+-- How far a box is from each edge of a window. All of it is this project's own.
 use Rattle.std.specs.Prelude.{◌≡◌, pos, ◌+ℤ◌}
 use Rattle.dvg_cert.specs.declared.entry.LitBox.{LitBox}
 use Rattle.dvg_cert.specs.declared.entry.LitBox.TheVariants.{Empty, Span}

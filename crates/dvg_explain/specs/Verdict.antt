@@ -1,4 +1,4 @@
--- The verdict on a ROM and a frame by a certificate, where a refusal is told in numbers. All of it is profile.
+-- The verdict on a ROM and a frame by a certificate, where a refusal is told in numbers. All of it is this project's own.
 use Rattle.std.specs.Prelude.{ℕ, List, Result, Ok, Err}
 use Rattle.dvg_words.specs.Values.{Window}
 use Rattle.dvg_words.specs.Memory.{Rom}

@@ -1,4 +1,4 @@
--- Where a walk over items stands, and where one item leads it. All of it is profile.
+-- Where a walk over items stands, and where one item leads it. All of it is this project's own.
 use Rattle.std.specs.Prelude.{ℕ, Option, Some, None}
 use Rattle.dvg_cert.specs.declared.entry.Key.{Key}
 use Rattle.dvg_items.specs.Items.{Kind, next_address}

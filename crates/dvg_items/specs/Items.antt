@@ -1,4 +1,4 @@
--- The items of a shape or of a frame: one instruction after another, up to where it ends. All of it is profile.
+-- The items of a shape or of a frame: one instruction after another, up to where it ends. All of it is this project's own.
 use Rattle.std.specs.Prelude.{◌≡◌, ℕ, ◌+◌, List, [], ◌∷◌, Option, Some, None, nat_lt, if◌then◌else◌}
 use Rattle.dvg_words.specs.Values.{Source}
 use Rattle.dvg_words.specs.declared.instruction.Instr.TheVariants.{Draw as Draws, Labs, Halt, Jsrl, Rtsl, Jmpl}

@@ -1,4 +1,4 @@
--- What is known before an item: place, scale, words and depth, from the items before it. All of it is profile.
+-- What is known before an item: place, scale, words and depth, from the items before it. All of it is this project's own.
 use Rattle.std.specs.Prelude.{ℕ, ◌+◌, max, pos, ◌+ℤ◌, List, [], ◌∷◌, Option, Some, None, unwrap_or}
 use Rattle.std.specs.Option.{option_and_then}
 use Rattle.dvg_words.specs.Values.{DrawFields}

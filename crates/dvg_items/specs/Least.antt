@@ -1,4 +1,4 @@
--- The least box of what items light, at relative places and at absolute ones. All of it is profile.
+-- The least box of what items light, at relative places and at absolute ones. All of it is this project's own.
 use Rattle.std.specs.Prelude.{List, [], ◌∷◌, ◌++◌}
 use Rattle.std.specs.List.{AllByRecursion}
 use Rattle.dvg_words.specs.declared.beam.Point.{Point}

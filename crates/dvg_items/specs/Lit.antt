@@ -1,4 +1,4 @@
--- What an item lights, and where that may be. All of it is profile but for intensity 0, which is dark (DVG documentation).
+-- What an item lights, and where that may be. All of it is this project's own but for intensity 0, which is dark (DVG documentation).
 use Rattle.std.specs.Prelude.{◌≢◌, ℕ, zero, suc, ℤ, ◌≤ℤ◌, List, [], ◌∷◌, Option, Some, None}
 use Rattle.std.specs.List.{AllByRecursion}
 use Rattle.dvg_words.specs.Values.{DrawFields, Window}

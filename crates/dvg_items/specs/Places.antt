@@ -1,5 +1,5 @@
 -- The known place, from all items at once: where the latest item that sets or loses it left it, and all moves since then.
--- No rule uses this; a law says that it is the known place. All of it is profile.
+-- No rule uses this; a law says that it is the known place. All of it is this project's own.
 use Rattle.std.specs.Prelude.{◌≡◌, List, [], ◌∷◌}
 use Rattle.dvg_words.specs.declared.beam.Point.{Point}
 use Rattle.dvg_words.specs.Beam.{origin, shift}

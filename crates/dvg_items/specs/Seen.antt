@@ -1,4 +1,4 @@
--- What the rules see of an item. All of it is profile.
+-- What the rules see of an item. All of it is this project's own.
 use Rattle.dvg_words.specs.declared.machine.Machine.{Machine}
 use Rattle.std.specs.Prelude.{ℕ, List, Option, Some, None}
 use Rattle.dvg_words.specs.declared.instruction.Instr.{Instr}

@@ -1,4 +1,4 @@
--- Why an entry can't be made: the shapes on the way to the faulty item, the item, and the cause. All of it is profile.
+-- Why an entry can't be made: the shapes on the way to the faulty item, the item, and the cause. All of it is this project's own.
 use Rattle.dvg_words.specs.declared.machine.Machine.{Machine}
 use Rattle.std.specs.Prelude.{◌≡◌, ◌≢◌, ℕ, ◌+◌, ◌<◌, ◌≤◌, ◌⊎◌, List, [], ◌∷◌, length, take, Option, Some, None, Contains, slice_get}
 use Rattle.dvg_words.specs.Memory.{Rom, InRom, rom_word}

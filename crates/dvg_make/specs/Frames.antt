@@ -1,4 +1,4 @@
--- What the maker makes for frames: the list of entries that a ROM, roots and the calls of frames ask for. All of it is profile.
+-- What the maker makes for frames: the list of entries that a ROM, roots and the calls of frames ask for. All of it is this project's own.
 use Rattle.dvg_words.specs.declared.machine.Machine.{Machine}
 use Rattle.std.specs.Prelude.{◌≡◌, ℕ, ◌⊎◌, List, [], ◌∷◌, Some, Contains}
 use Rattle.dvg_words.specs.Memory.{Rom, frame_word}

@@ -1,4 +1,4 @@
--- The verdict on a frame by the certificate that is made for it. All of it is profile.
+-- The verdict on a frame by the certificate that is made for it. All of it is this project's own.
 use Rattle.std.specs.Prelude.{◌≡◌, ◌≢◌, ℕ, ◌≤◌, ◌⊎◌, List, [], ◌∷◌, Some, None, Result, Ok, Err}
 use Rattle.dvg_words.specs.Memory.{Rom}
 use Rattle.dvg_words.specs.Values.{Window}

@@ -1,4 +1,4 @@
--- What the maker makes: the list of entries that a ROM and roots ask for. All of it is profile.
+-- What the maker makes: the list of entries that a ROM and roots ask for. All of it is this project's own.
 use Rattle.std.specs.Prelude.{◌≡◌, ◌≢◌, ℕ, ◌≤◌, ◌⊎◌, List, [], ◌∷◌, Some, None, Contains}
 use Rattle.dvg_words.specs.Values.{Window}
 use Rattle.dvg_words.specs.Memory.{Rom, rom_word}

@@ -1,4 +1,4 @@
--- What a refusal of the maker means. All of it is profile.
+-- What a refusal of the maker means. All of it is this project's own.
 use Rattle.std.specs.Prelude.{◌≡◌, ℕ, ◌<◌, List, [], length, Some, IfSome, IfNone, slice_get}
 use Rattle.dvg_words.specs.Memory.{Rom}
 use Rattle.dvg_words.specs.Values.{Window}

@@ -1,4 +1,4 @@
--- What words of the command line spell. All of it is profile.
+-- What words of the command line spell. All of it is this project's own.
 use Rattle.std.specs.Prelude.{◌≡◌, ℕ, ◌<◌, List, [], ◌∷◌, ◌++◌, codes, decimal}
 use Rattle.std.specs.List.{join_with_byte}
 use Rattle.dvg_words.specs.Values.{MemoryMap, IsMap, Window, IsWindow}

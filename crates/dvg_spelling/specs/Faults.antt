@@ -1,4 +1,4 @@
--- The numbers of runs that failed. All of it is profile.
+-- The numbers of runs that failed. All of it is this project's own.
 use Rattle.std.specs.Prelude.{ℕ, Option, None, Some}
 use Rattle.dvg_make.specs.Refusals.{fault_number, make_fault_of}
 use Rattle.dvg_make.specs.declared.fault.EntryFault.{EntryFault}

@@ -1,4 +1,4 @@
--- What is said on standard error, and the line of what the maker makes. All of it is profile.
+-- What is said on standard error, and the line of what the maker makes. All of it is this project's own.
 use Rattle.std.specs.Prelude.{ℕ, List, codes, decimal, ◌++◌, Result, Ok, Err}
 use Rattle.dvg_make.specs.declared.fault.MakeFault.TheVariants as making
 use Rattle.dvg_spelling.specs.declared.fault.RunFault.{RunFault}

@@ -1,4 +1,4 @@
--- What a line reports. All of it is profile.
+-- What a line reports. All of it is this project's own.
 use Rattle.std.specs.Prelude.{Result, Ok, Err}
 use Rattle.dvg_cert.specs.declared.fault.CertWhy.{CertWhy}
 use Rattle.dvg_cert.specs.declared.fault.CertWhy.TheVariants.{Memory}

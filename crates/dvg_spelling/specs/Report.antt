@@ -1,4 +1,4 @@
--- The report: the line that is written for a verdict. All of it is profile.
+-- The report: the line that is written for a verdict. All of it is this project's own.
 use Rattle.std.specs.Prelude.{◌^◌, ℕ, ◌/◌, ◌%◌, nat_lt, true, List, [], ◌∷◌, ◌++◌, codes, decimal, Result, Ok, Err, if◌then◌else◌}
 use Rattle.std.specs.Fmt.{digit_glyph}
 use Rattle.dvg_words.specs.declared.image.ImageFault.TheVariants.{RomLength, FrameLength}

@@ -1,4 +1,4 @@
--- The table of numbers, as it is written. All of it is profile.
+-- The table of numbers, as it is written. All of it is this project's own.
 use Rattle.std.specs.Prelude.{ℕ, zero, suc, Bool, nat_le, ◌&&◌, ◌||◌, if◌then◌else◌, List, [], ◌∷◌, ◌++◌, codes, decimal}
 use Rattle.dvg_spelling.specs.declared.rules.Rule.{Rule}
 

@@ -28,7 +28,7 @@ abbrev pub rounded_move : ℤ → ℤ
 rounded_move (pos n) = pos (rounded n)
 rounded_move (negsuc n) = neg_ℤ (pos (rounded (suc n)))
 
--- how far a size moves the beam: size times factor (profile); on the board that is rounded, and is 0 at effective scales over 9
+-- how far a size moves the beam: size times factor (profile); the board rounds that, and has 0 at effective scales over 9 (MAME's DVG)
 abbrev pub axis_move : Machine → ℤ → ℕ → ℕ → ℤ
 axis_move Profile size local global = size *ℤ pos (factor local global)
 axis_move Board size local global =
@@ -42,7 +42,7 @@ displacement machine d global = record { x = axis_move machine d.dx d.lscale glo
 abbrev pub signed_field : ℕ → ℤ
 signed_field field = if nat_le field 2047 then pos field else pos field +ℤ negsuc 4095
 
--- where a LABS sets the beam on an axis: its field is a screen place, signed on the board, here in units of 1/1024
+-- where a LABS sets the beam on an axis: its field is a screen place, signed on the board (MAME's DVG), here in units of 1/1024
 abbrev pub labs_coordinate : Machine → ℕ → ℤ
 labs_coordinate Profile field = pos (1024 * field)
 labs_coordinate Board field = pos 1024 *ℤ signed_field field

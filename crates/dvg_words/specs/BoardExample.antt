@@ -57,7 +57,9 @@ board_second =
     record board_first {
       pc = 8;
       place = record { x = pos 2048; y = pos 102400 };
-      strokes = record { from = record { x = pos 1024; y = pos 102400 }; to = record { x = pos 2048; y = pos 102400 } } ∷ board_first.strokes;
+      strokes =
+          record { from = record { x = pos 1024; y = pos 102400 }; to = record { x = pos 2048; y = pos 102400 } }
+          ∷ board_first.strokes;
       fetched = 7 ∷ 6 ∷ 5 ∷ 4 ∷ 3 ∷ 2 ∷ 1 ∷ 0 ∷ [];
     }
 
@@ -67,7 +69,9 @@ board_third =
     record board_second {
       pc = 10;
       place = record { x = pos 1024; y = pos 102400 };
-      strokes = record { from = record { x = pos 2048; y = pos 102400 }; to = record { x = pos 1024; y = pos 102400 } } ∷ board_second.strokes;
+      strokes =
+          record { from = record { x = pos 2048; y = pos 102400 }; to = record { x = pos 1024; y = pos 102400 } }
+          ∷ board_second.strokes;
       fetched = 9 ∷ 8 ∷ 7 ∷ 6 ∷ 5 ∷ 4 ∷ 3 ∷ 2 ∷ 1 ∷ 0 ∷ [];
     }
 

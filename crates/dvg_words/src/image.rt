@@ -81,7 +81,11 @@ impl<'a> RomImage<'a> {
 
     /// The image of these bytes, which it borrows, for a ROM at this map on a machine. Refuses 1 unless there are exactly two bytes
     /// for each of its addresses.
-    pub fn from_bytes_on(machine: Machine, bytes: &'a [u8], map: RomMap) -> Result<RomImage<'a>, ImageFault>
+    pub fn from_bytes_on(
+        machine: Machine,
+        bytes: &'a [u8],
+        map: RomMap,
+    ) -> Result<RomImage<'a>, ImageFault>
         ensures image { MatchResult result
             (λ rom. IsRomLength map (length bytes.now) × (rom ≡ rom_on machine map bytes.now))
             (λ fault. (IsRomLength map (length bytes.now) → ⊥) × (fault ≡ ImageFault.RomLength)) }
@@ -91,7 +95,11 @@ impl<'a> RomImage<'a> {
         if bytes.len() != 2 * (map.last() - map.first() + 1) as usize {
             return Err(ImageFault::RomLength);
         }
-        Ok(RomImage { bytes, map, machine })
+        Ok(RomImage {
+            bytes,
+            map,
+            machine,
+        })
     }
 
     /// Where the ROM lies.
