@@ -17,7 +17,8 @@ use Rattle.dvg_explain.specs.Calls.{AreCalls, IsExtent, IsShapesExtent}
 use Rattle.dvg_explain.specs.Leaving.{window_limits}
 use Rattle.dvg_explain.specs.declared.margins.Margins.{Margins}
 use Rattle.dvg_explain.specs.Margins.{AreMargins, limits_box}
-use Rattle.dvg_make.specs.Judging.{FrameRefusal, VerdictByMade}
+use Rattle.dvg_make.specs.Judging.{VerdictByMade}
+use Rattle.dvg_make.specs.declared.judging.FrameRefusal.{FrameRefusal}
 use Rattle.dvg_account.specs.Machines.{machine_lines}
 use Rattle.dvg_account.specs.declared.accepted.Survey.{Survey}
 use Rattle.dvg_account.specs.declared.inputs.Inputs.{Inputs}
