@@ -12,7 +12,7 @@ returns c = if_ok c.finish.result c.finish.ensures (λ lines all. record {
   on_board = c.in_ok-on_board.on_board;
   board = c.in_ok-on_board.ensures;
   told = whole c.new-lines.ensures all
-      (then c.push_machine.ensures (then (then c.push_accepted.ensures (then c.push_accepted-2.ensures (then c.push_accepted-3.ensures (then c.push_accepted-4.ensures
-      (then c.push_accepted-5.ensures c.push_some.ensures)))))
-      (then c.push_accepted-6.ensures (then c.push_some-2.ensures c.push_some-3.ensures))));
+      (then (then (then c.push_machine.ensures (then c.push_accepted.ensures (then c.push_accepted-2.ensures (then c.push_accepted-3.ensures
+      (then c.push_accepted-4.ensures (then c.push_accepted-5.ensures c.push_some.ensures))))))
+      (then c.push_accepted-6.ensures c.push_some-2.ensures)) c.push_some-3.ensures);
 })
