@@ -7,8 +7,8 @@ use crate::filling::Filling;
 use crate::reading::text_of;
 use anyhow::{Result, bail};
 use dvg_cert::{HashIndex, MOST_WORDS};
-use dvg_check::{JudgedShapes, Mode, check, check_shapes};
-use dvg_words::{FrameImage, ROM_LAST, RomImage, SCREEN};
+use dvg_check::{JudgedShapes, Mode, check_on, check_shapes};
+use dvg_words::{FrameImage, Machine, ROM_LAST, RomImage, SCREEN};
 use std::alloc::{AllocError, Global};
 use std::fs;
 
@@ -68,10 +68,16 @@ impl Frame {
 }
 
 /// Checks the shapes of so many entries so many times, and gives how many items they have together.
-pub fn check_entries(alloc: Global, filling: Filling, count: u16, times: u32) -> Result<u64> {
+pub fn check_entries(
+    machine: Machine,
+    alloc: Global,
+    filling: Filling,
+    count: u16,
+    times: u32,
+) -> Result<u64> {
     let bytes = filling.rom_bytes(alloc)?;
-    let cert = cert_of(alloc, filling, count)?;
-    let Ok(rom) = RomImage::from_bytes(&bytes, cert.map()) else {
+    let cert = cert_of(machine, alloc, filling, count)?;
+    let Ok(rom) = RomImage::from_bytes_on(machine, &bytes, cert.map()) else {
         bail!("these are not the bytes of a ROM");
     };
     let index = HashIndex::new(alloc, &cert)?;
@@ -85,26 +91,38 @@ pub fn check_entries(alloc: Global, filling: Filling, count: u16, times: u32) ->
 
 /// Checks the bytes of such a ROM, the text of such a certificate and a frame of HALT alone so many times, and gives how many
 /// items the shapes have together.
-pub fn check_bytes(alloc: Global, filling: Filling, count: u16, times: u32) -> Result<u64> {
+pub fn check_bytes(
+    machine: Machine,
+    alloc: Global,
+    filling: Filling,
+    count: u16,
+    times: u32,
+) -> Result<u64> {
     let rom = filling.rom_bytes(alloc)?;
-    let cert = cert_of(alloc, filling, count)?;
+    let cert = cert_of(machine, alloc, filling, count)?;
     let text = text_of(alloc, &cert)?;
     for _ in 0..times {
-        check(alloc, &rom, &text, HALT, 1, SCREEN)?;
+        check_on(machine, alloc, &rom, &text, HALT, 1, SCREEN, Mode::Bound)?;
     }
     Ok(items_of(filling, &cert))
 }
 
 /// Checks a frame over so many entries of draws so many times, and gives how many items it has between its LABS and its HALT.
-pub fn check_frames(alloc: Global, frame: Frame, count: u16, times: u32) -> Result<u64> {
+pub fn check_frames(
+    machine: Machine,
+    alloc: Global,
+    frame: Frame,
+    count: u16,
+    times: u32,
+) -> Result<u64> {
     if !(16..=4096).contains(&count) {
         bail!("a frame is checked over 16 to 4096 entries");
     }
     let rom = Filling::Draws.rom_bytes(alloc)?;
     let frame = frame.bytes(alloc, count / 4)?;
-    let cert = cert_of(alloc, Filling::Draws, count)?;
+    let cert = cert_of(machine, alloc, Filling::Draws, count)?;
     let (Ok(rom), Ok(frame)) = (
-        RomImage::from_bytes(&rom, cert.map()),
+        RomImage::from_bytes_on(machine, &rom, cert.map()),
         FrameImage::from_bytes(&frame),
     ) else {
         bail!("these are not the bytes of a ROM and of a frame");
@@ -123,12 +141,21 @@ pub fn check_frames(alloc: Global, frame: Frame, count: u16, times: u32) -> Resu
 
 /// Checks what the files `bench.rom`, `bench.cert` and `bench.frame` hold so many times, and gives how many bytes the
 /// certificate has, which has so many entries.
-pub fn check_files(rt: &HostRuntime, count: u16, times: u32) -> Result<u64> {
+pub fn check_files(machine: Machine, rt: &HostRuntime, count: u16, times: u32) -> Result<u64> {
     let rom = fs::read(rt, "bench.rom")?;
     let text = fs::read(rt, "bench.cert")?;
     let frame = fs::read(rt, "bench.frame")?;
     for _ in 0..times {
-        let yes = check(rt.alloc(), &rom, &text, &frame, MOST_WORDS, SCREEN)?;
+        let yes = check_on(
+            machine,
+            rt.alloc(),
+            &rom,
+            &text,
+            &frame,
+            MOST_WORDS,
+            SCREEN,
+            Mode::Bound,
+        )?;
         if yes.shapes != u32::from(count) {
             bail!("the certificate has another number of entries");
         }

@@ -5,17 +5,8 @@ ghost use Rattle.std.specs.Prelude.{◌<◌, ◌≤◌, ◌≤ℤ◌, pos};
 use crate::filling::{Filling, NAMED, local_scale};
 use anyhow::{Result, bail};
 use dvg_cert::{Cert, End, Entry, Key, LitBox, MOST_NUMBER, MOST_WORDS};
-use dvg_words::{ROM_FIRST, ROM_LAST};
+use dvg_words::{Draw, Machine, ROM_FIRST, ROM_LAST, displacement_on};
 use std::alloc::Global;
-
-/// How far a size goes at an effective scale, in units of 1/1024 of a screen place.
-fn reach(size: i16, scale: u16) -> i64 {
-    let factor: i64 = match scale % 16 {
-        scale @ 0..=9 => 2 << scale,
-        _ => 1,
-    };
-    factor.wrapping_mul(i64::from(size))
-}
 
 /// How many strokes to and fro there are from an address on.
 fn strokes(filling: Filling, addr: u16) -> u16
@@ -27,8 +18,8 @@ fn strokes(filling: Filling, addr: u16) -> u16
     }
 }
 
-/// The first of them at a global scale: to the right, or as a negative number to the left.
-fn first_stroke(filling: Filling, addr: u16, gscale: u8) -> i64
+/// How far the first of them goes on a machine at a global scale: to the right, or as a negative number to the left.
+fn first_stroke(machine: Machine, filling: Filling, addr: u16, gscale: u8) -> i64
     requires addr { addr ≤ ROM_LAST }
     requires scale { gscale < 16 }
 {
@@ -37,17 +28,23 @@ fn first_stroke(filling: Filling, addr: u16, gscale: u8) -> i64
         Filling::Jumps => ((addr + 1) / 2 % 2 == 0, 256, 2),
         _ => (addr % 4 == 0, 1, local_scale(addr)),
     };
-    reach(if forth { size } else { -size }, local + u16::from(gscale))
+    let stroke = Draw {
+        dx: if forth { size } else { -size },
+        dy: 0,
+        lscale: local as u8,
+        bright: 7,
+    };
+    i64::from(displacement_on(machine, &stroke, gscale).0)
 }
 
 /// Where strokes to and fro end.
-fn stop_of_strokes(filling: Filling, addr: u16, key: Key) -> End
+fn stop_of_strokes(machine: Machine, filling: Filling, addr: u16, key: Key) -> End
     requires { addr ≤ ROM_LAST }
 {
     let strokes = strokes(filling, addr);
     match key {
         Key::At(gscale) if strokes % 2 == 1 => End::Rel {
-            x: first_stroke(filling, addr, gscale % 16),
+            x: first_stroke(machine, filling, addr, gscale % 16),
             y: 0,
         },
         Key::Any if strokes > 0 => End::Lost,
@@ -55,7 +52,7 @@ fn stop_of_strokes(filling: Filling, addr: u16, key: Key) -> End
     }
 }
 
-fn stop_of(filling: Filling, addr: u16, key: Key) -> End
+fn stop_of(machine: Machine, filling: Filling, addr: u16, key: Key) -> End
     requires { addr ≤ ROM_LAST }
 {
     match filling {
@@ -66,7 +63,7 @@ fn stop_of(filling: Filling, addr: u16, key: Key) -> End
             x: 512 * 1024 + 1024,
             y: 512 * 1024,
         },
-        _ => stop_of_strokes(filling, addr, key),
+        _ => stop_of_strokes(machine, filling, addr, key),
     }
 }
 
@@ -82,12 +79,12 @@ fn between(x_min: i64, x_max: i64, height: i64) -> LitBox
     }
 }
 
-fn lit_of(filling: Filling, addr: u16, key: Key) -> LitBox
+fn lit_of(machine: Machine, filling: Filling, addr: u16, key: Key) -> LitBox
     requires { addr ≤ ROM_LAST }
 {
     match (filling, key) {
         (Filling::Draws | Filling::Jumps, Key::At(gscale)) => {
-            let stroke = first_stroke(filling, addr, gscale % 16);
+            let stroke = first_stroke(machine, filling, addr, gscale % 16);
             between(stroke.min(0), stroke.max(0), 0)
         }
         // Strokes of all local scales are no longer than these.
@@ -134,14 +131,14 @@ fn scale_of(filling: Filling, key: Key) -> Key {
     }
 }
 
-fn entry_of(filling: Filling, addr: u16, key: Key) -> Entry
+fn entry_of(machine: Machine, filling: Filling, addr: u16, key: Key) -> Entry
     requires { addr ≤ ROM_LAST }
 {
     Entry {
         addr,
         key,
-        stop: stop_of(filling, addr, key),
-        lit: lit_of(filling, addr, key),
+        stop: stop_of(machine, filling, addr, key),
+        lit: lit_of(machine, filling, addr, key),
         depth: depth_of(filling, addr),
         words: words_of(filling, addr),
         scale: scale_of(filling, key),
@@ -202,8 +199,8 @@ fn key_at(filling: Filling, index: u16, addr: u16) -> Key {
     }
 }
 
-/// The certificate of so many entries, the last ones of all of the ROM.
-pub fn cert_of(alloc: Global, filling: Filling, count: u16) -> Result<Cert> {
+/// The certificate of so many entries on a machine, the last ones of all of the ROM.
+pub fn cert_of(machine: Machine, alloc: Global, filling: Filling, count: u16) -> Result<Cert> {
     let all = all_entries(filling);
     if count > all {
         bail!("a ROM full of this has no more than {all} entries");
@@ -211,7 +208,8 @@ pub fn cert_of(alloc: Global, filling: Filling, count: u16) -> Result<Cert> {
     let mut entries = Vec::new(alloc);
     for index in all - count..all {
         let addr = address_at(filling, index);
-        entries.push(entry_of(filling, addr, key_at(filling, index, addr)))?;
+        let key = key_at(filling, index, addr);
+        entries.push(entry_of(machine, filling, addr, key))?;
     }
     match Cert::from_entries(entries, (ROM_FIRST, ROM_LAST)) {
         Ok(cert) => Ok(cert),

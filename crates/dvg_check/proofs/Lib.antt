@@ -10,9 +10,13 @@ pub mod FrameWalk
 pub mod Accepting
 pub mod Listed
 pub mod Safety
+pub mod Course
+pub mod Alike
+pub mod Beside
 pub mod Drift
 pub mod Example
 pub mod MachinesExample
+pub mod CourseExample
 pub mod TailLaws
 pub mod TailSizes
 pub mod TailSteps

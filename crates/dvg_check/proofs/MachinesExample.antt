@@ -111,11 +111,16 @@ edge_accepted =
       keeps =
           all_kept Frame (frame_word Profile edge_frame) 0 FrameWhy (FramePlaceKeeps screen Profile edge_frame [] 20000) (draw_at 4 half ∷ draw_at 2 half ∷ labs_at 1022 ∷ []) halt_item
           (((refl, edge_labs Profile, refl), edge_first Profile, refl), edge_second Profile, refl)
-          (edge_halt Profile) refl
-          ((((tt, λ why. there Profile edge_frame [] (labs_at 1022) why (edge_labs Profile) (edge_labs_keeps Profile why)),
-          λ why. there Profile edge_frame (labs_at 1022 ∷ []) (draw_at 2 half) why (edge_first Profile) (edge_first_keeps Profile why)),
-          λ why. there Profile edge_frame (draw_at 2 half ∷ labs_at 1022 ∷ []) (draw_at 4 half) why (edge_second Profile) (edge_second_keeps why)),
-          λ why. there Profile edge_frame (draw_at 4 half ∷ draw_at 2 half ∷ labs_at 1022 ∷ []) halt_item why (edge_halt Profile) (edge_halt_keeps why));
+          (edge_halt Profile) refl (
+            (
+              (
+                (tt, λ why. there Profile edge_frame [] (labs_at 1022) why (edge_labs Profile) (edge_labs_keeps Profile why)),
+                λ why. there Profile edge_frame (labs_at 1022 ∷ []) (draw_at 2 half) why (edge_first Profile) (edge_first_keeps Profile why),
+              ),
+              λ why. there Profile edge_frame (draw_at 2 half ∷ labs_at 1022 ∷ []) (draw_at 4 half) why (edge_second Profile) (edge_second_keeps why),
+            ),
+            λ why. there Profile edge_frame (draw_at 4 half ∷ draw_at 2 half ∷ labs_at 1022 ∷ []) halt_item why (edge_halt Profile) (edge_halt_keeps why),
+          );
       items = draw_at 4 half ∷ draw_at 2 half ∷ labs_at 1022 ∷ [];
       at = 6;
       format = Short;
@@ -149,7 +154,7 @@ edge_refused =
       leads = ((refl, edge_labs Board, refl), edge_first Board, refl);
       before = (
         (tt, λ why. there Board edge_frame [] (labs_at 1022) why (edge_labs Board) (edge_labs_keeps Board why)),
-        λ why. there Board edge_frame (labs_at 1022 ∷ []) (draw_at 2 half) why (edge_first Board) (edge_first_keeps Board why)
+        λ why. there Board edge_frame (labs_at 1022 ∷ []) (draw_at 2 half) why (edge_first Board) (edge_first_keeps Board why),
       );
       breaks = λ kept. off_screen (back_there Board edge_frame (draw_at 2 half ∷ labs_at 1022 ∷ []) (draw_at 4 half) frame.OffScreen (edge_second Board) kept);
       lowest = λ other low. there Board edge_frame (draw_at 2 half ∷ labs_at 1022 ∷ []) (draw_at 4 half) other (edge_second Board) (below_off_screen other low);
@@ -195,11 +200,16 @@ left_accepted =
       keeps =
           all_kept Frame (frame_word Board left_frame) 0 FrameWhy (FramePlaceKeeps screen Board left_frame [] 20000) (draw_at 4 half ∷ draw_at 2 back ∷ labs_at 4088 ∷ []) halt_item
           (((refl, left_labs, refl), left_back, refl), left_draw, refl)
-          left_halt refl
-          ((((tt, λ why. there Board left_frame [] (labs_at 4088) why left_labs (left_labs_keeps why)),
-          λ why. there Board left_frame (labs_at 4088 ∷ []) (draw_at 2 back) why left_back (left_back_keeps why)),
-          λ why. there Board left_frame (draw_at 2 back ∷ labs_at 4088 ∷ []) (draw_at 4 half) why left_draw (left_draw_keeps why)),
-          λ why. there Board left_frame (draw_at 4 half ∷ draw_at 2 back ∷ labs_at 4088 ∷ []) halt_item why left_halt (left_halt_keeps why));
+          left_halt refl (
+            (
+              (
+                (tt, λ why. there Board left_frame [] (labs_at 4088) why left_labs (left_labs_keeps why)),
+                λ why. there Board left_frame (labs_at 4088 ∷ []) (draw_at 2 back) why left_back (left_back_keeps why),
+              ),
+              λ why. there Board left_frame (draw_at 2 back ∷ labs_at 4088 ∷ []) (draw_at 4 half) why left_draw (left_draw_keeps why),
+            ),
+            λ why. there Board left_frame (draw_at 4 half ∷ draw_at 2 back ∷ labs_at 4088 ∷ []) halt_item why left_halt (left_halt_keeps why),
+          );
       items = draw_at 4 half ∷ draw_at 2 back ∷ labs_at 4088 ∷ [];
       at = 6;
       format = Short;

@@ -10,4 +10,5 @@ pub mod Drift
 pub mod Laws
 pub mod Example
 pub mod MachinesExample
+pub mod CourseExample
 pub mod Private

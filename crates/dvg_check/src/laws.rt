@@ -1,11 +1,13 @@
 //! Laws over the definitions alone, for every map, window and mode, except `exact_is_exact`, which is for the mode `Exact`,
-//! and the worked example. Each is the contract of a function that does nothing.
+//! and the worked examples. Each is the contract of a function that does nothing.
 
+ghost use Rattle.dvg_words.specs.declared.machine.Machine.{Machine};
 ghost use Rattle.dvg_check.specs.Rules.{Mode};
 ghost use Rattle.dvg_check.specs.Laws.{OneItem, OneShape, AllShapes, GoodIsSafe, ExactIsExact, OneFault, NoFault, OneShapeFault, NoShapeFault, OneCount, OneVerdict, StrokeInWindow, SafeStrokes, SafeStack};
 ghost use Rattle.dvg_check.specs.Drift.{PlaceIsSum, HalfPlaceEach, InsetIsSafe};
 ghost use Rattle.dvg_check.specs.Example.{WorkedExample};
 ghost use Rattle.dvg_check.specs.MachinesExample.{WorkedMachines};
+ghost use Rattle.dvg_check.specs.CourseExample.{WorkedCourse};
 
 use dvg_cert::laws::{one_answer, one_certificate};
 use dvg_words::laws::{half_place, stack_within_max};
@@ -89,23 +91,23 @@ pub fn safe_stack()
     stack_within_max();
 }
 
-/// In each state of each run, on either machine, the beam is where it was last set, moved by the sum of the moves of all draws
+/// In each state of each run, on either machine, the beam is where it was last set, moved by the sum of the moves of the draws
 /// since then.
 pub fn place_is_sum()
     ensures { PlaceIsSum }
 {}
 
-/// Where no draw of a machine's runs has an effective scale over 9 and no LABS is odd, as many steps of the other machine lead to
-/// the same state, but for the place: on each axis it is at most half a screen place away for each draw since the beam was last set,
-/// dark or lit.
+/// Where the runs of one machine come to no draw of an effective scale over 9 and to no odd LABS, as many steps of the other lead
+/// to the same state, but for strokes and place: on each axis it is at most half a screen place away for each draw, dark or lit,
+/// since the beam was last set.
 pub fn half_place_each()
     ensures { HalfPlaceEach }
 {
     half_place();
 }
 
-/// Where, besides, at most n draws come since the beam was last set, in each state of each run of the one machine, what is safe
-/// there in a window that is n / 2 places smaller on each side, rounded up, is safe in the window on the other machine.
+/// Where besides at most n draws, dark ones included, come after each LABS and before the next one, what is safe on the one machine
+/// in a window that is n / 2 screen places smaller on each side, rounded up, is safe in the window on the other.
 pub fn inset_is_safe()
     ensures { InsetIsSafe }
 {
@@ -122,4 +124,10 @@ pub fn worked_example()
 /// begins left of the screen, which the profile refuses with 41.
 pub fn worked_machines()
     ensures { WorkedMachines }
+{}
+
+/// The runs of the first of these frames, on either machine: where its LABS sets the beam, and how far its two draws move it. They
+/// meet the premises of `inset_is_safe` for two draws, and do not for one.
+pub fn worked_course()
+    ensures { (machine : Machine) → WorkedCourse machine }
 {}

@@ -144,10 +144,10 @@ fn judge_own(
 }
 
 /// The same verdict, and the account of it.
-fn explain_by_own(
+fn explain_by_own<'a>(
     alloc: Global,
-    own: &OwnCertificates,
-    frame: &[u8],
+    own: &OwnCertificates<'a>,
+    frame: &'a [u8],
 ) -> (Result<Yes, FrameRefusal>, Behind)
     ensures verdict { VerdictOnBytes own.now.machine own.now.rom.now own.now.map frame.now own.now.budget own.now.window result.0 }
     ensures behind { IsBehind details.Account result.1 }

@@ -58,8 +58,7 @@ board_second =
       pc = 8;
       place = record { x = pos 2048; y = pos 102400 };
       strokes =
-          record { from = record { x = pos 1024; y = pos 102400 }; to = record { x = pos 2048; y = pos 102400 } }
-          ∷ board_first.strokes;
+          record { from = record { x = pos 1024; y = pos 102400 }; to = record { x = pos 2048; y = pos 102400 } } ∷ board_first.strokes;
       fetched = 7 ∷ 6 ∷ 5 ∷ 4 ∷ 3 ∷ 2 ∷ 1 ∷ 0 ∷ [];
     }
 
@@ -70,8 +69,7 @@ board_third =
       pc = 10;
       place = record { x = pos 1024; y = pos 102400 };
       strokes =
-          record { from = record { x = pos 2048; y = pos 102400 }; to = record { x = pos 1024; y = pos 102400 } }
-          ∷ board_second.strokes;
+          record { from = record { x = pos 2048; y = pos 102400 }; to = record { x = pos 1024; y = pos 102400 } } ∷ board_second.strokes;
       fetched = 9 ∷ 8 ∷ 7 ∷ 6 ∷ 5 ∷ 4 ∷ 3 ∷ 2 ∷ 1 ∷ 0 ∷ [];
     }
 

@@ -1,0 +1,58 @@
+-- The beam is where it was last set, moved by the sum of the moves since then.
+use Rattle.std.proofs.Common.{List, zero, subst, sym, suc, ap, Bool, true, false, nat_lt, length, ◌≡◌, ◌∷◌, ◌∙◌, ℕ, []}
+use Rattle.dvg_words.specs.declared.machine.Machine.{Machine}
+use Rattle.dvg_words.specs.declared.instruction.Cell.{Cell}
+use Rattle.dvg_words.specs.declared.instruction.Cell.TheVariants.{Missing, Odd, Holds}
+use Rattle.dvg_words.specs.declared.instruction.Format.{Format}
+use Rattle.dvg_words.specs.declared.instruction.Instr.{Instr}
+use Rattle.dvg_words.specs.declared.instruction.Instr.TheVariants.{Draw as Draws, Labs, Halt, Jsrl, Rtsl, Jmpl}
+use Rattle.dvg_words.specs.Beam.{shift, displacement, labs_place}
+use Rattle.dvg_words.specs.Decoding.{cell_at}
+use Rattle.dvg_words.specs.Generator.{State, Status, Running, Halted, Fault, Reached, start, after_call, after_return, after_instruction, after_cell, after_fetch, next_status}
+use Rattle.dvg_words.specs.Memory.{Memory, word_at}
+use Rattle.dvg_words.specs.Laws.{state_of}
+use Rattle.dvg_items.proofs.Points.{shift_origin, shift_shift}
+use Rattle.dvg_check.specs.Drift.{Course, sum_of, place_of, course_past, course_at, course_after, course_along, course_at_start, PlaceIsSum}
+
+abbrev IsAt : Course → Status → Type 0
+IsAt c status = (state_of status).place ≡ place_of c
+
+at_call : (c : Course) (room : Bool) (to : ℕ) (s : State) → s.place ≡ place_of c → IsAt c (after_call room to s)
+at_call c true to s h = h
+at_call c false to s h = h
+
+at_return : (c : Course) (stack : List ℕ) (s : State) → s.place ≡ place_of c → IsAt c (after_return stack s)
+at_return c [] s h = h
+at_return c (back ∷ rest) s h = h
+
+at_instruction : (machine : Machine) (i : Instr) (format : Format) (s : State) (c : Course) → s.place ≡ place_of c → IsAt (course_past machine i s.scale c) (after_instruction machine i format s)
+at_instruction machine (Draws d) format s c h =
+    ap (λ p. shift p (displacement machine d s.scale)) h ∙ shift_shift c.set_at (sum_of c.moves) (displacement machine d s.scale)
+at_instruction machine (Labs x y gscale) format s c h = sym (shift_origin (labs_place machine x y))
+at_instruction machine Halt format s c h = h
+at_instruction machine (Jsrl to) format s c h = at_call c (nat_lt (length s.return_stack) 4) to s h
+at_instruction machine Rtsl format s c h = at_return c s.return_stack s h
+at_instruction machine (Jmpl to) format s c h = h
+
+at_cell : (machine : Machine) (cell : Cell) (s : State) (c : Course) → s.place ≡ place_of c → IsAt (course_at machine cell s.scale c) (after_cell machine cell s)
+at_cell machine Missing s c h = h
+at_cell machine Odd s c h = h
+at_cell machine (Holds format i) s c h = at_instruction machine i format s c h
+
+at_next : (m : Memory) (s : State) (c : Course) → s.place ≡ place_of c → IsAt (course_after m (Running s) c) (next_status m s)
+unfolding next_status
+at_next m s c h = at_cell m.rom.machine (cell_at (word_at m) s.pc) (after_fetch m s) c h
+
+-- what each step keeps of course and status holds all along a run
+pub along :
+    (m : Memory) (P : Course → Status → Type 0) → ((c : Course) (s : State) → P c (Running s) → P (course_after m (Running s) c) (next_status m s))
+    → (steps : ℕ) (c : Course) (from to : Status) (run : Reached m steps from to) → P c from → P (course_along m steps from to run c) to
+along m P kept zero c from to run h = subst (P c) run h
+along m P kept (suc steps) c (Running s) to run h =
+    along m P kept steps (course_after m (Running s) c) run.0 to run.2 (subst (P (course_after m (Running s) c)) run.1 (kept c s h))
+along m P kept (suc steps) c (Halted s) to run h = absurd run.1
+along m P kept (suc steps) c (Fault s) to run h = absurd run.1
+
+pub place_is_sum : PlaceIsSum
+place_is_sum m place scale steps after run =
+    along m IsAt (λ c s h. at_next m s c h) steps (course_at_start place) (Running (start place scale)) after run (sym (shift_origin place))

@@ -1,0 +1,147 @@
+-- The runs of the worked frame, state by state.
+use Rattle.std.proofs.Common.{arith, subst, sym, ap, refl, true, false, inl, inr, length, pos, ◌≡◌, ◌≤◌, ◌⊎◌, ◌∷◌, ◌∙◌, ℕ, []}
+use Rattle.dvg_words.specs.declared.machine.Machine.{Machine}
+use Rattle.dvg_words.specs.declared.machine.Machine.TheVariants.{Profile, Board}
+use Rattle.dvg_words.specs.declared.beam.Point.{Point}
+use Rattle.dvg_words.specs.declared.instruction.Cell.{Cell}
+use Rattle.dvg_words.specs.declared.instruction.Cell.TheVariants.{Holds}
+use Rattle.dvg_words.specs.declared.instruction.Format.TheVariants.{Short, Long}
+use Rattle.dvg_words.specs.declared.instruction.Instr.TheVariants.{Draw as Draws, Labs, Halt}
+use Rattle.dvg_words.specs.Values.{DrawFields}
+use Rattle.dvg_words.specs.Beam.{displacement, labs_place}
+use Rattle.dvg_words.specs.Decoding.{cell_at, instruction_of}
+use Rattle.dvg_words.specs.Generator.{State, Status, Running, Halted, Fault, Reached, start, after_cell, after_fetch, next_status}
+use Rattle.dvg_words.specs.Memory.{word_at}
+use Rattle.dvg_check.specs.Drift.{Course, course_at, course_after, course_at_start, course_of, on, OnlyRounds, FewDraws}
+use Rattle.dvg_check.specs.CourseExample.{edge_memory, edge_move, edge_course, WorkedCourse}
+use Rattle.dvg_check.proofs.Course.{along}
+
+abbrev half : DrawFields
+half = record { dx = pos 1; dy = pos 0; lscale = 8; bright = 7 }
+
+-- the course after the LABS, with so many moves
+abbrev set_course : Machine → Course
+set_course machine = record { set_at = record { x = pos 1046528; y = pos 102400 }; by_labs = true; moves = [] }
+
+abbrev moved_once : Machine → Course
+moved_once machine = record (set_course machine) { moves = edge_move machine ∷ [] }
+
+-- what is so of each state that a run reaches
+abbrev Stands : Machine → Course → State → Type 0
+Stands machine c s =
+    ((s.pc ≡ 0) × (c.by_labs ≡ false))
+    ⊎ ((s.pc ≡ 2) × (s.scale ≡ 0) × (c ≡ set_course machine))
+    ⊎ ((s.pc ≡ 4) × (s.scale ≡ 0) × (c ≡ moved_once machine))
+    ⊎ ((s.pc ≡ 6) × (c ≡ edge_course machine))
+
+abbrev Runs : Machine → Course → Status → Type 0
+Runs machine c (Running s) = Stands machine c s
+Runs machine c (Halted s) = c ≡ edge_course machine
+Runs machine c (Fault s) = ⊥
+
+-- what stands at its words
+labs_there : (machine : Machine) → cell_at (word_at (on machine edge_memory)) 0 ≡ Holds Long (Labs 1022 100 0)
+unfolding cell_at instruction_of
+labs_there Profile = refl
+labs_there Board = refl
+
+first_there : (machine : Machine) → cell_at (word_at (on machine edge_memory)) 2 ≡ Holds Long (Draws half)
+unfolding cell_at instruction_of
+first_there Profile = refl
+first_there Board = refl
+
+second_there : (machine : Machine) → cell_at (word_at (on machine edge_memory)) 4 ≡ Holds Long (Draws half)
+unfolding cell_at instruction_of
+second_there Profile = refl
+second_there Board = refl
+
+halt_there : (machine : Machine) → cell_at (word_at (on machine edge_memory)) 6 ≡ Holds Short Halt
+unfolding cell_at instruction_of
+halt_there Profile = refl
+halt_there Board = refl
+
+set_there : (machine : Machine) → labs_place machine 1022 100 ≡ record { x = pos 1046528; y = pos 102400 }
+set_there Profile = refl
+set_there Board = refl
+
+move_is : (machine : Machine) → displacement machine half 0 ≡ edge_move machine
+unfolding displacement
+move_is Profile = refl
+move_is Board = refl
+
+-- what a step leads to, by what stands there
+abbrev Leads : Machine → Course → State → Cell → Type 0
+Leads machine c s cell = Runs machine (course_at machine cell s.scale c) (after_cell machine cell (after_fetch (on machine edge_memory) s))
+
+leads : (machine : Machine) (c : Course) (s : State) → Stands machine c s → Leads machine c s (cell_at (word_at (on machine edge_memory)) s.pc)
+leads machine c s (inl (at, unset)) =
+    let cell = ap (λ p. cell_at (word_at (on machine edge_memory)) p) at ∙ labs_there machine in
+    let course : record { set_at = labs_place machine 1022 100; by_labs = true; moves = [] } ≡ set_course machine = ap (λ p. record { set_at = p; by_labs = true; moves = [] }) (set_there machine) in
+    subst (Leads machine c s) (sym cell) (inr (inl (omega (arith, at), refl, course)))
+leads machine c s (inr (inl (at, scale, is))) =
+    let cell = ap (λ p. cell_at (word_at (on machine edge_memory)) p) at ∙ first_there machine in
+    let move = ap (λ g. displacement machine half g) scale ∙ move_is machine in
+    let course : record c { moves = displacement machine half s.scale ∷ c.moves } ≡ moved_once machine = λ i. record (is i) { moves = move i ∷ (is i).moves } in
+    subst (Leads machine c s) (sym cell) (inr (inr (inl (omega (arith, at), scale, course))))
+leads machine c s (inr (inr (inl (at, scale, is)))) =
+    let cell = ap (λ p. cell_at (word_at (on machine edge_memory)) p) at ∙ second_there machine in
+    let move = ap (λ g. displacement machine half g) scale ∙ move_is machine in
+    let course : record c { moves = displacement machine half s.scale ∷ c.moves } ≡ edge_course machine = λ i. record (is i) { moves = move i ∷ (is i).moves } in
+    subst (Leads machine c s) (sym cell) (inr (inr (inr (omega (arith, at), course))))
+leads machine c s (inr (inr (inr (at, is)))) =
+    let cell = ap (λ p. cell_at (word_at (on machine edge_memory)) p) at ∙ halt_there machine in
+    subst (Leads machine c s) (sym cell) is
+
+leads_next : (machine : Machine) (c : Course) (s : State) → Stands machine c s → Runs machine (course_after (on machine edge_memory) (Running s) c) (next_status (on machine edge_memory) s)
+unfolding next_status
+leads_next machine c s stands = leads machine c s stands
+
+-- each state of each run
+runs :
+    (machine : Machine) (place : Point) (scale steps : ℕ) (after : Status) (run : Reached (on machine edge_memory) steps (Running (start place scale)) after)
+    → Runs machine (course_of (on machine edge_memory) place scale steps after run) after
+runs machine place scale steps after run =
+    along (on machine edge_memory) (Runs machine) (leads_next machine) steps (course_at_start place) (Running (start place scale)) after run (inl (refl, refl))
+
+-- ---- what is claimed
+
+rounds_at : (machine : Machine) (c : Course) (s : State) → Stands machine c s → OnlyRounds s.scale (cell_at (word_at (on Profile edge_memory)) s.pc)
+rounds_at machine c s (inl (at, unset)) =
+    subst (OnlyRounds s.scale) (sym (ap (λ p. cell_at (word_at (on Profile edge_memory)) p) at ∙ labs_there Profile)) tt
+rounds_at machine c s (inr (inl (at, scale, is))) =
+    subst (OnlyRounds s.scale) (sym (ap (λ p. cell_at (word_at (on Profile edge_memory)) p) at ∙ first_there Profile)) (omega (arith, scale))
+rounds_at machine c s (inr (inr (inl (at, scale, is)))) =
+    subst (OnlyRounds s.scale) (sym (ap (λ p. cell_at (word_at (on Profile edge_memory)) p) at ∙ second_there Profile)) (omega (arith, scale))
+rounds_at machine c s (inr (inr (inr (at, is)))) =
+    subst (OnlyRounds s.scale) (sym (ap (λ p. cell_at (word_at (on Profile edge_memory)) p) at ∙ halt_there Profile)) tt
+
+two_at : (machine : Machine) (c : Course) (after : Status) → Runs machine c after → c.by_labs ≡ true → length c.moves ≤ 2
+two_at machine c (Running s) (inl (at, unset)) set = cc
+two_at machine c (Running s) (inr (inl (at, scale, is))) set = subst (λ d. length d.moves ≤ 2) (sym is) (omega arith)
+two_at machine c (Running s) (inr (inr (inl (at, scale, is)))) set = subst (λ d. length d.moves ≤ 2) (sym is) (omega arith)
+two_at machine c (Running s) (inr (inr (inr (at, is)))) set = subst (λ d. length d.moves ≤ 2) (sym is) (omega arith)
+two_at machine c (Halted s) is set = subst (λ d. length d.moves ≤ 2) (sym is) (omega arith)
+two_at machine c (Fault s) is set = absurd is
+
+-- a run to the HALT, of four steps
+halting : (machine : Machine) (place : Point) (scale : ℕ) → (h : State) × Reached (on machine edge_memory) 4 (Running (start place scale)) (Halted h)
+unfolding next_status cell_at instruction_of displacement
+halting Profile place scale = (_, (_, refl, (_, refl, (_, refl, (_, refl, refl)))))
+halting Board place scale = (_, (_, refl, (_, refl, (_, refl, (_, refl, refl)))))
+
+pub worked_course : (machine : Machine) → WorkedCourse machine
+worked_course machine =
+    record {
+      rounds = λ place scale steps s small run. rounds_at machine (course_of (on machine edge_memory) place scale steps (Running s) run) s (runs machine place scale steps (Running s) run);
+      two = λ place scale steps after small run. two_at machine (course_of (on machine edge_memory) place scale steps after run) after (runs machine place scale steps after run);
+      more_than_one = more;
+      course = λ place scale steps h run. runs machine place scale steps (Halted h) run;
+    }
+  where
+    more : FewDraws 1 (on machine edge_memory) → ⊥
+    more few =
+        let (h, run) = halting machine (record { x = pos 0; y = pos 0 }) 0 in
+        let is = runs machine (record { x = pos 0; y = pos 0 }) 0 4 (Halted h) run in
+        let le = few (record { x = pos 0; y = pos 0 }) 0 4 (Halted h) (omega arith) run (ap (λ c. c.by_labs) is) in
+        let two = ap (λ c. length c.moves) is in
+        absurd (omega (arith, le, two))
