@@ -29,9 +29,11 @@ shapes_of s = kept_shapes s.machine s.judged s.window s.rom_first s.rom_last s.r
 
 -- the first that applies of the certificate's refusal, 1, the first fault of the shapes, and the certificate that is spelled
 abbrev pub ShapesVerdict : Machine → Mode → Window → List ℕ → List ℕ → Result Certificate Refusal → Type 0
-ShapesVerdict machine mode w rom cert (Ok c) = Spells c cert × IsRomLength c.map (length rom) × Good mode w (rom_on machine c.map rom) c.entries
+ShapesVerdict machine mode w rom cert (Ok c) =
+    Spells c cert × IsRomLength c.map (length rom) × Good mode w (rom_on machine c.map rom) c.entries
 ShapesVerdict machine mode w rom cert (Err (refusal.Cert f)) = ReadAnswer cert (Err f)
-ShapesVerdict machine mode w rom cert (Err (refusal.Image RomLength)) = (c : Certificate) × Spells c cert × (IsRomLength c.map (length rom) → ⊥)
+ShapesVerdict machine mode w rom cert (Err (refusal.Image RomLength)) =
+    (c : Certificate) × Spells c cert × (IsRomLength c.map (length rom) → ⊥)
 ShapesVerdict machine mode w rom cert (Err (refusal.Shape f)) =
     (c : Certificate) × Spells c cert × IsRomLength c.map (length rom) × FirstShapeFault mode w (rom_on machine c.map rom) c.entries f
 ShapesVerdict machine mode w rom cert (Err r) = ⊥

@@ -46,7 +46,8 @@ pub record ReadsFrame (reader : Option (List ℕ)) (start : Option ℕ) (bytes :
 -- ---- the verdict on bytes
 
 -- every run is safe, with just these counts, and no certificate gets the frame accepted with fewer words or less depth
-pub record IsAccepted (machine : Machine) (rom : List ℕ) (map : MemoryMap) (bytes : List ℕ) (budget : ℕ) (w : Window) (y : Yes) : Type 0 where
+pub record IsAccepted
+    (machine : Machine) (rom : List ℕ) (map : MemoryMap) (bytes : List ℕ) (budget : ℕ) (w : Window) (y : Yes) : Type 0 where
   pub in_range : InRange bytes budget
   pub rom_length : IsRomLength map (length rom)
   pub safe : Safe (record { frame = words_of bytes; rom = rom_on machine map rom }) w y.words y.depth
@@ -56,7 +57,8 @@ pub record IsAccepted (machine : Machine) (rom : List ℕ) (map : MemoryMap) (by
   pub by_own : VerdictByMade (rom_on machine map rom) (words_of bytes) w budget (Ok y)
 
 -- the lengths and the budget are in range; it is the verdict by the frame's own certificate, and means what the judge's does
-pub record IsJudgedRefusal (machine : Machine) (rom : List ℕ) (map : MemoryMap) (bytes : List ℕ) (budget : ℕ) (w : Window) (r : FrameRefusal) : Type 0 where
+pub record IsJudgedRefusal
+    (machine : Machine) (rom : List ℕ) (map : MemoryMap) (bytes : List ℕ) (budget : ℕ) (w : Window) (r : FrameRefusal) : Type 0 where
   pub in_range : InRange bytes budget
   pub rom_length : IsRomLength map (length rom)
   pub by_own : VerdictByMade (rom_on machine map rom) (words_of bytes) w budget (Err r)
@@ -71,7 +73,7 @@ IsRefused machine rom map bytes budget w (Check refusal.BudgetRange) = RangeRefu
 IsRefused machine rom map bytes budget w (Check (refusal.Image RomLength)) = InRange bytes budget × (IsRomLength map (length rom) → ⊥)
 IsRefused machine rom map bytes budget w r = IsJudgedRefusal machine rom map bytes budget w r
 
--- the verdict on a frame's bytes by its own certificate, over a ROM's bytes at this map
+-- the verdict on a frame's bytes by its own certificate, over a ROM's bytes at this map on a machine
 abbrev pub VerdictOnBytes : Machine → List ℕ → MemoryMap → List ℕ → ℕ → Window → Result Yes FrameRefusal → Type 0
 VerdictOnBytes machine rom map bytes budget w (Ok y) = IsAccepted machine rom map bytes budget w y
 VerdictOnBytes machine rom map bytes budget w (Err r) = IsRefused machine rom map bytes budget w r

@@ -128,5 +128,6 @@ FramesFaultMeans machine rom map roots frames (fault.Plain (maker.Make f)) = Ref
 FramesFaultMeans machine rom map roots frames (fault.Plain maker.ReadRom) = Unit {0}
 FramesFaultMeans machine rom map roots frames (fault.Plain maker.Write) = Unit {0}
 FramesFaultMeans machine rom map roots frames (fault.FrameLength n) = WrongFrame rom map frames n
-FramesFaultMeans machine rom map roots frames (fault.Call call why) = RefusesInputs machine rom map roots frames (record { call = Some call; why = why })
+FramesFaultMeans machine rom map roots frames (fault.Call call why) =
+    RefusesInputs machine rom map roots frames (record { call = Some call; why = why })
 FramesFaultMeans machine rom map roots frames fault.ReadFrame = Unit {0}

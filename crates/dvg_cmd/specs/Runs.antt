@@ -80,8 +80,9 @@ IsReadFor verdict old new = IsReadTo MOST_TEXT_READ old new
 
 -- ---- what is written
 
--- the verdict on all bytes that three readers held, in a mode and for a window; if the bytes of a reader are not known, some bytes
-pub record Judges (machine : Machine) (mode : Mode) (w : Window) (rom cert frame : Option (List ℕ)) (budget : ℕ) (verdict : Result Yes Refusal) : Type 0 where
+-- the verdict on all bytes that three readers held, on a machine, in a mode and for a window; if the bytes of a reader are not known, some bytes
+pub record Judges
+    (machine : Machine) (mode : Mode) (w : Window) (rom cert frame : Option (List ℕ)) (budget : ℕ) (verdict : Result Yes Refusal) : Type 0 where
   pub rom_bytes : List ℕ
   pub cert_bytes : List ℕ
   pub frame_bytes : List ℕ
@@ -118,8 +119,8 @@ pub record WritesReportPrefix (detail : Detail) (verdict : Result Yes Refusal) (
 -- the report of the verdict on all bytes that three readers held was written; the certificate's reader still holds `left`. An
 -- accepted frame is safe, also if there was no memory for its account.
 pub record Reports
-    (machine : Machine) (detail : Detail) (mode : Mode) (w : Window) (rom cert left frame : Option (List ℕ)) (budget : ℕ) (old new : Option (List ℕ))
-    (writes writes_after : ℕ) (outcome : Outcome) : Type 0 where
+    (machine : Machine) (detail : Detail) (mode : Mode) (w : Window) (rom cert left frame : Option (List ℕ)) (budget : ℕ)
+    (old new : Option (List ℕ)) (writes writes_after : ℕ) (outcome : Outcome) : Type 0 where
   pub verdict : Result Yes Refusal
   pub judges : Judges machine mode w rom cert frame budget verdict
   pub read : IsReadFor verdict cert left
@@ -129,13 +130,15 @@ pub record Reports
 
 -- a prefix of that report was written
 pub record ReportsPrefix
-    (machine : Machine) (detail : Detail) (mode : Mode) (w : Window) (rom cert frame : Option (List ℕ)) (budget : ℕ) (old new : Option (List ℕ)) : Type 0 where
+    (machine : Machine) (detail : Detail) (mode : Mode) (w : Window) (rom cert frame : Option (List ℕ)) (budget : ℕ)
+    (old new : Option (List ℕ)) : Type 0 where
   pub verdict : Result Yes Refusal
   pub judges : Judges machine mode w rom cert frame budget verdict
   pub report : WritesReportPrefix detail verdict old new
 
 -- an accepted line was written, and every run over these bytes is safe with its counts
-pub record ReportsSafe (machine : Machine) (detail : Detail) (w : Window) (rom cert frame : Option (List ℕ)) (old new : Option (List ℕ)) : Type 0 where
+pub record ReportsSafe
+    (machine : Machine) (detail : Detail) (w : Window) (rom cert frame : Option (List ℕ)) (old new : Option (List ℕ)) : Type 0 where
   pub yes : Yes
   pub behind : Behind
   pub asked : IsBehind detail behind

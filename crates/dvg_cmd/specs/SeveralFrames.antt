@@ -130,7 +130,7 @@ pub record ReportsRefusalPrefix
   pub refuses : RefusesAll machine w rom cert refused
   pub report : WritesReportPrefix detail (Err refused) old new
 
--- the shapes of a certificate over the bytes of a ROM, with counts as bounds
+-- the shapes of a certificate over the bytes of a ROM on a machine, with counts as bounds
 abbrev pub shapes_of : Machine → Window → List ℕ → Certificate → Shapes
 shapes_of machine w rom c = record { rom = rom_on machine c.map rom; list = c.entries; window = w; mode = Bound }
 

@@ -79,13 +79,13 @@ fn judge_rom(
     ensures exact { options.now.mode ≡ Exact → IfOk result.0 (λ yes. CountsAtHalt (record { frame = frame.now; rom = rom_on options.now.machine cert.now.map rom.now }) yes.words yes.depth) }
 {
     let CheckOptions {
-        machine,
         budget,
         window,
         mode,
+        ..
     } = *options;
     let judged = explain_rom(
-        machine,
+        options.machine,
         alloc,
         rom,
         frame,

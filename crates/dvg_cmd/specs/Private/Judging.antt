@@ -6,7 +6,8 @@ use Rattle.dvg_words.specs.Values.{MemoryMap}
 use Rattle.dvg_check.specs.Verdict.{InRange}
 
 -- these are the frame's words and the ROM of bytes that can be judged
-pub record AreImages (machine : Machine) (rom : List ℕ) (map : MemoryMap) (frame : List ℕ) (budget : ℕ) (words : List ℕ) (image : Rom) : Type 0 where
+pub record AreImages
+    (machine : Machine) (rom : List ℕ) (map : MemoryMap) (frame : List ℕ) (budget : ℕ) (words : List ℕ) (image : Rom) : Type 0 where
   pub in_range : InRange frame budget
   pub rom_length : IsRomLength map (length rom)
   pub words_are : words ≡ words_of frame
