@@ -157,6 +157,78 @@ static void agree(void) {
     EXPECT(same(over(frame.length, BUDGET), check_exact(&cert, frame.length, BUDGET)), 1);
 }
 
+/* ---- the machines: a shape of two draws up by half a place each, its certificates for both, and a frame that calls it near the top */
+
+static const uint8_t half_frame[] = {0xFE, 0xA3, 0, 0, 0, 0xC8, 0, 0xB0}; /* A3FE 0000 C800 B000 */
+
+static uint8_t half_rom[2048] = {0, 1, 0, 0x70, 0, 1, 0, 0x70, 0, 0xD0}; /* 0100 7000 0100 7000 D000 at 800 */
+
+static const char *const half_certs[] = {
+    "dvgcert 1\nshape 800 0 end rel 0 1024 box 0 0 0 1024 depth 0 words 5 scale 0\ndone 1\n",
+    "dvgcert 1\nshape 800 0 end rel 0 2048 box 0 0 0 2048 depth 0 words 5 scale 0\ndone 1\n",
+};
+
+/* On a machine, by the certificate for that of this number. */
+static struct dvgcheck_answer half_check(uint32_t machine, int by) {
+    const uint8_t *c = (const uint8_t *)half_certs[by];
+    size_t length = strlen(half_certs[by]);
+    struct dvgcheck_answer a = dvgcheck_check_on(machine, half_rom, sizeof half_rom, c, length, half_frame, sizeof half_frame,
+                                                 BUDGET, DVGCHECK_SCREEN);
+    struct dvgcheck_answer exact = dvgcheck_check_exact_on(machine, half_rom, sizeof half_rom, c, length, half_frame,
+                                                           sizeof half_frame, BUDGET, DVGCHECK_SCREEN);
+    EXPECT(same(a, exact), 1);
+    return a;
+}
+
+static struct dvgcheck_answer half_judge(uint32_t machine, int by) {
+    const uint8_t *c = (const uint8_t *)half_certs[by];
+    size_t length = strlen(half_certs[by]);
+    struct dvgcheck_answer exact =
+        dvgcheck_judge_exact_on(machine, half_rom, sizeof half_rom, c, length, DVGCHECK_SCREEN, &copied);
+    struct dvgcheck_answer a = dvgcheck_judge_on(machine, half_rom, sizeof half_rom, c, length, DVGCHECK_SCREEN, &shapes);
+    EXPECT(same(a, exact), 1);
+    return a;
+}
+
+static void machines(void) {
+    struct dvgcheck_answer a = half_check(DVGCHECK_PROFILE, DVGCHECK_PROFILE);
+    EXPECT(a.number, 0);
+    EXPECT(a.words, 9);
+    a = half_check(DVGCHECK_BOARD, DVGCHECK_BOARD);
+    EXPECT(a.number, 46);
+    EXPECT(a.word, 2);
+    a = half_check(DVGCHECK_BOARD, DVGCHECK_PROFILE);
+    EXPECT(a.number, 31);
+    EXPECT(a.word, 0x802);
+    a = half_check(DVGCHECK_PROFILE, DVGCHECK_BOARD);
+    EXPECT(a.number, 29);
+    EXPECT(a.word, 0x804);
+
+    EXPECT(half_judge(DVGCHECK_BOARD, DVGCHECK_PROFILE).number, 31);
+    EXPECT(half_judge(DVGCHECK_PROFILE, DVGCHECK_BOARD).number, 29);
+    EXPECT(half_judge(DVGCHECK_PROFILE, DVGCHECK_PROFILE).number, 0);
+    EXPECT(dvgcheck_frame(&shapes, half_frame, sizeof half_frame, BUDGET).number, 0);
+    EXPECT(dvgcheck_frame_on(DVGCHECK_PROFILE, &shapes, half_frame, sizeof half_frame, BUDGET).number, 0);
+    EXPECT(dvgcheck_frame_on(DVGCHECK_BOARD, &shapes, half_frame, sizeof half_frame, BUDGET).number, DVGCHECK_NO_SHAPES);
+    EXPECT(half_judge(DVGCHECK_BOARD, DVGCHECK_BOARD).number, 0);
+    a = dvgcheck_frame(&shapes, half_frame, sizeof half_frame, BUDGET);
+    EXPECT(a.number, 46);
+    EXPECT(a.word, 2);
+    EXPECT(same(dvgcheck_frame_on(DVGCHECK_BOARD, &shapes, half_frame, sizeof half_frame, BUDGET), a), 1);
+    EXPECT(same(dvgcheck_frame_on(DVGCHECK_BOARD, &copied, half_frame, sizeof half_frame, BUDGET), a), 1);
+    EXPECT(dvgcheck_frame_on(DVGCHECK_PROFILE, &shapes, half_frame, sizeof half_frame, BUDGET).number, DVGCHECK_NO_SHAPES);
+
+    EXPECT(half_check(2, DVGCHECK_BOARD).number, DVGCHECK_BAD_MACHINE);
+    EXPECT(dvgcheck_frame_on(256, &shapes, half_frame, sizeof half_frame, BUDGET).number, DVGCHECK_BAD_MACHINE);
+    EXPECT(half_judge(UINT32_MAX, DVGCHECK_BOARD).number, DVGCHECK_BAD_MACHINE);
+    EXPECT(dvgcheck_frame(&shapes, half_frame, sizeof half_frame, BUDGET).number, DVGCHECK_NO_SHAPES);
+    struct dvgcheck_window turned = {1, 0, 0, 1023};
+    const uint8_t *c = (const uint8_t *)half_certs[1];
+    EXPECT(dvgcheck_judge_on(DVGCHECK_BOARD, half_rom, sizeof half_rom, c, 0, turned, &shapes).number, DVGCHECK_BAD_WINDOW);
+    EXPECT(dvgcheck_check_on(DVGCHECK_BOARD, half_rom, 0, c, 0, half_frame, 0, 0, turned).number, DVGCHECK_BAD_WINDOW);
+    EXPECT(dvgcheck_check_on(2, half_rom, 0, c, 0, half_frame, 0, 0, turned).number, DVGCHECK_BAD_MACHINE);
+}
+
 static void memory(void) {
     EXPECT(taken, given);
     EXPECT(judge(&rom, &cert).number, 0);
@@ -194,6 +266,7 @@ int main(int count, char **words) {
     refusals();
     frames();
     agree();
+    machines();
     memory();
     return failed;
 }

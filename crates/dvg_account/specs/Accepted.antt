@@ -1,7 +1,8 @@
 -- The lines of what is accepted. All of it is this project's own.
-use Rattle.std.specs.Prelude.{◌≡◌, ℕ, List, ◌∷◌, ◌++◌, length, Option, Some, None, IfSome, option_to_list}
+use Rattle.std.specs.Prelude.{◌≡◌, ℕ, List, ◌∷◌, ◌++◌, length, Option, Some, None, IfSome, option_to_list, Result}
 use Rattle.dvg_words.specs.declared.machine.Machine.{Machine}
-use Rattle.dvg_words.specs.Values.{Window}
+use Rattle.dvg_words.specs.declared.machine.Machine.TheVariants.{Profile, Board}
+use Rattle.dvg_words.specs.Values.{MemoryMap, Window}
 use Rattle.dvg_words.specs.Memory.{words_of, rom_on, frame_word, IsFrameLength, IsRomLength}
 use Rattle.dvg_cert.specs.Order.{Certificate}
 use Rattle.dvg_cert.specs.declared.entry.Entry.{Entry}
@@ -9,12 +10,16 @@ use Rattle.dvg_cert.specs.declared.entry.LitBox.{LitBox}
 use Rattle.dvg_cert.specs.declared.entry.LitBox.TheVariants.{Empty}
 use Rattle.dvg_items.specs.Lit.{IsInside}
 use Rattle.dvg_items.specs.Known.{frame_context}
+use Rattle.dvg_check.specs.Verdict.{InRange}
 use Rattle.dvg_check.specs.declared.verdict.Yes.{Yes}
 use Rattle.dvg_explain.specs.declared.calls.Call.{Call}
 use Rattle.dvg_explain.specs.Calls.{AreCalls, IsExtent, IsShapesExtent}
 use Rattle.dvg_explain.specs.Leaving.{window_limits}
 use Rattle.dvg_explain.specs.declared.margins.Margins.{Margins}
 use Rattle.dvg_explain.specs.Margins.{AreMargins, limits_box}
+use Rattle.dvg_make.specs.Judging.{VerdictByMade}
+use Rattle.dvg_make.specs.declared.judging.FrameRefusal.{FrameRefusal}
+use Rattle.dvg_account.specs.Machines.{machine_lines}
 use Rattle.dvg_account.specs.declared.accepted.Survey.{Survey}
 use Rattle.dvg_account.specs.declared.inputs.Inputs.{Inputs}
 use Rattle.dvg_account.specs.declared.line.Line.{Line}
@@ -37,7 +42,21 @@ abbrev pub TellsMargins : Window → LitBox → (Margins → AcceptedLine) → O
 TellsMargins w box tell None = IsInside box (limits_box (window_limits w)) → box ≡ Empty
 TellsMargins w box tell (Some told) = (m : Margins) × AreMargins (window_limits w) box m × (told ≡ Accepted (tell m))
 
--- the lines of what is accepted: its counts, the calls of the frame, and where the frame and the shapes light
+-- the board's answer to bytes of a ROM at this map and of a frame, by the frame's own certificate there; no line for bytes that
+-- can't be judged
+abbrev pub TellsBoardAt : Option MemoryMap → Inputs → Option Line → Type 0
+TellsBoardAt None inputs told = told ≡ None
+TellsBoardAt (Some map) inputs None = InRange inputs.frame.now inputs.budget → IsRomLength map (length inputs.rom.now) → ⊥
+TellsBoardAt (Some map) inputs (Some told) = (answer : Result Yes FrameRefusal)
+    × VerdictByMade (rom_on Board map inputs.rom.now) (words_of inputs.frame.now) inputs.window inputs.budget answer
+    × (told ≡ Accepted (line.OnBoard answer))
+
+-- an answer about the profile is told with the board's
+abbrev pub TellsBoard : Machine → Inputs → Option Line → Type 0
+TellsBoard Profile inputs told = TellsBoardAt inputs.map inputs told
+TellsBoard Board inputs told = told ≡ None
+
+-- the lines of what is accepted: its counts, the calls of the frame, where the frame and the shapes light, and the board's answer
 pub record AcceptedLines (inputs : Inputs) (yes : Yes) (lines : List Line) : Type 0 where
   pub survey : Survey
   pub surveyed : IfSome inputs.cert (λ cert. Surveyed inputs.machine cert.now inputs.rom.now inputs.frame.now survey)
@@ -45,6 +64,9 @@ pub record AcceptedLines (inputs : Inputs) (yes : Yes) (lines : List Line) : Typ
   pub frame_inside : TellsMargins inputs.window survey.frame line.FrameMargins frame_margins
   pub shapes_margins : Option Line
   pub shapes_inside : TellsMargins inputs.window survey.shapes line.ShapesMargins shapes_margins
-  pub told : lines ≡ Accepted (line.Shapes yes.shapes) ∷ Accepted (line.Words yes.words inputs.budget)
+  pub on_board : Option Line
+  pub board : TellsBoard inputs.machine inputs on_board
+  pub told : lines ≡ machine_lines inputs.machine ++ Accepted (line.Shapes yes.shapes) ∷ Accepted (line.Words yes.words inputs.budget)
       ∷ Accepted (line.ReturnPlaces yes.depth) ∷ Accepted (line.Calls survey.calls) ∷ Accepted (line.FrameLights survey.frame)
       ∷ option_to_list frame_margins ++ Accepted (line.ShapesLight survey.shapes) ∷ option_to_list shapes_margins
+      ++ option_to_list on_board

@@ -1,4 +1,5 @@
 pub mod Building
+pub mod Machines
 pub mod Items
 pub mod Why
 pub mod Plain

@@ -1,6 +1,7 @@
 -- The lines of an answer of the maker. All of it is this project's own.
 use Rattle.std.specs.Prelude.{◌≡◌, ℕ, max, List, [], ◌∷◌, ◌++◌, length, fold, Option, Some, None, slice_get, option_to_list}
 use Rattle.std.specs.Global.{Vec}
+use Rattle.dvg_words.specs.declared.machine.Machine.{Machine}
 use Rattle.dvg_words.specs.Memory.{Rom, rom_word}
 use Rattle.dvg_explain.specs.declared.calls.Call.{Call}
 use Rattle.dvg_cert.specs.declared.entry.Entry.{Entry}
@@ -11,6 +12,7 @@ use Rattle.dvg_make.specs.declared.account.EntryCause.TheVariants as cause
 use Rattle.dvg_make.specs.declared.account.ShapeAt.{ShapeAt}
 use Rattle.dvg_account.specs.Items.{RefusedItem, IsItem, item_lines}
 use Rattle.dvg_account.specs.declared.line.Line.{Line}
+use Rattle.dvg_account.specs.Machines.{machine_lines}
 use Rattle.dvg_account.specs.Why.{OddWords, addresses_of_map, missing_word}
 use Rattle.dvg_account.specs.declared.why.Why.TheVariants as why
 use Rattle.dvg_account.specs.declared.why.Why.TheVariants.{Maker}
@@ -27,10 +29,10 @@ most_words list = fold (λ most e. max most e.words) 0 list
 abbrev pub most_depth : List Entry → ℕ
 most_depth list = fold (λ most e. max most e.depth) 0 list
 
--- the lines of a certificate with these entries
-abbrev pub made_lines : List Entry → List Line
-made_lines list =
-    Made (made.Entries (length list)) ∷ Made (made.Words (most_words list)) ∷ Made (made.ReturnPlaces (most_depth list)) ∷ []
+-- the lines of a certificate with these entries, for a machine
+abbrev pub made_lines : Machine → List Entry → List Line
+made_lines machine list =
+    machine_lines machine ++ Made (made.Entries (length list)) ∷ Made (made.Words (most_words list)) ∷ Made (made.ReturnPlaces (most_depth list)) ∷ []
 
 -- which shapes need one another
 abbrev pub ring_of : EntryCause → Option ℕ
@@ -83,5 +85,5 @@ pub record UnmadeLines (rom : Rom) (a : MakeAccount) (lines : List Line) : Type 
   pub is_item : IsMakerItem rom a item
   pub below : Option Line
   pub deep : TellsBelow a.cause below
-  pub told : lines ≡ Rule (fault_number (make_fault_of a.fault.why)) ∷ option_to_list why ++ maker_item_lines item
-      ++ Path (path.MakerChain (chain_of a)) ∷ option_to_list below ++ WhatToDo (fault_number (make_fault_of a.fault.why)) ∷ []
+  pub told : lines ≡ machine_lines rom.machine ++ Rule (fault_number (make_fault_of a.fault.why)) ∷ option_to_list why
+      ++ maker_item_lines item ++ Path (path.MakerChain (chain_of a)) ∷ option_to_list below ++ WhatToDo (fault_number (make_fault_of a.fault.why)) ∷ []

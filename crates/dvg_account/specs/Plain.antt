@@ -1,5 +1,7 @@
 -- The lines of a refusal before any item was judged. All of it is this project's own.
 use Rattle.std.specs.Prelude.{ℕ, List, [], ◌∷◌, ◌++◌, Option, Some, None, option_to_list}
+use Rattle.dvg_words.specs.declared.machine.Machine.{Machine}
+use Rattle.dvg_account.specs.Machines.{machine_lines}
 use Rattle.dvg_account.specs.declared.inputs.PlainWhy.{PlainWhy}
 use Rattle.dvg_account.specs.declared.inputs.PlainWhy.TheVariants as plain
 use Rattle.dvg_account.specs.Why.{addresses_of_map}
@@ -16,5 +18,5 @@ plain_line (plain.FrameLength bytes) = Some (Why (Input (input.FrameLength bytes
 plain_line (plain.Budget budget) = Some (Why (Input (input.Budget budget)))
 plain_line (plain.Line line) = Some (CertificateLine line)
 
-abbrev pub plain_lines : ℕ → PlainWhy → List Line
-plain_lines number why = Rule number ∷ option_to_list (plain_line why) ++ WhatToDo number ∷ []
+abbrev pub plain_lines : Machine → ℕ → PlainWhy → List Line
+plain_lines machine number why = machine_lines machine ++ Rule number ∷ option_to_list (plain_line why) ++ WhatToDo number ∷ []

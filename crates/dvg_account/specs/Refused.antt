@@ -13,6 +13,7 @@ use Rattle.dvg_explain.specs.declared.frames.FrameAccount.{FrameAccount}
 use Rattle.dvg_explain.specs.declared.shapes.ShapeAccount.{ShapeAccount}
 use Rattle.dvg_make.specs.Made.{HasEntry}
 use Rattle.dvg_account.specs.Items.{RefusedItem, IsItem, callee_of, item_lines}
+use Rattle.dvg_account.specs.Machines.{machine_lines, other_machine_line}
 use Rattle.dvg_account.specs.Why.{TellsFrame, TellsShape}
 use Rattle.dvg_account.specs.declared.why.Why.{Why as Sentence}
 use Rattle.dvg_account.specs.declared.line.Line.{Line}
@@ -27,7 +28,8 @@ pub record FrameLines (machine : Machine) (frame : List ℕ) (list : List Entry)
   pub is_item : IsItem (frame_word machine frame) a.finding.fault.word a.finding.before (callee_of a.finding.found) item
   pub lost : IfSome item.losses (AreLosses (frame_context machine list) (frame_word machine frame) 0 a.finding.fault.word)
   pub unled : IfNone item.losses (NoneLead Frame (frame_word machine frame) 0 a.finding.fault.word)
-  pub told : lines ≡ Rule (frame_number a.finding.fault.why) ∷ Why why ∷ item_lines item ++ WhatToDo (frame_number a.finding.fault.why) ∷ []
+  pub told : lines ≡ machine_lines machine ++ Rule (frame_number a.finding.fault.why) ∷ Why why ∷ item_lines item
+      ++ WhatToDo (frame_number a.finding.fault.why) ∷ []
 
 -- how the frame with these bytes reaches an entry: by these calls, or by none; without a frame there is no line
 abbrev pub TellsChain : Rom → List ℕ → List Entry → Entry → Option Line → Type 0
@@ -37,7 +39,8 @@ TellsChain rom frame list goal (Some (Path (path.NoChain name))) =
     (name ≡ record { addr = goal.addr; key = goal.key }) × ((calls : List Call) → IsChain rom (words_of frame) list calls goal → ⊥)
 TellsChain rom frame list goal line = ⊥
 
--- the lines of the first fault of the shapes: its rule, its cause, its item, its entry, how the frame reaches it, and what to do
+-- the lines of the first fault of the shapes: its rule, its cause, its item, its entry, how the frame reaches it,
+-- whether the certificate may have been made for the other machine, and what to do
 pub record ShapeLines (rom : Rom) (frame : List ℕ) (list : List Entry) (a : ShapeAccount) (lines : List Line) : Type 0 where
   pub why : Sentence
   pub tells : TellsShape rom a.finding a.cause why
@@ -48,5 +51,6 @@ pub record ShapeLines (rom : Rom) (frame : List ℕ) (list : List Entry) (a : Sh
       → NoneLead Shape (rom_word rom) a.finding.entry.addr a.finding.fault.word)
   pub chain : Option Line
   pub reached : TellsChain rom frame list a.finding.entry chain
-  pub told : lines ≡ Rule (shape_number a.finding.fault.why) ∷ Why why ∷ item_lines item
-      ++ Path (path.EntryClaims a.finding.entry) ∷ option_to_list chain ++ WhatToDo (shape_number a.finding.fault.why) ∷ []
+  pub told : lines ≡ machine_lines rom.machine ++ Rule (shape_number a.finding.fault.why) ∷ Why why ∷ item_lines item
+      ++ Path (path.EntryClaims a.finding.entry) ∷ option_to_list chain
+      ++ option_to_list (other_machine_line rom.machine a.finding.fault.why) ++ WhatToDo (shape_number a.finding.fault.why) ∷ []

@@ -22,7 +22,7 @@ RefusedLines inputs refusal (Some (account.Shape a)) lines = IfSome inputs.cert 
     → ShapeLines (rom_on inputs.machine cert.now.map inputs.rom.now) inputs.frame.now cert.now.entries a lines)
 RefusedLines inputs refusal (Some (account.Frame a)) lines = IfSome inputs.cert (λ cert. IsFrameLength (length inputs.frame.now)
     → FrameLines inputs.machine (words_of inputs.frame.now) cert.now.entries a lines)
-RefusedLines inputs refusal cause lines = (why : PlainWhy) × (lines ≡ plain_lines (refusal_number refusal) why)
+RefusedLines inputs refusal cause lines = (why : PlainWhy) × (lines ≡ plain_lines inputs.machine (refusal_number refusal) why)
 
 -- the lines of a verdict on inputs
 abbrev pub VerdictLines : Inputs → Result Yes Refusal → Option RomAccount → List Line → Type 0
@@ -33,4 +33,4 @@ VerdictLines inputs (Err refusal) cause lines = RefusedLines inputs refusal caus
 abbrev pub FrameVerdictLines : Inputs → Result Yes FrameRefusal → Option RomAccount → List Line → Type 0
 FrameVerdictLines inputs (Ok y) cause lines = AcceptedLines inputs y lines
 FrameVerdictLines inputs (Err (Check refusal)) cause lines = RefusedLines inputs refusal cause lines
-FrameVerdictLines inputs (Err refusal) cause lines = lines ≡ plain_lines 63 Nothing
+FrameVerdictLines inputs (Err refusal) cause lines = lines ≡ plain_lines inputs.machine 63 Nothing

@@ -4,7 +4,7 @@ ghost use Rattle.std.specs.Prelude.{◌≡◌, IfOk, IfSome, length};
 ghost use Rattle.dvg_words.specs.Memory.{IsFrameLength, IsRomLength, words_of, rom_on, frame_word};
 ghost use Rattle.dvg_items.specs.Known.{frame_context};
 ghost use Rattle.dvg_explain.specs.Calls.{IsShapesExtent};
-ghost use Rattle.dvg_account.specs.Accepted.{FrameSurveyed, Surveyed, TellsMargins, AcceptedLines};
+ghost use Rattle.dvg_account.specs.Accepted.{FrameSurveyed, Surveyed, TellsMargins, TellsBoard, AcceptedLines};
 ghost use Rattle.dvg_account.specs.declared.line.AcceptedLine.TheVariants.{FrameMargins, ShapesMargins};
 ghost use Rattle.dvg_account.specs.Building.{Adds};
 
@@ -12,8 +12,9 @@ use crate::inputs::Inputs;
 use crate::line::{AcceptedLine, Line};
 use crate::lines::Lines;
 use dvg_cert::{Cert, Entries, HashIndex, LitBox};
-use dvg_check::Yes;
+use dvg_check::{Refusal, Yes, frame_of};
 use dvg_explain::{Call, Margins, frame_calls, frame_extent, shapes_extent};
+use dvg_make::{FrameRefusal, judge};
 use dvg_words::{FrameImage, Machine, RomImage, Window};
 use std::alloc::{AllocError, Global};
 
@@ -112,6 +113,25 @@ fn shapes_margins(window: &Window, lit: &LitBox) -> Option<Line>
     Some(Line::Accepted(AcceptedLine::ShapesMargins(margins)))
 }
 
+/// The line of what the board answers to the same inputs, by the frame's own certificate there, unless the board was asked.
+fn board_line(alloc: Global, inputs: &Inputs) -> Result<Option<Line>, AllocError>
+    ensures { IfOk result (TellsBoard inputs.now.machine inputs.now) }
+{
+    let (Machine::Profile, Some(map)) = (inputs.machine, inputs.map) else {
+        return Ok(None);
+    };
+    let Ok(rom) = RomImage::from_bytes_on(Machine::Board, inputs.rom, map) else {
+        return Ok(None);
+    };
+    let Ok(frame) = frame_of(inputs.frame, inputs.budget) else {
+        return Ok(None);
+    };
+    match judge(alloc, &rom, &frame, inputs.budget, inputs.window) {
+        Err(FrameRefusal::NoMemory | FrameRefusal::Check(Refusal::IndexMemory)) => Err(AllocError),
+        answer => Ok(Some(Line::Accepted(AcceptedLine::OnBoard(answer)))),
+    }
+}
+
 /// The lines of what is accepted (profile).
 pub fn accepted_lines(alloc: Global, inputs: &Inputs, yes: Yes) -> Result<Vec<Line>, AllocError>
     ensures { IfOk result (λ lines. AcceptedLines inputs.now yes lines.items) }
@@ -119,7 +139,9 @@ pub fn accepted_lines(alloc: Global, inputs: &Inputs, yes: Yes) -> Result<Vec<Li
     let survey = Survey::of(alloc, inputs)?;
     let frame = survey.frame;
     let shapes = survey.shapes;
+    let on_board = board_line(alloc, inputs)?;
     let mut lines = Lines::new(alloc);
+    lines.push_machine(inputs.machine);
     lines.push_accepted(AcceptedLine::Shapes(yes.shapes));
     lines.push_accepted(AcceptedLine::Words {
         words: yes.words,
@@ -131,5 +153,6 @@ pub fn accepted_lines(alloc: Global, inputs: &Inputs, yes: Yes) -> Result<Vec<Li
     lines.push_some(frame_margins(&inputs.window, &frame));
     lines.push_accepted(AcceptedLine::ShapesLight(shapes));
     lines.push_some(shapes_margins(&inputs.window, &shapes));
+    lines.push_some(on_board);
     lines.finish()
 }

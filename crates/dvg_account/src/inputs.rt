@@ -76,11 +76,17 @@ fn plain_line(why: PlainWhy) -> Option<Line>
     Some(Line::Why(Why::Input(why)))
 }
 
-/// The lines of a refusal with this number before any item was judged (profile).
-pub fn plain_lines(alloc: Global, number: u8, why: PlainWhy) -> Result<Vec<Line>, AllocError>
-    ensures { IfOk result (λ lines. lines.items ≡ plain_lines number why) }
+/// The lines of a refusal with this number before any item was judged on a machine (profile).
+pub fn plain_lines(
+    machine: Machine,
+    alloc: Global,
+    number: u8,
+    why: PlainWhy,
+) -> Result<Vec<Line>, AllocError>
+    ensures { IfOk result (λ lines. lines.items ≡ plain_lines machine number why) }
 {
     let mut lines = Lines::new(alloc);
+    lines.push_machine(machine);
     lines.push(Line::Rule(number));
     lines.push_some(plain_line(why));
     lines.push(Line::WhatToDo(number));

@@ -4,14 +4,17 @@ ghost use Rattle.std.specs.Prelude.{◌≡◌};
 
 use crate::why::Why;
 use dvg_cert::{End, Entry, Key, LitBox};
+use dvg_check::Yes;
 use dvg_explain::{Call, Margins};
 use dvg_items::Item;
-use dvg_make::{FrameCall, ShapeAt};
-use dvg_words::{Format, Instr};
+use dvg_make::{FrameCall, FrameRefusal, ShapeAt};
+use dvg_words::{Format, Instr, Machine};
 
 /// A line of an account. One that holds a list is spelled as a line for each element.
 #[derive(Drop)]
 pub enum Line {
+    /// The machine that the answer is about.
+    OnMachine(Machine),
     /// What this number means.
     Rule(u8),
     /// Why the answer is a refusal.
@@ -26,6 +29,8 @@ pub enum Line {
     Accepted(AcceptedLine),
     /// The certificate that is made.
     Made(MadeLine),
+    /// The other machine, for which the certificate may have been made.
+    MadeForOther(Machine),
     /// What to do about this number.
     WhatToDo(u8),
 }
@@ -91,6 +96,8 @@ pub enum AcceptedLine {
     ShapesLight(LitBox),
     /// How far that box is from each edge of the window.
     ShapesMargins(Margins),
+    /// What the board answers, by the frame's own certificate there.
+    OnBoard(Result<Yes, FrameRefusal>),
 }
 
 /// A line about a certificate that is made.

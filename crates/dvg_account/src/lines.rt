@@ -3,8 +3,10 @@
 ghost use Rattle.std.specs.Prelude.{◌≡◌, [], ◌∷◌, Some, IfOk, map, option_to_list};
 ghost use Rattle.dvg_account.specs.declared.line.Line.TheVariants.{Item, Accepted};
 ghost use Rattle.dvg_account.specs.Building.{Adds};
+ghost use Rattle.dvg_account.specs.Machines.{machine_lines};
 
 use crate::line::{AcceptedLine, ItemLine, Line};
+use dvg_words::Machine;
 use std::alloc::{AllocError, Global};
 use std::marker::Model;
 
@@ -44,6 +46,16 @@ impl Lines {
         };
         if pushed.is_err() {
             self.lines = Err(AllocError);
+        }
+    }
+
+    /// Adds the line that names a machine, unless it is the profile's.
+    pub fn push_machine(&mut self, machine: Machine)
+        ensures { Adds self.old self.new (machine_lines machine) }
+    {
+        match machine {
+            Machine::Profile => {}
+            Machine::Board => self.push(Line::OnMachine(machine)),
         }
     }
 

@@ -12,7 +12,7 @@ use dvg_cert::{Cert, Entries, Entry, Key, ListIndex};
 use dvg_explain::{Call, deepest_calls};
 use dvg_items::Kind;
 use dvg_make::{EntryCause, MakeAccount, MakeFault, make};
-use dvg_words::RomImage;
+use dvg_words::{Machine, RomImage};
 use std::alloc::{AllocError, Global};
 use std::slice;
 
@@ -30,12 +30,13 @@ fn most_depth(entries: &[Entry]) -> u8
     entries.iter().fold(0, |most, entry| most.max(entry.depth))
 }
 
-/// The lines of a certificate that is made (profile).
-pub fn made_lines(alloc: Global, cert: &Cert) -> Result<Vec<Line>, AllocError>
-    ensures { IfOk result (λ lines. lines.items ≡ made_lines cert.now.entries) }
+/// The lines of a certificate that is made for a machine (profile).
+pub fn made_lines(machine: Machine, alloc: Global, cert: &Cert) -> Result<Vec<Line>, AllocError>
+    ensures { IfOk result (λ lines. lines.items ≡ made_lines machine cert.now.entries) }
 {
     let entries = cert.entries();
     let mut lines = Lines::new(alloc);
+    lines.push_machine(machine);
     lines.push(Line::Made(MadeLine::Entries(entries.len())));
     lines.push(Line::Made(MadeLine::Words(most_words(entries))));
     lines.push(Line::Made(MadeLine::ReturnPlaces(most_depth(entries))));
@@ -55,6 +56,7 @@ pub fn unmade_lines(
     let item = item_of(rom, &account);
     let why = why_line(rom, &account);
     let mut lines = Lines::new(alloc);
+    lines.push_machine(rom.machine());
     lines.push(Line::Rule(number));
     lines.push_some(why);
     push_item(&mut lines, &item);

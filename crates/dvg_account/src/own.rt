@@ -63,7 +63,9 @@ pub fn own_lines(
 ) -> Result<Vec<Line>, AllocError> {
     match making.certificate {
         OwnCertificate::Unasked => lines_by(alloc, inputs, None, verdict),
-        OwnCertificate::NoMemory => plain_lines(alloc, NO_MEMORY, PlainWhy::Nothing),
+        OwnCertificate::NoMemory => {
+            plain_lines(inputs.machine, alloc, NO_MEMORY, PlainWhy::Nothing)
+        }
         OwnCertificate::Made(cert) => lines_by(alloc, inputs, Some(&cert), verdict),
         OwnCertificate::Refused(lines) => lines,
     }
@@ -100,6 +102,6 @@ pub fn frame_lines(
     match verdict {
         Ok(yes) => verdict_lines(alloc, inputs, &Ok(*yes), None),
         Err(FrameRefusal::Check(refusal)) => { verdict_lines(alloc, inputs, &Err(*refusal), cause) }
-        Err(_) => plain_lines(alloc, NO_MEMORY, PlainWhy::Nothing),
+        Err(_) => plain_lines(inputs.machine, alloc, NO_MEMORY, PlainWhy::Nothing),
     }
 }

@@ -8,6 +8,7 @@ ghost use Rattle.dvg_items.specs.declared.item.Kind.TheVariants.{Shape};
 ghost use Rattle.dvg_explain.specs.Losses.{AreLosses, NoneLead};
 ghost use Rattle.dvg_make.specs.Made.{HasEntry};
 ghost use Rattle.dvg_account.specs.Refused.{FrameLines, ShapeLines, TellsChain};
+ghost use Rattle.dvg_account.specs.Machines.{other_machine_line};
 ghost use Rattle.dvg_account.specs.Building.{Adds};
 
 use crate::inputs::{Inputs, plain_lines};
@@ -16,7 +17,7 @@ use crate::line::{EntryName, Line, PathLine};
 use crate::lines::Lines;
 use crate::why::Why;
 use dvg_cert::{Cert, Entries, Entry, HashIndex, ListIndex};
-use dvg_check::Refusal;
+use dvg_check::{Refusal, ShapeWhy};
 use dvg_explain::{
     FrameAccount, Losses, RomAccount, ShapeAccount, find_chain, frame_losses, shape_losses,
 };
@@ -46,7 +47,8 @@ pub fn refused_lines(
         }
         _ => {}
     }
-    plain_lines(alloc, refusal.number(), inputs.plain_why(refusal))
+    let why = inputs.plain_why(refusal);
+    plain_lines(inputs.machine, alloc, refusal.number(), why)
 }
 
 /// The lines of the first fault of a frame on a machine.
@@ -70,6 +72,7 @@ fn frame_lines(
     };
     let why = Why::of_frame(machine, account, frame);
     let mut lines = Lines::new(alloc);
+    lines.push_machine(machine);
     lines.push(Line::Rule(number));
     lines.push(Line::Why(why));
     item.push_lines(&mut lines);
@@ -98,14 +101,34 @@ fn shape_lines(
         ..RefusedItem::new(rom, Kind::Shape, entry.addr, at, finding.before, callee)
     };
     let why = Why::of_shape(account, rom);
+    let other = other_machine_line(rom.machine(), finding.fault.why);
     let mut lines = Lines::new(alloc);
+    lines.push_machine(rom.machine());
     lines.push(Line::Rule(number));
     lines.push(Line::Why(why));
     item.push_lines(&mut lines);
     lines.push(Line::Path(PathLine::EntryClaims(entry)));
     lines.push_some(chain);
+    lines.push_some(other);
     lines.push(Line::WhatToDo(number));
     lines.finish()
+}
+
+/// The line that the certificate may have been made for the other machine, if this fault may come of it.
+fn other_machine_line(machine: Machine, why: ShapeWhy) -> Option<Line>
+    ensures { result ≡ other_machine_line machine why }
+{
+    match why {
+        ShapeWhy::EndDiffers | ShapeWhy::ScaleDiffers | ShapeWhy::BoxTooSmall => {
+            Some(Line::MadeForOther(
+                match machine {
+                    Machine::Profile => Machine::Board,
+                    Machine::Board => Machine::Profile,
+                },
+            ))
+        }
+        _ => None,
+    }
 }
 
 /// The line of how the frame with these bytes reaches an entry; `None` where the bytes are no frame.

@@ -10,11 +10,12 @@ use crate::line::{
 use crate::sentences::push_why;
 use crate::text::Text;
 use dvg_cert::{MOST_DEPTH, MOST_ENTRIES, MOST_WORDS};
+use dvg_check::Yes;
 use dvg_explain::{Call, Margins};
 use dvg_items::Item;
-use dvg_make::ShapeAt;
-use dvg_spelling::rule_of;
-use dvg_words::{Draw, Format, Instr};
+use dvg_make::{FrameRefusal, ShapeAt};
+use dvg_spelling::{FrameAnswer, frame_report_of, rule_of};
+use dvg_words::{Draw, Format, Instr, Machine};
 use itoa::Integer;
 use std::alloc::{AllocError, Global};
 
@@ -29,6 +30,7 @@ pub fn text_of(alloc: Global, lines: &[Line]) -> Result<String, AllocError> {
 
 fn push_line(text: &mut Text, line: &Line) {
     match line {
+        Line::OnMachine(machine) => push_machine(text, *machine),
         Line::Rule(number) => push_rule(text, *number),
         Line::Why(why) => {
             text.push("why: ");
@@ -40,6 +42,7 @@ fn push_line(text: &mut Text, line: &Line) {
         Line::Path(line) => push_path_line(text, line),
         Line::Accepted(line) => push_accepted_line(text, line),
         Line::Made(line) => push_made_line(text, *line),
+        Line::MadeForOther(machine) => push_other_machine(text, *machine),
         Line::WhatToDo(number) => push_cure(text, *number),
     }
 }
@@ -49,6 +52,28 @@ fn push_count(text: &mut Text, before: &str, count: u32, behind: &str) {
     text.push(before);
     text.push_decimal(count);
     text.push(behind);
+    text.push("\n");
+}
+
+/// The machine that the answer is about, and its arithmetic.
+fn push_machine(text: &mut Text, machine: Machine) {
+    text.push("machine: ");
+    text.push(match machine {
+        Machine::Profile => "profile: draws by 1024ths of a place, LABS of ten bits",
+        Machine::Board => "board: draws rounded half up to whole places, LABS of twelve bits",
+    });
+    text.push("\n");
+}
+
+/// The other machine, and how certificates are made for it and for this one.
+fn push_other_machine(text: &mut Text, machine: Machine) {
+    text.push("other machine: the certificate may have been made ");
+    text.push(match machine {
+        Machine::Profile => "without `--board`; `make --board` makes one for the board",
+        Machine::Board => {
+            "for the board, by `make --board`; `make` without it makes one for this machine"
+        }
+    });
     text.push("\n");
 }
 
@@ -327,7 +352,14 @@ fn push_accepted_line(text: &mut Text, line: &AcceptedLine) {
             text.push("\n");
         }
         AcceptedLine::ShapesMargins(margins) => push_margins(text, "shapes margins: ", margins),
+        AcceptedLine::OnBoard(answer) => push_on_board(text, answer),
     }
+}
+
+/// The line of the board's answer.
+fn push_on_board(text: &mut Text, answer: &Result<Yes, FrameRefusal>) {
+    text.push("on the board");
+    text.push_ascii(frame_report_of(&FrameAnswer::Judged(*answer)).as_bytes());
 }
 
 /// The calls of a frame.

@@ -66,7 +66,7 @@ impl Text {
     }
 
     /// ASCII characters.
-    fn push_ascii(&mut self, piece: &[u8]) {
+    pub fn push_ascii(&mut self, piece: &[u8]) {
         if let Ok(piece) = str::from_utf8(piece) {
             self.push(piece);
         }

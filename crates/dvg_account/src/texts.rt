@@ -9,7 +9,7 @@ use dvg_cert::Cert;
 use dvg_check::{Refusal, Yes};
 use dvg_explain::RomAccount;
 use dvg_make::{FrameRefusal, MakeAccount};
-use dvg_words::RomImage;
+use dvg_words::{Machine, RomImage};
 use std::alloc::{AllocError, Global};
 
 /// The account of [`verdict_lines`] as a text.
@@ -52,13 +52,18 @@ pub fn own_text(
 }
 
 /// The account of [`plain_lines`] as a text.
-pub fn plain_text(alloc: Global, number: u8, why: PlainWhy) -> Result<String, AllocError> {
-    text_of(alloc, &plain_lines(alloc, number, why)?)
+pub fn plain_text(
+    machine: Machine,
+    alloc: Global,
+    number: u8,
+    why: PlainWhy,
+) -> Result<String, AllocError> {
+    text_of(alloc, &plain_lines(machine, alloc, number, why)?)
 }
 
 /// The account of [`made_lines`] as a text.
-pub fn made_text(alloc: Global, cert: &Cert) -> Result<String, AllocError> {
-    text_of(alloc, &made_lines(alloc, cert)?)
+pub fn made_text(machine: Machine, alloc: Global, cert: &Cert) -> Result<String, AllocError> {
+    text_of(alloc, &made_lines(machine, alloc, cert)?)
 }
 
 /// The account of [`unmade_lines`] as a text.

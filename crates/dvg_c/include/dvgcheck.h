@@ -2,15 +2,16 @@
  * dvgcheck for C: whether a display list for Atari's Digital Vector Generator is safe.
  *
  * Judge a vector ROM and the certificate of its shapes once by dvgcheck_judge, and then as many frames as there are by
- * dvgcheck_frame, which takes no memory. dvgcheck_check judges all three at once.
+ * dvgcheck_frame, which takes no memory. dvgcheck_check judges all three at once. The calls whose name ends in _on take the machine
+ * first: users of a board pass DVGCHECK_BOARD. The others are about the fixed-point profile (docs/MACHINE.md).
  *
  * What the functions answer and keep is proved. It rests on what nothing can test, so it is yours to see to:
  *
  * - A pointer and the length after it are those of bytes that can be read, that nothing writes during the call, and that lie
  *   outside the struct that is passed with them. It is not null, also where the length is 0. The other pointers are those of a
  *   struct.
- * - A `struct dvgcheck_shapes` is all zeros, or has just the bytes that the last dvgcheck_judge or dvgcheck_judge_exact left in
- *   it: nothing else writes into it. It may be copied and moved. While no call writes it, any number of threads may judge frames
+ * - A `struct dvgcheck_shapes` is all zeros, or has just the bytes that the last call of the dvgcheck_judge family left in it:
+ *   nothing else writes into it. It may be copied and moved. While no call writes it, any number of threads may judge frames
  *   over it.
  * - The ROM of the machine has the bytes that were judged, where the certificate says.
  * - malloc, realloc and free are those of one allocator, which aligns as the C standard asks. No call is made from a signal
@@ -38,7 +39,14 @@ static const struct dvgcheck_window DVGCHECK_SCREEN = {0, 1023, 0, 1023};
 enum {
     DVGCHECK_ACCEPTED = 0,
     DVGCHECK_BAD_WINDOW = 80, /* a least place is over the greatest, or a greatest over 1023 */
-    DVGCHECK_NO_SHAPES = 81   /* no shapes are judged: the struct is all zeros, or they were refused */
+    DVGCHECK_NO_SHAPES = 81,  /* no shapes are judged: the struct is all zeros, or they were refused */
+    DVGCHECK_BAD_MACHINE = 82 /* the number stands for no machine */
+};
+
+/* The machines. */
+enum {
+    DVGCHECK_PROFILE = 0, /* the fixed-point profile: draws by 1024ths of a place, LABS of ten bits */
+    DVGCHECK_BOARD = 1    /* a board: draws rounded half up to whole places, LABS of twelve bits */
 };
 
 /* What stands for any scale. */
@@ -98,6 +106,29 @@ struct dvgcheck_answer dvgcheck_check(const uint8_t *rom, size_t rom_length, con
 struct dvgcheck_answer dvgcheck_check_exact(const uint8_t *rom, size_t rom_length, const uint8_t *cert, size_t cert_length,
                                             const uint8_t *frame, size_t frame_length, uint32_t budget,
                                             struct dvgcheck_window window);
+
+/*
+ * The same on a machine, DVGCHECK_PROFILE or DVGCHECK_BOARD. For any other number the answer is 82, before all that the call without
+ * a machine answers. Shapes that dvgcheck_judge_on or dvgcheck_judge_exact_on judged are those of their machine, and dvgcheck_frame
+ * judges frames over them on it. dvgcheck_frame_on does the same, but answers 81 where the shapes were judged on the other machine.
+ */
+struct dvgcheck_answer dvgcheck_judge_on(uint32_t machine, const uint8_t *rom, size_t rom_length, const uint8_t *cert,
+                                         size_t cert_length, struct dvgcheck_window window, struct dvgcheck_shapes *shapes);
+
+struct dvgcheck_answer dvgcheck_judge_exact_on(uint32_t machine, const uint8_t *rom, size_t rom_length, const uint8_t *cert,
+                                               size_t cert_length, struct dvgcheck_window window,
+                                               struct dvgcheck_shapes *shapes);
+
+struct dvgcheck_answer dvgcheck_frame_on(uint32_t machine, const struct dvgcheck_shapes *shapes, const uint8_t *frame,
+                                         size_t frame_length, uint32_t budget);
+
+struct dvgcheck_answer dvgcheck_check_on(uint32_t machine, const uint8_t *rom, size_t rom_length, const uint8_t *cert,
+                                         size_t cert_length, const uint8_t *frame, size_t frame_length, uint32_t budget,
+                                         struct dvgcheck_window window);
+
+struct dvgcheck_answer dvgcheck_check_exact_on(uint32_t machine, const uint8_t *rom, size_t rom_length, const uint8_t *cert,
+                                               size_t cert_length, const uint8_t *frame, size_t frame_length, uint32_t budget,
+                                               struct dvgcheck_window window);
 
 #ifdef __cplusplus
 }

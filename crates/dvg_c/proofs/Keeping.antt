@@ -1,24 +1,24 @@
 -- What is kept stands for what was judged.
 use Rattle.std.proofs.Common.{◌≡◌, ◌∙◌, ℕ, ◌+◌, ◌-◌, ◌*◌, List, length, take, ap, arith}
-use Rattle.dvg_words.specs.declared.machine.Machine.TheVariants.{Profile}
+use Rattle.dvg_words.specs.declared.machine.Machine.{Machine}
 use Rattle.dvg_words.specs.Values.{MemoryMap}
-use Rattle.dvg_words.specs.Memory.{words_of, rom_of, IsRomLength}
+use Rattle.dvg_words.specs.Memory.{words_of, rom_on, IsRomLength}
 use Rattle.dvg_cert.specs.declared.entry.Entry.{Entry}
 use Rattle.dvg_check.specs.declared.fault.Mode.{Mode}
 use Rattle.dvg_c.specs.Told.{window_of}
-use Rattle.dvg_c.specs.Kept.{mode_of, kept_list, kept_shapes}
+use Rattle.dvg_c.specs.Kept.{mode_of, machine_of, kept_list, kept_shapes}
 use Rattle.dvg_c.specs.declared.entry.KeptEntry.{KeptEntry}
 use Rattle.dvg_c.specs.declared.window.WindowEnds.{WindowEnds}
 
 -- the ROM, the entries and the mode that are kept are those that were judged
-pub same_shapes : (map : MemoryMap) (mode : Mode) (w : WindowEnds) (judged first last count : ℕ) (bytes rom : List ℕ) (kept : List KeptEntry) (list : List Entry)
-    → first ≡ map.rom_first → last ≡ map.rom_last → IsRomLength map (length rom) → take (length rom) bytes ≡ rom → kept_list count kept ≡ list → mode_of judged ≡ mode
-    → kept_shapes judged w first last bytes count kept ≡ record { rom = rom_of map rom; list = list; window = window_of w; mode = mode }
-same_shapes map mode w judged first last count bytes rom kept list first_is last_is rom_length bytes_are list_is mode_is =
+pub same_shapes : (on : Machine) (machine : ℕ) (map : MemoryMap) (mode : Mode) (w : WindowEnds) (judged first last count : ℕ) (bytes rom : List ℕ) (kept : List KeptEntry) (list : List Entry)
+    → first ≡ map.rom_first → last ≡ map.rom_last → IsRomLength map (length rom) → take (length rom) bytes ≡ rom → kept_list count kept ≡ list → mode_of judged ≡ mode → machine_of machine ≡ on
+    → kept_shapes machine judged w first last bytes count kept ≡ record { rom = rom_on on map rom; list = list; window = window_of w; mode = mode }
+same_shapes on machine map mode w judged first last count bytes rom kept list first_is last_is rom_length bytes_are list_is mode_is machine_is =
     let size : 2 * (last + 1 - first) ≡ length rom = omega (arith, first_is, last_is, rom_length) in
     let words = ap words_of (ap (λ n. take n bytes) size ∙ bytes_are) in
     λ i. record {
-      rom = record { map = record { rom_first = first_is i; rom_last = last_is i }; machine = Profile; words = words i };
+      rom = record { map = record { rom_first = first_is i; rom_last = last_is i }; machine = machine_is i; words = words i };
       list = list_is i;
       window = window_of w;
       mode = mode_is i;

@@ -1,8 +1,9 @@
 -- What the bytes of a ROM and of a certificate come to, and what a frame comes to by the shapes that are kept of them. All of it
 -- is profile.
 use Rattle.std.specs.Prelude.{◌≡◌, ◌≢◌, ℕ, List, length, Result, Ok, Err}
+use Rattle.dvg_words.specs.declared.machine.Machine.{Machine}
 use Rattle.dvg_words.specs.Values.{Window}
-use Rattle.dvg_words.specs.Memory.{words_of, rom_of, IsRomLength}
+use Rattle.dvg_words.specs.Memory.{words_of, rom_on, IsRomLength}
 use Rattle.dvg_words.specs.declared.image.ImageFault.TheVariants.{RomLength}
 use Rattle.dvg_cert.specs.Order.{Certificate}
 use Rattle.dvg_cert.specs.Grammar.{Spells}
@@ -22,34 +23,36 @@ use Rattle.dvg_c.specs.declared.stage.TheConstants.{NOT_JUDGED}
 use Rattle.dvg_c.specs.Told.{numbered, told_refusal}
 use Rattle.dvg_c.specs.Kept.{kept_shapes}
 
--- the shapes that are kept: their ROM, their entries, their window and their mode
+-- the shapes that are kept: their ROM on its machine, their entries, their window and their mode
 abbrev pub shapes_of : KeptShapes → Shapes
-shapes_of s = kept_shapes s.judged s.window s.rom_first s.rom_last s.rom s.count s.entries
+shapes_of s = kept_shapes s.machine s.judged s.window s.rom_first s.rom_last s.rom s.count s.entries
 
 -- the first that applies of the certificate's refusal, 1, the first fault of the shapes, and the certificate that is spelled
-abbrev pub ShapesVerdict : Mode → Window → List ℕ → List ℕ → Result Certificate Refusal → Type 0
-ShapesVerdict mode w rom cert (Ok c) = Spells c cert × IsRomLength c.map (length rom) × Good mode w (rom_of c.map rom) c.entries
-ShapesVerdict mode w rom cert (Err (refusal.Cert f)) = ReadAnswer cert (Err f)
-ShapesVerdict mode w rom cert (Err (refusal.Image RomLength)) = (c : Certificate) × Spells c cert × (IsRomLength c.map (length rom) → ⊥)
-ShapesVerdict mode w rom cert (Err (refusal.Shape f)) =
-    (c : Certificate) × Spells c cert × IsRomLength c.map (length rom) × FirstShapeFault mode w (rom_of c.map rom) c.entries f
-ShapesVerdict mode w rom cert (Err r) = ⊥
+abbrev pub ShapesVerdict : Machine → Mode → Window → List ℕ → List ℕ → Result Certificate Refusal → Type 0
+ShapesVerdict machine mode w rom cert (Ok c) =
+    Spells c cert × IsRomLength c.map (length rom) × Good mode w (rom_on machine c.map rom) c.entries
+ShapesVerdict machine mode w rom cert (Err (refusal.Cert f)) = ReadAnswer cert (Err f)
+ShapesVerdict machine mode w rom cert (Err (refusal.Image RomLength)) =
+    (c : Certificate) × Spells c cert × (IsRomLength c.map (length rom) → ⊥)
+ShapesVerdict machine mode w rom cert (Err (refusal.Shape f)) =
+    (c : Certificate) × Spells c cert × IsRomLength c.map (length rom) × FirstShapeFault mode w (rom_on machine c.map rom) c.entries f
+ShapesVerdict machine mode w rom cert (Err r) = ⊥
 
 -- what is kept: the shapes of the certificate, or none
-abbrev pub Keeps : Mode → Window → List ℕ → KeptShapes → Result Certificate Refusal → Type 0
-Keeps mode w rom s (Ok c) =
-    (s.judged ≢ NOT_JUDGED) × (shapes_of s ≡ record { rom = rom_of c.map rom; list = c.entries; window = w; mode = mode })
-Keeps mode w rom s (Err r) = s.judged ≡ NOT_JUDGED
+abbrev pub Keeps : Machine → Mode → Window → List ℕ → KeptShapes → Result Certificate Refusal → Type 0
+Keeps machine mode w rom s (Ok c) =
+    (s.judged ≢ NOT_JUDGED) × (shapes_of s ≡ record { rom = rom_on machine c.map rom; list = c.entries; window = w; mode = mode })
+Keeps machine mode w rom s (Err r) = s.judged ≡ NOT_JUDGED
 
 abbrev pub told_shapes : Result Certificate Refusal → Answer
 told_shapes (Ok c) = record (numbered 0) { shapes = length c.entries }
 told_shapes (Err r) = told_refusal r
 
 -- the answer tells what the bytes come to, and just that is kept
-pub record IsJudgement (mode : Mode) (w : Window) (rom cert : List ℕ) (s : KeptShapes) (a : Answer) : Type 0 where
+pub record IsJudgement (machine : Machine) (mode : Mode) (w : Window) (rom cert : List ℕ) (s : KeptShapes) (a : Answer) : Type 0 where
   pub verdict : Result Certificate Refusal
-  pub holds : ShapesVerdict mode w rom cert verdict
-  pub kept : Keeps mode w rom s verdict
+  pub holds : ShapesVerdict machine mode w rom cert verdict
+  pub kept : Keeps machine mode w rom s verdict
   pub told : a ≡ told_shapes verdict
 
 -- what a frame comes to by shapes: the first that applies of 2, 49, its first fault, accepted

@@ -1,7 +1,9 @@
 -- Shapes that were judged, as they are kept in plain numbers. All of it is this project's own.
 use Rattle.std.specs.Prelude.{ℕ, ◌+◌, ◌-◌, ◌*◌, ◌==◌, nat_lt, List, map, take, if◌then◌else◌}
+use Rattle.dvg_words.specs.declared.machine.Machine.{Machine}
+use Rattle.dvg_words.specs.declared.machine.Machine.TheVariants.{Profile, Board}
 use Rattle.dvg_words.specs.Values.{IsWindow}
-use Rattle.dvg_words.specs.Memory.{Rom, IsRom, rom_of}
+use Rattle.dvg_words.specs.Memory.{Rom, IsRom, rom_on}
 use Rattle.dvg_cert.specs.declared.entry.Key.{Key}
 use Rattle.dvg_cert.specs.declared.entry.Key.TheVariants.{At, Any}
 use Rattle.dvg_cert.specs.declared.entry.End.{End}
@@ -19,6 +21,7 @@ use Rattle.dvg_c.specs.declared.window.WindowEnds.{WindowEnds}
 use Rattle.dvg_c.specs.declared.answer.TheConstants.{ANY_SCALE}
 use Rattle.dvg_c.specs.declared.entry.TheConstants.{MOVED, PLACED, DARK}
 use Rattle.dvg_c.specs.declared.stage.TheConstants.{EXACT}
+use Rattle.dvg_c.specs.declared.machine.TheConstants.{BOARD}
 use Rattle.dvg_c.specs.declared.entry.KeptEnd.{KeptEnd}
 use Rattle.dvg_c.specs.declared.entry.KeptBox.{KeptBox}
 use Rattle.dvg_c.specs.declared.entry.KeptEntry.{KeptEntry}
@@ -52,17 +55,22 @@ entry_of e =
 abbrev pub mode_of : ℕ → Mode
 mode_of judged = if judged == EXACT then Exact else Bound
 
--- the words of the first bytes, for a ROM at this map
-abbrev pub kept_rom : ℕ → ℕ → List ℕ → Rom
-kept_rom first last bytes = rom_of (record { rom_first = first; rom_last = last }) (take (2 * (last + 1 - first)) bytes)
+-- the machine that a number stands for: 1 for the board
+abbrev pub machine_of : ℕ → Machine
+machine_of n = if n == BOARD then Board else Profile
+
+-- the words of the first bytes, for a ROM at this map, on the machine of this number
+abbrev pub kept_rom : ℕ → ℕ → ℕ → List ℕ → Rom
+kept_rom machine first last bytes =
+    rom_on (machine_of machine) (record { rom_first = first; rom_last = last }) (take (2 * (last + 1 - first)) bytes)
 
 -- the list that the first entries stand for
 abbrev pub kept_list : ℕ → List KeptEntry → List Entry
 kept_list count entries = map entry_of (take count entries)
 
-abbrev pub kept_shapes : ℕ → WindowEnds → ℕ → ℕ → List ℕ → ℕ → List KeptEntry → Shapes
-kept_shapes judged w first last bytes count entries =
-    record { rom = kept_rom first last bytes; list = kept_list count entries; window = window_of w; mode = mode_of judged }
+abbrev pub kept_shapes : ℕ → ℕ → WindowEnds → ℕ → ℕ → List ℕ → ℕ → List KeptEntry → Shapes
+kept_shapes machine judged w first last bytes count entries =
+    record { rom = kept_rom machine first last bytes; list = kept_list count entries; window = window_of w; mode = mode_of judged }
 
 -- shapes that are good by a certificate for their ROM, in a window of the screen
 pub record IsKept (shapes : Shapes) : Type 0 where

@@ -24,7 +24,8 @@ pub struct Answer {
     pub scale: u8,
     /// With 0: how many return places every run stores at once at most.
     pub depth: u8,
-    /// 0 where it is accepted, else the number of the refusal, 80 for a bad window, or 81 where no shapes are judged.
+    /// 0 where it is accepted, else the number of the refusal, 80 for a bad window, 81 where no shapes are judged, or 82 for a bad
+    /// machine.
     pub number: u8,
 }
 
@@ -33,6 +34,9 @@ pub const BAD_WINDOW: u8 = 80;
 
 /// The number of a frame over memory that has no judged shapes.
 pub const NO_SHAPES: u8 = 81;
+
+/// The number of a bad machine.
+pub const BAD_MACHINE: u8 = 82;
 
 /// What stands for the key of any scale.
 pub const ANY_SCALE: u8 = 16;

@@ -1,14 +1,17 @@
 //! The verdict on bytes.
 
-ghost use Rattle.std.specs.Prelude.{◌≡◌};
+ghost use Rattle.std.specs.Prelude.{◌≡◌, ◌≤◌};
 ghost use Rattle.dvg_words.specs.Values.{IsWindow};
 ghost use Rattle.dvg_check.specs.declared.fault.Mode.TheVariants.{Bound, Exact};
-ghost use Rattle.dvg_check.specs.Verdict.{Verdict, SafeOver, CountsOver};
+ghost use Rattle.dvg_check.specs.Verdict.{Verdict, VerdictOn, SafeOver, SafeOn, CountsOver, CountsOn};
 ghost use Rattle.dvg_c.specs.Told.{window_of, numbered, Tells};
+ghost use Rattle.dvg_c.specs.Kept.{machine_of};
+ghost use Rattle.dvg_c.specs.declared.machine.TheConstants.{BOARD};
 
-use crate::answer::{Answer, BAD_WINDOW, answer_of, numbered};
+use crate::answer::{Answer, BAD_MACHINE, BAD_WINDOW, answer_of, numbered};
+use crate::machine::machine_numbered;
 use crate::window::{WindowEnds, window_between};
-use dvg_check::{check, check_exact};
+use dvg_check::{Mode, check, check_exact, check_on};
 use std::alloc::Global;
 
 /// Judges a frame over a vector ROM and its certificate, all as bytes: `check` of `dvg_check`, for C.
@@ -60,4 +63,74 @@ pub extern "C" fn dvgcheck_check_exact(
         return numbered(BAD_WINDOW);
     };
     answer_of(&check_exact(alloc, rom, cert, frame, budget, window))
+}
+
+/// Judges all three on the machine that a number stands for, in a mode.
+fn check_in(
+    alloc: Global,
+    machine: u32,
+    rom: &[u8],
+    cert: &[u8],
+    frame: &[u8],
+    budget: u32,
+    window: WindowEnds,
+    mode: Mode,
+) -> Answer
+    ensures machine { (machine ≤ BOARD → ⊥) → result ≡ numbered BAD_MACHINE }
+    ensures window { machine ≤ BOARD → (IsWindow (window_of window) → ⊥) → result ≡ numbered BAD_WINDOW }
+    ensures verdict { machine ≤ BOARD → IsWindow (window_of window)
+        → Tells (VerdictOn (machine_of machine) mode (window_of window) rom.now cert.now frame.now budget) result }
+    ensures safe { result.number ≡ 0 → SafeOn (machine_of machine) (window_of window) rom.now cert.now frame.now result.words result.depth }
+    ensures exact { mode ≡ Exact → result.number ≡ 0 → CountsOn (machine_of machine) rom.now cert.now frame.now result.words result.depth }
+{
+    let Some(machine) = machine_numbered(machine) else {
+        return numbered(BAD_MACHINE);
+    };
+    let Some(window) = window_between(window) else {
+        return numbered(BAD_WINDOW);
+    };
+    answer_of(&check_on(machine, alloc, rom, cert, frame, budget, window, mode))
+}
+
+/// Judges as [`dvgcheck_check`] does, on a machine: 0 for the profile's, about which `dvgcheck_check` is, and 1 for the board's.
+///
+/// The answer is 82 for another number of a machine, else what `dvgcheck_check` says of 80 and of the numbers after it.
+#[unsafe(no_mangle)]
+pub extern "C" fn dvgcheck_check_on(
+    alloc: Global,
+    machine: u32,
+    rom: &[u8],
+    cert: &[u8],
+    frame: &[u8],
+    budget: u32,
+    window: WindowEnds,
+) -> Answer
+    ensures machine { (machine ≤ BOARD → ⊥) → result ≡ numbered BAD_MACHINE }
+    ensures window { machine ≤ BOARD → (IsWindow (window_of window) → ⊥) → result ≡ numbered BAD_WINDOW }
+    ensures verdict { machine ≤ BOARD → IsWindow (window_of window)
+        → Tells (VerdictOn (machine_of machine) Bound (window_of window) rom.now cert.now frame.now budget) result }
+    ensures safe { result.number ≡ 0 → SafeOn (machine_of machine) (window_of window) rom.now cert.now frame.now result.words result.depth }
+{
+    check_in(alloc, machine, rom, cert, frame, budget, window, Mode::Bound)
+}
+
+/// The same with counts as exact.
+#[unsafe(no_mangle)]
+pub extern "C" fn dvgcheck_check_exact_on(
+    alloc: Global,
+    machine: u32,
+    rom: &[u8],
+    cert: &[u8],
+    frame: &[u8],
+    budget: u32,
+    window: WindowEnds,
+) -> Answer
+    ensures machine { (machine ≤ BOARD → ⊥) → result ≡ numbered BAD_MACHINE }
+    ensures window { machine ≤ BOARD → (IsWindow (window_of window) → ⊥) → result ≡ numbered BAD_WINDOW }
+    ensures verdict { machine ≤ BOARD → IsWindow (window_of window)
+        → Tells (VerdictOn (machine_of machine) Exact (window_of window) rom.now cert.now frame.now budget) result }
+    ensures safe { result.number ≡ 0 → SafeOn (machine_of machine) (window_of window) rom.now cert.now frame.now result.words result.depth }
+    ensures exact { result.number ≡ 0 → CountsOn (machine_of machine) rom.now cert.now frame.now result.words result.depth }
+{
+    check_in(alloc, machine, rom, cert, frame, budget, window, Mode::Exact)
 }

@@ -9,11 +9,13 @@ ghost use Rattle.dvg_check.specs.FirstFault.{FirstFrameFault};
 ghost use Rattle.dvg_check.specs.Safety.{Safe};
 ghost use Rattle.dvg_check.specs.Laws.{CountsAtHalt};
 ghost use Rattle.dvg_c.specs.Told.{numbered, Tells};
-ghost use Rattle.dvg_c.specs.Kept.{IsKept};
+ghost use Rattle.dvg_c.specs.Kept.{IsKept, machine_of};
+ghost use Rattle.dvg_c.specs.declared.machine.TheConstants.{BOARD};
 ghost use Rattle.dvg_c.specs.Judging.{FrameVerdict, SafeWith, CountsWith, shapes_of};
 
-use crate::answer::{Answer, NO_SHAPES, answer_of, numbered};
+use crate::answer::{Answer, BAD_MACHINE, NO_SHAPES, answer_of, numbered};
 use crate::entries::KeptEntries;
+use crate::machine::{machine_numbered, machine_of};
 use crate::shapes::KeptShapes;
 use crate::stage::{NOT_JUDGED, mode_of};
 use crate::window::window_between;
@@ -50,7 +52,7 @@ fn check_kept(kept: &KeptShapes, frame: &[u8], budget: u32) -> Result<Yes, Refus
     let frame = frame_of(frame, budget)?;
     let map = RomMap::new(kept.rom_first, kept.rom_last).unwrap();
     let length = 2 * (kept.rom_last + 1 - kept.rom_first) as usize;
-    let rom = RomImage::from_bytes(&kept.rom[..length], map).unwrap();
+    let rom = RomImage::from_bytes_on(machine_of(kept.machine), &kept.rom[..length], map).unwrap();
     let entries = KeptEntries::new(&kept.entries[..kept.count as usize]);
     let window = window_between(kept.window).unwrap();
     let accepted = check_over(&rom, &entries, window, mode_of(kept.judged), &frame, budget)?;
@@ -67,7 +69,8 @@ fn good_shapes(kept: &KeptShapes)
     ensures { IsKept (shapes_of kept.now) }
 {}
 
-/// Judges a frame, as bytes, over shapes that were judged before: `JudgedShapes::check_frame` of `dvg_check`, for C.
+/// Judges a frame, as bytes, over shapes that were judged before, on the machine on which they were: `JudgedShapes::check_frame` of
+/// `dvg_check`, for C.
 ///
 /// `budget` is how many words the frame may take at most, 1 to 1,000,000. The answer is 81 where no shapes are judged, else the
 /// first that applies of 2, 49 and 40 to 48, or 0. With 0 every run from the frame's first word over the ROM that was judged, at
@@ -86,4 +89,32 @@ pub extern "C" fn dvgcheck_frame(kept: &KeptShapes, frame: &[u8], budget: u32) -
     }
     good_shapes(kept);
     answer_of(&check_kept(kept, frame, budget))
+}
+
+/// Judges a frame as [`dvgcheck_frame`] does, over shapes that were judged on this machine, 0 for the profile's and 1 for the board's.
+///
+/// The answer is 82 for another number of a machine, and 81, too, where the shapes were judged on the other machine.
+#[unsafe(no_mangle)]
+pub extern "C" fn dvgcheck_frame_on(
+    machine: u32,
+    kept: &KeptShapes,
+    frame: &[u8],
+    budget: u32,
+) -> Answer
+    ensures machine { (machine ≤ BOARD → ⊥) → result ≡ numbered BAD_MACHINE }
+    ensures none { machine ≤ BOARD → kept.now.judged ≡ NOT_JUDGED → result ≡ numbered NO_SHAPES }
+    ensures other { machine ≤ BOARD → (machine_of machine ≡ (shapes_of kept.now).rom.machine → ⊥) → result ≡ numbered NO_SHAPES }
+    ensures verdict { machine_of machine ≡ (shapes_of kept.now).rom.machine → machine ≤ BOARD → kept.now.judged ≢ NOT_JUDGED
+        → Tells (FrameVerdict (shapes_of kept.now) frame.now budget) result }
+    ensures on { result.number ≡ 0 → machine_of machine ≡ (shapes_of kept.now).rom.machine }
+    ensures safe { result.number ≡ 0 → SafeWith (shapes_of kept.now) frame.now result.words result.depth }
+    ensures exact { (shapes_of kept.now).mode ≡ Exact → result.number ≡ 0 → CountsWith (shapes_of kept.now) frame.now result.words result.depth }
+{
+    let Some(machine) = machine_numbered(machine) else {
+        return numbered(BAD_MACHINE);
+    };
+    if machine != machine_of(kept.machine) {
+        return numbered(NO_SHAPES);
+    }
+    dvgcheck_frame(kept, frame, budget)
 }

@@ -1,23 +1,26 @@
 //! Shapes are judged once, and kept.
 
 ghost use Rattle.std.specs.Prelude.{◌≡◌, ◌≢◌, ◌≤◌, OnOk, IfErr, length, take};
+ghost use Rattle.dvg_words.specs.declared.machine.Machine.TheVariants.{Profile};
 ghost use Rattle.dvg_words.specs.Values.{IsWindow};
 ghost use Rattle.dvg_items.specs.Bounds.{IsSomeCertificate};
 ghost use Rattle.dvg_check.specs.declared.fault.Mode.TheVariants.{Bound, Exact};
 ghost use Rattle.dvg_check.specs.Rules.{Good};
 ghost use Rattle.dvg_check.specs.FirstFault.{FirstShapeFault};
 ghost use Rattle.dvg_c.specs.Told.{window_of, numbered};
-ghost use Rattle.dvg_c.specs.Kept.{kept_list};
+ghost use Rattle.dvg_c.specs.Kept.{kept_list, machine_of};
+ghost use Rattle.dvg_c.specs.declared.machine.TheConstants.{BOARD};
 ghost use Rattle.dvg_c.specs.Judging.{ShapesVerdict, Keeps, IsJudgement, told_shapes, shapes_of};
 
-use crate::answer::{Answer, BAD_WINDOW, numbered, refused};
+use crate::answer::{Answer, BAD_MACHINE, BAD_WINDOW, numbered, refused};
 use crate::entry::kept_entry;
+use crate::machine::{kept_machine, machine_numbered};
 use crate::shapes::{KeptShapes, MOST_ROM_BYTES};
 use crate::stage::{NOT_JUDGED, kept_mode};
 use crate::window::{WindowEnds, window_between};
 use dvg_cert::{Cert, Entry, ListIndex, read_cert};
 use dvg_check::{Mode, Refusal, ShapeFault, check_shapes, check_shapes_exact};
-use dvg_words::{RomImage, Window};
+use dvg_words::{Machine, RomImage, Window};
 use std::alloc::Global;
 
 /// What was taken, or the number and the place of a refusal.
@@ -71,8 +74,9 @@ fn judge_shapes(mode: Mode, window: &Window, rom: &RomImage, cert: &Cert) -> Res
     }
 }
 
-/// Judges the shapes of a certificate over a ROM, and keeps both where they are good.
+/// Judges the shapes of a certificate over a ROM on a machine, and keeps both where they are good.
 fn judge_and_keep(
+    machine: Machine,
     alloc: Global,
     rom: &[u8],
     cert: &[u8],
@@ -82,24 +86,26 @@ fn judge_and_keep(
 ) -> Result<Cert, Refusal>
     requires window { IsWindow (window_of ends) }
     requires judged { kept.old.judged ≡ NOT_JUDGED }
-    ensures verdict { ShapesVerdict mode (window_of ends) rom.now cert.now result }
-    ensures kept { Keeps mode (window_of ends) rom.now kept.new result }
+    ensures verdict { ShapesVerdict machine mode (window_of ends) rom.now cert.now result }
+    ensures kept { Keeps machine mode (window_of ends) rom.now kept.new result }
 {
     let window = window_between(ends).unwrap();
     let cert = read_cert(alloc, cert)?;
-    let image = RomImage::from_bytes(rom, cert.map())?;
+    let image = RomImage::from_bytes_on(machine, rom, cert.map())?;
     judge_shapes(mode, &window, &image, &cert)?;
     keep_entries(cert.entries(), kept);
     keep_rom(rom, kept);
     kept.count = cert.entries().len() as u32;
     (kept.rom_first, kept.rom_last) = cert.rom();
     kept.window = ends;
+    kept.machine = kept_machine(machine);
     kept.judged = kept_mode(mode);
     Ok(cert)
 }
 
-/// Judges the shapes of a certificate over a ROM in a mode, for a window that is tested here.
+/// Judges the shapes of a certificate over a ROM on a machine in a mode, for a window that is tested here.
 fn judge_in(
+    machine: Machine,
     alloc: Global,
     rom: &[u8],
     cert: &[u8],
@@ -108,13 +114,13 @@ fn judge_in(
     kept: &mut KeptShapes,
 ) -> Answer
     ensures window { (IsWindow (window_of window) → ⊥) → (result ≡ numbered BAD_WINDOW) × (kept.new.judged ≡ NOT_JUDGED) }
-    ensures verdict { IsWindow (window_of window) → IsJudgement mode (window_of window) rom.now cert.now kept.new result }
+    ensures verdict { IsWindow (window_of window) → IsJudgement machine mode (window_of window) rom.now cert.now kept.new result }
 {
     kept.judged = NOT_JUDGED;
     if window_between(window).is_none() {
         return numbered(BAD_WINDOW);
     }
-    shapes_answer(&judge_and_keep(alloc, rom, cert, window, mode, kept))
+    shapes_answer(&judge_and_keep(machine, alloc, rom, cert, window, mode, kept))
 }
 
 /// Judges the shapes of a certificate over a vector ROM, both as bytes, and keeps what frames are judged by.
@@ -132,9 +138,17 @@ pub extern "C" fn dvgcheck_judge(
     kept: &mut KeptShapes,
 ) -> Answer
     ensures window { (IsWindow (window_of window) → ⊥) → (result ≡ numbered BAD_WINDOW) × (kept.new.judged ≡ NOT_JUDGED) }
-    ensures verdict { IsWindow (window_of window) → IsJudgement Bound (window_of window) rom.now cert.now kept.new result }
+    ensures verdict { IsWindow (window_of window) → IsJudgement Profile Bound (window_of window) rom.now cert.now kept.new result }
 {
-    judge_in(alloc, rom, cert, window, Mode::Bound, kept)
+    judge_in(
+        Machine::Profile,
+        alloc,
+        rom,
+        cert,
+        window,
+        Mode::Bound,
+        kept,
+    )
 }
 
 /// The same with counts as exact: among the rules of shapes are 32 and 33.
@@ -147,7 +161,77 @@ pub extern "C" fn dvgcheck_judge_exact(
     kept: &mut KeptShapes,
 ) -> Answer
     ensures window { (IsWindow (window_of window) → ⊥) → (result ≡ numbered BAD_WINDOW) × (kept.new.judged ≡ NOT_JUDGED) }
-    ensures verdict { IsWindow (window_of window) → IsJudgement Exact (window_of window) rom.now cert.now kept.new result }
+    ensures verdict { IsWindow (window_of window) → IsJudgement Profile Exact (window_of window) rom.now cert.now kept.new result }
 {
-    judge_in(alloc, rom, cert, window, Mode::Exact, kept)
+    judge_in(
+        Machine::Profile,
+        alloc,
+        rom,
+        cert,
+        window,
+        Mode::Exact,
+        kept,
+    )
+}
+
+/// Judges the shapes of a certificate over a ROM in a mode, on the machine that a number stands for, if it stands for one.
+fn judge_numbered(
+    alloc: Global,
+    machine: u32,
+    rom: &[u8],
+    cert: &[u8],
+    window: WindowEnds,
+    mode: Mode,
+    kept: &mut KeptShapes,
+) -> Answer
+    ensures machine { (machine ≤ BOARD → ⊥) → (result ≡ numbered BAD_MACHINE) × (kept.new.judged ≡ NOT_JUDGED) }
+    ensures window { machine ≤ BOARD → (IsWindow (window_of window) → ⊥) → (result ≡ numbered BAD_WINDOW) × (kept.new.judged ≡ NOT_JUDGED) }
+    ensures verdict { machine ≤ BOARD → IsWindow (window_of window)
+        → IsJudgement (machine_of machine) mode (window_of window) rom.now cert.now kept.new result }
+{
+    kept.judged = NOT_JUDGED;
+    let Some(machine) = machine_numbered(machine) else {
+        return numbered(BAD_MACHINE);
+    };
+    judge_in(machine, alloc, rom, cert, window, mode, kept)
+}
+
+/// Judges as [`dvgcheck_judge`] does, on a machine: 0 for the profile's, about which `dvgcheck_judge` is, and 1 for the board's. Frames
+/// over these shapes are judged on that machine, too.
+///
+/// The answer is 82 for another number of a machine, and `kept` then has no judged shapes; else it is what `dvgcheck_judge` says of
+/// 80 and of the numbers after it.
+#[unsafe(no_mangle)]
+pub extern "C" fn dvgcheck_judge_on(
+    alloc: Global,
+    machine: u32,
+    rom: &[u8],
+    cert: &[u8],
+    window: WindowEnds,
+    kept: &mut KeptShapes,
+) -> Answer
+    ensures machine { (machine ≤ BOARD → ⊥) → (result ≡ numbered BAD_MACHINE) × (kept.new.judged ≡ NOT_JUDGED) }
+    ensures window { machine ≤ BOARD → (IsWindow (window_of window) → ⊥) → (result ≡ numbered BAD_WINDOW) × (kept.new.judged ≡ NOT_JUDGED) }
+    ensures verdict { machine ≤ BOARD → IsWindow (window_of window)
+        → IsJudgement (machine_of machine) Bound (window_of window) rom.now cert.now kept.new result }
+{
+    judge_numbered(alloc, machine, rom, cert, window, Mode::Bound, kept)
+}
+
+/// The same with counts as exact.
+#[unsafe(no_mangle)]
+pub extern "C" fn dvgcheck_judge_exact_on(
+    alloc: Global,
+    machine: u32,
+    rom: &[u8],
+    cert: &[u8],
+    window: WindowEnds,
+    kept: &mut KeptShapes,
+) -> Answer
+    ensures machine { (machine ≤ BOARD → ⊥) → (result ≡ numbered BAD_MACHINE) × (kept.new.judged ≡ NOT_JUDGED) }
+    ensures window { machine ≤ BOARD → (IsWindow (window_of window) → ⊥) → (result ≡ numbered BAD_WINDOW) × (kept.new.judged ≡ NOT_JUDGED) }
+    ensures verdict { machine ≤ BOARD → IsWindow (window_of window)
+        → IsJudgement (machine_of machine) Exact (window_of window) rom.now cert.now kept.new result }
+{
+    judge_numbered(alloc, machine, rom, cert, window, Mode::Exact, kept)
 }

@@ -26,8 +26,10 @@ pub struct KeptShapes {
     pub window: WindowEnds,
     /// 0 where no shapes were taken, 1 where their counts were judged as bounds, 2 as exact.
     pub judged: u8,
+    /// 0 where they were judged on the profile's machine, 1 on the board's.
+    pub machine: u8,
     pub ghost few: { count ≤ MOST_ENTRIES },
-    pub ghost good: { judged ≢ 0 → ∥ IsKept (kept_shapes judged window rom_first rom_last rom count entries) ∥₁ },
+    pub ghost good: { judged ≢ 0 → ∥ IsKept (kept_shapes machine judged window rom_first rom_last rom count entries) ∥₁ },
 }
 
 // as the header has it

@@ -2,10 +2,11 @@
 use Rattle.std.proofs.Common.{◌≡◌, ◌<◌, ◌⊎◌, ℕ, List, [], ◌∷◌, length, Option, None, Some, inl, inr, refl, sym, ap, ◌∙◌, subst, arith}
 use Rattle.std.specs.Prelude.{Result, Ok, Err, IfErr, IsErrAnd}
 use Rattle.std.specs.Io.KnownBytes.{Appends}
+use Rattle.dvg_words.specs.declared.machine.Machine.{Machine}
 use Rattle.dvg_cert.specs.Devices.{AppendsPrefix}
 use Rattle.dvg_cert.specs.Grammar.{text_of}
 use Rattle.dvg_cmd.specs.Making.{WritesMade, WritesMadePrefix}
-use Rattle.dvg_words.specs.Memory.{Rom, IsRomLength, rom_of, words_of}
+use Rattle.dvg_words.specs.Memory.{Rom, IsRomLength, rom_on, words_of}
 use Rattle.dvg_words.specs.Values.{MemoryMap, IsMap}
 use Rattle.dvg_cert.specs.declared.entry.Entry.{Entry}
 use Rattle.dvg_cert.specs.declared.entry.Key.{Key}
@@ -32,9 +33,9 @@ told_err (Ok a) f P is h = tt
 told_err (Err x) f P is h = subst P (sym is) h
 
 -- where there are readers, that memory was out says nothing
-pub memory_refused : (rom : Option (List ℕ)) (map : MemoryMap) (roots : List (ℕ × Key)) (readers : List (Option (List ℕ))) → 0 < length readers → RefusesMemory rom map roots readers
-memory_refused rom map roots [] some = absurd (omega (arith, some))
-memory_refused rom map roots (r ∷ readers) some = tt
+pub memory_refused : (machine : Machine) (rom : Option (List ℕ)) (map : MemoryMap) (roots : List (ℕ × Key)) (readers : List (Option (List ℕ))) → 0 < length readers → RefusesMemory machine rom map roots readers
+memory_refused machine rom map roots [] some = absurd (omega (arith, some))
+memory_refused machine rom map roots (r ∷ readers) some = tt
 
 some_readers : (readers : List (Option (List ℕ))) (frames : List (List ℕ)) → ArePrefixes readers frames → 0 < length frames → 0 < length readers
 some_readers [] [] h some = some
@@ -43,13 +44,13 @@ some_readers [] (b ∷ frames) h some = absurd h
 some_readers (r ∷ readers) [] h some = absurd h
 
 -- a fault of reading frames says no more than that there are some
-pub reading_refused : {A : Type 0} (r : Result A FramesRunFault) (rom : Option (List ℕ)) (map : MemoryMap) (roots : List (ℕ × Key)) (readers : List (Option (List ℕ))) (f : FramesRunFault)
-    → (f ≡ fault.ReadFrame) ⊎ (f ≡ fault.Plain (maker.Make making.Memory)) → 0 < length readers → IsErrAnd r (λ x. x ≡ f) → IfErr r (FramesFaultMeans rom map roots readers)
-reading_refused r rom map roots readers f (inl is) some same = told_err r f (FramesFaultMeans rom map roots readers) same (subst (λ x. FramesFaultMeans rom map roots readers x) (sym is) tt)
-reading_refused r rom map roots readers f (inr is) some same =
-    told_err r f (FramesFaultMeans rom map roots readers) same (subst (λ x. FramesFaultMeans rom map roots readers x) (sym is) (memory_refused rom map roots readers some))
+pub reading_refused : {A : Type 0} (machine : Machine) (r : Result A FramesRunFault) (rom : Option (List ℕ)) (map : MemoryMap) (roots : List (ℕ × Key)) (readers : List (Option (List ℕ))) (f : FramesRunFault)
+    → (f ≡ fault.ReadFrame) ⊎ (f ≡ fault.Plain (maker.Make making.Memory)) → 0 < length readers → IsErrAnd r (λ x. x ≡ f) → IfErr r (FramesFaultMeans machine rom map roots readers)
+reading_refused machine r rom map roots readers f (inl is) some same = told_err r f (FramesFaultMeans machine rom map roots readers) same (subst (λ x. FramesFaultMeans machine rom map roots readers x) (sym is) tt)
+reading_refused machine r rom map roots readers f (inr is) some same =
+    told_err r f (FramesFaultMeans machine rom map roots readers) same (subst (λ x. FramesFaultMeans machine rom map roots readers x) (sym is) (memory_refused machine rom map roots readers some))
 
-module _ (map : MemoryMap) (is : IsMap map) (rom : Option (List ℕ)) (roots : List (ℕ × Key)) (rb : List ℕ) (image : Rom) (read : IsPrefix 4097 rom rb) (h : IsRomLength map (length rb) × (image ≡ rom_of map rb))
+module _ (machine : Machine) (map : MemoryMap) (is : IsMap map) (rom : Option (List ℕ)) (roots : List (ℕ × Key)) (rb : List ℕ) (image : Rom) (read : IsPrefix 4097 rom rb) (h : IsRomLength map (length rb) × (image ≡ rom_on machine map rb))
     (readers : List (Option (List ℕ))) (frames : List (List ℕ)) (prefixes : ArePrefixes readers frames) where
   all_inputs : AreFrames frames → Inputs rom map readers
   all_inputs lengths =
@@ -66,29 +67,29 @@ module _ (map : MemoryMap) (is : IsMap map) (rom : Option (List ℕ)) (roots : L
     words_same : words ≡ of_each words_of (held_each readers frames)
     words_same = same ∙ ap (λ l. of_each words_of l) (each_same readers frames prefixes lengths)
 
-    pub frames_made : (list : List Entry) → FramesMade image roots words list → MakesForFrames rom map roots readers list
+    pub frames_made : (list : List Entry) → FramesMade image roots words list → MakesForFrames machine rom map roots readers list
     unfolding all_inputs
     frames_made list made = (
       all_inputs lengths,
-      subst (λ x. FramesMade x roots (of_each words_of (held_each readers frames)) list) (whole_image map is rom rb image read h)
+      subst (λ x. FramesMade x roots (of_each words_of (held_each readers frames)) list) (whole_image machine map is rom rb image read h)
           (subst (λ l. FramesMade image roots l list) words_same made),
     )
 
-    refused_all : (f : FramesFault) → FramesRefuse image roots words f → HasCause image roots words f → RefusesInputs rom map roots readers f
+    refused_all : (f : FramesFault) → FramesRefuse image roots words f → HasCause image roots words f → RefusesInputs machine rom map roots readers f
     unfolding all_inputs
     refused_all f refuses told = (
       all_inputs lengths,
-      subst (λ x. FramesRefuse x roots (of_each words_of (held_each readers frames)) f) (whole_image map is rom rb image read h)
+      subst (λ x. FramesRefuse x roots (of_each words_of (held_each readers frames)) f) (whole_image machine map is rom rb image read h)
           (subst (λ l. FramesRefuse image roots l f) words_same refuses),
-      subst (λ x. HasCause x roots (of_each words_of (held_each readers frames)) f) (whole_image map is rom rb image read h)
+      subst (λ x. HasCause x roots (of_each words_of (held_each readers frames)) f) (whole_image machine map is rom rb image read h)
           (subst (λ l. HasCause image roots l f) words_same told),
     )
 
-    told_memory : (rs : List (Option (List ℕ))) → RefusesInputs rom map roots rs (record { call = None; why = entry.Memory }) → RefusesMemory rom map roots rs
+    told_memory : (rs : List (Option (List ℕ))) → RefusesInputs machine rom map roots rs (record { call = None; why = entry.Memory }) → RefusesMemory machine rom map roots rs
     told_memory [] refuses = refuses
     told_memory (r ∷ rs) refuses = tt
 
-    told_at : (call : Option FrameCall) (why : EntryFault) → RefusesInputs rom map roots readers (record { call = call; why = why }) → FramesFaultMeans rom map roots readers (told_fault call why)
+    told_at : (call : Option FrameCall) (why : EntryFault) → RefusesInputs machine rom map roots readers (record { call = call; why = why }) → FramesFaultMeans machine rom map roots readers (told_fault call why)
     told_at (Some call) why refuses = refuses
     told_at None (entry.Unstraight word) refuses = (entry.Unstraight word, refl, refuses)
     told_at None entry.Deep refuses = (entry.Deep, refl, refuses)
@@ -96,10 +97,10 @@ module _ (map : MemoryMap) (is : IsMap map) (rom : Option (List ℕ)) (roots : L
     told_at None entry.TooManyEntries refuses = (entry.TooManyEntries, refl, refuses)
     told_at None entry.Memory refuses = told_memory readers refuses
 
-    pub frames_refused : (f : FramesFault) → FramesRefuse image roots words f → HasCause image roots words f → FramesFaultMeans rom map roots readers (told_fault f.call f.why)
+    pub frames_refused : (f : FramesFault) → FramesRefuse image roots words f → HasCause image roots words f → FramesFaultMeans machine rom map roots readers (told_fault f.call f.why)
     frames_refused f refuses told = told_at f.call f.why (refused_all f refuses told)
 
-  pub lengths_refused : (f : FramesRunFault) → RefusesLengths frames f → FramesFaultMeans rom map roots readers f
+  pub lengths_refused : (f : FramesRunFault) → RefusesLengths frames f → FramesFaultMeans machine rom map roots readers f
   lengths_refused (fault.FrameLength n) wrong =
       record {
         rom_bytes = held_bytes rom rb;
@@ -109,7 +110,7 @@ module _ (map : MemoryMap) (is : IsMap map) (rom : Option (List ℕ)) (roots : L
         rom_length = whole_length map is rom rb read h.0;
         wrong = first_wrong readers frames n prefixes wrong;
       }
-  lengths_refused (fault.Plain (maker.Make making.Memory)) wrong = memory_refused rom map roots readers (some_readers readers frames prefixes wrong)
+  lengths_refused (fault.Plain (maker.Make making.Memory)) wrong = memory_refused machine rom map roots readers (some_readers readers frames prefixes wrong)
   lengths_refused (fault.Plain (maker.Make (making.Unstraight word))) wrong = absurd wrong
   lengths_refused (fault.Plain (maker.Make making.Deep)) wrong = absurd wrong
   lengths_refused (fault.Plain (maker.Make making.TooLarge)) wrong = absurd wrong

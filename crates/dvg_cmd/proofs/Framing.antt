@@ -2,8 +2,9 @@
 use Rattle.std.proofs.Common.{◌≡◌, ℕ, List, Option, None, Some, length, take, drop, ◌++◌, ap, ◌∙◌, subst, arith}
 use Rattle.std.proofs.lemmas.Grind.{common_steps}
 use Rattle.std.specs.Prelude.{Result, Ok, Err, IfOk, IfErr, IfSome}
+use Rattle.dvg_words.specs.declared.machine.Machine.{Machine}
 use Rattle.dvg_words.specs.Values.{MemoryMap, Window}
-use Rattle.dvg_words.specs.Memory.{Rom, words_of, rom_of, IsRomLength, IsFrameLength}
+use Rattle.dvg_words.specs.Memory.{Rom, words_of, rom_on, IsRomLength, IsFrameLength}
 use Rattle.dvg_words.specs.declared.image.ImageFault.TheVariants.{RomLength, FrameLength}
 use Rattle.dvg_check.specs.Safety.{Safe, CountsAtHalt}
 use Rattle.dvg_check.specs.Verdict.{InRange}
@@ -41,11 +42,11 @@ reads_frame reader start items slice new read same is len =
       is = written_back items new (len ∙ ap (λ (x : List ℕ). length x) same) ∙ is ∙ ap (λ (x : List ℕ). started start x) same;
     }
 
-module _ (rom : List ℕ) (map : MemoryMap) (bytes : List ℕ) (budget : ℕ) (w : Window) (range : InRange bytes budget) (long : IsRomLength map (length rom)) where
-  judged : (r : FrameRefusal) → VerdictByMade (rom_of map rom) (words_of bytes) w budget (Err r) → FrameRefused (rom_of map rom) (words_of bytes) w budget r → HasCallCause (rom_of map rom) (words_of bytes) r → IsJudgedRefusal rom map bytes budget w r
+module _ (machine : Machine) (rom : List ℕ) (map : MemoryMap) (bytes : List ℕ) (budget : ℕ) (w : Window) (range : InRange bytes budget) (long : IsRomLength map (length rom)) where
+  judged : (r : FrameRefusal) → VerdictByMade (rom_on machine map rom) (words_of bytes) w budget (Err r) → FrameRefused (rom_on machine map rom) (words_of bytes) w budget r → HasCallCause (rom_on machine map rom) (words_of bytes) r → IsJudgedRefusal machine rom map bytes budget w r
   judged r own h told = record { in_range = range; rom_length = long; by_own = own; means = h; told = told }
 
-  refused : (r : FrameRefusal) → VerdictByMade (rom_of map rom) (words_of bytes) w budget (Err r) → FrameRefused (rom_of map rom) (words_of bytes) w budget r → HasCallCause (rom_of map rom) (words_of bytes) r → IsRefused rom map bytes budget w r
+  refused : (r : FrameRefusal) → VerdictByMade (rom_on machine map rom) (words_of bytes) w budget (Err r) → FrameRefused (rom_on machine map rom) (words_of bytes) w budget r → HasCallCause (rom_on machine map rom) (words_of bytes) r → IsRefused machine rom map bytes budget w r
   refused (Make at why) own h told = judged (Make at why) own h told
   refused NoMemory own h told = judged NoMemory own h told
   refused (Check (refusal.Image RomLength)) own h told = absurd h
@@ -57,13 +58,13 @@ module _ (rom : List ℕ) (map : MemoryMap) (bytes : List ℕ) (budget : ℕ) (w
   refused (Check (refusal.Frame f)) own h told = judged (Check (refusal.Frame f)) own h told
 
   pub frame_verdict : (v : Result Yes FrameRefusal)
-      → IfOk v (λ yes. Safe (record { frame = words_of bytes; rom = rom_of map rom }) w yes.words yes.depth)
-      → IfOk v (λ yes. CountsAtHalt (record { frame = words_of bytes; rom = rom_of map rom }) yes.words yes.depth)
-      → IfOk v (λ yes. AreLeast (rom_of map rom) (words_of bytes) w yes.words yes.depth)
-      → IfErr v (FrameRefused (rom_of map rom) (words_of bytes) w budget)
-      → VerdictByMade (rom_of map rom) (words_of bytes) w budget v
-      → IfErr v (HasCallCause (rom_of map rom) (words_of bytes))
-      → VerdictOnBytes rom map bytes budget w v
+      → IfOk v (λ yes. Safe (record { frame = words_of bytes; rom = rom_on machine map rom }) w yes.words yes.depth)
+      → IfOk v (λ yes. CountsAtHalt (record { frame = words_of bytes; rom = rom_on machine map rom }) yes.words yes.depth)
+      → IfOk v (λ yes. AreLeast (rom_on machine map rom) (words_of bytes) w yes.words yes.depth)
+      → IfErr v (FrameRefused (rom_on machine map rom) (words_of bytes) w budget)
+      → VerdictByMade (rom_on machine map rom) (words_of bytes) w budget v
+      → IfErr v (HasCallCause (rom_on machine map rom) (words_of bytes))
+      → VerdictOnBytes machine rom map bytes budget w v
   frame_verdict (Ok y) safe exact least none own told = record { in_range = range; rom_length = long; safe = safe; exact = exact; least = least; by_own = own }
   frame_verdict (Err r) safe exact least h own told = refused r own h told
 
@@ -77,7 +78,7 @@ record Said (w : Window) (budget : ℕ) (words : List ℕ) (image : Rom) (v : Re
   told : IfErr v (HasCallCause image words)
 
 -- what the judge says of the images of these bytes
-pub own_verdict : (rom : List ℕ) (map : MemoryMap) (bytes : List ℕ) (budget : ℕ) (w : Window) (words : List ℕ) (image : Rom) → AreImages rom map bytes budget words image
+pub own_verdict : (machine : Machine) (rom : List ℕ) (map : MemoryMap) (bytes : List ℕ) (budget : ℕ) (w : Window) (words : List ℕ) (image : Rom) → AreImages machine rom map bytes budget words image
     → (v : Result Yes FrameRefusal)
     → IfOk v (λ yes. Safe (record { frame = words; rom = image }) w yes.words yes.depth)
     → IfOk v (λ yes. CountsAtHalt (record { frame = words; rom = image }) yes.words yes.depth)
@@ -85,8 +86,8 @@ pub own_verdict : (rom : List ℕ) (map : MemoryMap) (bytes : List ℕ) (budget 
     → IfErr v (FrameRefused image words w budget)
     → VerdictByMade image words w budget v
     → IfErr v (HasCallCause image words)
-    → VerdictOnBytes rom map bytes budget w v
-own_verdict rom map bytes budget w words image a v safe exact least refused own told =
+    → VerdictOnBytes machine rom map bytes budget w v
+own_verdict machine rom map bytes budget w words image a v safe exact least refused own told =
     let said : Said w budget words image v = record { safe = safe; exact = exact; least = least; refuses = refused; own = own; told = told } in
-    let all = subst (λ x. Said w budget x (rom_of map rom) v) a.words_are (subst (λ y. Said w budget words y v) a.rom_is said) in
-    frame_verdict rom map bytes budget w a.in_range a.rom_length v all.safe all.exact all.least all.refuses all.own all.told
+    let all = subst (λ x. Said w budget x (rom_on machine map rom) v) a.words_are (subst (λ y. Said w budget words y v) a.rom_is said) in
+    frame_verdict machine rom map bytes budget w a.in_range a.rom_length v all.safe all.exact all.least all.refuses all.own all.told

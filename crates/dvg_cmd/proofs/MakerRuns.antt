@@ -1,6 +1,7 @@
 -- What a run of the maker answers, over plain values.
 use Rattle.std.proofs.Common.{Option, List, length, subst, ◌≡◌, ◌∙◌, ap, ℕ}
-use Rattle.dvg_words.specs.Memory.{Rom, IsRomLength, rom_of}
+use Rattle.dvg_words.specs.declared.machine.Machine.{Machine}
+use Rattle.dvg_words.specs.Memory.{Rom, IsRomLength, rom_on}
 use Rattle.dvg_words.specs.Values.{MemoryMap, IsMap}
 use Rattle.dvg_cert.specs.declared.entry.Key.{Key}
 use Rattle.dvg_cmd.specs.Making.{MakeFaultMeans}
@@ -16,9 +17,9 @@ pub whole_length : (map : MemoryMap) (is : IsMap map) (rom : Option (List ℕ)) 
 whole_length map is rom rb read h = subst (λ (x : List ℕ). IsRomLength map (length x)) (read_whole map is rom rb read h) h
 
 -- and then the image is that of all
-pub whole_image : (map : MemoryMap) (is : IsMap map) (rom : Option (List ℕ)) (rb : List ℕ) (image : Rom) → IsPrefix 4097 rom rb → IsRomLength map (length rb) × (image ≡ rom_of map rb) → image ≡ rom_of map (held_bytes rom rb)
-whole_image map is rom rb image read h = h.1 ∙ ap (λ (x : List ℕ). rom_of map x) (read_whole map is rom rb read h.0)
+pub whole_image : (machine : Machine) (map : MemoryMap) (is : IsMap map) (rom : Option (List ℕ)) (rb : List ℕ) (image : Rom) → IsPrefix 4097 rom rb → IsRomLength map (length rb) × (image ≡ rom_on machine map rb) → image ≡ rom_on machine map (held_bytes rom rb)
+whole_image machine map is rom rb image read h = h.1 ∙ ap (λ (x : List ℕ). rom_on machine map x) (read_whole map is rom rb read h.0)
 
-pub wrong_length : (map : MemoryMap) (is : IsMap map) (rom : Option (List ℕ)) (roots : List (ℕ × Key)) (rb : List ℕ) → IsPrefix 4097 rom rb → (IsRomLength map (length rb) → ⊥) → MakeFaultMeans rom map roots fault.RomLength
-wrong_length map is rom roots rb read wrong =
+pub wrong_length : (machine : Machine) (map : MemoryMap) (is : IsMap map) (rom : Option (List ℕ)) (roots : List (ℕ × Key)) (rb : List ℕ) → IsPrefix 4097 rom rb → (IsRomLength map (length rb) → ⊥) → MakeFaultMeans machine rom map roots fault.RomLength
+wrong_length machine map is rom roots rb read wrong =
     (held_bytes rom rb, held_told rom rb, λ long. wrong (rom_back rb (held_bytes rom rb) (prefix_of_held 4097 rom rb read) map is long))

@@ -1,8 +1,8 @@
 -- The verdict on what was read is the one on all, and what is reported of it, over plain values.
 use Rattle.std.proofs.Common.{Option, List, [], None, Some, subst, ◌≡◌, ℕ}
 use Rattle.std.specs.Prelude.{Result, IfOk, IfSome, Ok, Err}
-use Rattle.dvg_words.specs.declared.machine.Machine.TheVariants.{Profile}
-use Rattle.dvg_words.specs.Memory.{Memory, words_of, rom_of}
+use Rattle.dvg_words.specs.declared.machine.Machine.{Machine}
+use Rattle.dvg_words.specs.Memory.{Memory, words_of, rom_on}
 use Rattle.dvg_words.specs.Values.{Window}
 use Rattle.dvg_words.specs.declared.image.ImageFault.TheVariants.{RomLength, FrameLength}
 use Rattle.dvg_cert.specs.Order.{Certificate}
@@ -11,7 +11,7 @@ use Rattle.dvg_cert.specs.Grammar.{Spells}
 use Rattle.dvg_cert.specs.Laws.{PrefixRefusal}
 use Rattle.dvg_check.proofs.Accepting.{out_of_range}
 use Rattle.dvg_check.specs.Safety.{Safe, CountsAtHalt}
-use Rattle.dvg_check.specs.Verdict.{InRange, RangeRefusal, RomVerdict, CertVerdict, Verdict}
+use Rattle.dvg_check.specs.Verdict.{InRange, RangeRefusal, RomVerdict, CertVerdict, VerdictOn}
 use Rattle.dvg_check.specs.declared.fault.Mode.{Mode}
 use Rattle.dvg_check.specs.declared.verdict.Refusal.{Refusal}
 use Rattle.dvg_check.specs.declared.verdict.Refusal.TheVariants as refusal
@@ -21,8 +21,8 @@ use Rattle.dvg_cmd.specs.Runs.{Judges, SafeRead, CountsRead, ReadsText}
 use Rattle.dvg_cmd.proofs.Whole.{PrefixOf, held_bytes, held_told, prefix_of_held, text_of_held, in_range, range_whole, frame_same, rom_same, rom_whole, refused_whole}
 
 -- a verdict on what was read of the ROM and of the frame, and on all of the certificate
-judges : (mode : Mode) (w : Window) (budget : ℕ) (v : Result Yes Refusal) (rb cb fb : List ℕ) (rom cert frame_held : Option (List ℕ)) → Verdict mode w (held_bytes rom rb) (held_bytes cert cb) (held_bytes frame_held fb) budget v → Judges mode w rom cert frame_held budget v
-judges mode w budget v rb cb fb rom cert frame_held is =
+judges : (machine : Machine) (mode : Mode) (w : Window) (budget : ℕ) (v : Result Yes Refusal) (rb cb fb : List ℕ) (rom cert frame_held : Option (List ℕ)) → VerdictOn machine mode w (held_bytes rom rb) (held_bytes cert cb) (held_bytes frame_held fb) budget v → Judges machine mode w rom cert frame_held budget v
+judges machine mode w budget v rb cb fb rom cert frame_held is =
     record {
       rom_bytes = held_bytes rom rb;
       cert_bytes = held_bytes cert cb;
@@ -34,17 +34,17 @@ judges mode w budget v rb cb fb rom cert frame_held is =
     }
 
 -- what the ROM and the frame come to by the certificate is the verdict
-of_cert : (mode : Mode) (w : Window) (rb cb fb : List ℕ) (budget : ℕ) (v : Result Yes Refusal) → CertVerdict Profile mode w rb cb fb budget v → Verdict mode w rb cb fb budget v
-of_cert mode w rb cb fb budget (Ok y) h = h
-of_cert mode w rb cb fb budget (Err refusal.IndexMemory) h = h
-of_cert mode w rb cb fb budget (Err (refusal.Shape f)) h = h
-of_cert mode w rb cb fb budget (Err (refusal.Frame f)) h = h
-of_cert mode w rb cb fb budget (Err (refusal.Image RomLength)) h = h
-of_cert mode w rb cb fb budget (Err (refusal.Image FrameLength)) h = absurd h.by_it.1
-of_cert mode w rb cb fb budget (Err refusal.BudgetRange) h = absurd h.by_it.1
-of_cert mode w rb cb fb budget (Err (refusal.Cert f)) h = absurd h.by_it.1
+of_cert : (machine : Machine) (mode : Mode) (w : Window) (rb cb fb : List ℕ) (budget : ℕ) (v : Result Yes Refusal) → CertVerdict machine mode w rb cb fb budget v → VerdictOn machine mode w rb cb fb budget v
+of_cert machine mode w rb cb fb budget (Ok y) h = h
+of_cert machine mode w rb cb fb budget (Err refusal.IndexMemory) h = h
+of_cert machine mode w rb cb fb budget (Err (refusal.Shape f)) h = h
+of_cert machine mode w rb cb fb budget (Err (refusal.Frame f)) h = h
+of_cert machine mode w rb cb fb budget (Err (refusal.Image RomLength)) h = h
+of_cert machine mode w rb cb fb budget (Err (refusal.Image FrameLength)) h = absurd h.by_it.1
+of_cert machine mode w rb cb fb budget (Err refusal.BudgetRange) h = absurd h.by_it.1
+of_cert machine mode w rb cb fb budget (Err (refusal.Cert f)) h = absurd h.by_it.1
 
-module _ (mode : Mode) (w : Window) (budget : ℕ) (rb fb : List ℕ) (rom frame_held : Option (List ℕ)) (rom_read : IsPrefix 4097 rom rb) (frame_read : IsPrefix 2049 frame_held fb) where
+module _ (machine : Machine) (mode : Mode) (w : Window) (budget : ℕ) (rb fb : List ℕ) (rom frame_held : Option (List ℕ)) (rom_read : IsPrefix 4097 rom rb) (frame_read : IsPrefix 2049 frame_held fb) where
   frame_prefix : PrefixOf 2049 fb (held_bytes frame_held fb)
   frame_prefix = prefix_of_held 2049 frame_held fb frame_read
 
@@ -52,49 +52,49 @@ module _ (mode : Mode) (w : Window) (budget : ℕ) (rb fb : List ℕ) (rom frame
   rom_prefix = prefix_of_held 4097 rom rb rom_read
 
   -- out of range: the ROM and the certificate are nothing to the verdict
-  pub judges_range : (cert : Option (List ℕ)) (r : Refusal) → RangeRefusal fb budget r → Judges mode w rom cert frame_held budget (Err r)
+  pub judges_range : (cert : Option (List ℕ)) (r : Refusal) → RangeRefusal fb budget r → Judges machine mode w rom cert frame_held budget (Err r)
   judges_range cert r h =
-      judges mode w budget (Err r) rb [] fb rom cert frame_held (out_of_range Profile mode w (held_bytes rom rb) (held_bytes cert []) (held_bytes frame_held fb) budget r (range_whole budget fb (held_bytes frame_held fb) frame_prefix r h))
+      judges machine mode w budget (Err r) rb [] fb rom cert frame_held (out_of_range machine mode w (held_bytes rom rb) (held_bytes cert []) (held_bytes frame_held fb) budget r (range_whole budget fb (held_bytes frame_held fb) frame_prefix r h))
 
   -- the certificate was refused
-  pub judges_refused : PrefixRefusal → (cert left : Option (List ℕ)) (f : CertFault) → InRange fb budget → ReadsText cert left (Err f) → Judges mode w rom cert frame_held budget (Err (refusal.Cert f))
+  pub judges_refused : PrefixRefusal → (cert left : Option (List ℕ)) (f : CertFault) → InRange fb budget → ReadsText cert left (Err f) → Judges machine mode w rom cert frame_held budget (Err (refusal.Cert f))
   judges_refused law cert left f range text =
-      judges mode w budget (Err (refusal.Cert f)) rb text.bytes fb rom cert frame_held (
+      judges machine mode w budget (Err (refusal.Cert f)) rb text.bytes fb rom cert frame_held (
         in_range budget fb (held_bytes frame_held fb) frame_prefix range,
         refused_whole law text.bytes (held_bytes cert text.bytes) f.line f.why (text_of_held cert left (Err f) text) text.is,
       )
 
   -- the certificate was taken
-  pub judges_cert : (cert left : Option (List ℕ)) (c : Certificate) (v : Result Yes Refusal) → InRange fb budget → ReadsText cert left (Ok c) → RomVerdict Profile mode w rb c (words_of fb) budget v → Judges mode w rom cert frame_held budget v
+  pub judges_cert : (cert left : Option (List ℕ)) (c : Certificate) (v : Result Yes Refusal) → InRange fb budget → ReadsText cert left (Ok c) → RomVerdict machine mode w rb c (words_of fb) budget v → Judges machine mode w rom cert frame_held budget v
   judges_cert cert left c v range text h =
-      judges mode w budget v rb text.bytes fb rom cert frame_held (of_cert mode w (held_bytes rom rb) (held_bytes cert text.bytes) (held_bytes frame_held fb) budget v (record {
+      judges machine mode w budget v rb text.bytes fb rom cert frame_held (of_cert machine mode w (held_bytes rom rb) (held_bytes cert text.bytes) (held_bytes frame_held fb) budget v (record {
         in_range = in_range budget fb (held_bytes frame_held fb) frame_prefix range;
         certificate = c;
         spells = subst (λ (x : List ℕ). Spells c x) ((text_of_held cert left (Ok c) text).whole tt) text.is;
-        by_it = subst (λ (x : List ℕ). RomVerdict Profile mode w (held_bytes rom rb) c (words_of x) budget v) (frame_same budget fb (held_bytes frame_held fb) frame_prefix range.frame_length) (rom_whole rb (held_bytes rom rb) rom_prefix c text.is.0.map_is mode w (words_of fb) budget v h);
+        by_it = subst (λ (x : List ℕ). RomVerdict machine mode w (held_bytes rom rb) c (words_of x) budget v) (frame_same budget fb (held_bytes frame_held fb) frame_prefix range.frame_length) (rom_whole machine rb (held_bytes rom rb) rom_prefix c text.is.0.map_is mode w (words_of fb) budget v h);
       }))
 
 -- ---- safety and exact counts
 
 -- what holds of the memory that was read holds of all
-over : (P : Yes → Memory → Type 0) (mode : Mode) (w : Window) (budget : ℕ) (v : Result Yes Refusal) (rb fb : List ℕ) (c : Certificate) (cert left : Option (List ℕ)) → InRange fb budget → ReadsText cert left (Ok c) → RomVerdict Profile mode w rb c (words_of fb) budget v → IfOk v (λ yes. P yes (record { frame = words_of fb; rom = rom_of c.map rb }))
-    → (rom frame_held : Option (List ℕ)) → IsPrefix 4097 rom rb → IsPrefix 2049 frame_held fb → IfOk v (λ yes. IfSome rom (λ r. IfSome cert (λ t. IfSome frame_held (λ f. (d : Certificate) × Spells d t × P yes (record { frame = words_of f; rom = rom_of d.map r })))))
-over P mode w budget (Err r) rb fb c cert left range text h holds rom frame_held rom_read frame_read = tt
-over P mode w budget (Ok y) rb fb c cert left range text h holds None frame_held rom_read frame_read = tt
-over P mode w budget (Ok y) rb fb c None left range text h holds (Some r) frame_held rom_read frame_read = tt
-over P mode w budget (Ok y) rb fb c (Some t) left range text h holds (Some r) None rom_read frame_read = tt
-over P mode w budget (Ok y) rb fb c (Some t) left range text h holds (Some r) (Some f) rom_read frame_read =
+over : (machine : Machine) (P : Yes → Memory → Type 0) (mode : Mode) (w : Window) (budget : ℕ) (v : Result Yes Refusal) (rb fb : List ℕ) (c : Certificate) (cert left : Option (List ℕ)) → InRange fb budget → ReadsText cert left (Ok c) → RomVerdict machine mode w rb c (words_of fb) budget v → IfOk v (λ yes. P yes (record { frame = words_of fb; rom = rom_on machine c.map rb }))
+    → (rom frame_held : Option (List ℕ)) → IsPrefix 4097 rom rb → IsPrefix 2049 frame_held fb → IfOk v (λ yes. IfSome rom (λ r. IfSome cert (λ t. IfSome frame_held (λ f. (d : Certificate) × Spells d t × P yes (record { frame = words_of f; rom = rom_on machine d.map r })))))
+over machine P mode w budget (Err r) rb fb c cert left range text h holds rom frame_held rom_read frame_read = tt
+over machine P mode w budget (Ok y) rb fb c cert left range text h holds None frame_held rom_read frame_read = tt
+over machine P mode w budget (Ok y) rb fb c None left range text h holds (Some r) frame_held rom_read frame_read = tt
+over machine P mode w budget (Ok y) rb fb c (Some t) left range text h holds (Some r) None rom_read frame_read = tt
+over machine P mode w budget (Ok y) rb fb c (Some t) left range text h holds (Some r) (Some f) rom_read frame_read =
     let same_rom : rb ≡ r = rom_same rb r (prefix_of_held 4097 (Some r) rb rom_read) c.map text.is.0.map_is h.0 in
     let same_frame : fb ≡ f = frame_same budget fb f (prefix_of_held 2049 (Some f) fb frame_read) range.frame_length in (
       c,
       subst (λ (x : List ℕ). Spells c x) ((text_of_held (Some t) left (Ok c) text).whole tt) text.is,
-      subst (λ (x : List ℕ). P y (record { frame = words_of f; rom = rom_of c.map x })) same_rom (subst (λ (x : List ℕ). P y (record { frame = words_of x; rom = rom_of c.map rb })) same_frame holds),
+      subst (λ (x : List ℕ). P y (record { frame = words_of f; rom = rom_on machine c.map x })) same_rom (subst (λ (x : List ℕ). P y (record { frame = words_of x; rom = rom_on machine c.map rb })) same_frame holds),
     )
 
-pub safe_read : (mode : Mode) (w : Window) (budget : ℕ) (v : Result Yes Refusal) (rb fb : List ℕ) (c : Certificate) (cert left : Option (List ℕ)) → InRange fb budget → ReadsText cert left (Ok c) → RomVerdict Profile mode w rb c (words_of fb) budget v → IfOk v (λ yes. Safe (record { frame = words_of fb; rom = rom_of c.map rb }) w yes.words yes.depth)
-    → (rom frame_held : Option (List ℕ)) → IsPrefix 4097 rom rb → IsPrefix 2049 frame_held fb → IfOk v (SafeRead w rom cert frame_held)
-safe_read mode w = over (λ y m. Safe m w y.words y.depth) mode w
+pub safe_read : (machine : Machine) (mode : Mode) (w : Window) (budget : ℕ) (v : Result Yes Refusal) (rb fb : List ℕ) (c : Certificate) (cert left : Option (List ℕ)) → InRange fb budget → ReadsText cert left (Ok c) → RomVerdict machine mode w rb c (words_of fb) budget v → IfOk v (λ yes. Safe (record { frame = words_of fb; rom = rom_on machine c.map rb }) w yes.words yes.depth)
+    → (rom frame_held : Option (List ℕ)) → IsPrefix 4097 rom rb → IsPrefix 2049 frame_held fb → IfOk v (SafeRead machine w rom cert frame_held)
+safe_read machine mode w = over machine (λ y m. Safe m w y.words y.depth) mode w
 
-pub counts_read : (mode : Mode) (w : Window) (budget : ℕ) (v : Result Yes Refusal) (rb fb : List ℕ) (c : Certificate) (cert left : Option (List ℕ)) → InRange fb budget → ReadsText cert left (Ok c) → RomVerdict Profile mode w rb c (words_of fb) budget v → IfOk v (λ yes. CountsAtHalt (record { frame = words_of fb; rom = rom_of c.map rb }) yes.words yes.depth)
-    → (rom frame_held : Option (List ℕ)) → IsPrefix 4097 rom rb → IsPrefix 2049 frame_held fb → IfOk v (CountsRead rom cert frame_held)
-counts_read = over (λ y m. CountsAtHalt m y.words y.depth)
+pub counts_read : (machine : Machine) (mode : Mode) (w : Window) (budget : ℕ) (v : Result Yes Refusal) (rb fb : List ℕ) (c : Certificate) (cert left : Option (List ℕ)) → InRange fb budget → ReadsText cert left (Ok c) → RomVerdict machine mode w rb c (words_of fb) budget v → IfOk v (λ yes. CountsAtHalt (record { frame = words_of fb; rom = rom_on machine c.map rb }) yes.words yes.depth)
+    → (rom frame_held : Option (List ℕ)) → IsPrefix 4097 rom rb → IsPrefix 2049 frame_held fb → IfOk v (CountsRead machine rom cert frame_held)
+counts_read machine = over machine (λ y m. CountsAtHalt m y.words y.depth)

@@ -1,7 +1,8 @@
 -- What a run of the maker for frames answers where there are none, over plain values.
 use Rattle.std.proofs.Common.{◌≡◌, ℕ, List, [], ◌∷◌, Option, None, refl, subst}
 use Rattle.std.specs.Prelude.{Result, Ok, Err, IfErr, OnOk}
-use Rattle.dvg_words.specs.Memory.{rom_of, words_of}
+use Rattle.dvg_words.specs.declared.machine.Machine.{Machine}
+use Rattle.dvg_words.specs.Memory.{rom_on, words_of}
 use Rattle.dvg_words.specs.Values.{MemoryMap}
 use Rattle.dvg_cert.specs.declared.entry.Entry.{Entry}
 use Rattle.dvg_cert.specs.declared.entry.Key.{Key}
@@ -22,9 +23,9 @@ no_frames : (frames : List (List ℕ)) → EachHeld [] frames → frames ≡ []
 no_frames [] h = refl
 no_frames (bytes ∷ frames) h = absurd h
 
-module _ (rom : Option (List ℕ)) (map : MemoryMap) (roots : List (ℕ × Key)) where
+module _ (machine : Machine) (rom : Option (List ℕ)) (map : MemoryMap) (roots : List (ℕ × Key)) where
   -- what is made for no frames is what is made for the roots
-  roots_made : (list : List Entry) → MakesForFrames rom map roots [] list → Makes rom map roots list
+  roots_made : (list : List Entry) → MakesForFrames machine rom map roots [] list → Makes machine rom map roots list
   roots_made list made =
       let all = made.0 in
       let none : all.frame_bytes ≡ [] = no_frames all.frame_bytes all.frames_held in
@@ -32,32 +33,32 @@ module _ (rom : Option (List ℕ)) (map : MemoryMap) (roots : List (ℕ × Key))
         rom_bytes = all.rom_bytes;
         held = all.rom_held;
         rom_length = all.rom_length;
-        made = made_roots (rom_of map all.rom_bytes) roots list (subst (λ l. FramesMade (rom_of map all.rom_bytes) roots (of_each words_of l) list) none made.1);
+        made = made_roots (rom_on machine map all.rom_bytes) roots list (subst (λ l. FramesMade (rom_on machine map all.rom_bytes) roots (of_each words_of l) list) none made.1);
       }
 
-  pub roots_written : (old new : Option (List ℕ)) → WritesMade (MakesForFrames rom map roots []) map old new → WritesMade (Makes rom map roots) map old new
+  pub roots_written : (old new : Option (List ℕ)) → WritesMade (MakesForFrames machine rom map roots []) map old new → WritesMade (Makes machine rom map roots) map old new
   roots_written old new h = record { list = h.list; made = roots_made h.list h.made; written = h.written }
 
-  pub roots_cut : (old new : Option (List ℕ)) → WritesMadePrefix (MakesForFrames rom map roots []) map old new → WritesMadePrefix (Makes rom map roots) map old new
+  pub roots_cut : (old new : Option (List ℕ)) → WritesMadePrefix (MakesForFrames machine rom map roots []) map old new → WritesMadePrefix (Makes machine rom map roots) map old new
   roots_cut old new h = record { list = h.list; made = roots_made h.list h.made; written = h.written }
 
   -- and what is refused for no frames is refused for the roots
-  roots_refused : (why : EntryFault) → RefusesInputs rom map roots [] (record { call = None; why = why }) → MakeFaultMeans rom map roots (maker.Make (make_fault_of why))
+  roots_refused : (why : EntryFault) → RefusesInputs machine rom map roots [] (record { call = None; why = why }) → MakeFaultMeans machine rom map roots (maker.Make (make_fault_of why))
   roots_refused why h =
       let all = h.0 in
       let none : all.frame_bytes ≡ [] = no_frames all.frame_bytes all.frames_held in (
         all.rom_bytes,
         all.rom_held,
         all.rom_length,
-        as_make_fault (rom_of map all.rom_bytes) roots why h.1.root,
-        (why, refl, subst (λ l. HasCause (rom_of map all.rom_bytes) roots (of_each words_of l) (record { call = None; why = why })) none h.2),
+        as_make_fault (rom_on machine map all.rom_bytes) roots why h.1.root,
+        (why, refl, subst (λ l. HasCause (rom_on machine map all.rom_bytes) roots (of_each words_of l) (record { call = None; why = why })) none h.2),
       )
 
-  pub roots_fault : (f : MakeRunFault) → FramesFaultMeans rom map roots [] (fault.Plain f) → MakeFaultMeans rom map roots f
+  pub roots_fault : (f : MakeRunFault) → FramesFaultMeans machine rom map roots [] (fault.Plain f) → MakeFaultMeans machine rom map roots f
   roots_fault maker.RomLength h = h
   roots_fault maker.ReadRom h = tt
   roots_fault maker.Write h = tt
   roots_fault (maker.Make making.Memory) h = roots_refused Memory h
-  roots_fault (maker.Make (making.Unstraight word)) h = subst (λ f. MakeFaultMeans rom map roots (maker.Make f)) h.1 (roots_refused h.0 h.2)
-  roots_fault (maker.Make making.Deep) h = subst (λ f. MakeFaultMeans rom map roots (maker.Make f)) h.1 (roots_refused h.0 h.2)
-  roots_fault (maker.Make making.TooLarge) h = subst (λ f. MakeFaultMeans rom map roots (maker.Make f)) h.1 (roots_refused h.0 h.2)
+  roots_fault (maker.Make (making.Unstraight word)) h = subst (λ f. MakeFaultMeans machine rom map roots (maker.Make f)) h.1 (roots_refused h.0 h.2)
+  roots_fault (maker.Make making.Deep) h = subst (λ f. MakeFaultMeans machine rom map roots (maker.Make f)) h.1 (roots_refused h.0 h.2)
+  roots_fault (maker.Make making.TooLarge) h = subst (λ f. MakeFaultMeans machine rom map roots (maker.Make f)) h.1 (roots_refused h.0 h.2)

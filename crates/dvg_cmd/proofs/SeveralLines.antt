@@ -4,7 +4,8 @@ use Rattle.std.proofs.Math.Seq.{take-append-add}
 use Rattle.std.specs.Prelude.{Result, Ok, Err, IfOk, OnErr, option_map}
 use Rattle.std.specs.Io.KnownBytes.{Appends}
 use Rattle.std.proofs.KnownBytes.{Appends-nil, Appends-trans}
-use Rattle.dvg_words.specs.Memory.{Rom, rom_of, IsRomLength}
+use Rattle.dvg_words.specs.declared.machine.Machine.{Machine}
+use Rattle.dvg_words.specs.Memory.{Rom, rom_on, IsRomLength}
 use Rattle.dvg_words.specs.Values.{MemoryMap, Window}
 use Rattle.dvg_cert.specs.Devices.{AppendsPrefix, TakesOneWrite}
 use Rattle.dvg_check.specs.Judged.{Shapes}
@@ -165,13 +166,13 @@ module _ {R : Type 0} (remaining : R → Option (List ℕ)) (frame : NamedFrame 
 abbrev shapes_with : Window → Certificate → Rom → Shapes
 shapes_with w c rom = record { rom = rom; list = c.entries; window = w; mode = Bound }
 
-pub shapes_by : (w : Window) (rom : List ℕ) (c : Certificate) (map : MemoryMap) (image : Rom) (shapes : Shapes) → shapes ≡ record { rom = image; list = c.entries; window = w; mode = Bound } → image ≡ rom_of map rom → map ≡ c.map → shapes ≡ shapes_of w rom c
-shapes_by w rom c map image shapes is image_is map_is = is ∙ ap (shapes_with w c) (image_is ∙ ap (λ m. rom_of m rom) map_is)
+pub shapes_by : (machine : Machine) (w : Window) (rom : List ℕ) (c : Certificate) (map : MemoryMap) (image : Rom) (shapes : Shapes) → shapes ≡ record { rom = image; list = c.entries; window = w; mode = Bound } → image ≡ rom_on machine map rom → map ≡ c.map → shapes ≡ shapes_of machine w rom c
+shapes_by machine w rom c map image shapes is image_is map_is = is ∙ ap (shapes_with w c) (image_is ∙ ap (λ m. rom_on machine m rom) map_is)
 
-pub judges_over : (shapes : Shapes) (c : Certificate) (rom : List ℕ) (mode : Mode) → IsRomLength c.map (length rom) → shapes.rom ≡ rom_of c.map rom → shapes.list ≡ c.entries → shapes.mode ≡ mode
-    → (detail : Detail) → MayJudgeOver shapes c rom mode detail
-judges_over shapes c rom mode long rom_is list_is mode_is details.Line = (ap (λ r. r.map) rom_is, list_is)
-judges_over shapes c rom mode long rom_is list_is mode_is details.Account = (long, rom_is, list_is, mode_is)
+pub judges_over : (machine : Machine) (shapes : Shapes) (c : Certificate) (rom : List ℕ) (mode : Mode) → IsRomLength c.map (length rom) → shapes.rom ≡ rom_on machine c.map rom → shapes.list ≡ c.entries → shapes.mode ≡ mode
+    → (detail : Detail) → MayJudgeOver machine shapes c rom mode detail
+judges_over machine shapes c rom mode long rom_is list_is mode_is details.Line = (ap (λ r. r.map) rom_is, list_is)
+judges_over machine shapes c rom mode long rom_is list_is mode_is details.Account = (long, rom_is, list_is, mode_is)
 
 pub over_same : (P : Shapes → ℕ → ℕ → Type 0) (s t : Shapes) → s ≡ t → (m n : ℕ) → m ≡ n → (a b : ℕ) → a ≡ b → P s m a → P t n b
 over_same P s t st m n mn a b ab h = subst (λ x. P x n b) st (subst (λ x. P s x b) mn (subst (λ x. P s m x) ab h))

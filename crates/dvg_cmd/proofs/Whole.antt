@@ -1,8 +1,8 @@
 -- The verdict on the first bytes of inputs is the verdict on all of them.
 use Rattle.std.proofs.Common.{append-nil, List, length, Option, None, Some, refl, arith, ap, subst, sym, ◌≡◌, ◌+◌, ◌≤◌, ◌++◌, ◌∙◌, ℕ, []}
 use Rattle.std.specs.Prelude.{IfSome, Result, Ok, Err}
-use Rattle.dvg_words.specs.declared.machine.Machine.TheVariants.{Profile}
-use Rattle.dvg_words.specs.Memory.{IsRomLength, IsFrameLength, rom_of}
+use Rattle.dvg_words.specs.declared.machine.Machine.{Machine}
+use Rattle.dvg_words.specs.Memory.{IsRomLength, IsFrameLength, rom_on}
 use Rattle.dvg_words.specs.Values.{MemoryMap, IsMap, Window}
 use Rattle.dvg_words.specs.declared.image.ImageFault.TheVariants.{RomLength, FrameLength}
 use Rattle.dvg_cert.specs.Laws.{PrefixRefusal}
@@ -75,15 +75,15 @@ module _ (rb r : List ℕ) (rom : PrefixOf 4097 rb r) (map : MemoryMap) (is : Is
   pub rom_back : IsRomLength map (length r) → IsRomLength map (length rb)
   rom_back h = subst (λ (x : List ℕ). IsRomLength map (length x)) (sym (rom.long (omega (arith, h, is.past_frames, is.inside)))) h
 
-  pub rom_on : IsRomLength map (length rb) → IsRomLength map (length r)
-  rom_on h = subst (λ (x : List ℕ). IsRomLength map (length x)) (rom_same h) h
+  pub rom_fits : IsRomLength map (length rb) → IsRomLength map (length r)
+  rom_fits h = subst (λ (x : List ℕ). IsRomLength map (length x)) (rom_same h) h
 
 -- what the first bytes of a ROM come to by a certificate, all come to
-module _ (rb r : List ℕ) (rom : PrefixOf 4097 rb r) (c : Certificate) (is : IsMap c.map) (mode : Mode) (w : Window) (words : List ℕ) (budget : ℕ) where
-  parts_on : (v : Result Yes Refusal) → IsRomLength c.map (length rb) × PartsVerdict mode w (rom_of c.map rb) c.entries words budget v → IsRomLength c.map (length r) × PartsVerdict mode w (rom_of c.map r) c.entries words budget v
-  parts_on v h = (rom_on rb r rom c.map is h.0, subst (λ (x : List ℕ). PartsVerdict mode w (rom_of c.map x) c.entries words budget v) (rom_same rb r rom c.map is h.0) h.1)
+module _ (machine : Machine) (rb r : List ℕ) (rom : PrefixOf 4097 rb r) (c : Certificate) (is : IsMap c.map) (mode : Mode) (w : Window) (words : List ℕ) (budget : ℕ) where
+  parts_on : (v : Result Yes Refusal) → IsRomLength c.map (length rb) × PartsVerdict mode w (rom_on machine c.map rb) c.entries words budget v → IsRomLength c.map (length r) × PartsVerdict mode w (rom_on machine c.map r) c.entries words budget v
+  parts_on v h = (rom_fits rb r rom c.map is h.0, subst (λ (x : List ℕ). PartsVerdict mode w (rom_on machine c.map x) c.entries words budget v) (rom_same rb r rom c.map is h.0) h.1)
 
-  pub rom_whole : (v : Result Yes Refusal) → RomVerdict Profile mode w rb c words budget v → RomVerdict Profile mode w r c words budget v
+  pub rom_whole : (v : Result Yes Refusal) → RomVerdict machine mode w rb c words budget v → RomVerdict machine mode w r c words budget v
   rom_whole (Err (refusal.Image RomLength)) h = λ k. h (rom_back rb r rom c.map is k)
   rom_whole (Err (refusal.Image FrameLength)) h = absurd h.1
   rom_whole (Ok y) h = parts_on (Ok y) h

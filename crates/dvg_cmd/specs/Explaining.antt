@@ -1,6 +1,7 @@
 -- What a run of the maker says of what it makes, and of why it makes nothing, and what is written of it. All of it is this project's own.
 use Rattle.std.specs.Prelude.{◌≡◌, ℕ, List, ◌++◌, length, Option, None, Result, Ok, Err}
 use Rattle.std.specs.Io.KnownBytes.{Appends}
+use Rattle.dvg_words.specs.declared.machine.Machine.{Machine}
 use Rattle.dvg_words.specs.Values.{MemoryMap}
 use Rattle.dvg_cert.specs.declared.entry.Entry.{Entry}
 use Rattle.dvg_cert.specs.declared.entry.Key.{Key}
@@ -13,9 +14,9 @@ use Rattle.dvg_cmd.specs.Runs.{Outcome, Accepted, Refused, NoMemory}
 
 -- the list that is made for all bytes that readers held, of a ROM at this map and of frames, has so many entries
 pub record MakesEntries
-    (rom : Option (List ℕ)) (map : MemoryMap) (roots : List (ℕ × Key)) (frames : List (Option (List ℕ))) (count : ℕ) : Type 0 where
+    (machine : Machine) (rom : Option (List ℕ)) (map : MemoryMap) (roots : List (ℕ × Key)) (frames : List (Option (List ℕ))) (count : ℕ) : Type 0 where
   pub list : List Entry
-  pub made : MakesForFrames rom map roots frames list
+  pub made : MakesForFrames machine rom map roots frames list
   pub count_is : count ≡ length list
 
 -- the whole line

@@ -1,8 +1,9 @@
 -- The verdict on a frame by its own certificate, or over judged shapes, and what a run writes of it. All of it is this project's own.
 use Rattle.std.specs.Prelude.{◌≡◌, ℕ, Bool, true, false, List, ◌++◌, take, length, Option, IfSome, Result, Ok, Err}
 use Rattle.std.specs.Io.KnownBytes.{Appends}
+use Rattle.dvg_words.specs.declared.machine.Machine.{Machine}
 use Rattle.dvg_words.specs.Values.{MemoryMap, Window}
-use Rattle.dvg_words.specs.Memory.{Rom, words_of, rom_of, IsRomLength, IsFrameLength}
+use Rattle.dvg_words.specs.Memory.{Rom, words_of, rom_on, IsRomLength, IsFrameLength}
 use Rattle.dvg_words.specs.declared.image.ImageFault.TheVariants.{RomLength, FrameLength}
 use Rattle.dvg_cert.specs.Devices.{AppendsPrefix, TakesOneWrite}
 use Rattle.dvg_cert.specs.Order.{Certificate}
@@ -45,44 +46,46 @@ pub record ReadsFrame (reader : Option (List ℕ)) (start : Option ℕ) (bytes :
 -- ---- the verdict on bytes
 
 -- every run is safe, with just these counts, and no certificate gets the frame accepted with fewer words or less depth
-pub record IsAccepted (rom : List ℕ) (map : MemoryMap) (bytes : List ℕ) (budget : ℕ) (w : Window) (y : Yes) : Type 0 where
+pub record IsAccepted
+    (machine : Machine) (rom : List ℕ) (map : MemoryMap) (bytes : List ℕ) (budget : ℕ) (w : Window) (y : Yes) : Type 0 where
   pub in_range : InRange bytes budget
   pub rom_length : IsRomLength map (length rom)
-  pub safe : Safe (record { frame = words_of bytes; rom = rom_of map rom }) w y.words y.depth
-  pub exact : CountsAtHalt (record { frame = words_of bytes; rom = rom_of map rom }) y.words y.depth
-  pub least : AreLeast (rom_of map rom) (words_of bytes) w y.words y.depth
+  pub safe : Safe (record { frame = words_of bytes; rom = rom_on machine map rom }) w y.words y.depth
+  pub exact : CountsAtHalt (record { frame = words_of bytes; rom = rom_on machine map rom }) y.words y.depth
+  pub least : AreLeast (rom_on machine map rom) (words_of bytes) w y.words y.depth
   -- it is the verdict by the frame's own certificate
-  pub by_own : VerdictByMade (rom_of map rom) (words_of bytes) w budget (Ok y)
+  pub by_own : VerdictByMade (rom_on machine map rom) (words_of bytes) w budget (Ok y)
 
 -- the lengths and the budget are in range; it is the verdict by the frame's own certificate, and means what the judge's does
-pub record IsJudgedRefusal (rom : List ℕ) (map : MemoryMap) (bytes : List ℕ) (budget : ℕ) (w : Window) (r : FrameRefusal) : Type 0 where
+pub record IsJudgedRefusal
+    (machine : Machine) (rom : List ℕ) (map : MemoryMap) (bytes : List ℕ) (budget : ℕ) (w : Window) (r : FrameRefusal) : Type 0 where
   pub in_range : InRange bytes budget
   pub rom_length : IsRomLength map (length rom)
-  pub by_own : VerdictByMade (rom_of map rom) (words_of bytes) w budget (Err r)
-  pub means : FrameRefused (rom_of map rom) (words_of bytes) w budget r
+  pub by_own : VerdictByMade (rom_on machine map rom) (words_of bytes) w budget (Err r)
+  pub means : FrameRefused (rom_on machine map rom) (words_of bytes) w budget r
   -- a cause is known where the maker stops at a call
-  pub told : HasCallCause (rom_of map rom) (words_of bytes) r
+  pub told : HasCallCause (rom_on machine map rom) (words_of bytes) r
 
 -- what a refusal means: the first that applies of 2, 49 and 1, or what the judge's does
-abbrev pub IsRefused : List ℕ → MemoryMap → List ℕ → ℕ → Window → FrameRefusal → Type 0
-IsRefused rom map bytes budget w (Check (refusal.Image FrameLength)) = RangeRefusal bytes budget (refusal.Image FrameLength)
-IsRefused rom map bytes budget w (Check refusal.BudgetRange) = RangeRefusal bytes budget refusal.BudgetRange
-IsRefused rom map bytes budget w (Check (refusal.Image RomLength)) = InRange bytes budget × (IsRomLength map (length rom) → ⊥)
-IsRefused rom map bytes budget w r = IsJudgedRefusal rom map bytes budget w r
+abbrev pub IsRefused : Machine → List ℕ → MemoryMap → List ℕ → ℕ → Window → FrameRefusal → Type 0
+IsRefused machine rom map bytes budget w (Check (refusal.Image FrameLength)) = RangeRefusal bytes budget (refusal.Image FrameLength)
+IsRefused machine rom map bytes budget w (Check refusal.BudgetRange) = RangeRefusal bytes budget refusal.BudgetRange
+IsRefused machine rom map bytes budget w (Check (refusal.Image RomLength)) = InRange bytes budget × (IsRomLength map (length rom) → ⊥)
+IsRefused machine rom map bytes budget w r = IsJudgedRefusal machine rom map bytes budget w r
 
--- the verdict on a frame's bytes by its own certificate, over a ROM's bytes at this map
-abbrev pub VerdictOnBytes : List ℕ → MemoryMap → List ℕ → ℕ → Window → Result Yes FrameRefusal → Type 0
-VerdictOnBytes rom map bytes budget w (Ok y) = IsAccepted rom map bytes budget w y
-VerdictOnBytes rom map bytes budget w (Err r) = IsRefused rom map bytes budget w r
+-- the verdict on a frame's bytes by its own certificate, over a ROM's bytes at this map on a machine
+abbrev pub VerdictOnBytes : Machine → List ℕ → MemoryMap → List ℕ → ℕ → Window → Result Yes FrameRefusal → Type 0
+VerdictOnBytes machine rom map bytes budget w (Ok y) = IsAccepted machine rom map bytes budget w y
+VerdictOnBytes machine rom map bytes budget w (Err r) = IsRefused machine rom map bytes budget w r
 
 -- ---- the verdict over shapes that were judged
 
 -- when a judge over these shapes may judge with a detail: they are shapes of the certificate's entries, over a ROM at its map; for an
 -- account, the ROM is also that of these bytes, and the mode is that in which the shapes were judged
-abbrev pub MayJudgeOver : Shapes → Certificate → List ℕ → Mode → Detail → Type 0
-MayJudgeOver shapes c rom mode details.Line = (shapes.rom.map ≡ c.map) × (shapes.list ≡ c.entries)
-MayJudgeOver shapes c rom mode details.Account =
-    IsRomLength c.map (length rom) × (shapes.rom ≡ rom_of c.map rom) × (shapes.list ≡ c.entries) × (shapes.mode ≡ mode)
+abbrev pub MayJudgeOver : Machine → Shapes → Certificate → List ℕ → Mode → Detail → Type 0
+MayJudgeOver machine shapes c rom mode details.Line = (shapes.rom.map ≡ c.map) × (shapes.list ≡ c.entries)
+MayJudgeOver machine shapes c rom mode details.Account =
+    IsRomLength c.map (length rom) × (shapes.rom ≡ rom_on machine c.map rom) × (shapes.list ≡ c.entries) × (shapes.mode ≡ mode)
 
 -- the frame is good by the list; every run is safe with these counts, and has just these where the shapes are good in exact mode
 pub record IsAcceptedOver (shapes : Shapes) (bytes : List ℕ) (budget : ℕ) (y : Yes) : Type 0 where

@@ -1,8 +1,9 @@
 -- What a run of the maker says of the bytes that its reader held, and what it writes. All of it is this project's own.
 use Rattle.std.specs.Prelude.{◌≡◌, ℕ, Bool, true, false, List, length, Option, IfSome, Result, Err}
 use Rattle.std.specs.Io.KnownBytes.{Appends}
+use Rattle.dvg_words.specs.declared.machine.Machine.{Machine}
 use Rattle.dvg_words.specs.Values.{MemoryMap}
-use Rattle.dvg_words.specs.Memory.{rom_of, IsRomLength}
+use Rattle.dvg_words.specs.Memory.{rom_on, IsRomLength}
 use Rattle.dvg_cert.specs.declared.entry.Entry.{Entry}
 use Rattle.dvg_cert.specs.declared.entry.Key.{Key}
 use Rattle.dvg_cert.specs.Grammar.{text_of}
@@ -32,11 +33,11 @@ abbrev pub Held : Option (List ℕ) → List ℕ → Type 0
 Held reader bytes = IfSome reader (λ held. bytes ≡ held)
 
 -- the list is made for a ROM at this map, with all bytes that its reader held
-pub record Makes (rom : Option (List ℕ)) (map : MemoryMap) (roots : List (ℕ × Key)) (list : List Entry) : Type 0 where
+pub record Makes (machine : Machine) (rom : Option (List ℕ)) (map : MemoryMap) (roots : List (ℕ × Key)) (list : List Entry) : Type 0 where
   pub rom_bytes : List ℕ
   pub held : Held rom rom_bytes
   pub rom_length : IsRomLength map (length rom_bytes)
-  pub made : Made (rom_of map rom_bytes) roots list
+  pub made : Made (rom_on machine map rom_bytes) roots list
 
 -- the text of a list with this property was written, and nothing else
 pub record WritesMade (IsMade : List Entry → Type 0) (map : MemoryMap) (old new : Option (List ℕ)) : Type 0 where
@@ -51,9 +52,9 @@ pub record WritesMadePrefix (IsMade : List Entry → Type 0) (map : MemoryMap) (
   pub written : AppendsPrefix old new (text_of map list)
 
 -- what a fault says of all bytes that the ROM's reader held: their length is wrong, or the maker refuses them, with a cause
-abbrev pub MakeFaultMeans : Option (List ℕ) → MemoryMap → List (ℕ × Key) → MakeRunFault → Type 0
-MakeFaultMeans rom map roots fault.RomLength = (bytes : List ℕ) × Held rom bytes × (IsRomLength map (length bytes) → ⊥)
-MakeFaultMeans rom map roots (fault.Make f) = (bytes : List ℕ) × Held rom bytes × IsRomLength map (length bytes)
-    × Refuses (rom_of map bytes) roots f × HasRootCause (rom_of map bytes) roots f
-MakeFaultMeans rom map roots fault.ReadRom = Unit {0}
-MakeFaultMeans rom map roots fault.Write = Unit {0}
+abbrev pub MakeFaultMeans : Machine → Option (List ℕ) → MemoryMap → List (ℕ × Key) → MakeRunFault → Type 0
+MakeFaultMeans machine rom map roots fault.RomLength = (bytes : List ℕ) × Held rom bytes × (IsRomLength map (length bytes) → ⊥)
+MakeFaultMeans machine rom map roots (fault.Make f) = (bytes : List ℕ) × Held rom bytes × IsRomLength map (length bytes)
+    × Refuses (rom_on machine map bytes) roots f × HasRootCause (rom_on machine map bytes) roots f
+MakeFaultMeans machine rom map roots fault.ReadRom = Unit {0}
+MakeFaultMeans machine rom map roots fault.Write = Unit {0}

@@ -1,7 +1,8 @@
 -- What a run of the maker for frames says of the bytes that its readers held, and what it writes. All of it is this project's own.
 use Rattle.std.specs.Prelude.{◌≡◌, ℕ, zero, suc, Bool, true, false, List, [], ◌∷◌, ◌++◌, length, Option, None, Some, Result, Err}
+use Rattle.dvg_words.specs.declared.machine.Machine.{Machine}
 use Rattle.dvg_words.specs.Values.{MemoryMap}
-use Rattle.dvg_words.specs.Memory.{words_of, rom_of, IsRomLength, IsFrameLength}
+use Rattle.dvg_words.specs.Memory.{words_of, rom_on, IsRomLength, IsFrameLength}
 use Rattle.dvg_cert.specs.Devices.{count_after}
 use Rattle.dvg_cert.specs.declared.entry.Entry.{Entry}
 use Rattle.dvg_cert.specs.declared.entry.Key.{Key}
@@ -89,26 +90,26 @@ pub record Inputs (rom : Option (List ℕ)) (map : MemoryMap) (frames : List (Op
 -- ---- what is answered
 
 -- the list is made for all bytes that the readers held
-abbrev pub MakesForFrames : Option (List ℕ) → MemoryMap → List (ℕ × Key) → List (Option (List ℕ)) → List Entry → Type 0
-MakesForFrames rom map roots frames list =
-    (all : Inputs rom map frames) × FramesMade (rom_of map all.rom_bytes) roots (of_each words_of all.frame_bytes) list
+abbrev pub MakesForFrames : Machine → Option (List ℕ) → MemoryMap → List (ℕ × Key) → List (Option (List ℕ)) → List Entry → Type 0
+MakesForFrames machine rom map roots frames list =
+    (all : Inputs rom map frames) × FramesMade (rom_on machine map all.rom_bytes) roots (of_each words_of all.frame_bytes) list
 
 -- the maker refuses all bytes that the readers held, with a cause
-abbrev pub RefusesInputs : Option (List ℕ) → MemoryMap → List (ℕ × Key) → List (Option (List ℕ)) → FramesFault → Type 0
-RefusesInputs rom map roots frames refusal =
-    (all : Inputs rom map frames) × FramesRefuse (rom_of map all.rom_bytes) roots (of_each words_of all.frame_bytes) refusal
-    × HasCause (rom_of map all.rom_bytes) roots (of_each words_of all.frame_bytes) refusal
+abbrev pub RefusesInputs : Machine → Option (List ℕ) → MemoryMap → List (ℕ × Key) → List (Option (List ℕ)) → FramesFault → Type 0
+RefusesInputs machine rom map roots frames refusal =
+    (all : Inputs rom map frames) × FramesRefuse (rom_on machine map all.rom_bytes) roots (of_each words_of all.frame_bytes) refusal
+    × HasCause (rom_on machine map all.rom_bytes) roots (of_each words_of all.frame_bytes) refusal
 
 -- that memory was out: without frames, it was the maker's; with frames, it may have been out as they were read, and this says nothing
-abbrev pub RefusesMemory : Option (List ℕ) → MemoryMap → List (ℕ × Key) → List (Option (List ℕ)) → Type 0
-RefusesMemory rom map roots [] = RefusesInputs rom map roots [] (record { call = None; why = Memory })
-RefusesMemory rom map roots (frame ∷ frames) = Unit {0}
+abbrev pub RefusesMemory : Machine → Option (List ℕ) → MemoryMap → List (ℕ × Key) → List (Option (List ℕ)) → Type 0
+RefusesMemory machine rom map roots [] = RefusesInputs machine rom map roots [] (record { call = None; why = Memory })
+RefusesMemory machine rom map roots (frame ∷ frames) = Unit {0}
 
 -- the maker refuses them with a refusal that names no frame; 63 says nothing
-abbrev pub RefusesRoots : Option (List ℕ) → MemoryMap → List (ℕ × Key) → List (Option (List ℕ)) → MakeFault → Type 0
-RefusesRoots rom map roots frames making.Memory = RefusesMemory rom map roots frames
-RefusesRoots rom map roots frames f =
-    (why : EntryFault) × (make_fault_of why ≡ f) × RefusesInputs rom map roots frames (record { call = None; why = why })
+abbrev pub RefusesRoots : Machine → Option (List ℕ) → MemoryMap → List (ℕ × Key) → List (Option (List ℕ)) → MakeFault → Type 0
+RefusesRoots machine rom map roots frames making.Memory = RefusesMemory machine rom map roots frames
+RefusesRoots machine rom map roots frames f =
+    (why : EntryFault) × (make_fault_of why ≡ f) × RefusesInputs machine rom map roots frames (record { call = None; why = why })
 
 -- the ROM has its map's length, and the first frame of a wrong length is at this index, from 0
 pub record WrongFrame (rom : Option (List ℕ)) (map : MemoryMap) (frames : List (Option (List ℕ))) (frame : ℕ) : Type 0 where
@@ -120,12 +121,13 @@ pub record WrongFrame (rom : Option (List ℕ)) (map : MemoryMap) (frames : List
   pub wrong : FirstWrong frame_bytes frame
 
 -- what a fault says of all bytes that the readers held: the first that applies of 1, 2, and the maker's refusal
-abbrev pub FramesFaultMeans : Option (List ℕ) → MemoryMap → List (ℕ × Key) → List (Option (List ℕ)) → FramesRunFault → Type 0
-FramesFaultMeans rom map roots frames (fault.Plain maker.RomLength) =
+abbrev pub FramesFaultMeans : Machine → Option (List ℕ) → MemoryMap → List (ℕ × Key) → List (Option (List ℕ)) → FramesRunFault → Type 0
+FramesFaultMeans machine rom map roots frames (fault.Plain maker.RomLength) =
     (bytes : List ℕ) × Held rom bytes × (IsRomLength map (length bytes) → ⊥)
-FramesFaultMeans rom map roots frames (fault.Plain (maker.Make f)) = RefusesRoots rom map roots frames f
-FramesFaultMeans rom map roots frames (fault.Plain maker.ReadRom) = Unit {0}
-FramesFaultMeans rom map roots frames (fault.Plain maker.Write) = Unit {0}
-FramesFaultMeans rom map roots frames (fault.FrameLength n) = WrongFrame rom map frames n
-FramesFaultMeans rom map roots frames (fault.Call call why) = RefusesInputs rom map roots frames (record { call = Some call; why = why })
-FramesFaultMeans rom map roots frames fault.ReadFrame = Unit {0}
+FramesFaultMeans machine rom map roots frames (fault.Plain (maker.Make f)) = RefusesRoots machine rom map roots frames f
+FramesFaultMeans machine rom map roots frames (fault.Plain maker.ReadRom) = Unit {0}
+FramesFaultMeans machine rom map roots frames (fault.Plain maker.Write) = Unit {0}
+FramesFaultMeans machine rom map roots frames (fault.FrameLength n) = WrongFrame rom map frames n
+FramesFaultMeans machine rom map roots frames (fault.Call call why) =
+    RefusesInputs machine rom map roots frames (record { call = Some call; why = why })
+FramesFaultMeans machine rom map roots frames fault.ReadFrame = Unit {0}

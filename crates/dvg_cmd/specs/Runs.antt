@@ -1,6 +1,7 @@
 -- What a run says of the bytes that its readers held, and what it writes. All of it is this project's own.
 use Rattle.std.specs.Prelude.{◌≡◌, ◌<◌, ◌≤◌, ℕ, Bool, true, false, List, ◌++◌, length, Option, IfSome, Result, Ok, Err, IfOk}
 use Rattle.std.specs.Io.KnownBytes.{Appends, Consumes, IsAtEnd}
+use Rattle.dvg_words.specs.declared.machine.Machine.{Machine}
 use Rattle.dvg_words.specs.Values.{Window}
 use Rattle.dvg_cert.specs.Devices.{AppendsPrefix, TakesOneWrite}
 use Rattle.dvg_cert.specs.declared.fault.CertWhy.TheVariants.{Unended}
@@ -12,7 +13,7 @@ use Rattle.dvg_check.specs.declared.verdict.Refusal.{Refusal}
 use Rattle.dvg_check.specs.declared.verdict.Refusal.TheVariants as refusal
 use Rattle.dvg_check.specs.declared.fault.Mode.{Mode}
 use Rattle.dvg_check.specs.declared.fault.Mode.TheVariants.{Exact}
-use Rattle.dvg_check.specs.Verdict.{Verdict, SafeOver, CountsOver}
+use Rattle.dvg_check.specs.Verdict.{VerdictOn, SafeOn, CountsOn}
 use Rattle.dvg_spelling.specs.Report.{report_text}
 pub use Rattle.dvg_spelling.specs.declared.outcome.Outcome.{Outcome}
 pub use Rattle.dvg_spelling.specs.declared.outcome.Outcome.TheVariants.{Accepted, Refused, NoMemory}
@@ -79,23 +80,24 @@ IsReadFor verdict old new = IsReadTo MOST_TEXT_READ old new
 
 -- ---- what is written
 
--- the verdict on all bytes that three readers held, in a mode and for a window; if the bytes of a reader are not known, some bytes
-pub record Judges (mode : Mode) (w : Window) (rom cert frame : Option (List ℕ)) (budget : ℕ) (verdict : Result Yes Refusal) : Type 0 where
+-- the verdict on all bytes that three readers held, on a machine, in a mode and for a window; if the bytes of a reader are not known, some bytes
+pub record Judges
+    (machine : Machine) (mode : Mode) (w : Window) (rom cert frame : Option (List ℕ)) (budget : ℕ) (verdict : Result Yes Refusal) : Type 0 where
   pub rom_bytes : List ℕ
   pub cert_bytes : List ℕ
   pub frame_bytes : List ℕ
   pub rom_held : IfSome rom (λ held. rom_bytes ≡ held)
   pub cert_held : IfSome cert (λ held. cert_bytes ≡ held)
   pub frame_held : IfSome frame (λ held. frame_bytes ≡ held)
-  pub is : Verdict mode w rom_bytes cert_bytes frame_bytes budget verdict
+  pub is : VerdictOn machine mode w rom_bytes cert_bytes frame_bytes budget verdict
 
 -- every run over all bytes that three readers held is safe with these counts, if all of them are known
-abbrev pub SafeRead : Window → Option (List ℕ) → Option (List ℕ) → Option (List ℕ) → Yes → Type 0
-SafeRead w rom cert frame y = IfSome rom (λ r. IfSome cert (λ c. IfSome frame (λ f. SafeOver w r c f y.words y.depth)))
+abbrev pub SafeRead : Machine → Window → Option (List ℕ) → Option (List ℕ) → Option (List ℕ) → Yes → Type 0
+SafeRead machine w rom cert frame y = IfSome rom (λ r. IfSome cert (λ c. IfSome frame (λ f. SafeOn machine w r c f y.words y.depth)))
 
 -- every run over all bytes that three readers held has just these counts at its halt, if all of them are known
-abbrev pub CountsRead : Option (List ℕ) → Option (List ℕ) → Option (List ℕ) → Yes → Type 0
-CountsRead rom cert frame y = IfSome rom (λ r. IfSome cert (λ c. IfSome frame (λ f. CountsOver r c f y.words y.depth)))
+abbrev pub CountsRead : Machine → Option (List ℕ) → Option (List ℕ) → Option (List ℕ) → Yes → Type 0
+CountsRead machine rom cert frame y = IfSome rom (λ r. IfSome cert (λ c. IfSome frame (λ f. CountsOn machine r c f y.words y.depth)))
 
 -- the report of a verdict and what the detail asks for behind it were written, by one write if they fit one, and nothing else;
 -- `writes` and `writes_after` count the writes that took their whole piece
@@ -117,34 +119,36 @@ pub record WritesReportPrefix (detail : Detail) (verdict : Result Yes Refusal) (
 -- the report of the verdict on all bytes that three readers held was written; the certificate's reader still holds `left`. An
 -- accepted frame is safe, also if there was no memory for its account.
 pub record Reports
-    (detail : Detail) (mode : Mode) (w : Window) (rom cert left frame : Option (List ℕ)) (budget : ℕ) (old new : Option (List ℕ))
-    (writes writes_after : ℕ) (outcome : Outcome) : Type 0 where
+    (machine : Machine) (detail : Detail) (mode : Mode) (w : Window) (rom cert left frame : Option (List ℕ)) (budget : ℕ)
+    (old new : Option (List ℕ)) (writes writes_after : ℕ) (outcome : Outcome) : Type 0 where
   pub verdict : Result Yes Refusal
-  pub judges : Judges mode w rom cert frame budget verdict
+  pub judges : Judges machine mode w rom cert frame budget verdict
   pub read : IsReadFor verdict cert left
-  pub safe : IfOk verdict (SafeRead w rom cert frame)
-  pub exact : mode ≡ Exact → IfOk verdict (CountsRead rom cert frame)
+  pub safe : IfOk verdict (SafeRead machine w rom cert frame)
+  pub exact : mode ≡ Exact → IfOk verdict (CountsRead machine rom cert frame)
   pub report : WritesReport detail verdict old new writes writes_after outcome
 
 -- a prefix of that report was written
 pub record ReportsPrefix
-    (detail : Detail) (mode : Mode) (w : Window) (rom cert frame : Option (List ℕ)) (budget : ℕ) (old new : Option (List ℕ)) : Type 0 where
+    (machine : Machine) (detail : Detail) (mode : Mode) (w : Window) (rom cert frame : Option (List ℕ)) (budget : ℕ)
+    (old new : Option (List ℕ)) : Type 0 where
   pub verdict : Result Yes Refusal
-  pub judges : Judges mode w rom cert frame budget verdict
+  pub judges : Judges machine mode w rom cert frame budget verdict
   pub report : WritesReportPrefix detail verdict old new
 
 -- an accepted line was written, and every run over these bytes is safe with its counts
-pub record ReportsSafe (detail : Detail) (w : Window) (rom cert frame : Option (List ℕ)) (old new : Option (List ℕ)) : Type 0 where
+pub record ReportsSafe
+    (machine : Machine) (detail : Detail) (w : Window) (rom cert frame : Option (List ℕ)) (old new : Option (List ℕ)) : Type 0 where
   pub yes : Yes
   pub behind : Behind
   pub asked : IsBehind detail behind
   pub written : Appends old new (report_text (Ok yes) ++ behind_text behind)
-  pub safe : SafeRead w rom cert frame yes
+  pub safe : SafeRead machine w rom cert frame yes
 
 -- an accepted line was written, and every run over these bytes has just its counts
-pub record ReportsCounts (detail : Detail) (rom cert frame : Option (List ℕ)) (old new : Option (List ℕ)) : Type 0 where
+pub record ReportsCounts (machine : Machine) (detail : Detail) (rom cert frame : Option (List ℕ)) (old new : Option (List ℕ)) : Type 0 where
   pub yes : Yes
   pub behind : Behind
   pub asked : IsBehind detail behind
   pub written : Appends old new (report_text (Ok yes) ++ behind_text behind)
-  pub counts : CountsRead rom cert frame yes
+  pub counts : CountsRead machine rom cert frame yes

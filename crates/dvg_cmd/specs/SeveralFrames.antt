@@ -1,7 +1,8 @@
 -- What a run writes of several frames that are judged one after another. All of it is this project's own.
 use Rattle.std.specs.Prelude.{◌≡◌, ℕ, List, [], ◌∷◌, ◌++◌, length, Option, None, Some, option_map, Result, Ok, Err}
 use Rattle.std.specs.Io.KnownBytes.{Appends}
-use Rattle.dvg_words.specs.Memory.{Rom, rom_of, IsRomLength}
+use Rattle.dvg_words.specs.declared.machine.Machine.{Machine}
+use Rattle.dvg_words.specs.Memory.{Rom, rom_on, IsRomLength}
 use Rattle.dvg_words.specs.Values.{Window}
 use Rattle.dvg_words.specs.declared.image.ImageFault.TheVariants.{RomLength}
 use Rattle.dvg_cert.specs.Devices.{AppendsPrefix, TakesOneWrite}
@@ -95,12 +96,12 @@ module _ (IsVerdict : List ℕ → Result Yes FrameRefusal → Type 0) (rom : Ro
 
 -- what a certificate is refused with over the bytes of a ROM, with counts as bounds: 1 if the ROM's length is not that of its map;
 -- else that memory was out for the index, or the first fault of its shapes
-abbrev pub RefusesShapes : Window → List ℕ → Certificate → Refusal → Type 0
-RefusesShapes w rom c (refusal.Image RomLength) = IsRomLength c.map (length rom) → ⊥
-RefusesShapes w rom c refusal.IndexMemory = IsRomLength c.map (length rom)
-RefusesShapes w rom c (refusal.Shape f) =
-    IsRomLength c.map (length rom) × FirstShapeFault Bound w (rom_of c.map rom) c.entries f
-RefusesShapes w rom c r = ⊥
+abbrev pub RefusesShapes : Machine → Window → List ℕ → Certificate → Refusal → Type 0
+RefusesShapes machine w rom c (refusal.Image RomLength) = IsRomLength c.map (length rom) → ⊥
+RefusesShapes machine w rom c refusal.IndexMemory = IsRomLength c.map (length rom)
+RefusesShapes machine w rom c (refusal.Shape f) =
+    IsRomLength c.map (length rom) × FirstShapeFault Bound w (rom_on machine c.map rom) c.entries f
+RefusesShapes machine w rom c r = ⊥
 
 -- a text was refused as no certificate
 abbrev pub IsCertRefusal : Refusal → Type 0
@@ -108,30 +109,30 @@ IsCertRefusal (refusal.Cert f) = Unit {0}
 IsCertRefusal r = ⊥
 
 -- a refusal for which no frame is opened: of the text of a certificate, or of the certificate over the bytes of a ROM
-abbrev pub RefusesAll : Window → List ℕ → Result Certificate CertFault → Refusal → Type 0
-RefusesAll w rom (Err f) r = r ≡ refusal.Cert f
-RefusesAll w rom (Ok c) r = RefusesShapes w rom c r
+abbrev pub RefusesAll : Machine → Window → List ℕ → Result Certificate CertFault → Refusal → Type 0
+RefusesAll machine w rom (Err f) r = r ≡ refusal.Cert f
+RefusesAll machine w rom (Ok c) r = RefusesShapes machine w rom c r
 
 -- its report was written, and nothing else
 pub record ReportsRefusal
-    (detail : Detail) (w : Window) (rom : List ℕ) (cert : Result Certificate CertFault) (old new : Option (List ℕ))
+    (machine : Machine) (detail : Detail) (w : Window) (rom : List ℕ) (cert : Result Certificate CertFault) (old new : Option (List ℕ))
     (writes writes_after : ℕ) (end : FrameOutcome) : Type 0 where
   pub refused : Refusal
-  pub refuses : RefusesAll w rom cert refused
+  pub refuses : RefusesAll machine w rom cert refused
   pub plain : Outcome
   pub report : WritesReport detail (Err refused) old new writes writes_after plain
   pub outcome_is : end ≡ plain_outcome plain
 
 -- a prefix of its report was written
 pub record ReportsRefusalPrefix
-    (detail : Detail) (w : Window) (rom : List ℕ) (cert : Result Certificate CertFault) (old new : Option (List ℕ)) : Type 0 where
+    (machine : Machine) (detail : Detail) (w : Window) (rom : List ℕ) (cert : Result Certificate CertFault) (old new : Option (List ℕ)) : Type 0 where
   pub refused : Refusal
-  pub refuses : RefusesAll w rom cert refused
+  pub refuses : RefusesAll machine w rom cert refused
   pub report : WritesReportPrefix detail (Err refused) old new
 
--- the shapes of a certificate over the bytes of a ROM, with counts as bounds
-abbrev pub shapes_of : Window → List ℕ → Certificate → Shapes
-shapes_of w rom c = record { rom = rom_of c.map rom; list = c.entries; window = w; mode = Bound }
+-- the shapes of a certificate over the bytes of a ROM on a machine, with counts as bounds
+abbrev pub shapes_of : Machine → Window → List ℕ → Certificate → Shapes
+shapes_of machine w rom c = record { rom = rom_on machine c.map rom; list = c.entries; window = w; mode = Bound }
 
 -- the lines of frames that are judged over judged shapes, with this count of shapes
 abbrev pub ReportsOver : Shapes → ℕ → ℕ → Detail → Option ℕ → List OpenedFrame → Option (List ℕ) → Option (List ℕ)

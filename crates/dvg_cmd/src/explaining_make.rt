@@ -17,7 +17,7 @@ use dvg_account::{PlainWhy, made_text, plain_text, unmade_text};
 use dvg_cert::{CountedRead, CountedWrite, Key, write_lines};
 use dvg_make::explain_making;
 use dvg_spelling::{FramesRunFault, MakeRunFault, Outcome, RunFault, make_line_of};
-use dvg_words::{RomImage, RomMap};
+use dvg_words::{Machine, RomImage, RomMap};
 use std::alloc::{AllocError, Global};
 
 /// The maker's answer: how many entries it makes, or why none, and the account of the answer, if there was memory for it.
@@ -40,12 +40,17 @@ impl MakeAnswer {
 }
 
 /// The answer that nothing is made, because of this fault of the inputs.
-fn unasked(alloc: Global, fault: FramesRunFault, why: PlainWhy) -> MakeAnswer
+fn unasked(
+    machine: Machine,
+    alloc: Global,
+    fault: FramesRunFault,
+    why: PlainWhy,
+) -> MakeAnswer
     ensures { result.made ≡ Err fault }
 {
     MakeAnswer {
         made: Err(fault),
-        account: plain_text(alloc, fault.number(), why),
+        account: plain_text(machine, alloc, fault.number(), why),
     }
 }
 
@@ -57,8 +62,9 @@ fn length_why(fault: FramesRunFault, frames: &[FrameBytes]) -> PlainWhy {
     }
 }
 
-/// The maker's answer to the bytes of a ROM at this map and of frames.
+/// The maker's answer to the bytes of a ROM at this map, on a machine, and of frames.
 fn answer_on(
+    machine: Machine,
     alloc: Global,
     rom: &[u8],
     map: RomMap,
@@ -67,27 +73,27 @@ fn answer_on(
 ) -> MakeAnswer
     ensures made { (held : Option (List ℕ)) (readers : List (Option (List ℕ))) → IsPrefix MOST_ROM_READ held rom.now
         → ArePrefixes readers (of_each (λ bytes. bytes.items) frames.now)
-        → IfOk result.made (MakesEntries held map roots.now readers) }
+        → IfOk result.made (MakesEntries machine held map roots.now readers) }
     ensures refused { (held : Option (List ℕ)) (readers : List (Option (List ℕ))) → IsPrefix MOST_ROM_READ held rom.now
         → ArePrefixes readers (of_each (λ bytes. bytes.items) frames.now)
-        → IfErr result.made (FramesFaultMeans held map roots.now readers) }
+        → IfErr result.made (FramesFaultMeans machine held map roots.now readers) }
     ensures no_device { (blames_frames_rom result.made ≡ false) × (blames_a_frame result.made ≡ false) × (blames_frames_writer result.made ≡ false) }
 {
-    let Ok(image) = RomImage::from_bytes(rom, map) else {
+    let Ok(image) = RomImage::from_bytes_on(machine, rom, map) else {
         let why = PlainWhy::RomLength {
             bytes: rom.len(),
             map,
         };
-        return unasked(alloc, MakeRunFault::RomLength.into(), why);
+        return unasked(machine, alloc, MakeRunFault::RomLength.into(), why);
     };
     let images = match images_of(alloc, frames) {
         Ok(images) => images,
-        Err(fault) => return unasked(alloc, fault, length_why(fault, frames)),
+        Err(fault) => return unasked(machine, alloc, fault, length_why(fault, frames)),
     };
     match explain_making(alloc, &image, roots, &images) {
         Ok(cert) => MakeAnswer {
             made: Ok(cert.entries().len() as u32),
-            account: made_text(alloc, &cert),
+            account: made_text(machine, alloc, &cert),
         },
         Err(account) => MakeAnswer {
             made: Err(account.fault.into()),
@@ -101,6 +107,7 @@ fn answer_on(
 ///
 /// The faults are those of `run_make_frames` that have no account: a failed read, and that there was no memory to make entries.
 pub fn run_explain_make<R1: CountedRead, R2: CountedRead>(
+    machine: Machine,
     alloc: Global,
     rom: &mut R1,
     map: RomMap,
@@ -123,9 +130,9 @@ pub fn run_explain_make<R1: CountedRead, R2: CountedRead>(
 
     // So many entries has the list that is made for all bytes that the readers held; 1 and 2 come for a wrong length alone, and 60
     // to 62 as the maker refuses. Nothing else is an answer: no fault of a device, and not that memory was out.
-    ensures made { IfOk result (λ answer. IfOk answer.made (MakesEntries (R1.remaining rom.old) map roots.now
+    ensures made { IfOk result (λ answer. IfOk answer.made (MakesEntries machine (R1.remaining rom.old) map roots.now
         (of_each (λ frame. R2.remaining frame) frames.old))) }
-    ensures refused { IfOk result (λ answer. IfErr answer.made (FramesFaultMeans (R1.remaining rom.old) map roots.now
+    ensures refused { IfOk result (λ answer. IfErr answer.made (FramesFaultMeans machine (R1.remaining rom.old) map roots.now
         (of_each (λ frame. R2.remaining frame) frames.old))) }
     ensures told { IfOk result (λ answer. IfErr answer.made (λ fault. frames_run_number fault ≢ 63)) }
     ensures no_device { IfOk result (λ answer. (blames_frames_rom answer.made ≡ false) × (blames_a_frame answer.made ≡ false)
@@ -135,7 +142,7 @@ pub fn run_explain_make<R1: CountedRead, R2: CountedRead>(
         return Err(MakeRunFault::ReadRom.into());
     };
     let frames = read_frames(alloc, frames)?;
-    let answer = answer_on(alloc, bytes.as_slice(), map, roots, &frames);
+    let answer = answer_on(machine, alloc, bytes.as_slice(), map, roots, &frames);
     if let Err(fault) = answer.made {
         if fault.number() == NO_MEMORY_NUMBER {
             return Err(fault);

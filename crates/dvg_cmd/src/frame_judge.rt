@@ -1,7 +1,7 @@
 //! By which certificate a frame is judged: by its own, which is made for it, or by a given one, whose shapes were judged.
 
 ghost use Rattle.std.specs.Prelude.{◌≡◌, ℕ, List, Result, length, Err, IfOk, IfErr};
-ghost use Rattle.dvg_words.specs.Memory.{Rom, IsFrameLength, rom_of, words_of};
+ghost use Rattle.dvg_words.specs.Memory.{Rom, IsFrameLength, rom_on, words_of};
 ghost use Rattle.dvg_words.specs.Values.{Window as Places};
 ghost use Rattle.dvg_check.specs.Safety.{Safe, CountsAtHalt};
 ghost use Rattle.dvg_check.specs.declared.fault.Mode.TheVariants.{Exact};
@@ -40,6 +40,9 @@ pub trait FrameJudge {
     /// The counts of what is accepted are exact.
     ghost is_exact: { Self → Type 0 };
 
+    /// The machine that accounts name.
+    fn machine(&self) -> Machine;
+
     /// The verdict on the bytes of a frame, and what the detail asks for behind its line.
     fn verdict(
         &self,
@@ -58,6 +61,8 @@ pub trait FrameJudge {
 /// The judge of each frame by its own certificate, as [`judge`] judges.
 #[derive(Clone, Copy)]
 pub struct OwnCertificates<'a> {
+    /// The machine that runs the frames.
+    pub machine: Machine,
     /// The bytes of the ROM.
     pub rom: &'a [u8],
     /// Where the ROM lies.
@@ -71,13 +76,17 @@ pub struct OwnCertificates<'a> {
 impl<'a> FrameJudge for OwnCertificates<'a> {
     ghost valid = { λ _ _. Unit {0} };
 
-    ghost is_verdict = { λ own bytes verdict. VerdictOnBytes own.rom.now own.map bytes own.budget own.window verdict };
+    ghost is_verdict = { λ own bytes verdict. VerdictOnBytes own.machine own.rom.now own.map bytes own.budget own.window verdict };
 
-    ghost rom = { λ own. rom_of own.map own.rom.now };
+    ghost rom = { λ own. rom_on own.machine own.map own.rom.now };
 
     ghost window = { λ own. own.window };
 
     ghost is_exact = { λ _. Unit {0} };
+
+    fn machine(&self) -> Machine {
+        self.machine
+    }
 
     fn verdict(
         &self,
@@ -92,25 +101,26 @@ impl<'a> FrameJudge for OwnCertificates<'a> {
     }
 }
 
-/// The frame and the ROM of these bytes: answers the first that applies of 2, 49 and 1.
+/// The frame and the ROM of these bytes on a machine: answers the first that applies of 2, 49 and 1.
 fn images_for<'a>(
+    machine: Machine,
     rom: &'a [u8],
     map: RomMap,
     frame: &'a [u8],
     budget: u32,
 ) -> Result<(FrameImage<'a>, RomImage<'a>), Refusal>
-    ensures ok { IfOk result (λ images. AreImages rom.now map frame.now budget images.0 images.1) }
-    ensures err { IfErr result (λ refusal. (w : Places) → VerdictOnBytes rom.now map frame.now budget w (Err (Check refusal))) }
+    ensures ok { IfOk result (λ images. AreImages machine rom.now map frame.now budget images.0 images.1) }
+    ensures err { IfErr result (λ refusal. (w : Places) → VerdictOnBytes machine rom.now map frame.now budget w (Err (Check refusal))) }
 {
     let frame = frame_of(frame, budget)?;
-    Ok((frame, RomImage::from_bytes(rom, map)?))
+    Ok((frame, RomImage::from_bytes_on(machine, rom, map)?))
 }
 
 /// The verdict on the bytes of a frame by its own certificate: the first that applies of 2, 49 and 1, else that of [`judge`].
 fn verdict_by_own(alloc: Global, own: &OwnCertificates, frame: &[u8]) -> Result<Yes, FrameRefusal>
-    ensures { VerdictOnBytes own.now.rom.now own.now.map frame.now own.now.budget own.now.window result }
+    ensures { VerdictOnBytes own.now.machine own.now.rom.now own.now.map frame.now own.now.budget own.now.window result }
 {
-    match images_for(own.rom, own.map, frame, own.budget) {
+    match images_for(own.machine, own.rom, own.map, frame, own.budget) {
         Ok((frame, rom)) => judge(alloc, &rom, &frame, own.budget, own.window),
         Err(refusal) => Err(FrameRefusal::Check(refusal)),
     }
@@ -122,9 +132,9 @@ fn judge_own(
     own: &OwnCertificates,
     frame: &[u8],
 ) -> (Result<Yes, FrameRefusal>, OwnMaking)
-    ensures { VerdictOnBytes own.now.rom.now own.now.map frame.now own.now.budget own.now.window result.0 }
+    ensures { VerdictOnBytes own.now.machine own.now.rom.now own.now.map frame.now own.now.budget own.now.window result.0 }
 {
-    match images_for(own.rom, own.map, frame, own.budget) {
+    match images_for(own.machine, own.rom, own.map, frame, own.budget) {
         Ok((frame, rom)) => {
             let judged = explain_judging(alloc, &rom, &frame, own.budget, own.window);
             (judged.verdict, OwnMaking::of(alloc, &rom, judged.made))
@@ -139,12 +149,12 @@ fn explain_by_own<'a>(
     own: &OwnCertificates<'a>,
     frame: &'a [u8],
 ) -> (Result<Yes, FrameRefusal>, Behind)
-    ensures verdict { VerdictOnBytes own.now.rom.now own.now.map frame.now own.now.budget own.now.window result.0 }
+    ensures verdict { VerdictOnBytes own.now.machine own.now.rom.now own.now.map frame.now own.now.budget own.now.window result.0 }
     ensures behind { IsBehind details.Account result.1 }
 {
     let (verdict, making) = judge_own(alloc, own, frame);
     let inputs = Inputs {
-        machine: Machine::Profile,
+        machine: own.machine,
         rom: own.rom,
         map: Some(own.map),
         cert: None,
@@ -160,6 +170,8 @@ fn explain_by_own<'a>(
 /// The judge of frames over judged shapes: the shapes of a certificate over the bytes of a ROM.
 #[derive(Drop)]
 pub struct GivenCertificate<'a, E: Entries> {
+    /// The machine on which the shapes were judged.
+    pub machine: Machine,
     /// The bytes of the ROM.
     pub rom: &'a [u8],
     pub cert: &'a Cert,
@@ -172,17 +184,19 @@ pub struct GivenCertificate<'a, E: Entries> {
 
 impl<'a, E: Entries> GivenCertificate<'a, E> {
     /// The judge over these shapes. Before it judges, they must be those of the certificate's entries over a ROM at its map; and for an
-    /// account, they must be over these bytes of the ROM, and judged in this mode.
+    /// account, they must be over these bytes of the ROM, and judged on this machine and in this mode.
     pub fn new(
+        machine: Machine,
         rom: &'a [u8],
         cert: &'a Cert,
         shapes: &'a JudgedShapes<'a, E>,
         mode: Mode,
         budget: u32,
     ) -> GivenCertificate<'a, E>
-        ensures { result ≡ record { rom = rom.entry; cert = cert.entry; shapes = shapes.entry; mode = mode; budget = budget } }
+        ensures { result ≡ record { machine = machine; rom = rom.entry; cert = cert.entry; shapes = shapes.entry; mode = mode; budget = budget } }
     {
         GivenCertificate {
+            machine,
             rom,
             cert,
             shapes,
@@ -193,7 +207,7 @@ impl<'a, E: Entries> GivenCertificate<'a, E> {
 }
 
 impl<'a, E: Entries> FrameJudge for GivenCertificate<'a, E> {
-    ghost valid = { λ given detail. MayJudgeOver given.shapes.now given.cert.now given.rom.now given.mode detail };
+    ghost valid = { λ given detail. MayJudgeOver given.machine given.shapes.now given.cert.now given.rom.now given.mode detail };
 
     ghost is_verdict = { λ given bytes verdict. VerdictOver given.shapes.now (length given.cert.now.entries) bytes given.budget verdict };
 
@@ -202,6 +216,10 @@ impl<'a, E: Entries> FrameJudge for GivenCertificate<'a, E> {
     ghost window = { λ given. given.shapes.now.window };
 
     ghost is_exact = { λ given. given.shapes.now.mode ≡ Exact };
+
+    fn machine(&self) -> Machine {
+        self.machine
+    }
 
     fn verdict(
         &self,
@@ -262,7 +280,7 @@ fn account_over<E: Entries>(
     ensures { IsBehind details.Account result }
 {
     let inputs = Inputs {
-        machine: Machine::Profile,
+        machine: given.machine,
         rom: given.rom,
         map: Some(given.cert.map()),
         cert: Some(given.cert),

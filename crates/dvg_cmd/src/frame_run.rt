@@ -16,6 +16,7 @@ use arrayvec::ArrayVec;
 use dvg_account::{PlainWhy, plain_text};
 use dvg_cert::{CountedRead, CountedWrite, write_lines};
 use dvg_spelling::{FrameAnswer, FrameOutcome, RunFault, frame_outcome_of, frame_report_of};
+use dvg_words::Machine;
 use std::alloc::Global;
 use std::io;
 
@@ -31,12 +32,12 @@ fn read_started<R: CountedRead>(frame: &mut R, start: Option<u16>) -> io::Result
 }
 
 /// What the detail asks for behind the line of a frame that can't be opened or read.
-fn unread_account(alloc: Global, detail: Detail) -> Behind
+fn unread_account(machine: Machine, alloc: Global, detail: Detail) -> Behind
     ensures { IsBehind detail result }
 {
     match detail {
         Detail::Line => Behind::Nothing,
-        Detail::Account => Behind::of(plain_text(alloc, 71, PlainWhy::Nothing)),
+        Detail::Account => Behind::of(plain_text(machine, alloc, 71, PlainWhy::Nothing)),
     }
 }
 
@@ -59,7 +60,7 @@ fn answer_of<J: FrameJudge, R: CountedRead>(
             let (verdict, behind) = judge.verdict(alloc, bytes.as_slice(), detail);
             (FrameAnswer::Judged(verdict), behind)
         }
-        Err(_) => (FrameAnswer::Unread, unread_account(alloc, detail)),
+        Err(_) => (FrameAnswer::Unread, unread_account(judge.machine(), alloc, detail)),
     }
 }
 
@@ -131,6 +132,7 @@ pub fn run_frame<J: FrameJudge, R: CountedRead, W: CountedWrite>(
 
 /// Writes the line of a frame that can't be opened, and an account of it if the detail asks for one.
 pub fn run_unopened<W: CountedWrite>(
+    machine: Machine,
     alloc: Global,
     name: &str,
     detail: Detail,
@@ -146,7 +148,7 @@ pub fn run_unopened<W: CountedWrite>(
     write_answer(
         name,
         &FrameAnswer::Unread,
-        &unread_account(alloc, detail),
+        &unread_account(machine, alloc, detail),
         out,
     )
 }

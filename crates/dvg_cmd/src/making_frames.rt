@@ -17,7 +17,7 @@ use arrayvec::ArrayVec;
 use dvg_cert::{Cert, CountedRead, CountedWrite, Key, write_cert};
 use dvg_make::make_for_frames;
 use dvg_spelling::{FramesRunFault, MakeRunFault};
-use dvg_words::{FrameImage, RomImage, RomMap};
+use dvg_words::{FrameImage, Machine, RomImage, RomMap};
 use std::alloc::Global;
 
 /// What was read of a frame.
@@ -60,8 +60,9 @@ pub fn images_of(alloc: Global, read: &[FrameBytes]) -> Result<Vec<FrameImage<'_
     Ok(images)
 }
 
-/// The certificate for what was read of a ROM at this map and of frames.
+/// The certificate for what was read of a ROM at this map, on a machine, and of frames.
 fn make_on(
+    machine: Machine,
     alloc: Global,
     rom: &[u8],
     map: RomMap,
@@ -70,15 +71,15 @@ fn make_on(
 ) -> Result<Cert, FramesRunFault>
     ensures ok { (held : Option (List ℕ)) (readers : List (Option (List ℕ))) → IsPrefix MOST_ROM_READ held rom.now
         → ArePrefixes readers (of_each (λ bytes. bytes.items) frames.now)
-        → IfOk result (λ cert. MakesForFrames held map roots.now readers cert.entries) }
+        → IfOk result (λ cert. MakesForFrames machine held map roots.now readers cert.entries) }
     ensures map { IfOk result (λ cert. cert.map ≡ map) }
     ensures refused { (held : Option (List ℕ)) (readers : List (Option (List ℕ))) → IsPrefix MOST_ROM_READ held rom.now
         → ArePrefixes readers (of_each (λ bytes. bytes.items) frames.now)
-        → IfErr result (FramesFaultMeans held map roots.now readers) }
+        → IfErr result (FramesFaultMeans machine held map roots.now readers) }
     ensures fault { IfErr result (λ fault. (fault ≢ FramesRunFault.Plain maker.ReadRom) × (fault ≢ FramesRunFault.ReadFrame)
         × (fault ≢ FramesRunFault.Plain maker.Write)) }
 {
-    let Ok(rom) = RomImage::from_bytes(rom, map) else {
+    let Ok(rom) = RomImage::from_bytes_on(machine, rom, map) else {
         return Err(MakeRunFault::RomLength.into());
     };
     let images = images_of(alloc, frames)?;
@@ -86,13 +87,14 @@ fn make_on(
 }
 
 /// Reads a ROM and frames, and writes the certificate of the shapes at these roots, of those that the frames call, and of all
-/// that these call or tail jump to.
+/// that these call or tail jump to, on a machine.
 ///
 /// The ROM lies where the map says. It is read to its end, or to one byte past 4096, the length of the longest one, and then
 /// each frame in order, to its end or to one byte past 2048. The first failed read or write ends the run, and nothing is tried
 /// again; once all is read, the first that applies of 1, 2 and what the maker refuses. On all but 73 nothing was written, on 73 a
 /// prefix of the certificate. Takes memory for the frames, too.
 pub fn run_make_frames<R1: CountedRead, R2: CountedRead, W: CountedWrite>(
+    machine: Machine,
     alloc: Global,
     rom: &mut R1,
     map: RomMap,
@@ -117,20 +119,20 @@ pub fn run_make_frames<R1: CountedRead, R2: CountedRead, W: CountedWrite>(
     ensures frames_unread { result ≡ Err (FramesRunFault.Plain maker.ReadRom) → frames.new ≡ frames.old }
 
     // What is written is the text of the list that is made for all bytes that the readers held, or a prefix of it, or nothing.
-    ensures text { OnOk result (WritesMade (MakesForFrames (R1.remaining rom.old) map roots.now
+    ensures text { OnOk result (WritesMade (MakesForFrames machine (R1.remaining rom.old) map roots.now
         (of_each (λ frame. R2.remaining frame) frames.old)) map (W.contents out.old) (W.contents out.new)) }
-    ensures prefix { result ≡ Err (FramesRunFault.Plain maker.Write) → WritesMadePrefix (MakesForFrames (R1.remaining rom.old) map roots.now
+    ensures prefix { result ≡ Err (FramesRunFault.Plain maker.Write) → WritesMadePrefix (MakesForFrames machine (R1.remaining rom.old) map roots.now
         (of_each (λ frame. R2.remaining frame) frames.old)) map (W.contents out.old) (W.contents out.new) }
     ensures nothing { IfErr result (λ fault. fault ≢ FramesRunFault.Plain maker.Write → Appends (W.contents out.old) (W.contents out.new) []) }
 
     // 1 and 2 come for a wrong length alone, and 60 to 62 as the maker refuses.
-    ensures refused { IfErr result (FramesFaultMeans (R1.remaining rom.old) map roots.now (of_each (λ frame. R2.remaining frame) frames.old)) }
+    ensures refused { IfErr result (FramesFaultMeans machine (R1.remaining rom.old) map roots.now (of_each (λ frame. R2.remaining frame) frames.old)) }
 {
     let Ok(bytes) = read_rom(rom) else {
         return Err(MakeRunFault::ReadRom.into());
     };
     let frames = read_frames(alloc, frames)?;
-    let cert = make_on(alloc, bytes.as_slice(), map, roots, &frames)?;
+    let cert = make_on(machine, alloc, bytes.as_slice(), map, roots, &frames)?;
     match write_cert(&cert, out) {
         Ok(()) => Ok(()),
         Err(_) => Err(MakeRunFault::Write.into()),

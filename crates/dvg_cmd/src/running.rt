@@ -2,7 +2,7 @@
 
 ghost use Rattle.std.specs.Prelude.{◌≡◌, ◌≢◌, ◌≤◌, ◌++◌, ℕ, List, Option, Ok, Err, IfOk, IfErr, OnOk, OnErr, is_err, true};
 ghost use Rattle.std.specs.Io.KnownBytes.{Appends};
-ghost use Rattle.dvg_words.specs.Memory.{rom_of};
+ghost use Rattle.dvg_words.specs.Memory.{rom_on};
 ghost use Rattle.dvg_words.specs.declared.machine.Machine.TheVariants.{Profile};
 ghost use Rattle.dvg_cert.specs.declared.limits.TheConstants.{MOST_WORDS};
 ghost use Rattle.dvg_check.specs.Safety.{Safe, CountsAtHalt};
@@ -35,6 +35,8 @@ const PAST_CERTIFICATE_LIMIT: usize = 1_048_577;
 /// What is asked of a frame, a ROM and a certificate.
 #[derive(Clone, Copy)]
 pub struct CheckOptions {
+    /// The machine that runs the frame.
+    pub machine: Machine,
     /// How many words the frame may take at most.
     pub budget: u32,
     /// The part of the screen that may be lit.
@@ -72,17 +74,18 @@ fn judge_rom(
     options: &CheckOptions,
 ) -> (Result<Yes, Refusal>, Option<RomAccount>)
     requires { options.now.budget ≤ MOST_WORDS }
-    ensures verdict { RomVerdict Profile options.now.mode options.now.window rom.now cert.now frame.now options.now.budget result.0 }
-    ensures safe { IfOk result.0 (λ yes. Safe (record { frame = frame.now; rom = rom_of cert.now.map rom.now }) options.now.window yes.words yes.depth) }
-    ensures exact { options.now.mode ≡ Exact → IfOk result.0 (λ yes. CountsAtHalt (record { frame = frame.now; rom = rom_of cert.now.map rom.now }) yes.words yes.depth) }
+    ensures verdict { RomVerdict options.now.machine options.now.mode options.now.window rom.now cert.now frame.now options.now.budget result.0 }
+    ensures safe { IfOk result.0 (λ yes. Safe (record { frame = frame.now; rom = rom_on options.now.machine cert.now.map rom.now }) options.now.window yes.words yes.depth) }
+    ensures exact { options.now.mode ≡ Exact → IfOk result.0 (λ yes. CountsAtHalt (record { frame = frame.now; rom = rom_on options.now.machine cert.now.map rom.now }) yes.words yes.depth) }
 {
     let CheckOptions {
         budget,
         window,
         mode,
+        ..
     } = *options;
     let judged = explain_rom(
-        Machine::Profile,
+        options.machine,
         alloc,
         rom,
         frame,
@@ -108,13 +111,13 @@ pub fn read_verdict<R: CountedRead>(
 ) -> io::Result<Judgment>
     ensures verdict { (rom_held frame_held : Option (List ℕ)) → IsPrefix MOST_ROM_READ rom_held rom.now
         → IsPrefix MOST_FRAME_READ frame_held frame.now
-        → IfOk result (λ judged. Judges options.now.mode options.now.window rom_held (R.remaining cert.old) frame_held options.now.budget judged.verdict) }
+        → IfOk result (λ judged. Judges options.now.machine options.now.mode options.now.window rom_held (R.remaining cert.old) frame_held options.now.budget judged.verdict) }
     ensures safe { (rom_held frame_held : Option (List ℕ)) → IsPrefix MOST_ROM_READ rom_held rom.now
         → IsPrefix MOST_FRAME_READ frame_held frame.now
-        → IfOk result (λ judged. IfOk judged.verdict (SafeRead options.now.window rom_held (R.remaining cert.old) frame_held)) }
+        → IfOk result (λ judged. IfOk judged.verdict (SafeRead options.now.machine options.now.window rom_held (R.remaining cert.old) frame_held)) }
     ensures exact { options.now.mode ≡ Exact → (rom_held frame_held : Option (List ℕ)) → IsPrefix MOST_ROM_READ rom_held rom.now
         → IsPrefix MOST_FRAME_READ frame_held frame.now
-        → IfOk result (λ judged. IfOk judged.verdict (CountsRead rom_held (R.remaining cert.old) frame_held)) }
+        → IfOk result (λ judged. IfOk judged.verdict (CountsRead options.now.machine rom_held (R.remaining cert.old) frame_held)) }
     ensures read { IfOk result (λ judged. IsReadFor judged.verdict (R.remaining cert.old) (R.remaining cert.new)) }
     ensures count { R.failures cert.new ≡ count_after (is_err result) (R.failures cert.old) }
 {
@@ -163,7 +166,7 @@ fn account_of(
         return Behind::Nothing;
     }
     let inputs = Inputs {
-        machine: Machine::Profile,
+        machine: options.machine,
         rom,
         map: judged.map(),
         cert: judged.cert.as_ref(),
@@ -227,18 +230,18 @@ pub fn run_check_in<R1: CountedRead, R2: CountedRead, R3: CountedRead, W: Counte
     ensures nothing { IfErr result (λ fault. fault ≢ RunFault.Write → out.new ≡ out.old) }
 
     // What is written is the report of the verdict on all bytes that the readers held, with its account, or a prefix of them.
-    ensures report { IfOk result (Reports detail options.now.mode options.now.window (R1.remaining rom.old) (R2.remaining cert.old)
+    ensures report { IfOk result (Reports options.now.machine detail options.now.mode options.now.window (R1.remaining rom.old) (R2.remaining cert.old)
         (R2.remaining cert.new) (R3.remaining frame.old) options.now.budget (W.contents out.old) (W.contents out.new)
         (W.whole_writes out.old) (W.whole_writes out.new)) }
-    ensures prefix { result ≡ Err RunFault.Write → ReportsPrefix detail options.now.mode options.now.window (R1.remaining rom.old)
+    ensures prefix { result ≡ Err RunFault.Write → ReportsPrefix options.now.machine detail options.now.mode options.now.window (R1.remaining rom.old)
         (R2.remaining cert.old) (R3.remaining frame.old) options.now.budget (W.contents out.old) (W.contents out.new) }
     ensures one_write { detail ≡ details.Line → OnOk result (W.whole_writes out.new ≡ count_after true (W.whole_writes out.old)) }
 
     // What is accepted is safe, with the counts of the line that was written, and in the mode `Exact` these are the counts of
     // each run.
-    ensures safe { result ≡ Ok Outcome.Accepted → ReportsSafe detail options.now.window (R1.remaining rom.old) (R2.remaining cert.old)
+    ensures safe { result ≡ Ok Outcome.Accepted → ReportsSafe options.now.machine detail options.now.window (R1.remaining rom.old) (R2.remaining cert.old)
         (R3.remaining frame.old) (W.contents out.old) (W.contents out.new) }
-    ensures exact { options.now.mode ≡ Exact → result ≡ Ok Outcome.Accepted → ReportsCounts detail (R1.remaining rom.old)
+    ensures exact { options.now.mode ≡ Exact → result ≡ Ok Outcome.Accepted → ReportsCounts options.now.machine detail (R1.remaining rom.old)
         (R2.remaining cert.old) (R3.remaining frame.old) (W.contents out.old) (W.contents out.new) }
 {
     let Ok(rom) = read_rom(rom) else {
@@ -261,7 +264,7 @@ pub fn run_check_in<R1: CountedRead, R2: CountedRead, R3: CountedRead, W: Counte
     write_report(&judged.verdict, &behind, out)
 }
 
-/// Reads a ROM, a frame and a certificate, in this order, and writes the report of the verdict on them.
+/// Reads a ROM, a frame and a certificate, in this order, and writes the report of the verdict on them on the profile's machine.
 ///
 /// The ROM lies where the certificate says; `window` is the part of the screen that may be lit, and `mode` says whether the
 /// claimed counts are bounds or exact. Each input is read to its end, or to one byte past its limit: 4096 bytes for a ROM, 2048
@@ -296,9 +299,9 @@ pub fn run_check<R1: CountedRead, R2: CountedRead, R3: CountedRead, W: CountedWr
 
     // What is written is the report of the verdict on all bytes that the readers held, or a prefix of it. The certificate was
     // read as far as the ROM, or so far that its own refusal was known.
-    ensures report { IfOk result (Reports details.Line mode window (R1.remaining rom.old) (R2.remaining cert.old) (R2.remaining cert.new)
+    ensures report { IfOk result (Reports Profile details.Line mode window (R1.remaining rom.old) (R2.remaining cert.old) (R2.remaining cert.new)
         (R3.remaining frame.old) budget (W.contents out.old) (W.contents out.new) (W.whole_writes out.old) (W.whole_writes out.new)) }
-    ensures prefix { result ≡ Err RunFault.Write → ReportsPrefix details.Line mode window (R1.remaining rom.old) (R2.remaining cert.old)
+    ensures prefix { result ≡ Err RunFault.Write → ReportsPrefix Profile details.Line mode window (R1.remaining rom.old) (R2.remaining cert.old)
         (R3.remaining frame.old) budget (W.contents out.old) (W.contents out.new) }
 
     // Just one write took its whole piece: it is the only one, if the writer takes the line whole.
@@ -306,12 +309,13 @@ pub fn run_check<R1: CountedRead, R2: CountedRead, R3: CountedRead, W: CountedWr
 
     // What is accepted is safe, with the counts of the line that was written, and in the mode `Exact` these are the counts of
     // each run.
-    ensures safe { result ≡ Ok Outcome.Accepted → ReportsSafe details.Line window (R1.remaining rom.old) (R2.remaining cert.old)
+    ensures safe { result ≡ Ok Outcome.Accepted → ReportsSafe Profile details.Line window (R1.remaining rom.old) (R2.remaining cert.old)
         (R3.remaining frame.old) (W.contents out.old) (W.contents out.new) }
-    ensures exact { mode ≡ Exact → result ≡ Ok Outcome.Accepted → ReportsCounts details.Line (R1.remaining rom.old) (R2.remaining cert.old)
+    ensures exact { mode ≡ Exact → result ≡ Ok Outcome.Accepted → ReportsCounts Profile details.Line (R1.remaining rom.old) (R2.remaining cert.old)
         (R3.remaining frame.old) (W.contents out.old) (W.contents out.new) }
 {
     let options = CheckOptions {
+        machine: Machine::Profile,
         budget,
         window,
         mode,

@@ -35,6 +35,8 @@ pub struct NamedFrame<'a, R> {
 /// What is asked of frames.
 #[derive(Clone, Copy)]
 pub struct FrameOptions {
+    /// The machine that runs the frames.
+    pub machine: Machine,
     /// The word address at which each frame starts, if not at word 000.
     pub start: Option<u16>,
     /// How many words a frame may take at most.
@@ -63,7 +65,7 @@ fn run_named<J: FrameJudge, R: CountedRead + Drop, W: CountedWrite>(
     let NamedFrame { name, reader } = frame;
     match reader {
         Some(mut reader) => run_frame(alloc, judge, start, name, &mut reader, detail, out),
-        None => run_unopened(alloc, name, detail, out),
+        None => run_unopened(judge.machine(), alloc, name, detail, out),
     }
 }
 
@@ -126,21 +128,21 @@ fn run_frames_over<
     requires ends { IsFinite (I.remaining frames) }
     ensures rom { IfOk result (λ end. IsRomLength cert.now.map (length rom.now)) }
     ensures report { IfOk result (λ run. IfOk run (λ end. (taken : List _) × Drains I.next_gives frames taken
-        × ReportsOver (shapes_of options.now.window rom.now cert.now) (length cert.now.entries) options.now.budget detail options.now.start
+        × ReportsOver (shapes_of options.now.machine options.now.window rom.now cert.now) (length cert.now.entries) options.now.budget detail options.now.start
         (of_each (λ frame. opened (λ reader. R.remaining reader) frame) taken) (W.contents out.old) (W.contents out.new) (W.whole_writes out.old) (W.whole_writes out.new) end)) }
     ensures prefix { IfOk result (λ run. OnErr run ((taken : List _) × (left : I) × Yields I.next_gives frames taken left
-        × ReportsOverPrefix (shapes_of options.now.window rom.now cert.now) (length cert.now.entries) options.now.budget detail options.now.start
+        × ReportsOverPrefix (shapes_of options.now.machine options.now.window rom.now cert.now) (length cert.now.entries) options.now.budget detail options.now.start
         (of_each (λ frame. opened (λ reader. R.remaining reader) frame) taken) (W.contents out.old) (W.contents out.new))) }
     ensures fault { IfOk result (λ run. IfErr run (λ fault. fault ≡ RunFault.Write)) }
     ensures count { IfOk result (λ run. W.failures out.new ≡ count_after (is_err run) (W.failures out.old)) }
-    ensures refused { IfErr result (RefusesShapes options.now.window rom.now cert.now) }
+    ensures refused { IfErr result (RefusesShapes options.now.machine options.now.window rom.now cert.now) }
     ensures nothing { OnErr result (out.new ≡ out.old) }
 {
-    let image = RomImage::from_bytes(rom, cert.map())?;
+    let image = RomImage::from_bytes_on(options.machine, rom, cert.map())?;
     let entries = HashIndex::new(alloc, cert)?;
     let mode = Mode::Bound;
     let shapes = JudgedShapes::judge(&image, cert, &entries, options.window, mode)?;
-    let judge = GivenCertificate::new(rom, cert, &shapes, mode, options.budget);
+    let judge = GivenCertificate::new(options.machine, rom, cert, &shapes, mode, options.budget);
     Ok(run_frames(alloc, &judge, options.start, frames, detail, out))
 }
 
@@ -149,11 +151,11 @@ fn refusal_account(
     alloc: Global,
     rom: &[u8],
     cert: Option<&Cert>,
-    window: Window,
+    options: &FrameOptions,
     refusal: &Refusal,
     detail: Detail,
 ) -> Behind
-    requires taken { IfSome cert (λ taken. RefusesShapes window rom.now taken.now refusal.now) }
+    requires taken { IfSome cert (λ taken. RefusesShapes options.now.machine options.now.window rom.now taken.now refusal.now) }
     requires refused { IfNone cert (IsCertRefusal refusal.now) }
     ensures { IsBehind detail result }
 {
@@ -161,13 +163,13 @@ fn refusal_account(
         return Behind::Nothing;
     }
     let inputs = Inputs {
-        machine: Machine::Profile,
+        machine: options.machine,
         rom,
         map: cert.map(|cert| cert.map()),
         cert,
         frame: &[],
         budget: 1,
-        window,
+        window: options.window,
         mode: Mode::Bound,
     };
     Behind::of(refusal_text(alloc, &inputs, refusal))
@@ -178,19 +180,19 @@ fn run_refusal<W: CountedWrite>(
     alloc: Global,
     rom: &[u8],
     cert: Option<&Cert>,
-    window: Window,
+    options: &FrameOptions,
     refusal: &Refusal,
     detail: Detail,
     out: &mut W,
 ) -> Result<FrameOutcome, RunFault>
-    requires taken { IfSome cert (λ taken. RefusesShapes window rom.now taken.now refusal.now) }
+    requires taken { IfSome cert (λ taken. RefusesShapes options.now.machine options.now.window rom.now taken.now refusal.now) }
     requires refused { IfNone cert (IsCertRefusal refusal.now) }
     ensures ok { IfOk result (λ end. (plain : Plain) × WritesReport detail (Err refusal.now) (W.contents out.old) (W.contents out.new) (W.whole_writes out.old) (W.whole_writes out.new) plain × (end ≡ plain_outcome plain)) }
     ensures prefix { OnErr result (WritesReportPrefix detail (Err refusal.now) (W.contents out.old) (W.contents out.new)) }
     ensures fault { IfErr result (λ fault. fault ≡ RunFault.Write) }
     ensures count { W.failures out.new ≡ count_after (is_err result) (W.failures out.old) }
 {
-    let account = refusal_account(alloc, rom, cert, window, refusal, detail);
+    let account = refusal_account(alloc, rom, cert, options, refusal, detail);
     Ok(write_report(&Err(*refusal), &account, out)?.into())
 }
 
@@ -211,13 +213,13 @@ fn run_frames_by<
 ) -> Result<FrameOutcome, RunFault>
     requires can { I.can_next frames }
     requires ends { IsFinite (I.remaining frames) }
-    ensures report { IfOk result (λ end. ReportsRefusal detail options.now.window rom.now (Ok cert.now) (W.contents out.old) (W.contents out.new) (W.whole_writes out.old) (W.whole_writes out.new) end
+    ensures report { IfOk result (λ end. ReportsRefusal options.now.machine detail options.now.window rom.now (Ok cert.now) (W.contents out.old) (W.contents out.new) (W.whole_writes out.old) (W.whole_writes out.new) end
         ⊎ (IsRomLength cert.now.map (length rom.now) × ((taken : List _) × Drains I.next_gives frames taken
-        × ReportsOver (shapes_of options.now.window rom.now cert.now) (length cert.now.entries) options.now.budget detail options.now.start
+        × ReportsOver (shapes_of options.now.machine options.now.window rom.now cert.now) (length cert.now.entries) options.now.budget detail options.now.start
         (of_each (λ frame. opened (λ reader. R.remaining reader) frame) taken) (W.contents out.old) (W.contents out.new) (W.whole_writes out.old) (W.whole_writes out.new) end))) }
-    ensures prefix { OnErr result (ReportsRefusalPrefix detail options.now.window rom.now (Ok cert.now) (W.contents out.old) (W.contents out.new)
+    ensures prefix { OnErr result (ReportsRefusalPrefix options.now.machine detail options.now.window rom.now (Ok cert.now) (W.contents out.old) (W.contents out.new)
         ⊎ (IsRomLength cert.now.map (length rom.now) × ((taken : List _) × (left : I) × Yields I.next_gives frames taken left
-        × ReportsOverPrefix (shapes_of options.now.window rom.now cert.now) (length cert.now.entries) options.now.budget detail options.now.start
+        × ReportsOverPrefix (shapes_of options.now.machine options.now.window rom.now cert.now) (length cert.now.entries) options.now.budget detail options.now.start
         (of_each (λ frame. opened (λ reader. R.remaining reader) frame) taken) (W.contents out.old) (W.contents out.new)))) }
     ensures fault { IfErr result (λ fault. fault ≡ RunFault.Write) }
     ensures count { W.failures out.new ≡ count_after (is_err result) (W.failures out.old) }
@@ -229,7 +231,7 @@ fn run_frames_by<
                 alloc,
                 rom,
                 Some(cert),
-                options.window,
+                options,
                 &refusal,
                 detail,
                 out,
@@ -260,17 +262,17 @@ pub fn run_frames_given<
     requires ends { IsFinite (I.remaining frames) }
 
     // The report of a refusal is written, or a line for each frame, in their order, each by one write if it fits one.
-    ensures report { IfOk result (λ end. ReportsRefusal detail options.now.window rom.now cert.now (W.contents out.old) (W.contents out.new) (W.whole_writes out.old) (W.whole_writes out.new) end
+    ensures report { IfOk result (λ end. ReportsRefusal options.now.machine detail options.now.window rom.now cert.now (W.contents out.old) (W.contents out.new) (W.whole_writes out.old) (W.whole_writes out.new) end
         ⊎ IfOk cert.now (λ given. IsRomLength given.map (length rom.now) × ((taken : List _) × Drains I.next_gives frames taken
-        × ReportsOver (shapes_of options.now.window rom.now given) (length given.entries) options.now.budget detail options.now.start
+        × ReportsOver (shapes_of options.now.machine options.now.window rom.now given) (length given.entries) options.now.budget detail options.now.start
         (of_each (λ frame. opened (λ reader. R.remaining reader) frame) taken) (W.contents out.old) (W.contents out.new) (W.whole_writes out.old) (W.whole_writes out.new) end))) }
     // Without a certificate it is the refusal.
-    ensures refused { IfOk result (λ end. IfErr cert.now (λ fault. ReportsRefusal detail options.now.window rom.now cert.now (W.contents out.old) (W.contents out.new) (W.whole_writes out.old) (W.whole_writes out.new) end)) }
+    ensures refused { IfOk result (λ end. IfErr cert.now (λ fault. ReportsRefusal options.now.machine detail options.now.window rom.now cert.now (W.contents out.old) (W.contents out.new) (W.whole_writes out.old) (W.whole_writes out.new) end)) }
 
     // Where the writer failed, a prefix of them.
-    ensures prefix { OnErr result (ReportsRefusalPrefix detail options.now.window rom.now cert.now (W.contents out.old) (W.contents out.new)
+    ensures prefix { OnErr result (ReportsRefusalPrefix options.now.machine detail options.now.window rom.now cert.now (W.contents out.old) (W.contents out.new)
         ⊎ IfOk cert.now (λ given. IsRomLength given.map (length rom.now) × ((taken : List _) × (left : I) × Yields I.next_gives frames taken left
-        × ReportsOverPrefix (shapes_of options.now.window rom.now given) (length given.entries) options.now.budget detail options.now.start
+        × ReportsOverPrefix (shapes_of options.now.machine options.now.window rom.now given) (length given.entries) options.now.budget detail options.now.start
         (of_each (λ frame. opened (λ reader. R.remaining reader) frame) taken) (W.contents out.old) (W.contents out.new)))) }
     ensures fault { IfErr result (λ fault. fault ≡ RunFault.Write) }
     ensures count { W.failures out.new ≡ count_after (is_err result) (W.failures out.old) }
@@ -279,7 +281,7 @@ pub fn run_frames_given<
         Ok(given) => run_frames_by(alloc, rom, given, options, frames, detail, out),
         Err(fault) => {
             let refusal = Refusal::Cert(*fault);
-            run_refusal(alloc, rom, None, options.window, &refusal, detail, out)
+            run_refusal(alloc, rom, None, options, &refusal, detail, out)
         }
     }
 }

@@ -5,8 +5,8 @@ use crate::input::Input;
 use clap::error::ErrorKind;
 use clap::{Arg, ArgAction, ArgMatches, Command, value_parser};
 use dvg_cmd::{
-    ASTEROIDS, CheckOptions, Detail, FrameOptions, Key, MOST_WORDS, Mode, RomMap, Rule, Window,
-    map_of, root_of, rule_of, start_of, window_of,
+    ASTEROIDS, CheckOptions, Detail, FrameOptions, Key, MOST_WORDS, Machine, Mode, RomMap, Rule,
+    Window, map_of, root_of, rule_of, start_of, window_of,
 };
 use std::alloc::{AllocError, AllocFailed, Global};
 use std::{env, io};
@@ -171,6 +171,7 @@ pub struct CheckArgs<'a> {
 /// The arguments of `make`.
 #[derive(Drop)]
 pub struct MakeArgs<'a> {
+    pub machine: Machine,
     pub rom: Input<'a>,
     pub map: RomMap,
     pub roots: Vec<(u16, Key)>,
@@ -236,11 +237,21 @@ fn cert_option<'a>(alloc: Global) -> Result<Arg<'a>, AllocError> {
         .conflicts_with("rom")
 }
 
-/// The command with the argument ROM, and what its help says of files.
+fn board_option<'a>(alloc: Global) -> Arg<'a> {
+    Arg::new(alloc, "board")
+        .long("board")
+        .action(ArgAction::SetTrue)
+        .help(
+            "Takes a board of the DVG for the machine: draws move by whole places, LABS has twelve bits",
+        )
+}
+
+/// The command with the argument ROM, the option that says which machine runs it, and what its help says of files.
 fn with_rom<'a>(alloc: Global, command: Command<'a>) -> Result<Command<'a>, AllocError> {
     command
         .after_help(INPUT_HELP)
-        .arg(needed(alloc, "ROM", ROM_HELP))
+        .arg(needed(alloc, "ROM", ROM_HELP))?
+        .arg(board_option(alloc))
 }
 
 /// The command with the options that say which certificates are used.
@@ -410,6 +421,14 @@ fn needed<'a>(alloc: Global, name: &'a str, help: &'a str) -> Arg<'a> {
     Arg::new(alloc, name).required(true).help(help)
 }
 
+fn machine_of_args<'a>(args: &ArgMatches<'a>) -> Machine {
+    if args.get_flag("board") {
+        Machine::Board
+    } else {
+        Machine::Profile
+    }
+}
+
 fn window_of_args<'a>(args: &ArgMatches<'a>) -> Result<Window, ArgumentFault> {
     window_of(args.get_str("window").unwrap_or("")).ok_or(ArgumentFault::Window)
 }
@@ -480,6 +499,7 @@ fn frame_options<'a>(args: &ArgMatches<'a>) -> Result<(RomMap, FrameOptions), Ar
     Ok((
         map,
         FrameOptions {
+            machine: machine_of_args(args),
             start,
             budget,
             window,
@@ -502,6 +522,7 @@ fn frames_args<'a>(rt: &HostRuntime, args: &ArgMatches<'a>) -> Result<FramesArgs
 
 fn check_options<'a>(args: &ArgMatches<'a>) -> Result<CheckOptions, ArgumentFault> {
     Ok(CheckOptions {
+        machine: machine_of_args(args),
         budget: budget_of_args(args),
         window: window_of_args(args)?,
         mode: if args.get_flag("exact") {
@@ -548,6 +569,7 @@ fn make_args<'a>(
     one_standard_input(args, &["ROM", "frame"])?;
     let map = map_of_args(args)?;
     Ok(MakeArgs {
+        machine: machine_of_args(args),
         rom: file_of(rt, args, "ROM"),
         map,
         roots: roots_of(rt.alloc(), args)?,

@@ -56,6 +56,7 @@ fn frames(rt: &HostRuntime, args: &FramesArgs, detail: Detail) -> Result<FrameOu
     match args.certificates {
         Certificates::Made(map) => {
             let judge = OwnCertificates {
+                machine: args.options.machine,
                 rom: rom.as_slice(),
                 map,
                 budget: args.options.budget,
@@ -115,7 +116,14 @@ fn make(rt: &HostRuntime, args: &MakeArgs) -> Result<(), FramesRunFault> {
 /// Opens the files as [`make`] does, and answers what the maker comes to, with an account of it.
 fn make_answer(rt: &HostRuntime, args: &MakeArgs) -> Result<MakeAnswer, FramesRunFault> {
     let (mut rom, mut frames) = open_all(rt, args)?;
-    run_explain_make(rt.alloc(), &mut rom, args.map, &args.roots, &mut frames)
+    run_explain_make(
+        args.machine,
+        rt.alloc(),
+        &mut rom,
+        args.map,
+        &args.roots,
+        &mut frames,
+    )
 }
 
 /// Writes what the maker comes to, with an account of it, and answers the exit status.
@@ -166,7 +174,15 @@ fn run_maker<W: CountedWrite>(
     frames: &mut [Counted<Source>],
     out: &mut W,
 ) -> Result<(), FramesRunFault> {
-    run_make_frames(rt.alloc(), rom, args.map, &args.roots, frames, out)
+    run_make_frames(
+        args.machine,
+        rt.alloc(),
+        rom,
+        args.map,
+        &args.roots,
+        frames,
+        out,
+    )
 }
 
 /// Writes what is told of this rule, the table of all if none.

@@ -9,8 +9,10 @@ returns c = if_ok c.finish.result c.finish.ensures (λ lines all. record {
   frame_inside = c.frame_margins.ensures;
   shapes_margins = c.shapes_margins.result;
   shapes_inside = c.shapes_margins.ensures;
+  on_board = c.in_ok-on_board.on_board;
+  board = c.in_ok-on_board.ensures;
   told = whole c.new-lines.ensures all
-      (then (then c.push_accepted.ensures (then c.push_accepted-2.ensures (then c.push_accepted-3.ensures (then c.push_accepted-4.ensures
-      (then c.push_accepted-5.ensures c.push_some.ensures)))))
-      (then c.push_accepted-6.ensures c.push_some-2.ensures));
+      (then (then (then c.push_machine.ensures (then c.push_accepted.ensures (then c.push_accepted-2.ensures (then c.push_accepted-3.ensures
+      (then c.push_accepted-4.ensures (then c.push_accepted-5.ensures c.push_some.ensures))))))
+      (then c.push_accepted-6.ensures c.push_some-2.ensures)) c.push_some-3.ensures);
 })

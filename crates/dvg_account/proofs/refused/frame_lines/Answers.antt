@@ -23,6 +23,7 @@ returns c =
   lost = c.frame_losses.ensures.some;
   unled = c.frame_losses.ensures.none;
   told = whole c.new-lines.ensures all
-      (then (then (told_as (ap (λ n. Rule n ∷ []) c.number-number.ensures) c.push.ensures) (then c.push-2.ensures c.push_lines.ensures))
+      (then (then c.push_machine.ensures
+      (then (told_as (ap (λ n. Rule n ∷ []) c.number-number.ensures) c.push.ensures) (then c.push-2.ensures c.push_lines.ensures)))
       (told_as (ap (λ n. WhatToDo n ∷ []) c.number-number.ensures) c.push-3.ensures));
 })

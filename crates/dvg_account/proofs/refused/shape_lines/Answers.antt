@@ -1,4 +1,6 @@
 use Rattle.std.proofs.Common.{ap, ◌∙◌, [], ◌∷◌}
+use Rattle.std.specs.Prelude.{option_to_list}
+use Rattle.dvg_account.specs.Machines.{machine_lines, other_machine_line}
 use Rattle.dvg_account.specs.declared.line.Line.TheVariants.{Rule, WhatToDo}
 use Rattle.dvg_account.proofs.Building.{then, told_as, whole, if_ok}
 use Rattle.dvg_account.proofs.refused.shape_lines.Goals as goal
@@ -20,7 +22,9 @@ returns c = if_ok c.finish.result c.finish.ensures (λ lines all. record {
   chain = c.in_ok-chain.chain;
   reached = c.in_ok-chain.ensures;
   told = whole c.new-lines.ensures all
-      (then (then (then (told_as (ap (λ n. Rule n ∷ []) c.number-number.ensures) c.push.ensures) (then c.push-2.ensures c.push_lines.ensures))
+      (then (then (then (then (told_as (ap machine_lines c.machine-2.ensures) c.push_machine.ensures)
+      (then (told_as (ap (λ n. Rule n ∷ []) c.number-number.ensures) c.push.ensures) (then c.push-2.ensures c.push_lines.ensures)))
       (then c.push-3.ensures c.push_some.ensures))
+      (told_as (ap option_to_list (c.other_machine_line-other.ensures ∙ ap (λ m. other_machine_line m c.args.account.now.finding.fault.why) c.machine.ensures)) c.push_some-2.ensures))
       (told_as (ap (λ n. WhatToDo n ∷ []) c.number-number.ensures) c.push-4.ensures));
 })

@@ -1,6 +1,6 @@
 use Rattle.std.proofs.Common.{rules, ◌≡◌, ◌∙◌, ◌≤◌, List, length, sym, ap, subst}
 use Rattle.dvg_words.specs.Values.{Window}
-use Rattle.dvg_words.specs.Memory.{Rom, IsRom, rom_of, IsRomLength}
+use Rattle.dvg_words.specs.Memory.{Rom, IsRom, rom_on, IsRomLength}
 use Rattle.dvg_cert.specs.declared.entry.Entry.{Entry}
 use Rattle.dvg_cert.specs.declared.limits.TheConstants.{MOST_ENTRIES}
 use Rattle.dvg_check.specs.Rules.{Good}
@@ -18,11 +18,11 @@ invariant_of-kept-clause-good c = λ _.
     let window_is : c.unwrap-window.result ≡ window_of c.args.ends = search rules in
     let list_is : kept_list (length c.entries-2.result.now) c.keep_rom.new.kept.entries ≡ list =
     ap (λ (es : List Entry). kept_list (length es) c.keep_rom.new.kept.entries) (c.entries-2.ensures.value ∙ sym c.entries.ensures.value) ∙ ap (kept_list (length c.entries.result.now)) c.keep_rom.ensures.entries ∙ c.keep_entries.ensures.list ∙ c.entries.ensures.value in
-    let image_is : c.in_ok-image.image ≡ rom_of c.in_ok-cert.cert.map c.args.rom.now = search rules in
-    let whole : IsRom (rom_of c.in_ok-cert.cert.map c.args.rom.now) = search rules in
+    let image_is : c.in_ok-image.image ≡ rom_on c.args.machine c.in_ok-cert.cert.map c.args.rom.now = search rules in
+    let whole : IsRom (rom_on c.args.machine c.in_ok-cert.cert.map c.args.rom.now) = search rules in
     let long : IsRomLength c.in_ok-cert.cert.map (length c.args.rom.now) = search rules in
-    let good : Good c.args.mode (window_of c.args.ends) (rom_of c.in_ok-cert.cert.map c.args.rom.now) list =
+    let good : Good c.args.mode (window_of c.args.ends) (rom_on c.args.machine c.in_ok-cert.cert.map c.args.rom.now) list =
     subst (λ (r : Rom). Good c.args.mode (window_of c.args.ends) r list) image_is (subst (λ (w : Window). Good c.args.mode w c.in_ok-image.image list) window_is c.in_ok-judge_shapes.ensures.ok) in
-    let same = same_shapes c.in_ok-cert.cert.map c.args.mode c.args.ends c.kept_mode-kept.result c.rom.result.0 c.rom.result.1 (length c.entries-2.result.now) c.keep_rom.new.kept.rom c.args.rom.now c.keep_rom.new.kept.entries list
-    c.rom.ensures.first c.rom.ensures.last long c.keep_rom.ensures.bytes list_is c.kept_mode-kept.ensures.mode in
+    let same = same_shapes c.args.machine c.kept_machine-kept.result c.in_ok-cert.cert.map c.args.mode c.args.ends c.kept_mode-kept.result c.rom.result.0 c.rom.result.1 (length c.entries-2.result.now) c.keep_rom.new.kept.rom c.args.rom.now c.keep_rom.new.kept.entries list
+    c.rom.ensures.first c.rom.ensures.last long c.keep_rom.ensures.bytes list_is c.kept_mode-kept.ensures.mode c.kept_machine-kept.ensures in
     ∣ subst IsKept (sym same) (record { window = c.requires.window; rom = whole; list = c.entries.ensures.certificate; good = good }) ∣₁

@@ -1,15 +1,16 @@
 use Rattle.std.proofs.Common.{[], subst}
+use Rattle.dvg_words.specs.declared.machine.Machine.TheVariants.{Profile}
 use Rattle.dvg_cmd.specs.MakingFrames.{FramesFaultMeans}
 use Rattle.dvg_cmd.proofs.RootsRuns.{roots_written, roots_cut, roots_fault}
 use Rattle.dvg_cmd.proofs.making.run_make.Goals as goal
 
 pub returns-in-Ok-clause-text : goal.returns-in-Ok-clause-text
-returns-in-Ok-clause-text g c = roots_written (g.R.Read.remaining c.args.rom.now) c.args.map c.args.roots.now _ _ c.in-Ok.ensures.text
+returns-in-Ok-clause-text g c = roots_written Profile (g.R.Read.remaining c.args.rom.now) c.args.map c.args.roots.now _ _ c.in-Ok.ensures.text
 
 pub returns-in-Err-Plain-clause-prefix : goal.returns-in-Err-Plain-clause-prefix
-returns-in-Err-Plain-clause-prefix g c = λ is. roots_cut (g.R.Read.remaining c.args.rom.now) c.args.map c.args.roots.now _ _ (c.in-Err-Plain.ensures.prefix cc)
+returns-in-Err-Plain-clause-prefix g c = λ is. roots_cut Profile (g.R.Read.remaining c.args.rom.now) c.args.map c.args.roots.now _ _ (c.in-Err-Plain.ensures.prefix cc)
 
 pub returns-in-Err-Plain-clause-refused : goal.returns-in-Err-Plain-clause-refused
 returns-in-Err-Plain-clause-refused g c =
-    roots_fault (g.R.Read.remaining c.args.rom.now) c.args.map c.args.roots.now c.in-Err-Plain.fault
-    (subst (λ f. FramesFaultMeans (g.R.Read.remaining c.args.rom.now) c.args.map c.args.roots.now [] f) c.in-Err-Plain.field-0-is c.in-Err-Plain.ensures.refused)
+    roots_fault Profile (g.R.Read.remaining c.args.rom.now) c.args.map c.args.roots.now c.in-Err-Plain.fault
+    (subst (λ f. FramesFaultMeans Profile (g.R.Read.remaining c.args.rom.now) c.args.map c.args.roots.now [] f) c.in-Err-Plain.field-0-is c.in-Err-Plain.ensures.refused)
