@@ -8,7 +8,7 @@ unfolding displacement
 returns-in-Board-clause-x c =
     let d = c.draw.inside in
     let moved : rounded_move (d.dx *ℤ pos c.factor_on-factor.result) ≡ axis_move Board d.dx d.lscale c.args.gscale =
-        c.factor_on-factor.ensures.board c.in-Board.is d.dx in
+    c.factor_on-factor.ensures.board c.in-Board.is d.dx in
     search rules
 
 pub returns-in-Board-clause-y : goal.returns-in-Board-clause-y
@@ -16,5 +16,5 @@ unfolding displacement
 returns-in-Board-clause-y c =
     let d = c.draw.inside in
     let moved : rounded_move (d.dy *ℤ pos c.factor_on-factor.result) ≡ axis_move Board d.dy d.lscale c.args.gscale =
-        c.factor_on-factor.ensures.board c.in-Board.is d.dy in
+    c.factor_on-factor.ensures.board c.in-Board.is d.dy in
     search rules
