@@ -79,7 +79,7 @@ fn survey_frame<E: Entries>(
 {
     match FrameImage::from_bytes(frame) {
         Ok(frame) => {
-            let calls = frame_calls(alloc, machine, cert, entries, &frame)?;
+            let calls = frame_calls(machine, alloc, cert, entries, &frame)?;
             Ok((calls, frame_extent(machine, cert, entries, &frame)))
         }
         Err(_) => Ok((Vec::new(alloc), LitBox::Empty)),

@@ -20,8 +20,8 @@ pub struct Call {
 /// The calls among a frame's own items, in their order, each with the entry that it names by the certificate (profile). A call that
 /// names none is left out; an accepted frame has no such call. `entries` are those of the certificate.
 pub fn frame_calls<E: Entries>(
-    alloc: Global,
     machine: Machine,
+    alloc: Global,
     cert: &Cert,
     entries: &E,
     frame: &FrameImage,
