@@ -120,12 +120,10 @@ fn other_machine_line(machine: Machine, why: ShapeWhy) -> Option<Line>
 {
     match why {
         ShapeWhy::EndDiffers | ShapeWhy::ScaleDiffers | ShapeWhy::BoxTooSmall => {
-            Some(Line::MadeForOther(
-                match machine {
-                    Machine::Profile => Machine::Board,
-                    Machine::Board => Machine::Profile,
-                },
-            ))
+            Some(Line::MadeForOther(match machine {
+                Machine::Profile => Machine::Board,
+                Machine::Board => Machine::Profile,
+            }))
         }
         _ => None,
     }

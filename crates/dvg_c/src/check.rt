@@ -111,7 +111,16 @@ pub extern "C" fn dvgcheck_check_on(
         → Tells (VerdictOn (machine_of machine) Bound (window_of window) rom.now cert.now frame.now budget) result }
     ensures safe { result.number ≡ 0 → SafeOn (machine_of machine) (window_of window) rom.now cert.now frame.now result.words result.depth }
 {
-    check_in(alloc, machine, rom, cert, frame, budget, window, Mode::Bound)
+    check_in(
+        alloc,
+        machine,
+        rom,
+        cert,
+        frame,
+        budget,
+        window,
+        Mode::Bound,
+    )
 }
 
 /// The same with counts as exact.
@@ -132,5 +141,14 @@ pub extern "C" fn dvgcheck_check_exact_on(
     ensures safe { result.number ≡ 0 → SafeOn (machine_of machine) (window_of window) rom.now cert.now frame.now result.words result.depth }
     ensures exact { result.number ≡ 0 → CountsOn (machine_of machine) rom.now cert.now frame.now result.words result.depth }
 {
-    check_in(alloc, machine, rom, cert, frame, budget, window, Mode::Exact)
+    check_in(
+        alloc,
+        machine,
+        rom,
+        cert,
+        frame,
+        budget,
+        window,
+        Mode::Exact,
+    )
 }

@@ -15,13 +15,9 @@ mod stage;
 mod window;
 
 pub use answer::Answer;
-pub use check::{
-    dvgcheck_check, dvgcheck_check_exact, dvgcheck_check_exact_on, dvgcheck_check_on,
-};
+pub use check::{dvgcheck_check, dvgcheck_check_exact, dvgcheck_check_exact_on, dvgcheck_check_on};
 pub use entry::{KeptBox, KeptEnd, KeptEntry};
 pub use frame::{dvgcheck_frame, dvgcheck_frame_on};
-pub use judge::{
-    dvgcheck_judge, dvgcheck_judge_exact, dvgcheck_judge_exact_on, dvgcheck_judge_on,
-};
+pub use judge::{dvgcheck_judge, dvgcheck_judge_exact, dvgcheck_judge_exact_on, dvgcheck_judge_on};
 pub use shapes::KeptShapes;
 pub use window::WindowEnds;

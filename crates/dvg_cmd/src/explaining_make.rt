@@ -40,12 +40,7 @@ impl MakeAnswer {
 }
 
 /// The answer that nothing is made, because of this fault of the inputs.
-fn unasked(
-    machine: Machine,
-    alloc: Global,
-    fault: FramesRunFault,
-    why: PlainWhy,
-) -> MakeAnswer
+fn unasked(machine: Machine, alloc: Global, fault: FramesRunFault, why: PlainWhy) -> MakeAnswer
     ensures { result.made ≡ Err fault }
 {
     MakeAnswer {

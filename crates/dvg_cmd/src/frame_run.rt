@@ -60,7 +60,10 @@ fn answer_of<J: FrameJudge, R: CountedRead>(
             let (verdict, behind) = judge.verdict(alloc, bytes.as_slice(), detail);
             (FrameAnswer::Judged(verdict), behind)
         }
-        Err(_) => (FrameAnswer::Unread, unread_account(judge.machine(), alloc, detail)),
+        Err(_) => (
+            FrameAnswer::Unread,
+            unread_account(judge.machine(), alloc, detail),
+        ),
     }
 }
 

@@ -226,17 +226,7 @@ fn run_frames_by<
 {
     match run_frames_over(alloc, rom, cert, options, frames, detail, out) {
         Ok(end) => end,
-        Err(refusal) => {
-            run_refusal(
-                alloc,
-                rom,
-                Some(cert),
-                options,
-                &refusal,
-                detail,
-                out,
-            )
-        }
+        Err(refusal) => { run_refusal(alloc, rom, Some(cert), options, &refusal, detail, out) }
     }
 }
 

@@ -10,20 +10,20 @@ returns c =
     let framed : IsItem (frame_word c.args.machine c.args.frame.now) c.args.account.now.finding.fault.word c.args.account.now.finding.before c.callee_of-callee.result c.new-2.result =
     rw c.new-framed.ensures at c.new-2.ensures in
     if_ok c.finish.result c.finish.ensures (λ lines all. record {
-  why = c.of_frame-why.result;
-  tells = c.of_frame-why.ensures;
-  item = record c.new-2.result { losses = c.frame_losses.result };
-  is_item = record {
-    stands = framed.stands;
-    holds = framed.holds;
-    decoded = framed.decoded;
-    named = framed.named ∙ c.callee_of-callee.ensures;
-    known = framed.known;
-  };
-  lost = c.frame_losses.ensures.some;
-  unled = c.frame_losses.ensures.none;
-  told = whole c.new-lines.ensures all
-      (then (then c.push_machine.ensures
-      (then (told_as (ap (λ n. Rule n ∷ []) c.number-number.ensures) c.push.ensures) (then c.push-2.ensures c.push_lines.ensures)))
-      (told_as (ap (λ n. WhatToDo n ∷ []) c.number-number.ensures) c.push-3.ensures));
-})
+      why = c.of_frame-why.result;
+      tells = c.of_frame-why.ensures;
+      item = record c.new-2.result { losses = c.frame_losses.result };
+      is_item = record {
+        stands = framed.stands;
+        holds = framed.holds;
+        decoded = framed.decoded;
+        named = framed.named ∙ c.callee_of-callee.ensures;
+        known = framed.known;
+      };
+      lost = c.frame_losses.ensures.some;
+      unled = c.frame_losses.ensures.none;
+      told = whole c.new-lines.ensures all
+          (then (then c.push_machine.ensures
+          (then (told_as (ap (λ n. Rule n ∷ []) c.number-number.ensures) c.push.ensures) (then c.push-2.ensures c.push_lines.ensures)))
+          (told_as (ap (λ n. WhatToDo n ∷ []) c.number-number.ensures) c.push-3.ensures));
+    })
