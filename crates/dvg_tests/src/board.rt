@@ -5,11 +5,11 @@
 use crate::expecting::{expect, expect_same};
 use crate::rows::{Row, judge_rows};
 use dvg_cert::read_cert;
-use dvg_check::{Refusal, Yes};
+use dvg_check::{Refusal, Yes, frame_of};
 use dvg_cmd::report_of;
 use dvg_make::{FrameRefusal, judge, make_for_frames};
 use dvg_words::{
-    FrameImage, Instr, Machine, Point, RomImage, decode, decode_on, displacement, displacement_on,
+    Draw, Instr, Machine, Point, RomImage, decode, decode_on, displacement, displacement_on,
     draw_move, labs_place,
 };
 use std::alloc::Global;
@@ -61,18 +61,26 @@ const MOVES: &[MoveRow] = &[
     (0xF276, 0x0000, 13, (-512, 512), (0, 0)),
 ];
 
-/// The moves of a draw at a global scale, by the profile and on the board.
-fn moves_of(first: u16, second: u16, gscale: u8) -> Option<[(i32, i32); 2]> {
-    let Some(Instr::Draw(draw)) = decode(first, second) else {
-        return None;
-    };
-    let by = displacement_on(Machine::Board, &draw, gscale % 16);
-    let to = draw_move(Machine::Board, &draw, gscale % 16);
-    let is_same = to.x == i64::from(by.0) && to.y == i64::from(by.1);
-    if decode_on(Machine::Board, first, second) != Some(Instr::Draw(draw)) || !is_same {
+/// The moves of a draw at a global scale, by the profile and on the board; `None` where the board's two calls differ.
+fn both_moves(draw: &Draw, gscale: u8) -> Option<[(i32, i32); 2]> {
+    let by = displacement_on(Machine::Board, draw, gscale % 16);
+    let to = draw_move(Machine::Board, draw, gscale % 16);
+    if to.x != i64::from(by.0) || to.y != i64::from(by.1) {
         return None;
     }
-    Some([displacement(&draw, gscale % 16), by])
+    Some([displacement(draw, gscale % 16), by])
+}
+
+/// The moves of the draw of two words; `None` where they are none, or are decoded otherwise on the board.
+fn moves_of(first: u16, second: u16, gscale: u8) -> Option<[(i32, i32); 2]> {
+    let instr = decode(first, second);
+    if decode_on(Machine::Board, first, second) != instr {
+        return None;
+    }
+    match &instr {
+        Some(Instr::Draw(draw)) => both_moves(draw, gscale),
+        _ => None,
+    }
 }
 
 #[test]
@@ -632,7 +640,7 @@ fn judge_made(
 ) -> Option<Result<Yes, Refusal>> {
     let wanted = read_cert(alloc, &row.text).expect(rt, "a certificate");
     let rom = RomImage::from_bytes_on(machine, &row.rom, wanted.map()).expect(rt, "a ROM");
-    let frame = FrameImage::from_bytes(&row.frame).expect(rt, "a frame");
+    let frame = frame_of(&row.frame, row.asked.budget).expect(rt, "a frame");
     let made = make_for_frames(alloc, &rom, &[], slice::from_ref(&frame));
     let made = made.ok()?;
     if made.entries() != wanted.entries() {
