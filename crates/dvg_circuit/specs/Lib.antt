@@ -1,0 +1,4 @@
+pub mod Counters
+pub mod Circuit
+pub mod Laws
+pub mod Example

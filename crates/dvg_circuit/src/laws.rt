@@ -1,0 +1,40 @@
+//! Laws over the definitions alone, each proved as the contract of a function with an empty body.
+
+ghost use Rattle.dvg_circuit.specs.Example.{WorkedPulses, WorkedRuns};
+ghost use Rattle.dvg_circuit.specs.Laws.{RoundedHalfUp, NoneBeyondEnds, CounterIsPlace, Blanking, NoSharedBits};
+
+/// The draw of the worked run, pulse by pulse: which of its four counts step which counter, and the places that they pass.
+pub fn worked_pulses()
+    ensures { WorkedPulses }
+{}
+
+/// The worked run: five instructions, from any counters, scale and stored places, with the stack pointer at 15. It wraps a counter
+/// and the pointer, and its first word is written over once it was fetched.
+pub fn worked_runs()
+    ensures { WorkedRuns }
+{}
+
+/// A draw's pulses on an axis are its size by 2^(scale + 1) / 1024, rounded half up, at effective scales of 0 to 9, and none above.
+pub fn rounded_half_up()
+    ensures { RoundedHalfUp }
+{}
+
+/// An axis passes no place beyond the two ends of a draw.
+pub fn none_beyond_ends()
+    ensures { NoneBeyondEnds }
+{}
+
+/// A counter holds the twelve bits of the place without bounds, at every count.
+pub fn counter_is_place()
+    ensures { CounterIsPlace }
+{}
+
+/// A place of the screen is shown as itself, and the places next to it, as far as a screen is wide, are blanked.
+pub fn blanking()
+    ensures { Blanking }
+{}
+
+/// Two places of -1024 to 2047 never share their twelve bits.
+pub fn no_shared_bits()
+    ensures { NoSharedBits }
+{}
