@@ -79,13 +79,13 @@ impl Run {
         &self.fetched
     }
 
-    /// Notes where the beam is lit, if the intensity is not 0.
-    fn light(&mut self, bright: u8) -> Result<(), AllocError>
+    /// Notes that the beam is lit here, if the intensity is not 0.
+    fn light(&mut self, here: Counters, bright: u8) -> Result<(), AllocError>
         ensures circuit { self.new.circuit ≡ self.old.circuit }
-        ensures lit { IfOk result (λ _. self.new.lit ≡ self.old.lit ++ lit_along bright (self.old.circuit.counters ∷ [])) }
+        ensures lit { IfOk result (λ _. self.new.lit ≡ self.old.lit ++ lit_along bright (here ∷ [])) }
         ensures fetched { self.new.fetched ≡ self.old.fetched }
     {
-        if bright > 0 && self.lit.push(self.circuit.counters).is_err() {
+        if bright > 0 && self.lit.push(here).is_err() {
             return Err(AllocError);
         }
         Ok(())
@@ -99,10 +99,11 @@ impl Run {
         }) }
     {
         let scale = draw.lscale.wrapping_add(self.circuit.scale) % 16;
-        self.light(draw.bright)?;
+        self.light(self.circuit.counters, draw.bright)?;
         for count in 0..counts(scale) {
-            self.circuit.counters = self.circuit.counters.counted(draw, count);
-            self.light(draw.bright)?;
+            let next = self.circuit.counters.counted(draw, count);
+            self.circuit.counters = next;
+            self.light(next, draw.bright)?;
         }
         Ok(())
     }
