@@ -4,3 +4,6 @@ pub mod Rounding
 pub mod Places
 pub mod Example
 pub mod Drawing
+pub mod Moves
+pub mod Reading
+pub mod Following

@@ -2,3 +2,4 @@ pub mod Counters
 pub mod Circuit
 pub mod Laws
 pub mod Example
+pub mod Following

@@ -1,6 +1,7 @@
 //! Laws over the definitions alone, each proved as the contract of a function with an empty body.
 
 ghost use Rattle.dvg_circuit.specs.Example.{WorkedPulses, WorkedRuns};
+ghost use Rattle.dvg_circuit.specs.Following.{CircuitFollows};
 ghost use Rattle.dvg_circuit.specs.Laws.{RoundedHalfUp, NoneBeyondEnds, CounterIsPlace, Blanking, NoSharedBits};
 
 /// The draw of the worked run, pulse by pulse: which of its four counts step which counter, and the places that they pass.
@@ -37,4 +38,10 @@ pub fn blanking()
 /// Two places of -1024 to 2047 never share their twelve bits.
 pub fn no_shared_bits()
     ensures { NoSharedBits }
+{}
+
+/// The circuit follows the generator of `Machine::Board`, step by step, as long as that has no fault: from any counters, scale, stack
+/// pointer and stored places, over any memory that reads the words it fetches as the frame and the ROM have them.
+pub fn circuit_follows()
+    ensures { CircuitFollows }
 {}
