@@ -54,7 +54,7 @@ fetched_more : (f : Format) (p q : ℕ) (xs ys : List ℕ) → p ≡ q → q + w
 fetched_more f p q xs ys e low same =
     ap (λ (l : List ℕ). l ++ places f p) same ∙ ap (λ (l : List ℕ). reverse ys ++ l) (in_order f p q e low) ∙ sym (reverse-append (generator_places f q) ys)
 
-all_map : {A : Type 0} (P Q : A → Type 0) (xs : List A) → ((x : A) → P x → Q x) → AllByRecursion P xs → AllByRecursion Q xs
+pub all_map : {A : Type 0} (P Q : A → Type 0) (xs : List A) → ((x : A) → P x → Q x) → AllByRecursion P xs → AllByRecursion Q xs
 all_map P Q [] h a = tt
 all_map P Q (x ∷ xs) h a = (h x a.0, all_map P Q xs h a.1)
 

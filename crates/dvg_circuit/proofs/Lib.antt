@@ -7,3 +7,4 @@ pub mod Drawing
 pub mod Moves
 pub mod Reading
 pub mod Following
+pub mod Writing

@@ -3,3 +3,4 @@ pub mod Circuit
 pub mod Laws
 pub mod Example
 pub mod Following
+pub mod Writing

@@ -2,6 +2,7 @@
 
 ghost use Rattle.dvg_circuit.specs.Example.{WorkedPulses, WorkedRuns};
 ghost use Rattle.dvg_circuit.specs.Following.{CircuitFollows};
+ghost use Rattle.dvg_circuit.specs.Writing.{WritesElsewhere};
 ghost use Rattle.dvg_circuit.specs.Laws.{RoundedHalfUp, NoneBeyondEnds, CounterIsPlace, Blanking, NoSharedBits};
 
 /// The draw of the worked run, pulse by pulse: which of its four counts step which counter, and the places that they pass.
@@ -44,4 +45,10 @@ pub fn no_shared_bits()
 /// pointer and stored places, over any memory that reads the words it fetches as the frame and the ROM have them.
 pub fn circuit_follows()
     ensures { CircuitFollows }
+{}
+
+/// A processor that writes only words that the run doesn't fetch leaves the run as it is, and its premise on what is read, too. So a
+/// game may build its other list meanwhile.
+pub fn writes_elsewhere()
+    ensures { WritesElsewhere }
 {}
