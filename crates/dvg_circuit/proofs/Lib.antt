@@ -8,3 +8,4 @@ pub mod Moves
 pub mod Reading
 pub mod Following
 pub mod Writing
+pub mod Showing

@@ -9,6 +9,7 @@ use Rattle.dvg_words.specs.declared.instruction.Instr.{Instr}
 use Rattle.dvg_words.specs.declared.instruction.Instr.TheVariants.{Draw as Draws, Labs, Halt, Jsrl, Rtsl, Jmpl}
 use Rattle.dvg_words.specs.Decoding.{opcode, target_of, magnitude_and_sign, vctr_draw, svec_draw, labs_of, instruction_of, format_of}
 use Rattle.dvg_words.specs.Memory.{Memory, IsMemory, fetched_at}
+use Rattle.dvg_circuit.specs.Laws.{AllDecoded}
 use Rattle.dvg_circuit.proofs.Moves.{AreSizes}
 
 -- ---- instructions
@@ -66,3 +67,19 @@ frame_or_rom m p word false false mem f r e = absurd (none_some word e)
 -- a word that there is stands below FFF
 pub low_word : (m : Memory) (p word : ℕ) → IsMemory m → fetched_at m p ≡ Some word → p < 4095
 low_word m p word mem e = frame_or_rom m p word _ _ mem refl refl e
+
+-- ---- no words without an instruction
+
+decoded_tests : (a b c d f g : Bool) (first second : ℕ)
+    → (i : Instr) × ((if a then Some (Draws (vctr_draw first second)) else if b then labs_of Board first second else if c then Some Halt else if d then Some (Jsrl (target_of first)) else if f then Some Rtsl else if g then Some (Jmpl (target_of first)) else Some (Draws (svec_draw first))) ≡ Some i)
+decoded_tests true b c d f g first second = (_, refl)
+decoded_tests false true c d f g first second = (_, refl)
+decoded_tests false false true d f g first second = (_, refl)
+decoded_tests false false false true f g first second = (_, refl)
+decoded_tests false false false false true g first second = (_, refl)
+decoded_tests false false false false false true first second = (_, refl)
+decoded_tests false false false false false false first second = (_, refl)
+
+pub all_decoded : AllDecoded
+unfolding instruction_of
+all_decoded first second = decoded_tests (nat_le (opcode first) 9) (opcode first == 10) (opcode first == 11) (opcode first == 12) (opcode first == 13) (opcode first == 14) first second

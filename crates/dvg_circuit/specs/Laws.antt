@@ -1,5 +1,8 @@
--- The laws of pulses and counters, over the definitions alone.
-use Rattle.std.specs.Prelude.{◌≡◌, ℕ, ℤ, pos, negsuc, neg_ℤ, nat_abs, ◌+◌, ◌-◌, ◌*◌, ◌/◌, ◌^◌, ◌%◌, ◌≤◌, ◌<◌, ◌+ℤ◌, ◌≤ℤ◌}
+-- The laws of pulses and counters, and of decoding, over the definitions alone.
+use Rattle.std.specs.Prelude.{◌≡◌, ℕ, ℤ, pos, negsuc, neg_ℤ, nat_abs, ◌+◌, ◌-◌, ◌*◌, ◌/◌, ◌^◌, ◌%◌, ◌≤◌, ◌<◌, ◌+ℤ◌, ◌≤ℤ◌, Some}
+use Rattle.dvg_words.specs.declared.machine.Machine.TheVariants.{Board}
+use Rattle.dvg_words.specs.declared.instruction.Instr.{Instr}
+use Rattle.dvg_words.specs.Decoding.{instruction_of}
 use Rattle.dvg_circuit.specs.Counters.{bit, pulses, counts, counter_after}
 
 -- ---- places without bounds
@@ -50,3 +53,7 @@ abbrev pub NoSharedBits : Type 0
 NoSharedBits =
     (p q : ℤ) → IsBetween (neg_ℤ (pos 1024)) (pos 2047) p → IsBetween (neg_ℤ (pos 1024)) (pos 2047) q
     → twelve_bits p ≡ twelve_bits q → p ≡ q
+
+-- each two words are an instruction of the board
+abbrev pub AllDecoded : Type 0
+AllDecoded = (first second : ℕ) → (i : Instr) × (instruction_of Board first second ≡ Some i)

@@ -3,4 +3,5 @@ pub mod Circuit
 pub mod Laws
 pub mod Example
 pub mod Following
+pub mod Showing
 pub mod Writing

@@ -2,8 +2,9 @@
 
 ghost use Rattle.dvg_circuit.specs.Example.{WorkedPulses, WorkedRuns};
 ghost use Rattle.dvg_circuit.specs.Following.{CircuitFollows};
+ghost use Rattle.dvg_circuit.specs.Showing.{LitInWindow, LitOnScreen};
 ghost use Rattle.dvg_circuit.specs.Writing.{WritesElsewhere};
-ghost use Rattle.dvg_circuit.specs.Laws.{RoundedHalfUp, NoneBeyondEnds, CounterIsPlace, Blanking, NoSharedBits};
+ghost use Rattle.dvg_circuit.specs.Laws.{RoundedHalfUp, NoneBeyondEnds, CounterIsPlace, Blanking, NoSharedBits, AllDecoded};
 
 /// The draw of the worked run, pulse by pulse: which of its four counts step which counter, and the places that they pass.
 pub fn worked_pulses()
@@ -41,10 +42,25 @@ pub fn no_shared_bits()
     ensures { NoSharedBits }
 {}
 
+/// Each two words are an instruction of the board.
+pub fn all_decoded()
+    ensures { AllDecoded }
+{}
+
 /// The circuit follows the generator of `Machine::Board`, step by step, as long as that has no fault: from any counters, scale, stack
 /// pointer and stored places, over any memory that reads the words it fetches as the frame and the ROM have them.
 pub fn circuit_follows()
     ensures { CircuitFollows }
+{}
+
+/// On a stroke between two places of a window, both counters are at places of that window at every count.
+pub fn lit_in_window()
+    ensures { LitInWindow }
+{}
+
+/// On a stroke between two places of -1024 to 2047, whatever is not blanked is shown where the generator has it, on the screen.
+pub fn lit_on_screen()
+    ensures { LitOnScreen }
 {}
 
 /// A processor that writes only words that the run doesn't fetch leaves the run as it is, and its premise on what is read, too. So a
