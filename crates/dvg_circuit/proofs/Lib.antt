@@ -1,0 +1,11 @@
+pub mod Multipliers
+pub mod Ones
+pub mod Rounding
+pub mod Places
+pub mod Example
+pub mod Drawing
+pub mod Moves
+pub mod Reading
+pub mod Following
+pub mod Writing
+pub mod Showing

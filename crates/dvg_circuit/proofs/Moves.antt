@@ -1,0 +1,117 @@
+-- A draw moves the generator's beam and the circuit's counters alike, and the counters pass places between its ends.
+use Rattle.std.proofs.Common.{◌≡◌, ℕ, zero, suc, ◌*◌, ◌≤◌, ◌<◌, List, [], ◌∷◌, ◌++◌, refl, ap, sym, subst, ◌∙◌, ⊎_elim, arith, ℤ, pos, negsuc, ◌+ℤ◌}
+use Rattle.std.specs.Prelude.{◌*ℤ◌, neg_ℤ, nat_abs}
+use Rattle.std.specs.List.{AllByRecursion}
+use Rattle.std.proofs.lemmas.Bool.{cases_lt}
+use Rattle.std.proofs.lemmas.Int.{ints}
+use Rattle.dvg_words.specs.Values.{DrawFields}
+use Rattle.dvg_words.specs.declared.beam.Point.{Point}
+use Rattle.dvg_words.specs.declared.machine.Machine.TheVariants.{Board}
+use Rattle.dvg_words.specs.Beam.{shift, axis_move, displacement, effective_scale}
+use Rattle.dvg_words.proofs.Machines.{board_moves}
+use Rattle.dvg_circuit.specs.Counters.{Counters, pulses, counts, counter_after, counters_after, passed}
+use Rattle.dvg_circuit.specs.Laws.{signed, moved, twelve_bits, IsBetween}
+use Rattle.dvg_circuit.specs.Following.{IsSamePlace, IsAmong, IsOnStroke}
+use Rattle.dvg_circuit.proofs.Rounding.{rounded_half_up, more_pulses}
+use Rattle.dvg_circuit.proofs.Places.{counter_is_place}
+
+-- ---- how far
+
+right_move : (m local global : ℕ) → m ≤ 1023 → axis_move Board (pos m) local global ≡ pos (1024 * pulses m (counts (effective_scale local global)))
+right_move m local global small =
+    ⊎_elim
+    (λ (low : effective_scale local global < 10).
+    board_moves.rounds m local global (omega (arith, low))
+    ∙ sym (ap (λ k. pos (1024 * k)) (rounded_half_up.rounds m (effective_scale local global) small (omega (arith, low)))))
+    (λ high.
+    board_moves.stays (pos m) local global (omega (arith, high))
+    ∙ sym (ap (λ k. pos (1024 * k)) (rounded_half_up.stays m (effective_scale local global) (omega (arith, high)))))
+    (cases_lt (effective_scale local global) 10)
+
+pub board_move : (size : ℤ) (local global : ℕ) → nat_abs size ≤ 1023 → axis_move Board size local global ≡ pos 1024 *ℤ moved size (counts (effective_scale local global))
+board_move (pos m) local global small = right_move m local global small ∙ omega (arith, ints)
+board_move (negsuc m) local global small =
+    board_moves.either_sign (suc m) local global ∙ ap neg_ℤ (right_move (suc m) local global small) ∙ omega (arith, ints)
+
+-- the sizes have ten bits
+pub record AreSizes (d : DrawFields) : Type 0 where
+  pub x : nat_abs d.dx ≤ 1023
+  pub y : nat_abs d.dy ≤ 1023
+
+the_point : ℤ → ℤ → Point
+the_point x y = record { x = x; y = y }
+
+pair : ℕ → ℕ → Counters
+pair x y = record { x = x; y = y }
+
+scaled_sum : (a b : ℤ) → pos 1024 *ℤ a +ℤ pos 1024 *ℤ b ≡ pos 1024 *ℤ (a +ℤ b)
+scaled_sum a b = omega (arith, ints)
+
+moved_to : (from size move : ℤ) (n : ℕ) → move ≡ pos 1024 *ℤ moved size n → pos 1024 *ℤ from +ℤ move ≡ pos 1024 *ℤ (from +ℤ moved size n)
+moved_to from size move n e = ap (λ k. pos 1024 *ℤ from +ℤ k) e ∙ scaled_sum from (moved size n)
+
+-- the counters after some counts hold the twelve bits of where the places without bounds are then
+pub counted : (x y : ℤ) (d : DrawFields) (n : ℕ) (c : Counters) → c ≡ record { x = twelve_bits x; y = twelve_bits y }
+    → counters_after d c n ≡ record { x = twelve_bits (x +ℤ moved d.dx n); y = twelve_bits (y +ℤ moved d.dy n) }
+unfolding pair
+counted x y d n c e =
+    ap (λ (k : Counters). counters_after d k n) e
+    ∙ ap (λ k. pair k (counter_after d.dy (twelve_bits y) n)) (counter_is_place x d.dx n)
+    ∙ ap (λ k. pair (twelve_bits (x +ℤ moved d.dx n)) k) (counter_is_place y d.dy n)
+
+pub beam_moved : (d : DrawFields) (g : ℕ) (p : Point) (c : Counters) → AreSizes d → IsSamePlace p c
+    → IsSamePlace (shift p (displacement Board d g)) (counters_after d c (counts (effective_scale d.lscale g)))
+unfolding displacement the_point
+beam_moved d g p c small h =
+    let n = counts (effective_scale d.lscale g) in
+    record {
+      x = h.x +ℤ moved d.dx n;
+      y = h.y +ℤ moved d.dy n;
+      place =
+          ap (λ (q : Point). shift q (displacement Board d g)) h.place
+          ∙ ap (λ k. the_point k (pos 1024 *ℤ h.y +ℤ axis_move Board d.dy d.lscale g)) (moved_to h.x d.dx _ n (board_move d.dx d.lscale g small.x))
+          ∙ ap (λ k. the_point (pos 1024 *ℤ (h.x +ℤ moved d.dx n)) k) (moved_to h.y d.dy _ n (board_move d.dy d.lscale g small.y));
+      counters = counted h.x h.y d n c h.counters;
+    }
+
+-- ---- between the ends
+
+among_signed : (from size : ℤ) (some all : ℕ) → some ≤ all
+    → IsAmong (pos 1024 *ℤ from) (pos 1024 *ℤ (from +ℤ signed size all)) (pos 1024 *ℤ (from +ℤ signed size some))
+among_signed from (pos m) some all le low high a b = (omega (arith, ints, le, a.0, a.1, b.0, b.1), omega (arith, ints, le, a.0, a.1, b.0, b.1))
+among_signed from (negsuc m) some all le low high a b = (omega (arith, ints, le, a.0, a.1, b.0, b.1), omega (arith, ints, le, a.0, a.1, b.0, b.1))
+
+among : (from size : ℤ) (n all : ℕ) → n ≤ all → IsAmong (pos 1024 *ℤ from) (pos 1024 *ℤ (from +ℤ moved size all)) (pos 1024 *ℤ (from +ℤ moved size n))
+among from size n all le = among_signed from size _ _ (more_pulses (nat_abs size) n all le)
+
+same_among : (a b c d p : ℤ) → a ≡ c → b ≡ d → IsAmong c d p → IsAmong a b p
+same_among a b c d p e f h low high g k = h low high (subst (IsBetween low high) e g) (subst (IsBetween low high) f k)
+
+at_count : (d : DrawFields) (n all : ℕ) (from to : Point) (c : Counters) (f : IsSamePlace from c) (t : IsSamePlace to (counters_after d c all))
+    → t.x ≡ f.x +ℤ moved d.dx all → t.y ≡ f.y +ℤ moved d.dy all → n ≤ all → IsOnStroke (counters_after d c n) (record { from = from; to = to })
+at_count d n all from to c f t ex ey le =
+    record {
+      place = record { x = pos 1024 *ℤ (f.x +ℤ moved d.dx n); y = pos 1024 *ℤ (f.y +ℤ moved d.dy n) };
+      same = record { x = f.x +ℤ moved d.dx n; y = f.y +ℤ moved d.dy n; place = refl; counters = counted f.x f.y d n c f.counters };
+      across = same_among _ _ _ _ _ (ap (λ (p : Point). p.x) f.place) (ap (λ (p : Point). p.x) t.place ∙ ap (λ k. pos 1024 *ℤ k) ex) (among f.x d.dx n all le);
+      up = same_among _ _ _ _ _ (ap (λ (p : Point). p.y) f.place) (ap (λ (p : Point). p.y) t.place ∙ ap (λ k. pos 1024 *ℤ k) ey) (among f.y d.dy n all le);
+    }
+
+pub all_append : {A : Type 0} (P : A → Type 0) (xs ys : List A) → AllByRecursion P xs → AllByRecursion P ys → AllByRecursion P (xs ++ ys)
+all_append P [] ys a b = b
+all_append P (x ∷ xs) ys a b = (a.0, all_append P xs ys a.1 b)
+
+along : (d : DrawFields) (n all : ℕ) (from to : Point) (c : Counters) (f : IsSamePlace from c) (t : IsSamePlace to (counters_after d c all))
+    → t.x ≡ f.x +ℤ moved d.dx all → t.y ≡ f.y +ℤ moved d.dy all → n ≤ all
+    → AllByRecursion (λ k. IsOnStroke k (record { from = from; to = to })) (passed d c n)
+along d zero all from to c f t ex ey le = (at_count d 0 all from to c f t ex ey le, tt)
+along d (suc n) all from to c f t ex ey le =
+    all_append _ (passed d c n) _ (along d n all from to c f t ex ey (omega (arith, le))) (at_count d (suc n) all from to c f t ex ey le, tt)
+
+-- all that a draw passes is on its stroke
+pub passed_along : (d : DrawFields) (g : ℕ) (p : Point) (c : Counters) (small : AreSizes d) (h : IsSamePlace p c)
+    → AllByRecursion (λ k. IsOnStroke k (record { from = p; to = shift p (displacement Board d g) })) (passed d c (counts (effective_scale d.lscale g)))
+unfolding beam_moved
+passed_along d g p c small h =
+    let n = counts (effective_scale d.lscale g) in
+    along d n n p _ c h (beam_moved d g p c small h) refl refl (omega arith)

@@ -1,0 +1,65 @@
+-- A rate multiplier by recursion on the bits of a size: what the pulses add up to is proved by it.
+use Rattle.std.proofs.Common.{Bool, true, false, ◌≡◌, ℕ, zero, suc, ◌+◌, ◌/◌, ◌%◌, ◌-◌, ◌≤◌, nat_le, refl, ap, sym, ◌∙◌, arith}
+use Rattle.std.specs.Prelude.{◌==◌, if◌then◌else◌}
+use Rattle.std.proofs.lemmas.Bool.Decides.{nat_tests}
+use Rattle.dvg_circuit.specs.Counters.{bit, ending_ones, let_through, pulse, pulses}
+
+-- at an even count the top bit, and at an odd count the multiplier of the bits below it, at half the count
+abbrev pub multiplier : ℕ → ℕ → ℕ → ℕ
+multiplier zero size count = 0
+multiplier (suc bits) size count = if count % 2 == 0 then bit bits size else multiplier bits size (count / 2)
+
+abbrev pub pulses_of : ℕ → ℕ → ℕ → ℕ
+pulses_of bits size zero = 0
+pulses_of bits size (suc n) = pulses_of bits size n + multiplier bits size n
+
+-- what a multiplier lets through at a count that ends in b ones
+gate : ℕ → ℕ → ℕ → ℕ
+gate zero size b = 0
+gate (suc bits) size zero = bit bits size
+gate (suc bits) size (suc b) = gate bits size b
+
+gated : (bits size count : ℕ) → multiplier bits size count ≡ gate bits size (ending_ones bits count)
+unfolding gate
+gated zero size count = refl
+gated (suc bits) size count = by_test (count % 2 == 0) (gated bits size (count / 2))
+  where
+    by_test : (even : Bool) → multiplier bits size (count / 2) ≡ gate bits size (ending_ones bits (count / 2))
+        → (if even then bit bits size else multiplier bits size (count / 2)) ≡ gate (suc bits) size (if even then 0 else suc (ending_ones bits (count / 2)))
+    by_test true h = refl
+    by_test false h = h
+
+pub none_through : (size b : ℕ) → 10 ≤ b → let_through size b ≡ 0
+none_through size b over = ap (λ t. if t then bit (9 - b) size else 0) (let t : nat_le b 9 ≡ false = grind (arith, nat_tests) in t)
+
+ten_bits : (size b : ℕ) → gate 10 size b ≡ let_through size b
+unfolding gate
+ten_bits size zero = refl
+ten_bits size (suc zero) = refl
+ten_bits size (suc (suc zero)) = refl
+ten_bits size (suc (suc (suc zero))) = refl
+ten_bits size (suc (suc (suc (suc zero)))) = refl
+ten_bits size (suc (suc (suc (suc (suc zero))))) = refl
+ten_bits size (suc (suc (suc (suc (suc (suc zero)))))) = refl
+ten_bits size (suc (suc (suc (suc (suc (suc (suc zero))))))) = refl
+ten_bits size (suc (suc (suc (suc (suc (suc (suc (suc zero)))))))) = refl
+ten_bits size (suc (suc (suc (suc (suc (suc (suc (suc (suc zero))))))))) = refl
+ten_bits size (suc (suc (suc (suc (suc (suc (suc (suc (suc (suc b)))))))))) = sym (none_through size _ (omega arith))
+
+pub multiplied : (size count : ℕ) → multiplier 10 size count ≡ pulse size count
+multiplied size count = gated 10 size count ∙ ten_bits size (ending_ones 10 count)
+
+pub all_multiplied : (size n : ℕ) → pulses_of 10 size n ≡ pulses size n
+all_multiplied size zero = refl
+all_multiplied size (suc n) = omega (arith, all_multiplied size n, multiplied size n)
+
+one_pulse : (bits size count : ℕ) → multiplier bits size count ≤ 1
+one_pulse zero size count = omega arith
+one_pulse (suc bits) size count = by_test (count % 2 == 0) (one_pulse bits size (count / 2))
+  where
+    by_test : (even : Bool) → multiplier bits size (count / 2) ≤ 1 → (if even then bit bits size else multiplier bits size (count / 2)) ≤ 1
+    by_test true h = omega arith
+    by_test false h = h
+
+pub at_most_one : (size count : ℕ) → pulse size count ≤ 1
+at_most_one size count = omega (arith, one_pulse 10 size count, multiplied size count)

@@ -1,0 +1,70 @@
+//! Laws over the definitions alone, each proved as the contract of a function with an empty body.
+
+ghost use Rattle.dvg_circuit.specs.Example.{WorkedPulses, WorkedRuns};
+ghost use Rattle.dvg_circuit.specs.Following.{CircuitFollows};
+ghost use Rattle.dvg_circuit.specs.Showing.{LitInWindow, LitOnScreen};
+ghost use Rattle.dvg_circuit.specs.Writing.{WritesElsewhere};
+ghost use Rattle.dvg_circuit.specs.Laws.{RoundedHalfUp, NoneBeyondEnds, CounterIsPlace, Blanking, NoSharedBits, AllDecoded};
+
+/// The draw of the worked run, pulse by pulse: which of its four counts step which counter, and the places that they pass.
+pub fn worked_pulses()
+    ensures { WorkedPulses }
+{}
+
+/// The worked run: five instructions, from any counters, scale and stored places, with the stack pointer at 15. It wraps a counter
+/// and the pointer, and its first word is written over once it was fetched.
+pub fn worked_runs()
+    ensures { WorkedRuns }
+{}
+
+/// A draw's pulses on an axis are its size by 2^(scale + 1) / 1024, rounded half up, at effective scales of 0 to 9, and none above.
+pub fn rounded_half_up()
+    ensures { RoundedHalfUp }
+{}
+
+/// An axis passes no place beyond the two ends of a draw.
+pub fn none_beyond_ends()
+    ensures { NoneBeyondEnds }
+{}
+
+/// A counter holds the twelve bits of the place without bounds, at every count.
+pub fn counter_is_place()
+    ensures { CounterIsPlace }
+{}
+
+/// A place of the screen is shown as itself, and the places next to it, as far as a screen is wide, are blanked.
+pub fn blanking()
+    ensures { Blanking }
+{}
+
+/// Two places of -1024 to 2047 never share their twelve bits.
+pub fn no_shared_bits()
+    ensures { NoSharedBits }
+{}
+
+/// Each two words are an instruction of the board.
+pub fn all_decoded()
+    ensures { AllDecoded }
+{}
+
+/// The circuit follows the generator of `Machine::Board`, step by step, as long as that has no fault: from any counters, scale, stack
+/// pointer and stored places, over any memory that reads the words it fetches as the frame and the ROM have them.
+pub fn circuit_follows()
+    ensures { CircuitFollows }
+{}
+
+/// On a stroke between two places of a window, both counters are at places of that window at every count.
+pub fn lit_in_window()
+    ensures { LitInWindow }
+{}
+
+/// On a stroke between two places of -1024 to 2047, whatever is not blanked is shown where the generator has it, on the screen.
+pub fn lit_on_screen()
+    ensures { LitOnScreen }
+{}
+
+/// A processor that writes only words that the run doesn't fetch leaves the run as it is, and its premise on what is read, too. So a
+/// game may build its other list meanwhile.
+pub fn writes_elsewhere()
+    ensures { WritesElsewhere }
+{}

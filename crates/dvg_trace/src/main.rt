@@ -1,0 +1,79 @@
+//! Runs the circuit of `dvg_circuit` over one memory, and prints what each instruction did, so that it can be compared with a board or
+//! with an emulation of it. It is no simulator for users: it shows the definitions that the theorem about the board speaks of.
+//!
+//!     dvg_trace MEMORY MOST X Y SCALE POINTER PLACE PLACE PLACE PLACE
+//!
+//! MEMORY is a file with the bytes of the words 000 to FFF; past its end 0 is read. The other words are decimal numbers: how many
+//! instructions there are at most, and what the counters, the global scale, the stack pointer and the four stored places hold at the
+//! start. The program counter is at 0. For each instruction there is a line: the program counter past it, both counters, the scale,
+//! the pointer, the four places, and then the counters wherever it had the beam lit.
+#![tactic(auto)]
+
+mod memory;
+
+use anyhow::{Context, Result};
+use dvg_circuit::{Circuit, Counters, Run};
+use memory::Memory;
+use std::env::Args;
+use std::iter::Skip;
+use std::{env, fs};
+
+/// The next word of the command line.
+fn next_word(words: &mut Skip<Args>) -> Result<String> {
+    words.next().context("a word is missing")
+}
+
+/// The registers that the next words of the command line say.
+fn registers(words: &mut Skip<Args>) -> Result<Circuit> {
+    let x = next_word(words)?.parse()?;
+    let y = next_word(words)?.parse()?;
+    let scale = next_word(words)?.parse()?;
+    let pointer = next_word(words)?.parse()?;
+    let first = next_word(words)?.parse()?;
+    let second = next_word(words)?.parse()?;
+    let third = next_word(words)?.parse()?;
+    let fourth = next_word(words)?.parse()?;
+    Ok(Circuit {
+        pc: 0,
+        counters: Counters { x, y },
+        scale,
+        pointer,
+        returns: [first, second, third, fourth],
+        halted: false,
+    })
+}
+
+/// Prints what the registers hold, and the counters wherever the beam was lit since `lit_before` places were.
+fn print_line(rt: &HostRuntime, run: &Run, lit_before: usize) -> Result<()> {
+    let circuit = run.circuit();
+    let Counters { x, y } = circuit.counters;
+    let [first, second, third, fourth] = circuit.returns;
+    print!(rt;
+        "{} {x} {y} {} {}",
+        circuit.pc, circuit.scale, circuit.pointer
+    )?;
+    print!(rt; " {first} {second} {third} {fourth}")?;
+    for Counters { x, y } in run.lit().iter().skip(lit_before) {
+        print!(rt; " {x},{y}")?;
+    }
+    println!(rt;)?;
+    Ok(())
+}
+
+fn main(rt: HostRuntime) -> Result<()> {
+    let mut words = env::args(&rt)?.skip(1);
+    let memory = Memory {
+        bytes: fs::read(&rt, &next_word(&mut words)?)?,
+    };
+    let most: u32 = next_word(&mut words)?.parse()?;
+    let mut run = Run::begin(registers(&mut words)?, rt.alloc());
+    for _ in 0..most {
+        let lit_before = run.lit().len();
+        run.step(&memory)?;
+        print_line(&rt, &run, lit_before)?;
+        if run.circuit().halted {
+            break;
+        }
+    }
+    Ok(())
+}
