@@ -86,12 +86,15 @@ local function guarded(call)
   manager.machine:exit()
 end
 
-emu.register_stop(function()
-  local each = emu.osd_ticks_per_second()
-  say("%d frames judged: %d accepted, %d refused; at most %d words, %d return places", judged, accepted, judged - accepted,
-    most_words, deepest)
-  say("%.1f ms a frame; %.1f times real speed", 1000 * spent / each / math.max(judged, 1),
-    (emu.time() - began.emulated) * each / (emu.osd_ticks() - began.wall))
-end)
+local function sum_up()
+  local second = emu.osd_ticks_per_second()
+  say("%d frames judged: %d accepted, %d refused; at most %d words, depth %d", judged, accepted, judged - accepted, most_words,
+    deepest)
+  say("%.1f ms a frame; %.1f times real speed", 1000 * spent / second / math.max(judged, 1),
+    (emu.time() - began.emulated) * second / (emu.osd_ticks() - began.wall))
+end
+
 guarded(function() write(file("rom.bin"), rom_bytes()) end)
-judging = space:install_write_tap(GO, GO, "GO", function() guarded(judge) end) -- a tap that nothing holds is taken away
+-- what nothing holds is taken away, so both are global; MAME has had the first way to be told of its end since 0.254
+at_end = (emu.add_machine_stop_notifier or emu.register_stop)(sum_up)
+at_go = space:install_write_tap(GO, GO, "GO", function() guarded(judge) end)

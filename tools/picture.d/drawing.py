@@ -5,6 +5,7 @@ from html import escape
 from inputs import Box
 from machine import FINE
 
+SPOT = Box(0, 0, 0, 0)
 SCREEN = Box(0, 1023 * FINE, 0, 1023 * FINE)
 EDGE = 32 * FINE            # what a frame's picture shows around the screen, and at most
 FAR = 1024 * FINE           # so much more, if something is lit there
@@ -23,7 +24,6 @@ path, rect, line { fill: none; stroke-linecap: round; stroke-linejoin: round }
 .refused.box { stroke: #ff3b30; stroke-dasharray: 6 6 }
 .origin { stroke: #ffb300 }
 text { fill: #c9d1d9; font-family: monospace }
-text.refused { fill: #ff6b60; stroke: none }
 </style>"""
 
 
@@ -97,8 +97,8 @@ def sheet(width, height, title, content):
         f'<rect class="ground" width="{width}" height="{height}"/>', *content, "</svg>", ""])
 
 
-def text(x, y, size, content, kind=""):
-    return f'<text x="{x}" y="{y}" font-size="{size}"{kind}>{escape(content)}</text>'
+def text(x, y, size, content):
+    return f'<text x="{x}" y="{y}" font-size="{size}">{escape(content)}</text>'
 
 
 # ---- a frame
@@ -152,30 +152,28 @@ def size_of(box):
     return f"{places(box.right - box.left)} x {places(box.top - box.bottom)}"
 
 
+def plain_cell(name, below):
+    return [text(8, NAME - 6, 16, name), text(8, NAME + CELL, 12, below)]
+
+
 def cell(name, view, content, below):
     """A drawing with its name above, and a line below. Under that a line stays free for a label."""
+    name_line, below_line = plain_cell(name, below)
     width = places((view.right - view.left) // 80)
-    yield text(8, NAME - 6, 16, name)
-    yield f'<svg {shown(view)} x="8" y="{NAME}" width="{CELL - 16}" height="{CELL - 16}">'
-    yield f'<g transform="scale(1 -1)" stroke-width="{width}">'
-    yield from content
-    yield "</g>"
-    yield "</svg>"
-    yield text(8, NAME + CELL, 12, below)
+    return [name_line, f'<svg {shown(view)} x="8" y="{NAME}" width="{CELL - 16}" height="{CELL - 16}">',
+            f'<g transform="scale(1 -1)" stroke-width="{width}">', *content, "</g>", "</svg>", below_line]
+
+
+def origin(arm):
+    """A cross where the beam is at the call."""
+    return f'<path class="origin" d="M{places(-arm)} 0L{places(arm)} 0M0 {places(-arm)}L0 {places(arm)}"/>'
 
 
 def relative_cell(name, claim, strokes, refused):
-    box = claim.box or box_around(ends(strokes))
-    view = square(around([box, box_around([(0, 0), *ends(strokes)])]))
-    arm = (view.right - view.left) // 30
-    cross = lines_of_cross(arm)
+    view = square(around([claim.box or SPOT, box_around([(0, 0), *ends(strokes)])]))
     claimed = [rectangle("box", claim.box)] if claim.box else []
-    return cell(name, view, [cross, *claimed, *groups(strokes, refused.is_about)], size_of(claim.box) if claim.box else "no box")
-
-
-def lines_of_cross(arm):
-    """Where the beam is at the call."""
-    return f'<path class="origin" d="M{places(-arm)} 0L{places(arm)} 0M0 {places(-arm)}L0 {places(arm)}"/>'
+    content = [origin((view.right - view.left) // 30), *claimed, *groups(strokes, refused.is_about)]
+    return cell(name, view, content, size_of(claim.box) if claim.box else "no box")
 
 
 def absolute_cell(name, window, strokes, refused):
@@ -193,8 +191,10 @@ def cells_of(claim, run, window, refused):
         yield relative_cell(name, claim, relative, refused)
     if absolute:
         yield absolute_cell(name, window, absolute, refused)
-    if not (strokes or claim.box):
-        yield [text(8, NAME - 6, 16, name), text(8, NAME + CELL, 12, "lights nothing")]
+    if run.end != "RTSL":
+        yield plain_cell(name, run.end.split(":")[0])
+    elif not (strokes or claim.box):
+        yield plain_cell(name, "lights nothing")
 
 
 def shapes_picture(cells, title):

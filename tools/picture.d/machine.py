@@ -7,6 +7,7 @@ from typing import NamedTuple, Optional
 
 FINE = 1024
 RETURN_PLACES = 4
+MOST_ENTRIES = 4096     # of a certificate: a chain of more tail jumps has none
 NAMES = (*["VCTR"] * 10, "LABS", "HALT", "JSRL", "RTSL", "JMPL", "SVEC")
 LABS, HALT, JSRL, RTSL, JMPL, SVEC = range(10, 16)
 
@@ -189,5 +190,7 @@ class Run:
 
     def go_to(self, address):
         """Goes to a shape, by a call or a tail jump."""
+        if len(self.path) > MOST_ENTRIES:
+            raise Stopped(f"more than {MOST_ENTRIES} jumps")
         self.path = (*self.path, self.step_here())
         self.pc, self.shape = address, Entry(address, self.scale)
