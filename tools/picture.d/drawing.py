@@ -135,7 +135,7 @@ def frame_picture(run, window, refused, title, notes):
     for item in run.items:
         content += item_lines(item, refused)
     content += [*refused_box(run.items, refused), "</g>", "</svg>"]
-    content += [text(EDGE // FINE, height + LINE * index, 24, line) for index, line in enumerate([title, *notes])]
+    content += [text(EDGE // FINE, height + LINE * index, 28, line) for index, line in enumerate([title, *notes])]
     return sheet(width, height + LINE * len([title, *notes]), title, content)
 
 
