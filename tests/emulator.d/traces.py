@@ -33,11 +33,14 @@ class Lot(NamedTuple):
     runs: list
 
 
+def some_address(chance):
+    """Mostly that of a word of RAM or ROM."""
+    return chance.between(0, 0xFFF) if chance.one_in(40) else chance.between(0, 0x3FF) | chance.one_of((0, 0x800))
+
+
 def some_word(chance):
-    opcode, low = chance.one_of(OPCODES), chance.between(0, 0xFFF)
-    if opcode in (CALLS, JUMPS) and not chance.one_in(8):
-        low = low & 0x3FF | chance.one_of((0, 0x800))   # a word of RAM or ROM
-    return opcode << 12 | low
+    opcode = chance.one_of(OPCODES)
+    return opcode << 12 | (some_address(chance) if opcode in (CALLS, JUMPS) else chance.between(0, 0xFFF))
 
 
 def some_words(chance):
@@ -46,7 +49,7 @@ def some_words(chance):
 
 def some_run(chance):
     x, y = chance.between(0, 4095), chance.between(0, 4095)
-    places = tuple(chance.between(0, 4095) for _ in range(4))
+    places = tuple(some_address(chance) for _ in range(4))
     return Run(some_words(chance), x, y, chance.between(0, 15), chance.between(0, 15), places, MOST)
 
 
