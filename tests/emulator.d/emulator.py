@@ -20,6 +20,8 @@ class Run(NamedTuple):
     y: int = 0
     scale: int = 0
     pointer: int = 0
+    places: tuple = (0, 0, 0, 0)    # the stored ones
+    most: int = 1 << 20             # after so many instructions the generator is halted
 
 
 class Item(NamedTuple):
@@ -28,6 +30,7 @@ class Item(NamedTuple):
     x: int
     y: int
     pointer: int
+    places: tuple       # the stored ones
     scale: int
     opcode: int         # of the instruction to come
     intensity: int      # of the last draw
@@ -98,12 +101,13 @@ def write_runs(path, batches):
             print("rom", filled(rom, ROM_WORDS).hex(), file=file)
             for run in runs:
                 ram = filled(run.frame, RAM_WORDS, HALT).hex()
-                print("run", run.x & 0xFFF, run.y & 0xFFF, run.scale, run.pointer, ram, file=file)
+                places = ",".join(map(str, run.places))
+                print("run", run.x & 0xFFF, run.y & 0xFFF, run.scale, run.pointer, places, run.most, ram, file=file)
 
 
 def start(folder):
     """Starts MAME, and waits for its end."""
-    quiet = ["-video", "none", "-sound", "none", "-nothrottle", "-skip_gameinfo", "-nonvram_save"]
+    quiet = ["-video", "none", "-sound", "none", "-nothrottle", "-skip_gameinfo", "-nonvram_save", "-samplerate", "1000"]
     folders = ["-rompath", "roms", "-homepath", ".", "-cfg_directory", ".", "-nvram_directory", "."]
     script = ["-autoboot_delay", "0", "-autoboot_script", os.path.join(HERE, "runs.lua")]
     environment = dict(os.environ, HOME=folder, SDL_VIDEODRIVER="dummy", EMULATOR_RUNS="runs", EMULATOR_SEEN="seen")
@@ -112,10 +116,14 @@ def start(folder):
     return done.stdout.decode(errors="replace")
 
 
+def item_of(spelled):
+    address, x, y, pointer, first, second, third, fourth, *others = map(int, spelled.split(","))
+    return Item(address, x, y, pointer, (first, second, third, fourth), *others)
+
+
 def seen_of(line):
     items, points = line.split(" /")
-    return Seen([Item(*map(int, item.split(","))) for item in items.split()],
-                [tuple(map(int, point.split(","))) for point in points.split()])
+    return Seen([item_of(item) for item in items.split()], [tuple(map(int, point.split(","))) for point in points.split()])
 
 
 def emulate(folder, batches):
@@ -129,7 +137,12 @@ def emulate(folder, batches):
         file.seek(max(0, os.path.getsize(path) - 4))
         if file.read() != "end\n":
             raise SystemExit("FAILED: MAME did not come to the end:\n" + said[-2000:])
-        file.seek(0)
+    yield from seen_before(folder)
+
+
+def seen_before(folder):
+    """What was seen of the runs that were emulated in this folder, once more."""
+    with open(os.path.join(folder, "seen"), encoding="ascii") as file:
         for line in file:
             if line != "end\n":
                 yield seen_of(line)

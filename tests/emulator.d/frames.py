@@ -35,8 +35,9 @@ class Lot(NamedTuple):
 
 
 def started(chance, frame):
-    """A run of the frame, with the beam, the scale and the stack pointer anywhere."""
-    return Run(frame, chance.between(0, 4095), chance.between(0, 4095), chance.between(0, 15), chance.between(0, 15))
+    """A run of the frame, with the beam, the scale, the stack pointer and the stored places anywhere."""
+    x, y, scale, pointer = chance.between(0, 4095), chance.between(0, 4095), chance.between(0, 15), chance.between(0, 15)
+    return Run(frame, x, y, scale, pointer, tuple(chance.between(0, 4095) for _ in range(4)))
 
 
 def some_lot(chance):
@@ -48,6 +49,11 @@ def example_lots(chance, folder):
     for rom, names in EXAMPLES.items():
         runs = [started(chance, read(os.path.join(folder, name + ".frame"))) for name in names]
         yield Lot(read(os.path.join(folder, rom + ".rom")), Window(), runs)
+
+
+def all_lots(examples):
+    chance = Chance(SEED)
+    return [*example_lots(chance, examples), *(some_lot(chance) for _ in range(ROMS))]
 
 
 # ---- what the emulator shows
@@ -169,8 +175,7 @@ class Counts:
 
 
 def main(program, folder, examples):
-    chance = Chance(SEED)
-    lots = [*example_lots(chance, examples), *(some_lot(chance) for _ in range(ROMS))]
+    lots = all_lots(examples)
     runs = emulate(os.path.join(folder, "frames"), [(lot.rom, lot.runs) for lot in lots])
     counts = Counts()
     for lot in lots:

@@ -1,12 +1,14 @@
 -- Runs display lists on the DVG of MAME's machine `asteroid`. MAME itself loads this file, as emulator.py says. The environment
 -- names two files. Each line of EMULATOR_RUNS says what to do:
 --   rom HEX                      these are the bytes of the vector ROM, words 800 to BFF
---   run X Y SCALE POINTER HEX    before GO these are the counters, the global scale, the stack pointer, and the bytes of vector RAM
+--   run X Y SCALE POINTER PLACES MOST HEX
+--                                before GO these are the counters, the global scale, the stack pointer, the four stored places, and the
+--                                bytes of vector RAM; MOST is how many instructions there are at most
 -- EMULATOR_SEEN gets a line for each run, and one line `end` if all went well:
 --   ITEM.. / POINT..             what the registers were before each instruction, and after the last; what the picture has
--- An ITEM is ADDRESS,X,Y,POINTER,SCALE,OPCODE,INTENSITY,WORDS,POINTS. The opcode is that of the instruction to come, the intensity
--- that of the last draw, WORDS how many words were fetched so far, and POINTS how many points the picture has so far. A POINT is
--- X,Y,INTENSITY: the beam went there, with this intensity on its way.
+-- An ITEM is ADDRESS,X,Y,POINTER,PLACES,SCALE,OPCODE,INTENSITY,WORDS,POINTS. The opcode is that of the instruction to come, the
+-- intensity that of the last draw, WORDS how many words were fetched so far, and POINTS how many points the picture has so far. A
+-- POINT is X,Y,INTENSITY: the beam went there, with this intensity on its way. PLACES are four numbers.
 local device = manager.machine.devices[":dvg"]
 local space = manager.machine.devices[":maincpu"].spaces["program"]
 local region = manager.machine.memory.regions[":maincpu"]
@@ -74,17 +76,26 @@ end
 local words, items = 0, {}
 
 local function note_item(opcode)
-  items[#items + 1] = string.format("%d,%d,%d,%d,%d,%d,%d,%d,%d", get("pc"), get("xpos"), get("ypos"), get("sp"),
-    get("scale"), opcode, get("intensity"), words, point_count())
+  local stack = registers.stack
+  items[#items + 1] = string.format("%d,%d,%d,%d,%d,%d,%d,%d,%d,%d,%d,%d,%d", get("pc"), get("xpos"), get("ypos"), get("sp"),
+    stack:read(0), stack:read(1), stack:read(2), stack:read(3), get("scale"), opcode, get("intensity"), words, point_count())
 end
 
--- States D and F read the high bytes of an instruction's first and second word. The processor's own program is elsewhere.
-local running = false
+-- States D and F read the high bytes of an instruction's first and second word. The processor's own program is elsewhere. Before
+-- an instruction too many does anything, or one at FFE or FFF, past which MAME's PC would go on, the generator is halted.
+local running, most = false, 0
 local function note_read(_, value)
   if not running then return end
   local state = get("state_latch") & 15
   if state ~= 13 and state ~= 15 then return end
-  if state == 13 then note_item(value >> 4 & 15) end
+  if state == 13 then
+    note_item(value >> 4 & 15)
+    if #items > most or get("pc") >= 0xFFE then
+      running = false
+      set("halt", 1)
+      return
+    end
+  end
   words = words + 1
 end
 reads = space:install_read_tap(0x4000, 0x5FFF, "the generator's reads", note_read) -- a tap that nothing holds is taken away
@@ -107,18 +118,22 @@ local function wait_for_halt()
   until get("sync_halt") == 1 and get("halt") == 1
 end
 
-local function run(x, y, scale, pointer, hex)
+local function run(x, y, scale, pointer, places, instructions, hex)
   each_byte(hex, function(index, byte) space:write_u8(0x4000 + index, byte) end)
   set("xpos", tonumber(x))
   set("ypos", tonumber(y))
   set("scale", tonumber(scale))
   set("sp", tonumber(pointer))
-  for place = 0, 3 do registers.stack:write(place, 0) end
-  words, items, running = 0, {}, true
+  local place = 0
+  for address in places:gmatch("%d+") do
+    registers.stack:write(place, tonumber(address))
+    place = place + 1
+  end
+  words, items, running, most = 0, {}, true, tonumber(instructions)
   space:write_u8(0x3000, 0)
   wait_for_halt()
+  if running then note_item(11) end -- after the last: no instruction comes
   running = false
-  note_item(11) -- after the last: no instruction comes
   return table.concat(items, " ") .. " / " .. points() .. "\n"
 end
 
@@ -131,7 +146,7 @@ local function do_all()
     if what == "rom" then
       each_byte(rest, function(index, byte) region:write_u8(0x5000 + index, byte) end)
     else
-      seen:write(run(rest:match("^(%S+) (%S+) (%S+) (%S+) (%S+)$")))
+      seen:write(run(rest:match("^(%S+) (%S+) (%S+) (%S+) (%S+) (%S+) (%S+)$")))
     end
   end
   seen:write("end\n")

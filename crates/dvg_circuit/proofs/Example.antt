@@ -3,11 +3,14 @@ use Rattle.std.proofs.Common.{◌≡◌, ℕ, zero, suc, ◌-◌, ◌≤◌, ref
 use Rattle.dvg_words.specs.Decoding.{instruction_of}
 use Rattle.dvg_circuit.specs.Counters.{Counters}
 use Rattle.dvg_circuit.specs.Circuit.{Run, step, run_after, begin}
-use Rattle.dvg_circuit.specs.Example.{example_reads, example_start, WorkedPulses, WorkedRuns}
+use Rattle.dvg_circuit.specs.Example.{example_reads, example_start, WorkedPulses, WorkedAddresses, WorkedRuns}
 use Rattle.std.specs.Prelude.{[], ◌∷◌}
 
 pub worked_pulses : WorkedPulses
 worked_pulses = record { counts = refl; x = refl; y = refl; passed = refl }
+
+pub worked_addresses : WorkedAddresses
+worked_addresses = record { short = refl; long = refl; fetched = refl }
 
 begun : Counters → ℕ → ℕ → ℕ → ℕ → ℕ → Run
 begun counters scale a b c d = begin (example_start counters scale (a ∷ b ∷ c ∷ d ∷ []))

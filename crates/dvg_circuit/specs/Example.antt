@@ -3,7 +3,8 @@
 use Rattle.std.specs.Prelude.{◌≡◌, ℕ, zero, suc, ◌-◌, ◌≤◌, pos, negsuc, nat_lt, if◌then◌else◌, true, false, List, [], ◌∷◌, slice_index}
 use Rattle.dvg_words.specs.Values.{DrawFields}
 use Rattle.dvg_circuit.specs.Counters.{Counters, pulse, counts, passed}
-use Rattle.dvg_circuit.specs.Circuit.{Circuit, Reads, run_after, begin}
+use Rattle.dvg_words.specs.declared.instruction.Format.TheVariants.{Short, Long}
+use Rattle.dvg_circuit.specs.Circuit.{Circuit, Reads, past, places, run_after, begin}
 
 -- LABS to X FFE, Y 064 and global scale 0; JSRL 800; HALT
 abbrev pub example_frame : ℕ → List ℕ
@@ -40,6 +41,12 @@ pub record WorkedPulses : Type 0 where
   pub x : pulse 640 0 ∷ pulse 640 1 ∷ pulse 640 2 ∷ pulse 640 3 ∷ [] ≡ 1 ∷ 0 ∷ 1 ∷ 1 ∷ []
   pub y : pulse 256 0 ∷ pulse 256 1 ∷ pulse 256 2 ∷ pulse 256 3 ∷ [] ≡ 0 ∷ 1 ∷ 0 ∷ 0 ∷ []
   pub passed : passed example_draw (at 4094 100) 4 ≡ at 4094 100 ∷ at 4095 100 ∷ at 4095 99 ∷ at 0 99 ∷ at 1 99 ∷ []
+
+-- past the word at FFF stands the one at 000, and a long instruction may wrap in its middle
+pub record WorkedAddresses : Type 0 where
+  pub short : past Short 4095 ≡ 0
+  pub long : past Long 4095 ≡ 1
+  pub fetched : places Long 4095 ≡ 4095 ∷ 0 ∷ []
 
 -- the run after each of its five instructions; it stays as it is after the halt
 pub record WorkedRun (counters : Counters) (scale a b c d other : ℕ) : Type 0 where

@@ -1,6 +1,6 @@
 //! Laws over the definitions alone, each proved as the contract of a function with an empty body.
 
-ghost use Rattle.dvg_circuit.specs.Example.{WorkedPulses, WorkedRuns};
+ghost use Rattle.dvg_circuit.specs.Example.{WorkedPulses, WorkedAddresses, WorkedRuns};
 ghost use Rattle.dvg_circuit.specs.Following.{CircuitFollows};
 ghost use Rattle.dvg_circuit.specs.Showing.{LitInWindow, LitOnScreen};
 ghost use Rattle.dvg_circuit.specs.Writing.{WritesElsewhere};
@@ -9,6 +9,11 @@ ghost use Rattle.dvg_circuit.specs.Laws.{RoundedHalfUp, NoneBeyondEnds, CounterI
 /// The draw of the worked run, pulse by pulse: which of its four counts step which counter, and the places that they pass.
 pub fn worked_pulses()
     ensures { WorkedPulses }
+{}
+
+/// Word addresses wrap at twelve bits, between two instructions and within one.
+pub fn worked_addresses()
+    ensures { WorkedAddresses }
 {}
 
 /// The worked run: five instructions, from any counters, scale and stored places, with the stack pointer at 15. It wraps a counter

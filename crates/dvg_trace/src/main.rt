@@ -15,6 +15,7 @@ use anyhow::{Context, Result};
 use dvg_circuit::{Circuit, Counters, Run};
 use memory::Memory;
 use std::env::Args;
+use std::fmt::Write;
 use std::iter::Skip;
 use std::{env, fs};
 
@@ -48,15 +49,18 @@ fn print_line(rt: &HostRuntime, run: &Run, lit_before: usize) -> Result<()> {
     let circuit = run.circuit();
     let Counters { x, y } = circuit.counters;
     let [first, second, third, fourth] = circuit.returns;
-    print!(rt;
+    // a line is written at once: a draw may light a thousand places
+    let mut line = String::new(rt.alloc());
+    write!(
+        line,
         "{} {x} {y} {} {}",
         circuit.pc, circuit.scale, circuit.pointer
     )?;
-    print!(rt; " {first} {second} {third} {fourth}")?;
+    write!(line, " {first} {second} {third} {fourth}")?;
     for Counters { x, y } in run.lit().iter().skip(lit_before) {
-        print!(rt; " {x},{y}")?;
+        write!(line, " {x},{y}")?;
     }
-    println!(rt;)?;
+    println!(rt; "{line}")?;
     Ok(())
 }
 

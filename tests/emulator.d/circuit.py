@@ -1,0 +1,45 @@
+"""Runs the circuit of crates/dvg_circuit, by its program dvg_trace."""
+
+import os
+import subprocess
+from typing import NamedTuple
+
+from words import HALT, as_bytes
+
+ROM_AT, RAM_WORDS, WORDS = 0x800, 0x400, 0x1000
+
+
+class Line(NamedTuple):
+    """The registers after an instruction, and the counters wherever it had the beam lit: x, y, x, y and so on."""
+    address: int
+    x: int
+    y: int
+    scale: int
+    pointer: int
+    places: tuple
+    lit: list
+
+
+def memory(rom, frame):
+    """The words 000 to FFF as MAME's machine has them: 0 is read where there is no chip."""
+    ram = frame + [HALT] * (RAM_WORDS - len(frame))
+    low = ram + [0] * (ROM_AT - RAM_WORDS) + rom
+    return low + [0] * (WORDS - len(low))
+
+
+def line_of(told):
+    registers, lit = told.split(" ", 9)[:9], told.split(" ", 9)[9:]
+    address, x, y, scale, pointer, *places = map(int, registers)
+    return Line(address, x, y, scale, pointer, tuple(places), list(map(int, lit[0].replace(",", " ").split())) if lit else [])
+
+
+def traced(trace, folder, rom, run, most):
+    """What the circuit does, in this run, of so many instructions at most."""
+    path = os.path.join(folder, "memory")
+    with open(path, "wb") as file:
+        file.write(as_bytes(memory(rom, run.frame)))
+    words = map(str, (most, run.x, run.y, run.scale, run.pointer, *run.places))
+    done = subprocess.run([trace, path, *words], capture_output=True, text=True, check=False)
+    if done.returncode:
+        raise SystemExit(f"FAILED: dvg_trace: status {done.returncode}: {done.stderr[:300]}")
+    return [line_of(told) for told in done.stdout.splitlines()]
