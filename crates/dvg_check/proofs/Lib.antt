@@ -10,6 +10,7 @@ pub mod FrameWalk
 pub mod Accepting
 pub mod Listed
 pub mod Safety
+pub mod Circuit
 pub mod Course
 pub mod Alike
 pub mod Beside

@@ -6,6 +6,7 @@ pub mod Verdict
 pub mod Numbers
 pub mod Behaving
 pub mod Safety
+pub mod Circuit
 pub mod Drift
 pub mod Laws
 pub mod Example

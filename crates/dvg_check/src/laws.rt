@@ -3,7 +3,7 @@
 
 ghost use Rattle.dvg_words.specs.declared.machine.Machine.{Machine};
 ghost use Rattle.dvg_check.specs.Rules.{Mode};
-ghost use Rattle.dvg_check.specs.Laws.{OneItem, OneShape, AllShapes, GoodIsSafe, ExactIsExact, OneFault, NoFault, OneShapeFault, NoShapeFault, OneCount, OneVerdict, StrokeInWindow, SafeStrokes, SafeStack};
+ghost use Rattle.dvg_check.specs.Laws.{OneItem, OneShape, AllShapes, GoodIsSafe, ExactIsExact, OneFault, NoFault, OneShapeFault, NoShapeFault, OneCount, OneVerdict, StrokeInWindow, SafeStrokes, SafeStack, SafeIsSafeOnCircuit, CountsAreOnCircuit};
 ghost use Rattle.dvg_check.specs.Drift.{PlaceIsSum, HalfPlaceEach, InsetIsSafe};
 ghost use Rattle.dvg_check.specs.Example.{WorkedExample};
 ghost use Rattle.dvg_check.specs.MachinesExample.{WorkedMachines};
@@ -90,6 +90,16 @@ pub fn safe_stack()
 {
     stack_within_max();
 }
+
+/// What is safe on the board's generator is safe on its circuit.
+pub fn safe_on_circuit()
+    ensures { SafeIsSafeOnCircuit }
+{}
+
+/// And has the same counts there, where they are exact.
+pub fn counts_on_circuit()
+    ensures { CountsAreOnCircuit }
+{}
 
 /// In each state of each run, on either machine, the beam is where it was last set, moved by the sum of the moves of the draws
 /// since then.
