@@ -2,10 +2,12 @@
 
 ghost use Rattle.std.specs.Prelude.{◌≡◌, ◌≤◌, OnOk, IfOk, IfErr};
 ghost use Rattle.dvg_words.specs.Memory.{words_of, rom_on};
+ghost use Rattle.dvg_words.specs.declared.machine.Machine.TheVariants.{Board};
 ghost use Rattle.dvg_check.specs.Rules.{Bound, Exact};
-ghost use Rattle.dvg_check.specs.Verdict.{InRange, RangeRefusal, PartsVerdict, RomVerdict, VerdictOn, Verdict, SafeOn, SafeOver, CountsOn, CountsOver};
+ghost use Rattle.dvg_check.specs.Verdict.{InRange, RangeRefusal, PartsVerdict, RomVerdict, VerdictOn, Verdict, SafeOn, SafeOver, CountsOn, CountsOver, SafeCircuitOn, CountsCircuitOn};
 ghost use Rattle.dvg_check.specs.Numbers.{refusal_number};
 ghost use Rattle.dvg_check.specs.Safety.{Safe};
+ghost use Rattle.dvg_check.specs.Circuit.{SafeOnCircuit, CountsOnCircuit};
 ghost use Rattle.dvg_check.specs.Laws.{CountsAtHalt};
 ghost use Rattle.dvg_check.specs.declared.verdict.Refusal.TheVariants as refusals;
 
@@ -136,6 +138,9 @@ pub fn check_on(
     ensures verdict { VerdictOn machine mode window rom.now cert.now frame.now budget result }
     ensures safe { IfOk result (λ yes. SafeOn machine window rom.now cert.now frame.now yes.words yes.depth) }
     ensures exact { mode ≡ Exact → IfOk result (λ yes. CountsOn machine rom.now cert.now frame.now yes.words yes.depth) }
+    ensures circuit { machine ≡ Board → IfOk result (λ yes. SafeCircuitOn machine window rom.now cert.now frame.now yes.words yes.depth) }
+    ensures circuit_exact { machine ≡ Board → mode ≡ Exact
+        → IfOk result (λ yes. CountsCircuitOn machine rom.now cert.now frame.now yes.words yes.depth) }
 {
     let frame = frame_of(frame, budget)?;
     let cert = read_cert(alloc, cert)?;
@@ -162,6 +167,10 @@ pub fn check_rom(
     ensures verdict { RomVerdict machine mode window rom.now cert.now frame.now budget result }
     ensures safe { IfOk result (λ yes. Safe (record { frame = frame.now; rom = rom_on machine cert.now.map rom.now }) window yes.words yes.depth) }
     ensures exact { mode ≡ Exact → IfOk result (λ yes. CountsAtHalt (record { frame = frame.now; rom = rom_on machine cert.now.map rom.now }) yes.words yes.depth) }
+    ensures circuit { machine ≡ Board
+        → IfOk result (λ yes. SafeOnCircuit (record { frame = frame.now; rom = rom_on machine cert.now.map rom.now }) window yes.words yes.depth) }
+    ensures circuit_exact { machine ≡ Board → mode ≡ Exact
+        → IfOk result (λ yes. CountsOnCircuit (record { frame = frame.now; rom = rom_on machine cert.now.map rom.now }) yes.words yes.depth) }
 {
     let rom = RomImage::from_bytes_on(machine, rom, cert.map())?;
     check_parts_in(alloc, &rom, frame, cert, budget, window, mode)
@@ -182,6 +191,9 @@ fn check_parts_in(
     ensures verdict { PartsVerdict mode window rom.now cert.now.entries frame.now budget result }
     ensures safe { IfOk result (λ yes. Safe (record { frame = frame.now; rom = rom.now }) window yes.words yes.depth) }
     ensures exact { mode ≡ Exact → IfOk result (λ yes. CountsAtHalt (record { frame = frame.now; rom = rom.now }) yes.words yes.depth) }
+    ensures circuit { rom.now.machine ≡ Board → IfOk result (λ yes. SafeOnCircuit (record { frame = frame.now; rom = rom.now }) window yes.words yes.depth) }
+    ensures circuit_exact { rom.now.machine ≡ Board → mode ≡ Exact
+        → IfOk result (λ yes. CountsOnCircuit (record { frame = frame.now; rom = rom.now }) yes.words yes.depth) }
 {
     let entries = HashIndex::new(alloc, cert)?;
     let shapes = JudgedShapes::judge(rom, cert, &entries, window, mode)?;
@@ -248,6 +260,7 @@ pub fn check_parts(
     requires map { rom.now.map ≡ cert.now.map }
     ensures verdict { PartsVerdict Bound window rom.now cert.now.entries frame.now budget result }
     ensures safe { IfOk result (λ yes. Safe (record { frame = frame.now; rom = rom.now }) window yes.words yes.depth) }
+    ensures circuit { rom.now.machine ≡ Board → IfOk result (λ yes. SafeOnCircuit (record { frame = frame.now; rom = rom.now }) window yes.words yes.depth) }
 {
     check_parts_in(alloc, rom, frame, cert, budget, window, Mode::Bound)
 }
@@ -296,6 +309,8 @@ pub fn check_parts_exact(
     ensures verdict { PartsVerdict Exact window rom.now cert.now.entries frame.now budget result }
     ensures safe { IfOk result (λ yes. Safe (record { frame = frame.now; rom = rom.now }) window yes.words yes.depth) }
     ensures exact { IfOk result (λ yes. CountsAtHalt (record { frame = frame.now; rom = rom.now }) yes.words yes.depth) }
+    ensures circuit { rom.now.machine ≡ Board → IfOk result (λ yes. SafeOnCircuit (record { frame = frame.now; rom = rom.now }) window yes.words yes.depth) }
+    ensures circuit_exact { rom.now.machine ≡ Board → IfOk result (λ yes. CountsOnCircuit (record { frame = frame.now; rom = rom.now }) yes.words yes.depth) }
 {
     check_parts_in(alloc, rom, frame, cert, budget, window, Mode::Exact)
 }
