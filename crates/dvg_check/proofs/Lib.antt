@@ -18,6 +18,7 @@ pub mod Drift
 pub mod Example
 pub mod MachinesExample
 pub mod CourseExample
+pub mod CircuitExample
 pub mod TailLaws
 pub mod TailSizes
 pub mod TailSteps

@@ -12,4 +12,5 @@ pub mod Laws
 pub mod Example
 pub mod MachinesExample
 pub mod CourseExample
+pub mod CircuitExample
 pub mod Private

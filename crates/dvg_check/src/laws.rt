@@ -8,6 +8,7 @@ ghost use Rattle.dvg_check.specs.Drift.{PlaceIsSum, HalfPlaceEach, InsetIsSafe};
 ghost use Rattle.dvg_check.specs.Example.{WorkedExample};
 ghost use Rattle.dvg_check.specs.MachinesExample.{WorkedMachines};
 ghost use Rattle.dvg_check.specs.CourseExample.{WorkedCourse};
+ghost use Rattle.dvg_check.specs.CircuitExample.{WorkedCircuit};
 
 use dvg_cert::laws::{one_answer, one_certificate};
 use dvg_words::laws::{half_place, stack_within_max};
@@ -124,9 +125,9 @@ pub fn inset_is_safe()
     half_place();
 }
 
-/// The worked example is good: a lit stroke as a shape of the ROM at 800, and a frame that calls it.
+/// The worked example is good on either machine: a lit stroke as a shape of the ROM at 800, and a frame that calls it.
 pub fn worked_example()
-    ensures { WorkedExample }
+    ensures { (machine : Machine) → WorkedExample machine }
 {}
 
 /// Two worked frames without calls. The profile accepts one whose two draws of half a place end at the screen's edge, where the
@@ -140,4 +141,10 @@ pub fn worked_machines()
 /// meet the premises of `inset_is_safe` for two draws, and do not for one.
 pub fn worked_course()
     ensures { (machine : Machine) → WorkedCourse machine }
+{}
+
+/// The worked example on the board's circuit: it meets the premises of the board's theorem from whatever the registers hold, while a
+/// word that isn't fetched again is written over, and it is safe with just seven words and one return place.
+pub fn worked_circuit()
+    ensures { WorkedCircuit }
 {}
