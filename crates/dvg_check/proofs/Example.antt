@@ -49,73 +49,47 @@ unfolding cell_at instruction_of
 return_there Profile = refl
 return_there Board = refl
 
-draw_keeps : (machine : Machine) → (mode : Mode) (why : ShapeWhy) → ShapeKeeps mode screen example_entry (seen_at (shape_context machine example_list example_entry) [] draw_item) why
+draw_keeps : (machine : Machine) (mode : Mode) (why : ShapeWhy) → ShapeKeeps mode screen example_entry (seen_at (shape_context machine example_list example_entry) [] draw_item) why
 unfolding displacement
-draw_keeps Profile mode shape.Unmapped = tt
-draw_keeps Profile mode shape.Odd = tt
-draw_keeps Profile mode shape.HaltInShape = λ e. cc
-draw_keeps Profile mode shape.BeamUnknown = λ e. cc
-draw_keeps Profile mode shape.ScaleUnknown = tt
-draw_keeps Profile mode shape.OffScreen = tt
-draw_keeps Profile mode shape.NoEntry = tt
-draw_keeps Profile mode shape.TooDeep = omega arith
-draw_keeps Profile mode shape.TooManyWords = omega arith
-draw_keeps Profile mode shape.EndDiffers = tt
-draw_keeps Profile mode shape.ScaleDiffers = tt
+draw_keeps machine mode shape.Unmapped = tt
+draw_keeps machine mode shape.Odd = tt
+draw_keeps machine mode shape.HaltInShape = λ e. cc
+draw_keeps machine mode shape.BeamUnknown = λ e. cc
+draw_keeps machine mode shape.ScaleUnknown = tt
+draw_keeps machine mode shape.OffScreen = tt
+draw_keeps machine mode shape.NoEntry = tt
+draw_keeps machine mode shape.TooDeep = omega arith
+draw_keeps machine mode shape.TooManyWords = omega arith
+draw_keeps machine mode shape.EndDiffers = tt
+draw_keeps machine mode shape.ScaleDiffers = tt
 draw_keeps Profile mode shape.BoxTooSmall =
     (record { left = omega (arith, ints); right = omega (arith, ints); bottom = omega (arith, ints); top = omega (arith, ints) }, (record { left = omega (arith, ints); right = omega (arith, ints); bottom = omega (arith, ints); top = omega (arith, ints) }, tt))
-draw_keeps Profile mode shape.WordsDiffer = tt
-draw_keeps Profile mode shape.DepthDiffers = tt
-draw_keeps Board mode shape.Unmapped = tt
-draw_keeps Board mode shape.Odd = tt
-draw_keeps Board mode shape.HaltInShape = λ e. cc
-draw_keeps Board mode shape.BeamUnknown = λ e. cc
-draw_keeps Board mode shape.ScaleUnknown = tt
-draw_keeps Board mode shape.OffScreen = tt
-draw_keeps Board mode shape.NoEntry = tt
-draw_keeps Board mode shape.TooDeep = omega arith
-draw_keeps Board mode shape.TooManyWords = omega arith
-draw_keeps Board mode shape.EndDiffers = tt
-draw_keeps Board mode shape.ScaleDiffers = tt
 draw_keeps Board mode shape.BoxTooSmall =
     (record { left = omega (arith, ints); right = omega (arith, ints); bottom = omega (arith, ints); top = omega (arith, ints) }, (record { left = omega (arith, ints); right = omega (arith, ints); bottom = omega (arith, ints); top = omega (arith, ints) }, tt))
-draw_keeps Board mode shape.WordsDiffer = tt
-draw_keeps Board mode shape.DepthDiffers = tt
+draw_keeps machine mode shape.WordsDiffer = tt
+draw_keeps machine mode shape.DepthDiffers = tt
 
 as_claimed : (mode : Mode) (n : ℕ) → AsClaimed mode n n
 as_claimed Bound n = tt
 as_claimed Exact n = refl
 
-return_keeps : (machine : Machine) → (mode : Mode) (why : ShapeWhy) → ShapeKeeps mode screen example_entry (seen_at (shape_context machine example_list example_entry) (draw_item ∷ []) return_item) why
+return_keeps : (machine : Machine) (mode : Mode) (why : ShapeWhy) → ShapeKeeps mode screen example_entry (seen_at (shape_context machine example_list example_entry) (draw_item ∷ []) return_item) why
 unfolding displacement
-return_keeps Profile mode shape.Unmapped = tt
-return_keeps Profile mode shape.Odd = tt
-return_keeps Profile mode shape.HaltInShape = λ e. cc
-return_keeps Profile mode shape.BeamUnknown = tt
-return_keeps Profile mode shape.ScaleUnknown = tt
-return_keeps Profile mode shape.OffScreen = tt
-return_keeps Profile mode shape.NoEntry = tt
-return_keeps Profile mode shape.TooDeep = omega arith
-return_keeps Profile mode shape.TooManyWords = omega arith
+return_keeps machine mode shape.Unmapped = tt
+return_keeps machine mode shape.Odd = tt
+return_keeps machine mode shape.HaltInShape = λ e. cc
+return_keeps machine mode shape.BeamUnknown = tt
+return_keeps machine mode shape.ScaleUnknown = tt
+return_keeps machine mode shape.OffScreen = tt
+return_keeps machine mode shape.NoEntry = tt
+return_keeps machine mode shape.TooDeep = omega arith
+return_keeps machine mode shape.TooManyWords = omega arith
 return_keeps Profile mode shape.EndDiffers = refl
-return_keeps Profile mode shape.ScaleDiffers = refl
-return_keeps Profile mode shape.BoxTooSmall = tt
-return_keeps Profile mode shape.WordsDiffer = as_claimed mode 3
-return_keeps Profile mode shape.DepthDiffers = as_claimed mode 0
-return_keeps Board mode shape.Unmapped = tt
-return_keeps Board mode shape.Odd = tt
-return_keeps Board mode shape.HaltInShape = λ e. cc
-return_keeps Board mode shape.BeamUnknown = tt
-return_keeps Board mode shape.ScaleUnknown = tt
-return_keeps Board mode shape.OffScreen = tt
-return_keeps Board mode shape.NoEntry = tt
-return_keeps Board mode shape.TooDeep = omega arith
-return_keeps Board mode shape.TooManyWords = omega arith
 return_keeps Board mode shape.EndDiffers = refl
-return_keeps Board mode shape.ScaleDiffers = refl
-return_keeps Board mode shape.BoxTooSmall = tt
-return_keeps Board mode shape.WordsDiffer = as_claimed mode 3
-return_keeps Board mode shape.DepthDiffers = as_claimed mode 0
+return_keeps machine mode shape.ScaleDiffers = refl
+return_keeps machine mode shape.BoxTooSmall = tt
+return_keeps machine mode shape.WordsDiffer = as_claimed mode 3
+return_keeps machine mode shape.DepthDiffers = as_claimed mode 0
 
 -- what stands at an item of the shape keeps what the item keeps
 shape_there : (machine : Machine) (mode : Mode) (earlier : List Item) (i : Item) → cell_at (rom_word (rom_for machine)) i.at ≡ Holds i.format i.instr → ((why : ShapeWhy) → ShapeKeeps mode screen example_entry (seen_at (shape_context machine example_list example_entry) earlier i) why) → (why : ShapeWhy) → ShapePlaceKeeps mode screen (rom_for machine) example_list example_entry earlier i.at why
