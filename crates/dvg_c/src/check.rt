@@ -2,8 +2,9 @@
 
 ghost use Rattle.std.specs.Prelude.{◌≡◌, ◌≤◌};
 ghost use Rattle.dvg_words.specs.Values.{IsWindow};
+ghost use Rattle.dvg_words.specs.declared.machine.Machine.TheVariants.{Board};
 ghost use Rattle.dvg_check.specs.declared.fault.Mode.TheVariants.{Bound, Exact};
-ghost use Rattle.dvg_check.specs.Verdict.{Verdict, VerdictOn, SafeOver, SafeOn, CountsOver, CountsOn};
+ghost use Rattle.dvg_check.specs.Verdict.{Verdict, VerdictOn, SafeOver, SafeOn, CountsOver, CountsOn, SafeCircuitOn, CountsCircuitOn};
 ghost use Rattle.dvg_c.specs.Told.{window_of, numbered, Tells};
 ghost use Rattle.dvg_c.specs.Kept.{machine_of};
 ghost use Rattle.dvg_c.specs.declared.machine.TheConstants.{BOARD};
@@ -82,6 +83,10 @@ fn check_in(
         → Tells (VerdictOn (machine_of machine) mode (window_of window) rom.now cert.now frame.now budget) result }
     ensures safe { result.number ≡ 0 → SafeOn (machine_of machine) (window_of window) rom.now cert.now frame.now result.words result.depth }
     ensures exact { mode ≡ Exact → result.number ≡ 0 → CountsOn (machine_of machine) rom.now cert.now frame.now result.words result.depth }
+    ensures circuit { machine_of machine ≡ Board → result.number ≡ 0
+        → SafeCircuitOn (machine_of machine) (window_of window) rom.now cert.now frame.now result.words result.depth }
+    ensures circuit_exact { machine_of machine ≡ Board → mode ≡ Exact → result.number ≡ 0
+        → CountsCircuitOn (machine_of machine) rom.now cert.now frame.now result.words result.depth }
 {
     let Some(machine) = machine_numbered(machine) else {
         return numbered(BAD_MACHINE);
@@ -110,6 +115,8 @@ pub extern "C" fn dvgcheck_check_on(
     ensures verdict { machine ≤ BOARD → IsWindow (window_of window)
         → Tells (VerdictOn (machine_of machine) Bound (window_of window) rom.now cert.now frame.now budget) result }
     ensures safe { result.number ≡ 0 → SafeOn (machine_of machine) (window_of window) rom.now cert.now frame.now result.words result.depth }
+    ensures circuit { machine_of machine ≡ Board → result.number ≡ 0
+        → SafeCircuitOn (machine_of machine) (window_of window) rom.now cert.now frame.now result.words result.depth }
 {
     check_in(
         alloc,
@@ -140,6 +147,10 @@ pub extern "C" fn dvgcheck_check_exact_on(
         → Tells (VerdictOn (machine_of machine) Exact (window_of window) rom.now cert.now frame.now budget) result }
     ensures safe { result.number ≡ 0 → SafeOn (machine_of machine) (window_of window) rom.now cert.now frame.now result.words result.depth }
     ensures exact { result.number ≡ 0 → CountsOn (machine_of machine) rom.now cert.now frame.now result.words result.depth }
+    ensures circuit { machine_of machine ≡ Board → result.number ≡ 0
+        → SafeCircuitOn (machine_of machine) (window_of window) rom.now cert.now frame.now result.words result.depth }
+    ensures circuit_exact { machine_of machine ≡ Board → result.number ≡ 0
+        → CountsCircuitOn (machine_of machine) rom.now cert.now frame.now result.words result.depth }
 {
     check_in(
         alloc,

@@ -2,10 +2,12 @@
 
 ghost use Rattle.std.specs.Prelude.{◌≡◌, ◌≤◌, IfOk, IfErr};
 ghost use Rattle.dvg_words.specs.Memory.{rom_on};
+ghost use Rattle.dvg_words.specs.declared.machine.Machine.TheVariants.{Board};
 ghost use Rattle.dvg_cert.specs.declared.limits.TheConstants.{MOST_WORDS};
 ghost use Rattle.dvg_check.specs.declared.fault.Mode.TheVariants.{Exact};
 ghost use Rattle.dvg_check.specs.Verdict.{RomVerdict};
 ghost use Rattle.dvg_check.specs.Safety.{Safe, CountsAtHalt};
+ghost use Rattle.dvg_check.specs.Circuit.{SafeOnCircuit, CountsOnCircuit};
 ghost use Rattle.dvg_explain.specs.Verdict.{refusal_of, verdict_of, TellsOf};
 
 use crate::frames::{FrameAccount, explain_frame};
@@ -63,6 +65,10 @@ pub fn explain_rom(
     ensures account { IfErr result (TellsOf mode window (rom_on machine cert.now.map rom.now) cert.now.entries frame.now budget) }
     ensures safe { IfOk result (λ yes. Safe (record { frame = frame.now; rom = rom_on machine cert.now.map rom.now }) window yes.words yes.depth) }
     ensures exact { mode ≡ Exact → IfOk result (λ yes. CountsAtHalt (record { frame = frame.now; rom = rom_on machine cert.now.map rom.now }) yes.words yes.depth) }
+    ensures circuit { machine ≡ Board
+        → IfOk result (λ yes. SafeOnCircuit (record { frame = frame.now; rom = rom_on machine cert.now.map rom.now }) window yes.words yes.depth) }
+    ensures circuit_exact { machine ≡ Board → mode ≡ Exact
+        → IfOk result (λ yes. CountsOnCircuit (record { frame = frame.now; rom = rom_on machine cert.now.map rom.now }) yes.words yes.depth) }
 {
     let Ok(rom) = RomImage::from_bytes_on(machine, rom, cert.map()) else {
         return Err(RomAccount::RomLength);
