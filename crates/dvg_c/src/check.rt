@@ -99,7 +99,8 @@ fn check_in(
 
 /// Judges as [`dvgcheck_check`] does, on a machine: 0 for the profile's, about which `dvgcheck_check` is, and 1 for the board's.
 ///
-/// The answer is 82 for another number of a machine, else what `dvgcheck_check` says of 80 and of the numbers after it.
+/// The answer is 82 for another number of a machine, else what `dvgcheck_check` says of 80 and of the numbers after it. On the board
+/// 0 is about every run of its circuit, too, whatever its registers hold at the start.
 #[unsafe(no_mangle)]
 pub extern "C" fn dvgcheck_check_on(
     alloc: Global,

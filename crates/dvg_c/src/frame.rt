@@ -85,7 +85,8 @@ fn good_shapes(kept: &KeptShapes)
 /// first that applies of 2, 49 and 40 to 48, or 0. With 0 every run from the frame's first word over the ROM that was judged, at
 /// any beam place and any global scale, reaches HALT within the answered count of words, stores at most the answered count of
 /// return places at once, fetches only words of the ROM and the frame, and draws no lit stroke that leaves the window of the
-/// shapes on either axis; over shapes that were judged as exact it fetches and stores just so many. Takes no memory.
+/// shapes on either axis; over shapes that were judged as exact it fetches and stores just so many. Over shapes that were judged on
+/// the board the same holds of its circuit, whatever its registers hold at the start. Takes no memory.
 #[unsafe(no_mangle)]
 pub extern "C" fn dvgcheck_frame(kept: &KeptShapes, frame: &[u8], budget: u32) -> Answer
     ensures none { kept.now.judged ≡ NOT_JUDGED → result ≡ numbered NO_SHAPES }

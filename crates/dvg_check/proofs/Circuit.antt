@@ -198,9 +198,9 @@ deepest_on m n s (Running u) after e reached rest =
     let most = (grows m n (Running u) after reached).stored in
     ⊎_elim
     (λ le. ⊎_elim
-        (λ less. inl (omega (arith, le, less)))
-        (λ full. inr (1, u, omega arith, (Running u, e, refl), omega (arith, le, most, full)))
-        (here u (subst (Rises s) e (rises_next m s))))
+    (λ less. inl (omega (arith, le, less)))
+    (λ full. inr (1, u, omega arith, (Running u, e, refl), omega (arith, le, most, full)))
+    (here u (subst (Rises s) e (rises_next m s))))
     (λ later. inr (suc later.0, later.1, omega (arith, later.2), (Running u, e, later.3), later.4))
     (rest u reached)
   where

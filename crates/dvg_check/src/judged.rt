@@ -128,7 +128,8 @@ impl<'a, E: Entries> JudgedShapes<'a, E> {
     /// run of the generator from the frame's first word, at any beam place and any global scale, reaches HALT within so many
     /// words, stores at most so many return places at once, and four at most, fetches only words of the ROM and the
     /// frame, and draws no lit stroke that leaves the window on either axis. Over shapes that were judged in the mode
-    /// [`Exact`](Mode::Exact) it fetches just so many words, and has stored just so many return places at once. Takes no memory.
+    /// [`Exact`](Mode::Exact) it fetches just so many words, and has stored just so many return places at once. If the ROM is on the
+    /// board, the same holds of its circuit, whatever its registers hold at the start. Takes no memory.
     pub fn check_frame(&self, frame: &FrameImage, budget: u32) -> Result<Accepted, FrameFault>
         requires { budget ≤ MOST_WORDS }
         ensures ok { IfOk result (λ yes. GoodFrame self.now.window self.now.rom.machine frame.now self.now.list budget yes.words yes.depth) }

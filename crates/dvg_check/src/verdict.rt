@@ -125,6 +125,9 @@ pub fn frame_of(frame: &[u8], budget: u32) -> Result<FrameImage<'_>, Refusal>
 
 /// Judges a frame over the bytes of a vector ROM and of its certificate on a machine in a mode, as [`check`] and [`check_exact`] do
 /// on the profile's machine.
+///
+/// On the board a yes is about every run of its circuit, too: whatever its registers hold at the start, and whatever is written to
+/// memory while it runs, so long as each word that it fetches reads, when it is fetched, as the frame and the ROM have it.
 pub fn check_on(
     machine: Machine,
     alloc: Global,
@@ -152,7 +155,7 @@ pub fn check_on(
 ///
 /// `budget` is how many words the frame may take at most, up to 1,000,000. The answer is exact: 1 where the bytes are not exactly
 /// two for each address of the certificate's map, else that of [`check_parts`] or [`check_parts_exact`]. It takes the memory that
-/// these take, and carries the same theorem.
+/// these take, and carries the same theorem, on the board also about its circuit.
 pub fn check_rom(
     machine: Machine,
     alloc: Global,
@@ -246,8 +249,8 @@ pub fn check(
 ///
 /// The ROM lies where the certificate says. `budget` is how many words the frame may take at most, up to 1,000,000, `window` the
 /// part of the screen that may be lit. The answer is exact: the first that applies of 50, the first fault of the shapes (20 to
-/// 31), the frame's first fault (40 to 48), and the yes, and what is accepted is safe in just the sense of `check`. Takes memory
-/// for the index of the entries alone; 50 comes only where there was none.
+/// 31), the frame's first fault (40 to 48), and the yes, and what is accepted is safe in just the sense of `check`, for a ROM on the
+/// board also on its circuit. Takes memory for the index of the entries alone; 50 comes only where there was none.
 pub fn check_parts(
     alloc: Global,
     rom: &RomImage,
@@ -295,7 +298,8 @@ pub fn check_exact(
     )
 }
 
-/// Judges a frame over a vector ROM and the entries of its certificate, as [`check_exact`] does from the shapes on.
+/// Judges a frame over a vector ROM and the entries of its certificate, as [`check_exact`] does from the shapes on, for a ROM on the
+/// board also about its circuit.
 pub fn check_parts_exact(
     alloc: Global,
     rom: &RomImage,

@@ -79,9 +79,9 @@ module _ (IsVerdict : List ℕ → Result Yes FrameRefusal → Type 0) (rom : Ro
       -- what holds of the words of the bytes that were judged
       let on : (P : Yes → Memory → Type 0) → IfOk v (λ yes. P yes (record { frame = words_of slice; rom = rom })) → (y : Yes) → Judged v ≡ Judged (Ok y) → IfSome reader (λ held. P y (record { frame = words_of (started start held); rom = rom })) =
       λ P holds y is.
-          let yes : v ≡ Ok y = judged_yes v y is in
-          of_all (λ b. P y (record { frame = words_of b; rom = rom })) reader start bytes reads (subst (λ (x : List ℕ). IsFrameLength (length x)) same (subst (λ r. IfOk r (λ z. IsFrameLength (length slice))) yes long))
-          (subst (λ b. P y (record { frame = words_of b; rom = rom })) same (subst (λ r. IfOk r (λ z. P z (record { frame = words_of slice; rom = rom }))) yes holds)) in
+      let yes : v ≡ Ok y = judged_yes v y is in
+      of_all (λ b. P y (record { frame = words_of b; rom = rom })) reader start bytes reads (subst (λ (x : List ℕ). IsFrameLength (length x)) same (subst (λ r. IfOk r (λ z. IsFrameLength (length slice))) yes long))
+      (subst (λ b. P y (record { frame = words_of b; rom = rom })) same (subst (λ r. IfOk r (λ z. P z (record { frame = words_of slice; rom = rom }))) yes holds)) in
       record {
         means = (read, (bytes, reads, subst (λ (x : List ℕ). IsVerdict x v) same verdict));
         safe = on (λ y m. Safe m w y.words y.depth) safe;

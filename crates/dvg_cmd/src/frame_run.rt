@@ -118,7 +118,8 @@ pub fn run_frame<J: FrameJudge, R: CountedRead, W: CountedWrite>(
     ensures prefix { OnErr result (ReportsFramePrefix (J.is_verdict judge.now) (J.rom judge.now) (J.window judge.now) (J.is_exact judge.now)
         detail start name.now (R.remaining frame.old) (R.remaining frame.new) (W.contents out.old) (W.contents out.new)) }
 
-    // What is accepted is safe, with the counts of the line that was written, and if these are exact, they are those of each run.
+    // What is accepted is safe, with the counts of the line that was written, and if these are exact, they are those of each run; on
+    // the board also on its circuit.
     ensures safe { result ≡ Ok FrameOutcome.Accepted → ReportsFrameAccepted detail name.now (W.contents out.old) (W.contents out.new)
         (SafeFrame (J.rom judge.now) (J.window judge.now) start (R.remaining frame.old)) }
     ensures exact { J.is_exact judge.now → result ≡ Ok FrameOutcome.Accepted

@@ -249,7 +249,7 @@ pub fn run_check_in<R1: CountedRead, R2: CountedRead, R3: CountedRead, W: Counte
     ensures one_write { detail ≡ details.Line → OnOk result (W.whole_writes out.new ≡ count_after true (W.whole_writes out.old)) }
 
     // What is accepted is safe, with the counts of the line that was written, and in the mode `Exact` these are the counts of
-    // each run.
+    // each run; on the board also on its circuit.
     ensures safe { result ≡ Ok Outcome.Accepted → ReportsAccepted detail (W.contents out.old) (W.contents out.new)
         (SafeRead options.now.machine options.now.window (R1.remaining rom.old) (R2.remaining cert.old) (R3.remaining frame.old)) }
     ensures exact { options.now.mode ≡ Exact → result ≡ Ok Outcome.Accepted → ReportsAccepted detail (W.contents out.old) (W.contents out.new)

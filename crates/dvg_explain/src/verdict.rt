@@ -49,7 +49,8 @@ impl RomAccount {
 /// numbers (profile): shapes and frame are judged once.
 ///
 /// `budget` is how many words the frame may take at most, up to 1,000,000, `window` the part of the screen that may be lit. What is
-/// accepted is safe, and in the mode `Exact` the counts are those of each run. Takes memory for the index of the entries alone.
+/// accepted is safe, on the board also on its circuit, and in the mode `Exact` the counts are those of each run. Takes memory for
+/// the index of the entries alone.
 pub fn explain_rom(
     machine: Machine,
     alloc: Global,
