@@ -10,7 +10,8 @@ use Rattle.dvg_circuit.specs.Premises.{IsStart, ReadsAs}
 use Rattle.dvg_check.specs.Example.{memory_for}
 use Rattle.dvg_check.specs.Circuit.{SafeOnCircuit, CountsOnCircuit}
 
--- the words of the frame and of the ROM; from the second instruction on the frame's first word, which isn't fetched again, is this one
+-- the words of the frame and of the ROM; from the second instruction on the frame's first word, which isn't fetched again, reads as
+-- this one
 abbrev pub example_reads : ℕ → ℕ → Reads
 example_reads other zero p = unwrap_or (fetched_at (memory_for Board) p) 0
 example_reads other (suc n) p = if p == 0 then other else unwrap_or (fetched_at (memory_for Board) p) 0
