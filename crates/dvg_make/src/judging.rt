@@ -68,7 +68,8 @@ fn check_made(
 /// with fewer words or less depth. The answer is the refusal of [`make_for_frames`] for the first call whose entry is not made,
 /// else that of the checker on the made certificate; it means that no certificate gets the frame accepted, but for 62 by the
 /// number of entries, where another one may, and for 63 and 50, where memory was out. 62 by the number of entries comes only
-/// where the calls up to this one really need too many. Takes memory for the certificate and its index.
+/// where the calls up to this one really need too many. If the ROM is on the board, what is accepted is safe on its circuit, too,
+/// whatever its registers hold at the start. Takes memory for the certificate and its index.
 pub fn judge(
     alloc: Global,
     rom: &RomImage,
