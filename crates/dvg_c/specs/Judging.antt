@@ -15,6 +15,7 @@ use Rattle.dvg_check.specs.declared.verdict.Refusal.TheVariants as refusal
 use Rattle.dvg_check.specs.Rules.{Good, GoodFrame}
 use Rattle.dvg_check.specs.FirstFault.{FirstShapeFault, FirstFrameFault}
 use Rattle.dvg_check.specs.Safety.{Safe, CountsAtHalt}
+use Rattle.dvg_check.specs.Circuit.{SafeOnCircuit, CountsOnCircuit}
 use Rattle.dvg_check.specs.Judged.{Shapes}
 use Rattle.dvg_check.specs.Verdict.{InRange, RangeRefusal}
 use Rattle.dvg_c.specs.declared.answer.Answer.{Answer}
@@ -70,3 +71,11 @@ SafeWith s frame words depth = Safe (record { frame = words_of frame; rom = s.ro
 -- every run has just these counts at its halt, over the same
 abbrev pub CountsWith : Shapes → List ℕ → ℕ → ℕ → Type 0
 CountsWith s frame words depth = CountsAtHalt (record { frame = words_of frame; rom = s.rom }) words depth
+
+-- every run of the board's circuit is safe, over the same
+abbrev pub SafeCircuitWith : Shapes → List ℕ → ℕ → ℕ → Type 0
+SafeCircuitWith s frame words depth = SafeOnCircuit (record { frame = words_of frame; rom = s.rom }) s.window words depth
+
+-- every run of the board's circuit has just these counts when it has halted, over the same
+abbrev pub CountsCircuitWith : Shapes → List ℕ → ℕ → ℕ → Type 0
+CountsCircuitWith s frame words depth = CountsOnCircuit (record { frame = words_of frame; rom = s.rom }) words depth

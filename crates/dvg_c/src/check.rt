@@ -2,8 +2,9 @@
 
 ghost use Rattle.std.specs.Prelude.{◌≡◌, ◌≤◌};
 ghost use Rattle.dvg_words.specs.Values.{IsWindow};
+ghost use Rattle.dvg_words.specs.declared.machine.Machine.TheVariants.{Board};
 ghost use Rattle.dvg_check.specs.declared.fault.Mode.TheVariants.{Bound, Exact};
-ghost use Rattle.dvg_check.specs.Verdict.{Verdict, VerdictOn, SafeOver, SafeOn, CountsOver, CountsOn};
+ghost use Rattle.dvg_check.specs.Verdict.{Verdict, VerdictOn, SafeOver, SafeOn, CountsOver, CountsOn, SafeCircuitOn, CountsCircuitOn};
 ghost use Rattle.dvg_c.specs.Told.{window_of, numbered, Tells};
 ghost use Rattle.dvg_c.specs.Kept.{machine_of};
 ghost use Rattle.dvg_c.specs.declared.machine.TheConstants.{BOARD};
@@ -82,6 +83,10 @@ fn check_in(
         → Tells (VerdictOn (machine_of machine) mode (window_of window) rom.now cert.now frame.now budget) result }
     ensures safe { result.number ≡ 0 → SafeOn (machine_of machine) (window_of window) rom.now cert.now frame.now result.words result.depth }
     ensures exact { mode ≡ Exact → result.number ≡ 0 → CountsOn (machine_of machine) rom.now cert.now frame.now result.words result.depth }
+    ensures circuit { machine_of machine ≡ Board → result.number ≡ 0
+        → SafeCircuitOn (machine_of machine) (window_of window) rom.now cert.now frame.now result.words result.depth }
+    ensures circuit_exact { machine_of machine ≡ Board → mode ≡ Exact → result.number ≡ 0
+        → CountsCircuitOn (machine_of machine) rom.now cert.now frame.now result.words result.depth }
 {
     let Some(machine) = machine_numbered(machine) else {
         return numbered(BAD_MACHINE);
@@ -94,7 +99,8 @@ fn check_in(
 
 /// Judges as [`dvgcheck_check`] does, on a machine: 0 for the profile's, about which `dvgcheck_check` is, and 1 for the board's.
 ///
-/// The answer is 82 for another number of a machine, else what `dvgcheck_check` says of 80 and of the numbers after it.
+/// The answer is 82 for another number of a machine, else what `dvgcheck_check` says of 80 and of the numbers after it. On the board
+/// 0 is about every run of its circuit, too, whatever its registers hold at the start.
 #[unsafe(no_mangle)]
 pub extern "C" fn dvgcheck_check_on(
     alloc: Global,
@@ -110,6 +116,8 @@ pub extern "C" fn dvgcheck_check_on(
     ensures verdict { machine ≤ BOARD → IsWindow (window_of window)
         → Tells (VerdictOn (machine_of machine) Bound (window_of window) rom.now cert.now frame.now budget) result }
     ensures safe { result.number ≡ 0 → SafeOn (machine_of machine) (window_of window) rom.now cert.now frame.now result.words result.depth }
+    ensures circuit { machine_of machine ≡ Board → result.number ≡ 0
+        → SafeCircuitOn (machine_of machine) (window_of window) rom.now cert.now frame.now result.words result.depth }
 {
     check_in(
         alloc,
@@ -140,6 +148,10 @@ pub extern "C" fn dvgcheck_check_exact_on(
         → Tells (VerdictOn (machine_of machine) Exact (window_of window) rom.now cert.now frame.now budget) result }
     ensures safe { result.number ≡ 0 → SafeOn (machine_of machine) (window_of window) rom.now cert.now frame.now result.words result.depth }
     ensures exact { result.number ≡ 0 → CountsOn (machine_of machine) rom.now cert.now frame.now result.words result.depth }
+    ensures circuit { machine_of machine ≡ Board → result.number ≡ 0
+        → SafeCircuitOn (machine_of machine) (window_of window) rom.now cert.now frame.now result.words result.depth }
+    ensures circuit_exact { machine_of machine ≡ Board → result.number ≡ 0
+        → CountsCircuitOn (machine_of machine) rom.now cert.now frame.now result.words result.depth }
 {
     check_in(
         alloc,

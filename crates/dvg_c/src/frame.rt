@@ -3,15 +3,17 @@
 ghost use Rattle.std.specs.Prelude.{◌≡◌, ◌≢◌, ◌≤◌, IfOk, IfErr};
 ghost use Rattle.dvg_items.specs.Bounds.{IsSomeCertificate};
 ghost use Rattle.dvg_cert.specs.declared.limits.TheConstants.{MOST_WORDS};
+ghost use Rattle.dvg_words.specs.declared.machine.Machine.TheVariants.{Board};
 ghost use Rattle.dvg_check.specs.declared.fault.Mode.TheVariants.{Exact};
 ghost use Rattle.dvg_check.specs.Rules.{Good, GoodFrame};
 ghost use Rattle.dvg_check.specs.FirstFault.{FirstFrameFault};
 ghost use Rattle.dvg_check.specs.Safety.{Safe};
+ghost use Rattle.dvg_check.specs.Circuit.{SafeOnCircuit, CountsOnCircuit};
 ghost use Rattle.dvg_check.specs.Laws.{CountsAtHalt};
 ghost use Rattle.dvg_c.specs.Told.{numbered, Tells};
 ghost use Rattle.dvg_c.specs.Kept.{IsKept, machine_of};
 ghost use Rattle.dvg_c.specs.declared.machine.TheConstants.{BOARD};
-ghost use Rattle.dvg_c.specs.Judging.{FrameVerdict, SafeWith, CountsWith, shapes_of};
+ghost use Rattle.dvg_c.specs.Judging.{FrameVerdict, SafeWith, CountsWith, SafeCircuitWith, CountsCircuitWith, shapes_of};
 
 use crate::answer::{Answer, BAD_MACHINE, NO_SHAPES, answer_of, numbered};
 use crate::entries::KeptEntries;
@@ -38,6 +40,9 @@ fn check_over(
     ensures err { IfErr result (FirstFrameFault window rom.now.machine frame.now entries.now budget) }
     ensures safe { IfOk result (λ yes. Safe (record { frame = frame.now; rom = rom.now }) window yes.words yes.depth) }
     ensures exact { mode ≡ Exact → IfOk result (λ yes. CountsAtHalt (record { frame = frame.now; rom = rom.now }) yes.words yes.depth) }
+    ensures circuit { rom.now.machine ≡ Board → IfOk result (λ yes. SafeOnCircuit (record { frame = frame.now; rom = rom.now }) window yes.words yes.depth) }
+    ensures circuit_exact { rom.now.machine ≡ Board → mode ≡ Exact
+        → IfOk result (λ yes. CountsOnCircuit (record { frame = frame.now; rom = rom.now }) yes.words yes.depth) }
 {
     JudgedShapes::unchecked(rom, entries, window, mode).check_frame(frame, budget)
 }
@@ -48,6 +53,10 @@ fn check_kept(kept: &KeptShapes, frame: &[u8], budget: u32) -> Result<Yes, Refus
     ensures verdict { FrameVerdict (shapes_of kept.now) frame.now budget result }
     ensures safe { IfOk result (λ yes. SafeWith (shapes_of kept.now) frame.now yes.words yes.depth) }
     ensures exact { (shapes_of kept.now).mode ≡ Exact → IfOk result (λ yes. CountsWith (shapes_of kept.now) frame.now yes.words yes.depth) }
+    ensures circuit { (shapes_of kept.now).rom.machine ≡ Board
+        → IfOk result (λ yes. SafeCircuitWith (shapes_of kept.now) frame.now yes.words yes.depth) }
+    ensures circuit_exact { (shapes_of kept.now).rom.machine ≡ Board → (shapes_of kept.now).mode ≡ Exact
+        → IfOk result (λ yes. CountsCircuitWith (shapes_of kept.now) frame.now yes.words yes.depth) }
 {
     let frame = frame_of(frame, budget)?;
     let map = RomMap::new(kept.rom_first, kept.rom_last).unwrap();
@@ -76,13 +85,18 @@ fn good_shapes(kept: &KeptShapes)
 /// first that applies of 2, 49 and 40 to 48, or 0. With 0 every run from the frame's first word over the ROM that was judged, at
 /// any beam place and any global scale, reaches HALT within the answered count of words, stores at most the answered count of
 /// return places at once, fetches only words of the ROM and the frame, and draws no lit stroke that leaves the window of the
-/// shapes on either axis; over shapes that were judged as exact it fetches and stores just so many. Takes no memory.
+/// shapes on either axis; over shapes that were judged as exact it fetches and stores just so many. Over shapes that were judged on
+/// the board the same holds of its circuit, whatever its registers hold at the start. Takes no memory.
 #[unsafe(no_mangle)]
 pub extern "C" fn dvgcheck_frame(kept: &KeptShapes, frame: &[u8], budget: u32) -> Answer
     ensures none { kept.now.judged ≡ NOT_JUDGED → result ≡ numbered NO_SHAPES }
     ensures verdict { kept.now.judged ≢ NOT_JUDGED → Tells (FrameVerdict (shapes_of kept.now) frame.now budget) result }
     ensures safe { result.number ≡ 0 → SafeWith (shapes_of kept.now) frame.now result.words result.depth }
     ensures exact { (shapes_of kept.now).mode ≡ Exact → result.number ≡ 0 → CountsWith (shapes_of kept.now) frame.now result.words result.depth }
+    ensures circuit { (shapes_of kept.now).rom.machine ≡ Board → result.number ≡ 0
+        → SafeCircuitWith (shapes_of kept.now) frame.now result.words result.depth }
+    ensures circuit_exact { (shapes_of kept.now).rom.machine ≡ Board → (shapes_of kept.now).mode ≡ Exact → result.number ≡ 0
+        → CountsCircuitWith (shapes_of kept.now) frame.now result.words result.depth }
 {
     if kept.judged == NOT_JUDGED {
         return numbered(NO_SHAPES);
@@ -109,6 +123,10 @@ pub extern "C" fn dvgcheck_frame_on(
     ensures on { result.number ≡ 0 → machine_of machine ≡ (shapes_of kept.now).rom.machine }
     ensures safe { result.number ≡ 0 → SafeWith (shapes_of kept.now) frame.now result.words result.depth }
     ensures exact { (shapes_of kept.now).mode ≡ Exact → result.number ≡ 0 → CountsWith (shapes_of kept.now) frame.now result.words result.depth }
+    ensures circuit { (shapes_of kept.now).rom.machine ≡ Board → result.number ≡ 0
+        → SafeCircuitWith (shapes_of kept.now) frame.now result.words result.depth }
+    ensures circuit_exact { (shapes_of kept.now).rom.machine ≡ Board → (shapes_of kept.now).mode ≡ Exact → result.number ≡ 0
+        → CountsCircuitWith (shapes_of kept.now) frame.now result.words result.depth }
 {
     let Some(machine) = machine_numbered(machine) else {
         return numbered(BAD_MACHINE);

@@ -3,7 +3,8 @@ use Rattle.dvg_words.specs.declared.machine.Machine.{Machine}
 use Rattle.std.proofs.Common.{List, length, sym, subst, ap, refl, ◌≡◌, ◌∙◌, ℕ}
 use Rattle.std.specs.Prelude.{Err, Ok, Result, IfOk}
 use Rattle.dvg_words.specs.Memory.{Rom, IsFrame, IsRom, IsRomLength, words_of, rom_on}
-use Rattle.dvg_words.specs.Values.{Window}
+use Rattle.dvg_words.specs.Values.{Window, IsWindow}
+use Rattle.dvg_words.specs.declared.machine.Machine.TheVariants.{Board}
 use Rattle.dvg_words.specs.declared.image.ImageFault.TheVariants.{RomLength, FrameLength}
 use Rattle.dvg_cert.specs.Laws.{OneCertificate, OneAnswer, NotMemory as HasMemory}
 use Rattle.dvg_cert.specs.Order.{Certificate}
@@ -16,6 +17,8 @@ use Rattle.dvg_items.specs.Bounds.{IsSomeCertificate}
 use Rattle.dvg_check.specs.Laws.{CountsAtHalt, OneVerdict}
 use Rattle.dvg_check.specs.Rules.{Good, GoodFrame}
 use Rattle.dvg_check.specs.Safety.{Safe}
+use Rattle.dvg_check.specs.Circuit.{SafeOnCircuit, CountsOnCircuit}
+use Rattle.dvg_check.proofs.Circuit.{safe_on_circuit, counts_on_circuit}
 use Rattle.dvg_check.specs.Judged.{Shapes, IsJudged}
 use Rattle.dvg_check.specs.declared.frames.Accepted.{Accepted}
 use Rattle.dvg_check.specs.Verdict.{RangeRefusal, PartsVerdict, RomVerdict, CertVerdict, VerdictOn, NotMemory}
@@ -47,6 +50,19 @@ safe_over shapes frame budget (Err f) h is_frame good = tt
 pub exact_over : {F : Type 0} (shapes : Shapes) (frame : List ℕ) (budget : ℕ) (answer : Result Accepted F) → IsJudged shapes → IsFrame frame → IfOk answer (λ yes. GoodFrame shapes.window shapes.rom.machine frame shapes.list budget yes.words yes.depth) → shapes.mode ≡ Exact → IfOk answer (λ yes. CountsAtHalt (record { frame = frame; rom = shapes.rom }) yes.words yes.depth)
 exact_over shapes frame budget (Ok a) h is_frame good exact = exact_of_good shapes.window frame shapes.rom shapes.list budget a.words a.depth h.list is_frame h.rom (subst (λ mode. Good mode shapes.window shapes.rom shapes.list) exact h.good) good
 exact_over shapes frame budget (Err f) h is_frame good exact = tt
+
+-- what is safe on the board is safe on its circuit
+pub circuit_over : {F : Type 0} (shapes : Shapes) (frame : List ℕ) (answer : Result Accepted F) → IsWindow shapes.window → IsFrame frame → IsRom shapes.rom → IfOk answer (λ yes. Safe (record { frame = frame; rom = shapes.rom }) shapes.window yes.words yes.depth)
+    → shapes.rom.machine ≡ Board → IfOk answer (λ yes. SafeOnCircuit (record { frame = frame; rom = shapes.rom }) shapes.window yes.words yes.depth)
+circuit_over shapes frame (Ok a) is is_frame is_rom safe board = safe_on_circuit (record { frame = frame; rom = shapes.rom }) shapes.window a.words a.depth (record { frame = is_frame; rom = is_rom }) board is safe
+circuit_over shapes frame (Err f) is is_frame is_rom safe board = tt
+
+-- and has its counts there
+pub circuit_counts_over : {F : Type 0} (shapes : Shapes) (frame : List ℕ) (answer : Result Accepted F) → IsFrame frame → IsRom shapes.rom → IfOk answer (λ yes. Safe (record { frame = frame; rom = shapes.rom }) shapes.window yes.words yes.depth)
+    → (shapes.mode ≡ Exact → IfOk answer (λ yes. CountsAtHalt (record { frame = frame; rom = shapes.rom }) yes.words yes.depth))
+    → shapes.rom.machine ≡ Board → shapes.mode ≡ Exact → IfOk answer (λ yes. CountsOnCircuit (record { frame = frame; rom = shapes.rom }) yes.words yes.depth)
+circuit_counts_over shapes frame (Ok a) is_frame is_rom safe counts board exact = counts_on_circuit (record { frame = frame; rom = shapes.rom }) shapes.window a.words a.depth (record { frame = is_frame; rom = is_rom }) board safe (counts exact)
+circuit_counts_over shapes frame (Err f) is_frame is_rom safe counts board exact = tt
 
 -- what is out of range is refused, whatever the certificate
 pub out_of_range : (machine : Machine) (mode : Mode) (w : Window) (rom cert words : List ℕ) (budget : ℕ) (r : Refusal) → RangeRefusal words budget r → VerdictOn machine mode w rom cert words budget (Err r)

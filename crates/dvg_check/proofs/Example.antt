@@ -4,14 +4,16 @@ use Rattle.std.proofs.lemmas.Int.{ints}
 use Rattle.std.proofs.lemmas.List.{length-replicate}
 use Rattle.dvg_words.specs.Beam.{displacement, screen}
 use Rattle.dvg_words.specs.Decoding.{cell_at, instruction_of}
-use Rattle.dvg_words.specs.Example.{example_rom, example_frame}
+use Rattle.dvg_words.specs.Example.{example_frame}
 use Rattle.dvg_words.specs.Memory.{IsMemory, frame_word, rom_word}
+use Rattle.dvg_words.specs.declared.machine.Machine.{Machine}
+use Rattle.dvg_words.specs.declared.machine.Machine.TheVariants.{Profile, Board}
 use Rattle.dvg_words.specs.Values.{DrawFields, asteroids}
 use Rattle.dvg_words.specs.declared.instruction.Cell.TheVariants.{Holds}
 use Rattle.dvg_words.specs.declared.instruction.Format.TheVariants.{Long, Short}
 use Rattle.dvg_words.specs.declared.instruction.Instr.TheVariants.{Draw as Draws, Labs, Halt, Jsrl, Rtsl}
 use Rattle.dvg_cert.specs.Order.{IsCertificate}
-use Rattle.dvg_check.specs.Example.{example_entry, example_list, WorkedExample}
+use Rattle.dvg_check.specs.Example.{rom_for, memory_for, example_entry, example_list, WorkedExample}
 use Rattle.dvg_items.specs.Known.{shape_context, frame_context, target}
 use Rattle.dvg_items.specs.Lit.{PlaceKnown, ScaleKnown, LitInWindow}
 use Rattle.dvg_check.specs.Rules.{Seen, IsForward, ShapeKeeps, FrameKeeps, ShapePlaceKeeps, FramePlaceKeeps, CellKeeps, AsClaimed, GoodShape, Good, AllKeep}
@@ -37,66 +39,71 @@ draw_item = record { at = 2048; format = Long; instr = Draws stroke }
 abbrev pub return_item : Item
 return_item = record { at = 2050; format = Short; instr = Rtsl }
 
-pub draw_there : cell_at (rom_word example_rom) 2048 ≡ Holds Long (Draws stroke)
+pub draw_there : (machine : Machine) → cell_at (rom_word (rom_for machine)) 2048 ≡ Holds Long (Draws stroke)
 unfolding cell_at instruction_of
-draw_there = refl
+draw_there Profile = refl
+draw_there Board = refl
 
-pub return_there : cell_at (rom_word example_rom) 2050 ≡ Holds Short Rtsl
+pub return_there : (machine : Machine) → cell_at (rom_word (rom_for machine)) 2050 ≡ Holds Short Rtsl
 unfolding cell_at instruction_of
-return_there = refl
+return_there Profile = refl
+return_there Board = refl
 
-draw_keeps : (mode : Mode) (why : ShapeWhy) → ShapeKeeps mode screen example_entry (seen_at (shape_context example_rom.machine example_list example_entry) [] draw_item) why
+draw_keeps : (machine : Machine) (mode : Mode) (why : ShapeWhy) → ShapeKeeps mode screen example_entry (seen_at (shape_context machine example_list example_entry) [] draw_item) why
 unfolding displacement
-draw_keeps mode shape.Unmapped = tt
-draw_keeps mode shape.Odd = tt
-draw_keeps mode shape.HaltInShape = λ e. cc
-draw_keeps mode shape.BeamUnknown = λ e. cc
-draw_keeps mode shape.ScaleUnknown = tt
-draw_keeps mode shape.OffScreen = tt
-draw_keeps mode shape.NoEntry = tt
-draw_keeps mode shape.TooDeep = omega arith
-draw_keeps mode shape.TooManyWords = omega arith
-draw_keeps mode shape.EndDiffers = tt
-draw_keeps mode shape.ScaleDiffers = tt
-draw_keeps mode shape.BoxTooSmall =
+draw_keeps machine mode shape.Unmapped = tt
+draw_keeps machine mode shape.Odd = tt
+draw_keeps machine mode shape.HaltInShape = λ e. cc
+draw_keeps machine mode shape.BeamUnknown = λ e. cc
+draw_keeps machine mode shape.ScaleUnknown = tt
+draw_keeps machine mode shape.OffScreen = tt
+draw_keeps machine mode shape.NoEntry = tt
+draw_keeps machine mode shape.TooDeep = omega arith
+draw_keeps machine mode shape.TooManyWords = omega arith
+draw_keeps machine mode shape.EndDiffers = tt
+draw_keeps machine mode shape.ScaleDiffers = tt
+draw_keeps Profile mode shape.BoxTooSmall =
     (record { left = omega (arith, ints); right = omega (arith, ints); bottom = omega (arith, ints); top = omega (arith, ints) }, (record { left = omega (arith, ints); right = omega (arith, ints); bottom = omega (arith, ints); top = omega (arith, ints) }, tt))
-draw_keeps mode shape.WordsDiffer = tt
-draw_keeps mode shape.DepthDiffers = tt
+draw_keeps Board mode shape.BoxTooSmall =
+    (record { left = omega (arith, ints); right = omega (arith, ints); bottom = omega (arith, ints); top = omega (arith, ints) }, (record { left = omega (arith, ints); right = omega (arith, ints); bottom = omega (arith, ints); top = omega (arith, ints) }, tt))
+draw_keeps machine mode shape.WordsDiffer = tt
+draw_keeps machine mode shape.DepthDiffers = tt
 
 as_claimed : (mode : Mode) (n : ℕ) → AsClaimed mode n n
 as_claimed Bound n = tt
 as_claimed Exact n = refl
 
-return_keeps : (mode : Mode) (why : ShapeWhy) → ShapeKeeps mode screen example_entry (seen_at (shape_context example_rom.machine example_list example_entry) (draw_item ∷ []) return_item) why
+return_keeps : (machine : Machine) (mode : Mode) (why : ShapeWhy) → ShapeKeeps mode screen example_entry (seen_at (shape_context machine example_list example_entry) (draw_item ∷ []) return_item) why
 unfolding displacement
-return_keeps mode shape.Unmapped = tt
-return_keeps mode shape.Odd = tt
-return_keeps mode shape.HaltInShape = λ e. cc
-return_keeps mode shape.BeamUnknown = tt
-return_keeps mode shape.ScaleUnknown = tt
-return_keeps mode shape.OffScreen = tt
-return_keeps mode shape.NoEntry = tt
-return_keeps mode shape.TooDeep = omega arith
-return_keeps mode shape.TooManyWords = omega arith
-return_keeps mode shape.EndDiffers = refl
-return_keeps mode shape.ScaleDiffers = refl
-return_keeps mode shape.BoxTooSmall = tt
-return_keeps mode shape.WordsDiffer = as_claimed mode 3
-return_keeps mode shape.DepthDiffers = as_claimed mode 0
+return_keeps machine mode shape.Unmapped = tt
+return_keeps machine mode shape.Odd = tt
+return_keeps machine mode shape.HaltInShape = λ e. cc
+return_keeps machine mode shape.BeamUnknown = tt
+return_keeps machine mode shape.ScaleUnknown = tt
+return_keeps machine mode shape.OffScreen = tt
+return_keeps machine mode shape.NoEntry = tt
+return_keeps machine mode shape.TooDeep = omega arith
+return_keeps machine mode shape.TooManyWords = omega arith
+return_keeps Profile mode shape.EndDiffers = refl
+return_keeps Board mode shape.EndDiffers = refl
+return_keeps machine mode shape.ScaleDiffers = refl
+return_keeps machine mode shape.BoxTooSmall = tt
+return_keeps machine mode shape.WordsDiffer = as_claimed mode 3
+return_keeps machine mode shape.DepthDiffers = as_claimed mode 0
 
 -- what stands at an item of the shape keeps what the item keeps
-shape_there : (mode : Mode) (earlier : List Item) (i : Item) → cell_at (rom_word example_rom) i.at ≡ Holds i.format i.instr → ((why : ShapeWhy) → ShapeKeeps mode screen example_entry (seen_at (shape_context example_rom.machine example_list example_entry) earlier i) why) → (why : ShapeWhy) → ShapePlaceKeeps mode screen example_rom example_list example_entry earlier i.at why
-shape_there mode earlier i is kept why =
-    subst (λ cell. CellKeeps shape.Unmapped shape.Odd (λ j. ShapeKeeps mode screen example_entry (seen_at (shape_context example_rom.machine example_list example_entry) earlier j)) i.at cell why) (sym is) (kept why)
+shape_there : (machine : Machine) (mode : Mode) (earlier : List Item) (i : Item) → cell_at (rom_word (rom_for machine)) i.at ≡ Holds i.format i.instr → ((why : ShapeWhy) → ShapeKeeps mode screen example_entry (seen_at (shape_context machine example_list example_entry) earlier i) why) → (why : ShapeWhy) → ShapePlaceKeeps mode screen (rom_for machine) example_list example_entry earlier i.at why
+shape_there machine mode earlier i is kept why =
+    subst (λ cell. CellKeeps shape.Unmapped shape.Odd (λ j. ShapeKeeps mode screen example_entry (seen_at (shape_context machine example_list example_entry) earlier j)) i.at cell why) (sym is) (kept why)
 
-shape_good : (mode : Mode) → GoodShape mode screen example_rom example_list example_entry
-shape_good mode =
-    all_kept Shape (rom_word example_rom) 2048 ShapeWhy (ShapePlaceKeeps mode screen example_rom example_list example_entry) (draw_item ∷ []) return_item (refl, draw_there, refl) return_there refl
-    ((tt, shape_there mode [] draw_item draw_there (draw_keeps mode)), shape_there mode (draw_item ∷ []) return_item return_there (return_keeps mode))
+shape_good : (machine : Machine) (mode : Mode) → GoodShape mode screen (rom_for machine) example_list example_entry
+shape_good machine mode =
+    all_kept Shape (rom_word (rom_for machine)) 2048 ShapeWhy (ShapePlaceKeeps mode screen (rom_for machine) example_list example_entry) (draw_item ∷ []) return_item (refl, draw_there machine, refl) (return_there machine) refl
+    ((tt, shape_there machine mode [] draw_item (draw_there machine) (draw_keeps machine mode)), shape_there machine mode (draw_item ∷ []) return_item (return_there machine) (return_keeps machine mode))
 
-shapes_good : (mode : Mode) → Good mode screen example_rom example_list
-shapes_good mode e (zero, lt, is) = subst (GoodShape mode screen example_rom example_list) is (shape_good mode)
-shapes_good mode e (suc k, lt, is) = absurd (omega (arith, lt))
+shapes_good : (machine : Machine) (mode : Mode) → Good mode screen (rom_for machine) example_list
+shapes_good machine mode e (zero, lt, is) = subst (GoodShape mode screen (rom_for machine) example_list) is (shape_good machine mode)
+shapes_good machine mode e (suc k, lt, is) = absurd (omega (arith, lt))
 
 -- ---- the frame
 
@@ -109,17 +116,20 @@ call_item = record { at = 2; format = Short; instr = Jsrl 2048 }
 abbrev halt_item : Item
 halt_item = record { at = 3; format = Short; instr = Halt }
 
-labs_there : cell_at (frame_word example_rom.machine example_frame) 0 ≡ Holds Long (Labs 0 128 0)
+labs_there : (machine : Machine) → cell_at (frame_word machine example_frame) 0 ≡ Holds Long (Labs 0 128 0)
 unfolding cell_at instruction_of
-labs_there = refl
+labs_there Profile = refl
+labs_there Board = refl
 
-call_there : cell_at (frame_word example_rom.machine example_frame) 2 ≡ Holds Short (Jsrl 2048)
+call_there : (machine : Machine) → cell_at (frame_word machine example_frame) 2 ≡ Holds Short (Jsrl 2048)
 unfolding cell_at instruction_of
-call_there = refl
+call_there Profile = refl
+call_there Board = refl
 
-halt_there : cell_at (frame_word example_rom.machine example_frame) 3 ≡ Holds Short Halt
+halt_there : (machine : Machine) → cell_at (frame_word machine example_frame) 3 ≡ Holds Short Halt
 unfolding cell_at instruction_of
-halt_there = refl
+halt_there Profile = refl
+halt_there Board = refl
 
 -- what the rules of frames ask of an item that is there
 pub frame_item : (v : Seen) → v.item.instr ≢ Rtsl → IsForward v.item.at v.item.instr → PlaceKnown v.extent v.place → ScaleKnown v.extent → LitInWindow screen v.extent v.place
@@ -134,32 +144,36 @@ frame_item v no_return forward place scale lit named few frame.OffScreen = lit
 frame_item v no_return forward place scale lit named few frame.NoEntry = named
 frame_item v no_return forward place scale lit named few frame.Budget = few
 
-labs_keeps : (why : FrameWhy) → FrameKeeps screen 20000 (seen_at (frame_context example_rom.machine example_list) [] labs_item) why
-labs_keeps = frame_item (seen_at (frame_context example_rom.machine example_list) [] labs_item) (λ e. cc) tt tt tt tt tt (omega arith)
+labs_keeps : (machine : Machine) → (why : FrameWhy) → FrameKeeps screen 20000 (seen_at (frame_context machine example_list) [] labs_item) why
+labs_keeps machine = frame_item (seen_at (frame_context machine example_list) [] labs_item) (λ e. cc) tt tt tt tt tt (omega arith)
 
-call_keeps : (why : FrameWhy) → FrameKeeps screen 20000 (seen_at (frame_context example_rom.machine example_list) (labs_item ∷ []) call_item) why
-call_keeps =
-    frame_item (seen_at (frame_context example_rom.machine example_list) (labs_item ∷ []) call_item) (λ e. cc) tt (λ e. cc) tt
+call_keeps : (machine : Machine) → (why : FrameWhy) → FrameKeeps screen 20000 (seen_at (frame_context machine example_list) (labs_item ∷ []) call_item) why
+call_keeps Profile =
+    frame_item (seen_at (frame_context Profile example_list) (labs_item ∷ []) call_item) (λ e. cc) tt (λ e. cc) tt
+    (record { left = omega (arith, ints); right = omega (arith, ints); bottom = omega (arith, ints); top = omega (arith, ints) }, (record { left = omega (arith, ints); right = omega (arith, ints); bottom = omega (arith, ints); top = omega (arith, ints) }, tt))
+    tt (omega arith)
+call_keeps Board =
+    frame_item (seen_at (frame_context Board example_list) (labs_item ∷ []) call_item) (λ e. cc) tt (λ e. cc) tt
     (record { left = omega (arith, ints); right = omega (arith, ints); bottom = omega (arith, ints); top = omega (arith, ints) }, (record { left = omega (arith, ints); right = omega (arith, ints); bottom = omega (arith, ints); top = omega (arith, ints) }, tt))
     tt (omega arith)
 
-halt_keeps : (why : FrameWhy) → FrameKeeps screen 20000 (seen_at (frame_context example_rom.machine example_list) (call_item ∷ labs_item ∷ []) halt_item) why
-halt_keeps = frame_item (seen_at (frame_context example_rom.machine example_list) (call_item ∷ labs_item ∷ []) halt_item) (λ e. cc) tt tt tt tt tt (omega arith)
+halt_keeps : (machine : Machine) → (why : FrameWhy) → FrameKeeps screen 20000 (seen_at (frame_context machine example_list) (call_item ∷ labs_item ∷ []) halt_item) why
+halt_keeps machine = frame_item (seen_at (frame_context machine example_list) (call_item ∷ labs_item ∷ []) halt_item) (λ e. cc) tt tt tt tt tt (omega arith)
 
 -- what stands at an item of the frame keeps what the item keeps
-frame_there : (earlier : List Item) (i : Item) → cell_at (frame_word example_rom.machine example_frame) i.at ≡ Holds i.format i.instr → ((why : FrameWhy) → FrameKeeps screen 20000 (seen_at (frame_context example_rom.machine example_list) earlier i) why) → (why : FrameWhy) → FramePlaceKeeps screen example_rom.machine example_frame example_list 20000 earlier i.at why
-frame_there earlier i is kept why =
-    subst (λ cell. CellKeeps frame.Unmapped frame.Odd (λ j. FrameKeeps screen 20000 (seen_at (frame_context example_rom.machine example_list) earlier j)) i.at cell why) (sym is) (kept why)
+frame_there : (machine : Machine) (earlier : List Item) (i : Item) → cell_at (frame_word machine example_frame) i.at ≡ Holds i.format i.instr → ((why : FrameWhy) → FrameKeeps screen 20000 (seen_at (frame_context machine example_list) earlier i) why) → (why : FrameWhy) → FramePlaceKeeps screen machine example_frame example_list 20000 earlier i.at why
+frame_there machine earlier i is kept why =
+    subst (λ cell. CellKeeps frame.Unmapped frame.Odd (λ j. FrameKeeps screen 20000 (seen_at (frame_context machine example_list) earlier j)) i.at cell why) (sym is) (kept why)
 
-frame_keeps : AllKeep Frame (frame_word example_rom.machine example_frame) 0 (FramePlaceKeeps screen example_rom.machine example_frame example_list 20000)
-frame_keeps =
-    all_kept Frame (frame_word example_rom.machine example_frame) 0 FrameWhy (FramePlaceKeeps screen example_rom.machine example_frame example_list 20000) (call_item ∷ labs_item ∷ []) halt_item ((refl, labs_there, refl), call_there, refl) halt_there refl
-    (((tt, frame_there [] labs_item labs_there labs_keeps), frame_there (labs_item ∷ []) call_item call_there call_keeps), frame_there (call_item ∷ labs_item ∷ []) halt_item halt_there halt_keeps)
+frame_keeps : (machine : Machine) → AllKeep Frame (frame_word machine example_frame) 0 (FramePlaceKeeps screen machine example_frame example_list 20000)
+frame_keeps machine =
+    all_kept Frame (frame_word machine example_frame) 0 FrameWhy (FramePlaceKeeps screen machine example_frame example_list 20000) (call_item ∷ labs_item ∷ []) halt_item ((refl, labs_there machine, refl), call_there machine, refl) (halt_there machine) refl
+    (((tt, frame_there machine [] labs_item (labs_there machine) (labs_keeps machine)), frame_there machine (labs_item ∷ []) call_item (call_there machine) (call_keeps machine)), frame_there machine (call_item ∷ labs_item ∷ []) halt_item (halt_there machine) (halt_keeps machine))
 
 -- ---- all
 
-a_memory : IsMemory (record { frame = example_frame; rom = example_rom })
-a_memory = record {
+a_memory : (machine : Machine) → IsMemory (memory_for machine)
+a_memory machine = record {
   frame = record { some = omega arith; few = omega arith };
   rom = record { map = record { past_frames = omega arith; ordered = omega arith; inside = omega arith }; filled = omega (arith, length-replicate {A = ℕ} 1021 0) };
 }
@@ -185,20 +199,20 @@ a_certificate = record {
   few = omega arith;
 }
 
-pub worked_example : WorkedExample
-worked_example =
+pub worked_example : (machine : Machine) → WorkedExample machine
+worked_example machine =
     record {
-      memory = a_memory;
+      memory = a_memory machine;
       certificate = a_certificate;
-      shapes = shapes_good Bound;
-      exact = shapes_good Exact;
+      shapes = shapes_good machine Bound;
+      exact = shapes_good machine Exact;
       frame = record {
-        keeps = frame_keeps;
+        keeps = frame_keeps machine;
         items = call_item ∷ labs_item ∷ [];
         at = 3;
         format = Short;
-        leads = ((refl, labs_there, refl), call_there, refl);
-        halts = halt_there;
+        leads = ((refl, labs_there machine, refl), call_there machine, refl);
+        halts = halt_there machine;
         count_is = refl;
         depth_is = refl;
       };

@@ -10,6 +10,7 @@ pub mod FrameWalk
 pub mod Accepting
 pub mod Listed
 pub mod Safety
+pub mod Circuit
 pub mod Course
 pub mod Alike
 pub mod Beside
@@ -17,6 +18,7 @@ pub mod Drift
 pub mod Example
 pub mod MachinesExample
 pub mod CourseExample
+pub mod CircuitExample
 pub mod TailLaws
 pub mod TailSizes
 pub mod TailSteps

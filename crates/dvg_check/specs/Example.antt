@@ -1,8 +1,9 @@
 -- A worked example: a certificate that claims the lit stroke of the example ROM, and the example frame, which calls it.
 use Rattle.std.specs.Prelude.{pos, List, [], ◌∷◌}
+use Rattle.dvg_words.specs.declared.machine.Machine.{Machine}
 use Rattle.dvg_words.specs.Values.{asteroids}
-use Rattle.dvg_words.specs.Memory.{IsMemory}
-use Rattle.dvg_words.specs.Example.{example_rom, example_frame, example_memory}
+use Rattle.dvg_words.specs.Memory.{Memory, Rom, IsMemory}
+use Rattle.dvg_words.specs.Example.{example_rom, example_frame}
 use Rattle.dvg_words.specs.Beam.{screen}
 use Rattle.dvg_cert.specs.declared.entry.Key.TheVariants.{At}
 use Rattle.dvg_cert.specs.declared.entry.End.TheVariants.{Rel}
@@ -28,11 +29,18 @@ example_entry =
 abbrev pub example_list : List Entry
 example_list = example_entry ∷ []
 
+-- the example ROM on a machine, and the frame over it
+abbrev pub rom_for : Machine → Rom
+rom_for machine = record example_rom { machine = machine }
+
+abbrev pub memory_for : Machine → Memory
+memory_for machine = record { frame = example_frame; rom = rom_for machine }
+
 -- these are a memory and a certificate for it; the shape is good in both modes, and the frame is good, with seven words and
 -- one return place
-pub record WorkedExample : Type 0 where
-  pub memory : IsMemory example_memory
+pub record WorkedExample (machine : Machine) : Type 0 where
+  pub memory : IsMemory (memory_for machine)
   pub certificate : IsCertificate asteroids example_list
-  pub shapes : Good Bound screen example_rom example_list
-  pub exact : Good Exact screen example_rom example_list
-  pub frame : GoodFrame screen example_rom.machine example_frame example_list 20000 7 1
+  pub shapes : Good Bound screen (rom_for machine) example_list
+  pub exact : Good Exact screen (rom_for machine) example_list
+  pub frame : GoodFrame screen machine example_frame example_list 20000 7 1

@@ -2,7 +2,8 @@
 use Rattle.dvg_words.specs.Values.{Source}
 use Rattle.dvg_words.specs.declared.machine.Machine.{Machine}
 use Rattle.std.specs.Prelude.{◌≡◌, ℕ, ℤ, ◌+◌, ◌<◌, ◌≤◌, ◌⊎◌, ◌≤ℤ◌, length, List, [], ◌∷◌, ◌++◌, Contains, Result}
-use Rattle.dvg_words.specs.Values.{Window}
+use Rattle.dvg_words.specs.Values.{Window, IsWindow}
+use Rattle.dvg_words.specs.declared.machine.Machine.TheVariants.{Board}
 use Rattle.dvg_words.specs.declared.instruction.Instr.TheVariants.{Draw as Draws, Labs}
 use Rattle.dvg_words.specs.declared.instruction.Instr.{Instr}
 use Rattle.dvg_words.specs.declared.instruction.Cell.TheVariants.{Holds}
@@ -26,6 +27,7 @@ use Rattle.dvg_check.specs.FirstFault.{ShapeFault, FirstShapeFault, FrameFault, 
 use Rattle.dvg_check.specs.Verdict.{Yes, Refusal, VerdictOn, NotMemory}
 use Rattle.dvg_check.specs.Behaving.{ScaleFits, PlaceFits, Behaves}
 use Rattle.dvg_check.specs.Safety.{Safe}
+use Rattle.dvg_check.specs.Circuit.{SafeOnCircuit, CountsOnCircuit}
 pub use Rattle.dvg_check.specs.Safety.{CountsAtHalt}
 
 -- ---- one item
@@ -182,3 +184,17 @@ SafeStrokes = InEachRun (λ m w words depth s. (stroke : Stroke) → Contains s.
 -- at most `depth` return places are stored, and at most four
 abbrev pub SafeStack : Type 0
 SafeStack = InEachRun (λ m w words depth s. (length s.return_stack ≤ depth) × (length s.return_stack ≤ 4))
+
+-- ---- the circuit
+
+-- what is safe on the board's generator is safe on its circuit
+abbrev pub SafeIsSafeOnCircuit : Type 0
+SafeIsSafeOnCircuit =
+    (m : Memory) (w : Window) (words depth : ℕ)
+    → IsMemory m → m.rom.machine ≡ Board → IsWindow w → Safe m w words depth → SafeOnCircuit m w words depth
+
+-- and has the same counts there, where they are exact
+abbrev pub CountsAreOnCircuit : Type 0
+CountsAreOnCircuit =
+    (m : Memory) (w : Window) (words depth : ℕ)
+    → IsMemory m → m.rom.machine ≡ Board → Safe m w words depth → CountsAtHalt m words depth → CountsOnCircuit m words depth

@@ -6,9 +6,11 @@ pub mod Verdict
 pub mod Numbers
 pub mod Behaving
 pub mod Safety
+pub mod Circuit
 pub mod Drift
 pub mod Laws
 pub mod Example
 pub mod MachinesExample
 pub mod CourseExample
+pub mod CircuitExample
 pub mod Private

@@ -15,6 +15,7 @@ use Rattle.dvg_cert.specs.Reading.{ReadAnswer}
 use Rattle.dvg_cert.specs.declared.limits.TheConstants.{MOST_WORDS}
 use Rattle.dvg_check.specs.Rules.{Mode, Good, GoodFrame}
 use Rattle.dvg_check.specs.Safety.{Safe, CountsAtHalt}
+use Rattle.dvg_check.specs.Circuit.{SafeOnCircuit, CountsOnCircuit}
 use Rattle.dvg_check.specs.FirstFault.{FirstShapeFault, FirstFrameFault}
 pub use Rattle.dvg_check.specs.declared.verdict.Yes.{Yes}
 pub use Rattle.dvg_check.specs.declared.verdict.Refusal.{Refusal}
@@ -87,6 +88,16 @@ CountsOn machine rom cert frame words depth =
 -- the same on the profile's machine
 abbrev pub CountsOver : List ℕ → List ℕ → List ℕ → ℕ → ℕ → Type 0
 CountsOver = CountsOn Profile
+
+-- every run of the board's circuit is safe, over the same frame and ROM
+abbrev pub SafeCircuitOn : Machine → Window → List ℕ → List ℕ → List ℕ → ℕ → ℕ → Type 0
+SafeCircuitOn machine w rom cert frame words depth =
+    (c : Certificate) × Spells c cert × SafeOnCircuit (record { frame = words_of frame; rom = rom_on machine c.map rom }) w words depth
+
+-- every run of the board's circuit over the same has just these counts when it has halted
+abbrev pub CountsCircuitOn : Machine → List ℕ → List ℕ → List ℕ → ℕ → ℕ → Type 0
+CountsCircuitOn machine rom cert frame words depth =
+    (c : Certificate) × Spells c cert × CountsOnCircuit (record { frame = words_of frame; rom = rom_on machine c.map rom }) words depth
 
 -- the answer is not that memory was short for the certificate or its index
 abbrev pub NotMemory : Result Yes Refusal → Type 0

@@ -2,12 +2,14 @@
 
 ghost use Rattle.std.specs.Prelude.{◌≡◌, ◌≤◌, OnOk, IfOk, IfErr};
 ghost use Rattle.dvg_cert.specs.declared.limits.TheConstants.{MOST_WORDS};
+ghost use Rattle.dvg_words.specs.declared.machine.Machine.TheVariants.{Board};
 ghost use Rattle.dvg_check.specs.declared.fault.Mode.TheVariants.{Exact};
 ghost use Rattle.dvg_items.specs.Bounds.{IsSomeCertificate};
 ghost use Rattle.dvg_check.specs.Rules.{Good, GoodFrame};
 ghost use Rattle.dvg_check.specs.FirstFault.{FirstShapeFault, FirstFrameFault};
 ghost use Rattle.dvg_check.specs.Finding.{FirstFrameFound, IsSoundFound};
 ghost use Rattle.dvg_check.specs.Safety.{Safe};
+ghost use Rattle.dvg_check.specs.Circuit.{SafeOnCircuit, CountsOnCircuit};
 ghost use Rattle.dvg_check.specs.Laws.{CountsAtHalt};
 
 use crate::fault::{FrameFault, FrameFinding, Mode, ShapeFault};
@@ -86,9 +88,13 @@ impl<'a, E: Entries> JudgedShapes<'a, E> {
         ensures sound { IfErr result (λ finding. IsSoundFound finding.found) }
         ensures safe { IfOk result (λ yes. Safe (record { frame = frame.now; rom = self.now.rom }) self.now.window yes.words yes.depth) }
         ensures exact { self.now.mode ≡ Exact → IfOk result (λ yes. CountsAtHalt (record { frame = frame.now; rom = self.now.rom }) yes.words yes.depth) }
+        ensures circuit { self.now.rom.machine ≡ Board → IfOk result (λ yes. SafeOnCircuit (record { frame = frame.now; rom = self.now.rom }) self.now.window yes.words yes.depth) }
+        ensures circuit_exact { self.now.rom.machine ≡ Board → self.now.mode ≡ Exact
+            → IfOk result (λ yes. CountsOnCircuit (record { frame = frame.now; rom = self.now.rom }) yes.words yes.depth) }
     {
-        // Its clause says that the frame is whole.
+        // Their clauses say that the frame is whole, and that the window is one of the screen.
         let _words = frame.words();
+        let _top = self.window.y_max();
         let machine = self.rom.machine();
         find_frame_fault(machine, frame, self.entries, budget, &self.window)
     }
@@ -122,13 +128,17 @@ impl<'a, E: Entries> JudgedShapes<'a, E> {
     /// run of the generator from the frame's first word, at any beam place and any global scale, reaches HALT within so many
     /// words, stores at most so many return places at once, and four at most, fetches only words of the ROM and the
     /// frame, and draws no lit stroke that leaves the window on either axis. Over shapes that were judged in the mode
-    /// [`Exact`](Mode::Exact) it fetches just so many words, and has stored just so many return places at once. Takes no memory.
+    /// [`Exact`](Mode::Exact) it fetches just so many words, and has stored just so many return places at once. If the ROM is on the
+    /// board, the same holds of its circuit, whatever its registers hold at the start. Takes no memory.
     pub fn check_frame(&self, frame: &FrameImage, budget: u32) -> Result<Accepted, FrameFault>
         requires { budget ≤ MOST_WORDS }
         ensures ok { IfOk result (λ yes. GoodFrame self.now.window self.now.rom.machine frame.now self.now.list budget yes.words yes.depth) }
         ensures err { IfErr result (FirstFrameFault self.now.window self.now.rom.machine frame.now self.now.list budget) }
         ensures safe { IfOk result (λ yes. Safe (record { frame = frame.now; rom = self.now.rom }) self.now.window yes.words yes.depth) }
         ensures exact { self.now.mode ≡ Exact → IfOk result (λ yes. CountsAtHalt (record { frame = frame.now; rom = self.now.rom }) yes.words yes.depth) }
+        ensures circuit { self.now.rom.machine ≡ Board → IfOk result (λ yes. SafeOnCircuit (record { frame = frame.now; rom = self.now.rom }) self.now.window yes.words yes.depth) }
+        ensures circuit_exact { self.now.rom.machine ≡ Board → self.now.mode ≡ Exact
+            → IfOk result (λ yes. CountsOnCircuit (record { frame = frame.now; rom = self.now.rom }) yes.words yes.depth) }
     {
         match self.find_fault(frame, budget) {
             Ok(accepted) => Ok(accepted),

@@ -3,11 +3,12 @@
 
 ghost use Rattle.dvg_words.specs.declared.machine.Machine.{Machine};
 ghost use Rattle.dvg_check.specs.Rules.{Mode};
-ghost use Rattle.dvg_check.specs.Laws.{OneItem, OneShape, AllShapes, GoodIsSafe, ExactIsExact, OneFault, NoFault, OneShapeFault, NoShapeFault, OneCount, OneVerdict, StrokeInWindow, SafeStrokes, SafeStack};
+ghost use Rattle.dvg_check.specs.Laws.{OneItem, OneShape, AllShapes, GoodIsSafe, ExactIsExact, OneFault, NoFault, OneShapeFault, NoShapeFault, OneCount, OneVerdict, StrokeInWindow, SafeStrokes, SafeStack, SafeIsSafeOnCircuit, CountsAreOnCircuit};
 ghost use Rattle.dvg_check.specs.Drift.{PlaceIsSum, HalfPlaceEach, InsetIsSafe};
 ghost use Rattle.dvg_check.specs.Example.{WorkedExample};
 ghost use Rattle.dvg_check.specs.MachinesExample.{WorkedMachines};
 ghost use Rattle.dvg_check.specs.CourseExample.{WorkedCourse};
+ghost use Rattle.dvg_check.specs.CircuitExample.{WorkedCircuit};
 
 use dvg_cert::laws::{one_answer, one_certificate};
 use dvg_words::laws::{half_place, stack_within_max};
@@ -91,6 +92,16 @@ pub fn safe_stack()
     stack_within_max();
 }
 
+/// What is safe on the board's generator is safe on its circuit.
+pub fn safe_on_circuit()
+    ensures { SafeIsSafeOnCircuit }
+{}
+
+/// And has the same counts there, where they are exact.
+pub fn counts_on_circuit()
+    ensures { CountsAreOnCircuit }
+{}
+
 /// In each state of each run, on either machine, the beam is where it was last set, moved by the sum of the moves of the draws
 /// since then.
 pub fn place_is_sum()
@@ -114,9 +125,9 @@ pub fn inset_is_safe()
     half_place();
 }
 
-/// The worked example is good: a lit stroke as a shape of the ROM at 800, and a frame that calls it.
+/// The worked example is good on either machine: a lit stroke as a shape of the ROM at 800, and a frame that calls it.
 pub fn worked_example()
-    ensures { WorkedExample }
+    ensures { (machine : Machine) → WorkedExample machine }
 {}
 
 /// Two worked frames without calls. The profile accepts one whose two draws of half a place end at the screen's edge, where the
@@ -130,4 +141,10 @@ pub fn worked_machines()
 /// meet the premises of `inset_is_safe` for two draws, and do not for one.
 pub fn worked_course()
     ensures { (machine : Machine) → WorkedCourse machine }
+{}
+
+/// The worked example on the board's circuit: it meets the premises of the board's theorem from whatever the registers hold, while a
+/// word that isn't fetched again is written over, and it is safe with just seven words and one return place.
+pub fn worked_circuit()
+    ensures { WorkedCircuit }
 {}

@@ -2,10 +2,12 @@
 
 ghost use Rattle.std.specs.Prelude.{◌≡◌, ◌≤◌, OnOk, IfOk, IfErr};
 ghost use Rattle.dvg_words.specs.Memory.{words_of, rom_on};
+ghost use Rattle.dvg_words.specs.declared.machine.Machine.TheVariants.{Board};
 ghost use Rattle.dvg_check.specs.Rules.{Bound, Exact};
-ghost use Rattle.dvg_check.specs.Verdict.{InRange, RangeRefusal, PartsVerdict, RomVerdict, VerdictOn, Verdict, SafeOn, SafeOver, CountsOn, CountsOver};
+ghost use Rattle.dvg_check.specs.Verdict.{InRange, RangeRefusal, PartsVerdict, RomVerdict, VerdictOn, Verdict, SafeOn, SafeOver, CountsOn, CountsOver, SafeCircuitOn, CountsCircuitOn};
 ghost use Rattle.dvg_check.specs.Numbers.{refusal_number};
 ghost use Rattle.dvg_check.specs.Safety.{Safe};
+ghost use Rattle.dvg_check.specs.Circuit.{SafeOnCircuit, CountsOnCircuit};
 ghost use Rattle.dvg_check.specs.Laws.{CountsAtHalt};
 ghost use Rattle.dvg_check.specs.declared.verdict.Refusal.TheVariants as refusals;
 
@@ -123,6 +125,9 @@ pub fn frame_of(frame: &[u8], budget: u32) -> Result<FrameImage<'_>, Refusal>
 
 /// Judges a frame over the bytes of a vector ROM and of its certificate on a machine in a mode, as [`check`] and [`check_exact`] do
 /// on the profile's machine.
+///
+/// On the board a yes is about every run of its circuit, too: whatever its registers hold at the start, and whatever is written to
+/// memory while it runs, so long as each word that it fetches reads, when it is fetched, as the frame and the ROM have it.
 pub fn check_on(
     machine: Machine,
     alloc: Global,
@@ -136,6 +141,9 @@ pub fn check_on(
     ensures verdict { VerdictOn machine mode window rom.now cert.now frame.now budget result }
     ensures safe { IfOk result (λ yes. SafeOn machine window rom.now cert.now frame.now yes.words yes.depth) }
     ensures exact { mode ≡ Exact → IfOk result (λ yes. CountsOn machine rom.now cert.now frame.now yes.words yes.depth) }
+    ensures circuit { machine ≡ Board → IfOk result (λ yes. SafeCircuitOn machine window rom.now cert.now frame.now yes.words yes.depth) }
+    ensures circuit_exact { machine ≡ Board → mode ≡ Exact
+        → IfOk result (λ yes. CountsCircuitOn machine rom.now cert.now frame.now yes.words yes.depth) }
 {
     let frame = frame_of(frame, budget)?;
     let cert = read_cert(alloc, cert)?;
@@ -147,7 +155,7 @@ pub fn check_on(
 ///
 /// `budget` is how many words the frame may take at most, up to 1,000,000. The answer is exact: 1 where the bytes are not exactly
 /// two for each address of the certificate's map, else that of [`check_parts`] or [`check_parts_exact`]. It takes the memory that
-/// these take, and carries the same theorem.
+/// these take, and carries the same theorem, on the board also about its circuit.
 pub fn check_rom(
     machine: Machine,
     alloc: Global,
@@ -162,6 +170,10 @@ pub fn check_rom(
     ensures verdict { RomVerdict machine mode window rom.now cert.now frame.now budget result }
     ensures safe { IfOk result (λ yes. Safe (record { frame = frame.now; rom = rom_on machine cert.now.map rom.now }) window yes.words yes.depth) }
     ensures exact { mode ≡ Exact → IfOk result (λ yes. CountsAtHalt (record { frame = frame.now; rom = rom_on machine cert.now.map rom.now }) yes.words yes.depth) }
+    ensures circuit { machine ≡ Board
+        → IfOk result (λ yes. SafeOnCircuit (record { frame = frame.now; rom = rom_on machine cert.now.map rom.now }) window yes.words yes.depth) }
+    ensures circuit_exact { machine ≡ Board → mode ≡ Exact
+        → IfOk result (λ yes. CountsOnCircuit (record { frame = frame.now; rom = rom_on machine cert.now.map rom.now }) yes.words yes.depth) }
 {
     let rom = RomImage::from_bytes_on(machine, rom, cert.map())?;
     check_parts_in(alloc, &rom, frame, cert, budget, window, mode)
@@ -182,6 +194,9 @@ fn check_parts_in(
     ensures verdict { PartsVerdict mode window rom.now cert.now.entries frame.now budget result }
     ensures safe { IfOk result (λ yes. Safe (record { frame = frame.now; rom = rom.now }) window yes.words yes.depth) }
     ensures exact { mode ≡ Exact → IfOk result (λ yes. CountsAtHalt (record { frame = frame.now; rom = rom.now }) yes.words yes.depth) }
+    ensures circuit { rom.now.machine ≡ Board → IfOk result (λ yes. SafeOnCircuit (record { frame = frame.now; rom = rom.now }) window yes.words yes.depth) }
+    ensures circuit_exact { rom.now.machine ≡ Board → mode ≡ Exact
+        → IfOk result (λ yes. CountsOnCircuit (record { frame = frame.now; rom = rom.now }) yes.words yes.depth) }
 {
     let entries = HashIndex::new(alloc, cert)?;
     let shapes = JudgedShapes::judge(rom, cert, &entries, window, mode)?;
@@ -234,8 +249,8 @@ pub fn check(
 ///
 /// The ROM lies where the certificate says. `budget` is how many words the frame may take at most, up to 1,000,000, `window` the
 /// part of the screen that may be lit. The answer is exact: the first that applies of 50, the first fault of the shapes (20 to
-/// 31), the frame's first fault (40 to 48), and the yes, and what is accepted is safe in just the sense of `check`. Takes memory
-/// for the index of the entries alone; 50 comes only where there was none.
+/// 31), the frame's first fault (40 to 48), and the yes, and what is accepted is safe in just the sense of `check`, for a ROM on the
+/// board also on its circuit. Takes memory for the index of the entries alone; 50 comes only where there was none.
 pub fn check_parts(
     alloc: Global,
     rom: &RomImage,
@@ -248,6 +263,7 @@ pub fn check_parts(
     requires map { rom.now.map ≡ cert.now.map }
     ensures verdict { PartsVerdict Bound window rom.now cert.now.entries frame.now budget result }
     ensures safe { IfOk result (λ yes. Safe (record { frame = frame.now; rom = rom.now }) window yes.words yes.depth) }
+    ensures circuit { rom.now.machine ≡ Board → IfOk result (λ yes. SafeOnCircuit (record { frame = frame.now; rom = rom.now }) window yes.words yes.depth) }
 {
     check_parts_in(alloc, rom, frame, cert, budget, window, Mode::Bound)
 }
@@ -282,7 +298,8 @@ pub fn check_exact(
     )
 }
 
-/// Judges a frame over a vector ROM and the entries of its certificate, as [`check_exact`] does from the shapes on.
+/// Judges a frame over a vector ROM and the entries of its certificate, as [`check_exact`] does from the shapes on, for a ROM on the
+/// board also about its circuit.
 pub fn check_parts_exact(
     alloc: Global,
     rom: &RomImage,
@@ -296,6 +313,8 @@ pub fn check_parts_exact(
     ensures verdict { PartsVerdict Exact window rom.now cert.now.entries frame.now budget result }
     ensures safe { IfOk result (λ yes. Safe (record { frame = frame.now; rom = rom.now }) window yes.words yes.depth) }
     ensures exact { IfOk result (λ yes. CountsAtHalt (record { frame = frame.now; rom = rom.now }) yes.words yes.depth) }
+    ensures circuit { rom.now.machine ≡ Board → IfOk result (λ yes. SafeOnCircuit (record { frame = frame.now; rom = rom.now }) window yes.words yes.depth) }
+    ensures circuit_exact { rom.now.machine ≡ Board → IfOk result (λ yes. CountsOnCircuit (record { frame = frame.now; rom = rom.now }) yes.words yes.depth) }
 {
     check_parts_in(alloc, rom, frame, cert, budget, window, Mode::Exact)
 }

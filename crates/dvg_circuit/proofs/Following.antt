@@ -20,7 +20,8 @@ use Rattle.dvg_words.specs.Generator.{State, Stroke, Status, Running, Halted, Fa
 use Rattle.dvg_circuit.specs.Counters.{Counters, counts, counters_after, passed}
 use Rattle.dvg_circuit.specs.Circuit.{Reads, Run, past, places, second_word, decoded, draw_counts, lit_along, performed, act, step, run_after, begin}
 use Rattle.dvg_circuit.specs.Laws.{twelve_bits}
-use Rattle.dvg_circuit.specs.Following.{IsRead, ReadsNow, ReadsAs, IsSamePlace, IsOnStroke, IsOnSome, AreStored, Agrees, AgreesWith, CircuitFollows}
+use Rattle.dvg_circuit.specs.Premises.{IsRead, ReadsNow, ReadsAs}
+use Rattle.dvg_circuit.specs.Following.{IsSamePlace, IsOnStroke, IsOnSome, AreStored, Agrees, AgreesWith, CircuitFollows}
 use Rattle.dvg_circuit.proofs.Moves.{AreSizes, beam_moved, passed_along, all_append}
 use Rattle.dvg_circuit.proofs.Reading.{IsRight, right, low_word}
 

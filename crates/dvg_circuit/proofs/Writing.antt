@@ -7,7 +7,7 @@ use Rattle.dvg_words.specs.declared.instruction.Format.TheVariants.{Short, Long}
 use Rattle.dvg_words.specs.Decoding.{format_of}
 use Rattle.dvg_words.specs.Memory.{Memory}
 use Rattle.dvg_circuit.specs.Circuit.{Reads, Run, places, second_word, decoded, performed, act, step, run_after}
-use Rattle.dvg_circuit.specs.Following.{IsRead, ReadsNow}
+use Rattle.dvg_circuit.specs.Premises.{IsRead, ReadsNow}
 use Rattle.dvg_circuit.specs.Writing.{HasWords, LeavesFetched, WritesElsewhere}
 use Rattle.dvg_circuit.proofs.Following.{all_map}
 

@@ -1,10 +1,12 @@
 -- The circuit as a machine of its own: what its registers hold, and what each instruction does to them. It is total and has no
 -- fault: whatever its memory answers, it goes on.
 --
--- What is initial: all registers but the program counter are as the run before, or power-up, left them.
--- What wraps: word addresses and both counters at twelve bits, the stack pointer at four; it has four places, so its two low bits
--- tell which one is meant.
--- What is not modelled: time, and all that is analog: the DAC, the monitor, dwell. Blanking is `IsShown`, apart from what is lit.
+-- What is initial: a start sets the program counter to 0; all other registers are as the run before, or power-up, left them.
+-- What wraps: word addresses and both counters at twelve bits, the stack pointer at four, the sum of both scales at four; the pointer
+-- has four places, so its two low bits tell which one is meant.
+-- What memory holds: whatever is read, which may change from one instruction to the next; where there is no chip, anything.
+-- What is not modelled: time, a second start before HALT, and all that is analog: the DAC, the monitor, dwell. Blanking is `IsShown`,
+-- apart from what is lit.
 use Rattle.std.specs.Prelude.{ℕ, zero, suc, ◌+◌, ◌%◌, true, List, [], ◌∷◌, ◌++◌, unwrap_or, slice_index, slice_set, if◌then◌else◌}
 use Rattle.dvg_words.specs.Values.{DrawFields}
 use Rattle.dvg_words.specs.declared.machine.Machine.TheVariants.{Board}

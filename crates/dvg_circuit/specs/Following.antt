@@ -1,28 +1,14 @@
 -- The circuit follows the generator of the board for as long as that has no fault: what is shown of the one is shown of the other.
-use Rattle.std.specs.Prelude.{◌≡◌, ℕ, suc, ℤ, pos, ◌+◌, ◌%◌, ◌<◌, ◌*ℤ◌, ◌⊎◌, true, false, Some, List, [], ◌∷◌, length, reverse, slice_index}
+use Rattle.std.specs.Prelude.{◌≡◌, ℕ, suc, ℤ, pos, ◌+◌, ◌%◌, ◌*ℤ◌, ◌⊎◌, true, false, List, [], ◌∷◌, length, reverse, slice_index}
 use Rattle.std.specs.List.{AllByRecursion}
 use Rattle.dvg_words.specs.declared.machine.Machine.TheVariants.{Board}
 use Rattle.dvg_words.specs.declared.beam.Point.{Point}
-use Rattle.dvg_words.specs.Decoding.{format_of}
-use Rattle.dvg_words.specs.Memory.{Memory, IsMemory, word_at}
+use Rattle.dvg_words.specs.Memory.{Memory, IsMemory}
 use Rattle.dvg_words.specs.Generator.{Stroke, State, Status, Running, Halted, Fault, Reached, start}
 use Rattle.dvg_circuit.specs.Counters.{Counters}
-use Rattle.dvg_circuit.specs.Circuit.{Circuit, Reads, Run, places, run_after, begin}
+use Rattle.dvg_circuit.specs.Circuit.{Circuit, Reads, Run, run_after, begin}
+use Rattle.dvg_circuit.specs.Premises.{IsStart, ReadsAs}
 use Rattle.dvg_circuit.specs.Laws.{IsBetween, twelve_bits}
-
--- ---- what is read
-
--- a word that the memory has at this address is read there; at any other address anything is
-abbrev pub IsRead : Memory → Reads → ℕ → Type 0
-IsRead m reads p = (word : ℕ) → (word_at m).word p ≡ Some word → reads p ≡ word
-
--- each word that the next instruction fetches is read as the memory has it
-abbrev pub ReadsNow : Memory → Reads → Run → Type 0
-ReadsNow m reads r = AllByRecursion (IsRead m reads) (places (format_of (reads r.circuit.pc)) r.circuit.pc)
-
--- at each instruction of the run
-abbrev pub ReadsAs : Memory → (ℕ → Reads) → Run → Type 0
-ReadsAs m reads r = (n : ℕ) → (run_after reads n r).circuit.halted ≡ false → ReadsNow m (reads n) (run_after reads n r)
 
 -- ---- agreeing
 
@@ -74,15 +60,6 @@ AgreesWith base (Halted s) r = (r.circuit.halted ≡ true) × Agrees base s r
 AgreesWith base (Fault s) r = Unit {0}
 
 -- ---- the law
-
--- a display starts at word 000 (DVG documentation), with all else in the registers as it happens to be
-pub record IsStart (c : Circuit) : Type 0 where
-  pub pc : c.pc ≡ 0
-  pub x : c.counters.x < 4096
-  pub y : c.counters.y < 4096
-  pub pointer : c.pointer < 16
-  pub four : length c.returns ≡ 4
-  pub running : c.halted ≡ false
 
 -- after each number of steps that the generator takes from a place with the counters' twelve bits, at the circuit's scale, the two
 -- agree, whatever else the registers held at the start and whatever else the memory reads

@@ -2,6 +2,7 @@ pub mod Counters
 pub mod Circuit
 pub mod Laws
 pub mod Example
+pub mod Premises
 pub mod Following
 pub mod Showing
 pub mod Writing

@@ -3,7 +3,7 @@ use Rattle.std.specs.Prelude.{◌≡◌, ℕ, Some}
 use Rattle.std.specs.List.{AllByRecursion}
 use Rattle.dvg_words.specs.Memory.{Memory, word_at}
 use Rattle.dvg_circuit.specs.Circuit.{Reads, Run, run_after}
-use Rattle.dvg_circuit.specs.Following.{ReadsAs}
+use Rattle.dvg_circuit.specs.Premises.{ReadsAs}
 
 -- these reads have each word of the frame and of the ROM
 abbrev pub HasWords : Memory → Reads → Type 0

@@ -2,10 +2,12 @@
 use Rattle.std.proofs.Common.{◌≡◌, refl, sym, ap, ◌∙◌, subst, ℕ, List, [], ◌∷◌, ◌++◌, length, Option, None, Some}
 use Rattle.std.specs.Prelude.{Result, Ok, Err, IfOk, OnOk, OnErr, IfSome}
 use Rattle.std.specs.Io.KnownBytes.{Appends}
-use Rattle.dvg_words.specs.Memory.{Rom, words_of, IsFrameLength}
+use Rattle.dvg_words.specs.Memory.{Memory, Rom, words_of, IsFrameLength}
 use Rattle.dvg_words.specs.Values.{Window}
+use Rattle.dvg_words.specs.declared.machine.Machine.TheVariants.{Board}
 use Rattle.dvg_cert.specs.Devices.{AppendsPrefix, TakesOneWrite}
 use Rattle.dvg_check.specs.Safety.{Safe, CountsAtHalt}
+use Rattle.dvg_check.specs.Circuit.{SafeOnCircuit, CountsOnCircuit}
 use Rattle.dvg_check.specs.declared.verdict.Refusal.TheVariants as refusal
 use Rattle.dvg_check.specs.declared.verdict.Yes.{Yes}
 use Rattle.dvg_make.specs.declared.fault.EntryFault.TheVariants as entry
@@ -18,7 +20,7 @@ use Rattle.dvg_cmd.specs.declared.detail.Behind.TheVariants as behind
 use Rattle.dvg_cmd.specs.Runs.{MOST_FRAME_READ, IsReadTo, RunFault}
 use Rattle.dvg_cmd.specs.Frames.{FrameAnswer, Judged, Unread, FrameOutcome, worse, ReadsFrame, AnswersFrame, WritesAnswer, WritesAnswerPrefix, ReportsFrame, ReportsFramePrefix, frame_outcome_of, frame_line, is_unread, is_unread_outcome}
 use Rattle.dvg_cmd.specs.Start.{jumped, started}
-use Rattle.dvg_cmd.specs.SafeFrames.{ReportsFrameSafe, ReportsFrameCounts}
+use Rattle.dvg_cmd.specs.SafeFrames.{ReportsFrameAccepted}
 
 -- ---- a refusal is not accepted
 
@@ -70,20 +72,26 @@ module _ (IsVerdict : List ℕ → Result Yes FrameRefusal → Type 0) (rom : Ro
       → IfOk v (λ yes. IsFrameLength (length slice))
       → IfOk v (λ yes. Safe (record { frame = words_of slice; rom = rom }) w yes.words yes.depth)
       → (IsExact → IfOk v (λ yes. CountsAtHalt (record { frame = words_of slice; rom = rom }) yes.words yes.depth))
+      → (rom.machine ≡ Board → IfOk v (λ yes. SafeOnCircuit (record { frame = words_of slice; rom = rom }) w yes.words yes.depth))
+      → (rom.machine ≡ Board → IsExact → IfOk v (λ yes. CountsOnCircuit (record { frame = words_of slice; rom = rom }) yes.words yes.depth))
       → AnswersFrame IsVerdict rom w IsExact start reader left (Judged v)
-  answers_judged v bytes slice read reads same verdict long safe exact =
-      let on : (y : Yes) (P : List ℕ → Type 0) → IfOk v (λ z. IsFrameLength (length slice)) → v ≡ Ok y → P slice → IfSome reader (λ held. P (started start held)) =
-      λ y P l is p. of_all P reader start bytes reads (subst (λ (x : List ℕ). IsFrameLength (length x)) same (subst (λ r. IfOk r (λ z. IsFrameLength (length slice))) is l)) (subst P same p) in
+  answers_judged v bytes slice read reads same verdict long safe exact circuit circuit_exact =
+      -- what holds of the words of the bytes that were judged
+      let on : (P : Yes → Memory → Type 0) → IfOk v (λ yes. P yes (record { frame = words_of slice; rom = rom })) → (y : Yes) → Judged v ≡ Judged (Ok y) → IfSome reader (λ held. P y (record { frame = words_of (started start held); rom = rom })) =
+      λ P holds y is.
+      let yes : v ≡ Ok y = judged_yes v y is in
+      of_all (λ b. P y (record { frame = words_of b; rom = rom })) reader start bytes reads (subst (λ (x : List ℕ). IsFrameLength (length x)) same (subst (λ r. IfOk r (λ z. IsFrameLength (length slice))) yes long))
+      (subst (λ b. P y (record { frame = words_of b; rom = rom })) same (subst (λ r. IfOk r (λ z. P z (record { frame = words_of slice; rom = rom }))) yes holds)) in
       record {
         means = (read, (bytes, reads, subst (λ (x : List ℕ). IsVerdict x v) same verdict));
-        safe = λ y is. on y (λ b. Safe (record { frame = words_of b; rom = rom }) w y.words y.depth) long (judged_yes v y is)
-            (subst (λ r. IfOk r (λ z. Safe (record { frame = words_of slice; rom = rom }) w z.words z.depth)) (judged_yes v y is) safe);
-        exact = λ e y is. on y (λ b. CountsAtHalt (record { frame = words_of b; rom = rom }) y.words y.depth) long (judged_yes v y is)
-            (subst (λ r. IfOk r (λ z. CountsAtHalt (record { frame = words_of slice; rom = rom }) z.words z.depth)) (judged_yes v y is) (exact e));
+        safe = on (λ y m. Safe m w y.words y.depth) safe;
+        exact = λ e. on (λ y m. CountsAtHalt m y.words y.depth) (exact e);
+        circuit = λ board. on (λ y m. SafeOnCircuit m w y.words y.depth) (circuit board);
+        circuit_exact = λ board e. on (λ y m. CountsOnCircuit m y.words y.depth) (circuit_exact board e);
       }
 
   pub answers_unread : AnswersFrame IsVerdict rom w IsExact start reader left Unread
-  answers_unread = record { means = tt; safe = λ y is. cc; exact = λ e y is. cc }
+  answers_unread = record { means = tt; safe = λ y is. cc; exact = λ e y is. cc; circuit = λ board y is. cc; circuit_exact = λ board e y is. cc }
 
 -- ---- what is written
 
@@ -124,19 +132,13 @@ accepted_yes Unread is = cc
 accepted_yes (Judged (Err r)) is = absurd (refused r is)
 accepted_yes (Judged (Ok y)) is = (y, refl)
 
-module _ (IsVerdict : List ℕ → Result Yes FrameRefusal → Type 0) (rom : Rom) (w : Window) (IsExact : Type 0) (detail : Detail) (start : Option ℕ) (name : List ℕ) (reader left old new : Option (List ℕ)) (writes writes_after : ℕ)
-    (answer : FrameAnswer) (answers : AnswersFrame IsVerdict rom w IsExact start reader left answer) where
-  pub frame_safe : (r : Result FrameOutcome RunFault) → IfOk r (WritesAnswer detail name answer old new writes writes_after) → r ≡ Ok outcome.Accepted → ReportsFrameSafe detail rom w start name reader old new
-  frame_safe (Err fault) line is = cc
-  frame_safe (Ok o) line is =
-      let a = accepted_yes answer (line_accepted line.behind (frame_outcome_of answer) (sym line.outcome_is ∙ ok_accepted (Ok o) o refl is)) in
-      record { yes = a.0; behind = line.behind; asked = line.asked; written = subst (λ x. Appends old new (frame_line name x ++ behind_text line.behind)) a.1 line.written; safe = answers.safe a.0 a.1 }
-
-  pub frame_counts : (r : Result FrameOutcome RunFault) → IfOk r (WritesAnswer detail name answer old new writes writes_after) → IsExact → r ≡ Ok outcome.Accepted → ReportsFrameCounts detail rom start name reader old new
-  frame_counts (Err fault) line e is = cc
-  frame_counts (Ok o) line e is =
-      let a = accepted_yes answer (line_accepted line.behind (frame_outcome_of answer) (sym line.outcome_is ∙ ok_accepted (Ok o) o refl is)) in
-      record { yes = a.0; behind = line.behind; asked = line.asked; written = subst (λ x. Appends old new (frame_line name x ++ behind_text line.behind)) a.1 line.written; counts = answers.exact e a.0 a.1 }
+-- what holds of each accepted answer holds of the line that was written
+pub frame_accepted : (detail : Detail) (name : List ℕ) (old new : Option (List ℕ)) (writes writes_after : ℕ) (answer : FrameAnswer) (r : Result FrameOutcome RunFault) → IfOk r (WritesAnswer detail name answer old new writes writes_after) → r ≡ Ok outcome.Accepted
+    → (P : Yes → Type 0) → ((y : Yes) → answer ≡ Judged (Ok y) → P y) → ReportsFrameAccepted detail name old new P
+frame_accepted detail name old new writes writes_after answer (Err fault) line is P holds = cc
+frame_accepted detail name old new writes writes_after answer (Ok o) line is P holds =
+    let a = accepted_yes answer (line_accepted line.behind (frame_outcome_of answer) (sym line.outcome_is ∙ ok_accepted (Ok o) o refl is)) in
+    record { yes = a.0; behind = line.behind; asked = line.asked; written = subst (λ x. Appends old new (frame_line name x ++ behind_text line.behind)) a.1 line.written; holds = holds a.0 a.1 }
 
 -- ---- whether a frame could not be read
 

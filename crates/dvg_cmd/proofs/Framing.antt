@@ -3,10 +3,12 @@ use Rattle.std.proofs.Common.{◌≡◌, ℕ, List, Option, None, Some, length, 
 use Rattle.std.proofs.lemmas.Grind.{common_steps}
 use Rattle.std.specs.Prelude.{Result, Ok, Err, IfOk, IfErr, IfSome}
 use Rattle.dvg_words.specs.declared.machine.Machine.{Machine}
+use Rattle.dvg_words.specs.declared.machine.Machine.TheVariants.{Board}
 use Rattle.dvg_words.specs.Values.{MemoryMap, Window}
 use Rattle.dvg_words.specs.Memory.{Rom, words_of, rom_on, IsRomLength, IsFrameLength}
 use Rattle.dvg_words.specs.declared.image.ImageFault.TheVariants.{RomLength, FrameLength}
 use Rattle.dvg_check.specs.Safety.{Safe, CountsAtHalt}
+use Rattle.dvg_check.specs.Circuit.{SafeOnCircuit, CountsOnCircuit}
 use Rattle.dvg_check.specs.Verdict.{InRange}
 use Rattle.dvg_check.specs.declared.verdict.Yes.{Yes}
 use Rattle.dvg_check.specs.declared.verdict.Refusal.TheVariants as refusal
@@ -60,18 +62,22 @@ module _ (machine : Machine) (rom : List ℕ) (map : MemoryMap) (bytes : List �
   pub frame_verdict : (v : Result Yes FrameRefusal)
       → IfOk v (λ yes. Safe (record { frame = words_of bytes; rom = rom_on machine map rom }) w yes.words yes.depth)
       → IfOk v (λ yes. CountsAtHalt (record { frame = words_of bytes; rom = rom_on machine map rom }) yes.words yes.depth)
+      → (machine ≡ Board → IfOk v (λ yes. SafeOnCircuit (record { frame = words_of bytes; rom = rom_on machine map rom }) w yes.words yes.depth))
+      → (machine ≡ Board → IfOk v (λ yes. CountsOnCircuit (record { frame = words_of bytes; rom = rom_on machine map rom }) yes.words yes.depth))
       → IfOk v (λ yes. AreLeast (rom_on machine map rom) (words_of bytes) w yes.words yes.depth)
       → IfErr v (FrameRefused (rom_on machine map rom) (words_of bytes) w budget)
       → VerdictByMade (rom_on machine map rom) (words_of bytes) w budget v
       → IfErr v (HasCallCause (rom_on machine map rom) (words_of bytes))
       → VerdictOnBytes machine rom map bytes budget w v
-  frame_verdict (Ok y) safe exact least none own told = record { in_range = range; rom_length = long; safe = safe; exact = exact; least = least; by_own = own }
-  frame_verdict (Err r) safe exact least h own told = refused r own h told
+  frame_verdict (Ok y) safe exact circuit circuit_exact least none own told = record { in_range = range; rom_length = long; safe = safe; exact = exact; circuit = circuit; circuit_exact = circuit_exact; least = least; by_own = own }
+  frame_verdict (Err r) safe exact circuit circuit_exact least h own told = refused r own h told
 
 -- what the judge says of a frame's words over a ROM
 record Said (w : Window) (budget : ℕ) (words : List ℕ) (image : Rom) (v : Result Yes FrameRefusal) : Type 0 where
   safe : IfOk v (λ yes. Safe (record { frame = words; rom = image }) w yes.words yes.depth)
   exact : IfOk v (λ yes. CountsAtHalt (record { frame = words; rom = image }) yes.words yes.depth)
+  circuit : image.machine ≡ Board → IfOk v (λ yes. SafeOnCircuit (record { frame = words; rom = image }) w yes.words yes.depth)
+  circuit_exact : image.machine ≡ Board → IfOk v (λ yes. CountsOnCircuit (record { frame = words; rom = image }) yes.words yes.depth)
   least : IfOk v (λ yes. AreLeast image words w yes.words yes.depth)
   refuses : IfErr v (FrameRefused image words w budget)
   own : VerdictByMade image words w budget v
@@ -82,12 +88,14 @@ pub own_verdict : (machine : Machine) (rom : List ℕ) (map : MemoryMap) (bytes 
     → (v : Result Yes FrameRefusal)
     → IfOk v (λ yes. Safe (record { frame = words; rom = image }) w yes.words yes.depth)
     → IfOk v (λ yes. CountsAtHalt (record { frame = words; rom = image }) yes.words yes.depth)
+    → (image.machine ≡ Board → IfOk v (λ yes. SafeOnCircuit (record { frame = words; rom = image }) w yes.words yes.depth))
+    → (image.machine ≡ Board → IfOk v (λ yes. CountsOnCircuit (record { frame = words; rom = image }) yes.words yes.depth))
     → IfOk v (λ yes. AreLeast image words w yes.words yes.depth)
     → IfErr v (FrameRefused image words w budget)
     → VerdictByMade image words w budget v
     → IfErr v (HasCallCause image words)
     → VerdictOnBytes machine rom map bytes budget w v
-own_verdict machine rom map bytes budget w words image a v safe exact least refused own told =
-    let said : Said w budget words image v = record { safe = safe; exact = exact; least = least; refuses = refused; own = own; told = told } in
+own_verdict machine rom map bytes budget w words image a v safe exact circuit circuit_exact least refused own told =
+    let said : Said w budget words image v = record { safe = safe; exact = exact; circuit = circuit; circuit_exact = circuit_exact; least = least; refuses = refused; own = own; told = told } in
     let all = subst (λ x. Said w budget x (rom_on machine map rom) v) a.words_are (subst (λ y. Said w budget words y v) a.rom_is said) in
-    frame_verdict machine rom map bytes budget w a.in_range a.rom_length v all.safe all.exact all.least all.refuses all.own all.told
+    frame_verdict machine rom map bytes budget w a.in_range a.rom_length v all.safe all.exact all.circuit all.circuit_exact all.least all.refuses all.own all.told

@@ -10,14 +10,13 @@ use Rattle.dvg_cert.specs.declared.fault.CertFault.{CertFault}
 use Rattle.dvg_cert.specs.Grammar.{Spells}
 use Rattle.dvg_cert.specs.Laws.{PrefixRefusal}
 use Rattle.dvg_check.proofs.Accepting.{out_of_range}
-use Rattle.dvg_check.specs.Safety.{Safe, CountsAtHalt}
 use Rattle.dvg_check.specs.Verdict.{InRange, RangeRefusal, RomVerdict, CertVerdict, VerdictOn}
 use Rattle.dvg_check.specs.declared.fault.Mode.{Mode}
 use Rattle.dvg_check.specs.declared.verdict.Refusal.{Refusal}
 use Rattle.dvg_check.specs.declared.verdict.Refusal.TheVariants as refusal
 use Rattle.dvg_check.specs.declared.verdict.Yes.{Yes}
 use Rattle.dvg_cmd.specs.Private.Reading.{IsPrefix}
-use Rattle.dvg_cmd.specs.Runs.{Judges, SafeRead, CountsRead, ReadsText}
+use Rattle.dvg_cmd.specs.Runs.{Judges, ReadsText}
 use Rattle.dvg_cmd.proofs.Whole.{PrefixOf, held_bytes, held_told, prefix_of_held, text_of_held, in_range, range_whole, frame_same, rom_same, rom_whole, refused_whole}
 
 -- a verdict on what was read of the ROM and of the frame, and on all of the certificate
@@ -77,7 +76,7 @@ module _ (machine : Machine) (mode : Mode) (w : Window) (budget : ℕ) (rb fb : 
 -- ---- safety and exact counts
 
 -- what holds of the memory that was read holds of all
-over : (machine : Machine) (P : Yes → Memory → Type 0) (mode : Mode) (w : Window) (budget : ℕ) (v : Result Yes Refusal) (rb fb : List ℕ) (c : Certificate) (cert left : Option (List ℕ)) → InRange fb budget → ReadsText cert left (Ok c) → RomVerdict machine mode w rb c (words_of fb) budget v → IfOk v (λ yes. P yes (record { frame = words_of fb; rom = rom_on machine c.map rb }))
+pub over : (machine : Machine) (P : Yes → Memory → Type 0) (mode : Mode) (w : Window) (budget : ℕ) (v : Result Yes Refusal) (rb fb : List ℕ) (c : Certificate) (cert left : Option (List ℕ)) → InRange fb budget → ReadsText cert left (Ok c) → RomVerdict machine mode w rb c (words_of fb) budget v → IfOk v (λ yes. P yes (record { frame = words_of fb; rom = rom_on machine c.map rb }))
     → (rom frame_held : Option (List ℕ)) → IsPrefix 4097 rom rb → IsPrefix 2049 frame_held fb → IfOk v (λ yes. IfSome rom (λ r. IfSome cert (λ t. IfSome frame_held (λ f. (d : Certificate) × Spells d t × P yes (record { frame = words_of f; rom = rom_on machine d.map r })))))
 over machine P mode w budget (Err r) rb fb c cert left range text h holds rom frame_held rom_read frame_read = tt
 over machine P mode w budget (Ok y) rb fb c cert left range text h holds None frame_held rom_read frame_read = tt
@@ -90,11 +89,3 @@ over machine P mode w budget (Ok y) rb fb c (Some t) left range text h holds (So
       subst (λ (x : List ℕ). Spells c x) ((text_of_held (Some t) left (Ok c) text).whole tt) text.is,
       subst (λ (x : List ℕ). P y (record { frame = words_of f; rom = rom_on machine c.map x })) same_rom (subst (λ (x : List ℕ). P y (record { frame = words_of x; rom = rom_on machine c.map rb })) same_frame holds),
     )
-
-pub safe_read : (machine : Machine) (mode : Mode) (w : Window) (budget : ℕ) (v : Result Yes Refusal) (rb fb : List ℕ) (c : Certificate) (cert left : Option (List ℕ)) → InRange fb budget → ReadsText cert left (Ok c) → RomVerdict machine mode w rb c (words_of fb) budget v → IfOk v (λ yes. Safe (record { frame = words_of fb; rom = rom_on machine c.map rb }) w yes.words yes.depth)
-    → (rom frame_held : Option (List ℕ)) → IsPrefix 4097 rom rb → IsPrefix 2049 frame_held fb → IfOk v (SafeRead machine w rom cert frame_held)
-safe_read machine mode w = over machine (λ y m. Safe m w y.words y.depth) mode w
-
-pub counts_read : (machine : Machine) (mode : Mode) (w : Window) (budget : ℕ) (v : Result Yes Refusal) (rb fb : List ℕ) (c : Certificate) (cert left : Option (List ℕ)) → InRange fb budget → ReadsText cert left (Ok c) → RomVerdict machine mode w rb c (words_of fb) budget v → IfOk v (λ yes. CountsAtHalt (record { frame = words_of fb; rom = rom_on machine c.map rb }) yes.words yes.depth)
-    → (rom frame_held : Option (List ℕ)) → IsPrefix 4097 rom rb → IsPrefix 2049 frame_held fb → IfOk v (CountsRead machine rom cert frame_held)
-counts_read machine = over machine (λ y m. CountsAtHalt m y.words y.depth)

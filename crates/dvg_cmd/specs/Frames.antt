@@ -2,12 +2,14 @@
 use Rattle.std.specs.Prelude.{◌≡◌, ℕ, Bool, true, false, List, ◌++◌, take, length, Option, IfSome, Result, Ok, Err}
 use Rattle.std.specs.Io.KnownBytes.{Appends}
 use Rattle.dvg_words.specs.declared.machine.Machine.{Machine}
+use Rattle.dvg_words.specs.declared.machine.Machine.TheVariants.{Board}
 use Rattle.dvg_words.specs.Values.{MemoryMap, Window}
 use Rattle.dvg_words.specs.Memory.{Rom, words_of, rom_on, IsRomLength, IsFrameLength}
 use Rattle.dvg_words.specs.declared.image.ImageFault.TheVariants.{RomLength, FrameLength}
 use Rattle.dvg_cert.specs.Devices.{AppendsPrefix, TakesOneWrite}
 use Rattle.dvg_cert.specs.Order.{Certificate}
 use Rattle.dvg_check.specs.Safety.{Safe, CountsAtHalt}
+use Rattle.dvg_check.specs.Circuit.{SafeOnCircuit, CountsOnCircuit}
 use Rattle.dvg_check.specs.Judged.{Shapes}
 use Rattle.dvg_check.specs.Rules.{GoodFrame}
 use Rattle.dvg_check.specs.FirstFault.{FirstFrameFault}
@@ -23,7 +25,7 @@ use Rattle.dvg_spelling.specs.Report.{frame_line_text}
 use Rattle.dvg_cmd.specs.Detail.{Detail, Behind, IsBehind, behind_text, frame_outcome_behind}
 use Rattle.dvg_cmd.specs.declared.detail.Detail.TheVariants as details
 use Rattle.dvg_cmd.specs.Runs.{MOST_FRAME_READ, IsReadTo}
-use Rattle.dvg_cmd.specs.SafeFrames.{SafeFrame, CountsFrame}
+use Rattle.dvg_cmd.specs.SafeFrames.{SafeFrame, CountsFrame, SafeCircuitFrame, CountsCircuitFrame}
 use Rattle.dvg_cmd.specs.Start.{started}
 pub use Rattle.dvg_spelling.specs.declared.outcome.FrameAnswer.{FrameAnswer}
 pub use Rattle.dvg_spelling.specs.declared.outcome.FrameAnswer.TheVariants.{Judged, Unread}
@@ -52,6 +54,8 @@ pub record IsAccepted
   pub rom_length : IsRomLength map (length rom)
   pub safe : Safe (record { frame = words_of bytes; rom = rom_on machine map rom }) w y.words y.depth
   pub exact : CountsAtHalt (record { frame = words_of bytes; rom = rom_on machine map rom }) y.words y.depth
+  pub circuit : machine ≡ Board → SafeOnCircuit (record { frame = words_of bytes; rom = rom_on machine map rom }) w y.words y.depth
+  pub circuit_exact : machine ≡ Board → CountsOnCircuit (record { frame = words_of bytes; rom = rom_on machine map rom }) y.words y.depth
   pub least : AreLeast (rom_on machine map rom) (words_of bytes) w y.words y.depth
   -- it is the verdict by the frame's own certificate
   pub by_own : VerdictByMade (rom_on machine map rom) (words_of bytes) w budget (Ok y)
@@ -93,6 +97,11 @@ pub record IsAcceptedOver (shapes : Shapes) (bytes : List ℕ) (budget : ℕ) (y
   pub good : GoodFrame shapes.window shapes.rom.machine (words_of bytes) shapes.list budget y.words y.depth
   pub safe : Safe (record { frame = words_of bytes; rom = shapes.rom }) shapes.window y.words y.depth
   pub exact : shapes.mode ≡ Exact → CountsAtHalt (record { frame = words_of bytes; rom = shapes.rom }) y.words y.depth
+  pub circuit :
+      shapes.rom.machine ≡ Board → SafeOnCircuit (record { frame = words_of bytes; rom = shapes.rom }) shapes.window y.words y.depth
+  pub circuit_exact :
+      shapes.rom.machine ≡ Board → shapes.mode ≡ Exact
+      → CountsOnCircuit (record { frame = words_of bytes; rom = shapes.rom }) y.words y.depth
 
 -- the verdict on a frame's bytes: the first that applies of 2, 49, the frame's first fault, and the yes, with this count of shapes
 abbrev pub VerdictOver : Shapes → ℕ → List ℕ → ℕ → Result Yes FrameRefusal → Type 0
@@ -152,6 +161,8 @@ module _ (IsVerdict : List ℕ → Result Yes FrameRefusal → Type 0) (rom : Ro
     pub means : AnswerMeans IsVerdict start frame left answer
     pub safe : (yes : Yes) → answer ≡ Judged (Ok yes) → SafeFrame rom w start frame yes
     pub exact : IsExact → (yes : Yes) → answer ≡ Judged (Ok yes) → CountsFrame rom start frame yes
+    pub circuit : rom.machine ≡ Board → (yes : Yes) → answer ≡ Judged (Ok yes) → SafeCircuitFrame rom w start frame yes
+    pub circuit_exact : rom.machine ≡ Board → IsExact → (yes : Yes) → answer ≡ Judged (Ok yes) → CountsCircuitFrame rom start frame yes
 
   -- it was written
   pub record ReportsFrame

@@ -2,6 +2,7 @@
 use Rattle.std.specs.Prelude.{◌≡◌, ◌<◌, ◌≤◌, ℕ, Bool, true, false, List, ◌++◌, length, Option, IfSome, Result, Ok, Err, IfOk}
 use Rattle.std.specs.Io.KnownBytes.{Appends, Consumes, IsAtEnd}
 use Rattle.dvg_words.specs.declared.machine.Machine.{Machine}
+use Rattle.dvg_words.specs.declared.machine.Machine.TheVariants.{Board}
 use Rattle.dvg_words.specs.Values.{Window}
 use Rattle.dvg_cert.specs.Devices.{AppendsPrefix, TakesOneWrite}
 use Rattle.dvg_cert.specs.declared.fault.CertWhy.TheVariants.{Unended}
@@ -13,7 +14,7 @@ use Rattle.dvg_check.specs.declared.verdict.Refusal.{Refusal}
 use Rattle.dvg_check.specs.declared.verdict.Refusal.TheVariants as refusal
 use Rattle.dvg_check.specs.declared.fault.Mode.{Mode}
 use Rattle.dvg_check.specs.declared.fault.Mode.TheVariants.{Exact}
-use Rattle.dvg_check.specs.Verdict.{VerdictOn, SafeOn, CountsOn}
+use Rattle.dvg_check.specs.Verdict.{VerdictOn, SafeOn, CountsOn, SafeCircuitOn, CountsCircuitOn}
 use Rattle.dvg_spelling.specs.Report.{report_text}
 pub use Rattle.dvg_spelling.specs.declared.outcome.Outcome.{Outcome}
 pub use Rattle.dvg_spelling.specs.declared.outcome.Outcome.TheVariants.{Accepted, Refused, NoMemory}
@@ -99,6 +100,16 @@ SafeRead machine w rom cert frame y = IfSome rom (λ r. IfSome cert (λ c. IfSom
 abbrev pub CountsRead : Machine → Option (List ℕ) → Option (List ℕ) → Option (List ℕ) → Yes → Type 0
 CountsRead machine rom cert frame y = IfSome rom (λ r. IfSome cert (λ c. IfSome frame (λ f. CountsOn machine r c f y.words y.depth)))
 
+-- every run of the board's circuit over the same is safe, if all of it is known
+abbrev pub SafeCircuitRead : Machine → Window → Option (List ℕ) → Option (List ℕ) → Option (List ℕ) → Yes → Type 0
+SafeCircuitRead machine w rom cert frame y =
+    IfSome rom (λ r. IfSome cert (λ c. IfSome frame (λ f. SafeCircuitOn machine w r c f y.words y.depth)))
+
+-- and has just these counts when it has halted
+abbrev pub CountsCircuitRead : Machine → Option (List ℕ) → Option (List ℕ) → Option (List ℕ) → Yes → Type 0
+CountsCircuitRead machine rom cert frame y =
+    IfSome rom (λ r. IfSome cert (λ c. IfSome frame (λ f. CountsCircuitOn machine r c f y.words y.depth)))
+
 -- the report of a verdict and what the detail asks for behind it were written, by one write if they fit one, and nothing else;
 -- `writes` and `writes_after` count the writes that took their whole piece
 pub record WritesReport
@@ -126,6 +137,8 @@ pub record Reports
   pub read : IsReadFor verdict cert left
   pub safe : IfOk verdict (SafeRead machine w rom cert frame)
   pub exact : mode ≡ Exact → IfOk verdict (CountsRead machine rom cert frame)
+  pub circuit : machine ≡ Board → IfOk verdict (SafeCircuitRead machine w rom cert frame)
+  pub circuit_exact : machine ≡ Board → mode ≡ Exact → IfOk verdict (CountsCircuitRead machine rom cert frame)
   pub report : WritesReport detail verdict old new writes writes_after outcome
 
 -- a prefix of that report was written
@@ -136,19 +149,10 @@ pub record ReportsPrefix
   pub judges : Judges machine mode w rom cert frame budget verdict
   pub report : WritesReportPrefix detail verdict old new
 
--- an accepted line was written, and every run over these bytes is safe with its counts
-pub record ReportsSafe
-    (machine : Machine) (detail : Detail) (w : Window) (rom cert frame : Option (List ℕ)) (old new : Option (List ℕ)) : Type 0 where
+-- an accepted line was written, and P holds of its counts
+pub record ReportsAccepted (detail : Detail) (old new : Option (List ℕ)) (P : Yes → Type 0) : Type 0 where
   pub yes : Yes
   pub behind : Behind
   pub asked : IsBehind detail behind
   pub written : Appends old new (report_text (Ok yes) ++ behind_text behind)
-  pub safe : SafeRead machine w rom cert frame yes
-
--- an accepted line was written, and every run over these bytes has just its counts
-pub record ReportsCounts (machine : Machine) (detail : Detail) (rom cert frame : Option (List ℕ)) (old new : Option (List ℕ)) : Type 0 where
-  pub yes : Yes
-  pub behind : Behind
-  pub asked : IsBehind detail behind
-  pub written : Appends old new (report_text (Ok yes) ++ behind_text behind)
-  pub counts : CountsRead machine rom cert frame yes
+  pub holds : P yes

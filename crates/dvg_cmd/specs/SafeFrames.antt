@@ -4,6 +4,7 @@ use Rattle.std.specs.Io.KnownBytes.{Appends}
 use Rattle.dvg_words.specs.Memory.{Rom, words_of}
 use Rattle.dvg_words.specs.Values.{Window}
 use Rattle.dvg_check.specs.Safety.{Safe, CountsAtHalt}
+use Rattle.dvg_check.specs.Circuit.{SafeOnCircuit, CountsOnCircuit}
 use Rattle.dvg_check.specs.declared.verdict.Yes.{Yes}
 use Rattle.dvg_spelling.specs.Report.{accepted_text}
 use Rattle.dvg_cmd.specs.Detail.{Detail, Behind, IsBehind, behind_text}
@@ -24,20 +25,20 @@ abbrev pub CountsFrame : Rom → Option ℕ → Option (List ℕ) → Yes → Ty
 CountsFrame rom start frame y =
     IfSome frame (λ held. CountsAtHalt (record { frame = words_of (started start held); rom = rom }) y.words y.depth)
 
--- an accepted line was written, and every run over that frame is safe with its counts
-pub record ReportsFrameSafe
-    (detail : Detail) (rom : Rom) (w : Window) (start : Option ℕ) (name : List ℕ) (frame old new : Option (List ℕ)) : Type 0 where
-  pub yes : Yes
-  pub behind : Behind
-  pub asked : IsBehind detail behind
-  pub written : Appends old new (accepted_line name yes ++ behind_text behind)
-  pub safe : SafeFrame rom w start frame yes
+-- every run of the board's circuit over them is safe with these counts; this says nothing if the bytes are not known
+abbrev pub SafeCircuitFrame : Rom → Window → Option ℕ → Option (List ℕ) → Yes → Type 0
+SafeCircuitFrame rom w start frame y =
+    IfSome frame (λ held. SafeOnCircuit (record { frame = words_of (started start held); rom = rom }) w y.words y.depth)
 
--- an accepted line was written, and every run over that frame has just its counts
-pub record ReportsFrameCounts
-    (detail : Detail) (rom : Rom) (start : Option ℕ) (name : List ℕ) (frame old new : Option (List ℕ)) : Type 0 where
+-- every run of the board's circuit over them has just these counts when it has halted; this says nothing if the bytes are not known
+abbrev pub CountsCircuitFrame : Rom → Option ℕ → Option (List ℕ) → Yes → Type 0
+CountsCircuitFrame rom start frame y =
+    IfSome frame (λ held. CountsOnCircuit (record { frame = words_of (started start held); rom = rom }) y.words y.depth)
+
+-- an accepted line was written, and P holds of its counts
+pub record ReportsFrameAccepted (detail : Detail) (name : List ℕ) (old new : Option (List ℕ)) (P : Yes → Type 0) : Type 0 where
   pub yes : Yes
   pub behind : Behind
   pub asked : IsBehind detail behind
   pub written : Appends old new (accepted_line name yes ++ behind_text behind)
-  pub counts : CountsFrame rom start frame yes
+  pub holds : P yes

@@ -3,7 +3,9 @@
 ghost use Rattle.std.specs.Prelude.{◌≡◌, ℕ, List, Result, length, Err, IfOk, IfErr};
 ghost use Rattle.dvg_words.specs.Memory.{Rom, IsFrameLength, rom_on, words_of};
 ghost use Rattle.dvg_words.specs.Values.{Window as Places};
+ghost use Rattle.dvg_words.specs.declared.machine.Machine.TheVariants.{Board};
 ghost use Rattle.dvg_check.specs.Safety.{Safe, CountsAtHalt};
+ghost use Rattle.dvg_check.specs.Circuit.{SafeOnCircuit, CountsOnCircuit};
 ghost use Rattle.dvg_check.specs.declared.fault.Mode.TheVariants.{Exact};
 ghost use Rattle.dvg_check.specs.declared.verdict.Yes.{Yes as Counts};
 ghost use Rattle.dvg_make.specs.declared.judging.FrameRefusal.{FrameRefusal as Refused};
@@ -55,7 +57,11 @@ pub trait FrameJudge {
         ensures behind { IsBehind detail result.1 }
         ensures whole { IfOk result.0 (λ yes. IsFrameLength (length frame.now)) }
         ensures safe { IfOk result.0 (λ yes. Safe (record { frame = words_of frame.now; rom = rom self.now }) (window self.now) yes.words yes.depth) }
-        ensures exact { is_exact self.now → IfOk result.0 (λ yes. CountsAtHalt (record { frame = words_of frame.now; rom = rom self.now }) yes.words yes.depth) };
+        ensures exact { is_exact self.now → IfOk result.0 (λ yes. CountsAtHalt (record { frame = words_of frame.now; rom = rom self.now }) yes.words yes.depth) }
+        ensures circuit { (rom self.now).machine ≡ Board
+            → IfOk result.0 (λ yes. SafeOnCircuit (record { frame = words_of frame.now; rom = rom self.now }) (window self.now) yes.words yes.depth) }
+        ensures circuit_exact { (rom self.now).machine ≡ Board → is_exact self.now
+            → IfOk result.0 (λ yes. CountsOnCircuit (record { frame = words_of frame.now; rom = rom self.now }) yes.words yes.depth) };
 }
 
 /// The judge of each frame by its own certificate, as [`judge`] judges.

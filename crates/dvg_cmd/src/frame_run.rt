@@ -2,11 +2,12 @@
 
 ghost use Rattle.std.specs.Prelude.{◌≡◌, ◌++◌, Bool, IfOk, IfErr, OnOk, OnErr, Ok, Err, is_err};
 ghost use Rattle.std.specs.Io.KnownBytes.{Appends};
+ghost use Rattle.dvg_words.specs.declared.machine.Machine.TheVariants.{Board};
 ghost use Rattle.dvg_cert.specs.Devices.{AppendsPrefix, TakesOneWrite, count_after};
 ghost use Rattle.dvg_cmd.specs.Detail.{IsBehind, behind_text, frame_outcome_behind};
 ghost use Rattle.dvg_cmd.specs.Runs.{MOST_FRAME_READ, IsReadTo};
 ghost use Rattle.dvg_cmd.specs.Frames.{ReadsFrame, AnswersFrame, ReportsFrame, ReportsFramePrefix, WritesAnswer, WritesAnswerPrefix, frame_line, frame_outcome_of, is_unread, is_unread_outcome};
-ghost use Rattle.dvg_cmd.specs.SafeFrames.{ReportsFrameSafe, ReportsFrameCounts};
+ghost use Rattle.dvg_cmd.specs.SafeFrames.{SafeFrame, CountsFrame, SafeCircuitFrame, CountsCircuitFrame, ReportsFrameAccepted};
 
 use crate::detail::{Behind, Detail};
 use crate::frame_judge::FrameJudge;
@@ -117,11 +118,19 @@ pub fn run_frame<J: FrameJudge, R: CountedRead, W: CountedWrite>(
     ensures prefix { OnErr result (ReportsFramePrefix (J.is_verdict judge.now) (J.rom judge.now) (J.window judge.now) (J.is_exact judge.now)
         detail start name.now (R.remaining frame.old) (R.remaining frame.new) (W.contents out.old) (W.contents out.new)) }
 
-    // What is accepted is safe, with the counts of the line that was written, and if these are exact, they are those of each run.
-    ensures safe { result ≡ Ok FrameOutcome.Accepted → ReportsFrameSafe detail (J.rom judge.now) (J.window judge.now) start name.now
-        (R.remaining frame.old) (W.contents out.old) (W.contents out.new) }
-    ensures exact { J.is_exact judge.now → result ≡ Ok FrameOutcome.Accepted → ReportsFrameCounts detail (J.rom judge.now) start name.now
-        (R.remaining frame.old) (W.contents out.old) (W.contents out.new) }
+    // What is accepted is safe, with the counts of the line that was written, and if these are exact, they are those of each run; on
+    // the board also on its circuit.
+    ensures safe { result ≡ Ok FrameOutcome.Accepted → ReportsFrameAccepted detail name.now (W.contents out.old) (W.contents out.new)
+        (SafeFrame (J.rom judge.now) (J.window judge.now) start (R.remaining frame.old)) }
+    ensures exact { J.is_exact judge.now → result ≡ Ok FrameOutcome.Accepted
+        → ReportsFrameAccepted detail name.now (W.contents out.old) (W.contents out.new)
+        (CountsFrame (J.rom judge.now) start (R.remaining frame.old)) }
+    ensures circuit { (J.rom judge.now).machine ≡ Board → result ≡ Ok FrameOutcome.Accepted
+        → ReportsFrameAccepted detail name.now (W.contents out.old) (W.contents out.new)
+        (SafeCircuitFrame (J.rom judge.now) (J.window judge.now) start (R.remaining frame.old)) }
+    ensures circuit_exact { (J.rom judge.now).machine ≡ Board → J.is_exact judge.now → result ≡ Ok FrameOutcome.Accepted
+        → ReportsFrameAccepted detail name.now (W.contents out.old) (W.contents out.new)
+        (CountsCircuitFrame (J.rom judge.now) start (R.remaining frame.old)) }
     ensures fault { IfErr result (λ fault. fault ≡ RunFault.Write) }
 
     // The frame's count rises by one if it could not be read, and by no more if the run ends; the writer's rises there.

@@ -3,17 +3,18 @@
 ghost use Rattle.std.specs.Prelude.{◌≡◌, ◌≢◌, ◌≤◌, ◌++◌, ℕ, List, Option, Ok, Err, IfOk, IfErr, OnOk, OnErr, is_err, true};
 ghost use Rattle.std.specs.Io.KnownBytes.{Appends};
 ghost use Rattle.dvg_words.specs.Memory.{rom_on};
-ghost use Rattle.dvg_words.specs.declared.machine.Machine.TheVariants.{Profile};
+ghost use Rattle.dvg_words.specs.declared.machine.Machine.TheVariants.{Profile, Board};
 ghost use Rattle.dvg_cert.specs.declared.limits.TheConstants.{MOST_WORDS};
 ghost use Rattle.dvg_check.specs.Safety.{Safe, CountsAtHalt};
+ghost use Rattle.dvg_check.specs.Circuit.{SafeOnCircuit, CountsOnCircuit};
 ghost use Rattle.dvg_check.specs.Verdict.{RomVerdict};
 ghost use Rattle.dvg_check.specs.declared.fault.Mode.TheVariants.{Exact};
 ghost use Rattle.dvg_cert.specs.Devices.{AppendsPrefix, TakesOneWrite, count_after};
 ghost use Rattle.dvg_spelling.specs.Report.{report_text};
 ghost use Rattle.dvg_cmd.specs.Detail.{IsBehind, behind_text, outcome_behind};
 ghost use Rattle.dvg_cmd.specs.Runs.{blames_rom, blames_frame, blames_certificate, blames_writer};
-ghost use Rattle.dvg_cmd.specs.Runs.{MOST_ROM_READ, MOST_FRAME_READ, IsReadTo, IsReadFor, Judges, SafeRead, CountsRead, outcome_of};
-ghost use Rattle.dvg_cmd.specs.Runs.{Reports, ReportsPrefix, ReportsSafe, ReportsCounts};
+ghost use Rattle.dvg_cmd.specs.Runs.{MOST_ROM_READ, MOST_FRAME_READ, IsReadTo, IsReadFor, Judges, SafeRead, CountsRead, SafeCircuitRead, CountsCircuitRead, outcome_of};
+ghost use Rattle.dvg_cmd.specs.Runs.{Reports, ReportsPrefix, ReportsAccepted};
 ghost use Rattle.dvg_cmd.specs.declared.detail.Detail.TheVariants as details;
 ghost use Rattle.dvg_cmd.specs.Private.Reading.{IsPrefix};
 
@@ -77,6 +78,10 @@ fn judge_rom(
     ensures verdict { RomVerdict options.now.machine options.now.mode options.now.window rom.now cert.now frame.now options.now.budget result.0 }
     ensures safe { IfOk result.0 (λ yes. Safe (record { frame = frame.now; rom = rom_on options.now.machine cert.now.map rom.now }) options.now.window yes.words yes.depth) }
     ensures exact { options.now.mode ≡ Exact → IfOk result.0 (λ yes. CountsAtHalt (record { frame = frame.now; rom = rom_on options.now.machine cert.now.map rom.now }) yes.words yes.depth) }
+    ensures circuit { options.now.machine ≡ Board
+        → IfOk result.0 (λ yes. SafeOnCircuit (record { frame = frame.now; rom = rom_on options.now.machine cert.now.map rom.now }) options.now.window yes.words yes.depth) }
+    ensures circuit_exact { options.now.machine ≡ Board → options.now.mode ≡ Exact
+        → IfOk result.0 (λ yes. CountsOnCircuit (record { frame = frame.now; rom = rom_on options.now.machine cert.now.map rom.now }) yes.words yes.depth) }
 {
     let CheckOptions {
         budget,
@@ -118,6 +123,12 @@ pub fn read_verdict<R: CountedRead>(
     ensures exact { options.now.mode ≡ Exact → (rom_held frame_held : Option (List ℕ)) → IsPrefix MOST_ROM_READ rom_held rom.now
         → IsPrefix MOST_FRAME_READ frame_held frame.now
         → IfOk result (λ judged. IfOk judged.verdict (CountsRead options.now.machine rom_held (R.remaining cert.old) frame_held)) }
+    ensures circuit { options.now.machine ≡ Board → (rom_held frame_held : Option (List ℕ)) → IsPrefix MOST_ROM_READ rom_held rom.now
+        → IsPrefix MOST_FRAME_READ frame_held frame.now
+        → IfOk result (λ judged. IfOk judged.verdict (SafeCircuitRead options.now.machine options.now.window rom_held (R.remaining cert.old) frame_held)) }
+    ensures circuit_exact { options.now.machine ≡ Board → options.now.mode ≡ Exact → (rom_held frame_held : Option (List ℕ))
+        → IsPrefix MOST_ROM_READ rom_held rom.now → IsPrefix MOST_FRAME_READ frame_held frame.now
+        → IfOk result (λ judged. IfOk judged.verdict (CountsCircuitRead options.now.machine rom_held (R.remaining cert.old) frame_held)) }
     ensures read { IfOk result (λ judged. IsReadFor judged.verdict (R.remaining cert.old) (R.remaining cert.new)) }
     ensures count { R.failures cert.new ≡ count_after (is_err result) (R.failures cert.old) }
 {
@@ -238,11 +249,16 @@ pub fn run_check_in<R1: CountedRead, R2: CountedRead, R3: CountedRead, W: Counte
     ensures one_write { detail ≡ details.Line → OnOk result (W.whole_writes out.new ≡ count_after true (W.whole_writes out.old)) }
 
     // What is accepted is safe, with the counts of the line that was written, and in the mode `Exact` these are the counts of
-    // each run.
-    ensures safe { result ≡ Ok Outcome.Accepted → ReportsSafe options.now.machine detail options.now.window (R1.remaining rom.old) (R2.remaining cert.old)
-        (R3.remaining frame.old) (W.contents out.old) (W.contents out.new) }
-    ensures exact { options.now.mode ≡ Exact → result ≡ Ok Outcome.Accepted → ReportsCounts options.now.machine detail (R1.remaining rom.old)
-        (R2.remaining cert.old) (R3.remaining frame.old) (W.contents out.old) (W.contents out.new) }
+    // each run; on the board also on its circuit.
+    ensures safe { result ≡ Ok Outcome.Accepted → ReportsAccepted detail (W.contents out.old) (W.contents out.new)
+        (SafeRead options.now.machine options.now.window (R1.remaining rom.old) (R2.remaining cert.old) (R3.remaining frame.old)) }
+    ensures exact { options.now.mode ≡ Exact → result ≡ Ok Outcome.Accepted → ReportsAccepted detail (W.contents out.old) (W.contents out.new)
+        (CountsRead options.now.machine (R1.remaining rom.old) (R2.remaining cert.old) (R3.remaining frame.old)) }
+    ensures circuit { options.now.machine ≡ Board → result ≡ Ok Outcome.Accepted → ReportsAccepted detail (W.contents out.old) (W.contents out.new)
+        (SafeCircuitRead options.now.machine options.now.window (R1.remaining rom.old) (R2.remaining cert.old) (R3.remaining frame.old)) }
+    ensures circuit_exact { options.now.machine ≡ Board → options.now.mode ≡ Exact → result ≡ Ok Outcome.Accepted
+        → ReportsAccepted detail (W.contents out.old) (W.contents out.new)
+        (CountsCircuitRead options.now.machine (R1.remaining rom.old) (R2.remaining cert.old) (R3.remaining frame.old)) }
 {
     let Ok(rom) = read_rom(rom) else {
         return Err(RunFault::ReadRom);
@@ -309,10 +325,10 @@ pub fn run_check<R1: CountedRead, R2: CountedRead, R3: CountedRead, W: CountedWr
 
     // What is accepted is safe, with the counts of the line that was written, and in the mode `Exact` these are the counts of
     // each run.
-    ensures safe { result ≡ Ok Outcome.Accepted → ReportsSafe Profile details.Line window (R1.remaining rom.old) (R2.remaining cert.old)
-        (R3.remaining frame.old) (W.contents out.old) (W.contents out.new) }
-    ensures exact { mode ≡ Exact → result ≡ Ok Outcome.Accepted → ReportsCounts Profile details.Line (R1.remaining rom.old) (R2.remaining cert.old)
-        (R3.remaining frame.old) (W.contents out.old) (W.contents out.new) }
+    ensures safe { result ≡ Ok Outcome.Accepted → ReportsAccepted details.Line (W.contents out.old) (W.contents out.new)
+        (SafeRead Profile window (R1.remaining rom.old) (R2.remaining cert.old) (R3.remaining frame.old)) }
+    ensures exact { mode ≡ Exact → result ≡ Ok Outcome.Accepted → ReportsAccepted details.Line (W.contents out.old) (W.contents out.new)
+        (CountsRead Profile (R1.remaining rom.old) (R2.remaining cert.old) (R3.remaining frame.old)) }
 {
     let options = CheckOptions {
         machine: Machine::Profile,

@@ -3,9 +3,11 @@
 ghost use Rattle.std.specs.Prelude.{◌≡◌, ◌≤◌, IfOk, IfErr};
 ghost use Rattle.dvg_cert.specs.declared.limits.TheConstants.{MOST_WORDS};
 ghost use Rattle.dvg_words.specs.declared.instruction.Instr.TheVariants.{Jmpl};
+ghost use Rattle.dvg_words.specs.declared.machine.Machine.TheVariants.{Board};
 ghost use Rattle.dvg_check.specs.Rules.{IsForward, GoodFrame};
 ghost use Rattle.dvg_check.specs.Finding.{FirstFrameFound, IsSoundFound};
 ghost use Rattle.dvg_check.specs.Safety.{Safe, CountsAtHalt};
+ghost use Rattle.dvg_check.specs.Circuit.{SafeOnCircuit, CountsOnCircuit};
 ghost use Rattle.dvg_check.specs.declared.fault.Mode.TheVariants.{Exact};
 ghost use Rattle.dvg_items.specs.Bounds.{IsSoundSeen};
 ghost use Rattle.dvg_explain.specs.Causes.{CauseOf};
@@ -108,6 +110,10 @@ pub fn explain_frame<E: Entries>(
     ensures cause { IfErr result (λ account. CauseOf shapes.now.window budget account.finding account.cause) }
     ensures safe { IfOk result (λ yes. Safe (record { frame = frame.now; rom = shapes.now.rom }) shapes.now.window yes.words yes.depth) }
     ensures exact { shapes.now.mode ≡ Exact → IfOk result (λ yes. CountsAtHalt (record { frame = frame.now; rom = shapes.now.rom }) yes.words yes.depth) }
+    ensures circuit { shapes.now.rom.machine ≡ Board
+        → IfOk result (λ yes. SafeOnCircuit (record { frame = frame.now; rom = shapes.now.rom }) shapes.now.window yes.words yes.depth) }
+    ensures circuit_exact { shapes.now.rom.machine ≡ Board → shapes.now.mode ≡ Exact
+        → IfOk result (λ yes. CountsOnCircuit (record { frame = frame.now; rom = shapes.now.rom }) yes.words yes.depth) }
 {
     match shapes.find_fault(frame, budget) {
         Ok(accepted) => Ok(accepted),

@@ -2,10 +2,12 @@
 
 ghost use Rattle.std.specs.Prelude.{◌≡◌, ◌≤◌, IfOk, IfErr};
 ghost use Rattle.dvg_words.specs.Memory.{rom_on};
+ghost use Rattle.dvg_words.specs.declared.machine.Machine.TheVariants.{Board};
 ghost use Rattle.dvg_cert.specs.declared.limits.TheConstants.{MOST_WORDS};
 ghost use Rattle.dvg_check.specs.declared.fault.Mode.TheVariants.{Exact};
 ghost use Rattle.dvg_check.specs.Verdict.{RomVerdict};
 ghost use Rattle.dvg_check.specs.Safety.{Safe, CountsAtHalt};
+ghost use Rattle.dvg_check.specs.Circuit.{SafeOnCircuit, CountsOnCircuit};
 ghost use Rattle.dvg_explain.specs.Verdict.{refusal_of, verdict_of, TellsOf};
 
 use crate::frames::{FrameAccount, explain_frame};
@@ -47,7 +49,8 @@ impl RomAccount {
 /// numbers (profile): shapes and frame are judged once.
 ///
 /// `budget` is how many words the frame may take at most, up to 1,000,000, `window` the part of the screen that may be lit. What is
-/// accepted is safe, and in the mode `Exact` the counts are those of each run. Takes memory for the index of the entries alone.
+/// accepted is safe, on the board also on its circuit, and in the mode `Exact` the counts are those of each run. Takes memory for
+/// the index of the entries alone.
 pub fn explain_rom(
     machine: Machine,
     alloc: Global,
@@ -63,6 +66,10 @@ pub fn explain_rom(
     ensures account { IfErr result (TellsOf mode window (rom_on machine cert.now.map rom.now) cert.now.entries frame.now budget) }
     ensures safe { IfOk result (λ yes. Safe (record { frame = frame.now; rom = rom_on machine cert.now.map rom.now }) window yes.words yes.depth) }
     ensures exact { mode ≡ Exact → IfOk result (λ yes. CountsAtHalt (record { frame = frame.now; rom = rom_on machine cert.now.map rom.now }) yes.words yes.depth) }
+    ensures circuit { machine ≡ Board
+        → IfOk result (λ yes. SafeOnCircuit (record { frame = frame.now; rom = rom_on machine cert.now.map rom.now }) window yes.words yes.depth) }
+    ensures circuit_exact { machine ≡ Board → mode ≡ Exact
+        → IfOk result (λ yes. CountsOnCircuit (record { frame = frame.now; rom = rom_on machine cert.now.map rom.now }) yes.words yes.depth) }
 {
     let Ok(rom) = RomImage::from_bytes_on(machine, rom, cert.map()) else {
         return Err(RomAccount::RomLength);

@@ -5,6 +5,7 @@ use Rattle.std.proofs.lemmas.Int.{ints}
 use Rattle.dvg_words.specs.Beam.{displacement, screen}
 use Rattle.dvg_words.specs.Decoding.{cell_at}
 use Rattle.dvg_words.specs.Memory.{rom_word}
+use Rattle.dvg_words.specs.declared.machine.Machine.TheVariants.{Profile}
 use Rattle.dvg_words.specs.declared.instruction.Cell.TheVariants.{Holds}
 use Rattle.dvg_cert.specs.declared.entry.Entry.{Entry}
 use Rattle.dvg_cert.specs.declared.entry.Key.{Key}
@@ -46,12 +47,12 @@ module _ (P : List Item → Item → Type 0) where
   -- what holds of both items holds of each item
   both_items : P [] draw_item → P (draw_item ∷ []) return_item → EachItem example_rom 2048 P
   both_items first last earlier i lead is =
-      all_kept Shape (rom_word example_rom) 2048 Item Here (draw_item ∷ []) return_item (refl, draw_there, refl) return_there refl ((tt, here [] draw_item draw_there first), here (draw_item ∷ []) return_item return_there last) earlier i.at lead i refl is
+      all_kept Shape (rom_word example_rom) 2048 Item Here (draw_item ∷ []) return_item (refl, draw_there Profile, refl) (return_there Profile) refl ((tt, here [] draw_item (draw_there Profile) first), here (draw_item ∷ []) return_item (return_there Profile) last) earlier i.at lead i refl is
 
 -- ---- its rules
 
 example_keeps : AllKeep Shape (rom_word example_rom) 2048 (MadeKeeps example_rom example_list example_entry)
-example_keeps earlier p lead why w not = other_window Exact example_rom example_list example_entry screen w earlier p why not (example_good.exact example_entry (zero, omega arith, refl) earlier p lead why)
+example_keeps earlier p lead why w not = other_window Exact example_rom example_list example_entry screen w earlier p why not ((example_good Profile).exact example_entry (zero, omega arith, refl) earlier p lead why)
 
 -- ---- its box
 
@@ -82,7 +83,7 @@ abbrev example_roots : List (ℕ × Key)
 example_roots = (0x800, At 0) ∷ []
 
 example_made : Made example_rom example_roots example_list
-example_made = record { certificate = example_good.certificate; each = each; rooted = rooted; needed = needed }
+example_made = record { certificate = (example_good Profile).certificate; each = each; rooted = rooted; needed = needed }
   where
     each : (e : Entry) → Contains example_list e → MadeEntry example_rom example_list e
     each e (zero, lt, is) = subst (MadeEntry example_rom example_list) is example_entry_made

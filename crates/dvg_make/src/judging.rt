@@ -2,7 +2,9 @@
 
 ghost use Rattle.std.specs.Prelude.{◌≡◌, ◌≤◌, [], ◌∷◌, Err, IfOk, IfErr};
 ghost use Rattle.dvg_cert.specs.declared.limits.TheConstants.{MOST_WORDS};
+ghost use Rattle.dvg_words.specs.declared.machine.Machine.TheVariants.{Board};
 ghost use Rattle.dvg_check.specs.Safety.{Safe, CountsAtHalt};
+ghost use Rattle.dvg_check.specs.Circuit.{SafeOnCircuit, CountsOnCircuit};
 ghost use Rattle.dvg_make.specs.Accounts.{entry_fault, IsAccount};
 ghost use Rattle.dvg_make.specs.Frames.{FrameMade};
 ghost use Rattle.dvg_make.specs.Refusals.{FramesRefuse};
@@ -66,7 +68,8 @@ fn check_made(
 /// with fewer words or less depth. The answer is the refusal of [`make_for_frames`] for the first call whose entry is not made,
 /// else that of the checker on the made certificate; it means that no certificate gets the frame accepted, but for 62 by the
 /// number of entries, where another one may, and for 63 and 50, where memory was out. 62 by the number of entries comes only
-/// where the calls up to this one really need too many. Takes memory for the certificate and its index.
+/// where the calls up to this one really need too many. If the ROM is on the board, what is accepted is safe on its circuit, too,
+/// whatever its registers hold at the start. Takes memory for the certificate and its index.
 pub fn judge(
     alloc: Global,
     rom: &RomImage,
@@ -78,6 +81,8 @@ pub fn judge(
     ensures verdict { VerdictByMade rom.now frame.now window budget result }
     ensures safe { IfOk result (λ yes. Safe (record { frame = frame.now; rom = rom.now }) window yes.words yes.depth) }
     ensures exact { IfOk result (λ yes. CountsAtHalt (record { frame = frame.now; rom = rom.now }) yes.words yes.depth) }
+    ensures circuit { rom.now.machine ≡ Board → IfOk result (λ yes. SafeOnCircuit (record { frame = frame.now; rom = rom.now }) window yes.words yes.depth) }
+    ensures circuit_exact { rom.now.machine ≡ Board → IfOk result (λ yes. CountsOnCircuit (record { frame = frame.now; rom = rom.now }) yes.words yes.depth) }
     ensures least { IfOk result (λ yes. AreLeast rom.now frame.now window yes.words yes.depth) }
     ensures refused { IfErr result (FrameRefused rom.now frame.now window budget) }
     ensures told { IfErr result (HasCallCause rom.now frame.now) }
@@ -112,6 +117,10 @@ pub fn explain_judging(
     ensures verdict { VerdictByMade rom.now frame.now window budget result.verdict }
     ensures safe { IfOk result.verdict (λ yes. Safe (record { frame = frame.now; rom = rom.now }) window yes.words yes.depth) }
     ensures exact { IfOk result.verdict (λ yes. CountsAtHalt (record { frame = frame.now; rom = rom.now }) yes.words yes.depth) }
+    ensures circuit { rom.now.machine ≡ Board
+        → IfOk result.verdict (λ yes. SafeOnCircuit (record { frame = frame.now; rom = rom.now }) window yes.words yes.depth) }
+    ensures circuit_exact { rom.now.machine ≡ Board
+        → IfOk result.verdict (λ yes. CountsOnCircuit (record { frame = frame.now; rom = rom.now }) yes.words yes.depth) }
     ensures least { IfOk result.verdict (λ yes. AreLeast rom.now frame.now window yes.words yes.depth) }
     ensures refused { IfErr result.verdict (FrameRefused rom.now frame.now window budget) }
     ensures told { IfErr result.verdict (HasCallCause rom.now frame.now) }

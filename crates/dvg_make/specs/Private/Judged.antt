@@ -1,8 +1,10 @@
 -- The verdict on a frame by the certificate that is made for it. No rule stands here.
-use Rattle.std.specs.Prelude.{ℕ, List, Result, IfOk, IfErr}
+use Rattle.std.specs.Prelude.{◌≡◌, ℕ, List, Result, IfOk, IfErr}
 use Rattle.dvg_words.specs.Memory.{Rom}
 use Rattle.dvg_words.specs.Values.{Window}
+use Rattle.dvg_words.specs.declared.machine.Machine.TheVariants.{Board}
 use Rattle.dvg_check.specs.Safety.{Safe, CountsAtHalt}
+use Rattle.dvg_check.specs.Circuit.{SafeOnCircuit, CountsOnCircuit}
 use Rattle.dvg_check.specs.declared.verdict.Yes.{Yes}
 use Rattle.dvg_make.specs.Judging.{FrameRefusal, VerdictByMade, AreLeast, FrameRefused, HasCallCause}
 
@@ -11,6 +13,8 @@ pub record IsJudged (rom : Rom) (words : List ℕ) (w : Window) (budget : ℕ) (
   pub verdict : VerdictByMade rom words w budget answer
   pub safe : IfOk answer (λ yes. Safe (record { frame = words; rom = rom }) w yes.words yes.depth)
   pub exact : IfOk answer (λ yes. CountsAtHalt (record { frame = words; rom = rom }) yes.words yes.depth)
+  pub circuit : rom.machine ≡ Board → IfOk answer (λ yes. SafeOnCircuit (record { frame = words; rom = rom }) w yes.words yes.depth)
+  pub circuit_exact : rom.machine ≡ Board → IfOk answer (λ yes. CountsOnCircuit (record { frame = words; rom = rom }) yes.words yes.depth)
   pub least : IfOk answer (λ yes. AreLeast rom words w yes.words yes.depth)
   pub refused : IfErr answer (FrameRefused rom words w budget)
   pub told : IfErr answer (HasCallCause rom words)

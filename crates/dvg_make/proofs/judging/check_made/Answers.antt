@@ -7,6 +7,8 @@ returns-in-Ok c =
       verdict = record { list = c.args.cert.now.entries; made = c.requires.made; verdict = c.in-Ok.ensures.verdict };
       safe = c.in-Ok.ensures.safe;
       exact = c.in-Ok.ensures.exact;
+      circuit = c.in-Ok.ensures.circuit;
+      circuit_exact = c.in-Ok.ensures.circuit_exact;
       least = judged_least c.args.rom.now c.args.frame.now c.args.window c.args.budget c.args.cert.now.entries c.requires.made c.in-Ok.yes c.in-Ok.ensures.verdict;
       refused = tt;
       told = tt;
@@ -18,6 +20,8 @@ returns-in-Err c =
       verdict = record { list = c.args.cert.now.entries; made = c.requires.made; verdict = c.in-Err.ensures.verdict };
       safe = tt;
       exact = tt;
+      circuit = λ board. tt;
+      circuit_exact = λ board. tt;
       least = tt;
       refused = judged_refused c.args.rom.now c.args.frame.now c.args.window c.args.budget c.args.cert.now.entries c.requires.made c.in-Err.refusal c.in-Err.ensures.verdict;
       told = tt;

@@ -1,0 +1,247 @@
+-- What is safe on the board's generator is safe on its circuit.
+use Rattle.std.proofs.Common.{Bool, true, false, ◌≡◌, ℕ, zero, suc, ◌+◌, ◌%◌, ◌≤◌, ◌<◌, max, inl, inr, ◌⊎◌, ⊎_elim, List, [], ◌∷◌, ◌++◌, length, reverse, nat_lt, refl, ap, sym, subst, ◌∙◌, arith, pos}
+use Rattle.std.specs.Prelude.{◌*ℤ◌, if◌then◌else◌}
+use Rattle.std.specs.List.{AllByRecursion}
+use Rattle.std.proofs.lemmas.Bool.{cases_lt}
+use Rattle.std.proofs.lemmas.List.{length-reverse, reverse-append}
+use Rattle.dvg_words.specs.Values.{Window, IsWindow}
+use Rattle.dvg_words.specs.declared.beam.Point.{Point}
+use Rattle.dvg_words.specs.declared.machine.Machine.{Machine}
+use Rattle.dvg_words.specs.declared.machine.Machine.TheVariants.{Board}
+use Rattle.dvg_words.specs.declared.instruction.Cell.{Cell}
+use Rattle.dvg_words.specs.declared.instruction.Cell.TheVariants.{Missing, Odd, Holds}
+use Rattle.dvg_words.specs.declared.instruction.Format.{Format}
+use Rattle.dvg_words.specs.declared.instruction.Instr.{Instr}
+use Rattle.dvg_words.specs.declared.instruction.Instr.TheVariants.{Draw as Draws, Labs, Halt, Jsrl, Rtsl, Jmpl}
+use Rattle.dvg_words.specs.Beam.{InWindow}
+use Rattle.dvg_words.specs.Decoding.{cell_at}
+use Rattle.dvg_words.specs.Memory.{Memory, IsMemory, word_at}
+use Rattle.dvg_words.specs.Generator.{Stroke, State, Status, Running, Halted, Fault, Reached, Step, start, after_call, after_return, after_instruction, after_cell, after_fetch, next_status}
+use Rattle.dvg_words.specs.Laws.{state_of}
+use Rattle.dvg_words.proofs.Stack.{stack_within_max}
+use Rattle.dvg_circuit.specs.declared.circuit.Circuit.{Circuit}
+use Rattle.dvg_circuit.specs.declared.counters.Counters.{Counters}
+use Rattle.dvg_circuit.specs.Circuit.{Reads, Run, act, step, run_after, begin}
+use Rattle.dvg_circuit.specs.Premises.{IsStart, ReadsAs}
+use Rattle.dvg_circuit.specs.Showing.{IsInWindow}
+use Rattle.dvg_circuit.specs.Following.{IsSamePlace, IsOnSome, Agrees, AgreesWith}
+use Rattle.dvg_circuit.proofs.Following.{circuit_follows}
+use Rattle.dvg_circuit.proofs.Showing.{lit_in_window}
+use Rattle.dvg_items.proofs.Lists.{all_append, all_map}
+use Rattle.dvg_check.specs.Safety.{Ends, IsMapped, IsSafeState, IsSafeStatus, Safe, CountsAtHalt}
+use Rattle.dvg_check.specs.Circuit.{IsPast, IsSafeRun, SafeOnCircuit, CountsOfRun, CountsOnCircuit}
+use Rattle.dvg_check.specs.Laws.{SafeIsSafeOnCircuit, CountsAreOnCircuit}
+use Rattle.dvg_check.proofs.Runs.{reached_on, grows}
+use Rattle.dvg_check.proofs.Safety.{safe_state}
+
+-- ---- the run of the generator that the circuit follows
+
+-- where the counters stand, as a place
+abbrev place_of : Counters → Point
+place_of c = record { x = pos 1024 *ℤ pos c.x; y = pos 1024 *ℤ pos c.y }
+
+same_place : (c : Circuit) → IsStart c → IsSamePlace (place_of c.counters) c.counters
+same_place c begun =
+    record {
+      x = pos c.counters.x;
+      y = pos c.counters.y;
+      place = refl;
+      counters = ap (λ k. pair k c.counters.y) (omega (arith, begun.x)) ∙ ap (λ k. pair (c.counters.x % 4096) k) (omega (arith, begun.y));
+    }
+  where
+    pair : ℕ → ℕ → Counters
+    pair x y = record { x = x; y = y }
+
+abbrev first : Circuit → State
+first c = start (place_of c.counters) c.scale
+
+-- the status of the generator after as many steps as the circuit took instructions, or at its halt, which comes no later
+record Follows (m : Memory) (reads : ℕ → Reads) (c : Circuit) (n : ℕ) : Type 0 where
+  steps : ℕ
+  status : Status
+  within : steps ≤ n
+  reached : Reached m steps (Running (first c)) status
+  agrees : AgreesWith c.pointer status (run_after reads n (begin c))
+  going : (s : State) → status ≡ Running s → steps ≡ n
+
+module _ (m : Memory) (w : Window) (words depth : ℕ) (mem : IsMemory m) (board : m.rom.machine ≡ Board) (safe : Safe m w words depth) (c : Circuit) (reads : ℕ → Reads) (begun : IsStart c) (seen : ReadsAs m reads (begin c)) where
+  small : c.scale ≤ 15
+  small = omega (arith, begun.scale)
+
+  safe_at : (steps : ℕ) (status : Status) → Reached m steps (Running (first c)) status → IsSafeStatus m w words depth steps status
+  safe_at = safe.each (place_of c.counters) c.scale small
+
+  agree : (steps : ℕ) (status : Status) → Reached m steps (Running (first c)) status → AgreesWith c.pointer status (run_after reads steps (begin c))
+  agree steps status = circuit_follows m reads c (place_of c.counters) steps status mem board begun seen (same_place c begun)
+
+  -- one more instruction; none after a halt
+  on : (n steps : ℕ) (status : Status) → steps ≤ n → Reached m steps (Running (first c)) status → AgreesWith c.pointer status (run_after reads n (begin c)) → ((s : State) → status ≡ Running s → steps ≡ n) → Follows m reads c (suc n)
+  on n steps (Running s) within reached agrees going =
+      let same : suc steps ≡ suc n = ap suc (going s refl) in
+      let more : Reached m (steps + 1) (Running (first c)) (next_status m s) = reached_on m steps 1 (Running (first c)) (Running s) (next_status m s) reached (next_status m s, refl, refl) in
+      let next : Reached m (suc steps) (Running (first c)) (next_status m s) = subst (λ k. Reached m k (Running (first c)) (next_status m s)) (let e : steps + 1 ≡ suc steps = omega arith in e) more in
+      record {
+        steps = suc steps;
+        status = next_status m s;
+        within = omega (arith, within);
+        reached = next;
+        agrees = subst (λ k. AgreesWith c.pointer (next_status m s) (run_after reads k (begin c))) same (agree (suc steps) (next_status m s) next);
+        going = λ t e. same;
+      }
+  on n steps (Halted s) within reached agrees going =
+      let r : Run = run_after reads n (begin c) in
+      record {
+        steps = steps;
+        status = Halted s;
+        within = omega (arith, within);
+        reached = reached;
+        agrees = subst (λ (halted : Bool). AgreesWith c.pointer (Halted s) (if halted then r else act (reads n) (reads n r.circuit.pc) r)) (sym agrees.0) agrees;
+        going = λ t e. cc;
+      }
+  on n steps (Fault s) within reached agrees going = absurd (safe_at steps (Fault s) reached)
+
+  follows : (n : ℕ) → Follows m reads c n
+  follows zero = record { steps = 0; status = Running (first c); within = omega arith; reached = refl; agrees = agree 0 (Running (first c)) refl; going = λ s e. refl }
+  follows (suc n) = let f = follows n in on n f.steps f.status f.within f.reached f.agrees f.going
+
+  -- ---- what is safe
+
+  agreeing : (status : Status) (steps : ℕ) (r : Run) → IsSafeStatus m w words depth steps status → AgreesWith c.pointer status r → Agrees c.pointer (state_of status) r
+  agreeing (Running s) steps r h agrees = agrees.1
+  agreeing (Halted s) steps r h agrees = agrees.1
+  agreeing (Fault s) steps r h agrees = absurd h
+
+  stored_at : (n : ℕ) → IsPast c.pointer depth (run_after reads n (begin c)).circuit.pointer
+  stored_at n =
+      let f = follows n in
+      let h = safe_at f.steps f.status f.reached in
+      let s = safe_state m w words depth f.steps f.status h in
+      let le = stack_within_max m (place_of c.counters) c.scale f.steps f.status f.reached in
+      (length (state_of f.status).return_stack, omega (arith, le, s.stored), (agreeing f.status f.steps _ h f.agrees).pointer)
+
+  all_reversed : (P : ℕ → Type 0) (xs : List ℕ) → AllByRecursion P xs → AllByRecursion P (reverse xs)
+  all_reversed P [] h = tt
+  all_reversed P (x ∷ xs) h = subst (AllByRecursion P) (sym (reverse-append (x ∷ []) xs)) (all_append P (reverse xs) (x ∷ []) (all_reversed P xs h.1) (h.0, tt))
+
+  some_inside : IsWindow w → (strokes : List Stroke) (k : Counters) → AllByRecursion (Ends (InWindow w)) strokes → IsOnSome strokes k → IsInWindow w k
+  some_inside is [] k ends lit = absurd lit
+  some_inside is (stroke ∷ strokes) k ends lit =
+      ⊎_elim (λ here. lit_in_window w stroke k is ends.0.0 ends.0.1 here) (λ there. some_inside is strokes k ends.1 there) lit
+
+  safe_run : IsWindow w → (n : ℕ) → IsSafeRun m w words depth c.pointer (run_after reads n (begin c))
+  safe_run is n =
+      let f = follows n in
+      let h = safe_at f.steps f.status f.reached in
+      let s = safe_state m w words depth f.steps f.status h in
+      let a = agreeing f.status f.steps _ h f.agrees in
+      let r : Run = run_after reads n (begin c) in
+      record {
+        few = omega (arith, s.few, ap length a.fetched, length-reverse (state_of f.status).fetched);
+        mapped = subst (AllByRecursion (IsMapped m)) (sym a.fetched) (all_reversed (IsMapped m) (state_of f.status).fetched s.mapped);
+        stored = stored_at n;
+        lit = all_map (IsOnSome (state_of f.status).strokes) (IsInWindow w) r.lit (λ k lit. some_inside is (state_of f.status).strokes k s.lit lit) a.lit;
+      }
+
+  halts : (n : ℕ) × (n ≤ words) × ((run_after reads n (begin c)).circuit.halted ≡ true)
+  halts =
+      let end = safe.halts (place_of c.counters) c.scale small in
+      (end.0, end.2, (agree end.0 (Halted end.1) end.3).0)
+
+pub safe_on_circuit : SafeIsSafeOnCircuit
+safe_on_circuit m w words depth mem board is safe =
+    record {
+      four = safe.four;
+      halts = λ c reads begun seen. halts m w words depth mem board safe c reads begun seen;
+      each = λ c reads begun seen n. safe_run m w words depth mem board safe c reads begun seen is n;
+    }
+
+-- ---- the most places stored
+
+-- what is stored at most grows only where just so many are stored
+abbrev Rises : State → Status → Type 0
+Rises s after = ((state_of after).max_stack ≤ s.max_stack) ⊎ ((u : State) × (after ≡ Running u) × (length u.return_stack ≡ u.max_stack))
+
+rises_call : (room : Bool) (to : ℕ) (s : State) → Rises s (after_call room to s)
+rises_call false to s = inl (omega arith)
+rises_call true to s =
+    ⊎_elim (λ more. inr (_, refl, omega (arith, more))) (λ le. inl (omega (arith, le))) (cases_lt s.max_stack (length s.return_stack + 1))
+
+rises_return : (stack : List ℕ) (s : State) → Rises s (after_return stack s)
+rises_return [] s = inl (omega arith)
+rises_return (back ∷ rest) s = inl (omega arith)
+
+rises_instruction : (machine : Machine) (i : Instr) (format : Format) (s : State) → Rises s (after_instruction machine i format s)
+rises_instruction machine (Draws d) format s = inl (omega arith)
+rises_instruction machine (Labs x y g) format s = inl (omega arith)
+rises_instruction machine Halt format s = inl (omega arith)
+rises_instruction machine (Jsrl to) format s = rises_call (nat_lt (length s.return_stack) 4) to s
+rises_instruction machine Rtsl format s = rises_return s.return_stack s
+rises_instruction machine (Jmpl to) format s = inl (omega arith)
+
+rises_cell : (machine : Machine) (cell : Cell) (s : State) → Rises s (after_cell machine cell s)
+rises_cell machine Missing s = inl (omega arith)
+rises_cell machine Odd s = inl (omega arith)
+rises_cell machine (Holds format i) s = rises_instruction machine i format s
+
+rises_next : (m : Memory) (s : State) → Rises s (next_status m s)
+unfolding next_status
+rises_next m s = rises_cell m.rom.machine (cell_at (word_at m) s.pc) (after_fetch m s)
+
+-- a state of the run in which so many are stored as are at most up to the end
+abbrev Deepest : Memory → ℕ → State → Status → Type 0
+Deepest m n s after = (k : ℕ) × (u : State) × (k ≤ n) × Reached m k (Running s) (Running u) × (length u.return_stack ≡ (state_of after).max_stack)
+
+deepest_on : (m : Memory) (n : ℕ) (s : State) (mid after : Status) → next_status m s ≡ mid → Reached m n mid after
+    → ((u : State) → Reached m n (Running u) after → ((state_of after).max_stack ≤ u.max_stack) ⊎ Deepest m n u after)
+    → ((state_of after).max_stack ≤ s.max_stack) ⊎ Deepest m (suc n) s after
+deepest_on m n s (Running u) after e reached rest =
+    let most = (grows m n (Running u) after reached).stored in
+    ⊎_elim
+    (λ le. ⊎_elim
+    (λ less. inl (omega (arith, le, less)))
+    (λ full. inr (1, u, omega arith, (Running u, e, refl), omega (arith, le, most, full)))
+    (here u (subst (Rises s) e (rises_next m s))))
+    (λ later. inr (suc later.0, later.1, omega (arith, later.2), (Running u, e, later.3), later.4))
+    (rest u reached)
+  where
+    here : (u : State) → Rises s (Running u) → (u.max_stack ≤ s.max_stack) ⊎ (length u.return_stack ≡ u.max_stack)
+    here u h = ⊎_elim (λ le. inl le) (λ full. inr (let same : Running u ≡ Running full.0 = full.1 in cc)) h
+deepest_on m zero s (Halted u) after e reached rest =
+    ⊎_elim (λ le. inl (omega (arith, le, ap (λ (t : Status). (state_of t).max_stack) reached))) (λ full. absurd (cc)) (subst (Rises s) e (rises_next m s))
+deepest_on m zero s (Fault u) after e reached rest =
+    ⊎_elim (λ le. inl (omega (arith, le, ap (λ (t : Status). (state_of t).max_stack) reached))) (λ full. absurd (cc)) (subst (Rises s) e (rises_next m s))
+deepest_on m (suc n) s (Halted u) after e reached rest = absurd reached.1
+deepest_on m (suc n) s (Fault u) after e reached rest = absurd reached.1
+
+deepest_from : (m : Memory) (n : ℕ) (s : State) (after : Status) → Reached m n (Running s) after → ((state_of after).max_stack ≤ s.max_stack) ⊎ Deepest m n s after
+deepest_from m zero s after reached = inl (omega (arith, ap (λ (t : Status). (state_of t).max_stack) reached))
+deepest_from m (suc n) s after reached = deepest_on m n s reached.0 after reached.1 reached.2 (λ u. deepest_from m n u after)
+
+deepest : (m : Memory) (place : Point) (scale n : ℕ) (after : Status) → Reached m n (Running (start place scale)) after → Deepest m n (start place scale) after
+deepest m place scale n after reached =
+    ⊎_elim (λ none. (0, start place scale, omega arith, refl, omega (arith, none))) (λ some. some) (deepest_from m n (start place scale) after reached)
+
+module _ (m : Memory) (w : Window) (words depth : ℕ) (mem : IsMemory m) (board : m.rom.machine ≡ Board) (safe : Safe m w words depth) (counts : CountsAtHalt m words depth) (c : Circuit) (reads : ℕ → Reads) (begun : IsStart c) (seen : ReadsAs m reads (begin c)) where
+  counts_by : (n steps : ℕ) (status : Status) → steps ≤ n → Reached m steps (Running (first c)) status → AgreesWith c.pointer status (run_after reads n (begin c)) → (run_after reads n (begin c)).circuit.halted ≡ true
+      → CountsOfRun words depth c.pointer (λ k. run_after reads k (begin c)) n
+  counts_by n steps (Running s) within reached agrees halted = absurd (true_false (sym halted ∙ agrees.0))
+    where
+      true_false : true ≡ false → ⊥
+      true_false e = cc
+  counts_by n steps (Fault s) within reached agrees halted = absurd (safe_at m w words depth mem board safe c reads begun seen steps (Fault s) reached)
+  counts_by n steps (Halted h) within reached agrees halted =
+      let place = place_of c.counters in
+      let just = counts place c.scale steps h (small m w words depth mem board safe c reads begun seen) reached in
+      let deep = deepest m place c.scale steps (Halted h) reached in
+      let there = (agree m w words depth mem board safe c reads begun seen deep.0 (Running deep.1) deep.3).1 in
+      record {
+        exactly = ap length agrees.1.fetched ∙ length-reverse h.fetched ∙ just.0;
+        most = stored_at m w words depth mem board safe c reads begun seen;
+        deepest = (deep.0, omega (arith, deep.2, within), there.pointer ∙ ap (λ k. (c.pointer + k) % 16) (deep.4 ∙ just.1));
+      }
+
+  counts_after : (n : ℕ) → (run_after reads n (begin c)).circuit.halted ≡ true → CountsOfRun words depth c.pointer (λ k. run_after reads k (begin c)) n
+  counts_after n halted = let f = follows m w words depth mem board safe c reads begun seen n in counts_by n f.steps f.status f.within f.reached f.agrees halted
+
+pub counts_on_circuit : CountsAreOnCircuit
+counts_on_circuit m w words depth mem board safe counts c reads begun seen n halted = counts_after m w words depth mem board safe counts c reads begun seen n halted

@@ -1,0 +1,91 @@
+-- The worked example on the circuit, instruction by instruction.
+use Rattle.std.proofs.Common.{Bool, true, false, ◌≡◌, ℕ, zero, suc, ◌+◌, ◌%◌, ◌≤◌, List, [], ◌∷◌, Option, Some, length, refl, ap, sym, subst, ◌∙◌, arith}
+use Rattle.std.specs.Prelude.{Contains, unwrap_or, slice_index, slice_set, if◌then◌else◌}
+use Rattle.std.specs.List.{AllByRecursion}
+use Rattle.std.proofs.lemmas.List.{get_or-set_same}
+use Rattle.dvg_words.specs.declared.machine.Machine.TheVariants.{Board}
+use Rattle.dvg_words.specs.Decoding.{format_of, instruction_of}
+use Rattle.dvg_words.specs.Beam.{screen}
+use Rattle.dvg_cert.specs.declared.entry.Entry.{Entry}
+use Rattle.dvg_cert.specs.declared.limits.TheConstants.{MOST_DEPTH}
+use Rattle.dvg_circuit.specs.declared.circuit.Circuit.{Circuit}
+use Rattle.dvg_circuit.specs.declared.counters.Counters.{Counters}
+use Rattle.dvg_circuit.specs.Circuit.{Reads, Run, places, second_word, decoded, performed, act, run_after, begin}
+use Rattle.dvg_circuit.specs.Premises.{IsStart, IsRead, ReadsNow, ReadsAs}
+use Rattle.dvg_check.specs.declared.fault.Mode.TheVariants.{Exact}
+use Rattle.dvg_check.specs.Safety.{Safe}
+use Rattle.dvg_check.specs.Example.{memory_for, example_entry, example_list}
+use Rattle.dvg_check.specs.CircuitExample.{example_reads, WorkedCircuit}
+use Rattle.dvg_check.proofs.Circuit.{safe_on_circuit, counts_on_circuit}
+use Rattle.dvg_check.proofs.Example.{worked_example}
+use Rattle.dvg_check.proofs.FrameLaws.{good_is_safe, exact_is_exact}
+
+-- ---- the run
+
+abbrev registers : Counters → ℕ → ℕ → List ℕ → Circuit
+registers counters scale pointer returns =
+    record { pc = 0; counters = counters; scale = scale; pointer = pointer; returns = returns; halted = false }
+
+same_registers : (c : Circuit) → IsStart c → registers c.counters c.scale c.pointer c.returns ≡ c
+same_registers c begun = sym (λ i. record { pc = begun.pc i; counters = c.counters; scale = c.scale; pointer = c.pointer; returns = c.returns; halted = begun.running i })
+
+-- a word that is there is read
+there : (p : ℕ) (word : ℕ) (found : Option ℕ) → found ≡ Some word → unwrap_or found 0 ≡ word
+there p word found is = ap (λ (o : Option ℕ). unwrap_or o 0) is
+
+module _ (counters : Counters) (scale pointer : ℕ) (returns : List ℕ) (four : length returns ≡ 4) (other : ℕ) where
+  abbrev at : ℕ → Run
+  at n = run_after (example_reads other) n (begin (registers counters scale pointer returns))
+
+  back : (at 4).circuit.pc ≡ 3
+  unfolding instruction_of
+  back =
+      let same : (pointer + 1) % 16 % 4 ≡ (pointer + 1) % 4 = omega arith in
+      ap (λ k. slice_index (slice_set returns ((pointer + 1) % 4) 3) k) same ∙ get_or-set_same returns ((pointer + 1) % 4) 3 0 (omega (arith, four))
+
+  halts : (at 5).circuit.halted ≡ true
+  unfolding instruction_of
+  halts =
+      let reads : Reads = example_reads other 4 in
+      subst (λ (p : ℕ). (performed (decoded (reads p) (second_word (format_of (reads p)) reads p)) (format_of (reads p)) (at 4)).circuit.halted ≡ true) (sym back) refl
+
+  stays : (n : ℕ) → (at (suc (suc (suc (suc (suc n)))))).circuit.halted ≡ true
+  stays zero = halts
+  stays (suc n) =
+      let r : Run = at (suc (suc (suc (suc (suc n))))) in
+      let reads : Reads = example_reads other (suc (suc (suc (suc (suc n))))) in
+      subst (λ (halted : Bool). (if halted then r else act reads (reads r.circuit.pc) r).circuit.halted ≡ true) (sym (stays n)) (stays n)
+
+  reads_now : (n : ℕ) → (at n).circuit.halted ≡ false → ReadsNow (memory_for Board) (example_reads other n) (at n)
+  unfolding instruction_of
+  reads_now zero going = (λ word is. there 0 word _ is, (λ word is. there 1 word _ is, tt))
+  reads_now (suc zero) going = (λ word is. there 2 word _ is, tt)
+  reads_now (suc (suc zero)) going = (λ word is. there 2048 word _ is, (λ word is. there 2049 word _ is, tt))
+  reads_now (suc (suc (suc zero))) going = (λ word is. there 2050 word _ is, tt)
+  reads_now (suc (suc (suc (suc zero)))) going =
+      let reads : Reads = example_reads other 4 in
+      subst (λ (p : ℕ). AllByRecursion (IsRead (memory_for Board) reads) (places (format_of (reads p)) p)) (sym back) (λ word is. there 3 word _ is, tt)
+  reads_now (suc (suc (suc (suc (suc n))))) going = absurd (true_false (sym (stays n) ∙ going))
+    where
+      true_false : true ≡ false → ⊥
+      true_false e = cc
+
+-- ---- all
+
+shallow : (e : Entry) → Contains example_list e → e.depth ≤ MOST_DEPTH
+shallow e (zero, lt, is) = omega (arith, ap (λ (x : Entry). x.depth) is)
+shallow e (suc k, lt, is) = absurd (omega (arith, lt))
+
+safe : Safe (memory_for Board) screen 7 1
+safe = let good = worked_example Board in good_is_safe Exact (memory_for Board) screen example_list 20000 7 1 good.memory shallow good.exact good.frame
+
+pub worked_circuit : WorkedCircuit
+worked_circuit =
+    let good = worked_example Board in
+    record {
+      start = record { pc = refl; x = omega arith; y = omega arith; scale = omega arith; pointer = omega arith; four = refl; running = refl };
+      reads = λ c other begun. subst (λ (k : Circuit). ReadsAs (memory_for Board) (example_reads other) (begin k)) (same_registers c begun)
+          (λ n. reads_now c.counters c.scale c.pointer c.returns begun.four other n);
+      safe = safe_on_circuit (memory_for Board) screen 7 1 good.memory refl (record { x_ordered = omega arith; x_inside = omega arith; y_ordered = omega arith; y_inside = omega arith }) safe;
+      counts = counts_on_circuit (memory_for Board) screen 7 1 good.memory refl safe (exact_is_exact (memory_for Board) screen example_list 20000 7 1 good.memory shallow good.exact good.frame);
+    }
