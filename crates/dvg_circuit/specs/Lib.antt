@@ -4,4 +4,5 @@ pub mod Laws
 pub mod Example
 pub mod Following
 pub mod Showing
+pub mod ClippedExample
 pub mod Writing
