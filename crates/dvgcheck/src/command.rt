@@ -217,7 +217,7 @@ fn clip_option<'a>(alloc: Global) -> Result<Arg<'a>, AllocError> {
         .long("clip")
         .action(ArgAction::SetTrue)
         .help(
-            "Lets strokes be lit from -1024 to 2047, as far as the board blanks what is off the screen",
+            "Lets lit strokes reach from -1024 to 2047, where the board blanks what is off the screen",
         )
         .conflicts_with("window")?
         .requires_arg("board")
