@@ -1,5 +1,5 @@
 -- How far apart runs of the two machines are, and what is safe on one of them by the other.
-use Rattle.std.proofs.Common.{arith, List, zero, subst, sym, suc, ap, refl, Bool, true, false, nat_lt, length, ℤ, pos, negsuc, neg_ℤ, ◌≡◌, ◌+◌, ◌*◌, ◌≤◌, ◌∷◌, ◌++◌, ◌∙◌, ◌+ℤ◌, ℕ, []}
+use Rattle.std.proofs.Common.{arith, List, zero, subst, sym, suc, ap, refl, Bool, true, false, nat_lt, length, ℤ, pos, negsuc, neg_ℤ, ◌≡◌, ◌+◌, ◌*◌, ◌≤◌, ◌∷◌, ◌++◌, ◌∙◌, ◌+ℤ◌, ◌*ℤ◌, ℕ, []}
 use Rattle.std.specs.List.{AllByRecursion}
 use Rattle.std.proofs.lemmas.Int.{ints}
 use Rattle.dvg_words.specs.declared.machine.Machine.{Machine}
@@ -128,7 +128,7 @@ module _ (a : Machine) (m : Memory) (w : Window) (words depth : ℕ) (rounds : R
       by_strokes : (drawn : List Stroke) → (state_of to).strokes ≡ drawn → (state_of to).strokes ≡ []
       by_strokes [] is = is
       by_strokes (stroke ∷ drawn) is =
-          let e : Point = record { x = neg_ℤ stroke.from.x +ℤ negsuc 0; y = pos 0 } in
+          let e : Point = record { x = (neg_ℤ stroke.from.x +ℤ (pos 1024 *ℤ w.x_min)) +ℤ negsuc 0; y = pos 0 } in
           let c = course_of (on a m) place scale steps to run in
           let other =
           run_on (on a m) (on a m) (λ c from. Rounds a m from) (Beside (Shifted e))

@@ -1,5 +1,5 @@
 -- How far apart the two machines are: the moves of draws since the beam was last set, and a window inside another.
-use Rattle.std.specs.Prelude.{◌≡◌, ◌≤◌, ◌+◌, ◌*◌, ◌/◌, ◌∷◌, ℕ, zero, suc, Bool, true, false, List, [], length}
+use Rattle.std.specs.Prelude.{◌≡◌, pos, ◌≤◌, ◌≤ℤ◌, ◌+ℤ◌, ◌+◌, ◌*◌, ◌/◌, ◌∷◌, ℕ, zero, suc, Bool, true, false, List, [], length}
 use Rattle.dvg_words.specs.Values.{Window}
 use Rattle.dvg_words.specs.declared.machine.Machine.{Machine}
 use Rattle.dvg_words.specs.declared.machine.Machine.TheVariants.{Profile}
@@ -128,10 +128,10 @@ FewDraws n m =
 
 -- the inner window is n / 2 screen places, rounded up, inside the outer one on each side
 pub record IsInset (n : ℕ) (outer inner : Window) : Type 0 where
-  pub left : outer.x_min + (n + 1) / 2 ≤ inner.x_min
-  pub right : inner.x_max + (n + 1) / 2 ≤ outer.x_max
-  pub bottom : outer.y_min + (n + 1) / 2 ≤ inner.y_min
-  pub top : inner.y_max + (n + 1) / 2 ≤ outer.y_max
+  pub left : (outer.x_min +ℤ pos ((n + 1) / 2)) ≤ℤ inner.x_min
+  pub right : (inner.x_max +ℤ pos ((n + 1) / 2)) ≤ℤ outer.x_max
+  pub bottom : (outer.y_min +ℤ pos ((n + 1) / 2)) ≤ℤ inner.y_min
+  pub top : (inner.y_max +ℤ pos ((n + 1) / 2)) ≤ℤ outer.y_max
 
 -- where runs on machine a differ by rounding alone, and have few draws, what is safe there in the inner window is safe on machine b
 -- in the outer one

@@ -9,3 +9,4 @@ pub mod Reading
 pub mod Following
 pub mod Writing
 pub mod Showing
+pub mod ClippedExample

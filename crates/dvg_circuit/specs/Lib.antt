@@ -5,4 +5,5 @@ pub mod Example
 pub mod Premises
 pub mod Following
 pub mod Showing
+pub mod ClippedExample
 pub mod Writing

@@ -1,25 +1,22 @@
 -- Where a board shows what is lit on a stroke: counters tell places only by twelve bits, and bit 10 blanks.
-use Rattle.std.specs.Prelude.{◌≡◌, pos, neg_ℤ, ◌*◌, ◌≤◌, ◌≤ℤ◌}
-use Rattle.dvg_words.specs.Values.{Window, IsWindow}
+use Rattle.std.specs.Prelude.{◌≡◌, ℕ, pos, ◌*◌, ◌≤◌, ◌≤ℤ◌, ◌⊎◌, List, [], ◌∷◌}
+use Rattle.std.specs.List.{AllByRecursion}
+use Rattle.dvg_words.specs.Values.{Window, IsWindow, clipped}
 use Rattle.dvg_words.specs.declared.beam.Point.{Point}
-use Rattle.dvg_words.specs.Beam.{InWindow}
-use Rattle.dvg_words.specs.Generator.{Stroke}
+use Rattle.dvg_words.specs.Beam.{InWindow, screen}
+use Rattle.dvg_words.specs.declared.machine.Machine.TheVariants.{Board}
+use Rattle.dvg_words.specs.Memory.{Memory, IsMemory}
+use Rattle.dvg_words.specs.Generator.{Stroke, State, Running, Halted, Reached, start}
 use Rattle.dvg_circuit.specs.Counters.{Counters, IsShown}
-use Rattle.dvg_circuit.specs.Following.{IsOnStroke}
+use Rattle.dvg_circuit.specs.Circuit.{Circuit, Reads, run_after, begin}
+use Rattle.dvg_circuit.specs.Following.{IsSamePlace, IsOnStroke, ReadsAs, IsStart}
 
 -- both counters are at a place of the window
 pub record IsInWindow (w : Window) (c : Counters) : Type 0 where
-  pub left : w.x_min ≤ c.x
-  pub right : c.x ≤ w.x_max
-  pub bottom : w.y_min ≤ c.y
-  pub top : c.y ≤ w.y_max
-
--- no further from the screen than a screen is wide: -1024 to 2047, in units of 1/1024 (profile)
-pub record IsAboutScreen (p : Point) : Type 0 where
-  pub left : neg_ℤ (pos (1024 * 1024)) ≤ℤ p.x
-  pub right : p.x ≤ℤ pos (1024 * 2047)
-  pub bottom : neg_ℤ (pos (1024 * 1024)) ≤ℤ p.y
-  pub top : p.y ≤ℤ pos (1024 * 2047)
+  pub left : w.x_min ≤ℤ pos c.x
+  pub right : pos c.x ≤ℤ w.x_max
+  pub bottom : w.y_min ≤ℤ pos c.y
+  pub top : pos c.y ≤ℤ w.y_max
 
 -- the counters are at the place itself, which is one of the screen
 pub record IsShownAt (p : Point) (c : Counters) : Type 0 where
@@ -34,8 +31,40 @@ LitInWindow =
     (w : Window) (stroke : Stroke) (c : Counters) → IsWindow w → InWindow w stroke.from → InWindow w stroke.to → IsOnStroke c stroke
     → IsInWindow w c
 
--- on a stroke that stays about the screen, what is not blanked is shown where the generator has it
+-- on a stroke that stays in the zone that a board clips, what is not blanked is shown where the generator has it, on the screen
 abbrev pub LitOnScreen : Type 0
 LitOnScreen =
-    (stroke : Stroke) (c : Counters) (on : IsOnStroke c stroke) → IsAboutScreen stroke.from → IsAboutScreen stroke.to → IsShown c
+    (stroke : Stroke) (c : Counters) (on : IsOnStroke c stroke) → InWindow clipped stroke.from → InWindow clipped stroke.to → IsShown c
     → IsShownAt on.place c
+
+-- and what is on the screen is not blanked
+abbrev pub ScreenIsShown : Type 0
+ScreenIsShown = (p : Point) (c : Counters) → IsSamePlace p c → InWindow screen p → IsShown c
+
+-- ---- what the board clips
+
+-- both ends of a stroke lie in the zone
+abbrev pub StaysInZone : Stroke → Type 0
+StaysInZone stroke = InWindow clipped stroke.from × InWindow clipped stroke.to
+
+-- the counters are on the stroke; if they are shown, then there, on the screen; and they are, if they are on the screen
+pub record IsClipped (c : Counters) (stroke : Stroke) : Type 0 where
+  pub on : IsOnStroke c stroke
+  pub shown : IsShown c → IsShownAt on.place c
+  pub screen : InWindow screen on.place → IsShown c
+
+-- of one of these strokes
+abbrev pub IsSomeClipped : List Stroke → Counters → Type 0
+IsSomeClipped [] c = ⊥
+IsSomeClipped (stroke ∷ strokes) c = IsClipped c stroke ⊎ IsSomeClipped strokes c
+
+-- while the generator runs, and where it halts, if its lit strokes stay in the zone, then at each count of them the circuit shows
+-- just what lies on the screen, as itself, and lights nothing else
+abbrev pub ClippedOnCircuit : Type 0
+ClippedOnCircuit =
+    (m : Memory) (reads : ℕ → Reads) (c : Circuit) (place : Point) (steps : ℕ) (s : State)
+    → IsMemory m → m.rom.machine ≡ Board → IsStart c → ReadsAs m reads (begin c) → IsSamePlace place c.counters
+    → (Reached m steps (Running (start place c.scale)) (Running s) → AllByRecursion StaysInZone s.strokes
+    → AllByRecursion (IsSomeClipped s.strokes) (run_after reads steps (begin c)).lit)
+    × (Reached m steps (Running (start place c.scale)) (Halted s) → AllByRecursion StaysInZone s.strokes
+    → AllByRecursion (IsSomeClipped s.strokes) (run_after reads steps (begin c)).lit)

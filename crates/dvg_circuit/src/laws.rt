@@ -2,7 +2,8 @@
 
 ghost use Rattle.dvg_circuit.specs.Example.{WorkedPulses, WorkedAddresses, WorkedRuns};
 ghost use Rattle.dvg_circuit.specs.Following.{CircuitFollows};
-ghost use Rattle.dvg_circuit.specs.Showing.{LitInWindow, LitOnScreen};
+ghost use Rattle.dvg_circuit.specs.Showing.{LitInWindow, LitOnScreen, ScreenIsShown, ClippedOnCircuit};
+ghost use Rattle.dvg_circuit.specs.ClippedExample.{WorkedClips};
 ghost use Rattle.dvg_circuit.specs.Writing.{WritesElsewhere};
 ghost use Rattle.dvg_circuit.specs.Laws.{RoundedHalfUp, NoneBeyondEnds, CounterIsPlace, Blanking, NoSharedBits, AllDecoded};
 
@@ -66,6 +67,23 @@ pub fn lit_in_window()
 /// On a stroke between two places of -1024 to 2047, whatever is not blanked is shown where the generator has it, on the screen.
 pub fn lit_on_screen()
     ensures { LitOnScreen }
+{}
+
+/// Where the counters are at a place of the screen, nothing is blanked.
+pub fn screen_is_shown()
+    ensures { ScreenIsShown }
+{}
+
+/// Where all lit strokes of a run lie between two places of -1024 to 2047, the board shows at their counts just what lies on the
+/// screen, where the generator has it, and lights nothing else: it clips the strokes.
+pub fn clipped_on_circuit()
+    ensures { ClippedOnCircuit }
+{}
+
+/// A stroke from -5 to 5 and one from 1020 to 1030, count by count: which of their places are blanked. One from -1025 to -1 does not
+/// lie in the zone, and its first place is shown, far from where it is.
+pub fn worked_clips()
+    ensures { WorkedClips }
 {}
 
 /// A processor that writes only words that the run doesn't fetch leaves the run as it is, and its premise on what is read, too. So a

@@ -35,7 +35,7 @@ pub use dvg_spelling::{
     make_line_of, make_report_of, make_status_of, map_of, message_of, report_of, root_of, rule_of,
     start_of, status_of, window_of,
 };
-pub use dvg_words::{ASTEROIDS, ImageFault, Machine, RomImage, RomMap, SCREEN, Window};
+pub use dvg_words::{ASTEROIDS, CLIPPED, ImageFault, Machine, RomImage, RomMap, SCREEN, Window};
 pub use explaining_make::{MakeAnswer, run_explain_make, write_make_answer};
 pub use frame_judge::{FrameJudge, GivenCertificate, OwnCertificates};
 pub use frame_run::{run_frame, run_unopened};

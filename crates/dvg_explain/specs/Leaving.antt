@@ -1,5 +1,5 @@
 -- Which edge of a window a corner of what is lit is past, and by how much. All of it is this project's own.
-use Rattle.std.specs.Prelude.{◌≡◌, ℕ, pos, ◌*◌, ◌-ℤ◌, ◌<ℤ◌, ◌≤ℤ◌, ◌⊎◌, unsigned_abs, List, [], ◌∷◌}
+use Rattle.std.specs.Prelude.{◌≡◌, ℕ, pos, ◌*ℤ◌, ◌-ℤ◌, ◌<ℤ◌, ◌≤ℤ◌, ◌⊎◌, unsigned_abs, List, [], ◌∷◌}
 use Rattle.dvg_words.specs.Values.{Window}
 use Rattle.dvg_words.specs.declared.beam.Point.{Point}
 use Rattle.dvg_cert.specs.declared.entry.End.{End}
@@ -17,7 +17,7 @@ use Rattle.dvg_explain.specs.declared.leaving.Limits.{Limits}
 -- a window's places, in 1/1024 of a screen place
 abbrev pub window_limits : Window → Limits
 window_limits w =
-    record { x_min = pos (1024 * w.x_min); x_max = pos (1024 * w.x_max); y_min = pos (1024 * w.y_min); y_max = pos (1024 * w.y_max) }
+    record { x_min = pos 1024 *ℤ w.x_min; x_max = pos 1024 *ℤ w.x_max; y_min = pos 1024 *ℤ w.y_min; y_max = pos 1024 *ℤ w.y_max }
 
 -- the point is past this edge
 abbrev pub IsPast : Limits → Edge → Point → Type 0

@@ -9,7 +9,7 @@ ghost use Rattle.dvg_explain.specs.Leaving.{window_limits, InLimits, IsLeft, Fir
 
 use dvg_cert::{End, LitBox};
 use dvg_items::{LitExtent, absolute_corners, box_corners, relative_corners};
-use dvg_words::{Point, Window};
+use dvg_words::{Point, Window, in_units};
 
 /// An edge of a window.
 #[derive(Clone, Copy, Debug, PartialEq, Eq)]
@@ -68,10 +68,10 @@ impl Limits {
         ensures { result ≡ window_limits window.now }
     {
         Limits {
-            x_min: 1024 * i64::from(window.x_min()),
-            x_max: 1024 * i64::from(window.x_max()),
-            y_min: 1024 * i64::from(window.y_min()),
-            y_max: 1024 * i64::from(window.y_max()),
+            x_min: in_units(window.x_min()),
+            x_max: in_units(window.x_max()),
+            y_min: in_units(window.y_min()),
+            y_max: in_units(window.y_max()),
         }
     }
 

@@ -1,6 +1,8 @@
 -- How the text of a window is cut at its commas.
-use Rattle.std.proofs.Common.{◌≡◌, ◌≢◌, ℕ, ◌<◌, ◌≤◌, List, [], ◌∷◌, ◌++◌, length, get_or, Option, Some, None, Bor, refl, sym, subst, arith, ◌∙◌}
-use Rattle.std.specs.Prelude.{decimal, MatchOption, IfNone}
+use Rattle.std.proofs.Common.{◌≡◌, ◌≢◌, ℕ, ◌<◌, ◌≤◌, List, [], ◌∷◌, ◌++◌, length, get_or, Option, Some, None, Bor, refl, sym, subst, arith, ◌∙◌, ℤ, pos, negsuc}
+use Rattle.std.specs.Prelude.{decimal, nat_abs, ◌≤ℤ◌, MatchOption, IfNone}
+use Rattle.std.specs.Fmt.{signed_decimal}
+use Rattle.std.proofs.lemmas.Int.{ints}
 use Rattle.std.specs.List.{join_with_byte}
 use Rattle.std.proofs.lemmas.Str.Parse.{not_in_digits}
 use Rattle.std.proofs.lemmas.Str.Pattern.{split_after, IsSplitOnceResult}
@@ -32,42 +34,79 @@ same_place m n text r s le-m le-n is-m is-n =
     let rest : 44 ∷ r ≡ 44 ∷ s = t.1 in
     (t.0, cc)
 
+-- ---- the places of a window of the screen, as natural numbers
+
+natural : (x : ℤ) → pos 0 ≤ℤ x → signed_decimal x ≡ decimal (nat_abs x)
+natural (pos n) least = refl
+natural (negsuc n) least = absurd (omega (arith, ints, least))
+
+ordered : (x y : ℤ) → pos 0 ≤ℤ x → x ≤ℤ y → nat_abs x ≤ nat_abs y
+ordered (pos m) (pos n) least le = omega (arith, ints, le)
+ordered (pos m) (negsuc n) least le = absurd (omega (arith, ints, le))
+ordered (negsuc m) y least le = absurd (omega (arith, ints, least))
+
+inside : (x : ℤ) → pos 0 ≤ℤ x → x ≤ℤ pos 1023 → nat_abs x ≤ 1023
+inside x least le = ordered x (pos 1023) least le
+
+between : (x y z : ℤ) → x ≤ℤ y → y ≤ℤ z → x ≤ℤ z
+between x y z a b = omega (arith, ints, a, b)
+
+four : (w : Window) → IsWindow w
+    → join_with_byte 44 (signed_decimal w.x_min ∷ signed_decimal w.x_max ∷ signed_decimal w.y_min ∷ signed_decimal w.y_max ∷ [])
+    ≡ join_with_byte 44 (decimal (nat_abs w.x_min) ∷ decimal (nat_abs w.x_max) ∷ decimal (nat_abs w.y_min) ∷ decimal (nat_abs w.y_max) ∷ [])
+four w is =
+    let x_max = natural w.x_max (between (pos 0) w.x_min w.x_max is.x_least is.x_ordered) in
+    let y_max = natural w.y_max (between (pos 0) w.y_min w.y_max is.y_least is.y_ordered) in
+    λ i. join_with_byte 44 (natural w.x_min is.x_least i ∷ x_max i ∷ natural w.y_min is.y_least i ∷ y_max i ∷ [])
+
 -- the places that are read of a window's text, one after another, are the window's
 module _ (text : List ℕ) (w : Window) (h : IsWindowText text w) (a : ℕ) (past_a : List ℕ) (le_a : a ≤ 1023) (is_a : text ≡ decimal a ++ 44 ∷ past_a) where
-  x_min : w.x_min ≤ 1023
-  x_min = omega (arith, h.0.x_ordered, h.0.x_inside)
+  x_min : nat_abs w.x_min ≤ 1023
+  x_min = inside w.x_min h.0.x_least (between w.x_min w.x_max (pos 1023) h.0.x_ordered h.0.x_inside)
 
-  y_min : w.y_min ≤ 1023
-  y_min = omega (arith, h.0.y_ordered, h.0.y_inside)
+  x_max : nat_abs w.x_max ≤ 1023
+  x_max = inside w.x_max (between (pos 0) w.x_min w.x_max h.0.x_least h.0.x_ordered) h.0.x_inside
 
-  first : (a ≡ w.x_min) × (past_a ≡ join_with_byte 44 (decimal w.x_max ∷ decimal w.y_min ∷ decimal w.y_max ∷ []))
-  first = same_place a w.x_min text past_a _ le_a x_min is_a h.1
+  y_min : nat_abs w.y_min ≤ 1023
+  y_min = inside w.y_min h.0.y_least (between w.y_min w.y_max (pos 1023) h.0.y_ordered h.0.y_inside)
+
+  y_max : nat_abs w.y_max ≤ 1023
+  y_max = inside w.y_max (between (pos 0) w.y_min w.y_max h.0.y_least h.0.y_ordered) h.0.y_inside
+
+  first : (a ≡ nat_abs w.x_min) × (past_a ≡ join_with_byte 44 (decimal (nat_abs w.x_max) ∷ decimal (nat_abs w.y_min) ∷ decimal (nat_abs w.y_max) ∷ []))
+  first = same_place a (nat_abs w.x_min) text past_a _ le_a x_min is_a (h.1 ∙ four w h.0)
 
   pub has_second : ((n : ℕ) (rest : List ℕ) → n ≤ 1023 → past_a ≡ decimal n ++ 44 ∷ rest → ⊥) → ⊥
-  has_second none = none w.x_max _ h.0.x_inside first.1
+  has_second none = none (nat_abs w.x_max) _ x_max first.1
 
   module _ (b : ℕ) (past_b : List ℕ) (le_b : b ≤ 1023) (is_b : past_a ≡ decimal b ++ 44 ∷ past_b) where
-    second : (b ≡ w.x_max) × (past_b ≡ join_with_byte 44 (decimal w.y_min ∷ decimal w.y_max ∷ []))
-    second = same_place b w.x_max past_a past_b _ le_b h.0.x_inside is_b first.1
+    second : (b ≡ nat_abs w.x_max) × (past_b ≡ join_with_byte 44 (decimal (nat_abs w.y_min) ∷ decimal (nat_abs w.y_max) ∷ []))
+    second = same_place b (nat_abs w.x_max) past_a past_b _ le_b x_max is_b first.1
 
     pub has_third : ((n : ℕ) (rest : List ℕ) → n ≤ 1023 → past_b ≡ decimal n ++ 44 ∷ rest → ⊥) → ⊥
-    has_third none = none w.y_min _ y_min second.1
+    has_third none = none (nat_abs w.y_min) _ y_min second.1
 
     module _ (c : ℕ) (past_c : List ℕ) (le_c : c ≤ 1023) (is_c : past_b ≡ decimal c ++ 44 ∷ past_c) where
-      third : (c ≡ w.y_min) × (past_c ≡ decimal w.y_max)
-      third = same_place c w.y_min past_b past_c _ le_c y_min is_c second.1
+      third : (c ≡ nat_abs w.y_min) × (past_c ≡ decimal (nat_abs w.y_max))
+      third = same_place c (nat_abs w.y_min) past_b past_c _ le_c y_min is_c second.1
 
       pub has_fourth : ((n : ℕ) → n ≤ 1023 → past_c ≡ decimal n → ⊥) → ⊥
-      has_fourth none = none w.y_max h.0.y_inside third.1
+      has_fourth none = none (nat_abs w.y_max) y_max third.1
 
-      pub is_window : (d : ℕ) → d ≤ 1023 → past_c ≡ decimal d → IsWindow (record { x_min = a; x_max = b; y_min = c; y_max = d })
+      pub is_window : (d : ℕ) → d ≤ 1023 → past_c ≡ decimal d → IsWindow (record { x_min = pos a; x_max = pos b; y_min = pos c; y_max = pos d })
       is_window d le_d is_d =
-          let fourth : d ≡ w.y_max = same_decimal d w.y_max (omega (arith, le_d)) (omega (arith, h.0.y_inside)) (sym is_d ∙ third.1) in
+          let fourth : d ≡ nat_abs w.y_max = same_decimal d (nat_abs w.y_max) (omega (arith, le_d)) (omega (arith, y_max)) (sym is_d ∙ third.1) in
+          let across = ordered w.x_min w.x_max h.0.x_least h.0.x_ordered in
+          let up = ordered w.y_min w.y_max h.0.y_least h.0.y_ordered in
+          let across' : a ≤ b = omega (arith, first.0, second.0, across) in
+          let up' : c ≤ d = omega (arith, third.0, fourth, up) in
           record {
-            x_ordered = omega (arith, first.0, second.0, h.0.x_ordered);
-            x_inside = le_b;
-            y_ordered = omega (arith, third.0, fourth, h.0.y_ordered);
-            y_inside = le_d;
+            x_least = omega (arith, ints);
+            x_ordered = omega (arith, ints, across');
+            x_inside = omega (arith, ints, le_b);
+            y_least = omega (arith, ints);
+            y_ordered = omega (arith, ints, up');
+            y_inside = omega (arith, ints, le_d);
           }
 
 pub if_none : {A : Type 0} {P Q : Type 0} (o : Option A) → (P → Q) → IfNone o P → IfNone o Q

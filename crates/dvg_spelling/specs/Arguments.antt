@@ -1,5 +1,6 @@
 -- What words of the command line spell. All of it is this project's own.
-use Rattle.std.specs.Prelude.{◌≡◌, ℕ, ◌<◌, List, [], ◌∷◌, ◌++◌, codes, decimal}
+use Rattle.std.specs.Prelude.{◌≡◌, ℕ, ◌<◌, List, [], ◌∷◌, ◌++◌, codes}
+use Rattle.std.specs.Fmt.{signed_decimal}
 use Rattle.std.specs.List.{join_with_byte}
 use Rattle.dvg_words.specs.Values.{MemoryMap, IsMap, Window, IsWindow}
 use Rattle.dvg_words.specs.declared.map.TheConstants.{ADDRESS_END}
@@ -20,7 +21,7 @@ IsMapText text map = IsMap map × (text ≡ address_token map.rom_first ++ codes
 abbrev pub IsStart : List ℕ → ℕ → Type 0
 IsStart text addr = (addr < ADDRESS_END) × (text ≡ address_token addr)
 
--- the text is this window's: its least and its greatest place across, and those up, with commas between
+-- the text is this window's, which is a part of the screen: its least and its greatest place across, and those up, with commas between
 abbrev pub IsWindowText : List ℕ → Window → Type 0
 IsWindowText text w = IsWindow w
-    × (text ≡ join_with_byte COMMA (decimal w.x_min ∷ decimal w.x_max ∷ decimal w.y_min ∷ decimal w.y_max ∷ []))
+    × (text ≡ join_with_byte COMMA (signed_decimal w.x_min ∷ signed_decimal w.x_max ∷ signed_decimal w.y_min ∷ signed_decimal w.y_max ∷ []))

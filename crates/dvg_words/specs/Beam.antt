@@ -53,14 +53,14 @@ labs_place machine x y = record { x = labs_coordinate machine x; y = labs_coordi
 
 -- the place is in the window, edges included (profile)
 pub record InWindow (w : Window) (p : Point) : Type 0 where
-  pub left : pos (1024 * w.x_min) ≤ℤ p.x
-  pub right : p.x ≤ℤ pos (1024 * w.x_max)
-  pub bottom : pos (1024 * w.y_min) ≤ℤ p.y
-  pub top : p.y ≤ℤ pos (1024 * w.y_max)
+  pub left : (pos 1024 *ℤ w.x_min) ≤ℤ p.x
+  pub right : p.x ≤ℤ (pos 1024 *ℤ w.x_max)
+  pub bottom : (pos 1024 *ℤ w.y_min) ≤ℤ p.y
+  pub top : p.y ≤ℤ (pos 1024 *ℤ w.y_max)
 
 -- the whole screen (profile)
 abbrev pub screen : Window
-screen = record { x_min = 0; x_max = 1023; y_min = 0; y_max = 1023 }
+screen = record { x_min = pos 0; x_max = pos 1023; y_min = pos 0; y_max = pos 1023 }
 
 -- neither coordinate is further than this from 0
 pub record IsWithin (most : ℕ) (p : Point) : Type 0 where

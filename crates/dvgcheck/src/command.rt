@@ -5,8 +5,8 @@ use crate::input::Input;
 use clap::error::ErrorKind;
 use clap::{Arg, ArgAction, ArgMatches, Command, value_parser};
 use dvg_cmd::{
-    ASTEROIDS, CheckOptions, Detail, FrameOptions, Key, MOST_WORDS, Machine, Mode, RomMap, Rule,
-    Window, map_of, root_of, rule_of, start_of, window_of,
+    ASTEROIDS, CLIPPED, CheckOptions, Detail, FrameOptions, Key, MOST_WORDS, Machine, Mode, RomMap,
+    Rule, Window, map_of, root_of, rule_of, start_of, window_of,
 };
 use std::alloc::{AllocError, AllocFailed, Global};
 use std::{env, io};
@@ -212,6 +212,17 @@ fn window_option<'a>(alloc: Global) -> Arg<'a> {
         .default_value("0,1023,0,1023")
 }
 
+fn clip_option<'a>(alloc: Global) -> Result<Arg<'a>, AllocError> {
+    Arg::new(alloc, "clip")
+        .long("clip")
+        .action(ArgAction::SetTrue)
+        .help(
+            "Lets lit strokes reach from -1024 to 2047, where the board blanks what is off the screen",
+        )
+        .conflicts_with("window")?
+        .requires_arg("board")
+}
+
 fn map_option<'a>(alloc: Global) -> Arg<'a> {
     Arg::new(alloc, "rom")
         .long("rom")
@@ -262,7 +273,11 @@ fn with_certificates<'a>(alloc: Global, command: Command<'a>) -> Result<Command<
 
 /// The command with the options that limit what a frame may do.
 fn with_limits<'a>(alloc: Global, command: Command<'a>) -> Result<Command<'a>, AllocError> {
-    command.arg(budget_option(alloc))?.arg(window_option(alloc))
+    let clip = clip_option(alloc)?;
+    command
+        .arg(budget_option(alloc))?
+        .arg(window_option(alloc))?
+        .arg(clip)
 }
 
 /// The command with the arguments of `frames`; `frame` is the one that names frames.
@@ -429,7 +444,11 @@ fn machine_of_args<'a>(args: &ArgMatches<'a>) -> Machine {
     }
 }
 
+/// What may be lit: the zone that a board clips, or the window that is given.
 fn window_of_args<'a>(args: &ArgMatches<'a>) -> Result<Window, ArgumentFault> {
+    if args.get_flag("clip") {
+        return Ok(CLIPPED);
+    }
     window_of(args.get_str("window").unwrap_or("")).ok_or(ArgumentFault::Window)
 }
 
