@@ -4,7 +4,7 @@ use Rattle.std.specs.Prelude.{◌*ℤ◌, if◌then◌else◌}
 use Rattle.std.specs.List.{AllByRecursion}
 use Rattle.std.proofs.lemmas.Bool.{cases_lt}
 use Rattle.std.proofs.lemmas.List.{length-reverse, reverse-append}
-use Rattle.dvg_words.specs.Values.{Window, IsWindow}
+use Rattle.dvg_words.specs.Values.{Window}
 use Rattle.dvg_words.specs.declared.beam.Point.{Point}
 use Rattle.dvg_words.specs.declared.machine.Machine.{Machine}
 use Rattle.dvg_words.specs.declared.machine.Machine.TheVariants.{Board}
@@ -123,13 +123,13 @@ module _ (m : Memory) (w : Window) (words depth : ℕ) (mem : IsMemory m) (board
   all_reversed P [] h = tt
   all_reversed P (x ∷ xs) h = subst (AllByRecursion P) (sym (reverse-append (x ∷ []) xs)) (all_append P (reverse xs) (x ∷ []) (all_reversed P xs h.1) (h.0, tt))
 
-  some_inside : IsWindow w → (strokes : List Stroke) (k : Counters) → AllByRecursion (Ends (InWindow w)) strokes → IsOnSome strokes k → IsInWindow w k
-  some_inside is [] k ends lit = absurd lit
-  some_inside is (stroke ∷ strokes) k ends lit =
-      ⊎_elim (λ here. lit_in_window w stroke k is ends.0.0 ends.0.1 here) (λ there. some_inside is strokes k ends.1 there) lit
+  some_inside : (strokes : List Stroke) (k : Counters) → AllByRecursion (Ends (InWindow w)) strokes → IsOnSome strokes k → IsInWindow w k
+  some_inside [] k ends lit = absurd lit
+  some_inside (stroke ∷ strokes) k ends lit =
+      ⊎_elim (λ here. lit_in_window w stroke k ends.0.0 ends.0.1 here) (λ there. some_inside strokes k ends.1 there) lit
 
-  safe_run : IsWindow w → (n : ℕ) → IsSafeRun m w words depth c.pointer (run_after reads n (begin c))
-  safe_run is n =
+  safe_run : (n : ℕ) → IsSafeRun m w words depth c.pointer (run_after reads n (begin c))
+  safe_run n =
       let f = follows n in
       let h = safe_at f.steps f.status f.reached in
       let s = safe_state m w words depth f.steps f.status h in
@@ -139,7 +139,7 @@ module _ (m : Memory) (w : Window) (words depth : ℕ) (mem : IsMemory m) (board
         few = omega (arith, s.few, ap length a.fetched, length-reverse (state_of f.status).fetched);
         mapped = subst (AllByRecursion (IsMapped m)) (sym a.fetched) (all_reversed (IsMapped m) (state_of f.status).fetched s.mapped);
         stored = stored_at n;
-        lit = all_map (IsOnSome (state_of f.status).strokes) (IsInWindow w) r.lit (λ k lit. some_inside is (state_of f.status).strokes k s.lit lit) a.lit;
+        lit = all_map (IsOnSome (state_of f.status).strokes) (IsInWindow w) r.lit (λ k lit. some_inside (state_of f.status).strokes k s.lit lit) a.lit;
       }
 
   halts : (n : ℕ) × (n ≤ words) × ((run_after reads n (begin c)).circuit.halted ≡ true)
@@ -148,11 +148,11 @@ module _ (m : Memory) (w : Window) (words depth : ℕ) (mem : IsMemory m) (board
       (end.0, end.2, (agree end.0 (Halted end.1) end.3).0)
 
 pub safe_on_circuit : SafeIsSafeOnCircuit
-safe_on_circuit m w words depth mem board is safe =
+safe_on_circuit m w words depth mem board safe =
     record {
       four = safe.four;
       halts = λ c reads begun seen. halts m w words depth mem board safe c reads begun seen;
-      each = λ c reads begun seen n. safe_run m w words depth mem board safe c reads begun seen is n;
+      each = λ c reads begun seen n. safe_run m w words depth mem board safe c reads begun seen n;
     }
 
 -- ---- the most places stored

@@ -86,6 +86,6 @@ worked_circuit =
       start = record { pc = refl; x = omega arith; y = omega arith; scale = omega arith; pointer = omega arith; four = refl; running = refl };
       reads = λ c other begun. subst (λ (k : Circuit). ReadsAs (memory_for Board) (example_reads other) (begin k)) (same_registers c begun)
           (λ n. reads_now c.counters c.scale c.pointer c.returns begun.four other n);
-      safe = safe_on_circuit (memory_for Board) screen 7 1 good.memory refl (record { x_ordered = omega arith; x_inside = omega arith; y_ordered = omega arith; y_inside = omega arith }) safe;
+      safe = safe_on_circuit (memory_for Board) screen 7 1 good.memory refl safe;
       counts = counts_on_circuit (memory_for Board) screen 7 1 good.memory refl safe (exact_is_exact (memory_for Board) screen example_list 20000 7 1 good.memory shallow good.exact good.frame);
     }

@@ -25,7 +25,7 @@ pub record IsSafeRun (m : Memory) (w : Window) (words depth pointer : ℕ) (r : 
   pub mapped : AllByRecursion (IsMapped m) r.fetched
   -- at most `depth` return places more are stored than at the start
   pub stored : IsPast pointer depth r.circuit.pointer
-  -- wherever the beam was lit, the counters were at a place of the window
+  -- wherever the beam was lit, the counters held the twelve bits of a place of the window
   pub lit : AllByRecursion (IsInWindow w) r.lit
 
 -- Every run of the circuit halts within `words` instructions, and is safe after each.

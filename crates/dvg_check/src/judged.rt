@@ -92,9 +92,8 @@ impl<'a, E: Entries> JudgedShapes<'a, E> {
         ensures circuit_exact { self.now.rom.machine ≡ Board → self.now.mode ≡ Exact
             → IfOk result (λ yes. CountsOnCircuit (record { frame = frame.now; rom = self.now.rom }) yes.words yes.depth) }
     {
-        // Their clauses say that the frame is whole, and that the window is one of the screen.
+        // Its clause says that the frame is whole.
         let _words = frame.words();
-        let _top = self.window.y_max();
         let machine = self.rom.machine();
         find_frame_fault(machine, frame, self.entries, budget, &self.window)
     }

@@ -9,16 +9,16 @@ use dvg_cert::Key;
 /// How many keys there are: the sixteen global scales, and `Any`.
 pub const KEYS: u8 = 17;
 
-/// How many tails a pass over a ROM keeps: one for each key at three words in a row. The tail behind an item stands one or two
-/// words further on.
-pub const SLOTS: usize = 3 * KEYS as usize;
+/// How many tails a pass over a ROM keeps: one for each key at four words in a row. The tail behind an item stands one or two
+/// words further on, so three would do; a row of four is found by the two low bits of the address.
+pub const SLOTS: usize = 4 * KEYS as usize;
 
 /// The slot of the tail at a word address and a key, below [`SLOTS`].
 pub fn slot_of(at: u16, key: Key) -> usize
     requires { IsKey key }
-    ensures { result < 51 }
+    ensures { result < 68 }
 {
-    usize::from(at % 3) * usize::from(KEYS) + usize::from(key_index(key))
+    usize::from(at % 4) * usize::from(KEYS) + usize::from(key_index(key))
 }
 
 /// The number of a key, 0 to 16: its global scale, or 16 for `Any`.

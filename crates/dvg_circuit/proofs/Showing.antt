@@ -3,36 +3,33 @@ use Rattle.std.proofs.Common.{◌≡◌, ◌*◌, ◌%◌, ◌≤◌, ap, sym, s
 use Rattle.std.specs.Prelude.{◌*ℤ◌, ◌≤ℤ◌}
 use Rattle.std.specs.List.{AllByRecursion}
 use Rattle.std.proofs.lemmas.Int.{ints}
+use Rattle.dvg_words.specs.Values.{Window, IsWindow, clipped}
+use Rattle.dvg_words.specs.Beam.{screen}
 use Rattle.dvg_words.specs.declared.beam.Point.{Point}
 use Rattle.dvg_words.specs.Generator.{Stroke, Running, Halted}
 use Rattle.dvg_circuit.specs.Counters.{Counters, IsShown, bit}
 use Rattle.dvg_circuit.specs.Laws.{IsBetween, twelve_bits}
 use Rattle.dvg_circuit.specs.Following.{IsOnStroke, IsOnSome}
-use Rattle.dvg_circuit.specs.Showing.{IsInWindow, LitInWindow, LitOnScreen, ScreenIsShown, IsClipped, IsSomeClipped, StaysInZone, ClippedOnCircuit}
+use Rattle.dvg_circuit.specs.Showing.{IsInWindow, IsThere, ShownInWindow, LitInWindow, LitOnScreen, ScreenIsShown, IsClipped, IsSomeClipped, StaysInZone, ClippedOnCircuit}
 use Rattle.dvg_circuit.proofs.Following.{all_map, circuit_follows}
 
-in_bounds : (low high x : ℤ) → pos 0 ≤ℤ low → high ≤ℤ pos 1023 → IsBetween (pos 1024 *ℤ low) (pos 1024 *ℤ high) (pos 1024 *ℤ x)
-    → IsBetween low high (pos (twelve_bits x))
-in_bounds (negsuc low) high x least most h = absurd (omega (arith, ints, least))
-in_bounds (pos low) (negsuc high) (pos n) least most h = absurd (omega (arith, ints, h.1))
-in_bounds (pos low) (negsuc high) (negsuc n) least most h = absurd (omega (arith, ints, h.0))
-in_bounds (pos low) (pos high) (pos n) least most h =
-    let few : high ≤ 1023 = omega (arith, ints, most) in
-    let above : low ≤ n = omega (arith, ints, h.0) in
-    let below : n ≤ high = omega (arith, ints, h.1) in
-    (omega (arith, ints, above, below, few), omega (arith, ints, above, below, few))
-in_bounds (pos low) (pos high) (negsuc n) least most h = absurd (omega (arith, ints, h.0))
+in_places : (low high x : ℤ) → IsBetween (pos 1024 *ℤ low) (pos 1024 *ℤ high) (pos 1024 *ℤ x) → IsBetween low high x
+in_places low high x h = (omega (arith, ints, h.0), omega (arith, ints, h.1))
 
 pub lit_in_window : LitInWindow
-lit_in_window w stroke c is from to on =
+lit_in_window w stroke c from to on =
     let at = on.same in
     let across : IsBetween (pos 1024 *ℤ w.x_min) (pos 1024 *ℤ w.x_max) (pos 1024 *ℤ at.x) =
     subst (λ (p : Point). IsBetween (pos 1024 *ℤ w.x_min) (pos 1024 *ℤ w.x_max) p.x) at.place (on.across _ _ (from.left, from.right) (to.left, to.right)) in
     let up : IsBetween (pos 1024 *ℤ w.y_min) (pos 1024 *ℤ w.y_max) (pos 1024 *ℤ at.y) =
     subst (λ (p : Point). IsBetween (pos 1024 *ℤ w.y_min) (pos 1024 *ℤ w.y_max) p.y) at.place (on.up _ _ (from.bottom, from.top) (to.bottom, to.top)) in
-    let x = in_bounds w.x_min w.x_max at.x is.x_least is.x_inside across in
-    let y = in_bounds w.y_min w.y_max at.y is.y_least is.y_inside up in
-    subst (IsInWindow w) (sym at.counters) (record { left = x.0; right = x.1; bottom = y.0; top = y.1 })
+    record {
+      x = at.x;
+      y = at.y;
+      counters = at.counters;
+      across = in_places w.x_min w.x_max at.x across;
+      up = in_places w.y_min w.y_max at.y up;
+    }
 
 shown_there : (x : ℤ) → IsBetween (pos 1024 *ℤ negsuc 1023) (pos 1024 *ℤ pos 2047) (pos 1024 *ℤ x) → bit 10 (twelve_bits x) ≡ 0
     → (pos 1024 *ℤ x ≡ pos (1024 * twelve_bits x)) × (twelve_bits x ≤ 1023)
@@ -63,6 +60,65 @@ lit_on_screen stroke c on from to shown =
       x_inside = omega (arith, x.1, same_x);
       y_inside = omega (arith, y.1, same_y);
     }
+
+-- ---- places of a window
+
+-- a coordinate of the zone whose bit 10 is clear is one of the screen, and the counter holds it
+there : (x : ℤ) → IsBetween (negsuc 1023) (pos 2047) x → bit 10 (twelve_bits x) ≡ 0 → (x ≡ pos (twelve_bits x)) × (twelve_bits x ≤ 1023)
+there (pos n) h clear =
+    let below : n ≤ 2047 = omega (arith, ints, h.1) in
+    let same : n % 4096 ≡ n = omega (arith, below) in
+    (sym (ap pos same), omega (arith, below, clear))
+there (negsuc n) h clear =
+    let above : n ≤ 1023 = omega (arith, ints, h.0) in
+    absurd (omega (arith, above, clear))
+
+-- bit 10 of a coordinate of the screen is clear
+clear_inside : (low high x : ℤ) → pos 0 ≤ℤ low → high ≤ℤ pos 1023 → IsBetween low high x → bit 10 (twelve_bits x) ≡ 0
+clear_inside low high (pos n) least most h =
+    let below : n ≤ 1023 = omega (arith, ints, most, h.1) in
+    omega (arith, below)
+clear_inside low high (negsuc n) least most h = absurd (omega (arith, ints, least, h.0))
+
+is_there : (w : Window) (c : Counters) (inside : IsInWindow w c) → IsBetween (negsuc 1023) (pos 2047) inside.x → IsBetween (negsuc 1023) (pos 2047) inside.y → IsShown c
+    → IsThere w c inside
+is_there w c inside across up shown =
+    let same_x : c.x ≡ twelve_bits inside.x = ap (λ (k : Counters). k.x) inside.counters in
+    let same_y : c.y ≡ twelve_bits inside.y = ap (λ (k : Counters). k.y) inside.counters in
+    let x = there inside.x across (subst (λ (k : Counters). bit 10 k.x ≡ 0) inside.counters shown.x) in
+    let y = there inside.y up (subst (λ (k : Counters). bit 10 k.y ≡ 0) inside.counters shown.y) in
+    record {
+      x = x.0 ∙ sym (ap pos same_x);
+      y = y.0 ∙ sym (ap pos same_y);
+      x_inside = omega (arith, x.1, same_x);
+      y_inside = omega (arith, y.1, same_y);
+    }
+
+is_shown : (w : Window) (c : Counters) → IsWindow w → IsInWindow w c → IsShown c
+is_shown w c is inside =
+    subst IsShown (sym inside.counters)
+    (record {
+      x = clear_inside w.x_min w.x_max inside.x is.x_least is.x_inside inside.across;
+      y = clear_inside w.y_min w.y_max inside.y is.y_least is.y_inside inside.up;
+    })
+
+pub shown_in_window : ShownInWindow
+shown_in_window =
+    record {
+      window = λ w c inside is.
+          let shown = is_shown w c is inside in (
+            shown,
+            is_there w c inside
+                (omega (arith, ints, is.x_least, inside.across.0), omega (arith, ints, is.x_inside, inside.across.1))
+                (omega (arith, ints, is.y_least, inside.up.0), omega (arith, ints, is.y_inside, inside.up.1))
+                shown,
+          );
+      zone = λ c inside shown. is_there clipped c inside inside.across inside.up shown;
+      screen = λ c inside. is_shown screen c whole inside;
+    }
+  where
+    whole : IsWindow screen
+    whole = record { x_least = omega (arith, ints); x_ordered = omega (arith, ints); x_inside = omega (arith, ints); y_least = omega (arith, ints); y_ordered = omega (arith, ints); y_inside = omega (arith, ints) }
 
 -- ---- both ways
 

@@ -1,5 +1,5 @@
 -- Where a board shows what is lit on a stroke: counters tell places only by twelve bits, and bit 10 blanks.
-use Rattle.std.specs.Prelude.{◌≡◌, ℕ, pos, ◌*◌, ◌≤◌, ◌≤ℤ◌, ◌⊎◌, List, [], ◌∷◌}
+use Rattle.std.specs.Prelude.{◌≡◌, ℕ, ℤ, pos, ◌*◌, ◌≤◌, ◌≤ℤ◌, ◌⊎◌, List, [], ◌∷◌}
 use Rattle.std.specs.List.{AllByRecursion}
 use Rattle.dvg_words.specs.Values.{Window, IsWindow, clipped}
 use Rattle.dvg_words.specs.declared.beam.Point.{Point}
@@ -8,15 +8,18 @@ use Rattle.dvg_words.specs.declared.machine.Machine.TheVariants.{Board}
 use Rattle.dvg_words.specs.Memory.{Memory, IsMemory}
 use Rattle.dvg_words.specs.Generator.{Stroke, State, Running, Halted, Reached, start}
 use Rattle.dvg_circuit.specs.Counters.{Counters, IsShown}
+use Rattle.dvg_circuit.specs.Laws.{IsBetween, twelve_bits}
 use Rattle.dvg_circuit.specs.Circuit.{Circuit, Reads, run_after, begin}
-use Rattle.dvg_circuit.specs.Following.{IsSamePlace, IsOnStroke, ReadsAs, IsStart}
+use Rattle.dvg_circuit.specs.Premises.{IsStart, ReadsAs}
+use Rattle.dvg_circuit.specs.Following.{IsSamePlace, IsOnStroke}
 
--- both counters are at a place of the window
+-- both counters hold the twelve bits of a place of the window
 pub record IsInWindow (w : Window) (c : Counters) : Type 0 where
-  pub left : w.x_min ≤ℤ pos c.x
-  pub right : pos c.x ≤ℤ w.x_max
-  pub bottom : w.y_min ≤ℤ pos c.y
-  pub top : pos c.y ≤ℤ w.y_max
+  pub x : ℤ
+  pub y : ℤ
+  pub counters : c ≡ record { x = twelve_bits x; y = twelve_bits y }
+  pub across : IsBetween w.x_min w.x_max x
+  pub up : IsBetween w.y_min w.y_max y
 
 -- the counters are at the place itself, which is one of the screen
 pub record IsShownAt (p : Point) (c : Counters) : Type 0 where
@@ -28,8 +31,20 @@ pub record IsShownAt (p : Point) (c : Counters) : Type 0 where
 -- on a stroke from a place of the window to one of it, the counters are at places of the window
 abbrev pub LitInWindow : Type 0
 LitInWindow =
-    (w : Window) (stroke : Stroke) (c : Counters) → IsWindow w → InWindow w stroke.from → InWindow w stroke.to → IsOnStroke c stroke
-    → IsInWindow w c
+    (w : Window) (stroke : Stroke) (c : Counters) → InWindow w stroke.from → InWindow w stroke.to → IsOnStroke c stroke → IsInWindow w c
+
+-- what a board shows of a place of the window: it shows that place, on the screen
+pub record IsThere (w : Window) (c : Counters) (inside : IsInWindow w c) : Type 0 where
+  pub x : inside.x ≡ pos c.x
+  pub y : inside.y ≡ pos c.y
+  pub x_inside : c.x ≤ 1023
+  pub y_inside : c.y ≤ 1023
+
+-- at each place of a window of the screen the board shows that place; of the zone it shows just the places of the screen
+pub record ShownInWindow : Type 0 where
+  pub window : (w : Window) (c : Counters) (inside : IsInWindow w c) → IsWindow w → IsShown c × IsThere w c inside
+  pub zone : (c : Counters) (inside : IsInWindow clipped c) → IsShown c → IsThere clipped c inside
+  pub screen : (c : Counters) → IsInWindow screen c → IsShown c
 
 -- on a stroke that stays in the zone that a board clips, what is not blanked is shown where the generator has it, on the screen
 abbrev pub LitOnScreen : Type 0

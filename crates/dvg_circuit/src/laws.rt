@@ -2,7 +2,7 @@
 
 ghost use Rattle.dvg_circuit.specs.Example.{WorkedPulses, WorkedAddresses, WorkedRuns};
 ghost use Rattle.dvg_circuit.specs.Following.{CircuitFollows};
-ghost use Rattle.dvg_circuit.specs.Showing.{LitInWindow, LitOnScreen, ScreenIsShown, ClippedOnCircuit};
+ghost use Rattle.dvg_circuit.specs.Showing.{LitInWindow, ShownInWindow, LitOnScreen, ScreenIsShown, ClippedOnCircuit};
 ghost use Rattle.dvg_circuit.specs.ClippedExample.{WorkedClips};
 ghost use Rattle.dvg_circuit.specs.Writing.{WritesElsewhere};
 ghost use Rattle.dvg_circuit.specs.Laws.{RoundedHalfUp, NoneBeyondEnds, CounterIsPlace, Blanking, NoSharedBits, AllDecoded};
@@ -62,6 +62,11 @@ pub fn circuit_follows()
 /// On a stroke between two places of a window, both counters are at places of that window at every count.
 pub fn lit_in_window()
     ensures { LitInWindow }
+{}
+
+/// At each place of a window of the screen the board shows that place. Of -1024 to 2047 it shows just the places of the screen.
+pub fn shown_in_window()
+    ensures { ShownInWindow }
 {}
 
 /// On a stroke between two places of -1024 to 2047, whatever is not blanked is shown where the generator has it, on the screen.

@@ -1,6 +1,6 @@
 //! Where the beam goes. Places are in units of 1/1024 of a screen place, and y grows upwards (profile).
 
-ghost use Rattle.std.specs.Prelude.{ℤ, ◌≡◌, ◌≤◌, pos, negsuc, neg_ℤ, ◌*◌, ◌^◌, ◌+ℤ◌, ◌≤ℤ◌, ◌*ℤ◌, FitsSigned};
+ghost use Rattle.std.specs.Prelude.{ℤ, ◌≡◌, ◌≤◌, pos, negsuc, neg_ℤ, ◌+◌, ◌*◌, ◌^◌, ◌+ℤ◌, ◌≤ℤ◌, ◌*ℤ◌, FitsSigned};
 ghost use Rattle.std.specs.Int.{w64};
 ghost use Rattle.dvg_words.specs.Beam.{axis_move, factor, rounded_move, displacement, shift, labs_coordinate, labs_place, IsWithin};
 ghost use Rattle.dvg_words.specs.Values.{Profile, Board};
@@ -32,13 +32,17 @@ pub fn shift(place: &Point, by: &Point) -> Point
     }
 }
 
-/// Where a field of a LABS sets the beam on an axis of the board, which loads it as two's complement of twelve bits.
-fn signed_coordinate(field: u16) -> i64
-    ensures value { result ≡ labs_coordinate Board field }
+/// Where a field of a LABS, 0 to 4095, sets the beam on an axis of a machine. The board loads it as two's complement of twelve bits.
+fn labs_coordinate(machine: Machine, field: u16) -> i64
+    ensures value { result ≡ labs_coordinate machine field }
     ensures low { neg_ℤ (pos (2 ^ 31)) ≤ℤ result }
     ensures high { result ≤ℤ pos (2 ^ 31) }
 {
-    if field > 2047 {
+    let greatest = match machine {
+        Machine::Profile => u16::MAX,
+        Machine::Board => 2047,
+    };
+    if field > greatest {
         1024 * (i64::from(field) - 4096)
     } else {
         1024 * i64::from(field)
@@ -50,15 +54,9 @@ pub fn labs_place(machine: Machine, x: u16, y: u16) -> Point
     ensures value { result ≡ labs_place machine x y }
     ensures near { IsWithin (2 ^ 31) result }
 {
-    match machine {
-        Machine::Profile => Point {
-            x: 1024 * i64::from(x),
-            y: 1024 * i64::from(y),
-        },
-        Machine::Board => Point {
-            x: signed_coordinate(x),
-            y: signed_coordinate(y),
-        },
+    Point {
+        x: labs_coordinate(machine, x),
+        y: labs_coordinate(machine, y),
     }
 }
 
@@ -91,7 +89,7 @@ fn factor_on(machine: Machine, local: u8, global: u8) -> u16
 }
 
 /// A size of a draw, multiplied by a factor.
-fn scaled(size: i16, factor: u16) -> i32
+fn scaled(size: i16, factor: u16) -> i64
     requires size_low { negsuc 1022 ≤ℤ size }
     requires size_high { size ≤ℤ pos 1023 }
     requires factor { factor ≤ 1024 }
@@ -99,20 +97,66 @@ fn scaled(size: i16, factor: u16) -> i32
     ensures low { neg_ℤ (pos (1023 * 1024)) ≤ℤ result }
     ensures high { result ≤ℤ pos (1023 * 1024) }
 {
-    i32::from(size) * i32::from(factor)
+    i64::from(size) * i64::from(factor)
 }
 
-/// A move along an axis, its distance rounded half up to whole screen places.
-fn rounded_move(by: i32) -> i32
-    requires low { neg_ℤ (pos (1023 * 1024)) ≤ℤ by }
-    requires high { by ≤ℤ pos (1023 * 1024) }
-    ensures { result ≡ rounded_move by }
+/// A size of a draw, multiplied by a factor, and the size once more, in units that are 1/2048 of those of the product.
+#[tactic(auto, using(crate::proofs::Rounding::finer_near))]
+fn finer(size: i16, factor: u16) -> i64
+    requires size_low { negsuc 1022 ≤ℤ size }
+    requires size_high { size ≤ℤ pos 1023 }
+    requires factor { factor ≤ 1024 }
+    ensures value { result ≡ size *ℤ pos (2048 * factor + 1) }
+    ensures low { negsuc 2147483647 ≤ℤ result }
+    ensures high { result ≤ℤ pos 2147483648 }
 {
-    // Half a place is added, and what is then over a whole place dropped. One unit less to the left or down, so that halves go
-    // away from 0 there, too.
-    let half = if by < 0 { 511 } else { 512 };
-    let raised = by + half;
-    raised - raised.rem_euclid(1024)
+    i64::from(size) * (2048 * i64::from(factor) + 1)
+}
+
+/// A size of a draw, multiplied by a factor, the distance rounded half up to whole screen places.
+fn rounded_move(size: i16, factor: u16) -> i64
+    requires size_low { negsuc 1022 ≤ℤ size }
+    requires size_high { size ≤ℤ pos 1023 }
+    requires factor { factor ≤ 1024 }
+    ensures value { result ≡ rounded_move (size *ℤ pos factor) }
+    ensures low { neg_ℤ (pos (1023 * 1024)) ≤ℤ result }
+    ensures high { result ≤ℤ pos (1023 * 1024) }
+{
+    // Half a place is added, and what is then over a whole place dropped. The size once more is less than one of the units, but away
+    // from 0: so halves go away from 0 to the left and down, too.
+    let places = (finer(size, factor) + 2048 * 512).div_euclid(2048 * 1024);
+    1024 * places
+}
+
+/// How far a draw moves the beam on a machine at a global scale of 0 to 15, in units of 1/1024 of a screen place.
+#[tactic(auto, unfolding(crate::specs::Beam::displacement))]
+pub fn draw_move(machine: Machine, draw: &Draw, gscale: u8) -> Point
+    requires { gscale ≤ 15 }
+    ensures value { result ≡ displacement machine draw.now gscale }
+    ensures near { IsWithin (2 ^ 31) result }
+    ensures least { IsWithin (1023 * 1024) result }
+{
+    let factor = factor_on(machine, draw.lscale, gscale);
+    match machine {
+        Machine::Profile => Point {
+            x: scaled(draw.dx, factor),
+            y: scaled(draw.dy, factor),
+        },
+        Machine::Board => Point {
+            x: rounded_move(draw.dx, factor),
+            y: rounded_move(draw.dy, factor),
+        },
+    }
+}
+
+/// How far a draw moves the beam on a machine at a global scale of 0 to 15, as (x, y) in units of 1/1024 of a screen place.
+pub fn displacement_on(machine: Machine, draw: &Draw, gscale: u8) -> (i32, i32)
+    requires { gscale ≤ 15 }
+    ensures x { result.0 ≡ (displacement machine draw.now gscale).x }
+    ensures y { result.1 ≡ (displacement machine draw.now gscale).y }
+{
+    let by = draw_move(machine, draw, gscale);
+    (by.x as i32, by.y as i32)
 }
 
 /// How far a draw moves the beam on the profile's machine at a global scale of 0 to 15, as (x, y) in units of 1/1024 of a screen
@@ -123,32 +167,4 @@ pub fn displacement(draw: &Draw, gscale: u8) -> (i32, i32)
     ensures y { result.1 ≡ (displacement Profile draw.now gscale).y }
 {
     displacement_on(Machine::Profile, draw, gscale)
-}
-
-#[tactic(auto, unfolding(crate::specs::Beam::displacement))]
-/// How far a draw moves the beam on a machine at a global scale of 0 to 15, as (x, y) in units of 1/1024 of a screen place.
-pub fn displacement_on(machine: Machine, draw: &Draw, gscale: u8) -> (i32, i32)
-    requires { gscale ≤ 15 }
-    ensures x { result.0 ≡ (displacement machine draw.now gscale).x }
-    ensures y { result.1 ≡ (displacement machine draw.now gscale).y }
-{
-    let factor = factor_on(machine, draw.lscale, gscale);
-    let (dx, dy) = (scaled(draw.dx, factor), scaled(draw.dy, factor));
-    match machine {
-        Machine::Profile => (dx, dy),
-        Machine::Board => (rounded_move(dx), rounded_move(dy)),
-    }
-}
-
-/// How far a draw moves the beam on a machine at a global scale of 0 to 15.
-pub fn draw_move(machine: Machine, draw: &Draw, gscale: u8) -> Point
-    requires { gscale ≤ 15 }
-    ensures value { result ≡ displacement machine draw.now gscale }
-    ensures near { IsWithin (2 ^ 31) result }
-{
-    let (dx, dy) = displacement_on(machine, draw, gscale);
-    Point {
-        x: i64::from(dx),
-        y: i64::from(dy),
-    }
 }

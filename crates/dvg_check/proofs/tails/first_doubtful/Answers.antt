@@ -20,7 +20,7 @@ entries-init g c =
       near = omega arith;
       before = omega arith;
       few = omega arith;
-      tails = none_kept c.args.window.now c.args.rom.now (g.E.Entries.list c.args.entries.now) 51;
+      tails = none_kept c.args.window.now c.args.rom.now (g.E.Entries.list c.args.entries.now) 68;
       good = λ k past le lt. absurd (omega (arith, le, lt));
     }
 

@@ -2,4 +2,4 @@ use Rattle.dvg_explain.proofs.TailRows.{none_kept}
 use Rattle.dvg_explain.proofs.tails.Tails.new.Goals as goal
 
 pub returns : goal.returns
-returns c = λ rom list. none_kept rom list 51
+returns c = λ rom list. none_kept rom list 68

@@ -1,0 +1,40 @@
+-- Rounding half up by one multiplication: the size once more, in units of 1/2048, makes halves go away from 0.
+use Rattle.std.proofs.Common.{◌≡◌, ℕ, ℤ, pos, negsuc, neg_ℤ, zero, suc, ◌+◌, ◌*◌, ◌/◌, ◌≤◌, ◌+ℤ◌, ◌*ℤ◌, ◌≤ℤ◌, ◌∙◌, arith, refl, ap, sym}
+use Rattle.std.specs.Int.{int_div_euclid}
+use Rattle.std.proofs.lemmas.Int.{ints}
+use Rattle.std.proofs.Math.Nat.{mul-add, mul_comm, mul_left_comm, mul-le-mul}
+use Rattle.dvg_words.specs.Beam.{rounded_move}
+
+spread : (n f : ℕ) → n * (2048 * f + 1) ≡ 2048 * (n * f) + n
+spread n f = rw (mul-add n (2048 * f) 1, mul_left_comm n 2048 f) (omega arith)
+
+below : (a m k : ℕ) → a ≡ 2048 * m + suc k → k ≤ 1022 → int_div_euclid (neg_ℤ (pos a) +ℤ pos 1048576) (pos 2097152) *ℤ pos 1024 ≡ neg_ℤ (pos (1024 * ((m + 512) / 1024)))
+below a m k e h = grind (arith, ints, e, h)
+
+down : (m : ℕ) → rounded_move (neg_ℤ (pos m)) ≡ neg_ℤ (pos (1024 * ((m + 512) / 1024)))
+down zero = refl
+down (suc m) = refl
+
+pub rounds : (size : ℤ) (f : ℕ) → negsuc 1022 ≤ℤ size → size ≤ℤ pos 1023 → int_div_euclid (size *ℤ pos (2048 * f + 1) +ℤ pos 1048576) (pos 2097152) *ℤ pos 1024 ≡ rounded_move (size *ℤ pos f)
+rounds (pos n) f low high = rw (spread n f) (grind (arith, ints, high))
+rounds (negsuc k) f low high = rw (down (suc k * f)) (below (suc k * (2048 * f + 1)) (suc k * f) k (spread (suc k) f) (grind (arith, ints, low)))
+
+-- a product of a size and a factor is no further from 0 than the greatest of them
+product : (n f : ℕ) → n ≤ 1023 → f ≤ 1024 → n * f ≤ 1047552
+product n f h k = mul-le-mul h k
+
+pub near : (size : ℤ) (f : ℕ) → negsuc 1022 ≤ℤ size → size ≤ℤ pos 1023 → f ≤ 1024 → (negsuc 1047551 ≤ℤ rounded_move (size *ℤ pos f)) × (rounded_move (size *ℤ pos f) ≤ℤ pos 1047552)
+near (pos n) f low high few =
+    let p : n * f ≤ 1047552 = product n f (grind (arith, ints, high)) few in
+    grind (arith, ints, p)
+near (negsuc k) f low high few =
+    let p : suc k * f ≤ 1047552 = product (suc k) f (grind (arith, ints, low)) few in
+    rw (down (suc k * f)) (grind (arith, ints, p))
+
+pub finer_near : (size : ℤ) (f : ℕ) → negsuc 1022 ≤ℤ size → size ≤ℤ pos 1023 → f ≤ 1024 → (negsuc 2147483647 ≤ℤ (size *ℤ pos (2048 * f + 1))) × ((size *ℤ pos (2048 * f + 1)) ≤ℤ pos 2147483648)
+finer_near (pos n) f low high few =
+    let p : n * f ≤ 1047552 = product n f (grind (arith, ints, high)) few in
+    rw (spread n f) (grind (arith, ints, p, high))
+finer_near (negsuc k) f low high few =
+    let p : suc k * f ≤ 1047552 = product (suc k) f (grind (arith, ints, low)) few in
+    rw (spread (suc k) f) (grind (arith, ints, p, low))
