@@ -1,5 +1,5 @@
 #!/bin/sh
-# Judges files that nobody has looked at, for the board, within limits of time and memory:
+# Judges files that nobody has looked at, for a board and what it clips, within limits of time and memory:
 #   judge.sh check ROM CERT FRAME     the certificate is one by make --board
 #   judge.sh frames ROM FRAME..       up to a thousand frames
 # docs/TOOLS.md is its page. It is unproved; it needs `dvgcheck` on the PATH, and timeout.
@@ -13,4 +13,4 @@ for file in "$@"; do
 done
 trap '' XFSZ
 ulimit -v 65536
-exec timeout 60 dvgcheck "$command" --board -- "$@"
+exec timeout 60 dvgcheck "$command" --board --clip -- "$@"
