@@ -4,5 +4,5 @@ use Rattle.dvg_check.proofs.tails.keep.Goals as goal
 
 pub returns : goal.returns
 returns c =
-    let long : length c.args.tails.now.slots ≡ 51 = search rules in
+    let long : length c.args.tails.now.slots ≡ 68 = search rules in
     λ w rom list tails new. are_set w rom list c.args.tails.now.slots c.slot_of.result c.args.tail (omega (arith, c.slot_of.ensures, long)) tails new
