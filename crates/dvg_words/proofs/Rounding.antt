@@ -1,9 +1,12 @@
 -- Rounding half up by one multiplication: the size once more, in units of 1/2048, makes halves go away from 0.
-use Rattle.std.proofs.Common.{◌≡◌, ℕ, ℤ, pos, negsuc, neg_ℤ, zero, suc, ◌+◌, ◌*◌, ◌/◌, ◌≤◌, ◌+ℤ◌, ◌*ℤ◌, ◌≤ℤ◌, ◌∙◌, arith, refl, ap, sym}
+use Rattle.std.proofs.Common.{◌≡◌, ℕ, ℤ, pos, negsuc, neg_ℤ, zero, suc, ◌+◌, ◌*◌, ◌/◌, ◌%◌, ◌^◌, ◌≤◌, ◌<◌, nat_le, true, false, ◌+ℤ◌, ◌*ℤ◌, ◌≤ℤ◌, ◌∙◌, arith, refl, ap, sym}
 use Rattle.std.specs.Int.{int_div_euclid}
 use Rattle.std.proofs.lemmas.Int.{ints}
-use Rattle.std.proofs.Math.Nat.{mul-add, mul_comm, mul_left_comm, mul-le-mul}
-use Rattle.dvg_words.specs.Beam.{rounded_move}
+use Rattle.std.proofs.Math.Pow.{pow_mono}
+use Rattle.std.proofs.Math.Nat.{pow-suc, mod-eq_of_lt, mul-add, mul_comm, mul_left_comm, mul-le-mul}
+use Rattle.std.proofs.lemmas.Bool.Decides.{nat_tests}
+use Rattle.dvg_words.specs.Values.{Board}
+use Rattle.dvg_words.specs.Beam.{effective_scale, axis_move, rounded_move}
 
 spread : (n f : ℕ) → n * (2048 * f + 1) ≡ 2048 * (n * f) + n
 spread n f = rw (mul-add n (2048 * f) 1, mul_left_comm n 2048 f) (omega arith)
@@ -38,3 +41,30 @@ finer_near (pos n) f low high few =
 finer_near (negsuc k) f low high few =
     let p : suc k * f ≤ 1047552 = product (suc k) f (grind (arith, ints, low)) few in
     rw (spread (suc k) f) (grind (arith, ints, p, low))
+
+-- a shift by at most nine places loses no bit
+pub lossless : (t : ℕ) → t ≤ 9 → (2 * 2 ^ t % 65536 ≡ 2 ^ (t + 1)) × (2 ^ (t + 1) ≤ 1024)
+lossless t h =
+    let small : 2 ^ t ≤ 2 ^ 9 = pow_mono h in
+    let e : t + 1 ≡ suc t = omega arith in
+    let twice : 2 ^ (t + 1) ≡ 2 * 2 ^ t = rw (e, pow-suc 2 t) (omega arith) in
+    (mod-eq_of_lt (omega arith) ∙ omega arith, omega arith)
+
+pub lossless_finer : (t : ℕ) → t ≤ 9 → (4096 * 2 ^ t % 4294967296 ≡ 2048 * 2 ^ (t + 1)) × (2 ^ (t + 1) ≤ 1024)
+lossless_finer t h =
+    let small : 2 ^ t ≤ 2 ^ 9 = pow_mono h in
+    let e : t + 1 ≡ suc t = omega arith in
+    let twice : 2 ^ (t + 1) ≡ 2 * 2 ^ t = rw (e, pow-suc 2 t) (omega arith) in
+    (mod-eq_of_lt (omega arith) ∙ omega arith, omega arith)
+
+-- ---- a draw of the board
+
+pub board_moves_by : (size : ℤ) (local global scale : ℕ) → scale ≡ effective_scale local global → scale ≤ 9 → rounded_move (size *ℤ pos (2 ^ (scale + 1))) ≡ axis_move Board size local global
+board_moves_by size local global scale same small =
+    let drawn : nat_le (effective_scale local global) 9 ≡ true = grind (arith, nat_tests, same, small) in
+    rw (same, drawn) refl
+
+pub board_stays : (size : ℤ) (local global scale : ℕ) → scale ≡ effective_scale local global → 9 < scale → pos 0 ≡ axis_move Board size local global
+board_stays size local global scale same great =
+    let drawn : nat_le (effective_scale local global) 9 ≡ false = grind (arith, nat_tests, same, great) in
+    rw (drawn) refl

@@ -2,7 +2,7 @@
 
 ghost use Rattle.std.specs.Prelude.{ℤ, ◌≡◌, ◌≤◌, pos, negsuc, neg_ℤ, ◌+◌, ◌*◌, ◌^◌, ◌+ℤ◌, ◌≤ℤ◌, ◌*ℤ◌, FitsSigned};
 ghost use Rattle.std.specs.Int.{w64};
-ghost use Rattle.dvg_words.specs.Beam.{axis_move, factor, rounded_move, displacement, shift, labs_coordinate, labs_place, IsWithin};
+ghost use Rattle.dvg_words.specs.Beam.{axis_move, effective_scale, factor, rounded_move, displacement, shift, labs_coordinate, labs_place, IsWithin};
 ghost use Rattle.dvg_words.specs.Values.{Profile, Board};
 
 use crate::instruction::Draw;
@@ -60,6 +60,16 @@ pub fn labs_place(machine: Machine, x: u16, y: u16) -> Point
     }
 }
 
+/// The effective scale of a draw, 0 to 15: its local scale and the global one, modulo 16.
+fn effective_scale(local: u8, global: u8) -> u8
+    requires local { local ≤ 9 }
+    requires global { global ≤ 15 }
+    ensures value { result ≡ effective_scale local global }
+    ensures small { result ≤ 15 }
+{
+    (local + global) % 16
+}
+
 /// The factor of a draw's sizes, 1 to 1024, at a local scale of 0 to 9 and a global scale of 0 to 15. Size times factor is in
 /// units of 1/1024 of a screen place (profile).
 pub fn factor(local: u8, global: u8) -> u16
@@ -68,23 +78,9 @@ pub fn factor(local: u8, global: u8) -> u16
     ensures value { result ≡ factor local global }
     ensures small { result ≤ 1024 }
 {
-    factor_on(Machine::Profile, local, global)
-}
-
-/// The same on a machine: 0 on the board where it draws nothing.
-fn factor_on(machine: Machine, local: u8, global: u8) -> u16
-    requires local { local ≤ 9 }
-    requires global { global ≤ 15 }
-    ensures profile { machine ≡ Profile → result ≡ factor local global }
-    ensures board { machine ≡ Board → (size : ℤ) → rounded_move (size *ℤ pos result) ≡ axis_move Board size local global }
-    ensures small { result ≤ 1024 }
-{
-    match (local + global) % 16 {
+    match effective_scale(local, global) {
         scale @ 0..=9 => 2 << scale,
-        _ => match machine {
-            Machine::Profile => 1,
-            Machine::Board => 0,
-        },
+        _ => 1,
     }
 }
 
@@ -100,31 +96,39 @@ fn scaled(size: i16, factor: u16) -> i64
     i64::from(size) * i64::from(factor)
 }
 
-/// A size of a draw, multiplied by a factor, and the size once more, in units that are 1/2048 of those of the product.
-#[tactic(auto, using(crate::proofs::Rounding::finer_near))]
-fn finer(size: i16, factor: u16) -> i64
+/// 2048 times the factor at an effective scale of 0 to 9, and 1.
+fn finer_factor(scale: u8) -> u32
+    requires { scale ≤ 9 }
+    ensures value { result ≡ 2048 * 2 ^ (scale + 1) + 1 }
+{
+    (4096 << scale) + 1
+}
+
+/// A size of a draw at an effective scale of 0 to 9, multiplied by the factor, and the size once more, in units that are 1/2048 of
+/// those of the product.
+fn finer(size: i16, scale: u8) -> i64
     requires size_low { negsuc 1022 ≤ℤ size }
     requires size_high { size ≤ℤ pos 1023 }
-    requires factor { factor ≤ 1024 }
-    ensures value { result ≡ size *ℤ pos (2048 * factor + 1) }
+    requires scale { scale ≤ 9 }
+    ensures value { result ≡ size *ℤ pos (2048 * 2 ^ (scale + 1) + 1) }
     ensures low { negsuc 2147483647 ≤ℤ result }
     ensures high { result ≤ℤ pos 2147483648 }
 {
-    i64::from(size) * (2048 * i64::from(factor) + 1)
+    i64::from(size) * i64::from(finer_factor(scale))
 }
 
-/// A size of a draw, multiplied by a factor, the distance rounded half up to whole screen places.
-fn rounded_move(size: i16, factor: u16) -> i64
+/// A size of a draw at an effective scale of 0 to 9, multiplied by the factor, the distance rounded half up to whole screen places.
+fn rounded_move(size: i16, scale: u8) -> i64
     requires size_low { negsuc 1022 ≤ℤ size }
     requires size_high { size ≤ℤ pos 1023 }
-    requires factor { factor ≤ 1024 }
-    ensures value { result ≡ rounded_move (size *ℤ pos factor) }
+    requires scale { scale ≤ 9 }
+    ensures value { result ≡ rounded_move (size *ℤ pos (2 ^ (scale + 1))) }
     ensures low { neg_ℤ (pos (1023 * 1024)) ≤ℤ result }
     ensures high { result ≤ℤ pos (1023 * 1024) }
 {
     // Half a place is added, and what is then over a whole place dropped. The size once more is less than one of the units, but away
     // from 0: so halves go away from 0 to the left and down, too.
-    let places = (finer(size, factor) + 2048 * 512).div_euclid(2048 * 1024);
+    let places = (finer(size, scale) + 2048 * 512).div_euclid(2048 * 1024);
     1024 * places
 }
 
@@ -136,15 +140,20 @@ pub fn draw_move(machine: Machine, draw: &Draw, gscale: u8) -> Point
     ensures near { IsWithin (2 ^ 31) result }
     ensures least { IsWithin (1023 * 1024) result }
 {
-    let factor = factor_on(machine, draw.lscale, gscale);
     match machine {
-        Machine::Profile => Point {
-            x: scaled(draw.dx, factor),
-            y: scaled(draw.dy, factor),
-        },
-        Machine::Board => Point {
-            x: rounded_move(draw.dx, factor),
-            y: rounded_move(draw.dy, factor),
+        Machine::Profile => {
+            let factor = factor(draw.lscale, gscale);
+            Point {
+                x: scaled(draw.dx, factor),
+                y: scaled(draw.dy, factor),
+            }
+        }
+        Machine::Board => match effective_scale(draw.lscale, gscale) {
+            scale @ 0..=9 => Point {
+                x: rounded_move(draw.dx, scale),
+                y: rounded_move(draw.dy, scale),
+            },
+            _ => Point::ORIGIN,
         },
     }
 }

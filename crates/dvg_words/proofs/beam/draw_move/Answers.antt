@@ -1,14 +1,20 @@
-use Rattle.std.proofs.Common.{rules, ◌≡◌, pos, ◌*ℤ◌}
-use Rattle.dvg_words.specs.Beam.{axis_move, rounded_move, displacement}
-use Rattle.dvg_words.specs.Values.{Board}
+use Rattle.std.proofs.Common.{rules, arith}
+use Rattle.dvg_words.specs.Beam.{displacement}
+use Rattle.dvg_words.proofs.Rounding.{board_moves_by, board_stays}
 use Rattle.dvg_words.proofs.beam.draw_move.Goals as goal
 
-pub returns-in-Board-clause-value : goal.returns-in-Board-clause-value
+pub returns-in-0-to-9-clause-value : goal.returns-in-0-to-9-clause-value
 unfolding displacement
-returns-in-Board-clause-value c =
+returns-in-0-to-9-clause-value c =
     let d = c.draw.inside in
-    let across : rounded_move (d.dx *ℤ pos c.factor_on-factor.result) ≡ axis_move Board d.dx d.lscale c.args.gscale =
-    c.factor_on-factor.ensures.board c.in-Board.is d.dx in
-    let up : rounded_move (d.dy *ℤ pos c.factor_on-factor.result) ≡ axis_move Board d.dy d.lscale c.args.gscale =
-    c.factor_on-factor.ensures.board c.in-Board.is d.dy in
+    let across = board_moves_by d.dx d.lscale c.args.gscale c.effective_scale.result c.effective_scale.ensures.value (omega arith) in
+    let up = board_moves_by d.dy d.lscale c.args.gscale c.effective_scale.result c.effective_scale.ensures.value (omega arith) in
+    search rules
+
+pub returns-in_default-clause-value : goal.returns-in_default-clause-value
+unfolding displacement
+returns-in_default-clause-value c =
+    let d = c.draw.inside in
+    let across = board_stays d.dx d.lscale c.args.gscale c.effective_scale.result c.effective_scale.ensures.value (omega arith) in
+    let up = board_stays d.dy d.lscale c.args.gscale c.effective_scale.result c.effective_scale.ensures.value (omega arith) in
     search rules

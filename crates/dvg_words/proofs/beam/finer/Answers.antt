@@ -1,8 +1,13 @@
-use Rattle.std.proofs.Common.{rules}
-use Rattle.dvg_words.proofs.Rounding.{finer_near}
+use Rattle.std.proofs.Common.{rules, ◌+◌, ◌^◌}
+use Rattle.dvg_words.proofs.Rounding.{finer_near, lossless}
 use Rattle.dvg_words.proofs.beam.finer.Goals as goal
 
 pub returns-clause-high : goal.returns-clause-high
 returns-clause-high c =
-    let n = finer_near c.args.size c.args.factor c.requires.size_low c.requires.size_high c.requires.factor in
+    let n = finer_near c.args.size (2 ^ (c.args.scale + 1)) c.requires.size_low c.requires.size_high (lossless c.args.scale c.requires.scale).1 in
+    search rules
+
+pub returns-clause-low : goal.returns-clause-low
+returns-clause-low c =
+    let n = finer_near c.args.size (2 ^ (c.args.scale + 1)) c.requires.size_low c.requires.size_high (lossless c.args.scale c.requires.scale).1 in
     search rules
