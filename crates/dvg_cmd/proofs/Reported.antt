@@ -73,5 +73,5 @@ module _ (detail : Detail) (old new : Option (List ℕ)) (writes writes_after : 
   accepted outcome (Err r) h is P holds = absurd (refused r (line_accepted h.behind (outcome_of (Err r)) (sym h.outcome_is ∙ is)))
 
   pub reports_accepted : (v : Result Yes Refusal) (r : Result Outcome RunFault) → IfOk r (WritesReport detail v old new writes writes_after) → r ≡ Ok Accepted → (P : Yes → Type 0) → IfOk v P → ReportsAccepted detail old new P
-  reports_accepted v (Ok outcome) h is = accepted outcome v h (ok_accepted (Ok outcome) outcome refl is)
+  reports_accepted v (Ok outcome) h is P holds = accepted outcome v h (ok_accepted (Ok outcome) outcome refl is) P holds
   reports_accepted v (Err fault) h is P holds = absurd (err_accepted (Err fault) fault refl is)
