@@ -23,4 +23,4 @@ pub use machine::Machine;
 pub use map::{
     ADDRESS_END, ASTEROIDS, MEMORY_LAST, MOST_ROM_WORDS, RAM_WORDS, ROM_FIRST, ROM_LAST, RomMap,
 };
-pub use window::{CLIPPED, SCREEN, Window, in_units, in_window, on_screen};
+pub use window::{CLIPPED, SCREEN, Window, in_units, in_window, in_zone, on_screen};
