@@ -2,13 +2,13 @@
 //! that tests/explain has of the program.
 
 use crate::expecting::expect_same;
-use crate::inputs::{EMPTY, rom_bytes};
+use crate::inputs::{EMPTY, Part, rom_bytes};
 use dvg_cert::{End, HashIndex, Key, ListIndex, LitBox, read_cert};
-use dvg_check::{JudgedShapes, Mode};
+use dvg_check::{JudgedShapes, Mode, Refusal, Yes, check_on};
 use dvg_explain::{
-    BoxLeaving, Edge, FrameCause, Leaving, ShapeCause, explain_frame, explain_shapes,
+    BoxLeaving, Edge, FrameCause, Leaving, ShapeCause, explain_frame, explain_shapes, frame_clipped,
 };
-use dvg_words::{FrameImage, Point, RomImage, SCREEN};
+use dvg_words::{CLIPPED, FrameImage, Machine, Point, RomImage, SCREEN};
 use std::alloc::Global;
 use std::process::Abort;
 
