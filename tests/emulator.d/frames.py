@@ -95,14 +95,20 @@ def deepest(seen):
     return max((item.pointer - first) % 16 for item in seen.items)
 
 
-def shown(seen, lit, window):
-    """The line that says what the emulator shows."""
+def judged(seen, lit, window):
+    """The line that says where the first stroke leaves the window; if none does, what the emulator fetched and called."""
     for stroke in lit:
         if not (window.has(stroke.start) and window.has(stroke.end)):
             return f"refused 46 frame at {stroke.at:03X}"
-    if picture(seen) != [(stroke.start, stroke.end) for stroke in lit]:
-        return "a picture that is not the one of the counters"
     return f"accepted words={seen.items[-1].words} depth={deepest(seen)}"
+
+
+def shown(seen, lit, window):
+    """The line that says what the emulator shows."""
+    line = judged(seen, lit, window)
+    if line.startswith("accepted") and picture(seen) != [(stroke.start, stroke.end) for stroke in lit]:
+        return "a picture that is not the one of the counters"
+    return line
 
 
 # ---- what the program says
@@ -121,14 +127,13 @@ def spelled(window):
     return ",".join(map(str, window))
 
 
-def lines(program, folder, lot):
-    """The program's answers, without the number of entries."""
+def lines(program, folder, lot, options):
+    """The program's answers with these options, without the number of entries."""
     write(os.path.join(folder, "rom"), lot.rom, 2048)
     names = [f"frame-{number}" for number in range(len(lot.runs))]
     for name, run in zip(names, lot.runs):
         write(os.path.join(folder, name), run.frame)
-    words = ["frames", "--board", "rom", *names, "--window", spelled(lot.window)]
-    done = subprocess.run([program, *words], cwd=folder, capture_output=True, text=True, check=False)
+    done = subprocess.run([program, "frames", "--board", "rom", *names, *options], cwd=folder, capture_output=True, text=True, check=False)
     told = done.stdout.splitlines()
     if done.returncode > 1 or len(told) != len(names):
         raise SystemExit(f"FAILED: frames --board: status {done.returncode}: {done.stdout[:300]}{done.stderr[:300]}")
@@ -179,7 +184,7 @@ def main(program, folder, examples):
     runs = emulate(os.path.join(folder, "frames"), [(lot.rom, lot.runs) for lot in lots])
     counts = Counts()
     for lot in lots:
-        for run, line in zip(lot.runs, lines(program, folder, lot)):
+        for run, line in zip(lot.runs, lines(program, folder, lot, ["--window", spelled(lot.window)])):
             counts.compare(lot, run, line, next(runs))
     return counts.report()
 

@@ -176,6 +176,9 @@ class Author:
 
     # the parts of a list, each of which begins with a LABS
 
+    def parts(self):
+        return self.edges, self.long, self.calls, self.calls, self.wraps, self.away, self.around
+
     def edges(self):
         for _ in range(self.chance.between(2, 8)):
             x, y = self.some_place(20)
@@ -256,7 +259,7 @@ class Author:
         for _ in range(self.chance.between(1, 3)):
             if self.chance.one_in(6):
                 self.jump_over()
-            self.chance.one_of((self.edges, self.long, self.calls, self.calls, self.wraps, self.away, self.around))()
+            self.chance.one_of(self.parts())()
             if len(self.words) > 300:
                 break
         return self.words + [HALT | self.chance.between(0, 0xFFF)]

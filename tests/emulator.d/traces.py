@@ -148,8 +148,9 @@ def main(trace, folder, examples):
     lots = random_lots(Chance(SEED))
     seen = emulate(os.path.join(folder, "traces"), [(lot.rom, lot.runs) for lot in lots])
     failed = compare_all(trace, folder, lots, seen, "random words")
-    before = seen_before(os.path.join(folder, "frames"))
-    return compare_all(trace, folder, all_lots(examples), before, "frames, by their instructions") or failed
+    lots, before = all_lots(examples), os.path.join(folder, "frames")
+    seen = seen_before(before) if os.path.exists(before) else emulate(before, [(lot.rom, lot.runs) for lot in lots])
+    return compare_all(trace, folder, lots, seen, "frames, by their instructions") or failed
 
 
 if __name__ == "__main__":
