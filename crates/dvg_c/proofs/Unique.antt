@@ -1,5 +1,6 @@
 -- What is known of kept shapes is known in one way: any two proofs of it are equal.
-use Rattle.std.proofs.Common.{◌≡◌, ℕ, inl, inr, List, [], ◌∷◌, Option, Some, None, ap, arith}
+use Rattle.std.proofs.Common.{◌≡◌, ℕ, inl, inr, List, [], ◌∷◌, Option, Some, None, ap, subst, pos, arith}
+use Rattle.std.specs.Prelude.{◌≤ℤ◌}
 use Rattle.std.specs.Coded.{×_prop, Π_prop, →_prop, le_prop}
 use Rattle.std.proofs.Math.Nat.{ℕ_set}
 use Rattle.std.proofs.Props.{props}
@@ -154,7 +155,7 @@ Window-set a b = hlevel props
 
 -- the zone that a board clips is no part of the screen
 zone_outside : (w : Window) → IsWindow w → w ≡ clipped → ⊥
-zone_outside w h e = omega (arith, h.x_least, ap (λ (v : Window). v.x_min) e)
+zone_outside w h e = (subst (λ (v : Window). pos 0 ≤ℤ v.x_min) e h.x_least).le
 
 IsWindowOrZone-prop : (w : Window) → IsProp (IsWindowOrZone w)
 IsWindowOrZone-prop w (inl p) (inl q) = ap inl (IsWindow-prop w p q)

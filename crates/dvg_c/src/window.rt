@@ -33,7 +33,10 @@ pub fn window_between(ends: WindowEnds) -> Option<Window>
 fn are_ends_of(ends: WindowEnds, window: &Window) -> bool
     ensures { IsTrue result ↔ (window_of ends ≡ window.now) }
 {
-    ends.x_min == window.x_min() && ends.x_max == window.x_max() && ends.y_min == window.y_min() && ends.y_max == window.y_max()
+    ends.x_min == window.x_min()
+        && ends.x_max == window.x_max()
+        && ends.y_min == window.y_min()
+        && ends.y_max == window.y_max()
 }
 
 /// The window between these ends for a machine: a part of the screen, or, on the board, what it clips; `None` for all other ends.
