@@ -229,6 +229,94 @@ static void machines(void) {
     EXPECT(dvgcheck_check_on(2, half_rom, 0, c, 0, half_frame, 0, 0, turned).number, DVGCHECK_BAD_MACHINE);
 }
 
+/* ---- the zone that a board clips: a frame with a rock one place past the screen's left edge, and one stroke near the zone's */
+
+static const struct dvgcheck_window zone = DVGCHECK_CLIPPED;
+
+/* What only looks like the zone: one of its ends one place off, one of its axes alone, its ends turned, more of what is around it. */
+static const struct dvgcheck_window not_zones[] = {
+    {-1025, 2047, -1024, 2047}, {-1023, 2047, -1024, 2047}, {-1024, 2046, -1024, 2047}, {-1024, 2048, -1024, 2047},
+    {-1024, 2047, -1025, 2047}, {-1024, 2047, -1023, 2047}, {-1024, 2047, -1024, 2046}, {-1024, 2047, -1024, 2048},
+    {-1024, 2047, 0, 1023},     {0, 1023, -1024, 2047},     {2047, -1024, 2047, -1024}, {-32768, 32767, -32768, 32767},
+    {-1, 1023, 0, 1023},        {0, 1023, -1, 1023},        {-1, -1, -1, -1},           {0, 1023, 0, 1024},
+};
+
+static struct bytes crossing_rom, crossing_cert, crossing;
+
+static struct dvgcheck_answer crossing_check(uint32_t machine, struct dvgcheck_window window) {
+    struct dvgcheck_answer a =
+        dvgcheck_check_on(machine, crossing_rom.at, crossing_rom.length, crossing_cert.at, crossing_cert.length, crossing.at,
+                          crossing.length, BUDGET, window);
+    struct dvgcheck_answer exact =
+        dvgcheck_check_exact_on(machine, crossing_rom.at, crossing_rom.length, crossing_cert.at, crossing_cert.length,
+                                crossing.at, crossing.length, BUDGET, window);
+    EXPECT(same(a, exact), 1);
+    return a;
+}
+
+/* The same number for counts as exact, whose shapes are `copied`. */
+static uint8_t crossing_judge(uint32_t machine, struct dvgcheck_window window) {
+    struct dvgcheck_answer exact = dvgcheck_judge_exact_on(machine, crossing_rom.at, crossing_rom.length, crossing_cert.at,
+                                                           crossing_cert.length, window, &copied);
+    struct dvgcheck_answer a = dvgcheck_judge_on(machine, crossing_rom.at, crossing_rom.length, crossing_cert.at,
+                                                 crossing_cert.length, window, &shapes);
+    EXPECT(same(a, exact), 1);
+    return a.number;
+}
+
+static struct dvgcheck_answer crossing_over(const struct dvgcheck_shapes *kept) {
+    return dvgcheck_frame(kept, crossing.at, crossing.length, BUDGET);
+}
+
+/* A064 0C01 9000 740n B000: from -1023, 100 a stroke by n places to the left, over no shapes; the zone ends at -1024. */
+static struct dvgcheck_answer stroke_check(uint8_t n) {
+    const uint8_t stroke[] = {0x64, 0xA0, 0x01, 0x0C, 0, 0x90, n, 0x74, 0, 0xB0};
+    static const char none[] = "dvgcert 1\ndone 0\n";
+    return dvgcheck_check_on(DVGCHECK_BOARD, half_rom, sizeof half_rom, (const uint8_t *)none, strlen(none), stroke, sizeof stroke,
+                             BUDGET, zone);
+}
+
+static void clipped(void) {
+    struct dvgcheck_answer a = crossing_check(DVGCHECK_BOARD, zone);
+    EXPECT(a.number, 0);
+    EXPECT(a.shapes, 10);
+    EXPECT(a.words, 130);
+    EXPECT(a.depth, 2);
+    EXPECT(crossing_judge(DVGCHECK_BOARD, zone), 0);
+    EXPECT(same(crossing_over(&shapes), a), 1);
+    EXPECT(same(crossing_over(&copied), a), 1);
+    EXPECT(same(dvgcheck_frame_on(DVGCHECK_BOARD, &shapes, crossing.at, crossing.length, BUDGET), a), 1);
+
+    a = crossing_check(DVGCHECK_BOARD, DVGCHECK_SCREEN);
+    EXPECT(a.number, 46);
+    EXPECT(a.word, 7);
+    EXPECT(crossing_judge(DVGCHECK_BOARD, DVGCHECK_SCREEN), 0);
+    EXPECT(same(crossing_over(&shapes), a), 1);
+    EXPECT(same(crossing_over(&copied), a), 1);
+
+    EXPECT(stroke_check(1).number, 0);
+    a = stroke_check(2);
+    EXPECT(a.number, 46);
+    EXPECT(a.word, 2);
+
+    EXPECT(crossing_check(DVGCHECK_PROFILE, zone).number, DVGCHECK_BAD_WINDOW);
+    EXPECT(crossing_judge(DVGCHECK_PROFILE, zone), DVGCHECK_BAD_WINDOW);
+    EXPECT(crossing_over(&shapes).number, DVGCHECK_NO_SHAPES);
+    EXPECT(crossing_over(&copied).number, DVGCHECK_NO_SHAPES);
+    EXPECT(crossing_check(2, zone).number, DVGCHECK_BAD_MACHINE);
+    EXPECT(judge_in(&crossing_rom, &crossing_cert, zone).number, DVGCHECK_BAD_WINDOW);
+    EXPECT(dvgcheck_judge_exact(rom.at, rom.length, cert.at, cert.length, zone, &shapes).number, DVGCHECK_BAD_WINDOW);
+    EXPECT(dvgcheck_check(rom.at, rom.length, cert.at, cert.length, frame.at, frame.length, BUDGET, zone).number,
+           DVGCHECK_BAD_WINDOW);
+    EXPECT(dvgcheck_check_exact(rom.at, rom.length, cert.at, cert.length, frame.at, frame.length, BUDGET, zone).number,
+           DVGCHECK_BAD_WINDOW);
+    for (size_t i = 0; i < sizeof not_zones / sizeof *not_zones; i++)
+        for (uint32_t machine = DVGCHECK_PROFILE; machine <= DVGCHECK_BOARD; machine++) {
+            EXPECT(crossing_check(machine, not_zones[i]).number, DVGCHECK_BAD_WINDOW);
+            EXPECT(crossing_judge(machine, not_zones[i]), DVGCHECK_BAD_WINDOW);
+        }
+}
+
 static void memory(void) {
     EXPECT(taken, given);
     EXPECT(judge(&rom, &cert).number, 0);
@@ -260,6 +348,9 @@ int main(int count, char **words) {
     read_whole("arcade.cert", &cert);
     read_whole("game.frame", &frame);
     read_whole("lower.rom", &short_rom);
+    read_whole("homebrew.rom", &crossing_rom);
+    read_whole("homebrew.cert", &crossing_cert);
+    read_whole("homebrew-too-far.frame", &crossing);
     read_whole(words[1], &loose);
     taken = given = 0;
     before_judging();
@@ -267,6 +358,7 @@ int main(int count, char **words) {
     frames();
     agree();
     machines();
+    clipped();
     memory();
     return failed;
 }

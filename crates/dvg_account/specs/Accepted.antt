@@ -1,8 +1,9 @@
 -- The lines of what is accepted. All of it is this project's own.
+use Rattle.std.specs.Global.{Vec}
 use Rattle.std.specs.Prelude.{◌≡◌, ℕ, List, ◌∷◌, ◌++◌, length, Option, Some, None, IfSome, option_to_list, Result}
 use Rattle.dvg_words.specs.declared.machine.Machine.{Machine}
 use Rattle.dvg_words.specs.declared.machine.Machine.TheVariants.{Profile, Board}
-use Rattle.dvg_words.specs.Values.{MemoryMap, Window}
+use Rattle.dvg_words.specs.Values.{MemoryMap, Window, clipped}
 use Rattle.dvg_words.specs.Memory.{words_of, rom_on, frame_word, IsFrameLength, IsRomLength}
 use Rattle.dvg_cert.specs.Order.{Certificate}
 use Rattle.dvg_cert.specs.declared.entry.Entry.{Entry}
@@ -14,12 +15,13 @@ use Rattle.dvg_check.specs.Verdict.{InRange}
 use Rattle.dvg_check.specs.declared.verdict.Yes.{Yes}
 use Rattle.dvg_explain.specs.declared.calls.Call.{Call}
 use Rattle.dvg_explain.specs.Calls.{AreCalls, IsExtent, IsShapesExtent}
+use Rattle.dvg_explain.specs.Clipping.{AreClipped}
 use Rattle.dvg_explain.specs.Leaving.{window_limits}
 use Rattle.dvg_explain.specs.declared.margins.Margins.{Margins}
 use Rattle.dvg_explain.specs.Margins.{AreMargins, limits_box}
 use Rattle.dvg_make.specs.Judging.{VerdictByMade}
 use Rattle.dvg_make.specs.declared.judging.FrameRefusal.{FrameRefusal}
-use Rattle.dvg_account.specs.Machines.{machine_lines}
+use Rattle.dvg_account.specs.Machines.{machine_lines, TellsZone}
 use Rattle.dvg_account.specs.declared.accepted.Survey.{Survey}
 use Rattle.dvg_account.specs.declared.inputs.Inputs.{Inputs}
 use Rattle.dvg_account.specs.declared.line.Line.{Line}
@@ -27,20 +29,26 @@ use Rattle.dvg_account.specs.declared.line.Line.TheVariants.{Accepted}
 use Rattle.dvg_account.specs.declared.line.AcceptedLine.{AcceptedLine}
 use Rattle.dvg_account.specs.declared.line.AcceptedLine.TheVariants as line
 
--- the calls of a frame on a machine, and the least box of what its own items may light
-pub record FrameSurveyed (machine : Machine) (list : List Entry) (words : List ℕ) (calls : List Call) (box : LitBox) : Type 0 where
+-- the calls of a frame on a machine, the least box of what its own items may light, and which of them light past the screen
+pub record FrameSurveyed (machine : Machine) (list : List Entry) (words : List ℕ) (calls : List Call) (box : LitBox) (past_screen : List ℕ) : Type 0 where
   pub are_calls : AreCalls (frame_context machine list) (frame_word machine words) 0 calls
   pub is_extent : IsExtent (frame_context machine list) (frame_word machine words) 0 box
+  pub are_clipped : AreClipped (frame_context machine list) (frame_word machine words) 0 past_screen
 
 -- of the bytes of a ROM and a frame, as far as they are of the right length
 pub record Surveyed (machine : Machine) (cert : Certificate) (rom frame : List ℕ) (s : Survey) : Type 0 where
-  pub frame_is : IsFrameLength (length frame) → FrameSurveyed machine cert.entries (words_of frame) s.calls.items s.frame
+  pub frame_is : IsFrameLength (length frame) → FrameSurveyed machine cert.entries (words_of frame) s.calls.items s.frame s.clipped.items
   pub shapes_are : IsRomLength cert.map (length rom) → IsShapesExtent (rom_on machine cert.map rom) cert.entries s.shapes
 
 -- how far the box is from each edge of the window; no line where it is empty or reaches outside
 abbrev pub TellsMargins : Window → LitBox → (Margins → AcceptedLine) → Option Line → Type 0
 TellsMargins w box tell None = IsInside box (limits_box (window_limits w)) → box ≡ Empty
 TellsMargins w box tell (Some told) = (m : Margins) × AreMargins (window_limits w) box m × (told ≡ Accepted (tell m))
+
+-- the word addresses of the items that light past the screen; no line where the window is not the zone that a board clips
+abbrev pub TellsClipped : Window → Vec ℕ → Option Line → Type 0
+TellsClipped w past_screen None = w ≡ clipped → ⊥
+TellsClipped w past_screen (Some told) = (w ≡ clipped) × (told ≡ Accepted (line.Clipped past_screen))
 
 -- the board's answer to bytes of a ROM at this map and of a frame, by the frame's own certificate there; no line for bytes that
 -- can't be judged
@@ -56,17 +64,22 @@ abbrev pub TellsBoard : Machine → Inputs → Option Line → Type 0
 TellsBoard Profile inputs told = TellsBoardAt inputs.map inputs told
 TellsBoard Board inputs told = told ≡ None
 
--- the lines of what is accepted: its counts, the calls of the frame, where the frame and the shapes light, and the board's answer
+-- the lines of what is accepted: its counts, the calls of the frame, where the frame and the shapes light, what the board clips, and
+-- the board's answer
 pub record AcceptedLines (inputs : Inputs) (yes : Yes) (lines : List Line) : Type 0 where
   pub survey : Survey
   pub surveyed : IfSome inputs.cert (λ cert. Surveyed inputs.machine cert.now inputs.rom.now inputs.frame.now survey)
+  pub zone : Option Line
+  pub in_zone : TellsZone inputs.window zone
   pub frame_margins : Option Line
   pub frame_inside : TellsMargins inputs.window survey.frame line.FrameMargins frame_margins
+  pub clipped : Option Line
+  pub clips : TellsClipped inputs.window survey.clipped clipped
   pub shapes_margins : Option Line
   pub shapes_inside : TellsMargins inputs.window survey.shapes line.ShapesMargins shapes_margins
   pub on_board : Option Line
   pub board : TellsBoard inputs.machine inputs on_board
-  pub told : lines ≡ machine_lines inputs.machine ++ Accepted (line.Shapes yes.shapes) ∷ Accepted (line.Words yes.words inputs.budget)
-      ∷ Accepted (line.ReturnPlaces yes.depth) ∷ Accepted (line.Calls survey.calls) ∷ Accepted (line.FrameLights survey.frame)
-      ∷ option_to_list frame_margins ++ Accepted (line.ShapesLight survey.shapes) ∷ option_to_list shapes_margins
+  pub told : lines ≡ machine_lines inputs.machine ++ option_to_list zone ++ Accepted (line.Shapes yes.shapes)
+      ∷ Accepted (line.Words yes.words inputs.budget) ∷ Accepted (line.ReturnPlaces yes.depth) ∷ Accepted (line.Calls survey.calls) ∷ Accepted (line.FrameLights survey.frame)
+      ∷ option_to_list frame_margins ++ option_to_list clipped ++ Accepted (line.ShapesLight survey.shapes) ∷ option_to_list shapes_margins
       ++ option_to_list on_board

@@ -1,7 +1,8 @@
 -- The lines about the machine. All of it is this project's own.
-use Rattle.std.specs.Prelude.{List, [], ◌∷◌, Option, Some, None}
+use Rattle.std.specs.Prelude.{◌≡◌, List, [], ◌∷◌, Option, Some, None}
 use Rattle.dvg_words.specs.declared.machine.Machine.{Machine}
 use Rattle.dvg_words.specs.declared.machine.Machine.TheVariants.{Profile, Board}
+use Rattle.dvg_words.specs.Values.{Window, clipped}
 use Rattle.dvg_check.specs.declared.fault.ShapeWhy.{ShapeWhy}
 use Rattle.dvg_check.specs.declared.fault.ShapeWhy.TheVariants as shape
 use Rattle.dvg_account.specs.declared.line.Line.{Line}
@@ -11,6 +12,11 @@ use Rattle.dvg_account.specs.declared.line.Line.TheVariants as line
 abbrev pub machine_lines : Machine → List Line
 machine_lines Profile = []
 machine_lines Board = line.OnMachine Board ∷ []
+
+-- the line that names the window where it is the zone that a board clips
+abbrev pub TellsZone : Window → Option Line → Type 0
+TellsZone w None = w ≡ clipped → ⊥
+TellsZone w (Some told) = (w ≡ clipped) × (told ≡ line.Zone)
 
 -- the machine that is not this one
 abbrev pub other : Machine → Machine

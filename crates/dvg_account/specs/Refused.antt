@@ -1,6 +1,7 @@
 -- The lines of a refusal because of an item. All of it is this project's own.
 use Rattle.std.specs.Prelude.{◌≡◌, ℕ, List, [], ◌∷◌, ◌++◌, length, Option, Some, None, IfSome, IfNone, option_to_list}
 use Rattle.dvg_words.specs.declared.machine.Machine.{Machine}
+use Rattle.dvg_words.specs.Values.{Window}
 use Rattle.dvg_words.specs.Memory.{Rom, rom_word, frame_word, words_of, IsFrameLength}
 use Rattle.dvg_cert.specs.declared.entry.Entry.{Entry}
 use Rattle.dvg_items.specs.Known.{frame_context, shape_context}
@@ -13,7 +14,7 @@ use Rattle.dvg_explain.specs.declared.frames.FrameAccount.{FrameAccount}
 use Rattle.dvg_explain.specs.declared.shapes.ShapeAccount.{ShapeAccount}
 use Rattle.dvg_make.specs.Made.{HasEntry}
 use Rattle.dvg_account.specs.Items.{RefusedItem, IsItem, callee_of, item_lines}
-use Rattle.dvg_account.specs.Machines.{machine_lines, other_machine_line}
+use Rattle.dvg_account.specs.Machines.{machine_lines, other_machine_line, TellsZone}
 use Rattle.dvg_account.specs.Why.{TellsFrame, TellsShape}
 use Rattle.dvg_account.specs.declared.why.Why.{Why as Sentence}
 use Rattle.dvg_account.specs.declared.line.Line.{Line}
@@ -21,14 +22,16 @@ use Rattle.dvg_account.specs.declared.line.Line.TheVariants.{Rule, Why, Path, Wh
 use Rattle.dvg_account.specs.declared.line.PathLine.TheVariants as path
 
 -- the lines of the first fault of a frame: its rule, its cause, its item, and what to do. No losses are told where no items lead there
-pub record FrameLines (machine : Machine) (frame : List ℕ) (list : List Entry) (a : FrameAccount) (lines : List Line) : Type 0 where
+pub record FrameLines (machine : Machine) (window : Window) (frame : List ℕ) (list : List Entry) (a : FrameAccount) (lines : List Line) : Type 0 where
   pub why : Sentence
   pub tells : TellsFrame machine frame a.finding a.cause why
   pub item : RefusedItem
   pub is_item : IsItem (frame_word machine frame) a.finding.fault.word a.finding.before (callee_of a.finding.found) item
   pub lost : IfSome item.losses (AreLosses (frame_context machine list) (frame_word machine frame) 0 a.finding.fault.word)
   pub unled : IfNone item.losses (NoneLead Frame (frame_word machine frame) 0 a.finding.fault.word)
-  pub told : lines ≡ machine_lines machine ++ Rule (frame_number a.finding.fault.why) ∷ Why why ∷ item_lines item
+  pub zone : Option Line
+  pub in_zone : TellsZone window zone
+  pub told : lines ≡ machine_lines machine ++ option_to_list zone ++ Rule (frame_number a.finding.fault.why) ∷ Why why ∷ item_lines item
       ++ WhatToDo (frame_number a.finding.fault.why) ∷ []
 
 -- how the frame with these bytes reaches an entry: by these calls, or by none; without a frame there is no line
@@ -41,7 +44,7 @@ TellsChain rom frame list goal line = ⊥
 
 -- the lines of the first fault of the shapes: its rule, its cause, its item, its entry, how the frame reaches it,
 -- whether the certificate may have been made for the other machine, and what to do
-pub record ShapeLines (rom : Rom) (frame : List ℕ) (list : List Entry) (a : ShapeAccount) (lines : List Line) : Type 0 where
+pub record ShapeLines (window : Window) (rom : Rom) (frame : List ℕ) (list : List Entry) (a : ShapeAccount) (lines : List Line) : Type 0 where
   pub why : Sentence
   pub tells : TellsShape rom a.finding a.cause why
   pub item : RefusedItem
@@ -51,6 +54,8 @@ pub record ShapeLines (rom : Rom) (frame : List ℕ) (list : List Entry) (a : Sh
       → NoneLead Shape (rom_word rom) a.finding.entry.addr a.finding.fault.word)
   pub chain : Option Line
   pub reached : TellsChain rom frame list a.finding.entry chain
-  pub told : lines ≡ machine_lines rom.machine ++ Rule (shape_number a.finding.fault.why) ∷ Why why ∷ item_lines item
+  pub zone : Option Line
+  pub in_zone : TellsZone window zone
+  pub told : lines ≡ machine_lines rom.machine ++ option_to_list zone ++ Rule (shape_number a.finding.fault.why) ∷ Why why ∷ item_lines item
       ++ Path (path.EntryClaims a.finding.entry) ∷ option_to_list chain
       ++ option_to_list (other_machine_line rom.machine a.finding.fault.why) ++ WhatToDo (shape_number a.finding.fault.why) ∷ []

@@ -19,9 +19,9 @@ use Rattle.dvg_make.specs.declared.judging.FrameRefusal.TheVariants.{Check}
 -- the lines of a refusal of inputs: those of the first fault of the shapes or the frame, where that is its cause, else of its number
 abbrev pub RefusedLines : Inputs → Refusal → Option RomAccount → List Line → Type 0
 RefusedLines inputs refusal (Some (account.Shape a)) lines = IfSome inputs.cert (λ cert. IsRomLength cert.now.map (length inputs.rom.now)
-    → ShapeLines (rom_on inputs.machine cert.now.map inputs.rom.now) inputs.frame.now cert.now.entries a lines)
+    → ShapeLines inputs.window (rom_on inputs.machine cert.now.map inputs.rom.now) inputs.frame.now cert.now.entries a lines)
 RefusedLines inputs refusal (Some (account.Frame a)) lines = IfSome inputs.cert (λ cert. IsFrameLength (length inputs.frame.now)
-    → FrameLines inputs.machine (words_of inputs.frame.now) cert.now.entries a lines)
+    → FrameLines inputs.machine inputs.window (words_of inputs.frame.now) cert.now.entries a lines)
 RefusedLines inputs refusal cause lines = (why : PlainWhy) × (lines ≡ plain_lines inputs.machine (refusal_number refusal) why)
 
 -- the lines of a verdict on inputs

@@ -4,26 +4,28 @@ ghost use Rattle.std.specs.Prelude.{◌≡◌, IfOk, IfSome, length};
 ghost use Rattle.dvg_words.specs.Memory.{IsFrameLength, IsRomLength, words_of, rom_on, frame_word};
 ghost use Rattle.dvg_items.specs.Known.{frame_context};
 ghost use Rattle.dvg_explain.specs.Calls.{IsShapesExtent};
-ghost use Rattle.dvg_account.specs.Accepted.{FrameSurveyed, Surveyed, TellsMargins, TellsBoard, AcceptedLines};
+ghost use Rattle.dvg_account.specs.Accepted.{FrameSurveyed, Surveyed, TellsMargins, TellsClipped, TellsBoard, AcceptedLines};
 ghost use Rattle.dvg_account.specs.declared.line.AcceptedLine.TheVariants.{FrameMargins, ShapesMargins};
 ghost use Rattle.dvg_account.specs.Building.{Adds};
 
 use crate::inputs::Inputs;
 use crate::line::{AcceptedLine, Line};
-use crate::lines::Lines;
+use crate::lines::{Lines, zone_line};
 use dvg_cert::{Cert, Entries, HashIndex, LitBox};
 use dvg_check::{Refusal, Yes, frame_of};
-use dvg_explain::{Call, Margins, frame_calls, frame_extent, shapes_extent};
+use dvg_explain::{Call, Margins, frame_calls, frame_clipped, frame_extent, shapes_extent};
 use dvg_make::{FrameRefusal, judge};
-use dvg_words::{FrameImage, Machine, RomImage, Window};
+use dvg_words::{CLIPPED, FrameImage, Machine, RomImage, Window};
 use std::alloc::{AllocError, Global};
 
-/// The calls of a frame, and the least boxes of what it and the shapes may light.
+/// The calls of a frame, the least boxes of what it and the shapes may light, and the word addresses of its items that light past
+/// the screen.
 #[derive(Drop)]
 pub struct Survey {
     pub calls: Vec<Call>,
     pub frame: LitBox,
     pub shapes: LitBox,
+    pub clipped: Vec<u16>,
 }
 
 impl Survey {
@@ -33,6 +35,7 @@ impl Survey {
             calls: Vec::new(alloc),
             frame: LitBox::Empty,
             shapes: LitBox::Empty,
+            clipped: Vec::new(alloc),
         }
     }
 
@@ -57,32 +60,35 @@ impl Survey {
         ensures { IfOk result (Surveyed machine cert.now rom.now frame.now) }
     {
         let entries = HashIndex::new(alloc, cert)?;
-        let (calls, lit) = survey_frame(alloc, machine, cert, &entries, frame)?;
+        let (calls, lit, clipped) = survey_frame(alloc, machine, cert, &entries, frame)?;
         Ok(Survey {
             calls,
             frame: lit,
             shapes: shapes_box(machine, cert, &entries, rom),
+            clipped,
         })
     }
 }
 
-/// The calls of a frame on a machine, and the least box of what its own items may light.
+/// The calls of a frame on a machine, the least box of what its own items may light, and which of them light past the screen.
 fn survey_frame<E: Entries>(
     alloc: Global,
     machine: Machine,
     cert: &Cert,
     entries: &E,
     frame: &[u8],
-) -> Result<(Vec<Call>, LitBox), AllocError>
+) -> Result<(Vec<Call>, LitBox, Vec<u16>), AllocError>
     requires { E.list entries.now ≡ cert.now.entries }
-    ensures { IfOk result (λ s. IsFrameLength (length frame.now) → FrameSurveyed machine cert.now.entries (words_of frame.now) s.0.items s.1) }
+    ensures { IfOk result (λ s. IsFrameLength (length frame.now) → FrameSurveyed machine cert.now.entries (words_of frame.now) s.0.items s.1 s.2.items) }
 {
     match FrameImage::from_bytes(frame) {
         Ok(frame) => {
             let calls = frame_calls(machine, alloc, cert, entries, &frame)?;
-            Ok((calls, frame_extent(machine, cert, entries, &frame)))
+            let lit = frame_extent(machine, cert, entries, &frame);
+            let clipped = frame_clipped(machine, alloc, cert, entries, &frame)?;
+            Ok((calls, lit, clipped))
         }
-        Err(_) => Ok((Vec::new(alloc), LitBox::Empty)),
+        Err(_) => Ok((Vec::new(alloc), LitBox::Empty, Vec::new(alloc))),
     }
 }
 
@@ -111,6 +117,17 @@ fn shapes_margins(window: &Window, lit: &LitBox) -> Option<Line>
 {
     let margins = Margins::within(window, lit)?;
     Some(Line::Accepted(AcceptedLine::ShapesMargins(margins)))
+}
+
+/// The line of the frame's items that light past the screen, where the window is the zone that a board clips.
+fn clipped_line(window: &Window, clipped: Vec<u16>) -> Option<Line>
+    ensures { TellsClipped window.now clipped result }
+{
+    if *window == CLIPPED {
+        Some(Line::Accepted(AcceptedLine::Clipped(clipped)))
+    } else {
+        None
+    }
 }
 
 /// The line of what the board answers to the same inputs, by the frame's own certificate there, unless the board was asked.
@@ -142,6 +159,7 @@ pub fn accepted_lines(alloc: Global, inputs: &Inputs, yes: Yes) -> Result<Vec<Li
     let on_board = board_line(alloc, inputs)?;
     let mut lines = Lines::new(alloc);
     lines.push_machine(inputs.machine);
+    lines.push_some(zone_line(&inputs.window));
     lines.push_accepted(AcceptedLine::Shapes(yes.shapes));
     lines.push_accepted(AcceptedLine::Words {
         words: yes.words,
@@ -151,6 +169,7 @@ pub fn accepted_lines(alloc: Global, inputs: &Inputs, yes: Yes) -> Result<Vec<Li
     lines.push_accepted(AcceptedLine::Calls(survey.calls));
     lines.push_accepted(AcceptedLine::FrameLights(frame));
     lines.push_some(frame_margins(&inputs.window, &frame));
+    lines.push_some(clipped_line(&inputs.window, survey.clipped));
     lines.push_accepted(AcceptedLine::ShapesLight(shapes));
     lines.push_some(shapes_margins(&inputs.window, &shapes));
     lines.push_some(on_board);

@@ -15,6 +15,8 @@ use dvg_words::{Format, Instr, Machine};
 pub enum Line {
     /// The machine that the answer is about.
     OnMachine(Machine),
+    /// The window is the zone that a board clips to the screen.
+    Zone,
     /// What this number means.
     Rule(u8),
     /// Why the answer is a refusal.
@@ -92,6 +94,8 @@ pub enum AcceptedLine {
     FrameLights(LitBox),
     /// How far that box is from each edge of the window.
     FrameMargins(Margins),
+    /// The word addresses of the frame's own items that light past the screen, where the board clips them.
+    Clipped(Vec<u16>),
     /// The least box of what the shapes light at absolute places.
     ShapesLight(LitBox),
     /// How far that box is from each edge of the window.

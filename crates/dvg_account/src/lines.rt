@@ -3,10 +3,10 @@
 ghost use Rattle.std.specs.Prelude.{◌≡◌, [], ◌∷◌, Some, IfOk, map, option_to_list};
 ghost use Rattle.dvg_account.specs.declared.line.Line.TheVariants.{Item, Accepted};
 ghost use Rattle.dvg_account.specs.Building.{Adds};
-ghost use Rattle.dvg_account.specs.Machines.{machine_lines};
+ghost use Rattle.dvg_account.specs.Machines.{machine_lines, TellsZone};
 
 use crate::line::{AcceptedLine, ItemLine, Line};
-use dvg_words::Machine;
+use dvg_words::{CLIPPED, Machine, Window};
 use std::alloc::{AllocError, Global};
 use std::marker::Model;
 
@@ -96,5 +96,16 @@ impl Lines {
         ensures { IfOk result (λ lines. self ≡ Some lines.items) }
     {
         self.lines
+    }
+}
+
+/// The line that names the window, where it is the zone that a board clips.
+pub fn zone_line(window: &Window) -> Option<Line>
+    ensures { TellsZone window.now result }
+{
+    if *window == CLIPPED {
+        Some(Line::Zone)
+    } else {
+        None
     }
 }

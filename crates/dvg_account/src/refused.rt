@@ -14,7 +14,7 @@ ghost use Rattle.dvg_account.specs.Building.{Adds};
 use crate::inputs::{Inputs, plain_lines};
 use crate::item::{RefusedItem, callee_of};
 use crate::line::{EntryName, Line, PathLine};
-use crate::lines::Lines;
+use crate::lines::{Lines, zone_line};
 use crate::why::Why;
 use dvg_cert::{Cert, Entries, Entry, HashIndex, ListIndex};
 use dvg_check::{Refusal, ShapeWhy};
@@ -22,7 +22,7 @@ use dvg_explain::{
     FrameAccount, Losses, RomAccount, ShapeAccount, find_chain, frame_losses, shape_losses,
 };
 use dvg_items::Kind;
-use dvg_words::{FrameImage, FrameOn, Machine, RomImage};
+use dvg_words::{FrameImage, FrameOn, Machine, RomImage, Window};
 use std::alloc::{AllocError, Global};
 
 /// The lines of a refusal, of which this is the cause, if it is because of an item.
@@ -37,12 +37,12 @@ pub fn refused_lines(
     match (cause, inputs.cert) {
         (Some(RomAccount::Shape(account)), Some(cert)) => {
             if let Ok(rom) = RomImage::from_bytes_on(inputs.machine, inputs.rom, cert.map()) {
-                return shape_lines(alloc, &rom, cert, inputs.frame, account);
+                return shape_lines(alloc, &inputs.window, &rom, cert, inputs.frame, account);
             }
         }
         (Some(RomAccount::Frame(account)), Some(cert)) => {
             if let Ok(frame) = FrameImage::from_bytes(inputs.frame) {
-                return frame_lines(alloc, inputs.machine, cert, &frame, account);
+                return frame_lines(alloc, inputs.machine, &inputs.window, cert, &frame, account);
             }
         }
         _ => {}
@@ -51,15 +51,16 @@ pub fn refused_lines(
     plain_lines(inputs.machine, alloc, refusal.number(), why)
 }
 
-/// The lines of the first fault of a frame on a machine.
+/// The lines of the first fault of a frame on a machine, judged for a window.
 fn frame_lines(
     alloc: Global,
     machine: Machine,
+    window: &Window,
     cert: &Cert,
     frame: &FrameImage,
     account: &FrameAccount,
 ) -> Result<Vec<Line>, AllocError>
-    ensures { IfOk result (λ lines. FrameLines machine frame.now cert.now.entries account.now lines.items) }
+    ensures { IfOk result (λ lines. FrameLines machine window.now frame.now cert.now.entries account.now lines.items) }
 {
     let finding = account.finding;
     let at = finding.fault.word;
@@ -73,6 +74,7 @@ fn frame_lines(
     let why = Why::of_frame(machine, account, frame);
     let mut lines = Lines::new(alloc);
     lines.push_machine(machine);
+    lines.push_some(zone_line(window));
     lines.push(Line::Rule(number));
     lines.push(Line::Why(why));
     item.push_lines(&mut lines);
@@ -80,15 +82,16 @@ fn frame_lines(
     lines.finish()
 }
 
-/// The lines of the first fault of the shapes, over the bytes of a frame.
+/// The lines of the first fault of the shapes, judged for a window, over the bytes of a frame.
 fn shape_lines(
     alloc: Global,
+    window: &Window,
     rom: &RomImage,
     cert: &Cert,
     frame: &[u8],
     account: &ShapeAccount,
 ) -> Result<Vec<Line>, AllocError>
-    ensures { IfOk result (λ lines. ShapeLines rom.now frame.now cert.now.entries account.now lines.items) }
+    ensures { IfOk result (λ lines. ShapeLines window.now rom.now frame.now cert.now.entries account.now lines.items) }
 {
     let finding = account.finding;
     let entry = finding.entry;
@@ -104,6 +107,7 @@ fn shape_lines(
     let other = other_machine_line(rom.machine(), finding.fault.why);
     let mut lines = Lines::new(alloc);
     lines.push_machine(rom.machine());
+    lines.push_some(zone_line(window));
     lines.push(Line::Rule(number));
     lines.push(Line::Why(why));
     item.push_lines(&mut lines);

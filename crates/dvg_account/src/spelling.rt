@@ -31,6 +31,9 @@ pub fn text_of(alloc: Global, lines: &[Line]) -> Result<String, AllocError> {
 fn push_line(text: &mut Text, line: &Line) {
     match line {
         Line::OnMachine(machine) => push_machine(text, *machine),
+        Line::Zone => text.push(
+            "window: the zone that the board clips, X -1024 to 2047, Y -1024 to 2047\n",
+        ),
         Line::Rule(number) => push_rule(text, *number),
         Line::Why(why) => {
             text.push("why: ");
@@ -346,6 +349,7 @@ fn push_accepted_line(text: &mut Text, line: &AcceptedLine) {
             text.push("\n");
         }
         AcceptedLine::FrameMargins(margins) => push_margins(text, "frame margins: ", margins),
+        AcceptedLine::Clipped(items) => push_clipped(text, items),
         AcceptedLine::ShapesLight(lit) => {
             text.push("shapes light within: ");
             text.push_extent(lit);
@@ -384,6 +388,20 @@ fn push_margins(text: &mut Text, label: &str, margins: &Margins) {
     text.push_distance(margins.bottom);
     text.push(", top ");
     text.push_distance(margins.top);
+    text.push("\n");
+}
+
+/// How many of a frame's items light past the screen, and the word address of the first.
+fn push_clipped(text: &mut Text, items: &[u16]) {
+    text.push("clipped: ");
+    match items.first() {
+        Some(first) => {
+            text.push_decimal(items.len());
+            text.push(" of the frame's items, the first at ");
+            text.push_address(*first);
+        }
+        None => text.push("none of the frame's items"),
+    }
     text.push("\n");
 }
 

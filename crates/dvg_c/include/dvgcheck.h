@@ -27,18 +27,26 @@
 extern "C" {
 #endif
 
-/* The ends of the part of the screen that may be lit, in whole screen places, 0 to 1023. */
+/* The ends of where strokes may be lit, in whole screen places: of a part of the screen, 0 to 1023, or those of DVGCHECK_CLIPPED. */
 struct dvgcheck_window {
-    uint16_t x_min, x_max, y_min, y_max;
+    int16_t x_min, x_max, y_min, y_max;
 };
 
 /* The whole screen. */
 static const struct dvgcheck_window DVGCHECK_SCREEN = {0, 1023, 0, 1023};
 
+/*
+ * The zone that a board clips: of what is lit in it a board shows just what lies on the screen (docs/MACHINE.md). It is a window of
+ * the calls in _on that are passed DVGCHECK_BOARD, and of no other call. It is an initializer:
+ *
+ *     struct dvgcheck_window zone = DVGCHECK_CLIPPED;
+ */
+#define DVGCHECK_CLIPPED {-1024, 2047, -1024, 2047}
+
 /* The numbers of an answer, beside those of the refusals (docs/RULES.md). */
 enum {
     DVGCHECK_ACCEPTED = 0,
-    DVGCHECK_BAD_WINDOW = 80, /* a least place is over the greatest, or a greatest over 1023 */
+    DVGCHECK_BAD_WINDOW = 80, /* the ends are not in order or not on the screen, and not those of DVGCHECK_CLIPPED on the board */
     DVGCHECK_NO_SHAPES = 81,  /* no shapes are judged: the struct is all zeros, or they were refused */
     DVGCHECK_BAD_MACHINE = 82 /* the number stands for no machine */
 };

@@ -1,10 +1,13 @@
 -- What is known of kept shapes is known in one way: any two proofs of it are equal.
-use Rattle.std.proofs.Common.{◌≡◌, ℕ, inl, inr, List, [], ◌∷◌, Option, Some, None, ap, arith}
+use Rattle.std.proofs.Common.{◌≡◌, ℕ, inl, inr, List, [], ◌∷◌, Option, Some, None, ap, subst, pos, arith}
+use Rattle.std.specs.Prelude.{◌≤ℤ◌}
 use Rattle.std.specs.Coded.{×_prop, Π_prop, →_prop, le_prop}
 use Rattle.std.proofs.Math.Nat.{ℕ_set}
 use Rattle.std.proofs.Props.{props}
 use Rattle.std.specs.List.{AllByRecursion-prop}
-use Rattle.dvg_words.specs.Values.{MemoryMap, Window, IsWindow, IsMap}
+use Rattle.dvg_words.specs.Values.{MemoryMap, Window, IsWindow, IsWindowOrZone, IsFor, IsMap, clipped}
+use Rattle.dvg_words.specs.declared.machine.Machine.{Machine}
+use Rattle.dvg_words.specs.declared.machine.Machine.TheVariants.{Profile, Board}
 use Rattle.dvg_words.specs.Memory.{Rom, IsRom, rom_word}
 use Rattle.dvg_words.specs.Decoding.{cell_at}
 use Rattle.dvg_words.specs.Beam.{InWindow}
@@ -147,6 +150,23 @@ IsRom-prop rom = hlevel props
 IsWindow-prop : (w : Window) → IsProp (IsWindow w)
 IsWindow-prop w = hlevel props
 
+Window-set : (a b : Window) → IsProp (a ≡ b)
+Window-set a b = hlevel props
+
+-- the zone that a board clips is no part of the screen
+zone_outside : (w : Window) → IsWindow w → w ≡ clipped → ⊥
+zone_outside w h e = (subst (λ (v : Window). pos 0 ≤ℤ v.x_min) e h.x_least).le
+
+IsWindowOrZone-prop : (w : Window) → IsProp (IsWindowOrZone w)
+IsWindowOrZone-prop w (inl p) (inl q) = ap inl (IsWindow-prop w p q)
+IsWindowOrZone-prop w (inl p) (inr q) = absurd (zone_outside w p q)
+IsWindowOrZone-prop w (inr p) (inl q) = absurd (zone_outside w q p)
+IsWindowOrZone-prop w (inr p) (inr q) = ap inr (Window-set w clipped p q)
+
+IsFor-prop : (machine : Machine) (w : Window) → IsProp (IsFor machine w)
+IsFor-prop Profile w = IsWindow-prop w
+IsFor-prop Board w = IsWindowOrZone-prop w
+
 IsCertificate-prop : (shapes : Shapes) → IsProp (IsCertificate shapes.rom.map shapes.list)
 IsCertificate-prop shapes a b = λ i. record {
   map_is = IsMap-prop shapes.rom.map a.map_is b.map_is i;
@@ -157,7 +177,7 @@ IsCertificate-prop shapes a b = λ i. record {
 
 pub IsKept-prop : (shapes : Shapes) → IsProp (IsKept shapes)
 IsKept-prop shapes a b = λ i. record {
-  window = IsWindow-prop shapes.window a.window b.window i;
+  window = IsFor-prop shapes.rom.machine shapes.window a.window b.window i;
   rom = IsRom-prop shapes.rom a.rom b.rom i;
   list = IsCertificate-prop shapes a.list b.list i;
   good = Good-prop shapes.mode shapes.window shapes.rom shapes.list a.good b.good i;

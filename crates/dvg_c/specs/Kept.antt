@@ -2,7 +2,7 @@
 use Rattle.std.specs.Prelude.{ℕ, ◌+◌, ◌-◌, ◌*◌, ◌==◌, nat_lt, List, map, take, if◌then◌else◌}
 use Rattle.dvg_words.specs.declared.machine.Machine.{Machine}
 use Rattle.dvg_words.specs.declared.machine.Machine.TheVariants.{Profile, Board}
-use Rattle.dvg_words.specs.Values.{IsWindow}
+use Rattle.dvg_words.specs.Values.{IsFor}
 use Rattle.dvg_words.specs.Memory.{Rom, IsRom, rom_on}
 use Rattle.dvg_cert.specs.declared.entry.Key.{Key}
 use Rattle.dvg_cert.specs.declared.entry.Key.TheVariants.{At, Any}
@@ -72,9 +72,9 @@ abbrev pub kept_shapes : ℕ → ℕ → WindowEnds → ℕ → ℕ → List ℕ
 kept_shapes machine judged w first last bytes count entries =
     record { rom = kept_rom machine first last bytes; list = kept_list count entries; window = window_of w; mode = mode_of judged }
 
--- shapes that are good by a certificate for their ROM, in a window of the screen
+-- shapes that are good by a certificate for their ROM, in a window for its machine
 pub record IsKept (shapes : Shapes) : Type 0 where
-  pub window : IsWindow shapes.window
+  pub window : IsFor shapes.rom.machine shapes.window
   pub rom : IsRom shapes.rom
   pub list : IsCertificate shapes.rom.map shapes.list
   pub good : Good shapes.mode shapes.window shapes.rom shapes.list

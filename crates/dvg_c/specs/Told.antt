@@ -1,5 +1,5 @@
 -- What the plain structs that C sees stand for. All of it is this project's own.
-use Rattle.std.specs.Prelude.{◌≡◌, ℕ, pos, Result, Ok, Err}
+use Rattle.std.specs.Prelude.{◌≡◌, ℕ, Result, Ok, Err}
 use Rattle.dvg_words.specs.Values.{Window}
 use Rattle.dvg_cert.specs.declared.entry.Key.{Key}
 use Rattle.dvg_cert.specs.declared.entry.Key.TheVariants.{At, Any}
@@ -13,7 +13,7 @@ use Rattle.dvg_c.specs.declared.answer.TheConstants.{ANY_SCALE}
 
 -- the window between these ends
 abbrev pub window_of : WindowEnds → Window
-window_of w = record { x_min = pos w.x_min; x_max = pos w.x_max; y_min = pos w.y_min; y_max = pos w.y_max }
+window_of w = record { x_min = w.x_min; x_max = w.x_max; y_min = w.y_min; y_max = w.y_max }
 
 -- a global scale, or the number after the last for any
 abbrev pub told_key : Key → ℕ

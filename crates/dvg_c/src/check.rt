@@ -1,7 +1,7 @@
 //! The verdict on bytes.
 
 ghost use Rattle.std.specs.Prelude.{◌≡◌, ◌≤◌};
-ghost use Rattle.dvg_words.specs.Values.{IsWindow};
+ghost use Rattle.dvg_words.specs.Values.{IsWindow, IsFor};
 ghost use Rattle.dvg_words.specs.declared.machine.Machine.TheVariants.{Board};
 ghost use Rattle.dvg_check.specs.declared.fault.Mode.TheVariants.{Bound, Exact};
 ghost use Rattle.dvg_check.specs.Verdict.{Verdict, VerdictOn, SafeOver, SafeOn, CountsOver, CountsOn, SafeCircuitOn, CountsCircuitOn};
@@ -11,7 +11,7 @@ ghost use Rattle.dvg_c.specs.declared.machine.TheConstants.{BOARD};
 
 use crate::answer::{Answer, BAD_MACHINE, BAD_WINDOW, answer_of, numbered};
 use crate::machine::machine_numbered;
-use crate::window::{WindowEnds, window_between};
+use crate::window::{WindowEnds, window_between, window_for};
 use dvg_check::{Mode, check, check_exact, check_on};
 use std::alloc::Global;
 
@@ -78,8 +78,8 @@ fn check_in(
     mode: Mode,
 ) -> Answer
     ensures machine { (machine ≤ BOARD → ⊥) → result ≡ numbered BAD_MACHINE }
-    ensures window { machine ≤ BOARD → (IsWindow (window_of window) → ⊥) → result ≡ numbered BAD_WINDOW }
-    ensures verdict { machine ≤ BOARD → IsWindow (window_of window)
+    ensures window { machine ≤ BOARD → (IsFor (machine_of machine) (window_of window) → ⊥) → result ≡ numbered BAD_WINDOW }
+    ensures verdict { machine ≤ BOARD → IsFor (machine_of machine) (window_of window)
         → Tells (VerdictOn (machine_of machine) mode (window_of window) rom.now cert.now frame.now budget) result }
     ensures safe { result.number ≡ 0 → SafeOn (machine_of machine) (window_of window) rom.now cert.now frame.now result.words result.depth }
     ensures exact { mode ≡ Exact → result.number ≡ 0 → CountsOn (machine_of machine) rom.now cert.now frame.now result.words result.depth }
@@ -91,7 +91,7 @@ fn check_in(
     let Some(machine) = machine_numbered(machine) else {
         return numbered(BAD_MACHINE);
     };
-    let Some(window) = window_between(window) else {
+    let Some(window) = window_for(machine, window) else {
         return numbered(BAD_WINDOW);
     };
     answer_of(&check_on(machine, alloc, rom, cert, frame, budget, window, mode))
@@ -100,7 +100,8 @@ fn check_in(
 /// Judges as [`dvgcheck_check`] does, on a machine: 0 for the profile's, about which `dvgcheck_check` is, and 1 for the board's.
 ///
 /// The answer is 82 for another number of a machine, else what `dvgcheck_check` says of 80 and of the numbers after it. On the board
-/// 0 is about every run of its circuit, too, whatever its registers hold at the start.
+/// -1024 to 2047 on both axes is a window, too: the zone of which it shows just what is on the screen. And there 0 is about every
+/// run of its circuit, too, whatever its registers hold at the start.
 #[unsafe(no_mangle)]
 pub extern "C" fn dvgcheck_check_on(
     alloc: Global,
@@ -112,8 +113,8 @@ pub extern "C" fn dvgcheck_check_on(
     window: WindowEnds,
 ) -> Answer
     ensures machine { (machine ≤ BOARD → ⊥) → result ≡ numbered BAD_MACHINE }
-    ensures window { machine ≤ BOARD → (IsWindow (window_of window) → ⊥) → result ≡ numbered BAD_WINDOW }
-    ensures verdict { machine ≤ BOARD → IsWindow (window_of window)
+    ensures window { machine ≤ BOARD → (IsFor (machine_of machine) (window_of window) → ⊥) → result ≡ numbered BAD_WINDOW }
+    ensures verdict { machine ≤ BOARD → IsFor (machine_of machine) (window_of window)
         → Tells (VerdictOn (machine_of machine) Bound (window_of window) rom.now cert.now frame.now budget) result }
     ensures safe { result.number ≡ 0 → SafeOn (machine_of machine) (window_of window) rom.now cert.now frame.now result.words result.depth }
     ensures circuit { machine_of machine ≡ Board → result.number ≡ 0
@@ -143,8 +144,8 @@ pub extern "C" fn dvgcheck_check_exact_on(
     window: WindowEnds,
 ) -> Answer
     ensures machine { (machine ≤ BOARD → ⊥) → result ≡ numbered BAD_MACHINE }
-    ensures window { machine ≤ BOARD → (IsWindow (window_of window) → ⊥) → result ≡ numbered BAD_WINDOW }
-    ensures verdict { machine ≤ BOARD → IsWindow (window_of window)
+    ensures window { machine ≤ BOARD → (IsFor (machine_of machine) (window_of window) → ⊥) → result ≡ numbered BAD_WINDOW }
+    ensures verdict { machine ≤ BOARD → IsFor (machine_of machine) (window_of window)
         → Tells (VerdictOn (machine_of machine) Exact (window_of window) rom.now cert.now frame.now budget) result }
     ensures safe { result.number ≡ 0 → SafeOn (machine_of machine) (window_of window) rom.now cert.now frame.now result.words result.depth }
     ensures exact { result.number ≡ 0 → CountsOn (machine_of machine) rom.now cert.now frame.now result.words result.depth }

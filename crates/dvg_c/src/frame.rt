@@ -20,7 +20,7 @@ use crate::entries::KeptEntries;
 use crate::machine::{machine_numbered, machine_of};
 use crate::shapes::KeptShapes;
 use crate::stage::{NOT_JUDGED, mode_of};
-use crate::window::window_between;
+use crate::window::window_for;
 use dvg_check::{Accepted, FrameFault, JudgedShapes, Mode, Refusal, Yes, frame_of};
 use dvg_words::{FrameImage, RomImage, RomMap, Window};
 
@@ -61,9 +61,10 @@ fn check_kept(kept: &KeptShapes, frame: &[u8], budget: u32) -> Result<Yes, Refus
     let frame = frame_of(frame, budget)?;
     let map = RomMap::new(kept.rom_first, kept.rom_last).unwrap();
     let length = 2 * (kept.rom_last + 1 - kept.rom_first) as usize;
-    let rom = RomImage::from_bytes_on(machine_of(kept.machine), &kept.rom[..length], map).unwrap();
+    let machine = machine_of(kept.machine);
+    let rom = RomImage::from_bytes_on(machine, &kept.rom[..length], map).unwrap();
     let entries = KeptEntries::new(&kept.entries[..kept.count as usize]);
-    let window = window_between(kept.window).unwrap();
+    let window = window_for(machine, kept.window).unwrap();
     let accepted = check_over(&rom, &entries, window, mode_of(kept.judged), &frame, budget)?;
     Ok(Yes {
         shapes: kept.count,

@@ -2,7 +2,7 @@
 
 ghost use Rattle.std.specs.Prelude.{◌≡◌, ◌≢◌, ◌≤◌, OnOk, IfErr, length, take};
 ghost use Rattle.dvg_words.specs.declared.machine.Machine.TheVariants.{Profile};
-ghost use Rattle.dvg_words.specs.Values.{IsWindow};
+ghost use Rattle.dvg_words.specs.Values.{IsWindow, IsFor};
 ghost use Rattle.dvg_items.specs.Bounds.{IsSomeCertificate};
 ghost use Rattle.dvg_check.specs.declared.fault.Mode.TheVariants.{Bound, Exact};
 ghost use Rattle.dvg_check.specs.Rules.{Good};
@@ -17,7 +17,7 @@ use crate::entry::kept_entry;
 use crate::machine::{kept_machine, machine_numbered};
 use crate::shapes::{KeptShapes, MOST_ROM_BYTES};
 use crate::stage::{NOT_JUDGED, kept_mode};
-use crate::window::{WindowEnds, window_between};
+use crate::window::{WindowEnds, window_for};
 use dvg_cert::{Cert, Entry, ListIndex, read_cert};
 use dvg_check::{Mode, Refusal, ShapeFault, check_shapes, check_shapes_exact};
 use dvg_words::{Machine, RomImage, Window};
@@ -84,12 +84,12 @@ fn judge_and_keep(
     mode: Mode,
     kept: &mut KeptShapes,
 ) -> Result<Cert, Refusal>
-    requires window { IsWindow (window_of ends) }
+    requires window { IsFor machine (window_of ends) }
     requires judged { kept.old.judged ≡ NOT_JUDGED }
     ensures verdict { ShapesVerdict machine mode (window_of ends) rom.now cert.now result }
     ensures kept { Keeps machine mode (window_of ends) rom.now kept.new result }
 {
-    let window = window_between(ends).unwrap();
+    let window = window_for(machine, ends).unwrap();
     let cert = read_cert(alloc, cert)?;
     let image = RomImage::from_bytes_on(machine, rom, cert.map())?;
     judge_shapes(mode, &window, &image, &cert)?;
@@ -113,11 +113,11 @@ fn judge_in(
     mode: Mode,
     kept: &mut KeptShapes,
 ) -> Answer
-    ensures window { (IsWindow (window_of window) → ⊥) → (result ≡ numbered BAD_WINDOW) × (kept.new.judged ≡ NOT_JUDGED) }
-    ensures verdict { IsWindow (window_of window) → IsJudgement machine mode (window_of window) rom.now cert.now kept.new result }
+    ensures window { (IsFor machine (window_of window) → ⊥) → (result ≡ numbered BAD_WINDOW) × (kept.new.judged ≡ NOT_JUDGED) }
+    ensures verdict { IsFor machine (window_of window) → IsJudgement machine mode (window_of window) rom.now cert.now kept.new result }
 {
     kept.judged = NOT_JUDGED;
-    if window_between(window).is_none() {
+    if window_for(machine, window).is_none() {
         return numbered(BAD_WINDOW);
     }
     shapes_answer(&judge_and_keep(machine, alloc, rom, cert, window, mode, kept))
@@ -185,8 +185,8 @@ fn judge_numbered(
     kept: &mut KeptShapes,
 ) -> Answer
     ensures machine { (machine ≤ BOARD → ⊥) → (result ≡ numbered BAD_MACHINE) × (kept.new.judged ≡ NOT_JUDGED) }
-    ensures window { machine ≤ BOARD → (IsWindow (window_of window) → ⊥) → (result ≡ numbered BAD_WINDOW) × (kept.new.judged ≡ NOT_JUDGED) }
-    ensures verdict { machine ≤ BOARD → IsWindow (window_of window)
+    ensures window { machine ≤ BOARD → (IsFor (machine_of machine) (window_of window) → ⊥) → (result ≡ numbered BAD_WINDOW) × (kept.new.judged ≡ NOT_JUDGED) }
+    ensures verdict { machine ≤ BOARD → IsFor (machine_of machine) (window_of window)
         → IsJudgement (machine_of machine) mode (window_of window) rom.now cert.now kept.new result }
 {
     kept.judged = NOT_JUDGED;
@@ -200,7 +200,7 @@ fn judge_numbered(
 /// over these shapes are judged on that machine, too.
 ///
 /// The answer is 82 for another number of a machine, and `kept` then has no judged shapes; else it is what `dvgcheck_judge` says of
-/// 80 and of the numbers after it.
+/// 80 and of the numbers after it. On the board -1024 to 2047 on both axes is a window, too.
 #[unsafe(no_mangle)]
 pub extern "C" fn dvgcheck_judge_on(
     alloc: Global,
@@ -211,8 +211,8 @@ pub extern "C" fn dvgcheck_judge_on(
     kept: &mut KeptShapes,
 ) -> Answer
     ensures machine { (machine ≤ BOARD → ⊥) → (result ≡ numbered BAD_MACHINE) × (kept.new.judged ≡ NOT_JUDGED) }
-    ensures window { machine ≤ BOARD → (IsWindow (window_of window) → ⊥) → (result ≡ numbered BAD_WINDOW) × (kept.new.judged ≡ NOT_JUDGED) }
-    ensures verdict { machine ≤ BOARD → IsWindow (window_of window)
+    ensures window { machine ≤ BOARD → (IsFor (machine_of machine) (window_of window) → ⊥) → (result ≡ numbered BAD_WINDOW) × (kept.new.judged ≡ NOT_JUDGED) }
+    ensures verdict { machine ≤ BOARD → IsFor (machine_of machine) (window_of window)
         → IsJudgement (machine_of machine) Bound (window_of window) rom.now cert.now kept.new result }
 {
     judge_numbered(alloc, machine, rom, cert, window, Mode::Bound, kept)
@@ -229,8 +229,8 @@ pub extern "C" fn dvgcheck_judge_exact_on(
     kept: &mut KeptShapes,
 ) -> Answer
     ensures machine { (machine ≤ BOARD → ⊥) → (result ≡ numbered BAD_MACHINE) × (kept.new.judged ≡ NOT_JUDGED) }
-    ensures window { machine ≤ BOARD → (IsWindow (window_of window) → ⊥) → (result ≡ numbered BAD_WINDOW) × (kept.new.judged ≡ NOT_JUDGED) }
-    ensures verdict { machine ≤ BOARD → IsWindow (window_of window)
+    ensures window { machine ≤ BOARD → (IsFor (machine_of machine) (window_of window) → ⊥) → (result ≡ numbered BAD_WINDOW) × (kept.new.judged ≡ NOT_JUDGED) }
+    ensures verdict { machine ≤ BOARD → IsFor (machine_of machine) (window_of window)
         → IsJudgement (machine_of machine) Exact (window_of window) rom.now cert.now kept.new result }
 {
     judge_numbered(alloc, machine, rom, cert, window, Mode::Exact, kept)

@@ -1,26 +1,52 @@
 //! Windows, as C gives them.
 
-ghost use Rattle.std.specs.Prelude.{◌≡◌, IfSome, IfNone};
-ghost use Rattle.dvg_words.specs.Values.{IsWindow};
+ghost use Rattle.std.specs.Prelude.{◌≡◌, ◌↔◌, IsTrue, IfSome, IfNone};
+ghost use Rattle.dvg_words.specs.Values.{IsWindow, IsFor};
 ghost use Rattle.dvg_c.specs.Told.{window_of};
 
-use dvg_words::Window;
+use dvg_words::{CLIPPED, Machine, Window};
 
-/// The ends of a part of the screen, in whole screen places, which nothing has tested yet.
+/// The ends of where strokes may be lit, in whole screen places, which nothing has tested yet.
 #[repr(C)]
 #[derive(Clone, Copy)]
 pub struct WindowEnds {
-    pub x_min: u16,
-    pub x_max: u16,
-    pub y_min: u16,
-    pub y_max: u16,
+    pub x_min: i16,
+    pub x_max: i16,
+    pub y_min: i16,
+    pub y_max: i16,
 }
 
-/// The window between these ends; `None` where a least place is over the greatest, or a greatest over 1023.
+/// The part of the screen between these ends; `None` where a least place is below 0 or over the greatest, or a greatest over 1023.
 pub fn window_between(ends: WindowEnds) -> Option<Window>
     ensures some { IfSome result (λ window. window ≡ window_of ends) }
     ensures range { IfSome result IsWindow }
     ensures none { IfNone result (IsWindow (window_of ends) → ⊥) }
 {
-    Window::new(ends.x_min, ends.x_max, ends.y_min, ends.y_max)
+    let x_min = u16::try_from(ends.x_min).ok()?;
+    let x_max = u16::try_from(ends.x_max).ok()?;
+    let y_min = u16::try_from(ends.y_min).ok()?;
+    let y_max = u16::try_from(ends.y_max).ok()?;
+    Window::new(x_min, x_max, y_min, y_max)
+}
+
+/// Whether a window has just these ends.
+fn are_ends_of(ends: WindowEnds, window: &Window) -> bool
+    ensures { IsTrue result ↔ (window_of ends ≡ window.now) }
+{
+    ends.x_min == window.x_min()
+        && ends.x_max == window.x_max()
+        && ends.y_min == window.y_min()
+        && ends.y_max == window.y_max()
+}
+
+/// The window between these ends for a machine: a part of the screen, or, on the board, what it clips; `None` for all other ends.
+pub fn window_for(machine: Machine, ends: WindowEnds) -> Option<Window>
+    ensures some { IfSome result (λ window. window ≡ window_of ends) }
+    ensures range { IfSome result (IsFor machine) }
+    ensures none { IfNone result (IsFor machine (window_of ends) → ⊥) }
+{
+    if are_ends_of(ends, &CLIPPED) && CLIPPED.is_for(machine) {
+        return Some(CLIPPED);
+    }
+    window_between(ends)
 }

@@ -1,6 +1,6 @@
 -- All items from a place on are determined, and so are the calls among them.
 use Rattle.dvg_words.specs.Values.{Source}
-use Rattle.std.proofs.Common.{◌≡◌, ℕ, ◌<◌, List, [], ◌∷◌, length, Option, refl, sym, ap, ◌∙◌, subst, arith, ⊎_elim}
+use Rattle.std.proofs.Common.{◌≡◌, ℕ, ◌<◌, List, [], ◌∷◌, length, refl, sym, ap, ◌∙◌, subst, arith, ⊎_elim}
 use Rattle.std.proofs.lemmas.Bool.{cases_lt}
 use Rattle.dvg_words.specs.Decoding.{cell_at}
 use Rattle.dvg_items.specs.declared.item.Item.{Item}

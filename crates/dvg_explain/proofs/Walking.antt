@@ -24,6 +24,7 @@ use Rattle.dvg_items.proofs.Stepping.{leads_on, ends_at}
 use Rattle.dvg_items.specs.Least.{IsLeast, absolute_points}
 use Rattle.dvg_items.specs.Lit.{absolute_corners}
 use Rattle.dvg_explain.specs.Calls.{Call, Stand, AreAll, call_of, calls_among}
+use Rattle.dvg_explain.specs.Clipping.{AreClippedAmong, ClippedPast}
 use Rattle.dvg_explain.specs.Losses.{place_loss, place_lost_by, scale_loss, scale_lost_by}
 use Rattle.dvg_explain.specs.Private.Walking.{IsSeenAt}
 use Rattle.dvg_explain.proofs.AllItems.{stand_before}
@@ -94,6 +95,9 @@ module _ (c : Context) (word : Source) (first : ℕ) where
       pub lit_on : (old new : LitBox) → IsLeast (absolute_points c items) old → ((ps : List Point) → IsLeast ps old → IsLeast (absolute_corners v.extent v.place ++ ps) new)
           → IsLeast (absolute_points c (v.item ∷ items)) new
       lit_on old new h grows = subst (λ (x : Seen). IsLeast (absolute_corners x.extent x.place ++ absolute_points c items) new) seen_is (grows (absolute_points c items) h)
+
+      pub clipped_on : (old new : List ℕ) → AreClippedAmong c items old → ClippedPast old v.item.at v.extent v.place new → AreClippedAmong c (v.item ∷ items) new
+      clipped_on old new h past = (old, h, subst (λ (x : Seen). ClippedPast old v.item.at x.extent x.place new) seen_is past)
 
 -- nothing needs no box
 pub least_none : IsLeast [] Empty

@@ -3,6 +3,7 @@ pub mod Margins
 pub mod Causes
 pub mod Verdict
 pub mod Calls
+pub mod Clipping
 pub mod Chains
 pub mod Losses
 pub mod Deepest

@@ -14,6 +14,7 @@ ghost use Rattle.dvg_items.specs.Least.{IsLeast};
 ghost use Rattle.dvg_items.specs.Lit.{absolute_corners};
 ghost use Rattle.dvg_items.specs.declared.item.Kind.TheVariants.{Frame, Shape};
 ghost use Rattle.dvg_explain.specs.Calls.{AreCalls, IsExtent, call_of};
+ghost use Rattle.dvg_explain.specs.Clipping.{AreClipped, ClippedPast};
 ghost use Rattle.dvg_explain.specs.Private.Visiting.{AreNewCalls};
 ghost use Rattle.dvg_explain.specs.Private.Walking.{IsSeenAt, context_of};
 
@@ -21,9 +22,10 @@ use crate::calls::Call;
 use crate::keyed_words::KeyedWords;
 use dvg_cert::{Entries, Entry, Key, LitBox};
 use dvg_items::{
-    Cursor, Item, Kind, Seen, Step, absolute_corners, callee, scale_past, target, widened,
+    Cursor, Item, Kind, Seen, Step, absolute_corners, callee, lit_in_window, scale_past, target,
+    widened,
 };
-use dvg_words::{Cell, Fetch, RomImage, read_cell};
+use dvg_words::{Cell, Fetch, RomImage, SCREEN, read_cell};
 use std::alloc::{AllocError, Global};
 
 /// What a walk over items goes by: whose items they are, the word address of the first one, and the known scale there.
@@ -169,4 +171,39 @@ pub fn extent_from<F: Fetch, E: Entries>(memory: &F, entries: &E, walk: &WalkCon
         }
     }
     lit
+}
+
+/// Adds the word address of an item, if a corner of what it lights at an absolute place is off the screen.
+fn push_clipped(clipped: &mut Vec<u16>, seen: &Seen) -> Result<(), AllocError>
+    requires { IsSoundSeen seen.now }
+    ensures { OnOk result (ClippedPast clipped.old.items seen.now.item.at seen.now.extent seen.now.place clipped.new.items) }
+{
+    if !lit_in_window(&SCREEN, &seen.extent, &seen.place) {
+        clipped.push(seen.item.at)?;
+    }
+    Ok(())
+}
+
+/// The word addresses of the items of a walk that light past the screen, in their order.
+pub fn clipped_from<F: Fetch, E: Entries>(
+    alloc: Global,
+    memory: &F,
+    entries: &E,
+    walk: &WalkContext,
+) -> Result<Vec<u16>, AllocError>
+    requires entries { IsSomeCertificate (E.list entries.now) }
+    requires first { walk.now.first < ADDRESS_END }
+    requires scale { IsKey walk.now.scale }
+    ensures { IfOk result (λ clipped. AreClipped (context_of (F.words memory.now).machine (E.list entries.now) walk.now) (F.words memory.now) walk.now.first clipped.items) }
+{
+    let mut clipped = Vec::new(alloc);
+    let mut cursor = Cursor::start(walk.kind, walk.first, walk.scale);
+    while let Some(seen) = see(memory, entries, walk.kind, &cursor) {
+        push_clipped(&mut clipped, &seen)?;
+        match seen.step(walk.kind) {
+            Step::Onward(next) => cursor = next,
+            Step::Last(_) => return Ok(clipped),
+        }
+    }
+    Ok(clipped)
 }

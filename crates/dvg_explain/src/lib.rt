@@ -7,7 +7,8 @@
 //!
 //! [`frame_calls`] and [`find_chain`] tell what a frame calls and by which calls it comes to a shape, [`deepest_calls`] which calls
 //! below a shape go deepest, [`frame_losses`] and [`shape_losses`] by which items the known place and the known scale were lost,
-//! [`frame_extent`] and [`shapes_extent`] where something may be lit, and [`Margins`] how far that is from the edges of the window.
+//! [`frame_extent`] and [`shapes_extent`] where something may be lit, [`Margins`] how far that is from the edges of the window, and
+//! [`frame_clipped`] which items reach past the screen.
 #![tactic(auto)]
 
 mod breaking;
@@ -25,7 +26,7 @@ mod shapes;
 mod tails;
 mod verdict;
 
-pub use calls::{Call, frame_calls, frame_extent};
+pub use calls::{Call, frame_calls, frame_clipped, frame_extent};
 pub use chains::find_chain;
 pub use deepest::deepest_calls;
 pub use frames::{FrameAccount, FrameCause, explain_frame};

@@ -143,7 +143,7 @@ pub const SHAPE_OUTSIDE_WINDOW: Rule = Rule {
     line: "refused 25 shape 800/0 at 802",
     heading: "Shortest input (words of the ROM; entry)",
     input: "`A000 0000 F510`; `words 2`",
-    cure: "move the place of the LABS, or draw smaller; claim the least box for what is called; or give a wider `--window`",
+    cure: "move the place of the LABS, or draw smaller; claim the least box for what is called; without `--clip`, give a wider `--window`, or `--board --clip`",
 };
 
 pub const SHAPE_NO_ENTRY: Rule = Rule {
@@ -278,7 +278,7 @@ pub const FRAME_OUTSIDE_WINDOW: Rule = Rule {
     line: "refused 46 frame at 002",
     heading: "Shortest input",
     input: "`A000 0000 F510`",
-    cure: "move the place, or draw a smaller size or scale; claim the least box; or give a wider `--window`; dark moves may leave it",
+    cure: "move the place, or draw a smaller size or scale; claim the least box; without `--clip`, give a wider `--window`, or `--board --clip`; dark moves may leave it",
 };
 
 pub const FRAME_NO_ENTRY: Rule = Rule {

@@ -1,14 +1,15 @@
-//! Causes of refusals that a short input has, their numbers worked by hand. Calls, losses, chains and margins are in the accounts
-//! that tests/explain has of the program.
+//! Causes of refusals that a short input has, and what a board clips, worked by hand. Calls, losses, chains and margins are in the
+//! accounts that tests/explain has of the program.
 
-use crate::expecting::expect_same;
+use crate::expecting::{expect, expect_same};
 use crate::inputs::{EMPTY, rom_bytes};
 use dvg_cert::{End, HashIndex, Key, ListIndex, LitBox, read_cert};
-use dvg_check::{JudgedShapes, Mode};
+use dvg_check::{JudgedShapes, Mode, check_on};
+use dvg_cmd::report_of;
 use dvg_explain::{
-    BoxLeaving, Edge, FrameCause, Leaving, ShapeCause, explain_frame, explain_shapes,
+    BoxLeaving, Edge, FrameCause, Leaving, ShapeCause, explain_frame, explain_shapes, frame_clipped,
 };
-use dvg_words::{FrameImage, Point, RomImage, SCREEN};
+use dvg_words::{CLIPPED, FrameImage, Machine, Point, RomImage, SCREEN};
 use std::alloc::Global;
 use std::process::Abort;
 
@@ -140,5 +141,82 @@ fn explains_refusals(rt: HostRuntime) {
     for &(text, word, cause) in CERTS {
         let told = explain_cert(&rt, rt.alloc(), text);
         expect_same(&rt, &told, &(word, cause), &word);
+    }
+}
+
+/// The certificate of a stroke at 800 from ten places left of the call to ten right of it.
+const WIDE_CERT: &[u8] =
+    b"dvgcert 1\nshape 800 0 end rel 10240 0 box -10240 10240 0 0 depth 0 words 5 scale 0\ndone 1\n";
+
+/// That stroke's ROM.
+fn wide_rom() -> [u8; 2048] {
+    rom_bytes(&[(0x800, &[0x9000, 0x040A, 0x9000, 0x7014, 0xD000])])
+}
+
+/// Words of frames that a board judges for the zone that it clips, the verdict's line, and the word addresses of the items that light
+/// past the screen.
+const CLIPPED_FRAMES: &[(&[u16], &[u8], &[u16])] = &[
+    // strokes over the left, the right, the lower and the upper edge, one that stays on the screen, a dark move from -5 to the left
+    // edge, and a call at 4, whose box reaches to -6
+    (
+        &[
+            0xA064, 0x0000, 0x9000, 0x7405, 0xA064, 0x03FF, 0x9000, 0x7005, 0xA000, 0x0064, 0x9407,
+            0x7000, 0xA3FF, 0x0064, 0x9008, 0x7000, 0xA064, 0x0064, 0x9005, 0x7005, 0xA064, 0x0FFB,
+            0x9000, 0x0005, 0xA064, 0x0004, 0xC800, 0xB000,
+        ],
+        b"accepted shapes=1 words=33 depth=1\n",
+        &[0x002, 0x006, 0x00A, 0x00E, 0x01A],
+    ),
+    // a stroke from corner to corner, and a call at 10, whose box begins at the left edge
+    (
+        &[0xA000, 0x0000, 0x93FF, 0x73FF, 0xA064, 0x000A, 0xC800, 0xB000],
+        b"accepted shapes=1 words=13 depth=1\n",
+        &[],
+    ),
+    // a call at 2037, whose box reaches to 2047, and one at 2038
+    (
+        &[0xA064, 0x07F5, 0xC800, 0xB000],
+        b"accepted shapes=1 words=9 depth=1\n",
+        &[0x002],
+    ),
+    (
+        &[0xA064, 0x07F6, 0xC800, 0xB000],
+        b"refused 46 frame at 002\n",
+        &[0x002],
+    ),
+    // a stroke from -1023 to -1025
+    (
+        &[0xA064, 0x0C01, 0x9000, 0x7402, 0xB000],
+        b"refused 46 frame at 002\n",
+        &[0x002],
+    ),
+];
+
+/// The word addresses of a frame's items that light past the screen on a board.
+fn clipped_items(rt: &impl Abort, alloc: Global, frame: &[u8]) -> Vec<u16> {
+    let cert = read_cert(alloc, WIDE_CERT).expect(rt, "a certificate");
+    let frame = FrameImage::from_bytes(frame).expect(rt, "a frame");
+    let entries = ListIndex::new(&cert);
+    let clipped = frame_clipped(Machine::Board, alloc, &cert, &entries, &frame);
+    clipped.expect(rt, "memory for the addresses")
+}
+
+#[test]
+fn tells_clipped(rt: HostRuntime) {
+    for &(words, line, clipped) in CLIPPED_FRAMES {
+        let frame = rom_bytes(&[(0x800, words)]);
+        let verdict = check_on(
+            Machine::Board,
+            rt.alloc(),
+            &wide_rom(),
+            WIDE_CERT,
+            &frame,
+            20_000,
+            CLIPPED,
+            Mode::Exact,
+        );
+        let told = clipped_items(&rt, rt.alloc(), &frame);
+        expect(&rt, report_of(&verdict).as_bytes() == line, &words);
+        expect(&rt, told.as_slice() == clipped, &words);
     }
 }

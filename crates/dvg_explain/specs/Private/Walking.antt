@@ -1,7 +1,7 @@
 -- A walk over all items from a word address on.
 use Rattle.dvg_words.specs.Values.{Source}
 use Rattle.dvg_words.specs.declared.machine.Machine.{Machine}
-use Rattle.std.specs.Prelude.{◌≡◌, ℕ, List, Option}
+use Rattle.std.specs.Prelude.{◌≡◌, List}
 use Rattle.dvg_words.specs.Decoding.{cell_at}
 use Rattle.dvg_words.specs.declared.instruction.Cell.TheVariants.{Holds}
 use Rattle.dvg_cert.specs.declared.entry.Entry.{Entry}

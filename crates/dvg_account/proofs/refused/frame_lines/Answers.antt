@@ -22,8 +22,10 @@ returns c =
       };
       lost = c.frame_losses.ensures.some;
       unled = c.frame_losses.ensures.none;
+      zone = c.zone_line.result;
+      in_zone = c.zone_line.ensures;
       told = whole c.new-lines.ensures all
-          (then (then c.push_machine.ensures
+          (then (then (then c.push_machine.ensures c.push_some.ensures)
           (then (told_as (ap (λ n. Rule n ∷ []) c.number-number.ensures) c.push.ensures) (then c.push-2.ensures c.push_lines.ensures)))
           (told_as (ap (λ n. WhatToDo n ∷ []) c.number-number.ensures) c.push-3.ensures));
     })

@@ -2,7 +2,6 @@ use Rattle.std.proofs.Common.{rules, ◌≡◌, ◌∙◌, ap, ℤ, pos, ◌*ℤ
 use Rattle.std.proofs.lemmas.Int.{to_z-of_z}
 use mir.Val.{SFits}
 use Rattle.dvg_words.specs.Values.{Window}
-use Rattle.dvg_explain.specs.declared.leaving.Limits.{Limits}
 use Rattle.dvg_explain.specs.Leaving.{window_limits}
 use Rattle.dvg_explain.proofs.leaving.Limits.of_window.Goals as goal
 
