@@ -169,7 +169,9 @@ const CLIPPED_FRAMES: &[(&[u16], &[u8], &[u16])] = &[
     ),
     // a stroke from corner to corner, and a call at 10, whose box begins at the left edge
     (
-        &[0xA000, 0x0000, 0x93FF, 0x73FF, 0xA064, 0x000A, 0xC800, 0xB000],
+        &[
+            0xA000, 0x0000, 0x93FF, 0x73FF, 0xA064, 0x000A, 0xC800, 0xB000,
+        ],
         b"accepted shapes=1 words=13 depth=1\n",
         &[],
     ),
