@@ -3,7 +3,7 @@ use Rattle.dvg_words.specs.declared.machine.Machine.{Machine}
 use Rattle.std.proofs.Common.{List, length, sym, subst, ap, refl, ◌≡◌, ◌∙◌, ℕ}
 use Rattle.std.specs.Prelude.{Err, Ok, Result, IfOk}
 use Rattle.dvg_words.specs.Memory.{Rom, IsFrame, IsRom, IsRomLength, words_of, rom_on}
-use Rattle.dvg_words.specs.Values.{Window}
+use Rattle.dvg_words.specs.Values.{Window, IsWindowOrZone}
 use Rattle.dvg_words.specs.declared.machine.Machine.TheVariants.{Board}
 use Rattle.dvg_words.specs.declared.image.ImageFault.TheVariants.{RomLength, FrameLength}
 use Rattle.dvg_cert.specs.Laws.{OneCertificate, OneAnswer, NotMemory as HasMemory}
@@ -51,11 +51,11 @@ pub exact_over : {F : Type 0} (shapes : Shapes) (frame : List ℕ) (budget : ℕ
 exact_over shapes frame budget (Ok a) h is_frame good exact = exact_of_good shapes.window frame shapes.rom shapes.list budget a.words a.depth h.list is_frame h.rom (subst (λ mode. Good mode shapes.window shapes.rom shapes.list) exact h.good) good
 exact_over shapes frame budget (Err f) h is_frame good exact = tt
 
--- what is safe on the board safe on its circuit
-pub circuit_over : {F : Type 0} (shapes : Shapes) (frame : List ℕ) (answer : Result Accepted F) → IsFrame frame → IsRom shapes.rom → IfOk answer (λ yes. Safe (record { frame = frame; rom = shapes.rom }) shapes.window yes.words yes.depth)
+-- what is safe on the board is safe on its circuit
+pub circuit_over : {F : Type 0} (shapes : Shapes) (frame : List ℕ) (answer : Result Accepted F) → IsFrame frame → IsRom shapes.rom → IsWindowOrZone shapes.window → IfOk answer (λ yes. Safe (record { frame = frame; rom = shapes.rom }) shapes.window yes.words yes.depth)
     → shapes.rom.machine ≡ Board → IfOk answer (λ yes. SafeOnCircuit (record { frame = frame; rom = shapes.rom }) shapes.window yes.words yes.depth)
-circuit_over shapes frame (Ok a) is_frame is_rom safe board = safe_on_circuit (record { frame = frame; rom = shapes.rom }) shapes.window a.words a.depth (record { frame = is_frame; rom = is_rom }) board safe
-circuit_over shapes frame (Err f) is_frame is_rom safe board = tt
+circuit_over shapes frame (Ok a) is_frame is_rom is_window safe board = safe_on_circuit (record { frame = frame; rom = shapes.rom }) shapes.window a.words a.depth (record { frame = is_frame; rom = is_rom }) board is_window safe
+circuit_over shapes frame (Err f) is_frame is_rom is_window safe board = tt
 
 -- and has its counts there
 pub circuit_counts_over : {F : Type 0} (shapes : Shapes) (frame : List ℕ) (answer : Result Accepted F) → IsFrame frame → IsRom shapes.rom → IfOk answer (λ yes. Safe (record { frame = frame; rom = shapes.rom }) shapes.window yes.words yes.depth)

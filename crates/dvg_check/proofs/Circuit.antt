@@ -1,10 +1,10 @@
 -- What is safe on the board's generator is safe on its circuit.
-use Rattle.std.proofs.Common.{Bool, true, false, ◌≡◌, ℕ, zero, suc, ◌+◌, ◌%◌, ◌≤◌, ◌<◌, max, inl, inr, ◌⊎◌, ⊎_elim, List, [], ◌∷◌, ◌++◌, length, reverse, nat_lt, refl, ap, sym, subst, ◌∙◌, arith, pos}
+use Rattle.std.proofs.Common.{Bool, true, false, ◌≡◌, ℕ, zero, suc, ◌+◌, ◌%◌, ◌≤◌, inl, inr, ◌⊎◌, ⊎_elim, List, [], ◌∷◌, length, reverse, nat_lt, refl, ap, sym, subst, ◌∙◌, arith, pos}
 use Rattle.std.specs.Prelude.{◌*ℤ◌, if◌then◌else◌}
-use Rattle.std.specs.List.{AllByRecursion}
+use Rattle.std.specs.List.{AllByRecursion, AllZip}
 use Rattle.std.proofs.lemmas.Bool.{cases_lt}
-use Rattle.std.proofs.lemmas.List.{length-reverse, reverse-append}
-use Rattle.dvg_words.specs.Values.{Window}
+use Rattle.std.proofs.lemmas.List.{length-reverse}
+use Rattle.dvg_words.specs.Values.{Window, IsWindowOrZone}
 use Rattle.dvg_words.specs.declared.beam.Point.{Point}
 use Rattle.dvg_words.specs.declared.machine.Machine.{Machine}
 use Rattle.dvg_words.specs.declared.machine.Machine.TheVariants.{Board}
@@ -16,20 +16,20 @@ use Rattle.dvg_words.specs.declared.instruction.Instr.TheVariants.{Draw as Draws
 use Rattle.dvg_words.specs.Beam.{InWindow}
 use Rattle.dvg_words.specs.Decoding.{cell_at}
 use Rattle.dvg_words.specs.Memory.{Memory, IsMemory, word_at}
-use Rattle.dvg_words.specs.Generator.{Stroke, State, Status, Running, Halted, Fault, Reached, Step, start, after_call, after_return, after_instruction, after_cell, after_fetch, next_status}
+use Rattle.dvg_words.specs.Generator.{Stroke, State, Status, Running, Halted, Fault, Reached, start, after_call, after_return, after_instruction, after_cell, after_fetch, next_status}
 use Rattle.dvg_words.specs.Laws.{state_of}
 use Rattle.dvg_words.proofs.Stack.{stack_within_max}
 use Rattle.dvg_circuit.specs.declared.circuit.Circuit.{Circuit}
 use Rattle.dvg_circuit.specs.declared.counters.Counters.{Counters}
-use Rattle.dvg_circuit.specs.Circuit.{Reads, Run, act, step, run_after, begin}
+use Rattle.dvg_circuit.specs.declared.lit.LitDraw.{LitDraw}
+use Rattle.dvg_circuit.specs.Circuit.{Reads, Run, act, run_after, begin}
 use Rattle.dvg_circuit.specs.Premises.{IsStart, ReadsAs}
-use Rattle.dvg_circuit.specs.Showing.{IsInWindow}
-use Rattle.dvg_circuit.specs.Following.{IsSamePlace, IsOnSome, Agrees, AgreesWith}
-use Rattle.dvg_circuit.proofs.Following.{circuit_follows}
-use Rattle.dvg_circuit.proofs.Showing.{lit_in_window}
-use Rattle.dvg_items.proofs.Lists.{all_append, all_map}
-use Rattle.dvg_check.specs.Safety.{Ends, IsMapped, IsSafeState, IsSafeStatus, Safe, CountsAtHalt}
-use Rattle.dvg_check.specs.Circuit.{IsPast, IsSafeRun, SafeOnCircuit, CountsOfRun, CountsOnCircuit}
+use Rattle.dvg_circuit.specs.Showing.{IsDrawInWindow}
+use Rattle.dvg_circuit.specs.Following.{IsSamePlace, IsDrawnAs, Agrees, AgreesWith}
+use Rattle.dvg_circuit.proofs.Following.{all_reversed, circuit_follows}
+use Rattle.dvg_circuit.proofs.Showing.{drawn_in_window}
+use Rattle.dvg_check.specs.Safety.{Ends, IsMapped, IsSafeStatus, Safe, CountsAtHalt}
+use Rattle.dvg_check.specs.Circuit.{IsPast, IsSafeRun, CountsOfRun}
 use Rattle.dvg_check.specs.Laws.{SafeIsSafeOnCircuit, CountsAreOnCircuit}
 use Rattle.dvg_check.proofs.Runs.{reached_on, grows}
 use Rattle.dvg_check.proofs.Safety.{safe_state}
@@ -119,17 +119,17 @@ module _ (m : Memory) (w : Window) (words depth : ℕ) (mem : IsMemory m) (board
       let le = stack_within_max m (place_of c.counters) c.scale f.steps f.status f.reached in
       (length (state_of f.status).return_stack, omega (arith, le, s.stored), (agreeing f.status f.steps _ h f.agrees).pointer)
 
-  all_reversed : (P : ℕ → Type 0) (xs : List ℕ) → AllByRecursion P xs → AllByRecursion P (reverse xs)
-  all_reversed P [] h = tt
-  all_reversed P (x ∷ xs) h = subst (AllByRecursion P) (sym (reverse-append (x ∷ []) xs)) (all_append P (reverse xs) (x ∷ []) (all_reversed P xs h.1) (h.0, tt))
+  -- the draws of strokes that lie in the window do so, too
+  drawn_inside : IsWindowOrZone w → (strokes : List Stroke) (lit : List LitDraw) → AllByRecursion (Ends (InWindow w)) strokes → AllZip IsDrawnAs strokes lit
+      → AllByRecursion (IsDrawInWindow w) lit
+  drawn_inside is [] [] ends drawn = tt
+  drawn_inside is [] (l ∷ lit) ends drawn = absurd drawn
+  drawn_inside is (stroke ∷ strokes) [] ends drawn = absurd drawn
+  drawn_inside is (stroke ∷ strokes) (l ∷ lit) ends drawn =
+      (drawn_in_window w stroke l is ends.0.0 ends.0.1 drawn.0, drawn_inside is strokes lit ends.1 drawn.1)
 
-  some_inside : (strokes : List Stroke) (k : Counters) → AllByRecursion (Ends (InWindow w)) strokes → IsOnSome strokes k → IsInWindow w k
-  some_inside [] k ends lit = absurd lit
-  some_inside (stroke ∷ strokes) k ends lit =
-      ⊎_elim (λ here. lit_in_window w stroke k ends.0.0 ends.0.1 here) (λ there. some_inside strokes k ends.1 there) lit
-
-  safe_run : (n : ℕ) → IsSafeRun m w words depth c.pointer (run_after reads n (begin c))
-  safe_run n =
+  safe_run : IsWindowOrZone w → (n : ℕ) → IsSafeRun m w words depth c.pointer (run_after reads n (begin c))
+  safe_run is n =
       let f = follows n in
       let h = safe_at f.steps f.status f.reached in
       let s = safe_state m w words depth f.steps f.status h in
@@ -139,7 +139,7 @@ module _ (m : Memory) (w : Window) (words depth : ℕ) (mem : IsMemory m) (board
         few = omega (arith, s.few, ap length a.fetched, length-reverse (state_of f.status).fetched);
         mapped = subst (AllByRecursion (IsMapped m)) (sym a.fetched) (all_reversed (IsMapped m) (state_of f.status).fetched s.mapped);
         stored = stored_at n;
-        lit = all_map (IsOnSome (state_of f.status).strokes) (IsInWindow w) r.lit (λ k lit. some_inside (state_of f.status).strokes k s.lit lit) a.lit;
+        lit = drawn_inside is (reverse (state_of f.status).strokes) r.lit (all_reversed (Ends (InWindow w)) (state_of f.status).strokes s.lit) a.lit;
       }
 
   halts : (n : ℕ) × (n ≤ words) × ((run_after reads n (begin c)).circuit.halted ≡ true)
@@ -148,11 +148,11 @@ module _ (m : Memory) (w : Window) (words depth : ℕ) (mem : IsMemory m) (board
       (end.0, end.2, (agree end.0 (Halted end.1) end.3).0)
 
 pub safe_on_circuit : SafeIsSafeOnCircuit
-safe_on_circuit m w words depth mem board safe =
+safe_on_circuit m w words depth mem board is safe =
     record {
       four = safe.four;
       halts = λ c reads begun seen. halts m w words depth mem board safe c reads begun seen;
-      each = λ c reads begun seen n. safe_run m w words depth mem board safe c reads begun seen n;
+      each = λ c reads begun seen n. safe_run m w words depth mem board safe c reads begun seen is n;
     }
 
 -- ---- the most places stored

@@ -1,8 +1,10 @@
 -- The worked example on the circuit, instruction by instruction.
-use Rattle.std.proofs.Common.{Bool, true, false, ◌≡◌, ℕ, zero, suc, ◌+◌, ◌%◌, ◌≤◌, List, [], ◌∷◌, Option, Some, length, refl, ap, sym, subst, ◌∙◌, arith}
+use Rattle.std.proofs.Common.{Bool, true, false, ◌≡◌, ℕ, zero, suc, ◌+◌, ◌%◌, ◌≤◌, List, [], ◌∷◌, Option, Some, length, inl, refl, ap, sym, subst, ◌∙◌, arith}
 use Rattle.std.specs.Prelude.{Contains, unwrap_or, slice_index, slice_set, if◌then◌else◌}
 use Rattle.std.specs.List.{AllByRecursion}
+use Rattle.std.proofs.lemmas.Int.{ints}
 use Rattle.std.proofs.lemmas.List.{get_or-set_same}
+use Rattle.dvg_words.specs.Values.{IsWindow}
 use Rattle.dvg_words.specs.declared.machine.Machine.TheVariants.{Board}
 use Rattle.dvg_words.specs.Decoding.{format_of, instruction_of}
 use Rattle.dvg_words.specs.Beam.{screen}
@@ -79,6 +81,9 @@ shallow e (suc k, lt, is) = absurd (omega (arith, lt))
 safe : Safe (memory_for Board) screen 7 1
 safe = let good = worked_example Board in good_is_safe Exact (memory_for Board) screen example_list 20000 7 1 good.memory shallow good.exact good.frame
 
+whole : IsWindow screen
+whole = record { x_least = omega (arith, ints); x_ordered = omega (arith, ints); x_inside = omega (arith, ints); y_least = omega (arith, ints); y_ordered = omega (arith, ints); y_inside = omega (arith, ints) }
+
 pub worked_circuit : WorkedCircuit
 worked_circuit =
     let good = worked_example Board in
@@ -86,6 +91,6 @@ worked_circuit =
       start = record { pc = refl; x = omega arith; y = omega arith; scale = omega arith; pointer = omega arith; four = refl; running = refl };
       reads = λ c other begun. subst (λ (k : Circuit). ReadsAs (memory_for Board) (example_reads other) (begin k)) (same_registers c begun)
           (λ n. reads_now c.counters c.scale c.pointer c.returns begun.four other n);
-      safe = safe_on_circuit (memory_for Board) screen 7 1 good.memory refl safe;
+      safe = safe_on_circuit (memory_for Board) screen 7 1 good.memory refl (inl whole) safe;
       counts = counts_on_circuit (memory_for Board) screen 7 1 good.memory refl safe (exact_is_exact (memory_for Board) screen example_list 20000 7 1 good.memory shallow good.exact good.frame);
     }

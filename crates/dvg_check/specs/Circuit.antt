@@ -6,7 +6,7 @@ use Rattle.dvg_words.specs.Memory.{Memory}
 use Rattle.dvg_circuit.specs.declared.circuit.Circuit.{Circuit}
 use Rattle.dvg_circuit.specs.Circuit.{Reads, Run, run_after, begin}
 use Rattle.dvg_circuit.specs.Premises.{IsStart, ReadsAs}
-use Rattle.dvg_circuit.specs.Showing.{IsInWindow}
+use Rattle.dvg_circuit.specs.Showing.{IsDrawInWindow}
 use Rattle.dvg_check.specs.Safety.{IsMapped}
 
 -- P holds of the registers at the start and of the run after each number of instructions: for all that the registers may hold then,
@@ -25,8 +25,8 @@ pub record IsSafeRun (m : Memory) (w : Window) (words depth pointer : ℕ) (r : 
   pub mapped : AllByRecursion (IsMapped m) r.fetched
   -- at most `depth` return places more are stored than at the start
   pub stored : IsPast pointer depth r.circuit.pointer
-  -- wherever the beam was lit, the counters held the twelve bits of a place of the window
-  pub lit : AllByRecursion (IsInWindow w) r.lit
+  -- at each count of each lit draw the counters are at a place of the window; what isn't blanked is that place itself, on the screen
+  pub lit : AllByRecursion (IsDrawInWindow w) r.lit
 
 -- Every run of the circuit halts within `words` instructions, and is safe after each.
 pub record SafeOnCircuit (m : Memory) (w : Window) (words depth : ℕ) : Type 0 where

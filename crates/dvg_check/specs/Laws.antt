@@ -2,7 +2,7 @@
 use Rattle.dvg_words.specs.Values.{Source}
 use Rattle.dvg_words.specs.declared.machine.Machine.{Machine}
 use Rattle.std.specs.Prelude.{◌≡◌, ℕ, ℤ, ◌+◌, ◌<◌, ◌≤◌, ◌⊎◌, ◌≤ℤ◌, length, List, [], ◌∷◌, ◌++◌, Contains, Result}
-use Rattle.dvg_words.specs.Values.{Window}
+use Rattle.dvg_words.specs.Values.{Window, IsWindowOrZone}
 use Rattle.dvg_words.specs.declared.machine.Machine.TheVariants.{Board}
 use Rattle.dvg_words.specs.declared.instruction.Instr.TheVariants.{Draw as Draws, Labs}
 use Rattle.dvg_words.specs.declared.instruction.Instr.{Instr}
@@ -187,11 +187,11 @@ SafeStack = InEachRun (λ m w words depth s. (length s.return_stack ≤ depth) �
 
 -- ---- the circuit
 
--- what is safe on the board's generator is safe on its circuit
+-- what is safe on the board's generator, in a window as calls take them, is safe on its circuit
 abbrev pub SafeIsSafeOnCircuit : Type 0
 SafeIsSafeOnCircuit =
     (m : Memory) (w : Window) (words depth : ℕ)
-    → IsMemory m → m.rom.machine ≡ Board → Safe m w words depth → SafeOnCircuit m w words depth
+    → IsMemory m → m.rom.machine ≡ Board → IsWindowOrZone w → Safe m w words depth → SafeOnCircuit m w words depth
 
 -- and has the same counts there, where they are exact
 abbrev pub CountsAreOnCircuit : Type 0

@@ -95,6 +95,8 @@ impl<'a, E: Entries> JudgedShapes<'a, E> {
         // Its clause says that the frame is whole.
         let _words = frame.words();
         let machine = self.rom.machine();
+        // Its clause says that the window is a part of the screen, or the zone.
+        let _fits = self.window.is_for(machine);
         find_frame_fault(machine, frame, self.entries, budget, &self.window)
     }
 

@@ -1,11 +1,11 @@
 -- The circuit follows the generator, instruction by instruction.
-use Rattle.std.proofs.Common.{Bool, true, false, ◌≡◌, ℕ, zero, suc, ◌+◌, ◌-◌, ◌%◌, ◌<◌, ◌≤◌, inl, inr, List, [], ◌∷◌, ◌++◌, length, reverse, Option, Some, None, nat_le, nat_lt, refl, ap, sym, subst, ◌∙◌, ⊎_elim, arith, pos, negsuc, ◌+ℤ◌}
+use Rattle.std.proofs.Common.{Bool, true, false, ◌≡◌, ℕ, zero, suc, ◌+◌, ◌-◌, ◌%◌, ◌<◌, ◌≤◌, List, [], ◌∷◌, ◌++◌, length, reverse, Option, Some, None, nat_le, nat_lt, refl, ap, sym, subst, ◌∙◌, ⊎_elim, arith, pos, negsuc, ◌+ℤ◌}
 use Rattle.std.specs.Prelude.{◌*ℤ◌, unwrap_or, slice_index, slice_set, if◌then◌else◌}
-use Rattle.std.specs.List.{AllByRecursion}
+use Rattle.std.specs.List.{AllByRecursion, AllZip}
 use Rattle.std.proofs.lemmas.Bool.{cases_lt}
 use Rattle.std.proofs.lemmas.Bool.Decides.{nat_tests}
 use Rattle.std.proofs.lemmas.Int.{ints}
-use Rattle.std.proofs.lemmas.List.{reverse-append, get_or-set_same, get_or-set_other, length-set}
+use Rattle.std.proofs.lemmas.List.{append-nil, reverse-append, get_or-set_same, get_or-set_other, length-set}
 use Rattle.dvg_words.specs.Values.{DrawFields}
 use Rattle.dvg_words.specs.declared.machine.Machine.{Machine}
 use Rattle.dvg_words.specs.declared.machine.Machine.TheVariants.{Board}
@@ -17,12 +17,12 @@ use Rattle.dvg_words.specs.Beam.{effective_scale, shift, displacement, signed_fi
 use Rattle.dvg_words.specs.Decoding.{word_count, format_of, instruction_of, cell_holding, long_cell, cell_of_format, cell_of_words, cell_at}
 use Rattle.dvg_words.specs.Memory.{Memory, IsMemory, fetched_at}
 use Rattle.dvg_words.specs.Generator.{State, Stroke, Status, Running, Halted, Fault, Reached, places as generator_places, lit_by as stroke_of, fetches, after_draw, after_call, after_return, after_instruction, after_cell, after_fetch, next_status, start}
-use Rattle.dvg_circuit.specs.Counters.{Counters, counts, counters_after, passed}
-use Rattle.dvg_circuit.specs.Circuit.{Reads, Run, past, places, second_word, decoded, draw_counts, lit_along, performed, act, step, run_after, begin}
+use Rattle.dvg_circuit.specs.Counters.{Counters, counts, counters_after}
+use Rattle.dvg_circuit.specs.Circuit.{LitDraw, Reads, Run, past, places, second_word, decoded, lit_if, performed, act, step, run_after, begin}
 use Rattle.dvg_circuit.specs.Laws.{twelve_bits}
 use Rattle.dvg_circuit.specs.Premises.{IsRead, ReadsNow, ReadsAs}
-use Rattle.dvg_circuit.specs.Following.{IsSamePlace, IsOnStroke, IsOnSome, AreStored, Agrees, AgreesWith, CircuitFollows}
-use Rattle.dvg_circuit.proofs.Moves.{AreSizes, beam_moved, passed_along, all_append}
+use Rattle.dvg_circuit.specs.Following.{IsSamePlace, IsDrawnAs, AreStored, Agrees, AgreesWith, CircuitFollows}
+use Rattle.dvg_circuit.proofs.Moves.{AreSizes, beam_moved, drawn_as}
 use Rattle.dvg_circuit.proofs.Reading.{IsRight, right, low_word}
 
 -- ---- stored places
@@ -41,7 +41,13 @@ stored_more base at p returns stack four few e h =
     subst (λ k. AreStored base (slice_set returns k p) (p ∷ stack)) (sym e)
     (get_or-set_same returns ((base + suc (length stack)) % 4) p 0 (omega (arith, four)), stays_stored base returns p (length stack) stack (omega arith) few h)
 
--- ---- words fetched, and places lit
+-- ---- lists
+
+all_append : {A : Type 0} (P : A → Type 0) (xs ys : List A) → AllByRecursion P xs → AllByRecursion P ys → AllByRecursion P (xs ++ ys)
+all_append P [] ys a b = b
+all_append P (x ∷ xs) ys a b = (a.0, all_append P xs ys a.1 b)
+
+-- ---- words fetched, and draws lit
 
 next_same : (f : Format) (p q : ℕ) → p ≡ q → q + word_count f < 4096 → past f p ≡ q + word_count f
 next_same f p q e low = omega (arith, e, low)
@@ -55,19 +61,29 @@ fetched_more : (f : Format) (p q : ℕ) (xs ys : List ℕ) → p ≡ q → q + w
 fetched_more f p q xs ys e low same =
     ap (λ (l : List ℕ). l ++ places f p) same ∙ ap (λ (l : List ℕ). reverse ys ++ l) (in_order f p q e low) ∙ sym (reverse-append (generator_places f q) ys)
 
+pub all_reversed : {A : Type 0} (P : A → Type 0) (xs : List A) → AllByRecursion P xs → AllByRecursion P (reverse xs)
+all_reversed P [] h = tt
+all_reversed P (x ∷ xs) h = subst (AllByRecursion P) (sym (reverse-append (x ∷ []) xs)) (all_append P (reverse xs) (x ∷ []) (all_reversed P xs h.1) (h.0, tt))
+
 pub all_map : {A : Type 0} (P Q : A → Type 0) (xs : List A) → ((x : A) → P x → Q x) → AllByRecursion P xs → AllByRecursion Q xs
 all_map P Q [] h a = tt
 all_map P Q (x ∷ xs) h a = (h x a.0, all_map P Q xs h a.1)
 
-lit_more : (bright : ℕ) (stroke : Stroke) (strokes : List Stroke) (way lit : List Counters)
-    → AllByRecursion (λ c. IsOnStroke c stroke) way → AllByRecursion (IsOnSome strokes) lit
-    → AllByRecursion (IsOnSome (stroke_of bright stroke ++ strokes)) (lit ++ lit_along bright way)
-lit_more zero stroke strokes way lit a b = all_append _ lit [] b tt
-lit_more (suc n) stroke strokes way lit a b =
-    all_append _ lit way (all_map _ _ lit (λ c on. inr on) b) (all_map _ _ way (λ c on. inl on) a)
+zip_push : {A B : Type 0} (R : A → B → Type 0) (xs : List A) (ys : List B) (x : A) (y : B) → AllZip R xs ys → R x y → AllZip R (xs ++ x ∷ []) (ys ++ y ∷ [])
+zip_push R [] [] x y all one = (one, tt)
+zip_push R [] (k ∷ ys) x y all one = absurd all
+zip_push R (k ∷ xs) [] x y all one = absurd all
+zip_push R (k ∷ xs) (l ∷ ys) x y all one = (all.0, zip_push R xs ys x y all.1 one)
 
-unlit : (strokes : List Stroke) (lit : List Counters) → AllByRecursion (IsOnSome strokes) lit → AllByRecursion (IsOnSome strokes) (lit ++ [])
-unlit strokes lit b = all_append _ lit [] b tt
+unlit : (strokes : List Stroke) (lit : List LitDraw) → AllZip IsDrawnAs (reverse strokes) lit → AllZip IsDrawnAs (reverse strokes) (lit ++ [])
+unlit strokes lit h = subst (AllZip IsDrawnAs (reverse strokes)) (sym (append-nil lit)) h
+
+lit_more : (bright : ℕ) (stroke : Stroke) (strokes : List Stroke) (l : LitDraw) (lit : List LitDraw)
+    → IsDrawnAs stroke l → AllZip IsDrawnAs (reverse strokes) lit
+    → AllZip IsDrawnAs (reverse (stroke_of bright stroke ++ strokes)) (lit ++ lit_if bright l)
+lit_more zero stroke strokes l lit one h = unlit strokes lit h
+lit_more (suc n) stroke strokes l lit one h =
+    subst (λ k. AllZip IsDrawnAs k (lit ++ l ∷ [])) (sym (reverse-append (stroke ∷ []) strokes)) (zip_push IsDrawnAs (reverse strokes) lit stroke l h one)
 
 -- ---- each instruction
 
@@ -87,9 +103,10 @@ agree_draw base d f s r small h low =
       four = h.four;
       fetched = fetched_more f r.circuit.pc s.pc r.fetched s.fetched h.pc low h.fetched;
       lit =
-          lit_more d.bright (record { from = s.place; to = shift s.place (displacement Board d s.scale) }) s.strokes (passed d r.circuit.counters (draw_counts d r.circuit)) r.lit
-          (subst (λ (g : ℕ). AllByRecursion (λ k. IsOnStroke k (record { from = s.place; to = shift s.place (displacement Board d s.scale) })) (passed d r.circuit.counters (counts (effective_scale d.lscale g)))) (sym h.scale)
-          (passed_along d s.scale s.place r.circuit.counters small h.place))
+          let stroke : Stroke = record { from = s.place; to = shift s.place (displacement Board d s.scale) } in
+          lit_more d.bright stroke s.strokes _ r.lit
+          (subst (λ (g : ℕ). IsDrawnAs stroke (record { draw = d; from = r.circuit.counters; counts = counts (effective_scale d.lscale g) })) (sym h.scale)
+          (drawn_as d s.scale s.place r.circuit.counters small h.place))
           h.lit;
     }
 

@@ -3,7 +3,6 @@ pub mod Ones
 pub mod Rounding
 pub mod Places
 pub mod Example
-pub mod Drawing
 pub mod Moves
 pub mod Reading
 pub mod Following

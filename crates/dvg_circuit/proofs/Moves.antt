@@ -1,7 +1,6 @@
 -- A draw moves the generator's beam and the circuit's counters alike, and the counters pass places between its ends.
-use Rattle.std.proofs.Common.{◌≡◌, ℕ, zero, suc, ◌*◌, ◌≤◌, ◌<◌, List, [], ◌∷◌, ◌++◌, refl, ap, sym, subst, ◌∙◌, ⊎_elim, arith, ℤ, pos, negsuc, ◌+ℤ◌}
+use Rattle.std.proofs.Common.{◌≡◌, ℕ, suc, ◌*◌, ◌≤◌, ◌<◌, refl, ap, sym, subst, ◌∙◌, ⊎_elim, arith, ℤ, pos, negsuc, ◌+ℤ◌}
 use Rattle.std.specs.Prelude.{◌*ℤ◌, neg_ℤ, nat_abs}
-use Rattle.std.specs.List.{AllByRecursion}
 use Rattle.std.proofs.lemmas.Bool.{cases_lt}
 use Rattle.std.proofs.lemmas.Int.{ints}
 use Rattle.dvg_words.specs.Values.{DrawFields}
@@ -9,9 +8,9 @@ use Rattle.dvg_words.specs.declared.beam.Point.{Point}
 use Rattle.dvg_words.specs.declared.machine.Machine.TheVariants.{Board}
 use Rattle.dvg_words.specs.Beam.{shift, axis_move, displacement, effective_scale}
 use Rattle.dvg_words.proofs.Machines.{board_moves}
-use Rattle.dvg_circuit.specs.Counters.{Counters, pulses, counts, counter_after, counters_after, passed}
+use Rattle.dvg_circuit.specs.Counters.{Counters, pulses, counts, counter_after, counters_after}
 use Rattle.dvg_circuit.specs.Laws.{signed, moved, twelve_bits, IsBetween}
-use Rattle.dvg_circuit.specs.Following.{IsSamePlace, IsAmong, IsOnStroke}
+use Rattle.dvg_circuit.specs.Following.{IsSamePlace, IsAmong, IsDrawnAs, DrawnOnStroke}
 use Rattle.dvg_circuit.proofs.Rounding.{rounded_half_up, more_pulses}
 use Rattle.dvg_circuit.proofs.Places.{counter_is_place}
 
@@ -81,37 +80,25 @@ among_signed : (from size : ℤ) (some all : ℕ) → some ≤ all
 among_signed from (pos m) some all le low high a b = (omega (arith, ints, le, a.0, a.1, b.0, b.1), omega (arith, ints, le, a.0, a.1, b.0, b.1))
 among_signed from (negsuc m) some all le low high a b = (omega (arith, ints, le, a.0, a.1, b.0, b.1), omega (arith, ints, le, a.0, a.1, b.0, b.1))
 
-among : (from size : ℤ) (n all : ℕ) → n ≤ all → IsAmong (pos 1024 *ℤ from) (pos 1024 *ℤ (from +ℤ moved size all)) (pos 1024 *ℤ (from +ℤ moved size n))
+pub among : (from size : ℤ) (n all : ℕ) → n ≤ all → IsAmong (pos 1024 *ℤ from) (pos 1024 *ℤ (from +ℤ moved size all)) (pos 1024 *ℤ (from +ℤ moved size n))
 among from size n all le = among_signed from size _ _ (more_pulses (nat_abs size) n all le)
 
-same_among : (a b c d p : ℤ) → a ≡ c → b ≡ d → IsAmong c d p → IsAmong a b p
+pub same_among : (a b c d p : ℤ) → a ≡ c → b ≡ d → IsAmong c d p → IsAmong a b p
 same_among a b c d p e f h low high g k = h low high (subst (IsBetween low high) e g) (subst (IsBetween low high) f k)
 
-at_count : (d : DrawFields) (n all : ℕ) (from to : Point) (c : Counters) (f : IsSamePlace from c) (t : IsSamePlace to (counters_after d c all))
-    → t.x ≡ f.x +ℤ moved d.dx all → t.y ≡ f.y +ℤ moved d.dy all → n ≤ all → IsOnStroke (counters_after d c n) (record { from = from; to = to })
-at_count d n all from to c f t ex ey le =
-    record {
-      place = record { x = pos 1024 *ℤ (f.x +ℤ moved d.dx n); y = pos 1024 *ℤ (f.y +ℤ moved d.dy n) };
-      same = record { x = f.x +ℤ moved d.dx n; y = f.y +ℤ moved d.dy n; place = refl; counters = counted f.x f.y d n c f.counters };
-      across = same_among _ _ _ _ _ (ap (λ (p : Point). p.x) f.place) (ap (λ (p : Point). p.x) t.place ∙ ap (λ k. pos 1024 *ℤ k) ex) (among f.x d.dx n all le);
-      up = same_among _ _ _ _ _ (ap (λ (p : Point). p.y) f.place) (ap (λ (p : Point). p.y) t.place ∙ ap (λ k. pos 1024 *ℤ k) ey) (among f.y d.dy n all le);
-    }
-
-pub all_append : {A : Type 0} (P : A → Type 0) (xs ys : List A) → AllByRecursion P xs → AllByRecursion P ys → AllByRecursion P (xs ++ ys)
-all_append P [] ys a b = b
-all_append P (x ∷ xs) ys a b = (a.0, all_append P xs ys a.1 b)
-
-along : (d : DrawFields) (n all : ℕ) (from to : Point) (c : Counters) (f : IsSamePlace from c) (t : IsSamePlace to (counters_after d c all))
-    → t.x ≡ f.x +ℤ moved d.dx all → t.y ≡ f.y +ℤ moved d.dy all → n ≤ all
-    → AllByRecursion (λ k. IsOnStroke k (record { from = from; to = to })) (passed d c n)
-along d zero all from to c f t ex ey le = (at_count d 0 all from to c f t ex ey le, tt)
-along d (suc n) all from to c f t ex ey le =
-    all_append _ (passed d c n) _ (along d n all from to c f t ex ey (omega (arith, le))) (at_count d (suc n) all from to c f t ex ey le, tt)
-
--- all that a draw passes is on its stroke
-pub passed_along : (d : DrawFields) (g : ℕ) (p : Point) (c : Counters) (small : AreSizes d) (h : IsSamePlace p c)
-    → AllByRecursion (λ k. IsOnStroke k (record { from = p; to = shift p (displacement Board d g) })) (passed d c (counts (effective_scale d.lscale g)))
+-- the stroke of a draw
+pub drawn_as : (d : DrawFields) (g : ℕ) (p : Point) (c : Counters) (small : AreSizes d) (h : IsSamePlace p c)
+    → IsDrawnAs (record { from = p; to = shift p (displacement Board d g) }) (record { draw = d; from = c; counts = counts (effective_scale d.lscale g) })
 unfolding beam_moved
-passed_along d g p c small h =
-    let n = counts (effective_scale d.lscale g) in
-    along d n n p _ c h (beam_moved d g p c small h) refl refl (omega arith)
+drawn_as d g p c small h = record { from = h; to = (beam_moved d g p c small h).place }
+
+unfoldable pub drawn_on_stroke : DrawnOnStroke
+drawn_on_stroke stroke l h n le =
+    let x = h.from.x +ℤ moved l.draw.dx n in
+    let y = h.from.y +ℤ moved l.draw.dy n in
+    record {
+      place = record { x = pos 1024 *ℤ x; y = pos 1024 *ℤ y };
+      same = record { x = x; y = y; place = refl; counters = counted h.from.x h.from.y l.draw n l.from h.from.counters };
+      across = same_among _ _ _ _ _ (ap (λ (p : Point). p.x) h.from.place) (ap (λ (p : Point). p.x) h.to) (among h.from.x l.draw.dx n l.counts le);
+      up = same_among _ _ _ _ _ (ap (λ (p : Point). p.y) h.from.place) (ap (λ (p : Point). p.y) h.to) (among h.from.y l.draw.dy n l.counts le);
+    }

@@ -1,35 +1,31 @@
 -- What is shown of a stroke.
-use Rattle.std.proofs.Common.{◌≡◌, ◌*◌, ◌%◌, ◌≤◌, ap, sym, subst, ◌∙◌, arith, ℤ, pos, negsuc, inl, inr, List, [], ◌∷◌}
-use Rattle.std.specs.Prelude.{◌*ℤ◌, ◌≤ℤ◌}
-use Rattle.std.specs.List.{AllByRecursion}
+use Rattle.std.proofs.Common.{◌≡◌, ◌*◌, ◌%◌, ◌≤◌, refl, ap, sym, subst, ◌∙◌, arith, ℤ, pos, negsuc, ◌+ℤ◌, inl, inr, List, [], ◌∷◌, reverse}
+use Rattle.std.specs.Prelude.{◌*ℤ◌}
+use Rattle.std.specs.List.{AllByRecursion, AllZip}
 use Rattle.std.proofs.lemmas.Int.{ints}
-use Rattle.dvg_words.specs.Values.{Window, IsWindow, clipped}
-use Rattle.dvg_words.specs.Beam.{screen}
+use Rattle.dvg_words.specs.Values.{Window, IsWindow, IsWindowOrZone, clipped}
+use Rattle.dvg_words.specs.Beam.{InWindow, screen}
 use Rattle.dvg_words.specs.declared.beam.Point.{Point}
 use Rattle.dvg_words.specs.Generator.{Stroke, Running, Halted}
-use Rattle.dvg_circuit.specs.Counters.{Counters, IsShown, bit}
-use Rattle.dvg_circuit.specs.Laws.{IsBetween, twelve_bits}
-use Rattle.dvg_circuit.specs.Following.{IsOnStroke, IsOnSome}
-use Rattle.dvg_circuit.specs.Showing.{IsInWindow, IsThere, ShownInWindow, LitInWindow, LitOnScreen, ScreenIsShown, IsClipped, IsSomeClipped, StaysInZone, ClippedOnCircuit}
-use Rattle.dvg_circuit.proofs.Following.{all_map, circuit_follows}
+use Rattle.dvg_circuit.specs.Counters.{Counters, IsShown, bit, counters_after}
+use Rattle.dvg_circuit.specs.Circuit.{LitDraw}
+use Rattle.dvg_circuit.specs.Laws.{IsBetween, moved, twelve_bits}
+use Rattle.dvg_circuit.specs.Following.{IsOnStroke, IsDrawnAs}
+use Rattle.dvg_circuit.specs.Showing.{IsPlaceOf, ShowsPlace, IsDrawInWindow, ShownInWindow, LitInWindow, LitOnScreen, ScreenIsShown, IsClipped, IsDrawClipped, StaysInZone, ClippedOnCircuit}
+use Rattle.dvg_circuit.proofs.Moves.{drawn_on_stroke}
+use Rattle.dvg_circuit.proofs.Following.{all_reversed, circuit_follows}
 
 in_places : (low high x : ℤ) → IsBetween (pos 1024 *ℤ low) (pos 1024 *ℤ high) (pos 1024 *ℤ x) → IsBetween low high x
 in_places low high x h = (omega (arith, ints, h.0), omega (arith, ints, h.1))
 
 pub lit_in_window : LitInWindow
-lit_in_window w stroke c from to on =
+lit_in_window w stroke c on from to =
     let at = on.same in
     let across : IsBetween (pos 1024 *ℤ w.x_min) (pos 1024 *ℤ w.x_max) (pos 1024 *ℤ at.x) =
     subst (λ (p : Point). IsBetween (pos 1024 *ℤ w.x_min) (pos 1024 *ℤ w.x_max) p.x) at.place (on.across _ _ (from.left, from.right) (to.left, to.right)) in
     let up : IsBetween (pos 1024 *ℤ w.y_min) (pos 1024 *ℤ w.y_max) (pos 1024 *ℤ at.y) =
     subst (λ (p : Point). IsBetween (pos 1024 *ℤ w.y_min) (pos 1024 *ℤ w.y_max) p.y) at.place (on.up _ _ (from.bottom, from.top) (to.bottom, to.top)) in
-    record {
-      x = at.x;
-      y = at.y;
-      counters = at.counters;
-      across = in_places w.x_min w.x_max at.x across;
-      up = in_places w.y_min w.y_max at.y up;
-    }
+    (in_places w.x_min w.x_max at.x across, in_places w.y_min w.y_max at.y up)
 
 shown_there : (x : ℤ) → IsBetween (pos 1024 *ℤ negsuc 1023) (pos 1024 *ℤ pos 2047) (pos 1024 *ℤ x) → bit 10 (twelve_bits x) ≡ 0
     → (pos 1024 *ℤ x ≡ pos (1024 * twelve_bits x)) × (twelve_bits x ≤ 1023)
@@ -64,70 +60,68 @@ lit_on_screen stroke c on from to shown =
 -- ---- places of a window
 
 -- a coordinate of the zone whose bit 10 is clear is one of the screen, and the counter holds it
-there : (x : ℤ) → IsBetween (negsuc 1023) (pos 2047) x → bit 10 (twelve_bits x) ≡ 0 → (x ≡ pos (twelve_bits x)) × (twelve_bits x ≤ 1023)
+there : (x : ℤ) → IsBetween (negsuc 1023) (pos 2047) x → bit 10 (twelve_bits x) ≡ 0 → IsBetween (pos 0) (pos 1023) x × (x ≡ pos (twelve_bits x))
 there (pos n) h clear =
     let below : n ≤ 2047 = omega (arith, ints, h.1) in
+    let least : n ≤ 1023 = omega (arith, below, clear) in
     let same : n % 4096 ≡ n = omega (arith, below) in
-    (sym (ap pos same), omega (arith, below, clear))
+    ((omega (arith, ints), omega (arith, ints, least)), sym (ap pos same))
 there (negsuc n) h clear =
     let above : n ≤ 1023 = omega (arith, ints, h.0) in
     absurd (omega (arith, above, clear))
 
 -- bit 10 of a coordinate of the screen is clear
-clear_inside : (low high x : ℤ) → pos 0 ≤ℤ low → high ≤ℤ pos 1023 → IsBetween low high x → bit 10 (twelve_bits x) ≡ 0
-clear_inside low high (pos n) least most h =
-    let below : n ≤ 1023 = omega (arith, ints, most, h.1) in
+clear_inside : (x : ℤ) → IsBetween (pos 0) (pos 1023) x → bit 10 (twelve_bits x) ≡ 0
+clear_inside (pos n) h =
+    let below : n ≤ 1023 = omega (arith, ints, h.1) in
     omega (arith, below)
-clear_inside low high (negsuc n) least most h = absurd (omega (arith, ints, least, h.0))
+clear_inside (negsuc n) h = absurd (omega (arith, ints, h.0))
 
-is_there : (w : Window) (c : Counters) (inside : IsInWindow w c) → IsBetween (negsuc 1023) (pos 2047) inside.x → IsBetween (negsuc 1023) (pos 2047) inside.y → IsShown c
-    → IsThere w c inside
-is_there w c inside across up shown =
-    let same_x : c.x ≡ twelve_bits inside.x = ap (λ (k : Counters). k.x) inside.counters in
-    let same_y : c.y ≡ twelve_bits inside.y = ap (λ (k : Counters). k.y) inside.counters in
-    let x = there inside.x across (subst (λ (k : Counters). bit 10 k.x ≡ 0) inside.counters shown.x) in
-    let y = there inside.y up (subst (λ (k : Counters). bit 10 k.y ≡ 0) inside.counters shown.y) in
-    record {
-      x = x.0 ∙ sym (ap pos same_x);
-      y = y.0 ∙ sym (ap pos same_y);
-      x_inside = omega (arith, x.1, same_x);
-      y_inside = omega (arith, y.1, same_y);
-    }
+in_zone : (w : Window) (x y : ℤ) → IsWindowOrZone w → IsPlaceOf w x y → IsPlaceOf clipped x y
+in_zone w x y (inl is) inside = (
+  (omega (arith, ints, is.x_least, inside.0.0), omega (arith, ints, is.x_inside, inside.0.1)),
+  (omega (arith, ints, is.y_least, inside.1.0), omega (arith, ints, is.y_inside, inside.1.1)),
+)
+in_zone w x y (inr is) inside = subst (λ (k : Window). IsPlaceOf k x y) is inside
 
-is_shown : (w : Window) (c : Counters) → IsWindow w → IsInWindow w c → IsShown c
-is_shown w c is inside =
-    subst IsShown (sym inside.counters)
-    (record {
-      x = clear_inside w.x_min w.x_max inside.x is.x_least is.x_inside inside.across;
-      y = clear_inside w.y_min w.y_max inside.y is.y_least is.y_inside inside.up;
-    })
+on_screen : (w : Window) (x y : ℤ) → IsWindow w → IsPlaceOf w x y → IsPlaceOf screen x y
+on_screen w x y is inside = (
+  (omega (arith, ints, is.x_least, inside.0.0), omega (arith, ints, is.x_inside, inside.0.1)),
+  (omega (arith, ints, is.y_least, inside.1.0), omega (arith, ints, is.y_inside, inside.1.1)),
+)
 
 pub shown_in_window : ShownInWindow
 shown_in_window =
     record {
-      window = λ w c inside is.
-          let shown = is_shown w c is inside in (
-            shown,
-            is_there w c inside
-                (omega (arith, ints, is.x_least, inside.across.0), omega (arith, ints, is.x_inside, inside.across.1))
-                (omega (arith, ints, is.y_least, inside.up.0), omega (arith, ints, is.y_inside, inside.up.1))
-                shown,
-          );
-      zone = λ c inside shown. is_there clipped c inside inside.across inside.up shown;
-      screen = λ c inside. is_shown screen c whole inside;
+      place = λ w x y is inside.
+          let zone = in_zone w x y is inside in
+          record {
+            inside = inside;
+            counters = refl;
+            shown = λ lit.
+                let across = there x zone.0 lit.x in
+                let up = there y zone.1 lit.y in
+                ((across.0, up.0), across.1, up.1);
+            screen = λ on. record { x = clear_inside x on.0; y = clear_inside y on.1 };
+          };
+      window = λ w x y c is shows. shows.screen (on_screen w x y is shows.inside);
     }
-  where
-    whole : IsWindow screen
-    whole = record { x_least = omega (arith, ints); x_ordered = omega (arith, ints); x_inside = omega (arith, ints); y_least = omega (arith, ints); y_ordered = omega (arith, ints); y_inside = omega (arith, ints) }
+
+-- what the clauses say of a lit stroke of the window
+pub drawn_in_window : (w : Window) (stroke : Stroke) (l : LitDraw) → IsWindowOrZone w → InWindow w stroke.from → InWindow w stroke.to → IsDrawnAs stroke l → IsDrawInWindow w l
+unfolding drawn_on_stroke
+drawn_in_window w stroke l is from to h =
+    record {
+      x = h.from.x;
+      y = h.from.y;
+      each = λ n le.
+          let on = drawn_on_stroke stroke l h n le in
+          let inside = lit_in_window w stroke (counters_after l.draw l.from n) on from to in
+          subst (ShowsPlace w (h.from.x +ℤ moved l.draw.dx n) (h.from.y +ℤ moved l.draw.dy n)) (sym on.same.counters)
+          (shown_in_window.place w (h.from.x +ℤ moved l.draw.dx n) (h.from.y +ℤ moved l.draw.dy n) is inside);
+    }
 
 -- ---- both ways
-
--- bit 10 of the twelve bits of a place of the screen is clear
-clear_there : (x : ℤ) → IsBetween (pos 1024 *ℤ pos 0) (pos 1024 *ℤ pos 1023) (pos 1024 *ℤ x) → bit 10 (twelve_bits x) ≡ 0
-clear_there (pos n) h =
-    let below : n ≤ 1023 = omega (arith, ints, h.1) in
-    omega (arith, below)
-clear_there (negsuc n) h = absurd (omega (arith, ints, h.0))
 
 pub screen_is_shown : ScreenIsShown
 screen_is_shown p c same inside =
@@ -135,9 +129,17 @@ screen_is_shown p c same inside =
     subst (λ (q : Point). IsBetween (pos 1024 *ℤ pos 0) (pos 1024 *ℤ pos 1023) q.x) same.place (inside.left, inside.right) in
     let up : IsBetween (pos 1024 *ℤ pos 0) (pos 1024 *ℤ pos 1023) (pos 1024 *ℤ same.y) =
     subst (λ (q : Point). IsBetween (pos 1024 *ℤ pos 0) (pos 1024 *ℤ pos 1023) q.y) same.place (inside.bottom, inside.top) in
-    subst IsShown (sym same.counters) (record { x = clear_there same.x across; y = clear_there same.y up })
+    subst IsShown (sym same.counters)
+    (record { x = clear_inside same.x (in_places (pos 0) (pos 1023) same.x across); y = clear_inside same.y (in_places (pos 0) (pos 1023) same.y up) })
 
 -- ---- a run
+
+zip_map : {A B : Type 0} (P : A → Type 0) (R S : A → B → Type 0) (xs : List A) (ys : List B) → ((x : A) (y : B) → P x → R x y → S x y)
+    → AllByRecursion P xs → AllZip R xs ys → AllZip S xs ys
+zip_map P R S [] [] f a h = tt
+zip_map P R S [] (y ∷ ys) f a h = absurd h
+zip_map P R S (x ∷ xs) [] f a h = absurd h
+zip_map P R S (x ∷ xs) (y ∷ ys) f a h = (f x y a.0 h.0, zip_map P R S xs ys f a.1 h.1)
 
 clipped_on : (stroke : Stroke) (c : Counters) → StaysInZone stroke → IsOnStroke c stroke → IsClipped c stroke
 clipped_on stroke c stays on =
@@ -147,17 +149,14 @@ clipped_on stroke c stays on =
       screen = λ inside. screen_is_shown on.place c on.same inside;
     }
 
-clipped_on_some : (strokes : List Stroke) (c : Counters) → AllByRecursion StaysInZone strokes → IsOnSome strokes c → IsSomeClipped strokes c
-clipped_on_some [] c stay on = absurd on
-clipped_on_some (stroke ∷ strokes) c stay (inl on) = inl (clipped_on stroke c stay.0 on)
-clipped_on_some (stroke ∷ strokes) c stay (inr on) = inr (clipped_on_some strokes c stay.1 on)
+clipped_draw : (stroke : Stroke) (l : LitDraw) → StaysInZone stroke → IsDrawnAs stroke l → IsDrawClipped stroke l
+clipped_draw stroke l stays h n le = clipped_on stroke (counters_after l.draw l.from n) stays (drawn_on_stroke stroke l h n le)
+
+clipped_draws : (strokes : List Stroke) (lit : List LitDraw) → AllByRecursion StaysInZone strokes → AllZip IsDrawnAs (reverse strokes) lit → AllZip IsDrawClipped (reverse strokes) lit
+clipped_draws strokes lit stay h = zip_map StaysInZone IsDrawnAs IsDrawClipped (reverse strokes) lit clipped_draw (all_reversed StaysInZone strokes stay) h
 
 pub clipped_on_circuit : ClippedOnCircuit
 clipped_on_circuit m reads c place steps s begun_m board begun seen same = (
-  λ reached stay.
-      let with_s = circuit_follows m reads c place steps (Running s) begun_m board begun seen same reached in
-      all_map (IsOnSome s.strokes) (IsSomeClipped s.strokes) _ (λ k on. clipped_on_some s.strokes k stay on) with_s.1.lit,
-  λ reached stay.
-      let with_s = circuit_follows m reads c place steps (Halted s) begun_m board begun seen same reached in
-      all_map (IsOnSome s.strokes) (IsSomeClipped s.strokes) _ (λ k on. clipped_on_some s.strokes k stay on) with_s.1.lit,
+  λ reached stay. clipped_draws s.strokes _ stay (circuit_follows m reads c place steps (Running s) begun_m board begun seen same reached).1.lit,
+  λ reached stay. clipped_draws s.strokes _ stay (circuit_follows m reads c place steps (Halted s) begun_m board begun seen same reached).1.lit,
 )

@@ -16,17 +16,18 @@ use Rattle.dvg_words.specs.declared.instruction.Format.TheVariants.{Short, Long}
 use Rattle.dvg_words.specs.Decoding.{word_count, format_of, instruction_of}
 use Rattle.dvg_words.specs.declared.instruction.Instr.TheVariants.{Draw as Draws, Labs, Halt, Jsrl, Rtsl, Jmpl}
 use Rattle.dvg_words.specs.Beam.{effective_scale}
-use Rattle.dvg_circuit.specs.Counters.{Counters, counts, counters_after, passed}
+use Rattle.dvg_circuit.specs.Counters.{counts, counters_after}
 pub use Rattle.dvg_circuit.specs.declared.circuit.Circuit.{Circuit}
+pub use Rattle.dvg_circuit.specs.declared.lit.LitDraw.{LitDraw}
 
 -- what is read at each word address
 abbrev pub Reads : Type 0
 Reads = ℕ → ℕ
 
--- a run so far: the registers, the counters wherever the beam was lit, and the word addresses fetched, in their order
+-- a run so far: the registers, the draws that lit the beam, and the word addresses fetched, in their order
 pub record Run : Type 0 where
   pub circuit : Circuit
-  pub lit : List Counters
+  pub lit : List LitDraw
   pub fetched : List ℕ
 
 -- ---- fetching
@@ -66,13 +67,13 @@ after Rtsl format c = record c { pc = slice_index c.returns (c.pointer % 4); poi
 after (Jmpl to) format c = record c { pc = to }
 
 -- intensity 0 is dark (DVG documentation), every other counts as lit (profile)
-abbrev pub lit_along : ℕ → List Counters → List Counters
-lit_along zero way = []
-lit_along (suc n) way = way
+abbrev pub lit_if : ℕ → LitDraw → List LitDraw
+lit_if zero l = []
+lit_if (suc n) l = l ∷ []
 
--- where an instruction has the beam lit: at each count of a draw, its first place and its last included
-abbrev pub lit_by : Instr → Circuit → List Counters
-lit_by (Draws d) c = lit_along d.bright (passed d c.counters (draw_counts d c))
+-- the draw that an instruction lights: at each of its counts the beam is lit, at its first place and its last, too
+abbrev pub lit_by : Instr → Circuit → List LitDraw
+lit_by (Draws d) c = lit_if d.bright (record { draw = d; from = c.counters; counts = draw_counts d c })
 lit_by i c = []
 
 -- ---- runs

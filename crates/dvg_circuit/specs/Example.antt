@@ -4,7 +4,7 @@ use Rattle.std.specs.Prelude.{◌≡◌, ℕ, zero, suc, ◌-◌, ◌≤◌, pos
 use Rattle.dvg_words.specs.Values.{DrawFields}
 use Rattle.dvg_circuit.specs.Counters.{Counters, pulse, counts, passed}
 use Rattle.dvg_words.specs.declared.instruction.Format.TheVariants.{Short, Long}
-use Rattle.dvg_circuit.specs.Circuit.{Circuit, Reads, past, places, run_after, begin}
+use Rattle.dvg_circuit.specs.Circuit.{Circuit, LitDraw, Reads, past, places, run_after, begin}
 
 -- LABS to X FFE, Y 064 and global scale 0; JSRL 800; HALT
 abbrev pub example_frame : ℕ → List ℕ
@@ -34,6 +34,10 @@ at x y = record { x = x; y = y }
 -- the draw at 800 and 801
 abbrev pub example_draw : DrawFields
 example_draw = record { dx = pos 640; dy = negsuc 255; lscale = 1; bright = 7 }
+
+-- as the run lights it, from where the LABS sets the counters
+abbrev pub example_lit : LitDraw
+example_lit = record { draw = example_draw; from = at 4094 100; counts = 4 }
 
 -- 640 is 1010000000 in binary and 256 is 0100000000: of 4 counts X has a pulse at 0, 2 and 3, and Y at 1
 pub record WorkedPulses : Type 0 where
@@ -68,14 +72,14 @@ pub record WorkedRun (counters : Counters) (scale a b c d other : ℕ) : Type 0 
       run_after (example_reads other) 3 (begin (example_start counters scale (a ∷ b ∷ c ∷ d ∷ [])))
       ≡ record {
         circuit = record { pc = 2050; counters = at 1 99; scale = 0; pointer = 0; returns = 3 ∷ b ∷ c ∷ d ∷ []; halted = false };
-        lit = at 4094 100 ∷ at 4095 100 ∷ at 4095 99 ∷ at 0 99 ∷ at 1 99 ∷ [];
+        lit = example_lit ∷ [];
         fetched = 0 ∷ 1 ∷ 2 ∷ 2048 ∷ 2049 ∷ [];
       }
   pub rtsl :
       run_after (example_reads other) 4 (begin (example_start counters scale (a ∷ b ∷ c ∷ d ∷ [])))
       ≡ record {
         circuit = record { pc = 3; counters = at 1 99; scale = 0; pointer = 15; returns = 3 ∷ b ∷ c ∷ d ∷ []; halted = false };
-        lit = at 4094 100 ∷ at 4095 100 ∷ at 4095 99 ∷ at 0 99 ∷ at 1 99 ∷ [];
+        lit = example_lit ∷ [];
         fetched = 0 ∷ 1 ∷ 2 ∷ 2048 ∷ 2049 ∷ 2050 ∷ [];
       }
   pub halt :
@@ -83,7 +87,7 @@ pub record WorkedRun (counters : Counters) (scale a b c d other : ℕ) : Type 0 
       → run_after (example_reads other) n (begin (example_start counters scale (a ∷ b ∷ c ∷ d ∷ [])))
       ≡ record {
         circuit = record { pc = 3; counters = at 1 99; scale = 0; pointer = 15; returns = 3 ∷ b ∷ c ∷ d ∷ []; halted = true };
-        lit = at 4094 100 ∷ at 4095 100 ∷ at 4095 99 ∷ at 0 99 ∷ at 1 99 ∷ [];
+        lit = example_lit ∷ [];
         fetched = 0 ∷ 1 ∷ 2 ∷ 2048 ∷ 2049 ∷ 2050 ∷ 3 ∷ [];
       }
 

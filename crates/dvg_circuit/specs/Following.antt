@@ -1,14 +1,14 @@
 -- The circuit follows the generator of the board for as long as that has no fault: what is shown of the one is shown of the other.
-use Rattle.std.specs.Prelude.{◌≡◌, ℕ, suc, ℤ, pos, ◌+◌, ◌%◌, ◌*ℤ◌, ◌⊎◌, true, false, List, [], ◌∷◌, length, reverse, slice_index}
-use Rattle.std.specs.List.{AllByRecursion}
+use Rattle.std.specs.Prelude.{◌≡◌, ℕ, suc, ℤ, pos, ◌+◌, ◌%◌, ◌≤◌, ◌+ℤ◌, ◌*ℤ◌, true, false, List, [], ◌∷◌, length, reverse, slice_index}
+use Rattle.std.specs.List.{AllZip}
 use Rattle.dvg_words.specs.declared.machine.Machine.TheVariants.{Board}
 use Rattle.dvg_words.specs.declared.beam.Point.{Point}
 use Rattle.dvg_words.specs.Memory.{Memory, IsMemory}
 use Rattle.dvg_words.specs.Generator.{Stroke, State, Status, Running, Halted, Fault, Reached, start}
-use Rattle.dvg_circuit.specs.Counters.{Counters}
-use Rattle.dvg_circuit.specs.Circuit.{Circuit, Reads, Run, run_after, begin}
+use Rattle.dvg_circuit.specs.Counters.{Counters, counters_after}
+use Rattle.dvg_circuit.specs.Circuit.{Circuit, LitDraw, Reads, Run, run_after, begin}
 use Rattle.dvg_circuit.specs.Premises.{IsStart, ReadsAs}
-use Rattle.dvg_circuit.specs.Laws.{IsBetween, twelve_bits}
+use Rattle.dvg_circuit.specs.Laws.{IsBetween, moved, twelve_bits}
 
 -- ---- agreeing
 
@@ -30,10 +30,15 @@ pub record IsOnStroke (c : Counters) (stroke : Stroke) : Type 0 where
   pub across : IsAmong stroke.from.x stroke.to.x place.x
   pub up : IsAmong stroke.from.y stroke.to.y place.y
 
--- that of one of these strokes
-abbrev pub IsOnSome : List Stroke → Counters → Type 0
-IsOnSome [] c = ⊥
-IsOnSome (stroke ∷ strokes) c = IsOnStroke c stroke ⊎ IsOnSome strokes c
+-- the lit draw is this stroke: it begins where the counters hold the twelve bits of the one end, and moves from there to the other
+pub record IsDrawnAs (stroke : Stroke) (l : LitDraw) : Type 0 where
+  pub from : IsSamePlace stroke.from l.from
+  pub to :
+      stroke.to
+      ≡ record {
+        x = pos 1024 *ℤ (from.x +ℤ moved l.draw.dx l.counts);
+        y = pos 1024 *ℤ (from.y +ℤ moved l.draw.dy l.counts);
+      }
 
 -- the return places, the latest first, stand where calls store them, if the stack pointer was this when none was stored
 abbrev pub AreStored : ℕ → List ℕ → List ℕ → Type 0
@@ -50,8 +55,8 @@ pub record Agrees (base : ℕ) (s : State) (r : Run) : Type 0 where
   pub stored : AreStored base r.circuit.returns s.return_stack
   pub four : length r.circuit.returns ≡ 4
   pub fetched : r.fetched ≡ reverse s.fetched
-  -- wherever the beam was lit, that is on a lit stroke
-  pub lit : AllByRecursion (IsOnSome s.strokes) r.lit
+  -- the draws that lit the beam are the lit strokes, one by one
+  pub lit : AllZip IsDrawnAs (reverse s.strokes) r.lit
 
 -- while the generator runs the circuit does, and halts where it halts; from a fault on nothing is said
 abbrev pub AgreesWith : ℕ → Status → Run → Type 0
@@ -59,7 +64,12 @@ AgreesWith base (Running s) r = (r.circuit.halted ≡ false) × Agrees base s r
 AgreesWith base (Halted s) r = (r.circuit.halted ≡ true) × Agrees base s r
 AgreesWith base (Fault s) r = Unit {0}
 
--- ---- the law
+-- ---- the laws
+
+-- a lit draw is on its stroke at each count
+abbrev pub DrawnOnStroke : Type 0
+DrawnOnStroke =
+    (stroke : Stroke) (l : LitDraw) → IsDrawnAs stroke l → (n : ℕ) → n ≤ l.counts → IsOnStroke (counters_after l.draw l.from n) stroke
 
 -- after each number of steps that the generator takes from a place with the counters' twelve bits, at the circuit's scale, the two
 -- agree, whatever else the registers held at the start and whatever else the memory reads

@@ -45,6 +45,17 @@ impl Counters {
             y: counted(draw.dy, count, self.y),
         }
     }
+
+    /// Both counters past so many counts of a draw.
+    pub fn after(self, draw: &Draw, counts: u16) -> Counters
+        ensures { result ≡ counters_after draw.now self counts }
+    {
+        let mut at = self;
+        for count in 0..counts {
+            at = at.counted(draw, count);
+        }
+        at
+    }
 }
 
 /// For how many counts the vector timer runs at an effective scale.

@@ -1,7 +1,7 @@
 //! Laws over the definitions alone, each proved as the contract of a function with an empty body.
 
 ghost use Rattle.dvg_circuit.specs.Example.{WorkedPulses, WorkedAddresses, WorkedRuns};
-ghost use Rattle.dvg_circuit.specs.Following.{CircuitFollows};
+ghost use Rattle.dvg_circuit.specs.Following.{DrawnOnStroke, CircuitFollows};
 ghost use Rattle.dvg_circuit.specs.Showing.{LitInWindow, ShownInWindow, LitOnScreen, ScreenIsShown, ClippedOnCircuit};
 ghost use Rattle.dvg_circuit.specs.ClippedExample.{WorkedClips};
 ghost use Rattle.dvg_circuit.specs.Writing.{WritesElsewhere};
@@ -59,12 +59,18 @@ pub fn circuit_follows()
     ensures { CircuitFollows }
 {}
 
+/// At every count of a lit draw the counters are at a place of its stroke.
+pub fn drawn_on_stroke()
+    ensures { DrawnOnStroke }
+{}
+
 /// On a stroke between two places of a window, both counters are at places of that window at every count.
 pub fn lit_in_window()
     ensures { LitInWindow }
 {}
 
-/// At each place of a window of the screen the board shows that place. Of -1024 to 2047 it shows just the places of the screen.
+/// Of a place of a window, -1024 to 2047 included, the board shows just what is on the screen, as itself; of a window of the screen
+/// it shows each place.
 pub fn shown_in_window()
     ensures { ShownInWindow }
 {}

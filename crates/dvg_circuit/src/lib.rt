@@ -7,8 +7,10 @@
 mod circuit;
 mod counters;
 pub mod laws;
+mod lit;
 mod run;
 
 pub use circuit::Circuit;
 pub use counters::{Counters, counts, pulse};
+pub use lit::LitDraw;
 pub use run::{Bus, Run};

@@ -1,11 +1,12 @@
 //! A run of the circuit, instruction by instruction.
 
 ghost use Rattle.std.specs.Prelude.{◌≡◌, ℕ, ◌++◌, [], ◌∷◌, IfOk};
-ghost use Rattle.dvg_circuit.specs.Counters.{counters_after, passed};
-ghost use Rattle.dvg_circuit.specs.Circuit.{begin, decoded, draw_counts, lit_along, performed, step};
+ghost use Rattle.dvg_circuit.specs.Counters.{counters_after};
+ghost use Rattle.dvg_circuit.specs.Circuit.{begin, decoded, draw_counts, lit_if, performed, step};
 
 use crate::circuit::{Circuit, past};
 use crate::counters::{Counters, counts};
+use crate::lit::LitDraw;
 use dvg_words::{Draw, Format, Instr, Machine, decode_on, is_long};
 use std::alloc::{AllocError, Global};
 use std::marker::Model;
@@ -20,11 +21,11 @@ pub trait Bus {
         ensures { result ≡ reads self.now address };
 }
 
-/// A run so far: the registers, the counters wherever the beam was lit, and the word addresses fetched, in their order.
+/// A run so far: the registers, the draws that lit the beam, and the word addresses fetched, in their order.
 #[derive(Drop)]
 pub struct Run {
     circuit: Circuit,
-    lit: Vec<Counters>,
+    lit: Vec<LitDraw>,
     fetched: Vec<u16>,
 }
 
@@ -65,8 +66,8 @@ impl Run {
         self.circuit
     }
 
-    /// The counters wherever the beam was lit so far, in their order.
-    pub fn lit(&self) -> &[Counters]
+    /// The draws that lit the beam so far, in their order.
+    pub fn lit(&self) -> &[LitDraw]
         ensures { result.now ≡ self.now.lit }
     {
         &self.lit
@@ -79,32 +80,38 @@ impl Run {
         &self.fetched
     }
 
-    /// Notes that the beam is lit here, if the intensity is not 0.
-    fn light(&mut self, here: Counters, bright: u8) -> Result<(), AllocError>
+    /// Notes a draw that begins here, if its intensity is not 0.
+    fn light(&mut self, draw: &Draw, counts: u16) -> Result<(), AllocError>
         ensures circuit { self.new.circuit ≡ self.old.circuit }
-        ensures lit { IfOk result (λ _. self.new.lit ≡ self.old.lit ++ lit_along bright (here ∷ [])) }
+        ensures lit { IfOk result (λ _. self.new.lit ≡ self.old.lit ++ lit_if draw.now.bright (record { draw = draw.now; from = self.old.circuit.counters; counts = counts })) }
         ensures fetched { self.new.fetched ≡ self.old.fetched }
     {
-        if bright > 0 && self.lit.push(here).is_err() {
+        let lit = LitDraw {
+            draw: *draw,
+            from: self.circuit.counters,
+            counts,
+        };
+        if draw.bright > 0 && self.lit.push(lit).is_err() {
             return Err(AllocError);
         }
         Ok(())
     }
 
-    /// A draw: the timer's counts step the counters, and the beam is lit at each of them, the first place included.
+    /// A draw: the timer's counts step the counters, and the beam is lit at each of them.
     fn draw(&mut self, draw: &Draw) -> Result<(), AllocError>
         ensures { IfOk result (λ _. self.new ≡ record self.old {
           circuit = record self.old.circuit { counters = counters_after draw.now self.old.circuit.counters (draw_counts draw.now self.old.circuit) };
-          lit = self.old.lit ++ lit_along draw.now.bright (passed draw.now self.old.circuit.counters (draw_counts draw.now self.old.circuit));
+          lit = self.old.lit ++ lit_if draw.now.bright (record {
+            draw = draw.now;
+            from = self.old.circuit.counters;
+            counts = draw_counts draw.now self.old.circuit;
+          });
         }) }
     {
         let scale = draw.lscale.wrapping_add(self.circuit.scale) % 16;
-        self.light(self.circuit.counters, draw.bright)?;
-        for count in 0..counts(scale) {
-            let next = self.circuit.counters.counted(draw, count);
-            self.circuit.counters = next;
-            self.light(next, draw.bright)?;
-        }
+        let counts = counts(scale);
+        self.light(draw, counts)?;
+        self.circuit.counters = self.circuit.counters.after(draw, counts);
         Ok(())
     }
 

@@ -44,7 +44,7 @@ fn registers(words: &mut Skip<Args>) -> Result<Circuit> {
     })
 }
 
-/// Prints what the registers hold, and the counters wherever the beam was lit since `lit_before` places were.
+/// Prints what the registers hold, and the counters wherever the beam was lit since `lit_before` draws were.
 fn print_line(rt: &HostRuntime, run: &Run, lit_before: usize) -> Result<()> {
     let circuit = run.circuit();
     let Counters { x, y } = circuit.counters;
@@ -57,8 +57,10 @@ fn print_line(rt: &HostRuntime, run: &Run, lit_before: usize) -> Result<()> {
         circuit.pc, circuit.scale, circuit.pointer
     )?;
     write!(line, " {first} {second} {third} {fourth}")?;
-    for Counters { x, y } in run.lit().iter().skip(lit_before) {
-        write!(line, " {x},{y}")?;
+    for draw in run.lit().iter().skip(lit_before) {
+        for Counters { x, y } in &draw.passed(rt.alloc())? {
+            write!(line, " {x},{y}")?;
+        }
     }
     println!(rt; "{line}")?;
     Ok(())

@@ -26,7 +26,7 @@ returns-clause-circuit g c =
     let shapes : Shapes = record { rom = c.self.inside.rom.now; list = g.E.Entries.list c.self.inside.entries.now; window = c.self.inside.window; mode = c.self.inside.mode } in
     let Told : Shapes → Type 0 = λ s. s.rom.machine ≡ Board → IfOk c.find_frame_fault.result (λ a. SafeOnCircuit (record { frame = c.args.frame.now; rom = s.rom }) s.window a.words a.depth) in
     let safe = safe_over shapes c.args.frame.now c.args.budget c.find_frame_fault.result c.self.invariant c.words-words.ensures.frame (rw c.machine-machine.ensures at c.find_frame_fault.ensures.ok) in
-    subst Told c.self.view_is (circuit_over shapes c.args.frame.now c.find_frame_fault.result c.words-words.ensures.frame c.self.invariant.rom safe)
+    subst Told c.self.view_is (circuit_over shapes c.args.frame.now c.find_frame_fault.result c.words-words.ensures.frame c.self.invariant.rom c.is_for-fits.ensures.board safe)
 
 pub returns-clause-circuit_exact : goal.returns-clause-circuit_exact
 returns-clause-circuit_exact g c =

@@ -1,0 +1,6 @@
+use Rattle.std.proofs.Common.{◌≡◌}
+use Rattle.dvg_circuit.specs.Counters.{counters_after}
+use Rattle.dvg_circuit.proofs.counters.Counters.after.Given as goal
+
+abbrev pub invariant-loop-count : goal.invariant-loop-count
+invariant-loop-count l = l.at ≡ counters_after l.draw l.fn.self l.count
