@@ -16,7 +16,7 @@ use Rattle.dvg_check.specs.declared.verdict.Yes.{Yes}
 use Rattle.dvg_explain.specs.declared.calls.Call.{Call}
 use Rattle.dvg_explain.specs.Calls.{AreCalls, IsExtent, IsShapesExtent}
 use Rattle.dvg_explain.specs.Clipping.{AreClipped}
-use Rattle.dvg_explain.specs.Leaving.{window_limits}
+use Rattle.dvg_check.specs.Leaving.{window_limits}
 use Rattle.dvg_explain.specs.declared.margins.Margins.{Margins}
 use Rattle.dvg_explain.specs.Margins.{AreMargins, limits_box}
 use Rattle.dvg_make.specs.Judging.{VerdictByMade}

@@ -10,8 +10,8 @@ use Rattle.dvg_check.specs.FirstFault.{frame_number, shape_number}
 use Rattle.dvg_explain.specs.declared.calls.Call.{Call}
 use Rattle.dvg_explain.specs.Chains.{IsChain}
 use Rattle.dvg_explain.specs.Losses.{AreLosses, NoneLead}
-use Rattle.dvg_explain.specs.declared.frames.FrameAccount.{FrameAccount}
-use Rattle.dvg_explain.specs.declared.shapes.ShapeAccount.{ShapeAccount}
+use Rattle.dvg_check.specs.declared.fault.FrameFinding.{FrameFinding}
+use Rattle.dvg_check.specs.declared.fault.ShapeFinding.{ShapeFinding}
 use Rattle.dvg_make.specs.Made.{HasEntry}
 use Rattle.dvg_account.specs.Items.{RefusedItem, IsItem, callee_of, item_lines}
 use Rattle.dvg_account.specs.Machines.{machine_lines, other_machine_line, TellsZone}
@@ -22,17 +22,17 @@ use Rattle.dvg_account.specs.declared.line.Line.TheVariants.{Rule, Why, Path, Wh
 use Rattle.dvg_account.specs.declared.line.PathLine.TheVariants as path
 
 -- the lines of the first fault of a frame: its rule, its cause, its item, and what to do. No losses are told where no items lead there
-pub record FrameLines (machine : Machine) (window : Window) (frame : List ℕ) (list : List Entry) (a : FrameAccount) (lines : List Line) : Type 0 where
+pub record FrameLines (machine : Machine) (window : Window) (frame : List ℕ) (list : List Entry) (f : FrameFinding) (lines : List Line) : Type 0 where
   pub why : Sentence
-  pub tells : TellsFrame machine frame a.finding a.cause why
+  pub tells : TellsFrame machine frame f f.cause why
   pub item : RefusedItem
-  pub is_item : IsItem (frame_word machine frame) a.finding.fault.word a.finding.before (callee_of a.finding.found) item
-  pub lost : IfSome item.losses (AreLosses (frame_context machine list) (frame_word machine frame) 0 a.finding.fault.word)
-  pub unled : IfNone item.losses (NoneLead Frame (frame_word machine frame) 0 a.finding.fault.word)
+  pub is_item : IsItem (frame_word machine frame) f.fault.word f.before (callee_of f.found) item
+  pub lost : IfSome item.losses (AreLosses (frame_context machine list) (frame_word machine frame) 0 f.fault.word)
+  pub unled : IfNone item.losses (NoneLead Frame (frame_word machine frame) 0 f.fault.word)
   pub zone : Option Line
   pub in_zone : TellsZone window zone
-  pub told : lines ≡ machine_lines machine ++ option_to_list zone ++ Rule (frame_number a.finding.fault.why) ∷ Why why ∷ item_lines item
-      ++ WhatToDo (frame_number a.finding.fault.why) ∷ []
+  pub told : lines ≡ machine_lines machine ++ option_to_list zone ++ Rule (frame_number f.fault.why) ∷ Why why ∷ item_lines item
+      ++ WhatToDo (frame_number f.fault.why) ∷ []
 
 -- how the frame with these bytes reaches an entry: by these calls, or by none; without a frame there is no line
 abbrev pub TellsChain : Rom → List ℕ → List Entry → Entry → Option Line → Type 0
@@ -44,18 +44,18 @@ TellsChain rom frame list goal line = ⊥
 
 -- the lines of the first fault of the shapes: its rule, its cause, its item, its entry, how the frame reaches it,
 -- whether the certificate may have been made for the other machine, and what to do
-pub record ShapeLines (window : Window) (rom : Rom) (frame : List ℕ) (list : List Entry) (a : ShapeAccount) (lines : List Line) : Type 0 where
+pub record ShapeLines (window : Window) (rom : Rom) (frame : List ℕ) (list : List Entry) (f : ShapeFinding) (lines : List Line) : Type 0 where
   pub why : Sentence
-  pub tells : TellsShape rom a.finding a.cause why
+  pub tells : TellsShape rom f f.cause why
   pub item : RefusedItem
-  pub is_item : IsItem (rom_word rom) a.finding.fault.word a.finding.before (callee_of a.finding.found) item
-  pub lost : IfSome item.losses (AreLosses (shape_context rom.machine list a.finding.entry) (rom_word rom) a.finding.entry.addr a.finding.fault.word)
-  pub unled : IfNone item.losses (HasEntry list a.finding.entry.addr a.finding.entry.key
-      → NoneLead Shape (rom_word rom) a.finding.entry.addr a.finding.fault.word)
+  pub is_item : IsItem (rom_word rom) f.fault.word f.before (callee_of f.found) item
+  pub lost : IfSome item.losses (AreLosses (shape_context rom.machine list f.entry) (rom_word rom) f.entry.addr f.fault.word)
+  pub unled : IfNone item.losses (HasEntry list f.entry.addr f.entry.key
+      → NoneLead Shape (rom_word rom) f.entry.addr f.fault.word)
   pub chain : Option Line
-  pub reached : TellsChain rom frame list a.finding.entry chain
+  pub reached : TellsChain rom frame list f.entry chain
   pub zone : Option Line
   pub in_zone : TellsZone window zone
-  pub told : lines ≡ machine_lines rom.machine ++ option_to_list zone ++ Rule (shape_number a.finding.fault.why) ∷ Why why ∷ item_lines item
-      ++ Path (path.EntryClaims a.finding.entry) ∷ option_to_list chain
-      ++ option_to_list (other_machine_line rom.machine a.finding.fault.why) ++ WhatToDo (shape_number a.finding.fault.why) ∷ []
+  pub told : lines ≡ machine_lines rom.machine ++ option_to_list zone ++ Rule (shape_number f.fault.why) ∷ Why why ∷ item_lines item
+      ++ Path (path.EntryClaims f.entry) ∷ option_to_list chain
+      ++ option_to_list (other_machine_line rom.machine f.fault.why) ++ WhatToDo (shape_number f.fault.why) ∷ []

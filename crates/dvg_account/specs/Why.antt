@@ -8,12 +8,12 @@ use Rattle.dvg_check.specs.declared.fault.Found.{Found}
 use Rattle.dvg_check.specs.declared.fault.Found.TheVariants.{Seen}
 use Rattle.dvg_check.specs.declared.fault.FrameFinding.{FrameFinding}
 use Rattle.dvg_check.specs.declared.fault.ShapeFinding.{ShapeFinding}
-use Rattle.dvg_explain.specs.declared.frames.FrameCause.{FrameCause}
-use Rattle.dvg_explain.specs.declared.shapes.ShapeCause.{ShapeCause}
-use Rattle.dvg_explain.specs.declared.frames.FrameCause.TheVariants as frame
-use Rattle.dvg_explain.specs.declared.shapes.ShapeCause.TheVariants as shape
-use Rattle.dvg_explain.specs.declared.leaving.BoxLeaving.{BoxLeaving}
-use Rattle.dvg_explain.specs.declared.leaving.BoxLeaving.TheVariants as left
+use Rattle.dvg_check.specs.declared.cause.FrameCause.{FrameCause}
+use Rattle.dvg_check.specs.declared.cause.ShapeCause.{ShapeCause}
+use Rattle.dvg_check.specs.declared.cause.FrameCause.TheVariants as frame
+use Rattle.dvg_check.specs.declared.cause.ShapeCause.TheVariants as shape
+use Rattle.dvg_check.specs.declared.leaving.BoxLeaving.{BoxLeaving}
+use Rattle.dvg_check.specs.declared.leaving.BoxLeaving.TheVariants as left
 pub use Rattle.dvg_account.specs.declared.why.Why.{Why}
 pub use Rattle.dvg_account.specs.declared.why.Why.TheVariants as why
 pub use Rattle.dvg_account.specs.declared.why.Addresses.{Addresses}

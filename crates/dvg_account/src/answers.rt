@@ -8,8 +8,7 @@ use crate::cause::find_cause;
 use crate::inputs::Inputs;
 use crate::line::Line;
 use crate::refused::refused_lines;
-use dvg_check::{Refusal, Yes};
-use dvg_explain::RomAccount;
+use dvg_check::{Refusal, RomFinding, Yes};
 use std::alloc::{AllocError, Global};
 
 /// The lines of a verdict on these inputs, of which this is the cause, if it is a refusal because of an item (profile).
@@ -17,7 +16,7 @@ pub fn verdict_lines(
     alloc: Global,
     inputs: &Inputs,
     verdict: &Result<Yes, Refusal>,
-    cause: Option<&RomAccount>,
+    cause: Option<&RomFinding>,
 ) -> Result<Vec<Line>, AllocError>
     ensures { IfOk result (λ lines. VerdictLines inputs.now verdict.now (option_copied cause.entry) lines.items) }
 {

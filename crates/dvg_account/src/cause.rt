@@ -2,12 +2,11 @@
 
 ghost use Rattle.std.specs.Prelude.{IfOk, IfSome};
 ghost use Rattle.dvg_words.specs.Memory.{rom_on, words_of};
-ghost use Rattle.dvg_explain.specs.Verdict.{TellsOf};
+ghost use Rattle.dvg_check.specs.Causes.{TellsOf};
 
 use crate::inputs::Inputs;
 use dvg_cert::{Cert, HashIndex};
-use dvg_check::{Refusal, frame_of};
-use dvg_explain::{RomAccount, explain_rom, explain_shapes};
+use dvg_check::{Refusal, RomFinding, find_rom_fault, find_shape_fault, frame_of};
 use dvg_words::RomImage;
 use std::alloc::{AllocError, Global};
 
@@ -16,7 +15,7 @@ pub fn find_cause(
     alloc: Global,
     inputs: &Inputs,
     refusal: &Refusal,
-) -> Result<Option<RomAccount>, AllocError>
+) -> Result<Option<RomFinding>, AllocError>
     ensures { IfOk result (λ found. IfSome inputs.now.cert (λ cert. IfSome found (TellsOf inputs.now.mode inputs.now.window
         (rom_on inputs.now.machine cert.now.map inputs.now.rom.now) cert.now.entries (words_of inputs.now.frame.now) inputs.now.budget))) }
 {
@@ -32,7 +31,7 @@ fn find_shape_cause(
     alloc: Global,
     inputs: &Inputs,
     cert: &Cert,
-) -> Result<Option<RomAccount>, AllocError>
+) -> Result<Option<RomFinding>, AllocError>
     ensures { IfOk result (λ found. IfSome found (TellsOf inputs.now.mode inputs.now.window (rom_on inputs.now.machine cert.now.map inputs.now.rom.now)
         cert.now.entries (words_of inputs.now.frame.now) inputs.now.budget)) }
 {
@@ -40,9 +39,9 @@ fn find_shape_cause(
         return Ok(None);
     };
     let entries = HashIndex::new(alloc, cert)?;
-    match explain_shapes(&rom, cert, &entries, &inputs.window, inputs.mode) {
+    match find_shape_fault(&rom, cert, &entries, &inputs.window, inputs.mode) {
         Ok(()) => Ok(None),
-        Err(account) => Ok(Some(RomAccount::Shape(account))),
+        Err(finding) => Ok(Some(RomFinding::Shape(finding))),
     }
 }
 
@@ -51,7 +50,7 @@ fn find_frame_cause(
     alloc: Global,
     inputs: &Inputs,
     cert: &Cert,
-) -> Result<Option<RomAccount>, AllocError>
+) -> Result<Option<RomFinding>, AllocError>
     ensures { IfOk result (λ found. IfSome found (TellsOf inputs.now.mode inputs.now.window (rom_on inputs.now.machine cert.now.map inputs.now.rom.now)
         cert.now.entries (words_of inputs.now.frame.now) inputs.now.budget)) }
 {
@@ -66,9 +65,9 @@ fn find_frame_cause(
     let Ok(frame) = frame_of(inputs.frame, budget) else {
         return Ok(None);
     };
-    match explain_rom(machine, alloc, rom, &frame, cert, budget, window, mode) {
+    match find_rom_fault(machine, alloc, rom, &frame, cert, budget, window, mode) {
         Ok(_) => Ok(None),
-        Err(RomAccount::IndexMemory) => Err(AllocError),
-        Err(account) => Ok(Some(account)),
+        Err(RomFinding::IndexMemory) => Err(AllocError),
+        Err(finding) => Ok(Some(finding)),
     }
 }

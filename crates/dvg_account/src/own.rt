@@ -8,8 +8,7 @@ use crate::inputs::{Inputs, PlainWhy, plain_lines};
 use crate::line::Line;
 use crate::making::unmade_lines;
 use dvg_cert::Cert;
-use dvg_check::{Mode, Yes};
-use dvg_explain::RomAccount;
+use dvg_check::{Mode, RomFinding, Yes};
 use dvg_make::{EntryCause, FrameRefusal, MakeAccount};
 use dvg_words::RomImage;
 use std::alloc::{AllocError, Global};
@@ -95,7 +94,7 @@ pub fn frame_lines(
     alloc: Global,
     inputs: &Inputs,
     verdict: &Result<Yes, FrameRefusal>,
-    cause: Option<&RomAccount>,
+    cause: Option<&RomFinding>,
 ) -> Result<Vec<Line>, AllocError>
     ensures { IfOk result (λ lines. FrameVerdictLines inputs.now verdict.now (option_copied cause.entry) lines.items) }
 {

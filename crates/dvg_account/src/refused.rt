@@ -17,10 +17,8 @@ use crate::line::{EntryName, Line, PathLine};
 use crate::lines::{Lines, zone_line};
 use crate::why::Why;
 use dvg_cert::{Cert, Entries, Entry, HashIndex, ListIndex};
-use dvg_check::{Refusal, ShapeWhy};
-use dvg_explain::{
-    FrameAccount, Losses, RomAccount, ShapeAccount, find_chain, frame_losses, shape_losses,
-};
+use dvg_check::{FrameFinding, Refusal, RomFinding, ShapeFinding, ShapeWhy};
+use dvg_explain::{Losses, find_chain, frame_losses, shape_losses};
 use dvg_items::Kind;
 use dvg_words::{FrameImage, FrameOn, Machine, RomImage, Window};
 use std::alloc::{AllocError, Global};
@@ -30,19 +28,19 @@ pub fn refused_lines(
     alloc: Global,
     inputs: &Inputs,
     refusal: &Refusal,
-    cause: Option<&RomAccount>,
+    cause: Option<&RomFinding>,
 ) -> Result<Vec<Line>, AllocError>
     ensures { IfOk result (λ lines. RefusedLines inputs.now refusal.now (option_copied cause.entry) lines.items) }
 {
     match (cause, inputs.cert) {
-        (Some(RomAccount::Shape(account)), Some(cert)) => {
+        (Some(RomFinding::Shape(finding)), Some(cert)) => {
             if let Ok(rom) = RomImage::from_bytes_on(inputs.machine, inputs.rom, cert.map()) {
-                return shape_lines(alloc, &inputs.window, &rom, cert, inputs.frame, account);
+                return shape_lines(alloc, &inputs.window, &rom, cert, inputs.frame, finding);
             }
         }
-        (Some(RomAccount::Frame(account)), Some(cert)) => {
+        (Some(RomFinding::Frame(finding)), Some(cert)) => {
             if let Ok(frame) = FrameImage::from_bytes(inputs.frame) {
-                return frame_lines(alloc, inputs.machine, &inputs.window, cert, &frame, account);
+                return frame_lines(alloc, inputs.machine, &inputs.window, cert, &frame, finding);
             }
         }
         _ => {}
@@ -58,11 +56,10 @@ fn frame_lines(
     window: &Window,
     cert: &Cert,
     frame: &FrameImage,
-    account: &FrameAccount,
+    finding: &FrameFinding,
 ) -> Result<Vec<Line>, AllocError>
-    ensures { IfOk result (λ lines. FrameLines machine window.now frame.now cert.now.entries account.now lines.items) }
+    ensures { IfOk result (λ lines. FrameLines machine window.now frame.now cert.now.entries finding.now lines.items) }
 {
-    let finding = account.finding;
     let at = finding.fault.word;
     let number = finding.fault.number();
     let callee = callee_of(&finding.found);
@@ -71,7 +68,7 @@ fn frame_lines(
         losses: frame_losses(machine, cert, &ListIndex::new(cert), frame, at),
         ..RefusedItem::new(&framed, Kind::Frame, 0, at, finding.before, callee)
     };
-    let why = Why::of_frame(machine, account, frame);
+    let why = Why::of_frame(machine, finding, frame);
     let mut lines = Lines::new(alloc);
     lines.push_machine(machine);
     lines.push_some(zone_line(window));
@@ -89,11 +86,10 @@ fn shape_lines(
     rom: &RomImage,
     cert: &Cert,
     frame: &[u8],
-    account: &ShapeAccount,
+    finding: &ShapeFinding,
 ) -> Result<Vec<Line>, AllocError>
-    ensures { IfOk result (λ lines. ShapeLines window.now rom.now frame.now cert.now.entries account.now lines.items) }
+    ensures { IfOk result (λ lines. ShapeLines window.now rom.now frame.now cert.now.entries finding.now lines.items) }
 {
-    let finding = account.finding;
     let entry = finding.entry;
     let at = finding.fault.word;
     let number = finding.fault.number();
@@ -103,7 +99,7 @@ fn shape_lines(
         losses: losses_in_shape(rom, cert, &entry, at),
         ..RefusedItem::new(rom, Kind::Shape, entry.addr, at, finding.before, callee)
     };
-    let why = Why::of_shape(account, rom);
+    let why = Why::of_shape(finding, rom);
     let other = other_machine_line(rom.machine(), finding.fault.why);
     let mut lines = Lines::new(alloc);
     lines.push_machine(rom.machine());

@@ -4,7 +4,7 @@ use crate::line::EntryName;
 use crate::text::Text;
 use crate::why::{Addresses, Bounds, ClaimWhy, Corner, InputWhy, MakerWhy, OddWords, Owner, Why};
 use dvg_cert::{Key, MOST_WORDS};
-use dvg_explain::{Edge, Leaving};
+use dvg_check::{Edge, Leaving};
 
 /// The most bytes of a frame. Of a longer one, one byte more is read.
 const MOST_FRAME_BYTES: usize = 2048;

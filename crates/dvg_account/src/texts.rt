@@ -6,8 +6,7 @@ use crate::making::{made_lines, unmade_lines};
 use crate::own::{OwnMaking, frame_lines, own_lines};
 use crate::spelling::text_of;
 use dvg_cert::Cert;
-use dvg_check::{Refusal, Yes};
-use dvg_explain::RomAccount;
+use dvg_check::{Refusal, RomFinding, Yes};
 use dvg_make::{FrameRefusal, MakeAccount};
 use dvg_words::{Machine, RomImage};
 use std::alloc::{AllocError, Global};
@@ -17,7 +16,7 @@ pub fn verdict_text(
     alloc: Global,
     inputs: &Inputs,
     verdict: &Result<Yes, Refusal>,
-    cause: Option<&RomAccount>,
+    cause: Option<&RomFinding>,
 ) -> Result<String, AllocError> {
     text_of(alloc, &verdict_lines(alloc, inputs, verdict, cause)?)
 }
@@ -36,7 +35,7 @@ pub fn frame_text(
     alloc: Global,
     inputs: &Inputs,
     verdict: &Result<Yes, FrameRefusal>,
-    cause: Option<&RomAccount>,
+    cause: Option<&RomFinding>,
 ) -> Result<String, AllocError> {
     text_of(alloc, &frame_lines(alloc, inputs, verdict, cause)?)
 }

@@ -10,8 +10,7 @@ ghost use Rattle.dvg_account.specs.declared.why.OddWords.{OddWords};
 use crate::item::words_at;
 use crate::line::{EntryName, Words};
 use dvg_cert::{End, Entry, Key};
-use dvg_check::Found;
-use dvg_explain::{BoxLeaving, FrameAccount, FrameCause, Leaving, ShapeAccount, ShapeCause};
+use dvg_check::{BoxLeaving, Found, FrameCause, FrameFinding, Leaving, ShapeCause, ShapeFinding};
 use dvg_items::{LitExtent, Seen};
 use dvg_words::{Fetch, FrameImage, FrameOn, Instr, Machine, Point, RomImage, RomMap};
 
@@ -307,13 +306,13 @@ impl Why {
     }
 
     /// Why an item of a frame is refused on a machine.
-    pub fn of_frame(machine: Machine, account: &FrameAccount, frame: &FrameImage) -> Why
-        ensures { TellsFrame machine frame.now account.now.finding account.now.cause result }
+    pub fn of_frame(machine: Machine, finding: &FrameFinding, frame: &FrameImage) -> Why
+        ensures { TellsFrame machine frame.now finding.now finding.now.cause result }
     {
-        let found = &account.finding.found;
-        let at = account.finding.fault.word;
+        let found = &finding.found;
+        let at = finding.fault.word;
         let framed = FrameOn::new(machine, frame);
-        match account.cause {
+        match finding.cause {
             FrameCause::Unmapped => Why::missing(&framed, at, Addresses::of_frame(frame)),
             FrameCause::Odd => Why::odd(&framed, at),
             FrameCause::ReturnInFrame => Why::Return,
@@ -330,12 +329,12 @@ impl Why {
     }
 
     /// Why an item of a shape is refused.
-    pub fn of_shape(account: &ShapeAccount, rom: &RomImage) -> Why
-        ensures { TellsShape rom.now account.now.finding account.now.cause result }
+    pub fn of_shape(finding: &ShapeFinding, rom: &RomImage) -> Why
+        ensures { TellsShape rom.now finding.now finding.now.cause result }
     {
-        let found = &account.finding.found;
-        let at = account.finding.fault.word;
-        match account.cause {
+        let found = &finding.found;
+        let at = finding.fault.word;
+        match finding.cause {
             ShapeCause::Unmapped => Why::missing(rom, at, Addresses::of_map(rom.map())),
             ShapeCause::Odd => Why::odd(rom, at),
             ShapeCause::HaltInShape => Why::Halt,
@@ -344,7 +343,7 @@ impl Why {
             ShapeCause::OffScreen(leaving) => Why::past_edge(found, leaving, Bounds::Window),
             ShapeCause::NoEntry { to, scale } => Why::NoEntry { to, scale },
             ShapeCause::BoxTooSmall(leaving) => Why::leaves_box(found, leaving),
-            claim => Why::Claim(ClaimWhy::of(claim, &account.finding.entry, words_with(found))),
+            claim => Why::Claim(ClaimWhy::of(claim, &finding.entry, words_with(found))),
         }
     }
 }

@@ -7,6 +7,7 @@ pub mod Faults
 pub mod Modes
 pub mod Loop
 pub mod FrameWalk
+pub mod Broken
 pub mod Accepting
 pub mod Listed
 pub mod Safety

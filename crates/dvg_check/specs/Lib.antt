@@ -1,6 +1,8 @@
 pub mod Rules
 pub mod FirstFault
 pub mod Finding
+pub mod Leaving
+pub mod Causes
 pub mod Judged
 pub mod Verdict
 pub mod Numbers

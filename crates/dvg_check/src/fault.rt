@@ -3,6 +3,7 @@
 ghost use Rattle.std.specs.Prelude.{◌≡◌};
 ghost use Rattle.dvg_check.specs.FirstFault.{shape_number, frame_number};
 
+use crate::cause::{FrameCause, ShapeCause};
 use dvg_cert::{Entry, Key};
 use dvg_items::{Known, Seen};
 use thiserror::Error;
@@ -191,21 +192,23 @@ impl FrameFault {
     }
 }
 
-/// A frame's first fault, what is known before the item that breaks a rule (place, scale, words and depth so far), and what
-/// stands there.
+/// A frame's first fault, what is known before the item that breaks a rule (place, scale, words and depth so far), what stands
+/// there, and the rule's own numbers.
 #[derive(Clone, Copy)]
 pub struct FrameFinding {
     pub fault: FrameFault,
     pub before: Known,
     pub found: Found,
+    pub cause: FrameCause,
 }
 
 /// The first fault of a certificate's shapes, the entry whose shape it is, what is known before the item that breaks a rule
-/// (place, scale, words and depth so far), and what stands there.
+/// (place, scale, words and depth so far), what stands there, and the rule's own numbers.
 #[derive(Clone, Copy)]
 pub struct ShapeFinding {
     pub fault: ShapeFault,
     pub entry: Entry,
     pub before: Known,
     pub found: Found,
+    pub cause: ShapeCause,
 }

@@ -7,10 +7,12 @@ ghost use Rattle.dvg_items.specs.declared.item.Kind.TheVariants.{Frame};
 ghost use Rattle.dvg_check.specs.Rules.{FrameWhy, FrameKeeps, IsForward, GoodFrame};
 ghost use Rattle.dvg_check.specs.declared.fault.FrameWhy.TheVariants as frame;
 ghost use Rattle.dvg_check.specs.FirstFault.{FrameFault, frame_number, FirstFrameFault};
+ghost use Rattle.dvg_check.specs.Causes.{CauseOf};
 ghost use Rattle.dvg_check.specs.Finding.{FirstFrameFound, IsSoundFound};
 ghost use Rattle.dvg_items.specs.Bounds.{IsSomeCertificate, IsSoundSeen};
 ghost use Rattle.dvg_check.specs.Private.Judging.{EachKept, frame_rules, FrameBrokenFirst};
 
+use crate::cause::frame_cause;
 use crate::fault::{FrameFault, FrameFinding, FrameWhy};
 use crate::rules::Rules;
 use crate::walk::walk;
@@ -112,7 +114,7 @@ pub struct Accepted {
     pub depth: u8,
 }
 
-/// Judges a frame by entries: its words and its depth where it keeps all rules, else its first fault and what is known there.
+/// Judges a frame by entries: its words and its depth where it keeps all rules, else its first fault, what is known there, and its cause.
 pub fn find_frame_fault<E: Entries>(
     machine: Machine,
     frame: &FrameImage,
@@ -125,6 +127,7 @@ pub fn find_frame_fault<E: Entries>(
     ensures ok { IfOk result (λ yes. GoodFrame window.now machine frame.now (E.list entries.now) budget yes.words yes.depth) }
     ensures err { IfErr result (FirstFrameFound window.now machine frame.now (E.list entries.now) budget) }
     ensures sound { IfErr result (λ finding. IsSoundFound finding.found) }
+    ensures cause { IfErr result (CauseOf window.now budget) }
 {
     let rules = FrameRules {
         budget,
@@ -142,6 +145,7 @@ pub fn find_frame_fault<E: Entries>(
             },
             before: fault.before,
             found: fault.found,
+            cause: frame_cause(&fault, &rules),
         }),
     }
 }

@@ -7,6 +7,7 @@ ghost use Rattle.dvg_check.specs.declared.fault.Mode.TheVariants.{Exact};
 ghost use Rattle.dvg_items.specs.Bounds.{IsSomeCertificate};
 ghost use Rattle.dvg_check.specs.Rules.{Good, GoodFrame};
 ghost use Rattle.dvg_check.specs.FirstFault.{FirstShapeFault, FirstFrameFault};
+ghost use Rattle.dvg_check.specs.Causes.{CauseOf};
 ghost use Rattle.dvg_check.specs.Finding.{FirstFrameFound, IsSoundFound};
 ghost use Rattle.dvg_check.specs.Safety.{Safe};
 ghost use Rattle.dvg_check.specs.Circuit.{SafeOnCircuit, CountsOnCircuit};
@@ -80,12 +81,14 @@ impl<'a, E: Entries> JudgedShapes<'a, E> {
     }
 
     /// Judges a frame over these shapes, as [`check_frame`](JudgedShapes::check_frame) does; with its first fault it answers what
-    /// is known there: place, scale, words and depth before the item that breaks a rule, and what stands there (profile).
+    /// is known there: place, scale, words and depth before the item that breaks a rule, what stands there, and the rule's own
+    /// numbers (profile).
     pub fn find_fault(&self, frame: &FrameImage, budget: u32) -> Result<Accepted, FrameFinding>
         requires { budget ≤ MOST_WORDS }
         ensures ok { IfOk result (λ yes. GoodFrame self.now.window self.now.rom.machine frame.now self.now.list budget yes.words yes.depth) }
         ensures err { IfErr result (FirstFrameFound self.now.window self.now.rom.machine frame.now self.now.list budget) }
         ensures sound { IfErr result (λ finding. IsSoundFound finding.found) }
+        ensures cause { IfErr result (CauseOf self.now.window budget) }
         ensures safe { IfOk result (λ yes. Safe (record { frame = frame.now; rom = self.now.rom }) self.now.window yes.words yes.depth) }
         ensures exact { self.now.mode ≡ Exact → IfOk result (λ yes. CountsAtHalt (record { frame = frame.now; rom = self.now.rom }) yes.words yes.depth) }
         ensures circuit { self.now.rom.machine ≡ Board → IfOk result (λ yes. SafeOnCircuit (record { frame = frame.now; rom = self.now.rom }) self.now.window yes.words yes.depth) }

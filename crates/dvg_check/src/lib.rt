@@ -5,12 +5,15 @@
 #![tactic(auto)]
 
 mod callees;
+mod cause;
 mod cells;
 mod fault;
+mod finding;
 mod frames;
 mod judged;
 mod keys;
 pub mod laws;
+mod leaving;
 mod needed;
 mod rules;
 mod shapes;
@@ -19,12 +22,15 @@ mod tails;
 mod verdict;
 mod walk;
 
+pub use cause::{FrameCause, ShapeCause};
 pub use fault::{
     Found, FrameFault, FrameFinding, FrameWhy, Mode, ShapeFault, ShapeFinding, ShapeWhy,
 };
+pub use finding::{RomFinding, find_rom_fault};
 pub use frames::{Accepted, check_frame};
 pub use judged::JudgedShapes;
 pub use keys::{KEYS, Keys, SLOTS, key_index, key_of, slot_of};
+pub use leaving::{BoxLeaving, Edge, Leaving, Limits, leaves_box, leaves_window};
 pub use needed::Needed;
 pub use shapes::{check_shapes, check_shapes_exact, find_shape_fault};
 pub use tail::moved;

@@ -9,11 +9,13 @@ ghost use Rattle.dvg_check.specs.declared.fault.Mode.TheVariants.{Bound, Exact};
 ghost use Rattle.dvg_check.specs.declared.fault.ShapeWhy.TheVariants as shape;
 ghost use Rattle.dvg_check.specs.Rules.{AtLast, AsClaimed, ShapeKeeps, GoodShape, Good};
 ghost use Rattle.dvg_check.specs.FirstFault.{shape_number, FirstShapeFault};
+ghost use Rattle.dvg_check.specs.Causes.{ShapeCauseOf};
 ghost use Rattle.dvg_check.specs.Finding.{ShapeFaultFound, FirstShapeFound, IsSoundFound};
 ghost use Rattle.dvg_items.specs.Bounds.{IsClaim, IsSomeCertificate, IsSoundSeen};
 ghost use Rattle.dvg_words.specs.declared.map.TheConstants.{ADDRESS_END};
 ghost use Rattle.dvg_check.specs.Private.Judging.{EachKept, shape_rules, ShapeBrokenFirst};
 
+use crate::cause::shape_cause;
 use crate::fault::{Mode, ShapeFault, ShapeFinding, ShapeWhy};
 use crate::rules::Rules;
 use crate::tails::first_doubtful;
@@ -142,7 +144,7 @@ impl Rules for ShapeRules {
     }
 }
 
-/// Judges the shape of one entry: its first fault, and what is known there.
+/// Judges the shape of one entry: its first fault, what is known there, and its cause.
 fn find_fault<E: Entries>(
     mode: Mode,
     window: &Window,
@@ -157,6 +159,7 @@ fn find_fault<E: Entries>(
     ensures place { IfErr result (λ finding. (finding.fault.addr ≡ entry.now.addr) × (finding.fault.key ≡ entry.now.key)) }
     ensures entry { IfErr result (λ finding. finding.entry ≡ entry.now) }
     ensures sound { IfErr result (λ finding. IsSoundFound finding.found) }
+    ensures cause { IfErr result (ShapeCauseOf window.now) }
 {
     let rules = ShapeRules {
         entry: *entry,
@@ -175,13 +178,14 @@ fn find_fault<E: Entries>(
             entry: rules.entry,
             before: fault.before,
             found: fault.found,
+            cause: shape_cause(&fault, &rules),
         }),
     }
 }
 
 /// Judges each entry's shape, in the order of the certificate, in a mode, as [`check_shapes`] and [`check_shapes_exact`] do; with
-/// the first fault it answers what is known there: the entry, place, scale, words and depth before the item that breaks a rule,
-/// and what stands there (profile).
+/// the first fault it answers what is known there: the entry, place, scale, words and depth before the item that breaks a rule, what
+/// stands there, and the rule's own numbers (profile).
 ///
 /// It goes by tails as far as these show the shapes to be good, and from there on item by item.
 pub fn find_shape_fault<E: Entries>(
@@ -195,6 +199,7 @@ pub fn find_shape_fault<E: Entries>(
     ensures ok { OnOk result (Good mode window.now rom.now cert.now.entries) }
     ensures err { IfErr result (FirstShapeFound mode window.now rom.now cert.now.entries) }
     ensures sound { IfErr result (λ finding. IsSoundFound finding.found) }
+    ensures cause { IfErr result (ShapeCauseOf window.now) }
 {
     let list = cert.entries();
     let mut index = first_doubtful(mode, window, rom, entries, list);

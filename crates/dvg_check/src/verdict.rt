@@ -12,8 +12,8 @@ ghost use Rattle.dvg_check.specs.Laws.{CountsAtHalt};
 ghost use Rattle.dvg_check.specs.declared.verdict.Refusal.TheVariants as refusals;
 
 use crate::fault::{FrameFault, Mode, ShapeFault};
-use crate::judged::JudgedShapes;
-use dvg_cert::{Cert, CertFault, HashIndex, MOST_WORDS, read_cert};
+use crate::finding::{find_parts_fault, find_rom_fault};
+use dvg_cert::{Cert, CertFault, MOST_WORDS, read_cert};
 use dvg_words::{FrameImage, ImageFault, Machine, RomImage, Window};
 use std::alloc::{AllocError, Global};
 use thiserror::Error;
@@ -175,8 +175,10 @@ pub fn check_rom(
     ensures circuit_exact { machine ≡ Board → mode ≡ Exact
         → IfOk result (λ yes. CountsOnCircuit (record { frame = frame.now; rom = rom_on machine cert.now.map rom.now }) yes.words yes.depth) }
 {
-    let rom = RomImage::from_bytes_on(machine, rom, cert.map())?;
-    check_parts_in(alloc, &rom, frame, cert, budget, window, mode)
+    match find_rom_fault(machine, alloc, rom, frame, cert, budget, window, mode) {
+        Ok(yes) => Ok(yes),
+        Err(finding) => Err(finding.refusal()),
+    }
 }
 
 /// Judges a frame over a vector ROM and the entries of its certificate in a mode.
@@ -198,14 +200,10 @@ fn check_parts_in(
     ensures circuit_exact { rom.now.machine ≡ Board → mode ≡ Exact
         → IfOk result (λ yes. CountsOnCircuit (record { frame = frame.now; rom = rom.now }) yes.words yes.depth) }
 {
-    let entries = HashIndex::new(alloc, cert)?;
-    let shapes = JudgedShapes::judge(rom, cert, &entries, window, mode)?;
-    let accepted = shapes.check_frame(frame, budget)?;
-    Ok(Yes {
-        shapes: cert.entries().len() as u32,
-        words: accepted.words,
-        depth: accepted.depth,
-    })
+    match find_parts_fault(alloc, rom, frame, cert, budget, window, mode) {
+        Ok(yes) => Ok(yes),
+        Err(finding) => Err(finding.refusal()),
+    }
 }
 
 /// Judges a frame over a vector ROM and its certificate: a yes means that every run of the generator from the frame's

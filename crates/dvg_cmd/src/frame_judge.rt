@@ -19,8 +19,7 @@ ghost use Rattle.dvg_cmd.specs.Private.Judging.{AreImages};
 use crate::detail::{Behind, Detail};
 use dvg_account::{Inputs, OwnMaking, frame_text, own_text};
 use dvg_cert::{Cert, Entries};
-use dvg_check::{JudgedShapes, Mode, Refusal, Yes, frame_of};
-use dvg_explain::{RomAccount, explain_frame};
+use dvg_check::{JudgedShapes, Mode, Refusal, RomFinding, Yes, frame_of};
 use dvg_make::{FrameRefusal, explain_judging, judge};
 use dvg_words::{FrameImage, Machine, RomImage, RomMap, Window};
 use std::alloc::Global;
@@ -249,14 +248,14 @@ fn verdict_over<E: Entries>(
     cert: &Cert,
     frame: &[u8],
     budget: u32,
-) -> (Result<Yes, FrameRefusal>, Option<RomAccount>)
+) -> (Result<Yes, FrameRefusal>, Option<RomFinding>)
     ensures { VerdictOver shapes.now (length cert.now.entries) frame.now budget result.0 }
 {
     let frame = match frame_of(frame, budget) {
         Ok(frame) => frame,
         Err(refusal) => return (Err(FrameRefusal::Check(refusal)), None),
     };
-    match explain_frame(shapes, &frame, budget) {
+    match shapes.find_fault(&frame, budget) {
         Ok(accepted) => {
             let yes = Yes {
                 shapes: cert.entries().len() as u32,
@@ -265,11 +264,11 @@ fn verdict_over<E: Entries>(
             };
             (Ok(yes), None)
         }
-        Err(account) => {
-            let refusal = Refusal::Frame(account.finding.fault);
+        Err(finding) => {
+            let refusal = Refusal::Frame(finding.fault);
             (
                 Err(FrameRefusal::Check(refusal)),
-                Some(RomAccount::Frame(account)),
+                Some(RomFinding::Frame(finding)),
             )
         }
     }
@@ -281,7 +280,7 @@ fn account_over<E: Entries>(
     given: &GivenCertificate<E>,
     frame: &[u8],
     verdict: &Result<Yes, FrameRefusal>,
-    cause: Option<&RomAccount>,
+    cause: Option<&RomFinding>,
 ) -> Behind
     ensures { IsBehind details.Account result }
 {

@@ -23,8 +23,7 @@ use crate::reading::{read_certificate, read_frame, read_rom, skip};
 use dvg_account::{Inputs, verdict_text};
 use dvg_cert::laws::prefix_refusal;
 use dvg_cert::{Cert, CountedRead, CountedWrite, write_lines};
-use dvg_check::{Mode, Refusal, Yes, frame_of};
-use dvg_explain::{RomAccount, explain_rom};
+use dvg_check::{Mode, Refusal, RomFinding, Yes, find_rom_fault, frame_of};
 use dvg_spelling::{Outcome, RunFault, outcome_of, report_of};
 use dvg_words::{FrameImage, Machine, RomMap, Window};
 use std::alloc::Global;
@@ -51,7 +50,7 @@ pub struct CheckOptions {
 pub struct Judgment {
     pub verdict: Result<Yes, Refusal>,
     /// The cause of a refusal, if the ROM was looked at.
-    pub cause: Option<RomAccount>,
+    pub cause: Option<RomFinding>,
     /// The certificate, if it was taken.
     pub cert: Option<Cert>,
 }
@@ -73,7 +72,7 @@ fn judge_rom(
     frame: &FrameImage,
     cert: &Cert,
     options: &CheckOptions,
-) -> (Result<Yes, Refusal>, Option<RomAccount>)
+) -> (Result<Yes, Refusal>, Option<RomFinding>)
     requires { options.now.budget ≤ MOST_WORDS }
     ensures verdict { RomVerdict options.now.machine options.now.mode options.now.window rom.now cert.now frame.now options.now.budget result.0 }
     ensures safe { IfOk result.0 (λ yes. Safe (record { frame = frame.now; rom = rom_on options.now.machine cert.now.map rom.now }) options.now.window yes.words yes.depth) }
@@ -89,7 +88,7 @@ fn judge_rom(
         mode,
         ..
     } = *options;
-    let judged = explain_rom(
+    let judged = find_rom_fault(
         options.machine,
         alloc,
         rom,

@@ -1,4 +1,3 @@
-pub mod Broken
 pub mod AllItems
 pub mod Losing
 pub mod Walking

@@ -1,7 +1,4 @@
-pub mod Leaving
 pub mod Margins
-pub mod Causes
-pub mod Verdict
 pub mod Calls
 pub mod Clipping
 pub mod Chains

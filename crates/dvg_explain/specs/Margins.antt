@@ -2,7 +2,7 @@
 use Rattle.std.specs.Prelude.{◌≡◌, pos, ◌+ℤ◌}
 use Rattle.dvg_cert.specs.declared.entry.LitBox.{LitBox}
 use Rattle.dvg_cert.specs.declared.entry.LitBox.TheVariants.{Empty, Span}
-use Rattle.dvg_explain.specs.declared.leaving.Limits.{Limits}
+use Rattle.dvg_check.specs.declared.leaving.Limits.{Limits}
 pub use Rattle.dvg_explain.specs.declared.margins.Margins.{Margins}
 
 -- the box from the least places to the greatest

@@ -1,5 +1,4 @@
 -- Definitions for the code alone; no clause of a public call uses them.
-pub mod Breaking
 pub mod Walking
 pub mod Reaching
 pub mod KeyedWords

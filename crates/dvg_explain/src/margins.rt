@@ -3,11 +3,11 @@
 ghost use Rattle.std.specs.Prelude.{◌≡◌, ◌+ℤ◌, ◌<ℤ◌, pos, IfSome, IfNone};
 ghost use Rattle.dvg_cert.specs.declared.entry.LitBox.TheVariants.{Empty};
 ghost use Rattle.dvg_items.specs.Lit.{IsInside};
-ghost use Rattle.dvg_explain.specs.Leaving.{window_limits};
+ghost use Rattle.dvg_check.specs.Leaving.{window_limits};
 ghost use Rattle.dvg_explain.specs.Margins.{AreMargins, limits_box};
 
-use crate::leaving::Limits;
 use dvg_cert::LitBox;
+use dvg_check::Limits;
 use dvg_items::box_corners;
 use dvg_words::Window;
 

@@ -4,11 +4,12 @@
 use crate::expecting::{expect, expect_same};
 use crate::inputs::{EMPTY, rom_bytes};
 use dvg_cert::{End, HashIndex, Key, ListIndex, LitBox, read_cert};
-use dvg_check::{JudgedShapes, Mode, check_on};
-use dvg_cmd::report_of;
-use dvg_explain::{
-    BoxLeaving, Edge, FrameCause, Leaving, ShapeCause, explain_frame, explain_shapes, frame_clipped,
+use dvg_check::{
+    BoxLeaving, Edge, FrameCause, JudgedShapes, Leaving, Mode, ShapeCause, check_on,
+    find_shape_fault,
 };
+use dvg_cmd::report_of;
+use dvg_explain::frame_clipped;
 use dvg_words::{CLIPPED, FrameImage, Machine, Point, RomImage, SCREEN};
 use std::alloc::Global;
 use std::process::Abort;
@@ -67,9 +68,9 @@ fn explain_bytes(rt: &impl Abort, alloc: Global, frame: &[u8]) -> (u16, FrameCau
     let entries = ListIndex::new(&cert);
     let judged = JudgedShapes::judge(&rom, &cert, &entries, SCREEN, Mode::Bound);
     let shapes = judged.expect(rt, "shapes");
-    let explained = explain_frame(&shapes, &frame, 3);
-    let account = explained.expect_err(rt, "a refusal");
-    (account.finding.fault.word, account.cause)
+    let judged = shapes.find_fault(&frame, 3);
+    let finding = judged.expect_err(rt, "a refusal");
+    (finding.fault.word, finding.cause)
 }
 
 /// Certificates for the ROM, the word address of the refusal, and its cause; the shape ends one place to the right, lights that
@@ -127,9 +128,9 @@ fn explain_cert(rt: &impl Abort, alloc: Global, text: &[u8]) -> (u16, ShapeCause
     let cert = read_cert(alloc, text).expect(rt, "a certificate");
     let rom = RomImage::from_bytes(&bytes, cert.map()).expect(rt, "a ROM");
     let entries = HashIndex::new(alloc, &cert).expect(rt, "an index");
-    let explained = explain_shapes(&rom, &cert, &entries, &SCREEN, Mode::Exact);
-    let account = explained.expect_err(rt, "a refusal");
-    (account.finding.fault.word, account.cause)
+    let judged = find_shape_fault(&rom, &cert, &entries, &SCREEN, Mode::Exact);
+    let finding = judged.expect_err(rt, "a refusal");
+    (finding.fault.word, finding.cause)
 }
 
 #[test]

@@ -7,7 +7,7 @@ use Rattle.dvg_account.proofs.refused.frame_lines.Goals as goal
 
 pub returns : goal.returns
 returns c =
-    let framed : IsItem (frame_word c.args.machine c.args.frame.now) c.args.account.now.finding.fault.word c.args.account.now.finding.before c.callee_of-callee.result c.new-2.result =
+    let framed : IsItem (frame_word c.args.machine c.args.frame.now) c.args.finding.now.fault.word c.args.finding.now.before c.callee_of-callee.result c.new-2.result =
     rw c.new-framed.ensures at c.new-2.ensures in
     if_ok c.finish.result c.finish.ensures (λ lines all. record {
       why = c.of_frame-why.result;

@@ -27,6 +27,6 @@ returns c = if_ok c.finish.result c.finish.ensures (λ lines all. record {
       (then (then (then (then (then (told_as (ap machine_lines c.machine-2.ensures) c.push_machine.ensures) c.push_some.ensures)
       (then (told_as (ap (λ n. Rule n ∷ []) c.number-number.ensures) c.push.ensures) (then c.push-2.ensures c.push_lines.ensures)))
       (then c.push-3.ensures c.push_some-2.ensures))
-      (told_as (ap option_to_list (c.other_machine_line-other.ensures ∙ ap (λ m. other_machine_line m c.args.account.now.finding.fault.why) c.machine.ensures)) c.push_some-3.ensures))
+      (told_as (ap option_to_list (c.other_machine_line-other.ensures ∙ ap (λ m. other_machine_line m c.args.finding.now.fault.why) c.machine.ensures)) c.push_some-3.ensures))
       (told_as (ap (λ n. WhatToDo n ∷ []) c.number-number.ensures) c.push-4.ensures));
 })

@@ -7,12 +7,12 @@ use Rattle.dvg_cert.specs.declared.entry.LitBox.{LitBox}
 use Rattle.dvg_cert.specs.declared.entry.LitBox.TheVariants.{Empty, Span}
 use Rattle.dvg_items.specs.declared.lit.LitExtent.{LitExtent}
 use Rattle.dvg_items.specs.Lit.{InSpan, absolute_corners}
-pub use Rattle.dvg_explain.specs.declared.leaving.Edge.{Edge}
-pub use Rattle.dvg_explain.specs.declared.leaving.Edge.TheVariants.{Left, Right, Bottom, Top}
-pub use Rattle.dvg_explain.specs.declared.leaving.Leaving.{Leaving}
-pub use Rattle.dvg_explain.specs.declared.leaving.BoxLeaving.{BoxLeaving}
-pub use Rattle.dvg_explain.specs.declared.leaving.BoxLeaving.TheVariants as left
-use Rattle.dvg_explain.specs.declared.leaving.Limits.{Limits}
+pub use Rattle.dvg_check.specs.declared.leaving.Edge.{Edge}
+pub use Rattle.dvg_check.specs.declared.leaving.Edge.TheVariants.{Left, Right, Bottom, Top}
+pub use Rattle.dvg_check.specs.declared.leaving.Leaving.{Leaving}
+pub use Rattle.dvg_check.specs.declared.leaving.BoxLeaving.{BoxLeaving}
+pub use Rattle.dvg_check.specs.declared.leaving.BoxLeaving.TheVariants as left
+use Rattle.dvg_check.specs.declared.leaving.Limits.{Limits}
 
 -- a window's places, in 1/1024 of a screen place
 abbrev pub window_limits : Window → Limits

@@ -2,8 +2,8 @@ use Rattle.std.proofs.Common.{rules, ◌≡◌, ◌∙◌, ap, ℤ, pos, ◌*ℤ
 use Rattle.std.proofs.lemmas.Int.{to_z-of_z}
 use mir.Val.{SFits}
 use Rattle.dvg_words.specs.Values.{Window}
-use Rattle.dvg_explain.specs.Leaving.{window_limits}
-use Rattle.dvg_explain.proofs.leaving.Limits.of_window.Goals as goal
+use Rattle.dvg_check.specs.Leaving.{window_limits}
+use Rattle.dvg_check.proofs.leaving.Limits.of_window.Goals as goal
 
 limits_are : (w : Window) (a b c d : ℤ) → a ≡ pos 1024 *ℤ w.x_min → b ≡ pos 1024 *ℤ w.x_max → c ≡ pos 1024 *ℤ w.y_min → d ≡ pos 1024 *ℤ w.y_max
     → record { x_min = a; x_max = b; y_min = c; y_max = d } ≡ window_limits w

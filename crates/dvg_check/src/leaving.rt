@@ -5,7 +5,7 @@ ghost use Rattle.dvg_words.specs.declared.map.TheConstants.{ADDRESS_END};
 ghost use Rattle.dvg_words.specs.Beam.{InWindow};
 ghost use Rattle.dvg_items.specs.Bounds.{IsNearPlace, IsNearExtent};
 ghost use Rattle.dvg_items.specs.Lit.{LitInWindow, LitInBox, relative_corners};
-ghost use Rattle.dvg_explain.specs.Leaving.{window_limits, InLimits, IsLeft, FirstLeft, LeavesFrom, LeavesBox};
+ghost use Rattle.dvg_check.specs.Leaving.{window_limits, InLimits, IsLeft, FirstLeft, LeavesFrom, LeavesBox};
 
 use dvg_cert::{End, LitBox};
 use dvg_items::{LitExtent, absolute_corners, box_corners, relative_corners};

@@ -1,0 +1,69 @@
+-- The rule that a fault names is broken by what stands there.
+use Rattle.std.proofs.Common.{sym, ◌≡◌, ◌≢◌, ℕ, Option, None, Some, ap, ◌∙◌, subst, arith, ⊎_elim}
+use Rattle.std.proofs.lemmas.Bool.{cases_lt}
+use Rattle.dvg_words.specs.Values.{Source}
+use Rattle.dvg_words.specs.Decoding.{cell_at}
+use Rattle.dvg_words.specs.declared.instruction.Cell.{Cell}
+use Rattle.dvg_words.specs.declared.instruction.Cell.TheVariants as cell
+use Rattle.dvg_items.specs.Known.{Context}
+use Rattle.dvg_items.specs.Seen.{seen_at}
+use Rattle.dvg_items.specs.declared.known.Known.{Known}
+use Rattle.dvg_items.specs.declared.seen.Seen.{Seen as SeenItem}
+use Rattle.dvg_check.specs.Finding.{FaultFound, IsFound}
+use Rattle.dvg_check.specs.Rules.{AtLast, AsClaimed, CellKeeps, PlaceKeeps}
+use Rattle.dvg_check.specs.declared.fault.Found.{Found}
+use Rattle.dvg_check.specs.declared.fault.Found.TheVariants.{Missing, Odd, Seen}
+use Rattle.dvg_check.specs.declared.fault.Mode.{Mode}
+use Rattle.dvg_check.specs.declared.fault.Mode.TheVariants.{Bound, Exact}
+use Rattle.dvg_check.specs.Private.Breaking.{Breaks}
+
+-- where only one rule can be broken, it is that one
+only : {Why : Type 0} (number : Why → ℕ) (rule : ℕ → Why) → ((why : Why) → rule (number why) ≡ why) → (why one : Why) → (why ≢ one → ⊥) → why ≡ one
+only {Why} number rule back why one h = sym (back why) ∙ ap rule same ∙ back one
+  where
+    same : number why ≡ number one
+    same =
+        ⊎_elim
+        (λ less. absurd (h (λ e. let o : number why ≡ number one = ap number e in omega (arith, less, o))))
+        (λ le. ⊎_elim
+        (λ more. absurd (h (λ e. let o : number why ≡ number one = ap number e in omega (arith, more, o))))
+        (λ ge. omega (arith, le, ge))
+        (cases_lt (number one) (number why)))
+        (cases_lt (number why) (number one))
+
+-- a fault, in rules that are told apart by their numbers
+module _ {Why : Type 0} (number : Why → ℕ) (rule : ℕ → Why) (back : (why : Why) → rule (number why) ≡ why) (c : Context) (word : Source) (first : ℕ)
+    (unmapped odd : Why) (keeps : SeenItem → Why → Type 0) (at : ℕ) (why : Why) (before : Known) (found : Found)
+    (h : FaultFound number c word first (PlaceKeeps unmapped odd keeps c word) at why before found) where
+  -- what the cell at the place does not keep
+  breaks_at : (x : Cell) → cell_at word at ≡ x → CellKeeps unmapped odd (λ i. keeps (seen_at c h.fault.items i)) at x why → ⊥
+  breaks_at x is = subst (λ x. CellKeeps unmapped odd (λ i. keeps (seen_at c h.fault.items i)) at x why → ⊥) is h.fault.breaks
+
+  module _ (v : SeenItem) (at_is : v.item.at ≡ at) (stands : cell_at word at ≡ cell.Holds v.item.format v.item.instr)
+      (seen : v ≡ seen_at c h.fault.items v.item) where
+    same_item : v.item ≡ record { at = at; format = v.item.format; instr = v.item.instr }
+    same_item = ap (λ at. record { at = at; format = v.item.format; instr = v.item.instr }) at_is
+
+    same_seen : v ≡ seen_at c h.fault.items (record { at = at; format = v.item.format; instr = v.item.instr })
+    same_seen = seen ∙ ap (λ i. seen_at c h.fault.items i) same_item
+
+    seen_breaks : keeps v why → ⊥
+    seen_breaks kept = breaks_at (cell.Holds v.item.format v.item.instr) stands (subst (λ x. keeps x why) same_seen kept)
+
+  broken_at : (found : Found) → IsFound c word h.fault.items at found → Breaks unmapped odd keeps why found
+  broken_at Missing stands = only number rule back why unmapped (breaks_at cell.Missing stands)
+  broken_at Odd stands = only number rule back why odd (breaks_at cell.Odd stands)
+  broken_at (Seen v) stands = seen_breaks v stands.0 stands.1 stands.2
+
+  pub broken : Breaks unmapped odd keeps why found
+  broken = broken_at found h.stands
+
+-- ---- causes of shapes
+
+pub at_last : {P : Type 0} (next : Option ℕ) → P → AtLast next P
+at_last None p = p
+at_last (Some n) p = tt
+
+pub as_claimed : (mode : Mode) (n claimed : ℕ) → n ≡ claimed → AsClaimed mode n claimed
+as_claimed Bound n claimed is = tt
+as_claimed Exact n claimed is = is

@@ -1,0 +1,117 @@
+//! The verdict on a ROM and a frame by a certificate, with the cause of a refusal.
+
+ghost use Rattle.std.specs.Prelude.{◌≡◌, ◌≤◌, IfOk, IfErr};
+ghost use Rattle.dvg_words.specs.Memory.{rom_on};
+ghost use Rattle.dvg_words.specs.declared.machine.Machine.TheVariants.{Board};
+ghost use Rattle.dvg_cert.specs.declared.limits.TheConstants.{MOST_WORDS};
+ghost use Rattle.dvg_check.specs.declared.fault.Mode.TheVariants.{Exact};
+ghost use Rattle.dvg_check.specs.Verdict.{PartsVerdict, RomVerdict};
+ghost use Rattle.dvg_check.specs.Safety.{Safe, CountsAtHalt};
+ghost use Rattle.dvg_check.specs.Circuit.{SafeOnCircuit, CountsOnCircuit};
+ghost use Rattle.dvg_check.specs.Causes.{refusal_of, verdict_of, TellsOf};
+
+use crate::fault::{FrameFinding, Mode, ShapeFinding};
+use crate::judged::JudgedShapes;
+use crate::shapes::find_shape_fault;
+use crate::verdict::{Refusal, Yes};
+use dvg_cert::{Cert, HashIndex};
+use dvg_words::{FrameImage, ImageFault, Machine, RomImage, Window};
+use std::alloc::Global;
+
+/// Why a ROM and a frame are refused by a certificate, with the cause.
+#[derive(Clone, Copy)]
+pub enum RomFinding {
+    /// 1: the ROM's bytes are not exactly two for each address of the certificate's map.
+    RomLength,
+    /// 50: there was no memory for the index of the certificate's entries.
+    IndexMemory,
+    /// 20 to 33: a shape breaks a rule.
+    Shape(ShapeFinding),
+    /// 40 to 48: the frame breaks a rule.
+    Frame(FrameFinding),
+}
+
+impl RomFinding {
+    /// The refusal that the finding is of.
+    pub fn refusal(&self) -> Refusal
+        ensures { result ≡ refusal_of self.now }
+    {
+        match self {
+            RomFinding::RomLength => Refusal::Image(ImageFault::RomLength),
+            RomFinding::IndexMemory => Refusal::IndexMemory,
+            RomFinding::Shape(finding) => Refusal::Shape(finding.fault),
+            RomFinding::Frame(finding) => Refusal::Frame(finding.fault),
+        }
+    }
+}
+
+/// Judges a frame over a vector ROM and the entries of its certificate in a mode. A refusal comes with its cause.
+pub fn find_parts_fault(
+    alloc: Global,
+    rom: &RomImage,
+    frame: &FrameImage,
+    cert: &Cert,
+    budget: u32,
+    window: Window,
+    mode: Mode,
+) -> Result<Yes, RomFinding>
+    requires budget { budget ≤ MOST_WORDS }
+    requires map { rom.now.map ≡ cert.now.map }
+    ensures verdict { PartsVerdict mode window rom.now cert.now.entries frame.now budget (verdict_of result) }
+    ensures found { IfErr result (TellsOf mode window rom.now cert.now.entries frame.now budget) }
+    ensures safe { IfOk result (λ yes. Safe (record { frame = frame.now; rom = rom.now }) window yes.words yes.depth) }
+    ensures exact { mode ≡ Exact → IfOk result (λ yes. CountsAtHalt (record { frame = frame.now; rom = rom.now }) yes.words yes.depth) }
+    ensures circuit { rom.now.machine ≡ Board → IfOk result (λ yes. SafeOnCircuit (record { frame = frame.now; rom = rom.now }) window yes.words yes.depth) }
+    ensures circuit_exact { rom.now.machine ≡ Board → mode ≡ Exact
+        → IfOk result (λ yes. CountsOnCircuit (record { frame = frame.now; rom = rom.now }) yes.words yes.depth) }
+{
+    let listed = cert.entries().len();
+    let Ok(entries) = HashIndex::new(alloc, cert) else {
+        return Err(RomFinding::IndexMemory);
+    };
+    if let Err(finding) = find_shape_fault(rom, cert, &entries, &window, mode) {
+        return Err(RomFinding::Shape(finding));
+    }
+    let shapes = JudgedShapes::unchecked(rom, &entries, window, mode);
+    match shapes.find_fault(frame, budget) {
+        Ok(accepted) => Ok(Yes {
+            shapes: listed as u32,
+            words: accepted.words,
+            depth: accepted.depth,
+        }),
+        Err(finding) => Err(RomFinding::Frame(finding)),
+    }
+}
+
+/// Judges a frame over the bytes of a vector ROM and the entries of its certificate in a mode, as
+/// [`check_rom`](crate::check_rom) does. With a refusal because of an item it answers what is known there, and the rule's own
+/// numbers (profile).
+///
+/// `budget` is how many words the frame may take at most, up to 1,000,000, `window` the part of the screen that may be lit. What is
+/// accepted is safe, on the board also on its circuit, and in the mode `Exact` the counts are those of each run. Takes memory for
+/// the index of the entries alone.
+pub fn find_rom_fault(
+    machine: Machine,
+    alloc: Global,
+    rom: &[u8],
+    frame: &FrameImage,
+    cert: &Cert,
+    budget: u32,
+    window: Window,
+    mode: Mode,
+) -> Result<Yes, RomFinding>
+    requires { budget ≤ MOST_WORDS }
+    ensures verdict { RomVerdict machine mode window rom.now cert.now frame.now budget (verdict_of result) }
+    ensures found { IfErr result (TellsOf mode window (rom_on machine cert.now.map rom.now) cert.now.entries frame.now budget) }
+    ensures safe { IfOk result (λ yes. Safe (record { frame = frame.now; rom = rom_on machine cert.now.map rom.now }) window yes.words yes.depth) }
+    ensures exact { mode ≡ Exact → IfOk result (λ yes. CountsAtHalt (record { frame = frame.now; rom = rom_on machine cert.now.map rom.now }) yes.words yes.depth) }
+    ensures circuit { machine ≡ Board
+        → IfOk result (λ yes. SafeOnCircuit (record { frame = frame.now; rom = rom_on machine cert.now.map rom.now }) window yes.words yes.depth) }
+    ensures circuit_exact { machine ≡ Board → mode ≡ Exact
+        → IfOk result (λ yes. CountsOnCircuit (record { frame = frame.now; rom = rom_on machine cert.now.map rom.now }) yes.words yes.depth) }
+{
+    let Ok(rom) = RomImage::from_bytes_on(machine, rom, cert.map()) else {
+        return Err(RomFinding::RomLength);
+    };
+    find_parts_fault(alloc, &rom, frame, cert, budget, window, mode)
+}
