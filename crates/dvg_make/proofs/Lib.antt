@@ -19,6 +19,7 @@ pub mod Sorting
 pub mod Finishing
 pub mod OneList
 pub mod Windows
+pub mod Relative
 pub mod FrameBest
 pub mod Small
 pub mod Stacks

@@ -1,6 +1,6 @@
 //! The verdict on a frame by the certificate that is made for it.
 
-ghost use Rattle.std.specs.Prelude.{◌≡◌, ◌≤◌, [], ◌∷◌, Err, IfOk, IfErr};
+ghost use Rattle.std.specs.Prelude.{◌≡◌, ◌↔◌, ◌≤◌, [], ◌∷◌, All, Err, IsTrue, IfOk, IfErr};
 ghost use Rattle.dvg_cert.specs.declared.limits.TheConstants.{MOST_WORDS};
 ghost use Rattle.dvg_words.specs.declared.machine.Machine.TheVariants.{Board};
 ghost use Rattle.dvg_check.specs.Safety.{Safe, CountsAtHalt};
@@ -8,14 +8,14 @@ ghost use Rattle.dvg_check.specs.Circuit.{SafeOnCircuit, CountsOnCircuit};
 ghost use Rattle.dvg_make.specs.Accounts.{entry_fault, IsAccount};
 ghost use Rattle.dvg_make.specs.Frames.{FrameMade};
 ghost use Rattle.dvg_make.specs.Refusals.{FramesRefuse};
-ghost use Rattle.dvg_make.specs.Private.Judged.{IsJudged};
+ghost use Rattle.dvg_make.specs.Private.Judged.{IsJudged, IsRelative};
 ghost use Rattle.dvg_make.specs.Judging.{AreLeast, FrameRefused, VerdictByMade, HasCallCause, IsRefusalBy};
 
 use crate::account::{MakeAccount, explain_making};
 use crate::fault::{EntryFault, FramesFault};
 use crate::maker::make_for_frames;
-use dvg_cert::Cert;
-use dvg_check::{Refusal, Yes, check_parts_exact};
+use dvg_cert::{Cert, End, Entry, ListIndex};
+use dvg_check::{JudgedShapes, Mode, Refusal, Yes, check_parts_exact};
 use dvg_words::{FrameImage, RomImage, Window};
 use std::alloc::Global;
 use std::slice;
@@ -41,7 +41,44 @@ fn refusal_of(fault: &FramesFault) -> FrameRefusal
     }
 }
 
-/// The checker's verdict on a frame by the certificate that was made for it.
+/// Whether each of these made entries ends at a place relative to its call. Then no item of their shapes stands at an absolute
+/// place, so none lights outside any window.
+fn all_relative(entries: &[Entry]) -> bool
+    ensures { IsTrue result ↔ All (λ e. IsRelative e.stop) entries.now }
+{
+    entries
+        .iter()
+        .all(|entry| matches!(entry.stop, End::Rel { .. }))
+}
+
+/// The checker's verdict on a frame by made entries that all end at relative places: their shapes are good, so that the frame alone
+/// is judged.
+fn check_relative(
+    rom: &RomImage,
+    frame: &FrameImage,
+    cert: &Cert,
+    budget: u32,
+    window: Window,
+) -> Result<Yes, FrameRefusal>
+    requires budget { budget ≤ MOST_WORDS }
+    requires made { FrameMade rom.now frame.now cert.now.entries }
+    requires relative { All (λ e. IsRelative e.stop) cert.now.entries }
+    ensures { IsJudged rom.now frame.now window budget result }
+{
+    let entries = ListIndex::new(cert);
+    let shapes = JudgedShapes::unchecked(rom, &entries, window, Mode::Exact);
+    match shapes.check_frame(frame, budget) {
+        Ok(accepted) => Ok(Yes {
+            shapes: cert.entries().len() as u32,
+            words: accepted.words,
+            depth: accepted.depth,
+        }),
+        Err(fault) => Err(FrameRefusal::Check(Refusal::Frame(fault))),
+    }
+}
+
+/// The checker's verdict on a frame by the certificate that was made for it. A made entry keeps all rules of shapes but the one on
+/// what is lit at absolute places, which are asked only where an entry does not end at a relative one.
 fn check_made(
     alloc: Global,
     rom: &RomImage,
@@ -55,6 +92,9 @@ fn check_made(
     requires made { FrameMade rom.now frame.now cert.now.entries }
     ensures { IsJudged rom.now frame.now window budget result }
 {
+    if all_relative(cert.entries()) {
+        return check_relative(rom, frame, cert, budget, window);
+    }
     match check_parts_exact(alloc, rom, frame, cert, budget, window) {
         Ok(yes) => Ok(yes),
         Err(refusal) => Err(FrameRefusal::Check(refusal)),
@@ -69,7 +109,8 @@ fn check_made(
 /// else that of the checker on the made certificate; it means that no certificate gets the frame accepted, but for 62 by the
 /// number of entries, where another one may, and for 63 and 50, where memory was out. 62 by the number of entries comes only
 /// where the calls up to this one really need too many. If the ROM is on the board, what is accepted is safe on its circuit, too,
-/// whatever its registers hold at the start. Takes memory for the certificate and its index.
+/// whatever its registers hold at the start. Takes memory for the certificate, and for its index if one of its entries does not end
+/// at a relative place.
 pub fn judge(
     alloc: Global,
     rom: &RomImage,

@@ -625,6 +625,60 @@ dvgcert 1
 shape 800 9 end rel 1024 0 box 0 2048 -1024 0 depth 0 words 9 scale 9
 done 1";
 
+/// Frames by their own certificates, in windows: what lies outside is lit by a shape at an absolute place, or by the frame, where
+/// a shape ends at a relative one.
+const WINDOWS: &str = "\
+a shape that lights from 400,100 to 401,100 wherever it is called
+window 400,401,100,100
+made profile
+rom 800 A064 0190 9000 7001 D000*1020
+frame C800 B000
+accepted shapes=1 words=7 depth=1
+dvgcert 1
+shape 800 any end abs 410624 102400 box none depth 0 words 5 scale 0
+done 1
+
+the same, where the window ends at 400
+window 400,400,100,100
+made profile
+rom 800 A064 0190 9000 7001 D000*1020
+frame C800 B000
+refused 25 shape 800/any at 802
+dvgcert 1
+shape 800 any end abs 410624 102400 box none depth 0 words 5 scale 0
+done 1
+
+a shape that lights one place to the right of its call at 400,100
+window 400,401,100,100
+made profile
+rom 800 9000 7001 D000*1022
+frame A064 0190 C800 B000
+accepted shapes=1 words=7 depth=1
+dvgcert 1
+shape 800 0 end rel 1024 0 box 0 1024 0 0 depth 0 words 3 scale 0
+done 1
+
+the same, where the window ends at 400
+window 400,400,100,100
+made profile
+rom 800 9000 7001 D000*1022
+frame A064 0190 C800 B000
+refused 46 frame at 002
+dvgcert 1
+shape 800 0 end rel 1024 0 box 0 1024 0 0 depth 0 words 3 scale 0
+done 1
+
+a shape that sets the place and one that does not, where the second is lit past the window by the frame
+window 400,401,100,101
+made profile
+rom 800 A064 0190 9000 7001 D000*4 9001 7000 D000*1014
+frame C800 C808*2 B000
+refused 46 frame at 002
+dvgcert 1
+shape 800 any end abs 410624 102400 box none depth 0 words 5 scale 0
+shape 808 0 end rel 0 1024 box 0 0 0 1024 depth 0 words 3 scale 0
+done 2";
+
 #[test]
 fn judges_rows_on_both(rt: HostRuntime) {
     judge_rows(&rt, rt.alloc(), ROWS);
@@ -664,7 +718,7 @@ fn expect_made(rt: &impl Abort, alloc: Global, machine: Machine, row: &Row, repo
 
 #[test]
 fn makes_by_the_machine(rt: HostRuntime) {
-    for row in DRIFTS.split("\n\n") {
+    for row in DRIFTS.split("\n\n").chain(WINDOWS.split("\n\n")) {
         let row = Row::read(&rt, rt.alloc(), row);
         for made in row.words("made").split_whitespace() {
             match made {

@@ -3,6 +3,8 @@ use Rattle.std.specs.Prelude.{◌≡◌, ℕ, List, Result, IfOk, IfErr}
 use Rattle.dvg_words.specs.Memory.{Rom}
 use Rattle.dvg_words.specs.Values.{Window}
 use Rattle.dvg_words.specs.declared.machine.Machine.TheVariants.{Board}
+use Rattle.dvg_cert.specs.declared.entry.End.{End}
+use Rattle.dvg_cert.specs.declared.entry.End.TheVariants.{Rel, Abs, Lost}
 use Rattle.dvg_check.specs.Safety.{Safe, CountsAtHalt}
 use Rattle.dvg_check.specs.Circuit.{SafeOnCircuit, CountsOnCircuit}
 use Rattle.dvg_check.specs.declared.verdict.Yes.{Yes}
@@ -18,3 +20,9 @@ pub record IsJudged (rom : Rom) (words : List ℕ) (w : Window) (budget : ℕ) (
   pub least : IfOk answer (λ yes. AreLeast rom words w yes.words yes.depth)
   pub refused : IfErr answer (FrameRefused rom words w budget)
   pub told : IfErr answer (HasCallCause rom words)
+
+-- the place is relative to the one where the shape is called
+abbrev pub IsRelative : End → Type 0
+IsRelative (Rel x y) = Unit {0}
+IsRelative (Abs x y) = ⊥
+IsRelative Lost = ⊥

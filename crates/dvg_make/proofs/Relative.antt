@@ -1,0 +1,69 @@
+-- Where a made shape ends at a relative place, none of its items stands at an absolute one.
+use Rattle.std.proofs.Common.{ℕ, List, [], ◌∷◌, sym, ap, subst}
+use Rattle.std.specs.Prelude.{All, Contains}
+use Rattle.std.proofs.lemmas.List.Elements.{All-contains}
+use Rattle.dvg_words.specs.Memory.{Rom, rom_word}
+use Rattle.dvg_words.specs.Values.{Window}
+use Rattle.dvg_cert.specs.declared.entry.End.{End}
+use Rattle.dvg_cert.specs.declared.entry.End.TheVariants.{Rel, Abs, Lost}
+use Rattle.dvg_cert.specs.declared.entry.Entry.{Entry}
+use Rattle.dvg_items.specs.Items.{AtEachOf, AtEveryPlace}
+use Rattle.dvg_items.specs.Known.{Context, shape_context, place_past, place_before}
+use Rattle.dvg_items.specs.Lit.{LitInWindow}
+use Rattle.dvg_items.specs.Seen.{extent}
+use Rattle.dvg_items.specs.declared.item.Item.{Item}
+use Rattle.dvg_items.specs.declared.item.Kind.TheVariants.{Shape}
+use Rattle.dvg_items.specs.declared.known.Effect.{Effect}
+use Rattle.dvg_items.specs.declared.known.Effect.TheVariants.{Sets, Loses, Moves}
+use Rattle.dvg_items.specs.declared.known.Known.{Known}
+use Rattle.dvg_items.specs.declared.lit.LitExtent.{LitExtent}
+use Rattle.dvg_items.proofs.Leading.{everywhere}
+use Rattle.dvg_check.specs.Rules.{Good}
+use Rattle.dvg_check.specs.declared.fault.Mode.TheVariants.{Exact}
+use Rattle.dvg_make.specs.Made.{MadeEntry}
+use Rattle.dvg_make.specs.Frames.{FrameMade}
+use Rattle.dvg_make.specs.Private.Judged.{IsRelative}
+use Rattle.dvg_make.proofs.Ends.{made_ends}
+use Rattle.dvg_make.proofs.Windows.{in_exact}
+
+-- no effect leads back to a relative place
+relative_before : (place : End) (effect : Effect) → IsRelative (place_past effect place) → IsRelative place
+relative_before (Rel x y) effect h = tt
+relative_before (Abs x y) (Sets p) h = h
+relative_before (Abs x y) Loses h = h
+relative_before (Abs x y) (Moves d) h = h
+relative_before Lost (Sets p) h = h
+relative_before Lost Loses h = h
+relative_before Lost (Moves d) h = h
+
+-- at a relative place nothing is lit at an absolute one
+relative_in_window : (w : Window) (lit : LitExtent) (place : End) → IsRelative place → LitInWindow w lit place
+relative_in_window w lit (Rel x y) h = tt
+relative_in_window w lit (Abs x y) h = absurd h
+relative_in_window w lit Lost h = absurd h
+
+module _ (rom : Rom) (list : List Entry) (e : Entry) (made : MadeEntry rom list e) (ends : IsRelative e.stop) where
+  abbrev c : Context
+  c = shape_context rom.machine list e
+
+  abbrev IsHere : List Item → ℕ → Type 0
+  IsHere earlier p = IsRelative (place_before c earlier)
+
+  each_of : (items : List Item) → IsRelative (place_before c items) → AtEachOf IsHere items
+  each_of [] h = tt
+  each_of (i ∷ items) h =
+      let before = relative_before (place_before c items) _ h in
+      (each_of items before, before)
+
+  everywhere_relative : AtEveryPlace Shape (rom_word rom) e.addr IsHere
+  everywhere_relative =
+      let last = made_ends rom list e made in
+      everywhere Shape (rom_word rom) e.addr IsHere last.stops.items last.stops.i last.stops.leads last.stops.is last.stops.last
+      (each_of (last.stops.i ∷ last.stops.items) (subst IsRelative (sym (ap (λ (k : Known). k.place) last.sums.known)) ends))
+
+relative_good : (rom : Rom) (list : List Entry) (w : Window) → ((e : Entry) → Contains list e → MadeEntry rom list e) → ((e : Entry) → Contains list e → IsRelative e.stop) → Good Exact w rom list
+relative_good rom list w each ends = in_exact rom list w each (λ e c earlier i lead is. relative_in_window w (extent (shape_context rom.machine list e) earlier i.instr) (place_before (shape_context rom.machine list e) earlier) (everywhere_relative rom list e (each e c) (ends e c) earlier i.at lead))
+
+-- a frame's made list that ends at relative places is good in every window
+pub all_relative_good : (rom : Rom) (words : List ℕ) (list : List Entry) (w : Window) → FrameMade rom words list → All (λ e. IsRelative e.stop) list → Good Exact w rom list
+all_relative_good rom words list w made ends = relative_good rom list w made.each (λ e c. All-contains (λ (f : Entry). IsRelative f.stop) list e ends c)
