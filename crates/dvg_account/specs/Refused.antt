@@ -26,7 +26,7 @@ pub record FrameLines (machine : Machine) (window : Window) (frame : List ℕ) (
   pub why : Sentence
   pub tells : TellsFrame machine frame a.finding a.cause why
   pub item : RefusedItem
-  pub is_item : IsItem (frame_word machine frame) a.finding.fault.word a.finding.before (callee_of a.finding.found) item
+  pub is_item : IsItem Frame (frame_word machine frame) a.finding.fault.word a.finding.before (callee_of a.finding.found) item
   pub lost : IfSome item.losses (AreLosses (frame_context machine list) (frame_word machine frame) 0 a.finding.fault.word)
   pub unled : IfNone item.losses (NoneLead Frame (frame_word machine frame) 0 a.finding.fault.word)
   pub zone : Option Line
@@ -48,7 +48,7 @@ pub record ShapeLines (window : Window) (rom : Rom) (frame : List ℕ) (list : L
   pub why : Sentence
   pub tells : TellsShape rom a.finding a.cause why
   pub item : RefusedItem
-  pub is_item : IsItem (rom_word rom) a.finding.fault.word a.finding.before (callee_of a.finding.found) item
+  pub is_item : IsItem Shape (rom_word rom) a.finding.fault.word a.finding.before (callee_of a.finding.found) item
   pub lost : IfSome item.losses (AreLosses (shape_context rom.machine list a.finding.entry) (rom_word rom) a.finding.entry.addr a.finding.fault.word)
   pub unled : IfNone item.losses (HasEntry list a.finding.entry.addr a.finding.entry.key
       → NoneLead Shape (rom_word rom) a.finding.entry.addr a.finding.fault.word)
