@@ -6,6 +6,8 @@ use Rattle.dvg_words.specs.declared.instruction.Cell.{Cell}
 use Rattle.dvg_words.specs.declared.instruction.Cell.TheVariants as cell
 use Rattle.dvg_cert.specs.declared.entry.Entry.{Entry}
 use Rattle.dvg_items.specs.declared.item.Item.{Item as Before}
+use Rattle.dvg_items.specs.declared.item.Kind.{Kind}
+use Rattle.dvg_items.specs.declared.item.Kind.TheVariants.{Shape, Frame}
 use Rattle.dvg_items.specs.declared.known.Known.{Known}
 use Rattle.dvg_check.specs.declared.fault.Found.{Found}
 use Rattle.dvg_check.specs.declared.fault.Found.TheVariants.{Seen}
@@ -48,7 +50,8 @@ callee_of (Seen v) = v.callee
 callee_of found = None
 
 -- the item at a word address, before which this is known, and which names this entry
-pub record IsItem (source : Source) (at : ℕ) (before : Known) (callee : Option Entry) (i : RefusedItem) : Type 0 where
+pub record IsItem (kind : Kind) (source : Source) (at : ℕ) (before : Known) (callee : Option Entry) (i : RefusedItem) : Type 0 where
+  pub of_kind : i.kind ≡ kind
   pub stands : i.at ≡ at
   pub holds : i.words ≡ words_at source at
   pub decoded : i.instruction ≡ instruction_at source at
@@ -61,14 +64,15 @@ pub record IsItem (source : Source) (at : ℕ) (before : Known) (callee : Option
 abbrev pub item_line : Option ItemLine → List Line
 item_line l = map Item (option_to_list l)
 
--- a missing item is told with the item that goes on to it, unless zeros lead there
+-- an item of a frame is told with the item that goes on to it, unless zeros lead there; one of a shape only where it is missing
 abbrev pub unless_zeros : Option Zeros → Option Before → Option ItemLine
 unless_zeros None before = option_map line.ComesFrom before
 unless_zeros (Some zeros) before = None
 
-abbrev pub comes_from : Words → Way → Option ItemLine
-comes_from words.Nothing way = unless_zeros way.zeros way.last
-comes_from held way = None
+abbrev pub comes_from : Kind → Words → Way → Option ItemLine
+comes_from Frame held way = unless_zeros way.zeros way.last
+comes_from Shape words.Nothing way = unless_zeros way.zeros way.last
+comes_from Shape held way = None
 
 -- the items by which the place and the scale were lost
 abbrev pub place_lost_by : Option Losses → Option ItemLine
@@ -83,6 +87,6 @@ scale_lost_by (Some l) = option_map line.ScaleLostBy l.scale
 abbrev pub item_lines : RefusedItem → List Line
 item_lines i =
     Item (line.At i.at) ∷ Item (line.Holds i.words) ∷ Item (line.Instruction i.instruction)
-    ∷ item_line (option_map line.CalledEntry i.callee) ++ item_line (comes_from i.words i.way)
+    ∷ item_line (option_map line.CalledEntry i.callee) ++ item_line (comes_from i.kind i.words i.way)
     ++ Item (line.PlaceBefore i.before.place) ∷ Item (line.ScaleBefore i.before.scale) ∷ Item (line.WordsBefore i.before.words)
     ∷ item_line (place_lost_by i.losses) ++ item_line (scale_lost_by i.losses) ++ item_line (option_map line.Zeros i.way.zeros)

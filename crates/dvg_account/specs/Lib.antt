@@ -5,6 +5,7 @@ pub mod Why
 pub mod Plain
 pub mod Refused
 pub mod Accepted
+pub mod Cures
 pub mod Making
 pub mod Verdicts
 pub mod Private

@@ -10,14 +10,16 @@ use Rattle.dvg_make.specs.declared.account.MakeAccount.{MakeAccount}
 use Rattle.dvg_make.specs.declared.account.EntryCause.{EntryCause}
 use Rattle.dvg_make.specs.declared.account.EntryCause.TheVariants as cause
 use Rattle.dvg_make.specs.declared.account.ShapeAt.{ShapeAt}
-use Rattle.dvg_account.specs.Items.{RefusedItem, IsItem, item_lines}
+use Rattle.dvg_items.specs.declared.item.Kind.TheVariants.{Shape}
+use Rattle.dvg_account.specs.Items.{RefusedItem, IsItem, words_at, item_lines}
 use Rattle.dvg_account.specs.declared.line.Line.{Line}
 use Rattle.dvg_account.specs.Machines.{machine_lines}
-use Rattle.dvg_account.specs.Why.{OddWords, addresses_of_map, missing_word}
+use Rattle.dvg_account.specs.Cures.{cure_of}
+use Rattle.dvg_account.specs.Why.{addresses_of_map, missing_word, odd_labs}
 use Rattle.dvg_account.specs.declared.why.Why.TheVariants as why
 use Rattle.dvg_account.specs.declared.why.Why.TheVariants.{Maker}
 use Rattle.dvg_account.specs.declared.why.MakerWhy.TheVariants as maker
-use Rattle.dvg_account.specs.declared.line.Line.TheVariants.{Rule, Why, Made, Path, WhatToDo}
+use Rattle.dvg_account.specs.declared.line.Line.TheVariants.{Rule, Why, Made, Path, MakerCure}
 use Rattle.dvg_account.specs.declared.line.MadeLine.TheVariants as made
 use Rattle.dvg_account.specs.declared.line.PathLine.TheVariants as path
 use Rattle.dvg_account.specs.declared.line.MakerChain.{MakerChain}
@@ -46,7 +48,7 @@ chain_of a = record { call = a.fault.call; shapes = a.chain; ring = ring_of a.ca
 -- the item by which a shape can't be made; none where no shape was begun
 abbrev pub IsMakerItem : Rom → MakeAccount → Option RefusedItem → Type 0
 IsMakerItem rom a None = a.chain.items ≡ []
-IsMakerItem rom a (Some i) = IsItem (rom_word rom) a.at a.before None i
+IsMakerItem rom a (Some i) = IsItem Shape (rom_word rom) a.at a.before None i
 
 abbrev pub maker_item_lines : Option RefusedItem → List Line
 maker_item_lines None = []
@@ -57,11 +59,11 @@ abbrev pub ring_line : Option ShapeAt → Option Line
 ring_line None = None
 ring_line (Some shape) = Some (Why (Maker (maker.Ring (record { addr = shape.addr; key = shape.key }))))
 
--- the numbers of the cause; which words of a LABS are odd is only tested; where memory was out there is no line
+-- the numbers of the cause; where memory was out there is no line
 abbrev pub TellsMaker : Rom → ℕ → List ShapeAt → EntryCause → Option Line → Type 0
 TellsMaker rom at chain cause.RootOutside told = told ≡ Some (Why (missing_word (rom_word rom) (addresses_of_map rom.map) at))
 TellsMaker rom at chain cause.Missing told = told ≡ Some (Why (missing_word (rom_word rom) (addresses_of_map rom.map) at))
-TellsMaker rom at chain cause.Odd told = (odd : OddWords) × (told ≡ Some (Why (why.OddLabs odd)))
+TellsMaker rom at chain cause.Odd told = told ≡ Some (Why (odd_labs (words_at (rom_word rom) at)))
 TellsMaker rom at chain cause.Halt told = told ≡ Some (Why why.Halt)
 TellsMaker rom at chain cause.BeamUnknown told = told ≡ Some (Why why.DrawsAtLostPlace)
 TellsMaker rom at chain cause.ScaleUnknown told = told ≡ Some (Why why.ScaleUnknown)
@@ -86,4 +88,4 @@ pub record UnmadeLines (rom : Rom) (a : MakeAccount) (lines : List Line) : Type 
   pub below : Option Line
   pub deep : TellsBelow a.cause below
   pub told : lines ≡ machine_lines rom.machine ++ Rule (fault_number (make_fault_of a.fault.why)) ∷ option_to_list why
-      ++ maker_item_lines item ++ Path (path.MakerChain (chain_of a)) ∷ option_to_list below ++ WhatToDo (fault_number (make_fault_of a.fault.why)) ∷ []
+      ++ maker_item_lines item ++ Path (path.MakerChain (chain_of a)) ∷ option_to_list below ++ MakerCure (cure_of a) ∷ []

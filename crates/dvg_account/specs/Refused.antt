@@ -26,7 +26,7 @@ pub record FrameLines (machine : Machine) (window : Window) (frame : List ℕ) (
   pub why : Sentence
   pub tells : TellsFrame machine frame f f.cause why
   pub item : RefusedItem
-  pub is_item : IsItem (frame_word machine frame) f.fault.word f.before (callee_of f.found) item
+  pub is_item : IsItem Frame (frame_word machine frame) f.fault.word f.before (callee_of f.found) item
   pub lost : IfSome item.losses (AreLosses (frame_context machine list) (frame_word machine frame) 0 f.fault.word)
   pub unled : IfNone item.losses (NoneLead Frame (frame_word machine frame) 0 f.fault.word)
   pub zone : Option Line
@@ -48,7 +48,7 @@ pub record ShapeLines (window : Window) (rom : Rom) (frame : List ℕ) (list : L
   pub why : Sentence
   pub tells : TellsShape rom f f.cause why
   pub item : RefusedItem
-  pub is_item : IsItem (rom_word rom) f.fault.word f.before (callee_of f.found) item
+  pub is_item : IsItem Shape (rom_word rom) f.fault.word f.before (callee_of f.found) item
   pub lost : IfSome item.losses (AreLosses (shape_context rom.machine list f.entry) (rom_word rom) f.entry.addr f.fault.word)
   pub unled : IfNone item.losses (HasEntry list f.entry.addr f.entry.key
       → NoneLead Shape (rom_word rom) f.entry.addr f.fault.word)

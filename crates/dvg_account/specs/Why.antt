@@ -1,5 +1,5 @@
 -- What the sentence of a refusal tells of its cause. All of it is this project's own.
-use Rattle.std.specs.Prelude.{◌≡◌, ℕ, ◌+◌, ◌-◌, nat_eq, if◌then◌else◌, List, length, Option, Some, None}
+use Rattle.std.specs.Prelude.{◌≡◌, ℕ, ◌+◌, ◌-◌, ◌%◌, nat_eq, nat_lt, if◌then◌else◌, List, length, Option, Some, None}
 use Rattle.dvg_words.specs.declared.machine.Machine.{Machine}
 use Rattle.dvg_words.specs.Values.{MemoryMap, Source}
 use Rattle.dvg_words.specs.Memory.{Rom, frame_word, rom_word}
@@ -18,8 +18,10 @@ pub use Rattle.dvg_account.specs.declared.why.Why.{Why}
 pub use Rattle.dvg_account.specs.declared.why.Why.TheVariants as why
 pub use Rattle.dvg_account.specs.declared.why.Addresses.{Addresses}
 use Rattle.dvg_account.specs.declared.why.Owner.TheVariants as owner
+use Rattle.dvg_account.specs.declared.line.Words.{Words}
+use Rattle.dvg_account.specs.declared.line.Words.TheVariants as item
+use Rattle.dvg_account.specs.Items.{words_at}
 pub use Rattle.dvg_account.specs.declared.why.Corner.{Corner}
-pub use Rattle.dvg_account.specs.declared.why.OddWords.{OddWords}
 use Rattle.dvg_account.specs.declared.why.Bounds.TheVariants.{Window, ClaimedBox}
 use Rattle.dvg_account.specs.declared.why.ClaimWhy.{ClaimWhy}
 use Rattle.dvg_account.specs.declared.why.ClaimWhy.TheVariants as claim
@@ -44,6 +46,16 @@ missing_at (Some first) at = at + 1
 abbrev pub missing_word : Source → Addresses → ℕ → Why
 missing_word source list at = why.MissingWord (missing_at (source.word at) at) list
 
+-- the twelve bits of a word of a LABS, if they are over 1023: bit 11 or bit 10 is set
+abbrev pub odd_field : ℕ → Option ℕ
+odd_field word = if nat_lt 1023 (word % 4096) then Some (word % 4096) else None
+
+-- the fields of a LABS that are over 1023, by its words: Y in the first, X in the second
+abbrev pub odd_labs : Words → Why
+odd_labs item.Nothing = why.OddLabs None None
+odd_labs (item.One first) = why.OddLabs (odd_field first) None
+odd_labs (item.Two first second) = why.OddLabs (odd_field first) (odd_field second)
+
 -- what lights at a lost place: the box of the entry that the item names, or a draw
 abbrev pub box_or_draw : Option Entry → Why
 box_or_draw (Some e) = why.BoxAtLostPlace
@@ -62,10 +74,10 @@ abbrev pub TellsBox : BoxLeaving → Why → Type 0
 TellsBox (left.Empty p) told = (corner : Corner) × (told ≡ why.LitOutsideEmptyBox corner p)
 TellsBox (left.Past leaving) told = (corner : Corner) × (told ≡ why.PastEdge corner leaving ClaimedBox)
 
--- the numbers of a cause of frames; which words of a LABS are odd is only tested
+-- the numbers of a cause of frames
 abbrev pub TellsFrame : Machine → List ℕ → FrameFinding → FrameCause → Why → Type 0
 TellsFrame machine words f frame.Unmapped told = told ≡ missing_word (frame_word machine words) (addresses_of_frame words) f.fault.word
-TellsFrame machine words f frame.Odd told = (odd : OddWords) × (told ≡ why.OddLabs odd)
+TellsFrame machine words f frame.Odd told = told ≡ odd_labs (words_at (frame_word machine words) f.fault.word)
 TellsFrame machine words f frame.ReturnInFrame told = told ≡ why.Return
 TellsFrame machine words f (frame.BackJump to) told = told ≡ jumps_back f.fault.word to
 TellsFrame machine words f frame.BeamUnknown told = told ≡ lost_place f.found
@@ -87,7 +99,7 @@ TellsClaim e words cause told = Unit {0}
 -- the numbers of a cause of shapes
 abbrev pub TellsShape : Rom → ShapeFinding → ShapeCause → Why → Type 0
 TellsShape rom f shape.Unmapped told = told ≡ missing_word (rom_word rom) (addresses_of_map rom.map) f.fault.word
-TellsShape rom f shape.Odd told = (odd : OddWords) × (told ≡ why.OddLabs odd)
+TellsShape rom f shape.Odd told = told ≡ odd_labs (words_at (rom_word rom) f.fault.word)
 TellsShape rom f shape.HaltInShape told = told ≡ why.Halt
 TellsShape rom f shape.BeamUnknown told = told ≡ lost_place f.found
 TellsShape rom f shape.ScaleUnknown told = told ≡ why.ScaleUnknown

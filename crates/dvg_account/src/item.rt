@@ -17,6 +17,7 @@ use dvg_words::{Cell, Fetch, is_long, read_cell};
 /// The item of a refusal.
 #[derive(Clone, Copy)]
 pub struct RefusedItem {
+    pub kind: Kind,
     pub at: u16,
     pub words: Words,
     pub instruction: Option<Instruction>,
@@ -36,9 +37,10 @@ impl RefusedItem {
         before: Known,
         callee: Option<Entry>,
     ) -> RefusedItem
-        ensures { IsItem (F.words memory.now) at before callee result }
+        ensures { IsItem kind (F.words memory.now) at before callee result }
     {
         RefusedItem {
+            kind,
             at,
             words: words_at(memory, at),
             instruction: instruction_at(memory, at),
@@ -113,12 +115,21 @@ impl RefusedItem {
         }
     }
 
-    /// The item that goes on to a missing item, unless zeros lead there.
+    /// The item that goes on to an item of a frame, or to one of a shape that is missing, unless zeros lead there.
     fn comes_from(&self) -> Option<ItemLine>
-        ensures { result ≡ comes_from self.now.words self.now.way }
+        ensures { result ≡ comes_from self.now.kind self.now.words self.now.way }
     {
-        match (self.words, self.way) {
+        match (self.kind, self.words, self.way) {
             (
+                Kind::Frame,
+                _,
+                Way {
+                    last: Some(last),
+                    zeros: None,
+                },
+            )
+            | (
+                Kind::Shape,
                 Words::Nothing,
                 Way {
                     last: Some(last),

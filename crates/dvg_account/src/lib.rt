@@ -9,6 +9,7 @@
 mod accepted;
 mod answers;
 mod cause;
+mod cure;
 mod inputs;
 mod item;
 mod line;
@@ -24,6 +25,7 @@ mod why;
 mod zeros;
 
 pub use answers::{refusal_lines, verdict_lines};
+pub use cure::MakerCure;
 pub use inputs::{Inputs, PlainWhy, plain_lines};
 pub use line::{
     AcceptedLine, EntryName, Instruction, ItemLine, Line, MadeLine, MakerChain, PathLine, Words,
@@ -34,4 +36,4 @@ pub use own::{OwnMaking, frame_lines, own_lines};
 pub use texts::{
     frame_text, made_text, own_text, plain_text, refusal_text, unmade_text, verdict_text,
 };
-pub use why::{Addresses, Bounds, ClaimWhy, Corner, InputWhy, MakerWhy, OddWords, Owner, Why};
+pub use why::{Addresses, Bounds, ClaimWhy, Corner, InputWhy, MakerWhy, Owner, Why};

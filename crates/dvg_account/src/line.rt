@@ -2,6 +2,7 @@
 
 ghost use Rattle.std.specs.Prelude.{◌≡◌};
 
+use crate::cure::MakerCure;
 use crate::why::Why;
 use dvg_cert::{End, Entry, Key, LitBox};
 use dvg_check::Yes;
@@ -35,6 +36,8 @@ pub enum Line {
     MadeForOther(Machine),
     /// What to do about this number.
     WhatToDo(u8),
+    /// What to do about an entry that can't be made.
+    MakerCure(MakerCure),
 }
 
 /// A line about the item by which something is refused.

@@ -4,6 +4,7 @@ ghost use Rattle.std.specs.Prelude.{◌≡◌, IfOk};
 ghost use Rattle.dvg_account.specs.Making.{made_lines, most_words, most_depth, chain_of, maker_item_lines, UnmadeLines, IsMakerItem, TellsMaker, TellsBelow};
 ghost use Rattle.dvg_account.specs.Building.{Adds};
 
+use crate::cure::MakerCure;
 use crate::item::RefusedItem;
 use crate::line::{EntryName, Line, MadeLine, MakerChain, PathLine};
 use crate::lines::Lines;
@@ -55,6 +56,7 @@ pub fn unmade_lines(
     let below = below_line(alloc, rom, account.cause)?;
     let item = item_of(rom, &account);
     let why = why_line(rom, &account);
+    let cure = MakerCure::of(&account);
     let mut lines = Lines::new(alloc);
     lines.push_machine(rom.machine());
     lines.push(Line::Rule(number));
@@ -62,7 +64,7 @@ pub fn unmade_lines(
     push_item(&mut lines, &item);
     lines.push(Line::Path(PathLine::MakerChain(chain_of(account))));
     lines.push_some(below);
-    lines.push(Line::WhatToDo(number));
+    lines.push(Line::MakerCure(cure));
     lines.finish()
 }
 

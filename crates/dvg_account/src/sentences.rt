@@ -2,7 +2,7 @@
 
 use crate::line::EntryName;
 use crate::text::Text;
-use crate::why::{Addresses, Bounds, ClaimWhy, Corner, InputWhy, MakerWhy, OddWords, Owner, Why};
+use crate::why::{Addresses, Bounds, ClaimWhy, Corner, InputWhy, MakerWhy, Owner, Why};
 use dvg_cert::{Key, MOST_WORDS};
 use dvg_check::{Edge, Leaving};
 
@@ -16,7 +16,7 @@ const MOST_ROM_BYTES: usize = 4096;
 pub fn push_why(text: &mut Text, why: &Why) {
     match why {
         Why::MissingWord { word, words } => push_missing(text, *word, words),
-        Why::OddLabs(odd) => push_odd(text, *odd),
+        Why::OddLabs { y, x } => push_odd(text, *y, *x),
         Why::Halt => text.push("HALT stands in a shape"),
         Why::Return => { text.push("RTSL stands in a frame, and there is no call to return from") }
         Why::JumpsToItself(to) => push_jump(text, *to, ", its own address"),
@@ -60,13 +60,25 @@ fn push_addresses(text: &mut Text, words: &Addresses) {
     text.push_address(words.last);
 }
 
-fn push_odd(text: &mut Text, odd: OddWords) {
+/// Which words of a LABS are odd, and what their fields hold.
+fn push_odd(text: &mut Text, y: Option<u16>, x: Option<u16>) {
     text.push("bit 11 or bit 10 is set in ");
-    text.push(match odd {
-        OddWords::First => "its first word",
-        OddWords::Second => "its second word",
-        OddWords::Both => "both its words",
+    text.push(match (y, x) {
+        (Some(_), Some(_)) => "both its words",
+        (_, None) => "its first word",
+        (None, _) => "its second word",
     });
+    push_odd_field(text, ": Y ", y);
+    push_odd_field(text, if y.is_some() { ", X " } else { ": X " }, x);
+    text.push(", at most 1023");
+}
+
+/// A field of a LABS that is over 1023, if it is.
+fn push_odd_field(text: &mut Text, before: &str, field: Option<u16>) {
+    if let Some(field) = field {
+        text.push(before);
+        text.push_decimal(field);
+    }
 }
 
 fn push_jump(text: &mut Text, to: u16, which: &str) {
@@ -242,11 +254,21 @@ fn push_input(text: &mut Text, why: &InputWhy) {
         InputWhy::FrameLength(bytes) => {
             text.push("the frame has ");
             push_length(text, *bytes, MOST_FRAME_BYTES);
+            push_frame_fault(text, *bytes);
         }
         InputWhy::Budget(budget) => {
             text.push("the budget is ");
             text.push_decimal(*budget);
         }
+    }
+}
+
+/// What is wrong with so many bytes of a frame, if they are no more than the most.
+fn push_frame_fault(text: &mut Text, bytes: usize) {
+    if bytes == 0 {
+        text.push(", and one word is the least");
+    } else if bytes < MOST_FRAME_BYTES {
+        text.push(", an odd number: words have two");
     }
 }
 

@@ -3,6 +3,7 @@
 ghost use Rattle.std.specs.Prelude.{◌≡◌};
 ghost use Rattle.dvg_words.specs.Beam.{signed_field};
 
+use crate::cure::MakerCure;
 use crate::line::{
     AcceptedLine, EntryName, Instruction, ItemLine, Line, MadeLine, MakerChain, PathLine, Words,
     Zeros,
@@ -47,6 +48,7 @@ fn push_line(text: &mut Text, line: &Line) {
         Line::Made(line) => push_made_line(text, *line),
         Line::MadeForOther(machine) => push_other_machine(text, *machine),
         Line::WhatToDo(number) => push_cure(text, *number),
+        Line::MakerCure(cure) => push_maker_cure(text, *cure),
     }
 }
 
@@ -98,6 +100,31 @@ fn push_cure(text: &mut Text, number: u8) {
         text.push(rule.cure);
         text.push("\n");
     }
+}
+
+/// What to do about an entry that can't be made.
+fn push_maker_cure(text: &mut Text, cure: MakerCure) {
+    let told = match cure {
+        MakerCure::OfRule(number) => return push_cure(text, number),
+        MakerCure::RootOutside => {
+            "name shapes in the ROM; where it lies elsewhere, say so by `--rom`"
+        }
+        MakerCure::CallsRam => {
+            "call what is in the ROM: a call into vector RAM is always refused, whatever stands there"
+        }
+        MakerCure::CallsOutside => {
+            "call what is in the ROM; where it lies elsewhere, say so by `--rom`"
+        }
+        MakerCure::RootScale => {
+            "name the scales at which the shape is called, in place of `any`; or put a LABS before it"
+        }
+        MakerCure::CallScale => {
+            "put a LABS before the frame's call, by which the place and the scale are known there"
+        }
+    };
+    text.push("what to do: ");
+    text.push(told);
+    text.push("\n");
 }
 
 fn push_item_line(text: &mut Text, line: &ItemLine) {

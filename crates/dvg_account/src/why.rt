@@ -1,11 +1,11 @@
 //! Why an answer is a refusal: the numbers of the sentence.
 
 ghost use Rattle.std.specs.Prelude.{◌≡◌, length};
-ghost use Rattle.dvg_account.specs.Why.{addresses_of_map, addresses_of_frame, words_with, missing_word, lost_place, jumps_back, TellsBox, TellsFrame, TellsShape, TellsClaim};
-ghost use Rattle.dvg_account.specs.declared.why.Why.TheVariants.{OddLabs, PastEdge};
+ghost use Rattle.dvg_account.specs.Items.{words_at};
+ghost use Rattle.dvg_account.specs.Why.{addresses_of_map, addresses_of_frame, words_with, missing_word, odd_field, odd_labs, lost_place, jumps_back, TellsBox, TellsFrame, TellsShape, TellsClaim};
+ghost use Rattle.dvg_account.specs.declared.why.Why.TheVariants.{PastEdge};
 ghost use Rattle.dvg_account.specs.declared.why.ClaimWhy.TheVariants.{TooManyWords};
 ghost use Rattle.dvg_account.specs.declared.why.Corner.{Corner};
-ghost use Rattle.dvg_account.specs.declared.why.OddWords.{OddWords};
 
 use crate::item::words_at;
 use crate::line::{EntryName, Words};
@@ -22,8 +22,11 @@ pub enum Why {
         word: u16,
         words: Addresses,
     },
-    /// The item is a LABS, and these of its words are odd.
-    OddLabs(OddWords),
+    /// The item is a LABS, and these of its fields are over 1023: Y in its first word, X in its second.
+    OddLabs {
+        y: Option<u16>,
+        x: Option<u16>,
+    },
     /// A shape has a HALT.
     Halt,
     /// A frame has an RTSL.
@@ -145,28 +148,12 @@ impl Addresses {
     }
 }
 
-/// Which words of a LABS are odd.
-#[derive(Clone, Copy)]
-pub enum OddWords {
-    First,
-    Second,
-    Both,
-}
-
-impl OddWords {
-    /// The odd words among those of a LABS.
-    fn of(words: Words) -> OddWords {
-        match words {
-            Words::Two(first, second) if is_odd(first) && is_odd(second) => OddWords::Both,
-            Words::One(first) | Words::Two(first, _) if is_odd(first) => OddWords::First,
-            _ => OddWords::Second,
-        }
-    }
-}
-
-/// Whether bit 11 or bit 10 is set.
-fn is_odd(word: u16) -> bool {
-    word & 0x0C00 != 0
+/// The twelve bits of a word of a LABS, if they are over 1023: bit 11 or bit 10 is set.
+fn odd_field(word: u16) -> Option<u16>
+    ensures { result ≡ odd_field word }
+{
+    let field = word % 4096;
+    if field > 1023 { Some(field) } else { None }
 }
 
 /// What has edges.
@@ -274,11 +261,16 @@ impl Why {
         Why::MissingWord { word, words }
     }
 
-    /// The odd words of the LABS at a word address.
+    /// The fields of the LABS at a word address that are over 1023.
     pub fn odd<F: Fetch>(memory: &F, at: u16) -> Why
-        ensures { (odd : OddWords) × (result ≡ OddLabs odd) }
+        ensures { result ≡ odd_labs (words_at (F.words memory.now) at) }
     {
-        Why::OddLabs(OddWords::of(words_at(memory, at)))
+        let (y, x) = match words_at(memory, at) {
+            Words::Nothing => (None, None),
+            Words::One(first) => (odd_field(first), None),
+            Words::Two(first, second) => (odd_field(first), odd_field(second)),
+        };
+        Why::OddLabs { y, x }
     }
 
     /// The corner that is past an edge.

@@ -1,7 +1,7 @@
 use Rattle.std.proofs.Common.{ap, ◌∙◌, [], ◌∷◌}
 use Rattle.dvg_make.specs.Refusals.{fault_number}
 use Rattle.dvg_account.specs.Machines.{machine_lines}
-use Rattle.dvg_account.specs.declared.line.Line.TheVariants.{Rule, Path, WhatToDo}
+use Rattle.dvg_account.specs.declared.line.Line.TheVariants.{Rule, Path, MakerCure}
 use Rattle.dvg_account.specs.declared.line.PathLine.TheVariants.{MakerChain}
 use Rattle.dvg_account.proofs.Building.{then, told_as, whole, if_ok}
 use Rattle.dvg_account.proofs.making.unmade_lines.Goals as goal
@@ -20,5 +20,5 @@ returns c =
           (then (then (then (then (told_as (ap machine_lines c.machine.ensures) c.push_machine.ensures)
           (then (told_as (ap (λ n. Rule n ∷ []) number_is) c.push.ensures) c.push_some.ensures)) c.push_item.ensures)
           (then (told_as (ap (λ chain. Path (MakerChain chain) ∷ []) c.chain_of.ensures) c.push-2.ensures) c.push_some-2.ensures))
-          (told_as (ap (λ n. WhatToDo n ∷ []) number_is) c.push-3.ensures));
+          (told_as (ap (λ cure. MakerCure cure ∷ []) c.of.ensures) c.push-3.ensures));
     })
