@@ -92,7 +92,8 @@ pub fn safe_stack()
     stack_within_max();
 }
 
-/// What is safe on the board's generator is safe on its circuit.
+/// What is safe on the board's generator, in a window as calls take them, is safe on its circuit, where the board shows of each lit draw
+/// just the part that lies on the screen.
 pub fn safe_on_circuit()
     ensures { SafeIsSafeOnCircuit }
 {}

@@ -1,5 +1,5 @@
 -- What is shown of a stroke.
-use Rattle.std.proofs.Common.{◌≡◌, ◌*◌, ◌%◌, ◌≤◌, refl, ap, sym, subst, ◌∙◌, arith, ℤ, pos, negsuc, ◌+ℤ◌, inl, inr, List, [], ◌∷◌, reverse}
+use Rattle.std.proofs.Common.{◌≡◌, ◌%◌, ◌≤◌, refl, ap, sym, subst, ◌∙◌, arith, ℤ, pos, negsuc, ◌+ℤ◌, inl, inr, List, [], ◌∷◌, reverse}
 use Rattle.std.specs.Prelude.{◌*ℤ◌}
 use Rattle.std.specs.List.{AllByRecursion, AllZip}
 use Rattle.std.proofs.lemmas.Int.{ints}
@@ -26,36 +26,6 @@ lit_in_window w stroke c on from to =
     let up : IsBetween (pos 1024 *ℤ w.y_min) (pos 1024 *ℤ w.y_max) (pos 1024 *ℤ at.y) =
     subst (λ (p : Point). IsBetween (pos 1024 *ℤ w.y_min) (pos 1024 *ℤ w.y_max) p.y) at.place (on.up _ _ (from.bottom, from.top) (to.bottom, to.top)) in
     (in_places w.x_min w.x_max at.x across, in_places w.y_min w.y_max at.y up)
-
-shown_there : (x : ℤ) → IsBetween (pos 1024 *ℤ negsuc 1023) (pos 1024 *ℤ pos 2047) (pos 1024 *ℤ x) → bit 10 (twelve_bits x) ≡ 0
-    → (pos 1024 *ℤ x ≡ pos (1024 * twelve_bits x)) × (twelve_bits x ≤ 1023)
-shown_there (pos n) h clear =
-    let below : n ≤ 2047 = omega (arith, ints, h.1) in
-    let same : n % 4096 ≡ n = omega (arith, below) in
-    (sym (ap (λ k. pos (1024 * k)) same), omega (arith, below, clear))
-shown_there (negsuc n) h clear =
-    let above : n ≤ 1023 = omega (arith, ints, h.0) in
-    absurd (omega (arith, above, clear))
-
-pub lit_on_screen : LitOnScreen
-lit_on_screen stroke c on from to shown =
-    let at = on.same in
-    let x =
-    shown_there at.x
-    (subst (λ (p : Point). IsBetween (pos 1024 *ℤ negsuc 1023) (pos 1024 *ℤ pos 2047) p.x) at.place (on.across _ _ (from.left, from.right) (to.left, to.right)))
-    (subst (λ (k : Counters). bit 10 k.x ≡ 0) at.counters shown.x) in
-    let y =
-    shown_there at.y
-    (subst (λ (p : Point). IsBetween (pos 1024 *ℤ negsuc 1023) (pos 1024 *ℤ pos 2047) p.y) at.place (on.up _ _ (from.bottom, from.top) (to.bottom, to.top)))
-    (subst (λ (k : Counters). bit 10 k.y ≡ 0) at.counters shown.y) in
-    let same_x : c.x ≡ twelve_bits at.x = ap (λ (k : Counters). k.x) at.counters in
-    let same_y : c.y ≡ twelve_bits at.y = ap (λ (k : Counters). k.y) at.counters in
-    record {
-      x = ap (λ (p : Point). p.x) at.place ∙ x.0 ∙ sym (ap (λ k. pos (1024 * k)) same_x);
-      y = ap (λ (p : Point). p.y) at.place ∙ y.0 ∙ sym (ap (λ k. pos (1024 * k)) same_y);
-      x_inside = omega (arith, x.1, same_x);
-      y_inside = omega (arith, y.1, same_y);
-    }
 
 -- ---- places of a window
 
@@ -119,6 +89,23 @@ drawn_in_window w stroke l is from to h =
           let inside = lit_in_window w stroke (counters_after l.draw l.from n) on from to in
           subst (ShowsPlace w (h.from.x +ℤ moved l.draw.dx n) (h.from.y +ℤ moved l.draw.dy n)) (sym on.same.counters)
           (shown_in_window.place w (h.from.x +ℤ moved l.draw.dx n) (h.from.y +ℤ moved l.draw.dy n) is inside);
+    }
+
+-- ---- strokes of the zone
+
+pub lit_on_screen : LitOnScreen
+lit_on_screen stroke c on from to shown =
+    let at = on.same in
+    let inside = lit_in_window clipped stroke c on from to in
+    let x = there at.x inside.0 (subst (λ (k : Counters). bit 10 k.x ≡ 0) at.counters shown.x) in
+    let y = there at.y inside.1 (subst (λ (k : Counters). bit 10 k.y ≡ 0) at.counters shown.y) in
+    let same_x : c.x ≡ twelve_bits at.x = ap (λ (k : Counters). k.x) at.counters in
+    let same_y : c.y ≡ twelve_bits at.y = ap (λ (k : Counters). k.y) at.counters in
+    record {
+      x = ap (λ (p : Point). p.x) at.place ∙ ap (λ k. pos 1024 *ℤ k) (x.1 ∙ sym (ap pos same_x));
+      y = ap (λ (p : Point). p.y) at.place ∙ ap (λ k. pos 1024 *ℤ k) (y.1 ∙ sym (ap pos same_y));
+      x_inside = omega (arith, ints, x.0.1, x.1, same_x);
+      y_inside = omega (arith, ints, y.0.1, y.1, same_y);
     }
 
 -- ---- both ways
