@@ -1,18 +1,37 @@
 //! What a certificate claims of a shape.
 
 ghost use Rattle.std.specs.Prelude.{◌≡◌};
+ghost use Rattle.std.specs.Hash as fed;
+ghost use Rattle.std.specs.Cmp.Rules.{comparing, hashing};
+ghost use Rattle.std.proofs.Common.{rules};
 ghost use Rattle.dvg_cert.specs.Lookup.{is_at};
+ghost use Rattle.dvg_cert.specs.Private.Keyed.{hashed_number};
 
 use std::fmt;
+use std::hash::{Hash, Hasher};
 
 /// A global scale, or any.
 ///
 /// As a key it is the scale at which a shape is called, and `Any` stands for every scale. As the scale that is left
 /// behind, `Any` claims nothing. The numbers are 0 to 15. `Any` stands after them in the order of keys.
-#[derive(Clone, Copy, Debug, PartialEq, Eq, PartialOrd, Ord, Hash)]
+#[derive(Clone, Copy, Debug, PartialEq, Eq, PartialOrd, Ord)]
 pub enum Key {
     At(u8),
     Any,
+}
+
+/// By one byte, a scale's own number and 16 for `Any`: a write less than the case and the number.
+impl Hash for Key {
+    ghost hash_input = { λ key. fed.u8 (hashed_number key) };
+
+    ghost respects_eq = { Prim.search (comparing, hashing, rules) };
+
+    fn hash<H: Hasher>(&self, state: &mut H) {
+        match self {
+            Key::At(scale) => state.write_u8(*scale),
+            Key::Any => state.write_u8(16),
+        }
+    }
 }
 
 /// As a certificate spells it.

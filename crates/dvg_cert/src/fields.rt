@@ -8,7 +8,9 @@ ghost use Rattle.dvg_cert.specs.Private.Fields.{Reads, LeadsWith, past, natural_
 
 use crate::entry::{End, Entry, Key, LitBox};
 use crate::limits::{MOST_DEPTH, MOST_MAGNITUDE, MOST_WORDS};
-use crate::numerals::{address_of, leading_magnitude, leading_number_by_digits};
+use crate::numerals::{
+    address_of, leading_magnitude, leading_number, leading_number_by_digits, lone_digit,
+};
 use std::marker::Model;
 
 /// The part of a line that is not read yet.
@@ -90,14 +92,17 @@ impl<'a> Fields<'a> {
         Some(number)
     }
 
-    /// Takes a number from `low` to `high`. It is read digit by digit, since most have few digits.
+    /// Takes a number from `low` to `high`. A digit that stands alone is read in place, since many do.
     #[inline(always)]
     pub fn natural(&mut self, low: u64, high: u64) -> Option<u64>
         requires { high ≤ MOST_MAGNITUDE }
         ensures value { Reads result self.new (natural_at low high self.old) }
         ensures within { IfSome result (λ n. n ≤ high) }
     {
-        self.natural_of(leading_number_by_digits(self.rest), low, high)
+        match lone_digit(self.rest) {
+            Some(read) => self.natural_of(Some(read), low, high),
+            None => self.natural_of(leading_number(self.rest), low, high),
+        }
     }
 
     /// Takes a digit from 0 to `most`. Else nothing is taken.
@@ -208,7 +213,7 @@ impl<'a> Fields<'a> {
 
     /// Takes a box of four numbers.
     #[tactic(auto, unfolding(crate::specs::Private::Fields::span_at))]
-    #[inline(never)]
+    #[inline(always)]
     fn span(&mut self) -> Option<LitBox>
         ensures { Reads result self.new (span_at self.old) }
     {
@@ -227,6 +232,17 @@ impl<'a> Fields<'a> {
         }
     }
 
+    /// Takes a box of four numbers, by fields of its own, so that what is left stays in registers meanwhile.
+    #[inline(never)]
+    fn span_apart(&mut self) -> Option<LitBox>
+        ensures { Reads result self.new (span_at self.old) }
+    {
+        let mut fields = Fields::new(self.rest);
+        let span = fields.span()?;
+        self.rest = fields.rest;
+        Some(span)
+    }
+
     /// Takes a box.
     #[tactic(auto, unfolding(crate::specs::Private::Fields::box_at))]
     #[inline(always)]
@@ -236,7 +252,7 @@ impl<'a> Fields<'a> {
         if self.takes(b"none") {
             return Some(LitBox::Empty);
         }
-        self.span()
+        self.span_apart()
     }
 
     /// Takes an entry of a ROM from word address `first` to `last`.

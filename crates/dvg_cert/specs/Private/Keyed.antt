@@ -1,7 +1,7 @@
 -- Addresses and keys of entries, alone and in pairs with an entry.
 use Rattle.std.specs.Prelude.{◌≡◌, ℕ, List, map}
 use Rattle.std.specs.List.{All}
-use Rattle.dvg_cert.specs.Entry.{Entry, Key}
+use Rattle.dvg_cert.specs.Entry.{Entry, Key, At, Any}
 
 -- the address and key of each entry, in their order
 abbrev pub own_keys : List Entry → List (ℕ × Key)
@@ -13,3 +13,8 @@ IsOwn p = p.0 ≡ (p.1.addr, p.1.key)
 
 abbrev pub IsKeyed : List ((ℕ × Key) × Entry) → Type 0
 IsKeyed ps = All IsOwn ps
+
+-- a key as the one byte that is hashed
+abbrev pub hashed_number : Key → ℕ
+hashed_number (At scale) = scale
+hashed_number Any = 16
