@@ -1,9 +1,9 @@
 -- The number that digits in the bytes of a word write.
-use Rattle.std.proofs.Common.{◌≡◌, ℕ, zero, suc, ◌+◌, ◌-◌, ◌*◌, ◌/◌, ◌%◌, ◌^◌, ◌<◌, ◌≤◌, List, [], ◌∷◌, length, take, drop, get_or, subst, get_or-drop, drop-cons, length-drop, refl, sym, ap, ◌∙◌, arith}
+use Rattle.std.proofs.Common.{◌≡◌, ℕ, zero, suc, ◌+◌, ◌-◌, ◌*◌, ◌/◌, ◌%◌, ◌^◌, ◌<◌, ◌≤◌, List, [], ◌∷◌, ◌++◌, map, replicate, length, length-append, take, drop, get_or, subst, get_or-drop, drop-cons, length-drop, refl, sym, ap, ◌∙◌, arith}
 use Rattle.std.specs.List.{slice_index}
 use Rattle.std.specs.Char.{digit_value}
 use Rattle.std.specs.Str.Parse.{AllDigits, digits_value}
-use Rattle.std.proofs.lemmas.List.{take-take, length-take-le, get_or-take}
+use Rattle.std.proofs.lemmas.List.{take-take, length-take-le, get_or-take, length-replicate}
 use Rattle.std.proofs.lemmas.Int.Digits.{digits_value_more}
 use Rattle.std.proofs.lemmas.Nat.{and_block, and_mask}
 use Rattle.std.specs.Int.Bits.{bit_and}
@@ -11,45 +11,10 @@ use Rattle.std.proofs.lemmas.Str.{digit_value_digit}
 use Rattle.std.proofs.lemmas.Str.Parse.{digit_from_value, digits_value_short}
 use Rattle.dvg_cert.specs.Private.Fields.{NoDigitFirst}
 use Rattle.dvg_cert.proofs.Digits.{own}
-use Rattle.dvg_cert.proofs.DigitLanes.{AllBytes}
 
 -- eight numbers as the bytes of a word, the first in the lowest
 abbrev word_of : ℕ → ℕ → ℕ → ℕ → ℕ → ℕ → ℕ → ℕ → ℕ
 word_of a b c d e f g h = a + 256 * (b + 256 * (c + 256 * (d + 256 * (e + 256 * (f + 256 * (g + 256 * h))))))
-
--- ---- the digits moved up behind zeros
-
-moved_1 : (a b c d e f g h w : ℕ) → a < 10 → b < 256 → c < 256 → d < 256 → e < 256 → f < 256 → g < 256 → h < 256 → w ≡ word_of (48 + a) b c d e f g h
-    → (w + 14974415777481871312) % 2 ^ 64 * 2 ^ 56 % 2 ^ 64 ≡ word_of 0 0 0 0 0 0 0 a
-moved_1 a b c d e f g h w A B C D E F G H is = omega arith
-
-moved_2 : (a b c d e f g h w : ℕ) → a < 10 → b < 10 → c < 256 → d < 256 → e < 256 → f < 256 → g < 256 → h < 256 → w ≡ word_of (48 + a) (48 + b) c d e f g h
-    → (w + 14974415777481871312) % 2 ^ 64 * 2 ^ 48 % 2 ^ 64 ≡ word_of 0 0 0 0 0 0 a b
-moved_2 a b c d e f g h w A B C D E F G H is = omega arith
-
-moved_3 : (a b c d e f g h w : ℕ) → a < 10 → b < 10 → c < 10 → d < 256 → e < 256 → f < 256 → g < 256 → h < 256 → w ≡ word_of (48 + a) (48 + b) (48 + c) d e f g h
-    → (w + 14974415777481871312) % 2 ^ 64 * 2 ^ 40 % 2 ^ 64 ≡ word_of 0 0 0 0 0 a b c
-moved_3 a b c d e f g h w A B C D E F G H is = omega arith
-
-moved_4 : (a b c d e f g h w : ℕ) → a < 10 → b < 10 → c < 10 → d < 10 → e < 256 → f < 256 → g < 256 → h < 256 → w ≡ word_of (48 + a) (48 + b) (48 + c) (48 + d) e f g h
-    → (w + 14974415777481871312) % 2 ^ 64 * 2 ^ 32 % 2 ^ 64 ≡ word_of 0 0 0 0 a b c d
-moved_4 a b c d e f g h w A B C D E F G H is = omega arith
-
-moved_5 : (a b c d e f g h w : ℕ) → a < 10 → b < 10 → c < 10 → d < 10 → e < 10 → f < 256 → g < 256 → h < 256 → w ≡ word_of (48 + a) (48 + b) (48 + c) (48 + d) (48 + e) f g h
-    → (w + 14974415777481871312) % 2 ^ 64 * 2 ^ 24 % 2 ^ 64 ≡ word_of 0 0 0 a b c d e
-moved_5 a b c d e f g h w A B C D E F G H is = omega arith
-
-moved_6 : (a b c d e f g h w : ℕ) → a < 10 → b < 10 → c < 10 → d < 10 → e < 10 → f < 10 → g < 256 → h < 256 → w ≡ word_of (48 + a) (48 + b) (48 + c) (48 + d) (48 + e) (48 + f) g h
-    → (w + 14974415777481871312) % 2 ^ 64 * 2 ^ 16 % 2 ^ 64 ≡ word_of 0 0 a b c d e f
-moved_6 a b c d e f g h w A B C D E F G H is = omega arith
-
-moved_7 : (a b c d e f g h w : ℕ) → a < 10 → b < 10 → c < 10 → d < 10 → e < 10 → f < 10 → g < 10 → h < 256 → w ≡ word_of (48 + a) (48 + b) (48 + c) (48 + d) (48 + e) (48 + f) (48 + g) h
-    → (w + 14974415777481871312) % 2 ^ 64 * 2 ^ 8 % 2 ^ 64 ≡ word_of 0 a b c d e f g
-moved_7 a b c d e f g h w A B C D E F G H is = omega arith
-
-moved_8 : (a b c d e f g h w : ℕ) → a < 10 → b < 10 → c < 10 → d < 10 → e < 10 → f < 10 → g < 10 → h < 10 → w ≡ word_of (48 + a) (48 + b) (48 + c) (48 + d) (48 + e) (48 + f) (48 + g) (48 + h)
-    → (w + 14974415777481871312) % 2 ^ 64 * 2 ^ 0 % 2 ^ 64 ≡ word_of a b c d e f g h
-moved_8 a b c d e f g h w A B C D E F G H is = omega arith
 
 -- ---- the number of eight values
 
@@ -105,9 +70,32 @@ number_is a b c d e f g h w A B C D E F G H is =
 digit : (x : ℕ) → digit_value x < 10 → x ≡ 48 + digit_value x
 digit x h = let d = digit_value_digit x (digit_from_value x h) in omega (arith, d)
 
+-- bytes as a number, the first the lowest
+abbrev word : List ℕ → ℕ
+word [] = 0
+word (x ∷ xs) = x + 256 * word xs
+
+-- the number of bytes before which there are more, all 0
+abbrev shifted : ℕ → ℕ → ℕ
+shifted zero v = v
+shifted (suc k) v = 256 * shifted k v
+
+abbrev values : ℕ → List ℕ → ℕ
+values n xs = word (map digit_value (take n xs))
+
+parts : (n : ℕ) (xs : List ℕ) → n ≤ length xs → AllDigits 10 (take n xs)
+    → (word xs ≡ values n xs + word (replicate n 48) + shifted n (word (drop n xs))) × (values n xs < shifted n 1)
+parts zero xs le ds = (omega arith, omega arith)
+parts (suc n) [] le ds = absurd (omega arith)
+parts (suc n) (x ∷ xs) le ds = let r = parts n xs (omega arith) ds.1 in (omega (arith, digit x ds.0, r.0), omega (arith, ds.0, r.1))
+
 abbrev little : List ℕ → ℕ
 little xs = slice_index xs 0 + slice_index xs 1 * 256 + slice_index xs 2 * 65536 + slice_index xs 3 * 16777216 + slice_index xs 4 * 4294967296
     + slice_index xs 5 * 1099511627776 + slice_index xs 6 * 281474976710656 + slice_index xs 7 * 72057594037927936
+
+little_is : (xs : List ℕ) → length xs ≡ 8 → little xs ≡ word xs
+little_is (a ∷ b ∷ c ∷ d ∷ e ∷ f ∷ g ∷ h ∷ []) long = omega arith
+little_is xs long = absurd (omega arith)
 
 abbrev Zeros : ℕ
 Zeros = 14974415777481871312
@@ -115,82 +103,37 @@ Zeros = 14974415777481871312
 abbrev moved : ℕ → ℕ → ℕ
 moved count w = (w + Zeros) % 2 ^ 64 * 2 ^ (64 - 8 * count) % 2 ^ 64
 
-by_count : (count a b c d e f g h w : ℕ) → AllBytes (a ∷ b ∷ c ∷ d ∷ e ∷ f ∷ g ∷ h ∷ []) → 1 ≤ count → count ≤ 8 → AllDigits 10 (take count (a ∷ b ∷ c ∷ d ∷ e ∷ f ∷ g ∷ h ∷ []))
-    → w ≡ little (a ∷ b ∷ c ∷ d ∷ e ∷ f ∷ g ∷ h ∷ []) → number (moved count w) ≡ digits_value 10 (take count (a ∷ b ∷ c ∷ d ∷ e ∷ f ∷ g ∷ h ∷ []))
-by_count zero a b c d e f g h w bytes some few ds is = absurd (omega arith)
-by_count (suc zero) a b c d e f g h w bytes some few ds is =
-    let is_a = digit a ds.0 in
-    let up = moved_1 (digit_value a) b c d e f g h w ds.0 bytes.1.0 bytes.1.1.0 bytes.1.1.1.0 bytes.1.1.1.1.0 bytes.1.1.1.1.1.0 bytes.1.1.1.1.1.1.0 bytes.1.1.1.1.1.1.1.0 (omega (arith, is, is_a)) in
-    number_is 0 0 0 0 0 0 0 (digit_value a) (moved 1 w) (omega arith) (omega arith) (omega arith) (omega arith) (omega arith) (omega arith) (omega arith) ds.0 up ∙ omega arith
-by_count (suc (suc zero)) a b c d e f g h w bytes some few ds is =
-    let is_a = digit a ds.0 in
-    let is_b = digit b ds.1.0 in
-    let up = moved_2 (digit_value a) (digit_value b) c d e f g h w ds.0 ds.1.0 bytes.1.1.0 bytes.1.1.1.0 bytes.1.1.1.1.0 bytes.1.1.1.1.1.0 bytes.1.1.1.1.1.1.0 bytes.1.1.1.1.1.1.1.0 (omega (arith, is, is_a, is_b)) in
-    number_is 0 0 0 0 0 0 (digit_value a) (digit_value b) (moved 2 w) (omega arith) (omega arith) (omega arith) (omega arith) (omega arith) (omega arith) ds.0 ds.1.0 up ∙ omega arith
-by_count (suc (suc (suc zero))) a b c d e f g h w bytes some few ds is =
-    let is_a = digit a ds.0 in
-    let is_b = digit b ds.1.0 in
-    let is_c = digit c ds.1.1.0 in
-    let up = moved_3 (digit_value a) (digit_value b) (digit_value c) d e f g h w ds.0 ds.1.0 ds.1.1.0 bytes.1.1.1.0 bytes.1.1.1.1.0 bytes.1.1.1.1.1.0 bytes.1.1.1.1.1.1.0 bytes.1.1.1.1.1.1.1.0 (omega (arith, is, is_a, is_b, is_c)) in
-    number_is 0 0 0 0 0 (digit_value a) (digit_value b) (digit_value c) (moved 3 w) (omega arith) (omega arith) (omega arith) (omega arith) (omega arith) ds.0 ds.1.0 ds.1.1.0 up ∙ omega arith
-by_count (suc (suc (suc (suc zero)))) a b c d e f g h w bytes some few ds is =
-    let is_a = digit a ds.0 in
-    let is_b = digit b ds.1.0 in
-    let is_c = digit c ds.1.1.0 in
-    let is_d = digit d ds.1.1.1.0 in
-    let up = moved_4 (digit_value a) (digit_value b) (digit_value c) (digit_value d) e f g h w ds.0 ds.1.0 ds.1.1.0 ds.1.1.1.0 bytes.1.1.1.1.0 bytes.1.1.1.1.1.0 bytes.1.1.1.1.1.1.0 bytes.1.1.1.1.1.1.1.0 (omega (arith, is, is_a, is_b, is_c, is_d)) in
-    number_is 0 0 0 0 (digit_value a) (digit_value b) (digit_value c) (digit_value d) (moved 4 w) (omega arith) (omega arith) (omega arith) (omega arith) ds.0 ds.1.0 ds.1.1.0 ds.1.1.1.0 up ∙ omega arith
-by_count (suc (suc (suc (suc (suc zero))))) a b c d e f g h w bytes some few ds is =
-    let is_a = digit a ds.0 in
-    let is_b = digit b ds.1.0 in
-    let is_c = digit c ds.1.1.0 in
-    let is_d = digit d ds.1.1.1.0 in
-    let is_e = digit e ds.1.1.1.1.0 in
-    let up = moved_5 (digit_value a) (digit_value b) (digit_value c) (digit_value d) (digit_value e) f g h w ds.0 ds.1.0 ds.1.1.0 ds.1.1.1.0 ds.1.1.1.1.0 bytes.1.1.1.1.1.0 bytes.1.1.1.1.1.1.0 bytes.1.1.1.1.1.1.1.0 (omega (arith, is, is_a, is_b, is_c, is_d, is_e)) in
-    number_is 0 0 0 (digit_value a) (digit_value b) (digit_value c) (digit_value d) (digit_value e) (moved 5 w) (omega arith) (omega arith) (omega arith) ds.0 ds.1.0 ds.1.1.0 ds.1.1.1.0 ds.1.1.1.1.0 up ∙ omega arith
-by_count (suc (suc (suc (suc (suc (suc zero)))))) a b c d e f g h w bytes some few ds is =
-    let is_a = digit a ds.0 in
-    let is_b = digit b ds.1.0 in
-    let is_c = digit c ds.1.1.0 in
-    let is_d = digit d ds.1.1.1.0 in
-    let is_e = digit e ds.1.1.1.1.0 in
-    let is_f = digit f ds.1.1.1.1.1.0 in
-    let up = moved_6 (digit_value a) (digit_value b) (digit_value c) (digit_value d) (digit_value e) (digit_value f) g h w ds.0 ds.1.0 ds.1.1.0 ds.1.1.1.0 ds.1.1.1.1.0 ds.1.1.1.1.1.0 bytes.1.1.1.1.1.1.0 bytes.1.1.1.1.1.1.1.0 (omega (arith, is, is_a, is_b, is_c, is_d, is_e, is_f)) in
-    number_is 0 0 (digit_value a) (digit_value b) (digit_value c) (digit_value d) (digit_value e) (digit_value f) (moved 6 w) (omega arith) (omega arith) ds.0 ds.1.0 ds.1.1.0 ds.1.1.1.0 ds.1.1.1.1.0 ds.1.1.1.1.1.0 up ∙ omega arith
-by_count (suc (suc (suc (suc (suc (suc (suc zero))))))) a b c d e f g h w bytes some few ds is =
-    let is_a = digit a ds.0 in
-    let is_b = digit b ds.1.0 in
-    let is_c = digit c ds.1.1.0 in
-    let is_d = digit d ds.1.1.1.0 in
-    let is_e = digit e ds.1.1.1.1.0 in
-    let is_f = digit f ds.1.1.1.1.1.0 in
-    let is_g = digit g ds.1.1.1.1.1.1.0 in
-    let up = moved_7 (digit_value a) (digit_value b) (digit_value c) (digit_value d) (digit_value e) (digit_value f) (digit_value g) h w ds.0 ds.1.0 ds.1.1.0 ds.1.1.1.0 ds.1.1.1.1.0 ds.1.1.1.1.1.0 ds.1.1.1.1.1.1.0 bytes.1.1.1.1.1.1.1.0 (omega (arith, is, is_a, is_b, is_c, is_d, is_e, is_f, is_g)) in
-    number_is 0 (digit_value a) (digit_value b) (digit_value c) (digit_value d) (digit_value e) (digit_value f) (digit_value g) (moved 7 w) (omega arith) ds.0 ds.1.0 ds.1.1.0 ds.1.1.1.0 ds.1.1.1.1.0 ds.1.1.1.1.1.0 ds.1.1.1.1.1.1.0 up ∙ omega arith
-by_count (suc (suc (suc (suc (suc (suc (suc (suc zero)))))))) a b c d e f g h w bytes some few ds is =
-    let is_a = digit a ds.0 in
-    let is_b = digit b ds.1.0 in
-    let is_c = digit c ds.1.1.0 in
-    let is_d = digit d ds.1.1.1.0 in
-    let is_e = digit e ds.1.1.1.1.0 in
-    let is_f = digit f ds.1.1.1.1.1.0 in
-    let is_g = digit g ds.1.1.1.1.1.1.0 in
-    let is_h = digit h ds.1.1.1.1.1.1.1.0 in
-    let up = moved_8 (digit_value a) (digit_value b) (digit_value c) (digit_value d) (digit_value e) (digit_value f) (digit_value g) (digit_value h) w ds.0 ds.1.0 ds.1.1.0 ds.1.1.1.0 ds.1.1.1.1.0 ds.1.1.1.1.1.0 ds.1.1.1.1.1.1.0 ds.1.1.1.1.1.1.1.0 (omega (arith, is, is_a, is_b, is_c, is_d, is_e, is_f, is_g, is_h)) in
-    number_is (digit_value a) (digit_value b) (digit_value c) (digit_value d) (digit_value e) (digit_value f) (digit_value g) (digit_value h) (moved 8 w) ds.0 ds.1.0 ds.1.1.0 ds.1.1.1.0 ds.1.1.1.1.0 ds.1.1.1.1.1.0 ds.1.1.1.1.1.1.0 ds.1.1.1.1.1.1.1.0 up ∙ omega arith
-by_count (suc (suc (suc (suc (suc (suc (suc (suc (suc count))))))))) a b c d e f g h w bytes some few ds is = absurd (omega arith)
+-- the digits, moved up behind zeros
+moved_is : (k v r w : ℕ) → 1 ≤ k → k ≤ 8 → v < shifted k 1 → w ≡ v + word (replicate k 48) + shifted k r → moved k w ≡ shifted (8 - k) v
+moved_is (suc zero) v r w some few lt is = omega arith
+moved_is (suc (suc zero)) v r w some few lt is = omega arith
+moved_is (suc (suc (suc zero))) v r w some few lt is = omega arith
+moved_is (suc (suc (suc (suc zero)))) v r w some few lt is = omega arith
+moved_is (suc (suc (suc (suc (suc zero))))) v r w some few lt is = omega arith
+moved_is (suc (suc (suc (suc (suc (suc zero)))))) v r w some few lt is = omega arith
+moved_is (suc (suc (suc (suc (suc (suc (suc zero))))))) v r w some few lt is = omega arith
+moved_is (suc (suc (suc (suc (suc (suc (suc (suc zero)))))))) v r w some few lt is = omega arith
+moved_is k v r w some few lt is = absurd (omega arith)
 
-pub value_of : (xs : List ℕ) (count w : ℕ) → length xs ≡ 8 → AllBytes xs → 1 ≤ count → count ≤ 8 → AllDigits 10 (take count xs) → w ≡ little xs → number (moved count w) ≡ digits_value 10 (take count xs)
-value_of [] count w long bytes some few ds is = absurd (omega arith)
-value_of (a ∷ []) count w long bytes some few ds is = absurd (omega arith)
-value_of (a ∷ b ∷ []) count w long bytes some few ds is = absurd (omega arith)
-value_of (a ∷ b ∷ c ∷ []) count w long bytes some few ds is = absurd (omega arith)
-value_of (a ∷ b ∷ c ∷ d ∷ []) count w long bytes some few ds is = absurd (omega arith)
-value_of (a ∷ b ∷ c ∷ d ∷ e ∷ []) count w long bytes some few ds is = absurd (omega arith)
-value_of (a ∷ b ∷ c ∷ d ∷ e ∷ f ∷ []) count w long bytes some few ds is = absurd (omega arith)
-value_of (a ∷ b ∷ c ∷ d ∷ e ∷ f ∷ g ∷ []) count w long bytes some few ds is = absurd (omega arith)
-value_of (a ∷ b ∷ c ∷ d ∷ e ∷ f ∷ g ∷ h ∷ []) count w long bytes some few ds is = by_count count a b c d e f g h w bytes some few ds is
-value_of (a ∷ b ∷ c ∷ d ∷ e ∷ f ∷ g ∷ h ∷ i ∷ xs) count w long bytes some few ds is = absurd (omega arith)
+-- zeros before the digits
+padded : (k : ℕ) (ds : List ℕ) → AllDigits 10 ds → AllDigits 10 (replicate k 48 ++ ds)
+    × (word (map digit_value (replicate k 48 ++ ds)) ≡ shifted k (word (map digit_value ds))) × (digits_value 10 (replicate k 48 ++ ds) ≡ digits_value 10 ds)
+padded zero ds all = (all, refl, refl)
+padded (suc k) ds all = let r = padded k ds all in ((omega arith, r.0), omega (arith, r.1), r.2)
+
+number_of : (xs : List ℕ) (w : ℕ) → length xs ≡ 8 → AllDigits 10 xs → w ≡ word (map digit_value xs) → number w ≡ digits_value 10 xs
+number_of (a ∷ b ∷ c ∷ d ∷ e ∷ f ∷ g ∷ h ∷ []) w long (A, (B, (C, (D, (E, (F, (G, (H, _)))))))) is =
+    number_is (digit_value a) (digit_value b) (digit_value c) (digit_value d) (digit_value e) (digit_value f) (digit_value g) (digit_value h) w
+    A B C D E F G H (omega arith) ∙ omega arith
+number_of xs w long ds is = absurd (omega arith)
+
+pub value_of : (xs : List ℕ) (count w : ℕ) → length xs ≡ 8 → 1 ≤ count → count ≤ 8 → AllDigits 10 (take count xs) → w ≡ little xs → number (moved count w) ≡ digits_value 10 (take count xs)
+value_of xs count w long some few ds is =
+    let p = padded (8 - count) (take count xs) ds in
+    let q = parts count xs (omega arith) ds in
+    let full : length (replicate (8 - count) 48 ++ take count xs) ≡ 8 = simp (length-append, length-replicate) (omega (arith, length-take-le count xs (omega arith))) in
+    let up = moved_is count (values count xs) (word (drop count xs)) w some few q.1 (is ∙ little_is xs long ∙ q.0) in
+    number_of (replicate (8 - count) 48 ++ take count xs) (moved count w) full p.0 (up ∙ sym p.1) ∙ p.2
 
 -- ---- more than eight digits
 
@@ -211,37 +154,21 @@ all_drop n (suc k) (x ∷ xs) h =
 one_more : (xs : List ℕ) (i m : ℕ) → i < length xs → m ≡ i + 1 → digits_value 10 (take m xs) ≡ digits_value 10 (take i xs) * 10 + digit_value (get_or xs i 0)
 one_more xs i m lt e = ap (λ (j : ℕ). digits_value 10 (take j xs)) e ∙ digits_value_more 10 xs i lt
 
--- eight digits after some others
+-- the number of digits after which there are more, all 0
+abbrev tenfold : ℕ → ℕ → ℕ
+tenfold zero v = v
+tenfold (suc n) v = 10 * tenfold n v
+
+-- digits after some others
+more : (n k : ℕ) (xs : List ℕ) → k + n ≤ length xs → digits_value 10 (take (k + n) xs) ≡ tenfold n (digits_value 10 (take k xs)) + digits_value 10 (take n (drop k xs))
+more zero k xs le = ap (λ (m : ℕ). digits_value 10 (take m xs)) {y = k} (omega arith) ∙ omega arith
+more (suc n) k xs le =
+    let longer = one_more xs (k + n) (k + suc n) (omega arith) (omega arith) in
+    let one = one_more (drop k xs) n (suc n) (omega (arith, length-drop k xs)) (omega arith) in
+    omega (arith, longer, one, ap digit_value (get_or-drop k xs n 0), more n k xs (omega arith))
+
 pub eight_more : (k : ℕ) (xs : List ℕ) → k + 8 ≤ length xs → digits_value 10 (take (k + 8) xs) ≡ digits_value 10 (take k xs) * 100000000 + digits_value 10 (take 8 (drop k xs))
-eight_more k xs le =
-    let rest = drop k xs in
-    let long = length-drop k xs in
-    let a0 = one_more xs k (k + 1) (omega arith) (omega arith) in
-    let b0 = one_more rest 0 1 (omega (arith, long)) refl in
-    let c0 = get_or-drop k xs 0 0 in
-    let a1 = one_more xs (k + 1) (k + 2) (omega arith) (omega arith) in
-    let b1 = one_more rest 1 2 (omega (arith, long)) refl in
-    let c1 = get_or-drop k xs 1 0 in
-    let a2 = one_more xs (k + 2) (k + 3) (omega arith) (omega arith) in
-    let b2 = one_more rest 2 3 (omega (arith, long)) refl in
-    let c2 = get_or-drop k xs 2 0 in
-    let a3 = one_more xs (k + 3) (k + 4) (omega arith) (omega arith) in
-    let b3 = one_more rest 3 4 (omega (arith, long)) refl in
-    let c3 = get_or-drop k xs 3 0 in
-    let a4 = one_more xs (k + 4) (k + 5) (omega arith) (omega arith) in
-    let b4 = one_more rest 4 5 (omega (arith, long)) refl in
-    let c4 = get_or-drop k xs 4 0 in
-    let a5 = one_more xs (k + 5) (k + 6) (omega arith) (omega arith) in
-    let b5 = one_more rest 5 6 (omega (arith, long)) refl in
-    let c5 = get_or-drop k xs 5 0 in
-    let a6 = one_more xs (k + 6) (k + 7) (omega arith) (omega arith) in
-    let b6 = one_more rest 6 7 (omega (arith, long)) refl in
-    let c6 = get_or-drop k xs 6 0 in
-    let a7 = one_more xs (k + 7) (k + 8) (omega arith) (omega arith) in
-    let b7 = one_more rest 7 8 (omega (arith, long)) refl in
-    let c7 = get_or-drop k xs 7 0 in
-    let first : get_or xs (k + 0) 0 ≡ get_or xs k 0 = ap (λ (i : ℕ). get_or xs i 0) (omega arith) in
-    omega (arith, a0, b0, ap digit_value c0, a1, b1, ap digit_value c1, a2, b2, ap digit_value c2, a3, b3, ap digit_value c3, a4, b4, ap digit_value c4, a5, b5, ap digit_value c5, a6, b6, ap digit_value c6, a7, b7, ap digit_value c7, ap digit_value first)
+eight_more k xs le = more 8 k xs le ∙ omega arith
 
 pub first_digits : (n : ℕ) (xs ys : List ℕ) → n ≤ 8 → ys ≡ take 8 (drop 0 xs) → take n ys ≡ take n xs
 first_digits n xs ys le e = ap (take n) e ∙ take-take n 8 xs le
