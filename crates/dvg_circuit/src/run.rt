@@ -83,7 +83,8 @@ impl Run {
     /// Notes a draw that begins here, if its intensity is not 0.
     fn light(&mut self, draw: &Draw, counts: u16) -> Result<(), AllocError>
         ensures circuit { self.new.circuit ≡ self.old.circuit }
-        ensures lit { IfOk result (λ _. self.new.lit ≡ self.old.lit ++ lit_if draw.now.bright (record { draw = draw.now; from = self.old.circuit.counters; counts = counts })) }
+        ensures lit { IfOk result (λ _. self.new.lit
+            ≡ self.old.lit ++ lit_if draw.now.bright (record { draw = draw.now; from = self.old.circuit.counters; counts = counts })) }
         ensures fetched { self.new.fetched ≡ self.old.fetched }
     {
         let lit = LitDraw {
@@ -100,7 +101,9 @@ impl Run {
     /// A draw: the timer's counts step the counters, and the beam is lit at each of them.
     fn draw(&mut self, draw: &Draw) -> Result<(), AllocError>
         ensures { IfOk result (λ _. self.new ≡ record self.old {
-          circuit = record self.old.circuit { counters = counters_after draw.now self.old.circuit.counters (draw_counts draw.now self.old.circuit) };
+          circuit = record self.old.circuit {
+            counters = counters_after draw.now self.old.circuit.counters (draw_counts draw.now self.old.circuit);
+          };
           lit = self.old.lit ++ lit_if draw.now.bright (record {
             draw = draw.now;
             from = self.old.circuit.counters;
