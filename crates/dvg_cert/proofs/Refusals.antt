@@ -1,17 +1,5 @@
 -- What refuses a text, from what the reader holds.
-use Rattle.std.proofs.Common.{◌≡◌, ◌≢◌, ℕ, zero, suc, ◌+◌, ◌-◌, ◌<◌, List, [], ◌∷◌, ◌++◌, length, get_or, take, drop, Ok, Err, refl, sym, ap, subst, ◌∙◌, append_assoc, arith, inl, inr}
-use Rattle.std.proofs.lemmas.List.{append-nil, length-append, length-take-le}
-use Rattle.std.proofs.lemmas.Bool.Decides.{nat_tests}
-use Rattle.dvg_words.specs.Values.{MemoryMap, asteroids}
-use Rattle.dvg_cert.specs.Limits.{LONGEST_LINE, LINE_FEED}
-use Rattle.dvg_cert.specs.Entry.{Entry}
-use Rattle.dvg_cert.specs.Order.{IsCertificate}
-use Rattle.dvg_cert.specs.Grammar.{entry_line, rom_line, begun_with, text_of, ended}
-use Rattle.dvg_cert.specs.Reading.{IsRefusal, HasEntryAt, IsElsewhere, Nothing, Versioned, Begun, Whole, Taken, Without, text_taken, line_number, IsTaken, IsUnended, IsRest, Holds, Meets}
-use Rattle.dvg_cert.specs.Private.Progress.{IsLineRefused, EndsLine, StartsWith, taken_of, IsStaged}
-use Rattle.dvg_cert.specs.declared.fault.CertFault.{CertFault}
-use Rattle.dvg_cert.specs.declared.fault.CertWhy.{CertWhy}
-use Rattle.dvg_cert.specs.declared.fault.CertWhy.TheVariants.{Form, Order, Count, Unended, After, TooLong, Memory}
+use Rattle.dvg_cert.proofs.Common.{◌≡◌, ◌≢◌, ℕ, zero, suc, ◌+◌, ◌-◌, ◌<◌, List, [], ◌∷◌, ◌++◌, length, get_or, take, drop, Ok, Err, refl, sym, ap, subst, ◌∙◌, append_assoc, arith, inl, inr, append-nil, length-append, length-take-le, nat_tests, MemoryMap, asteroids, LONGEST_LINE, LINE_FEED, Entry, IsCertificate, entry_line, rom_line, begun_with, text_of, ended, IsRefusal, HasEntryAt, IsElsewhere, Nothing, Versioned, Begun, Whole, Taken, Without, text_taken, line_number, IsTaken, IsUnended, IsRest, Holds, Meets, IsLineRefused, EndsLine, StartsWith, taken_of, IsStaged, CertFault, CertWhy, Form, Order, Count, Unended, After, TooLong, Memory}
 use Rattle.dvg_cert.specs.declared.taken.Stage.{Stage}
 use Rattle.dvg_cert.specs.declared.taken.Stage.TheVariants.{First, Rom, Later, Ended}
 use Rattle.dvg_cert.proofs.Graphics.{Without-append}
