@@ -1,22 +1,5 @@
 -- Each text may stand, or has a first byte that cannot come.
-use Rattle.std.proofs.Common.{◌≡◌, ◌≢◌, ℕ, ◌+◌, ◌-◌, ◌<◌, ◌≤◌, Bool, true, false, List, [], ◌∷◌, ◌++◌, length, Option, Some, None, refl, sym, ap, subst, ◌∙◌, append_assoc, arith, inl, inr, ◌⊎◌}
-use Rattle.std.specs.Prelude.{◌==◌, nat_lt}
-use Rattle.std.specs.Str.{bytes_eq}
-use Rattle.std.proofs.lemmas.List.{append-nil, length-append}
-use Rattle.std.proofs.lemmas.Bool.{eqb-true}
-use Rattle.std.proofs.lemmas.Bool.Decides.{nat_tests}
-use Rattle.std.proofs.lemmas.Slice.Eq.{bytes_eq-Decides}
-use Rattle.std.proofs.lemmas.Option.{none-some}
-use Rattle.dvg_words.specs.Values.{MemoryMap, asteroids}
-use Rattle.dvg_cert.specs.Limits.{MOST_ENTRIES, LONGEST_LINE, LINE_FEED}
-use Rattle.dvg_cert.specs.Reading.{Line}
-use Rattle.dvg_cert.specs.Reading.{EntryLine, DoneLine}
-use Rattle.dvg_cert.specs.declared.fault.CertWhy.{CertWhy}
-use Rattle.dvg_cert.specs.declared.fault.CertWhy.TheVariants.{Form, Order, Count, Unended, After, TooLong, Memory}
-use Rattle.dvg_cert.specs.Entry.{Entry, Key, At, Any}
-use Rattle.dvg_cert.specs.Order.{KeyBefore, Before, StandsAfter}
-use Rattle.dvg_cert.specs.Grammar.{first_version_line, second_version_line, done_line, begun_with, ended, text_of}
-use Rattle.dvg_cert.specs.Reading.{IsLine, Taken, Nothing, Versioned, Begun, Whole, text_taken, line_number, Holds, MayStand, IsUnended, IsWrong, Meets, StopsAt, IsRefusal}
+use Rattle.dvg_cert.proofs.Common.{◌≡◌, ◌≢◌, ℕ, ◌+◌, ◌-◌, ◌<◌, ◌≤◌, Bool, true, false, List, [], ◌∷◌, ◌++◌, length, Option, Some, None, refl, sym, ap, subst, ◌∙◌, append_assoc, arith, inl, inr, ◌⊎◌, ◌==◌, nat_lt, bytes_eq, append-nil, length-append, eqb-true, nat_tests, bytes_eq-Decides, none-some, MemoryMap, asteroids, MOST_ENTRIES, LONGEST_LINE, LINE_FEED, Line, EntryLine, DoneLine, CertWhy, Form, Order, Count, Unended, After, TooLong, Memory, Entry, Key, At, Any, KeyBefore, Before, StandsAfter, first_version_line, second_version_line, done_line, begun_with, ended, text_of, IsLine, Taken, Nothing, Versioned, Begun, Whole, text_taken, line_number, Holds, MayStand, IsUnended, IsWrong, Meets, StopsAt, IsRefusal}
 use Rattle.dvg_cert.proofs.Graphics.{Without-append}
 use Rattle.dvg_cert.proofs.WholeLines.{said, line_takes, line_again}
 use Rattle.dvg_cert.proofs.Rising.{certificate_push, no_entry_yet, small_map}

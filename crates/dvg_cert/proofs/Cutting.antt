@@ -1,14 +1,7 @@
 -- Cutting bytes at a byte.
-use Rattle.std.proofs.Common.{◌≡◌, ℕ, suc, ◌+◌, ◌<◌, ◌≤◌, Bool, true, false, cond, List, [], ◌∷◌, ◌++◌, length, take, drop, Option, Some, None, refl, sym, ap, subst, ◌∙◌, arith}
-use Rattle.std.specs.Prelude.{◌==◌, position, nat_lt, not}
+use Rattle.dvg_cert.proofs.Common.{◌≡◌, ℕ, suc, ◌+◌, ◌<◌, ◌≤◌, Bool, true, false, cond, List, [], ◌∷◌, ◌++◌, length, take, drop, Option, Some, None, refl, sym, ap, subst, ◌∙◌, arith, ◌==◌, position, nat_lt, not, position_or_len, zero, add-one, append_assoc, eqb-true, take-append-drop, length-take-le, nat_tests, Without}
 use Rattle.std.specs.Prelude.{slice_index}
 use Rattle.memchr.specs.Find.{IsFirstByte, is_byte}
-use Rattle.std.specs.List.{position_or_len}
-use Rattle.std.proofs.Common.{zero, add-one, append_assoc}
-use Rattle.std.proofs.lemmas.Bool.{eqb-true}
-use Rattle.std.proofs.lemmas.List.{take-append-drop, length-take-le}
-use Rattle.std.proofs.lemmas.Bool.Decides.{nat_tests}
-use Rattle.dvg_cert.specs.Reading.{Without}
 
 placed : (a n : ℕ) (i : ℕ) → cond (nat_lt a n) (Some a) None ≡ Some i → (a ≡ i) × (a < n)
 placed a n i e = grind (arith, nat_tests)

@@ -1,16 +1,9 @@
 -- Digits among the lanes of a vector.
-use Rattle.std.proofs.Common.{◌≡◌, ℕ, suc, ◌+◌, ◌-◌, ◌%◌, ◌^◌, ◌<◌, ◌≤◌, Bool, true, false, not, eqb, ltb, leb, cond, List, [], ◌∷◌, map, length, take, drop, get_or, replicate, refl, ap, ◌∙◌, arith, one-add}
-use Rattle.std.proofs.lemmas.Bool.{agree_below_at}
-use Rattle.std.proofs.lemmas.Bool.Decides.{nat_tests}
+use Rattle.dvg_cert.proofs.Common.{◌≡◌, ℕ, suc, ◌+◌, ◌-◌, ◌%◌, ◌^◌, ◌<◌, ◌≤◌, Bool, true, false, not, eqb, ltb, leb, cond, List, [], ◌∷◌, map, length, take, drop, get_or, replicate, refl, ap, ◌∙◌, arith, one-add, agree_below_at, nat_tests, length-map, prefix_len, digit_value, AllDigits, NoDigitFirst}
 use Rattle.std.proofs.lemmas.List.Sums.{prefix_len-le-length}
 use Rattle.std.proofs.lemmas.Simd.{mask_l-mod, first_set_mask_l, zip2_splat, zip2_splat_left, map-map}
-use Rattle.std.proofs.lemmas.List.{length-map}
-use Rattle.std.specs.List.{prefix_len}
-use Rattle.std.specs.Char.{digit_value}
-use Rattle.std.specs.Str.Parse.{AllDigits}
 use lib.Lanes.{mask_l, zip2, top}
 use lib.Count.{count_trailing_zeros}
-use Rattle.dvg_cert.specs.Private.Fields.{NoDigitFirst}
 
 -- the byte is no digit
 abbrev pub other : ℕ → Bool

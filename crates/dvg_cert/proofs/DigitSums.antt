@@ -1,15 +1,8 @@
 -- The number that digits in the bytes of a word write.
-use Rattle.std.proofs.Common.{◌≡◌, ℕ, zero, suc, ◌+◌, ◌-◌, ◌*◌, ◌/◌, ◌%◌, ◌^◌, ◌<◌, ◌≤◌, List, [], ◌∷◌, ◌++◌, map, replicate, length, length-append, take, drop, get_or, subst, get_or-drop, drop-cons, length-drop, refl, sym, ap, ◌∙◌, arith}
+use Rattle.dvg_cert.proofs.Common.{◌≡◌, ℕ, zero, suc, ◌+◌, ◌-◌, ◌*◌, ◌/◌, ◌%◌, ◌^◌, ◌<◌, ◌≤◌, List, [], ◌∷◌, ◌++◌, map, replicate, length, length-append, take, drop, get_or, subst, get_or-drop, drop-cons, length-drop, refl, sym, ap, ◌∙◌, arith, digit_value, AllDigits, digits_value, take-take, length-take-le, get_or-take, length-replicate, digits_value_more, digit_value_digit, digit_from_value, digits_value_short, NoDigitFirst}
 use Rattle.std.specs.List.{slice_index}
-use Rattle.std.specs.Char.{digit_value}
-use Rattle.std.specs.Str.Parse.{AllDigits, digits_value}
-use Rattle.std.proofs.lemmas.List.{take-take, length-take-le, get_or-take, length-replicate}
-use Rattle.std.proofs.lemmas.Int.Digits.{digits_value_more}
 use Rattle.std.proofs.lemmas.Nat.{and_block, and_mask}
 use Rattle.std.specs.Int.Bits.{bit_and}
-use Rattle.std.proofs.lemmas.Str.{digit_value_digit}
-use Rattle.std.proofs.lemmas.Str.Parse.{digit_from_value, digits_value_short}
-use Rattle.dvg_cert.specs.Private.Fields.{NoDigitFirst}
 use Rattle.dvg_cert.proofs.Digits.{own}
 
 -- eight numbers as the bytes of a word, the first in the lowest

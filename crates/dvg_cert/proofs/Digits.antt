@@ -1,15 +1,5 @@
 -- Tokens of digits, byte by byte.
-use Rattle.std.proofs.Common.{◌≡◌, ℕ, zero, suc, ◌+◌, ◌-◌, ◌*◌, ◌^◌, ◌<◌, ◌≤◌, List, [], ◌∷◌, length, get_or, take, refl, sym, ap, subst, ◌∙◌, arith, add-one}
-use Rattle.std.specs.Prelude.{decimal, nat_lt}
-use Rattle.std.proofs.Common.{Bool, true, false}
-use Rattle.std.proofs.lemmas.Bool.Decides.{nat_tests}
-use Rattle.std.specs.Char.{digit_value}
-use Rattle.std.specs.Str.Parse.{AllDigits, digits_value}
-use Rattle.std.proofs.lemmas.Str.{digit_value_digit}
-use Rattle.std.proofs.lemmas.Str.Parse.{IsNumeralModel, digits_value_short}
-use Rattle.std.proofs.lemmas.Int.Digits.{digits_value-lt, digits_value_more}
-use Rattle.std.proofs.lemmas.Fmt.{decimal_is_IsNumeral, decimal-digits_value, length-decimal-le}
-use Rattle.dvg_cert.specs.Limits.{MOST_MAGNITUDE}
+use Rattle.dvg_cert.proofs.Common.{◌≡◌, ℕ, zero, suc, ◌+◌, ◌-◌, ◌*◌, ◌^◌, ◌<◌, ◌≤◌, List, [], ◌∷◌, length, get_or, take, refl, sym, ap, subst, ◌∙◌, arith, add-one, decimal, nat_lt, Bool, true, false, nat_tests, digit_value, AllDigits, digits_value, digit_value_digit, IsNumeralModel, digits_value_short, digits_value-lt, digits_value_more, decimal_is_IsNumeral, decimal-digits_value, length-decimal-le, MOST_MAGNITUDE}
 use Rattle.dvg_cert.proofs.FieldValues.{first_digit}
 
 pub own : IsNumeralModel (λ ds. AllDigits 10 ds) (digits_value 10)

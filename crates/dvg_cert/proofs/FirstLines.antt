@@ -1,17 +1,6 @@
 -- The lines before the entries: which map they say, and that they say one.
-use Rattle.std.proofs.Common.{◌≡◌, ◌≢◌, ℕ, ◌-◌, ◌≤◌, ◌⊎◌, inl, inr, Bool, true, false, if◌then◌else◌, List, [], ◌∷◌, ◌++◌, length, get_or, Option, Some, None, IfNone, refl, sym, ap, subst, ◌∙◌, arith, lit<}
-use Rattle.std.specs.List.{flat_map}
-use Rattle.std.specs.Prelude.{◌==◌, nat_le, codes}
-use Rattle.std.proofs.lemmas.List.{append-nil}
-use Rattle.std.proofs.lemmas.Bool.{and_parts}
-use Rattle.std.proofs.lemmas.Bool.Decides.{nat_tests}
-use Rattle.std.proofs.lemmas.Option.{some_pair_parts, none-some}
-use Rattle.dvg_words.specs.Values.{MemoryMap, IsMap, asteroids, is_asteroids}
+use Rattle.dvg_cert.proofs.Common.{◌≡◌, ◌≢◌, ℕ, ◌-◌, ◌≤◌, ◌⊎◌, inl, inr, Bool, true, false, if◌then◌else◌, List, [], ◌∷◌, ◌++◌, length, get_or, Option, Some, None, IfNone, refl, sym, ap, subst, ◌∙◌, arith, lit<, flat_map, ◌==◌, nat_le, codes, append-nil, and_parts, nat_tests, some_pair_parts, none-some, MemoryMap, IsMap, asteroids, is_asteroids, LINE_FEED, ADDRESS_END, SPACE, address_token, first_version_line, second_version_line, rom_line, heading, ended, begun_with, Without, IsElsewhere, rom_at, nothing_left}
 use Rattle.dvg_words.specs.declared.map.TheConstants.{RAM_WORDS, ROM_FIRST, ROM_LAST, MEMORY_LAST}
-use Rattle.dvg_cert.specs.Limits.{LINE_FEED, ADDRESS_END, SPACE}
-use Rattle.dvg_cert.specs.Grammar.{address_token, first_version_line, second_version_line, rom_line, heading, ended, begun_with}
-use Rattle.dvg_cert.specs.Reading.{Without, IsElsewhere}
-use Rattle.dvg_cert.specs.Private.Fields.{rom_at, nothing_left}
 use Rattle.dvg_cert.proofs.Leading.{Text}
 use Rattle.dvg_cert.proofs.Graphics.{line_free, graphic_hex}
 use Rattle.dvg_cert.proofs.Steps.{past_takes, past_again, address_found, address_spelled}

@@ -1,16 +1,5 @@
 -- Lines: a spelled line has no line end inside.
-use Rattle.std.proofs.Common.{ℕ, suc, ◌/◌, ◌%◌, ◌^◌, ◌<◌, ◌≤◌, List, [], ◌∷◌, ◌++◌, refl, arith, lit<, lit≤}
-use Rattle.std.specs.Prelude.{codes, decimal, ℤ, pos, negsuc, true}
-use Rattle.std.specs.Fmt.{signed_decimal, digit_glyph}
-use Rattle.std.specs.Str.Parse.{AllDigits}
-use Rattle.std.specs.List.{join_with_byte}
-use Rattle.std.proofs.lemmas.Int.{ints}
-use Rattle.std.proofs.lemmas.Str.Parse.{digit_from_value}
-use Rattle.std.proofs.lemmas.Bool.Decides.{nat_tests}
-use Rattle.dvg_cert.specs.Limits.{LINE_FEED, SPACE}
-use Rattle.dvg_cert.specs.Entry.{Key, At, Any, End, Rel, Abs, Lost, LitBox, Empty, Span, Entry, IsNumber, IsKey, IsEnd, IsBox, IsEntry}
-use Rattle.dvg_cert.specs.Grammar.{address_token, key_token, end_tokens, box_tokens, entry_tokens}
-use Rattle.dvg_cert.specs.Reading.{Without}
+use Rattle.dvg_cert.proofs.Common.{ℕ, suc, ◌/◌, ◌%◌, ◌^◌, ◌<◌, ◌≤◌, List, [], ◌∷◌, ◌++◌, refl, arith, lit<, lit≤, codes, decimal, ℤ, pos, negsuc, true, signed_decimal, digit_glyph, AllDigits, join_with_byte, ints, digit_from_value, nat_tests, LINE_FEED, SPACE, Key, At, Any, End, Rel, Abs, Lost, LitBox, Empty, Span, Entry, IsNumber, IsKey, IsEnd, IsBox, IsEntry, address_token, key_token, end_tokens, box_tokens, entry_tokens, Without}
 use Rattle.dvg_cert.proofs.FieldValues.{first_digit}
 use Rattle.dvg_cert.proofs.Leading.{Text}
 

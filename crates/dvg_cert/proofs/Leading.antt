@@ -1,12 +1,5 @@
 -- The digits that bytes begin with.
-use Rattle.std.proofs.Common.{◌≡◌, ℕ, suc, ◌+◌, ◌^◌, ◌<◌, ◌≤◌, List, [], ◌∷◌, ◌++◌, length, take, drop, Some, None, refl, sym, ap, subst, ◌∙◌, arith}
-use Rattle.std.specs.Prelude.{decimal}
-use Rattle.std.proofs.Common.{zero, get_or, drop-cons, drop_of_length-le}
-use Rattle.std.specs.Str.Parse.{AllDigits, digits_value}
-use Rattle.std.proofs.lemmas.List.{append-nil, nil_from_length, take-append-drop, length-take-le}
-use Rattle.std.proofs.lemmas.Str.Parse.{digit_from_value}
-use Rattle.dvg_cert.specs.Limits.{MOST_MAGNITUDE}
-use Rattle.dvg_cert.specs.Private.Fields.{natural_in, NoDigitFirst}
+use Rattle.dvg_cert.proofs.Common.{◌≡◌, ℕ, suc, ◌+◌, ◌^◌, ◌<◌, ◌≤◌, List, [], ◌∷◌, ◌++◌, length, take, drop, Some, None, refl, sym, ap, subst, ◌∙◌, arith, decimal, zero, get_or, drop-cons, drop_of_length-le, AllDigits, digits_value, append-nil, nil_from_length, take-append-drop, length-take-le, digit_from_value, MOST_MAGNITUDE, natural_in, NoDigitFirst}
 use Rattle.dvg_cert.proofs.NaturalNumbers.{natural_some, natural_none}
 use Rattle.dvg_cert.proofs.FieldValues.{first_digit}
 use Rattle.dvg_cert.proofs.Digits.{same_decimal, spells, below, no_zero, not_long}

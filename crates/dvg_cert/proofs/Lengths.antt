@@ -1,15 +1,6 @@
 -- How long a line is.
-use Rattle.std.proofs.Common.{◌≡◌, ℕ, suc, ◌+◌, ◌≤◌, List, [], ◌∷◌, ◌++◌, length, arith, w64}
-use Rattle.dvg_cert.specs.Limits.{MOST_ENTRIES, SPACE}
+use Rattle.dvg_cert.proofs.Common.{◌≡◌, ℕ, suc, ◌+◌, ◌≤◌, List, [], ◌∷◌, ◌++◌, length, arith, w64, MOST_ENTRIES, SPACE, codes, decimal, ℤ, pos, negsuc, signed_decimal, join_with_byte, length-append, length-decimal-le, ints, Key, At, Any, End, Rel, Abs, Lost, LitBox, Empty, Span, Entry, IsNumber, IsKey, IsEnd, IsBox, IsEntry, key_token, end_tokens, box_tokens, entry_tokens, entry_line, done_line}
 use mir.Val.{SFits}
-use Rattle.std.specs.Prelude.{codes, decimal, ℤ, pos, negsuc}
-use Rattle.std.specs.Fmt.{signed_decimal}
-use Rattle.std.specs.List.{join_with_byte}
-use Rattle.std.proofs.lemmas.List.{length-append}
-use Rattle.std.proofs.lemmas.Fmt.{length-decimal-le}
-use Rattle.std.proofs.lemmas.Int.{ints}
-use Rattle.dvg_cert.specs.Entry.{Key, At, Any, End, Rel, Abs, Lost, LitBox, Empty, Span, Entry, IsNumber, IsKey, IsEnd, IsBox, IsEntry}
-use Rattle.dvg_cert.specs.Grammar.{key_token, end_tokens, box_tokens, entry_tokens, entry_line, done_line}
 
 -- the bytes of tokens, each with one more
 abbrev pub weight : List (List ℕ) → ℕ

@@ -1,3 +1,5 @@
+pub mod Lists
+pub mod Common
 pub mod NaturalNumbers
 pub mod Cutting
 pub mod DigitLanes

@@ -1,18 +1,5 @@
 -- A text is cut into lines in one way, and says one thing.
-use Rattle.std.proofs.Common.{◌≡◌, ℕ, ◌<◌, ◌≤◌, List, [], ◌∷◌, ◌++◌, length, Some, refl, sym, ap, subst, ◌∙◌, append_assoc, arith, inl, inr, ◌⊎◌}
-use Rattle.std.specs.List.{AllByRecursion}
-use Rattle.std.proofs.lemmas.List.{append-nil, length-append}
-use Rattle.std.proofs.lemmas.Bool.Decides.{nat_tests}
-use Rattle.dvg_words.specs.Values.{MemoryMap, IsMap}
-use Rattle.dvg_cert.specs.Limits.{MOST_ENTRIES, LINE_FEED, ADDRESS_END}
-use Rattle.dvg_cert.specs.Entry.{Entry, IsEntry}
-use Rattle.dvg_cert.specs.Order.{IsCertificate, StandsAfter, IsRising}
-use Rattle.dvg_cert.specs.Grammar.{entry_line, first_version_line, second_version_line, rom_line, heading, done_line}
-use Rattle.dvg_cert.specs.Reading.{IsWrong, IsLine, IsElsewhere, Nothing, Versioned, Begun, Whole, Taken, Without, IsTaken}
-use Rattle.dvg_cert.specs.Reading.{Line}
-use Rattle.dvg_cert.specs.Reading.{EntryLine, DoneLine}
-use Rattle.dvg_cert.specs.declared.fault.CertWhy.{CertWhy}
-use Rattle.dvg_cert.specs.declared.fault.CertWhy.TheVariants.{Form, Order, Count, Unended, After, TooLong, Memory}
+use Rattle.dvg_cert.proofs.Common.{◌≡◌, ℕ, ◌<◌, ◌≤◌, List, [], ◌∷◌, ◌++◌, length, Some, refl, sym, ap, subst, ◌∙◌, append_assoc, arith, inl, inr, ◌⊎◌, AllByRecursion, append-nil, length-append, nat_tests, MemoryMap, IsMap, MOST_ENTRIES, LINE_FEED, ADDRESS_END, Entry, IsEntry, IsCertificate, StandsAfter, IsRising, entry_line, first_version_line, second_version_line, rom_line, heading, done_line, IsWrong, IsLine, IsElsewhere, Nothing, Versioned, Begun, Whole, Taken, Without, IsTaken, Line, EntryLine, DoneLine, CertWhy, Form, Order, Count, Unended, After, TooLong, Memory}
 use Rattle.dvg_cert.proofs.Rising.{small_map}
 use Rattle.dvg_cert.proofs.FirstLines.{cons_parts, heads_once, first_of, second_of}
 use Rattle.dvg_cert.proofs.WholeLines.{line_again}

@@ -1,12 +1,5 @@
 -- A list of entries from its entries one by one.
-use Rattle.std.proofs.Common.{◌≡◌, ℕ, zero, suc, ◌+◌, ◌<◌, ◌≤◌, List, [], ◌∷◌, ◌++◌, length, get_or, take, drop, refl, sym, ap, subst, arith, add-one}
-use Rattle.std.specs.Prelude.{IsTrue, false}
-use Rattle.std.specs.List.{AllByRecursion}
-use Rattle.std.proofs.lemmas.List.{length-take-le}
-use Rattle.dvg_words.specs.Values.{MemoryMap}
-use Rattle.dvg_cert.specs.Limits.{MOST_ENTRIES}
-use Rattle.dvg_cert.specs.Entry.{Entry, IsEntry}
-use Rattle.dvg_cert.specs.Order.{IsCertificate, IsRising, StandsAfter}
+use Rattle.dvg_cert.proofs.Common.{◌≡◌, ℕ, zero, suc, ◌+◌, ◌<◌, ◌≤◌, List, [], ◌∷◌, ◌++◌, length, get_or, take, drop, refl, sym, ap, subst, arith, add-one, IsTrue, false, AllByRecursion, length-take-le, MemoryMap, MOST_ENTRIES, Entry, IsEntry, IsCertificate, IsRising, StandsAfter}
 use Rattle.dvg_cert.proofs.Rising.{certificate_push}
 use Rattle.dvg_cert.proofs.LinesOfTexts.{each_mid, rising_mid}
 

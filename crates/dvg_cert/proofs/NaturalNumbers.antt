@@ -1,12 +1,5 @@
 -- The numbers of tokens, in both directions.
-use Rattle.std.proofs.Common.{◌≡◌, ℕ, ◌^◌, ◌<◌, ◌≤◌, Bool, true, false, cond, List, ◌&&◌, Some, None, refl, sym, ap, ◌∙◌, arith}
-use Rattle.std.specs.Prelude.{decimal, nat_le}
-use Rattle.std.specs.Str.{bytes_eq}
-use Rattle.std.specs.Str.Parse.{digits_value}
-use Rattle.std.proofs.lemmas.Slice.Eq.{bytes_eq-Decides}
-use Rattle.std.proofs.lemmas.Fmt.{decimal_is_IsNumeral}
-use Rattle.std.proofs.lemmas.Bool.Decides.{nat_tests}
-use Rattle.dvg_cert.specs.Private.Fields.{natural_in}
+use Rattle.dvg_cert.proofs.Common.{◌≡◌, ℕ, ◌^◌, ◌<◌, ◌≤◌, Bool, true, false, cond, List, ◌&&◌, Some, None, refl, sym, ap, ◌∙◌, arith, decimal, nat_le, bytes_eq, digits_value, bytes_eq-Decides, decimal_is_IsNumeral, nat_tests, natural_in}
 
 pub natural_some : (low high n : ℕ) (token : List ℕ) → n < 2 ^ 64 → low ≤ n → n ≤ high → token ≡ decimal n → natural_in low high token ≡ Some n
 unfolding natural_in

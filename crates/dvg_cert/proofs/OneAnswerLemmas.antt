@@ -1,18 +1,5 @@
 -- A text has one answer.
-use Rattle.std.proofs.Common.{◌≡◌, ◌≢◌, ℕ, ◌-◌, ◌<◌, ◌≤◌, List, [], ◌∷◌, ◌++◌, length, Bool, true, false, refl, sym, ap, subst, ◌∙◌, append_assoc, arith, lit<, inl, inr, ◌⊎◌}
-use Rattle.std.specs.Prelude.{decimal, codes}
-use Rattle.std.specs.List.{flat_map, AllByRecursion}
-use Rattle.std.proofs.lemmas.List.{append-nil, length-append}
-use Rattle.std.proofs.lemmas.Bool.Decides.{nat_tests}
-use Rattle.dvg_words.specs.Values.{MemoryMap, is_asteroids}
-use Rattle.dvg_cert.specs.Limits.{MOST_ENTRIES, LONGEST_LINE, LINE_FEED}
-use Rattle.dvg_cert.specs.Entry.{Entry, IsEntry}
-use Rattle.dvg_cert.specs.Order.{Certificate, StandsAfter}
-use Rattle.dvg_cert.specs.Grammar.{entry_line, entry_tokens, heading, begun_with, text_of, ended, done_line, Spells}
-use Rattle.dvg_cert.specs.Reading.{IsRefusal, EndsOpen, StopsAt, IsWrong, Nothing, Versioned, Begun, Whole, Taken, Without, text_taken, line_number, IsTaken, IsUnended, IsRest, Holds, Meets}
-use Rattle.dvg_cert.specs.Reading.{EntryLine, DoneLine}
-use Rattle.dvg_cert.specs.declared.fault.CertWhy.{CertWhy}
-use Rattle.dvg_cert.specs.declared.fault.CertWhy.TheVariants.{Form, Order, Count, Unended, After, TooLong, Memory}
+use Rattle.dvg_cert.proofs.Common.{◌≡◌, ◌≢◌, ℕ, ◌-◌, ◌<◌, ◌≤◌, List, [], ◌∷◌, ◌++◌, length, Bool, true, false, refl, sym, ap, subst, ◌∙◌, append_assoc, arith, lit<, inl, inr, ◌⊎◌, decimal, codes, flat_map, AllByRecursion, append-nil, length-append, nat_tests, MemoryMap, is_asteroids, MOST_ENTRIES, LONGEST_LINE, LINE_FEED, Entry, IsEntry, Certificate, StandsAfter, entry_line, entry_tokens, heading, begun_with, text_of, ended, done_line, Spells, IsRefusal, EndsOpen, StopsAt, IsWrong, Nothing, Versioned, Begun, Whole, Taken, Without, text_taken, line_number, IsTaken, IsUnended, IsRest, Holds, Meets, EntryLine, DoneLine, CertWhy, Form, Order, Count, Unended, After, TooLong, Memory}
 use Rattle.dvg_cert.proofs.Graphics.{line_free, graphics_entry, graphic_decimal}
 use Rattle.dvg_cert.proofs.Lengths.{length_entry, length_done}
 use Rattle.dvg_cert.proofs.FirstLines.{heads, version_free, rom_free}

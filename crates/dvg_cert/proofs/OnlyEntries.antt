@@ -1,11 +1,5 @@
 -- A list that rises has one entry at an address and key at most.
-use Rattle.std.proofs.Common.{◌≡◌, ℕ, zero, suc, Bool, true, false, cond, List, [], ◌∷◌, length, take, get_or, ◌<◌, Option, Some, None, refl, sym, ap, subst, ◌∙◌, arith, inl, inr, ◌⊎◌}
-use Rattle.std.specs.Prelude.{◌==◌, IfSome, IfNone, Contains}
-use Rattle.std.proofs.lemmas.Bool.{and_parts, and_from}
-use Rattle.std.proofs.lemmas.Bool.Decides.{nat_tests}
-use Rattle.std.proofs.lemmas.List.Elements.{Contains-get_or}
-use Rattle.dvg_cert.specs.Entry.{Entry, Key, At, Any}
-use Rattle.dvg_cert.specs.Order.{KeyBefore, Before, IsRising}
+use Rattle.dvg_cert.proofs.Common.{◌≡◌, ℕ, zero, suc, Bool, true, false, cond, List, [], ◌∷◌, length, take, get_or, ◌<◌, Option, Some, None, refl, sym, ap, subst, ◌∙◌, arith, inl, inr, ◌⊎◌, ◌==◌, IfSome, IfNone, Contains, and_parts, and_from, nat_tests, Contains-get_or, Entry, Key, At, Any, KeyBefore, Before, IsRising}
 use Rattle.dvg_cert.specs.Lookup.{same_key, is_at, entry_at, IsOnlyAt, HasNoneAt}
 use Rattle.dvg_cert.specs.Laws.{OnlyEntry}
 

@@ -1,12 +1,8 @@
 -- Looking an entry up among pairs of an address and key with an entry.
-use Rattle.std.proofs.Common.{◌≡◌, ℕ, Bool, ◌&&◌, List, [], ◌∷◌, ◌++◌, refl, ap, ◌∙◌, arith, length, suc}
+use Rattle.dvg_cert.proofs.Common.{◌≡◌, ℕ, Bool, ◌&&◌, List, [], ◌∷◌, ◌++◌, refl, ap, ◌∙◌, arith, length, suc, nat_eq, All-nil, All-cons, Entry, Key, At, Any, IsOwn, IsKeyed}
 use Rattle.std.specs.Map.{lookup, values_of}
-use Rattle.std.specs.Prelude.{nat_eq}
-use Rattle.std.proofs.lemmas.List.Elements.{All-nil, All-cons}
-use Rattle.dvg_cert.specs.Entry.{Entry, Key, At, Any}
 use Rattle.dvg_cert.specs.Lookup.{same_key, is_at, entry_at}
 use Rattle.dvg_cert.specs.contracts.entry.KeyPartialEq.TheImpl.{ghosts}
-use Rattle.dvg_cert.specs.Private.Keyed.{IsOwn, IsKeyed}
 
 keyed_tail : (p : (ℕ × Key) × Entry) (ps : List ((ℕ × Key) × Entry)) → IsKeyed (p ∷ ps) → IsKeyed ps
 keyed_tail p ps h = λ k d lt. h (suc k) d (omega (arith, lt))

@@ -1,12 +1,7 @@
 -- A piece that is refused, as the stream sees it.
-use Rattle.std.proofs.Common.{◌≡◌, ◌≢◌, ℕ, List, [], ◌++◌, Option, Some, None, Result, Ok, Err, refl, sym, subst}
+use Rattle.dvg_cert.proofs.Common.{◌≡◌, ◌≢◌, ℕ, List, [], ◌++◌, Option, Some, None, Result, Ok, Err, refl, sym, subst, Unended, CertFault, Certificate, Taken, text_taken, IsRefusal, ReadAnswer, stream_of}
 use Rattle.std.specs.Result.{IsErrAnd}
-use Rattle.dvg_cert.specs.declared.fault.CertWhy.TheVariants.{Unended}
-use Rattle.dvg_cert.specs.declared.fault.CertFault.{CertFault}
-use Rattle.dvg_cert.specs.Order.{Certificate}
-use Rattle.dvg_cert.specs.Reading.{Taken, text_taken, IsRefusal, ReadAnswer}
 use Rattle.dvg_cert.specs.Stream.{Stream, Open, Refused, FeedsTo}
-use Rattle.dvg_cert.specs.Private.Progress.{stream_of}
 use Rattle.dvg_cert.proofs.TextLaws.{only_memory}
 
 pub piece_refused : (refused : Option CertFault) (lines : Taken) (begun piece : List ℕ) (old : Stream) (f : CertFault) → refused ≡ None → stream_of refused lines begun ≡ old

@@ -1,17 +1,5 @@
 -- What refuses a text, from what the reader holds.
-use Rattle.std.proofs.Common.{◌≡◌, ◌≢◌, ℕ, zero, suc, ◌+◌, ◌-◌, ◌<◌, List, [], ◌∷◌, ◌++◌, length, get_or, take, drop, Ok, Err, refl, sym, ap, subst, ◌∙◌, append_assoc, arith, inl, inr}
-use Rattle.std.proofs.lemmas.List.{append-nil, length-append, length-take-le}
-use Rattle.std.proofs.lemmas.Bool.Decides.{nat_tests}
-use Rattle.dvg_words.specs.Values.{MemoryMap, asteroids}
-use Rattle.dvg_cert.specs.Limits.{LONGEST_LINE, LINE_FEED}
-use Rattle.dvg_cert.specs.Entry.{Entry}
-use Rattle.dvg_cert.specs.Order.{IsCertificate}
-use Rattle.dvg_cert.specs.Grammar.{entry_line, rom_line, begun_with, text_of, ended}
-use Rattle.dvg_cert.specs.Reading.{IsRefusal, HasEntryAt, IsElsewhere, Nothing, Versioned, Begun, Whole, Taken, Without, text_taken, line_number, IsTaken, IsUnended, IsRest, Holds, Meets}
-use Rattle.dvg_cert.specs.Private.Progress.{IsLineRefused, EndsLine, StartsWith, taken_of, IsStaged}
-use Rattle.dvg_cert.specs.declared.fault.CertFault.{CertFault}
-use Rattle.dvg_cert.specs.declared.fault.CertWhy.{CertWhy}
-use Rattle.dvg_cert.specs.declared.fault.CertWhy.TheVariants.{Form, Order, Count, Unended, After, TooLong, Memory}
+use Rattle.dvg_cert.proofs.Common.{◌≡◌, ◌≢◌, ℕ, zero, suc, ◌+◌, ◌-◌, ◌<◌, List, [], ◌∷◌, ◌++◌, length, get_or, take, drop, Ok, Err, refl, sym, ap, subst, ◌∙◌, append_assoc, arith, inl, inr, append-nil, length-append, length-take-le, nat_tests, MemoryMap, asteroids, LONGEST_LINE, LINE_FEED, Entry, IsCertificate, entry_line, rom_line, begun_with, text_of, ended, IsRefusal, HasEntryAt, IsElsewhere, Nothing, Versioned, Begun, Whole, Taken, Without, text_taken, line_number, IsTaken, IsUnended, IsRest, Holds, Meets, IsLineRefused, EndsLine, StartsWith, taken_of, IsStaged, CertFault, CertWhy, Form, Order, Count, Unended, After, TooLong, Memory}
 use Rattle.dvg_cert.specs.declared.taken.Stage.{Stage}
 use Rattle.dvg_cert.specs.declared.taken.Stage.TheVariants.{First, Rom, Later, Ended}
 use Rattle.dvg_cert.proofs.Graphics.{Without-append}
@@ -19,34 +7,21 @@ use Rattle.dvg_cert.proofs.Rising.{begun_push, no_entry_yet}
 use Rattle.dvg_cert.proofs.FirstLines.{first_taken, rom_taken}
 
 pub not_whole : (taken : Taken) → ((IsUnended taken → ⊥) → ⊥) → IsUnended taken
-not_whole Nothing h = tt
-not_whole Versioned h = tt
-not_whole (Begun map es) h = tt
 not_whole (Whole map es) h = absurd (h (λ x. x))
+not_whole taken h = tt
 
 pub rest_of : (taken : Taken) (rest : List ℕ) → IsUnended taken → Without LINE_FEED rest → length rest < LONGEST_LINE → IsRest taken rest
-rest_of Nothing rest u free short = (free, short)
-rest_of Versioned rest u free short = (free, short)
-rest_of (Begun map es) rest u free short = (free, short)
 rest_of (Whole map es) rest u free short = absurd u
+rest_of taken rest u free short = (free, short)
 
 pub rest_is : (taken : Taken) (rest : List ℕ) → IsUnended taken → IsRest taken rest → Without LINE_FEED rest × (length rest < LONGEST_LINE)
-rest_is Nothing rest u h = h
-rest_is Versioned rest u h = h
-rest_is (Begun map es) rest u h = h
 rest_is (Whole map es) rest u h = absurd u
+rest_is taken rest u h = h
 
 meets_line : (why : CertWhy) (taken : Taken) (line : List ℕ) → why ≢ Memory → IsUnended taken → IsLineRefused taken line why → Meets taken line LINE_FEED why
-meets_line why Nothing line never u w = inr (refl, w)
-meets_line why Versioned line never u w = inr (refl, w)
-meets_line Form (Begun map es) line never u w = inr (refl, w)
-meets_line Order (Begun map es) line never u w = inr (refl, w)
-meets_line Count (Begun map es) line never u w = inr (refl, w)
-meets_line TooLong (Begun map es) line never u w = inr (refl, w)
-meets_line Unended (Begun map es) line never u w = absurd w
-meets_line After (Begun map es) line never u w = absurd w
-meets_line Memory (Begun map es) line never u w = absurd (never refl)
 meets_line why (Whole map es) line never u w = absurd u
+meets_line Memory taken line never u w = absurd (never refl)
+meets_line why taken line never u w = inr (refl, w)
 
 regroup : (a b c : List ℕ) → a ++ (b ++ LINE_FEED ∷ c) ≡ (a ++ (b ++ LINE_FEED ∷ [])) ++ c
 regroup a b c = simp append_assoc
@@ -56,37 +31,25 @@ pub entry_taken : (map : MemoryMap) (es : List Entry) (line : List ℕ) (e : Ent
 entry_taken map es line e l = begun_push map es e ∙ ap (λ (t : List ℕ). begun_with map es ++ ended t) (sym l)
 
 no_memory : (taken : Taken) (line after : List ℕ) → IsTaken taken → IsLineRefused taken line Memory → IsRefusal (text_taken taken ++ (line ++ LINE_FEED ∷ after)) (line_number taken) Memory
-no_memory Nothing line after h w = absurd w
-no_memory Versioned line after h w = absurd w
 no_memory (Begun map es) line after h w =
     (map, es ++ w.0 ∷ [], after, w.2, omega (arith, length-append es (w.0 ∷ [])), regroup (begun_with map es) line after ∙ ap (λ (t : List ℕ). t ++ after) (sym (entry_taken map es line w.0 w.1.1)), omega (arith, length-append es (w.0 ∷ [])))
-no_memory (Whole map es) line after h w = absurd w
+no_memory taken line after h w = absurd w
 
 never_unended : (taken : Taken) (line : List ℕ) → IsLineRefused taken line Unended → ⊥
 never_unended Nothing line w = w
-never_unended Versioned line w = w
-never_unended (Begun map es) line w = w
-never_unended (Whole map es) line w = w
+never_unended taken line w = w
 
 never_after : (taken : Taken) (line : List ℕ) → IsLineRefused taken line After → ⊥
 never_after Nothing line w = w
-never_after Versioned line w = w
-never_after (Begun map es) line w = w
-never_after (Whole map es) line w = w
+never_after taken line w = w
 
 -- a whole line that is refused
 pub line_fault : (why : CertWhy) (taken : Taken) (line after : List ℕ) → IsTaken taken → IsUnended taken → Without LINE_FEED line → length line < LONGEST_LINE → IsLineRefused taken line why → IsRefusal (text_taken taken ++ (line ++ LINE_FEED ∷ after)) (line_number taken) why × (why ≢ Unended)
-line_fault Form taken line after h u free short w =
-    ((text_taken taken ++ line, LINE_FEED, after, taken, line, sym (append_assoc (text_taken taken) line (LINE_FEED ∷ after)), record { parts = refl; lines = h; begun = rest_of taken line u free short }, meets_line Form taken line (λ e. absurd cc) u w, refl), λ e. absurd cc)
-line_fault Order taken line after h u free short w =
-    ((text_taken taken ++ line, LINE_FEED, after, taken, line, sym (append_assoc (text_taken taken) line (LINE_FEED ∷ after)), record { parts = refl; lines = h; begun = rest_of taken line u free short }, meets_line Order taken line (λ e. absurd cc) u w, refl), λ e. absurd cc)
-line_fault Count taken line after h u free short w =
-    ((text_taken taken ++ line, LINE_FEED, after, taken, line, sym (append_assoc (text_taken taken) line (LINE_FEED ∷ after)), record { parts = refl; lines = h; begun = rest_of taken line u free short }, meets_line Count taken line (λ e. absurd cc) u w, refl), λ e. absurd cc)
-line_fault TooLong taken line after h u free short w =
-    ((text_taken taken ++ line, LINE_FEED, after, taken, line, sym (append_assoc (text_taken taken) line (LINE_FEED ∷ after)), record { parts = refl; lines = h; begun = rest_of taken line u free short }, meets_line TooLong taken line (λ e. absurd cc) u w, refl), λ e. absurd cc)
 line_fault Memory taken line after h u free short w = (no_memory taken line after h w, λ e. absurd cc)
 line_fault Unended taken line after h u free short w = absurd (never_unended taken line w)
 line_fault After taken line after h u free short w = absurd (never_after taken line w)
+line_fault why taken line after h u free short w =
+    ((text_taken taken ++ line, LINE_FEED, after, taken, line, sym (append_assoc (text_taken taken) line (LINE_FEED ∷ after)), record { parts = refl; lines = h; begun = rest_of taken line u free short }, meets_line why taken line (λ e. absurd cc) u w, refl), λ e. absurd cc)
 
 -- a prefix of what is free, and the element after it
 next_free : (n : ℕ) (xs : List ℕ) → n < length xs → Without LINE_FEED (take (suc n) xs) → (xs ≡ take n xs ++ get_or xs n 0 ∷ drop (suc n) xs) × Without LINE_FEED (take n xs) × (get_or xs n 0 ≢ LINE_FEED)
@@ -95,10 +58,8 @@ next_free zero (x ∷ xs) lt h = (refl, tt, λ e. absurd (grind (arith, nat_test
 next_free (suc n) (x ∷ xs) lt h = let r = next_free n xs (omega arith) h.1 in (ap (λ (ys : List ℕ). x ∷ ys) r.0, (h.0, r.1), r.2)
 
 pub meets_long : (taken : Taken) (rest : List ℕ) (b : ℕ) → IsUnended taken → b ≢ LINE_FEED → length rest ≡ LONGEST_LINE - 1 → Meets taken rest b TooLong
-meets_long Nothing rest b u h n = inl (h, n, refl)
-meets_long Versioned rest b u h n = inl (h, n, refl)
-meets_long (Begun map es) rest b u h n = inl (h, n, refl)
 meets_long (Whole map es) rest b u h n = absurd u
+meets_long taken rest b u h n = inl (h, n, refl)
 
 long_at : (k : ℕ) (taken : Taken) (begun rest : List ℕ) → IsTaken taken → IsUnended taken → Without LINE_FEED begun → length begun + k ≡ LONGEST_LINE - 1 → k < length rest → Without LINE_FEED (take (suc k) rest) → IsRefusal (text_taken taken ++ (begun ++ rest)) (line_number taken) TooLong
 long_at k taken begun rest h u clear n lt free =
@@ -129,12 +90,10 @@ begins taken begun rest new h u r free short e =
 
 -- bytes after the last line
 after_fault : (taken : Taken) (begun rest : List ℕ) → IsTaken taken → IsRest taken begun → (IsUnended taken → ⊥) → 0 < length rest → IsRefusal (text_taken taken ++ (begun ++ rest)) (line_number taken) After × (After ≢ Unended)
-after_fault Nothing begun rest h r u some = absurd (u tt)
-after_fault Versioned begun rest h r u some = absurd (u tt)
-after_fault (Begun map es) begun rest h r u some = absurd (u tt)
 after_fault (Whole map es) begun [] h r u some = absurd (omega arith)
 after_fault (Whole map es) begun (b ∷ more) h r u some =
     ((text_of map es, b, more, Whole map es, [], ap (λ (t : List ℕ). text_of map es ++ (t ++ b ∷ more)) r, record { parts = sym (append-nil (text_of map es)); lines = h; begun = refl }, refl, refl), λ e. absurd cc)
+after_fault taken begun rest h r u some = absurd (u tt)
 
 pub after_refused : (line : ℕ) (f : CertFault) (taken : Taken) (begun rest : List ℕ) → IsTaken taken → IsRest taken begun → (IsUnended taken → ⊥) → line ≡ line_number taken → 0 < length rest → f ≡ record { line = line; why = After }
     → IsRefusal (text_taken taken ++ (begun ++ rest)) f.line f.why × (f.why ≢ Unended)
@@ -148,20 +107,15 @@ first_at First Rom map es taken line s v h l = (tt, ap ended (sym l) ∙ ap (λ 
 first_at First Later map es taken line s v h l =
     let whole : IsCertificate map es = subst (λ (m : MemoryMap). IsCertificate m es) (sym h.1) (subst (λ (xs : List Entry). IsCertificate asteroids xs) (sym h.0) (no_entry_yet asteroids (record { past_frames = omega arith; ordered = omega arith; inside = omega arith }))) in
     (whole, ap (λ (m : MemoryMap). begun_with m es) h.1 ∙ ap (begun_with asteroids) h.0 ∙ first_taken line l ∙ ap (λ (t : Taken). text_taken t ++ ended line) v, whole)
-first_at First First map es taken line s v h l = absurd l
-first_at First Ended map es taken line s v h l = absurd l
-first_at Rom after map es taken line s v h l = absurd cc
-first_at Later after map es taken line s v h l = absurd cc
-first_at Ended after map es taken line s v h l = absurd cc
+first_at First after map es taken line s v h l = absurd l
+first_at stage after map es taken line s v h l = absurd cc
 
 -- the line of the ROM
 pub rom_at_line : (stage : Stage) (old map : MemoryMap) (es : List Entry) (taken : Taken) (line : List ℕ) → stage ≡ Rom → taken_of old es stage ≡ taken → IsStaged old es stage → IsElsewhere map → line ≡ rom_line map → IsCertificate map es × (begun_with map es ≡ text_taken taken ++ ended line)
 rom_at_line Rom old map es taken line s v h is l =
     let none : es ≡ [] = h in
     (subst (λ (xs : List Entry). IsCertificate map xs) (sym none) (no_entry_yet map is.0), ap (begun_with map) none ∙ rom_taken map line is.1 l ∙ ap (λ (t : Taken). text_taken t ++ ended line) v)
-rom_at_line First old map es taken line s v h is l = absurd cc
-rom_at_line Later old map es taken line s v h is l = absurd cc
-rom_at_line Ended old map es taken line s v h is l = absurd cc
+rom_at_line stage old map es taken line s v h is l = absurd cc
 
 -- a line whose end has come, and that is refused
 pub line_refused : (why : CertWhy) (taken : Taken) (begun rest prefix after : List ℕ) → IsTaken taken → IsUnended taken → IsRest taken begun → rest ≡ prefix ++ LINE_FEED ∷ after → Without LINE_FEED prefix → length prefix < LONGEST_LINE - length begun → IsLineRefused taken (begun ++ prefix) why

@@ -1,14 +1,6 @@
 -- Lists of entries that rise, and one more at the end.
-use Rattle.std.proofs.Common.{◌≡◌, ℕ, zero, suc, ◌-◌, ◌<◌, List, [], ◌∷◌, ◌++◌, length, Some, refl, sym, ap, subst, ◌∙◌, append_assoc, arith}
-use Rattle.std.specs.Prelude.{slice_get}
-use Rattle.std.specs.List.{AllByRecursion, flat_map}
-use Rattle.std.proofs.lemmas.List.{append-nil, length_push}
+use Rattle.dvg_cert.proofs.Common.{◌≡◌, ℕ, zero, suc, ◌-◌, ◌<◌, List, [], ◌∷◌, ◌++◌, length, Some, refl, sym, ap, subst, ◌∙◌, append_assoc, arith, slice_get, AllByRecursion, flat_map, append-nil, length_push, MemoryMap, IsMap, MOST_ENTRIES, ADDRESS_END, Entry, IsEntry, Before, StandsAfter, IsRising, IsCertificate, entry_line, ended, heading, begun_with}
 use Rattle.std.proofs.lemmas.List.Concat.{flat_map-append}
-use Rattle.dvg_words.specs.Values.{MemoryMap, IsMap}
-use Rattle.dvg_cert.specs.Limits.{MOST_ENTRIES, ADDRESS_END}
-use Rattle.dvg_cert.specs.Entry.{Entry, IsEntry}
-use Rattle.dvg_cert.specs.Order.{Before, StandsAfter, IsRising, IsCertificate}
-use Rattle.dvg_cert.specs.Grammar.{entry_line, ended, heading, begun_with}
 
 last_at : (es : List Entry) (k : ℕ) (f e : Entry) → length es ≡ suc k → slice_get es k ≡ Some f → ((Before f e → StandsAfter es e) × (StandsAfter es e → Before f e))
 last_at [] k f e n h = absurd (omega arith)

@@ -1,17 +1,6 @@
 -- A line put together token by token, and a text line by line.
-use Rattle.std.proofs.Common.{◌≡◌, true, false, ℕ, ◌+◌, ◌<◌, List, [], ◌∷◌, ◌++◌, length, get_or, take, drop, Option, Result, Ok, Err, refl, sym, ap, subst, ◌∙◌, append_assoc, arith, add-one}
-use Rattle.std.specs.Prelude.{codes, decimal, OnErr}
-use Rattle.std.specs.List.{join_with_byte, flat_map}
-use Rattle.std.proofs.lemmas.List.{append-nil, length-append, take-append-le, take-append-drop}
+use Rattle.dvg_cert.proofs.Common.{◌≡◌, true, false, ℕ, ◌+◌, ◌<◌, List, [], ◌∷◌, ◌++◌, length, get_or, take, drop, Option, Result, Ok, Err, refl, sym, ap, subst, ◌∙◌, append_assoc, arith, add-one, codes, decimal, OnErr, join_with_byte, flat_map, append-nil, length-append, take-append-le, take-append-drop, Appends, MemoryMap, is_asteroids, LINE_FEED, SPACE, Entry, entry_line, end_tokens, box_tokens, address_token, key_token, ended, begun_with, text_of, done_line, first_version_line, second_version_line, rom_line, heading, AppendsPrefix, spaced, Buffered, take-length, take-append-add}
 use Rattle.std.proofs.lemmas.List.Concat.{flat_map-append}
-use Rattle.std.specs.Io.KnownBytes.{Appends}
-use Rattle.dvg_words.specs.Values.{MemoryMap, is_asteroids}
-use Rattle.dvg_cert.specs.Limits.{LINE_FEED, SPACE}
-use Rattle.dvg_cert.specs.Entry.{Entry}
-use Rattle.dvg_cert.specs.Grammar.{entry_line, end_tokens, box_tokens, address_token, key_token, ended, begun_with, text_of, done_line, first_version_line, second_version_line, rom_line, heading}
-use Rattle.dvg_cert.specs.Devices.{AppendsPrefix}
-use Rattle.dvg_cert.specs.Private.Writing.{spaced, Buffered}
-use Rattle.std.proofs.Math.Seq.{take-length, take-append-add}
 use Rattle.dvg_cert.proofs.Rising.{begun_push}
 use Rattle.dvg_cert.proofs.FirstLines.{asteroids_is, first_taken, rom_taken}
 use Rattle.std.proofs.KnownBytes.{Appends-nil, Appends-trans}

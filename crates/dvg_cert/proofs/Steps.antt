@@ -1,22 +1,6 @@
 -- A field that is read from the front of bytes is spelled there, and what is spelled there is read again.
-use Rattle.std.proofs.Common.{◌≡◌, ◌≢◌, ℕ, zero, suc, ◌+◌, ◌-◌, ◌/◌, ◌%◌, ◌^◌, ◌<◌, ◌≤◌, Bool, true, false, cond, ◌&&◌, [], ◌∷◌, ◌++◌, length, map, take, drop, get_or, Option, Some, None, refl, sym, ap, subst, ◌∙◌, arith}
-use Rattle.std.specs.Prelude.{codes, decimal, nat_le, nat_lt, ◌==◌}
-use Rattle.std.specs.Char.{digit_value}
-use Rattle.std.specs.Option.{option_map, option_map_or}
-use Rattle.std.specs.Str.Parse.{AllDigits, digits_value}
-use Rattle.std.proofs.lemmas.Option.{cond_some, some_pair_parts, none-some, same_Some}
-use Rattle.std.proofs.lemmas.Bool.{and_parts, eqb-true}
-use Rattle.std.proofs.lemmas.Bool.Decides.{nat_tests}
-use Rattle.std.proofs.lemmas.Fmt.{decimal_digit, decimal-digits_of}
+use Rattle.dvg_cert.proofs.Common.{◌≡◌, ◌≢◌, ℕ, zero, suc, ◌+◌, ◌-◌, ◌/◌, ◌%◌, ◌^◌, ◌<◌, ◌≤◌, Bool, true, false, cond, ◌&&◌, [], ◌∷◌, ◌++◌, length, map, take, drop, get_or, Option, Some, None, refl, sym, ap, subst, ◌∙◌, arith, codes, decimal, nat_le, nat_lt, ◌==◌, digit_value, option_map, option_map_or, AllDigits, digits_value, cond_some, some_pair_parts, none-some, same_Some, and_parts, eqb-true, nat_tests, decimal_digit, decimal-digits_of, digits_of_step, take-append-drop, length-append, take-append_seam, digit_value_digit, MOST_MAGNITUDE, ADDRESS_END, Key, At, Any, IsKey, address_token, key_token, Reads, natural_in, address_in, NoDigitFirst, past, digits_off, natural_at, digit_at, address_at, key_at}
 use Rattle.std.specs.Int.Digits.{digits_of}
-use Rattle.std.proofs.lemmas.Int.Digits.{digits_of_step}
-use Rattle.std.proofs.lemmas.List.{take-append-drop, length-append}
-use Rattle.std.proofs.Math.Seq.{take-append_seam}
-use Rattle.std.proofs.lemmas.Str.{digit_value_digit}
-use Rattle.dvg_cert.specs.Limits.{MOST_MAGNITUDE, ADDRESS_END}
-use Rattle.dvg_cert.specs.Entry.{Key, At, Any, IsKey}
-use Rattle.dvg_cert.specs.Grammar.{address_token, key_token}
-use Rattle.dvg_cert.specs.Private.Fields.{Reads, natural_in, address_in, NoDigitFirst, past, digits_off, natural_at, digit_at, address_at, key_at}
 use Rattle.dvg_cert.proofs.NaturalNumbers.{natural_some}
 use Rattle.dvg_cert.proofs.FieldValues.{first_digit, map_some, natural_takes, address_takes, address_again}
 use Rattle.dvg_cert.proofs.Leading.{Text, same_number, digits_lead}

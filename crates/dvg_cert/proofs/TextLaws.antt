@@ -1,16 +1,6 @@
 -- The laws of texts.
-use Rattle.std.proofs.Common.{◌≡◌, ◌≢◌, ℕ, ◌+◌, ◌*◌, ◌≤◌, Bool, true, false, cond, List, [], ◌∷◌, ◌++◌, length, Result, Ok, Err, refl, ap, ◌∙◌, append_assoc, arith, inl, inr}
-use Rattle.std.specs.Prelude.{◌==◌, count_by}
-use Rattle.std.proofs.lemmas.List.{append-nil, length-append}
+use Rattle.dvg_cert.proofs.Common.{◌≡◌, ◌≢◌, ℕ, ◌+◌, ◌*◌, ◌≤◌, Bool, true, false, cond, List, [], ◌∷◌, ◌++◌, length, Result, Ok, Err, refl, ap, ◌∙◌, append_assoc, arith, inl, inr, ◌==◌, count_by, append-nil, length-append, MOST_ENTRIES, LONGEST_LINE, LINE_FEED, CertWhy, Form, Order, Count, Unended, After, TooLong, Memory, CertFault, Entry, heading, done_line, begun_with, text_of, Certificate, Taken, Nothing, Versioned, Begun, Whole, text_taken, line_number, Without, IsTaken, IsRest, Holds, MayStand, StopsAt, IsRefusal, ReadAnswer}
 use Rattle.std.proofs.lemmas.List.Recursion.{is_count_by}
-use Rattle.dvg_cert.specs.Limits.{MOST_ENTRIES, LONGEST_LINE, LINE_FEED}
-use Rattle.dvg_cert.specs.declared.fault.CertWhy.{CertWhy}
-use Rattle.dvg_cert.specs.declared.fault.CertWhy.TheVariants.{Form, Order, Count, Unended, After, TooLong, Memory}
-use Rattle.dvg_cert.specs.declared.fault.CertFault.{CertFault}
-use Rattle.dvg_cert.specs.Entry.{Entry}
-use Rattle.dvg_cert.specs.Grammar.{heading, done_line, begun_with, text_of}
-use Rattle.dvg_cert.specs.Order.{Certificate}
-use Rattle.dvg_cert.specs.Reading.{Taken, Nothing, Versioned, Begun, Whole, text_taken, line_number, Without, IsTaken, IsRest, Holds, MayStand, StopsAt, IsRefusal, ReadAnswer}
 use Rattle.dvg_cert.specs.Laws.{NotMemory, OneAnswer, ShortText, PrefixRefusal, CutRefusal}
 use Rattle.dvg_cert.proofs.FirstLines.{few_heads}
 use Rattle.dvg_cert.proofs.LinesOfTexts.{lines_text, Frees, entry_lines, lines_of}

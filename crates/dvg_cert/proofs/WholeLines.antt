@@ -1,22 +1,5 @@
 -- A line that is read says what it is read as, and each line that says something is read as that.
-use Rattle.std.proofs.Common.{◌≡◌, ℕ, zero, suc, ◌<◌, ◌≤◌, true, ◌&&◌, List, [], ◌∷◌, ◌++◌, length, get_or, Option, Some, None, IfSome, IfNone, refl, sym, ap, subst, ◌∙◌, append_assoc, arith, rules, ◌⊎◌, inl, inr}
-use Rattle.std.specs.Prelude.{codes, decimal, ℤ, pos, negsuc, neg_ℤ, ◌≤ℤ◌, int_le}
-use Rattle.std.specs.Fmt.{signed_decimal}
-use Rattle.std.specs.List.{join_with_byte}
-use Rattle.std.specs.Option.{option_map, option_map_or, option_or}
-use Rattle.std.specs.Str.{bytes_eq}
-use Rattle.std.specs.Str.Parse.{AllDigits}
-use Rattle.std.proofs.lemmas.Bool.{and_parts}
-use Rattle.std.proofs.lemmas.Fmt.{decimal_digit}
-use Rattle.std.proofs.lemmas.Int.{ints}
-use Rattle.std.proofs.lemmas.List.{append-nil}
-use Rattle.std.proofs.lemmas.Option.{cond_some, some_pair_parts, none-some, option_and_then_some}
-use Rattle.std.proofs.lemmas.Str.Parse.{digit_from_value}
-use Rattle.dvg_cert.specs.Limits.{MOST_ENTRIES, MOST_DEPTH, MOST_WORDS, MOST_MAGNITUDE, LINE_FEED, ADDRESS_END, SPACE}
-use Rattle.dvg_cert.specs.Entry.{End, Rel, Abs, Lost, LitBox, Empty, Span, Entry, IsNumber, IsEnd, IsBox, IsEntry}
-use Rattle.dvg_cert.specs.Grammar.{address_token, key_token, end_tokens, box_tokens, entry_line, done_line, ended}
-use Rattle.dvg_cert.specs.Reading.{Line, EntryLine, DoneLine, IsLine}
-use Rattle.dvg_cert.specs.Private.Fields.{◌>>=◌, NoDigitFirst, past, natural_at, digit_at, number_at, two_at, end_at, span_at, box_at, entry_at, done_at, nothing_left}
+use Rattle.dvg_cert.proofs.Common.{◌≡◌, ℕ, zero, suc, ◌<◌, ◌≤◌, true, ◌&&◌, List, [], ◌∷◌, ◌++◌, length, get_or, Option, Some, None, IfSome, IfNone, refl, sym, ap, subst, ◌∙◌, append_assoc, arith, rules, ◌⊎◌, inl, inr, codes, decimal, ℤ, pos, negsuc, neg_ℤ, ◌≤ℤ◌, int_le, signed_decimal, join_with_byte, option_map, option_map_or, option_or, bytes_eq, AllDigits, and_parts, decimal_digit, ints, append-nil, cond_some, some_pair_parts, none-some, option_and_then_some, digit_from_value, MOST_ENTRIES, MOST_DEPTH, MOST_WORDS, MOST_MAGNITUDE, LINE_FEED, ADDRESS_END, SPACE, End, Rel, Abs, Lost, LitBox, Empty, Span, Entry, IsNumber, IsEnd, IsBox, IsEntry, address_token, key_token, end_tokens, box_tokens, entry_line, done_line, ended, Line, EntryLine, DoneLine, IsLine, ◌>>=◌, NoDigitFirst, past, natural_at, digit_at, number_at, two_at, end_at, span_at, box_at, entry_at, done_at, nothing_left}
 use Rattle.dvg_cert.proofs.FieldValues.{first_digit, map_some, negated, same_bytes}
 use Rattle.dvg_cert.proofs.Digits.{no_zero, same_decimal}
 use Rattle.dvg_cert.proofs.Leading.{Text}

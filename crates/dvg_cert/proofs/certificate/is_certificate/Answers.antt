@@ -1,4 +1,4 @@
-use Rattle.std.proofs.Common.{rules}
+use Rattle.dvg_cert.proofs.Common.{rules}
 use Rattle.dvg_cert.proofs.ListParts.{not_entry, not_rising, one_further}
 use Rattle.dvg_cert.proofs.certificate.is_certificate.Goals as goal
 

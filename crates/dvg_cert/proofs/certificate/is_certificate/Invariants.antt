@@ -1,5 +1,4 @@
-use Rattle.std.proofs.Common.{take}
-use Rattle.dvg_cert.specs.Order.{IsCertificate}
+use Rattle.dvg_cert.proofs.Common.{take, IsCertificate}
 use Rattle.dvg_cert.proofs.certificate.is_certificate.Given as goal
 
 abbrev pub invariant-loop-i : goal.invariant-loop-i

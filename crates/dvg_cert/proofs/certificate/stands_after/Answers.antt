@@ -1,4 +1,4 @@
-use Rattle.std.proofs.Common.{sym}
+use Rattle.dvg_cert.proofs.Common.{sym}
 use Rattle.dvg_cert.proofs.Rising.{stands}
 use Rattle.dvg_cert.proofs.certificate.stands_after.Goals as goal
 

@@ -1,5 +1,4 @@
-use Rattle.std.proofs.Common.{◌∙◌, ap}
-use Rattle.std.specs.Str.Parse.{digits_value}
+use Rattle.dvg_cert.proofs.Common.{◌∙◌, ap, digits_value}
 use Rattle.dvg_cert.proofs.DigitSums.{first_digits}
 use Rattle.dvg_cert.proofs.eight_digits.number_of_digits.Goals as goal
 

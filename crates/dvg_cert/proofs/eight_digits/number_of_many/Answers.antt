@@ -1,6 +1,4 @@
-use Rattle.std.proofs.Common.{◌≡◌, ◌+◌, ◌-◌, ℕ, take, drop, ap, subst, ◌∙◌, arith}
-use Rattle.std.specs.Str.Parse.{AllDigits, digits_value}
-use Rattle.std.proofs.lemmas.List.{take-take, length-drop}
+use Rattle.dvg_cert.proofs.Common.{◌≡◌, ◌+◌, ◌-◌, ℕ, take, drop, ap, subst, ◌∙◌, arith, AllDigits, digits_value, take-take, length-drop}
 use Rattle.dvg_cert.proofs.DigitSums.{all_take, all_drop, eight_more, first_digits, small}
 use Rattle.dvg_cert.proofs.eight_digits.number_of_many.Goals as goal
 

@@ -1,4 +1,4 @@
-use Rattle.std.proofs.Common.{rules}
+use Rattle.dvg_cert.proofs.Common.{rules}
 use Rattle.dvg_cert.proofs.Steps.{past_found, past_not_found, past_short}
 use Rattle.dvg_cert.proofs.fields.after_text.Goals as goal
 

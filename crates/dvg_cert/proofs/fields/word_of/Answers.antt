@@ -1,4 +1,4 @@
-use Rattle.std.proofs.Common.{rules}
+use Rattle.dvg_cert.proofs.Common.{rules}
 use Rattle.std.proofs.lemmas.Nat.{le_bytes_4}
 use Rattle.dvg_cert.proofs.fields.word_of.Goals as goal
 

@@ -1,5 +1,4 @@
-use Rattle.std.proofs.Common.{refl}
-use Rattle.dvg_cert.specs.Grammar.{text_of}
+use Rattle.dvg_cert.proofs.Common.{refl, text_of}
 use Rattle.dvg_cert.proofs.laws.one_text.Goals as goal
 
 pub returns : goal.returns

@@ -1,4 +1,4 @@
-use Rattle.std.specs.Prelude.{Ok}
+use Rattle.dvg_cert.proofs.Common.{Ok}
 use Rattle.dvg_cert.proofs.TextLaws.{answers_once}
 use Rattle.dvg_cert.proofs.laws.read_back.Goals as goal
 

@@ -1,6 +1,4 @@
-use Rattle.std.proofs.Common.{◌≡◌, true, false, sym, ap, subst, ◌∙◌}
-use Rattle.dvg_words.specs.Values.{IsMap, is_asteroids}
-use Rattle.dvg_cert.specs.Grammar.{rom_line}
+use Rattle.dvg_cert.proofs.Common.{◌≡◌, true, false, sym, ap, subst, ◌∙◌, IsMap, is_asteroids, rom_line}
 use Rattle.dvg_cert.proofs.FirstLines.{map_of, rom_found, nowhere_said, other_said, if_none}
 use Rattle.dvg_cert.proofs.line.elsewhere_of.Goals as goal
 

@@ -1,7 +1,4 @@
-use Rattle.std.proofs.Common.{◌∙◌, ap, sym}
-use Rattle.dvg_cert.specs.Limits.{LINE_FEED}
-use Rattle.std.specs.Prelude.{[], ◌∷◌, Some}
-use Rattle.dvg_cert.specs.Private.Fields.{past}
+use Rattle.dvg_cert.proofs.Common.{◌∙◌, ap, sym, LINE_FEED, [], ◌∷◌, Some, past}
 use Rattle.dvg_cert.proofs.WholeLines.{entry_ended}
 use Rattle.dvg_cert.proofs.line.ended_entry.Goals as goal
 

@@ -1,8 +1,4 @@
-use Rattle.std.proofs.Common.{◌≡◌, ◌+◌, ◌-◌, ◌++◌, ◌∙◌, ℕ, List, take, drop, ap, sym, subst, arith, append_assoc, take-append-drop}
-use Rattle.std.proofs.Math.Seq.{take-add}
-use Rattle.std.proofs.lemmas.Grind.{common_steps}
-use Rattle.dvg_cert.specs.Devices.{AppendsPrefix}
-use Rattle.dvg_cert.specs.Private.Writing.{Buffered}
+use Rattle.dvg_cert.proofs.Common.{◌≡◌, ◌+◌, ◌-◌, ◌++◌, ◌∙◌, ℕ, List, take, drop, ap, sym, subst, arith, append_assoc, take-append-drop, take-add, common_steps, AppendsPrefix, Buffered}
 use Rattle.dvg_cert.proofs.Spelled.{sent_err, put_in_part, put_on}
 use Rattle.dvg_cert.proofs.lines.put.Goals as goal
 

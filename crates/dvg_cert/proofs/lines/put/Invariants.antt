@@ -1,7 +1,6 @@
-use Rattle.std.proofs.Common.{◌≡◌, ◌≤◌, ◌+◌, ◌-◌, ◌++◌, length, take}
+use Rattle.dvg_cert.proofs.Common.{◌≡◌, ◌≤◌, ◌+◌, ◌-◌, ◌++◌, length, take, Buffered}
 use Rattle.arrayvec.specs.ArrayVec.{array_vec_len}
 use Rattle.dvg_cert.specs.declared.limits.TheConstants.{MOST_AT_ONCE}
-use Rattle.dvg_cert.specs.Private.Writing.{Buffered}
 use Rattle.dvg_cert.proofs.lines.put.Given as goal
 
 abbrev pub invariant-putting : goal.invariant-putting

@@ -1,6 +1,5 @@
-use Rattle.std.proofs.Common.{◌≡◌, ◌++◌, [], List, ℕ, ap, sym, subst, append-nil, append_assoc}
+use Rattle.dvg_cert.proofs.Common.{◌≡◌, ◌++◌, [], List, ℕ, ap, sym, subst, append-nil, append_assoc, Buffered}
 use Rattle.std.proofs.lemmas.Result.{on_err_weaker}
-use Rattle.dvg_cert.specs.Private.Writing.{Buffered}
 use Rattle.dvg_cert.proofs.Spelled.{sent_err, put_in_part, put_on, held_sent_in_part}
 use Rattle.dvg_cert.proofs.lines.write_lines.Goals as goal
 

@@ -1,5 +1,4 @@
-use Rattle.std.proofs.Common.{arith}
-use Rattle.std.proofs.lemmas.List.{take_rest}
+use Rattle.dvg_cert.proofs.Common.{arith, take_rest}
 use Rattle.dvg_cert.proofs.Leading.{no_digits, zero_led, digits_lead}
 use Rattle.dvg_cert.proofs.numerals.digits_taken.Goals.{else-bytes-eq48-via-then-bytes-eq48+else-count-gt1, else-bytes-eq48-via-else-bytes-eq48}
 use Rattle.dvg_cert.proofs.numerals.digits_taken.Goals as goal

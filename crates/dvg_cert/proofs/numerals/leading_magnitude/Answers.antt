@@ -1,6 +1,4 @@
-use Rattle.std.proofs.Common.{◌∙◌, refl, ap, arith}
-use Rattle.std.specs.Str.Parse.{digits_value}
-use Rattle.std.proofs.lemmas.List.{take_rest, take-take}
+use Rattle.dvg_cert.proofs.Common.{◌∙◌, refl, ap, arith, digits_value, take_rest, take-take}
 use Rattle.dvg_cert.proofs.Steps.{magnitude_read}
 use Rattle.dvg_cert.proofs.DigitSums.{window_digits, window_ends}
 use Rattle.dvg_cert.proofs.numerals.leading_magnitude.Goals as goal

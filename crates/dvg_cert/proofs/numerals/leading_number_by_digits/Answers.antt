@@ -1,6 +1,4 @@
-use Rattle.std.proofs.Common.{◌≡◌, ℕ, ◌+◌, ◌*◌, ◌%◌, ◌<◌, ◌≤◌, List, get_or, length, take, arith, refl}
-use Rattle.std.specs.Str.Parse.{AllDigits, digits_value}
-use Rattle.std.proofs.lemmas.List.{length-take-le}
+use Rattle.dvg_cert.proofs.Common.{◌≡◌, ℕ, ◌+◌, ◌*◌, ◌%◌, ◌<◌, ◌≤◌, List, get_or, length, take, arith, refl, AllDigits, digits_value, length-take-le}
 use Rattle.dvg_cert.proofs.Digits.{below, one_digit}
 use Rattle.dvg_cert.proofs.Leading.{too_long}
 use Rattle.dvg_cert.proofs.numerals.leading_number_by_digits.Goals as goal

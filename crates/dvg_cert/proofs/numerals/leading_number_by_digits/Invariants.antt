@@ -1,5 +1,4 @@
-use Rattle.std.proofs.Common.{◌≡◌, ◌≤◌, take}
-use Rattle.std.specs.Str.Parse.{AllDigits, digits_value}
+use Rattle.dvg_cert.proofs.Common.{◌≡◌, ◌≤◌, take, AllDigits, digits_value}
 use Rattle.dvg_cert.proofs.numerals.leading_number_by_digits.Given as goal
 
 abbrev pub invariant-loop-i : goal.invariant-loop-i

@@ -1,7 +1,4 @@
-use Rattle.std.proofs.Common.{◌≡◌, ◌∙◌, length, false, arith, sym}
-use Rattle.std.specs.Prelude.{◌==◌}
-use Rattle.std.proofs.lemmas.Bool.{eqb-true}
-use Rattle.std.proofs.lemmas.Bool.Decides.{nat_tests}
+use Rattle.dvg_cert.proofs.Common.{◌≡◌, ◌∙◌, length, false, arith, sym, ◌==◌, eqb-true, nat_tests}
 use Rattle.dvg_cert.proofs.Leading.{no_value, value_outside, value_taken}
 use Rattle.dvg_cert.proofs.numerals.natural.Goals.{else-low-number-via-then-low-number+then-number-high+else-is_empty, else-low-number-via-then-low-number+else-number-high, else-low-number-via-else-low-number}
 use Rattle.dvg_cert.proofs.numerals.natural.Goals as goal

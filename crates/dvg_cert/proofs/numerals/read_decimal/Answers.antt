@@ -1,5 +1,4 @@
-use Rattle.std.proofs.Common.{◌≡◌, ◌∙◌, sym, arith, None, Some}
-use Rattle.dvg_cert.specs.Private.Fields.{natural_in}
+use Rattle.dvg_cert.proofs.Common.{◌≡◌, ◌∙◌, sym, arith, None, Some, natural_in}
 use Rattle.dvg_cert.proofs.FieldValues.{natural_takes}
 use Rattle.dvg_cert.proofs.NaturalNumbers.{natural_some}
 use Rattle.dvg_cert.proofs.numerals.read_decimal.Goals as goal

@@ -1,4 +1,4 @@
-use Rattle.std.proofs.Common.{◌∙◌, sym, rules, arith}
+use Rattle.dvg_cert.proofs.Common.{◌∙◌, sym, rules, arith}
 use Rattle.dvg_cert.proofs.FieldValues.{natural_takes, no_key}
 use Rattle.dvg_cert.proofs.numerals.read_key.Goals as goal
 

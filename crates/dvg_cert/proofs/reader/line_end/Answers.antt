@@ -1,7 +1,4 @@
-use Rattle.std.proofs.Common.{◌≡◌, ◌<◌, ℕ, List, Option, Some, None, Ok, length, refl, sym, arith}
-use Rattle.std.specs.Prelude.{position, ◌==◌}
-use Rattle.dvg_cert.specs.Limits.{LINE_FEED}
-use Rattle.dvg_cert.specs.Private.Progress.{EndsLine}
+use Rattle.dvg_cert.proofs.Common.{◌≡◌, ◌<◌, ℕ, List, Option, Some, None, Ok, length, refl, sym, arith, position, ◌==◌, LINE_FEED, EndsLine}
 use Rattle.dvg_cert.proofs.Cutting.{found_at, found_in_prefix, free_none}
 use Rattle.dvg_cert.proofs.reader.line_end.Goals as goal
 

@@ -1,4 +1,4 @@
-use Rattle.dvg_cert.specs.Limits.{LINE_FEED}
+use Rattle.dvg_cert.proofs.Common.{LINE_FEED}
 use Rattle.dvg_cert.proofs.Cutting.{first_byte}
 use Rattle.dvg_cert.proofs.reader.line_feed_at.Goals as goal
 

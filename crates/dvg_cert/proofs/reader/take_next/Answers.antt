@@ -1,7 +1,4 @@
-use Rattle.std.proofs.Common.{◌+◌, ◌-◌, ℕ, Some, None, Ok, take, drop, ap, arith, rules}
-use Rattle.std.proofs.lemmas.List.{length-take-le}
-use Rattle.dvg_cert.specs.Limits.{LONGEST_LINE}
-use Rattle.dvg_cert.specs.Private.Progress.{EndsLine}
+use Rattle.dvg_cert.proofs.Common.{◌+◌, ◌-◌, ℕ, Some, None, Ok, take, drop, ap, arith, rules, length-take-le, LONGEST_LINE, EndsLine}
 use Rattle.dvg_cert.proofs.Refusals.{not_whole, rest_is, line_refused, end_fault, begins, after_refused}
 use Rattle.dvg_cert.proofs.reader.take_next.Goals as goal
 

@@ -1,5 +1,4 @@
-use Rattle.std.proofs.Common.{◌≡◌, ◌++◌, length}
-use Rattle.dvg_cert.specs.Reading.{IsTaken, IsRest, text_taken}
+use Rattle.dvg_cert.proofs.Common.{◌≡◌, ◌++◌, length, IsTaken, IsRest, text_taken}
 use Rattle.dvg_cert.proofs.reader.take_piece.Given as goal
 
 abbrev pub invariant-loop-after : goal.invariant-loop-after

@@ -1,6 +1,4 @@
-use Rattle.std.proofs.Common.{List, subst, arith, rules}
-use Rattle.dvg_cert.specs.Entry.{Entry}
-use Rattle.dvg_cert.specs.Order.{StandsAfter}
+use Rattle.dvg_cert.proofs.Common.{List, subst, arith, rules, Entry, StandsAfter}
 use Rattle.dvg_cert.proofs.Rising.{certificate_push}
 use Rattle.dvg_cert.proofs.taken.take_entry.Goals as goal
 

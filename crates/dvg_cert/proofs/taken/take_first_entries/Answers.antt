@@ -1,6 +1,4 @@
-use Rattle.std.proofs.Common.{Err, refl, arith}
-use Rattle.dvg_cert.specs.declared.fault.CertWhy.TheVariants.{Memory}
-use Rattle.dvg_cert.specs.Private.Progress.{TakesEntry}
+use Rattle.dvg_cert.proofs.Common.{Err, refl, arith, Memory, TakesEntry}
 use Rattle.dvg_cert.proofs.Refusals.{ended_taken, ended_refused}
 use Rattle.dvg_cert.proofs.taken.take_first_entries.Goals as goal
 

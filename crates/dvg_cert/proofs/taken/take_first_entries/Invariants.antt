@@ -1,6 +1,4 @@
-use Rattle.std.proofs.Common.{◌≡◌, ◌++◌, ◌≤◌, length}
-use Rattle.dvg_cert.specs.Grammar.{begun_with}
-use Rattle.dvg_cert.specs.Order.{IsCertificate}
+use Rattle.dvg_cert.proofs.Common.{◌≡◌, ◌++◌, ◌≤◌, length, begun_with, IsCertificate}
 use Rattle.dvg_cert.proofs.taken.take_first_entries.Given as goal
 
 abbrev pub invariant-loop-entry : goal.invariant-loop-entry

@@ -1,5 +1,4 @@
-use Rattle.std.proofs.Common.{◌≡◌, ℕ, List, ◌++◌, length, ◌∙◌, ap, sym, rules}
-use Rattle.dvg_cert.specs.Grammar.{begun_with, done_line, ended}
+use Rattle.dvg_cert.proofs.Common.{◌≡◌, ℕ, List, ◌++◌, length, ◌∙◌, ap, sym, rules, begun_with, done_line, ended}
 use Rattle.dvg_cert.proofs.Refusals.{entry_taken}
 use Rattle.dvg_cert.proofs.WholeLines.{nothing_said}
 use Rattle.dvg_cert.proofs.taken.take_later.Goals as goal

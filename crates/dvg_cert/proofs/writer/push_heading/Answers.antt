@@ -1,4 +1,4 @@
-use Rattle.std.proofs.Common.{refl, sym}
+use Rattle.dvg_cert.proofs.Common.{refl, sym}
 use Rattle.dvg_cert.proofs.Spelled.{here_held, elsewhere_held}
 use Rattle.dvg_cert.proofs.writer.push_heading.Goals as goal
 

@@ -1,5 +1,4 @@
-use Rattle.std.proofs.Common.{◌≤◌, ◌∙◌, length, ap, arith}
-use Rattle.std.proofs.lemmas.Fmt.{length-decimal-le}
+use Rattle.dvg_cert.proofs.Common.{◌≤◌, ◌∙◌, length, ap, arith, length-decimal-le}
 use Rattle.dvg_cert.proofs.writer.push_natural.Goals as goal
 
 pub push_token-requires : goal.push_token-requires

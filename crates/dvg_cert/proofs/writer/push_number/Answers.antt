@@ -1,6 +1,4 @@
-use Rattle.std.proofs.Common.{◌≤◌, ◌∙◌, length, ap, arith, w64}
-use Rattle.std.proofs.lemmas.Int.{to_z-of_z}
-use Rattle.std.specs.Fmt.{signed_decimal}
+use Rattle.dvg_cert.proofs.Common.{◌≤◌, ◌∙◌, length, ap, arith, w64, to_z-of_z, signed_decimal}
 use Rattle.dvg_cert.proofs.Lengths.{number_le, number_fits}
 use Rattle.dvg_cert.proofs.writer.push_number.Goals as goal
 

@@ -1,7 +1,4 @@
-use Rattle.std.proofs.Common.{◌≡◌, ◌-◌, length, take, drop, ◌++◌, arith, sym, subst, rules}
-use Rattle.std.proofs.lemmas.Grind.{common_steps}
-use Rattle.std.proofs.Math.Seq.{take-add}
-use Rattle.std.specs.Io.KnownBytes.{Appends}
+use Rattle.dvg_cert.proofs.Common.{◌≡◌, ◌-◌, length, take, drop, ◌++◌, arith, sym, subst, rules, common_steps, take-add, Appends}
 use Rattle.std.proofs.KnownBytes.{Appends-trans}
 use Rattle.dvg_cert.proofs.writer.write_bytes.Goals as goal
 

@@ -1,7 +1,4 @@
-use Rattle.std.proofs.Common.{length, ◌-◌, ◌≡◌, ◌≤◌, ◌<◌, take}
-use Rattle.std.specs.Prelude.{true}
-use Rattle.dvg_cert.specs.Devices.{count_after}
-use Rattle.std.specs.Io.KnownBytes.{Appends}
+use Rattle.dvg_cert.proofs.Common.{length, ◌-◌, ◌≡◌, ◌≤◌, ◌<◌, take, true, count_after, Appends}
 use Rattle.dvg_cert.proofs.writer.write_bytes.Given as goal
 
 abbrev pub invariant-sending : goal.invariant-sending

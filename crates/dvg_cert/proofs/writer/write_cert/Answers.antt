@@ -1,8 +1,5 @@
-use Rattle.std.proofs.Common.{◌≡◌, ◌∙◌, [], length, ap, arith, refl, rules}
+use Rattle.dvg_cert.proofs.Common.{◌≡◌, ◌∙◌, [], length, ap, arith, refl, rules, MemoryMap, begun_with, text_of, Buffered}
 use Rattle.std.proofs.lemmas.Result.{on_ok_weaker, on_err_weaker}
-use Rattle.dvg_words.specs.Values.{MemoryMap}
-use Rattle.dvg_cert.specs.Grammar.{begun_with, text_of}
-use Rattle.dvg_cert.specs.Private.Writing.{Buffered}
 use Rattle.dvg_cert.proofs.Spelled.{sent_err, first_held, entry_held, done_held, begun_in_part, held_sent, held_sent_in_part}
 use Rattle.dvg_cert.proofs.writer.write_cert.Goals as goal
 

@@ -1,6 +1,4 @@
-use Rattle.std.proofs.Common.{◌≡◌, take}
-use Rattle.dvg_cert.specs.Grammar.{begun_with}
-use Rattle.dvg_cert.specs.Private.Writing.{Buffered}
+use Rattle.dvg_cert.proofs.Common.{◌≡◌, take, begun_with, Buffered}
 use Rattle.dvg_cert.proofs.writer.write_cert.Given as goal
 
 abbrev pub invariant-loop-i : goal.invariant-loop-i

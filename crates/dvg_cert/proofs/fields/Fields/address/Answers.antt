@@ -1,4 +1,4 @@
-use Rattle.std.proofs.lemmas.List.{take_rest}
+use Rattle.dvg_cert.proofs.Common.{take_rest}
 use Rattle.dvg_cert.proofs.Steps.{address_short, address_read}
 use Rattle.dvg_cert.proofs.fields.Fields.address.Goals as goal
 

@@ -1,4 +1,4 @@
-use Rattle.std.proofs.Common.{◌∙◌, sym, arith}
+use Rattle.dvg_cert.proofs.Common.{◌∙◌, sym, arith}
 use Rattle.dvg_cert.proofs.Steps.{digit_is, digit_other, digit_empty}
 use Rattle.dvg_cert.proofs.fields.Fields.digit.Goals.{then-first-lt48-via-then-first-lt48, then-first-lt48-via-else-first-lt48+then-most-first}
 use Rattle.dvg_cert.proofs.fields.Fields.digit.Goals as goal

@@ -1,4 +1,4 @@
-use Rattle.std.proofs.Common.{arith}
+use Rattle.dvg_cert.proofs.Common.{arith}
 use Rattle.dvg_cert.proofs.Steps.{natural_is, natural_outside, natural_none_at}
 use Rattle.dvg_cert.proofs.fields.Fields.natural_of.Goals.{then-number-low-via-then-number-low, then-number-low-via-else-number-low+then-high-number}
 use Rattle.dvg_cert.proofs.fields.Fields.natural_of.Goals as goal

@@ -1,6 +1,4 @@
-use Rattle.std.proofs.Common.{◌∙◌, List, Some, get_or, sym, ap}
-use Rattle.std.specs.Option.{option_copied}
-use Rattle.dvg_cert.specs.Entry.{Entry}
+use Rattle.dvg_cert.proofs.Common.{◌∙◌, List, Some, get_or, sym, ap, option_copied, Entry}
 use Rattle.dvg_cert.specs.Lookup.{entry_at}
 use Rattle.dvg_cert.proofs.Hashing.{none_there, at_index}
 use Rattle.dvg_cert.proofs.hash_index.HashIndex.entry_of.Goals as goal

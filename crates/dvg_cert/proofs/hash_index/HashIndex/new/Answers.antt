@@ -1,6 +1,4 @@
-use Rattle.std.proofs.Common.{List, sym, subst}
-use Rattle.dvg_cert.specs.Order.{IsRising}
-use Rattle.dvg_cert.specs.Entry.{Entry}
+use Rattle.dvg_cert.proofs.Common.{List, sym, subst, IsRising, Entry}
 use Rattle.dvg_cert.proofs.Hashing.{added}
 use Rattle.dvg_cert.proofs.hash_index.HashIndex.new.Goals as goal
 

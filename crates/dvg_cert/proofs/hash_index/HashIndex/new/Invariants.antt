@@ -1,5 +1,4 @@
-use Rattle.std.proofs.Common.{◌≡◌, take}
-use Rattle.dvg_cert.specs.Private.Keyed.{own_keys}
+use Rattle.dvg_cert.proofs.Common.{◌≡◌, take, own_keys}
 use Rattle.dvg_cert.proofs.hash_index.HashIndex.new.Given as goal
 
 abbrev pub invariant-loop-entry : goal.invariant-loop-entry

@@ -1,4 +1,4 @@
-use Rattle.std.proofs.Common.{rules}
+use Rattle.dvg_cert.proofs.Common.{rules}
 use Rattle.dvg_cert.proofs.Pieces.{piece_refused}
 use Rattle.dvg_cert.proofs.reader.CertReader.feed.Goals as goal
 
