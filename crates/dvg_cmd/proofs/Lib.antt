@@ -10,4 +10,5 @@ pub mod Framing
 pub mod Reported
 pub mod Answers
 pub mod SeveralLines
+pub mod Naming
 pub mod Starting

@@ -1,7 +1,8 @@
 -- The lines of several frames, one after another, over plain values.
 use Rattle.std.proofs.Common.{◌≡◌, refl, sym, ap, ◌∙◌, subst, ℕ, ◌+◌, List, [], ◌∷◌, ◌++◌, length, take, Option, None, Some, append-nil, append_assoc, length-append, arith}
 use Rattle.std.proofs.Math.Seq.{take-append-add}
-use Rattle.std.specs.Prelude.{Result, Ok, Err, IfOk, OnErr, option_map}
+use Rattle.std.proofs.lemmas.List.{take-append-le}
+use Rattle.std.specs.Prelude.{Bool, true, false, if◌then◌else◌, Result, Ok, Err, IfOk, OnOk, OnErr, option_map, string_bytes}
 use Rattle.std.specs.Io.KnownBytes.{Appends}
 use Rattle.std.proofs.KnownBytes.{Appends-nil, Appends-trans}
 use Rattle.dvg_words.specs.declared.machine.Machine.{Machine}
@@ -16,18 +17,40 @@ use Rattle.dvg_cert.specs.Order.{Certificate}
 use Rattle.dvg_make.specs.declared.judging.FrameRefusal.{FrameRefusal}
 use Rattle.dvg_spelling.specs.declared.outcome.FrameOutcome.TheVariants as outcome
 use Rattle.dvg_spelling.specs.Each.{of_each}
+use Rattle.dvg_spelling.specs.Tally.{Tally, no_lines, with_answer}
 use Rattle.dvg_cmd.proofs.SeveralFrames.{of_each_append}
-use Rattle.dvg_cmd.specs.Detail.{Detail}
+use Rattle.dvg_cmd.specs.Detail.{Detail, Behind, IsBehind}
 use Rattle.dvg_cmd.specs.declared.detail.Detail.TheVariants as details
 use Rattle.dvg_cmd.specs.Runs.{RunFault}
-use Rattle.dvg_cmd.specs.Frames.{FrameOutcome, worse, Unread, MayJudgeOver, WritesAnswer, WritesAnswerPrefix, ReportsFrame, ReportsFramePrefix}
-use Rattle.dvg_cmd.specs.SeveralFrames.{OpenedFrame, opened, Line, line_text, line_outcome, lines_text, TakeOneWriteEach, worst_of, IsLineOf, AreLinesOf, ReportsFrames, ReportsFramesPrefix, shapes_of}
+use Rattle.dvg_cmd.specs.declared.listing.Lines.{Lines}
+use Rattle.dvg_cmd.specs.declared.listing.Listing.{Listing}
+use Rattle.dvg_cmd.specs.Frames.{FrameOutcome, FrameAnswer, worse, MayJudgeOver}
+use Rattle.dvg_cmd.specs.SeveralFrames.{OpenedFrame, opened, Line, line_text, line_outcome, is_written, written_lines, line_texts, tally_on, summary_of, listing_texts, joined, TakeOneWriteEach, worst_of, AnswersOpened, IsLineOf, AreLinesOf, ReportsFrames, ReportsFramesPrefix, shapes_of}
 use Rattle.dvg_cmd.specs.declared.several_frames.NamedFrame.{NamedFrame}
-use Rattle.dvg_cmd.specs.Private.Named.{WritesLineOf, WritesLineOfPrefix}
+use Rattle.dvg_cmd.specs.Private.Named.{WritesLineOf, WritesLineOfPrefix, WritesLinesOf}
 
-lines_on : (lines : List Line) (line : Line) → lines_text (lines ++ line ∷ []) ≡ lines_text lines ++ line_text line
-lines_on [] line = append-nil (line_text line)
-lines_on (l ∷ lines) line = ap (λ t. line_text l ++ t) (lines_on lines line) ∙ sym (append_assoc (line_text l) (lines_text lines) (line_text line))
+-- ---- the texts that are written
+
+joined_on : (texts more : List (List ℕ)) → joined (texts ++ more) ≡ joined texts ++ joined more
+joined_on [] more = refl
+joined_on (text ∷ texts) more = ap (λ (t : List ℕ). text ++ t) (joined_on texts more) ∙ sym (append_assoc text (joined texts) (joined more))
+
+chosen_on : (written : Bool) (line : Line) (lines more whole : List Line) → whole ≡ lines ++ more
+    → (if written then line ∷ whole else whole) ≡ (if written then line ∷ lines else lines) ++ more
+chosen_on true line lines more whole is = ap (λ (l : List Line). line ∷ l) is
+chosen_on false line lines more whole is = is
+
+written_on : (shown : Lines) (lines more : List Line) → written_lines shown (lines ++ more) ≡ written_lines shown lines ++ written_lines shown more
+written_on shown [] more = refl
+written_on shown (line ∷ lines) more =
+    chosen_on (is_written shown (line_outcome line)) line (written_lines shown lines) (written_lines shown more) (written_lines shown (lines ++ more)) (written_on shown lines more)
+
+texts_on : (shown : Lines) (lines more : List Line) → line_texts shown (lines ++ more) ≡ line_texts shown lines ++ line_texts shown more
+texts_on shown lines more =
+    ap (λ (l : List Line). of_each line_text l) (written_on shown lines more) ∙ of_each_append line_text (written_lines shown lines) (written_lines shown more)
+
+joined_texts_on : (shown : Lines) (lines more : List Line) → joined (line_texts shown (lines ++ more)) ≡ joined (line_texts shown lines) ++ joined (line_texts shown more)
+joined_texts_on shown lines more = ap joined (texts_on shown lines more) ∙ joined_on (line_texts shown lines) (line_texts shown more)
 
 -- a whole text and a prefix of the next
 sent_part : (old mid new : Option (List ℕ)) (text whole piece : List ℕ) → text ≡ whole ++ piece → Appends old mid whole → AppendsPrefix mid new piece → AppendsPrefix old new text
@@ -36,130 +59,146 @@ sent_part old mid new text whole piece is h part =
     let size : length text ≡ length whole + length piece = ap length is ∙ length-append whole piece in
     (length whole + part.0, omega (arith, size, part.1), subst (λ (t : List ℕ). Appends old new t) (sym both) (Appends-trans old mid new whole (take part.0 piece) h part.2))
 
-one_write_on : (lines : List Line) (line : Line) (old mid new : ℕ) → TakeOneWriteEach lines old mid → TakesOneWrite (line_text line) mid new → TakeOneWriteEach (lines ++ line ∷ []) old new
-one_write_on [] line old mid new h one = (new, subst (λ n. TakesOneWrite (line_text line) n new) h one, refl)
-one_write_on (l ∷ lines) line old mid new h one = (h.0, h.1, one_write_on lines line h.0 mid new h.2 one)
+prefix_more : (old new : Option (List ℕ)) (text more : List ℕ) → AppendsPrefix old new text → AppendsPrefix old new (text ++ more)
+prefix_more old new text more h =
+    (h.0, omega (arith, length-append text more, h.1), subst (λ (t : List ℕ). Appends old new t) (sym (take-append-le h.0 text more h.1)) h.2)
+
+one_write_on : (texts more : List (List ℕ)) (old mid new : ℕ) → TakeOneWriteEach texts old mid → TakeOneWriteEach more mid new → TakeOneWriteEach (texts ++ more) old new
+one_write_on [] more old mid new h one = subst (λ n. TakeOneWriteEach more n new) h one
+one_write_on (text ∷ texts) more old mid new h one = (h.0, h.1, one_write_on texts more h.0 mid new h.2 one)
+
+tally_then : (tally : Tally) (lines : List Line) (line : Line) → tally_on tally (lines ++ line ∷ []) ≡ with_answer (tally_on tally lines) line.answer
+tally_then tally [] line = refl
+tally_then tally (l ∷ lines) line = tally_then (with_answer tally l.answer) lines line
 
 worst_on : (end : FrameOutcome) (lines : List Line) (line : Line) → worst_of end (lines ++ line ∷ []) ≡ worse (worst_of end lines) (line_outcome line)
 worst_on end [] line = refl
 worst_on end (l ∷ lines) line = worst_on (worse end (line_outcome l)) lines line
 
-module _ (IsVerdict : List ℕ → Result Yes FrameRefusal → Type 0) (rom : Rom) (w : Window) (IsExact : Type 0) (detail : Detail) (start : Option ℕ) where
-  lines_of_on : (frames : List OpenedFrame) (lines : List Line) (frame : OpenedFrame) (line : Line) → AreLinesOf IsVerdict rom w IsExact detail start frames lines → IsLineOf IsVerdict rom w IsExact detail start frame line
-      → AreLinesOf IsVerdict rom w IsExact detail start (frames ++ frame ∷ []) (lines ++ line ∷ [])
+module _ (IsVerdict : List ℕ → Result Yes FrameRefusal → Type 0) (rom : Rom) (w : Window) (IsExact : Type 0) (listing : Listing) (start : Option ℕ) where
+  lines_of_on : (frames : List OpenedFrame) (lines : List Line) (frame : OpenedFrame) (line : Line) → AreLinesOf IsVerdict rom w IsExact listing start frames lines → IsLineOf IsVerdict rom w IsExact listing start frame line
+      → AreLinesOf IsVerdict rom w IsExact listing start (frames ++ frame ∷ []) (lines ++ line ∷ [])
   lines_of_on [] [] frame line h one = (one, tt)
   lines_of_on (f ∷ frames) (l ∷ lines) frame line h one = (h.0, lines_of_on frames lines frame line h.1 one)
   lines_of_on [] (l ∷ lines) frame line h one = absurd h
   lines_of_on (f ∷ frames) [] frame line h one = absurd h
 
-  pub no_lines : (old : Option (List ℕ)) (writes : ℕ) → ReportsFrames IsVerdict rom w IsExact detail start [] old old writes writes outcome.Accepted
-  no_lines old writes = record { lines = []; lines_of = tt; written = Appends-nil old; one_write = refl; outcome_is = refl }
+  pub none_written : (old : Option (List ℕ)) (tally : Tally) (writes : ℕ) → WritesLinesOf IsVerdict rom w IsExact listing start [] old old tally tally writes writes outcome.Accepted
+  none_written old tally writes = record { lines = []; lines_of = tt; written = Appends-nil old; one_write = refl; outcome_is = refl; tally_is = refl }
 
   -- the next line was written
-  pub more_lines : (frames : List OpenedFrame) (frame : OpenedFrame) (old mid new : Option (List ℕ)) (writes writes_mid writes_after : ℕ) (worst end both : FrameOutcome)
-      → ReportsFrames IsVerdict rom w IsExact detail start frames old mid writes writes_mid worst → WritesLineOf IsVerdict rom w IsExact detail start frame mid new writes_mid writes_after end → both ≡ worse worst end
-      → ReportsFrames IsVerdict rom w IsExact detail start (frames ++ frame ∷ []) old new writes writes_after both
-  more_lines frames frame old mid new writes writes_mid writes_after worst end both h one is =
+  pub more_lines : (frames : List OpenedFrame) (frame : OpenedFrame) (old mid new : Option (List ℕ)) (tally tally_mid tally_after : Tally) (writes writes_mid writes_after : ℕ) (worst end both : FrameOutcome)
+      → WritesLinesOf IsVerdict rom w IsExact listing start frames old mid tally tally_mid writes writes_mid worst
+      → WritesLineOf IsVerdict rom w IsExact listing start frame mid new tally_mid tally_after writes_mid writes_after end → both ≡ worse worst end
+      → WritesLinesOf IsVerdict rom w IsExact listing start (frames ++ frame ∷ []) old new tally tally_after writes writes_after both
+  more_lines frames frame old mid new tally tally_mid tally_after writes writes_mid writes_after worst end both h one is =
       record {
         lines = h.lines ++ one.line ∷ [];
         lines_of = lines_of_on frames h.lines frame one.line h.lines_of one.line_of;
-        written = subst (λ t. Appends old new t) (sym (lines_on h.lines one.line)) (Appends-trans old mid new (lines_text h.lines) (line_text one.line) h.written one.written);
-        one_write = one_write_on h.lines one.line writes writes_mid writes_after h.one_write one.one_write;
+        written =
+            subst (λ t. Appends old new t) (sym (joined_texts_on listing.lines h.lines (one.line ∷ [])))
+            (Appends-trans old mid new (joined (line_texts listing.lines h.lines)) (joined (line_texts listing.lines (one.line ∷ []))) h.written one.written);
+        one_write =
+            subst (λ t. TakeOneWriteEach t writes writes_after) (sym (texts_on listing.lines h.lines (one.line ∷ [])))
+            (one_write_on (line_texts listing.lines h.lines) (line_texts listing.lines (one.line ∷ [])) writes writes_mid writes_after h.one_write one.one_write);
         outcome_is = is ∙ ap (λ o. worse o end) h.outcome_is ∙ ap (λ o. worse (worst_of outcome.Accepted h.lines) o) (sym one.end_is) ∙ sym (worst_on outcome.Accepted h.lines one.line);
+        tally_is = one.tally_is ∙ ap (λ t. with_answer t one.line.answer) h.tally_is ∙ sym (tally_then tally h.lines one.line);
       }
 
   -- a prefix of the next line was written
-  pub cut_lines : (frames : List OpenedFrame) (frame : OpenedFrame) (old mid new : Option (List ℕ)) (writes writes_mid : ℕ) (worst : FrameOutcome)
-      → ReportsFrames IsVerdict rom w IsExact detail start frames old mid writes writes_mid worst → WritesLineOfPrefix IsVerdict rom w IsExact detail start frame mid new
-      → ReportsFramesPrefix IsVerdict rom w IsExact detail start (frames ++ frame ∷ []) old new
-  cut_lines frames frame old mid new writes writes_mid worst h one =
+  pub cut_lines : (frames : List OpenedFrame) (frame : OpenedFrame) (old mid new : Option (List ℕ)) (tally tally_mid : Tally) (writes writes_mid : ℕ) (worst : FrameOutcome)
+      → WritesLinesOf IsVerdict rom w IsExact listing start frames old mid tally tally_mid writes writes_mid worst → WritesLineOfPrefix IsVerdict rom w IsExact listing start frame mid new
+      → ReportsFramesPrefix IsVerdict rom w IsExact listing start (frames ++ frame ∷ []) old new
+  cut_lines frames frame old mid new tally tally_mid writes writes_mid worst h one =
+      let lines : List Line = h.lines ++ one.line ∷ [] in
+      let last : List (List ℕ) = summary_of listing.summary (tally_on no_lines lines) in
       record {
-        lines = h.lines ++ one.line ∷ [];
+        lines = lines;
         lines_of = lines_of_on frames h.lines frame one.line h.lines_of one.line_of;
-        written = sent_part old mid new (lines_text (h.lines ++ one.line ∷ [])) (lines_text h.lines) (line_text one.line) (lines_on h.lines one.line) h.written one.written;
+        written =
+            subst (λ t. AppendsPrefix old new t) (sym (joined_on (line_texts listing.lines lines) last))
+            (prefix_more old new (joined (line_texts listing.lines lines)) (joined last)
+            (sent_part old mid new (joined (line_texts listing.lines lines)) (joined (line_texts listing.lines h.lines)) (joined (line_texts listing.lines (one.line ∷ [])))
+            (joined_texts_on listing.lines h.lines (one.line ∷ [])) h.written one.written));
       }
 
-  -- the same, for what each frame is that was taken
-  pub more_taken : {A : Type 0} (f : A → OpenedFrame) (taken : List A) (x : A) (old mid new : Option (List ℕ)) (writes writes_mid writes_after : ℕ) (worst end both : FrameOutcome)
-      → ReportsFrames IsVerdict rom w IsExact detail start (of_each f taken) old mid writes writes_mid worst → WritesLineOf IsVerdict rom w IsExact detail start (f x) mid new writes_mid writes_after end → both ≡ worse worst end
-      → ReportsFrames IsVerdict rom w IsExact detail start (of_each f (taken ++ x ∷ [])) old new writes writes_after both
-  more_taken f taken x old mid new writes writes_mid writes_after worst end both h one is =
-      subst (λ frames. ReportsFrames IsVerdict rom w IsExact detail start frames old new writes writes_after both) (sym (of_each_append f taken (x ∷ [])))
-      (more_lines (of_each f taken) (f x) old mid new writes writes_mid writes_after worst end both h one is)
+  -- ---- the summary
 
-  pub cut_taken : {A : Type 0} (f : A → OpenedFrame) (taken : List A) (x : A) (old mid new : Option (List ℕ)) (writes writes_mid : ℕ) (worst : FrameOutcome)
-      → ReportsFrames IsVerdict rom w IsExact detail start (of_each f taken) old mid writes writes_mid worst → WritesLineOfPrefix IsVerdict rom w IsExact detail start (f x) mid new
-      → ReportsFramesPrefix IsVerdict rom w IsExact detail start (of_each f (taken ++ x ∷ [])) old new
-  cut_taken f taken x old mid new writes writes_mid worst h one =
-      subst (λ frames. ReportsFramesPrefix IsVerdict rom w IsExact detail start frames old new) (sym (of_each_append f taken (x ∷ [])))
-      (cut_lines (of_each f taken) (f x) old mid new writes writes_mid worst h one)
+  module _ (frames : List OpenedFrame) (old mid new : Option (List ℕ)) (tally : Tally) (writes writes_mid : ℕ) (end : FrameOutcome)
+      (h : WritesLinesOf IsVerdict rom w IsExact listing start frames old mid no_lines tally writes writes_mid end) where
+    abbrev pub texts : List (List ℕ)
+    texts = line_texts listing.lines h.lines
+
+    abbrev pub last : List (List ℕ)
+    last = summary_of listing.summary tally
+
+    all_texts : listing_texts listing h.lines ≡ texts ++ last
+    all_texts = ap (λ t. texts ++ summary_of listing.summary t) (sym h.tally_is)
+
+    all_joined : joined (listing_texts listing h.lines) ≡ joined texts ++ joined last
+    all_joined = ap joined all_texts ∙ joined_on texts last
+
+    pub with_summary : (writes_after : ℕ) → Appends mid new (joined last) → TakeOneWriteEach last writes_mid writes_after
+        → ReportsFrames IsVerdict rom w IsExact listing start frames old new writes writes_after end
+    with_summary writes_after text one =
+        record {
+          lines = h.lines;
+          lines_of = h.lines_of;
+          written = subst (λ t. Appends old new t) (sym all_joined) (Appends-trans old mid new (joined texts) (joined last) h.written text);
+          one_write = subst (λ t. TakeOneWriteEach t writes writes_after) (sym all_texts) (one_write_on texts last writes writes_mid writes_after h.one_write one);
+          outcome_is = h.outcome_is;
+        }
+
+    pub cut_summary : AppendsPrefix mid new (joined last) → ReportsFramesPrefix IsVerdict rom w IsExact listing start frames old new
+    cut_summary text =
+        record {
+          lines = h.lines;
+          lines_of = h.lines_of;
+          written = sent_part old mid new (joined (listing_texts listing h.lines)) (joined texts) (joined last) all_joined h.written text;
+        }
+
+  -- the same, for what each frame is that was taken
+  pub more_taken : {A : Type 0} (f : A → OpenedFrame) (taken : List A) (x : A) (old mid new : Option (List ℕ)) (tally tally_mid tally_after : Tally) (writes writes_mid writes_after : ℕ) (worst end both : FrameOutcome)
+      → WritesLinesOf IsVerdict rom w IsExact listing start (of_each f taken) old mid tally tally_mid writes writes_mid worst
+      → WritesLineOf IsVerdict rom w IsExact listing start (f x) mid new tally_mid tally_after writes_mid writes_after end → both ≡ worse worst end
+      → WritesLinesOf IsVerdict rom w IsExact listing start (of_each f (taken ++ x ∷ [])) old new tally tally_after writes writes_after both
+  more_taken f taken x old mid new tally tally_mid tally_after writes writes_mid writes_after worst end both h one is =
+      subst (λ frames. WritesLinesOf IsVerdict rom w IsExact listing start frames old new tally tally_after writes writes_after both) (sym (of_each_append f taken (x ∷ [])))
+      (more_lines (of_each f taken) (f x) old mid new tally tally_mid tally_after writes writes_mid writes_after worst end both h one is)
+
+  pub cut_taken : {A : Type 0} (f : A → OpenedFrame) (taken : List A) (x : A) (old mid new : Option (List ℕ)) (tally tally_mid : Tally) (writes writes_mid : ℕ) (worst : FrameOutcome)
+      → WritesLinesOf IsVerdict rom w IsExact listing start (of_each f taken) old mid tally tally_mid writes writes_mid worst → WritesLineOfPrefix IsVerdict rom w IsExact listing start (f x) mid new
+      → ReportsFramesPrefix IsVerdict rom w IsExact listing start (of_each f (taken ++ x ∷ [])) old new
+  cut_taken f taken x old mid new tally tally_mid writes writes_mid worst h one =
+      subst (λ frames. ReportsFramesPrefix IsVerdict rom w IsExact listing start frames old new) (sym (of_each_append f taken (x ∷ [])))
+      (cut_lines (of_each f taken) (f x) old mid new tally tally_mid writes writes_mid worst h one)
 
   -- ---- one line
 
-  module _ (name : List ℕ) (old new : Option (List ℕ)) where
-    pub line_of_frame : (reader left : Option (List ℕ)) (writes writes_after : ℕ) (r : Result FrameOutcome RunFault) (frame : OpenedFrame) → frame ≡ record { name = name; held = Some reader }
-        → IfOk r (ReportsFrame IsVerdict rom w IsExact detail start name reader left old new writes writes_after)
-        → IfOk r (WritesLineOf IsVerdict rom w IsExact detail start frame old new writes writes_after)
-    line_of_frame reader left writes writes_after (Err fault) frame is h = tt
-    line_of_frame reader left writes writes_after (Ok end) frame is h =
-        subst (λ f. WritesLineOf IsVerdict rom w IsExact detail start f old new writes writes_after end) (sym is)
-        (record {
-          line = record { name = name; answer = h.answer; behind = h.line.behind };
-          line_of = record { name_is = refl; answers = (left, h.answers); asked = h.line.asked };
-          written = h.line.written;
-          one_write = h.line.one_write;
-          end_is = sym h.line.outcome_is;
-        })
+  module _ (name : List ℕ) (answer : FrameAnswer) (what : Behind) (held : Option (Option (List ℕ))) (old new : Option (List ℕ))
+      (answers : AnswersOpened IsVerdict rom w IsExact listing start held answer) (asked : IsBehind listing.detail what) where
+    abbrev pub line_of_answer : Line
+    line_of_answer = record { name = name; answer = answer; behind = what }
 
-    pub cut_frame : (reader left : Option (List ℕ)) (r : Result FrameOutcome RunFault) (frame : OpenedFrame) → frame ≡ record { name = name; held = Some reader }
-        → OnErr r (ReportsFramePrefix IsVerdict rom w IsExact detail start name reader left old new)
-        → OnErr r (WritesLineOfPrefix IsVerdict rom w IsExact detail start frame old new)
-    cut_frame reader left (Ok end) frame is h = tt
-    cut_frame reader left (Err fault) frame is h =
-        subst (λ f. WritesLineOfPrefix IsVerdict rom w IsExact detail start f old new) (sym is)
-        (record {
-          line = record { name = name; answer = h.answer; behind = h.line.behind };
-          line_of = record { name_is = refl; answers = (left, h.answers); asked = h.line.asked };
-          written = h.line.written;
-        })
+    pub writes_line : (r : Result FrameOutcome RunFault) (tally tally_after : Tally) (writes writes_after : ℕ) → tally_after ≡ with_answer tally answer
+        → IfOk r (λ end. line_outcome line_of_answer ≡ end) → OnOk r (Appends old new (joined (line_texts listing.lines (line_of_answer ∷ []))))
+        → OnOk r (TakeOneWriteEach (line_texts listing.lines (line_of_answer ∷ [])) writes writes_after)
+        → IfOk r (WritesLineOf IsVerdict rom w IsExact listing start (record { name = name; held = held }) old new tally tally_after writes writes_after)
+    writes_line (Err fault) tally tally_after writes writes_after tally_is end text one = tt
+    writes_line (Ok o) tally tally_after writes writes_after tally_is end text one =
+        record {
+          line = line_of_answer;
+          line_of = record { name_is = refl; answers = answers; asked = asked };
+          written = text;
+          one_write = one;
+          end_is = end;
+          tally_is = tally_is;
+        }
 
-    pub line_of_unopened : (writes writes_after : ℕ) (r : Result FrameOutcome RunFault) (frame : OpenedFrame) → frame ≡ record { name = name; held = None }
-        → IfOk r (WritesAnswer detail name Unread old new writes writes_after)
-        → IfOk r (WritesLineOf IsVerdict rom w IsExact detail start frame old new writes writes_after)
-    line_of_unopened writes writes_after (Err fault) frame is h = tt
-    line_of_unopened writes writes_after (Ok end) frame is h =
-        subst (λ f. WritesLineOf IsVerdict rom w IsExact detail start f old new writes writes_after end) (sym is)
-        (record {
-          line = record { name = name; answer = Unread; behind = h.behind };
-          line_of = record { name_is = refl; answers = refl; asked = h.asked };
-          written = h.written;
-          one_write = h.one_write;
-          end_is = sym h.outcome_is;
-        })
-
-    pub cut_unopened : (r : Result FrameOutcome RunFault) (frame : OpenedFrame) → frame ≡ record { name = name; held = None }
-        → OnErr r (WritesAnswerPrefix detail name Unread old new)
-        → OnErr r (WritesLineOfPrefix IsVerdict rom w IsExact detail start frame old new)
-    cut_unopened (Ok end) frame is h = tt
-    cut_unopened (Err fault) frame is h =
-        subst (λ f. WritesLineOfPrefix IsVerdict rom w IsExact detail start f old new) (sym is)
-        (record {
-          line = record { name = name; answer = Unread; behind = h.behind };
-          line_of = record { name_is = refl; answers = refl; asked = h.asked };
-          written = h.written;
-        })
-
--- ---- a frame whose turn it is
-
-abbrev opened_as : List ℕ → Option (Option (List ℕ)) → OpenedFrame
-opened_as name held = record { name = name; held = held }
-
-module _ {R : Type 0} (remaining : R → Option (List ℕ)) (frame : NamedFrame R) where
-  pub opened_some : (reader : R) → frame.reader ≡ Some reader → opened remaining frame ≡ record { name = frame.name.now; held = Some (remaining reader) }
-  opened_some reader is = ap (λ x. opened_as frame.name.now (option_map remaining x)) is
-
-  pub opened_none : frame.reader ≡ None → opened remaining frame ≡ record { name = frame.name.now; held = None }
-  opened_none is = ap (λ x. opened_as frame.name.now (option_map remaining x)) is
+    pub cuts_line : (r : Result FrameOutcome RunFault) → OnErr r (AppendsPrefix old new (joined (line_texts listing.lines (line_of_answer ∷ []))))
+        → OnErr r (WritesLineOfPrefix IsVerdict rom w IsExact listing start (record { name = name; held = held }) old new)
+    cuts_line (Ok o) text = tt
+    cuts_line (Err fault) text = record { line = line_of_answer; line_of = record { name_is = refl; answers = answers; asked = asked }; written = text }
 
 -- ---- judged shapes
 

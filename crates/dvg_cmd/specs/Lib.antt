@@ -1,6 +1,7 @@
 pub mod Detail
 pub mod Runs
 pub mod Start
+pub mod Names
 pub mod SafeFrames
 pub mod Frames
 pub mod SeveralFrames

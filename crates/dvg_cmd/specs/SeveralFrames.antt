@@ -1,5 +1,5 @@
 -- What a run writes of several frames that are judged one after another. All of it is this project's own.
-use Rattle.std.specs.Prelude.{◌≡◌, ℕ, List, [], ◌∷◌, ◌++◌, length, Option, None, Some, option_map, Result, Ok, Err}
+use Rattle.std.specs.Prelude.{◌≡◌, ℕ, Bool, true, false, if◌then◌else◌, List, [], ◌∷◌, ◌++◌, length, Option, None, Some, option_map, string_bytes, Result, Ok, Err}
 use Rattle.std.specs.Io.KnownBytes.{Appends}
 use Rattle.dvg_words.specs.declared.machine.Machine.{Machine}
 use Rattle.dvg_words.specs.Memory.{Rom, rom_on, IsRomLength}
@@ -15,9 +15,14 @@ use Rattle.dvg_check.specs.declared.verdict.Refusal.{Refusal}
 use Rattle.dvg_check.specs.declared.verdict.Refusal.TheVariants as refusal
 use Rattle.dvg_check.specs.declared.verdict.Yes.{Yes}
 use Rattle.dvg_make.specs.declared.judging.FrameRefusal.{FrameRefusal}
+use Rattle.dvg_spelling.specs.Each.{of_each}
 use Rattle.dvg_spelling.specs.Outcomes.{plain_outcome}
+use Rattle.dvg_spelling.specs.Tally.{Tally, no_lines, with_answer, summary_text}
 use Rattle.dvg_spelling.specs.declared.outcome.FrameOutcome.TheVariants as outcome
 use Rattle.dvg_cmd.specs.Detail.{Detail, Behind, IsBehind, behind_text, frame_outcome_behind}
+use Rattle.dvg_cmd.specs.declared.listing.Lines.{Lines}
+use Rattle.dvg_cmd.specs.declared.listing.Lines.TheVariants as which
+use Rattle.dvg_cmd.specs.declared.listing.Listing.{Listing}
 use Rattle.dvg_cmd.specs.declared.several_frames.NamedFrame.{NamedFrame}
 use Rattle.dvg_cmd.specs.Runs.{Outcome, WritesReport, WritesReportPrefix}
 use Rattle.dvg_cmd.specs.Frames.{FrameAnswer, Unread, FrameOutcome, frame_outcome_of, worse, frame_line, AnswersFrame, VerdictOver}
@@ -28,7 +33,7 @@ pub record OpenedFrame : Type 0 where
   pub held : Option (Option (List ℕ))
 
 abbrev pub opened : {R : Type 0} → (R → Option (List ℕ)) → NamedFrame R → OpenedFrame
-opened remaining frame = record { name = frame.name.now; held = option_map remaining frame.reader }
+opened remaining frame = record { name = string_bytes frame.name; held = option_map remaining frame.reader }
 
 -- the line of a frame's answer: the name, the answer, and what is behind the line
 pub record Line : Type 0 where
@@ -44,23 +49,52 @@ line_text line = frame_line line.name line.answer ++ behind_text line.behind
 abbrev pub line_outcome : Line → FrameOutcome
 line_outcome line = frame_outcome_behind line.behind (frame_outcome_of line.answer)
 
--- several of them, one after another
-abbrev pub lines_text : List Line → List ℕ
-lines_text [] = []
-lines_text (line ∷ rest) = line_text line ++ lines_text rest
+-- whether a line of this outcome is written: each, or each that is not of an accepted frame
+abbrev pub is_written : Lines → FrameOutcome → Bool
+is_written which.NotAccepted outcome.Accepted = false
+is_written shown end = true
+
+-- the lines that are written
+abbrev pub written_lines : Lines → List Line → List Line
+written_lines shown [] = []
+written_lines shown (line ∷ rest) =
+    if is_written shown (line_outcome line) then line ∷ written_lines shown rest else written_lines shown rest
+
+-- their texts
+abbrev pub line_texts : Lines → List Line → List (List ℕ)
+line_texts shown lines = of_each line_text (written_lines shown lines)
+
+-- what the answers of lines add to a tally, whether they are written or not
+abbrev pub tally_on : Tally → List Line → Tally
+tally_on t [] = t
+tally_on t (line ∷ rest) = tally_on (with_answer t line.answer) rest
+
+-- the last text, if a summary is asked for
+abbrev pub summary_of : Bool → Tally → List (List ℕ)
+summary_of true tally = summary_text tally ∷ []
+summary_of false tally = []
+
+-- all texts that are written, in their order
+abbrev pub listing_texts : Listing → List Line → List (List ℕ)
+listing_texts listing lines = line_texts listing.lines lines ++ summary_of listing.summary (tally_on no_lines lines)
+
+-- texts, one after another
+abbrev pub joined : List (List ℕ) → List ℕ
+joined [] = []
+joined (text ∷ rest) = text ++ joined rest
 
 -- each was written by one write if it fits one
-abbrev pub TakeOneWriteEach : List Line → ℕ → ℕ → Type 0
+abbrev pub TakeOneWriteEach : List (List ℕ) → ℕ → ℕ → Type 0
 TakeOneWriteEach [] old new = new ≡ old
-TakeOneWriteEach (line ∷ rest) old new = (next : ℕ) × TakesOneWrite (line_text line) old next × TakeOneWriteEach rest next new
+TakeOneWriteEach (text ∷ rest) old new = (next : ℕ) × TakesOneWrite text old next × TakeOneWriteEach rest next new
 
 -- the worst of an outcome and those of lines
 abbrev pub worst_of : FrameOutcome → List Line → FrameOutcome
 worst_of end [] = end
 worst_of end (line ∷ rest) = worst_of (worse end (line_outcome line)) rest
 
-module _ (IsVerdict : List ℕ → Result Yes FrameRefusal → Type 0) (rom : Rom) (w : Window) (IsExact : Type 0) (detail : Detail)
-    (start : Option ℕ) where
+module _ (IsVerdict : List ℕ → Result Yes FrameRefusal → Type 0) (rom : Rom) (w : Window) (IsExact : Type 0)
+    (listing : Listing) (start : Option ℕ) where
   -- the answer to a frame: `Unread` if it can't be opened, else the answer to what its reader held
   abbrev pub AnswersOpened : Option (Option (List ℕ)) → FrameAnswer → Type 0
   AnswersOpened None answer = answer ≡ Unread
@@ -69,7 +103,7 @@ module _ (IsVerdict : List ℕ → Result Yes FrameRefusal → Type 0) (rom : Ro
   pub record IsLineOf (frame : OpenedFrame) (line : Line) : Type 0 where
     pub name_is : line.name ≡ frame.name
     pub answers : AnswersOpened frame.held line.answer
-    pub asked : IsBehind detail line.behind
+    pub asked : IsBehind listing.detail line.behind
 
   -- a line for each frame, in the order of the frames
   abbrev pub AreLinesOf : List OpenedFrame → List Line → Type 0
@@ -77,20 +111,21 @@ module _ (IsVerdict : List ℕ → Result Yes FrameRefusal → Type 0) (rom : Ro
   AreLinesOf (frame ∷ frames) (line ∷ lines) = IsLineOf frame line × AreLinesOf frames lines
   AreLinesOf frames lines = ⊥
 
-  -- a line for each of these frames was written, and nothing else; the outcome is the worst of them
+  -- of a line for each of these frames those were written that the listing has, and its summary, and nothing else; the outcome is the
+  -- worst of all of them
   pub record ReportsFrames
       (frames : List OpenedFrame) (old new : Option (List ℕ)) (writes writes_after : ℕ) (end : FrameOutcome) : Type 0 where
     pub lines : List Line
     pub lines_of : AreLinesOf frames lines
-    pub written : Appends old new (lines_text lines)
-    pub one_write : TakeOneWriteEach lines writes writes_after
+    pub written : Appends old new (joined (listing_texts listing lines))
+    pub one_write : TakeOneWriteEach (listing_texts listing lines) writes writes_after
     pub outcome_is : end ≡ worst_of outcome.Accepted lines
 
-  -- a prefix of the lines of these frames was written, and nothing else
+  -- a prefix of that was written, and nothing else
   pub record ReportsFramesPrefix (frames : List OpenedFrame) (old new : Option (List ℕ)) : Type 0 where
     pub lines : List Line
     pub lines_of : AreLinesOf frames lines
-    pub written : AppendsPrefix old new (lines_text lines)
+    pub written : AppendsPrefix old new (joined (listing_texts listing lines))
 
 -- ---- by a given certificate
 
@@ -135,12 +170,12 @@ abbrev pub shapes_of : Machine → Window → List ℕ → Certificate → Shape
 shapes_of machine w rom c = record { rom = rom_on machine c.map rom; list = c.entries; window = w; mode = Bound }
 
 -- the lines of frames that are judged over judged shapes, with this count of shapes
-abbrev pub ReportsOver : Shapes → ℕ → ℕ → Detail → Option ℕ → List OpenedFrame → Option (List ℕ) → Option (List ℕ)
+abbrev pub ReportsOver : Shapes → ℕ → ℕ → Listing → Option ℕ → List OpenedFrame → Option (List ℕ) → Option (List ℕ)
     → ℕ → ℕ → FrameOutcome → Type 0
 ReportsOver shapes count budget =
     ReportsFrames (λ bytes. VerdictOver shapes count bytes budget) shapes.rom shapes.window (shapes.mode ≡ Exact)
 
 -- a prefix of these lines was written, and nothing else
-abbrev pub ReportsOverPrefix : Shapes → ℕ → ℕ → Detail → Option ℕ → List OpenedFrame → Option (List ℕ) → Option (List ℕ) → Type 0
+abbrev pub ReportsOverPrefix : Shapes → ℕ → ℕ → Listing → Option ℕ → List OpenedFrame → Option (List ℕ) → Option (List ℕ) → Type 0
 ReportsOverPrefix shapes count budget =
     ReportsFramesPrefix (λ bytes. VerdictOver shapes count bytes budget) shapes.rom shapes.window (shapes.mode ≡ Exact)

@@ -33,7 +33,7 @@ fn read_started<R: CountedRead>(frame: &mut R, start: Option<u16>) -> io::Result
 }
 
 /// What the detail asks for behind the line of a frame that can't be opened or read.
-fn unread_account(machine: Machine, alloc: Global, detail: Detail) -> Behind
+pub fn unread_account(machine: Machine, alloc: Global, detail: Detail) -> Behind
     ensures { IsBehind detail result }
 {
     match detail {
@@ -43,7 +43,7 @@ fn unread_account(machine: Machine, alloc: Global, detail: Detail) -> Behind
 }
 
 /// Reads a frame and judges it: the answer, and what the detail asks for behind its line.
-fn answer_of<J: FrameJudge, R: CountedRead>(
+pub fn answer_of<J: FrameJudge, R: CountedRead>(
     alloc: Global,
     judge: &J,
     start: Option<u16>,
@@ -68,8 +68,20 @@ fn answer_of<J: FrameJudge, R: CountedRead>(
     }
 }
 
+/// What the line of an answer and the text behind it come to.
+pub fn outcome_of(answer: &FrameAnswer, behind: &Behind) -> FrameOutcome
+    ensures outcome { result ≡ frame_outcome_behind behind.now (frame_outcome_of answer.now) }
+    ensures unread { is_unread_outcome result ≡ is_unread answer.now }
+{
+    let outcome = frame_outcome_of(answer);
+    match behind {
+        Behind::Nothing | Behind::Account(_) => outcome,
+        Behind::NoMemory => outcome.or_worse(FrameOutcome::NoMemory),
+    }
+}
+
 /// Writes the line of an answer, and a text behind it.
-fn write_answer<W: CountedWrite>(
+pub fn write_answer<W: CountedWrite>(
     name: &str,
     answer: &FrameAnswer,
     behind: &Behind,
@@ -87,11 +99,7 @@ fn write_answer<W: CountedWrite>(
     let report = frame_report_of(answer);
     let text = behind.text();
     write_lines(name.as_bytes(), report.as_bytes(), text.as_bytes(), out)?;
-    let outcome = frame_outcome_of(answer);
-    match behind {
-        Behind::Nothing | Behind::Account(_) => Ok(outcome),
-        Behind::NoMemory => Ok(outcome.or_worse(FrameOutcome::NoMemory)),
-    }
+    Ok(outcome_of(answer, behind))
 }
 
 /// Reads a frame, judges it, and writes its line: the name, which has no control characters, a colon, a space, and the report; and

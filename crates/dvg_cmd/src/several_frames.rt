@@ -1,33 +1,35 @@
 //! Running a judge of frames on several frames, one after another.
 
-ghost use Rattle.std.specs.Prelude.{◌≡◌, ◌⊎◌, List, length, Ok, Err, IfOk, IfErr, IfSome, IfNone, OnErr, is_err};
+ghost use Rattle.std.specs.Prelude.{◌≡◌, ◌⊎◌, List, [], ◌∷◌, length, Ok, Err, IfOk, IfErr, IfSome, IfNone, OnOk, OnErr, is_err, option_map};
+ghost use Rattle.std.specs.Io.KnownBytes.{Appends};
 ghost use Rattle.std.specs.Iterator.{Drains, Yields, IsFinite};
 ghost use Rattle.dvg_words.specs.Memory.{IsRomLength};
-ghost use Rattle.dvg_cert.specs.Devices.{count_after};
+ghost use Rattle.dvg_cert.specs.Devices.{AppendsPrefix, count_after};
 ghost use Rattle.dvg_spelling.specs.Each.{of_each};
 ghost use Rattle.dvg_spelling.specs.Outcomes.{plain_outcome};
 ghost use Rattle.dvg_spelling.specs.declared.outcome.Outcome.{Outcome as Plain};
 ghost use Rattle.dvg_cmd.specs.Detail.{IsBehind};
 ghost use Rattle.dvg_cmd.specs.Runs.{WritesReport, WritesReportPrefix};
-ghost use Rattle.dvg_cmd.specs.SeveralFrames.{opened, ReportsFrames, ReportsFramesPrefix, ReportsOver, ReportsOverPrefix, ReportsRefusal, ReportsRefusalPrefix, RefusesShapes, IsCertRefusal, shapes_of};
-ghost use Rattle.dvg_cmd.specs.Private.Named.{WritesLineOf, WritesLineOfPrefix};
+ghost use Rattle.dvg_cmd.specs.SeveralFrames.{AnswersOpened, TakeOneWriteEach, joined, line_outcome, line_texts, opened, summary_of, ReportsFrames, ReportsFramesPrefix, ReportsOver, ReportsOverPrefix, ReportsRefusal, ReportsRefusalPrefix, RefusesShapes, IsCertRefusal, shapes_of};
+ghost use Rattle.dvg_cmd.specs.Private.Named.{WritesLineOf, WritesLineOfPrefix, WritesLinesOf};
 
 use crate::detail::{Behind, Detail};
 use crate::frame_judge::{FrameJudge, GivenCertificate};
-use crate::frame_run::{run_frame, run_unopened};
+use crate::frame_run::{answer_of, outcome_of, unread_account, write_answer};
+use crate::listing::{Lines, Listing};
 use crate::running::write_report;
 use dvg_account::{Inputs, refusal_text};
-use dvg_cert::{Cert, CertFault, CountedRead, CountedWrite, HashIndex};
+use dvg_cert::{Cert, CertFault, CountedRead, CountedWrite, HashIndex, write_lines};
 use dvg_check::{JudgedShapes, Mode, Refusal};
-use dvg_spelling::{FrameOutcome, RunFault};
+use dvg_spelling::{FrameAnswer, FrameOutcome, RunFault, Tally, summary_of};
 use dvg_words::{Machine, RomImage, Window};
 use std::alloc::Global;
 
 /// A frame whose turn it is.
 #[derive(Drop)]
-pub struct NamedFrame<'a, R> {
+pub struct NamedFrame<R> {
     /// The name in the frame's line, which has no control characters.
-    pub name: &'a str,
+    pub name: String,
     /// The reader of the frame, or `None` if the frame can't be opened.
     pub reader: Option<R>,
 }
@@ -45,75 +47,168 @@ pub struct FrameOptions {
     pub window: Window,
 }
 
-/// Judges a frame whose turn it is, and writes its line.
+/// The answer to a frame whose turn it is, and what the detail asks for behind its line.
+fn answer_opened<J: FrameJudge, R: CountedRead + Drop>(
+    alloc: Global,
+    judge: &J,
+    start: Option<u16>,
+    reader: Option<R>,
+    detail: Detail,
+) -> (FrameAnswer, Behind)
+    requires { J.valid judge.now detail }
+    ensures answers { AnswersOpened (J.is_verdict judge.now) (J.rom judge.now) (J.window judge.now) (J.is_exact judge.now) start
+        (option_map (λ reader. R.remaining reader) reader.entry) result.0 }
+    ensures behind { IsBehind detail result.1 }
+{
+    match reader {
+        Some(mut reader) => answer_of(alloc, judge, start, &mut reader, detail),
+        None => (
+            FrameAnswer::Unread,
+            unread_account(judge.machine(), alloc, detail),
+        ),
+    }
+}
+
+/// Writes the line of an answer, and a text behind it, if the listing has it; answers what they come to in any case.
+fn write_listed<W: CountedWrite>(
+    name: &str,
+    answer: &FrameAnswer,
+    behind: &Behind,
+    lines: Lines,
+    out: &mut W,
+) -> Result<FrameOutcome, RunFault>
+    ensures outcome { IfOk result (λ end. line_outcome (record { name = name.now; answer = answer.now; behind = behind.now }) ≡ end) }
+    ensures written { OnOk result (Appends (W.contents out.old) (W.contents out.new)
+        (joined (line_texts lines (record { name = name.now; answer = answer.now; behind = behind.now } ∷ [])))) }
+    ensures one_write { OnOk result (TakeOneWriteEach (line_texts lines (record { name = name.now; answer = answer.now; behind = behind.now } ∷ []))
+        (W.whole_writes out.old) (W.whole_writes out.new)) }
+    ensures prefix { OnErr result (AppendsPrefix (W.contents out.old) (W.contents out.new)
+        (joined (line_texts lines (record { name = name.now; answer = answer.now; behind = behind.now } ∷ [])))) }
+    ensures fault { IfErr result (λ fault. fault ≡ RunFault.Write) }
+    ensures count { W.failures out.new ≡ count_after (is_err result) (W.failures out.old) }
+{
+    let outcome = outcome_of(answer, behind);
+    if lines.has(outcome) {
+        write_answer(name, answer, behind, out)
+    } else {
+        Ok(outcome)
+    }
+}
+
+/// Judges a frame whose turn it is, counts its line, and writes it if the listing has it.
 fn run_named<J: FrameJudge, R: CountedRead + Drop, W: CountedWrite>(
     alloc: Global,
     judge: &J,
     start: Option<u16>,
-    frame: NamedFrame<'_, R>,
-    detail: Detail,
+    frame: NamedFrame<R>,
+    listing: Listing,
+    tally: &mut Tally,
     out: &mut W,
 ) -> Result<FrameOutcome, RunFault>
-    requires { J.valid judge.now detail }
-    ensures ok { IfOk result (WritesLineOf (J.is_verdict judge.now) (J.rom judge.now) (J.window judge.now) (J.is_exact judge.now) detail start
-        (opened (λ reader. R.remaining reader) frame.entry) (W.contents out.old) (W.contents out.new) (W.whole_writes out.old) (W.whole_writes out.new)) }
-    ensures prefix { OnErr result (WritesLineOfPrefix (J.is_verdict judge.now) (J.rom judge.now) (J.window judge.now) (J.is_exact judge.now) detail start
+    requires { J.valid judge.now listing.detail }
+    ensures ok { IfOk result (WritesLineOf (J.is_verdict judge.now) (J.rom judge.now) (J.window judge.now) (J.is_exact judge.now) listing start
+        (opened (λ reader. R.remaining reader) frame.entry) (W.contents out.old) (W.contents out.new) tally.old tally.new (W.whole_writes out.old) (W.whole_writes out.new)) }
+    ensures prefix { OnErr result (WritesLineOfPrefix (J.is_verdict judge.now) (J.rom judge.now) (J.window judge.now) (J.is_exact judge.now) listing start
         (opened (λ reader. R.remaining reader) frame.entry) (W.contents out.old) (W.contents out.new)) }
     ensures fault { IfErr result (λ fault. fault ≡ RunFault.Write) }
     ensures count { W.failures out.new ≡ count_after (is_err result) (W.failures out.old) }
 {
     let NamedFrame { name, reader } = frame;
-    match reader {
-        Some(mut reader) => run_frame(alloc, judge, start, name, &mut reader, detail, out),
-        None => run_unopened(judge.machine(), alloc, name, detail, out),
-    }
+    let (answer, behind) = answer_opened(alloc, judge, start, reader, listing.detail);
+    tally.add(&answer);
+    write_listed(name.as_str(), &answer, &behind, listing.lines, out)
 }
 
-/// Judges frames, one after another, and writes a line for each, as [`run_frame`] does; answers the worst outcome.
-///
-/// The next frame is taken once the line of the one before it is written. The only fault is 73, if the writer failed, and then
-/// a prefix of the lines was written.
-pub fn run_frames<
-    'a,
+/// Judges frames, one after another, counts their lines, and writes those that the listing has; answers the worst outcome of all.
+fn run_each<
     J: FrameJudge,
     R: CountedRead + Drop,
-    I: Iterator<Item = NamedFrame<'a, R>> + Drop,
+    I: Iterator<Item = NamedFrame<R>> + Drop,
     W: CountedWrite,
 >(
     alloc: Global,
     judge: &J,
     start: Option<u16>,
     frames: I,
-    detail: Detail,
+    listing: Listing,
+    tally: &mut Tally,
     out: &mut W,
 ) -> Result<FrameOutcome, RunFault>
-    requires valid { J.valid judge.now detail }
+    requires valid { J.valid judge.now listing.detail }
     requires can { I.can_next frames }
     requires ends { IsFinite (I.remaining frames) }
-
-    // A line is written for each frame, in their order, each by one write if it fits one.
-    ensures report { IfOk result (λ end. (taken : List _) × Drains I.next_gives frames taken × ReportsFrames (J.is_verdict judge.now) (J.rom judge.now) (J.window judge.now) (J.is_exact judge.now) detail start
-        (of_each (λ frame. opened (λ reader. R.remaining reader) frame) taken) (W.contents out.old) (W.contents out.new) (W.whole_writes out.old) (W.whole_writes out.new) end) }
-
-    // Where the writer failed, a prefix of the lines of the frames that were taken.
-    ensures prefix { OnErr result ((taken : List _) × (left : I) × Yields I.next_gives frames taken left × ReportsFramesPrefix (J.is_verdict judge.now) (J.rom judge.now) (J.window judge.now) (J.is_exact judge.now) detail start
+    ensures report { IfOk result (λ end. (taken : List _) × Drains I.next_gives frames taken × WritesLinesOf (J.is_verdict judge.now) (J.rom judge.now) (J.window judge.now) (J.is_exact judge.now) listing start
+        (of_each (λ frame. opened (λ reader. R.remaining reader) frame) taken) (W.contents out.old) (W.contents out.new) tally.old tally.new (W.whole_writes out.old) (W.whole_writes out.new) end) }
+    ensures prefix { OnErr result ((taken : List _) × (left : I) × Yields I.next_gives frames taken left × ReportsFramesPrefix (J.is_verdict judge.now) (J.rom judge.now) (J.window judge.now) (J.is_exact judge.now) listing start
         (of_each (λ frame. opened (λ reader. R.remaining reader) frame) taken) (W.contents out.old) (W.contents out.new)) }
     ensures fault { IfErr result (λ fault. fault ≡ RunFault.Write) }
     ensures count { W.failures out.new ≡ count_after (is_err result) (W.failures out.old) }
 {
     let mut worst = FrameOutcome::Accepted;
     for frame in frames {
-        worst = worst.or_worse(run_named(alloc, judge, start, frame, detail, out)?);
+        worst = worst.or_worse(run_named(alloc, judge, start, frame, listing, tally, out)?);
     }
+    Ok(worst)
+}
+
+/// Writes the summary, if it is asked for.
+fn write_summary<W: CountedWrite>(summary: bool, tally: &Tally, out: &mut W) -> Result<(), RunFault>
+    ensures written { OnOk result (Appends (W.contents out.old) (W.contents out.new) (joined (summary_of summary tally.now))) }
+    ensures one_write { OnOk result (TakeOneWriteEach (summary_of summary tally.now) (W.whole_writes out.old) (W.whole_writes out.new)) }
+    ensures prefix { OnErr result (AppendsPrefix (W.contents out.old) (W.contents out.new) (joined (summary_of summary tally.now))) }
+    ensures fault { IfErr result (λ fault. fault ≡ RunFault.Write) }
+    ensures count { W.failures out.new ≡ count_after (is_err result) (W.failures out.old) }
+{
+    if summary {
+        let line = summary_of(tally);
+        write_lines(line.as_slice(), &[], &[], out)?;
+    }
+    Ok(())
+}
+
+/// Judges frames, one after another, and writes a line for each that the listing has, as [`run_frame`](crate::run_frame) does, and
+/// at the end the summary if it is asked for; answers the worst outcome of all.
+///
+/// The next frame is taken once the line of the one before it is written. The only fault is 73, if the writer failed, and then
+/// a prefix of these lines was written.
+pub fn run_frames<
+    J: FrameJudge,
+    R: CountedRead + Drop,
+    I: Iterator<Item = NamedFrame<R>> + Drop,
+    W: CountedWrite,
+>(
+    alloc: Global,
+    judge: &J,
+    start: Option<u16>,
+    frames: I,
+    listing: Listing,
+    out: &mut W,
+) -> Result<FrameOutcome, RunFault>
+    requires valid { J.valid judge.now listing.detail }
+    requires can { I.can_next frames }
+    requires ends { IsFinite (I.remaining frames) }
+
+    // A line is written for each frame that the listing has, in their order, and then the summary, each by one write if it fits one.
+    ensures report { IfOk result (λ end. (taken : List _) × Drains I.next_gives frames taken × ReportsFrames (J.is_verdict judge.now) (J.rom judge.now) (J.window judge.now) (J.is_exact judge.now) listing start
+        (of_each (λ frame. opened (λ reader. R.remaining reader) frame) taken) (W.contents out.old) (W.contents out.new) (W.whole_writes out.old) (W.whole_writes out.new) end) }
+
+    // Where the writer failed, a prefix of what is written of the frames that were taken.
+    ensures prefix { OnErr result ((taken : List _) × (left : I) × Yields I.next_gives frames taken left × ReportsFramesPrefix (J.is_verdict judge.now) (J.rom judge.now) (J.window judge.now) (J.is_exact judge.now) listing start
+        (of_each (λ frame. opened (λ reader. R.remaining reader) frame) taken) (W.contents out.old) (W.contents out.new)) }
+    ensures fault { IfErr result (λ fault. fault ≡ RunFault.Write) }
+    ensures count { W.failures out.new ≡ count_after (is_err result) (W.failures out.old) }
+{
+    let mut tally = Tally::new();
+    let worst = run_each(alloc, judge, start, frames, listing, &mut tally, out)?;
+    write_summary(listing.summary, &tally, out)?;
     Ok(worst)
 }
 
 /// Judges the shapes of a certificate over the bytes of a ROM, with counts as bounds, and then the frames over them. A refusal comes
 /// before any frame is taken, and nothing was written then.
 fn run_frames_over<
-    'a,
     R: CountedRead + Drop,
-    I: Iterator<Item = NamedFrame<'a, R>> + Drop,
+    I: Iterator<Item = NamedFrame<R>> + Drop,
     W: CountedWrite,
 >(
     alloc: Global,
@@ -121,17 +216,17 @@ fn run_frames_over<
     cert: &Cert,
     options: &FrameOptions,
     frames: I,
-    detail: Detail,
+    listing: Listing,
     out: &mut W,
 ) -> Result<Result<FrameOutcome, RunFault>, Refusal>
     requires can { I.can_next frames }
     requires ends { IsFinite (I.remaining frames) }
     ensures rom { IfOk result (λ end. IsRomLength cert.now.map (length rom.now)) }
     ensures report { IfOk result (λ run. IfOk run (λ end. (taken : List _) × Drains I.next_gives frames taken
-        × ReportsOver (shapes_of options.now.machine options.now.window rom.now cert.now) (length cert.now.entries) options.now.budget detail options.now.start
+        × ReportsOver (shapes_of options.now.machine options.now.window rom.now cert.now) (length cert.now.entries) options.now.budget listing options.now.start
         (of_each (λ frame. opened (λ reader. R.remaining reader) frame) taken) (W.contents out.old) (W.contents out.new) (W.whole_writes out.old) (W.whole_writes out.new) end)) }
     ensures prefix { IfOk result (λ run. OnErr run ((taken : List _) × (left : I) × Yields I.next_gives frames taken left
-        × ReportsOverPrefix (shapes_of options.now.machine options.now.window rom.now cert.now) (length cert.now.entries) options.now.budget detail options.now.start
+        × ReportsOverPrefix (shapes_of options.now.machine options.now.window rom.now cert.now) (length cert.now.entries) options.now.budget listing options.now.start
         (of_each (λ frame. opened (λ reader. R.remaining reader) frame) taken) (W.contents out.old) (W.contents out.new))) }
     ensures fault { IfOk result (λ run. IfErr run (λ fault. fault ≡ RunFault.Write)) }
     ensures count { IfOk result (λ run. W.failures out.new ≡ count_after (is_err run) (W.failures out.old)) }
@@ -143,7 +238,7 @@ fn run_frames_over<
     let mode = Mode::Bound;
     let shapes = JudgedShapes::judge(&image, cert, &entries, options.window, mode)?;
     let judge = GivenCertificate::new(options.machine, rom, cert, &shapes, mode, options.budget);
-    Ok(run_frames(alloc, &judge, options.start, frames, detail, out))
+    Ok(run_frames(alloc, &judge, options.start, frames, listing, out))
 }
 
 /// What the detail asks for behind the line of a refusal for which no frame was needed.
@@ -197,36 +292,41 @@ fn run_refusal<W: CountedWrite>(
 }
 
 /// Judges frames by a certificate that was taken, as [`run_frames_given`] does.
-fn run_frames_by<
-    'a,
-    R: CountedRead + Drop,
-    I: Iterator<Item = NamedFrame<'a, R>> + Drop,
-    W: CountedWrite,
->(
+fn run_frames_by<R: CountedRead + Drop, I: Iterator<Item = NamedFrame<R>> + Drop, W: CountedWrite>(
     alloc: Global,
     rom: &[u8],
     cert: &Cert,
     options: &FrameOptions,
     frames: I,
-    detail: Detail,
+    listing: Listing,
     out: &mut W,
 ) -> Result<FrameOutcome, RunFault>
     requires can { I.can_next frames }
     requires ends { IsFinite (I.remaining frames) }
-    ensures report { IfOk result (λ end. ReportsRefusal options.now.machine detail options.now.window rom.now (Ok cert.now) (W.contents out.old) (W.contents out.new) (W.whole_writes out.old) (W.whole_writes out.new) end
+    ensures report { IfOk result (λ end. ReportsRefusal options.now.machine listing.detail options.now.window rom.now (Ok cert.now) (W.contents out.old) (W.contents out.new) (W.whole_writes out.old) (W.whole_writes out.new) end
         ⊎ (IsRomLength cert.now.map (length rom.now) × ((taken : List _) × Drains I.next_gives frames taken
-        × ReportsOver (shapes_of options.now.machine options.now.window rom.now cert.now) (length cert.now.entries) options.now.budget detail options.now.start
+        × ReportsOver (shapes_of options.now.machine options.now.window rom.now cert.now) (length cert.now.entries) options.now.budget listing options.now.start
         (of_each (λ frame. opened (λ reader. R.remaining reader) frame) taken) (W.contents out.old) (W.contents out.new) (W.whole_writes out.old) (W.whole_writes out.new) end))) }
-    ensures prefix { OnErr result (ReportsRefusalPrefix options.now.machine detail options.now.window rom.now (Ok cert.now) (W.contents out.old) (W.contents out.new)
+    ensures prefix { OnErr result (ReportsRefusalPrefix options.now.machine listing.detail options.now.window rom.now (Ok cert.now) (W.contents out.old) (W.contents out.new)
         ⊎ (IsRomLength cert.now.map (length rom.now) × ((taken : List _) × (left : I) × Yields I.next_gives frames taken left
-        × ReportsOverPrefix (shapes_of options.now.machine options.now.window rom.now cert.now) (length cert.now.entries) options.now.budget detail options.now.start
+        × ReportsOverPrefix (shapes_of options.now.machine options.now.window rom.now cert.now) (length cert.now.entries) options.now.budget listing options.now.start
         (of_each (λ frame. opened (λ reader. R.remaining reader) frame) taken) (W.contents out.old) (W.contents out.new)))) }
     ensures fault { IfErr result (λ fault. fault ≡ RunFault.Write) }
     ensures count { W.failures out.new ≡ count_after (is_err result) (W.failures out.old) }
 {
-    match run_frames_over(alloc, rom, cert, options, frames, detail, out) {
+    match run_frames_over(alloc, rom, cert, options, frames, listing, out) {
         Ok(end) => end,
-        Err(refusal) => { run_refusal(alloc, rom, Some(cert), options, &refusal, detail, out) }
+        Err(refusal) => {
+            run_refusal(
+                alloc,
+                rom,
+                Some(cert),
+                options,
+                &refusal,
+                listing.detail,
+                out,
+            )
+        }
     }
 }
 
@@ -235,9 +335,8 @@ fn run_frames_by<
 ///
 /// The counts of the certificate are bounds.
 pub fn run_frames_given<
-    'a,
     R: CountedRead + Drop,
-    I: Iterator<Item = NamedFrame<'a, R>> + Drop,
+    I: Iterator<Item = NamedFrame<R>> + Drop,
     W: CountedWrite,
 >(
     alloc: Global,
@@ -245,33 +344,33 @@ pub fn run_frames_given<
     cert: &Result<Cert, CertFault>,
     options: &FrameOptions,
     frames: I,
-    detail: Detail,
+    listing: Listing,
     out: &mut W,
 ) -> Result<FrameOutcome, RunFault>
     requires can { I.can_next frames }
     requires ends { IsFinite (I.remaining frames) }
 
     // The report of a refusal is written, or a line for each frame, in their order, each by one write if it fits one.
-    ensures report { IfOk result (λ end. ReportsRefusal options.now.machine detail options.now.window rom.now cert.now (W.contents out.old) (W.contents out.new) (W.whole_writes out.old) (W.whole_writes out.new) end
+    ensures report { IfOk result (λ end. ReportsRefusal options.now.machine listing.detail options.now.window rom.now cert.now (W.contents out.old) (W.contents out.new) (W.whole_writes out.old) (W.whole_writes out.new) end
         ⊎ IfOk cert.now (λ given. IsRomLength given.map (length rom.now) × ((taken : List _) × Drains I.next_gives frames taken
-        × ReportsOver (shapes_of options.now.machine options.now.window rom.now given) (length given.entries) options.now.budget detail options.now.start
+        × ReportsOver (shapes_of options.now.machine options.now.window rom.now given) (length given.entries) options.now.budget listing options.now.start
         (of_each (λ frame. opened (λ reader. R.remaining reader) frame) taken) (W.contents out.old) (W.contents out.new) (W.whole_writes out.old) (W.whole_writes out.new) end))) }
     // Without a certificate it is the refusal.
-    ensures refused { IfOk result (λ end. IfErr cert.now (λ fault. ReportsRefusal options.now.machine detail options.now.window rom.now cert.now (W.contents out.old) (W.contents out.new) (W.whole_writes out.old) (W.whole_writes out.new) end)) }
+    ensures refused { IfOk result (λ end. IfErr cert.now (λ fault. ReportsRefusal options.now.machine listing.detail options.now.window rom.now cert.now (W.contents out.old) (W.contents out.new) (W.whole_writes out.old) (W.whole_writes out.new) end)) }
 
     // Where the writer failed, a prefix of them.
-    ensures prefix { OnErr result (ReportsRefusalPrefix options.now.machine detail options.now.window rom.now cert.now (W.contents out.old) (W.contents out.new)
+    ensures prefix { OnErr result (ReportsRefusalPrefix options.now.machine listing.detail options.now.window rom.now cert.now (W.contents out.old) (W.contents out.new)
         ⊎ IfOk cert.now (λ given. IsRomLength given.map (length rom.now) × ((taken : List _) × (left : I) × Yields I.next_gives frames taken left
-        × ReportsOverPrefix (shapes_of options.now.machine options.now.window rom.now given) (length given.entries) options.now.budget detail options.now.start
+        × ReportsOverPrefix (shapes_of options.now.machine options.now.window rom.now given) (length given.entries) options.now.budget listing options.now.start
         (of_each (λ frame. opened (λ reader. R.remaining reader) frame) taken) (W.contents out.old) (W.contents out.new)))) }
     ensures fault { IfErr result (λ fault. fault ≡ RunFault.Write) }
     ensures count { W.failures out.new ≡ count_after (is_err result) (W.failures out.old) }
 {
     match cert {
-        Ok(given) => run_frames_by(alloc, rom, given, options, frames, detail, out),
+        Ok(given) => run_frames_by(alloc, rom, given, options, frames, listing, out),
         Err(fault) => {
             let refusal = Refusal::Cert(*fault);
-            run_refusal(alloc, rom, None, options, &refusal, detail, out)
+            run_refusal(alloc, rom, None, options, &refusal, listing.detail, out)
         }
     }
 }

@@ -1,3 +1,4 @@
 pub mod Lines
 pub mod Tables
+pub mod Tallies
 pub mod Windows

@@ -6,3 +6,4 @@ pub mod Outcomes
 pub mod Report
 pub mod Rules
 pub mod Status
+pub mod Tally

@@ -12,6 +12,7 @@ mod report;
 mod rule_table;
 mod rules;
 mod status;
+mod tally;
 mod window;
 
 pub use arguments::{map_of, root_of, start_of};
@@ -23,4 +24,5 @@ pub use report::{
 };
 pub use rules::{Rule, all_rules, rule_of, text_of_rule, text_of_rules};
 pub use status::{frames_status_of, make_frames_status_of, make_status_of, message_of, status_of};
+pub use tally::{Summary, Tally, summary_of};
 pub use window::window_of;

@@ -5,8 +5,8 @@ use crate::input::Input;
 use clap::error::ErrorKind;
 use clap::{Arg, ArgAction, ArgMatches, Command, value_parser};
 use dvg_cmd::{
-    ASTEROIDS, CLIPPED, CheckOptions, Detail, FrameOptions, Key, MOST_WORDS, Machine, Mode, RomMap,
-    Rule, Window, map_of, root_of, rule_of, start_of, window_of,
+    ASTEROIDS, CLIPPED, CheckOptions, Detail, FrameOptions, Key, Lines, Listing, MOST_WORDS,
+    Machine, Mode, NameEnd, RomMap, Rule, Window, map_of, root_of, rule_of, start_of, window_of,
 };
 use std::alloc::{AllocError, AllocFailed, Global};
 use std::{env, io};
@@ -79,7 +79,7 @@ impl From<AllocError> for Usage {
 #[derive(Drop)]
 pub enum Request<'a> {
     /// `frames`, or `explain frames`.
-    Frames(FramesArgs<'a>, Detail),
+    Frames(FramesArgs<'a>),
     /// `check`, or `explain check`.
     Check(CheckArgs<'a>, Detail),
     Make(MakeArgs<'a>),
@@ -150,13 +150,29 @@ pub enum Certificates<'a> {
     Given(Input<'a>),
 }
 
+/// The frames that are judged.
+#[derive(Drop)]
+pub enum FrameNames<'a> {
+    /// Those of the command line.
+    Given(Vec<Named<'a>>),
+    /// Those that the list in this file names.
+    Listed(Input<'a>, NameEnd),
+}
+
+/// What is asked of frames, whatever frames they are, and what is written of them.
+#[derive(Drop)]
+pub struct Asked<'a> {
+    pub rom: Input<'a>,
+    pub certificates: Certificates<'a>,
+    pub options: FrameOptions,
+    pub listing: Listing,
+}
+
 /// The arguments of `frames`.
 #[derive(Drop)]
 pub struct FramesArgs<'a> {
-    pub rom: Input<'a>,
-    pub frames: Vec<Named<'a>>,
-    pub certificates: Certificates<'a>,
-    pub options: FrameOptions,
+    pub frames: FrameNames<'a>,
+    pub asked: Asked<'a>,
 }
 
 /// The arguments of `check`.
@@ -238,6 +254,41 @@ fn start_option<'a>(alloc: Global) -> Arg<'a> {
         .help("Judges each frame as though its word 000 were the jump to this word address")
 }
 
+fn frames_argument<'a>(alloc: Global) -> Result<Arg<'a>, AllocError> {
+    let frames = Arg::new(alloc, "FRAME").help(FRAME_HELP).num_args(1..);
+    frames
+        .required_unless_present("list")?
+        .conflicts_with("list")
+}
+
+fn list_option<'a>(alloc: Global) -> Arg<'a> {
+    Arg::new(alloc, "list").long("list").value_name("FILE").help(
+        "Judges the frames that this file names, one a line, in place of FRAME",
+    )
+}
+
+fn null_option<'a>(alloc: Global) -> Result<Arg<'a>, AllocError> {
+    Arg::new(alloc, "null")
+        .long("null")
+        .action(ArgAction::SetTrue)
+        .help("Has NUL behind each name of the list, and not LF")
+        .requires_arg("list")
+}
+
+fn only_refused_option<'a>(alloc: Global) -> Arg<'a> {
+    Arg::new(alloc, "only-refused")
+        .long("only-refused")
+        .action(ArgAction::SetTrue)
+        .help("Leaves out the lines of accepted frames")
+}
+
+fn summary_option<'a>(alloc: Global) -> Arg<'a> {
+    Arg::new(alloc, "summary")
+        .long("summary")
+        .action(ArgAction::SetTrue)
+        .help("Ends with a line that counts the frames by what is said of them")
+}
+
 fn cert_option<'a>(alloc: Global) -> Result<Arg<'a>, AllocError> {
     Arg::new(alloc, "cert")
         .long("cert")
@@ -295,8 +346,11 @@ fn frames_command<'a>(alloc: Global) -> Result<Command<'a>, AllocError> {
     let command = Command::new(alloc, "frames").about(
         "Judges frames over a vector ROM, each by a certificate made for it, and prints a line for each",
     );
-    let frames = needed(alloc, "FRAME", FRAME_HELP).num_args(1..);
-    frames_arguments(alloc, command, frames)
+    frames_arguments(alloc, command, frames_argument(alloc)?)?
+        .arg(list_option(alloc))?
+        .arg(null_option(alloc)?)?
+        .arg(only_refused_option(alloc))?
+        .arg(summary_option(alloc))
 }
 
 fn exact_option<'a>(alloc: Global) -> Arg<'a> {
@@ -510,7 +564,7 @@ fn one_standard_input<'a>(args: &ArgMatches<'a>, names: &[&str]) -> Result<(), A
 
 /// The options of `frames`, and where the ROM lies.
 fn frame_options<'a>(args: &ArgMatches<'a>) -> Result<(RomMap, FrameOptions), ArgumentFault> {
-    one_standard_input(args, &["ROM", "FRAME", "cert"])?;
+    one_standard_input(args, &["ROM", "FRAME", "list", "cert"])?;
     let map = map_of_args(args)?;
     let window = window_of_args(args)?;
     let start = start_of_args(args)?;
@@ -526,16 +580,57 @@ fn frame_options<'a>(args: &ArgMatches<'a>) -> Result<(RomMap, FrameOptions), Ar
     ))
 }
 
-fn frames_args<'a>(rt: &HostRuntime, args: &ArgMatches<'a>) -> Result<FramesArgs<'a>, Usage> {
-    let (map, options) = frame_options(args)?;
-    Ok(FramesArgs {
-        rom: file_of(rt, args, "ROM"),
-        frames: files_of(rt, args, "FRAME")?,
-        certificates: match args.get_str("cert") {
-            Some(cert) => Certificates::Given(Input::named(rt, cert)),
-            None => Certificates::Made(map),
+/// The frames that the arguments name.
+fn frame_names<'a>(rt: &HostRuntime, args: &ArgMatches<'a>) -> Result<FrameNames<'a>, Usage> {
+    let Some(list) = args.get_str("list") else {
+        return Ok(FrameNames::Given(files_of(rt, args, "FRAME")?));
+    };
+    let end = if args.get_flag("null") {
+        NameEnd::Nul
+    } else {
+        NameEnd::Line
+    };
+    Ok(FrameNames::Listed(Input::named(rt, list), end))
+}
+
+/// What `frames` writes of frames.
+fn listing_of_args<'a>(args: &ArgMatches<'a>) -> Listing {
+    Listing {
+        detail: Detail::Line,
+        lines: if args.get_flag("only-refused") {
+            Lines::NotAccepted
+        } else {
+            Lines::All
         },
-        options,
+        summary: args.get_flag("summary"),
+    }
+}
+
+/// What `explain frames` writes of a frame.
+const EXPLAINED: Listing = Listing {
+    detail: Detail::Account,
+    lines: Lines::All,
+    summary: false,
+};
+
+fn frames_args<'a>(
+    rt: &HostRuntime,
+    args: &ArgMatches<'a>,
+    listing: Listing,
+) -> Result<FramesArgs<'a>, Usage> {
+    let (map, options) = frame_options(args)?;
+    let certificates = match args.get_str("cert") {
+        Some(cert) => Certificates::Given(Input::named(rt, cert)),
+        None => Certificates::Made(map),
+    };
+    Ok(FramesArgs {
+        frames: frame_names(rt, args)?,
+        asked: Asked {
+            rom: file_of(rt, args, "ROM"),
+            certificates,
+            options,
+            listing,
+        },
     })
 }
 
@@ -601,7 +696,7 @@ fn make_args<'a>(
 fn explain_request<'a>(rt: &HostRuntime, args: &ArgMatches<'a>) -> Result<Request<'a>, Usage> {
     match args.subcommand() {
         Some(("check", args)) => Ok(Request::Check(check_args(rt, args)?, Detail::Account)),
-        Some(("frames", args)) => Ok(Request::Frames(frames_args(rt, args)?, Detail::Account)),
+        Some(("frames", args)) => Ok(Request::Frames(frames_args(rt, args, EXPLAINED)?)),
         Some(("make", args)) => Ok(Request::ExplainMake(make_args(rt, args, None)?)),
         _ => Err(Usage::Argument(ArgumentFault::Unreadable)),
     }
@@ -621,7 +716,7 @@ fn request_of<'a>(
     args: &ArgMatches<'a>,
 ) -> Result<Request<'a>, Usage> {
     match task {
-        Task::Frames => Ok(Request::Frames(frames_args(rt, args)?, Detail::Line)),
+        Task::Frames => Ok(Request::Frames(frames_args(rt, args, listing_of_args(args))?)),
         Task::Check => Ok(Request::Check(check_args(rt, args)?, Detail::Line)),
         Task::Make => Ok(Request::Make(make_args(rt, args, output_of(args))?)),
         Task::Explain => explain_request(rt, args),

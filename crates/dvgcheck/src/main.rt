@@ -7,10 +7,12 @@
 mod command;
 mod escaping;
 mod input;
+mod list;
 mod output;
 
 use command::{
-    Certificates, CheckArgs, FramesArgs, MakeArgs, Named, Request, Usage, read_arguments,
+    Asked, Certificates, CheckArgs, FrameNames, FramesArgs, MakeArgs, Named, Request, Usage,
+    read_arguments,
 };
 use dvg_cmd::{
     Counted, CountedWrite, Detail, FrameOutcome, FramesRunFault, MakeAnswer, MakeFault,
@@ -20,6 +22,7 @@ use dvg_cmd::{
     status_of, write_make_answer, write_make_fault, write_message, write_text,
 };
 use input::{Input, Source};
+use list::{List, ListFault};
 use output::Output;
 use std::io;
 use std::process::ExitCode;
@@ -46,30 +49,49 @@ fn check(rt: &HostRuntime, args: &CheckArgs, detail: Detail) -> Result<Outcome, 
 
 /// Reads the ROM, and the certificate if one is given, and then judges frame after frame: each file is opened when the one before it
 /// is closed.
-fn frames(rt: &HostRuntime, args: &FramesArgs, detail: Detail) -> Result<FrameOutcome, RunFault> {
+fn frames(rt: &HostRuntime, named: Vec<Named>, asked: Asked) -> Result<FrameOutcome, RunFault> {
+    judge_frames(rt, asked, named.into_iter().map(|frame| opened(rt, frame)))
+}
+
+/// Does the same with the frames that a list names, which is read name by name, beginning before the ROM is opened.
+fn listed_frames(
+    rt: &HostRuntime,
+    list: &mut List,
+    asked: Asked,
+) -> Result<FrameOutcome, RunFault> {
+    // No list has so many names.
+    let frames = (0..u64::MAX).map_while(|_| list.next_frame(rt));
+    judge_frames(rt, asked, frames)
+}
+
+/// A frame whose turn it is, opened.
+fn opened(rt: &HostRuntime, frame: Named) -> NamedFrame<Counted<Source>> {
+    let Named { input, name } = frame;
+    NamedFrame {
+        name,
+        reader: input.open(rt).ok().map(Counted::new),
+    }
+}
+
+/// Reads the ROM, and the certificate if one is given, and judges frames.
+fn judge_frames<I: Iterator<Item = NamedFrame<Counted<Source>>> + Drop>(
+    rt: &HostRuntime,
+    asked: Asked,
+    frames: I,
+) -> Result<FrameOutcome, RunFault> {
     let mut out = Counted::new(io::writer(rt));
-    let rom = load_rom(&mut Counted::new(open(rt, args.rom, RunFault::ReadRom)?))?;
-    let frames = args.frames.iter().map(|frame| NamedFrame {
-        name: frame.name.as_str(),
-        reader: frame.input.open(rt).ok().map(Counted::new),
-    });
-    match args.certificates {
+    let rom = load_rom(&mut Counted::new(open(rt, asked.rom, RunFault::ReadRom)?))?;
+    match asked.certificates {
         Certificates::Made(map) => {
             let judge = OwnCertificates {
-                machine: args.options.machine,
+                machine: asked.options.machine,
                 rom: rom.as_slice(),
                 map,
-                budget: args.options.budget,
-                window: args.options.window,
+                budget: asked.options.budget,
+                window: asked.options.window,
             };
-            run_frames(
-                rt.alloc(),
-                &judge,
-                args.options.start,
-                frames,
-                detail,
-                &mut out,
-            )
+            let start = asked.options.start;
+            run_frames(rt.alloc(), &judge, start, frames, asked.listing, &mut out)
         }
         Certificates::Given(cert) => {
             let file = open(rt, cert, RunFault::ReadCert)?;
@@ -78,9 +100,9 @@ fn frames(rt: &HostRuntime, args: &FramesArgs, detail: Detail) -> Result<FrameOu
                 rt.alloc(),
                 rom.as_slice(),
                 &cert,
-                &args.options,
+                &asked.options,
                 frames,
-                detail,
+                asked.listing,
                 &mut out,
             )
         }
@@ -218,6 +240,44 @@ fn tell_frames(rt: &HostRuntime, end: &Result<FrameOutcome, RunFault>) -> u8 {
     frames_status_of(end)
 }
 
+/// Judges frames, and tells how that ended.
+fn run_over(rt: &HostRuntime, args: FramesArgs) -> u8 {
+    match args.frames {
+        FrameNames::Given(named) => tell_frames(rt, &frames(rt, named, args.asked)),
+        FrameNames::Listed(input, end) => match List::open(rt, input, end) {
+            Ok(mut list) => {
+                let end = listed_frames(rt, &mut list, args.asked);
+                tell_listed(rt, end, list.fault())
+            }
+            Err(fault) => tell_list(rt, fault),
+        },
+    }
+}
+
+/// Tells why a list gives no name, and answers the exit status.
+fn tell_list(rt: &HostRuntime, fault: ListFault) -> u8 {
+    say(rt, fault.message());
+    match fault {
+        ListFault::Empty => 2,
+        ListFault::Unreadable | ListFault::OutOfMemory => frames_status_of(&Ok(fault.outcome())),
+    }
+}
+
+/// Tells how a run over the frames of a list ended, which gave no name behind this fault.
+fn tell_listed(
+    rt: &HostRuntime,
+    end: Result<FrameOutcome, RunFault>,
+    fault: Option<ListFault>,
+) -> u8 {
+    match (end, fault) {
+        (Ok(outcome), Some(fault)) => {
+            say(rt, fault.message());
+            frames_status_of(&Ok(outcome.or_worse(fault.outcome())))
+        }
+        (end, _) => tell_frames(rt, &end),
+    }
+}
+
 /// The name of a frame, or none where no frame is meant.
 fn name_of<'a>(frames: &'a [Named], frame: Option<usize>) -> &'a str {
     let Some(frame) = frame else {
@@ -272,7 +332,7 @@ fn run(rt: &HostRuntime) -> u8 {
         Err(usage) => return tell_usage(rt, &usage),
     };
     match read_arguments(rt, &arguments) {
-        Ok(Request::Frames(args, detail)) => tell_frames(rt, &frames(rt, &args, detail)),
+        Ok(Request::Frames(args)) => run_over(rt, args),
         Ok(Request::Check(args, detail)) => tell_check(rt, &check(rt, &args, detail)),
         Ok(Request::Make(args)) => tell_make(rt, &args.frames, &make(rt, &args)),
         Ok(Request::ExplainMake(args)) => explain_make(rt, &args),

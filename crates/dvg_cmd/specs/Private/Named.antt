@@ -1,27 +1,43 @@
--- What is written of one frame of several.
-use Rattle.std.specs.Prelude.{◌≡◌, ℕ, List, Option, Result}
+-- What is written of frames before the summary: of one, and of several so far.
+use Rattle.std.specs.Prelude.{◌≡◌, ℕ, List, [], ◌∷◌, Option, Result}
 use Rattle.std.specs.Io.KnownBytes.{Appends}
 use Rattle.dvg_words.specs.Memory.{Rom}
 use Rattle.dvg_words.specs.Values.{Window}
-use Rattle.dvg_cert.specs.Devices.{AppendsPrefix, TakesOneWrite}
+use Rattle.dvg_cert.specs.Devices.{AppendsPrefix}
 use Rattle.dvg_check.specs.declared.verdict.Yes.{Yes}
 use Rattle.dvg_make.specs.declared.judging.FrameRefusal.{FrameRefusal}
-use Rattle.dvg_cmd.specs.Detail.{Detail}
+use Rattle.dvg_spelling.specs.Tally.{Tally, with_answer}
+use Rattle.dvg_spelling.specs.declared.outcome.FrameOutcome.TheVariants as outcome
+use Rattle.dvg_cmd.specs.declared.listing.Listing.{Listing}
 use Rattle.dvg_cmd.specs.Frames.{FrameOutcome}
-use Rattle.dvg_cmd.specs.SeveralFrames.{OpenedFrame, Line, line_text, line_outcome, IsLineOf}
+use Rattle.dvg_cmd.specs.SeveralFrames.{OpenedFrame, Line, line_outcome, line_texts, joined, TakeOneWriteEach, worst_of, tally_on, IsLineOf, AreLinesOf}
 
-module _ (IsVerdict : List ℕ → Result Yes FrameRefusal → Type 0) (rom : Rom) (w : Window) (IsExact : Type 0) (detail : Detail)
-    (start : Option ℕ) (frame : OpenedFrame) (old new : Option (List ℕ)) where
-  -- the line of a frame was written, and nothing else
-  pub record WritesLineOf (writes writes_after : ℕ) (end : FrameOutcome) : Type 0 where
+module _ (IsVerdict : List ℕ → Result Yes FrameRefusal → Type 0) (rom : Rom) (w : Window) (IsExact : Type 0)
+    (listing : Listing) (start : Option ℕ) where
+  -- the line of a frame was written if the listing has it, and nothing else; it was counted
+  pub record WritesLineOf
+      (frame : OpenedFrame) (old new : Option (List ℕ)) (tally tally_after : Tally) (writes writes_after : ℕ)
+      (end : FrameOutcome) : Type 0 where
     pub line : Line
-    pub line_of : IsLineOf IsVerdict rom w IsExact detail start frame line
-    pub written : Appends old new (line_text line)
-    pub one_write : TakesOneWrite (line_text line) writes writes_after
+    pub line_of : IsLineOf IsVerdict rom w IsExact listing start frame line
+    pub written : Appends old new (joined (line_texts listing.lines (line ∷ [])))
+    pub one_write : TakeOneWriteEach (line_texts listing.lines (line ∷ [])) writes writes_after
     pub end_is : line_outcome line ≡ end
+    pub tally_is : tally_after ≡ with_answer tally line.answer
 
   -- a prefix of it was written
-  pub record WritesLineOfPrefix : Type 0 where
+  pub record WritesLineOfPrefix (frame : OpenedFrame) (old new : Option (List ℕ)) : Type 0 where
     pub line : Line
-    pub line_of : IsLineOf IsVerdict rom w IsExact detail start frame line
-    pub written : AppendsPrefix old new (line_text line)
+    pub line_of : IsLineOf IsVerdict rom w IsExact listing start frame line
+    pub written : AppendsPrefix old new (joined (line_texts listing.lines (line ∷ [])))
+
+  -- so were those of several frames
+  pub record WritesLinesOf
+      (frames : List OpenedFrame) (old new : Option (List ℕ)) (tally tally_after : Tally) (writes writes_after : ℕ)
+      (end : FrameOutcome) : Type 0 where
+    pub lines : List Line
+    pub lines_of : AreLinesOf IsVerdict rom w IsExact listing start frames lines
+    pub written : Appends old new (joined (line_texts listing.lines lines))
+    pub one_write : TakeOneWriteEach (line_texts listing.lines lines) writes writes_after
+    pub outcome_is : end ≡ worst_of outcome.Accepted lines
+    pub tally_is : tally_after ≡ tally_on tally lines

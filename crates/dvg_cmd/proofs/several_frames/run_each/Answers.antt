@@ -5,7 +5,7 @@ use Rattle.std.specs.Prelude.{Result, Ok, Err, OnErr}
 use Rattle.std.proofs.iter.Next.{Yields-more}
 use Rattle.dvg_cmd.specs.SeveralFrames.{opened}
 use Rattle.dvg_cmd.proofs.SeveralLines.{more_taken, cut_taken}
-use Rattle.dvg_cmd.proofs.several_frames.run_frames.Goals as goal
+use Rattle.dvg_cmd.proofs.several_frames.run_each.Goals as goal
 
 on_err : {A E : Type 0} (r : Result A E) (P : Type 0) → P → OnErr r P
 on_err (Ok a) P p = tt
@@ -19,7 +19,7 @@ returns-in_err-run_named-clause-prefix g c =
       c.next.new.self,
       subst (λ it. Yields g.I.Iterator.next_gives it (c.loop-frame.yielded ++ c.in-Some.frame ∷ []) c.next.new.self) same
           (Yields-more g.I.Iterator.next_gives c.into_iter-frame-iterator.result c.loop-frame.yielded c.loop-frame.frame-iterator c.in-Some.frame c.next.new.self c.loop-frame.yielded_by c.in-Some.ensures.steps),
-      cut_taken _ _ _ _ c.args.detail c.args.start (λ frame. opened (λ reader. g.R.Read.remaining reader) frame) c.loop-frame.yielded c.in-Some.frame _ _ _ _ _ _ c.loop-frame.invariant.reports c.in_err-run_named.ensures.prefix,
+      cut_taken _ _ _ _ c.args.listing c.args.start (λ frame. opened (λ reader. g.R.Read.remaining reader) frame) c.loop-frame.yielded c.in-Some.frame _ _ _ _ _ _ _ _ c.loop-frame.invariant.reports c.in_err-run_named.ensures.prefix,
     )
 
 pub loop-frame-preserved : goal.loop-frame-preserved
@@ -27,6 +27,6 @@ loop-frame-preserved g c =
     record {
       can = search rules;
       finite = search rules;
-      reports = more_taken _ _ _ _ c.args.detail c.args.start (λ frame. opened (λ reader. g.R.Read.remaining reader) frame) c.loop-frame.yielded c.in-Some.frame _ _ _ _ _ _ _ _ _ c.loop-frame.invariant.reports c.in_ok-run_named.ensures.ok c.or_worse-worst.ensures;
+      reports = more_taken _ _ _ _ c.args.listing c.args.start (λ frame. opened (λ reader. g.R.Read.remaining reader) frame) c.loop-frame.yielded c.in-Some.frame _ _ _ _ _ _ _ _ _ _ _ _ c.loop-frame.invariant.reports c.in_ok-run_named.ensures.ok c.or_worse-worst.ensures;
       count = grind (arith, common_steps);
     }

@@ -1,0 +1,34 @@
+# Completions of dvgcheck for bash: `source` this file, or put it into the folder of bash-completion under the name dvgcheck.
+# tests/completions holds it to what the program's --help says.
+
+_dvgcheck() {
+  local word=${COMP_WORDS[COMP_CWORD]} before=${COMP_WORDS[COMP_CWORD - 1]} command=${COMP_WORDS[1]} options=
+  COMPREPLY=()
+  if ((COMP_CWORD == 1)); then
+    command=
+  elif [ "$command" = explain ] && ((COMP_CWORD > 2)); then
+    command="explain ${COMP_WORDS[2]}"
+  fi
+  case $before in
+    # a file, or a word that nobody can guess
+    --cert | --list | --frame | -o | --output | --budget | --window | --rom | --start) return ;;
+  esac
+  case $command in
+    '') options='frames check make explain rules help -h --help -V --version' ;;
+    frames) options='--board --rom --cert --budget --window --clip --start --list --null --only-refused --summary -h --help' ;;
+    check) options='--board --budget --window --clip --exact -h --help' ;;
+    make) options='--board --frame --rom -o --output -h --help' ;;
+    explain) options='frames check make help -h --help' ;;
+    'explain frames') options='--board --rom --cert --budget --window --clip --start -h --help' ;;
+    'explain check') options='--board --budget --window --clip --exact -h --help' ;;
+    'explain make') options='--board --frame --rom -h --help' ;;
+    rules) options='-h --help' ;;
+    help | 'explain help') options='frames check make explain rules' ;;
+  esac
+  case $command,$word in
+    frames,[!-]* | check,[!-]* | make,[!-]* | explain\ *,[!-]*) return ;;
+  esac
+  # shellcheck disable=SC2207
+  COMPREPLY=($(compgen -W "$options" -- "$word"))
+}
+complete -o default -F _dvgcheck dvgcheck

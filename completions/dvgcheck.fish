@@ -1,0 +1,82 @@
+# Completions of dvgcheck for fish: put this file into ~/.config/fish/completions.
+# tests/completions holds it to what the program's --help says.
+
+# whether the words so far begin with these commands, and no more if the first of them is `only`
+function __dvgcheck_in
+    set -l words (commandline -opc)
+    set -e words[1]
+    if test "$argv[1]" = only
+        set -e argv[1]
+        test (count $words) -eq (count $argv); or return 1
+    end
+    set -l last (count $argv)
+    test $last -eq 0; and return 0
+    test (count $words) -ge $last; and test "$words[1..$last]" = "$argv"
+end
+
+complete -c dvgcheck -n '__dvgcheck_in only' -f
+complete -c dvgcheck -n '__dvgcheck_in only' -s h -l help -d 'Prints help'
+complete -c dvgcheck -n '__dvgcheck_in only' -s V -l version -d 'Prints the version'
+complete -c dvgcheck -n '__dvgcheck_in only' -a frames -d 'Judges frames over a vector ROM'
+complete -c dvgcheck -n '__dvgcheck_in only' -a check -d 'Judges a frame by a certificate'
+complete -c dvgcheck -n '__dvgcheck_in only' -a make -d 'Makes a certificate of shapes'
+complete -c dvgcheck -n '__dvgcheck_in only' -a explain -d 'Explains the answer of a command'
+complete -c dvgcheck -n '__dvgcheck_in only' -a rules -d 'Prints what each number means'
+complete -c dvgcheck -n '__dvgcheck_in only' -a help -d 'Prints help'
+
+complete -c dvgcheck -n '__dvgcheck_in frames' -l board -d 'Takes a board of the DVG for the machine'
+complete -c dvgcheck -n '__dvgcheck_in frames' -l rom -x -d 'The word addresses of the ROM\'s first and last word'
+complete -c dvgcheck -n '__dvgcheck_in frames' -l cert -r -F -d 'Judges all frames by this certificate'
+complete -c dvgcheck -n '__dvgcheck_in frames' -l budget -x -d 'How many words a frame may take at most'
+complete -c dvgcheck -n '__dvgcheck_in frames' -l window -x -d 'Where the screen may be lit'
+complete -c dvgcheck -n '__dvgcheck_in frames' -l clip -d 'Lets lit strokes reach from -1024 to 2047'
+complete -c dvgcheck -n '__dvgcheck_in frames' -l start -x -d 'Judges each frame from this word address on'
+complete -c dvgcheck -n '__dvgcheck_in frames' -l list -r -F -d 'Judges the frames that this file names'
+complete -c dvgcheck -n '__dvgcheck_in frames' -l null -d 'Has NUL behind each name of the list'
+complete -c dvgcheck -n '__dvgcheck_in frames' -l only-refused -d 'Leaves out the lines of accepted frames'
+complete -c dvgcheck -n '__dvgcheck_in frames' -l summary -d 'Ends with a line of counts'
+complete -c dvgcheck -n '__dvgcheck_in frames' -s h -l help -d 'Prints help'
+
+complete -c dvgcheck -n '__dvgcheck_in check' -l board -d 'Takes a board of the DVG for the machine'
+complete -c dvgcheck -n '__dvgcheck_in check' -l budget -x -d 'How many words a frame may take at most'
+complete -c dvgcheck -n '__dvgcheck_in check' -l window -x -d 'Where the screen may be lit'
+complete -c dvgcheck -n '__dvgcheck_in check' -l clip -d 'Lets lit strokes reach from -1024 to 2047'
+complete -c dvgcheck -n '__dvgcheck_in check' -l exact -d 'Takes the certificate\'s words and depths as exact'
+complete -c dvgcheck -n '__dvgcheck_in check' -s h -l help -d 'Prints help'
+
+complete -c dvgcheck -n '__dvgcheck_in make' -l board -d 'Takes a board of the DVG for the machine'
+complete -c dvgcheck -n '__dvgcheck_in make' -l frame -r -F -d 'A frame, whose calls are roots, too'
+complete -c dvgcheck -n '__dvgcheck_in make' -l rom -x -d 'The word addresses of the ROM\'s first and last word'
+complete -c dvgcheck -n '__dvgcheck_in make' -s o -l output -r -F -d 'Writes the certificate to this file'
+complete -c dvgcheck -n '__dvgcheck_in make' -s h -l help -d 'Prints help'
+
+complete -c dvgcheck -n '__dvgcheck_in only explain' -f
+complete -c dvgcheck -n '__dvgcheck_in only explain' -s h -l help -d 'Prints help'
+complete -c dvgcheck -n '__dvgcheck_in only explain' -a frames -d 'Judges frames over a vector ROM'
+complete -c dvgcheck -n '__dvgcheck_in only explain' -a check -d 'Judges a frame by a certificate'
+complete -c dvgcheck -n '__dvgcheck_in only explain' -a make -d 'Makes a certificate of shapes'
+complete -c dvgcheck -n '__dvgcheck_in only explain' -a help -d 'Prints help'
+
+complete -c dvgcheck -n '__dvgcheck_in explain frames' -l board -d 'Takes a board of the DVG for the machine'
+complete -c dvgcheck -n '__dvgcheck_in explain frames' -l rom -x -d 'The word addresses of the ROM\'s first and last word'
+complete -c dvgcheck -n '__dvgcheck_in explain frames' -l cert -r -F -d 'Judges all frames by this certificate'
+complete -c dvgcheck -n '__dvgcheck_in explain frames' -l budget -x -d 'How many words a frame may take at most'
+complete -c dvgcheck -n '__dvgcheck_in explain frames' -l window -x -d 'Where the screen may be lit'
+complete -c dvgcheck -n '__dvgcheck_in explain frames' -l clip -d 'Lets lit strokes reach from -1024 to 2047'
+complete -c dvgcheck -n '__dvgcheck_in explain frames' -l start -x -d 'Judges each frame from this word address on'
+complete -c dvgcheck -n '__dvgcheck_in explain frames' -s h -l help -d 'Prints help'
+
+complete -c dvgcheck -n '__dvgcheck_in explain check' -l board -d 'Takes a board of the DVG for the machine'
+complete -c dvgcheck -n '__dvgcheck_in explain check' -l budget -x -d 'How many words a frame may take at most'
+complete -c dvgcheck -n '__dvgcheck_in explain check' -l window -x -d 'Where the screen may be lit'
+complete -c dvgcheck -n '__dvgcheck_in explain check' -l clip -d 'Lets lit strokes reach from -1024 to 2047'
+complete -c dvgcheck -n '__dvgcheck_in explain check' -l exact -d 'Takes the certificate\'s words and depths as exact'
+complete -c dvgcheck -n '__dvgcheck_in explain check' -s h -l help -d 'Prints help'
+
+complete -c dvgcheck -n '__dvgcheck_in explain make' -l board -d 'Takes a board of the DVG for the machine'
+complete -c dvgcheck -n '__dvgcheck_in explain make' -l frame -r -F -d 'A frame, whose calls are roots, too'
+complete -c dvgcheck -n '__dvgcheck_in explain make' -l rom -x -d 'The word addresses of the ROM\'s first and last word'
+complete -c dvgcheck -n '__dvgcheck_in explain make' -s h -l help -d 'Prints help'
+
+complete -c dvgcheck -n '__dvgcheck_in rules' -f
+complete -c dvgcheck -n '__dvgcheck_in rules' -s h -l help -d 'Prints help'

@@ -1,0 +1,63 @@
+-- The bytes of a name that were read so far.
+use Rattle.std.proofs.Common.{◌≡◌, ◌≢◌, ◌⊎◌, ℕ, suc, zero, ◌+◌, List, [], ◌∷◌, ◌++◌, length, length-append, take, ap, sym, subst, ◌∙◌, refl, Option, append-nil, inl, inr, arith}
+use Rattle.std.proofs.KnownBytes.{Consumes-nil, Consumes-trans}
+use Rattle.std.specs.Io.KnownBytes.{Consumes, IsAtEnd}
+use Rattle.dvg_cmd.specs.Names.{MOST_NAME_READ, Lacks, ReadsName}
+
+pub record NameSoFar (end : ℕ) (old now : Option (List ℕ)) (len : ℕ) (name : List ℕ) : Type 0 where
+  pub bytes : List ℕ
+  pub lacks : Lacks end bytes
+  pub kept : name ≡ take MOST_NAME_READ bytes
+  pub read : Consumes old now bytes
+  pub long : length bytes ≡ len
+
+lacks_on : (end : ℕ) (bytes : List ℕ) (byte : ℕ) → Lacks end bytes → byte ≢ end → Lacks end (bytes ++ byte ∷ [])
+lacks_on end [] byte h other = (other, tt)
+lacks_on end (b ∷ bytes) byte h other = (h.0, lacks_on end bytes byte h.1 other)
+
+take_kept : (n : ℕ) (xs ys : List ℕ) → take n (take n xs ++ ys) ≡ take n (xs ++ ys)
+take_kept zero xs ys = refl
+take_kept (suc n) [] ys = refl
+take_kept (suc n) (x ∷ xs) ys = ap (λ (l : List ℕ). x ∷ l) (take_kept n xs ys)
+
+empty_is : (xs : List ℕ) → length xs ≡ 0 → xs ≡ []
+empty_is [] h = refl
+empty_is (x ∷ xs) h = absurd (omega (arith, h))
+
+pub no_byte : (end : ℕ) (old : Option (List ℕ)) → NameSoFar end old old 0 []
+no_byte end old = record { bytes = []; lacks = tt; kept = refl; read = Consumes-nil old; long = refl }
+
+module _ (end : ℕ) (old mid new : Option (List ℕ)) (len : ℕ) (name : List ℕ) (h : NameSoFar end old mid len name) where
+  pub one_byte : (byte next : ℕ) (more : List ℕ) → Consumes mid new (byte ∷ []) → byte ≢ end → next ≡ suc len → more ≡ take MOST_NAME_READ (name ++ byte ∷ []) → NameSoFar end old new next more
+  one_byte byte next more read other is kept =
+      record {
+        bytes = h.bytes ++ byte ∷ [];
+        lacks = lacks_on end h.bytes byte h.lacks other;
+        kept = kept ∙ ap (λ (l : List ℕ). take MOST_NAME_READ (l ++ byte ∷ [])) h.kept ∙ take_kept MOST_NAME_READ h.bytes (byte ∷ []);
+        read = Consumes-trans old mid new h.bytes (byte ∷ []) h.read read;
+        long = omega (arith, length-append h.bytes (byte ∷ []), h.long, is);
+      }
+
+  -- the byte behind it was read
+  pub ended : (byte : ℕ) → Consumes mid new (byte ∷ []) → byte ≡ end → ReadsName end old new name
+  ended byte read is =
+      record {
+        bytes = h.bytes;
+        lacks = h.lacks;
+        kept = h.kept;
+        read = inl (Consumes-trans old mid new h.bytes (end ∷ []) h.read (subst (λ b. Consumes mid new (b ∷ [])) is read));
+      }
+
+  -- the list ended behind it
+  pub ended_by_list : Consumes mid new [] → IsAtEnd new → (len ≡ 0 → ⊥) → ReadsName end old new name
+  ended_by_list read end_of some =
+      record {
+        bytes = h.bytes;
+        lacks = h.lacks;
+        kept = h.kept;
+        read = inr (subst (λ l. Consumes old new l) (append-nil h.bytes) (Consumes-trans old mid new h.bytes [] h.read read), end_of, λ empty. some (sym h.long ∙ ap length empty));
+      }
+
+  -- it was at its end
+  pub no_name : Consumes mid new [] → len ≡ 0 → Consumes old new []
+  no_name read none = Consumes-trans old mid new [] [] (subst (λ l. Consumes old mid l) (empty_is h.bytes (h.long ∙ none)) h.read) read

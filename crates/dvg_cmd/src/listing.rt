@@ -1,0 +1,44 @@
+//! What a run writes of several frames.
+
+ghost use Rattle.std.specs.Prelude.{◌≡◌};
+ghost use Rattle.dvg_cmd.specs.SeveralFrames.{is_written};
+
+use crate::detail::Detail;
+use dvg_spelling::FrameOutcome;
+
+/// Which frames have a line.
+#[derive(Clone, Copy, Debug, PartialEq, Eq)]
+pub enum Lines {
+    /// Each.
+    All,
+    /// Each that is not accepted.
+    NotAccepted,
+}
+
+impl Lines {
+    /// Whether a line of this outcome is written.
+    pub fn has(self, outcome: FrameOutcome) -> bool
+        ensures { result ≡ is_written self outcome }
+    {
+        match (self, outcome) {
+            (Lines::NotAccepted, FrameOutcome::Accepted) => false,
+            (
+                Lines::NotAccepted,
+                FrameOutcome::Refused | FrameOutcome::NoMemory | FrameOutcome::Unread,
+            )
+            | (Lines::All, _) => true,
+        }
+    }
+}
+
+/// What a run writes of several frames.
+#[derive(Clone, Copy, Debug, PartialEq, Eq)]
+pub struct Listing {
+    /// What is written of a frame.
+    pub detail: Detail,
+    /// Which frames have a line.
+    pub lines: Lines,
+    /// Whether a last line says how many frames were accepted, refused by each number, not to be read, and out of memory, whether
+    /// they have a line or not.
+    pub summary: bool,
+}

@@ -1,0 +1,118 @@
+//! How many lines say what of frames, and the line that tells it.
+
+ghost use Rattle.std.specs.Prelude.{◌≡◌, ◌+◌, ◌≤◌, ◌<◌, ◌++◌, true, length, codes, decimal};
+ghost use Rattle.dvg_cert.specs.Devices.{count_after};
+ghost use Rattle.dvg_spelling.specs.Tally.{answer_number, no_lines, with_answer, refused_text, refused_texts, summary_text};
+
+use crate::outcome::{FrameAnswer, FrameOutcome, frame_outcome_of};
+use arrayvec::ArrayVec;
+use dvg_cert::push_bytes;
+use dvg_make::{FrameRefusal, MakeFault};
+use itoa::Buffer;
+
+/// A summary, with its LF: 30 bytes at most for each number's count, and 80 for the other three.
+pub type Summary = ArrayVec<u8, 7760>;
+
+/// How many lines say what of frames. Each count stops at 4,294,967,295.
+#[derive(Clone, Copy, Debug, PartialEq, Eq)]
+pub struct Tally {
+    /// How many accepted lines.
+    pub accepted: u32,
+    /// How many refusals by each number.
+    pub refused: [u32; 256],
+    /// How many frames could not be opened or read.
+    pub unread: u32,
+    /// How often memory was out.
+    pub no_memory: u32,
+}
+
+/// The number of a refusal, or 0 if the answer is none.
+fn answer_number(answer: &FrameAnswer) -> u8
+    ensures { result ≡ answer_number answer.now }
+{
+    match answer {
+        FrameAnswer::Judged(Err(FrameRefusal::Make { why, .. })) => MakeFault::from(*why).number(),
+        FrameAnswer::Judged(Err(FrameRefusal::Check(refusal))) => refusal.number(),
+        FrameAnswer::Judged(Err(FrameRefusal::NoMemory) | Ok(_)) | FrameAnswer::Unread => 0,
+    }
+}
+
+impl Tally {
+    /// The tally of no line.
+    pub fn new() -> Tally
+        ensures { result ≡ no_lines }
+    {
+        Tally {
+            accepted: 0,
+            refused: [0; 256],
+            unread: 0,
+            no_memory: 0,
+        }
+    }
+
+    /// Counts the line of this answer.
+    pub fn add(&mut self, answer: &FrameAnswer)
+        ensures { self.new ≡ with_answer self.old answer.now }
+    {
+        match frame_outcome_of(answer) {
+            FrameOutcome::Accepted => count(&mut self.accepted),
+            FrameOutcome::Refused => count(&mut self.refused[usize::from(answer_number(answer))]),
+            FrameOutcome::NoMemory => count(&mut self.no_memory),
+            FrameOutcome::Unread => count(&mut self.unread),
+        }
+    }
+}
+
+/// One more.
+fn count(counted: &mut u32)
+    ensures { counted.new ≡ count_after true counted.old }
+{
+    *counted = counted.saturating_add(1);
+}
+
+/// The line that tells a tally, with its LF: how many lines were accepted, how many refused by each number that has any, how many
+/// frames could not be opened or read, and how often memory was out. Takes no memory.
+pub fn summary_of(tally: &Tally) -> Summary
+    ensures { result.items ≡ summary_text tally.now }
+{
+    let mut line = Summary::new();
+    push_count(&mut line, b"accepted=", tally.accepted);
+    push_refusals(&mut line, &tally.refused);
+    push_count(&mut line, b" unreadable=", tally.unread);
+    push_count(&mut line, b" out-of-memory=", tally.no_memory);
+    push_bytes(&mut line, b"\n");
+    line
+}
+
+/// A count behind its label.
+fn push_count(line: &mut Summary, label: &[u8], count: u32)
+    requires { length line.old.items + length label.now ≤ 7750 }
+    ensures text { line.new.items ≡ line.old.items ++ label.now ++ decimal count }
+    ensures short { length line.new.items ≤ length line.old.items + length label.now + 10 }
+{
+    push_bytes(line, label);
+    push_bytes(line, Buffer::new().format(count).as_bytes());
+}
+
+/// How many were refused by this number, if any.
+fn push_refused(line: &mut Summary, number: u32, count: u32)
+    requires { length line.old.items ≤ 7700 }
+    ensures text { line.new.items ≡ line.old.items ++ refused_text number count }
+    ensures short { length line.new.items ≤ length line.old.items + 30 }
+{
+    if count > 0 {
+        push_count(line, b" refused-", number);
+        push_count(line, b"=", count);
+    }
+}
+
+/// How many were refused by each number that has any.
+fn push_refusals(line: &mut Summary, refused: &[u32; 256])
+    requires { length line.old.items ≤ 19 }
+    ensures text { line.new.items ≡ line.old.items ++ refused_texts 0 refused.now }
+    ensures short { length line.new.items ≤ length line.old.items + 7680 }
+{
+    for number in 0..256u32 {
+        push_refused(line, number, refused[number as usize]);
+    }
+}
