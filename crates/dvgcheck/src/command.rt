@@ -1,76 +1,73 @@
 //! The command line.
 
 use crate::escaping::{escaped, marked, shown};
+use crate::form::Form;
 use crate::input::Input;
 use clap::error::ErrorKind;
 use clap::{Arg, ArgAction, ArgMatches, Command, value_parser};
 use dvg_cmd::{
     ASTEROIDS, CLIPPED, CheckOptions, Detail, FrameOptions, Key, Lines, Listing, MOST_WORDS,
-    Machine, Mode, NameEnd, RomMap, Rule, Window, map_of, root_of, rule_of, start_of, window_of,
+    Machine, Mode, NameEnd, RomMap, Rule, SCREEN, Window, map_of, root_of, rule_of, start_of,
+    window_of,
 };
 use std::alloc::{AllocError, AllocFailed, Global};
 use std::{env, io};
 
 /// Why the command line asks for no run.
 #[derive(Drop)]
-pub enum Usage {
+pub enum Usage<'a> {
     /// It asks for help or for the version: the text.
     Help(String),
     /// `clap` refuses an argument, or there is none: the text for standard error.
     Fault(String),
     /// `clap` takes the arguments, but one of them has no meaning.
-    Argument(ArgumentFault),
+    Argument(ArgumentFault<'a>),
     OutOfMemory,
 }
 
 /// What is wrong with arguments that `clap` takes.
 #[derive(Clone, Copy)]
-pub enum ArgumentFault {
+pub enum ArgumentFault<'a> {
     /// An argument is not UTF-8.
     Unreadable,
-    /// The map is not two word addresses of a ROM.
-    Map,
-    /// The window is not four coordinates.
-    Window,
-    /// A root is not a word address and a scale.
-    Root,
-    /// The start is not a word address.
-    Start,
+    /// This word has not its form.
+    Word(Form, &'a str),
+    /// Nothing says what a certificate is to be made of.
+    NoRoot,
     /// More than one file is `-`.
     StandardInputTwice,
     /// No rule has the number.
     Number,
 }
 
-impl ArgumentFault {
+impl<'a> ArgumentFault<'a> {
     /// The line on standard error, without its LF.
-    pub fn message(self) -> &'static str {
-        match self {
+    pub fn message(self, alloc: Global) -> Result<String, AllocError> {
+        let line = match self {
+            ArgumentFault::Word(form, word) => return form.message(alloc, word),
             ArgumentFault::Unreadable => "dvgcheck: cannot read the command line",
-            ArgumentFault::Map => "dvgcheck: bad map",
-            ArgumentFault::Window => "dvgcheck: bad window",
-            ArgumentFault::Root => "dvgcheck: bad root",
-            ArgumentFault::Start => "dvgcheck: bad start",
+            ArgumentFault::NoRoot => "dvgcheck: no root: a ROOT, as 800/0, or --frame FRAME wanted",
             ArgumentFault::StandardInputTwice => "dvgcheck: standard input is given twice",
             ArgumentFault::Number => "dvgcheck: no such number",
-        }
+        };
+        String::from_str(alloc, line)
     }
 }
 
-impl From<ArgumentFault> for Usage {
-    fn from(fault: ArgumentFault) -> Usage {
+impl<'a> From<ArgumentFault<'a>> for Usage<'a> {
+    fn from(fault: ArgumentFault<'a>) -> Usage<'a> {
         Usage::Argument(fault)
     }
 }
 
-impl<T: Drop> From<AllocFailed<T>> for Usage {
-    fn from(_error: AllocFailed<T>) -> Usage {
+impl<'a, T: Drop> From<AllocFailed<T>> for Usage<'a> {
+    fn from(_error: AllocFailed<T>) -> Usage<'a> {
         Usage::OutOfMemory
     }
 }
 
-impl From<AllocError> for Usage {
-    fn from(_error: AllocError) -> Usage {
+impl<'a> From<AllocError> for Usage<'a> {
+    fn from(_error: AllocError) -> Usage<'a> {
         Usage::OutOfMemory
     }
 }
@@ -123,7 +120,19 @@ impl Task {
         }
     }
 
+    /// Its command.
     fn command<'a>(self, alloc: Global) -> Result<Command<'a>, AllocError> {
+        let command = self.bare_command(alloc)?;
+        match self {
+            Task::Frames => { with_list_options(alloc, with_frames_options(alloc, command)?) }
+            Task::Check => with_check_options(alloc, command),
+            Task::Make => with_make_options(alloc, command),
+            Task::Explain | Task::Rules => Ok(command),
+        }
+    }
+
+    /// Its command without its options.
+    fn bare_command<'a>(self, alloc: Global) -> Result<Command<'a>, AllocError> {
         match self {
             Task::Frames => frames_command(alloc),
             Task::Check => check_command(alloc),
@@ -197,7 +206,7 @@ pub struct MakeArgs<'a> {
 }
 
 /// The arguments of the command line, the program's name first.
-pub fn arguments(rt: &HostRuntime) -> Result<Vec<String>, Usage> {
+pub fn arguments(rt: &HostRuntime) -> Result<Vec<String>, Usage<'static>> {
     match env::args(rt) {
         Ok(arguments) => Ok(arguments.collect(rt.alloc())?),
         Err(error) if error.kind() == io::ErrorKind::OutOfMemory => Err(Usage::OutOfMemory),
@@ -211,21 +220,27 @@ const ROM_HELP: &str = "The vector ROM: two bytes for each of its words, low byt
 
 const FRAME_HELP: &str = "The frame: 2 to 2048 bytes of vector RAM, from word 000 on";
 
+// Each of the three options below has no default of `clap`'s, which would parse it and give it a place at each run: the reading of
+// an option has it, and the help says so.
+
+/// How many words a frame may take if `--budget` does not say.
+const USUAL_BUDGET: u32 = 20_000;
+
 fn budget_option<'a>(alloc: Global) -> Arg<'a> {
     Arg::new(alloc, "budget")
         .long("budget")
         .value_name("N")
-        .help("How many words the frame may take at most")
+        .help("How many words the frame may take at most [default: 20000]")
         .value_parser(value_parser!(u32).range(1..=i64::from(MOST_WORDS)))
-        .default_value("20000")
 }
 
 fn window_option<'a>(alloc: Global) -> Arg<'a> {
     Arg::new(alloc, "window")
         .long("window")
-        .value_name("X0,X1,Y0,Y1")
-        .help("Where the screen may be lit: from X0 to X1 across, from Y0 to Y1 up")
-        .default_value("0,1023,0,1023")
+        .value_name(Form::Window.pattern())
+        .help(
+            "Where the screen may be lit: from X0 to X1 across, from Y0 to Y1 up [default: 0,1023,0,1023]",
+        )
 }
 
 fn clip_option<'a>(alloc: Global) -> Result<Arg<'a>, AllocError> {
@@ -242,15 +257,16 @@ fn clip_option<'a>(alloc: Global) -> Result<Arg<'a>, AllocError> {
 fn map_option<'a>(alloc: Global) -> Arg<'a> {
     Arg::new(alloc, "rom")
         .long("rom")
-        .value_name("AAA/BBB")
-        .help("The word addresses of the ROM's first and last word, within 400 to BFF")
-        .default_value("800/BFF")
+        .value_name(Form::Map.pattern())
+        .help(
+            "The word addresses of the ROM's first and last word, within 400 to BFF [default: 800/BFF]",
+        )
 }
 
 fn start_option<'a>(alloc: Global) -> Arg<'a> {
     Arg::new(alloc, "start")
         .long("start")
-        .value_name("AAA")
+        .value_name(Form::Start.pattern())
         .help("Judges each frame as though its word 000 were the jump to this word address")
 }
 
@@ -308,18 +324,11 @@ fn board_option<'a>(alloc: Global) -> Arg<'a> {
         )
 }
 
-/// The command with the argument ROM, the option that says which machine runs it, and what its help says of files.
+/// The command with the argument ROM, and what its help says of files.
 fn with_rom<'a>(alloc: Global, command: Command<'a>) -> Result<Command<'a>, AllocError> {
     command
         .after_help(INPUT_HELP)
-        .arg(needed(alloc, "ROM", ROM_HELP))?
-        .arg(board_option(alloc))
-}
-
-/// The command with the options that say which certificates are used.
-fn with_certificates<'a>(alloc: Global, command: Command<'a>) -> Result<Command<'a>, AllocError> {
-    let cert = cert_option(alloc)?;
-    command.arg(map_option(alloc))?.arg(cert)
+        .arg(needed(alloc, "ROM", ROM_HELP))
 }
 
 /// The command with the options that limit what a frame may do.
@@ -331,26 +340,31 @@ fn with_limits<'a>(alloc: Global, command: Command<'a>) -> Result<Command<'a>, A
         .arg(clip)
 }
 
-/// The command with the arguments of `frames`; `frame` is the one that names frames.
-fn frames_arguments<'a>(
-    alloc: Global,
-    command: Command<'a>,
-    frame: Arg<'a>,
-) -> Result<Command<'a>, AllocError> {
-    let command = with_rom(alloc, command)?.arg(frame)?;
-    let command = with_certificates(alloc, command)?;
+/// The command with the options of `frames`.
+fn with_frames_options<'a>(alloc: Global, command: Command<'a>) -> Result<Command<'a>, AllocError> {
+    let cert = cert_option(alloc)?;
+    let command = command
+        .arg(board_option(alloc))?
+        .arg(map_option(alloc))?
+        .arg(cert)?;
     with_limits(alloc, command)?.arg(start_option(alloc))
+}
+
+/// The command with the options of `frames` that are about many frames.
+fn with_list_options<'a>(alloc: Global, command: Command<'a>) -> Result<Command<'a>, AllocError> {
+    let null = null_option(alloc)?;
+    command
+        .arg(list_option(alloc))?
+        .arg(null)?
+        .arg(only_refused_option(alloc))?
+        .arg(summary_option(alloc))
 }
 
 fn frames_command<'a>(alloc: Global) -> Result<Command<'a>, AllocError> {
     let command = Command::new(alloc, "frames").about(
         "Judges frames over a vector ROM, each by a certificate made for it, and prints a line for each",
     );
-    frames_arguments(alloc, command, frames_argument(alloc)?)?
-        .arg(list_option(alloc))?
-        .arg(null_option(alloc)?)?
-        .arg(only_refused_option(alloc))?
-        .arg(summary_option(alloc))
+    with_rom(alloc, command)?.arg(frames_argument(alloc)?)
 }
 
 fn exact_option<'a>(alloc: Global) -> Arg<'a> {
@@ -360,28 +374,27 @@ fn exact_option<'a>(alloc: Global) -> Arg<'a> {
         .help("Takes the certificate's words and depths as exact, not as bounds")
 }
 
-/// The command with the files of `check`.
-fn with_checked_files<'a>(alloc: Global, command: Command<'a>) -> Result<Command<'a>, AllocError> {
-    with_rom(alloc, command)?
-        .arg(needed(alloc, "CERT", "The certificate of the ROM's shapes"))?
-        .arg(needed(alloc, "FRAME", FRAME_HELP))
+/// The command with the options of `check`.
+fn with_check_options<'a>(alloc: Global, command: Command<'a>) -> Result<Command<'a>, AllocError> {
+    let command = command.arg(board_option(alloc))?;
+    with_limits(alloc, command)?.arg(exact_option(alloc))
 }
 
 fn check_command<'a>(alloc: Global) -> Result<Command<'a>, AllocError> {
     let command = Command::new(alloc, "check").about(
         "Judges a frame over a vector ROM and its certificate, and prints the report",
     );
-    let command = with_checked_files(alloc, command)?;
-    with_limits(alloc, command)?.arg(exact_option(alloc))
+    with_rom(alloc, command)?
+        .arg(needed(alloc, "CERT", "The certificate of the ROM's shapes"))?
+        .arg(needed(alloc, "FRAME", FRAME_HELP))
 }
 
-fn roots_argument<'a>(alloc: Global) -> Result<Arg<'a>, AllocError> {
-    let roots = Arg::new(alloc, "ROOT")
+fn roots_argument<'a>(alloc: Global) -> Arg<'a> {
+    Arg::new(alloc, "ROOT")
         .help(
             "A shape that a program calls: its address, a slash, and a scale of 0 to 15 or any, as 800/0",
         )
-        .required_unless_present("frame")?;
-    Ok(roots.num_args(1..))
+        .num_args(1..)
 }
 
 fn frame_option<'a>(alloc: Global) -> Arg<'a> {
@@ -392,11 +405,10 @@ fn frame_option<'a>(alloc: Global) -> Arg<'a> {
         .help("A frame, whose calls are roots, too")
 }
 
-/// The command with the arguments of `make` that say what is made.
-fn make_arguments<'a>(alloc: Global, command: Command<'a>) -> Result<Command<'a>, AllocError> {
-    let roots = roots_argument(alloc)?;
-    with_rom(alloc, command)?
-        .arg(roots)?
+/// The command with the options that say what is made.
+fn with_maker_options<'a>(alloc: Global, command: Command<'a>) -> Result<Command<'a>, AllocError> {
+    command
+        .arg(board_option(alloc))?
         .arg(frame_option(alloc))?
         .arg(map_option(alloc))
 }
@@ -411,11 +423,16 @@ fn output_option<'a>(alloc: Global) -> Arg<'a> {
         )
 }
 
+/// The command with the options of `make`.
+fn with_make_options<'a>(alloc: Global, command: Command<'a>) -> Result<Command<'a>, AllocError> {
+    with_maker_options(alloc, command)?.arg(output_option(alloc))
+}
+
 fn make_command<'a>(alloc: Global) -> Result<Command<'a>, AllocError> {
     let command = Command::new(alloc, "make").about(
         "Prints the certificate of shapes of a vector ROM, and of all that they call",
     );
-    make_arguments(alloc, command)?.arg(output_option(alloc))
+    with_rom(alloc, command)?.arg(roots_argument(alloc))
 }
 
 /// What the help of a command says that is explained.
@@ -425,14 +442,20 @@ fn explain_frames_command<'a>(alloc: Global) -> Result<Command<'a>, AllocError> 
     let command = Command::new(alloc, "frames").about(
         "Judges a frame over a vector ROM, by a certificate made for it, and explains the answer",
     );
-    frames_arguments(alloc, command, needed(alloc, "FRAME", FRAME_HELP))
+    let command = with_rom(alloc, command)?.arg(needed(alloc, "FRAME", FRAME_HELP))?;
+    with_frames_options(alloc, command)
+}
+
+fn explain_check_command<'a>(alloc: Global) -> Result<Command<'a>, AllocError> {
+    with_check_options(alloc, check_command(alloc)?)
 }
 
 fn explain_make_command<'a>(alloc: Global) -> Result<Command<'a>, AllocError> {
     let command = Command::new(alloc, "make").about(
         "Explains what certificate is made of shapes of a vector ROM, or why none, and writes none",
     );
-    make_arguments(alloc, command)
+    let command = with_rom(alloc, command)?.arg(roots_argument(alloc))?;
+    with_maker_options(alloc, command)
 }
 
 fn explain_command<'a>(alloc: Global) -> Result<Command<'a>, AllocError> {
@@ -444,7 +467,7 @@ fn explain_command<'a>(alloc: Global) -> Result<Command<'a>, AllocError> {
         .subcommand_required(true)
         .arg_required_else_help(true)
         .subcommand(explain_frames_command(alloc)?)?
-        .subcommand(check_command(alloc)?)?
+        .subcommand(explain_check_command(alloc)?)?
         .subcommand(explain_make_command(alloc)?)
 }
 
@@ -464,26 +487,17 @@ fn rules_command<'a>(alloc: Global) -> Result<Command<'a>, AllocError> {
         .arg(number)
 }
 
-/// The program's command with these subcommands.
-fn command<'a>(alloc: Global, tasks: &[Task]) -> Result<Command<'a>, AllocError> {
+/// The program's command.
+fn command<'a>(alloc: Global) -> Result<Command<'a>, AllocError> {
     let mut command = Command::new(alloc, "dvgcheck")
         .about("Checks frames and vector ROMs of Atari's Digital Vector Generator")
         .version(VERSION)
         .subcommand_required(true)
         .arg_required_else_help(true);
-    for task in tasks {
+    for task in Task::ALL {
         command = command.subcommand(task.command(alloc)?)?;
     }
     Ok(command)
-}
-
-/// The command for these arguments, with the one subcommand that the first of them names, since the others would only cost time;
-/// with all subcommands if it names none.
-fn command_for<'a>(alloc: Global, arguments: &[String]) -> Result<Command<'a>, AllocError> {
-    match arguments.get(1).and_then(|name| Task::named(name.as_str())) {
-        Some(task) => command(alloc, &[task]),
-        None => command(alloc, &Task::ALL),
-    }
 }
 
 fn needed<'a>(alloc: Global, name: &'a str, help: &'a str) -> Arg<'a> {
@@ -499,27 +513,33 @@ fn machine_of_args<'a>(args: &ArgMatches<'a>) -> Machine {
 }
 
 /// What may be lit: the zone that a board clips, or the window that is given.
-fn window_of_args<'a>(args: &ArgMatches<'a>) -> Result<Window, ArgumentFault> {
+fn window_of_args<'a>(args: &ArgMatches<'a>) -> Result<Window, ArgumentFault<'a>> {
     if args.get_flag("clip") {
         return Ok(CLIPPED);
     }
-    window_of(args.get_str("window").unwrap_or("")).ok_or(ArgumentFault::Window)
+    match args.get_str("window") {
+        Some(window) => window_of(window).ok_or(ArgumentFault::Word(Form::Window, window)),
+        None => Ok(SCREEN),
+    }
 }
 
 fn budget_of_args<'a>(args: &ArgMatches<'a>) -> u32 {
-    args.get_one::<u32>("budget").unwrap_or(20_000)
+    args.get_one::<u32>("budget").unwrap_or(USUAL_BUDGET)
 }
 
-fn map_of_args<'a>(args: &ArgMatches<'a>) -> Result<RomMap, ArgumentFault> {
+fn map_of_args<'a>(args: &ArgMatches<'a>) -> Result<RomMap, ArgumentFault<'a>> {
     match args.get_str("rom") {
-        Some(map) => map_of(map).ok_or(ArgumentFault::Map),
+        Some(map) => map_of(map).ok_or(ArgumentFault::Word(Form::Map, map)),
         None => Ok(ASTEROIDS),
     }
 }
 
-fn start_of_args<'a>(args: &ArgMatches<'a>) -> Result<Option<u16>, ArgumentFault> {
+fn start_of_args<'a>(args: &ArgMatches<'a>) -> Result<Option<u16>, ArgumentFault<'a>> {
     match args.get_str("start") {
-        Some(start) => Ok(Some(start_of(start).ok_or(ArgumentFault::Start)?)),
+        Some(start) => {
+            let start = start_of(start).ok_or(ArgumentFault::Word(Form::Start, start))?;
+            Ok(Some(start))
+        }
         None => Ok(None),
     }
 }
@@ -534,7 +554,7 @@ fn files_of<'a>(
     rt: &HostRuntime,
     args: &ArgMatches<'a>,
     name: &str,
-) -> Result<Vec<Named<'a>>, Usage> {
+) -> Result<Vec<Named<'a>>, Usage<'a>> {
     let mut files = Vec::new(rt.alloc());
     for path in args.get_strs(name).unwrap_or(&[]) {
         let input = Input::named(rt, path);
@@ -551,7 +571,7 @@ fn standard_inputs<'a>(args: &ArgMatches<'a>, name: &str) -> usize {
 }
 
 /// Refuses arguments if more than one of the files that they name is standard input.
-fn one_standard_input<'a>(args: &ArgMatches<'a>, names: &[&str]) -> Result<(), ArgumentFault> {
+fn one_standard_input<'a>(args: &ArgMatches<'a>, names: &[&str]) -> Result<(), ArgumentFault<'a>> {
     let mut given = 0usize;
     for name in names {
         given = given.saturating_add(standard_inputs(args, name));
@@ -563,7 +583,7 @@ fn one_standard_input<'a>(args: &ArgMatches<'a>, names: &[&str]) -> Result<(), A
 }
 
 /// The options of `frames`, and where the ROM lies.
-fn frame_options<'a>(args: &ArgMatches<'a>) -> Result<(RomMap, FrameOptions), ArgumentFault> {
+fn frame_options<'a>(args: &ArgMatches<'a>) -> Result<(RomMap, FrameOptions), ArgumentFault<'a>> {
     one_standard_input(args, &["ROM", "FRAME", "list", "cert"])?;
     let map = map_of_args(args)?;
     let window = window_of_args(args)?;
@@ -581,7 +601,7 @@ fn frame_options<'a>(args: &ArgMatches<'a>) -> Result<(RomMap, FrameOptions), Ar
 }
 
 /// The frames that the arguments name.
-fn frame_names<'a>(rt: &HostRuntime, args: &ArgMatches<'a>) -> Result<FrameNames<'a>, Usage> {
+fn frame_names<'a>(rt: &HostRuntime, args: &ArgMatches<'a>) -> Result<FrameNames<'a>, Usage<'a>> {
     let Some(list) = args.get_str("list") else {
         return Ok(FrameNames::Given(files_of(rt, args, "FRAME")?));
     };
@@ -617,7 +637,7 @@ fn frames_args<'a>(
     rt: &HostRuntime,
     args: &ArgMatches<'a>,
     listing: Listing,
-) -> Result<FramesArgs<'a>, Usage> {
+) -> Result<FramesArgs<'a>, Usage<'a>> {
     let (map, options) = frame_options(args)?;
     let certificates = match args.get_str("cert") {
         Some(cert) => Certificates::Given(Input::named(rt, cert)),
@@ -634,7 +654,7 @@ fn frames_args<'a>(
     })
 }
 
-fn check_options<'a>(args: &ArgMatches<'a>) -> Result<CheckOptions, ArgumentFault> {
+fn check_options<'a>(args: &ArgMatches<'a>) -> Result<CheckOptions, ArgumentFault<'a>> {
     Ok(CheckOptions {
         machine: machine_of_args(args),
         budget: budget_of_args(args),
@@ -647,7 +667,7 @@ fn check_options<'a>(args: &ArgMatches<'a>) -> Result<CheckOptions, ArgumentFaul
     })
 }
 
-fn check_args<'a>(rt: &HostRuntime, args: &ArgMatches<'a>) -> Result<CheckArgs<'a>, Usage> {
+fn check_args<'a>(rt: &HostRuntime, args: &ArgMatches<'a>) -> Result<CheckArgs<'a>, Usage<'a>> {
     one_standard_input(args, &["ROM", "CERT", "FRAME"])?;
     Ok(CheckArgs {
         rom: file_of(rt, args, "ROM"),
@@ -658,10 +678,11 @@ fn check_args<'a>(rt: &HostRuntime, args: &ArgMatches<'a>) -> Result<CheckArgs<'
 }
 
 /// The roots that the argument names.
-fn roots_of<'a>(alloc: Global, args: &ArgMatches<'a>) -> Result<Vec<(u16, Key)>, Usage> {
+fn roots_of<'a>(alloc: Global, args: &ArgMatches<'a>) -> Result<Vec<(u16, Key)>, Usage<'a>> {
     let mut roots = Vec::new(alloc);
     for root in args.get_strs("ROOT").unwrap_or(&[]) {
-        roots.push(root_of(root).ok_or(ArgumentFault::Root)?)?;
+        let root = root_of(root).ok_or(ArgumentFault::Word(Form::Root, *root))?;
+        roots.push(root)?;
     }
     Ok(roots)
 }
@@ -679,7 +700,10 @@ fn make_args<'a>(
     rt: &HostRuntime,
     args: &ArgMatches<'a>,
     output: Option<&'a str>,
-) -> Result<MakeArgs<'a>, Usage> {
+) -> Result<MakeArgs<'a>, Usage<'a>> {
+    if !args.contains_id("ROOT") && !args.contains_id("frame") {
+        return Err(Usage::Argument(ArgumentFault::NoRoot));
+    }
     one_standard_input(args, &["ROM", "frame"])?;
     let map = map_of_args(args)?;
     Ok(MakeArgs {
@@ -693,7 +717,7 @@ fn make_args<'a>(
 }
 
 /// The command whose answer is explained.
-fn explain_request<'a>(rt: &HostRuntime, args: &ArgMatches<'a>) -> Result<Request<'a>, Usage> {
+fn explain_request<'a>(rt: &HostRuntime, args: &ArgMatches<'a>) -> Result<Request<'a>, Usage<'a>> {
     match args.subcommand() {
         Some(("check", args)) => Ok(Request::Check(check_args(rt, args)?, Detail::Account)),
         Some(("frames", args)) => Ok(Request::Frames(frames_args(rt, args, EXPLAINED)?)),
@@ -702,7 +726,7 @@ fn explain_request<'a>(rt: &HostRuntime, args: &ArgMatches<'a>) -> Result<Reques
     }
 }
 
-fn rule_of_args<'a>(args: &ArgMatches<'a>) -> Result<Option<Rule>, ArgumentFault> {
+fn rule_of_args<'a>(args: &ArgMatches<'a>) -> Result<Option<Rule>, ArgumentFault<'a>> {
     match args.get_one::<u8>("NN") {
         Some(number) => Ok(Some(rule_of(number).ok_or(ArgumentFault::Number)?)),
         None => Ok(None),
@@ -714,7 +738,7 @@ fn request_of<'a>(
     rt: &HostRuntime,
     task: Task,
     args: &ArgMatches<'a>,
-) -> Result<Request<'a>, Usage> {
+) -> Result<Request<'a>, Usage<'a>> {
     match task {
         Task::Frames => Ok(Request::Frames(frames_args(rt, args, listing_of_args(args))?)),
         Task::Check => Ok(Request::Check(check_args(rt, args)?, Detail::Line)),
@@ -725,7 +749,7 @@ fn request_of<'a>(
 }
 
 /// The text of this error, for the user.
-fn usage_of(alloc: Global, error: &clap::Error) -> Result<Usage, AllocError> {
+fn usage_of<'a>(alloc: Global, error: &clap::Error) -> Result<Usage<'a>, AllocError> {
     if error.kind() == ErrorKind::OutOfMemory {
         return Ok(Usage::OutOfMemory);
     }
@@ -737,32 +761,63 @@ fn usage_of(alloc: Global, error: &clap::Error) -> Result<Usage, AllocError> {
     })
 }
 
-/// What `clap` says of arguments that it refuses: what it says of the marked ones, which it refuses, too.
-fn refused(alloc: Global, arguments: &[String]) -> Result<Usage, AllocError> {
+/// What `clap` says of arguments that it refuses, or that ask for help or the version: what it says of the marked ones, which it
+/// refuses, too.
+fn refused<'a>(alloc: Global, arguments: &[String]) -> Result<Usage<'a>, AllocError> {
     let marked = marked(alloc, arguments)?;
-    match command(alloc, &Task::ALL)?.try_get_matches_from(&marked) {
+    match command(alloc)?.try_get_matches_from(&marked) {
         Ok(_) => Ok(Usage::Argument(ArgumentFault::Unreadable)),
         Err(error) => usage_of(alloc, &error),
     }
 }
 
-/// What `clap` makes of the arguments.
-fn matches_of<'a>(alloc: Global, arguments: &'a [String]) -> Result<ArgMatches<'a>, Usage> {
-    match command_for(alloc, arguments)?.try_get_matches_from(arguments) {
-        Ok(matches) => Ok(matches),
-        Err(error) if error.kind() == ErrorKind::OutOfMemory => Err(Usage::OutOfMemory),
-        Err(_) => Err(refused(alloc, arguments)?),
+/// The subcommand that the arguments name, and those behind its name.
+fn task_of(arguments: &[String]) -> Option<(Task, &[String])> {
+    let (_, arguments) = arguments.split_first()?;
+    let (name, arguments) = arguments.split_first()?;
+    Some((Task::named(name.as_str())?, arguments))
+}
+
+/// Whether a word of these may name an option.
+fn may_name_options(arguments: &[String]) -> bool {
+    for argument in arguments {
+        if argument.as_str().starts_with('-') {
+            return true;
+        }
     }
+    false
+}
+
+/// What `clap` makes of the arguments of this subcommand. It is parsed alone, without its help, and without its options if no word
+/// may name one, since the rest of the program's command would only cost time.
+fn matches_of<'a>(
+    alloc: Global,
+    task: Task,
+    arguments: &'a [String],
+) -> Result<ArgMatches<'a>, clap::Error> {
+    let command = if may_name_options(arguments) {
+        task.command(alloc)?
+    } else {
+        task.bare_command(alloc)?
+    };
+    command
+        .no_binary_name(true)
+        .disable_help_flag(true)
+        .disable_help_subcommand(true)
+        .try_get_matches_from(arguments)
 }
 
 /// What the arguments ask for. All of them are read before a file is opened.
-pub fn read_arguments<'a>(rt: &HostRuntime, arguments: &'a [String]) -> Result<Request<'a>, Usage> {
-    let matches = matches_of(rt.alloc(), arguments)?;
-    match matches.subcommand() {
-        Some((name, args)) => match Task::named(name) {
-            Some(task) => request_of(rt, task, args),
-            None => Err(Usage::Argument(ArgumentFault::Unreadable)),
-        },
-        None => Err(Usage::Argument(ArgumentFault::Unreadable)),
+pub fn read_arguments<'a>(
+    rt: &HostRuntime,
+    arguments: &'a [String],
+) -> Result<Request<'a>, Usage<'a>> {
+    let Some((task, rest)) = task_of(arguments) else {
+        return Err(refused(rt.alloc(), arguments)?);
+    };
+    match matches_of(rt.alloc(), task, rest) {
+        Ok(matches) => request_of(rt, task, &matches),
+        Err(error) if error.kind() == ErrorKind::OutOfMemory => Err(Usage::OutOfMemory),
+        Err(_) => Err(refused(rt.alloc(), arguments)?),
     }
 }

@@ -6,13 +6,14 @@
 
 mod command;
 mod escaping;
+mod form;
 mod input;
 mod list;
 mod output;
 
 use command::{
-    Asked, Certificates, CheckArgs, FrameNames, FramesArgs, MakeArgs, Named, Request, Usage,
-    read_arguments,
+    ArgumentFault, Asked, Certificates, CheckArgs, FrameNames, FramesArgs, MakeArgs, Named,
+    Request, Usage, read_arguments,
 };
 use dvg_cmd::{
     Counted, CountedWrite, Detail, FrameOutcome, FramesRunFault, MakeAnswer, MakeFault,
@@ -307,13 +308,21 @@ fn tell_text(rt: &HostRuntime, end: &Result<(), RunFault>) -> u8 {
     }
 }
 
+/// Tells what is wrong with the arguments, and answers the exit status.
+fn tell_fault(rt: &HostRuntime, fault: ArgumentFault) -> u8 {
+    match fault.message(rt.alloc()) {
+        Ok(message) => {
+            say(rt, message.as_str());
+            2
+        }
+        Err(_) => tell_check(rt, &Err(RunFault::Memory)),
+    }
+}
+
 /// Tells why no run was asked for, and answers the exit status.
 fn tell_usage(rt: &HostRuntime, usage: &Usage) -> u8 {
     match usage {
-        Usage::Argument(fault) => {
-            say(rt, fault.message());
-            2
-        }
+        Usage::Argument(fault) => tell_fault(rt, *fault),
         Usage::OutOfMemory => tell_check(rt, &Err(RunFault::Memory)),
         Usage::Fault(text) => {
             let _ = write_text(text.as_str(), &mut Counted::new(rt.stderr()));
