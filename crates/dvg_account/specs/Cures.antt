@@ -3,7 +3,8 @@ use Rattle.std.specs.Prelude.{ℕ, List, [], ◌∷◌, Option, Some, None, nat_
 use Rattle.dvg_words.specs.declared.map.TheConstants.{RAM_WORDS}
 use Rattle.dvg_check.specs.FirstFault.{shape_number}
 use Rattle.dvg_check.specs.declared.fault.ShapeWhy.TheVariants as rule
-use Rattle.dvg_make.specs.Refusals.{FrameCall, fault_number, make_fault_of}
+use Rattle.dvg_make.specs.declared.fault.FrameCall.{FrameCall}
+use Rattle.dvg_make.specs.Refusals.{fault_number, make_fault_of}
 use Rattle.dvg_make.specs.declared.account.MakeAccount.{MakeAccount}
 use Rattle.dvg_make.specs.declared.account.EntryCause.{EntryCause}
 use Rattle.dvg_make.specs.declared.account.EntryCause.TheVariants as cause
