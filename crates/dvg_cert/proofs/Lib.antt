@@ -1,4 +1,3 @@
-pub mod Lists
 pub mod Common
 pub mod NaturalNumbers
 pub mod Cutting
