@@ -8,9 +8,7 @@ ghost use Rattle.dvg_cert.specs.Private.Fields.{Reads, LeadsWith, past, natural_
 
 use crate::entry::{End, Entry, Key, LitBox};
 use crate::limits::{MOST_DEPTH, MOST_MAGNITUDE, MOST_WORDS};
-use crate::numerals::{
-    address_of, leading_magnitude, leading_number, leading_number_by_digits, lone_digit,
-};
+use crate::numerals::{address_of, leading_magnitude, leading_number_by_digits};
 use std::marker::Model;
 
 /// The part of a line that is not read yet.
@@ -92,17 +90,14 @@ impl<'a> Fields<'a> {
         Some(number)
     }
 
-    /// Takes a number from `low` to `high`. A digit that stands alone is read in place, since many do.
+    /// Takes a number from `low` to `high`. It is read digit by digit, since most have few digits.
     #[inline(always)]
     pub fn natural(&mut self, low: u64, high: u64) -> Option<u64>
         requires { high ≤ MOST_MAGNITUDE }
         ensures value { Reads result self.new (natural_at low high self.old) }
         ensures within { IfSome result (λ n. n ≤ high) }
     {
-        match lone_digit(self.rest) {
-            Some(read) => self.natural_of(Some(read), low, high),
-            None => self.natural_of(leading_number(self.rest), low, high),
-        }
+        self.natural_of(leading_number_by_digits(self.rest), low, high)
     }
 
     /// Takes a digit from 0 to `most`. Else nothing is taken.

@@ -140,50 +140,6 @@ pub fn leading_magnitude(bytes: &[u8]) -> Option<(u64, &[u8])>
     Some((number, &bytes[count..]))
 }
 
-/// The number of at most 13 digits that stands first in these bytes, and the bytes after its digits.
-#[inline(never)]
-pub fn leading_number(bytes: &[u8]) -> Option<(u64, &[u8])>
-    ensures { LeadsWith (λ rest. rest.now) bytes.now result }
-{
-    match leading_number_at_once(bytes) {
-        Some(read) => Some(read),
-        None => leading_number_by_digits(bytes),
-    }
-}
-
-/// The digit that stands first in these bytes before a byte that is none, and the bytes from there on.
-#[inline(always)]
-pub fn lone_digit(bytes: &[u8]) -> Option<(u64, &[u8])>
-    ensures { IfSome result (λ read. LeadsWith (λ rest. rest.now) bytes.now (Some read)) }
-{
-    if bytes.len() < 2 {
-        return None;
-    }
-    let digit = bytes[0].wrapping_sub(b'0');
-    if digit > 9 {
-        return None;
-    }
-    if bytes[1].wrapping_sub(b'0') <= 9 {
-        return None;
-    }
-    digits_taken(bytes, 1, u64::from(digit))
-}
-
-/// The number of at most 13 digits that stands first in these bytes, and the bytes after its digits, which are looked at together. Of
-/// fewer than sixteen bytes it reads none.
-#[inline(always)]
-fn leading_number_at_once(bytes: &[u8]) -> Option<(u64, &[u8])>
-    ensures { IfSome result (λ read. LeadsWith (λ rest. rest.now) bytes.now (Some read)) }
-{
-    let window = bytes.first_chunk::<16>()?;
-    let count = leading_digits(window);
-    if count == 0 || 13 < count {
-        return None;
-    }
-    let number = number_of_digits(window, count);
-    digits_taken(bytes, count, number)
-}
-
 /// The number of at most 13 digits that stands first in these bytes, and the bytes after its digits. It is read digit by digit.
 #[inline(always)]
 pub fn leading_number_by_digits(bytes: &[u8]) -> Option<(u64, &[u8])>
