@@ -17,7 +17,8 @@ use Rattle.dvg_cert.specs.Order.{Certificate}
 use Rattle.dvg_make.specs.declared.judging.FrameRefusal.{FrameRefusal}
 use Rattle.dvg_spelling.specs.declared.outcome.FrameOutcome.TheVariants as outcome
 use Rattle.dvg_spelling.specs.Each.{of_each}
-use Rattle.dvg_spelling.specs.Tally.{Tally, no_lines, with_answer}
+use Rattle.dvg_spelling.specs.declared.tally.Tally.{Tally}
+use Rattle.dvg_spelling.specs.Tally.{no_lines, with_answer}
 use Rattle.dvg_cmd.proofs.SeveralFrames.{of_each_append}
 use Rattle.dvg_cmd.specs.Detail.{Detail, Behind, IsBehind}
 use Rattle.dvg_cmd.specs.declared.detail.Detail.TheVariants as details

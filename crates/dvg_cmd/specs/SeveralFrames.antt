@@ -17,7 +17,8 @@ use Rattle.dvg_check.specs.declared.verdict.Yes.{Yes}
 use Rattle.dvg_make.specs.declared.judging.FrameRefusal.{FrameRefusal}
 use Rattle.dvg_spelling.specs.Each.{of_each}
 use Rattle.dvg_spelling.specs.Outcomes.{plain_outcome}
-use Rattle.dvg_spelling.specs.Tally.{Tally, no_lines, with_answer, summary_text}
+use Rattle.dvg_spelling.specs.declared.tally.Tally.{Tally}
+use Rattle.dvg_spelling.specs.Tally.{no_lines, with_answer, summary_text}
 use Rattle.dvg_spelling.specs.declared.outcome.FrameOutcome.TheVariants as outcome
 use Rattle.dvg_cmd.specs.Detail.{Detail, Behind, IsBehind, behind_text, frame_outcome_behind}
 use Rattle.dvg_cmd.specs.declared.listing.Lines.{Lines}

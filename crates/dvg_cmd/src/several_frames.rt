@@ -47,24 +47,24 @@ pub struct FrameOptions {
     pub window: Window,
 }
 
-/// The answer to a frame whose turn it is, and what the detail asks for behind its line.
+/// The answer to a frame whose turn it is, and what the listing's detail asks for behind its line.
 fn answer_opened<J: FrameJudge, R: CountedRead + Drop>(
     alloc: Global,
     judge: &J,
     start: Option<u16>,
     reader: Option<R>,
-    detail: Detail,
+    listing: Listing,
 ) -> (FrameAnswer, Behind)
-    requires { J.valid judge.now detail }
-    ensures answers { AnswersOpened (J.is_verdict judge.now) (J.rom judge.now) (J.window judge.now) (J.is_exact judge.now) start
-        (option_map (λ reader. R.remaining reader) reader.entry) result.0 }
-    ensures behind { IsBehind detail result.1 }
+    requires { J.valid judge.now listing.detail }
+    ensures answers { AnswersOpened (J.is_verdict judge.now) (J.rom judge.now) (J.window judge.now) (J.is_exact judge.now) listing start
+        (option_map (λ reader. R.remaining reader) reader) result.0 }
+    ensures behind { IsBehind listing.detail result.1 }
 {
     match reader {
-        Some(mut reader) => answer_of(alloc, judge, start, &mut reader, detail),
+        Some(mut reader) => answer_of(alloc, judge, start, &mut reader, listing.detail),
         None => (
             FrameAnswer::Unread,
-            unread_account(judge.machine(), alloc, detail),
+            unread_account(judge.machine(), alloc, listing.detail),
         ),
     }
 }
@@ -107,14 +107,14 @@ fn run_named<J: FrameJudge, R: CountedRead + Drop, W: CountedWrite>(
 ) -> Result<FrameOutcome, RunFault>
     requires { J.valid judge.now listing.detail }
     ensures ok { IfOk result (WritesLineOf (J.is_verdict judge.now) (J.rom judge.now) (J.window judge.now) (J.is_exact judge.now) listing start
-        (opened (λ reader. R.remaining reader) frame.entry) (W.contents out.old) (W.contents out.new) tally.old tally.new (W.whole_writes out.old) (W.whole_writes out.new)) }
+        (opened (λ reader. R.remaining reader) frame) (W.contents out.old) (W.contents out.new) tally.old tally.new (W.whole_writes out.old) (W.whole_writes out.new)) }
     ensures prefix { OnErr result (WritesLineOfPrefix (J.is_verdict judge.now) (J.rom judge.now) (J.window judge.now) (J.is_exact judge.now) listing start
-        (opened (λ reader. R.remaining reader) frame.entry) (W.contents out.old) (W.contents out.new)) }
+        (opened (λ reader. R.remaining reader) frame) (W.contents out.old) (W.contents out.new)) }
     ensures fault { IfErr result (λ fault. fault ≡ RunFault.Write) }
     ensures count { W.failures out.new ≡ count_after (is_err result) (W.failures out.old) }
 {
     let NamedFrame { name, reader } = frame;
-    let (answer, behind) = answer_opened(alloc, judge, start, reader, listing.detail);
+    let (answer, behind) = answer_opened(alloc, judge, start, reader, listing);
     tally.add(&answer);
     write_listed(name.as_str(), &answer, &behind, listing.lines, out)
 }

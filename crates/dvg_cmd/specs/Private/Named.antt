@@ -6,7 +6,8 @@ use Rattle.dvg_words.specs.Values.{Window}
 use Rattle.dvg_cert.specs.Devices.{AppendsPrefix}
 use Rattle.dvg_check.specs.declared.verdict.Yes.{Yes}
 use Rattle.dvg_make.specs.declared.judging.FrameRefusal.{FrameRefusal}
-use Rattle.dvg_spelling.specs.Tally.{Tally, with_answer}
+use Rattle.dvg_spelling.specs.declared.tally.Tally.{Tally}
+use Rattle.dvg_spelling.specs.Tally.{with_answer}
 use Rattle.dvg_spelling.specs.declared.outcome.FrameOutcome.TheVariants as outcome
 use Rattle.dvg_cmd.specs.declared.listing.Listing.{Listing}
 use Rattle.dvg_cmd.specs.Frames.{FrameOutcome}
