@@ -125,8 +125,8 @@ module _ (IsVerdict : List ℕ → Result Yes FrameRefusal → Type 0) (rom : Ro
 
   -- ---- the summary
 
-  module _ (frames : List OpenedFrame) (old mid new : Option (List ℕ)) (tally : Tally) (writes writes_mid : ℕ) (end : FrameOutcome)
-      (h : WritesLinesOf IsVerdict rom w IsExact listing start frames old mid no_lines tally writes writes_mid end) where
+  module _ (frames : List OpenedFrame) (old mid new : Option (List ℕ)) (first tally : Tally) (writes writes_mid : ℕ) (end : FrameOutcome)
+      (begun : first ≡ no_lines) (h : WritesLinesOf IsVerdict rom w IsExact listing start frames old mid first tally writes writes_mid end) where
     abbrev pub texts : List (List ℕ)
     texts = line_texts listing.lines h.lines
 
@@ -134,7 +134,7 @@ module _ (IsVerdict : List ℕ → Result Yes FrameRefusal → Type 0) (rom : Ro
     last = summary_of listing.summary tally
 
     all_texts : listing_texts listing h.lines ≡ texts ++ last
-    all_texts = ap (λ t. texts ++ summary_of listing.summary t) (sym h.tally_is)
+    all_texts = ap (λ t. texts ++ summary_of listing.summary t) (sym (h.tally_is ∙ ap (λ t. tally_on t h.lines) begun))
 
     all_joined : joined (listing_texts listing h.lines) ≡ joined texts ++ joined last
     all_joined = ap joined all_texts ∙ joined_on texts last
@@ -176,7 +176,7 @@ module _ (IsVerdict : List ℕ → Result Yes FrameRefusal → Type 0) (rom : Ro
 
   -- ---- one line
 
-  module _ (name : List ℕ) (answer : FrameAnswer) (what : Behind) (held : Option (Option (List ℕ))) (old new : Option (List ℕ))
+  module _ (name frame_name : List ℕ) (same : name ≡ frame_name) (answer : FrameAnswer) (what : Behind) (held : Option (Option (List ℕ))) (old new : Option (List ℕ))
       (answers : AnswersOpened IsVerdict rom w IsExact listing start held answer) (asked : IsBehind listing.detail what) where
     abbrev pub line_of_answer : Line
     line_of_answer = record { name = name; answer = answer; behind = what }
@@ -184,12 +184,12 @@ module _ (IsVerdict : List ℕ → Result Yes FrameRefusal → Type 0) (rom : Ro
     pub writes_line : (r : Result FrameOutcome RunFault) (tally tally_after : Tally) (writes writes_after : ℕ) → tally_after ≡ with_answer tally answer
         → IfOk r (λ end. line_outcome line_of_answer ≡ end) → OnOk r (Appends old new (joined (line_texts listing.lines (line_of_answer ∷ []))))
         → OnOk r (TakeOneWriteEach (line_texts listing.lines (line_of_answer ∷ [])) writes writes_after)
-        → IfOk r (WritesLineOf IsVerdict rom w IsExact listing start (record { name = name; held = held }) old new tally tally_after writes writes_after)
+        → IfOk r (WritesLineOf IsVerdict rom w IsExact listing start (record { name = frame_name; held = held }) old new tally tally_after writes writes_after)
     writes_line (Err fault) tally tally_after writes writes_after tally_is end text one = tt
     writes_line (Ok o) tally tally_after writes writes_after tally_is end text one =
         record {
           line = line_of_answer;
-          line_of = record { name_is = refl; answers = answers; asked = asked };
+          line_of = record { name_is = same; answers = answers; asked = asked };
           written = text;
           one_write = one;
           end_is = end;
@@ -197,9 +197,9 @@ module _ (IsVerdict : List ℕ → Result Yes FrameRefusal → Type 0) (rom : Ro
         }
 
     pub cuts_line : (r : Result FrameOutcome RunFault) → OnErr r (AppendsPrefix old new (joined (line_texts listing.lines (line_of_answer ∷ []))))
-        → OnErr r (WritesLineOfPrefix IsVerdict rom w IsExact listing start (record { name = name; held = held }) old new)
+        → OnErr r (WritesLineOfPrefix IsVerdict rom w IsExact listing start (record { name = frame_name; held = held }) old new)
     cuts_line (Ok o) text = tt
-    cuts_line (Err fault) text = record { line = line_of_answer; line_of = record { name_is = refl; answers = answers; asked = asked }; written = text }
+    cuts_line (Err fault) text = record { line = line_of_answer; line_of = record { name_is = same; answers = answers; asked = asked }; written = text }
 
 -- ---- judged shapes
 
