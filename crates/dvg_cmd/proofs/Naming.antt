@@ -1,5 +1,5 @@
 -- The bytes of a name that were read so far.
-use Rattle.std.proofs.Common.{◌≡◌, ◌≢◌, ◌⊎◌, ℕ, suc, zero, ◌+◌, List, [], ◌∷◌, ◌++◌, length, length-append, take, ap, sym, subst, ◌∙◌, refl, Option, append-nil, inl, inr, arith}
+use Rattle.std.proofs.Common.{◌≡◌, ◌≢◌, ◌≤◌, ◌⊎◌, ℕ, suc, zero, ◌+◌, List, [], ◌∷◌, ◌++◌, length, length-append, take, ap, sym, subst, ◌∙◌, refl, Option, append-nil, get_or, inl, inr, arith}
 use Rattle.std.proofs.KnownBytes.{Consumes-nil, Consumes-trans}
 use Rattle.std.specs.Io.KnownBytes.{Consumes, IsAtEnd}
 use Rattle.dvg_cmd.specs.Names.{MOST_NAME_READ, Lacks, ReadsName}
@@ -23,6 +23,13 @@ take_kept (suc n) (x ∷ xs) ys = ap (λ (l : List ℕ). x ∷ l) (take_kept n x
 empty_is : (xs : List ℕ) → length xs ≡ 0 → xs ≡ []
 empty_is [] h = refl
 empty_is (x ∷ xs) h = absurd (omega (arith, h))
+
+-- one byte was read into a buffer of one byte
+pub first_byte : (n : ℕ) (buf : List ℕ) → n ≤ length buf → length buf ≡ 1 → (n ≡ 0 → ⊥) → take n buf ≡ get_or buf 0 0 ∷ []
+first_byte zero buf most one some = absurd (some refl)
+first_byte (suc n) [] most one some = absurd (omega (arith, one))
+first_byte (suc zero) (b ∷ buf) most one some = refl
+first_byte (suc (suc n)) (b ∷ buf) most one some = absurd (omega (arith, most, one))
 
 pub no_byte : (end : ℕ) (old : Option (List ℕ)) → NameSoFar end old old 0 []
 no_byte end old = record { bytes = []; lacks = tt; kept = refl; read = Consumes-nil old; long = refl }
