@@ -1,7 +1,7 @@
 -- The bytes of a name that were read so far.
-use Rattle.std.proofs.Common.{◌≡◌, ◌≢◌, ◌≤◌, ◌⊎◌, ℕ, suc, zero, ◌+◌, List, [], ◌∷◌, ◌++◌, length, length-append, take, ap, sym, subst, ◌∙◌, refl, Option, append-nil, get_or, inl, inr, arith}
-use Rattle.std.proofs.KnownBytes.{Consumes-nil, Consumes-trans}
-use Rattle.std.specs.Io.KnownBytes.{Consumes, IsAtEnd}
+use Rattle.std.proofs.Common.{◌≡◌, ◌≢◌, ◌≤◌, ℕ, suc, zero, List, [], ◌∷◌, ◌++◌, length, length-append, get_or, take, ap, subst, ◌∙◌, refl, Option, inl, arith}
+use Rattle.std.proofs.KnownBytes.{Consumes-trans}
+use Rattle.std.specs.Io.KnownBytes.{Consumes}
 use Rattle.dvg_cmd.specs.Names.{MOST_NAME_READ, Lacks, ReadsName}
 
 pub record NameSoFar (end : ℕ) (old now : Option (List ℕ)) (len : ℕ) (name : List ℕ) : Type 0 where
@@ -20,19 +20,12 @@ take_kept zero xs ys = refl
 take_kept (suc n) [] ys = refl
 take_kept (suc n) (x ∷ xs) ys = ap (λ (l : List ℕ). x ∷ l) (take_kept n xs ys)
 
-empty_is : (xs : List ℕ) → length xs ≡ 0 → xs ≡ []
-empty_is [] h = refl
-empty_is (x ∷ xs) h = absurd (omega (arith, h))
-
 -- one byte was read into a buffer of one byte
 pub first_byte : (n : ℕ) (buf : List ℕ) → n ≤ length buf → length buf ≡ 1 → (n ≡ 0 → ⊥) → take n buf ≡ get_or buf 0 0 ∷ []
 first_byte zero buf most one some = absurd (some refl)
 first_byte (suc n) [] most one some = absurd (omega (arith, one))
 first_byte (suc zero) (b ∷ buf) most one some = refl
 first_byte (suc (suc n)) (b ∷ buf) most one some = absurd (omega (arith, most, one))
-
-pub no_byte : (end : ℕ) (old : Option (List ℕ)) → NameSoFar end old old 0 []
-no_byte end old = record { bytes = []; lacks = tt; kept = refl; read = Consumes-nil old; long = refl }
 
 module _ (end : ℕ) (old mid new : Option (List ℕ)) (len : ℕ) (name : List ℕ) (h : NameSoFar end old mid len name) where
   pub one_byte : (byte next : ℕ) (more : List ℕ) → Consumes mid new (byte ∷ []) → byte ≢ end → next ≡ suc len → more ≡ take MOST_NAME_READ (name ++ byte ∷ []) → NameSoFar end old new next more
@@ -54,17 +47,3 @@ module _ (end : ℕ) (old mid new : Option (List ℕ)) (len : ℕ) (name : List 
         kept = h.kept;
         read = inl (Consumes-trans old mid new h.bytes (end ∷ []) h.read (subst (λ b. Consumes mid new (b ∷ [])) is read));
       }
-
-  -- the list ended behind it
-  pub ended_by_list : Consumes mid new [] → IsAtEnd new → (len ≡ 0 → ⊥) → ReadsName end old new name
-  ended_by_list read end_of some =
-      record {
-        bytes = h.bytes;
-        lacks = h.lacks;
-        kept = h.kept;
-        read = inr (subst (λ l. Consumes old new l) (append-nil h.bytes) (Consumes-trans old mid new h.bytes [] h.read read), end_of, λ empty. some (sym h.long ∙ ap length empty));
-      }
-
-  -- it was at its end
-  pub no_name : Consumes mid new [] → len ≡ 0 → Consumes old new []
-  no_name read none = Consumes-trans old mid new [] [] (subst (λ l. Consumes old mid l) (empty_is h.bytes (h.long ∙ none)) h.read) read
