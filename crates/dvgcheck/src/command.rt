@@ -220,8 +220,8 @@ const ROM_HELP: &str = "The vector ROM: two bytes for each of its words, low byt
 
 const FRAME_HELP: &str = "The frame: 2 to 2048 bytes of vector RAM, from word 000 on";
 
-// Each of the three options below has no default of `clap`'s, which would parse it and give it a place at each run: the reading of
-// an option has it, and the help says so.
+// `--budget`, `--window` and `--rom` have no default of `clap`'s, which would parse it and give it a place at each run: what reads
+// the option has it, and the help says so.
 
 /// How many words a frame may take if `--budget` does not say.
 const USUAL_BUDGET: u32 = 20_000;
