@@ -288,7 +288,8 @@ fn null_option<'a>(alloc: Global) -> Result<Arg<'a>, AllocError> {
         .long("null")
         .action(ArgAction::SetTrue)
         .help("Has NUL behind each name of the list, and not LF")
-        .requires_arg("list")
+        .requires_arg("list")?
+        .conflicts_with("FRAME")
 }
 
 fn only_refused_option<'a>(alloc: Global) -> Arg<'a> {
