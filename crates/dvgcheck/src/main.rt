@@ -4,6 +4,8 @@
 //! Thin over `dvg_cmd`: it reads the command line, opens the files and says how it went.
 #![tactic(auto)]
 
+ghost use Rattle.std.specs.Iterator.{IsFinite};
+
 mod command;
 mod escaping;
 mod form;
@@ -50,7 +52,7 @@ fn check(rt: &HostRuntime, args: &CheckArgs, detail: Detail) -> Result<Outcome, 
 
 /// Reads the ROM, and the certificate if one is given, and then judges frame after frame: each file is opened when the one before it
 /// is closed.
-fn frames(rt: &HostRuntime, named: Vec<Named>, asked: Asked) -> Result<FrameOutcome, RunFault> {
+fn frames(rt: &HostRuntime, named: Vec<Named>, asked: &Asked) -> Result<FrameOutcome, RunFault> {
     judge_frames(rt, asked, named.into_iter().map(|frame| opened(rt, frame)))
 }
 
@@ -58,7 +60,7 @@ fn frames(rt: &HostRuntime, named: Vec<Named>, asked: Asked) -> Result<FrameOutc
 fn listed_frames(
     rt: &HostRuntime,
     list: &mut List,
-    asked: Asked,
+    asked: &Asked,
 ) -> Result<FrameOutcome, RunFault> {
     // No list has so many names.
     let frames = (0..u64::MAX).map_while(|_| list.next_frame(rt));
@@ -77,9 +79,12 @@ fn opened(rt: &HostRuntime, frame: Named) -> NamedFrame<Counted<Source>> {
 /// Reads the ROM, and the certificate if one is given, and judges frames.
 fn judge_frames<I: Iterator<Item = NamedFrame<Counted<Source>>> + Drop>(
     rt: &HostRuntime,
-    asked: Asked,
+    asked: &Asked,
     frames: I,
-) -> Result<FrameOutcome, RunFault> {
+) -> Result<FrameOutcome, RunFault>
+    requires can { I.can_next frames }
+    requires ends { IsFinite (I.remaining frames) }
+{
     let mut out = Counted::new(io::writer(rt));
     let rom = load_rom(&mut Counted::new(open(rt, asked.rom, RunFault::ReadRom)?))?;
     match asked.certificates {
@@ -243,11 +248,15 @@ fn tell_frames(rt: &HostRuntime, end: &Result<FrameOutcome, RunFault>) -> u8 {
 
 /// Judges frames, and tells how that ended.
 fn run_over(rt: &HostRuntime, args: FramesArgs) -> u8 {
-    match args.frames {
-        FrameNames::Given(named) => tell_frames(rt, &frames(rt, named, args.asked)),
+    let FramesArgs {
+        frames: names,
+        asked,
+    } = args;
+    match names {
+        FrameNames::Given(named) => tell_frames(rt, &frames(rt, named, &asked)),
         FrameNames::Listed(input, end) => match List::open(rt, input, end) {
             Ok(mut list) => {
-                let end = listed_frames(rt, &mut list, args.asked);
+                let end = listed_frames(rt, &mut list, &asked);
                 tell_listed(rt, end, list.fault())
             }
             Err(fault) => tell_list(rt, fault),

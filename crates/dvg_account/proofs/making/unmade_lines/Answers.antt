@@ -20,5 +20,5 @@ returns c =
           (then (then (then (then (told_as (ap machine_lines c.machine.ensures) c.push_machine.ensures)
           (then (told_as (ap (λ n. Rule n ∷ []) number_is) c.push.ensures) c.push_some.ensures)) c.push_item.ensures)
           (then (told_as (ap (λ chain. Path (MakerChain chain) ∷ []) c.chain_of.ensures) c.push-2.ensures) c.push_some-2.ensures))
-          (told_as (ap (λ cure. MakerCure cure ∷ []) c.of.ensures) c.push-3.ensures));
+          (told_as (ap (λ cure. MakerCure cure ∷ []) c.of-cure.ensures) c.push-3.ensures));
     })

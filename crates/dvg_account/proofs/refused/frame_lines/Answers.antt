@@ -1,5 +1,6 @@
 use Rattle.std.proofs.Common.{ap, ◌∙◌, [], ◌∷◌}
 use Rattle.dvg_words.specs.Memory.{frame_word}
+use Rattle.dvg_items.specs.declared.item.Kind.TheVariants.{Frame}
 use Rattle.dvg_account.specs.Items.{IsItem}
 use Rattle.dvg_account.specs.declared.line.Line.TheVariants.{Rule, WhatToDo}
 use Rattle.dvg_account.proofs.Building.{then, told_as, whole, if_ok}
@@ -7,13 +8,14 @@ use Rattle.dvg_account.proofs.refused.frame_lines.Goals as goal
 
 pub returns : goal.returns
 returns c =
-    let framed : IsItem (frame_word c.args.machine c.args.frame.now) c.args.finding.now.fault.word c.args.finding.now.before c.callee_of-callee.result c.new-2.result =
+    let framed : IsItem Frame (frame_word c.args.machine c.args.frame.now) c.args.finding.now.fault.word c.args.finding.now.before c.callee_of-callee.result c.new-2.result =
     rw c.new-framed.ensures at c.new-2.ensures in
     if_ok c.finish.result c.finish.ensures (λ lines all. record {
       why = c.of_frame-why.result;
       tells = c.of_frame-why.ensures;
       item = record c.new-2.result { losses = c.frame_losses.result };
       is_item = record {
+        of_kind = framed.of_kind;
         stands = framed.stands;
         holds = framed.holds;
         decoded = framed.decoded;

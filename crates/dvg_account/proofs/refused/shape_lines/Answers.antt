@@ -11,6 +11,7 @@ returns c = if_ok c.finish.result c.finish.ensures (λ lines all. record {
   tells = c.of_shape-why.ensures;
   item = record c.new.result { losses = c.losses_in_shape.result };
   is_item = record {
+    of_kind = c.new.ensures.of_kind;
     stands = c.new.ensures.stands;
     holds = c.new.ensures.holds;
     decoded = c.new.ensures.decoded;
