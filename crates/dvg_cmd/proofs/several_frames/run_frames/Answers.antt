@@ -21,6 +21,9 @@ returns-in_err-write_summary-clause-prefix g c =
 
 pub returns-clause-report : goal.returns-clause-report
 returns-clause-report g c =
-    let r = c.in_ok-worst.ensures.report in
-    (r.0, r.1, with_summary _ _ _ _ c.args.listing c.args.start (of_each (λ frame. opened (λ reader. g.R.Read.remaining reader) frame) r.0) _ _ _ _ _ _ _ _ c.new-tally.ensures r.2 _
-        c.in_ok-write_summary.ensures.written c.in_ok-write_summary.ensures.one_write)
+    let r = c.in_ok-worst.ensures.report in (
+      r.0,
+      r.1,
+      with_summary _ _ _ _ c.args.listing c.args.start (of_each (λ frame. opened (λ reader. g.R.Read.remaining reader) frame) r.0) _ _ _ _ _ _ _ _ c.new-tally.ensures r.2 _
+          c.in_ok-write_summary.ensures.written c.in_ok-write_summary.ensures.one_write,
+    )
