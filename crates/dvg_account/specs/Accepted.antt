@@ -13,12 +13,12 @@ use Rattle.dvg_items.specs.Lit.{IsInside}
 use Rattle.dvg_items.specs.Known.{frame_context}
 use Rattle.dvg_check.specs.Verdict.{InRange}
 use Rattle.dvg_check.specs.declared.verdict.Yes.{Yes}
-use Rattle.dvg_explain.specs.declared.calls.Call.{Call}
-use Rattle.dvg_explain.specs.Calls.{AreCalls, IsExtent, IsShapesExtent}
-use Rattle.dvg_explain.specs.Clipping.{AreClipped}
+use Rattle.dvg_survey.specs.declared.calls.Call.{Call}
+use Rattle.dvg_survey.specs.Calls.{AreCalls, IsExtent, IsShapesExtent}
+use Rattle.dvg_survey.specs.Clipping.{AreClipped}
 use Rattle.dvg_check.specs.Leaving.{window_limits}
-use Rattle.dvg_explain.specs.declared.margins.Margins.{Margins}
-use Rattle.dvg_explain.specs.Margins.{AreMargins, limits_box}
+use Rattle.dvg_survey.specs.declared.margins.Margins.{Margins}
+use Rattle.dvg_survey.specs.Margins.{AreMargins, limits_box}
 use Rattle.dvg_make.specs.Judging.{VerdictByMade}
 use Rattle.dvg_make.specs.declared.judging.FrameRefusal.{FrameRefusal}
 use Rattle.dvg_account.specs.Machines.{machine_lines, TellsZone}

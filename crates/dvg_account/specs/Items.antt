@@ -11,7 +11,7 @@ use Rattle.dvg_items.specs.declared.item.Kind.TheVariants.{Shape, Frame}
 use Rattle.dvg_items.specs.declared.known.Known.{Known}
 use Rattle.dvg_check.specs.declared.fault.Found.{Found}
 use Rattle.dvg_check.specs.declared.fault.Found.TheVariants.{Seen}
-use Rattle.dvg_explain.specs.declared.losses.Losses.{Losses}
+use Rattle.dvg_survey.specs.declared.losses.Losses.{Losses}
 use Rattle.dvg_account.specs.declared.zeros.Way.{Way}
 use Rattle.dvg_account.specs.declared.line.Zeros.{Zeros}
 pub use Rattle.dvg_account.specs.declared.item.RefusedItem.{RefusedItem}

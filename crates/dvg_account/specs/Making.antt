@@ -3,7 +3,7 @@ use Rattle.std.specs.Prelude.{◌≡◌, ℕ, max, List, [], ◌∷◌, ◌++◌
 use Rattle.std.specs.Global.{Vec}
 use Rattle.dvg_words.specs.declared.machine.Machine.{Machine}
 use Rattle.dvg_words.specs.Memory.{Rom, rom_word}
-use Rattle.dvg_explain.specs.declared.calls.Call.{Call}
+use Rattle.dvg_survey.specs.declared.calls.Call.{Call}
 use Rattle.dvg_cert.specs.declared.entry.Entry.{Entry}
 use Rattle.dvg_make.specs.Refusals.{fault_number, make_fault_of}
 use Rattle.dvg_make.specs.declared.account.MakeAccount.{MakeAccount}

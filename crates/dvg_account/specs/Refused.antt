@@ -7,9 +7,9 @@ use Rattle.dvg_cert.specs.declared.entry.Entry.{Entry}
 use Rattle.dvg_items.specs.Known.{frame_context, shape_context}
 use Rattle.dvg_items.specs.declared.item.Kind.TheVariants.{Frame, Shape}
 use Rattle.dvg_check.specs.FirstFault.{frame_number, shape_number}
-use Rattle.dvg_explain.specs.declared.calls.Call.{Call}
-use Rattle.dvg_explain.specs.Chains.{IsChain}
-use Rattle.dvg_explain.specs.Losses.{AreLosses, NoneLead}
+use Rattle.dvg_survey.specs.declared.calls.Call.{Call}
+use Rattle.dvg_survey.specs.Chains.{IsChain}
+use Rattle.dvg_survey.specs.Losses.{AreLosses, NoneLead}
 use Rattle.dvg_check.specs.declared.fault.FrameFinding.{FrameFinding}
 use Rattle.dvg_check.specs.declared.fault.ShapeFinding.{ShapeFinding}
 use Rattle.dvg_make.specs.Made.{HasEntry}

@@ -3,7 +3,7 @@
 ghost use Rattle.std.specs.Prelude.{◌≡◌, IfOk, IfSome, length};
 ghost use Rattle.dvg_words.specs.Memory.{IsFrameLength, IsRomLength, words_of, rom_on, frame_word};
 ghost use Rattle.dvg_items.specs.Known.{frame_context};
-ghost use Rattle.dvg_explain.specs.Calls.{IsShapesExtent};
+ghost use Rattle.dvg_survey.specs.Calls.{IsShapesExtent};
 ghost use Rattle.dvg_account.specs.Accepted.{FrameSurveyed, Surveyed, TellsMargins, TellsClipped, TellsBoard, AcceptedLines};
 ghost use Rattle.dvg_account.specs.declared.line.AcceptedLine.TheVariants.{FrameMargins, ShapesMargins};
 ghost use Rattle.dvg_account.specs.Building.{Adds};
@@ -13,8 +13,8 @@ use crate::line::{AcceptedLine, Line};
 use crate::lines::{Lines, zone_line};
 use dvg_cert::{Cert, Entries, HashIndex, LitBox};
 use dvg_check::{Refusal, Yes, frame_of};
-use dvg_explain::{Call, Margins, frame_calls, frame_clipped, frame_extent, shapes_extent};
 use dvg_make::{FrameRefusal, judge};
+use dvg_survey::{Call, Margins, frame_calls, frame_clipped, frame_extent, shapes_extent};
 use dvg_words::{CLIPPED, FrameImage, Machine, RomImage, Window};
 use std::alloc::{AllocError, Global};
 

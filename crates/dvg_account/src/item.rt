@@ -10,8 +10,8 @@ use crate::lines::Lines;
 use crate::zeros::Way;
 use dvg_cert::Entry;
 use dvg_check::Found;
-use dvg_explain::Losses;
 use dvg_items::{Item, Kind, Known};
+use dvg_survey::Losses;
 use dvg_words::{Cell, Fetch, is_long, read_cell};
 
 /// The item of a refusal.

@@ -6,9 +6,9 @@ use crate::cure::MakerCure;
 use crate::why::Why;
 use dvg_cert::{End, Entry, Key, LitBox};
 use dvg_check::Yes;
-use dvg_explain::{Call, Margins};
 use dvg_items::Item;
 use dvg_make::{FrameCall, FrameRefusal, ShapeAt};
+use dvg_survey::{Call, Margins};
 use dvg_words::{Format, Instr, Machine};
 
 /// A line of an account. One that holds a list is spelled as a line for each element.

@@ -5,7 +5,7 @@ ghost use Rattle.std.specs.Prelude.{◌≡◌, option_copied, IfOk, IfSome, IfNo
 ghost use Rattle.dvg_words.specs.Memory.{rom_word};
 ghost use Rattle.dvg_items.specs.Known.{shape_context};
 ghost use Rattle.dvg_items.specs.declared.item.Kind.TheVariants.{Shape};
-ghost use Rattle.dvg_explain.specs.Losses.{AreLosses, NoneLead};
+ghost use Rattle.dvg_survey.specs.Losses.{AreLosses, NoneLead};
 ghost use Rattle.dvg_make.specs.Made.{HasEntry};
 ghost use Rattle.dvg_account.specs.Refused.{FrameLines, ShapeLines, TellsChain};
 ghost use Rattle.dvg_account.specs.Machines.{other_machine_line};
@@ -18,8 +18,8 @@ use crate::lines::{Lines, zone_line};
 use crate::why::Why;
 use dvg_cert::{Cert, Entries, Entry, HashIndex, ListIndex};
 use dvg_check::{FrameFinding, Refusal, RomFinding, ShapeFinding, ShapeWhy};
-use dvg_explain::{Losses, find_chain, frame_losses, shape_losses};
 use dvg_items::Kind;
+use dvg_survey::{Losses, find_chain, frame_losses, shape_losses};
 use dvg_words::{FrameImage, FrameOn, Machine, RomImage, Window};
 use std::alloc::{AllocError, Global};
 

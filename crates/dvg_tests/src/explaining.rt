@@ -9,7 +9,7 @@ use dvg_check::{
     find_shape_fault,
 };
 use dvg_cmd::report_of;
-use dvg_explain::frame_clipped;
+use dvg_survey::frame_clipped;
 use dvg_words::{CLIPPED, FrameImage, Machine, Point, RomImage, SCREEN};
 use std::alloc::Global;
 use std::process::Abort;

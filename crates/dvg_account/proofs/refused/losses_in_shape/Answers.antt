@@ -6,7 +6,7 @@ use Rattle.dvg_cert.specs.declared.entry.Key.{Key}
 use Rattle.dvg_cert.specs.Lookup.{entry_at}
 use Rattle.dvg_items.specs.declared.item.Kind.TheVariants.{Shape}
 use Rattle.dvg_items.proofs.Listed.{listed_at}
-use Rattle.dvg_explain.specs.Losses.{AreLosses, NoneLead}
+use Rattle.dvg_survey.specs.Losses.{AreLosses, NoneLead}
 use Rattle.dvg_make.specs.Made.{HasEntry}
 use Rattle.dvg_account.proofs.refused.losses_in_shape.Goals as goal
 

@@ -1,6 +1,0 @@
-use Rattle.std.proofs.Common.{◌≡◌, take}
-use Rattle.dvg_explain.specs.Private.Reaching.{reach_all}
-use Rattle.dvg_explain.proofs.reached.Reached.add_all.Given as goal
-
-abbrev pub invariant-loop-call : goal.invariant-loop-call
-invariant-loop-call l = l.self ≡ reach_all l.fn.self l.from (take l.call-index l.calls)

@@ -1,0 +1,96 @@
+-- Which call of a shape bears out its entry's depth, and calls that do one below another.
+use Rattle.std.proofs.Common.{◌≡◌, ℕ, suc, ◌+◌, ◌-◌, ◌<◌, ◌≤◌, List, [], ◌∷◌, ◌++◌, Option, None, Some, refl, sym, ap, ◌∙◌, subst, append_assoc, arith}
+use Rattle.std.proofs.lemmas.List.{append-nil}
+use Rattle.std.specs.List.{AllByRecursion}
+use Rattle.std.specs.Prelude.{Contains}
+use Rattle.dvg_words.specs.Memory.{Rom, rom_word}
+use Rattle.dvg_words.specs.Decoding.{cell_at}
+use Rattle.dvg_words.specs.declared.instruction.Cell.TheVariants.{Holds}
+use Rattle.dvg_cert.specs.declared.entry.Entry.{Entry}
+use Rattle.dvg_items.specs.declared.cursor.Cursor.{Cursor}
+use Rattle.dvg_items.specs.declared.item.Item.{Item}
+use Rattle.dvg_items.specs.declared.item.Kind.TheVariants.{Shape}
+use Rattle.dvg_items.specs.declared.seen.Seen.{Seen}
+use Rattle.dvg_items.specs.Bounds.{IsClaim, IsSomeCertificate}
+use Rattle.dvg_items.specs.Known.{Context, callee, depth_under, scale_before, shape_context, target}
+use Rattle.dvg_items.proofs.Listed.{listed_claim, named_listed}
+use Rattle.dvg_items.proofs.Lists.{all_append}
+use Rattle.dvg_survey.specs.Calls.{Call, AreAll, call_of, calls_among}
+use Rattle.dvg_survey.specs.Chains.{IsShapeCall}
+use Rattle.dvg_survey.specs.Deepest.{BearsOut, BearsNot, FirstBears, GoDeepest}
+use Rattle.dvg_survey.specs.Private.Walking.{IsSeenAt}
+use Rattle.dvg_survey.proofs.Coming.{is_among}
+use Rattle.dvg_survey.proofs.Walking.{Walked, seen_is, here_leads, here_stands}
+
+-- ---- one shape
+
+module _ (rom : Rom) (list : List Entry) (e : Entry) where
+  abbrev here_in : Context
+  here_in = shape_context rom.machine list e
+
+  -- no call of these items does
+  abbrev pub NoneBears : List Item → Type 0
+  NoneBears items = AllByRecursion (BearsNot rom list e) (calls_among here_in items)
+
+  module _ (items : List Item) (here : Cursor) (w : Walked here_in (rom_word rom) e.addr items here) (v : Seen) (s : IsSeenAt rom.machine list Shape (rom_word rom) here v) (before : NoneBears items) where
+    callee_is : v.callee ≡ callee here_in items v.item.instr
+    callee_is = ap (λ (x : Seen). x.callee) (seen_is here_in (rom_word rom) e.addr items here w v s)
+
+    stands : cell_at (rom_word rom) v.item.at ≡ Holds v.item.format v.item.instr
+    stands = here_stands here_in (rom_word rom) e.addr items here w v s
+
+    -- the call of the next item does
+    pub first_bears : 0 < e.depth → (call : Call) → call.at ≡ v.item.at → v.callee ≡ Some call.entry → depth_under v.item.instr (Some call.entry) ≡ e.depth → FirstBears rom list e call
+    first_bears some call at named depth =
+        let calls : IsShapeCall rom list e call = record { earlier = items; item = v.item; leads = here_leads here_in (rom_word rom) e.addr items here w v s; stands = stands; at = at; callee_is = sym callee_is ∙ named } in
+        let bears : BearsOut rom list e call = record { calls = calls; some = some; depth = depth } in
+        (bears, before)
+
+    -- or it does not
+    pub none_on : ((f : Entry) → v.callee ≡ Some f → depth_under v.item.instr (Some f) ≡ e.depth → ⊥) → NoneBears (v.item ∷ items)
+    none_on not = all_append (BearsNot rom list e) (calls_among here_in items) (call_of v.item (callee here_in items v.item.instr)) before (one (callee here_in items v.item.instr) callee_is)
+      where
+        same_depth : (f : Entry) → BearsOut rom list e (record { at = v.item.at; entry = f }) → depth_under v.item.instr (Some f) ≡ e.depth
+        same_depth f b =
+            let both : Holds v.item.format v.item.instr ≡ Holds b.calls.item.format b.calls.item.instr = sym stands ∙ ap (cell_at (rom_word rom)) b.calls.at ∙ b.calls.stands in
+            let same : v.item.instr ≡ b.calls.item.instr = cc both in
+            ap (λ i. depth_under i (Some f)) same ∙ b.depth
+
+        one : (o : Option Entry) → v.callee ≡ o → AllByRecursion (BearsNot rom list e) (call_of v.item o)
+        one None h = tt
+        one (Some f) h = (λ b. not f h (same_depth f b), tt)
+
+  pub none_bears : (all : List Item) → AreAll Shape (rom_word rom) e.addr all → NoneBears all → (call : Call) → BearsNot rom list e call
+  none_bears all are none call b = is_among here_in (rom_word rom) e.addr (BearsNot rom list e) call b.calls all are none b
+
+-- ---- one shape below another
+
+module _ (rom : Rom) (list : List Entry) (e : Entry) (most : ℕ) where
+  -- these calls lead down from the entry to the last one, and what goes on from there goes on from the entry
+  pub record Down (calls : List Call) (last : Entry) (count : ℕ) : Type 0 where
+    pub claim : IsClaim last
+    pub goes : (left : ℕ) (rest : List Call) → left + count ≡ most → GoDeepest left rom list last rest → GoDeepest most rom list e (calls ++ rest)
+
+  pub none_yet : (calls : List Call) → calls ≡ [] → IsSomeCertificate list → Contains list e → Down calls e 0
+  none_yet calls is some listed =
+      subst (λ (cs : List Call). Down cs e 0) (sym is)
+      (record { claim = listed_claim list e some listed; goes = λ left rest all g. subst (λ n. GoDeepest n rom list e rest) (omega (arith, all)) g })
+
+  module _ (calls : List Call) (last : Entry) (count : ℕ) (down : Down calls last count) (used : List Entry) (same : used ≡ list) where
+    pub one_down : (call : Call) (new : List Call) → IsSomeCertificate list → FirstBears rom used last call → new ≡ calls ++ call ∷ [] → Down new call.entry (count + 1)
+    one_down call new some first is =
+        let here = subst (λ (l : List Entry). FirstBears rom l last call) same first in
+        let c = here.0.calls in
+        subst (λ (cs : List Call). Down cs call.entry (count + 1)) (sym is)
+        (record {
+          claim = listed_claim list call.entry some (named_listed list (target Shape c.item.instr) (scale_before (shape_context rom.machine list last) c.earlier) call.entry c.callee_is);
+          goes = λ left rest all g. subst (λ (cs : List Call). GoDeepest most rom list e cs) (sym (append_assoc calls (call ∷ []) rest)) (down.goes (suc left) (call ∷ rest) (omega (arith, all)) (here, g));
+        })
+
+    pub no_further : count < most → ((call : Call) → BearsNot rom used last call) → GoDeepest most rom list e calls
+    no_further lt none =
+        subst (λ (cs : List Call). GoDeepest most rom list e cs) (append-nil calls)
+        (down.goes (suc (most - suc count)) [] (omega (arith, lt)) (subst (λ (l : List Entry). (call : Call) → BearsNot rom l last call) same none))
+
+    pub no_more : most ≤ count → count ≤ most → GoDeepest most rom list e calls
+    no_more ge le = subst (λ (cs : List Call). GoDeepest most rom list e cs) (append-nil calls) (down.goes 0 [] (omega (arith, ge, le)) refl)

@@ -1,0 +1,220 @@
+-- An item and what stands behind it light together what the shape from the item on lights.
+use Rattle.dvg_words.specs.declared.machine.Machine.{Machine}
+use Rattle.std.proofs.Common.{◌≡◌, ℕ, pos, ◌+◌, ◌-◌, ◌<◌, ◌≤◌, List, [], ◌∷◌, ◌++◌, Option, Some, None, refl, sym, ap, ◌∙◌, subst, arith}
+use Rattle.dvg_words.specs.Decoding.{cell_at}
+use Rattle.dvg_words.specs.Memory.{Rom, rom_word}
+use Rattle.dvg_words.specs.declared.beam.Point.{Point}
+use Rattle.dvg_words.specs.declared.instruction.Cell.TheVariants.{Holds}
+use Rattle.dvg_words.specs.declared.map.TheConstants.{ADDRESS_END}
+use Rattle.dvg_cert.specs.declared.entry.End.{End}
+use Rattle.dvg_cert.specs.declared.entry.End.TheVariants.{Rel, Abs, Lost}
+use Rattle.dvg_cert.specs.declared.entry.Entry.{Entry}
+use Rattle.dvg_cert.specs.declared.entry.Key.{Key}
+use Rattle.dvg_cert.specs.declared.entry.LitBox.{LitBox}
+use Rattle.dvg_cert.specs.declared.entry.LitBox.TheVariants.{Empty}
+use Rattle.dvg_items.specs.Bounds.{IsNearPlace}
+use Rattle.dvg_items.specs.Items.{LeadsTo, next_address}
+use Rattle.dvg_items.specs.Cursor.{first_cursor}
+use Rattle.dvg_items.specs.Known.{callee_at, known_before, known_past, start, target}
+use Rattle.dvg_items.specs.Least.{HoldsAll, IsLeast, lit_points, absolute_points}
+use Rattle.dvg_items.specs.Lit.{InBox, extent_of, absolute_corners, relative_corners}
+use Rattle.dvg_items.specs.Seen.{seen_at, seen_with}
+use Rattle.dvg_items.specs.declared.cursor.Cursor.{Cursor}
+use Rattle.dvg_items.specs.declared.item.Item.{Item}
+use Rattle.dvg_items.specs.declared.item.Kind.TheVariants.{Shape}
+use Rattle.dvg_items.specs.declared.known.Known.{Known}
+use Rattle.dvg_items.specs.declared.seen.Seen.{Seen}
+use Rattle.dvg_items.proofs.LeastBoxes.{IsJoined}
+use Rattle.dvg_items.proofs.Lists.{all_append, all_left, all_right}
+use Rattle.dvg_items.proofs.Near.{next_further}
+use Rattle.dvg_check.specs.Private.Judging.{seen_by}
+use Rattle.dvg_check.specs.Private.Tails.{IsNearBox, first_seen, known_over}
+use Rattle.dvg_check.proofs.TailLaws.{seen_over, seen_by_over, over_none}
+use Rattle.dvg_check.proofs.TailSizes.{IsNearBox-joined, IsNearBox-more, IsNearBox-moved}
+use Rattle.dvg_survey.specs.Calls.{Stand, AreAll}
+use Rattle.dvg_survey.specs.Private.Lighting.{LitFrom, IsLitFrom, keyed, relative_part, absolute_part}
+use Rattle.dvg_survey.proofs.TailPoints.{relative_from, absolute_from, relative_from_both, absolute_from_both, relative_over, absolute_over, relative_least, absolute_least, both_least, and_none, no_relative, no_absolute}
+use Rattle.dvg_survey.proofs.Walking.{least_none}
+
+-- what is seen of the first item doesn't depend on where it stands
+pub seen_first : (machine : Machine) (list : List Entry) (key : Key) (i : Item) (named : Option Entry) (to : Option ℕ) (begin : Cursor) (v : Seen)
+    → v ≡ seen_with machine named begin.known (record { at = begin.at; format = i.format; instr = i.instr }) → begin ≡ first_cursor Shape 0 key
+    → named ≡ callee_at list to key → to ≡ target Shape i.instr → (v.extent ≡ (first_seen machine list key i).extent) × (v.after ≡ (first_seen machine list key i).after)
+seen_first machine list key i named to begin v value begins names leads = (
+  ap (λ (x : Seen). x.extent) value ∙ ap (λ (b : Cursor). extent_of machine i.instr b.known.scale named) begins ∙ ap (λ (n : Option Entry). extent_of machine i.instr key n) is,
+  ap (λ (x : Seen). x.after) value ∙ ap (λ (b : Cursor). known_past machine i named b.known) begins ∙ ap (λ (n : Option Entry). known_past machine i n (start Shape key)) is,
+)
+  where
+    is : named ≡ callee_at list (target Shape i.instr) key
+    is = names ∙ ap (λ (t : Option ℕ). callee_at list t key) leads
+
+-- a tail's part is no further than the tail, and the place
+pub part_near : (place : End) (box : LitBox) (n : ℕ) → IsNearPlace 1 place → IsNearBox n box → IsNearBox (n + 1) (relative_part place box)
+part_near (Rel x y) box n near h = IsNearBox-moved n box (record { x = x; y = y }) h near
+part_near (Abs x y) box n near h = tt
+part_near Lost box n near h = tt
+
+module _ (rom : Rom) (list : List Entry) (key behind_key : Key) (i : Item) (next : ℕ) (is : cell_at (rom_word rom) i.at ≡ Holds i.format i.instr) (goes : next_address Shape i ≡ Some next) (scale : behind_key ≡ (first_seen rom.machine list key i).after.scale) where
+  abbrev past : Known
+  past = (first_seen rom.machine list key i).after
+
+  -- ---- the items of the shape from the item on
+
+  lead_over : (rest : List Item) (p : ℕ) → LeadsTo Shape (rom_word rom) next rest p → LeadsTo Shape (rom_word rom) i.at (rest ++ i ∷ []) p
+  lead_over [] p h = (refl, is, goes ∙ ap Some (sym h))
+  lead_over (j ∷ rest) p h = (lead_over rest j.at h.0, h.1, h.2)
+
+  lead_back : (rest : List Item) (p : ℕ) → LeadsTo Shape (rom_word rom) i.at (rest ++ i ∷ []) p → LeadsTo Shape (rom_word rom) next rest p
+  lead_back [] p h = let e : Some p ≡ Some next = sym h.2 ∙ goes in cc e
+  lead_back (j ∷ rest) p h = (lead_back rest j.at h.0, h.1, h.2)
+
+  stand_over : (items : List Item) → Stand Shape (rom_word rom) next items → Stand Shape (rom_word rom) i.at (items ++ i ∷ [])
+  stand_over [] h = (refl, is)
+  stand_over (j ∷ rest) h = (lead_over rest j.at h.0, h.1)
+
+  pub all_over : (items : List Item) → AreAll Shape (rom_word rom) next items → AreAll Shape (rom_word rom) i.at (items ++ i ∷ [])
+  all_over items a = record { stand = stand_over items a.stand; last = λ n h. a.last n (lead_back items n.at h.0, h.1) }
+
+  -- ---- what is known of them
+
+  sees_by : (rest : List Item) (j : Item) → known_before (keyed rom.machine list key) (rest ++ i ∷ []) ≡ known_over past (known_before (keyed rom.machine list behind_key) rest)
+      → seen_at (keyed rom.machine list key) (rest ++ i ∷ []) j ≡ seen_over past (seen_at (keyed rom.machine list behind_key) rest j)
+  sees_by rest j knows = ap (λ (k : Known). seen_by rom.machine list Shape k j) knows ∙ seen_by_over rom.machine list past (known_before (keyed rom.machine list behind_key) rest) j
+
+  knows : (rest : List Item) → known_before (keyed rom.machine list key) (rest ++ i ∷ []) ≡ known_over past (known_before (keyed rom.machine list behind_key) rest)
+  knows [] = over_none past behind_key (sym scale)
+  knows (j ∷ rest) = ap (λ (v : Seen). v.after) (sees_by rest j (knows rest))
+
+  sees : (rest : List Item) (j : Item) → seen_at (keyed rom.machine list key) (rest ++ i ∷ []) j ≡ seen_over past (seen_at (keyed rom.machine list behind_key) rest j)
+  sees rest j = sees_by rest j (knows rest)
+
+  -- ---- what they light
+
+  -- what the first one lights
+  abbrev alone : List Point
+  alone = relative_corners (first_seen rom.machine list key i).extent (Rel (pos 0) (pos 0))
+
+  relative_one : (rest : List Item) (j : Item) → relative_corners (seen_at (keyed rom.machine list key) (rest ++ i ∷ []) j).extent (seen_at (keyed rom.machine list key) (rest ++ i ∷ []) j).place
+      ≡ relative_from past.place (relative_corners (seen_at (keyed rom.machine list behind_key) rest j).extent (seen_at (keyed rom.machine list behind_key) rest j).place)
+  relative_one rest j =
+      ap (λ (v : Seen). relative_corners v.extent v.place) (sees rest j)
+      ∙ relative_over (seen_at (keyed rom.machine list behind_key) rest j).extent past.place (seen_at (keyed rom.machine list behind_key) rest j).place
+
+  absolute_one : (rest : List Item) (j : Item) → absolute_corners (seen_at (keyed rom.machine list key) (rest ++ i ∷ []) j).extent (seen_at (keyed rom.machine list key) (rest ++ i ∷ []) j).place
+      ≡ absolute_corners (seen_at (keyed rom.machine list behind_key) rest j).extent (seen_at (keyed rom.machine list behind_key) rest j).place
+      ++ absolute_from past.place (relative_corners (seen_at (keyed rom.machine list behind_key) rest j).extent (seen_at (keyed rom.machine list behind_key) rest j).place)
+  absolute_one rest j =
+      ap (λ (v : Seen). absolute_corners v.extent v.place) (sees rest j)
+      ∙ absolute_over (seen_at (keyed rom.machine list behind_key) rest j).extent past.place (seen_at (keyed rom.machine list behind_key) rest j).place
+
+  module _ (box : LitBox) where
+    relative_into : (rest : List Item) → HoldsAll box alone → HoldsAll box (relative_from past.place (lit_points (keyed rom.machine list behind_key) rest)) → HoldsAll box (lit_points (keyed rom.machine list key) (rest ++ i ∷ []))
+    relative_into [] h k = all_append (InBox box) alone [] h tt
+    relative_into (j ∷ rest) h k =
+        let here : List Point = relative_corners (seen_at (keyed rom.machine list behind_key) rest j).extent (seen_at (keyed rom.machine list behind_key) rest j).place in
+        let both = subst (HoldsAll box) (relative_from_both past.place here (lit_points (keyed rom.machine list behind_key) rest)) k in
+        let one = subst (HoldsAll box) (sym (relative_one rest j)) (all_left (InBox box) (relative_from past.place here) (relative_from past.place (lit_points (keyed rom.machine list behind_key) rest)) both) in
+        let more = relative_into rest h (all_right (InBox box) (relative_from past.place here) (relative_from past.place (lit_points (keyed rom.machine list behind_key) rest)) both) in
+        all_append (InBox box) (relative_corners (seen_at (keyed rom.machine list key) (rest ++ i ∷ []) j).extent (seen_at (keyed rom.machine list key) (rest ++ i ∷ []) j).place) (lit_points (keyed rom.machine list key) (rest ++ i ∷ [])) one more
+
+    relative_first : (rest : List Item) → HoldsAll box (lit_points (keyed rom.machine list key) (rest ++ i ∷ [])) → HoldsAll box alone
+    relative_first [] h = all_left (InBox box) alone [] h
+    relative_first (j ∷ rest) h =
+        relative_first rest (all_right (InBox box) (relative_corners (seen_at (keyed rom.machine list key) (rest ++ i ∷ []) j).extent (seen_at (keyed rom.machine list key) (rest ++ i ∷ []) j).place) (lit_points (keyed rom.machine list key) (rest ++ i ∷ [])) h)
+
+    relative_rest : (rest : List Item) → HoldsAll box (lit_points (keyed rom.machine list key) (rest ++ i ∷ [])) → HoldsAll box (relative_from past.place (lit_points (keyed rom.machine list behind_key) rest))
+    relative_rest [] h = no_relative box past.place
+    relative_rest (j ∷ rest) h =
+        let here : List Point = relative_corners (seen_at (keyed rom.machine list behind_key) rest j).extent (seen_at (keyed rom.machine list behind_key) rest j).place in
+        let whole : List Point = relative_corners (seen_at (keyed rom.machine list key) (rest ++ i ∷ []) j).extent (seen_at (keyed rom.machine list key) (rest ++ i ∷ []) j).place in
+        let one = subst (HoldsAll box) (relative_one rest j) (all_left (InBox box) whole (lit_points (keyed rom.machine list key) (rest ++ i ∷ [])) h) in
+        let more = relative_rest rest (all_right (InBox box) whole (lit_points (keyed rom.machine list key) (rest ++ i ∷ [])) h) in
+        subst (HoldsAll box) (sym (relative_from_both past.place here (lit_points (keyed rom.machine list behind_key) rest)))
+        (all_append (InBox box) (relative_from past.place here) (relative_from past.place (lit_points (keyed rom.machine list behind_key) rest)) one more)
+
+    absolute_into : (rest : List Item) → HoldsAll box (absolute_points (keyed rom.machine list behind_key) rest) → HoldsAll box (absolute_from past.place (lit_points (keyed rom.machine list behind_key) rest))
+        → HoldsAll box (absolute_points (keyed rom.machine list key) (rest ++ i ∷ []))
+    absolute_into [] h k = tt
+    absolute_into (j ∷ rest) h k =
+        let v : Seen = seen_at (keyed rom.machine list behind_key) rest j in
+        let here : List Point = absolute_corners v.extent v.place in
+        let part : List Point = relative_corners v.extent v.place in
+        let whole : List Point = absolute_corners (seen_at (keyed rom.machine list key) (rest ++ i ∷ []) j).extent (seen_at (keyed rom.machine list key) (rest ++ i ∷ []) j).place in
+        let both = subst (HoldsAll box) (absolute_from_both past.place part (lit_points (keyed rom.machine list behind_key) rest)) k in
+        let parts = all_left (InBox box) (absolute_from past.place part) (absolute_from past.place (lit_points (keyed rom.machine list behind_key) rest)) both in
+        let one = subst (HoldsAll box) (sym (absolute_one rest j)) (all_append (InBox box) here (absolute_from past.place part) (all_left (InBox box) here (absolute_points (keyed rom.machine list behind_key) rest) h) parts) in
+        let more = absolute_into rest (all_right (InBox box) here (absolute_points (keyed rom.machine list behind_key) rest) h) (all_right (InBox box) (absolute_from past.place part) (absolute_from past.place (lit_points (keyed rom.machine list behind_key) rest)) both) in
+        all_append (InBox box) whole (absolute_points (keyed rom.machine list key) (rest ++ i ∷ [])) one more
+
+    absolute_rest : (rest : List Item) → HoldsAll box (absolute_points (keyed rom.machine list key) (rest ++ i ∷ [])) → HoldsAll box (absolute_points (keyed rom.machine list behind_key) rest)
+    absolute_rest [] h = tt
+    absolute_rest (j ∷ rest) h =
+        let v : Seen = seen_at (keyed rom.machine list behind_key) rest j in
+        let here : List Point = absolute_corners v.extent v.place in
+        let part : List Point = relative_corners v.extent v.place in
+        let whole : List Point = absolute_corners (seen_at (keyed rom.machine list key) (rest ++ i ∷ []) j).extent (seen_at (keyed rom.machine list key) (rest ++ i ∷ []) j).place in
+        let one = subst (HoldsAll box) (absolute_one rest j) (all_left (InBox box) whole (absolute_points (keyed rom.machine list key) (rest ++ i ∷ [])) h) in
+        all_append (InBox box) here (absolute_points (keyed rom.machine list behind_key) rest) (all_left (InBox box) here (absolute_from past.place part) one)
+        (absolute_rest rest (all_right (InBox box) whole (absolute_points (keyed rom.machine list key) (rest ++ i ∷ [])) h))
+
+    absolute_part_of : (rest : List Item) → HoldsAll box (absolute_points (keyed rom.machine list key) (rest ++ i ∷ [])) → HoldsAll box (absolute_from past.place (lit_points (keyed rom.machine list behind_key) rest))
+    absolute_part_of [] h = no_absolute box past.place
+    absolute_part_of (j ∷ rest) h =
+        let v : Seen = seen_at (keyed rom.machine list behind_key) rest j in
+        let here : List Point = absolute_corners v.extent v.place in
+        let part : List Point = relative_corners v.extent v.place in
+        let whole : List Point = absolute_corners (seen_at (keyed rom.machine list key) (rest ++ i ∷ []) j).extent (seen_at (keyed rom.machine list key) (rest ++ i ∷ []) j).place in
+        let one = subst (HoldsAll box) (absolute_one rest j) (all_left (InBox box) whole (absolute_points (keyed rom.machine list key) (rest ++ i ∷ [])) h) in
+        subst (HoldsAll box) (sym (absolute_from_both past.place part (lit_points (keyed rom.machine list behind_key) rest)))
+        (all_append (InBox box) (absolute_from past.place part) (absolute_from past.place (lit_points (keyed rom.machine list behind_key) rest))
+        (all_right (InBox box) here (absolute_from past.place part) one)
+        (absolute_part_of rest (all_right (InBox box) whole (absolute_points (keyed rom.machine list key) (rest ++ i ∷ [])) h)))
+
+  -- ---- the tail
+
+  pub before : (tail whole : LitFrom) (first : LitBox) → tail.addr ≡ next → tail.key ≡ behind_key → IsLitFrom rom list tail → next ≤ ADDRESS_END + 2
+      → whole.addr ≡ i.at → whole.key ≡ key → IsLeast alone first → IsNearBox 1 first
+      → IsJoined first (relative_part past.place tail.lit.relative) whole.lit.relative
+      → IsJoined tail.lit.absolute (absolute_part past.place tail.lit.relative) whole.lit.absolute
+      → ((n : ℕ) → IsNearBox n tail.lit.relative → IsNearBox (n + 1) (relative_part past.place tail.lit.relative)) → IsLitFrom rom list whole
+  before tail whole first at_next at_key t near at_item of_key lone small relative absolute moves =
+      record {
+        items = t.items ++ i ∷ [];
+        all = subst (λ (a : ℕ). AreAll Shape (rom_word rom) a (t.items ++ i ∷ [])) (sym at_item) (all_over t.items (subst (λ (a : ℕ). AreAll Shape (rom_word rom) a t.items) at_next t.all));
+        relative = subst (λ (k : Key). IsLeast (lit_points (keyed rom.machine list k) (t.items ++ i ∷ [])) whole.lit.relative) (sym of_key)
+            (both_least alone (relative_from past.place (lit_points (keyed rom.machine list behind_key) t.items)) (lit_points (keyed rom.machine list key) (t.items ++ i ∷ []))
+            first (relative_part past.place tail.lit.relative) whole.lit.relative relative lone
+            (relative_least past.place (lit_points (keyed rom.machine list behind_key) t.items) tail.lit.relative own_relative)
+            (λ box. relative_into box t.items) (λ box. relative_first box t.items) (λ box. relative_rest box t.items));
+        absolute = subst (λ (k : Key). IsLeast (absolute_points (keyed rom.machine list k) (t.items ++ i ∷ [])) whole.lit.absolute) (sym of_key)
+            (both_least (absolute_points (keyed rom.machine list behind_key) t.items) (absolute_from past.place (lit_points (keyed rom.machine list behind_key) t.items)) (absolute_points (keyed rom.machine list key) (t.items ++ i ∷ []))
+            tail.lit.absolute (absolute_part past.place tail.lit.relative) whole.lit.absolute absolute own_absolute
+            (absolute_least past.place (lit_points (keyed rom.machine list behind_key) t.items) tail.lit.relative own_relative)
+            (λ box. absolute_into box t.items) (λ box. absolute_rest box t.items) (λ box. absolute_part_of box t.items));
+        near = IsNearBox-more (ADDRESS_END + 2 - tail.addr + 1) (ADDRESS_END + 2 - whole.addr) whole.lit.relative (omega (arith, next_further Shape i next goes, near, at_next, at_item))
+            (IsNearBox-joined (ADDRESS_END + 2 - tail.addr + 1) first (relative_part past.place tail.lit.relative) whole.lit.relative
+            (IsNearBox-more 1 (ADDRESS_END + 2 - tail.addr + 1) first (omega arith) small) (moves (ADDRESS_END + 2 - tail.addr) t.near)
+            relative.first relative.second relative.least);
+      }
+    where
+      own_relative : IsLeast (lit_points (keyed rom.machine list behind_key) t.items) tail.lit.relative
+      own_relative = subst (λ (k : Key). IsLeast (lit_points (keyed rom.machine list k) t.items) tail.lit.relative) at_key t.relative
+
+      own_absolute : IsLeast (absolute_points (keyed rom.machine list behind_key) t.items) tail.lit.absolute
+      own_absolute = subst (λ (k : Key). IsLeast (absolute_points (keyed rom.machine list k) t.items) tail.lit.absolute) at_key t.absolute
+
+-- an item that ends a shape is a tail alone
+module _ (rom : Rom) (list : List Entry) (key : Key) (i : Item) (is : cell_at (rom_word rom) i.at ≡ Holds i.format i.instr) (ends : next_address Shape i ≡ None) where
+  all_alone : AreAll Shape (rom_word rom) i.at (i ∷ [])
+  all_alone = record { stand = (refl, is); last = λ n h. let no : None ≡ Some n.at = sym ends ∙ h.0.2 in cc no }
+
+  pub ending : (whole : LitFrom) → i.at < ADDRESS_END → whole.addr ≡ i.at → whole.key ≡ key
+      → IsLeast (relative_corners (first_seen rom.machine list key i).extent (Rel (pos 0) (pos 0))) whole.lit.relative → IsNearBox 1 whole.lit.relative → whole.lit.absolute ≡ Empty → IsLitFrom rom list whole
+  ending whole near at_item of_key lone small none =
+      record {
+        items = i ∷ [];
+        all = subst (λ (a : ℕ). AreAll Shape (rom_word rom) a (i ∷ [])) (sym at_item) all_alone;
+        relative = subst (λ (k : Key). IsLeast (lit_points (keyed rom.machine list k) (i ∷ [])) whole.lit.relative) (sym of_key) (subst (λ (l : List Point). IsLeast l whole.lit.relative) (and_none (relative_corners (first_seen rom.machine list key i).extent (Rel (pos 0) (pos 0)))) lone);
+        absolute = subst (IsLeast []) (sym none) least_none;
+        near = IsNearBox-more 1 (ADDRESS_END + 2 - whole.addr) whole.lit.relative (omega (arith, near, at_item)) small;
+      }

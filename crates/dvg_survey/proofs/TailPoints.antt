@@ -1,0 +1,154 @@
+-- What is lit behind an item, from the points that a tail lights.
+use Rattle.std.proofs.Common.{◌≡◌, List, [], ◌∷◌, ◌++◌, refl, sym, ap, subst, arith}
+use Rattle.std.proofs.lemmas.Int.{ints}
+use Rattle.std.specs.Prelude.{map, ◌-ℤ◌}
+use Rattle.dvg_words.specs.Beam.{origin, shift}
+use Rattle.dvg_words.specs.declared.beam.Point.{Point}
+use Rattle.dvg_cert.specs.declared.entry.End.{End}
+use Rattle.dvg_cert.specs.declared.entry.End.TheVariants.{Rel, Abs, Lost}
+use Rattle.dvg_cert.specs.declared.entry.LitBox.{LitBox}
+use Rattle.dvg_cert.specs.declared.entry.LitBox.TheVariants.{Empty, Span}
+use Rattle.dvg_items.specs.Least.{HoldsAll, IsLeast}
+use Rattle.dvg_items.specs.declared.lit.LitExtent.{LitExtent}
+use Rattle.dvg_items.specs.declared.lit.LitExtent.TheVariants.{Nothing, Between, Anywhere}
+use Rattle.dvg_items.specs.Lit.{InBox, IsInside, corners, absolute_corners, relative_corners}
+use Rattle.dvg_items.proofs.LeastBoxes.{IsJoined, in_wider}
+use Rattle.dvg_items.proofs.Points.{origin_shift, shift_shift}
+use Rattle.dvg_items.proofs.Lists.{all_map}
+use Rattle.dvg_check.specs.Private.Tails.{moved, place_over}
+use Rattle.dvg_survey.specs.Private.Lighting.{relative_part, absolute_part}
+use Rattle.dvg_survey.proofs.Walking.{least_none}
+
+-- ---- points, seen from a place
+
+abbrev pub relative_from : End → List Point → List Point
+relative_from (Rel x y) ps = map (shift (record { x = x; y = y })) ps
+relative_from (Abs x y) ps = []
+relative_from Lost ps = []
+
+abbrev pub absolute_from : End → List Point → List Point
+absolute_from (Rel x y) ps = []
+absolute_from (Abs x y) ps = map (shift (record { x = x; y = y })) ps
+absolute_from Lost ps = []
+
+map_over : (f : Point → Point) (xs ys : List Point) → map f (xs ++ ys) ≡ map f xs ++ map f ys
+map_over f [] ys = refl
+map_over f (x ∷ xs) ys = ap (λ (l : List Point). f x ∷ l) (map_over f xs ys)
+
+pub relative_from_both : (place : End) (xs ys : List Point) → relative_from place (xs ++ ys) ≡ relative_from place xs ++ relative_from place ys
+relative_from_both (Rel x y) xs ys = map_over (shift (record { x = x; y = y })) xs ys
+relative_from_both (Abs x y) xs ys = refl
+relative_from_both Lost xs ys = refl
+
+pub absolute_from_both : (place : End) (xs ys : List Point) → absolute_from place (xs ++ ys) ≡ absolute_from place xs ++ absolute_from place ys
+absolute_from_both (Rel x y) xs ys = refl
+absolute_from_both (Abs x y) xs ys = map_over (shift (record { x = x; y = y })) xs ys
+absolute_from_both Lost xs ys = refl
+
+pub no_relative : (box : LitBox) (place : End) → HoldsAll box (relative_from place [])
+no_relative box (Rel x y) = tt
+no_relative box (Abs x y) = tt
+no_relative box Lost = tt
+
+pub no_absolute : (box : LitBox) (place : End) → HoldsAll box (absolute_from place [])
+no_absolute box (Rel x y) = tt
+no_absolute box (Abs x y) = tt
+no_absolute box Lost = tt
+
+pub and_none : (xs : List Point) → xs ≡ xs ++ []
+and_none [] = refl
+and_none (x ∷ xs) = ap (λ (l : List Point). x ∷ l) (and_none xs)
+
+corners_over : (lit : LitExtent) (a q : Point) → corners lit (shift a q) ≡ map (shift a) (corners lit q)
+corners_over Nothing a q = refl
+corners_over (Between u v) a q = let e = shift_shift a q u in let f = shift_shift a q v in λ i. e i ∷ f i ∷ []
+corners_over Anywhere a q = refl
+
+pub relative_over : (lit : LitExtent) (place q : End) → relative_corners lit (place_over place q) ≡ relative_from place (relative_corners lit q)
+relative_over lit (Rel a b) (Rel x y) = corners_over lit (record { x = a; y = b }) (record { x = x; y = y })
+relative_over lit (Rel a b) (Abs x y) = refl
+relative_over lit (Rel a b) Lost = refl
+relative_over lit (Abs a b) (Rel x y) = refl
+relative_over lit (Abs a b) (Abs x y) = refl
+relative_over lit (Abs a b) Lost = refl
+relative_over lit Lost (Rel x y) = refl
+relative_over lit Lost (Abs x y) = refl
+relative_over lit Lost Lost = refl
+
+pub absolute_over : (lit : LitExtent) (place q : End) → absolute_corners lit (place_over place q) ≡ absolute_corners lit q ++ absolute_from place (relative_corners lit q)
+absolute_over lit (Rel a b) (Rel x y) = refl
+absolute_over lit (Rel a b) (Abs x y) = and_none (corners lit (record { x = x; y = y }))
+absolute_over lit (Rel a b) Lost = refl
+absolute_over lit (Abs a b) (Rel x y) = corners_over lit (record { x = a; y = b }) (record { x = x; y = y })
+absolute_over lit (Abs a b) (Abs x y) = and_none (corners lit (record { x = x; y = y }))
+absolute_over lit (Abs a b) Lost = refl
+absolute_over lit Lost (Rel x y) = refl
+absolute_over lit Lost (Abs x y) = and_none (corners lit (record { x = x; y = y }))
+absolute_over lit Lost Lost = refl
+
+-- ---- least boxes
+
+in_moved : (box : LitBox) (d p : Point) → InBox box p → InBox (moved box d) (shift d p)
+in_moved Empty d p h = absurd h
+in_moved (Span l r b t) d p h =
+    record { left = omega (arith, ints, h.left); right = omega (arith, ints, h.right); bottom = omega (arith, ints, h.bottom); top = omega (arith, ints, h.top) }
+
+all_moved : (box : LitBox) (d : Point) (ps : List Point) → HoldsAll box ps → HoldsAll (moved box d) (map (shift d) ps)
+all_moved box d [] h = tt
+all_moved box d (p ∷ ps) h = (in_moved box d p h.0, all_moved box d ps h.1)
+
+-- a box, moved back
+abbrev moved_back : LitBox → Point → LitBox
+moved_back Empty d = Empty
+moved_back (Span l r b t) d = Span (l -ℤ d.x) (r -ℤ d.x) (b -ℤ d.y) (t -ℤ d.y)
+
+in_moved_back : (box : LitBox) (d p : Point) → InBox box (shift d p) → InBox (moved_back box d) p
+in_moved_back Empty d p h = absurd h
+in_moved_back (Span l r b t) d p h =
+    record { left = omega (arith, ints, h.left); right = omega (arith, ints, h.right); bottom = omega (arith, ints, h.bottom); top = omega (arith, ints, h.top) }
+
+all_moved_back : (box : LitBox) (d : Point) (ps : List Point) → HoldsAll box (map (shift d) ps) → HoldsAll (moved_back box d) ps
+all_moved_back box d [] h = tt
+all_moved_back box d (p ∷ ps) h = (in_moved_back box d p h.0, all_moved_back box d ps h.1)
+
+inside_moved : (box other : LitBox) (d : Point) → IsInside box (moved_back other d) → IsInside (moved box d) other
+inside_moved Empty other d h = tt
+inside_moved (Span l r b t) Empty d h = absurd h
+inside_moved (Span l r b t) (Span e f g k) d h =
+    (omega (arith, ints, h.0), omega (arith, ints, h.1), omega (arith, ints, h.2), omega (arith, ints, h.3))
+
+moved_least : (d : Point) (ps : List Point) (box : LitBox) → IsLeast ps box → IsLeast (map (shift d) ps) (moved box d)
+moved_least d ps box h =
+    record { holds = all_moved box d ps h.holds; least = λ other k. inside_moved box other d (h.least (moved_back other d) (all_moved_back other d ps k)) }
+
+pub relative_least : (place : End) (ps : List Point) (box : LitBox) → IsLeast ps box → IsLeast (relative_from place ps) (relative_part place box)
+relative_least (Rel x y) ps box h = moved_least (record { x = x; y = y }) ps box h
+relative_least (Abs x y) ps box h = least_none
+relative_least Lost ps box h = least_none
+
+pub absolute_least : (place : End) (ps : List Point) (box : LitBox) → IsLeast ps box → IsLeast (absolute_from place ps) (absolute_part place box)
+absolute_least (Rel x y) ps box h = least_none
+absolute_least (Abs x y) ps box h = moved_least (record { x = x; y = y }) ps box h
+absolute_least Lost ps box h = least_none
+
+wider : (a b : LitBox) (ps : List Point) → IsInside a b → HoldsAll a ps → HoldsAll b ps
+wider a b ps inside h = all_map (InBox a) (InBox b) ps (λ p. in_wider a b p inside) h
+
+-- of two points, seen from the place 0, 0
+pub spanning_least : (p q : Point) (box : LitBox) → InBox box p → InBox box q → ((other : LitBox) → InBox other p → InBox other q → IsInside box other)
+    → IsLeast (corners (Between p q) origin) box
+spanning_least p q box first second least =
+    record {
+      holds = (subst (InBox box) (sym (origin_shift p)) first, (subst (InBox box) (sym (origin_shift q)) second, tt));
+      least = λ other h. least other (subst (InBox other) (origin_shift p) h.0) (subst (InBox other) (origin_shift q) h.1.0);
+    }
+
+-- of points that are those of two lists
+pub both_least : (ps qs all : List Point) (a b box : LitBox) → IsJoined a b box → IsLeast ps a → IsLeast qs b
+    → ((other : LitBox) → HoldsAll other ps → HoldsAll other qs → HoldsAll other all)
+    → ((other : LitBox) → HoldsAll other all → HoldsAll other ps) → ((other : LitBox) → HoldsAll other all → HoldsAll other qs) → IsLeast all box
+both_least ps qs all a b box j h k into first second =
+    record {
+      holds = into box (wider a box ps j.first h.holds) (wider b box qs j.second k.holds);
+      least = λ other w. j.least other (h.least other (first other w)) (k.least other (second other w));
+    }

@@ -1,0 +1,16 @@
+use Rattle.std.proofs.Common.{◌-◌, ◌+◌, List}
+use Rattle.dvg_words.specs.declared.map.TheConstants.{ADDRESS_END}
+use Rattle.dvg_words.specs.Memory.{rom_word}
+use Rattle.dvg_items.specs.declared.item.Item.{Item}
+use Rattle.dvg_items.specs.Known.{shape_context}
+use Rattle.dvg_survey.proofs.Bearing.{NoneBears}
+use Rattle.dvg_survey.proofs.Walking.{Walked}
+use Rattle.dvg_survey.proofs.deepest.first_bearing.Given as goal
+
+abbrev pub invariant-loop-seen : goal.invariant-loop-seen
+invariant-loop-seen g l =
+    let list = g.E.Entries.list l.entries in
+    (items : List Item) × Walked (shape_context l.rom.machine list l.entry) (rom_word l.rom) l.entry.addr items l.cursor × NoneBears l.rom list l.entry items
+
+abbrev pub decreases-loop-seen : goal.decreases-loop-seen
+decreases-loop-seen g l = ADDRESS_END + 2 - l.cursor.at

@@ -1,0 +1,15 @@
+use Rattle.std.proofs.Common.{◌-◌, ◌+◌, List}
+use Rattle.dvg_words.specs.declared.map.TheConstants.{ADDRESS_END}
+use Rattle.dvg_items.specs.declared.item.Item.{Item}
+use Rattle.dvg_items.specs.Least.{IsLeast, absolute_points}
+use Rattle.dvg_survey.specs.Private.Walking.{context_of}
+use Rattle.dvg_survey.proofs.Walking.{Walked}
+use Rattle.dvg_survey.proofs.items.extent_from.Given as goal
+
+abbrev pub invariant-loop-seen : goal.invariant-loop-seen
+invariant-loop-seen g l =
+    let c = context_of (g.F.Fetch.words l.memory).machine (g.E.Entries.list l.entries) l.walk in
+    (items : List Item) × Walked c (g.F.Fetch.words l.memory) l.walk.first items l.cursor × IsLeast (absolute_points c items) l.lit
+
+abbrev pub decreases-loop-seen : goal.decreases-loop-seen
+decreases-loop-seen g l = ADDRESS_END + 2 - l.cursor.at

@@ -1,0 +1,10 @@
+use Rattle.std.proofs.Common.{◌-◌, ◌+◌}
+use Rattle.dvg_words.specs.declared.map.TheConstants.{ADDRESS_END}
+use Rattle.dvg_survey.proofs.Visiting.{Goes}
+use Rattle.dvg_survey.proofs.items.new_calls.Given as goal
+
+abbrev pub invariant-loop-format : goal.invariant-loop-format
+invariant-loop-format g l = Goes l.rom (g.E.Entries.list l.entries) l.entry l.fn.visited l.visited l.calls.items l.at l.scale
+
+abbrev pub decreases-loop-format : goal.decreases-loop-format
+decreases-loop-format g l = ADDRESS_END + 2 - l.at

@@ -1,0 +1,26 @@
+use Rattle.std.proofs.Common.{◌∷◌, arith}
+use Rattle.dvg_survey.specs.Private.Walking.{context_of}
+use Rattle.dvg_items.proofs.Stepping.{ends_at}
+use Rattle.dvg_survey.proofs.Losing.{none_past, none_after}
+use Rattle.dvg_survey.proofs.Walking.{goes_on, at_nothing, here_leads, here_stands, where_none, place_lost_on, scale_lost_on}
+use Rattle.dvg_survey.proofs.losses.losses_before.Goals as goal
+
+pub items-preserved : goal.items-preserved
+items-preserved g c =
+    let walked = goes_on (context_of (g.F.Fetch.words c.args.memory.now).machine (g.E.Entries.list c.args.entries.now) c.args.walk.now) (g.F.Fetch.words c.args.memory.now) c.args.walk.now.first c.items.invariant.0 c.items.cursor c.items.invariant.1 c.in-Some.seen c.in-Some.ensures.some c.step.result c.in-Onward.next c.in-Onward.is c.step.ensures.value c.step.ensures.sound in
+    let place = place_lost_on (context_of (g.F.Fetch.words c.args.memory.now).machine (g.E.Entries.list c.args.entries.now) c.args.walk.now) (g.F.Fetch.words c.args.memory.now) c.args.walk.now.first c.items.invariant.0 c.items.cursor c.items.invariant.1 c.in-Some.seen c.in-Some.ensures.some c.items.losses.place c.past-losses.result.place c.items.invariant.2 c.past-losses.ensures.place in
+    let scale = scale_lost_on (context_of (g.F.Fetch.words c.args.memory.now).machine (g.E.Entries.list c.args.entries.now) c.args.walk.now) (g.F.Fetch.words c.args.memory.now) c.args.walk.now.first c.items.invariant.0 c.items.cursor c.items.invariant.1 c.in-Some.seen c.in-Some.ensures.some c.items.losses.scale c.past-losses.result.scale c.items.invariant.3 c.past-losses.ensures.scale in
+    (c.in-Some.seen.item ∷ c.items.invariant.0, walked, place, scale, (c.items.invariant.4, λ here. absurd (omega (arith, here, c.in-Some.ensures.some.at, c.items-test.true))))
+
+pub returns-in_default-clause-none : goal.returns-in_default-clause-none
+returns-in_default-clause-none g c =
+    none_past c.args.walk.now.kind (g.F.Fetch.words c.args.memory.now) c.args.walk.now.first c.args.at c.items.invariant.0 c.items.cursor.at c.items.invariant.1.leads
+    (at_nothing (context_of (g.F.Fetch.words c.args.memory.now).machine (g.E.Entries.list c.args.entries.now) c.args.walk.now) (g.F.Fetch.words c.args.memory.now) c.args.walk.now.first c.items.invariant.0 c.items.cursor c.items.invariant.1 (where_none c.see.result c.in_default.not-Some c.see.ensures.none))
+    c.items.invariant.4 (λ here. absurd (omega (arith, here, c.items-test.true)))
+
+pub returns-in-Last-clause-none : goal.returns-in-Last-clause-none
+returns-in-Last-clause-none g c =
+    none_after c.args.walk.now.kind (g.F.Fetch.words c.args.memory.now) c.args.walk.now.first c.args.at c.items.invariant.0 c.in-Some.seen.item
+    (here_leads (context_of (g.F.Fetch.words c.args.memory.now).machine (g.E.Entries.list c.args.entries.now) c.args.walk.now) (g.F.Fetch.words c.args.memory.now) c.args.walk.now.first c.items.invariant.0 c.items.cursor c.items.invariant.1 c.in-Some.seen c.in-Some.ensures.some) (here_stands (context_of (g.F.Fetch.words c.args.memory.now).machine (g.E.Entries.list c.args.entries.now) c.args.walk.now) (g.F.Fetch.words c.args.memory.now) c.args.walk.now.first c.items.invariant.0 c.items.cursor c.items.invariant.1 c.in-Some.seen c.in-Some.ensures.some)
+    (ends_at c.args.walk.now.kind c.in-Some.seen c.step.result c.in-Last.field-0 c.in-Last.is c.step.ensures.value).0
+    (c.items.invariant.4, λ here. absurd (omega (arith, here, c.in-Some.ensures.some.at, c.items-test.true)))

@@ -1,0 +1,24 @@
+use Rattle.std.proofs.Common.{List, Bool, [], ◌∷◌, ◌++◌, is_some, if◌then◌else◌, ap, sym, subst, ◌∙◌}
+use Rattle.dvg_cert.specs.Lookup.{entry_at}
+use Rattle.dvg_survey.specs.Private.Reaching.{Link, AreNames, entries_of, name_of}
+use Rattle.dvg_survey.proofs.Linking.{names_push}
+use Rattle.dvg_survey.proofs.reached.Reached.add.Goals as goal
+
+pub invariant_of-self-then-not-has : goal.invariant_of-self-then-not-has
+invariant_of-self-then-not-has c =
+    subst (λ (ls : List Link). AreNames c.add.new.self ls) (sym c.in_ok-push.ensures.items)
+    (subst (λ (names : List Bool). AreNames names (c.self.inside.links.items ++ c.args.link ∷ [])) (sym c.add.ensures)
+    (names_push c.self.inside.names c.self.inside.links.items c.args.link c.requires.key c.has.ensures.within c.self.invariant))
+
+pub returns-in_ok-push : goal.returns-in_ok-push
+returns-in_ok-push c =
+    let e = c.args.link.call.entry in
+    let was = ap (λ (ls : List Link). is_some (entry_at (entries_of ls) e.addr e.key)) (sym c.self.view_is) ∙ sym (c.self.invariant (name_of e) c.requires.key) ∙ sym c.has.ensures.value in
+    c.in_ok-push.ensures.items ∙ ap (λ (ls : List Link). ls ++ c.args.link ∷ []) c.self.view_is
+    ∙ ap (λ b. if b then c.args.self.now else c.args.self.now ++ c.args.link ∷ []) (sym (was ∙ c.if-not-has.true))
+
+pub returns-else-not-has : goal.returns-else-not-has
+returns-else-not-has c =
+    let e = c.args.link.call.entry in
+    let was = ap (λ (ls : List Link). is_some (entry_at (entries_of ls) e.addr e.key)) (sym c.self.view_is) ∙ sym (c.self.invariant (name_of e) c.requires.key) ∙ sym c.has.ensures.value in
+    ap (λ b. if b then c.args.self.now else c.args.self.now ++ c.args.link ∷ []) (sym (was ∙ c.if-not-has.false))

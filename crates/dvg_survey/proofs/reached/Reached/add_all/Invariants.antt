@@ -1,0 +1,6 @@
+use Rattle.std.proofs.Common.{◌≡◌, take}
+use Rattle.dvg_survey.specs.Private.Reaching.{reach_all}
+use Rattle.dvg_survey.proofs.reached.Reached.add_all.Given as goal
+
+abbrev pub invariant-loop-call : goal.invariant-loop-call
+invariant-loop-call l = l.self ≡ reach_all l.fn.self l.from (take l.call-index l.calls)

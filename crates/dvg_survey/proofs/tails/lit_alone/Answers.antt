@@ -1,0 +1,19 @@
+use Rattle.std.proofs.Common.{sym, subst, pos}
+use Rattle.dvg_cert.specs.declared.entry.End.TheVariants.{Rel}
+use Rattle.dvg_items.specs.declared.lit.LitExtent.{LitExtent}
+use Rattle.dvg_items.specs.Lit.{relative_corners}
+use Rattle.dvg_items.specs.Least.{IsLeast}
+use Rattle.dvg_items.specs.Bounds.{IsNearExtent}
+use Rattle.dvg_check.proofs.TailSizes.{IsNearBox-spanning}
+use Rattle.dvg_survey.proofs.TailPoints.{spanning_least}
+use Rattle.dvg_survey.proofs.tails.lit_alone.Goals as goal
+
+pub returns-in-Between-clause-least : goal.returns-in-Between-clause-least
+returns-in-Between-clause-least c =
+    subst (λ (lit : LitExtent). IsLeast (relative_corners lit (Rel (pos 0) (pos 0))) c.spanning.result) (sym c.in-Between.is)
+    (spanning_least c.in-Between.from c.in-Between.to c.spanning.result c.spanning.ensures.first c.spanning.ensures.second c.spanning.ensures.least)
+
+pub returns-in-Between-clause-near : goal.returns-in-Between-clause-near
+returns-in-Between-clause-near c =
+    let near = subst IsNearExtent c.in-Between.is c.requires in
+    IsNearBox-spanning 1 c.in-Between.from c.in-Between.to c.spanning.result near.0 near.1 c.spanning.ensures.first c.spanning.ensures.least

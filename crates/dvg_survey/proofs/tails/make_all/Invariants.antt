@@ -1,0 +1,10 @@
+use Rattle.std.proofs.Common.{◌-◌, ◌≤◌}
+use Rattle.dvg_words.specs.declared.map.TheConstants.{ADDRESS_END}
+use Rattle.dvg_survey.specs.Private.Lighting.{AreTails}
+use Rattle.dvg_survey.proofs.tails.make_all.Given as goal
+
+abbrev pub invariant-places : goal.invariant-places
+invariant-places g l = record { near : l.at ≤ ADDRESS_END; tails : AreTails l.rom (g.E.Entries.list l.entries) l.tails.slots }
+
+abbrev pub decreases-places : goal.decreases-places
+decreases-places g l = l.at - l.from

@@ -1,0 +1,13 @@
+use Rattle.std.proofs.Common.{sym, subst}
+use Rattle.dvg_survey.specs.Private.Lighting.{AreTails}
+use Rattle.dvg_survey.specs.declared.tails.Tails.{Tails}
+use Rattle.dvg_survey.proofs.tails.make_tails.Goals as goal
+use Rattle.dvg_survey.proofs.tails.make_tails.Goals.{then-has+in-Some, then-has+in_default-tail_at, else-has}
+
+pub loop-index-preserved : goal.loop-index-preserved
+loop-index-preserved g c =
+    elim c.if-has.branch [
+      | then-has+in-Some w ↦ record { tails = subst (λ (t : Tails). AreTails c.args.rom.now (g.E.Entries.list c.args.entries.now) t.slots) (sym w.tails-is) (w.keep.ensures c.args.rom.now (g.E.Entries.list c.args.entries.now) c.loop-index.invariant.tails w.in-Some.ensures.tail) }
+      | then-has+in_default-tail_at w ↦ record { tails = subst (λ (t : Tails). AreTails c.args.rom.now (g.E.Entries.list c.args.entries.now) t.slots) (sym w.tails-is) c.loop-index.invariant.tails }
+      | else-has w ↦ record { tails = subst (λ (t : Tails). AreTails c.args.rom.now (g.E.Entries.list c.args.entries.now) t.slots) (sym w.tails-is) c.loop-index.invariant.tails }
+    ]

@@ -1,0 +1,209 @@
+//! All items of a frame or of a shape, one after another.
+
+ghost use Rattle.std.specs.Prelude.{◌≡◌, ◌<◌, ◌++◌, List, OnOk, IfOk, IfSome, IfNone};
+ghost use Rattle.dvg_words.specs.Decoding.{cell_at};
+ghost use Rattle.dvg_words.specs.declared.beam.Point.{Point};
+ghost use Rattle.dvg_words.specs.declared.instruction.Cell.TheVariants.{Holds};
+ghost use Rattle.dvg_words.specs.declared.instruction.Format.{Format};
+ghost use Rattle.dvg_words.specs.declared.instruction.Instr.{Instr};
+ghost use Rattle.dvg_words.specs.declared.map.TheConstants.{ADDRESS_END};
+ghost use Rattle.dvg_cert.specs.Entry.{IsKey};
+ghost use Rattle.dvg_cert.specs.declared.entry.Key.TheVariants.{Any};
+ghost use Rattle.dvg_items.specs.Bounds.{IsSomeCertificate, IsSoundCursor, IsSoundSeen};
+ghost use Rattle.dvg_items.specs.Least.{IsLeast};
+ghost use Rattle.dvg_items.specs.Lit.{absolute_corners};
+ghost use Rattle.dvg_items.specs.declared.item.Kind.TheVariants.{Frame, Shape};
+ghost use Rattle.dvg_survey.specs.Calls.{AreCalls, IsExtent, call_of};
+ghost use Rattle.dvg_survey.specs.Clipping.{AreClipped, ClippedPast};
+ghost use Rattle.dvg_survey.specs.Private.Visiting.{AreNewCalls};
+ghost use Rattle.dvg_survey.specs.Private.Walking.{IsSeenAt, context_of};
+
+use crate::calls::Call;
+use crate::keyed_words::KeyedWords;
+use dvg_cert::{Entries, Entry, Key, LitBox};
+use dvg_items::{
+    Cursor, Item, Kind, Seen, Step, absolute_corners, callee, lit_in_window, scale_past, target,
+    widened,
+};
+use dvg_words::{Cell, Fetch, RomImage, SCREEN, read_cell};
+use std::alloc::{AllocError, Global};
+
+/// What a walk over items goes by: whose items they are, the word address of the first one, and the known scale there.
+#[derive(Clone, Copy)]
+pub struct WalkContext {
+    pub kind: Kind,
+    pub first: u16,
+    pub scale: Key,
+}
+
+impl WalkContext {
+    /// A walk over a frame.
+    pub fn frame() -> WalkContext
+        ensures { result ≡ record { kind = Frame; first = 0; scale = Any } }
+    {
+        WalkContext {
+            kind: Kind::Frame,
+            first: 0,
+            scale: Key::Any,
+        }
+    }
+
+    /// A walk over an entry's shape.
+    pub fn shape(entry: &Entry) -> WalkContext
+        ensures { result ≡ record { kind = Shape; first = entry.now.addr; scale = entry.now.key } }
+    {
+        WalkContext {
+            kind: Kind::Shape,
+            first: entry.addr,
+            scale: entry.key,
+        }
+    }
+}
+
+/// What the rules see of the item at a cursor; `None` where no item stands there.
+pub fn see<F: Fetch, E: Entries>(memory: &F, entries: &E, kind: Kind, here: &Cursor) -> Option<Seen>
+    requires entries { IsSomeCertificate (E.list entries.now) }
+    requires here { IsSoundCursor here.now }
+    ensures some { IfSome result (IsSeenAt (F.words memory.now).machine (E.list entries.now) kind (F.words memory.now) here.now) }
+    ensures sound { IfSome result IsSoundSeen }
+    ensures none { IfNone result ((format : Format) (instr : Instr) → cell_at (F.words memory.now) here.now.at ≡ Holds format instr → ⊥) }
+{
+    let Cell::Holds { format, instr } = read_cell(memory, here.at) else {
+        return None;
+    };
+    let named = callee(entries, target(kind, &instr), here.known.scale);
+    Some(here.see(memory.machine(), format, &instr, named))
+}
+
+/// Adds the call of an item, if it names an entry.
+fn push_call(calls: &mut Vec<Call>, item: &Item, named: &Option<Entry>) -> Result<(), AllocError>
+    ensures { OnOk result (calls.new.items ≡ calls.old.items ++ call_of item.now named.now) }
+{
+    if let Some(entry) = *named {
+        calls.push(Call { at: item.at, entry })?;
+    }
+    Ok(())
+}
+
+/// The calls of all items of a walk, in their order.
+pub fn calls_from<F: Fetch, E: Entries>(
+    alloc: Global,
+    memory: &F,
+    entries: &E,
+    walk: &WalkContext,
+) -> Result<Vec<Call>, AllocError>
+    requires entries { IsSomeCertificate (E.list entries.now) }
+    requires first { walk.now.first < ADDRESS_END }
+    requires scale { IsKey walk.now.scale }
+    ensures { IfOk result (λ calls. AreCalls (context_of (F.words memory.now).machine (E.list entries.now) walk.now) (F.words memory.now) walk.now.first calls.items) }
+{
+    let mut calls = Vec::new(alloc);
+    let mut cursor = Cursor::start(walk.kind, walk.first, walk.scale);
+    while let Some(seen) = see(memory, entries, walk.kind, &cursor) {
+        push_call(&mut calls, &seen.item, &seen.callee)?;
+        match seen.step(walk.kind) {
+            Step::Onward(next) => cursor = next,
+            Step::Last(_) => return Ok(calls),
+        }
+    }
+    Ok(calls)
+}
+
+/// The calls of an entry's shape, in their order, up to the first word that was visited before at the same known scale: from there
+/// on, the shape that visited it makes the same calls. Marks each word that it goes over as visited. What an item calls depends on
+/// its word address and on the known scale there alone, so nothing else of what is known is kept.
+pub fn new_calls<E: Entries>(
+    alloc: Global,
+    rom: &RomImage,
+    entries: &E,
+    entry: &Entry,
+    visited: &mut KeyedWords,
+) -> Result<Vec<Call>, AllocError>
+    requires entries { IsSomeCertificate (E.list entries.now) }
+    requires key { IsKey entry.now.key }
+    ensures { IfOk result (λ calls. AreNewCalls rom.now (E.list entries.now) entry.now visited.old visited.new calls.items) }
+{
+    let mut calls = Vec::new(alloc);
+    let mut at = entry.addr;
+    let mut scale = entry.key;
+    while let Cell::Holds { format, instr } = read_cell(rom, at) {
+        if visited.has(at, scale) {
+            return Ok(calls);
+        }
+        visited.add(at, scale);
+        let item = Item { at, format, instr };
+        let named = callee(entries, target(Kind::Shape, &instr), scale);
+        push_call(&mut calls, &item, &named)?;
+        scale = scale_past(&instr, scale, &named);
+        match item.next_address(Kind::Shape) {
+            Some(next) => at = next,
+            None => return Ok(calls),
+        }
+    }
+    Ok(calls)
+}
+
+/// The least box of a box and of what an item lights at an absolute place.
+fn lit_with(lit: &LitBox, seen: &Seen) -> LitBox
+    requires { IsSoundSeen seen.now }
+    ensures { (ps : List Point) → IsLeast ps lit.now → IsLeast (absolute_corners seen.now.extent seen.now.place ++ ps) result }
+{
+    match absolute_corners(&seen.extent, &seen.place) {
+        Some((from, to)) => widened(lit, &from, &to),
+        None => *lit,
+    }
+}
+
+/// The least box of what all items of a walk light at absolute places.
+pub fn extent_from<F: Fetch, E: Entries>(memory: &F, entries: &E, walk: &WalkContext) -> LitBox
+    requires entries { IsSomeCertificate (E.list entries.now) }
+    requires first { walk.now.first < ADDRESS_END }
+    requires scale { IsKey walk.now.scale }
+    ensures { IsExtent (context_of (F.words memory.now).machine (E.list entries.now) walk.now) (F.words memory.now) walk.now.first result }
+{
+    let mut lit = LitBox::Empty;
+    let mut cursor = Cursor::start(walk.kind, walk.first, walk.scale);
+    while let Some(seen) = see(memory, entries, walk.kind, &cursor) {
+        lit = lit_with(&lit, &seen);
+        match seen.step(walk.kind) {
+            Step::Onward(next) => cursor = next,
+            Step::Last(_) => return lit,
+        }
+    }
+    lit
+}
+
+/// Adds the word address of an item, if a corner of what it lights at an absolute place is off the screen.
+fn push_clipped(clipped: &mut Vec<u16>, seen: &Seen) -> Result<(), AllocError>
+    requires { IsSoundSeen seen.now }
+    ensures { OnOk result (ClippedPast clipped.old.items seen.now.item.at seen.now.extent seen.now.place clipped.new.items) }
+{
+    if !lit_in_window(&SCREEN, &seen.extent, &seen.place) {
+        clipped.push(seen.item.at)?;
+    }
+    Ok(())
+}
+
+/// The word addresses of the items of a walk that light past the screen, in their order.
+pub fn clipped_from<F: Fetch, E: Entries>(
+    alloc: Global,
+    memory: &F,
+    entries: &E,
+    walk: &WalkContext,
+) -> Result<Vec<u16>, AllocError>
+    requires entries { IsSomeCertificate (E.list entries.now) }
+    requires first { walk.now.first < ADDRESS_END }
+    requires scale { IsKey walk.now.scale }
+    ensures { IfOk result (λ clipped. AreClipped (context_of (F.words memory.now).machine (E.list entries.now) walk.now) (F.words memory.now) walk.now.first clipped.items) }
+{
+    let mut clipped = Vec::new(alloc);
+    let mut cursor = Cursor::start(walk.kind, walk.first, walk.scale);
+    while let Some(seen) = see(memory, entries, walk.kind, &cursor) {
+        push_clipped(&mut clipped, &seen)?;
+        match seen.step(walk.kind) {
+            Step::Onward(next) => cursor = next,
+            Step::Last(_) => return Ok(clipped),
+        }
+    }
+    Ok(clipped)
+}
