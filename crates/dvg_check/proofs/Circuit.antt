@@ -4,7 +4,7 @@ use Rattle.std.specs.Prelude.{◌*ℤ◌, if◌then◌else◌}
 use Rattle.std.specs.List.{AllByRecursion, AllZip}
 use Rattle.std.proofs.lemmas.Bool.{cases_lt}
 use Rattle.std.proofs.lemmas.List.{length-reverse}
-use Rattle.dvg_words.specs.Values.{Window, IsWindowOrZone}
+use Rattle.dvg_words.specs.Values.{Window}
 use Rattle.dvg_words.specs.declared.beam.Point.{Point}
 use Rattle.dvg_words.specs.declared.machine.Machine.{Machine}
 use Rattle.dvg_words.specs.declared.machine.Machine.TheVariants.{Board}
@@ -27,10 +27,12 @@ use Rattle.dvg_circuit.specs.Premises.{IsStart, ReadsAs}
 use Rattle.dvg_circuit.specs.Showing.{IsDrawInWindow}
 use Rattle.dvg_circuit.specs.Following.{IsSamePlace, IsDrawnAs, Agrees, AgreesWith}
 use Rattle.dvg_circuit.proofs.Following.{all_reversed, circuit_follows}
-use Rattle.dvg_circuit.proofs.Showing.{drawn_in_window}
+use Rattle.dvg_circuit.specs.Counters.{counters_after}
+use Rattle.dvg_circuit.proofs.Moves.{drawn_on_stroke}
+use Rattle.dvg_circuit.proofs.Showing.{lit_in_window, drawn_in_window}
 use Rattle.dvg_check.specs.Safety.{Ends, IsMapped, IsSafeStatus, Safe, CountsAtHalt}
-use Rattle.dvg_check.specs.Circuit.{IsPast, IsSafeRun, CountsOfRun}
-use Rattle.dvg_check.specs.Laws.{SafeIsSafeOnCircuit, CountsAreOnCircuit}
+use Rattle.dvg_check.specs.Circuit.{IsPast, IsSafeRun, SafeRuns, CountsOfRun}
+use Rattle.dvg_check.specs.Laws.{IsDrawAtPlaces, SafeIsWithinOnCircuit, SafeIsSafeOnCircuit, CountsAreOnCircuit}
 use Rattle.dvg_check.proofs.Runs.{reached_on, grows}
 use Rattle.dvg_check.proofs.Safety.{safe_state}
 
@@ -119,41 +121,59 @@ module _ (m : Memory) (w : Window) (words depth : ℕ) (mem : IsMemory m) (board
       let le = stack_within_max m (place_of c.counters) c.scale f.steps f.status f.reached in
       (length (state_of f.status).return_stack, omega (arith, le, s.stored), (agreeing f.status f.steps _ h f.agrees).pointer)
 
-  -- the draws of strokes that lie in the window do so, too
-  drawn_inside : IsWindowOrZone w → (strokes : List Stroke) (lit : List LitDraw) → AllByRecursion (Ends (InWindow w)) strokes → AllZip IsDrawnAs strokes lit
-      → AllByRecursion (IsDrawInWindow w) lit
-  drawn_inside is [] [] ends drawn = tt
-  drawn_inside is [] (l ∷ lit) ends drawn = absurd drawn
-  drawn_inside is (stroke ∷ strokes) [] ends drawn = absurd drawn
-  drawn_inside is (stroke ∷ strokes) (l ∷ lit) ends drawn =
-      (drawn_in_window w stroke l is ends.0.0 ends.0.1 drawn.0, drawn_inside is strokes lit ends.1 drawn.1)
+  -- what holds of the draw of each stroke that lies in the window holds of the draws of all of them
+  module _ (P : LitDraw → Type 0) (drawn : (stroke : Stroke) (l : LitDraw) → InWindow w stroke.from → InWindow w stroke.to → IsDrawnAs stroke l → P l) where
+    all_drawn : (strokes : List Stroke) (lit : List LitDraw) → AllByRecursion (Ends (InWindow w)) strokes → AllZip IsDrawnAs strokes lit → AllByRecursion P lit
+    all_drawn [] [] ends same = tt
+    all_drawn [] (l ∷ lit) ends same = absurd same
+    all_drawn (stroke ∷ strokes) [] ends same = absurd same
+    all_drawn (stroke ∷ strokes) (l ∷ lit) ends same = (drawn stroke l ends.0.0 ends.0.1 same.0, all_drawn strokes lit ends.1 same.1)
 
-  safe_run : IsWindowOrZone w → (n : ℕ) → IsSafeRun m w words depth c.pointer (run_after reads n (begin c))
-  safe_run is n =
-      let f = follows n in
-      let h = safe_at f.steps f.status f.reached in
-      let s = safe_state m w words depth f.steps f.status h in
-      let a = agreeing f.status f.steps _ h f.agrees in
-      let r : Run = run_after reads n (begin c) in
-      record {
-        few = omega (arith, s.few, ap length a.fetched, length-reverse (state_of f.status).fetched);
-        mapped = subst (AllByRecursion (IsMapped m)) (sym a.fetched) (all_reversed (IsMapped m) (state_of f.status).fetched s.mapped);
-        stored = stored_at n;
-        lit = drawn_inside is (reverse (state_of f.status).strokes) r.lit (all_reversed (Ends (InWindow w)) (state_of f.status).strokes s.lit) a.lit;
-      }
+    safe_run : (n : ℕ) → IsSafeRun m P words depth c.pointer (run_after reads n (begin c))
+    safe_run n =
+        let f = follows n in
+        let h = safe_at f.steps f.status f.reached in
+        let s = safe_state m w words depth f.steps f.status h in
+        let a = agreeing f.status f.steps _ h f.agrees in
+        let r : Run = run_after reads n (begin c) in
+        record {
+          few = omega (arith, s.few, ap length a.fetched, length-reverse (state_of f.status).fetched);
+          mapped = subst (AllByRecursion (IsMapped m)) (sym a.fetched) (all_reversed (IsMapped m) (state_of f.status).fetched s.mapped);
+          stored = stored_at n;
+          lit = all_drawn (reverse (state_of f.status).strokes) r.lit (all_reversed (Ends (InWindow w)) (state_of f.status).strokes s.lit) a.lit;
+        }
 
   halts : (n : ℕ) × (n ≤ words) × ((run_after reads n (begin c)).circuit.halted ≡ true)
   halts =
       let end = safe.halts (place_of c.counters) c.scale small in
       (end.0, end.2, (agree end.0 (Halted end.1) end.3).0)
 
-pub safe_on_circuit : SafeIsSafeOnCircuit
-safe_on_circuit m w words depth mem board is safe =
+-- what holds of the draw of each stroke that lies in the window holds of the lit draws of all runs
+safe_runs : (P : LitDraw → Type 0) (m : Memory) (w : Window) (words depth : ℕ) → IsMemory m → m.rom.machine ≡ Board → Safe m w words depth
+    → ((stroke : Stroke) (l : LitDraw) → InWindow w stroke.from → InWindow w stroke.to → IsDrawnAs stroke l → P l) → SafeRuns m P words depth
+safe_runs P m w words depth mem board safe drawn =
     record {
       four = safe.four;
       halts = λ c reads begun seen. halts m w words depth mem board safe c reads begun seen;
-      each = λ c reads begun seen n. safe_run m w words depth mem board safe c reads begun seen is n;
+      each = λ c reads begun seen n. safe_run m w words depth mem board safe c reads begun seen P drawn n;
     }
+
+drawn_at_places : (w : Window) (stroke : Stroke) (l : LitDraw) → InWindow w stroke.from → InWindow w stroke.to → IsDrawnAs stroke l → IsDrawAtPlaces w l
+unfolding drawn_on_stroke
+drawn_at_places w stroke l from to h =
+    record {
+      x = h.from.x;
+      y = h.from.y;
+      inside = λ n le. lit_in_window w stroke (counters_after l.draw l.from n) (drawn_on_stroke stroke l h n le) from to;
+      counters = λ n le. (drawn_on_stroke stroke l h n le).same.counters;
+    }
+
+pub within_on_circuit : SafeIsWithinOnCircuit
+within_on_circuit m w words depth mem board safe = safe_runs (IsDrawAtPlaces w) m w words depth mem board safe (drawn_at_places w)
+
+pub safe_on_circuit : SafeIsSafeOnCircuit
+safe_on_circuit m w words depth mem board is safe =
+    safe_runs (IsDrawInWindow w) m w words depth mem board safe (λ stroke l. drawn_in_window w stroke l is)
 
 -- ---- the most places stored
 

@@ -4,7 +4,7 @@ use Rattle.std.specs.List.{AllByRecursion}
 use Rattle.dvg_words.specs.Values.{Window}
 use Rattle.dvg_words.specs.Memory.{Memory}
 use Rattle.dvg_circuit.specs.declared.circuit.Circuit.{Circuit}
-use Rattle.dvg_circuit.specs.Circuit.{Reads, Run, run_after, begin}
+use Rattle.dvg_circuit.specs.Circuit.{LitDraw, Reads, Run, run_after, begin}
 use Rattle.dvg_circuit.specs.Premises.{IsStart, ReadsAs}
 use Rattle.dvg_circuit.specs.Showing.{IsDrawInWindow}
 use Rattle.dvg_check.specs.Safety.{IsMapped}
@@ -18,21 +18,24 @@ OfEachRun m P = (c : Circuit) (reads : ℕ → Reads) → IsStart c → ReadsAs 
 abbrev pub IsPast : ℕ → ℕ → ℕ → Type 0
 IsPast before most pointer = (calls : ℕ) × (calls ≤ most) × (pointer ≡ (before + calls) % 16)
 
--- a run is safe so far, if this was its stack pointer at the start
-pub record IsSafeRun (m : Memory) (w : Window) (words depth pointer : ℕ) (r : Run) : Type 0 where
+-- a run is safe so far, if this was its stack pointer at the start and P is what lit draws have to keep
+pub record IsSafeRun (m : Memory) (P : LitDraw → Type 0) (words depth pointer : ℕ) (r : Run) : Type 0 where
   -- at most `words` words were fetched, all of them words of the frame or of the ROM
   pub few : length r.fetched ≤ words
   pub mapped : AllByRecursion (IsMapped m) r.fetched
   -- at most `depth` return places more are stored than at the start
   pub stored : IsPast pointer depth r.circuit.pointer
-  -- at each count of each lit draw the counters are at a place of the window; what isn't blanked is that place itself, on the screen
-  pub lit : AllByRecursion (IsDrawInWindow w) r.lit
+  pub lit : AllByRecursion P r.lit
 
 -- Every run of the circuit halts within `words` instructions, and is safe after each.
-pub record SafeOnCircuit (m : Memory) (w : Window) (words depth : ℕ) : Type 0 where
+pub record SafeRuns (m : Memory) (P : LitDraw → Type 0) (words depth : ℕ) : Type 0 where
   pub four : depth ≤ 4
   pub halts : OfEachRun m (λ c run. (n : ℕ) × (n ≤ words) × ((run n).circuit.halted ≡ true))
-  pub each : OfEachRun m (λ c run. (n : ℕ) → IsSafeRun m w words depth c.pointer (run n))
+  pub each : OfEachRun m (λ c run. (n : ℕ) → IsSafeRun m P words depth c.pointer (run n))
+
+-- at each count of each lit draw the counters are at a place of the window; what isn't blanked is that place itself, on the screen
+abbrev pub SafeOnCircuit : Memory → Window → ℕ → ℕ → Type 0
+SafeOnCircuit m w words depth = SafeRuns m (IsDrawInWindow w) words depth
 
 -- a run that has halted after n instructions fetched exactly `words` words, and stored at most `depth` return places more than at
 -- the start, and just so many after one of these instructions

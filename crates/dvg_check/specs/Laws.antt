@@ -1,7 +1,7 @@
 -- The laws, over the definitions alone. They are for every map, window and mode, but ExactIsExact is for the mode Exact.
 use Rattle.dvg_words.specs.Values.{Source}
 use Rattle.dvg_words.specs.declared.machine.Machine.{Machine}
-use Rattle.std.specs.Prelude.{◌≡◌, ℕ, ℤ, ◌+◌, ◌<◌, ◌≤◌, ◌⊎◌, ◌≤ℤ◌, length, List, [], ◌∷◌, ◌++◌, Contains, Result}
+use Rattle.std.specs.Prelude.{◌≡◌, ℕ, ℤ, ◌+◌, ◌<◌, ◌≤◌, ◌⊎◌, ◌+ℤ◌, ◌≤ℤ◌, length, List, [], ◌∷◌, ◌++◌, Contains, Result}
 use Rattle.dvg_words.specs.Values.{Window, IsWindowOrZone}
 use Rattle.dvg_words.specs.declared.machine.Machine.TheVariants.{Board}
 use Rattle.dvg_words.specs.declared.instruction.Instr.TheVariants.{Draw as Draws, Labs}
@@ -27,7 +27,11 @@ use Rattle.dvg_check.specs.FirstFault.{ShapeFault, FirstShapeFault, FrameFault, 
 use Rattle.dvg_check.specs.Verdict.{Yes, Refusal, VerdictOn, NotMemory}
 use Rattle.dvg_check.specs.Behaving.{ScaleFits, PlaceFits, Behaves}
 use Rattle.dvg_check.specs.Safety.{Safe}
-use Rattle.dvg_check.specs.Circuit.{SafeOnCircuit, CountsOnCircuit}
+use Rattle.dvg_circuit.specs.Counters.{counters_after}
+use Rattle.dvg_circuit.specs.Laws.{moved, twelve_bits}
+use Rattle.dvg_circuit.specs.Circuit.{LitDraw}
+use Rattle.dvg_circuit.specs.Showing.{IsPlaceOf}
+use Rattle.dvg_check.specs.Circuit.{SafeRuns, SafeOnCircuit, CountsOnCircuit}
 pub use Rattle.dvg_check.specs.Safety.{CountsAtHalt}
 
 -- ---- one item
@@ -187,7 +191,22 @@ SafeStack = InEachRun (λ m w words depth s. (length s.return_stack ≤ depth) �
 
 -- ---- the circuit
 
--- what is safe on the board's generator, in a window as calls take them, is safe on its circuit
+-- at each count of the lit draw, which moves on from a place, the counters are at a place within the bounds
+pub record IsDrawAtPlaces (w : Window) (l : LitDraw) : Type 0 where
+  pub x : ℤ
+  pub y : ℤ
+  pub inside : (n : ℕ) → n ≤ l.counts → IsPlaceOf w (x +ℤ moved l.draw.dx n) (y +ℤ moved l.draw.dy n)
+  pub counters :
+      (n : ℕ) → n ≤ l.counts
+      → counters_after l.draw l.from n ≡ record { x = twelve_bits (x +ℤ moved l.draw.dx n); y = twelve_bits (y +ℤ moved l.draw.dy n) }
+
+-- what is safe on the board's generator, whatever the bounds are, is safe on its circuit, whose lit draws stay within them
+abbrev pub SafeIsWithinOnCircuit : Type 0
+SafeIsWithinOnCircuit =
+    (m : Memory) (w : Window) (words depth : ℕ)
+    → IsMemory m → m.rom.machine ≡ Board → Safe m w words depth → SafeRuns m (IsDrawAtPlaces w) words depth
+
+-- in a window as calls take them, what is shown of these draws is told, too
 abbrev pub SafeIsSafeOnCircuit : Type 0
 SafeIsSafeOnCircuit =
     (m : Memory) (w : Window) (words depth : ℕ)

@@ -149,6 +149,7 @@ fn frame_cause_of_item(why: FrameWhy, scale: Key, seen: &Seen, rules: &FrameRule
 }
 
 /// Why the first fault of a frame breaks its rule.
+#[inline(never)]
 pub fn frame_cause(fault: &Fault<FrameWhy>, rules: &FrameRules) -> FrameCause
     requires sound { IsSoundFound fault.now.found }
     requires broken { Breaks frame.Unmapped frame.Odd (FrameKeeps rules.now.window rules.now.budget) fault.now.why fault.now.found }
@@ -190,6 +191,7 @@ fn shape_cause_of_item(why: ShapeWhy, scale: Key, seen: &Seen, rules: &ShapeRule
 }
 
 /// Why the first fault of a shape breaks its rule.
+#[inline(never)]
 pub fn shape_cause(fault: &Fault<ShapeWhy>, rules: &ShapeRules) -> ShapeCause
     requires sound { IsSoundFound fault.now.found }
     requires broken { Breaks shape.Unmapped shape.Odd (ShapeKeeps rules.now.mode rules.now.window rules.now.entry) fault.now.why fault.now.found }

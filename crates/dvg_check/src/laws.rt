@@ -3,7 +3,7 @@
 
 ghost use Rattle.dvg_words.specs.declared.machine.Machine.{Machine};
 ghost use Rattle.dvg_check.specs.Rules.{Mode};
-ghost use Rattle.dvg_check.specs.Laws.{OneItem, OneShape, AllShapes, GoodIsSafe, ExactIsExact, OneFault, NoFault, OneShapeFault, NoShapeFault, OneCount, OneVerdict, StrokeInWindow, SafeStrokes, SafeStack, SafeIsSafeOnCircuit, CountsAreOnCircuit};
+ghost use Rattle.dvg_check.specs.Laws.{OneItem, OneShape, AllShapes, GoodIsSafe, ExactIsExact, OneFault, NoFault, OneShapeFault, NoShapeFault, OneCount, OneVerdict, StrokeInWindow, SafeStrokes, SafeStack, SafeIsWithinOnCircuit, SafeIsSafeOnCircuit, CountsAreOnCircuit};
 ghost use Rattle.dvg_check.specs.Drift.{PlaceIsSum, HalfPlaceEach, InsetIsSafe};
 ghost use Rattle.dvg_check.specs.Example.{WorkedExample};
 ghost use Rattle.dvg_check.specs.MachinesExample.{WorkedMachines};
@@ -91,6 +91,12 @@ pub fn safe_stack()
 {
     stack_within_max();
 }
+
+/// What is safe on the board's generator within any bounds is safe on its circuit: at each count of each lit draw the counters hold the
+/// twelve bits of a place within them.
+pub fn within_on_circuit()
+    ensures { SafeIsWithinOnCircuit }
+{}
 
 /// What is safe on the board's generator, in a window as calls take them, is safe on its circuit, where the board shows of each lit draw
 /// just the part that lies on the screen.

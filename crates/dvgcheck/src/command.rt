@@ -3,12 +3,14 @@
 use crate::escaping::{escaped, marked, shown};
 use crate::form::Form;
 use crate::input::Input;
+use crate::options::{
+    CHECK_OPTIONS, FRAMES_OPTIONS, LIST_OPTIONS, MAKER_OPTIONS, OUTPUT_OPTIONS, Told,
+};
 use clap::error::ErrorKind;
-use clap::{Arg, ArgAction, ArgMatches, Command, value_parser};
+use clap::{Arg, ArgMatches, Command, value_parser};
 use dvg_cmd::{
-    ASTEROIDS, CLIPPED, CheckOptions, Detail, FrameOptions, Key, Lines, Listing, MOST_WORDS,
-    Machine, Mode, NameEnd, RomMap, Rule, SCREEN, Window, map_of, root_of, rule_of, start_of,
-    window_of,
+    ASTEROIDS, CLIPPED, CheckOptions, Detail, FrameOptions, Key, Lines, Listing, Machine, Mode,
+    NameEnd, RomMap, Rule, SCREEN, Window, map_of, root_of, rule_of, start_of, window_of,
 };
 use std::alloc::{AllocError, AllocFailed, Global};
 use std::{env, io};
@@ -120,13 +122,19 @@ impl Task {
         }
     }
 
-    /// Its command.
-    fn command<'a>(self, alloc: Global) -> Result<Command<'a>, AllocError> {
+    /// Its command, of whose options `clap` is told these.
+    fn command<'a>(self, alloc: Global, told: Told) -> Result<Command<'a>, AllocError> {
         let command = self.bare_command(alloc)?;
         match self {
-            Task::Frames => { with_list_options(alloc, with_frames_options(alloc, command)?) }
-            Task::Check => with_check_options(alloc, command),
-            Task::Make => with_make_options(alloc, command),
+            Task::Frames => {
+                let command = told.with(alloc, command, &FRAMES_OPTIONS)?;
+                told.with(alloc, command, &LIST_OPTIONS)
+            }
+            Task::Check => told.with(alloc, command, &CHECK_OPTIONS),
+            Task::Make => {
+                let command = told.with(alloc, command, &MAKER_OPTIONS)?;
+                told.with(alloc, command, &OUTPUT_OPTIONS)
+            }
             Task::Explain | Task::Rules => Ok(command),
         }
     }
@@ -220,109 +228,14 @@ const ROM_HELP: &str = "The vector ROM: two bytes for each of its words, low byt
 
 const FRAME_HELP: &str = "The frame: 2 to 2048 bytes of vector RAM, from word 000 on";
 
-// `--budget`, `--window` and `--rom` have no default of `clap`'s, which would parse it and give it a place at each run: what reads
-// the option has it, and the help says so.
-
 /// How many words a frame may take if `--budget` does not say.
 const USUAL_BUDGET: u32 = 20_000;
-
-fn budget_option<'a>(alloc: Global) -> Arg<'a> {
-    Arg::new(alloc, "budget")
-        .long("budget")
-        .value_name("N")
-        .help("How many words the frame may take at most [default: 20000]")
-        .value_parser(value_parser!(u32).range(1..=i64::from(MOST_WORDS)))
-}
-
-fn window_option<'a>(alloc: Global) -> Arg<'a> {
-    Arg::new(alloc, "window")
-        .long("window")
-        .value_name(Form::Window.pattern())
-        .help(
-            "Where the screen may be lit: from X0 to X1 across, from Y0 to Y1 up [default: 0,1023,0,1023]",
-        )
-}
-
-fn clip_option<'a>(alloc: Global) -> Result<Arg<'a>, AllocError> {
-    Arg::new(alloc, "clip")
-        .long("clip")
-        .action(ArgAction::SetTrue)
-        .help(
-            "Lets lit strokes reach from -1024 to 2047, where the board blanks what is off the screen",
-        )
-        .conflicts_with("window")?
-        .requires_arg("board")
-}
-
-fn map_option<'a>(alloc: Global) -> Arg<'a> {
-    Arg::new(alloc, "rom")
-        .long("rom")
-        .value_name(Form::Map.pattern())
-        .help(
-            "The word addresses of the ROM's first and last word, within 400 to BFF [default: 800/BFF]",
-        )
-}
-
-fn start_option<'a>(alloc: Global) -> Arg<'a> {
-    Arg::new(alloc, "start")
-        .long("start")
-        .value_name(Form::Start.pattern())
-        .help("Judges each frame as though its word 000 were the jump to this word address")
-}
 
 fn frames_argument<'a>(alloc: Global) -> Result<Arg<'a>, AllocError> {
     let frames = Arg::new(alloc, "FRAME").help(FRAME_HELP).num_args(1..);
     frames
         .required_unless_present("list")?
         .conflicts_with("list")
-}
-
-fn list_option<'a>(alloc: Global) -> Arg<'a> {
-    Arg::new(alloc, "list").long("list").value_name("FILE").help(
-        "Judges the frames that this file names, one a line, in place of FRAME",
-    )
-}
-
-fn null_option<'a>(alloc: Global) -> Result<Arg<'a>, AllocError> {
-    Arg::new(alloc, "null")
-        .long("null")
-        .action(ArgAction::SetTrue)
-        .help("Has NUL behind each name of the list, and not LF")
-        .requires_arg("list")?
-        .conflicts_with("FRAME")
-}
-
-fn only_refused_option<'a>(alloc: Global) -> Arg<'a> {
-    Arg::new(alloc, "only-refused")
-        .long("only-refused")
-        .action(ArgAction::SetTrue)
-        .help("Leaves out the lines of accepted frames")
-}
-
-fn summary_option<'a>(alloc: Global) -> Arg<'a> {
-    Arg::new(alloc, "summary")
-        .long("summary")
-        .action(ArgAction::SetTrue)
-        .help("Ends with a line that counts the frames by what is said of them")
-}
-
-fn cert_option<'a>(alloc: Global) -> Result<Arg<'a>, AllocError> {
-    Arg::new(alloc, "cert")
-        .long("cert")
-        .value_name("CERT")
-        .help(
-            "Judges all frames by this certificate of the ROM's shapes, which says where the ROM lies",
-        )
-        .conflicts_with("rom")
-}
-
-fn board_option<'a>(alloc: Global) -> Arg<'a> {
-    Arg::new(alloc, "board")
-        .long("board")
-        .action(ArgAction::SetTrue)
-        .help(
-            "Takes a board of the DVG for the machine: draws move by whole places, LABS has twelve bits",
-        )
 }
 
 /// The command with the argument ROM, and what its help says of files.
@@ -332,53 +245,11 @@ fn with_rom<'a>(alloc: Global, command: Command<'a>) -> Result<Command<'a>, Allo
         .arg(needed(alloc, "ROM", ROM_HELP))
 }
 
-/// The command with the options that limit what a frame may do.
-fn with_limits<'a>(alloc: Global, command: Command<'a>) -> Result<Command<'a>, AllocError> {
-    let clip = clip_option(alloc)?;
-    command
-        .arg(budget_option(alloc))?
-        .arg(window_option(alloc))?
-        .arg(clip)
-}
-
-/// The command with the options of `frames`.
-fn with_frames_options<'a>(alloc: Global, command: Command<'a>) -> Result<Command<'a>, AllocError> {
-    let cert = cert_option(alloc)?;
-    let command = command
-        .arg(board_option(alloc))?
-        .arg(map_option(alloc))?
-        .arg(cert)?;
-    with_limits(alloc, command)?.arg(start_option(alloc))
-}
-
-/// The command with the options of `frames` that are about many frames.
-fn with_list_options<'a>(alloc: Global, command: Command<'a>) -> Result<Command<'a>, AllocError> {
-    let null = null_option(alloc)?;
-    command
-        .arg(list_option(alloc))?
-        .arg(null)?
-        .arg(only_refused_option(alloc))?
-        .arg(summary_option(alloc))
-}
-
 fn frames_command<'a>(alloc: Global) -> Result<Command<'a>, AllocError> {
     let command = Command::new(alloc, "frames").about(
         "Judges frames over a vector ROM, each by a certificate made for it, and prints a line for each",
     );
     with_rom(alloc, command)?.arg(frames_argument(alloc)?)
-}
-
-fn exact_option<'a>(alloc: Global) -> Arg<'a> {
-    Arg::new(alloc, "exact")
-        .long("exact")
-        .action(ArgAction::SetTrue)
-        .help("Takes the certificate's words and depths as exact, not as bounds")
-}
-
-/// The command with the options of `check`.
-fn with_check_options<'a>(alloc: Global, command: Command<'a>) -> Result<Command<'a>, AllocError> {
-    let command = command.arg(board_option(alloc))?;
-    with_limits(alloc, command)?.arg(exact_option(alloc))
 }
 
 fn check_command<'a>(alloc: Global) -> Result<Command<'a>, AllocError> {
@@ -398,37 +269,6 @@ fn roots_argument<'a>(alloc: Global) -> Arg<'a> {
         .num_args(1..)
 }
 
-fn frame_option<'a>(alloc: Global) -> Arg<'a> {
-    Arg::new(alloc, "frame")
-        .long("frame")
-        .value_name("FRAME")
-        .action(ArgAction::Append)
-        .help("A frame, whose calls are roots, too")
-}
-
-/// The command with the options that say what is made.
-fn with_maker_options<'a>(alloc: Global, command: Command<'a>) -> Result<Command<'a>, AllocError> {
-    command
-        .arg(board_option(alloc))?
-        .arg(frame_option(alloc))?
-        .arg(map_option(alloc))
-}
-
-fn output_option<'a>(alloc: Global) -> Arg<'a> {
-    Arg::new(alloc, "output")
-        .short('o')
-        .long("output")
-        .value_name("FILE")
-        .help(
-            "Writes the certificate to this file, which keeps what it holds until the new one is whole",
-        )
-}
-
-/// The command with the options of `make`.
-fn with_make_options<'a>(alloc: Global, command: Command<'a>) -> Result<Command<'a>, AllocError> {
-    with_maker_options(alloc, command)?.arg(output_option(alloc))
-}
-
 fn make_command<'a>(alloc: Global) -> Result<Command<'a>, AllocError> {
     let command = Command::new(alloc, "make").about(
         "Prints the certificate of shapes of a vector ROM, and of all that they call",
@@ -444,11 +284,11 @@ fn explain_frames_command<'a>(alloc: Global) -> Result<Command<'a>, AllocError> 
         "Judges a frame over a vector ROM, by a certificate made for it, and explains the answer",
     );
     let command = with_rom(alloc, command)?.arg(needed(alloc, "FRAME", FRAME_HELP))?;
-    with_frames_options(alloc, command)
+    Told::All.with(alloc, command, &FRAMES_OPTIONS)
 }
 
 fn explain_check_command<'a>(alloc: Global) -> Result<Command<'a>, AllocError> {
-    with_check_options(alloc, check_command(alloc)?)
+    Told::All.with(alloc, check_command(alloc)?, &CHECK_OPTIONS)
 }
 
 fn explain_make_command<'a>(alloc: Global) -> Result<Command<'a>, AllocError> {
@@ -456,7 +296,7 @@ fn explain_make_command<'a>(alloc: Global) -> Result<Command<'a>, AllocError> {
         "Explains what certificate is made of shapes of a vector ROM, or why none, and writes none",
     );
     let command = with_rom(alloc, command)?.arg(roots_argument(alloc))?;
-    with_maker_options(alloc, command)
+    Told::All.with(alloc, command, &MAKER_OPTIONS)
 }
 
 fn explain_command<'a>(alloc: Global) -> Result<Command<'a>, AllocError> {
@@ -496,7 +336,7 @@ fn command<'a>(alloc: Global) -> Result<Command<'a>, AllocError> {
         .subcommand_required(true)
         .arg_required_else_help(true);
     for task in Task::ALL {
-        command = command.subcommand(task.command(alloc)?)?;
+        command = command.subcommand(task.command(alloc, Told::All)?)?;
     }
     Ok(command)
 }
@@ -789,15 +629,15 @@ fn may_name_options(arguments: &[String]) -> bool {
     false
 }
 
-/// What `clap` makes of the arguments of this subcommand. It is parsed alone, without its help, and without its options if no word
-/// may name one, since the rest of the program's command would only cost time.
+/// What `clap` makes of the arguments of this subcommand. It is parsed alone, without its help, and without the options that no word
+/// may name, since the rest of the program's command would only cost time.
 fn matches_of<'a>(
     alloc: Global,
     task: Task,
     arguments: &'a [String],
 ) -> Result<ArgMatches<'a>, clap::Error> {
     let command = if may_name_options(arguments) {
-        task.command(alloc)?
+        task.command(alloc, Told::NamedBy(arguments))?
     } else {
         task.bare_command(alloc)?
     };

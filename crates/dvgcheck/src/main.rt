@@ -11,6 +11,7 @@ mod escaping;
 mod form;
 mod input;
 mod list;
+mod options;
 mod output;
 
 use command::{

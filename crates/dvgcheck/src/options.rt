@@ -1,0 +1,201 @@
+//! The options of the subcommands.
+
+use crate::form::Form;
+use clap::{Arg, ArgAction, Command, value_parser};
+use dvg_cmd::MOST_WORDS;
+use std::alloc::{AllocError, Global};
+
+/// An option of a subcommand. No default is `clap`'s, which would parse it and give it a place at each run: what reads the option has
+/// it, and the help says so.
+#[derive(Clone, Copy, PartialEq, Eq)]
+pub enum CommandOption {
+    Board,
+    Budget,
+    Cert,
+    Clip,
+    Exact,
+    Frame,
+    List,
+    Map,
+    Null,
+    OnlyRefused,
+    Output,
+    Start,
+    Summary,
+    Window,
+}
+
+/// The options of `frames` and of `explain frames`.
+pub const FRAMES_OPTIONS: [CommandOption; 7] = [
+    CommandOption::Board,
+    CommandOption::Map,
+    CommandOption::Cert,
+    CommandOption::Budget,
+    CommandOption::Window,
+    CommandOption::Clip,
+    CommandOption::Start,
+];
+
+/// The options of `frames` that are about many frames.
+pub const LIST_OPTIONS: [CommandOption; 4] = [
+    CommandOption::List,
+    CommandOption::Null,
+    CommandOption::OnlyRefused,
+    CommandOption::Summary,
+];
+
+/// The options of `check` and of `explain check`.
+pub const CHECK_OPTIONS: [CommandOption; 5] = [
+    CommandOption::Board,
+    CommandOption::Budget,
+    CommandOption::Window,
+    CommandOption::Clip,
+    CommandOption::Exact,
+];
+
+/// The options of `make` and of `explain make` that say what is made.
+pub const MAKER_OPTIONS: [CommandOption; 3] = [
+    CommandOption::Board,
+    CommandOption::Frame,
+    CommandOption::Map,
+];
+
+/// The options of `make` that say where the certificate goes.
+pub const OUTPUT_OPTIONS: [CommandOption; 1] = [CommandOption::Output];
+
+impl CommandOption {
+    /// The name, which stands behind `--`.
+    fn name(self) -> &'static str {
+        match self {
+            CommandOption::Board => "board",
+            CommandOption::Budget => "budget",
+            CommandOption::Cert => "cert",
+            CommandOption::Clip => "clip",
+            CommandOption::Exact => "exact",
+            CommandOption::Frame => "frame",
+            CommandOption::List => "list",
+            CommandOption::Map => "rom",
+            CommandOption::Null => "null",
+            CommandOption::OnlyRefused => "only-refused",
+            CommandOption::Output => "output",
+            CommandOption::Start => "start",
+            CommandOption::Summary => "summary",
+            CommandOption::Window => "window",
+        }
+    }
+
+    /// What the help says of it.
+    fn help(self) -> &'static str {
+        match self {
+            CommandOption::Board => {
+                "Takes a board of the DVG for the machine: draws move by whole places, LABS has twelve bits"
+            }
+            CommandOption::Budget => {
+                "How many words the frame may take at most [default: 20000]"
+            }
+            CommandOption::Cert => {
+                "Judges all frames by this certificate of the ROM's shapes, which says where the ROM lies"
+            }
+            CommandOption::Clip => {
+                "Lets lit strokes reach from -1024 to 2047, where the board blanks what is off the screen"
+            }
+            CommandOption::Exact => {
+                "Takes the certificate's words and depths as exact, not as bounds"
+            }
+            CommandOption::Frame => "A frame, whose calls are roots, too",
+            CommandOption::List => {
+                "Judges the frames that this file names, one a line, in place of FRAME"
+            }
+            CommandOption::Map => {
+                "The word addresses of the ROM's first and last word, within 400 to BFF [default: 800/BFF]"
+            }
+            CommandOption::Null => "Has NUL behind each name of the list, and not LF",
+            CommandOption::OnlyRefused => "Leaves out the lines of accepted frames",
+            CommandOption::Output => {
+                "Writes the certificate to this file, which keeps what it holds until the new one is whole"
+            }
+            CommandOption::Start => {
+                "Judges each frame as though its word 000 were the jump to this word address"
+            }
+            CommandOption::Summary => {
+                "Ends with a line that counts the frames by what is said of them"
+            }
+            CommandOption::Window => {
+                "Where the screen may be lit: from X0 to X1 across, from Y0 to Y1 up [default: 0,1023,0,1023]"
+            }
+        }
+    }
+
+    /// The option as `clap` takes it.
+    fn arg<'a>(self, alloc: Global) -> Result<Arg<'a>, AllocError> {
+        let arg = Arg::new(alloc, self.name())
+            .long(self.name())
+            .help(self.help());
+        match self {
+            CommandOption::Board
+            | CommandOption::Exact
+            | CommandOption::OnlyRefused
+            | CommandOption::Summary => Ok(arg.action(ArgAction::SetTrue)),
+            CommandOption::Clip => {
+                let arg = arg.action(ArgAction::SetTrue).conflicts_with("window")?;
+                arg.requires_arg("board")
+            }
+            CommandOption::Null => {
+                let arg = arg.action(ArgAction::SetTrue).requires_arg("list")?;
+                arg.conflicts_with("FRAME")
+            }
+            CommandOption::Budget => {
+                let words = value_parser!(u32).range(1..=i64::from(MOST_WORDS));
+                Ok(arg.value_name("N").value_parser(words))
+            }
+            CommandOption::Cert => arg.value_name("CERT").conflicts_with("rom"),
+            CommandOption::Frame => Ok(arg.value_name("FRAME").action(ArgAction::Append)),
+            CommandOption::List => Ok(arg.value_name("FILE")),
+            CommandOption::Output => Ok(arg.short('o').value_name("FILE")),
+            CommandOption::Map => Ok(arg.value_name(Form::Map.pattern())),
+            CommandOption::Start => Ok(arg.value_name(Form::Start.pattern())),
+            CommandOption::Window => Ok(arg.value_name(Form::Window.pattern())),
+        }
+    }
+
+    /// Whether this word may name it, with or without its value.
+    fn may_be(self, word: &str) -> bool {
+        match word.strip_prefix("--") {
+            Some(name) => name.starts_with(self.name()),
+            None => self == CommandOption::Output && word.starts_with("-o"),
+        }
+    }
+}
+
+/// Which options of a subcommand `clap` is told of.
+#[derive(Clone, Copy)]
+pub enum Told<'w> {
+    All,
+    /// Those that a word of these may name. What `clap` says of others is an error, as it is of those with which one of these conflicts.
+    NamedBy(&'w [String]),
+}
+
+impl<'w> Told<'w> {
+    fn includes(self, option: CommandOption) -> bool {
+        match self {
+            Told::All => true,
+            Told::NamedBy(words) => words.iter().any(|word| option.may_be(word.as_str())),
+        }
+    }
+
+    /// The command with those of these options that `clap` is told of.
+    pub fn with<'a>(
+        self,
+        alloc: Global,
+        command: Command<'a>,
+        options: &[CommandOption],
+    ) -> Result<Command<'a>, AllocError> {
+        let mut command = command;
+        for option in options {
+            if self.includes(*option) {
+                command = command.arg(option.arg(alloc)?)?;
+            }
+        }
+        Ok(command)
+    }
+}
