@@ -158,6 +158,15 @@ impl CommandOption {
         }
     }
 
+    /// The option that requires it.
+    fn required_by(self) -> Option<CommandOption> {
+        match self {
+            CommandOption::Board => Some(CommandOption::Clip),
+            CommandOption::List => Some(CommandOption::Null),
+            _ => None,
+        }
+    }
+
     /// Whether this word may name it, with or without its value.
     fn may_be(self, word: &str) -> bool {
         match word.strip_prefix("--") {
@@ -165,13 +174,23 @@ impl CommandOption {
             None => self == CommandOption::Output && word.starts_with("-o"),
         }
     }
+
+    /// Whether one of these words may name it or the option that requires it.
+    fn matters_in(self, words: &[String]) -> bool {
+        words.iter().any(|word| {
+            self.may_be(word.as_str())
+                || self
+                    .required_by()
+                    .is_some_and(|option| option.may_be(word.as_str()))
+        })
+    }
 }
 
 /// Which options of a subcommand `clap` is told of.
 #[derive(Clone, Copy)]
 pub enum Told<'w> {
     All,
-    /// Those that a word of these may name. What `clap` says of others is an error, as it is of those with which one of these conflicts.
+    /// Those that a word of these may name, and those that such an option requires, since `clap` would not miss them otherwise.
     NamedBy(&'w [String]),
 }
 
@@ -179,7 +198,7 @@ impl<'w> Told<'w> {
     fn includes(self, option: CommandOption) -> bool {
         match self {
             Told::All => true,
-            Told::NamedBy(words) => words.iter().any(|word| option.may_be(word.as_str())),
+            Told::NamedBy(words) => option.matters_in(words),
         }
     }
 
