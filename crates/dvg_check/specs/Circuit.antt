@@ -4,7 +4,8 @@ use Rattle.std.specs.List.{AllByRecursion}
 use Rattle.dvg_words.specs.Values.{Window}
 use Rattle.dvg_words.specs.Memory.{Memory}
 use Rattle.dvg_circuit.specs.declared.circuit.Circuit.{Circuit}
-use Rattle.dvg_circuit.specs.Circuit.{LitDraw, Reads, Run, run_after, begin}
+use Rattle.dvg_circuit.specs.declared.lit.LitDraw.{LitDraw}
+use Rattle.dvg_circuit.specs.Circuit.{Reads, Run, run_after, begin}
 use Rattle.dvg_circuit.specs.Premises.{IsStart, ReadsAs}
 use Rattle.dvg_circuit.specs.Showing.{IsDrawInWindow}
 use Rattle.dvg_check.specs.Safety.{IsMapped}

@@ -29,7 +29,7 @@ use Rattle.dvg_check.specs.Behaving.{ScaleFits, PlaceFits, Behaves}
 use Rattle.dvg_check.specs.Safety.{Safe}
 use Rattle.dvg_circuit.specs.Counters.{counters_after}
 use Rattle.dvg_circuit.specs.Laws.{moved, twelve_bits}
-use Rattle.dvg_circuit.specs.Circuit.{LitDraw}
+use Rattle.dvg_circuit.specs.declared.lit.LitDraw.{LitDraw}
 use Rattle.dvg_circuit.specs.Showing.{IsPlaceOf}
 use Rattle.dvg_check.specs.Circuit.{SafeRuns, SafeOnCircuit, CountsOnCircuit}
 pub use Rattle.dvg_check.specs.Safety.{CountsAtHalt}
