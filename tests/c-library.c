@@ -71,18 +71,20 @@ static struct dvgcheck_answer judge_in(const struct bytes *r, const struct bytes
     return dvgcheck_judge(r->at, r->length, c->at, c->length, window, &shapes);
 }
 
-static struct dvgcheck_answer judge(const struct bytes *r, const struct bytes *c) { return judge_in(r, c, DVGCHECK_SCREEN); }
+static const struct dvgcheck_window screen = DVGCHECK_SCREEN;
+
+static struct dvgcheck_answer judge(const struct bytes *r, const struct bytes *c) { return judge_in(r, c, screen); }
 
 static struct dvgcheck_answer judge_exact(const struct bytes *r, const struct bytes *c) {
-    return dvgcheck_judge_exact(r->at, r->length, c->at, c->length, DVGCHECK_SCREEN, &shapes);
+    return dvgcheck_judge_exact(r->at, r->length, c->at, c->length, screen, &shapes);
 }
 
 static struct dvgcheck_answer check(const struct bytes *c, size_t length, uint32_t budget) {
-    return dvgcheck_check(rom.at, rom.length, c->at, c->length, frame.at, length, budget, DVGCHECK_SCREEN);
+    return dvgcheck_check(rom.at, rom.length, c->at, c->length, frame.at, length, budget, screen);
 }
 
 static struct dvgcheck_answer check_exact(const struct bytes *c, size_t length, uint32_t budget) {
-    return dvgcheck_check_exact(rom.at, rom.length, c->at, c->length, frame.at, length, budget, DVGCHECK_SCREEN);
+    return dvgcheck_check_exact(rom.at, rom.length, c->at, c->length, frame.at, length, budget, screen);
 }
 
 static struct dvgcheck_answer over(size_t length, uint32_t budget) { return dvgcheck_frame(&shapes, frame.at, length, budget); }
@@ -173,9 +175,9 @@ static struct dvgcheck_answer half_check(uint32_t machine, int by) {
     const uint8_t *c = (const uint8_t *)half_certs[by];
     size_t length = strlen(half_certs[by]);
     struct dvgcheck_answer a = dvgcheck_check_on(machine, half_rom, sizeof half_rom, c, length, half_frame, sizeof half_frame,
-                                                 BUDGET, DVGCHECK_SCREEN);
+                                                 BUDGET, screen);
     struct dvgcheck_answer exact = dvgcheck_check_exact_on(machine, half_rom, sizeof half_rom, c, length, half_frame,
-                                                           sizeof half_frame, BUDGET, DVGCHECK_SCREEN);
+                                                           sizeof half_frame, BUDGET, screen);
     EXPECT(same(a, exact), 1);
     return a;
 }
@@ -184,8 +186,8 @@ static struct dvgcheck_answer half_judge(uint32_t machine, int by) {
     const uint8_t *c = (const uint8_t *)half_certs[by];
     size_t length = strlen(half_certs[by]);
     struct dvgcheck_answer exact =
-        dvgcheck_judge_exact_on(machine, half_rom, sizeof half_rom, c, length, DVGCHECK_SCREEN, &copied);
-    struct dvgcheck_answer a = dvgcheck_judge_on(machine, half_rom, sizeof half_rom, c, length, DVGCHECK_SCREEN, &shapes);
+        dvgcheck_judge_exact_on(machine, half_rom, sizeof half_rom, c, length, screen, &copied);
+    struct dvgcheck_answer a = dvgcheck_judge_on(machine, half_rom, sizeof half_rom, c, length, screen, &shapes);
     EXPECT(same(a, exact), 1);
     return a;
 }
@@ -287,10 +289,10 @@ static void clipped(void) {
     EXPECT(same(crossing_over(&copied), a), 1);
     EXPECT(same(dvgcheck_frame_on(DVGCHECK_BOARD, &shapes, crossing.at, crossing.length, BUDGET), a), 1);
 
-    a = crossing_check(DVGCHECK_BOARD, DVGCHECK_SCREEN);
+    a = crossing_check(DVGCHECK_BOARD, screen);
     EXPECT(a.number, 46);
     EXPECT(a.word, 7);
-    EXPECT(crossing_judge(DVGCHECK_BOARD, DVGCHECK_SCREEN), 0);
+    EXPECT(crossing_judge(DVGCHECK_BOARD, screen), 0);
     EXPECT(same(crossing_over(&shapes), a), 1);
     EXPECT(same(crossing_over(&copied), a), 1);
 

@@ -47,8 +47,8 @@ int main(int count, char **words) {
         fprintf(stderr, "usage: judge ROM CERT FRAME..\n");
         return 2;
     }
-    struct dvgcheck_answer answer =
-        dvgcheck_judge(rom, (size_t)rom_length, cert, (size_t)cert_length, DVGCHECK_SCREEN, &shapes);
+    struct dvgcheck_window screen = DVGCHECK_SCREEN;
+    struct dvgcheck_answer answer = dvgcheck_judge(rom, (size_t)rom_length, cert, (size_t)cert_length, screen, &shapes);
     if (answer.number != DVGCHECK_ACCEPTED) {
         say(words[2], answer);
         return 1;

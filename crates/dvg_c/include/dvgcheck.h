@@ -32,14 +32,16 @@ struct dvgcheck_window {
     int16_t x_min, x_max, y_min, y_max;
 };
 
-/* The whole screen. */
-static const struct dvgcheck_window DVGCHECK_SCREEN = {0, 1023, 0, 1023};
+/*
+ * The whole screen. Like DVGCHECK_CLIPPED, it is an initializer:
+ *
+ *     struct dvgcheck_window screen = DVGCHECK_SCREEN;
+ */
+#define DVGCHECK_SCREEN {0, 1023, 0, 1023}
 
 /*
  * The zone that a board clips: of what is lit in it a board shows just what lies on the screen (docs/MACHINE.md). It is a window of
- * the calls in _on that are passed DVGCHECK_BOARD, and of no other call. It is an initializer:
- *
- *     struct dvgcheck_window zone = DVGCHECK_CLIPPED;
+ * the calls in _on that are passed DVGCHECK_BOARD, and of no other call.
  */
 #define DVGCHECK_CLIPPED {-1024, 2047, -1024, 2047}
 
