@@ -1,7 +1,11 @@
 -- The lines of a verdict. All of it is this project's own.
-use Rattle.std.specs.Prelude.{◌≡◌, List, length, Option, Some, Result, Ok, Err, IfSome}
-use Rattle.dvg_words.specs.Memory.{words_of, rom_on, IsFrameLength, IsRomLength}
+use Rattle.std.specs.Prelude.{◌≡◌, List, length, Option, Some, Result, Ok, Err, IfSome, option_copied}
+use Rattle.dvg_words.specs.Memory.{Rom, words_of, rom_on, IsFrameLength, IsRomLength}
+use Rattle.dvg_words.specs.declared.machine.Machine.{Machine}
+use Rattle.dvg_cert.specs.Order.{Certificate}
+use Rattle.dvg_check.specs.Causes.{refusal_of}
 use Rattle.dvg_check.specs.Numbers.{refusal_number}
+use Rattle.dvg_check.specs.declared.fault.Mode.TheVariants.{Exact}
 use Rattle.dvg_check.specs.declared.verdict.Yes.{Yes}
 use Rattle.dvg_check.specs.declared.verdict.Refusal.{Refusal}
 use Rattle.dvg_check.specs.declared.finding.RomFinding.{RomFinding}
@@ -13,6 +17,11 @@ use Rattle.dvg_account.specs.declared.inputs.Inputs.{Inputs}
 use Rattle.dvg_account.specs.declared.inputs.PlainWhy.{PlainWhy}
 use Rattle.dvg_account.specs.declared.inputs.PlainWhy.TheVariants.{Nothing}
 use Rattle.dvg_account.specs.declared.line.Line.{Line}
+use Rattle.dvg_account.specs.Making.{UnmadeLines}
+use Rattle.dvg_make.specs.declared.account.EntryCause.{EntryCause}
+use Rattle.dvg_make.specs.declared.account.EntryCause.TheVariants as cause
+use Rattle.dvg_make.specs.declared.account.MakeAccount.{MakeAccount}
+use Rattle.dvg_make.specs.declared.judging.JudgedFrame.{JudgedFrame}
 use Rattle.dvg_make.specs.declared.judging.FrameRefusal.{FrameRefusal}
 use Rattle.dvg_make.specs.declared.judging.FrameRefusal.TheVariants.{Check}
 
@@ -34,3 +43,33 @@ abbrev pub FrameVerdictLines : Inputs → Result Yes FrameRefusal → Option Rom
 FrameVerdictLines inputs (Ok y) cause lines = AcceptedLines inputs y lines
 FrameVerdictLines inputs (Err (Check refusal)) cause lines = RefusedLines inputs refusal cause lines
 FrameVerdictLines inputs (Err refusal) cause lines = lines ≡ plain_lines inputs.machine 63 Nothing
+
+-- the lines of a verdict on inputs that comes with the cause of a refusal
+abbrev pub JudgedLines : Inputs → Result Yes RomFinding → List Line → Type 0
+JudgedLines inputs (Ok y) lines = AcceptedLines inputs y lines
+JudgedLines inputs (Err f) lines = RefusedLines inputs (refusal_of f) (Some f) lines
+
+-- these inputs are others with this certificate in the place of theirs, and with exact counts
+pub record IsBy (inputs : Inputs) (c : Certificate) (by : Inputs) : Type 0 where
+  pub machine_is : by.machine ≡ inputs.machine
+  pub rom_is : by.rom.now ≡ inputs.rom.now
+  pub map_is : by.map ≡ inputs.map
+  pub cert_is : option_copied by.cert ≡ Some c
+  pub frame_is : by.frame.now ≡ inputs.frame.now
+  pub budget_is : by.budget ≡ inputs.budget
+  pub window_is : by.window ≡ inputs.window
+  pub mode_is : by.mode ≡ Exact
+
+-- the lines of the verdict on inputs by the frame's own certificate
+abbrev pub LinesBy : Inputs → JudgedFrame → List Line → Type 0
+LinesBy inputs judged lines = (by : Inputs) × IsBy inputs judged.cert by × JudgedLines by judged.verdict lines
+
+-- the lines of a refusal of the maker over a ROM; of a want of memory its number alone
+abbrev pub TellsUnmade : Machine → Rom → MakeAccount → EntryCause → List Line → Type 0
+TellsUnmade machine rom account cause.Memory lines = lines ≡ plain_lines machine 63 Nothing
+TellsUnmade machine rom account other lines = UnmadeLines rom account lines
+
+-- the lines of a frame by its own certificate over a ROM: of the verdict by it, or of why none is made
+abbrev pub OwnLines : Inputs → Rom → Result JudgedFrame MakeAccount → List Line → Type 0
+OwnLines inputs rom (Ok judged) lines = LinesBy inputs judged lines
+OwnLines inputs rom (Err account) lines = TellsUnmade inputs.machine rom account account.cause lines

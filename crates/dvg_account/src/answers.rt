@@ -1,10 +1,9 @@
-//! The accounts of answers, as lines and as texts.
+//! The account of a verdict, as lines.
 
 ghost use Rattle.std.specs.Prelude.{IfOk, option_copied};
 ghost use Rattle.dvg_account.specs.Verdicts.{VerdictLines};
 
 use crate::accepted::accepted_lines;
-use crate::cause::find_cause;
 use crate::inputs::Inputs;
 use crate::line::Line;
 use crate::refused::refused_lines;
@@ -23,18 +22,5 @@ pub fn verdict_lines(
     match verdict {
         Ok(yes) => accepted_lines(alloc, inputs, *yes),
         Err(refusal) => refused_lines(alloc, inputs, refusal, cause),
-    }
-}
-
-/// The lines of a refusal of these inputs (profile). If it is because of an item, its cause is found first.
-pub fn refusal_lines(
-    alloc: Global,
-    inputs: &Inputs,
-    refusal: &Refusal,
-) -> Result<Vec<Line>, AllocError> {
-    match find_cause(alloc, inputs, refusal) {
-        Ok(Some(cause)) => refused_lines(alloc, inputs, refusal, Some(&cause)),
-        Ok(None) => refused_lines(alloc, inputs, refusal, None),
-        Err(error) => Err(error),
     }
 }

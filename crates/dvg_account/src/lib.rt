@@ -1,14 +1,13 @@
 //! The account of an answer: what is told behind its line.
 //!
-//! An account is a list of [`Line`]s, each with the value that it tells. [`verdict_lines`], [`refusal_lines`], [`frame_lines`] and
-//! [`own_lines`] answer the lines of a verdict, [`made_lines`] and [`unmade_lines`] those of an answer of the maker, [`plain_lines`]
-//! those of a refusal before any item was judged, and their contracts say which lines there are. Beside each of them stands a call
-//! that answers the same account as a text, such as [`verdict_text`].
+//! An account is a list of [`Line`]s, each with the value that it tells. [`verdict_lines`], [`frame_lines`] and [`own_lines`]
+//! answer the lines of a verdict, [`made_lines`] and [`unmade_lines`] those of an answer of the maker, [`plain_lines`] those of a
+//! refusal before any item was judged, and their contracts say which lines there are. Beside each of them stands a call that answers
+//! the same account as a text, such as [`verdict_text`].
 #![tactic(auto)]
 
 mod accepted;
 mod answers;
-mod cause;
 mod cure;
 mod inputs;
 mod item;
@@ -24,7 +23,7 @@ mod texts;
 mod why;
 mod zeros;
 
-pub use answers::{refusal_lines, verdict_lines};
+pub use answers::verdict_lines;
 pub use cure::MakerCure;
 pub use inputs::{Inputs, PlainWhy, plain_lines};
 pub use line::{
@@ -32,8 +31,6 @@ pub use line::{
     Zeros,
 };
 pub use making::{made_lines, unmade_lines};
-pub use own::{OwnMaking, frame_lines, own_lines};
-pub use texts::{
-    frame_text, made_text, own_text, plain_text, refusal_text, unmade_text, verdict_text,
-};
+pub use own::{frame_lines, own_lines};
+pub use texts::{frame_text, made_text, own_text, plain_text, unmade_text, verdict_text};
 pub use why::{Addresses, Bounds, ClaimWhy, Corner, InputWhy, MakerWhy, Owner, Why};

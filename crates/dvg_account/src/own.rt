@@ -1,90 +1,65 @@
 //! The account of a frame that is judged by its own certificate.
 
 ghost use Rattle.std.specs.Prelude.{IfOk, option_copied};
-ghost use Rattle.dvg_account.specs.Verdicts.{FrameVerdictLines};
+ghost use Rattle.dvg_account.specs.Verdicts.{FrameVerdictLines, JudgedLines, LinesBy, OwnLines};
 
-use crate::answers::{refusal_lines, verdict_lines};
+use crate::accepted::accepted_lines;
+use crate::answers::verdict_lines;
 use crate::inputs::{Inputs, PlainWhy, plain_lines};
 use crate::line::Line;
 use crate::making::unmade_lines;
-use dvg_cert::Cert;
+use crate::refused::refused_lines;
 use dvg_check::{Mode, RomFinding, Yes};
-use dvg_make::{EntryCause, FrameRefusal, MakeAccount};
+use dvg_make::{EntryCause, FrameRefusal, JudgedFrame, MakeAccount};
 use dvg_words::RomImage;
 use std::alloc::{AllocError, Global};
 
 /// The number of the refusal that the maker had no memory.
 const NO_MEMORY: u8 = 63;
 
-/// The certificate of a frame, or why there is none.
-#[derive(Drop)]
-enum OwnCertificate {
-    /// The maker was not asked: the ROM, the frame or the budget is refused.
-    Unasked,
-    NoMemory,
-    Made(Cert),
-    /// The maker refuses, and this is the account.
-    Refused(Result<Vec<Line>, AllocError>),
-}
-
-/// What the maker answers for a frame.
-#[derive(Drop)]
-pub struct OwnMaking {
-    certificate: OwnCertificate,
-}
-
-impl OwnMaking {
-    /// The maker was not asked, since the ROM, the frame or the budget is refused.
-    pub fn unasked() -> OwnMaking {
-        OwnMaking {
-            certificate: OwnCertificate::Unasked,
-        }
-    }
-
-    /// What the maker answers over a ROM.
-    pub fn of(alloc: Global, rom: &RomImage, made: Result<Cert, MakeAccount>) -> OwnMaking {
-        let certificate = match made {
-            Ok(cert) => OwnCertificate::Made(cert),
-            Err(account) if account.cause == EntryCause::Memory => OwnCertificate::NoMemory,
-            Err(account) => OwnCertificate::Refused(unmade_lines(alloc, rom, account)),
-        };
-        OwnMaking { certificate }
-    }
-}
-
-/// The lines of a verdict on the frame of these inputs by its own certificate, in the place of theirs and in the mode `Exact`
-/// (profile).
+/// The lines of what the frame of these inputs comes to by its own certificate over a ROM, which is in the place of theirs and in the
+/// mode `Exact` (profile).
 pub fn own_lines(
     alloc: Global,
     inputs: &Inputs,
-    verdict: &Result<Yes, FrameRefusal>,
-    making: OwnMaking,
-) -> Result<Vec<Line>, AllocError> {
-    match making.certificate {
-        OwnCertificate::Unasked => lines_by(alloc, inputs, None, verdict),
-        OwnCertificate::NoMemory => {
+    rom: &RomImage,
+    judged: Result<JudgedFrame, MakeAccount>,
+) -> Result<Vec<Line>, AllocError>
+    ensures { IfOk result (λ lines. OwnLines inputs.now rom.now judged lines.items) }
+{
+    match judged {
+        Ok(judged) => lines_by(alloc, inputs, &judged),
+        Err(account) if account.cause == EntryCause::Memory => {
             plain_lines(inputs.machine, alloc, NO_MEMORY, PlainWhy::Nothing)
         }
-        OwnCertificate::Made(cert) => lines_by(alloc, inputs, Some(&cert), verdict),
-        OwnCertificate::Refused(lines) => lines,
+        Err(account) => unmade_lines(alloc, rom, account),
     }
 }
 
-/// The lines of a verdict on the frame of these inputs by this certificate, if there is one.
-fn lines_by(
-    alloc: Global,
-    inputs: &Inputs,
-    cert: Option<&Cert>,
-    verdict: &Result<Yes, FrameRefusal>,
-) -> Result<Vec<Line>, AllocError> {
-    let by_cert = Inputs {
+/// The lines of the verdict on the frame of these inputs by its own certificate.
+fn lines_by(alloc: Global, inputs: &Inputs, judged: &JudgedFrame) -> Result<Vec<Line>, AllocError>
+    ensures { IfOk result (λ lines. LinesBy inputs.now judged.now lines.items) }
+{
+    let cert = Some(&judged.cert);
+    let by_own = Inputs {
         cert,
         mode: Mode::Exact,
         ..*inputs
     };
+    judged_lines(alloc, &by_own, &judged.verdict)
+}
+
+/// The lines of a verdict on these inputs that comes with the cause of a refusal.
+fn judged_lines(
+    alloc: Global,
+    inputs: &Inputs,
+    verdict: &Result<Yes, RomFinding>,
+) -> Result<Vec<Line>, AllocError>
+    ensures { IfOk result (λ lines. JudgedLines inputs.now verdict.now lines.items) }
+{
     match verdict {
-        Err(FrameRefusal::Check(refusal)) => refusal_lines(alloc, &by_cert, refusal),
-        _ => frame_lines(alloc, &by_cert, verdict, None),
+        Ok(yes) => accepted_lines(alloc, inputs, *yes),
+        Err(finding) => refused_lines(alloc, inputs, &finding.refusal(), Some(finding)),
     }
 }
 

@@ -1,13 +1,13 @@
 //! The accounts of answers, as texts.
 
-use crate::answers::{refusal_lines, verdict_lines};
+use crate::answers::verdict_lines;
 use crate::inputs::{Inputs, PlainWhy, plain_lines};
 use crate::making::{made_lines, unmade_lines};
-use crate::own::{OwnMaking, frame_lines, own_lines};
+use crate::own::{frame_lines, own_lines};
 use crate::spelling::text_of;
 use dvg_cert::Cert;
 use dvg_check::{Refusal, RomFinding, Yes};
-use dvg_make::{FrameRefusal, MakeAccount};
+use dvg_make::{FrameRefusal, JudgedFrame, MakeAccount};
 use dvg_words::{Machine, RomImage};
 use std::alloc::{AllocError, Global};
 
@@ -19,15 +19,6 @@ pub fn verdict_text(
     cause: Option<&RomFinding>,
 ) -> Result<String, AllocError> {
     text_of(alloc, &verdict_lines(alloc, inputs, verdict, cause)?)
-}
-
-/// The account of [`refusal_lines`] as a text.
-pub fn refusal_text(
-    alloc: Global,
-    inputs: &Inputs,
-    refusal: &Refusal,
-) -> Result<String, AllocError> {
-    text_of(alloc, &refusal_lines(alloc, inputs, refusal)?)
 }
 
 /// The account of [`frame_lines`] as a text.
@@ -44,10 +35,10 @@ pub fn frame_text(
 pub fn own_text(
     alloc: Global,
     inputs: &Inputs,
-    verdict: &Result<Yes, FrameRefusal>,
-    making: OwnMaking,
+    rom: &RomImage,
+    judged: Result<JudgedFrame, MakeAccount>,
 ) -> Result<String, AllocError> {
-    text_of(alloc, &own_lines(alloc, inputs, verdict, making)?)
+    text_of(alloc, &own_lines(alloc, inputs, rom, judged)?)
 }
 
 /// The account of [`plain_lines`] as a text.

@@ -9,14 +9,14 @@ ghost use Rattle.dvg_check.specs.Verdict.{PartsVerdict, RomVerdict};
 ghost use Rattle.dvg_check.specs.Safety.{Safe, CountsAtHalt};
 ghost use Rattle.dvg_check.specs.Circuit.{SafeOnCircuit, CountsOnCircuit};
 ghost use Rattle.dvg_check.specs.Causes.{refusal_of, verdict_of, TellsOf};
+ghost use Rattle.dvg_check.specs.declared.finding.RomFinding.TheVariants as findings;
 
 use crate::fault::{FrameFinding, Mode, ShapeFinding};
 use crate::judged::JudgedShapes;
-use crate::shapes::find_shape_fault;
 use crate::verdict::{Refusal, Yes};
 use dvg_cert::{Cert, HashIndex};
 use dvg_words::{FrameImage, ImageFault, Machine, RomImage, Window};
-use std::alloc::Global;
+use std::alloc::{AllocError, Global};
 
 /// Why a ROM and a frame are refused by a certificate, with the cause.
 #[derive(Clone, Copy)]
@@ -45,7 +45,26 @@ impl RomFinding {
     }
 }
 
-/// Judges a frame over a vector ROM and the entries of its certificate in a mode. A refusal comes with its cause.
+/// Of all that `find_parts_fault` calls, making the index alone answers an `AllocError`.
+impl From<AllocError> for RomFinding {
+    ghost from_gives = { λ _ finding. finding ≡ findings.IndexMemory };
+
+    fn from(_: AllocError) -> RomFinding {
+        RomFinding::IndexMemory
+    }
+}
+
+impl From<ShapeFinding> for RomFinding {
+    ghost from_gives = { λ shape finding. finding ≡ findings.Shape shape };
+
+    fn from(shape: ShapeFinding) -> RomFinding {
+        RomFinding::Shape(shape)
+    }
+}
+
+/// Judges a frame over a vector ROM and the entries of its certificate in a mode, as [`check_parts`](crate::check_parts) and
+/// [`check_parts_exact`](crate::check_parts_exact) do. With a refusal because of an item it answers what is known there, and the rule's
+/// own numbers (profile).
 pub fn find_parts_fault(
     alloc: Global,
     rom: &RomImage,
@@ -66,13 +85,8 @@ pub fn find_parts_fault(
         → IfOk result (λ yes. CountsOnCircuit (record { frame = frame.now; rom = rom.now }) yes.words yes.depth) }
 {
     let listed = cert.entries().len();
-    let Ok(entries) = HashIndex::new(alloc, cert) else {
-        return Err(RomFinding::IndexMemory);
-    };
-    if let Err(finding) = find_shape_fault(rom, cert, &entries, &window, mode) {
-        return Err(RomFinding::Shape(finding));
-    }
-    let shapes = JudgedShapes::unchecked(rom, &entries, window, mode);
+    let entries = HashIndex::new(alloc, cert)?;
+    let shapes = JudgedShapes::find_shape_fault(rom, cert, &entries, window, mode)?;
     match shapes.find_fault(frame, budget) {
         Ok(accepted) => Ok(Yes {
             shapes: listed as u32,

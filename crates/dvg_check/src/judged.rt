@@ -7,15 +7,15 @@ ghost use Rattle.dvg_check.specs.declared.fault.Mode.TheVariants.{Exact};
 ghost use Rattle.dvg_items.specs.Bounds.{IsSomeCertificate};
 ghost use Rattle.dvg_check.specs.Rules.{Good, GoodFrame};
 ghost use Rattle.dvg_check.specs.FirstFault.{FirstShapeFault, FirstFrameFault};
-ghost use Rattle.dvg_check.specs.Causes.{CauseOf};
-ghost use Rattle.dvg_check.specs.Finding.{FirstFrameFound, IsSoundFound};
+ghost use Rattle.dvg_check.specs.Causes.{CauseOf, ShapeCauseOf};
+ghost use Rattle.dvg_check.specs.Finding.{FirstFrameFound, FirstShapeFound, IsSoundFound};
 ghost use Rattle.dvg_check.specs.Safety.{Safe};
 ghost use Rattle.dvg_check.specs.Circuit.{SafeOnCircuit, CountsOnCircuit};
 ghost use Rattle.dvg_check.specs.Laws.{CountsAtHalt};
 
-use crate::fault::{FrameFault, FrameFinding, Mode, ShapeFault};
+use crate::fault::{FrameFault, FrameFinding, Mode, ShapeFault, ShapeFinding};
 use crate::frames::{Accepted, find_frame_fault};
-use crate::shapes::check_shapes_in;
+use crate::shapes::find_shape_fault;
 use dvg_cert::{Cert, Entries};
 use dvg_words::{FrameImage, RomImage, Window};
 use std::marker::Model;
@@ -61,10 +61,32 @@ impl<'a, E: Entries> JudgedShapes<'a, E> {
         ensures good { OnOk result (Good mode window rom.now cert.now.entries) }
         ensures err { IfErr result (FirstShapeFault mode window rom.now cert.now.entries) }
     {
+        match JudgedShapes::find_shape_fault(rom, cert, entries, window, mode) {
+            Ok(shapes) => Ok(shapes),
+            Err(finding) => Err(finding.fault),
+        }
+    }
+
+    /// Judges each entry's shape, as [`judge`](JudgedShapes::judge) does; with the first fault it answers what the function
+    /// [`find_shape_fault`] does.
+    pub fn find_shape_fault(
+        rom: &'a RomImage<'a>,
+        cert: &Cert,
+        entries: &'a E,
+        window: Window,
+        mode: Mode,
+    ) -> Result<JudgedShapes<'a, E>, ShapeFinding>
+        requires entries { E.list entries.now ≡ cert.now.entries }
+        requires map { rom.now.map ≡ cert.now.map }
+        ensures ok { IfOk result (λ shapes. shapes ≡ record { rom = rom.now; list = cert.now.entries; window = window; mode = mode }) }
+        ensures good { OnOk result (Good mode window rom.now cert.now.entries) }
+        ensures err { IfErr result (FirstShapeFound mode window rom.now cert.now.entries) }
+        ensures cause { IfErr result (ShapeCauseOf window) }
+    {
         // Their clauses say that the ROM is whole, and that the list is that of a certificate.
         let _map = rom.map();
         let _entries = cert.entries();
-        check_shapes_in(mode, &window, rom, cert, entries)?;
+        find_shape_fault(rom, cert, entries, &window, mode)?;
         Ok(JudgedShapes {
             rom,
             entries,

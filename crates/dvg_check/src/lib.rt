@@ -26,7 +26,7 @@ pub use cause::{FrameCause, ShapeCause};
 pub use fault::{
     Found, FrameFault, FrameFinding, FrameWhy, Mode, ShapeFault, ShapeFinding, ShapeWhy,
 };
-pub use finding::{RomFinding, find_rom_fault};
+pub use finding::{RomFinding, find_parts_fault, find_rom_fault};
 pub use frames::{Accepted, check_frame};
 pub use judged::JudgedShapes;
 pub use keys::{KEYS, Keys, SLOTS, key_index, key_of, slot_of};

@@ -17,10 +17,10 @@ ghost use Rattle.dvg_cmd.specs.declared.detail.Detail.TheVariants as details;
 ghost use Rattle.dvg_cmd.specs.Private.Judging.{AreImages};
 
 use crate::detail::{Behind, Detail};
-use dvg_account::{Inputs, OwnMaking, frame_text, own_text};
+use dvg_account::{Inputs, frame_text, own_text};
 use dvg_cert::{Cert, Entries};
 use dvg_check::{JudgedShapes, Mode, Refusal, RomFinding, Yes, frame_of};
-use dvg_make::{FrameRefusal, explain_judging, judge};
+use dvg_make::{FrameRefusal, explain_judging, judge, own_verdict};
 use dvg_words::{FrameImage, Machine, RomImage, RomMap, Window};
 use std::alloc::Global;
 
@@ -131,23 +131,6 @@ fn verdict_by_own(alloc: Global, own: &OwnCertificates, frame: &[u8]) -> Result<
     }
 }
 
-/// The same verdict, and the certificate that it is by, or why none is made.
-fn judge_own(
-    alloc: Global,
-    own: &OwnCertificates,
-    frame: &[u8],
-) -> (Result<Yes, FrameRefusal>, OwnMaking)
-    ensures { VerdictOnBytes own.now.machine own.now.rom.now own.now.map frame.now own.now.budget own.now.window result.0 }
-{
-    match images_for(own.machine, own.rom, own.map, frame, own.budget) {
-        Ok((frame, rom)) => {
-            let judged = explain_judging(alloc, &rom, &frame, own.budget, own.window);
-            (judged.verdict, OwnMaking::of(alloc, &rom, judged.made))
-        }
-        Err(refusal) => (Err(FrameRefusal::Check(refusal)), OwnMaking::unasked()),
-    }
-}
-
 /// The same verdict, and the account of it.
 fn explain_by_own<'a>(
     alloc: Global,
@@ -157,7 +140,6 @@ fn explain_by_own<'a>(
     ensures verdict { VerdictOnBytes own.now.machine own.now.rom.now own.now.map frame.now own.now.budget own.now.window result.0 }
     ensures behind { IsBehind details.Account result.1 }
 {
-    let (verdict, making) = judge_own(alloc, own, frame);
     let inputs = Inputs {
         machine: own.machine,
         rom: own.rom,
@@ -168,8 +150,18 @@ fn explain_by_own<'a>(
         window: own.window,
         mode: Mode::Exact,
     };
-    let account = own_text(alloc, &inputs, &verdict, making);
-    (verdict, Behind::of(account))
+    match images_for(own.machine, own.rom, own.map, frame, own.budget) {
+        Ok((image, rom)) => {
+            let judged = explain_judging(alloc, &rom, &image, own.budget, own.window);
+            let verdict = own_verdict(&judged);
+            (verdict, Behind::of(own_text(alloc, &inputs, &rom, judged)))
+        }
+        Err(refusal) => {
+            let verdict = Err(FrameRefusal::Check(refusal));
+            let account = frame_text(alloc, &inputs, &verdict, None);
+            (verdict, Behind::of(account))
+        }
+    }
 }
 
 /// The judge of frames over judged shapes: the shapes of a certificate over the bytes of a ROM.

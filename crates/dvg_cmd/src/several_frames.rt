@@ -3,8 +3,10 @@
 ghost use Rattle.std.specs.Prelude.{◌≡◌, ◌⊎◌, List, [], ◌∷◌, length, Ok, Err, IfOk, IfErr, IfSome, IfNone, OnOk, OnErr, is_err, option_map};
 ghost use Rattle.std.specs.Io.KnownBytes.{Appends};
 ghost use Rattle.std.specs.Iterator.{Drains, Yields, IsFinite};
-ghost use Rattle.dvg_words.specs.Memory.{IsRomLength};
+ghost use Rattle.dvg_words.specs.Memory.{IsRomLength, rom_on};
 ghost use Rattle.dvg_cert.specs.Devices.{AppendsPrefix, count_after};
+ghost use Rattle.dvg_check.specs.Causes.{refusal_of, TellsOf};
+ghost use Rattle.dvg_check.specs.declared.fault.Mode.TheVariants.{Bound};
 ghost use Rattle.dvg_spelling.specs.Each.{of_each};
 ghost use Rattle.dvg_spelling.specs.Outcomes.{plain_outcome};
 ghost use Rattle.dvg_spelling.specs.declared.outcome.Outcome.{Outcome as Plain};
@@ -18,9 +20,9 @@ use crate::frame_judge::{FrameJudge, GivenCertificate};
 use crate::frame_run::{answer_of, outcome_of, unread_account, write_answer};
 use crate::listing::{Lines, Listing};
 use crate::running::write_report;
-use dvg_account::{Inputs, refusal_text};
+use dvg_account::{Inputs, verdict_text};
 use dvg_cert::{Cert, CertFault, CountedRead, CountedWrite, HashIndex, write_lines};
-use dvg_check::{JudgedShapes, Mode, Refusal};
+use dvg_check::{JudgedShapes, Mode, Refusal, RomFinding};
 use dvg_spelling::{FrameAnswer, FrameOutcome, RunFault, Tally, summary_of};
 use dvg_words::{Machine, RomImage, Window};
 use std::alloc::Global;
@@ -218,7 +220,7 @@ fn run_frames_over<
     frames: I,
     listing: Listing,
     out: &mut W,
-) -> Result<Result<FrameOutcome, RunFault>, Refusal>
+) -> Result<Result<FrameOutcome, RunFault>, RomFinding>
     requires can { I.can_next frames }
     requires ends { IsFinite (I.remaining frames) }
     ensures rom { IfOk result (λ end. IsRomLength cert.now.map (length rom.now)) }
@@ -230,13 +232,16 @@ fn run_frames_over<
         (of_each (λ frame. opened (λ reader. R.remaining reader) frame) taken) (W.contents out.old) (W.contents out.new))) }
     ensures fault { IfOk result (λ run. IfErr run (λ fault. fault ≡ RunFault.Write)) }
     ensures count { IfOk result (λ run. W.failures out.new ≡ count_after (is_err run) (W.failures out.old)) }
-    ensures refused { IfErr result (RefusesShapes options.now.machine options.now.window rom.now cert.now) }
+    ensures refused { IfErr result (λ finding. RefusesShapes options.now.machine options.now.window rom.now cert.now (refusal_of finding)) }
+    ensures found { IfErr result (TellsOf Bound options.now.window (rom_on options.now.machine cert.now.map rom.now) cert.now.entries [] 0) }
     ensures nothing { OnErr result (out.new ≡ out.old) }
 {
-    let image = RomImage::from_bytes_on(options.machine, rom, cert.map())?;
+    let Ok(image) = RomImage::from_bytes_on(options.machine, rom, cert.map()) else {
+        return Err(RomFinding::RomLength);
+    };
     let entries = HashIndex::new(alloc, cert)?;
     let mode = Mode::Bound;
-    let shapes = JudgedShapes::judge(&image, cert, &entries, options.window, mode)?;
+    let shapes = JudgedShapes::find_shape_fault(&image, cert, &entries, options.window, mode)?;
     let judge = GivenCertificate::new(options.machine, rom, cert, &shapes, mode, options.budget);
     Ok(run_frames(alloc, &judge, options.start, frames, listing, out))
 }
@@ -248,6 +253,7 @@ fn refusal_account(
     cert: Option<&Cert>,
     options: &FrameOptions,
     refusal: &Refusal,
+    cause: Option<&RomFinding>,
     detail: Detail,
 ) -> Behind
     requires taken { IfSome cert (λ taken. RefusesShapes options.now.machine options.now.window rom.now taken.now refusal.now) }
@@ -267,7 +273,7 @@ fn refusal_account(
         window: options.window,
         mode: Mode::Bound,
     };
-    Behind::of(refusal_text(alloc, &inputs, refusal))
+    Behind::of(verdict_text(alloc, &inputs, &Err(*refusal), cause))
 }
 
 /// Writes the report of a refusal for which no frame was needed, and an account of it if the detail asks for one.
@@ -277,6 +283,7 @@ fn run_refusal<W: CountedWrite>(
     cert: Option<&Cert>,
     options: &FrameOptions,
     refusal: &Refusal,
+    cause: Option<&RomFinding>,
     detail: Detail,
     out: &mut W,
 ) -> Result<FrameOutcome, RunFault>
@@ -287,7 +294,7 @@ fn run_refusal<W: CountedWrite>(
     ensures fault { IfErr result (λ fault. fault ≡ RunFault.Write) }
     ensures count { W.failures out.new ≡ count_after (is_err result) (W.failures out.old) }
 {
-    let account = refusal_account(alloc, rom, cert, options, refusal, detail);
+    let account = refusal_account(alloc, rom, cert, options, refusal, cause, detail);
     Ok(write_report(&Err(*refusal), &account, out)?.into())
 }
 
@@ -316,13 +323,14 @@ fn run_frames_by<R: CountedRead + Drop, I: Iterator<Item = NamedFrame<R>> + Drop
 {
     match run_frames_over(alloc, rom, cert, options, frames, listing, out) {
         Ok(end) => end,
-        Err(refusal) => {
+        Err(finding) => {
             run_refusal(
                 alloc,
                 rom,
                 Some(cert),
                 options,
-                &refusal,
+                &finding.refusal(),
+                Some(&finding),
                 listing.detail,
                 out,
             )
@@ -370,7 +378,16 @@ pub fn run_frames_given<
         Ok(given) => run_frames_by(alloc, rom, given, options, frames, listing, out),
         Err(fault) => {
             let refusal = Refusal::Cert(*fault);
-            run_refusal(alloc, rom, None, options, &refusal, listing.detail, out)
+            run_refusal(
+                alloc,
+                rom,
+                None,
+                options,
+                &refusal,
+                None,
+                listing.detail,
+                out,
+            )
         }
     }
 }

@@ -9,8 +9,8 @@ use Rattle.dvg_items.specs.Known.{start}
 use Rattle.dvg_make.specs.declared.obstacle.BlockedCall.{BlockedCall}
 use Rattle.dvg_make.specs.declared.account.EntryCause.TheVariants as cause
 use Rattle.dvg_make.specs.Accounts.{EntryCause, MakeAccount, UnlessMemory, IsAccount, IsTold, HasCause, HasRootCause, entry_fault}
-use Rattle.dvg_make.specs.Judging.{FrameRefusal, Make, NoMemory, Check, IsRefusalBy, HasCallCause}
-use Rattle.dvg_make.specs.Refusals.{EntryFault, Memory, FrameCall, FramesFault, make_fault_of}
+use Rattle.dvg_make.specs.Judging.{HasCallCause, refusal_at}
+use Rattle.dvg_make.specs.Refusals.{EntryFault, Unstraight, Deep, TooManyWords, TooManyEntries, Memory, FrameCall, FramesFault, make_fault_of}
 use Rattle.dvg_make.specs.Private.Making.{shapes, blocked_fault, IsToldOf}
 
 unless_map : (c : EntryCause) (S T : Type 0) → (S → T) → UnlessMemory c S → UnlessMemory c T
@@ -89,17 +89,22 @@ first_frame : (words other : List ℕ) (i : ℕ) → slice_get (words ∷ []) i 
 first_frame words other zero e = refl
 first_frame words other (suc i) e = cc e
 
-pub call_cause : (rom : Rom) (words : List ℕ) (fault : FramesFault) (r : FrameRefusal) → HasCause rom [] (words ∷ []) fault → IsRefusalBy fault r → HasCallCause rom words r
-call_cause rom words fault (Make at why) h e = retold rom [] (words ∷ []) fault (Some (record { frame = 0; at = at })) why e.0 h here
+of_call : (rom : Rom) (words : List ℕ) (call : FrameCall) (why : EntryFault) → HasCause rom [] (words ∷ []) (record { call = Some call; why = why })
+    → HasCause rom [] (words ∷ []) (record { call = Some (record { frame = 0; at = call.at }); why = why })
+of_call rom words call why h = retold rom [] (words ∷ []) (record { call = Some call; why = why }) (Some (record { frame = 0; at = call.at })) why refl h here
   where
-    Told : Option FrameCall → Type 0
-    Told call = IsTold rom [] (words ∷ []) call h.chain h.at h.before h.cause
+    Told : FrameCall → Type 0
+    Told call = IsTold rom [] (words ∷ []) (Some call) h.chain h.at h.before h.cause
 
-    here : Told fault.call → Told (Some (record { frame = 0; at = at }))
+    here : Told call → Told (record { frame = 0; at = call.at })
     here t =
-        let call : FrameCall = e.2.0 in
-        let told : Told (Some call) = subst Told e.2.1 t in
-        let first = first_frame words told.named.0 call.frame told.named.1 in
-        subst Told (λ j. Some (record { frame = first j; at = e.2.2 j })) told
-call_cause rom words fault NoMemory h e = tt
-call_cause rom words fault (Check r) h e = tt
+        let first = first_frame words t.named.0 call.frame t.named.1 in
+        subst Told (λ j. record { frame = first j; at = call.at }) t
+
+pub call_cause : (rom : Rom) (words : List ℕ) (call : Option FrameCall) (why : EntryFault) → HasCause rom [] (words ∷ []) (record { call = call; why = why }) → HasCallCause rom words (refusal_at call why)
+call_cause rom words None why h = tt
+call_cause rom words (Some call) Memory h = tt
+call_cause rom words (Some call) (Unstraight word) h = of_call rom words call (Unstraight word) h
+call_cause rom words (Some call) Deep h = of_call rom words call Deep h
+call_cause rom words (Some call) TooManyWords h = of_call rom words call TooManyWords h
+call_cause rom words (Some call) TooManyEntries h = of_call rom words call TooManyEntries h

@@ -1,7 +1,8 @@
 -- A frame judged by the certificate that is made for it.
 use Rattle.dvg_words.specs.declared.machine.Machine.{Machine}
-use Rattle.std.proofs.Common.{◌≡◌, ℕ, zero, suc, ◌≤◌, max, List, [], ◌∷◌, Option, Some, sym, subst, arith}
-use Rattle.std.specs.Prelude.{◌≢◌, slice_get, Ok, Err, IfSome}
+use Rattle.dvg_words.specs.declared.machine.Machine.TheVariants.{Board}
+use Rattle.std.proofs.Common.{◌≡◌, ℕ, zero, suc, ◌≤◌, max, List, [], ◌∷◌, Option, None, Some, sym, subst, arith}
+use Rattle.std.specs.Prelude.{slice_get, Result, Ok, Err, IfOk}
 use Rattle.dvg_words.specs.Decoding.{cell_at}
 use Rattle.dvg_words.specs.Memory.{Rom, frame_word}
 use Rattle.dvg_words.specs.Values.{Window}
@@ -14,6 +15,10 @@ use Rattle.dvg_items.specs.declared.item.Item.{Item}
 use Rattle.dvg_items.specs.declared.seen.Seen.{Seen}
 use Rattle.dvg_check.specs.Rules.{FrameKeeps, CellKeeps, GoodFrame}
 use Rattle.dvg_check.specs.Verdict.{PartsVerdict}
+use Rattle.dvg_check.specs.Causes.{refusal_of, verdict_of}
+use Rattle.dvg_check.specs.declared.finding.RomFinding.{RomFinding}
+use Rattle.dvg_check.specs.Safety.{Safe, CountsAtHalt}
+use Rattle.dvg_check.specs.Circuit.{SafeOnCircuit, CountsOnCircuit}
 use Rattle.dvg_check.specs.declared.verdict.Yes.{Yes}
 use Rattle.dvg_check.specs.declared.fault.Mode.TheVariants.{Exact}
 use Rattle.dvg_check.specs.declared.fault.FrameWhy.{FrameWhy}
@@ -22,8 +27,9 @@ use Rattle.dvg_check.specs.declared.verdict.Refusal.{Refusal}
 use Rattle.dvg_check.specs.declared.verdict.Refusal.TheVariants as refusal
 use Rattle.dvg_check.proofs.Faults.{no_fault, no_shape_fault, one_count}
 use Rattle.dvg_make.specs.Frames.{FrameMade}
-use Rattle.dvg_make.specs.Refusals.{EntryFault, Unstraight, Deep, TooManyWords, TooManyEntries, Memory, FrameCall, FramesFault, FramesRefuse, BarsList, BarsFrame, CallBarredAt}
-use Rattle.dvg_make.specs.Judging.{VerdictByMade, AreLeast, CheckMeans, FrameRefused, FrameRefusal, Make, NoMemory, Check, IsRefusalBy}
+use Rattle.dvg_make.specs.Refusals.{EntryFault, Unstraight, Deep, TooManyWords, TooManyEntries, Memory, FrameCall, FramesRefuse, BarsFrame, CallBarredAt}
+use Rattle.dvg_make.specs.Judging.{VerdictByMade, AreLeast, CheckMeans, FrameRefused, checked, refusal_at}
+use Rattle.dvg_make.specs.Private.Judged.{IsJudged}
 use Rattle.dvg_make.proofs.FrameBest.{none_better}
 
 -- ---- budgets
@@ -66,7 +72,7 @@ module _ (machine : Machine) (w : Window) (words : List ℕ) (list : List Entry)
 
 module _ (rom : Rom) (words : List ℕ) (w : Window) (budget : ℕ) (made : List Entry) (m : FrameMade rom words made) where
   -- the counts by the made certificate are the least
-  pub judged_least : (y : Yes) → PartsVerdict Exact w rom made words budget (Ok y) → AreLeast rom words w y.words y.depth
+  judged_least : (y : Yes) → PartsVerdict Exact w rom made words budget (Ok y) → AreLeast rom words w y.words y.depth
   judged_least y v mode list b n d a =
       let best = none_better rom words w mode list made b n d a m in
       let here = raised rom.machine w words made budget (max budget b) y.words y.depth (omega arith) v.1 in
@@ -74,7 +80,7 @@ module _ (rom : Rom) (words : List ℕ) (w : Window) (budget : ℕ) (made : List
       let same = one_count w rom.machine words made (max budget b) y.words y.depth best.0 best.1 here there in
       (omega (arith, same.count_is, best.2), omega (arith, same.depth_is, best.3))
 
-  pub judged_refused : (r : Refusal) → PartsVerdict Exact w rom made words budget (Err r) → CheckMeans rom words w budget r
+  judged_refused : (r : Refusal) → PartsVerdict Exact w rom made words budget (Err r) → CheckMeans rom words w budget r
   judged_refused (refusal.Image f) v = absurd v
   judged_refused refusal.BudgetRange v = absurd v
   judged_refused (refusal.Cert f) v = absurd v
@@ -83,6 +89,37 @@ module _ (rom : Rom) (words : List ℕ) (w : Window) (budget : ℕ) (made : List
   judged_refused (refusal.Frame f) v = λ mode list b n d le a.
       let best = none_better rom words w mode list made b n d a m in
       no_fault w rom.machine words made budget best.0 best.1 f (raised rom.machine w words made b budget best.0 best.1 le best.4.frame) v.1
+
+  -- the checker's answer by the made certificate has each clause of `judge`
+  pub judged_by : (answer : Result Yes RomFinding)
+      → PartsVerdict Exact w rom made words budget (verdict_of answer)
+      → IfOk answer (λ yes. Safe (record { frame = words; rom = rom }) w yes.words yes.depth)
+      → IfOk answer (λ yes. CountsAtHalt (record { frame = words; rom = rom }) yes.words yes.depth)
+      → (rom.machine ≡ Board → IfOk answer (λ yes. SafeOnCircuit (record { frame = words; rom = rom }) w yes.words yes.depth))
+      → (rom.machine ≡ Board → IfOk answer (λ yes. CountsOnCircuit (record { frame = words; rom = rom }) yes.words yes.depth))
+      → IsJudged rom words w budget (checked answer)
+  judged_by (Ok y) v safe exact circuit circuit_exact =
+      record {
+        verdict = record { list = made; made = m; verdict = v };
+        safe = safe;
+        exact = exact;
+        circuit = circuit;
+        circuit_exact = circuit_exact;
+        least = judged_least y v;
+        refused = tt;
+        told = tt;
+      }
+  judged_by (Err f) v safe exact circuit circuit_exact =
+      record {
+        verdict = record { list = made; made = m; verdict = v };
+        safe = tt;
+        exact = tt;
+        circuit = λ board. tt;
+        circuit_exact = λ board. tt;
+        least = tt;
+        refused = judged_refused (refusal_of f) v;
+        told = tt;
+      }
 
 -- what the fault of the maker means, of one frame
 only_frame : (words other : List ℕ) (i : ℕ) → slice_get (words ∷ []) i ≡ Some other → words ≡ other
@@ -93,30 +130,28 @@ record Here (rom : Rom) (words : List ℕ) (at : ℕ) (why : EntryFault) : Type 
   stops : CallBarredAt rom words at why
   bars : BarsFrame rom words why
 
-here : (rom : Rom) (words : List ℕ) (fault : FramesFault) (at : ℕ) (why : EntryFault) → FramesRefuse rom [] (words ∷ []) fault → IsRefusalBy fault (Make at why) → Here rom words at why
-here rom words fault at why h e =
-    let call : FrameCall = e.2.0 in
-    let f = subst (λ (o : Option FrameCall). IfSome o (λ call. (other : List ℕ) × (slice_get (words ∷ []) call.frame ≡ Some other) × CallBarredAt rom other call.at fault.why × BarsFrame rom other fault.why)) e.2.1 h.frame in
-    let same = sym (only_frame words f.0 call.frame f.1) in
-    record {
-      stops = subst (λ x. CallBarredAt rom words at x) e.0 (subst (λ n. CallBarredAt rom words n fault.why) e.2.2 (subst (λ x. CallBarredAt rom x call.at fault.why) same f.2));
-      bars = subst (λ x. BarsFrame rom words x) e.0 (subst (λ x. BarsFrame rom x fault.why) same f.3);
-    }
+module _ (rom : Rom) (words : List ℕ) where
+  here : (call : FrameCall) (why : EntryFault) → FramesRefuse rom [] (words ∷ []) (record { call = Some call; why = why }) → Here rom words call.at why
+  here call why h =
+      let f = h.frame in
+      let same = sym (only_frame words f.0 call.frame f.1) in
+      record {
+        stops = subst (λ x. CallBarredAt rom x call.at why) same f.2;
+        bars = subst (λ x. BarsFrame rom x why) same f.3;
+      }
 
-no_memory : (rom : Rom) (words : List ℕ) (w : Window) (budget at : ℕ) (why : EntryFault) → why ≢ Memory → BarsList rom [] (words ∷ []) why × BarsFrame rom words why → FrameRefused rom words w budget (Make at why)
-no_memory rom words w budget at (Unstraight word) not h = h
-no_memory rom words w budget at Deep not h = h
-no_memory rom words w budget at TooManyWords not h = h
-no_memory rom words w budget at TooManyEntries not h = h
-no_memory rom words w budget at Memory not h = absurd (not (λ i. Memory))
+  pub made_refused : (w : Window) (budget : ℕ) (call : Option FrameCall) (why : EntryFault) → FramesRefuse rom [] (words ∷ []) (record { call = call; why = why }) → FrameRefused rom words w budget (refusal_at call why)
+  made_refused w budget None why h = tt
+  made_refused w budget (Some call) Memory h = tt
+  made_refused w budget (Some call) (Unstraight word) h = (h.list, (here call (Unstraight word) h).bars)
+  made_refused w budget (Some call) Deep h = (h.list, (here call Deep h).bars)
+  made_refused w budget (Some call) TooManyWords h = (h.list, (here call TooManyWords h).bars)
+  made_refused w budget (Some call) TooManyEntries h = (h.list, (here call TooManyEntries h).bars)
 
-pub made_refused : (rom : Rom) (words : List ℕ) (w : Window) (budget : ℕ) (fault : FramesFault) (r : FrameRefusal) → FramesRefuse rom [] (words ∷ []) fault → IsRefusalBy fault r → FrameRefused rom words w budget r
-made_refused rom words w budget fault (Make at why) h e =
-    no_memory rom words w budget at why e.1 (subst (BarsList rom [] (words ∷ [])) e.0 h.list, (here rom words fault at why h e).bars)
-made_refused rom words w budget fault NoMemory h e = tt
-made_refused rom words w budget fault (Check r) h e = absurd e
-
-pub made_verdict : (rom : Rom) (words : List ℕ) (w : Window) (budget : ℕ) (fault : FramesFault) (r : FrameRefusal) → FramesRefuse rom [] (words ∷ []) fault → IsRefusalBy fault r → VerdictByMade rom words w budget (Err r)
-made_verdict rom words w budget fault (Make at why) h e = (here rom words fault at why h e).stops
-made_verdict rom words w budget fault NoMemory h e = tt
-made_verdict rom words w budget fault (Check r) h e = absurd e
+  pub made_verdict : (w : Window) (budget : ℕ) (call : Option FrameCall) (why : EntryFault) → FramesRefuse rom [] (words ∷ []) (record { call = call; why = why }) → VerdictByMade rom words w budget (Err (refusal_at call why))
+  made_verdict w budget None why h = tt
+  made_verdict w budget (Some call) Memory h = tt
+  made_verdict w budget (Some call) (Unstraight word) h = (here call (Unstraight word) h).stops
+  made_verdict w budget (Some call) Deep h = (here call Deep h).stops
+  made_verdict w budget (Some call) TooManyWords h = (here call TooManyWords h).stops
+  made_verdict w budget (Some call) TooManyEntries h = (here call TooManyEntries h).stops

@@ -1,5 +1,5 @@
 -- The verdict on a frame by the certificate that is made for it. All of it is this project's own.
-use Rattle.std.specs.Prelude.{◌≡◌, ◌≢◌, ℕ, ◌≤◌, ◌⊎◌, List, [], ◌∷◌, Some, None, Result, Ok, Err}
+use Rattle.std.specs.Prelude.{ℕ, ◌≤◌, List, [], ◌∷◌, Option, Some, None, Result, Ok, Err}
 use Rattle.dvg_words.specs.Memory.{Rom}
 use Rattle.dvg_words.specs.Values.{Window}
 use Rattle.dvg_cert.specs.declared.entry.Entry.{Entry}
@@ -9,11 +9,15 @@ use Rattle.dvg_check.specs.declared.fault.Mode.TheVariants.{Exact}
 use Rattle.dvg_check.specs.declared.verdict.Yes.{Yes}
 use Rattle.dvg_check.specs.declared.verdict.Refusal.{Refusal}
 use Rattle.dvg_check.specs.declared.verdict.Refusal.TheVariants as refusal
+use Rattle.dvg_check.specs.Causes.{refusal_of}
+use Rattle.dvg_check.specs.declared.finding.RomFinding.{RomFinding}
 pub use Rattle.dvg_make.specs.declared.judging.FrameRefusal.{FrameRefusal}
 pub use Rattle.dvg_make.specs.declared.judging.FrameRefusal.TheVariants.{Make, NoMemory, Check}
+pub use Rattle.dvg_make.specs.declared.judging.JudgedFrame.{JudgedFrame}
+use Rattle.dvg_make.specs.declared.account.MakeAccount.{MakeAccount}
 use Rattle.dvg_make.specs.Frames.{FrameMade}
 use Rattle.dvg_make.specs.Accounts.{HasCause}
-use Rattle.dvg_make.specs.Refusals.{Memory, FrameCall, FramesFault, Accepts, BarsList, BarsFrame, CallBarredAt}
+use Rattle.dvg_make.specs.Refusals.{EntryFault, Memory, FrameCall, FramesFault, Accepts, BarsList, BarsFrame, CallBarredAt}
 
 -- no certificate gets the frame accepted in this window with fewer words, or less depth (profile)
 abbrev pub AreLeast : Rom → List ℕ → Window → ℕ → ℕ → Type 0
@@ -59,9 +63,22 @@ HasCallCause rom words (Make at why) = HasCause rom [] (words ∷ []) (record { 
 HasCallCause rom words NoMemory = Unit {0}
 HasCallCause rom words (Check r) = Unit {0}
 
--- the refusal of a frame whose certificate can't be made, by the maker's fault. A fault that names no call is a want of memory
--- (profile)
-abbrev pub IsRefusalBy : FramesFault → FrameRefusal → Type 0
-IsRefusalBy fault (Make at why) = (fault.why ≡ why) × (why ≢ Memory) × ((call : FrameCall) × (fault.call ≡ Some call) × (call.at ≡ at))
-IsRefusalBy fault NoMemory = (fault.call ≡ None) ⊎ (fault.why ≡ Memory)
-IsRefusalBy fault (Check r) = ⊥
+-- the refusal of a frame whose certificate can't be made, by the call that the maker stops at. Where it names no call, memory was
+-- out (profile)
+abbrev pub refusal_at : Option FrameCall → EntryFault → FrameRefusal
+refusal_at None why = NoMemory
+refusal_at (Some call) Memory = NoMemory
+refusal_at (Some call) why = Make call.at why
+
+abbrev pub refusal_by : FramesFault → FrameRefusal
+refusal_by fault = refusal_at fault.call fault.why
+
+-- the verdict on a frame by a made certificate, with the refusal alone (profile)
+abbrev pub checked : Result Yes RomFinding → Result Yes FrameRefusal
+checked (Ok y) = Ok y
+checked (Err f) = Err (Check (refusal_of f))
+
+-- the verdict on a frame, by the certificate that was made or by why none is (profile)
+abbrev pub own_verdict : Result JudgedFrame MakeAccount → Result Yes FrameRefusal
+own_verdict (Ok judged) = checked judged.verdict
+own_verdict (Err account) = Err (refusal_by account.fault)

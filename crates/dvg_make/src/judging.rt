@@ -1,21 +1,23 @@
 //! The verdict on a frame by the certificate that is made for it.
 
-ghost use Rattle.std.specs.Prelude.{◌≡◌, ◌↔◌, ◌≤◌, [], ◌∷◌, All, Err, IsTrue, IfOk, IfErr};
+ghost use Rattle.std.specs.Prelude.{◌≡◌, ◌↔◌, ◌≤◌, [], ◌∷◌, All, IsTrue, IfOk, IfErr};
 ghost use Rattle.dvg_cert.specs.declared.limits.TheConstants.{MOST_WORDS};
 ghost use Rattle.dvg_words.specs.declared.machine.Machine.TheVariants.{Board};
 ghost use Rattle.dvg_check.specs.Safety.{Safe, CountsAtHalt};
 ghost use Rattle.dvg_check.specs.Circuit.{SafeOnCircuit, CountsOnCircuit};
+ghost use Rattle.dvg_check.specs.Causes.{TellsOf};
+ghost use Rattle.dvg_check.specs.declared.fault.Mode.TheVariants.{Exact};
 ghost use Rattle.dvg_make.specs.Accounts.{entry_fault, IsAccount};
 ghost use Rattle.dvg_make.specs.Frames.{FrameMade};
 ghost use Rattle.dvg_make.specs.Refusals.{FramesRefuse};
 ghost use Rattle.dvg_make.specs.Private.Judged.{IsJudged, IsRelative};
-ghost use Rattle.dvg_make.specs.Judging.{AreLeast, FrameRefused, VerdictByMade, HasCallCause, IsRefusalBy};
+ghost use Rattle.dvg_make.specs.Judging.{AreLeast, FrameRefused, VerdictByMade, HasCallCause, checked, own_verdict, refusal_by};
 
 use crate::account::{MakeAccount, explain_making};
 use crate::fault::{EntryFault, FramesFault};
 use crate::maker::make_for_frames;
 use dvg_cert::{Cert, End, Entry, ListIndex};
-use dvg_check::{JudgedShapes, Mode, Refusal, Yes, check_parts_exact};
+use dvg_check::{JudgedShapes, Mode, Refusal, RomFinding, Yes, find_parts_fault};
 use dvg_words::{FrameImage, RomImage, Window};
 use std::alloc::Global;
 use std::slice;
@@ -33,7 +35,7 @@ pub enum FrameRefusal {
 
 /// The refusal of a frame for which no certificate was made.
 fn refusal_of(fault: &FramesFault) -> FrameRefusal
-    ensures { IsRefusalBy fault.now result }
+    ensures { result ≡ refusal_by fault.now }
 {
     match (fault.call, fault.why) {
         (None, _) | (_, EntryFault::Memory) => FrameRefusal::NoMemory,
@@ -59,21 +61,22 @@ fn check_relative(
     cert: &Cert,
     budget: u32,
     window: Window,
-) -> Result<Yes, FrameRefusal>
+) -> Result<Yes, RomFinding>
     requires budget { budget ≤ MOST_WORDS }
     requires made { FrameMade rom.now frame.now cert.now.entries }
     requires relative { All (λ e. IsRelative e.stop) cert.now.entries }
-    ensures { IsJudged rom.now frame.now window budget result }
+    ensures judged { IsJudged rom.now frame.now window budget (checked result) }
+    ensures found { IfErr result (TellsOf Exact window rom.now cert.now.entries frame.now budget) }
 {
     let entries = ListIndex::new(cert);
     let shapes = JudgedShapes::unchecked(rom, &entries, window, Mode::Exact);
-    match shapes.check_frame(frame, budget) {
+    match shapes.find_fault(frame, budget) {
         Ok(accepted) => Ok(Yes {
             shapes: cert.entries().len() as u32,
             words: accepted.words,
             depth: accepted.depth,
         }),
-        Err(fault) => Err(FrameRefusal::Check(Refusal::Frame(fault))),
+        Err(finding) => Err(RomFinding::Frame(finding)),
     }
 }
 
@@ -86,18 +89,26 @@ fn check_made(
     cert: &Cert,
     budget: u32,
     window: Window,
-) -> Result<Yes, FrameRefusal>
+) -> Result<Yes, RomFinding>
     requires budget { budget ≤ MOST_WORDS }
     requires map { rom.now.map ≡ cert.now.map }
     requires made { FrameMade rom.now frame.now cert.now.entries }
-    ensures { IsJudged rom.now frame.now window budget result }
+    ensures judged { IsJudged rom.now frame.now window budget (checked result) }
+    ensures found { IfErr result (TellsOf Exact window rom.now cert.now.entries frame.now budget) }
 {
     if all_relative(cert.entries()) {
         return check_relative(rom, frame, cert, budget, window);
     }
-    match check_parts_exact(alloc, rom, frame, cert, budget, window) {
-        Ok(yes) => Ok(yes),
-        Err(refusal) => Err(FrameRefusal::Check(refusal)),
+    find_parts_fault(alloc, rom, frame, cert, budget, window, Mode::Exact)
+}
+
+/// The checker's verdict by the certificate that was made for a frame, without the cause of a refusal.
+fn checked(verdict: &Result<Yes, RomFinding>) -> Result<Yes, FrameRefusal>
+    ensures { result ≡ checked verdict.now }
+{
+    match verdict {
+        Ok(yes) => Ok(*yes),
+        Err(finding) => Err(FrameRefusal::Check(finding.refusal())),
     }
 }
 
@@ -129,55 +140,64 @@ pub fn judge(
     ensures told { IfErr result (HasCallCause rom.now frame.now) }
 {
     match make_for_frames(alloc, rom, &[], slice::from_ref(frame)) {
-        Ok(cert) => check_made(alloc, rom, frame, &cert, budget, window),
+        Ok(cert) => checked(&check_made(alloc, rom, frame, &cert, budget, window)),
         Err(fault) => Err(refusal_of(&fault)),
     }
 }
 
-/// The verdict on a frame by its own certificate, with that certificate.
+/// A frame that was judged by its own certificate: that certificate, and the verdict by it, with the cause of a refusal.
 #[derive(Drop)]
 pub struct JudgedFrame {
-    pub verdict: Result<Yes, FrameRefusal>,
-    /// The certificate, or the account of why none was made.
-    pub made: Result<Cert, MakeAccount>,
+    pub cert: Cert,
+    pub verdict: Result<Yes, RomFinding>,
 }
 
-/// Judges a frame as [`judge`] does. With the verdict it gives the certificate, or the account of [`explain_making`].
+/// Judges a frame as [`judge`] does, and answers the certificate, too, and the cause of a refusal by it; or the account of
+/// [`explain_making`], if none is made.
 ///
-/// If there is no memory for that account, the verdict is 63. Takes memory as `judge` and `explain_making` do.
+/// If there is no memory for that account, it is 63. Takes memory as `judge` and `explain_making` do.
 pub fn explain_judging(
     alloc: Global,
     rom: &RomImage,
     frame: &FrameImage,
     budget: u32,
     window: Window,
-) -> JudgedFrame
+) -> Result<JudgedFrame, MakeAccount>
     requires { budget ≤ MOST_WORDS }
 
     // The verdict is one of `judge`.
-    ensures verdict { VerdictByMade rom.now frame.now window budget result.verdict }
-    ensures safe { IfOk result.verdict (λ yes. Safe (record { frame = frame.now; rom = rom.now }) window yes.words yes.depth) }
-    ensures exact { IfOk result.verdict (λ yes. CountsAtHalt (record { frame = frame.now; rom = rom.now }) yes.words yes.depth) }
+    ensures verdict { VerdictByMade rom.now frame.now window budget (own_verdict result) }
+    ensures safe { IfOk (own_verdict result) (λ yes. Safe (record { frame = frame.now; rom = rom.now }) window yes.words yes.depth) }
+    ensures exact { IfOk (own_verdict result) (λ yes. CountsAtHalt (record { frame = frame.now; rom = rom.now }) yes.words yes.depth) }
     ensures circuit { rom.now.machine ≡ Board
-        → IfOk result.verdict (λ yes. SafeOnCircuit (record { frame = frame.now; rom = rom.now }) window yes.words yes.depth) }
+        → IfOk (own_verdict result) (λ yes. SafeOnCircuit (record { frame = frame.now; rom = rom.now }) window yes.words yes.depth) }
     ensures circuit_exact { rom.now.machine ≡ Board
-        → IfOk result.verdict (λ yes. CountsOnCircuit (record { frame = frame.now; rom = rom.now }) yes.words yes.depth) }
-    ensures least { IfOk result.verdict (λ yes. AreLeast rom.now frame.now window yes.words yes.depth) }
-    ensures refused { IfErr result.verdict (FrameRefused rom.now frame.now window budget) }
-    ensures told { IfErr result.verdict (HasCallCause rom.now frame.now) }
+        → IfOk (own_verdict result) (λ yes. CountsOnCircuit (record { frame = frame.now; rom = rom.now }) yes.words yes.depth) }
+    ensures least { IfOk (own_verdict result) (λ yes. AreLeast rom.now frame.now window yes.words yes.depth) }
+    ensures refused { IfErr (own_verdict result) (FrameRefused rom.now frame.now window budget) }
+    ensures told { IfErr (own_verdict result) (HasCallCause rom.now frame.now) }
 
-    // What was made, or why not, is an answer of `explain_making`, and the verdict refuses what is not made by its fault.
-    ensures ok { IfOk result.made (λ cert. FrameMade rom.now frame.now cert.entries) }
-    ensures map { IfOk result.made (λ cert. cert.map ≡ rom.now.map) }
-    ensures err { IfErr result.made (λ account. FramesRefuse rom.now [] (frame.now ∷ []) account.fault) }
-    ensures why { IfErr result.made (λ account. account.fault.why ≡ entry_fault account.at account.cause) }
-    ensures chain { IfErr result.made (IsAccount rom.now [] (frame.now ∷ [])) }
-    ensures by { IfErr result.made (λ account. (refusal : FrameRefusal) × (result.verdict ≡ Err refusal) × IsRefusalBy account.fault refusal) }
+    // What was made, or why not, is an answer of `explain_making`.
+    ensures ok { IfOk result (λ judged. FrameMade rom.now frame.now judged.cert.entries) }
+    ensures map { IfOk result (λ judged. judged.cert.map ≡ rom.now.map) }
+    ensures err { IfErr result (λ account. FramesRefuse rom.now [] (frame.now ∷ []) account.fault) }
+    ensures why { IfErr result (λ account. account.fault.why ≡ entry_fault account.at account.cause) }
+    ensures chain { IfErr result (IsAccount rom.now [] (frame.now ∷ [])) }
+
+    // A refusal by the certificate comes with what is known at the first fault by it, and the rule's own numbers.
+    ensures found { IfOk result (λ judged. IfErr judged.verdict (TellsOf Exact window rom.now judged.cert.entries frame.now budget)) }
 {
-    let made = explain_making(alloc, rom, &[], slice::from_ref(frame));
-    let verdict = match &made {
-        Ok(cert) => check_made(alloc, rom, frame, cert, budget, window),
+    let cert = explain_making(alloc, rom, &[], slice::from_ref(frame))?;
+    let verdict = check_made(alloc, rom, frame, &cert, budget, window);
+    Ok(JudgedFrame { cert, verdict })
+}
+
+/// The verdict of [`judge`] that an answer of [`explain_judging`] gives.
+pub fn own_verdict(judged: &Result<JudgedFrame, MakeAccount>) -> Result<Yes, FrameRefusal>
+    ensures { result ≡ own_verdict judged.now }
+{
+    match judged {
+        Ok(judged) => checked(&judged.verdict),
         Err(account) => Err(refusal_of(&account.fault)),
-    };
-    JudgedFrame { verdict, made }
+    }
 }

@@ -21,5 +21,5 @@ mod tails;
 
 pub use account::{EntryCause, MakeAccount, ShapeAt, explain_making};
 pub use fault::{EntryFault, FrameCall, FramesFault, MakeFault};
-pub use judging::{FrameRefusal, JudgedFrame, explain_judging, judge};
+pub use judging::{FrameRefusal, JudgedFrame, explain_judging, judge, own_verdict};
 pub use maker::{make, make_for_frames};

@@ -1,16 +1,18 @@
 use Rattle.std.proofs.Common.{◌≡◌, ◌∙◌, List, length, refl, sym, ap, subst}
+use Rattle.std.specs.Prelude.{Ok, Err}
 use Rattle.dvg_words.specs.Memory.{Rom}
 use Rattle.dvg_words.specs.Values.{Window}
 use Rattle.dvg_words.specs.declared.machine.Machine.TheVariants.{Board}
 use Rattle.dvg_cert.specs.declared.entry.Entry.{Entry}
 use Rattle.dvg_check.specs.Circuit.{SafeOnCircuit, CountsOnCircuit}
-use Rattle.dvg_check.specs.FirstFault.{FirstFrameFault}
+use Rattle.dvg_check.specs.Causes.{CauseOf}
+use Rattle.dvg_check.specs.declared.finding.RomFinding.TheVariants as finding
+use Rattle.dvg_check.specs.Finding.{FirstFrameFound}
 use Rattle.dvg_check.specs.Judged.{Shapes}
 use Rattle.dvg_check.specs.Rules.{Good, GoodFrame}
 use Rattle.dvg_check.specs.Safety.{Safe, CountsAtHalt}
 use Rattle.dvg_check.specs.declared.fault.Mode.TheVariants.{Exact}
-use Rattle.dvg_check.specs.declared.verdict.Refusal.TheVariants.{Frame}
-use Rattle.dvg_make.proofs.OwnCertificate.{judged_least, judged_refused}
+use Rattle.dvg_make.proofs.OwnCertificate.{judged_by}
 use Rattle.dvg_make.proofs.Relative.{all_relative_good}
 use Rattle.dvg_make.proofs.judging.check_relative.Goals as goal
 
@@ -23,35 +25,31 @@ unchecked-shapes-requires-clause-good c =
     subst (λ (list : List Entry). Good Exact c.args.window c.args.rom.now list) (sym c.new-entries.ensures)
     (all_relative_good c.args.rom.now c.args.frame.now c.args.cert.now.entries c.args.window c.requires.made c.requires.relative)
 
-pub returns-in-Ok : goal.returns-in-Ok
-returns-in-Ok c =
+pub returns-in-Ok-clause-judged : goal.returns-in-Ok-clause-judged
+returns-in-Ok-clause-judged c =
     let same = c.unchecked-shapes.ensures ∙ ap (taken c.args.rom.now c.args.window) c.new-entries.ensures in
     let good = all_relative_good c.args.rom.now c.args.frame.now c.args.cert.now.entries c.args.window c.requires.made c.requires.relative in
     let frame = subst (λ (s : Shapes). GoodFrame s.window s.rom.machine c.args.frame.now s.list c.args.budget c.in-Ok.accepted.words c.in-Ok.accepted.depth) same c.in-Ok.ensures.ok in
     let shapes : length c.entries.result.now ≡ length c.args.cert.now.entries = ap (λ (list : List Entry). length list) c.entries.ensures.value in
-    record {
-      verdict = record { list = c.args.cert.now.entries; made = c.requires.made; verdict = (good, frame, shapes) };
-      safe = subst (λ (s : Shapes). Safe (record { frame = c.args.frame.now; rom = s.rom }) s.window c.in-Ok.accepted.words c.in-Ok.accepted.depth) same c.in-Ok.ensures.safe;
-      exact = subst (λ (s : Shapes). s.mode ≡ Exact → CountsAtHalt (record { frame = c.args.frame.now; rom = s.rom }) c.in-Ok.accepted.words c.in-Ok.accepted.depth) same c.in-Ok.ensures.exact refl;
-      circuit = subst (λ (s : Shapes). s.rom.machine ≡ Board → SafeOnCircuit (record { frame = c.args.frame.now; rom = s.rom }) s.window c.in-Ok.accepted.words c.in-Ok.accepted.depth) same c.in-Ok.ensures.circuit;
-      circuit_exact = λ board. subst (λ (s : Shapes). s.rom.machine ≡ Board → s.mode ≡ Exact → CountsOnCircuit (record { frame = c.args.frame.now; rom = s.rom }) c.in-Ok.accepted.words c.in-Ok.accepted.depth) same c.in-Ok.ensures.circuit_exact board refl;
-      least = judged_least c.args.rom.now c.args.frame.now c.args.window c.args.budget c.args.cert.now.entries c.requires.made (record { shapes = length c.entries.result.now; words = c.in-Ok.accepted.words; depth = c.in-Ok.accepted.depth }) (good, frame, shapes);
-      refused = tt;
-      told = tt;
-    }
+    judged_by c.args.rom.now c.args.frame.now c.args.window c.args.budget c.args.cert.now.entries c.requires.made
+    (Ok (record { shapes = length c.entries.result.now; words = c.in-Ok.accepted.words; depth = c.in-Ok.accepted.depth }))
+    (good, frame, shapes)
+    (subst (λ (s : Shapes). Safe (record { frame = c.args.frame.now; rom = s.rom }) s.window c.in-Ok.accepted.words c.in-Ok.accepted.depth) same c.in-Ok.ensures.safe)
+    (subst (λ (s : Shapes). s.mode ≡ Exact → CountsAtHalt (record { frame = c.args.frame.now; rom = s.rom }) c.in-Ok.accepted.words c.in-Ok.accepted.depth) same c.in-Ok.ensures.exact refl)
+    (subst (λ (s : Shapes). s.rom.machine ≡ Board → SafeOnCircuit (record { frame = c.args.frame.now; rom = s.rom }) s.window c.in-Ok.accepted.words c.in-Ok.accepted.depth) same c.in-Ok.ensures.circuit)
+    (λ board. subst (λ (s : Shapes). s.rom.machine ≡ Board → s.mode ≡ Exact → CountsOnCircuit (record { frame = c.args.frame.now; rom = s.rom }) c.in-Ok.accepted.words c.in-Ok.accepted.depth) same c.in-Ok.ensures.circuit_exact board refl)
 
-pub returns-in-Err : goal.returns-in-Err
-returns-in-Err c =
+pub returns-in-Err-clause-found : goal.returns-in-Err-clause-found
+returns-in-Err-clause-found c =
+    let same = c.unchecked-shapes.ensures ∙ ap (taken c.args.rom.now c.args.window) c.new-entries.ensures in (
+      subst (λ (s : Shapes). FirstFrameFound s.window s.rom.machine c.args.frame.now s.list c.args.budget c.in-Err.finding) same c.in-Err.ensures.err,
+      subst (λ (s : Shapes). CauseOf s.window c.args.budget c.in-Err.finding) same c.in-Err.ensures.cause,
+    )
+
+pub returns-in-Err-clause-judged : goal.returns-in-Err-clause-judged
+returns-in-Err-clause-judged c =
     let same = c.unchecked-shapes.ensures ∙ ap (taken c.args.rom.now c.args.window) c.new-entries.ensures in
     let good = all_relative_good c.args.rom.now c.args.frame.now c.args.cert.now.entries c.args.window c.requires.made c.requires.relative in
-    let frame = subst (λ (s : Shapes). FirstFrameFault s.window s.rom.machine c.args.frame.now s.list c.args.budget c.in-Err.fault) same c.in-Err.ensures.err in
-    record {
-      verdict = record { list = c.args.cert.now.entries; made = c.requires.made; verdict = (good, frame) };
-      safe = tt;
-      exact = tt;
-      circuit = λ board. tt;
-      circuit_exact = λ board. tt;
-      least = tt;
-      refused = judged_refused c.args.rom.now c.args.frame.now c.args.window c.args.budget c.args.cert.now.entries c.requires.made (Frame c.in-Err.fault) (good, frame);
-      told = tt;
-    }
+    let found = subst (λ (s : Shapes). FirstFrameFound s.window s.rom.machine c.args.frame.now s.list c.args.budget c.in-Err.finding) same c.in-Err.ensures.err in
+    judged_by c.args.rom.now c.args.frame.now c.args.window c.args.budget c.args.cert.now.entries c.requires.made (Err (finding.Frame c.in-Err.finding)) (good, found.fault)
+    tt tt (λ board. tt) (λ board. tt)

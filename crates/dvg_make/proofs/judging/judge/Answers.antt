@@ -1,14 +1,25 @@
-use Rattle.std.proofs.Common.{ℕ, [], List, subst}
+use Rattle.std.proofs.Common.{ℕ, [], ◌∷◌, List, Err, sym, subst}
 use Rattle.dvg_make.specs.Accounts.{HasCause}
+use Rattle.dvg_make.specs.Judging.{FrameRefusal, FrameRefused, HasCallCause, VerdictByMade}
 use Rattle.dvg_make.specs.Refusals.{FramesRefuse}
-use Rattle.dvg_make.proofs.OwnCertificate.{made_refused}
+use Rattle.dvg_make.proofs.OwnCertificate.{made_refused, made_verdict}
 use Rattle.dvg_make.proofs.Causes.{call_cause}
 use Rattle.dvg_make.proofs.judging.judge.Goals as goal
 
+pub returns-in-Err-clause-verdict : goal.returns-in-Err-clause-verdict
+returns-in-Err-clause-verdict c =
+    let told = subst (λ (f : List (List ℕ)). FramesRefuse c.args.rom.now [] f c.in-Err.fault) c.from_ref.ensures.value c.in-Err.ensures.err in
+    subst (λ (r : FrameRefusal). VerdictByMade c.args.rom.now c.args.frame.now c.args.window c.args.budget (Err r)) (sym c.refusal_of.ensures)
+    (made_verdict c.args.rom.now c.args.frame.now c.args.window c.args.budget c.in-Err.fault.call c.in-Err.fault.why told)
+
 pub returns-in-Err-clause-refused : goal.returns-in-Err-clause-refused
 returns-in-Err-clause-refused c =
-    made_refused c.args.rom.now c.args.frame.now c.args.window c.args.budget c.in-Err.fault c.refusal_of.result (subst (λ (f : List (List ℕ)). FramesRefuse c.args.rom.now [] f c.in-Err.fault) c.from_ref.ensures.value c.in-Err.ensures.err) c.refusal_of.ensures
+    let told = subst (λ (f : List (List ℕ)). FramesRefuse c.args.rom.now [] f c.in-Err.fault) c.from_ref.ensures.value c.in-Err.ensures.err in
+    subst (FrameRefused c.args.rom.now c.args.frame.now c.args.window c.args.budget) (sym c.refusal_of.ensures)
+    (made_refused c.args.rom.now c.args.frame.now c.args.window c.args.budget c.in-Err.fault.call c.in-Err.fault.why told)
 
 pub returns-in-Err-clause-told : goal.returns-in-Err-clause-told
 returns-in-Err-clause-told c =
-    call_cause c.args.rom.now c.args.frame.now c.in-Err.fault c.refusal_of.result (subst (λ (f : List (List ℕ)). HasCause c.args.rom.now [] f c.in-Err.fault) c.from_ref.ensures.value c.in-Err.ensures.told) c.refusal_of.ensures
+    let told = subst (λ (f : List (List ℕ)). HasCause c.args.rom.now [] f c.in-Err.fault) c.from_ref.ensures.value c.in-Err.ensures.told in
+    subst (HasCallCause c.args.rom.now c.args.frame.now) (sym c.refusal_of.ensures)
+    (call_cause c.args.rom.now c.args.frame.now c.in-Err.fault.call c.in-Err.fault.why told)
