@@ -17,6 +17,7 @@ mod lines;
 mod making;
 mod own;
 mod refused;
+mod remarks;
 mod sentences;
 mod spelling;
 mod swapped;
@@ -34,6 +35,7 @@ pub use line::{
 };
 pub use making::{made_lines, unmade_lines};
 pub use own::{OwnMaking, frame_lines, own_lines};
+pub use remarks::Remark;
 pub use swapped::{Swapped, find_swapped};
 pub use texts::{
     frame_text, made_text, own_text, plain_text, refusal_text, unmade_text, verdict_text,

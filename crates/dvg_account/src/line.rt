@@ -4,6 +4,7 @@ ghost use Rattle.std.specs.Prelude.{◌≡◌};
 ghost use Rattle.dvg_account.specs.Items.{line_as};
 
 use crate::cure::MakerCure;
+use crate::remarks::Remark;
 use crate::why::Why;
 use dvg_cert::{End, Entry, Key, LitBox};
 use dvg_check::Yes;
@@ -128,6 +129,8 @@ pub enum AcceptedLine {
     ShapesLight(LitBox),
     /// How far that box is from each edge of the window.
     ShapesMargins(Margins),
+    /// What is worth a second look.
+    Remarks(Vec<Remark>),
     /// What the board answers, by the frame's own certificate there.
     OnBoard(Result<Yes, FrameRefusal>),
 }

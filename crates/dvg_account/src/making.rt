@@ -77,10 +77,10 @@ pub fn unmade_lines(
 }
 
 /// The frame of a call.
-fn frame_of_call<'a>(
-    frames: &'a [FrameImage<'a>],
+fn frame_of_call<'a, 'b>(
+    frames: &'a [FrameImage<'b>],
     call: Option<FrameCall>,
-) -> Option<&'a FrameImage<'a>>
+) -> Option<&'a FrameImage<'b>>
     ensures { option_copied result ≡ frame_of_call frames.now call }
 {
     frames.get(call?.frame)

@@ -8,6 +8,7 @@ use crate::line::{
     AcceptedLine, EntryName, Instruction, ItemLine, Line, MadeLine, MakerChain, PathLine, Words,
     Zeros,
 };
+use crate::remarks::Remark;
 use crate::sentences::push_why;
 use crate::swapped::Swapped;
 use crate::text::Text;
@@ -513,7 +514,46 @@ fn push_accepted_line(text: &mut Text, line: &AcceptedLine) {
             text.push("\n");
         }
         AcceptedLine::ShapesMargins(margins) => push_margins(text, "shapes margins: ", margins),
+        AcceptedLine::Remarks(remarks) => {
+            for remark in remarks {
+                push_remark(text, remark);
+            }
+        }
         AcceptedLine::OnBoard(answer) => push_on_board(text, answer),
+    }
+}
+
+/// The line of something that its author may not have meant.
+fn push_remark(text: &mut Text, remark: &Remark) {
+    match remark {
+        Remark::Faint {
+            shape,
+            first,
+            draws,
+        } => {
+            text.push("scales over 9: ");
+            text.push_decimal(*draws);
+            text.push(" of the lit draws of ");
+            push_of(text, *shape);
+            text.push(", the first at ");
+            text.push_address(*first);
+            text.push(": on the board each is a dot\n");
+        }
+        Remark::RunsOn { shape, into } => {
+            text.push("runs on: ");
+            push_of(text, Some(*shape));
+            text.push(" into ");
+            text.push_address(*into);
+            text.push(", where another shape begins\n");
+        }
+    }
+}
+
+/// The shape, or the frame, of which something is told.
+fn push_of(text: &mut Text, shape: Option<EntryName>) {
+    match shape {
+        Some(shape) => text.push_entry_name(shape.addr, shape.key),
+        None => text.push("the frame"),
     }
 }
 
