@@ -1,5 +1,5 @@
 -- The lines of a verdict. All of it is this project's own.
-use Rattle.std.specs.Prelude.{◌≡◌, List, length, Option, Some, Result, Ok, Err, IfSome, option_copied}
+use Rattle.std.specs.Prelude.{◌≡◌, ℕ, List, [], ◌∷◌, length, Option, Some, Result, Ok, Err, IfSome, option_copied}
 use Rattle.dvg_words.specs.Memory.{Rom, words_of, rom_on, IsFrameLength, IsRomLength}
 use Rattle.dvg_words.specs.declared.machine.Machine.{Machine}
 use Rattle.dvg_cert.specs.Order.{Certificate}
@@ -65,11 +65,11 @@ abbrev pub LinesBy : Inputs → JudgedFrame → List Line → Type 0
 LinesBy inputs judged lines = (by : Inputs) × IsBy inputs judged.cert by × JudgedLines by judged.verdict lines
 
 -- the lines of a refusal of the maker over a ROM; of a want of memory its number alone
-abbrev pub TellsUnmade : Machine → Rom → MakeAccount → EntryCause → List Line → Type 0
-TellsUnmade machine rom account cause.Memory lines = lines ≡ plain_lines machine 63 Nothing
-TellsUnmade machine rom account other lines = UnmadeLines rom account lines
+abbrev pub TellsUnmade : Machine → Rom → List ℕ → MakeAccount → EntryCause → List Line → Type 0
+TellsUnmade machine rom frame account cause.Memory lines = lines ≡ plain_lines machine 63 Nothing
+TellsUnmade machine rom frame account other lines = UnmadeLines rom (frame ∷ []) account lines
 
 -- the lines of a frame by its own certificate over a ROM: of the verdict by it, or of why none is made
-abbrev pub OwnLines : Inputs → Rom → Result JudgedFrame MakeAccount → List Line → Type 0
-OwnLines inputs rom (Ok judged) lines = LinesBy inputs judged lines
-OwnLines inputs rom (Err account) lines = TellsUnmade inputs.machine rom account account.cause lines
+abbrev pub OwnLines : Inputs → Rom → List ℕ → Result JudgedFrame MakeAccount → List Line → Type 0
+OwnLines inputs rom frame (Ok judged) lines = LinesBy inputs judged lines
+OwnLines inputs rom frame (Err account) lines = TellsUnmade inputs.machine rom frame account account.cause lines

@@ -11,8 +11,9 @@ use crate::making::unmade_lines;
 use crate::refused::refused_lines;
 use dvg_check::{Mode, RomFinding, Yes};
 use dvg_make::{EntryCause, FrameRefusal, JudgedFrame, MakeAccount};
-use dvg_words::RomImage;
+use dvg_words::{FrameImage, RomImage};
 use std::alloc::{AllocError, Global};
+use std::slice;
 
 /// The number of the refusal that the maker had no memory.
 const NO_MEMORY: u8 = 63;
@@ -23,16 +24,17 @@ pub fn own_lines(
     alloc: Global,
     inputs: &Inputs,
     rom: &RomImage,
+    frame: &FrameImage,
     judged: Result<JudgedFrame, MakeAccount>,
 ) -> Result<Vec<Line>, AllocError>
-    ensures { IfOk result (λ lines. OwnLines inputs.now rom.now judged lines.items) }
+    ensures { IfOk result (λ lines. OwnLines inputs.now rom.now frame.now judged lines.items) }
 {
     match judged {
         Ok(judged) => lines_by(alloc, inputs, &judged),
         Err(account) if account.cause == EntryCause::Memory => {
             plain_lines(inputs.machine, alloc, NO_MEMORY, PlainWhy::Nothing)
         }
-        Err(account) => unmade_lines(alloc, rom, account),
+        Err(account) => unmade_lines(alloc, rom, slice::from_ref(frame), account),
     }
 }
 
