@@ -2,7 +2,7 @@
 
 use crate::line::EntryName;
 use crate::zeros::item_below;
-use dvg_cert::{Cert, Entries, Key};
+use dvg_cert::{Cert, Entries, Entry, Key};
 use dvg_items::{Item, Kind};
 use dvg_words::{ADDRESS_END, Fetch, FrameImage, FrameOn, Instr, Machine, RomImage};
 use std::alloc::{AllocError, Global};
@@ -38,14 +38,15 @@ struct Walk {
 }
 
 impl Walk {
-    /// The walk from a word address on, at a known scale. It ends where another shape begins at the very scale that is known there,
-    /// whose own walk goes on.
+    /// The walk from a word address on, at a known scale, with the entries behind that of the shape, in their order. It ends where
+    /// another shape begins at the very scale that is known there, whose own walk goes on.
     fn from<F: Fetch, E: Entries>(
         memory: &F,
         entries: &E,
         kind: Kind,
         first: u16,
         scale: Key,
+        later: &[Entry],
     ) -> Walk {
         let mut walk = Walk {
             first: None,
@@ -54,6 +55,7 @@ impl Walk {
         };
         let mut here = Some(first);
         let mut scale = scale;
+        let mut later = later;
         for _ in 0..MOST_ITEMS {
             let Some(item) = item_below(memory, here, ADDRESS_END) else {
                 break;
@@ -61,7 +63,8 @@ impl Walk {
             walk.note(&item, scale);
             scale = scale_behind(entries, kind, &item, scale);
             here = item.next_address(kind);
-            if walk.meets(entries, kind, here, scale) {
+            later = from_address(later, here);
+            if walk.meets(entries, later, here, scale) {
                 break;
             }
         }
@@ -76,19 +79,17 @@ impl Walk {
         }
     }
 
-    /// Notes where a shape begins, and answers whether one begins there at this very scale.
+    /// Notes where a shape begins, the first of these entries', and answers whether one begins there at this very scale.
     fn meets<E: Entries>(
         &mut self,
         entries: &E,
-        kind: Kind,
+        later: &[Entry],
         here: Option<u16>,
         scale: Key,
     ) -> bool {
-        match (kind, here) {
-            (Kind::Shape, Some(at)) => {
-                if self.into.is_none() && begins(entries, at) {
-                    self.into = Some(at);
-                }
+        match (later.first(), here) {
+            (Some(entry), Some(at)) if entry.addr == at => {
+                self.into = self.into.or(here);
                 entries.find(at, scale).is_some()
             }
             _ => false,
@@ -130,10 +131,15 @@ fn scale_behind<E: Entries>(entries: &E, kind: Kind, item: &Item, scale: Key) ->
     }
 }
 
-/// Whether a shape begins at a word address, at any scale.
-fn begins<E: Entries>(entries: &E, at: u16) -> bool {
-    entries.find(at, Key::Any).is_some()
-        || (0..16).any(|scale: u8| entries.find(at, Key::At(scale)).is_some())
+/// Those of these entries, which are in the order of their addresses, that begin at a word address or behind it.
+fn from_address(entries: &[Entry], here: Option<u16>) -> &[Entry] {
+    match here {
+        Some(at) => {
+            let before = entries.iter().take_while(|entry| entry.addr < at).count();
+            entries.get(before..).unwrap_or(&[])
+        }
+        None => &[],
+    }
 }
 
 /// The remarks on a frame and on the shapes of a certificate, over the bytes of a ROM and of the frame on a machine.
@@ -148,7 +154,7 @@ pub fn remarks_on<E: Entries>(
     let mut remarks = Vec::new(alloc);
     if let Ok(frame) = FrameImage::from_bytes(frame) {
         let framed = FrameOn::new(machine, &frame);
-        let walk = Walk::from(&framed, entries, Kind::Frame, 0, Key::Any);
+        let walk = Walk::from(&framed, entries, Kind::Frame, 0, Key::Any, &[]);
         push_some(&mut remarks, walk.faint(None))?;
     }
     if let Ok(rom) = RomImage::from_bytes_on(machine, rom, cert.map()) {
@@ -165,9 +171,11 @@ fn push_shapes<E: Entries>(
     entries: &E,
 ) -> Result<(), AllocError> {
     let mut told = None;
+    let mut later = cert.entries();
     for entry in cert.entries() {
+        later = from_address(later, Some(entry.addr));
         let shape = EntryName::of(entry);
-        let walk = Walk::from(rom, entries, Kind::Shape, entry.addr, entry.key);
+        let walk = Walk::from(rom, entries, Kind::Shape, entry.addr, entry.key, later);
         push_some(remarks, walk.faint(Some(shape)))?;
         if told != Some(entry.addr) {
             push_some(

@@ -12,16 +12,28 @@ use dvg_make::{FrameRefusal, JudgedFrame, MakeAccount, own_verdict};
 use dvg_words::{FrameImage, Machine, RomImage};
 use std::alloc::{AllocError, Global};
 
-/// Of which input the bytes are to be swapped, where inputs are refused and accepted so.
-fn swapped_if_refused(
+/// Of which input the bytes are to be swapped, where inputs are refused because of an item, and accepted so.
+fn swapped_for(
     alloc: Global,
     inputs: &Inputs,
-    is_refused: bool,
+    refusal: &Refusal,
 ) -> Result<Option<Swapped>, AllocError> {
-    if is_refused {
-        find_swapped(alloc, inputs)
-    } else {
-        Ok(None)
+    match refusal {
+        Refusal::Shape(_) | Refusal::Frame(_) => find_swapped(alloc, inputs),
+        _ => Ok(None),
+    }
+}
+
+/// The same for a verdict on a frame.
+fn swapped_for_frame(
+    alloc: Global,
+    inputs: &Inputs,
+    verdict: &Result<Yes, FrameRefusal>,
+) -> Result<Option<Swapped>, AllocError> {
+    match verdict {
+        Ok(_) | Err(FrameRefusal::NoMemory) => Ok(None),
+        Err(FrameRefusal::Make { .. }) => find_swapped(alloc, inputs),
+        Err(FrameRefusal::Check(refusal)) => swapped_for(alloc, inputs, refusal),
     }
 }
 
@@ -33,7 +45,10 @@ pub fn verdict_text(
     cause: Option<&RomFinding>,
 ) -> Result<String, AllocError> {
     let lines = verdict_lines(alloc, inputs, verdict, cause)?;
-    let swapped = swapped_if_refused(alloc, inputs, verdict.is_err())?;
+    let swapped = match verdict {
+        Ok(_) => None,
+        Err(refusal) => swapped_for(alloc, inputs, refusal)?,
+    };
     text_of(alloc, Telling::of_given(swapped), &lines)
 }
 
@@ -45,7 +60,7 @@ pub fn frame_text(
     cause: Option<&RomFinding>,
 ) -> Result<String, AllocError> {
     let lines = frame_lines(alloc, inputs, verdict, cause)?;
-    let swapped = swapped_if_refused(alloc, inputs, verdict.is_err())?;
+    let swapped = swapped_for_frame(alloc, inputs, verdict)?;
     text_of(alloc, Telling::of_given(swapped), &lines)
 }
 
@@ -57,9 +72,9 @@ pub fn own_text(
     frame: &FrameImage,
     judged: Result<JudgedFrame, MakeAccount>,
 ) -> Result<String, AllocError> {
-    let is_refused = own_verdict(&judged).is_err();
+    let verdict = own_verdict(&judged);
     let lines = own_lines(alloc, inputs, rom, frame, judged)?;
-    let swapped = swapped_if_refused(alloc, inputs, is_refused)?;
+    let swapped = swapped_for_frame(alloc, inputs, &verdict)?;
     text_of(alloc, Telling::of_own(swapped), &lines)
 }
 

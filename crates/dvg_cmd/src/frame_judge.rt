@@ -154,7 +154,10 @@ fn explain_by_own<'a>(
         Ok((image, rom)) => {
             let judged = explain_judging(alloc, &rom, &image, own.budget, own.window);
             let verdict = own_verdict(&judged);
-            (verdict, Behind::of(own_text(alloc, &inputs, &rom, &image, judged)))
+            (
+                verdict,
+                Behind::of(own_text(alloc, &inputs, &rom, &image, judged)),
+            )
         }
         Err(refusal) => {
             let verdict = Err(FrameRefusal::Check(refusal));
