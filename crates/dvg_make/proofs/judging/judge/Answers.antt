@@ -1,4 +1,4 @@
-use Rattle.std.proofs.Common.{ℕ, [], ◌∷◌, List, Err, sym, subst}
+use Rattle.std.proofs.Common.{ℕ, [], List, Err, sym, subst}
 use Rattle.dvg_make.specs.Accounts.{HasCause}
 use Rattle.dvg_make.specs.Judging.{FrameRefusal, FrameRefused, HasCallCause, VerdictByMade}
 use Rattle.dvg_make.specs.Refusals.{FramesRefuse}
