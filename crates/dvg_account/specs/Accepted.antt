@@ -64,8 +64,8 @@ abbrev pub TellsBoard : Machine → Inputs → Option Line → Type 0
 TellsBoard Profile inputs told = TellsBoardAt inputs.map inputs told
 TellsBoard Board inputs told = told ≡ None
 
--- the lines of what is accepted: its counts, the calls of the frame, where the frame and the shapes light, what the board clips, and
--- the board's answer
+-- the lines of what is accepted: its counts, the calls of the frame, where the frame and the shapes light, what the board clips, what
+-- is worth a second look (only tested), and the board's answer
 pub record AcceptedLines (inputs : Inputs) (yes : Yes) (lines : List Line) : Type 0 where
   pub survey : Survey
   pub surveyed : IfSome inputs.cert (λ cert. Surveyed inputs.machine cert.now inputs.rom.now inputs.frame.now survey)
@@ -82,4 +82,4 @@ pub record AcceptedLines (inputs : Inputs) (yes : Yes) (lines : List Line) : Typ
   pub told : lines ≡ machine_lines inputs.machine ++ option_to_list zone ++ Accepted (line.Shapes yes.shapes)
       ∷ Accepted (line.Words yes.words inputs.budget) ∷ Accepted (line.ReturnPlaces yes.depth) ∷ Accepted (line.Calls survey.calls) ∷ Accepted (line.FrameLights survey.frame)
       ∷ option_to_list frame_margins ++ option_to_list clipped ++ Accepted (line.ShapesLight survey.shapes) ∷ option_to_list shapes_margins
-      ++ option_to_list on_board
+      ++ Accepted (line.Remarks survey.remarks) ∷ option_to_list on_board

@@ -1,5 +1,5 @@
 -- The item of a refusal, and its lines. All of it is this project's own.
-use Rattle.std.specs.Prelude.{◌≡◌, ℕ, ◌+◌, List, ◌∷◌, ◌++◌, map, Option, Some, None, option_map, option_to_list, if◌then◌else◌}
+use Rattle.std.specs.Prelude.{◌≡◌, ℕ, ◌+◌, List, [], ◌∷◌, ◌++◌, map, Option, Some, None, option_map, option_to_list, if◌then◌else◌}
 use Rattle.dvg_words.specs.Values.{Source}
 use Rattle.dvg_words.specs.Decoding.{opcode, is_long_opcode, cell_at}
 use Rattle.dvg_words.specs.declared.instruction.Cell.{Cell}
@@ -19,7 +19,9 @@ pub use Rattle.dvg_account.specs.declared.line.Words.{Words}
 pub use Rattle.dvg_account.specs.declared.line.Words.TheVariants as words
 pub use Rattle.dvg_account.specs.declared.line.Instruction.{Instruction}
 pub use Rattle.dvg_account.specs.declared.line.Line.{Line}
-use Rattle.dvg_account.specs.declared.line.Line.TheVariants.{Item}
+use Rattle.dvg_account.specs.declared.line.Line.TheVariants.{Item, Stop}
+pub use Rattle.dvg_account.specs.declared.line.Role.{Role}
+use Rattle.dvg_account.specs.declared.line.Role.TheVariants as role
 use Rattle.dvg_account.specs.declared.line.ItemLine.{ItemLine}
 use Rattle.dvg_account.specs.declared.line.ItemLine.TheVariants as line
 
@@ -49,8 +51,8 @@ abbrev pub callee_of : Found → Option Entry
 callee_of (Seen v) = v.callee
 callee_of found = None
 
--- the item at a word address, before which this is known, and which names this entry
-pub record IsItem (kind : Kind) (source : Source) (at : ℕ) (before : Known) (callee : Option Entry) (i : RefusedItem) : Type 0 where
+-- the item at a word address, before which this is known, if that is told, and which names this entry
+pub record IsItemWith (kind : Kind) (source : Source) (at : ℕ) (before : Option Known) (callee : Option Entry) (i : RefusedItem) : Type 0 where
   pub of_kind : i.kind ≡ kind
   pub stands : i.at ≡ at
   pub holds : i.words ≡ words_at source at
@@ -58,11 +60,19 @@ pub record IsItem (kind : Kind) (source : Source) (at : ℕ) (before : Known) (c
   pub named : i.callee ≡ callee
   pub known : i.before ≡ before
 
+abbrev pub IsItem : Kind → Source → ℕ → Known → Option Entry → RefusedItem → Type 0
+IsItem kind source at before callee i = IsItemWith kind source at (Some before) callee i
+
 -- ---- lines
 
--- a line, if there is one
-abbrev pub item_line : Option ItemLine → List Line
-item_line l = map Item (option_to_list l)
+-- a line of the item in a role
+abbrev pub line_as : Role → ItemLine → Line
+line_as role.Refused l = Item l
+line_as role.Stop l = Stop l
+
+-- such a line, if there is one
+abbrev pub item_line : Role → Option ItemLine → List Line
+item_line r l = map (line_as r) (option_to_list l)
 
 -- an item of a frame is told with the item that goes on to it, unless zeros lead there; one of a shape only where it is missing
 abbrev pub unless_zeros : Option Zeros → Option Before → Option ItemLine
@@ -83,10 +93,18 @@ abbrev pub scale_lost_by : Option Losses → Option ItemLine
 scale_lost_by None = None
 scale_lost_by (Some l) = option_map line.ScaleLostBy l.scale
 
+-- what is known before the item, if that is told
+abbrev pub known_lines : Role → Option Known → List Line
+known_lines r None = []
+known_lines r (Some known) = line_as r (line.PlaceBefore known.place) ∷ line_as r (line.ScaleBefore known.scale) ∷ line_as r (line.WordsBefore known.words) ∷ []
+
 -- where the item stands, what it is, what is known before it, by which items the rest was lost, and the zeros that lead to it
+abbrev pub lines_as : Role → RefusedItem → List Line
+lines_as r i =
+    line_as r (line.At i.at) ∷ line_as r (line.Holds i.words) ∷ line_as r (line.Instruction i.instruction)
+    ∷ item_line r (option_map line.CalledEntry i.callee) ++ item_line r (comes_from i.kind i.words i.way) ++ known_lines r i.before
+    ++ item_line r (place_lost_by i.losses) ++ item_line r (scale_lost_by i.losses) ++ item_line r (option_map line.Zeros i.way.zeros)
+
+-- of the item by which something is refused
 abbrev pub item_lines : RefusedItem → List Line
-item_lines i =
-    Item (line.At i.at) ∷ Item (line.Holds i.words) ∷ Item (line.Instruction i.instruction)
-    ∷ item_line (option_map line.CalledEntry i.callee) ++ item_line (comes_from i.kind i.words i.way)
-    ++ Item (line.PlaceBefore i.before.place) ∷ Item (line.ScaleBefore i.before.scale) ∷ Item (line.WordsBefore i.before.words)
-    ∷ item_line (place_lost_by i.losses) ++ item_line (scale_lost_by i.losses) ++ item_line (option_map line.Zeros i.way.zeros)
+item_lines i = lines_as role.Refused i

@@ -8,4 +8,5 @@ pub mod Accepted
 pub mod Cures
 pub mod Making
 pub mod Verdicts
+pub mod Swapped
 pub mod Private

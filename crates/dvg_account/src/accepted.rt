@@ -11,6 +11,7 @@ ghost use Rattle.dvg_account.specs.Building.{Adds};
 use crate::inputs::Inputs;
 use crate::line::{AcceptedLine, Line};
 use crate::lines::{Lines, zone_line};
+use crate::remarks::{Remark, remarks_on};
 use dvg_cert::{Cert, Entries, HashIndex, LitBox};
 use dvg_check::{Refusal, Yes, frame_of};
 use dvg_make::{FrameRefusal, judge};
@@ -18,14 +19,15 @@ use dvg_survey::{Call, Margins, frame_calls, frame_clipped, frame_extent, shapes
 use dvg_words::{CLIPPED, FrameImage, Machine, RomImage, Window};
 use std::alloc::{AllocError, Global};
 
-/// The calls of a frame, the least boxes of what it and the shapes may light, and the word addresses of its items that light past
-/// the screen.
+/// The calls of a frame, the least boxes of what it and the shapes may light, the word addresses of its items that light past the
+/// screen, and what is worth a second look.
 #[derive(Drop)]
 pub struct Survey {
     pub calls: Vec<Call>,
     pub frame: LitBox,
     pub shapes: LitBox,
     pub clipped: Vec<u16>,
+    pub remarks: Vec<Remark>,
 }
 
 impl Survey {
@@ -36,6 +38,7 @@ impl Survey {
             frame: LitBox::Empty,
             shapes: LitBox::Empty,
             clipped: Vec::new(alloc),
+            remarks: Vec::new(alloc),
         }
     }
 
@@ -66,6 +69,7 @@ impl Survey {
             frame: lit,
             shapes: shapes_box(machine, cert, &entries, rom),
             clipped,
+            remarks: remarks_on(alloc, machine, cert, &entries, rom, frame)?,
         })
     }
 }
@@ -172,6 +176,7 @@ pub fn accepted_lines(alloc: Global, inputs: &Inputs, yes: Yes) -> Result<Vec<Li
     lines.push_some(clipped_line(&inputs.window, survey.clipped));
     lines.push_accepted(AcceptedLine::ShapesLight(shapes));
     lines.push_some(shapes_margins(&inputs.window, &shapes));
+    lines.push_accepted(AcceptedLine::Remarks(survey.remarks));
     lines.push_some(on_board);
     lines.finish()
 }

@@ -1,7 +1,7 @@
 //! What to do about an entry that can't be made.
 
-ghost use Rattle.std.specs.Prelude.{◌≡◌};
-ghost use Rattle.dvg_account.specs.Cures.{missing_cure, scale_cure, cure_of};
+ghost use Rattle.std.specs.Prelude.{◌≡◌, ◌-◌, length, slice_get};
+ghost use Rattle.dvg_account.specs.Cures.{missing_cure, item_cure, scale_cure, entries_cure, cure_of};
 
 use dvg_check::ShapeWhy;
 use dvg_make::{EntryCause, FrameCall, MakeAccount, MakeFault};
@@ -12,16 +12,30 @@ use dvg_words::RAM_WORDS;
 pub enum MakerCure {
     /// What the table of numbers says of this one.
     OfRule(u8),
+    /// The same, unless the frame's call is of no shape's first word.
+    OfCalled(u8),
     /// The root is not in the ROM.
     RootOutside,
     /// The frame calls a word of vector RAM.
     CallsRam,
     /// The frame calls a word past vector RAM that is not in the ROM.
     CallsOutside,
+    /// A shape on the way calls or jumps to a word of vector RAM.
+    LeadsToRam,
+    /// A shape on the way calls or jumps to a word past vector RAM that is not in the ROM.
+    LeadsOutside,
     /// The root does not tell the scale.
     RootScale,
     /// The scale is unknown at the frame's call.
     CallScale,
+    /// A shape needs itself.
+    Ring,
+    /// The calls go too deep.
+    Deep,
+    /// A shape takes too many words.
+    Words,
+    /// The frame's calls need too many entries.
+    CallsEntries,
 }
 
 impl MakerCure {
@@ -32,28 +46,57 @@ impl MakerCure {
         match account.cause {
             EntryCause::RootOutside => MakerCure::RootOutside,
             EntryCause::Missing => MakerCure::of_missing(account),
-            EntryCause::Odd => MakerCure::OfRule(ShapeWhy::Odd.number()),
-            EntryCause::Halt => MakerCure::OfRule(ShapeWhy::HaltInShape.number()),
+            EntryCause::Odd => MakerCure::of_item(account.fault.call, ShapeWhy::Odd.number()),
+            EntryCause::Halt => MakerCure::of_item(
+                account.fault.call,
+                ShapeWhy::HaltInShape.number(),
+            ),
             EntryCause::BeamUnknown | EntryCause::ScaleUnknown => {
                 MakerCure::of_scale(account.fault.call)
             }
-            _ => MakerCure::OfRule(MakeFault::from(account.fault.why).number()),
+            EntryCause::Ring { .. } => MakerCure::Ring,
+            EntryCause::Deep { .. } => MakerCure::Deep,
+            EntryCause::TooManyWords { .. } => MakerCure::Words,
+            EntryCause::TooManyEntries => MakerCure::of_entries(account.fault.call),
+            EntryCause::Memory => MakerCure::OfRule(MakeFault::Memory.number()),
         }
     }
 
-    /// What to do about a missing word: the end of a shape, or the very word that the frame calls.
+    /// What to do about a missing word: the end of a shape, or the very word that is called or jumped to.
     fn of_missing(account: &MakeAccount) -> MakerCure
-        ensures { result ≡ missing_cure account.now.fault.call account.now.chain.items account.now.at }
+        ensures { result ≡ missing_cure (slice_get account.now.chain.items (length account.now.chain.items - 1)) (length account.now.chain.items)
+            account.now.at }
     {
-        match (account.fault.call, account.chain.first()) {
-            (Some(_), Some(shape)) if shape.addr == account.at => {
-                if account.at < RAM_WORDS {
-                    MakerCure::CallsRam
-                } else {
-                    MakerCure::CallsOutside
+        match account.chain.last() {
+            Some(shape) if shape.addr == account.at => {
+                match (account.chain.len() == 1, account.at < RAM_WORDS) {
+                    (true, true) => MakerCure::CallsRam,
+                    (true, false) => MakerCure::CallsOutside,
+                    (false, true) => MakerCure::LeadsToRam,
+                    (false, false) => MakerCure::LeadsOutside,
                 }
             }
             _ => MakerCure::OfRule(ShapeWhy::Unmapped.number()),
+        }
+    }
+
+    /// What to do about an item that breaks the rule of shapes with this number, by the frame's call, if there is one.
+    fn of_item(call: Option<FrameCall>, number: u8) -> MakerCure
+        ensures { result ≡ item_cure call number }
+    {
+        match call {
+            Some(_) => MakerCure::OfCalled(number),
+            None => MakerCure::OfRule(number),
+        }
+    }
+
+    /// What to do about too many entries, by the frame's call, if there is one.
+    fn of_entries(call: Option<FrameCall>) -> MakerCure
+        ensures { result ≡ entries_cure call }
+    {
+        match call {
+            Some(_) => MakerCure::CallsEntries,
+            None => MakerCure::OfRule(MakeFault::TooLarge.number()),
         }
     }
 

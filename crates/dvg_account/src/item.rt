@@ -1,11 +1,12 @@
 //! The item of a refusal: where it stands, what it is, and what is known before it.
 
-ghost use Rattle.std.specs.Prelude.{◌≡◌, option_map};
-ghost use Rattle.dvg_account.specs.Items.{words_at, instruction_at, callee_of, IsItem, item_lines, comes_from, place_lost_by, scale_lost_by};
+ghost use Rattle.std.specs.Prelude.{◌≡◌, None, Some, option_map};
+ghost use Rattle.dvg_account.specs.Items.{words_at, instruction_at, callee_of, IsItem, IsItemWith, lines_as, known_lines, comes_from, place_lost_by, scale_lost_by};
 ghost use Rattle.dvg_account.specs.declared.line.ItemLine.TheVariants.{CalledEntry, Zeros};
 ghost use Rattle.dvg_account.specs.Building.{Adds};
+ghost use Rattle.dvg_items.specs.declared.item.Kind.TheVariants.{Frame};
 
-use crate::line::{Instruction, ItemLine, Words};
+use crate::line::{Instruction, ItemLine, Role, Words};
 use crate::lines::Lines;
 use crate::zeros::Way;
 use dvg_cert::Entry;
@@ -14,7 +15,7 @@ use dvg_items::{Item, Kind, Known};
 use dvg_survey::Losses;
 use dvg_words::{Cell, Fetch, is_long, read_cell};
 
-/// The item of a refusal.
+/// The item of a refusal, with what is known before it, if that is told.
 #[derive(Clone, Copy)]
 pub struct RefusedItem {
     pub kind: Kind,
@@ -22,7 +23,7 @@ pub struct RefusedItem {
     pub words: Words,
     pub instruction: Option<Instruction>,
     pub callee: Option<Entry>,
-    pub before: Known,
+    pub before: Option<Known>,
     pub losses: Option<Losses>,
     pub way: Way,
 }
@@ -39,6 +40,26 @@ impl RefusedItem {
     ) -> RefusedItem
         ensures { IsItem kind (F.words memory.now) at before callee result }
     {
+        RefusedItem::with(memory, kind, first, at, Some(before), callee)
+    }
+
+    /// The call of a frame at a word address, of which nothing else is told.
+    pub fn call<F: Fetch>(memory: &F, at: u16) -> RefusedItem
+        ensures { IsItemWith Frame (F.words memory.now) at None None result }
+    {
+        RefusedItem::with(memory, Kind::Frame, 0, at, None, None)
+    }
+
+    fn with<F: Fetch>(
+        memory: &F,
+        kind: Kind,
+        first: u16,
+        at: u16,
+        before: Option<Known>,
+        callee: Option<Entry>,
+    ) -> RefusedItem
+        ensures { IsItemWith kind (F.words memory.now) at before callee result }
+    {
         RefusedItem {
             kind,
             at,
@@ -51,21 +72,30 @@ impl RefusedItem {
         }
     }
 
-    /// The lines of the item.
-    pub fn push_lines(&self, lines: &mut Lines)
-        ensures { Adds lines.old lines.new (item_lines self.now) }
+    /// The lines of the item, in this role.
+    pub fn push_lines(&self, role: Role, lines: &mut Lines)
+        ensures { Adds lines.old lines.new (lines_as role self.now) }
     {
-        lines.push_item(ItemLine::At(self.at));
-        lines.push_item(ItemLine::Holds(self.words));
-        lines.push_item(ItemLine::Instruction(self.instruction));
-        lines.push_some_item(self.called_entry());
-        lines.push_some_item(self.comes_from());
-        lines.push_item(ItemLine::PlaceBefore(self.before.place));
-        lines.push_item(ItemLine::ScaleBefore(self.before.scale));
-        lines.push_item(ItemLine::WordsBefore(self.before.words));
-        lines.push_some_item(self.place_lost_by());
-        lines.push_some_item(self.scale_lost_by());
-        lines.push_some_item(self.zeros());
+        lines.push_item(role, ItemLine::At(self.at));
+        lines.push_item(role, ItemLine::Holds(self.words));
+        lines.push_item(role, ItemLine::Instruction(self.instruction));
+        lines.push_some_item(role, self.called_entry());
+        lines.push_some_item(role, self.comes_from());
+        self.push_known(role, lines);
+        lines.push_some_item(role, self.place_lost_by());
+        lines.push_some_item(role, self.scale_lost_by());
+        lines.push_some_item(role, self.zeros());
+    }
+
+    /// The lines of what is known before the item.
+    fn push_known(&self, role: Role, lines: &mut Lines)
+        ensures { Adds lines.old lines.new (known_lines role self.now.before) }
+    {
+        if let Some(before) = self.before {
+            lines.push_item(role, ItemLine::PlaceBefore(before.place));
+            lines.push_item(role, ItemLine::ScaleBefore(before.scale));
+            lines.push_item(role, ItemLine::WordsBefore(before.words));
+        }
     }
 
     /// The entry that the item names.

@@ -17,8 +17,10 @@ mod lines;
 mod making;
 mod own;
 mod refused;
+mod remarks;
 mod sentences;
 mod spelling;
+mod swapped;
 mod text;
 mod texts;
 mod why;
@@ -28,11 +30,13 @@ pub use answers::{refusal_lines, verdict_lines};
 pub use cure::MakerCure;
 pub use inputs::{Inputs, PlainWhy, plain_lines};
 pub use line::{
-    AcceptedLine, EntryName, Instruction, ItemLine, Line, MadeLine, MakerChain, PathLine, Words,
-    Zeros,
+    AcceptedLine, EntryName, Instruction, ItemLine, Line, MadeLine, MakerChain, PathLine, Role,
+    Words, Zeros,
 };
 pub use making::{made_lines, unmade_lines};
 pub use own::{OwnMaking, frame_lines, own_lines};
+pub use remarks::Remark;
+pub use swapped::{Swapped, find_swapped};
 pub use texts::{
     frame_text, made_text, own_text, plain_text, refusal_text, unmade_text, verdict_text,
 };

@@ -1,8 +1,10 @@
 //! The lines of an account, each with the value that it tells.
 
 ghost use Rattle.std.specs.Prelude.{◌≡◌};
+ghost use Rattle.dvg_account.specs.Items.{line_as};
 
 use crate::cure::MakerCure;
+use crate::remarks::Remark;
 use crate::why::Why;
 use dvg_cert::{End, Entry, Key, LitBox};
 use dvg_check::Yes;
@@ -24,8 +26,12 @@ pub enum Line {
     Why(Why),
     /// Which line of the certificate's text is refused, counted from 1.
     CertificateLine(u32),
+    /// Why an entry that a frame's call needs can't be made: at this word address the making stops.
+    MakingStops { at: u16, why: Why },
     /// The item by which something is refused.
     Item(ItemLine),
+    /// The item at which the making of an entry stops, which a frame's call needs.
+    Stop(ItemLine),
     /// How that item is reached.
     Path(PathLine),
     /// What is accepted.
@@ -40,7 +46,27 @@ pub enum Line {
     MakerCure(MakerCure),
 }
 
-/// A line about the item by which something is refused.
+/// Which item of an account is told: the one by which something is refused, or the one at which the making of an entry stops, which
+/// a frame's call needs.
+#[derive(Clone, Copy)]
+pub enum Role {
+    Refused,
+    Stop,
+}
+
+impl Role {
+    /// A line about the item in this role.
+    pub fn line(self, line: ItemLine) -> Line
+        ensures { result ≡ line_as self line }
+    {
+        match self {
+            Role::Refused => Line::Item(line),
+            Role::Stop => Line::Stop(line),
+        }
+    }
+}
+
+/// A line about an item.
 #[derive(Clone, Copy)]
 pub enum ItemLine {
     /// Its word address.
@@ -103,6 +129,8 @@ pub enum AcceptedLine {
     ShapesLight(LitBox),
     /// How far that box is from each edge of the window.
     ShapesMargins(Margins),
+    /// What is worth a second look.
+    Remarks(Vec<Remark>),
     /// What the board answers, by the frame's own certificate there.
     OnBoard(Result<Yes, FrameRefusal>),
 }

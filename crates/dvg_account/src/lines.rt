@@ -1,11 +1,12 @@
 //! The lines of an account, put together.
 
-ghost use Rattle.std.specs.Prelude.{◌≡◌, [], ◌∷◌, Some, IfOk, map, option_to_list};
-ghost use Rattle.dvg_account.specs.declared.line.Line.TheVariants.{Item, Accepted};
+ghost use Rattle.std.specs.Prelude.{◌≡◌, [], ◌∷◌, Some, IfOk, option_to_list};
+ghost use Rattle.dvg_account.specs.declared.line.Line.TheVariants.{Accepted};
+ghost use Rattle.dvg_account.specs.Items.{line_as, item_line};
 ghost use Rattle.dvg_account.specs.Building.{Adds};
 ghost use Rattle.dvg_account.specs.Machines.{machine_lines, TellsZone};
 
-use crate::line::{AcceptedLine, ItemLine, Line};
+use crate::line::{AcceptedLine, ItemLine, Line, Role};
 use dvg_words::{CLIPPED, Machine, Window};
 use std::alloc::{AllocError, Global};
 use std::marker::Model;
@@ -68,19 +69,19 @@ impl Lines {
         }
     }
 
-    /// Adds a line about the item of a refusal.
-    pub fn push_item(&mut self, line: ItemLine)
-        ensures { Adds self.old self.new (Item line ∷ []) }
+    /// Adds a line about an item in this role.
+    pub fn push_item(&mut self, role: Role, line: ItemLine)
+        ensures { Adds self.old self.new (line_as role line ∷ []) }
     {
-        self.push(Line::Item(line));
+        self.push(role.line(line));
     }
 
-    /// Adds a line about the item of a refusal, if there is one.
-    pub fn push_some_item(&mut self, line: Option<ItemLine>)
-        ensures { Adds self.old self.new (map Item (option_to_list line)) }
+    /// Adds a line about an item in this role, if there is one.
+    pub fn push_some_item(&mut self, role: Role, line: Option<ItemLine>)
+        ensures { Adds self.old self.new (item_line role line) }
     {
         if let Some(line) = line {
-            self.push(Line::Item(line));
+            self.push_item(role, line);
         }
     }
 

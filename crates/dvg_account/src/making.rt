@@ -1,19 +1,19 @@
 //! The account of an answer of the maker.
 
-ghost use Rattle.std.specs.Prelude.{◌≡◌, IfOk};
-ghost use Rattle.dvg_account.specs.Making.{made_lines, most_words, most_depth, chain_of, maker_item_lines, UnmadeLines, IsMakerItem, TellsMaker, TellsBelow};
+ghost use Rattle.std.specs.Prelude.{◌≡◌, option_copied, IfOk};
+ghost use Rattle.dvg_account.specs.Making.{made_lines, most_words, most_depth, chain_of, maker_item_lines, way_lines, why_line, frame_of_call, UnmadeLines, IsCallItem, IsMakerItem, TellsMaker, TellsBelow};
 ghost use Rattle.dvg_account.specs.Building.{Adds};
 
 use crate::cure::MakerCure;
 use crate::item::RefusedItem;
-use crate::line::{EntryName, Line, MadeLine, MakerChain, PathLine};
+use crate::line::{EntryName, Line, MadeLine, MakerChain, PathLine, Role};
 use crate::lines::Lines;
 use crate::why::{Addresses, MakerWhy, Why};
 use dvg_cert::{Cert, Entries, Entry, Key, ListIndex};
 use dvg_items::Kind;
-use dvg_make::{EntryCause, MakeAccount, MakeFault, make};
+use dvg_make::{EntryCause, FrameCall, MakeAccount, MakeFault, make};
 use dvg_survey::{Call, deepest_calls};
-use dvg_words::{Machine, RomImage};
+use dvg_words::{FrameImage, FrameOn, Machine, RAM_WORDS, RomImage};
 use std::alloc::{AllocError, Global};
 use std::slice;
 
@@ -44,80 +44,140 @@ pub fn made_lines(machine: Machine, alloc: Global, cert: &Cert) -> Result<Vec<Li
     lines.finish()
 }
 
-/// The lines of a refusal of the maker over a ROM (profile).
+/// The lines of a refusal of the maker over a ROM, which was asked for the entries of these frames, too (profile).
 pub fn unmade_lines(
     alloc: Global,
     rom: &RomImage,
+    frames: &[FrameImage],
     account: MakeAccount,
 ) -> Result<Vec<Line>, AllocError>
-    ensures { IfOk result (λ lines. UnmadeLines rom.now account lines.items) }
+    ensures { IfOk result (λ lines. UnmadeLines rom.now frames.now account lines.items) }
 {
     let number = MakeFault::from(account.fault.why).number();
     let below = below_line(alloc, rom, account.cause)?;
-    let item = item_of(rom, &account);
-    let why = why_line(rom, &account);
+    let frame = frame_of_call(frames, account.fault.call);
+    let call = call_item(rom.machine(), frame, account.fault.call);
+    let item = item_of(rom, frame, &account);
+    let why = why_of(rom, &account);
+    let told = why_line(account.fault.call, account.at, why);
     let cure = MakerCure::of(&account);
     let mut lines = Lines::new(alloc);
     lines.push_machine(rom.machine());
     lines.push(Line::Rule(number));
-    lines.push_some(why);
-    push_item(&mut lines, &item);
-    lines.push(Line::Path(PathLine::MakerChain(chain_of(account))));
+    lines.push_some(told);
+    push_way(
+        &mut lines,
+        &call,
+        &item,
+        Line::Path(PathLine::MakerChain(chain_of(account))),
+    );
     lines.push_some(below);
     lines.push(Line::MakerCure(cure));
     lines.finish()
 }
 
-/// The item by which a shape can't be made; `None` where no shape was begun.
-fn item_of(rom: &RomImage, account: &MakeAccount) -> Option<RefusedItem>
-    ensures { IsMakerItem rom.now account.now result }
+/// The frame of a call.
+fn frame_of_call<'a, 'b>(
+    frames: &'a [FrameImage<'b>],
+    call: Option<FrameCall>,
+) -> Option<&'a FrameImage<'b>>
+    ensures { option_copied result ≡ frame_of_call frames.now call }
 {
-    let shape = account.chain.last()?;
-    Some(RefusedItem::new(
-        rom,
-        Kind::Shape,
-        shape.addr,
-        account.at,
-        account.before,
-        None,
-    ))
+    frames.get(call?.frame)
 }
 
-/// The lines of an item, if there is one.
-fn push_item(lines: &mut Lines, item: &Option<RefusedItem>)
-    ensures { Adds lines.old lines.new (maker_item_lines item.now) }
+/// The call of a frame that asks for what can't be made.
+fn call_item(
+    machine: Machine,
+    frame: Option<&FrameImage>,
+    call: Option<FrameCall>,
+) -> Option<RefusedItem>
+    ensures { IsCallItem machine (option_copied frame.entry) call result }
 {
-    if let Some(item) = item {
-        item.push_lines(lines);
+    match (frame, call) {
+        (Some(frame), Some(call)) => {
+            Some(RefusedItem::call(&FrameOn::new(machine, frame), call.at))
+        }
+        _ => None,
     }
 }
 
-/// The line of why the maker refuses; `None` where memory was out.
-fn why_line(rom: &RomImage, account: &MakeAccount) -> Option<Line>
+/// The item by which a shape can't be made; `None` where no shape was begun.
+fn item_of(rom: &RomImage, frame: Option<&FrameImage>, account: &MakeAccount) -> Option<RefusedItem>
+    ensures { IsMakerItem rom.now (option_copied frame.entry) account.now result }
+{
+    let shape = account.chain.last()?;
+    let MakeAccount { at, before, .. } = *account;
+    match frame {
+        Some(frame) if at < RAM_WORDS => {
+            let ram = FrameOn::new(rom.machine(), frame);
+            Some(RefusedItem::new(&ram, Kind::Shape, shape.addr, at, before, None))
+        }
+        _ => Some(RefusedItem::new(rom, Kind::Shape, shape.addr, at, before, None)),
+    }
+}
+
+/// The lines of the item, and of the way to where the making stops. The item of a frame is its call.
+fn push_way(lines: &mut Lines, call: &Option<RefusedItem>, item: &Option<RefusedItem>, chain: Line)
+    ensures { Adds lines.old lines.new (way_lines call.now item.now chain) }
+{
+    match call {
+        Some(call) => {
+            call.push_lines(Role::Refused, lines);
+            lines.push(chain);
+            push_item(lines, Role::Stop, item);
+        }
+        None => {
+            push_item(lines, Role::Refused, item);
+            lines.push(chain);
+        }
+    }
+}
+
+/// The lines of an item in a role, if there is one.
+fn push_item(lines: &mut Lines, role: Role, item: &Option<RefusedItem>)
+    ensures { Adds lines.old lines.new (maker_item_lines role item.now) }
+{
+    if let Some(item) = item {
+        item.push_lines(role, lines);
+    }
+}
+
+/// The line of this sentence: that of a frame's call says where the making stops.
+fn why_line(call: Option<FrameCall>, at: u16, why: Option<Why>) -> Option<Line>
+    ensures { result ≡ why_line call at why }
+{
+    match call {
+        Some(_) => Some(Line::MakingStops { at, why: why? }),
+        None => Some(Line::Why(why?)),
+    }
+}
+
+/// Why the maker refuses; `None` where memory was out.
+fn why_of(rom: &RomImage, account: &MakeAccount) -> Option<Why>
     ensures { TellsMaker rom.now account.now.at account.now.chain.items account.now.cause result }
 {
     let at = account.at;
-    let why = match account.cause {
+    match account.cause {
         EntryCause::RootOutside | EntryCause::Missing => {
-            Why::missing(rom, at, Addresses::of_map(rom.map()))
+            Some(Why::missing(rom, at, Addresses::of_map(rom.map())))
         }
-        EntryCause::Odd => Why::odd(rom, at),
-        EntryCause::Halt => Why::Halt,
-        EntryCause::BeamUnknown => Why::DrawsAtLostPlace,
-        EntryCause::ScaleUnknown => Why::ScaleUnknown,
+        EntryCause::Odd => Some(Why::odd(rom, at)),
+        EntryCause::Halt => Some(Why::Halt),
+        EntryCause::BeamUnknown => Some(Why::DrawsAtLostPlace),
+        EntryCause::ScaleUnknown => Some(Why::ScaleUnknown),
         EntryCause::Ring { from } => {
             let shape = account.chain.get(from)?;
-            Why::Maker(MakerWhy::Ring(EntryName::of_shape(shape)))
+            Some(Why::Maker(MakerWhy::Ring(EntryName::of_shape(shape))))
         }
-        EntryCause::Deep { to, scale } => Why::Maker(MakerWhy::Deep(EntryName {
+        EntryCause::Deep { to, scale } => Some(Why::Maker(MakerWhy::Deep(EntryName {
             addr: to,
             key: scale,
-        })),
-        EntryCause::TooManyWords { words } => Why::Maker(MakerWhy::TooManyWords(words)),
-        EntryCause::TooManyEntries => Why::Maker(MakerWhy::TooManyEntries),
-        EntryCause::Memory => return None,
-    };
-    Some(Line::Why(why))
+        }))),
+        EntryCause::TooManyWords { words } => Some(Why::Maker(MakerWhy::TooManyWords(words))),
+        EntryCause::TooManyEntries => Some(Why::Maker(MakerWhy::TooManyEntries)),
+        EntryCause::Memory => None,
+    }
 }
 
 /// The shapes on the way to the one that can't be made.

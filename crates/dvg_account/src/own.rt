@@ -10,8 +10,9 @@ use crate::making::unmade_lines;
 use dvg_cert::Cert;
 use dvg_check::{Mode, RomFinding, Yes};
 use dvg_make::{EntryCause, FrameRefusal, MakeAccount};
-use dvg_words::RomImage;
+use dvg_words::{FrameImage, RomImage};
 use std::alloc::{AllocError, Global};
+use std::slice;
 
 /// The number of the refusal that the maker had no memory.
 const NO_MEMORY: u8 = 63;
@@ -41,12 +42,19 @@ impl OwnMaking {
         }
     }
 
-    /// What the maker answers over a ROM.
-    pub fn of(alloc: Global, rom: &RomImage, made: Result<Cert, MakeAccount>) -> OwnMaking {
+    /// What the maker answers over a ROM for a frame.
+    pub fn of(
+        alloc: Global,
+        rom: &RomImage,
+        frame: &FrameImage,
+        made: Result<Cert, MakeAccount>,
+    ) -> OwnMaking {
         let certificate = match made {
             Ok(cert) => OwnCertificate::Made(cert),
             Err(account) if account.cause == EntryCause::Memory => OwnCertificate::NoMemory,
-            Err(account) => OwnCertificate::Refused(unmade_lines(alloc, rom, account)),
+            Err(account) => {
+                OwnCertificate::Refused(unmade_lines(alloc, rom, slice::from_ref(frame), account))
+            }
         };
         OwnMaking { certificate }
     }

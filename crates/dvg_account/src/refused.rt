@@ -13,7 +13,7 @@ ghost use Rattle.dvg_account.specs.Building.{Adds};
 
 use crate::inputs::{Inputs, plain_lines};
 use crate::item::{RefusedItem, callee_of};
-use crate::line::{EntryName, Line, PathLine};
+use crate::line::{EntryName, Line, PathLine, Role};
 use crate::lines::{Lines, zone_line};
 use crate::why::Why;
 use dvg_cert::{Cert, Entries, Entry, HashIndex, ListIndex};
@@ -74,7 +74,7 @@ fn frame_lines(
     lines.push_some(zone_line(window));
     lines.push(Line::Rule(number));
     lines.push(Line::Why(why));
-    item.push_lines(&mut lines);
+    item.push_lines(Role::Refused, &mut lines);
     lines.push(Line::WhatToDo(number));
     lines.finish()
 }
@@ -106,7 +106,7 @@ fn shape_lines(
     lines.push_some(zone_line(window));
     lines.push(Line::Rule(number));
     lines.push(Line::Why(why));
-    item.push_lines(&mut lines);
+    item.push_lines(Role::Refused, &mut lines);
     lines.push(Line::Path(PathLine::EntryClaims(entry)));
     lines.push_some(chain);
     lines.push_some(other);

@@ -245,6 +245,9 @@ fn push_input(text: &mut Text, why: &InputWhy) {
         InputWhy::RomLength { bytes, words } => {
             text.push("the ROM has ");
             push_length(text, *bytes, MOST_ROM_BYTES);
+            if *bytes < MOST_ROM_BYTES && bytes % 2 == 1 {
+                text.push(", an odd number");
+            }
             text.push(", and words ");
             push_addresses(text, words);
             text.push(" are ");

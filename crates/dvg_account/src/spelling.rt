@@ -8,48 +8,152 @@ use crate::line::{
     AcceptedLine, EntryName, Instruction, ItemLine, Line, MadeLine, MakerChain, PathLine, Words,
     Zeros,
 };
+use crate::remarks::Remark;
 use crate::sentences::push_why;
+use crate::swapped::Swapped;
 use crate::text::Text;
+use crate::why::Why;
 use dvg_cert::{MOST_DEPTH, MOST_ENTRIES, MOST_WORDS};
 use dvg_check::Yes;
 use dvg_items::Item;
 use dvg_make::{FrameRefusal, ShapeAt};
-use dvg_spelling::{FrameAnswer, frame_report_of, rule_of};
+use dvg_spelling::{FrameAnswer, Rule, frame_report_of, own_rule_of, rule_of};
 use dvg_survey::{Call, Margins};
-use dvg_words::{Draw, Format, Instr, Machine};
+use dvg_words::{Draw, Format, Instr, Machine, RAM_WORDS};
 use itoa::Integer;
 use std::alloc::{AllocError, Global};
 
+/// Whose the certificate is that an account speaks of.
+#[derive(Clone, Copy)]
+pub enum CertificateOf {
+    /// The one that was given.
+    User,
+    /// The frame's own, which nobody has to change.
+    Frame,
+}
+
+/// What the words of an account depend on: whose the certificate is, and of which input the bytes are to be swapped, if they are.
+#[derive(Clone, Copy)]
+pub struct Telling {
+    pub cert: CertificateOf,
+    pub swapped: Option<Swapped>,
+}
+
+impl Telling {
+    /// By the certificate that was given.
+    pub fn of_given(swapped: Option<Swapped>) -> Telling {
+        Telling {
+            cert: CertificateOf::User,
+            swapped,
+        }
+    }
+
+    /// By the frame's own certificate.
+    pub fn of_own(swapped: Option<Swapped>) -> Telling {
+        Telling {
+            cert: CertificateOf::Frame,
+            swapped,
+        }
+    }
+}
+
 /// The text of an account.
-pub fn text_of(alloc: Global, lines: &[Line]) -> Result<String, AllocError> {
+pub fn text_of(alloc: Global, telling: Telling, lines: &[Line]) -> Result<String, AllocError> {
     let mut text = Text::new(alloc);
+    if let Some(swapped) = telling.swapped {
+        push_swapped(&mut text, swapped);
+    }
     for line in lines {
-        push_line(&mut text, line);
+        push_line(&mut text, telling, line);
     }
     text.finish()
 }
 
-fn push_line(text: &mut Text, line: &Line) {
+/// The line of what is accepted with the bytes of its words swapped.
+fn push_swapped(text: &mut Text, swapped: Swapped) {
+    text.push("swapped bytes: with the two bytes of each word of ");
+    text.push(whose_bytes(swapped));
+    text.push(" swapped it is accepted: the low byte comes first\n");
+}
+
+/// The inputs of which the bytes are to be swapped.
+fn whose_bytes(swapped: Swapped) -> &'static str {
+    match swapped {
+        Swapped::Frame => "the frame",
+        Swapped::Rom => "the ROM",
+        Swapped::Both => "the ROM and of the frame",
+    }
+}
+
+/// The line of what to do. Bytes that are accepted if swapped are to be swapped first.
+fn push_to_do(text: &mut Text, telling: Telling, cures: &[&str]) {
+    text.push("what to do: ");
+    if let Some(swapped) = telling.swapped {
+        text.push("swap the two bytes of each word of ");
+        text.push(whose_bytes(swapped));
+        text.push("; or, if they are right as they are, ");
+    }
+    for cure in cures {
+        text.push(cure);
+    }
+    text.push("\n");
+}
+
+/// What is told of a number.
+fn rule_by(cert: CertificateOf, number: u8) -> Option<Rule> {
+    match cert {
+        CertificateOf::User => rule_of(number),
+        CertificateOf::Frame => own_rule_of(number),
+    }
+}
+
+fn push_line(text: &mut Text, telling: Telling, line: &Line) {
     match line {
         Line::OnMachine(machine) => push_machine(text, *machine),
         Line::Zone => text.push(
             "window: the zone that the board clips, X -1024 to 2047, Y -1024 to 2047\n",
         ),
-        Line::Rule(number) => push_rule(text, *number),
+        Line::Rule(number) => push_rule(text, telling.cert, *number),
         Line::Why(why) => {
             text.push("why: ");
             push_why(text, why);
             text.push("\n");
         }
         Line::CertificateLine(line) => push_count(text, "certificate line: ", *line, ""),
-        Line::Item(line) => push_item_line(text, line),
+        Line::MakingStops { at, why } => push_making_stops(text, *at, why),
+        Line::Item(line) => push_item_line(text, "", line),
+        Line::Stop(ItemLine::At(at)) => push_at(text, "comes to: ", *at),
+        Line::Stop(line) => push_item_line(text, "there ", line),
         Line::Path(line) => push_path_line(text, line),
         Line::Accepted(line) => push_accepted_line(text, line),
         Line::Made(line) => push_made_line(text, *line),
         Line::MadeForOther(machine) => push_other_machine(text, *machine),
-        Line::WhatToDo(number) => push_cure(text, *number),
-        Line::MakerCure(cure) => push_maker_cure(text, *cure),
+        Line::WhatToDo(number) => push_cure(text, telling, *number),
+        Line::MakerCure(cure) => push_maker_cure(text, telling, *cure),
     }
+}
+
+/// Why what a frame's call asks for can't be made.
+fn push_making_stops(text: &mut Text, at: u16, why: &Why) {
+    text.push("why: ");
+    match why {
+        Why::MissingWord { word, .. } if *word < RAM_WORDS => {
+            text.push("word ");
+            text.push_address(*word);
+            text.push(" is in vector RAM, and a call into vector RAM is always refused");
+        }
+        Why::DrawsAtLostPlace | Why::ScaleUnknown => {
+            text.push("no LABS before the call sets the scale, and what it calls draws lit at ");
+            text.push_address(at);
+        }
+        _ => {
+            text.push("what it calls comes to ");
+            text.push_address(at);
+            text.push(": ");
+            push_why(text, why);
+        }
+    }
+    text.push("\n");
 }
 
 /// A line of a count between two texts.
@@ -83,8 +187,8 @@ fn push_other_machine(text: &mut Text, machine: Machine) {
 }
 
 /// The meaning of a number, if it has one.
-fn push_rule(text: &mut Text, number: u8) {
-    if let Some(rule) = rule_of(number) {
+fn push_rule(text: &mut Text, cert: CertificateOf, number: u8) {
+    if let Some(rule) = rule_by(cert, number) {
         text.push("rule: ");
         text.push_decimal(number);
         text.push(" ");
@@ -94,18 +198,32 @@ fn push_rule(text: &mut Text, number: u8) {
 }
 
 /// What to do about a number, if it has a meaning.
-fn push_cure(text: &mut Text, number: u8) {
-    if let Some(rule) = rule_of(number) {
-        text.push("what to do: ");
-        text.push(rule.cure);
-        text.push("\n");
+fn push_cure(text: &mut Text, telling: Telling, number: u8) {
+    if let Some(rule) = rule_by(telling.cert, number) {
+        push_to_do(text, telling, &[rule.cure]);
     }
 }
 
 /// What to do about an entry that can't be made.
-fn push_maker_cure(text: &mut Text, cure: MakerCure) {
-    let told = match cure {
-        MakerCure::OfRule(number) => return push_cure(text, number),
+fn push_maker_cure(text: &mut Text, telling: Telling, cure: MakerCure) {
+    match cure {
+        MakerCure::OfRule(number) => push_cure(text, telling, number),
+        MakerCure::OfCalled(number) => {
+            if let Some(rule) = rule_of(number) {
+                push_to_do(text, telling, &[FIRST_WORD, rule.cure]);
+            }
+        }
+        _ => push_to_do(text, telling, &[maker_cure(cure)]),
+    }
+}
+
+/// What comes before the cure of an item that a call leads to.
+const FIRST_WORD: &str = "see that the call is to a shape's first word; if it is, ";
+
+/// What to do about an entry that can't be made, where no rule says it.
+fn maker_cure(cure: MakerCure) -> &'static str {
+    match cure {
+        MakerCure::OfRule(_) | MakerCure::OfCalled(_) => "",
         MakerCure::RootOutside => {
             "name shapes in the ROM; where it lies elsewhere, say so by `--rom`"
         }
@@ -115,21 +233,32 @@ fn push_maker_cure(text: &mut Text, cure: MakerCure) {
         MakerCure::CallsOutside => {
             "call what is in the ROM; where it lies elsewhere, say so by `--rom`"
         }
+        MakerCure::LeadsToRam => {
+            "see that the call or root is a shape's first word: in the ROM, too, a call into vector RAM is always refused"
+        }
+        MakerCure::LeadsOutside => {
+            "see that the call or root is a shape's first word; where the ROM lies elsewhere, say so by `--rom`"
+        }
         MakerCure::RootScale => {
             "name the scales at which the shape is called, in place of `any`; or put a LABS before it"
         }
         MakerCure::CallScale => {
-            "put a LABS before the frame's call, by which the place and the scale are known there"
+            "put a LABS before the frame's call, by which the place and the scale are known there; see that the call is to a shape's first word"
         }
-    };
-    text.push("what to do: ");
-    text.push(told);
-    text.push("\n");
+        MakerCure::Ring => "take the shape out of itself",
+        MakerCure::Deep => {
+            "take out a level of calls; a jump (JMPL) in place of a shape's last call adds none"
+        }
+        MakerCure::Words => "draw less in one call",
+        MakerCure::CallsEntries => "call fewer shapes, or at fewer scales",
+    }
 }
 
-fn push_item_line(text: &mut Text, line: &ItemLine) {
+/// A line about an item, with this before its key.
+fn push_item_line(text: &mut Text, before: &str, line: &ItemLine) {
+    text.push(before);
     match line {
-        ItemLine::At(at) => push_at(text, *at),
+        ItemLine::At(at) => return push_at(text, "item: ", *at),
         ItemLine::Holds(words) => push_words(text, *words),
         ItemLine::Instruction(instruction) => push_instruction_line(text, instruction),
         ItemLine::CalledEntry(entry) => {
@@ -151,17 +280,18 @@ fn push_item_line(text: &mut Text, line: &ItemLine) {
         }
         ItemLine::PlaceLostBy(item) => push_item(text, "place lost by: ", item),
         ItemLine::ScaleLostBy(item) => push_item(text, "scale lost by: ", item),
-        ItemLine::Zeros(zeros) => push_zeros(text, zeros),
+        ItemLine::Zeros(zeros) => push_zeros(text, before, zeros),
     }
     text.push("\n");
 }
 
-/// The word address of an item, and the processor's address of its first byte.
-fn push_at(text: &mut Text, at: u16) {
-    text.push("item: ");
+/// The line of where an item stands: its word address, and the processor's address of its first byte.
+fn push_at(text: &mut Text, label: &str, at: u16) {
+    text.push(label);
     text.push_address(at);
     text.push(", processor address ");
     text.push_word(at.wrapping_mul(2).wrapping_add(0x4000));
+    text.push("\n");
 }
 
 fn push_words(text: &mut Text, words: Words) {
@@ -193,13 +323,14 @@ fn push_item(text: &mut Text, label: &str, item: &Item) {
     push_instruction(text, item.format, &item.instr);
 }
 
-/// The addresses of zeros, and on a line of its own the item before them.
-fn push_zeros(text: &mut Text, zeros: &Zeros) {
+/// The addresses of zeros, and the item before them on a line of its own, with this before its key.
+fn push_zeros(text: &mut Text, before: &str, zeros: &Zeros) {
     text.push("zeros: ");
     text.push_address(zeros.first);
     text.push(" to ");
     text.push_address(zeros.last);
     text.push("\n");
+    text.push(before);
     match &zeros.before {
         Some(item) => push_item(text, "before zeros: ", item),
         None => text.push("before zeros: none"),
@@ -383,7 +514,46 @@ fn push_accepted_line(text: &mut Text, line: &AcceptedLine) {
             text.push("\n");
         }
         AcceptedLine::ShapesMargins(margins) => push_margins(text, "shapes margins: ", margins),
+        AcceptedLine::Remarks(remarks) => {
+            for remark in remarks {
+                push_remark(text, remark);
+            }
+        }
         AcceptedLine::OnBoard(answer) => push_on_board(text, answer),
+    }
+}
+
+/// The line of something that its author may not have meant.
+fn push_remark(text: &mut Text, remark: &Remark) {
+    match remark {
+        Remark::Faint {
+            shape,
+            first,
+            draws,
+        } => {
+            text.push("scales over 9: ");
+            text.push_decimal(*draws);
+            text.push(" of the lit draws of ");
+            push_of(text, *shape);
+            text.push(", the first at ");
+            text.push_address(*first);
+            text.push(": on the board each is a dot\n");
+        }
+        Remark::RunsOn { shape, into } => {
+            text.push("runs on: ");
+            push_of(text, Some(*shape));
+            text.push(" into ");
+            text.push_address(*into);
+            text.push(", where another shape begins\n");
+        }
+    }
+}
+
+/// The shape, or the frame, of which something is told.
+fn push_of(text: &mut Text, shape: Option<EntryName>) {
+    match shape {
+        Some(shape) => text.push_entry_name(shape.addr, shape.key),
+        None => text.push("the frame"),
     }
 }
 

@@ -54,7 +54,7 @@ fn are_zeros<F: Fetch>(words: &F, at: u16) -> bool {
 }
 
 /// The item at this word address, if one stands there and the address is below another.
-fn item_below<F: Fetch>(words: &F, here: Option<u16>, end: u16) -> Option<Item>
+pub fn item_below<F: Fetch>(words: &F, here: Option<u16>, end: u16) -> Option<Item>
     ensures { IfSome result (λ item. item.at < ADDRESS_END) }
 {
     let at = here?;

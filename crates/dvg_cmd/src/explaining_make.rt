@@ -92,7 +92,7 @@ fn answer_on(
         },
         Err(account) => MakeAnswer {
             made: Err(account.fault.into()),
-            account: unmade_text(alloc, &image, account),
+            account: unmade_text(alloc, &image, &images, account),
         },
     }
 }

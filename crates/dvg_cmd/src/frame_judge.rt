@@ -142,7 +142,10 @@ fn judge_own(
     match images_for(own.machine, own.rom, own.map, frame, own.budget) {
         Ok((frame, rom)) => {
             let judged = explain_judging(alloc, &rom, &frame, own.budget, own.window);
-            (judged.verdict, OwnMaking::of(alloc, &rom, judged.made))
+            (
+                judged.verdict,
+                OwnMaking::of(alloc, &rom, &frame, judged.made),
+            )
         }
         Err(refusal) => (Err(FrameRefusal::Check(refusal)), OwnMaking::unasked()),
     }

@@ -22,7 +22,7 @@ pub use report::{
     Report, entry_name, frame_report_of, hex_address, hex_word, make_frames_report_of,
     make_line_of, make_report_of, report_of,
 };
-pub use rules::{Rule, all_rules, rule_of, text_of_rule, text_of_rules};
+pub use rules::{Rule, all_rules, own_rule_of, rule_of, text_of_rule, text_of_rules};
 pub use status::{frames_status_of, make_frames_status_of, make_status_of, message_of, status_of};
 pub use tally::{Summary, Tally, summary_of};
 pub use window::window_of;

@@ -17,7 +17,7 @@ pub const FRAME_LENGTH: Rule = Rule {
     line: "refused 2",
     heading: "Shortest input",
     input: "three empty files",
-    cure: "save whole words from word 000 on",
+    cure: "save whole words from word 000 on, at most the 2048 bytes of vector RAM",
 };
 
 pub const CERT_FORM: Rule = Rule {
@@ -396,4 +396,29 @@ pub const MEMORY: Rule = Rule {
     heading: "What gets it",
     input: "no file alone",
     cure: "give the program more memory",
+};
+
+/// What is told of 1 where no certificate was given.
+pub const OWN_ROM_LENGTH: Rule = Rule {
+    meaning: "the ROM has not exactly two bytes for each word address of its map: 2048 bytes, unless `--rom` says that it lies elsewhere",
+    cure: "dump the whole vector ROM, and nothing else; where it lies elsewhere, say so by `--rom`",
+    ..ROM_LENGTH
+};
+
+/// What is told of 25 where no certificate was given.
+pub const OWN_SHAPE_OUTSIDE_WINDOW: Rule = Rule {
+    cure: "move the place of the LABS, or draw smaller; without `--clip`, give a wider `--window`, or `--board --clip`",
+    ..SHAPE_OUTSIDE_WINDOW
+};
+
+/// What is told of 46 where no certificate was given.
+pub const OWN_FRAME_OUTSIDE_WINDOW: Rule = Rule {
+    cure: "move the place, or draw a smaller size or scale; without `--clip`, give a wider `--window`, or `--board --clip`; dark moves may leave it",
+    ..FRAME_OUTSIDE_WINDOW
+};
+
+/// What is told of 48 where no certificate was given.
+pub const OWN_FRAME_OVER_BUDGET: Rule = Rule {
+    cure: "shorten the list, or allow more words by `--budget`",
+    ..FRAME_OVER_BUDGET
 };

@@ -40,6 +40,20 @@ pub fn rule_of(number: u8) -> Option<Rule>
         .or(device_rule(number))
 }
 
+/// What is told of this number where no certificate was given, so that none has to be changed.
+pub fn own_rule_of(number: u8) -> Option<Rule>
+    ensures some { IfSome result (λ rule. rule.number ≡ number) }
+    ensures known { is_some result ≡ is_rule_number number }
+{
+    match number {
+        1 => Some(table::OWN_ROM_LENGTH),
+        25 => Some(table::OWN_SHAPE_OUTSIDE_WINDOW),
+        46 => Some(table::OWN_FRAME_OUTSIDE_WINDOW),
+        48 => Some(table::OWN_FRAME_OVER_BUDGET),
+        _ => rule_of(number),
+    }
+}
+
 /// Of the images: 1 and 2.
 fn image_rule(number: u8) -> Option<Rule>
     ensures some { IfSome result (λ rule. rule.number ≡ number) }

@@ -1,0 +1,197 @@
+//! What is worth a second look in what is accepted. It changes no answer.
+
+use crate::line::EntryName;
+use crate::zeros::item_below;
+use dvg_cert::{Cert, Entries, Entry, Key};
+use dvg_items::{Item, Kind};
+use dvg_words::{ADDRESS_END, Fetch, FrameImage, FrameOn, Instr, Machine, RomImage};
+use std::alloc::{AllocError, Global};
+
+/// How many items a shape or a frame has at most.
+const MOST_ITEMS: u16 = 2048;
+
+/// The greatest effective scale at which a draw has its length.
+const MOST_SCALE: u8 = 9;
+
+/// Something that its author may not have meant.
+#[derive(Clone, Copy)]
+pub enum Remark {
+    /// So many lit draws of a shape, or of the frame, have an effective scale of 10 to 15, the first at this word address.
+    Faint {
+        shape: Option<EntryName>,
+        first: u16,
+        draws: u32,
+    },
+    /// A shape runs on into this word address, at which another one begins.
+    RunsOn {
+        shape: EntryName,
+        into: u16,
+    },
+}
+
+/// What a walk over the items of a shape or of the frame found.
+#[derive(Clone, Copy)]
+struct Walk {
+    first: Option<u16>,
+    draws: u32,
+    into: Option<u16>,
+}
+
+impl Walk {
+    /// The walk from a word address on, at a known scale, with the entries behind that of the shape, in their order. It ends where
+    /// another shape begins at the very scale that is known there, whose own walk goes on.
+    fn from<F: Fetch, E: Entries>(
+        memory: &F,
+        entries: &E,
+        kind: Kind,
+        first: u16,
+        scale: Key,
+        later: &[Entry],
+    ) -> Walk {
+        let mut walk = Walk {
+            first: None,
+            draws: 0,
+            into: None,
+        };
+        let mut here = Some(first);
+        let mut scale = scale;
+        let mut later = later;
+        for _ in 0..MOST_ITEMS {
+            let Some(item) = item_below(memory, here, ADDRESS_END) else {
+                break;
+            };
+            walk.note(&item, scale);
+            scale = scale_behind(entries, kind, &item, scale);
+            here = item.next_address(kind);
+            later = from_address(later, here);
+            if walk.meets(entries, later, here, scale) {
+                break;
+            }
+        }
+        walk
+    }
+
+    /// Notes an item, if it is a lit draw at an effective scale of 10 to 15.
+    fn note(&mut self, item: &Item, scale: Key) {
+        if is_faint(&item.instr, scale) {
+            self.first = self.first.or(Some(item.at));
+            self.draws = self.draws.saturating_add(1);
+        }
+    }
+
+    /// Notes where a shape begins, the first of these entries', and answers whether one begins there at this very scale.
+    fn meets<E: Entries>(
+        &mut self,
+        entries: &E,
+        later: &[Entry],
+        here: Option<u16>,
+        scale: Key,
+    ) -> bool {
+        match (later.first(), here) {
+            (Some(entry), Some(at)) if entry.addr == at => {
+                self.into = self.into.or(here);
+                entries.find(at, scale).is_some()
+            }
+            _ => false,
+        }
+    }
+
+    /// The remark on faint draws, if there are any.
+    fn faint(&self, shape: Option<EntryName>) -> Option<Remark> {
+        let first = self.first?;
+        Some(Remark::Faint {
+            shape,
+            first,
+            draws: self.draws,
+        })
+    }
+}
+
+/// Whether an instruction is a lit draw at an effective scale of 10 to 15.
+fn is_faint(instr: &Instr, scale: Key) -> bool {
+    match (instr, scale) {
+        (Instr::Draw(draw), Key::At(scale)) => {
+            draw.bright != 0 && draw.lscale.wrapping_add(scale) % 16 > MOST_SCALE
+        }
+        _ => false,
+    }
+}
+
+/// The scale that is known behind an item, by the entry that it names.
+fn scale_behind<E: Entries>(entries: &E, kind: Kind, item: &Item, scale: Key) -> Key {
+    match (item.instr, kind) {
+        (Instr::Labs { gscale, .. }, _) => Key::At(gscale),
+        (Instr::Jsrl { to }, _) | (Instr::Jmpl { to }, Kind::Shape) => match entries.named(
+            to, scale,
+        ) {
+            Some(entry) => entry.scale,
+            None => scale,
+        },
+        _ => scale,
+    }
+}
+
+/// Those of these entries, which are in the order of their addresses, that begin at a word address or behind it.
+fn from_address(entries: &[Entry], here: Option<u16>) -> &[Entry] {
+    match here {
+        Some(at) => {
+            let before = entries.iter().take_while(|entry| entry.addr < at).count();
+            entries.get(before..).unwrap_or(&[])
+        }
+        None => &[],
+    }
+}
+
+/// The remarks on a frame and on the shapes of a certificate, over the bytes of a ROM and of the frame on a machine.
+pub fn remarks_on<E: Entries>(
+    alloc: Global,
+    machine: Machine,
+    cert: &Cert,
+    entries: &E,
+    rom: &[u8],
+    frame: &[u8],
+) -> Result<Vec<Remark>, AllocError> {
+    let mut remarks = Vec::new(alloc);
+    if let Ok(frame) = FrameImage::from_bytes(frame) {
+        let framed = FrameOn::new(machine, &frame);
+        let walk = Walk::from(&framed, entries, Kind::Frame, 0, Key::Any, &[]);
+        push_some(&mut remarks, walk.faint(None))?;
+    }
+    if let Ok(rom) = RomImage::from_bytes_on(machine, rom, cert.map()) {
+        push_shapes(&mut remarks, &rom, cert, entries)?;
+    }
+    Ok(remarks)
+}
+
+/// Adds the remarks on the shapes. Where one runs on is told at its first scale alone.
+fn push_shapes<E: Entries>(
+    remarks: &mut Vec<Remark>,
+    rom: &RomImage,
+    cert: &Cert,
+    entries: &E,
+) -> Result<(), AllocError> {
+    let mut told = None;
+    let mut later = cert.entries();
+    for entry in cert.entries() {
+        later = from_address(later, Some(entry.addr));
+        let shape = EntryName::of(entry);
+        let walk = Walk::from(rom, entries, Kind::Shape, entry.addr, entry.key, later);
+        push_some(remarks, walk.faint(Some(shape)))?;
+        if told != Some(entry.addr) {
+            push_some(
+                remarks,
+                walk.into.map(|into| Remark::RunsOn { shape, into }),
+            )?;
+        }
+        told = Some(entry.addr);
+    }
+    Ok(())
+}
+
+/// Adds a remark, if there is one.
+fn push_some(remarks: &mut Vec<Remark>, remark: Option<Remark>) -> Result<(), AllocError> {
+    if let Some(remark) = remark {
+        remarks.push(remark)?;
+    }
+    Ok(())
+}

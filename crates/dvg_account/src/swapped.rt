@@ -1,0 +1,126 @@
+//! Whether inputs that are refused are accepted with the bytes of each word swapped.
+
+ghost use Rattle.std.specs.Prelude.{◌≡◌, Ok, IfOk, IfSome};
+ghost use Rattle.dvg_words.specs.Memory.{rom_on, words_of};
+ghost use Rattle.dvg_make.specs.Judging.{VerdictByMade};
+ghost use Rattle.dvg_check.specs.Verdict.{RomVerdict};
+ghost use Rattle.dvg_account.specs.Swapped.{swapped, IsAcceptedSwapped, AreAccepted};
+
+use crate::inputs::Inputs;
+use dvg_cert::Cert;
+use dvg_check::{Refusal, Yes, check_rom, frame_of};
+use dvg_make::{FrameRefusal, judge};
+use dvg_words::{RomImage, RomMap};
+use std::alloc::{AllocError, Global};
+
+/// Of which input the two bytes of each word are swapped.
+#[derive(Clone, Copy)]
+pub enum Swapped {
+    Frame,
+    Rom,
+    Both,
+}
+
+/// These bytes, with the two of each word swapped. A last one alone stays.
+fn swap_words(alloc: Global, bytes: &[u8]) -> Result<Vec<u8>, AllocError>
+    ensures { IfOk result (λ other. other.items ≡ swapped bytes.now) }
+{
+    let mut other = Vec::new(alloc);
+    let mut rest = bytes;
+    while let Some((low, behind)) = rest.split_first() {
+        rest = behind;
+        if let Some((high, after)) = behind.split_first() {
+            other.push(*high)?;
+            rest = after;
+        }
+        other.push(*low)?;
+    }
+    Ok(other)
+}
+
+/// Of which input the bytes have to be swapped for these inputs, which are refused, to be accepted: by their certificate, or without
+/// one by the frame's own; `None` if no swap gets them accepted. They are judged anew for each swap.
+pub fn find_swapped(alloc: Global, inputs: &Inputs) -> Result<Option<Swapped>, AllocError>
+    ensures { IfOk result (λ found. IfSome found (IsAcceptedSwapped inputs.now)) }
+{
+    let frame = swap_words(alloc, inputs.frame)?;
+    if accepted(alloc, inputs, inputs.rom, &frame)?.is_some() {
+        return Ok(Some(Swapped::Frame));
+    }
+    let rom = swap_words(alloc, inputs.rom)?;
+    if accepted(alloc, inputs, &rom, inputs.frame)?.is_some() {
+        return Ok(Some(Swapped::Rom));
+    }
+    if accepted(alloc, inputs, &rom, &frame)?.is_some() {
+        return Ok(Some(Swapped::Both));
+    }
+    Ok(None)
+}
+
+/// The counts of these bytes of a ROM and of a frame, if they are accepted in the place of those of the inputs.
+fn accepted(
+    alloc: Global,
+    inputs: &Inputs,
+    rom: &[u8],
+    frame: &[u8],
+) -> Result<Option<Yes>, AllocError>
+    ensures { IfOk result (λ counts. IfSome counts (AreAccepted inputs.now rom.now frame.now)) }
+{
+    match (inputs.cert, inputs.map) {
+        (Some(cert), _) => accepted_by(alloc, inputs, cert, rom, frame),
+        (None, Some(map)) => accepted_own(alloc, inputs, map, rom, frame),
+        (None, None) => Ok(None),
+    }
+}
+
+/// Their counts, if they are accepted by this certificate.
+fn accepted_by(
+    alloc: Global,
+    inputs: &Inputs,
+    cert: &Cert,
+    rom: &[u8],
+    frame: &[u8],
+) -> Result<Option<Yes>, AllocError>
+    ensures { IfOk result (λ counts. IfSome counts (λ yes. RomVerdict inputs.now.machine inputs.now.mode inputs.now.window rom.now cert.now
+        (words_of frame.now) inputs.now.budget (Ok yes))) }
+{
+    let Inputs {
+        machine,
+        budget,
+        window,
+        mode,
+        ..
+    } = *inputs;
+    let Ok(frame) = frame_of(frame, budget) else {
+        return Ok(None);
+    };
+    match check_rom(machine, alloc, rom, &frame, cert, budget, window, mode) {
+        Ok(yes) => Ok(Some(yes)),
+        Err(Refusal::IndexMemory) => Err(AllocError),
+        Err(_) => Ok(None),
+    }
+}
+
+/// Their counts, if they are accepted by the frame's own certificate, where the ROM lies here.
+fn accepted_own(
+    alloc: Global,
+    inputs: &Inputs,
+    map: RomMap,
+    rom: &[u8],
+    frame: &[u8],
+) -> Result<Option<Yes>, AllocError>
+    ensures { IfOk result (λ counts. IfSome counts (λ yes. VerdictByMade (rom_on inputs.now.machine map rom.now) (words_of frame.now)
+        inputs.now.window inputs.now.budget (Ok yes))) }
+{
+    let Ok(rom) = RomImage::from_bytes_on(inputs.machine, rom, map) else {
+        return Ok(None);
+    };
+    let Ok(frame) = frame_of(frame, inputs.budget) else {
+        return Ok(None);
+    };
+    match judge(alloc, &rom, &frame, inputs.budget, inputs.window) {
+        Ok(yes) => Ok(Some(yes)),
+        Err(FrameRefusal::NoMemory | FrameRefusal::Check(Refusal::IndexMemory)) => Err(AllocError),
+        Err(_) => Ok(None),
+    }
+}
