@@ -28,7 +28,8 @@ use std::alloc::Global;
 /// A frame whose turn it is.
 #[derive(Drop)]
 pub struct NamedFrame<R> {
-    /// The name in the frame's line, which has no control characters.
+    /// The name in the frame's line, which has no control characters; before it an LF, where a blank line sets its account apart from
+    /// the one before.
     pub name: String,
     /// The reader of the frame, or `None` if the frame can't be opened.
     pub reader: Option<R>,

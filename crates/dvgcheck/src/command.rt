@@ -441,9 +441,10 @@ const EXPLAIN_HELP: &str = "The first line is that of the command, and so is the
 
 fn explain_frames_command<'a>(alloc: Global) -> Result<Command<'a>, AllocError> {
     let command = Command::new(alloc, "frames").about(
-        "Judges a frame over a vector ROM, by a certificate made for it, and explains the answer",
+        "Judges frames over a vector ROM, by certificates made for them, and explains each answer",
     );
-    let command = with_rom(alloc, command)?.arg(needed(alloc, "FRAME", FRAME_HELP))?;
+    let frames = needed(alloc, "FRAME", FRAME_HELP).num_args(1..);
+    let command = with_rom(alloc, command)?.arg(frames)?;
     with_frames_options(alloc, command)
 }
 
@@ -565,6 +566,20 @@ fn files_of<'a>(
     Ok(files)
 }
 
+/// The same files, where accounts follow their lines: before each line but the first comes a blank one.
+fn set_apart<'a>(rt: &HostRuntime, named: Vec<Named<'a>>) -> Result<Vec<Named<'a>>, Usage<'a>> {
+    let mut files = Vec::new(rt.alloc());
+    for Named { input, name } in named {
+        let name = if files.is_empty() {
+            name
+        } else {
+            format!(in rt.alloc(); "\n{}", name.as_str())?
+        };
+        files.push(Named { input, name })?;
+    }
+    Ok(files)
+}
+
 /// How many of the files that this argument names are standard input.
 fn standard_inputs<'a>(args: &ArgMatches<'a>, name: &str) -> usize {
     let files = args.get_strs(name).unwrap_or(&[]);
@@ -602,9 +617,17 @@ fn frame_options<'a>(args: &ArgMatches<'a>) -> Result<(RomMap, FrameOptions), Ar
 }
 
 /// The frames that the arguments name.
-fn frame_names<'a>(rt: &HostRuntime, args: &ArgMatches<'a>) -> Result<FrameNames<'a>, Usage<'a>> {
+fn frame_names<'a>(
+    rt: &HostRuntime,
+    args: &ArgMatches<'a>,
+    detail: Detail,
+) -> Result<FrameNames<'a>, Usage<'a>> {
     let Some(list) = args.get_str("list") else {
-        return Ok(FrameNames::Given(files_of(rt, args, "FRAME")?));
+        let files = files_of(rt, args, "FRAME")?;
+        return Ok(FrameNames::Given(match detail {
+            Detail::Line => files,
+            Detail::Account => set_apart(rt, files)?,
+        }));
     };
     let end = if args.get_flag("null") {
         NameEnd::Nul
@@ -645,7 +668,7 @@ fn frames_args<'a>(
         None => Certificates::Made(map),
     };
     Ok(FramesArgs {
-        frames: frame_names(rt, args)?,
+        frames: frame_names(rt, args, listing.detail)?,
         asked: Asked {
             rom: file_of(rt, args, "ROM"),
             certificates,
