@@ -27,13 +27,13 @@ fn swap_words(alloc: Global, bytes: &[u8]) -> Result<Vec<u8>, AllocError>
 {
     let mut other = Vec::new(alloc);
     let mut rest = bytes;
-    while rest.len() >= 2 {
-        other.push(rest[1])?;
-        other.push(rest[0])?;
-        rest = &rest[2..];
-    }
-    if let Some(last) = rest.first() {
-        other.push(*last)?;
+    while let Some((low, behind)) = rest.split_first() {
+        rest = behind;
+        if let Some((high, after)) = behind.split_first() {
+            other.push(*high)?;
+            rest = after;
+        }
+        other.push(*low)?;
     }
     Ok(other)
 }
