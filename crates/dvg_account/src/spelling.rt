@@ -16,6 +16,7 @@ use crate::why::Why;
 use dvg_cert::{MOST_DEPTH, MOST_ENTRIES, MOST_WORDS};
 use dvg_check::Yes;
 use dvg_items::Item;
+use dvg_labels::Labels;
 use dvg_make::{FrameRefusal, ShapeAt};
 use dvg_spelling::{FrameAnswer, Rule, frame_report_of, own_rule_of, rule_of};
 use dvg_survey::{Call, Margins};
@@ -57,16 +58,33 @@ impl Telling {
     }
 }
 
-/// The text of an account.
-pub fn text_of(alloc: Global, telling: Telling, lines: &[Line]) -> Result<String, AllocError> {
-    let mut text = Text::new(alloc);
+/// The text of an account, in which addresses are named by these labels.
+pub fn text_of(
+    alloc: Global,
+    telling: Telling,
+    lines: &[Line],
+    labels: Option<&Labels>,
+) -> Result<String, AllocError> {
+    let mut text = Text::new(alloc, labels);
     if let Some(swapped) = telling.swapped {
         push_swapped(&mut text, swapped);
     }
     for line in lines {
         push_line(&mut text, telling, line);
     }
+    if let Some(labels) = labels {
+        push_passed(&mut text, labels.passed());
+    }
     text.finish()
+}
+
+/// How many labels were passed over, if any were.
+fn push_passed(text: &mut Text, passed: usize) {
+    if passed > 0 {
+        text.push("labels passed over: ");
+        text.push_decimal(passed);
+        text.push(", not the address of a word in 4000 to 57FF\n");
+    }
 }
 
 /// The line of what is accepted with the bytes of its words swapped.

@@ -1,4 +1,4 @@
-//! The accounts of answers, as texts.
+//! The accounts of answers, as texts. Where labels are given, they name the addresses: `SHIP+3 (819)` is three words past `SHIP`.
 
 use crate::answers::verdict_lines;
 use crate::inputs::{Inputs, PlainWhy, plain_lines};
@@ -8,6 +8,7 @@ use crate::spelling::{Telling, text_of};
 use crate::swapped::{Swapped, find_swapped};
 use dvg_cert::Cert;
 use dvg_check::{Refusal, RomFinding, Yes};
+use dvg_labels::Labels;
 use dvg_make::{FrameRefusal, JudgedFrame, MakeAccount, own_verdict};
 use dvg_words::{FrameImage, Machine, RomImage};
 use std::alloc::{AllocError, Global};
@@ -43,13 +44,14 @@ pub fn verdict_text(
     inputs: &Inputs,
     verdict: &Result<Yes, Refusal>,
     cause: Option<&RomFinding>,
+    labels: Option<&Labels>,
 ) -> Result<String, AllocError> {
     let lines = verdict_lines(alloc, inputs, verdict, cause)?;
     let swapped = match verdict {
         Ok(_) => None,
         Err(refusal) => swapped_for(alloc, inputs, refusal)?,
     };
-    text_of(alloc, Telling::of_given(swapped), &lines)
+    text_of(alloc, Telling::of_given(swapped), &lines, labels)
 }
 
 /// The account of [`frame_lines`] as a text. Of a refusal it tells first what [`find_swapped`] finds.
@@ -58,10 +60,11 @@ pub fn frame_text(
     inputs: &Inputs,
     verdict: &Result<Yes, FrameRefusal>,
     cause: Option<&RomFinding>,
+    labels: Option<&Labels>,
 ) -> Result<String, AllocError> {
     let lines = frame_lines(alloc, inputs, verdict, cause)?;
     let swapped = swapped_for_frame(alloc, inputs, verdict)?;
-    text_of(alloc, Telling::of_given(swapped), &lines)
+    text_of(alloc, Telling::of_given(swapped), &lines, labels)
 }
 
 /// The account of [`own_lines`] as a text. Of a refusal it tells first what [`find_swapped`] finds.
@@ -71,11 +74,12 @@ pub fn own_text(
     rom: &RomImage,
     frame: &FrameImage,
     judged: Result<JudgedFrame, MakeAccount>,
+    labels: Option<&Labels>,
 ) -> Result<String, AllocError> {
     let verdict = own_verdict(&judged);
     let lines = own_lines(alloc, inputs, rom, frame, judged)?;
     let swapped = swapped_for_frame(alloc, inputs, &verdict)?;
-    text_of(alloc, Telling::of_own(swapped), &lines)
+    text_of(alloc, Telling::of_own(swapped), &lines, labels)
 }
 
 /// The account of [`plain_lines`] as a text, where no certificate was given.
@@ -84,15 +88,21 @@ pub fn plain_text(
     alloc: Global,
     number: u8,
     why: PlainWhy,
+    labels: Option<&Labels>,
 ) -> Result<String, AllocError> {
     let lines = plain_lines(machine, alloc, number, why)?;
-    text_of(alloc, Telling::of_own(None), &lines)
+    text_of(alloc, Telling::of_own(None), &lines, labels)
 }
 
 /// The account of [`made_lines`] as a text.
-pub fn made_text(machine: Machine, alloc: Global, cert: &Cert) -> Result<String, AllocError> {
+pub fn made_text(
+    machine: Machine,
+    alloc: Global,
+    cert: &Cert,
+    labels: Option<&Labels>,
+) -> Result<String, AllocError> {
     let lines = made_lines(machine, alloc, cert)?;
-    text_of(alloc, Telling::of_own(None), &lines)
+    text_of(alloc, Telling::of_own(None), &lines, labels)
 }
 
 /// The account of [`unmade_lines`] as a text.
@@ -101,7 +111,8 @@ pub fn unmade_text(
     rom: &RomImage,
     frames: &[FrameImage],
     account: MakeAccount,
+    labels: Option<&Labels>,
 ) -> Result<String, AllocError> {
     let lines = unmade_lines(alloc, rom, frames, account)?;
-    text_of(alloc, Telling::of_own(None), &lines)
+    text_of(alloc, Telling::of_own(None), &lines, labels)
 }

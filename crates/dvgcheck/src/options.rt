@@ -15,6 +15,7 @@ pub enum CommandOption {
     Clip,
     Exact,
     Frame,
+    Labels,
     List,
     Map,
     Null,
@@ -26,7 +27,7 @@ pub enum CommandOption {
 }
 
 /// The options of `frames` and of `explain frames`.
-pub const FRAMES_OPTIONS: [CommandOption; 7] = [
+pub const FRAMES_OPTIONS: [CommandOption; 8] = [
     CommandOption::Board,
     CommandOption::Map,
     CommandOption::Cert,
@@ -34,6 +35,7 @@ pub const FRAMES_OPTIONS: [CommandOption; 7] = [
     CommandOption::Window,
     CommandOption::Clip,
     CommandOption::Start,
+    CommandOption::Labels,
 ];
 
 /// The options of `frames` that are about many frames.
@@ -54,11 +56,15 @@ pub const CHECK_OPTIONS: [CommandOption; 5] = [
 ];
 
 /// The options of `make` and of `explain make` that say what is made.
-pub const MAKER_OPTIONS: [CommandOption; 3] = [
+pub const MAKER_OPTIONS: [CommandOption; 4] = [
     CommandOption::Board,
     CommandOption::Frame,
     CommandOption::Map,
+    CommandOption::Labels,
 ];
+
+/// The option of `explain check` besides.
+pub const LABELS_OPTIONS: [CommandOption; 1] = [CommandOption::Labels];
 
 /// The options of `make` that say where the certificate goes.
 pub const OUTPUT_OPTIONS: [CommandOption; 1] = [CommandOption::Output];
@@ -73,6 +79,7 @@ impl CommandOption {
             CommandOption::Clip => "clip",
             CommandOption::Exact => "exact",
             CommandOption::Frame => "frame",
+            CommandOption::Labels => "labels",
             CommandOption::List => "list",
             CommandOption::Map => "rom",
             CommandOption::Null => "null",
@@ -103,6 +110,9 @@ impl CommandOption {
                 "Takes the certificate's words and depths as exact, not as bounds"
             }
             CommandOption::Frame => "A frame, whose calls are roots, too",
+            CommandOption::Labels => {
+                "The labels of the program, which name addresses in accounts and roots"
+            }
             CommandOption::List => {
                 "Judges the frames that this file names, one a line, in place of FRAME"
             }
@@ -150,7 +160,7 @@ impl CommandOption {
             }
             CommandOption::Cert => arg.value_name("CERT").conflicts_with("rom"),
             CommandOption::Frame => Ok(arg.value_name("FRAME").action(ArgAction::Append)),
-            CommandOption::List => Ok(arg.value_name("FILE")),
+            CommandOption::Labels | CommandOption::List => Ok(arg.value_name("FILE")),
             CommandOption::Output => Ok(arg.short('o').value_name("FILE")),
             CommandOption::Map => Ok(arg.value_name(Form::Map.pattern())),
             CommandOption::Start => Ok(arg.value_name(Form::Start.pattern())),
