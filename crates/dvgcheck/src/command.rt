@@ -80,6 +80,8 @@ pub enum Request<'a> {
     /// `check`, or `explain check`.
     Check(CheckArgs<'a>, Detail),
     Make(MakeArgs<'a>),
+    /// `places`, with what may be lit.
+    Places(MakeArgs<'a>, Window),
     /// `explain make`.
     ExplainMake(MakeArgs<'a>),
     /// `rules` with the rule of this number, or with all rules.
@@ -95,15 +97,17 @@ enum Task {
     Frames,
     Check,
     Make,
+    Places,
     Explain,
     Rules,
 }
 
 impl Task {
-    const ALL: [Task; 5] = [
+    const ALL: [Task; 6] = [
         Task::Frames,
         Task::Check,
         Task::Make,
+        Task::Places,
         Task::Explain,
         Task::Rules,
     ];
@@ -114,6 +118,7 @@ impl Task {
             "frames" => Some(Task::Frames),
             "check" => Some(Task::Check),
             "make" => Some(Task::Make),
+            "places" => Some(Task::Places),
             "explain" => Some(Task::Explain),
             "rules" => Some(Task::Rules),
             _ => None,
@@ -127,6 +132,7 @@ impl Task {
             Task::Frames => { with_list_options(alloc, with_frames_options(alloc, command)?) }
             Task::Check => with_check_options(alloc, command),
             Task::Make => with_make_options(alloc, command),
+            Task::Places => with_places_options(alloc, command),
             Task::Explain | Task::Rules => Ok(command),
         }
     }
@@ -137,6 +143,7 @@ impl Task {
             Task::Frames => frames_command(alloc),
             Task::Check => check_command(alloc),
             Task::Make => make_command(alloc),
+            Task::Places => places_command(alloc),
             Task::Explain => explain_command(alloc),
             Task::Rules => rules_command(alloc),
         }
@@ -193,7 +200,7 @@ pub struct CheckArgs<'a> {
     pub options: CheckOptions,
 }
 
-/// The arguments of `make`.
+/// The arguments of `make`, and those that `places` has in common with it.
 #[derive(Drop)]
 pub struct MakeArgs<'a> {
     pub machine: Machine,
@@ -332,13 +339,15 @@ fn with_rom<'a>(alloc: Global, command: Command<'a>) -> Result<Command<'a>, Allo
         .arg(needed(alloc, "ROM", ROM_HELP))
 }
 
+/// The command with the options that say what may be lit.
+fn with_window<'a>(alloc: Global, command: Command<'a>) -> Result<Command<'a>, AllocError> {
+    let clip = clip_option(alloc)?;
+    command.arg(window_option(alloc))?.arg(clip)
+}
+
 /// The command with the options that limit what a frame may do.
 fn with_limits<'a>(alloc: Global, command: Command<'a>) -> Result<Command<'a>, AllocError> {
-    let clip = clip_option(alloc)?;
-    command
-        .arg(budget_option(alloc))?
-        .arg(window_option(alloc))?
-        .arg(clip)
+    with_window(alloc, command.arg(budget_option(alloc))?)
 }
 
 /// The command with the options of `frames`.
@@ -432,6 +441,18 @@ fn with_make_options<'a>(alloc: Global, command: Command<'a>) -> Result<Command<
 fn make_command<'a>(alloc: Global) -> Result<Command<'a>, AllocError> {
     let command = Command::new(alloc, "make").about(
         "Prints the certificate of shapes of a vector ROM, and of all that they call",
+    );
+    with_rom(alloc, command)?.arg(roots_argument(alloc))
+}
+
+/// The command with the options of `places`.
+fn with_places_options<'a>(alloc: Global, command: Command<'a>) -> Result<Command<'a>, AllocError> {
+    with_window(alloc, with_maker_options(alloc, command)?)
+}
+
+fn places_command<'a>(alloc: Global) -> Result<Command<'a>, AllocError> {
+    let command = Command::new(alloc, "places").about(
+        "Prints where calls of shapes of a vector ROM, and of all that they call, stay within the window",
     );
     with_rom(alloc, command)?.arg(roots_argument(alloc))
 }
@@ -744,6 +765,7 @@ fn request_of<'a>(
         Task::Frames => Ok(Request::Frames(frames_args(rt, args, listing_of_args(args))?)),
         Task::Check => Ok(Request::Check(check_args(rt, args)?, Detail::Line)),
         Task::Make => Ok(Request::Make(make_args(rt, args, output_of(args))?)),
+        Task::Places => Ok(Request::Places(make_args(rt, args, None)?, window_of_args(args)?)),
         Task::Explain => explain_request(rt, args),
         Task::Rules => Ok(Request::Rules(rule_of_args(args)?)),
     }
