@@ -20,6 +20,7 @@ complete -c dvgcheck -n '__dvgcheck_in only' -s V -l version -d 'Prints the vers
 complete -c dvgcheck -n '__dvgcheck_in only' -a frames -d 'Judges frames over a vector ROM'
 complete -c dvgcheck -n '__dvgcheck_in only' -a check -d 'Judges a frame by a certificate'
 complete -c dvgcheck -n '__dvgcheck_in only' -a make -d 'Makes a certificate of shapes'
+complete -c dvgcheck -n '__dvgcheck_in only' -a places -d 'Prints where calls stay within the window'
 complete -c dvgcheck -n '__dvgcheck_in only' -a explain -d 'Explains the answer of a command'
 complete -c dvgcheck -n '__dvgcheck_in only' -a rules -d 'Prints what each number means'
 complete -c dvgcheck -n '__dvgcheck_in only' -a help -d 'Prints help'
@@ -51,6 +52,14 @@ complete -c dvgcheck -n '__dvgcheck_in make' -l rom -x -d 'The word addresses of
 complete -c dvgcheck -n '__dvgcheck_in make' -l labels -r -F -d 'The labels of the program'
 complete -c dvgcheck -n '__dvgcheck_in make' -s o -l output -r -F -d 'Writes the certificate to this file'
 complete -c dvgcheck -n '__dvgcheck_in make' -s h -l help -d 'Prints help'
+
+complete -c dvgcheck -n '__dvgcheck_in places' -l board -d 'Takes a board of the DVG for the machine'
+complete -c dvgcheck -n '__dvgcheck_in places' -l frame -r -F -d 'A frame, whose calls are roots, too'
+complete -c dvgcheck -n '__dvgcheck_in places' -l rom -x -d 'The word addresses of the ROM\'s first and last word'
+complete -c dvgcheck -n '__dvgcheck_in places' -l labels -r -F -d 'The labels of the program'
+complete -c dvgcheck -n '__dvgcheck_in places' -l window -x -d 'Where the screen may be lit'
+complete -c dvgcheck -n '__dvgcheck_in places' -l clip -d 'Lets lit strokes reach from -1024 to 2047'
+complete -c dvgcheck -n '__dvgcheck_in places' -s h -l help -d 'Prints help'
 
 complete -c dvgcheck -n '__dvgcheck_in only explain' -f
 complete -c dvgcheck -n '__dvgcheck_in only explain' -s h -l help -d 'Prints help'

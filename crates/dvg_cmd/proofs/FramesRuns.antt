@@ -7,9 +7,11 @@ use Rattle.dvg_cert.specs.Devices.{AppendsPrefix}
 use Rattle.dvg_cert.specs.Grammar.{text_of}
 use Rattle.dvg_cmd.specs.Making.{WritesMade, WritesMadePrefix}
 use Rattle.dvg_words.specs.Memory.{Rom, IsRomLength, rom_on, words_of}
-use Rattle.dvg_words.specs.Values.{MemoryMap, IsMap}
+use Rattle.dvg_words.specs.Values.{MemoryMap, IsMap, Window}
 use Rattle.dvg_cert.specs.declared.entry.Entry.{Entry}
 use Rattle.dvg_cert.specs.declared.entry.Key.{Key}
+use Rattle.dvg_survey.specs.declared.places.EntryPlaces.{EntryPlaces}
+use Rattle.dvg_survey.specs.Places.{AreAllPlaces}
 use Rattle.dvg_make.specs.Frames.{FramesMade}
 use Rattle.dvg_make.specs.Refusals.{FramesRefuse}
 use Rattle.dvg_make.specs.Accounts.{HasCause}
@@ -22,6 +24,7 @@ use Rattle.dvg_spelling.specs.Faults.{told_fault}
 use Rattle.dvg_spelling.specs.declared.fault.MakeRunFault.TheVariants as maker
 use Rattle.dvg_spelling.specs.declared.fault.FramesRunFault.TheVariants as fault
 use Rattle.dvg_cmd.specs.MakingFrames.{of_each, AreFrames, Inputs, MakesForFrames, RefusesInputs, RefusesMemory, FramesRunFault, FramesFaultMeans}
+use Rattle.dvg_cmd.specs.Placing.{PlacesFor}
 use Rattle.dvg_cmd.specs.Private.Reading.{IsPrefix, ArePrefixes, RefusesLengths}
 use Rattle.dvg_cmd.proofs.Whole.{held_bytes, held_told}
 use Rattle.dvg_cmd.proofs.MakerRuns.{whole_length, whole_image}
@@ -74,6 +77,19 @@ module _ (machine : Machine) (map : MemoryMap) (is : IsMap map) (rom : Option (L
       subst (λ x. FramesMade x roots (of_each words_of (held_each readers frames)) list) (whole_image machine map is rom rb image read h)
           (subst (λ l. FramesMade image roots l list) words_same made),
     )
+
+    pub places_made : (w : Window) (list : List Entry) (places : List EntryPlaces) → FramesMade image roots words list → AreAllPlaces w image list list places
+        → PlacesFor machine w rom map roots readers places
+    unfolding all_inputs
+    places_made w list places made are =
+        record {
+          list = list;
+          all = all_inputs lengths;
+          made =
+              subst (λ x. FramesMade x roots (of_each words_of (held_each readers frames)) list) (whole_image machine map is rom rb image read h)
+              (subst (λ l. FramesMade image roots l list) words_same made);
+          are = subst (λ x. AreAllPlaces w x list list places) (whole_image machine map is rom rb image read h) are;
+        }
 
     refused_all : (f : FramesFault) → FramesRefuse image roots words f → HasCause image roots words f → RefusesInputs machine rom map roots readers f
     unfolding all_inputs

@@ -12,3 +12,4 @@ pub mod Answers
 pub mod SeveralLines
 pub mod Naming
 pub mod Starting
+pub mod PlaceLines

@@ -32,7 +32,7 @@ use Rattle.dvg_cmd.specs.Private.Named.{WritesLineOf, WritesLineOfPrefix, Writes
 
 -- ---- the texts that are written
 
-joined_on : (texts more : List (List ℕ)) → joined (texts ++ more) ≡ joined texts ++ joined more
+pub joined_on : (texts more : List (List ℕ)) → joined (texts ++ more) ≡ joined texts ++ joined more
 joined_on [] more = refl
 joined_on (text ∷ texts) more = ap (λ (t : List ℕ). text ++ t) (joined_on texts more) ∙ sym (append_assoc text (joined texts) (joined more))
 
@@ -54,17 +54,17 @@ joined_texts_on : (shown : Lines) (lines more : List Line) → joined (line_text
 joined_texts_on shown lines more = ap joined (texts_on shown lines more) ∙ joined_on (line_texts shown lines) (line_texts shown more)
 
 -- a whole text and a prefix of the next
-sent_part : (old mid new : Option (List ℕ)) (text whole piece : List ℕ) → text ≡ whole ++ piece → Appends old mid whole → AppendsPrefix mid new piece → AppendsPrefix old new text
+pub sent_part : (old mid new : Option (List ℕ)) (text whole piece : List ℕ) → text ≡ whole ++ piece → Appends old mid whole → AppendsPrefix mid new piece → AppendsPrefix old new text
 sent_part old mid new text whole piece is h part =
     let both : take (length whole + part.0) text ≡ whole ++ take part.0 piece = ap (take (length whole + part.0)) is ∙ take-append-add whole piece part.0 in
     let size : length text ≡ length whole + length piece = ap length is ∙ length-append whole piece in
     (length whole + part.0, omega (arith, size, part.1), subst (λ (t : List ℕ). Appends old new t) (sym both) (Appends-trans old mid new whole (take part.0 piece) h part.2))
 
-prefix_more : (old new : Option (List ℕ)) (text more : List ℕ) → AppendsPrefix old new text → AppendsPrefix old new (text ++ more)
+pub prefix_more : (old new : Option (List ℕ)) (text more : List ℕ) → AppendsPrefix old new text → AppendsPrefix old new (text ++ more)
 prefix_more old new text more h =
     (h.0, omega (arith, length-append text more, h.1), subst (λ (t : List ℕ). Appends old new t) (sym (take-append-le h.0 text more h.1)) h.2)
 
-one_write_on : (texts more : List (List ℕ)) (old mid new : ℕ) → TakeOneWriteEach texts old mid → TakeOneWriteEach more mid new → TakeOneWriteEach (texts ++ more) old new
+pub one_write_on : (texts more : List (List ℕ)) (old mid new : ℕ) → TakeOneWriteEach texts old mid → TakeOneWriteEach more mid new → TakeOneWriteEach (texts ++ more) old new
 one_write_on [] more old mid new h one = subst (λ n. TakeOneWriteEach more n new) h one
 one_write_on (text ∷ texts) more old mid new h one = (h.0, h.1, one_write_on texts more h.0 mid new h.2 one)
 

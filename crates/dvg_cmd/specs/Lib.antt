@@ -8,6 +8,7 @@ pub mod Frames
 pub mod SeveralFrames
 pub mod Making
 pub mod MakingFrames
+pub mod Placing
 pub mod Private
 pub mod Explaining
 pub mod Laws

@@ -3,6 +3,7 @@ pub mod Each
 pub mod Faults
 pub mod Messages
 pub mod Outcomes
+pub mod Places
 pub mod Report
 pub mod Rules
 pub mod Status

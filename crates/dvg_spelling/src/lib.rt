@@ -8,6 +8,7 @@
 mod arguments;
 mod fault;
 mod outcome;
+mod places;
 mod report;
 mod rule_table;
 mod rules;
@@ -18,6 +19,7 @@ mod window;
 pub use arguments::{map_of, root_of, start_of};
 pub use fault::{FramesRunFault, MakeRunFault, RunFault};
 pub use outcome::{FrameAnswer, FrameOutcome, Outcome, frame_outcome_of, outcome_of};
+pub use places::{PlaceLine, place_line_of};
 pub use report::{
     Report, entry_name, frame_report_of, hex_address, hex_word, make_frames_report_of,
     make_line_of, make_report_of, report_of,

@@ -13,3 +13,5 @@ pub mod TailPoints
 pub mod TailLaws
 pub mod TailRows
 pub mod Bearing
+pub mod Quotients
+pub mod Sweeping

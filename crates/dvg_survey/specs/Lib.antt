@@ -4,4 +4,5 @@ pub mod Clipping
 pub mod Chains
 pub mod Losses
 pub mod Deepest
+pub mod Places
 pub mod Private

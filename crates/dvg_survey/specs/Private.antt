@@ -4,3 +4,4 @@ pub mod Reaching
 pub mod KeyedWords
 pub mod Visiting
 pub mod Lighting
+pub mod Sweeping

@@ -1,6 +1,6 @@
 //! Sets of word addresses, each with a key.
 
-ghost use Rattle.std.specs.Prelude.{◌≡◌, ◌<◌, IfOk, length};
+ghost use Rattle.std.specs.Prelude.{◌≡◌, ◌<◌, IfOk, length, true};
 ghost use Rattle.dvg_words.specs.declared.map.TheConstants.{ADDRESS_END};
 ghost use Rattle.dvg_cert.specs.Entry.{IsKey};
 ghost use Rattle.dvg_survey.specs.Private.KeyedWords.{word_number, is_marked, with_word, AreNone};
@@ -75,7 +75,8 @@ impl KeyedWords {
     pub fn add(&mut self, at: u16, key: Key)
         requires at { at < ADDRESS_END }
         requires key { IsKey key }
-        ensures { self.new ≡ with_word self.old (at, key) }
+        ensures value { self.new ≡ with_word self.old (at, key) }
+        ensures there { is_marked self.new (at, key) ≡ true }
     {
         self.marks[word_number(at, key)] = true;
     }

@@ -6,7 +6,7 @@ use crate::input::Input;
 use crate::labels::{LabelsFault, load_labels};
 use crate::options::{
     CHECK_OPTIONS, FRAMES_OPTIONS, LABELS_OPTIONS, LIST_OPTIONS, MAKER_OPTIONS, OUTPUT_OPTIONS,
-    Told,
+    Told, WINDOW_OPTIONS,
 };
 use clap::error::ErrorKind;
 use clap::{Arg, ArgMatches, Command, value_parser};
@@ -98,6 +98,8 @@ pub enum Request<'a> {
     /// `check`, or `explain check`.
     Check(CheckArgs<'a>, Detail<'a>),
     Make(MakeArgs<'a>),
+    /// `places`, with what may be lit.
+    Places(MakeArgs<'a>, Window),
     /// `explain make`.
     ExplainMake(MakeArgs<'a>),
     /// `rules` with the rule of this number, or with all rules.
@@ -113,15 +115,17 @@ enum Task {
     Frames,
     Check,
     Make,
+    Places,
     Explain,
     Rules,
 }
 
 impl Task {
-    const ALL: [Task; 5] = [
+    const ALL: [Task; 6] = [
         Task::Frames,
         Task::Check,
         Task::Make,
+        Task::Places,
         Task::Explain,
         Task::Rules,
     ];
@@ -132,6 +136,7 @@ impl Task {
             "frames" => Some(Task::Frames),
             "check" => Some(Task::Check),
             "make" => Some(Task::Make),
+            "places" => Some(Task::Places),
             "explain" => Some(Task::Explain),
             "rules" => Some(Task::Rules),
             _ => None,
@@ -151,6 +156,10 @@ impl Task {
                 let command = told.with(alloc, command, &MAKER_OPTIONS)?;
                 told.with(alloc, command, &OUTPUT_OPTIONS)
             }
+            Task::Places => {
+                let command = told.with(alloc, command, &MAKER_OPTIONS)?;
+                told.with(alloc, command, &WINDOW_OPTIONS)
+            }
             Task::Explain | Task::Rules => Ok(command),
         }
     }
@@ -161,6 +170,7 @@ impl Task {
             Task::Frames => frames_command(alloc),
             Task::Check => check_command(alloc),
             Task::Make => make_command(alloc),
+            Task::Places => places_command(alloc),
             Task::Explain => explain_command(alloc),
             Task::Rules => rules_command(alloc),
         }
@@ -217,7 +227,7 @@ pub struct CheckArgs<'a> {
     pub options: CheckOptions,
 }
 
-/// The arguments of `make`.
+/// The arguments of `make`, and those that `places` has in common with it.
 #[derive(Drop)]
 pub struct MakeArgs<'a> {
     pub machine: Machine,
@@ -289,6 +299,13 @@ fn roots_argument<'a>(alloc: Global) -> Arg<'a> {
 fn make_command<'a>(alloc: Global) -> Result<Command<'a>, AllocError> {
     let command = Command::new(alloc, "make").about(
         "Prints the certificate of shapes of a vector ROM, and of all that they call",
+    );
+    with_rom(alloc, command)?.arg(roots_argument(alloc))
+}
+
+fn places_command<'a>(alloc: Global) -> Result<Command<'a>, AllocError> {
+    let command = Command::new(alloc, "places").about(
+        "Prints where calls of shapes of a vector ROM, and of all that they call, stay within the window",
     );
     with_rom(alloc, command)?.arg(roots_argument(alloc))
 }
@@ -662,6 +679,10 @@ fn request_of<'a>(
             let args = make_args(rt, args, output_of(args), labels)?;
             Ok(Request::Make(args))
         }
+        Task::Places => {
+            let args_of_maker = make_args(rt, args, None, labels)?;
+            Ok(Request::Places(args_of_maker, window_of_args(args)?))
+        }
         Task::Explain => explain_request(rt, args, labels),
         Task::Rules => Ok(Request::Rules(rule_of_args(args)?)),
     }
@@ -749,7 +770,7 @@ impl<'a> Parsed<'a> {
     /// The path of the file of labels, if one is given.
     fn labels_path(&self) -> Option<&'a str> {
         match self.task {
-            Task::Frames | Task::Make => self.matches.get_str("labels"),
+            Task::Frames | Task::Make | Task::Places => self.matches.get_str("labels"),
             Task::Explain => {
                 let (_, args) = self.matches.subcommand()?;
                 args.get_str("labels")

@@ -21,10 +21,10 @@ use command::{
 };
 use dvg_cmd::{
     Counted, CountedWrite, Detail, FrameOutcome, FramesRunFault, Labels, MakeAnswer, MakeFault,
-    MakeRunFault, NamedFrame, Outcome, OwnCertificates, Rule, RunFault, all_rules,
+    MakeRunFault, NamedFrame, Outcome, OwnCertificates, Rule, RunFault, Window, all_rules,
     frames_status_of, load_cert, load_rom, make_frames_status_of, message_of, run_check_in,
-    run_explain_make, run_frames, run_frames_given, run_make_frames, run_rule, run_rules,
-    status_of, write_make_answer, write_make_fault, write_message, write_text,
+    run_explain_make, run_frames, run_frames_given, run_make_frames, run_places, run_rule,
+    run_rules, status_of, write_make_answer, write_make_fault, write_message, write_text,
 };
 use input::{Input, Source};
 use labels::LabelsFault;
@@ -142,6 +142,21 @@ fn make(rt: &HostRuntime, args: &MakeArgs) -> Result<(), FramesRunFault> {
             run_maker(rt, args, &mut rom, &mut frames, &mut out)
         }
     }
+}
+
+/// Opens the ROM and the frames, and tells at which places calls of the shapes break no rule on this window.
+fn places(rt: &HostRuntime, args: &MakeArgs, window: Window) -> Result<(), FramesRunFault> {
+    let (mut rom, mut frames) = open_all(rt, args)?;
+    run_places(
+        args.machine,
+        rt.alloc(),
+        &mut rom,
+        args.map,
+        &args.roots,
+        &mut frames,
+        window,
+        &mut Counted::new(io::writer(rt)),
+    )
 }
 
 /// Opens the files as [`make`] does, and answers what the maker comes to, with an account of it.
@@ -380,6 +395,9 @@ fn run_parsed<'a>(rt: &HostRuntime, parsed: &Parsed<'a>, labels: Option<&'a Labe
         Ok(Request::Frames(args)) => run_over(rt, args),
         Ok(Request::Check(args, detail)) => tell_check(rt, &check(rt, &args, detail)),
         Ok(Request::Make(args)) => tell_make(rt, &args.frames, &make(rt, &args)),
+        Ok(Request::Places(args, window)) => {
+            tell_make(rt, &args.frames, &places(rt, &args, window))
+        }
         Ok(Request::ExplainMake(args)) => explain_make(rt, &args),
         Ok(Request::Rules(rule)) => tell_text(rt, &rules(rt, rule)),
         Err(usage) => tell_usage(rt, &usage),

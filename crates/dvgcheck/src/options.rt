@@ -55,13 +55,16 @@ pub const CHECK_OPTIONS: [CommandOption; 5] = [
     CommandOption::Exact,
 ];
 
-/// The options of `make` and of `explain make` that say what is made.
+/// The options of `make`, of `explain make` and of `places` that say what is made.
 pub const MAKER_OPTIONS: [CommandOption; 4] = [
     CommandOption::Board,
     CommandOption::Frame,
     CommandOption::Map,
     CommandOption::Labels,
 ];
+
+/// The options of `places` that say what may be lit.
+pub const WINDOW_OPTIONS: [CommandOption; 2] = [CommandOption::Window, CommandOption::Clip];
 
 /// The option of `explain check` besides.
 pub const LABELS_OPTIONS: [CommandOption; 1] = [CommandOption::Labels];

@@ -16,14 +16,14 @@ loop-format-preserved g c =
     walks_on c.args.rom.now (g.E.Entries.list c.args.entries.now) c.args.entry.now c.args.visited.now c.loop-format.visited c.loop-format.calls.items c.loop-format.at c.loop-format.scale c.loop-format.invariant
     c.in-Holds.format c.in-Holds.instr (sym c.in-Holds.ensures.value) c.callee-named.result
     (c.callee-named.ensures.value ∙ ap (λ (to : Option ℕ). callee_at (g.E.Entries.list c.args.entries.now) to c.loop-format.scale) c.target.ensures)
-    c.add.new.self c.add.ensures c.push_call.new.calls.items c.in_ok-push_call.ensures c.scale_past-scale.result c.in-Some.next c.scale_past-scale.ensures.value c.scale_past-scale.ensures.key (sym c.in-Some.ensures)
+    c.add.new.self c.add.ensures.value c.push_call.new.calls.items c.in_ok-push_call.ensures c.scale_past-scale.result c.in-Some.next c.scale_past-scale.ensures.value c.scale_past-scale.ensures.key (sym c.in-Some.ensures)
 
 pub returns-in-None : goal.returns-in-None
 returns-in-None g c =
     ends_here c.args.rom.now (g.E.Entries.list c.args.entries.now) c.args.entry.now c.args.visited.now c.loop-format.visited c.loop-format.calls.items c.loop-format.at c.loop-format.scale c.loop-format.invariant
     c.in-Holds.format c.in-Holds.instr (sym c.in-Holds.ensures.value) c.callee-named.result
     (c.callee-named.ensures.value ∙ ap (λ (to : Option ℕ). callee_at (g.E.Entries.list c.args.entries.now) to c.loop-format.scale) c.target.ensures)
-    c.add.new.self c.add.ensures c.push_call.new.calls.items c.in_ok-push_call.ensures (sym c.in-None.ensures)
+    c.add.new.self c.add.ensures.value c.push_call.new.calls.items c.in_ok-push_call.ensures (sym c.in-None.ensures)
 
 pub returns : goal.returns
 returns g c =

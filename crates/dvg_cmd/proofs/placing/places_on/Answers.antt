@@ -1,0 +1,28 @@
+use Rattle.std.proofs.Common.{◌≢◌, ◌∙◌, sym, subst}
+use Rattle.dvg_spelling.specs.Faults.{frames_run_number}
+use Rattle.dvg_cmd.specs.MakingFrames.{of_each, FramesFaultMeans}
+use Rattle.dvg_cmd.proofs.MakerRuns.{wrong_length}
+use Rattle.dvg_cmd.proofs.FramesRuns.{told_err, places_made, frames_refused, lengths_refused}
+use Rattle.dvg_cmd.proofs.placing.places_on.Goals as goal
+
+pub returns-in_default-clause-refused : goal.returns-in_default-clause-refused
+returns-in_default-clause-refused c =
+    λ held readers read prefixes told. subst (λ f. FramesFaultMeans c.args.machine held c.args.map c.args.roots.now readers f) (sym c.into.ensures)
+    (wrong_length c.args.machine c.args.map c.in_default.ensures.map held c.args.roots.now c.args.rom.now read c.in_default.ensures.image.0)
+
+pub returns-in_err-images-clause-refused : goal.returns-in_err-images-clause-refused
+returns-in_err-images-clause-refused c =
+    λ held readers read prefixes. told_err c.from_residual.result c.in_err-images.field-0.0 (λ fault. frames_run_number fault ≢ 63 → FramesFaultMeans c.args.machine held c.args.map c.args.roots.now readers fault) c.from_residual.ensures.1
+    (λ told. lengths_refused c.args.machine c.args.map c.in-Ok.ensures.map held c.args.roots.now c.args.rom.now c.in-Ok.rom read c.in-Ok.ensures.image readers (of_each (λ bytes. bytes.items) c.args.frames.now) prefixes
+    c.in_err-images.field-0.0 c.in_err-images.ensures.refused)
+
+pub returns-in_err-cert-clause-refused : goal.returns-in_err-cert-clause-refused
+returns-in_err-cert-clause-refused c =
+    λ held readers read prefixes. told_err c.from_residual-in_err-cert.result _ (λ fault. frames_run_number fault ≢ 63 → FramesFaultMeans c.args.machine held c.args.map c.args.roots.now readers fault) c.from_residual-in_err-cert.ensures.1
+    (λ told. frames_refused c.args.machine c.args.map c.in-Ok.ensures.map held c.args.roots.now c.args.rom.now c.in-Ok.rom read c.in-Ok.ensures.image readers (of_each (λ bytes. bytes.items) c.args.frames.now) prefixes
+    c.in_ok-images.ensures.frames c.deref.result.now (c.deref.ensures.value ∙ c.in_ok-images.ensures.images) c.in_err-cert.field-0.0 c.in_err-cert.ensures.err c.in_err-cert.ensures.told)
+
+pub returns-clause-ok : goal.returns-clause-ok
+returns-clause-ok c =
+    λ held readers read prefixes. places_made c.args.machine c.args.map c.in-Ok.ensures.map held c.args.roots.now c.args.rom.now c.in-Ok.rom read c.in-Ok.ensures.image readers (of_each (λ bytes. bytes.items) c.args.frames.now) prefixes
+    c.in_ok-images.ensures.frames c.deref.result.now (c.deref.ensures.value ∙ c.in_ok-images.ensures.images) c.args.window c.in_ok-cert.cert.entries c.in_ok-entry_places.field-0.items c.in_ok-cert.ensures.ok c.in_ok-entry_places.ensures

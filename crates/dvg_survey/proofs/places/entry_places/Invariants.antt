@@ -1,0 +1,6 @@
+use Rattle.std.proofs.Common.{take}
+use Rattle.dvg_survey.specs.Places.{AreAllPlaces}
+use Rattle.dvg_survey.proofs.places.entry_places.Given as goal
+
+abbrev pub invariant-loop-entry : goal.invariant-loop-entry
+invariant-loop-entry g l = AreAllPlaces l.window l.rom l.cert.entries (take l.entry-index l.list) l.places.items

@@ -1,0 +1,16 @@
+use Rattle.std.proofs.Common.{◌-◌, ◌+◌, List}
+use Rattle.dvg_words.specs.declared.map.TheConstants.{ADDRESS_END}
+use Rattle.dvg_words.specs.Memory.{rom_word}
+use Rattle.dvg_items.specs.declared.item.Item.{Item}
+use Rattle.dvg_items.specs.Known.{shape_context}
+use Rattle.dvg_survey.proofs.Sweeping.{CleanItems}
+use Rattle.dvg_survey.proofs.Walking.{Walked}
+use Rattle.dvg_survey.proofs.places.is_clean.Given as goal
+
+abbrev pub invariant-loop-seen : goal.invariant-loop-seen
+invariant-loop-seen g l =
+    let c = shape_context l.rom.machine (g.E.Entries.list l.entries) l.entry in
+    (items : List Item) × Walked c (rom_word l.rom) l.entry.addr items l.cursor × CleanItems l.window l.broken c items
+
+abbrev pub decreases-loop-seen : goal.decreases-loop-seen
+decreases-loop-seen g l = ADDRESS_END + 2 - l.cursor.at

@@ -1,0 +1,33 @@
+use Rattle.std.proofs.Common.{◌∙◌, ap}
+use Rattle.std.proofs.lemmas.List.Elements.{Contains-get_or}
+use Rattle.dvg_items.proofs.Listed.{listed_claim}
+use Rattle.dvg_survey.proofs.Sweeping.{kept_on, marked_on, swept_all}
+use Rattle.dvg_survey.proofs.places.sweep.Goals.{then-is_clean+in_ok-push, else-is_clean}
+use Rattle.dvg_survey.proofs.places.sweep.Goals as goal
+
+pub is_clean-requires-clause-entry : goal.is_clean-requires-clause-entry
+is_clean-requires-clause-entry g c =
+    listed_claim (g.E.Entries.list c.args.entries.now) _ c.requires.entries (c.requires.swept _ (Contains-get_or c.args.swept.now c.loop-entry.entry-index _ c.loop-entry-test.true))
+
+pub add-requires-clause-at : goal.add-requires-clause-at
+add-requires-clause-at g c =
+    (listed_claim (g.E.Entries.list c.args.entries.now) _ c.requires.entries (c.requires.swept _ (Contains-get_or c.args.swept.now c.loop-entry.entry-index _ c.loop-entry-test.true))).addr
+
+pub add-requires-clause-key : goal.add-requires-clause-key
+add-requires-clause-key g c =
+    (listed_claim (g.E.Entries.list c.args.entries.now) _ c.requires.entries (c.requires.swept _ (Contains-get_or c.args.swept.now c.loop-entry.entry-index _ c.loop-entry-test.true))).key
+
+pub loop-entry-preserved : goal.loop-entry-preserved
+loop-entry-preserved g c =
+    elim c.if-is_clean.branch [
+      | then-is_clean+in_ok-push w ↦
+          kept_on c.args.window.now c.args.rom.now (g.E.Entries.list c.args.entries.now) c.args.swept.now c.loop-entry.entry-index c.loop-entry.left.items c.args.broken.now c.loop-entry.broken c.loop-entry.invariant _ c.loop-entry-test.true
+          c.if-is_clean.left.items c.if-is_clean.broken (ap (λ v. v.items) w.left-is ∙ w.in_ok-push.ensures.items) w.broken-is (c.is_clean.ensures.clean w.if-is_clean.true)
+      | else-is_clean w ↦
+          marked_on c.args.window.now c.args.rom.now (g.E.Entries.list c.args.entries.now) c.args.swept.now c.loop-entry.entry-index c.loop-entry.left.items c.args.broken.now c.loop-entry.broken c.loop-entry.invariant _ c.loop-entry-test.true
+          c.if-is_clean.left.items w.add.new.self c.if-is_clean.broken (ap (λ v. v.items) w.left-is) w.broken-is w.add.ensures.value w.add.ensures.there c.requires.entries c.requires.swept (c.is_clean.ensures.faulty w.if-is_clean.false)
+    ]
+
+pub returns : goal.returns
+returns g c =
+    swept_all c.args.window.now c.args.rom.now (g.E.Entries.list c.args.entries.now) c.args.swept.now c.loop-entry.entry-index c.loop-entry.left.items c.args.broken.now c.loop-entry.broken c.loop-entry-test.false c.loop-entry.auto.entry-index-end c.loop-entry.invariant
