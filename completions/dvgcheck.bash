@@ -11,17 +11,17 @@ _dvgcheck() {
   fi
   case $before in
     # a file, or a word that nobody can guess
-    --cert | --list | --frame | -o | --output | --budget | --window | --rom | --start) return ;;
+    --cert | --list | --labels | --frame | -o | --output | --budget | --window | --rom | --start) return ;;
   esac
   case $command in
     '') options='frames check make explain rules help -h --help -V --version' ;;
-    frames) options='--board --rom --cert --budget --window --clip --start --list --null --only-refused --summary -h --help' ;;
+    frames) options='--board --rom --cert --budget --window --clip --start --labels --list --null --only-refused --summary -h --help' ;;
     check) options='--board --budget --window --clip --exact -h --help' ;;
-    make) options='--board --frame --rom -o --output -h --help' ;;
+    make) options='--board --frame --rom --labels -o --output -h --help' ;;
     explain) options='frames check make help -h --help' ;;
-    'explain frames') options='--board --rom --cert --budget --window --clip --start -h --help' ;;
-    'explain check') options='--board --budget --window --clip --exact -h --help' ;;
-    'explain make') options='--board --frame --rom -h --help' ;;
+    'explain frames') options='--board --rom --cert --budget --window --clip --start --labels -h --help' ;;
+    'explain check') options='--board --budget --window --clip --exact --labels -h --help' ;;
+    'explain make') options='--board --frame --rom --labels -h --help' ;;
     rules) options='-h --help' ;;
     help | 'explain help') options='frames check make explain rules' ;;
   esac

@@ -31,6 +31,7 @@ complete -c dvgcheck -n '__dvgcheck_in frames' -l budget -x -d 'How many words a
 complete -c dvgcheck -n '__dvgcheck_in frames' -l window -x -d 'Where the screen may be lit'
 complete -c dvgcheck -n '__dvgcheck_in frames' -l clip -d 'Lets lit strokes reach from -1024 to 2047'
 complete -c dvgcheck -n '__dvgcheck_in frames' -l start -x -d 'Judges each frame from this word address on'
+complete -c dvgcheck -n '__dvgcheck_in frames' -l labels -r -F -d 'The labels of the program'
 complete -c dvgcheck -n '__dvgcheck_in frames' -l list -r -F -d 'Judges the frames that this file names'
 complete -c dvgcheck -n '__dvgcheck_in frames' -l null -d 'Has NUL behind each name of the list'
 complete -c dvgcheck -n '__dvgcheck_in frames' -l only-refused -d 'Leaves out the lines of accepted frames'
@@ -47,6 +48,7 @@ complete -c dvgcheck -n '__dvgcheck_in check' -s h -l help -d 'Prints help'
 complete -c dvgcheck -n '__dvgcheck_in make' -l board -d 'Takes a board of the DVG for the machine'
 complete -c dvgcheck -n '__dvgcheck_in make' -l frame -r -F -d 'A frame, whose calls are roots, too'
 complete -c dvgcheck -n '__dvgcheck_in make' -l rom -x -d 'The word addresses of the ROM\'s first and last word'
+complete -c dvgcheck -n '__dvgcheck_in make' -l labels -r -F -d 'The labels of the program'
 complete -c dvgcheck -n '__dvgcheck_in make' -s o -l output -r -F -d 'Writes the certificate to this file'
 complete -c dvgcheck -n '__dvgcheck_in make' -s h -l help -d 'Prints help'
 
@@ -64,6 +66,7 @@ complete -c dvgcheck -n '__dvgcheck_in explain frames' -l budget -x -d 'How many
 complete -c dvgcheck -n '__dvgcheck_in explain frames' -l window -x -d 'Where the screen may be lit'
 complete -c dvgcheck -n '__dvgcheck_in explain frames' -l clip -d 'Lets lit strokes reach from -1024 to 2047'
 complete -c dvgcheck -n '__dvgcheck_in explain frames' -l start -x -d 'Judges each frame from this word address on'
+complete -c dvgcheck -n '__dvgcheck_in explain frames' -l labels -r -F -d 'The labels of the program'
 complete -c dvgcheck -n '__dvgcheck_in explain frames' -s h -l help -d 'Prints help'
 
 complete -c dvgcheck -n '__dvgcheck_in explain check' -l board -d 'Takes a board of the DVG for the machine'
@@ -71,11 +74,13 @@ complete -c dvgcheck -n '__dvgcheck_in explain check' -l budget -x -d 'How many 
 complete -c dvgcheck -n '__dvgcheck_in explain check' -l window -x -d 'Where the screen may be lit'
 complete -c dvgcheck -n '__dvgcheck_in explain check' -l clip -d 'Lets lit strokes reach from -1024 to 2047'
 complete -c dvgcheck -n '__dvgcheck_in explain check' -l exact -d 'Takes the certificate\'s words and depths as exact'
+complete -c dvgcheck -n '__dvgcheck_in explain check' -l labels -r -F -d 'The labels of the program'
 complete -c dvgcheck -n '__dvgcheck_in explain check' -s h -l help -d 'Prints help'
 
 complete -c dvgcheck -n '__dvgcheck_in explain make' -l board -d 'Takes a board of the DVG for the machine'
 complete -c dvgcheck -n '__dvgcheck_in explain make' -l frame -r -F -d 'A frame, whose calls are roots, too'
 complete -c dvgcheck -n '__dvgcheck_in explain make' -l rom -x -d 'The word addresses of the ROM\'s first and last word'
+complete -c dvgcheck -n '__dvgcheck_in explain make' -l labels -r -F -d 'The labels of the program'
 complete -c dvgcheck -n '__dvgcheck_in explain make' -s h -l help -d 'Prints help'
 
 complete -c dvgcheck -n '__dvgcheck_in rules' -f

@@ -13,6 +13,7 @@ use crate::text::Text;
 use dvg_cert::{MOST_DEPTH, MOST_ENTRIES, MOST_WORDS};
 use dvg_check::Yes;
 use dvg_items::Item;
+use dvg_labels::Labels;
 use dvg_make::{FrameRefusal, ShapeAt};
 use dvg_spelling::{FrameAnswer, frame_report_of, rule_of};
 use dvg_survey::{Call, Margins};
@@ -20,13 +21,29 @@ use dvg_words::{Draw, Format, Instr, Machine};
 use itoa::Integer;
 use std::alloc::{AllocError, Global};
 
-/// The text of an account.
-pub fn text_of(alloc: Global, lines: &[Line]) -> Result<String, AllocError> {
-    let mut text = Text::new(alloc);
+/// The text of an account, in which addresses are named by these labels.
+pub fn text_of(
+    alloc: Global,
+    lines: &[Line],
+    labels: Option<&Labels>,
+) -> Result<String, AllocError> {
+    let mut text = Text::new(alloc, labels);
     for line in lines {
         push_line(&mut text, line);
     }
+    if let Some(labels) = labels {
+        push_passed(&mut text, labels.passed());
+    }
     text.finish()
+}
+
+/// How many labels were passed over, if any were.
+fn push_passed(text: &mut Text, passed: usize) {
+    if passed > 0 {
+        text.push("labels passed over: ");
+        text.push_decimal(passed);
+        text.push(", not the address of a word in 4000 to 57FF\n");
+    }
 }
 
 fn push_line(text: &mut Text, line: &Line) {

@@ -5,7 +5,8 @@ ghost use Rattle.dvg_cert.specs.Grammar.{key_token};
 ghost use Rattle.dvg_account.specs.Building.{Adds};
 
 use dvg_cert::{End, Entry, Key, LitBox};
-use dvg_spelling::{entry_name, hex_address, hex_word};
+use dvg_labels::{Labels, Nearest};
+use dvg_spelling::{hex_address, hex_word};
 use dvg_words::Point;
 use itoa::{Buffer, Integer};
 use std::alloc::{AllocError, Global};
@@ -17,11 +18,13 @@ const PLACE: u64 = 1024;
 
 /// A text so far, or that memory ran out. Then nothing is added any more.
 #[derive(Drop)]
-pub struct Text {
+pub struct Text<'a> {
     text: Result<String, AllocError>,
+    /// The labels by which addresses are named.
+    labels: Option<&'a Labels>,
 }
 
-impl Model for Text {
+impl<'a> Model for Text<'a> {
     ghost use Rattle.std.specs.Prelude.{ℕ, List, Option};
     ghost use Rattle.dvg_account.specs.Private.Texts.{text_so_far};
 
@@ -30,19 +33,20 @@ impl Model for Text {
     ghost view = { λ t. text_so_far t.text };
 }
 
-impl Text {
-    /// The empty text. Takes no memory.
-    pub fn new(alloc: Global) -> Text
+impl<'a> Text<'a> {
+    /// The empty text, in which addresses are named by these labels. Takes no memory.
+    pub fn new(alloc: Global, labels: Option<&'a Labels>) -> Text<'a>
         ensures { result ≡ Some [] }
     {
         Text {
             text: Ok(String::new(alloc)),
+            labels,
         }
     }
 
     /// The whole text, or that memory ran out.
     pub fn finish(self) -> Result<String, AllocError>
-        ensures { IfOk result (λ text. self ≡ Some (string_bytes text)) }
+        ensures { IfOk result (λ text. self.entry ≡ Some (string_bytes text)) }
     {
         self.text
     }
@@ -77,9 +81,36 @@ impl Text {
         self.push_ascii(&hex_word(word));
     }
 
-    /// A word address in three hexadecimal capitals, or in four if it is 1000 or more.
+    /// A word address: in three hexadecimal capitals, or in four if it is 1000 or more; in parentheses behind the label that names
+    /// it, if one does, as in `SHIP+3 (819)`.
     pub fn push_address(&mut self, addr: u16) {
+        match self.label_at(addr) {
+            Some(label) => {
+                self.push_label(label);
+                self.push(" (");
+                self.push_hex_address(addr);
+                self.push(")");
+            }
+            None => self.push_hex_address(addr),
+        }
+    }
+
+    /// The label that names an address.
+    fn label_at(&self, addr: u16) -> Option<Nearest<'a>> {
+        self.labels?.name_at(addr)
+    }
+
+    fn push_hex_address(&mut self, addr: u16) {
         self.push_ascii(hex_address(addr).as_slice());
+    }
+
+    /// A label, and how many words an address is behind it.
+    fn push_label(&mut self, label: Nearest) {
+        self.push_ascii(label.name);
+        if label.distance > 0 {
+            self.push("+");
+            self.push_decimal(label.distance);
+        }
     }
 
     /// A key as a certificate spells it.
@@ -92,7 +123,9 @@ impl Text {
 
     /// The name of an entry: its address and its key.
     pub fn push_entry_name(&mut self, addr: u16, key: Key) {
-        self.push_ascii(entry_name(addr, key).as_bytes());
+        self.push_address(addr);
+        self.push("/");
+        self.push_key(key);
     }
 
     /// A distance in screen places and 1024ths of one.

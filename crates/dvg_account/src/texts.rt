@@ -1,4 +1,4 @@
-//! The accounts of answers, as texts.
+//! The accounts of answers, as texts. Where labels are given, they name the addresses: `SHIP+3 (819)` is three words past `SHIP`.
 
 use crate::answers::{refusal_lines, verdict_lines};
 use crate::inputs::{Inputs, PlainWhy, plain_lines};
@@ -7,6 +7,7 @@ use crate::own::{OwnMaking, frame_lines, own_lines};
 use crate::spelling::text_of;
 use dvg_cert::Cert;
 use dvg_check::{Refusal, RomFinding, Yes};
+use dvg_labels::Labels;
 use dvg_make::{FrameRefusal, MakeAccount};
 use dvg_words::{Machine, RomImage};
 use std::alloc::{AllocError, Global};
@@ -17,8 +18,13 @@ pub fn verdict_text(
     inputs: &Inputs,
     verdict: &Result<Yes, Refusal>,
     cause: Option<&RomFinding>,
+    labels: Option<&Labels>,
 ) -> Result<String, AllocError> {
-    text_of(alloc, &verdict_lines(alloc, inputs, verdict, cause)?)
+    text_of(
+        alloc,
+        &verdict_lines(alloc, inputs, verdict, cause)?,
+        labels,
+    )
 }
 
 /// The account of [`refusal_lines`] as a text.
@@ -26,8 +32,9 @@ pub fn refusal_text(
     alloc: Global,
     inputs: &Inputs,
     refusal: &Refusal,
+    labels: Option<&Labels>,
 ) -> Result<String, AllocError> {
-    text_of(alloc, &refusal_lines(alloc, inputs, refusal)?)
+    text_of(alloc, &refusal_lines(alloc, inputs, refusal)?, labels)
 }
 
 /// The account of [`frame_lines`] as a text.
@@ -36,8 +43,9 @@ pub fn frame_text(
     inputs: &Inputs,
     verdict: &Result<Yes, FrameRefusal>,
     cause: Option<&RomFinding>,
+    labels: Option<&Labels>,
 ) -> Result<String, AllocError> {
-    text_of(alloc, &frame_lines(alloc, inputs, verdict, cause)?)
+    text_of(alloc, &frame_lines(alloc, inputs, verdict, cause)?, labels)
 }
 
 /// The account of [`own_lines`] as a text.
@@ -46,8 +54,9 @@ pub fn own_text(
     inputs: &Inputs,
     verdict: &Result<Yes, FrameRefusal>,
     making: OwnMaking,
+    labels: Option<&Labels>,
 ) -> Result<String, AllocError> {
-    text_of(alloc, &own_lines(alloc, inputs, verdict, making)?)
+    text_of(alloc, &own_lines(alloc, inputs, verdict, making)?, labels)
 }
 
 /// The account of [`plain_lines`] as a text.
@@ -56,13 +65,19 @@ pub fn plain_text(
     alloc: Global,
     number: u8,
     why: PlainWhy,
+    labels: Option<&Labels>,
 ) -> Result<String, AllocError> {
-    text_of(alloc, &plain_lines(machine, alloc, number, why)?)
+    text_of(alloc, &plain_lines(machine, alloc, number, why)?, labels)
 }
 
 /// The account of [`made_lines`] as a text.
-pub fn made_text(machine: Machine, alloc: Global, cert: &Cert) -> Result<String, AllocError> {
-    text_of(alloc, &made_lines(machine, alloc, cert)?)
+pub fn made_text(
+    machine: Machine,
+    alloc: Global,
+    cert: &Cert,
+    labels: Option<&Labels>,
+) -> Result<String, AllocError> {
+    text_of(alloc, &made_lines(machine, alloc, cert)?, labels)
 }
 
 /// The account of [`unmade_lines`] as a text.
@@ -70,6 +85,7 @@ pub fn unmade_text(
     alloc: Global,
     rom: &RomImage,
     account: MakeAccount,
+    labels: Option<&Labels>,
 ) -> Result<String, AllocError> {
-    text_of(alloc, &unmade_lines(alloc, rom, account)?)
+    text_of(alloc, &unmade_lines(alloc, rom, account)?, labels)
 }

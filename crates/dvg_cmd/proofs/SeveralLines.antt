@@ -212,7 +212,7 @@ shapes_by machine w rom c map image shapes is image_is map_is = is ∙ ap (shape
 pub judges_over : (machine : Machine) (shapes : Shapes) (c : Certificate) (rom : List ℕ) (mode : Mode) → IsRomLength c.map (length rom) → shapes.rom ≡ rom_on machine c.map rom → shapes.list ≡ c.entries → shapes.mode ≡ mode
     → (detail : Detail) → MayJudgeOver machine shapes c rom mode detail
 judges_over machine shapes c rom mode long rom_is list_is mode_is details.Line = (ap (λ r. r.map) rom_is, list_is)
-judges_over machine shapes c rom mode long rom_is list_is mode_is details.Account = (long, rom_is, list_is, mode_is)
+judges_over machine shapes c rom mode long rom_is list_is mode_is (details.Account labels) = (long, rom_is, list_is, mode_is)
 
 pub over_same : (P : Shapes → ℕ → ℕ → Type 0) (s t : Shapes) → s ≡ t → (m n : ℕ) → m ≡ n → (a b : ℕ) → a ≡ b → P s m a → P t n b
 over_same P s t st m n mn a b ab h = subst (λ x. P x n b) st (subst (λ x. P s x b) mn (subst (λ x. P s m x) ab h))

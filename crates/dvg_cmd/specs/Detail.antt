@@ -17,7 +17,7 @@ no_account = codes "account: out of memory\n"
 -- what a detail asks for behind a line: nothing, or else an account, or that there was no memory for it
 abbrev pub IsBehind : Detail → Behind → Type 0
 IsBehind detail.Line what = what ≡ behind.Nothing
-IsBehind detail.Account what = what ≢ behind.Nothing
+IsBehind (detail.Account labels) what = what ≢ behind.Nothing
 
 -- the text that is written behind a line
 abbrev pub behind_text : Behind → List ℕ

@@ -88,7 +88,7 @@ VerdictOnBytes machine rom map bytes budget w (Err r) = IsRefused machine rom ma
 -- account, the ROM is also that of these bytes, and the mode is that in which the shapes were judged
 abbrev pub MayJudgeOver : Machine → Shapes → Certificate → List ℕ → Mode → Detail → Type 0
 MayJudgeOver machine shapes c rom mode details.Line = (shapes.rom.map ≡ c.map) × (shapes.list ≡ c.entries)
-MayJudgeOver machine shapes c rom mode details.Account =
+MayJudgeOver machine shapes c rom mode (details.Account labels) =
     IsRomLength c.map (length rom) × (shapes.rom ≡ rom_on machine c.map rom) × (shapes.list ≡ c.entries) × (shapes.mode ≡ mode)
 
 -- the frame is good by the list; every run is safe with these counts, and has just these where the shapes are good in exact mode

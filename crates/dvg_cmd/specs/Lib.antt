@@ -1,4 +1,5 @@
 pub mod Detail
+pub mod Roots
 pub mod Runs
 pub mod Start
 pub mod Names

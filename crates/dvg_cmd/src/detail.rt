@@ -1,20 +1,21 @@
 //! What a run writes of an answer: its line, or its line and an account of it.
 
-ghost use Rattle.std.specs.Prelude.{◌≡◌, IfOk, OnErr};
+ghost use Rattle.std.specs.Prelude.{◌≡◌, None, IfOk, OnErr};
 ghost use Rattle.dvg_cmd.specs.Detail.{IsBehind, behind_text};
 ghost use Rattle.dvg_cmd.specs.declared.detail.Detail.TheVariants as details;
 ghost use Rattle.dvg_cmd.specs.declared.detail.Behind.TheVariants as behinds;
 
+use dvg_labels::Labels;
 use std::alloc::AllocError;
 
 /// What a run writes of an answer.
-#[derive(Clone, Copy, Debug, PartialEq, Eq)]
-pub enum Detail {
+#[derive(Clone, Copy)]
+pub enum Detail<'a> {
     /// Its line.
     Line,
     /// Its line, and an account of the answer behind it (docs/RULES.md). If there is no memory for the account, the run writes
-    /// `account: out of memory` in its place, and its outcome says so.
-    Account,
+    /// `account: out of memory` in its place, and its outcome says so. Labels name the addresses of the account, if there are any.
+    Account(Option<&'a Labels>),
 }
 
 /// What is written in the place of an account for which there was no memory.
@@ -36,7 +37,7 @@ impl Behind {
     pub fn of(account: Result<String, AllocError>) -> Behind
         ensures account { IfOk account (λ text. result ≡ behinds.Account text) }
         ensures no_memory { OnErr account (result ≡ behinds.NoMemory) }
-        ensures asked { IsBehind details.Account result }
+        ensures asked { IsBehind (details.Account None) result }
     {
         match account {
             Ok(text) => Behind::Account(text),

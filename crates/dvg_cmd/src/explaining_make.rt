@@ -15,6 +15,7 @@ use crate::making_frames::{FrameBytes, images_of, read_frames};
 use crate::reading::read_rom;
 use dvg_account::{PlainWhy, made_text, plain_text, unmade_text};
 use dvg_cert::{CountedRead, CountedWrite, Key, write_lines};
+use dvg_labels::Labels;
 use dvg_make::explain_making;
 use dvg_spelling::{FramesRunFault, MakeRunFault, Outcome, RunFault, make_line_of};
 use dvg_words::{Machine, RomImage, RomMap};
@@ -40,12 +41,18 @@ impl MakeAnswer {
 }
 
 /// The answer that nothing is made, because of this fault of the inputs.
-fn unasked(machine: Machine, alloc: Global, fault: FramesRunFault, why: PlainWhy) -> MakeAnswer
+fn unasked(
+    machine: Machine,
+    alloc: Global,
+    fault: FramesRunFault,
+    why: PlainWhy,
+    labels: Option<&Labels>,
+) -> MakeAnswer
     ensures { result.made ≡ Err fault }
 {
     MakeAnswer {
         made: Err(fault),
-        account: plain_text(machine, alloc, fault.number(), why),
+        account: plain_text(machine, alloc, fault.number(), why, labels),
     }
 }
 
@@ -65,6 +72,7 @@ fn answer_on(
     map: RomMap,
     roots: &[(u16, Key)],
     frames: &[FrameBytes],
+    labels: Option<&Labels>,
 ) -> MakeAnswer
     ensures made { (held : Option (List ℕ)) (readers : List (Option (List ℕ))) → IsPrefix MOST_ROM_READ held rom.now
         → ArePrefixes readers (of_each (λ bytes. bytes.items) frames.now)
@@ -79,26 +87,27 @@ fn answer_on(
             bytes: rom.len(),
             map,
         };
-        return unasked(machine, alloc, MakeRunFault::RomLength.into(), why);
+        return unasked(machine, alloc, MakeRunFault::RomLength.into(), why, labels);
     };
     let images = match images_of(alloc, frames) {
         Ok(images) => images,
-        Err(fault) => return unasked(machine, alloc, fault, length_why(fault, frames)),
+        Err(fault) => return unasked(machine, alloc, fault, length_why(fault, frames), labels),
     };
     match explain_making(alloc, &image, roots, &images) {
         Ok(cert) => MakeAnswer {
             made: Ok(cert.entries().len() as u32),
-            account: made_text(machine, alloc, &cert),
+            account: made_text(machine, alloc, &cert, labels),
         },
         Err(account) => MakeAnswer {
             made: Err(account.fault.into()),
-            account: unmade_text(alloc, &image, account),
+            account: unmade_text(alloc, &image, account, labels),
         },
     }
 }
 
 /// Reads a ROM and frames, as [`run_make_frames`](crate::run_make_frames) does, and makes the certificate that it would write. Answers
-/// how many entries it has, or why none are made, with an account of the answer (docs/RULES.md). Nothing is written.
+/// how many entries it has, or why none are made, with an account of the answer (docs/RULES.md), whose addresses labels
+/// name, if there are any. Nothing is written.
 ///
 /// The faults are those of `run_make_frames` that have no account: a failed read, and that there was no memory to make entries.
 pub fn run_explain_make<R1: CountedRead, R2: CountedRead>(
@@ -108,6 +117,7 @@ pub fn run_explain_make<R1: CountedRead, R2: CountedRead>(
     map: RomMap,
     roots: &[(u16, Key)],
     frames: &mut [R2],
+    labels: Option<&Labels>,
 ) -> Result<MakeAnswer, FramesRunFault>
     // 70 and 71 come exactly where their device failed in this call, and the device's count then rises by one; else it is 63.
     ensures rom_count { R1.failures rom.new ≡ count_after (blames_frames_rom result) (R1.failures rom.old) }
@@ -137,7 +147,15 @@ pub fn run_explain_make<R1: CountedRead, R2: CountedRead>(
         return Err(MakeRunFault::ReadRom.into());
     };
     let frames = read_frames(alloc, frames)?;
-    let answer = answer_on(machine, alloc, bytes.as_slice(), map, roots, &frames);
+    let answer = answer_on(
+        machine,
+        alloc,
+        bytes.as_slice(),
+        map,
+        roots,
+        &frames,
+        labels,
+    );
     if let Err(fault) = answer.made {
         if fault.number() == NO_MEMORY_NUMBER {
             return Err(fault);

@@ -1,6 +1,6 @@
 //! By which certificate a frame is judged: by its own, which is made for it, or by a given one, whose shapes were judged.
 
-ghost use Rattle.std.specs.Prelude.{◌≡◌, ℕ, List, Result, length, Err, IfOk, IfErr};
+ghost use Rattle.std.specs.Prelude.{◌≡◌, ℕ, List, Result, length, Err, None, IfOk, IfErr};
 ghost use Rattle.dvg_words.specs.Memory.{Rom, IsFrameLength, rom_on, words_of};
 ghost use Rattle.dvg_words.specs.Values.{Window as Places};
 ghost use Rattle.dvg_words.specs.declared.machine.Machine.TheVariants.{Board};
@@ -20,6 +20,7 @@ use crate::detail::{Behind, Detail};
 use dvg_account::{Inputs, OwnMaking, frame_text, own_text};
 use dvg_cert::{Cert, Entries};
 use dvg_check::{JudgedShapes, Mode, Refusal, RomFinding, Yes, frame_of};
+use dvg_labels::Labels;
 use dvg_make::{FrameRefusal, explain_judging, judge};
 use dvg_words::{FrameImage, Machine, RomImage, RomMap, Window};
 use std::alloc::Global;
@@ -53,7 +54,7 @@ pub trait FrameJudge {
     ) -> (Result<Yes, FrameRefusal>, Behind)
         requires { valid self.now detail }
         ensures verdict { is_verdict self.now frame.now result.0 }
-        ensures behind { IsBehind detail result.1 }
+        ensures behind { IsBehind detail.entry result.1 }
         ensures whole { IfOk result.0 (λ yes. IsFrameLength (length frame.now)) }
         ensures safe { IfOk result.0 (λ yes. Safe (record { frame = words_of frame.now; rom = rom self.now }) (window self.now) yes.words yes.depth) }
         ensures exact { is_exact self.now → IfOk result.0 (λ yes. CountsAtHalt (record { frame = words_of frame.now; rom = rom self.now }) yes.words yes.depth) }
@@ -101,7 +102,7 @@ impl<'a> FrameJudge for OwnCertificates<'a> {
     ) -> (Result<Yes, FrameRefusal>, Behind) {
         match detail {
             Detail::Line => (verdict_by_own(alloc, self, frame), Behind::Nothing),
-            Detail::Account => explain_by_own(alloc, self, frame),
+            Detail::Account(labels) => explain_by_own(alloc, self, frame, labels),
         }
     }
 }
@@ -153,9 +154,10 @@ fn explain_by_own<'a>(
     alloc: Global,
     own: &OwnCertificates<'a>,
     frame: &'a [u8],
+    labels: Option<&Labels>,
 ) -> (Result<Yes, FrameRefusal>, Behind)
     ensures verdict { VerdictOnBytes own.now.machine own.now.rom.now own.now.map frame.now own.now.budget own.now.window result.0 }
-    ensures behind { IsBehind details.Account result.1 }
+    ensures behind { IsBehind (details.Account None) result.1 }
 {
     let (verdict, making) = judge_own(alloc, own, frame);
     let inputs = Inputs {
@@ -168,7 +170,7 @@ fn explain_by_own<'a>(
         window: own.window,
         mode: Mode::Exact,
     };
-    let account = own_text(alloc, &inputs, &verdict, making);
+    let account = own_text(alloc, &inputs, &verdict, making, labels);
     (verdict, Behind::of(account))
 }
 
@@ -235,7 +237,9 @@ impl<'a, E: Entries> FrameJudge for GivenCertificate<'a, E> {
         let (verdict, cause) = verdict_over(self.shapes, self.cert, frame, self.budget);
         let behind = match detail {
             Detail::Line => Behind::Nothing,
-            Detail::Account => account_over(alloc, self, frame, &verdict, cause.as_ref()),
+            Detail::Account(labels) => {
+                account_over(alloc, self, frame, &verdict, cause.as_ref(), labels)
+            }
         };
         (verdict, behind)
     }
@@ -281,8 +285,9 @@ fn account_over<E: Entries>(
     frame: &[u8],
     verdict: &Result<Yes, FrameRefusal>,
     cause: Option<&RomFinding>,
+    labels: Option<&Labels>,
 ) -> Behind
-    ensures { IsBehind details.Account result }
+    ensures { IsBehind (details.Account None) result }
 {
     let inputs = Inputs {
         machine: given.machine,
@@ -294,5 +299,5 @@ fn account_over<E: Entries>(
         window: given.shapes.window(),
         mode: given.mode,
     };
-    Behind::of(frame_text(alloc, &inputs, verdict, cause))
+    Behind::of(frame_text(alloc, &inputs, verdict, cause, labels))
 }

@@ -34,11 +34,13 @@ fn read_started<R: CountedRead>(frame: &mut R, start: Option<u16>) -> io::Result
 
 /// What the detail asks for behind the line of a frame that can't be opened or read.
 pub fn unread_account(machine: Machine, alloc: Global, detail: Detail) -> Behind
-    ensures { IsBehind detail result }
+    ensures { IsBehind detail.entry result }
 {
     match detail {
         Detail::Line => Behind::Nothing,
-        Detail::Account => Behind::of(plain_text(machine, alloc, 71, PlainWhy::Nothing)),
+        Detail::Account(labels) => {
+            Behind::of(plain_text(machine, alloc, 71, PlainWhy::Nothing, labels))
+        }
     }
 }
 
@@ -53,7 +55,7 @@ pub fn answer_of<J: FrameJudge, R: CountedRead>(
     requires { J.valid judge.now detail }
     ensures answers { AnswersFrame (J.is_verdict judge.now) (J.rom judge.now) (J.window judge.now) (J.is_exact judge.now)
         start (R.remaining frame.old) (R.remaining frame.new) result.0 }
-    ensures behind { IsBehind detail result.1 }
+    ensures behind { IsBehind detail.entry result.1 }
     ensures count { R.failures frame.new ≡ count_after (is_unread result.0) (R.failures frame.old) }
 {
     match read_started(frame, start) {
@@ -121,23 +123,23 @@ pub fn run_frame<J: FrameJudge, R: CountedRead, W: CountedWrite>(
 
     // The line of an answer is written, or a prefix of it if the writer failed, which alone ends a run.
     ensures report { IfOk result (ReportsFrame (J.is_verdict judge.now) (J.rom judge.now) (J.window judge.now) (J.is_exact judge.now)
-        detail start name.now (R.remaining frame.old) (R.remaining frame.new) (W.contents out.old) (W.contents out.new)
+        detail.entry start name.now (R.remaining frame.old) (R.remaining frame.new) (W.contents out.old) (W.contents out.new)
         (W.whole_writes out.old) (W.whole_writes out.new)) }
     ensures prefix { OnErr result (ReportsFramePrefix (J.is_verdict judge.now) (J.rom judge.now) (J.window judge.now) (J.is_exact judge.now)
-        detail start name.now (R.remaining frame.old) (R.remaining frame.new) (W.contents out.old) (W.contents out.new)) }
+        detail.entry start name.now (R.remaining frame.old) (R.remaining frame.new) (W.contents out.old) (W.contents out.new)) }
 
     // What is accepted is safe, with the counts of the line that was written, and if these are exact, they are those of each run; on
     // the board also on its circuit.
-    ensures safe { result ≡ Ok FrameOutcome.Accepted → ReportsFrameAccepted detail name.now (W.contents out.old) (W.contents out.new)
+    ensures safe { result ≡ Ok FrameOutcome.Accepted → ReportsFrameAccepted detail.entry name.now (W.contents out.old) (W.contents out.new)
         (SafeFrame (J.rom judge.now) (J.window judge.now) start (R.remaining frame.old)) }
     ensures exact { J.is_exact judge.now → result ≡ Ok FrameOutcome.Accepted
-        → ReportsFrameAccepted detail name.now (W.contents out.old) (W.contents out.new)
+        → ReportsFrameAccepted detail.entry name.now (W.contents out.old) (W.contents out.new)
         (CountsFrame (J.rom judge.now) start (R.remaining frame.old)) }
     ensures circuit { (J.rom judge.now).machine ≡ Board → result ≡ Ok FrameOutcome.Accepted
-        → ReportsFrameAccepted detail name.now (W.contents out.old) (W.contents out.new)
+        → ReportsFrameAccepted detail.entry name.now (W.contents out.old) (W.contents out.new)
         (SafeCircuitFrame (J.rom judge.now) (J.window judge.now) start (R.remaining frame.old)) }
     ensures circuit_exact { (J.rom judge.now).machine ≡ Board → J.is_exact judge.now → result ≡ Ok FrameOutcome.Accepted
-        → ReportsFrameAccepted detail name.now (W.contents out.old) (W.contents out.new)
+        → ReportsFrameAccepted detail.entry name.now (W.contents out.old) (W.contents out.new)
         (CountsCircuitFrame (J.rom judge.now) start (R.remaining frame.old)) }
     ensures fault { IfErr result (λ fault. fault ≡ RunFault.Write) }
 
@@ -158,9 +160,9 @@ pub fn run_unopened<W: CountedWrite>(
     detail: Detail,
     out: &mut W,
 ) -> Result<FrameOutcome, RunFault>
-    ensures ok { IfOk result (WritesAnswer detail name.now FrameAnswer.Unread (W.contents out.old) (W.contents out.new)
+    ensures ok { IfOk result (WritesAnswer detail.entry name.now FrameAnswer.Unread (W.contents out.old) (W.contents out.new)
         (W.whole_writes out.old) (W.whole_writes out.new)) }
-    ensures prefix { OnErr result (WritesAnswerPrefix detail name.now FrameAnswer.Unread (W.contents out.old) (W.contents out.new)) }
+    ensures prefix { OnErr result (WritesAnswerPrefix detail.entry name.now FrameAnswer.Unread (W.contents out.old) (W.contents out.new)) }
     ensures unread { IfOk result (λ outcome. outcome ≡ FrameOutcome.Unread) }
     ensures fault { IfErr result (λ fault. fault ≡ RunFault.Write) }
     ensures count { W.failures out.new ≡ count_after (is_err result) (W.failures out.old) }

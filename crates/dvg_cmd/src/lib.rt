@@ -15,6 +15,7 @@ mod making_frames;
 mod messages;
 mod names;
 mod reading;
+mod roots;
 mod rules;
 mod running;
 mod several_frames;
@@ -27,6 +28,9 @@ pub use dvg_cert::{
 };
 pub use dvg_check::{
     FrameFault, FrameWhy, JudgedShapes, Mode, Refusal, ShapeFault, ShapeWhy, Yes, check,
+};
+pub use dvg_labels::{
+    LabelFault, LabelWhy, Labels, MOST_BYTES as MOST_LABEL_BYTES, Unnamed, read_labels,
 };
 pub use dvg_make::{
     EntryFault, FrameCall, FrameRefusal, FramesFault, MakeFault, judge, make, make_for_frames,
@@ -47,6 +51,7 @@ pub use making_frames::run_make_frames;
 pub use messages::{write_make_fault, write_message, write_text};
 pub use names::{NameBytes, NameEnd, read_name};
 pub use reading::{load_cert, load_rom};
+pub use roots::{RootFault, root_by};
 pub use rules::{run_rule, run_rules};
 pub use running::{CheckOptions, run_check, run_check_in};
 pub use several_frames::{FrameOptions, NamedFrame, run_frames, run_frames_given};

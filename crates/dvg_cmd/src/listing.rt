@@ -32,10 +32,10 @@ impl Lines {
 }
 
 /// What a run writes of several frames.
-#[derive(Clone, Copy, Debug, PartialEq, Eq)]
-pub struct Listing {
+#[derive(Clone, Copy)]
+pub struct Listing<'a> {
     /// What is written of a frame.
-    pub detail: Detail,
+    pub detail: Detail<'a>,
     /// Which frames have a line.
     pub lines: Lines,
     /// Whether a last line says how many frames were accepted, refused by each number, not to be read, and out of memory, whether

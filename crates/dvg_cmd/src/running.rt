@@ -170,11 +170,11 @@ fn account_of(
     options: &CheckOptions,
     detail: Detail,
 ) -> Behind
-    ensures { IsBehind detail result }
+    ensures { IsBehind detail.entry result }
 {
-    if matches!(detail, Detail::Line) {
+    let Detail::Account(labels) = detail else {
         return Behind::Nothing;
-    }
+    };
     let inputs = Inputs {
         machine: options.machine,
         rom,
@@ -185,7 +185,13 @@ fn account_of(
         window: options.window,
         mode: options.mode,
     };
-    Behind::of(verdict_text(alloc, &inputs, &judged.verdict, judged.cause.as_ref()))
+    Behind::of(verdict_text(
+        alloc,
+        &inputs,
+        &judged.verdict,
+        judged.cause.as_ref(),
+        labels,
+    ))
 }
 
 /// Writes the report of a verdict, and a text behind it.
@@ -240,23 +246,23 @@ pub fn run_check_in<R1: CountedRead, R2: CountedRead, R3: CountedRead, W: Counte
     ensures nothing { IfErr result (λ fault. fault ≢ RunFault.Write → out.new ≡ out.old) }
 
     // What is written is the report of the verdict on all bytes that the readers held, with its account, or a prefix of them.
-    ensures report { IfOk result (Reports options.now.machine detail options.now.mode options.now.window (R1.remaining rom.old) (R2.remaining cert.old)
+    ensures report { IfOk result (Reports options.now.machine detail.entry options.now.mode options.now.window (R1.remaining rom.old) (R2.remaining cert.old)
         (R2.remaining cert.new) (R3.remaining frame.old) options.now.budget (W.contents out.old) (W.contents out.new)
         (W.whole_writes out.old) (W.whole_writes out.new)) }
-    ensures prefix { result ≡ Err RunFault.Write → ReportsPrefix options.now.machine detail options.now.mode options.now.window (R1.remaining rom.old)
+    ensures prefix { result ≡ Err RunFault.Write → ReportsPrefix options.now.machine detail.entry options.now.mode options.now.window (R1.remaining rom.old)
         (R2.remaining cert.old) (R3.remaining frame.old) options.now.budget (W.contents out.old) (W.contents out.new) }
-    ensures one_write { detail ≡ details.Line → OnOk result (W.whole_writes out.new ≡ count_after true (W.whole_writes out.old)) }
+    ensures one_write { detail.entry ≡ details.Line → OnOk result (W.whole_writes out.new ≡ count_after true (W.whole_writes out.old)) }
 
     // What is accepted is safe, with the counts of the line that was written, and in the mode `Exact` these are the counts of
     // each run; on the board also on its circuit.
-    ensures safe { result ≡ Ok Outcome.Accepted → ReportsAccepted detail (W.contents out.old) (W.contents out.new)
+    ensures safe { result ≡ Ok Outcome.Accepted → ReportsAccepted detail.entry (W.contents out.old) (W.contents out.new)
         (SafeRead options.now.machine options.now.window (R1.remaining rom.old) (R2.remaining cert.old) (R3.remaining frame.old)) }
-    ensures exact { options.now.mode ≡ Exact → result ≡ Ok Outcome.Accepted → ReportsAccepted detail (W.contents out.old) (W.contents out.new)
+    ensures exact { options.now.mode ≡ Exact → result ≡ Ok Outcome.Accepted → ReportsAccepted detail.entry (W.contents out.old) (W.contents out.new)
         (CountsRead options.now.machine (R1.remaining rom.old) (R2.remaining cert.old) (R3.remaining frame.old)) }
-    ensures circuit { options.now.machine ≡ Board → result ≡ Ok Outcome.Accepted → ReportsAccepted detail (W.contents out.old) (W.contents out.new)
+    ensures circuit { options.now.machine ≡ Board → result ≡ Ok Outcome.Accepted → ReportsAccepted detail.entry (W.contents out.old) (W.contents out.new)
         (SafeCircuitRead options.now.machine options.now.window (R1.remaining rom.old) (R2.remaining cert.old) (R3.remaining frame.old)) }
     ensures circuit_exact { options.now.machine ≡ Board → options.now.mode ≡ Exact → result ≡ Ok Outcome.Accepted
-        → ReportsAccepted detail (W.contents out.old) (W.contents out.new)
+        → ReportsAccepted detail.entry (W.contents out.old) (W.contents out.new)
         (CountsCircuitRead options.now.machine (R1.remaining rom.old) (R2.remaining cert.old) (R3.remaining frame.old)) }
 {
     let Ok(rom) = read_rom(rom) else {

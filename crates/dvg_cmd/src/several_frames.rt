@@ -56,9 +56,9 @@ fn answer_opened<J: FrameJudge, R: CountedRead + Drop>(
     listing: Listing,
 ) -> (FrameAnswer, Behind)
     requires { J.valid judge.now listing.detail }
-    ensures answers { AnswersOpened (J.is_verdict judge.now) (J.rom judge.now) (J.window judge.now) (J.is_exact judge.now) listing start
+    ensures answers { AnswersOpened (J.is_verdict judge.now) (J.rom judge.now) (J.window judge.now) (J.is_exact judge.now) listing.entry start
         (option_map (λ reader. R.remaining reader) reader) result.0 }
-    ensures behind { IsBehind listing.detail result.1 }
+    ensures behind { IsBehind listing.entry.detail result.1 }
 {
     match reader {
         Some(mut reader) => answer_of(alloc, judge, start, &mut reader, listing.detail),
@@ -106,9 +106,9 @@ fn run_named<J: FrameJudge, R: CountedRead + Drop, W: CountedWrite>(
     out: &mut W,
 ) -> Result<FrameOutcome, RunFault>
     requires { J.valid judge.now listing.detail }
-    ensures ok { IfOk result (WritesLineOf (J.is_verdict judge.now) (J.rom judge.now) (J.window judge.now) (J.is_exact judge.now) listing start
+    ensures ok { IfOk result (WritesLineOf (J.is_verdict judge.now) (J.rom judge.now) (J.window judge.now) (J.is_exact judge.now) listing.entry start
         (opened (λ reader. R.remaining reader) frame) (W.contents out.old) (W.contents out.new) tally.old tally.new (W.whole_writes out.old) (W.whole_writes out.new)) }
-    ensures prefix { OnErr result (WritesLineOfPrefix (J.is_verdict judge.now) (J.rom judge.now) (J.window judge.now) (J.is_exact judge.now) listing start
+    ensures prefix { OnErr result (WritesLineOfPrefix (J.is_verdict judge.now) (J.rom judge.now) (J.window judge.now) (J.is_exact judge.now) listing.entry start
         (opened (λ reader. R.remaining reader) frame) (W.contents out.old) (W.contents out.new)) }
     ensures fault { IfErr result (λ fault. fault ≡ RunFault.Write) }
     ensures count { W.failures out.new ≡ count_after (is_err result) (W.failures out.old) }
@@ -137,9 +137,9 @@ fn run_each<
     requires valid { J.valid judge.now listing.detail }
     requires can { I.can_next frames }
     requires ends { IsFinite (I.remaining frames) }
-    ensures report { IfOk result (λ end. (taken : List _) × Drains I.next_gives frames taken × WritesLinesOf (J.is_verdict judge.now) (J.rom judge.now) (J.window judge.now) (J.is_exact judge.now) listing start
+    ensures report { IfOk result (λ end. (taken : List _) × Drains I.next_gives frames taken × WritesLinesOf (J.is_verdict judge.now) (J.rom judge.now) (J.window judge.now) (J.is_exact judge.now) listing.entry start
         (of_each (λ frame. opened (λ reader. R.remaining reader) frame) taken) (W.contents out.old) (W.contents out.new) tally.old tally.new (W.whole_writes out.old) (W.whole_writes out.new) end) }
-    ensures prefix { OnErr result ((taken : List _) × (left : I) × Yields I.next_gives frames taken left × ReportsFramesPrefix (J.is_verdict judge.now) (J.rom judge.now) (J.window judge.now) (J.is_exact judge.now) listing start
+    ensures prefix { OnErr result ((taken : List _) × (left : I) × Yields I.next_gives frames taken left × ReportsFramesPrefix (J.is_verdict judge.now) (J.rom judge.now) (J.window judge.now) (J.is_exact judge.now) listing.entry start
         (of_each (λ frame. opened (λ reader. R.remaining reader) frame) taken) (W.contents out.old) (W.contents out.new)) }
     ensures fault { IfErr result (λ fault. fault ≡ RunFault.Write) }
     ensures count { W.failures out.new ≡ count_after (is_err result) (W.failures out.old) }
@@ -189,11 +189,11 @@ pub fn run_frames<
     requires ends { IsFinite (I.remaining frames) }
 
     // A line is written for each frame that the listing has, in their order, and then the summary, each by one write if it fits one.
-    ensures report { IfOk result (λ end. (taken : List _) × Drains I.next_gives frames taken × ReportsFrames (J.is_verdict judge.now) (J.rom judge.now) (J.window judge.now) (J.is_exact judge.now) listing start
+    ensures report { IfOk result (λ end. (taken : List _) × Drains I.next_gives frames taken × ReportsFrames (J.is_verdict judge.now) (J.rom judge.now) (J.window judge.now) (J.is_exact judge.now) listing.entry start
         (of_each (λ frame. opened (λ reader. R.remaining reader) frame) taken) (W.contents out.old) (W.contents out.new) (W.whole_writes out.old) (W.whole_writes out.new) end) }
 
     // Where the writer failed, a prefix of what is written of the frames that were taken.
-    ensures prefix { OnErr result ((taken : List _) × (left : I) × Yields I.next_gives frames taken left × ReportsFramesPrefix (J.is_verdict judge.now) (J.rom judge.now) (J.window judge.now) (J.is_exact judge.now) listing start
+    ensures prefix { OnErr result ((taken : List _) × (left : I) × Yields I.next_gives frames taken left × ReportsFramesPrefix (J.is_verdict judge.now) (J.rom judge.now) (J.window judge.now) (J.is_exact judge.now) listing.entry start
         (of_each (λ frame. opened (λ reader. R.remaining reader) frame) taken) (W.contents out.old) (W.contents out.new)) }
     ensures fault { IfErr result (λ fault. fault ≡ RunFault.Write) }
     ensures count { W.failures out.new ≡ count_after (is_err result) (W.failures out.old) }
@@ -223,10 +223,10 @@ fn run_frames_over<
     requires ends { IsFinite (I.remaining frames) }
     ensures rom { IfOk result (λ end. IsRomLength cert.now.map (length rom.now)) }
     ensures report { IfOk result (λ run. IfOk run (λ end. (taken : List _) × Drains I.next_gives frames taken
-        × ReportsOver (shapes_of options.now.machine options.now.window rom.now cert.now) (length cert.now.entries) options.now.budget listing options.now.start
+        × ReportsOver (shapes_of options.now.machine options.now.window rom.now cert.now) (length cert.now.entries) options.now.budget listing.entry options.now.start
         (of_each (λ frame. opened (λ reader. R.remaining reader) frame) taken) (W.contents out.old) (W.contents out.new) (W.whole_writes out.old) (W.whole_writes out.new) end)) }
     ensures prefix { IfOk result (λ run. OnErr run ((taken : List _) × (left : I) × Yields I.next_gives frames taken left
-        × ReportsOverPrefix (shapes_of options.now.machine options.now.window rom.now cert.now) (length cert.now.entries) options.now.budget listing options.now.start
+        × ReportsOverPrefix (shapes_of options.now.machine options.now.window rom.now cert.now) (length cert.now.entries) options.now.budget listing.entry options.now.start
         (of_each (λ frame. opened (λ reader. R.remaining reader) frame) taken) (W.contents out.old) (W.contents out.new))) }
     ensures fault { IfOk result (λ run. IfErr run (λ fault. fault ≡ RunFault.Write)) }
     ensures count { IfOk result (λ run. W.failures out.new ≡ count_after (is_err run) (W.failures out.old)) }
@@ -252,11 +252,11 @@ fn refusal_account(
 ) -> Behind
     requires taken { IfSome cert (λ taken. RefusesShapes options.now.machine options.now.window rom.now taken.now refusal.now) }
     requires refused { IfNone cert (IsCertRefusal refusal.now) }
-    ensures { IsBehind detail result }
+    ensures { IsBehind detail.entry result }
 {
-    if matches!(detail, Detail::Line) {
+    let Detail::Account(labels) = detail else {
         return Behind::Nothing;
-    }
+    };
     let inputs = Inputs {
         machine: options.machine,
         rom,
@@ -267,7 +267,7 @@ fn refusal_account(
         window: options.window,
         mode: Mode::Bound,
     };
-    Behind::of(refusal_text(alloc, &inputs, refusal))
+    Behind::of(refusal_text(alloc, &inputs, refusal, labels))
 }
 
 /// Writes the report of a refusal for which no frame was needed, and an account of it if the detail asks for one.
@@ -282,8 +282,8 @@ fn run_refusal<W: CountedWrite>(
 ) -> Result<FrameOutcome, RunFault>
     requires taken { IfSome cert (λ taken. RefusesShapes options.now.machine options.now.window rom.now taken.now refusal.now) }
     requires refused { IfNone cert (IsCertRefusal refusal.now) }
-    ensures ok { IfOk result (λ end. (plain : Plain) × WritesReport detail (Err refusal.now) (W.contents out.old) (W.contents out.new) (W.whole_writes out.old) (W.whole_writes out.new) plain × (end ≡ plain_outcome plain)) }
-    ensures prefix { OnErr result (WritesReportPrefix detail (Err refusal.now) (W.contents out.old) (W.contents out.new)) }
+    ensures ok { IfOk result (λ end. (plain : Plain) × WritesReport detail.entry (Err refusal.now) (W.contents out.old) (W.contents out.new) (W.whole_writes out.old) (W.whole_writes out.new) plain × (end ≡ plain_outcome plain)) }
+    ensures prefix { OnErr result (WritesReportPrefix detail.entry (Err refusal.now) (W.contents out.old) (W.contents out.new)) }
     ensures fault { IfErr result (λ fault. fault ≡ RunFault.Write) }
     ensures count { W.failures out.new ≡ count_after (is_err result) (W.failures out.old) }
 {
@@ -303,13 +303,13 @@ fn run_frames_by<R: CountedRead + Drop, I: Iterator<Item = NamedFrame<R>> + Drop
 ) -> Result<FrameOutcome, RunFault>
     requires can { I.can_next frames }
     requires ends { IsFinite (I.remaining frames) }
-    ensures report { IfOk result (λ end. ReportsRefusal options.now.machine listing.detail options.now.window rom.now (Ok cert.now) (W.contents out.old) (W.contents out.new) (W.whole_writes out.old) (W.whole_writes out.new) end
+    ensures report { IfOk result (λ end. ReportsRefusal options.now.machine listing.entry.detail options.now.window rom.now (Ok cert.now) (W.contents out.old) (W.contents out.new) (W.whole_writes out.old) (W.whole_writes out.new) end
         ⊎ (IsRomLength cert.now.map (length rom.now) × ((taken : List _) × Drains I.next_gives frames taken
-        × ReportsOver (shapes_of options.now.machine options.now.window rom.now cert.now) (length cert.now.entries) options.now.budget listing options.now.start
+        × ReportsOver (shapes_of options.now.machine options.now.window rom.now cert.now) (length cert.now.entries) options.now.budget listing.entry options.now.start
         (of_each (λ frame. opened (λ reader. R.remaining reader) frame) taken) (W.contents out.old) (W.contents out.new) (W.whole_writes out.old) (W.whole_writes out.new) end))) }
-    ensures prefix { OnErr result (ReportsRefusalPrefix options.now.machine listing.detail options.now.window rom.now (Ok cert.now) (W.contents out.old) (W.contents out.new)
+    ensures prefix { OnErr result (ReportsRefusalPrefix options.now.machine listing.entry.detail options.now.window rom.now (Ok cert.now) (W.contents out.old) (W.contents out.new)
         ⊎ (IsRomLength cert.now.map (length rom.now) × ((taken : List _) × (left : I) × Yields I.next_gives frames taken left
-        × ReportsOverPrefix (shapes_of options.now.machine options.now.window rom.now cert.now) (length cert.now.entries) options.now.budget listing options.now.start
+        × ReportsOverPrefix (shapes_of options.now.machine options.now.window rom.now cert.now) (length cert.now.entries) options.now.budget listing.entry options.now.start
         (of_each (λ frame. opened (λ reader. R.remaining reader) frame) taken) (W.contents out.old) (W.contents out.new)))) }
     ensures fault { IfErr result (λ fault. fault ≡ RunFault.Write) }
     ensures count { W.failures out.new ≡ count_after (is_err result) (W.failures out.old) }
@@ -351,17 +351,17 @@ pub fn run_frames_given<
     requires ends { IsFinite (I.remaining frames) }
 
     // The report of a refusal is written, or a line for each frame, in their order, each by one write if it fits one.
-    ensures report { IfOk result (λ end. ReportsRefusal options.now.machine listing.detail options.now.window rom.now cert.now (W.contents out.old) (W.contents out.new) (W.whole_writes out.old) (W.whole_writes out.new) end
+    ensures report { IfOk result (λ end. ReportsRefusal options.now.machine listing.entry.detail options.now.window rom.now cert.now (W.contents out.old) (W.contents out.new) (W.whole_writes out.old) (W.whole_writes out.new) end
         ⊎ IfOk cert.now (λ given. IsRomLength given.map (length rom.now) × ((taken : List _) × Drains I.next_gives frames taken
-        × ReportsOver (shapes_of options.now.machine options.now.window rom.now given) (length given.entries) options.now.budget listing options.now.start
+        × ReportsOver (shapes_of options.now.machine options.now.window rom.now given) (length given.entries) options.now.budget listing.entry options.now.start
         (of_each (λ frame. opened (λ reader. R.remaining reader) frame) taken) (W.contents out.old) (W.contents out.new) (W.whole_writes out.old) (W.whole_writes out.new) end))) }
     // Without a certificate it is the refusal.
-    ensures refused { IfOk result (λ end. IfErr cert.now (λ fault. ReportsRefusal options.now.machine listing.detail options.now.window rom.now cert.now (W.contents out.old) (W.contents out.new) (W.whole_writes out.old) (W.whole_writes out.new) end)) }
+    ensures refused { IfOk result (λ end. IfErr cert.now (λ fault. ReportsRefusal options.now.machine listing.entry.detail options.now.window rom.now cert.now (W.contents out.old) (W.contents out.new) (W.whole_writes out.old) (W.whole_writes out.new) end)) }
 
     // Where the writer failed, a prefix of them.
-    ensures prefix { OnErr result (ReportsRefusalPrefix options.now.machine listing.detail options.now.window rom.now cert.now (W.contents out.old) (W.contents out.new)
+    ensures prefix { OnErr result (ReportsRefusalPrefix options.now.machine listing.entry.detail options.now.window rom.now cert.now (W.contents out.old) (W.contents out.new)
         ⊎ IfOk cert.now (λ given. IsRomLength given.map (length rom.now) × ((taken : List _) × (left : I) × Yields I.next_gives frames taken left
-        × ReportsOverPrefix (shapes_of options.now.machine options.now.window rom.now given) (length given.entries) options.now.budget listing options.now.start
+        × ReportsOverPrefix (shapes_of options.now.machine options.now.window rom.now given) (length given.entries) options.now.budget listing.entry options.now.start
         (of_each (λ frame. opened (λ reader. R.remaining reader) frame) taken) (W.contents out.old) (W.contents out.new)))) }
     ensures fault { IfErr result (λ fault. fault ≡ RunFault.Write) }
     ensures count { W.failures out.new ≡ count_after (is_err result) (W.failures out.old) }

@@ -21,6 +21,8 @@ mod inputs;
 #[cfg(test)]
 mod items;
 #[cfg(test)]
+mod labels;
+#[cfg(test)]
 mod making;
 #[cfg(test)]
 mod rows;

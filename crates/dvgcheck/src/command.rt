@@ -3,12 +3,13 @@
 use crate::escaping::{escaped, marked, shown};
 use crate::form::Form;
 use crate::input::Input;
+use crate::labels::{LabelsFault, load_labels};
 use clap::error::ErrorKind;
 use clap::{Arg, ArgAction, ArgMatches, Command, value_parser};
 use dvg_cmd::{
-    ASTEROIDS, CLIPPED, CheckOptions, Detail, FrameOptions, Key, Lines, Listing, MOST_WORDS,
-    Machine, Mode, NameEnd, RomMap, Rule, SCREEN, Window, map_of, root_of, rule_of, start_of,
-    window_of,
+    ASTEROIDS, CLIPPED, CheckOptions, Detail, FrameOptions, Key, Labels, Lines, Listing,
+    MOST_WORDS, Machine, Mode, NameEnd, RomMap, RootFault, Rule, SCREEN, Unnamed, Window, map_of,
+    root_by, rule_of, start_of, window_of,
 };
 use std::alloc::{AllocError, AllocFailed, Global};
 use std::{env, io};
@@ -32,6 +33,8 @@ pub enum ArgumentFault<'a> {
     Unreadable,
     /// This word has not its form.
     Word(Form, &'a str),
+    /// The label that this root names is at no word's address, or at several.
+    Label(Unnamed, &'a str),
     /// Nothing says what a certificate is to be made of.
     NoRoot,
     /// More than one file is `-`.
@@ -45,6 +48,7 @@ impl<'a> ArgumentFault<'a> {
     pub fn message(self, alloc: Global) -> Result<String, AllocError> {
         let line = match self {
             ArgumentFault::Word(form, word) => return form.message(alloc, word),
+            ArgumentFault::Label(why, word) => return label_message(alloc, why, word),
             ArgumentFault::Unreadable => "dvgcheck: cannot read the command line",
             ArgumentFault::NoRoot => "dvgcheck: no root: a ROOT, as 800/0, or --frame FRAME wanted",
             ArgumentFault::StandardInputTwice => "dvgcheck: standard input is given twice",
@@ -52,6 +56,16 @@ impl<'a> ArgumentFault<'a> {
         };
         String::from_str(alloc, line)
     }
+}
+
+/// The line on standard error, without its LF, about a root whose label names no word.
+fn label_message(alloc: Global, why: Unnamed, word: &str) -> Result<String, AllocError> {
+    let root = shown(alloc, word)?;
+    let why = match why {
+        Unnamed::Unknown => "no label with this name is at a word",
+        Unnamed::Several => "labels with this name are at several words",
+    };
+    format!(in alloc; "dvgcheck: bad root {root}: {why}")
 }
 
 impl<'a> From<ArgumentFault<'a>> for Usage<'a> {
@@ -78,7 +92,7 @@ pub enum Request<'a> {
     /// `frames`, or `explain frames`.
     Frames(FramesArgs<'a>),
     /// `check`, or `explain check`.
-    Check(CheckArgs<'a>, Detail),
+    Check(CheckArgs<'a>, Detail<'a>),
     Make(MakeArgs<'a>),
     /// `explain make`.
     ExplainMake(MakeArgs<'a>),
@@ -174,7 +188,7 @@ pub struct Asked<'a> {
     pub rom: Input<'a>,
     pub certificates: Certificates<'a>,
     pub options: FrameOptions,
-    pub listing: Listing,
+    pub listing: Listing<'a>,
 }
 
 /// The arguments of `frames`.
@@ -203,6 +217,7 @@ pub struct MakeArgs<'a> {
     pub frames: Vec<Named<'a>>,
     /// The path of the file for the certificate, or `None` for standard output.
     pub output: Option<&'a str>,
+    pub labels: Option<&'a Labels>,
 }
 
 /// The arguments of the command line, the program's name first.
@@ -316,6 +331,13 @@ fn cert_option<'a>(alloc: Global) -> Result<Arg<'a>, AllocError> {
         .conflicts_with("rom")
 }
 
+fn labels_option<'a>(alloc: Global) -> Arg<'a> {
+    Arg::new(alloc, "labels")
+        .long("labels")
+        .value_name("FILE")
+        .help("The labels of the program, which name addresses in accounts and roots")
+}
+
 fn board_option<'a>(alloc: Global) -> Arg<'a> {
     Arg::new(alloc, "board")
         .long("board")
@@ -348,7 +370,9 @@ fn with_frames_options<'a>(alloc: Global, command: Command<'a>) -> Result<Comman
         .arg(board_option(alloc))?
         .arg(map_option(alloc))?
         .arg(cert)?;
-    with_limits(alloc, command)?.arg(start_option(alloc))
+    with_limits(alloc, command)?
+        .arg(start_option(alloc))?
+        .arg(labels_option(alloc))
 }
 
 /// The command with the options of `frames` that are about many frames.
@@ -411,7 +435,8 @@ fn with_maker_options<'a>(alloc: Global, command: Command<'a>) -> Result<Command
     command
         .arg(board_option(alloc))?
         .arg(frame_option(alloc))?
-        .arg(map_option(alloc))
+        .arg(map_option(alloc))?
+        .arg(labels_option(alloc))
 }
 
 fn output_option<'a>(alloc: Global) -> Arg<'a> {
@@ -448,7 +473,7 @@ fn explain_frames_command<'a>(alloc: Global) -> Result<Command<'a>, AllocError> 
 }
 
 fn explain_check_command<'a>(alloc: Global) -> Result<Command<'a>, AllocError> {
-    with_check_options(alloc, check_command(alloc)?)
+    with_check_options(alloc, check_command(alloc)?)?.arg(labels_option(alloc))
 }
 
 fn explain_make_command<'a>(alloc: Global) -> Result<Command<'a>, AllocError> {
@@ -585,7 +610,7 @@ fn one_standard_input<'a>(args: &ArgMatches<'a>, names: &[&str]) -> Result<(), A
 
 /// The options of `frames`, and where the ROM lies.
 fn frame_options<'a>(args: &ArgMatches<'a>) -> Result<(RomMap, FrameOptions), ArgumentFault<'a>> {
-    one_standard_input(args, &["ROM", "FRAME", "list", "cert"])?;
+    one_standard_input(args, &["ROM", "FRAME", "list", "cert", "labels"])?;
     let map = map_of_args(args)?;
     let window = window_of_args(args)?;
     let start = start_of_args(args)?;
@@ -615,7 +640,7 @@ fn frame_names<'a>(rt: &HostRuntime, args: &ArgMatches<'a>) -> Result<FrameNames
 }
 
 /// What `frames` writes of frames.
-fn listing_of_args<'a>(args: &ArgMatches<'a>) -> Listing {
+fn listing_of_args<'a>(args: &ArgMatches<'a>) -> Listing<'a> {
     Listing {
         detail: Detail::Line,
         lines: if args.get_flag("only-refused") {
@@ -628,16 +653,18 @@ fn listing_of_args<'a>(args: &ArgMatches<'a>) -> Listing {
 }
 
 /// What `explain frames` writes of a frame.
-const EXPLAINED: Listing = Listing {
-    detail: Detail::Account,
-    lines: Lines::All,
-    summary: false,
-};
+fn explained(labels: Option<&Labels>) -> Listing<'_> {
+    Listing {
+        detail: Detail::Account(labels),
+        lines: Lines::All,
+        summary: false,
+    }
+}
 
 fn frames_args<'a>(
     rt: &HostRuntime,
     args: &ArgMatches<'a>,
-    listing: Listing,
+    listing: Listing<'a>,
 ) -> Result<FramesArgs<'a>, Usage<'a>> {
     let (map, options) = frame_options(args)?;
     let certificates = match args.get_str("cert") {
@@ -668,8 +695,12 @@ fn check_options<'a>(args: &ArgMatches<'a>) -> Result<CheckOptions, ArgumentFaul
     })
 }
 
-fn check_args<'a>(rt: &HostRuntime, args: &ArgMatches<'a>) -> Result<CheckArgs<'a>, Usage<'a>> {
-    one_standard_input(args, &["ROM", "CERT", "FRAME"])?;
+fn check_args<'a>(
+    rt: &HostRuntime,
+    args: &ArgMatches<'a>,
+    files: &[&str],
+) -> Result<CheckArgs<'a>, Usage<'a>> {
+    one_standard_input(args, files)?;
     Ok(CheckArgs {
         rom: file_of(rt, args, "ROM"),
         cert: file_of(rt, args, "CERT"),
@@ -678,12 +709,27 @@ fn check_args<'a>(rt: &HostRuntime, args: &ArgMatches<'a>) -> Result<CheckArgs<'
     })
 }
 
+/// The root that a word spells, by these labels, if there are any.
+fn root_of_word<'a>(
+    word: &'a str,
+    labels: Option<&Labels>,
+) -> Result<(u16, Key), ArgumentFault<'a>> {
+    match root_by(labels, word) {
+        Ok(root) => Ok(root),
+        Err(RootFault::Form) => Err(ArgumentFault::Word(Form::Root, word)),
+        Err(RootFault::Label(why)) => Err(ArgumentFault::Label(why, word)),
+    }
+}
+
 /// The roots that the argument names.
-fn roots_of<'a>(alloc: Global, args: &ArgMatches<'a>) -> Result<Vec<(u16, Key)>, Usage<'a>> {
+fn roots_of<'a>(
+    alloc: Global,
+    args: &ArgMatches<'a>,
+    labels: Option<&Labels>,
+) -> Result<Vec<(u16, Key)>, Usage<'a>> {
     let mut roots = Vec::new(alloc);
     for root in args.get_strs("ROOT").unwrap_or(&[]) {
-        let root = root_of(root).ok_or(ArgumentFault::Word(Form::Root, *root))?;
-        roots.push(root)?;
+        roots.push(root_of_word(root, labels)?)?;
     }
     Ok(roots)
 }
@@ -701,28 +747,37 @@ fn make_args<'a>(
     rt: &HostRuntime,
     args: &ArgMatches<'a>,
     output: Option<&'a str>,
+    labels: Option<&'a Labels>,
 ) -> Result<MakeArgs<'a>, Usage<'a>> {
     if !args.contains_id("ROOT") && !args.contains_id("frame") {
         return Err(Usage::Argument(ArgumentFault::NoRoot));
     }
-    one_standard_input(args, &["ROM", "frame"])?;
+    one_standard_input(args, &["ROM", "frame", "labels"])?;
     let map = map_of_args(args)?;
     Ok(MakeArgs {
         machine: machine_of_args(args),
         rom: file_of(rt, args, "ROM"),
         map,
-        roots: roots_of(rt.alloc(), args)?,
+        roots: roots_of(rt.alloc(), args, labels)?,
         frames: files_of(rt, args, "frame")?,
         output,
+        labels,
     })
 }
 
 /// The command whose answer is explained.
-fn explain_request<'a>(rt: &HostRuntime, args: &ArgMatches<'a>) -> Result<Request<'a>, Usage<'a>> {
+fn explain_request<'a>(
+    rt: &HostRuntime,
+    args: &ArgMatches<'a>,
+    labels: Option<&'a Labels>,
+) -> Result<Request<'a>, Usage<'a>> {
     match args.subcommand() {
-        Some(("check", args)) => Ok(Request::Check(check_args(rt, args)?, Detail::Account)),
-        Some(("frames", args)) => Ok(Request::Frames(frames_args(rt, args, EXPLAINED)?)),
-        Some(("make", args)) => Ok(Request::ExplainMake(make_args(rt, args, None)?)),
+        Some(("check", args)) => {
+            let args = check_args(rt, args, &["ROM", "CERT", "FRAME", "labels"])?;
+            Ok(Request::Check(args, Detail::Account(labels)))
+        }
+        Some(("frames", args)) => { Ok(Request::Frames(frames_args(rt, args, explained(labels))?)) }
+        Some(("make", args)) => Ok(Request::ExplainMake(make_args(rt, args, None, labels)?)),
         _ => Err(Usage::Argument(ArgumentFault::Unreadable)),
     }
 }
@@ -739,12 +794,19 @@ fn request_of<'a>(
     rt: &HostRuntime,
     task: Task,
     args: &ArgMatches<'a>,
+    labels: Option<&'a Labels>,
 ) -> Result<Request<'a>, Usage<'a>> {
     match task {
         Task::Frames => Ok(Request::Frames(frames_args(rt, args, listing_of_args(args))?)),
-        Task::Check => Ok(Request::Check(check_args(rt, args)?, Detail::Line)),
-        Task::Make => Ok(Request::Make(make_args(rt, args, output_of(args))?)),
-        Task::Explain => explain_request(rt, args),
+        Task::Check => {
+            let args = check_args(rt, args, &["ROM", "CERT", "FRAME"])?;
+            Ok(Request::Check(args, Detail::Line))
+        }
+        Task::Make => {
+            let args = make_args(rt, args, output_of(args), labels)?;
+            Ok(Request::Make(args))
+        }
+        Task::Explain => explain_request(rt, args, labels),
         Task::Rules => Ok(Request::Rules(rule_of_args(args)?)),
     }
 }
@@ -808,17 +870,52 @@ fn matches_of<'a>(
         .try_get_matches_from(arguments)
 }
 
-/// What the arguments ask for. All of them are read before a file is opened.
-pub fn read_arguments<'a>(
-    rt: &HostRuntime,
-    arguments: &'a [String],
-) -> Result<Request<'a>, Usage<'a>> {
-    let Some((task, rest)) = task_of(arguments) else {
-        return Err(refused(rt.alloc(), arguments)?);
-    };
-    match matches_of(rt.alloc(), task, rest) {
-        Ok(matches) => request_of(rt, task, &matches),
-        Err(error) if error.kind() == ErrorKind::OutOfMemory => Err(Usage::OutOfMemory),
-        Err(_) => Err(refused(rt.alloc(), arguments)?),
+/// The arguments as `clap` takes them, of a subcommand.
+#[derive(Drop)]
+pub struct Parsed<'a> {
+    task: Task,
+    matches: ArgMatches<'a>,
+}
+
+impl<'a> Parsed<'a> {
+    /// What `clap` makes of the arguments.
+    pub fn new(rt: &HostRuntime, arguments: &'a [String]) -> Result<Parsed<'a>, Usage<'a>> {
+        let Some((task, rest)) = task_of(arguments) else {
+            return Err(refused(rt.alloc(), arguments)?);
+        };
+        match matches_of(rt.alloc(), task, rest) {
+            Ok(matches) => Ok(Parsed { task, matches }),
+            Err(error) if error.kind() == ErrorKind::OutOfMemory => Err(Usage::OutOfMemory),
+            Err(_) => Err(refused(rt.alloc(), arguments)?),
+        }
+    }
+
+    /// The path of the file of labels, if one is given.
+    fn labels_path(&self) -> Option<&'a str> {
+        match self.task {
+            Task::Frames | Task::Make => self.matches.get_str("labels"),
+            Task::Explain => {
+                let (_, args) = self.matches.subcommand()?;
+                args.get_str("labels")
+            }
+            Task::Check | Task::Rules => None,
+        }
+    }
+
+    /// The labels of the file that is given. It is read and closed before another is opened, since roots may be named by them.
+    pub fn labels(&self, rt: &HostRuntime) -> Result<Option<Labels>, LabelsFault> {
+        match self.labels_path() {
+            Some(path) => Ok(Some(load_labels(rt, Input::named(rt, path))?)),
+            None => Ok(None),
+        }
+    }
+
+    /// What the arguments ask for, by these labels. All of them are read before a file but that of the labels is opened.
+    pub fn request(
+        &self,
+        rt: &HostRuntime,
+        labels: Option<&'a Labels>,
+    ) -> Result<Request<'a>, Usage<'a>> {
+        request_of(rt, self.task, &self.matches, labels)
     }
 }

@@ -10,21 +10,23 @@ mod command;
 mod escaping;
 mod form;
 mod input;
+mod labels;
 mod list;
 mod output;
 
 use command::{
-    ArgumentFault, Asked, Certificates, CheckArgs, FrameNames, FramesArgs, MakeArgs, Named,
-    Request, Usage, read_arguments,
+    ArgumentFault, Asked, Certificates, CheckArgs, FrameNames, FramesArgs, MakeArgs, Named, Parsed,
+    Request, Usage,
 };
 use dvg_cmd::{
-    Counted, CountedWrite, Detail, FrameOutcome, FramesRunFault, MakeAnswer, MakeFault,
+    Counted, CountedWrite, Detail, FrameOutcome, FramesRunFault, Labels, MakeAnswer, MakeFault,
     MakeRunFault, NamedFrame, Outcome, OwnCertificates, Rule, RunFault, all_rules,
     frames_status_of, load_cert, load_rom, make_frames_status_of, message_of, run_check_in,
     run_explain_make, run_frames, run_frames_given, run_make_frames, run_rule, run_rules,
     status_of, write_make_answer, write_make_fault, write_message, write_text,
 };
 use input::{Input, Source};
+use labels::LabelsFault;
 use list::{List, ListFault};
 use output::Output;
 use std::io;
@@ -151,6 +153,7 @@ fn make_answer(rt: &HostRuntime, args: &MakeArgs) -> Result<MakeAnswer, FramesRu
         args.map,
         &args.roots,
         &mut frames,
+        args.labels,
     )
 }
 
@@ -328,6 +331,17 @@ fn tell_fault(rt: &HostRuntime, fault: ArgumentFault) -> u8 {
     }
 }
 
+/// Tells why there are no labels, and answers the exit status.
+fn tell_labels(rt: &HostRuntime, fault: LabelsFault) -> u8 {
+    match fault.message(rt.alloc()) {
+        Ok(message) => {
+            say(rt, message.as_str());
+            fault.status()
+        }
+        Err(_) => tell_check(rt, &Err(RunFault::Memory)),
+    }
+}
+
 /// Tells why no run was asked for, and answers the exit status.
 fn tell_usage(rt: &HostRuntime, usage: &Usage) -> u8 {
     match usage {
@@ -349,7 +363,19 @@ fn run(rt: &HostRuntime) -> u8 {
         Ok(arguments) => arguments,
         Err(usage) => return tell_usage(rt, &usage),
     };
-    match read_arguments(rt, &arguments) {
+    let parsed = match Parsed::new(rt, &arguments) {
+        Ok(parsed) => parsed,
+        Err(usage) => return tell_usage(rt, &usage),
+    };
+    match parsed.labels(rt) {
+        Ok(labels) => run_parsed(rt, &parsed, labels.as_ref()),
+        Err(fault) => tell_labels(rt, fault),
+    }
+}
+
+/// Runs what the arguments ask for, by these labels.
+fn run_parsed<'a>(rt: &HostRuntime, parsed: &Parsed<'a>, labels: Option<&'a Labels>) -> u8 {
+    match parsed.request(rt, labels) {
         Ok(Request::Frames(args)) => run_over(rt, args),
         Ok(Request::Check(args, detail)) => tell_check(rt, &check(rt, &args, detail)),
         Ok(Request::Make(args)) => tell_make(rt, &args.frames, &make(rt, &args)),

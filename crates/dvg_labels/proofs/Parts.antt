@@ -1,0 +1,96 @@
+-- How lists are cut at the first element that passes a test.
+use Rattle.std.proofs.Common.{◌≡◌, ℕ, suc, zero, ◌+◌, ◌<◌, ◌≤◌, Bool, true, false, not, cond, List, [], ◌∷◌, length, take, drop, refl, ap, ◌∙◌, sym, subst, arith, one-add, Option, Some, None}
+use Rattle.std.specs.List.{slice_split, position_or_len, onto_first, filter}
+use Rattle.dvg_labels.specs.Cutting.{words, is_blank, has_bytes, first_of}
+
+-- the parts behind the first one, by what is left behind it
+abbrev pub parts_behind : {X : Type 0} → (X → Bool) → List X → List (List X)
+parts_behind p [] = []
+parts_behind p (x ∷ xs) = slice_split p xs
+
+by_first : {X : Type 0} (p : X → Bool) (x : X) (xs : List X) (b : Bool) (n : ℕ) → slice_split p xs ≡ take n xs ∷ parts_behind p (drop n xs)
+    → cond b ([] ∷ slice_split p xs) (onto_first x (slice_split p xs)) ≡ take (cond (not b) (1 + n) 0) (x ∷ xs) ∷ parts_behind p (drop (cond (not b) (1 + n) 0) (x ∷ xs))
+by_first p x xs true n h = refl
+by_first p x xs false n h = rw (one-add n) (ap (onto_first x) h)
+
+-- the first part ends at the first element that passes
+pub cut_first : {X : Type 0} (p : X → Bool) (xs : List X) → slice_split p xs ≡ take (position_or_len p xs) xs ∷ parts_behind p (drop (position_or_len p xs) xs)
+cut_first p [] = refl
+cut_first p (x ∷ xs) = by_first p x xs (p x) (position_or_len p xs) (cut_first p xs)
+
+behind_suc : {X : Type 0} (p : X → Bool) (n : ℕ) (xs : List X) → n < length xs → parts_behind p (drop n xs) ≡ slice_split p (drop (suc n) xs)
+behind_suc p n [] lt = absurd (omega arith)
+behind_suc p zero (x ∷ xs) lt = refl
+behind_suc p (suc n) (x ∷ xs) lt = behind_suc p n xs (omega (arith, lt))
+
+-- behind a first part that ends before the list does come the parts of what stands behind its end
+pub cut_at : {X : Type 0} (p : X → Bool) (n : ℕ) (xs : List X) → n ≡ position_or_len p xs → n < length xs → slice_split p xs ≡ take n xs ∷ slice_split p (drop (n + 1) xs)
+cut_at p n xs is lt =
+    let more : n + 1 ≡ suc n = omega arith in
+    cut_first p xs ∙ subst (λ k. take k xs ∷ parts_behind p (drop k xs) ≡ take n xs ∷ slice_split p (drop (n + 1) xs)) is
+    (ap (λ l. take n xs ∷ l) (behind_suc p n xs lt ∙ ap (λ k. slice_split p (drop k xs)) (sym more)))
+
+all_taken : {X : Type 0} (p : X → Bool) (n : ℕ) (xs : List X) → length xs ≤ n → take n xs ∷ parts_behind p (drop n xs) ≡ xs ∷ []
+all_taken p zero [] le = refl
+all_taken p (suc n) [] le = refl
+all_taken p zero (x ∷ xs) le = absurd (omega (arith, le))
+all_taken p (suc n) (x ∷ xs) le = ap (onto_first x) (all_taken p n xs (omega (arith, le)))
+
+-- a list where nothing passes is the one part
+pub uncut : {X : Type 0} (p : X → Bool) (n : ℕ) (xs : List X) → n ≡ position_or_len p xs → length xs ≤ n → slice_split p xs ≡ xs ∷ []
+uncut p n xs is le = cut_first p xs ∙ subst (λ k. take k xs ∷ parts_behind p (drop k xs) ≡ xs ∷ []) is (all_taken p n xs le)
+
+-- blanks before a word are passed over
+skip_step : (x : ℕ) (xs : List ℕ) (b : Bool) (n : ℕ) → words (drop n xs) ≡ words xs → is_blank x ≡ b
+    → words (drop (cond (not (not b)) (1 + n) 0) (x ∷ xs)) ≡ words (x ∷ xs)
+skip_step x xs true n h is = rw (one-add n) (h ∙ sym (ap (λ t. filter has_bytes (cond t ([] ∷ slice_split is_blank xs) (onto_first x (slice_split is_blank xs)))) is))
+skip_step x xs false n h is = refl
+
+pub skipped : (xs : List ℕ) → words (drop (position_or_len (λ b. not (is_blank b)) xs) xs) ≡ words xs
+skipped [] = refl
+skipped (x ∷ xs) = skip_step x xs (is_blank x) (position_or_len (λ b. not (is_blank b)) xs) (skipped xs) refl
+
+-- a list is empty, or its first element passes
+abbrev pub Passing : {X : Type 0} → (X → Bool) → List X → Type 0
+Passing p [] = Unit {0}
+Passing p (x ∷ xs) = p x ≡ true
+
+passing_step : {X : Type 0} (p : X → Bool) (x : X) (xs : List X) (b : Bool) (n : ℕ) → Passing p (drop n xs) → p x ≡ b → Passing p (drop (cond (not b) (1 + n) 0) (x ∷ xs))
+passing_step p x xs true n h is = is
+passing_step p x xs false n h is = rw (one-add n) h
+
+pub first_passes : {X : Type 0} (p : X → Bool) (xs : List X) → Passing p (drop (position_or_len p xs) xs)
+first_passes p [] = tt
+first_passes p (x ∷ xs) = passing_step p x xs (p x) (position_or_len p xs) (first_passes p xs) refl
+
+-- behind a word come its line's further words
+words_behind : (ys : List ℕ) → Passing is_blank ys → filter has_bytes (parts_behind is_blank ys) ≡ words ys
+words_behind [] h = refl
+words_behind (b ∷ bs) h = sym (ap (λ t. filter has_bytes (cond t ([] ∷ slice_split is_blank bs) (onto_first b (slice_split is_blank bs)))) h)
+
+abbrev pub IsCut : List ℕ → ℕ → Type 0
+IsCut ys n = (take n ys ≡ first_of (words ys)) × (words (drop n ys) ≡ drop 1 (words ys))
+
+word_step : (x : ℕ) (xs : List ℕ) (n : ℕ) → words (x ∷ xs) ≡ (x ∷ take n xs) ∷ words (drop n xs) → IsCut (x ∷ xs) (suc n)
+word_step x xs n h = (sym (ap first_of h), sym (ap (λ l. drop 1 l) h))
+
+visible_step : (x : ℕ) (xs : List ℕ) (b : Bool) → is_blank x ≡ b → not b ≡ true → IsCut (x ∷ xs) (cond (not b) (1 + position_or_len is_blank xs) 0)
+visible_step x xs true is h = absurd (grind (arith, h))
+visible_step x xs false is h =
+    let n = position_or_len is_blank xs in
+    rw (one-add n) (word_step x xs n (ap (λ t. filter has_bytes (cond t ([] ∷ slice_split is_blank xs) (onto_first x (slice_split is_blank xs)))) is
+    ∙ (ap (λ l. filter has_bytes (onto_first x l)) (cut_first is_blank xs) ∙ ap (λ l. (x ∷ take n xs) ∷ l) (words_behind (drop n xs) (first_passes is_blank xs)))))
+
+pub word_cut : (ys : List ℕ) → Passing (λ b. not (is_blank b)) ys → IsCut ys (position_or_len is_blank ys)
+word_cut [] h = (refl, refl)
+word_cut (x ∷ xs) h = visible_step x xs (is_blank x) refl h
+
+-- blanks and a word taken off a line
+pub word_off : (xs rest : List ℕ) (m n : ℕ) → rest ≡ drop m xs → m ≡ position_or_len (λ b. not (is_blank b)) xs → n ≡ position_or_len is_blank rest
+    → (take n rest ≡ first_of (words xs)) × (words (drop n rest) ≡ drop 1 (words xs))
+word_off xs rest m n rest_is m_is n_is =
+    let left : rest ≡ drop (position_or_len (λ b. not (is_blank b)) xs) xs = rest_is ∙ ap (λ k. drop k xs) m_is in
+    let passes = subst (Passing (λ b. not (is_blank b))) (sym left) (first_passes (λ b. not (is_blank b)) xs) in
+    let same : words rest ≡ words xs = ap words left ∙ skipped xs in
+    let cut = subst (IsCut rest) (sym n_is) (word_cut rest passes) in
+    (cut.0 ∙ ap first_of same, cut.1 ∙ ap (λ l. drop 1 l) same)

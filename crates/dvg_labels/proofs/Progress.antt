@@ -1,0 +1,60 @@
+-- How far a label file was read.
+use Rattle.std.proofs.Common.{◌≡◌, ℕ, ◌+◌, ◌<◌, ◌≤◌, List, [], ◌∷◌, ◌++◌, length, length-append, Option, Some, None, refl, sym, ap, subst, ◌∙◌, append_assoc, arith}
+use Rattle.std.proofs.lemmas.List.{append-nil}
+use Rattle.std.proofs.lemmas.Option.{same_Some}
+use Rattle.std.specs.Prelude.{IfSome}
+use Rattle.std.specs.Borrow.{Bor}
+use Rattle.dvg_labels.specs.Cutting.{lines, lines_behind}
+use Rattle.dvg_labels.specs.Labels.{Labelling}
+use Rattle.dvg_labels.specs.declared.fault.LabelWhy.{LabelWhy}
+use Rattle.dvg_labels.specs.Reading.{no_labels, with_line, with_lines, IsLineFault, RefusesLine, left}
+
+-- so many lines of a text are read, these labels are known, and this is left
+pub record Progress (text : List ℕ) (rest : Option (Bor (List ℕ))) (known : Labelling) (n : ℕ) : Type 0 where
+  pub before : List (List ℕ)
+  pub cut : lines text ≡ before ++ lines_behind rest
+  pub counted : n ≡ length before
+  pub read : with_lines (Some no_labels) before ≡ Some known
+
+no_more : (known : Option Labelling) → with_lines known [] ≡ known
+no_more None = refl
+no_more (Some known) = refl
+
+with_next : (known : Option Labelling) (now : Labelling) (before : List (List ℕ)) (line : List ℕ) → with_lines known before ≡ Some now
+    → with_lines known (before ++ line ∷ []) ≡ with_line now line
+with_next None now [] line h = cc
+with_next None now (b ∷ before) line h = cc
+with_next (Some known) now [] line h = no_more (with_line known line) ∙ ap (λ k. with_line k line) (same_Some known now h)
+with_next (Some known) now (b ∷ before) line h = with_next (with_line known b) now before line h
+
+pub begun : (text : Bor (List ℕ)) → Progress text.now (Some text) no_labels 0
+begun text = record { before = []; cut = refl; counted = refl; read = refl }
+
+module _ (text : List ℕ) (known : Labelling) (n : ℕ) (rest : Option (Bor (List ℕ))) (line : List ℕ) (behind : Option (Bor (List ℕ)))
+    (h : Progress text rest known n) (rest_is : lines_behind rest ≡ line ∷ lines_behind behind) where
+  pub line_read : (now : Labelling) → with_line known line ≡ Some now → Progress text behind now (n + 1)
+  line_read now is = record {
+    before = h.before ++ line ∷ [];
+    cut = h.cut ∙ ap (λ l. h.before ++ l) rest_is ∙ sym (append_assoc h.before (line ∷ []) (lines_behind behind));
+    counted = omega (arith, h.counted, length-append h.before (line ∷ []));
+    read = with_next (Some no_labels) known h.before line h.read ∙ is;
+  }
+
+  pub line_refused : (why : LabelWhy) → IsLineFault known line why → RefusesLine text (n + 1) why
+  line_refused why wrong = record {
+    before = h.before;
+    line = line;
+    after = lines_behind behind;
+    cut = h.cut ∙ ap (λ l. h.before ++ l) rest_is;
+    counted = omega (arith, h.counted);
+    known = known;
+    read = h.read;
+    refused = wrong;
+  }
+
+pub all_read : (text : List ℕ) (known : Labelling) (n : ℕ) → Progress text None known n → with_lines (Some no_labels) (lines text) ≡ Some known
+all_read text known n h = ap (with_lines (Some no_labels)) (h.cut ∙ append-nil h.before) ∙ h.read
+
+pub less_left : (behind : Option (Bor (List ℕ))) (bytes : List ℕ) → IfSome behind (λ rest. length rest.now < length bytes) → left behind ≤ length bytes
+less_left None bytes h = omega arith
+less_left (Some rest) bytes h = omega (arith, h)

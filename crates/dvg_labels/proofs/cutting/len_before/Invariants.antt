@@ -1,0 +1,6 @@
+use Rattle.std.proofs.Common.{◌≡◌, ◌<◌, ℕ, false, get_or}
+use Rattle.dvg_labels.specs.Cutting.{stops}
+use Rattle.dvg_labels.proofs.cutting.len_before.Given as goal
+
+abbrev pub invariant-loop-i : goal.invariant-loop-i
+invariant-loop-i l = (k : ℕ) → k < l.i → stops l.stop (get_or l.bytes k 0) ≡ false

@@ -1,0 +1,6 @@
+use Rattle.std.proofs.Common.{map, take}
+use Rattle.dvg_labels.specs.Labels.{named_of, IsNearest}
+use Rattle.dvg_labels.proofs.labels.nearest_in.Given as goal
+
+abbrev pub invariant-loop-label : goal.invariant-loop-label
+invariant-loop-label l = IsNearest (map named_of (take l.label-index l.labels)) l.at l.best
