@@ -10,7 +10,7 @@ use dvg_check::{
 };
 use dvg_cmd::report_of;
 use dvg_survey::{CallPlaces, Rectangle, entry_places, frame_clipped};
-use dvg_words::{CLIPPED, FrameImage, Machine, Point, RomImage, SCREEN, Window};
+use dvg_words::{CLIPPED, FrameImage, Machine, Point, RomImage, SCREEN};
 use std::alloc::Global;
 use std::process::Abort;
 
@@ -224,7 +224,8 @@ fn tells_clipped(rt: HostRuntime) {
     }
 }
 
-const fn within(x_min: i64, x_max: i64, y_min: i64, y_max: i64) -> CallPlaces {
+/// The places of a rectangle.
+fn within([x_min, x_max, y_min, y_max]: [i64; 4]) -> CallPlaces {
     CallPlaces::Within(Rectangle {
         x_min,
         x_max,
@@ -233,47 +234,40 @@ const fn within(x_min: i64, x_max: i64, y_min: i64, y_max: i64) -> CallPlaces {
     })
 }
 
-/// Windows, and the places of a call of the wide stroke, whose box goes from -10 to 10 across.
-const WIDE_PLACES: &[(Window, CallPlaces)] = &[
-    (SCREEN, within(10, 1013, 0, 1023)),
-    (CLIPPED, within(-1014, 2037, -1024, 2047)),
-];
-
 #[test]
 fn tells_places(rt: HostRuntime) {
     let cert = read_cert(rt.alloc(), WIDE_CERT).expect(&rt, "a certificate");
     let bytes = wide_rom();
     let rom = RomImage::from_bytes_on(Machine::Board, &bytes, cert.map()).expect(&rt, "a ROM");
     let entries = ListIndex::new(&cert);
-    for (window, places) in WIDE_PLACES {
-        let told = entry_places(rt.alloc(), &rom, &cert, &entries, window);
+    // the wide stroke's box goes from -10 to 10 across
+    for (window, places) in [
+        (SCREEN, [10, 1013, 0, 1023]),
+        (CLIPPED, [-1014, 2037, -1024, 2047]),
+    ] {
+        let told = entry_places(rt.alloc(), &rom, &cert, &entries, &window);
         let told = told.expect(&rt, "memory for the places");
-        expect(&rt, told.len() == 1, window);
+        expect(&rt, told.len() == 1, &window);
         for entry in &told {
-            expect_same(&rt, &entry.places, places, window);
+            expect_same(&rt, &entry.places, &within(places), &window);
         }
     }
 }
 
-/// Boxes in 1/1024 of a screen place, and the places of a call on the whole screen.
-const BOX_PLACES: &[(LitBox, CallPlaces)] = &[
-    (LitBox::Empty, CallPlaces::Anywhere),
-    (span(0, 0, 0, 0), within(0, 1023, 0, 1023)),
+/// Boxes in 1/1024 of a screen place, and the rectangle of the places of a call on the whole screen.
+const BOX_PLACES: &[([i64; 4], [i64; 4])] = &[
+    ([0, 0, 0, 0], [0, 1023, 0, 1023]),
     // fractions of a place
-    (span(-1, 0, 0, 1), within(1, 1023, 0, 1022)),
-    (span(1, 2, -1023, -1), within(0, 1022, 1, 1023)),
-    (span(-1025, 1023, -1024, 1024), within(2, 1022, 1, 1022)),
-    // from edge to edge, and a fraction more
-    (span(0, 1_047_552, -1_047_552, 0), within(0, 0, 1023, 1023)),
-    (span(0, 1_047_553, 0, 0), CallPlaces::Nowhere),
+    ([-1, 0, 0, 1], [1, 1023, 0, 1022]),
+    ([1, 2, -1023, -1], [0, 1022, 1, 1023]),
+    ([-1025, 1023, -1024, 1024], [2, 1022, 1, 1022]),
+    // from edge to edge
+    ([0, 1_047_552, -1_047_552, 0], [0, 0, 1023, 1023]),
     // wholly to the right of the call, and below it by more than a screen
-    (
-        span(5120, 6144, -2_097_152, -2_096_128),
-        within(-5, 1017, 2048, 3070),
-    ),
+    ([5120, 6144, -2_097_152, -2_096_128], [-5, 1017, 2048, 3070]),
 ];
 
-const fn span(x_min: i64, x_max: i64, y_min: i64, y_max: i64) -> LitBox {
+fn span([x_min, x_max, y_min, y_max]: [i64; 4]) -> LitBox {
     LitBox::Span {
         x_min,
         x_max,
@@ -285,6 +279,12 @@ const fn span(x_min: i64, x_max: i64, y_min: i64, y_max: i64) -> LitBox {
 #[test]
 fn tells_places_of_boxes(rt: HostRuntime) {
     for (lit, places) in BOX_PLACES {
-        expect_same(&rt, &CallPlaces::of_box(&SCREEN, lit), places, lit);
+        let told = CallPlaces::of_box(&SCREEN, &span(*lit));
+        expect_same(&rt, &told, &within(*places), lit);
     }
+    let nothing = CallPlaces::of_box(&SCREEN, &LitBox::Empty);
+    expect_same(&rt, &nothing, &CallPlaces::Anywhere, &"nothing lit");
+    // a part of a place wider than the screen
+    let wider = CallPlaces::of_box(&SCREEN, &span([0, 1_047_553, 0, 0]));
+    expect_same(&rt, &wider, &CallPlaces::Nowhere, &"too wide");
 }
