@@ -64,7 +64,11 @@ pub fn frame_text(
 ) -> Result<String, AllocError> {
     let lines = frame_lines(alloc, inputs, verdict, cause)?;
     let swapped = swapped_for_frame(alloc, inputs, verdict)?;
-    text_of(alloc, Telling::of_given(swapped), &lines, labels)
+    let telling = match inputs.cert {
+        Some(_) => Telling::of_given(swapped),
+        None => Telling::of_own(swapped),
+    };
+    text_of(alloc, telling, &lines, labels)
 }
 
 /// The account of [`own_lines`] as a text. Of a refusal it tells first what [`find_swapped`] finds.
