@@ -1,6 +1,7 @@
 """Pictures as SVG. In the file each stroke has the machine's own coordinates: screen places, exact, Y upwards."""
 
 from html import escape
+from typing import NamedTuple
 
 from inputs import Box
 from machine import FINE
@@ -11,7 +12,7 @@ EDGE = 32 * FINE            # what a frame's picture shows around the screen, an
 FAR = 1024 * FINE           # so much more, if something is lit there
 LINE = 40                   # a line of text under a frame's picture
 COLUMNS, CELL = 6, 200      # cells of a contact sheet
-NAME, TEXT = 24, 18         # a cell's name above its drawing, and each of two lines below: its box, and one that is free for a label
+NAME, TEXT = 24, 18         # a cell's name above its drawing, and each of two lines below: its box, and its label
 STYLE = """<style>
 .ground { fill: #101418 }
 path, rect, line { fill: none; stroke-linecap: round; stroke-linejoin: round }
@@ -153,15 +154,17 @@ def size_of(box):
 
 
 def plain_cell(name, below):
-    return [text(8, NAME - 6, 16, name), text(8, NAME + CELL, 12, below)]
+    """The name above and a line below, and under that the label."""
+    labelled = [text(8, NAME + CELL + TEXT, 14, name.label)] if name.label else []
+    return [text(8, NAME - 6, 16, name.entry), text(8, NAME + CELL, 12, below), *labelled]
 
 
 def cell(name, view, content, below):
-    """A drawing with its name above, and a line below. Under that a line stays free for a label."""
-    name_line, below_line = plain_cell(name, below)
+    """A drawing with its name above, and lines below."""
+    name_line, *lines_below = plain_cell(name, below)
     width = places((view.right - view.left) // 80)
     return [name_line, f'<svg {shown(view)} x="8" y="{NAME}" width="{CELL - 16}" height="{CELL - 16}">',
-            f'<g transform="scale(1 -1)" stroke-width="{width}">', *content, "</g>", "</svg>", below_line]
+            f'<g transform="scale(1 -1)" stroke-width="{width}">', *content, "</g>", "</svg>", *lines_below]
 
 
 def origin(arm):
@@ -181,9 +184,14 @@ def absolute_cell(name, window, strokes, refused):
     return cell(name, view, [rectangle("screen", SCREEN), rectangle("window", window), *groups(strokes, refused.is_about)], "on the screen")
 
 
-def cells_of(claim, run, window, refused):
-    """The cells of an entry: what it lights relative to its call, and what it lights at absolute places."""
-    name = f"{claim.entry.address:03X}/{'any' if claim.entry.scale is None else claim.entry.scale}"
+class CellName(NamedTuple):
+    entry: str
+    label: str              # empty where there is none
+
+
+def cells_of(claim, label, run, window, refused):
+    """The cells of an entry with this label: what it lights relative to its call, and what it lights at absolute places."""
+    name = CellName(f"{claim.entry.address:03X}/{'any' if claim.entry.scale is None else claim.entry.scale}", label)
     strokes = [stroke for item in run.items for stroke in item.strokes]
     relative = [stroke for stroke in strokes if not stroke.places_set]
     absolute = [stroke for stroke in strokes if stroke.places_set]
