@@ -77,7 +77,7 @@ pub enum ItemLine {
     Instruction(Option<Instruction>),
     /// The entry that it calls or tail jumps to.
     CalledEntry(Entry),
-    /// The item that goes on to it, where its first word is missing.
+    /// The item that goes on to it: of a frame's item always, of a shape's where its first word is missing.
     ComesFrom(Item),
     /// The place that is known before it.
     PlaceBefore(End),

@@ -18,8 +18,8 @@ use std::slice;
 /// The number of the refusal that the maker had no memory.
 const NO_MEMORY: u8 = 63;
 
-/// The lines of what the frame of these inputs comes to by its own certificate over a ROM, which is in the place of theirs and in the
-/// mode `Exact` (profile).
+/// The lines of what the frame of these inputs comes to by its own certificate, which is in the place of theirs, and in the mode `Exact`
+/// (profile). The ROM and the frame are those of the inputs.
 pub fn own_lines(
     alloc: Global,
     inputs: &Inputs,

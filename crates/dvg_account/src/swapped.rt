@@ -39,13 +39,15 @@ fn swap_words(alloc: Global, bytes: &[u8]) -> Result<Vec<u8>, AllocError>
 }
 
 /// Of which input the bytes have to be swapped for these inputs, which are refused, to be accepted: by their certificate, or without
-/// one by the frame's own; `None` if no swap gets them accepted. They are judged anew for each swap.
+/// one by the frame's own; `None` if no swap gets them accepted (only tested). A frame that is HALT alone if swapped is not told: each
+/// word with B in the place of its low byte's first digit is a HALT so. They are judged anew for each swap.
 pub fn find_swapped(alloc: Global, inputs: &Inputs) -> Result<Option<Swapped>, AllocError>
     ensures { IfOk result (λ found. IfSome found (IsAcceptedSwapped inputs.now)) }
 {
     let frame = swap_words(alloc, inputs.frame)?;
-    if accepted(alloc, inputs, inputs.rom, &frame)?.is_some() {
-        return Ok(Some(Swapped::Frame));
+    match accepted(alloc, inputs, inputs.rom, &frame)? {
+        Some(counts) if counts.words > 1 => return Ok(Some(Swapped::Frame)),
+        _ => {}
     }
     let rom = swap_words(alloc, inputs.rom)?;
     if accepted(alloc, inputs, &rom, inputs.frame)?.is_some() {

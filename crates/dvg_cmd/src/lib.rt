@@ -22,38 +22,104 @@ mod running;
 mod several_frames;
 mod start;
 
-pub use detail::{Behind, Detail};
-pub use dvg_cert::{
-    Cert, CertFault, CertWhy, Counted, CountedRead, CountedWrite, Entries, HashIndex, Key,
-    MOST_WORDS, WriteFault, write_bytes,
-};
-pub use dvg_check::{
-    FrameFault, FrameWhy, JudgedShapes, Mode, Refusal, ShapeFault, ShapeWhy, Yes, check,
-};
-pub use dvg_labels::{
-    LabelFault, LabelWhy, Labels, MOST_BYTES as MOST_LABEL_BYTES, Unnamed, read_labels,
-};
-pub use dvg_make::{
-    EntryFault, FrameCall, FrameRefusal, FramesFault, MakeFault, judge, make, make_for_frames,
-};
-pub use dvg_spelling::{
-    FrameAnswer, FrameOutcome, FramesRunFault, MakeRunFault, Outcome, Report, Rule, RunFault,
-    all_rules, frame_report_of, frames_status_of, make_frames_report_of, make_frames_status_of,
-    make_line_of, make_report_of, make_status_of, map_of, message_of, report_of, root_of, rule_of,
-    start_of, status_of, window_of,
-};
-pub use dvg_words::{ASTEROIDS, CLIPPED, ImageFault, Machine, RomImage, RomMap, SCREEN, Window};
-pub use explaining_make::{MakeAnswer, run_explain_make, write_make_answer};
-pub use frame_judge::{FrameJudge, GivenCertificate, OwnCertificates};
-pub use frame_run::{run_frame, run_unopened};
-pub use listing::{Lines, Listing};
+pub use detail::Behind;
+pub use detail::Detail;
+pub use dvg_cert::Cert;
+pub use dvg_cert::CertFault;
+pub use dvg_cert::CertWhy;
+pub use dvg_cert::Counted;
+pub use dvg_cert::CountedRead;
+pub use dvg_cert::CountedWrite;
+pub use dvg_cert::Entries;
+pub use dvg_cert::HashIndex;
+pub use dvg_cert::Key;
+pub use dvg_cert::MOST_WORDS;
+pub use dvg_cert::WriteFault;
+pub use dvg_cert::write_bytes;
+pub use dvg_check::FrameFault;
+pub use dvg_check::FrameWhy;
+pub use dvg_check::JudgedShapes;
+pub use dvg_check::Mode;
+pub use dvg_check::Refusal;
+pub use dvg_check::ShapeFault;
+pub use dvg_check::ShapeWhy;
+pub use dvg_check::Yes;
+pub use dvg_check::check;
+pub use dvg_labels::LabelFault;
+pub use dvg_labels::LabelWhy;
+pub use dvg_labels::Labels;
+pub use dvg_labels::MOST_BYTES as MOST_LABEL_BYTES;
+pub use dvg_labels::Unnamed;
+pub use dvg_labels::read_labels;
+pub use dvg_make::EntryFault;
+pub use dvg_make::FrameCall;
+pub use dvg_make::FrameRefusal;
+pub use dvg_make::FramesFault;
+pub use dvg_make::MakeFault;
+pub use dvg_make::judge;
+pub use dvg_make::make;
+pub use dvg_make::make_for_frames;
+pub use dvg_spelling::FrameAnswer;
+pub use dvg_spelling::FrameOutcome;
+pub use dvg_spelling::FramesRunFault;
+pub use dvg_spelling::MakeRunFault;
+pub use dvg_spelling::Outcome;
+pub use dvg_spelling::Report;
+pub use dvg_spelling::Rule;
+pub use dvg_spelling::RunFault;
+pub use dvg_spelling::all_rules;
+pub use dvg_spelling::frame_report_of;
+pub use dvg_spelling::frames_status_of;
+pub use dvg_spelling::make_frames_report_of;
+pub use dvg_spelling::make_frames_status_of;
+pub use dvg_spelling::make_line_of;
+pub use dvg_spelling::make_report_of;
+pub use dvg_spelling::make_status_of;
+pub use dvg_spelling::map_of;
+pub use dvg_spelling::message_of;
+pub use dvg_spelling::report_of;
+pub use dvg_spelling::root_of;
+pub use dvg_spelling::rule_of;
+pub use dvg_spelling::start_of;
+pub use dvg_spelling::status_of;
+pub use dvg_spelling::window_of;
+pub use dvg_words::ASTEROIDS;
+pub use dvg_words::CLIPPED;
+pub use dvg_words::ImageFault;
+pub use dvg_words::Machine;
+pub use dvg_words::RomImage;
+pub use dvg_words::RomMap;
+pub use dvg_words::SCREEN;
+pub use dvg_words::Window;
+pub use explaining_make::MakeAnswer;
+pub use explaining_make::run_explain_make;
+pub use explaining_make::write_make_answer;
+pub use frame_judge::FrameJudge;
+pub use frame_judge::GivenCertificate;
+pub use frame_judge::OwnCertificates;
+pub use frame_run::run_frame;
+pub use frame_run::run_unopened;
+pub use listing::Lines;
+pub use listing::Listing;
 pub use making::run_make;
 pub use making_frames::run_make_frames;
-pub use messages::{write_make_fault, write_message, write_text};
-pub use names::{NameBytes, NameEnd, read_name};
+pub use messages::write_make_fault;
+pub use messages::write_message;
+pub use messages::write_text;
+pub use names::NameBytes;
+pub use names::NameEnd;
+pub use names::read_name;
 pub use placing::run_places;
-pub use reading::{load_cert, load_rom};
-pub use roots::{RootFault, root_by};
-pub use rules::{run_rule, run_rules};
-pub use running::{CheckOptions, run_check, run_check_in};
-pub use several_frames::{FrameOptions, NamedFrame, run_frames, run_frames_given};
+pub use reading::load_cert;
+pub use reading::load_rom;
+pub use roots::RootFault;
+pub use roots::root_by;
+pub use rules::run_rule;
+pub use rules::run_rules;
+pub use running::CheckOptions;
+pub use running::run_check;
+pub use running::run_check_in;
+pub use several_frames::FrameOptions;
+pub use several_frames::NamedFrame;
+pub use several_frames::run_frames;
+pub use several_frames::run_frames_given;

@@ -58,6 +58,7 @@ module _ (labels : List Named) (l : Named) (at : ℕ) where
     addr = h.addr;
     after = h.after ++ l ∷ [];
     listed = ap (λ ls. ls ++ l ∷ []) h.listed ∙ append_assoc h.before (record { name = n.name.now; addr = h.addr } ∷ h.after) (l ∷ []);
+    may = h.may;
     near = h.near;
     below = h.below;
     behind = All-push (λ (o : Named). may_name at o.addr ≡ true → o.addr ≤ h.addr) h.after l h.behind le;
@@ -70,26 +71,27 @@ module _ (labels : List Named) (l : Named) (at : ℕ) where
   pub keep_nearer : (n : Nearest) (d : ℕ) → at ≡ l.addr + d → n.distance ≤ d → Names labels at n.name.now n.distance → Names (labels ++ l ∷ []) at n.name.now n.distance
   keep_nearer n d near le h = on_end n h (λ on. omega (arith, near, le, h.near))
 
-  at_end : (d : ℕ) → at ≡ l.addr + d → All (λ (o : Named). may_name at o.addr ≡ true → o.addr < l.addr) labels → Names (labels ++ l ∷ []) at l.name d
-  at_end d near below = record {
+  at_end : (d : ℕ) → may_name at l.addr ≡ true → at ≡ l.addr + d → All (λ (o : Named). may_name at o.addr ≡ true → o.addr < l.addr) labels → Names (labels ++ l ∷ []) at l.name d
+  at_end d may near below = record {
     before = labels;
     addr = l.addr;
     after = [];
     listed = refl;
+    may = may;
     near = near;
     below = below;
     behind = All-nil (λ (o : Named). may_name at o.addr ≡ true → o.addr ≤ l.addr);
   }
 
-  pub take_first : (d : ℕ) → at ≡ l.addr + d → IsNearest labels at None → Names (labels ++ l ∷ []) at l.name d
-  take_first d near h = at_end d near (weaken (λ (o : Named). may_name at o.addr ≡ false) (λ (o : Named). may_name at o.addr ≡ true → o.addr < l.addr) labels (λ o off on. absurd (not_both on off)) h)
+  pub take_first : (d : ℕ) → may_name at l.addr ≡ true → at ≡ l.addr + d → IsNearest labels at None → Names (labels ++ l ∷ []) at l.name d
+  take_first d may near h = at_end d may near (weaken (λ (o : Named). may_name at o.addr ≡ false) (λ (o : Named). may_name at o.addr ≡ true → o.addr < l.addr) labels (λ o off on. absurd (not_both on off)) h)
 
-  pub take_nearer : (n : Nearest) (d : ℕ) → at ≡ l.addr + d → d < n.distance → Names labels at n.name.now n.distance → Names (labels ++ l ∷ []) at l.name d
-  take_nearer n d near lt h =
+  pub take_nearer : (n : Nearest) (d : ℕ) → may_name at l.addr ≡ true → at ≡ l.addr + d → d < n.distance → Names labels at n.name.now n.distance → Names (labels ++ l ∷ []) at l.name d
+  take_nearer n d may near lt h =
       let P : Named → Type 0 = λ o. may_name at o.addr ≡ true → o.addr < l.addr in
       let x : Named = record { name = n.name.now; addr = h.addr } in
       let higher : h.addr < l.addr = omega (arith, near, lt, h.near) in
-      at_end d near (subst (All P) (sym h.listed) (All-append P h.before (x ∷ h.after)
+      at_end d may near (subst (All P) (sym h.listed) (All-append P h.before (x ∷ h.after)
       (weaken (λ (o : Named). may_name at o.addr ≡ true → o.addr < h.addr) P h.before (λ o f on. omega (arith, f on, higher)) h.below)
       (All-cons P x h.after (λ on. higher)
       (weaken (λ (o : Named). may_name at o.addr ≡ true → o.addr ≤ h.addr) P h.after (λ o f on. omega (arith, f on, higher)) h.behind))))

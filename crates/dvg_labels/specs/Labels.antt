@@ -35,6 +35,7 @@ pub record Names (labels : List Named) (at : ℕ) (name : List ℕ) (distance : 
   pub addr : ℕ
   pub after : List Named
   pub listed : labels ≡ before ++ record { name = name; addr = addr } ∷ after
+  pub may : may_name at addr ≡ true
   pub near : at ≡ addr + distance
   pub below : All (λ (l : Named). may_name at l.addr ≡ true → l.addr < addr) before
   pub behind : All (λ (l : Named). may_name at l.addr ≡ true → l.addr ≤ addr) after

@@ -58,15 +58,17 @@ fn nearer<'a>(best: Option<Nearest<'a>>, label: &'a Label, at: u16) -> Option<Ne
     let Some(distance) = distance_to(label.addr, at) else {
         return best;
     };
-    if let Some(nearest) = best
-        && nearest.distance <= distance
-    {
-        return best;
-    }
-    Some(Nearest {
+    let here = Nearest {
         name: label.name.as_slice(),
         distance,
-    })
+    };
+    let Some(nearest) = best else {
+        return Some(here);
+    };
+    if nearest.distance <= distance {
+        return best;
+    }
+    Some(here)
 }
 
 /// The label that names a word address.

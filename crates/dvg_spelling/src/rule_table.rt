@@ -143,7 +143,7 @@ pub const SHAPE_OUTSIDE_WINDOW: Rule = Rule {
     line: "refused 25 shape 800/0 at 802",
     heading: "Shortest input (words of the ROM; entry)",
     input: "`A000 0000 F510`; `words 2`",
-    cure: "move the place of the LABS, or draw smaller; claim the least box for what is called; without `--clip`, give a wider `--window`, or `--board --clip`",
+    cure: "move the place of the LABS, or draw smaller; claim the least box for what is called; without `--clip`, give `--board --clip`, or a wider `--window` where it is smaller than the screen",
 };
 
 pub const SHAPE_NO_ENTRY: Rule = Rule {
@@ -278,7 +278,7 @@ pub const FRAME_OUTSIDE_WINDOW: Rule = Rule {
     line: "refused 46 frame at 002",
     heading: "Shortest input",
     input: "`A000 0000 F510`",
-    cure: "move the place, or draw a smaller size or scale; claim the least box; without `--clip`, give a wider `--window`, or `--board --clip`; dark moves may leave it",
+    cure: "move the place, or draw a smaller size or scale; claim the least box; without `--clip`, give `--board --clip`, or a wider `--window` where it is smaller than the screen; dark moves may leave it",
 };
 
 pub const FRAME_NO_ENTRY: Rule = Rule {
@@ -407,13 +407,13 @@ pub const OWN_ROM_LENGTH: Rule = Rule {
 
 /// What is told of 25 where no certificate was given.
 pub const OWN_SHAPE_OUTSIDE_WINDOW: Rule = Rule {
-    cure: "move the place of the LABS, or draw smaller; without `--clip`, give a wider `--window`, or `--board --clip`",
+    cure: "move the place of the LABS, or draw smaller; without `--clip`, give `--board --clip`, or a wider `--window` where it is smaller than the screen",
     ..SHAPE_OUTSIDE_WINDOW
 };
 
 /// What is told of 46 where no certificate was given.
 pub const OWN_FRAME_OUTSIDE_WINDOW: Rule = Rule {
-    cure: "move the place, or draw a smaller size or scale; without `--clip`, give a wider `--window`, or `--board --clip`; dark moves may leave it",
+    cure: "move the place, or draw a smaller size or scale; without `--clip`, give `--board --clip`, or a wider `--window` where it is smaller than the screen; dark moves may leave it",
     ..FRAME_OUTSIDE_WINDOW
 };
 

@@ -359,7 +359,7 @@ fn rules_command<'a>(alloc: Global) -> Result<Command<'a>, AllocError> {
         .help("A number: prints its line, its shortest input and what to do, too")
         .value_parser(value_parser!(u8));
     Command::new(alloc, "rules")
-        .about("Prints what each number that a line names means")
+        .about("Prints what each number in an answer means")
         .after_help(SHORTEST_HELP)
         .arg(number)
 }

@@ -147,9 +147,7 @@ fn board_option<'a>(alloc: Global) -> Arg<'a> {
     Arg::new(alloc, "board")
         .long("board")
         .action(ArgAction::SetTrue)
-        .help(
-            "Takes a board of the DVG for the machine: draws move by whole places, LABS has twelve bits",
-        )
+        .help("Judges for a board of the DVG: draws move by whole places, LABS has twelve bits")
 }
 
 fn budget_option<'a>(alloc: Global) -> Arg<'a> {
@@ -193,7 +191,7 @@ fn frame_option<'a>(alloc: Global) -> Arg<'a> {
         .long("frame")
         .value_name("FRAME")
         .action(ArgAction::Append)
-        .help("A frame, whose calls are roots, too")
+        .help("A frame; its calls become roots, too")
 }
 
 fn labels_option<'a>(alloc: Global) -> Arg<'a> {
@@ -222,7 +220,7 @@ fn null_option<'a>(alloc: Global) -> Result<Arg<'a>, AllocError> {
     Arg::new(alloc, "null")
         .long("null")
         .action(ArgAction::SetTrue)
-        .help("Has NUL behind each name of the list, and not LF")
+        .help("Names in the list end with NUL, not LF")
         .requires_arg("list")?
         .conflicts_with("FRAME")
 }

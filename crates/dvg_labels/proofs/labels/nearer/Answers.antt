@@ -1,6 +1,19 @@
-use Rattle.dvg_labels.specs.Labels.{named_of}
-use Rattle.dvg_labels.proofs.Naming.{keep_best}
+use Rattle.std.proofs.Common.{subst, sym, ◌++◌, ◌∷◌, []}
+use Rattle.dvg_labels.specs.Labels.{named_of, IsNearest, Names}
+use Rattle.dvg_labels.proofs.Naming.{keep_best, keep_nearer, take_first, take_nearer}
 use Rattle.dvg_labels.proofs.labels.nearer.Goals as goal
 
 pub returns-in_default : goal.returns-in_default
 returns-in_default c = λ labels h. keep_best labels (named_of c.args.label.now) c.args.at c.args.best c.in_default.ensures.none h
+
+pub returns-then-nearest-distance : goal.returns-then-nearest-distance
+returns-then-nearest-distance c = λ labels h.
+    subst (IsNearest (labels ++ named_of c.args.label.now ∷ []) c.args.at) (sym c.in-Some-best.is)
+    (keep_nearer labels (named_of c.args.label.now) c.args.at c.in-Some-best.nearest c.in-Some.distance c.in-Some.ensures.some.1
+    c.if-nearest-distance.true (subst (IsNearest labels c.args.at) c.in-Some-best.is h))
+
+pub returns : goal.returns
+returns c = λ labels h.
+    subst (λ name. Names (labels ++ named_of c.args.label.now ∷ []) c.args.at name c.in-Some.distance) (sym c.as_slice.ensures.value)
+    (take_nearer labels (named_of c.args.label.now) c.args.at c.in-Some-best.nearest c.in-Some.distance c.in-Some.ensures.some.0
+    c.in-Some.ensures.some.1 c.if-nearest-distance.false (subst (IsNearest labels c.args.at) c.in-Some-best.is h))
