@@ -383,15 +383,16 @@ fn run(rt: &HostRuntime) -> u8 {
         Ok(parsed) => parsed,
         Err(usage) => return tell_usage(rt, &usage),
     };
-    match parsed.labels(rt) {
-        Ok(labels) => run_parsed(rt, &parsed, labels.as_ref()),
-        Err(fault) => tell_labels(rt, fault),
-    }
+    let labels = match parsed.labels(rt) {
+        Ok(labels) => labels,
+        Err(fault) => return tell_labels(rt, fault),
+    };
+    run_parsed(rt, parsed, &labels)
 }
 
 /// Runs what the arguments ask for, by these labels.
-fn run_parsed<'a>(rt: &HostRuntime, parsed: &Parsed<'a>, labels: Option<&'a Labels>) -> u8 {
-    match parsed.request(rt, labels) {
+fn run_parsed<'a>(rt: &HostRuntime, parsed: Parsed<'a>, labels: &'a Option<Labels>) -> u8 {
+    match parsed.request(rt, labels.as_ref()) {
         Ok(Request::Frames(args)) => run_over(rt, args),
         Ok(Request::Check(args, detail)) => tell_check(rt, &check(rt, &args, detail)),
         Ok(Request::Make(args)) => tell_make(rt, &args.frames, &make(rt, &args)),
