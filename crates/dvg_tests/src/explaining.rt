@@ -3,7 +3,7 @@
 
 use crate::expecting::{expect, expect_same};
 use crate::inputs::{EMPTY, rom_bytes};
-use dvg_cert::{End, HashIndex, Key, ListIndex, LitBox, read_cert};
+use dvg_cert::{End, HashIndex, Key, ListIndex, read_cert};
 use dvg_check::{
     BoxLeaving, Edge, FrameCause, JudgedShapes, Leaving, Mode, ShapeCause, check_on,
     find_shape_fault,
@@ -252,39 +252,4 @@ fn tells_places(rt: HostRuntime) {
             expect_same(&rt, &entry.places, &within(places), &window);
         }
     }
-}
-
-/// Boxes in 1/1024 of a screen place, and the rectangle of the places of a call on the whole screen.
-const BOX_PLACES: &[([i64; 4], [i64; 4])] = &[
-    ([0, 0, 0, 0], [0, 1023, 0, 1023]),
-    // fractions of a place
-    ([-1, 0, 0, 1], [1, 1023, 0, 1022]),
-    ([1, 2, -1023, -1], [0, 1022, 1, 1023]),
-    ([-1025, 1023, -1024, 1024], [2, 1022, 1, 1022]),
-    // from edge to edge
-    ([0, 1_047_552, -1_047_552, 0], [0, 0, 1023, 1023]),
-    // wholly to the right of the call, and below it by more than a screen
-    ([5120, 6144, -2_097_152, -2_096_128], [-5, 1017, 2048, 3070]),
-];
-
-fn span([x_min, x_max, y_min, y_max]: [i64; 4]) -> LitBox {
-    LitBox::Span {
-        x_min,
-        x_max,
-        y_min,
-        y_max,
-    }
-}
-
-#[test]
-fn tells_places_of_boxes(rt: HostRuntime) {
-    for (lit, places) in BOX_PLACES {
-        let told = CallPlaces::of_box(&SCREEN, &span(*lit));
-        expect_same(&rt, &told, &within(*places), lit);
-    }
-    let nothing = CallPlaces::of_box(&SCREEN, &LitBox::Empty);
-    expect_same(&rt, &nothing, &CallPlaces::Anywhere, &"nothing lit");
-    // a part of a place wider than the screen
-    let wider = CallPlaces::of_box(&SCREEN, &span([0, 1_047_553, 0, 0]));
-    expect_same(&rt, &wider, &CallPlaces::Nowhere, &"too wide");
 }
