@@ -31,6 +31,7 @@ impl<'a> Cells for FrameOn<'a> {
         Fetch::machine(self)
     }
 
+    #[inline(always)]
     fn cell(&self, at: u16) -> Cell {
         read_cell(self, at)
     }

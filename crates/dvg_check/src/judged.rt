@@ -81,6 +81,7 @@ impl<'a, E: Entries> JudgedShapes<'a, E> {
         ensures ok { IfOk result (λ shapes. shapes ≡ record { rom = rom.now; list = cert.now.entries; window = window; mode = mode }) }
         ensures good { OnOk result (Good mode window rom.now cert.now.entries) }
         ensures err { IfErr result (FirstShapeFound mode window rom.now cert.now.entries) }
+        ensures sound { IfErr result (λ finding. IsSoundFound finding.found) }
         ensures cause { IfErr result (ShapeCauseOf window) }
     {
         // Their clauses say that the ROM is whole, and that the list is that of a certificate.

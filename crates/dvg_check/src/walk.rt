@@ -98,8 +98,41 @@ fn see<E: Entries>(
     )
 }
 
-/// Goes over the items from a word address on, to the last one or to the first that breaks a rule.
-pub fn walk<C: Cells, E: Entries, R: Rules>(
+/// Goes over the items from a word address on: what is known after the last one, if each keeps all rules.
+///
+/// Nothing is kept for what breaks a rule, so that an item costs less than in [`find_broken`].
+#[inline(always)]
+fn end_if_kept<C: Cells, E: Entries, R: Rules>(
+    cells: &C,
+    entries: &E,
+    rules: &R,
+    first: u16,
+) -> Option<Known>
+    requires entries { IsSomeCertificate (E.list entries.now) }
+    requires rules { R.valid rules.now }
+    requires first { first < ADDRESS_END }
+    ensures { IfSome result (λ known. WalksTo (record { kind = R.kind; machine = (C.words cells.now).machine; list = E.list entries.now; scale = R.scale rules.now })
+        (C.words cells.now) first (PlaceKeeps R.unmapped R.odd (R.keeps rules.now)
+        (record { kind = R.kind; machine = (C.words cells.now).machine; list = E.list entries.now; scale = R.scale rules.now }) (C.words cells.now)) known) }
+{
+    let machine = cells.machine();
+    let mut callees = Callees::new(entries);
+    let mut cursor = Cursor::start(rules.kind(), first, rules.scale());
+    'items: loop {
+        let Cell::Holds { format, instr } = cells.cell(cursor.at) else {
+            return None;
+        };
+        match judge(rules, machine, &mut callees, &cursor, format, &instr) {
+            Err(_) => return None,
+            Ok(Step::Last(known)) => return Some(known),
+            Ok(Step::Onward(next)) => cursor = next,
+        }
+    }
+}
+
+/// Goes over the items from a word address on, to the last one or to the first that breaks a rule, with what is known there.
+#[inline(never)]
+fn find_broken<C: Cells, E: Entries, R: Rules>(
     cells: &C,
     entries: &E,
     rules: &R,
@@ -154,5 +187,31 @@ pub fn walk<C: Cells, E: Entries, R: Rules>(
             Ok(Step::Last(known)) => return Ok(known),
             Ok(Step::Onward(next)) => cursor = next,
         }
+    }
+}
+
+/// Goes over the items from a word address on, to the last one or to the first that breaks a rule. They are gone over once more
+/// only if one does.
+pub fn walk<C: Cells, E: Entries, R: Rules>(
+    cells: &C,
+    entries: &E,
+    rules: &R,
+    first: u16,
+) -> Result<Known, Fault<R::Why>>
+    requires entries { IsSomeCertificate (E.list entries.now) }
+    requires rules { R.valid rules.now }
+    requires first { first < ADDRESS_END }
+    ensures ok { IfOk result (λ known. WalksTo (record { kind = R.kind; machine = (C.words cells.now).machine; list = E.list entries.now; scale = R.scale rules.now })
+        (C.words cells.now) first (PlaceKeeps R.unmapped R.odd (R.keeps rules.now)
+        (record { kind = R.kind; machine = (C.words cells.now).machine; list = E.list entries.now; scale = R.scale rules.now }) (C.words cells.now)) known) }
+    ensures err { IfErr result (λ fault. FaultFound R.order (record { kind = R.kind; machine = (C.words cells.now).machine; list = E.list entries.now; scale = R.scale rules.now })
+        (C.words cells.now) first (PlaceKeeps R.unmapped R.odd (R.keeps rules.now)
+        (record { kind = R.kind; machine = (C.words cells.now).machine; list = E.list entries.now; scale = R.scale rules.now }) (C.words cells.now))
+        fault.at fault.why fault.before fault.found) }
+    ensures sound { IfErr result (λ fault. IsSoundFound fault.found) }
+{
+    match end_if_kept(cells, entries, rules, first) {
+        Some(known) => Ok(known),
+        None => find_broken(cells, entries, rules, first),
     }
 }

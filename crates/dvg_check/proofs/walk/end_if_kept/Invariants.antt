@@ -3,7 +3,7 @@ use Rattle.dvg_words.specs.declared.map.TheConstants.{ADDRESS_END}
 use Rattle.dvg_items.specs.Known.{Context}
 use Rattle.dvg_check.specs.Rules.{PlaceKeeps}
 use Rattle.dvg_check.proofs.Loop.{Walked}
-use Rattle.dvg_check.proofs.walk.walk.Given as goal
+use Rattle.dvg_check.proofs.walk.end_if_kept.Given as goal
 
 abbrev pub invariant-items : goal.invariant-items
 invariant-items g l =

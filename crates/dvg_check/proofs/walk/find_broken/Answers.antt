@@ -1,6 +1,6 @@
 use Rattle.std.proofs.Common.{◌∙◌, sym}
 use Rattle.dvg_check.proofs.Loop.{onward, done, found_missing, found_odd, found_broken}
-use Rattle.dvg_check.proofs.walk.walk.Goals as goal
+use Rattle.dvg_check.proofs.walk.find_broken.Goals as goal
 
 pub returns-in-Ok-Last-clause-ok : goal.returns-in-Ok-Last-clause-ok
 returns-in-Ok-Last-clause-ok g c =
