@@ -32,7 +32,7 @@ pub use judged::JudgedShapes;
 pub use keys::{KEYS, Keys, SLOTS, key_index, key_of, slot_of};
 pub use leaving::{BoxLeaving, Edge, Leaving, Limits, leaves_box, leaves_window};
 pub use needed::Needed;
-pub use shapes::{check_shapes, check_shapes_exact, find_shape_fault};
+pub use shapes::{check_shapes, check_shapes_exact, find_entry_fault, find_shape_fault};
 pub use tail::moved;
 pub use verdict::{
     Refusal, Yes, check, check_exact, check_on, check_parts, check_parts_exact, check_rom, frame_of,

@@ -144,8 +144,8 @@ impl Rules for ShapeRules {
     }
 }
 
-/// Judges the shape of one entry: its first fault, what is known there, and its cause.
-fn find_fault<E: Entries>(
+/// Judges the shape of one entry item by item; with its first fault it answers what [`find_shape_fault`] does (profile).
+pub fn find_entry_fault<E: Entries>(
     mode: Mode,
     window: &Window,
     rom: &RomImage,
@@ -204,7 +204,7 @@ pub fn find_shape_fault<E: Entries>(
     let list = cert.entries();
     let mut index = first_doubtful(mode, window, rom, entries, list);
     'entries: while index < list.len() {
-        if let Err(finding) = find_fault(mode, window, rom, entries, &list[index]) {
+        if let Err(finding) = find_entry_fault(mode, window, rom, entries, &list[index]) {
             return Err(finding);
         }
         index += 1;

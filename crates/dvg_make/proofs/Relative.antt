@@ -1,7 +1,5 @@
 -- Where a made shape ends at a relative place, none of its items stands at an absolute one.
 use Rattle.std.proofs.Common.{ℕ, List, [], ◌∷◌, sym, ap, subst}
-use Rattle.std.specs.Prelude.{All, Contains}
-use Rattle.std.proofs.lemmas.List.Elements.{All-contains}
 use Rattle.dvg_words.specs.Memory.{Rom, rom_word}
 use Rattle.dvg_words.specs.Values.{Window}
 use Rattle.dvg_cert.specs.declared.entry.End.{End}
@@ -18,13 +16,12 @@ use Rattle.dvg_items.specs.declared.known.Effect.TheVariants.{Sets, Loses, Moves
 use Rattle.dvg_items.specs.declared.known.Known.{Known}
 use Rattle.dvg_items.specs.declared.lit.LitExtent.{LitExtent}
 use Rattle.dvg_items.proofs.Leading.{everywhere}
-use Rattle.dvg_check.specs.Rules.{Good}
+use Rattle.dvg_check.specs.Rules.{GoodShape}
 use Rattle.dvg_check.specs.declared.fault.Mode.TheVariants.{Exact}
 use Rattle.dvg_make.specs.Made.{MadeEntry}
-use Rattle.dvg_make.specs.Frames.{FrameMade}
 use Rattle.dvg_make.specs.Private.Judged.{IsRelative}
 use Rattle.dvg_make.proofs.Ends.{made_ends}
-use Rattle.dvg_make.proofs.Windows.{in_exact}
+use Rattle.dvg_make.proofs.Windows.{good_entry}
 
 -- no effect leads back to a relative place
 relative_before : (place : End) (effect : Effect) → IsRelative (place_past effect place) → IsRelative place
@@ -61,9 +58,7 @@ module _ (rom : Rom) (list : List Entry) (e : Entry) (made : MadeEntry rom list 
       everywhere Shape (rom_word rom) e.addr IsHere last.stops.items last.stops.i last.stops.leads last.stops.is last.stops.last
       (each_of (last.stops.i ∷ last.stops.items) (subst IsRelative (sym (ap (λ (k : Known). k.place) last.sums.known)) ends))
 
-relative_good : (rom : Rom) (list : List Entry) (w : Window) → ((e : Entry) → Contains list e → MadeEntry rom list e) → ((e : Entry) → Contains list e → IsRelative e.stop) → Good Exact w rom list
-relative_good rom list w each ends = in_exact rom list w each (λ e c earlier i lead is. relative_in_window w (extent (shape_context rom.machine list e) earlier i.instr) (place_before (shape_context rom.machine list e) earlier) (everywhere_relative rom list e (each e c) (ends e c) earlier i.at lead))
-
--- a frame's made list that ends at relative places is good in every window
-pub all_relative_good : (rom : Rom) (words : List ℕ) (list : List Entry) (w : Window) → FrameMade rom words list → All (λ e. IsRelative e.stop) list → Good Exact w rom list
-all_relative_good rom words list w made ends = relative_good rom list w made.each (λ e c. All-contains (λ (f : Entry). IsRelative f.stop) list e ends c)
+-- a made entry that ends at a relative place is good in every window
+pub relative_good : (rom : Rom) (list : List Entry) (w : Window) (e : Entry) → MadeEntry rom list e → IsRelative e.stop → GoodShape Exact w rom list e
+relative_good rom list w e made ends =
+    good_entry rom list w e made (λ earlier i lead is. relative_in_window w (extent (shape_context rom.machine list e) earlier i.instr) (place_before (shape_context rom.machine list e) earlier) (everywhere_relative rom list e made ends earlier i.at lead))

@@ -10,15 +10,15 @@ use Rattle.dvg_words.specs.declared.instruction.Cell.TheVariants.{Missing, Odd, 
 use Rattle.dvg_cert.specs.declared.entry.Entry.{Entry}
 use Rattle.dvg_items.specs.Known.{shape_context}
 use Rattle.dvg_items.specs.Seen.{seen_at}
-use Rattle.dvg_check.specs.Rules.{ShapeKeeps, CellKeeps, ShapePlaceKeeps, Good}
+use Rattle.dvg_check.specs.Rules.{ShapeKeeps, CellKeeps, ShapePlaceKeeps, Good, GoodShape}
 use Rattle.dvg_check.specs.declared.fault.Mode.{Mode}
 use Rattle.dvg_check.specs.declared.fault.Mode.TheVariants.{Bound, Exact}
 use Rattle.dvg_check.specs.declared.fault.ShapeWhy.{ShapeWhy}
 use Rattle.dvg_check.specs.declared.fault.ShapeWhy.TheVariants as shape
 use Rattle.dvg_items.specs.declared.item.Item.{Item}
 use Rattle.dvg_items.specs.declared.seen.Seen.{Seen}
-use Rattle.dvg_make.specs.Laws.{AllInWindow, GoodInWindow}
-use Rattle.dvg_make.specs.Made.{MadeEntry}
+use Rattle.dvg_make.specs.Laws.{AllInWindow, GoodInWindow, ItemInWindow}
+use Rattle.dvg_make.specs.Made.{EachItem, MadeEntry}
 use Rattle.dvg_check.proofs.Modes.{in_bound}
 
 is_off_screen : (why : ShapeWhy) → (why ≡ shape.OffScreen) ⊎ (why ≢ shape.OffScreen)
@@ -70,13 +70,17 @@ module _ (rom : Rom) (list : List Entry) (w : Window) where
   pub in_window : (mode : Mode) → Good mode w rom list → AllInWindow w rom list
   in_window mode good e c earlier i lead is = subst (λ cell. Kept rom.machine mode list w e earlier i.at cell shape.OffScreen) is (good e c earlier i.at lead shape.OffScreen)
 
-  pub in_exact : ((e : Entry) → Contains list e → MadeEntry rom list e) → AllInWindow w rom list → Good Exact w rom list
-  in_exact each all e c earlier p lead why = ⊎_elim (λ off. subst (ShapePlaceKeeps Exact w rom list e earlier p) (sym off) (by_cell (cell_at (rom_word rom) p) refl)) (λ not. (each e c).keeps earlier p lead why w not) (is_off_screen why)
+  -- a made entry is good where nothing that its shape lights at an absolute place leaves the window
+  pub good_entry : (e : Entry) → MadeEntry rom list e → EachItem rom e.addr (ItemInWindow w (shape_context rom.machine list e)) → GoodShape Exact w rom list e
+  good_entry e made all earlier p lead why = ⊎_elim (λ off. subst (ShapePlaceKeeps Exact w rom list e earlier p) (sym off) (by_cell (cell_at (rom_word rom) p) refl)) (λ not. made.keeps earlier p lead why w not) (is_off_screen why)
     where
       by_cell : (cell : Cell) → cell_at (rom_word rom) p ≡ cell → Kept rom.machine Exact list w e earlier p cell shape.OffScreen
       by_cell Missing q = λ x. cc x
       by_cell Odd q = λ x. cc x
-      by_cell (Holds format i) q = all e c earlier (record { at = p; format = format; instr = i }) lead q
+      by_cell (Holds format i) q = all earlier (record { at = p; format = format; instr = i }) lead q
+
+  pub in_exact : ((e : Entry) → Contains list e → MadeEntry rom list e) → AllInWindow w rom list → Good Exact w rom list
+  in_exact each all e c = good_entry e (each e c) (all e c)
 
 pub good_in_window : GoodInWindow
 good_in_window rom roots list w made = (

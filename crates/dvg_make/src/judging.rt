@@ -1,14 +1,18 @@
 //! The verdict on a frame by the certificate that is made for it.
 
-ghost use Rattle.std.specs.Prelude.{◌≡◌, ◌↔◌, ◌≤◌, [], ◌∷◌, All, IsTrue, IfOk, IfErr};
+ghost use Rattle.std.specs.Prelude.{◌≡◌, ◌↔◌, ◌≤◌, [], ◌∷◌, IsTrue, OnOk, IfOk, IfErr};
 ghost use Rattle.dvg_cert.specs.declared.limits.TheConstants.{MOST_WORDS};
 ghost use Rattle.dvg_words.specs.declared.machine.Machine.TheVariants.{Board};
 ghost use Rattle.dvg_check.specs.Safety.{Safe, CountsAtHalt};
 ghost use Rattle.dvg_check.specs.Circuit.{SafeOnCircuit, CountsOnCircuit};
-ghost use Rattle.dvg_check.specs.Causes.{TellsOf};
+ghost use Rattle.dvg_check.specs.Causes.{ShapeCauseOf, TellsOf};
+ghost use Rattle.dvg_check.specs.Finding.{FirstShapeFound, ShapeFaultFound};
+ghost use Rattle.dvg_check.specs.Rules.{Good, GoodShape};
 ghost use Rattle.dvg_check.specs.declared.fault.Mode.TheVariants.{Exact};
 ghost use Rattle.dvg_make.specs.Accounts.{entry_fault, IsAccount};
+ghost use Rattle.dvg_items.specs.Bounds.{IsClaim, IsSomeCertificate};
 ghost use Rattle.dvg_make.specs.Frames.{FrameMade};
+ghost use Rattle.dvg_make.specs.Made.{MadeEntry};
 ghost use Rattle.dvg_make.specs.Refusals.{FramesRefuse};
 ghost use Rattle.dvg_make.specs.Private.Judged.{IsJudged, IsRelative};
 ghost use Rattle.dvg_make.specs.Judging.{AreLeast, FrameRefused, VerdictByMade, HasCallCause, checked, own_verdict, refusal_by};
@@ -17,7 +21,9 @@ use crate::account::{MakeAccount, explain_making};
 use crate::fault::{EntryFault, FramesFault};
 use crate::maker::make_for_frames;
 use dvg_cert::{Cert, End, Entry, ListIndex};
-use dvg_check::{JudgedShapes, Mode, Refusal, RomFinding, Yes, find_parts_fault};
+use dvg_check::{
+    JudgedShapes, Mode, Refusal, RomFinding, ShapeFinding, Yes, find_entry_fault, find_parts_fault,
+};
 use dvg_words::{FrameImage, RomImage, Window};
 use std::alloc::Global;
 use std::slice;
@@ -43,19 +49,76 @@ fn refusal_of(fault: &FramesFault) -> FrameRefusal
     }
 }
 
-/// Whether each of these made entries ends at a place relative to its call. Then no item of their shapes stands at an absolute
-/// place, so none lights outside any window.
-fn all_relative(entries: &[Entry]) -> bool
-    ensures { IsTrue result ↔ All (λ e. IsRelative e.stop) entries.now }
+/// How many made entries are judged item by item, at most, before all shapes are judged at once.
+const MOST_WALKED: usize = 8;
+
+/// Whether a made entry ends at a place relative to its call. Then no item of its shape stands at an absolute place, so none lights
+/// outside any window.
+fn is_relative(entry: &Entry) -> bool
+    ensures { IsTrue result ↔ IsRelative entry.now.stop }
 {
-    entries
-        .iter()
-        .all(|entry| matches!(entry.stop, End::Rel { .. }))
+    matches!(entry.stop, End::Rel { .. })
 }
 
-/// The checker's verdict on a frame by made entries that all end at relative places: their shapes are good, so that the frame alone
-/// is judged.
-fn check_relative(
+/// Whether at most [`MOST_WALKED`] of these made entries do not end so.
+fn are_mostly_relative(entries: &[Entry]) -> bool {
+    entries
+        .iter()
+        .filter(|entry| !is_relative(entry))
+        .nth(MOST_WALKED)
+        .is_none()
+}
+
+/// Judges the shape of a made entry. It keeps all rules of shapes but the one on what is lit at absolute places, so it is good if it
+/// ends at a relative place, and is judged item by item else.
+fn find_made_entry_fault(
+    rom: &RomImage,
+    entries: &ListIndex,
+    entry: &Entry,
+    window: &Window,
+) -> Result<(), ShapeFinding>
+    requires list { IsSomeCertificate entries.now }
+    requires entry { IsClaim entry.now }
+    requires made { MadeEntry rom.now entries.now entry.now }
+    ensures ok { OnOk result (GoodShape Exact window.now rom.now entries.now entry.now) }
+    ensures err { IfErr result (λ finding. ShapeFaultFound Exact window.now rom.now entries.now entry.now finding) }
+    ensures place { IfErr result (λ finding. (finding.fault.addr ≡ entry.now.addr) × (finding.fault.key ≡ entry.now.key)) }
+    ensures entry { IfErr result (λ finding. finding.entry ≡ entry.now) }
+    ensures cause { IfErr result (ShapeCauseOf window.now) }
+{
+    if is_relative(entry) {
+        return Ok(());
+    }
+    find_entry_fault(Mode::Exact, window, rom, entries, entry)
+}
+
+/// Judges the shapes of made entries, in the order of the certificate.
+fn find_made_fault(
+    rom: &RomImage,
+    frame: &FrameImage,
+    cert: &Cert,
+    entries: &ListIndex,
+    window: &Window,
+) -> Result<(), ShapeFinding>
+    requires entries { entries.now ≡ cert.now.entries }
+    requires made { FrameMade rom.now frame.now cert.now.entries }
+    ensures ok { OnOk result (Good Exact window.now rom.now cert.now.entries) }
+    ensures err { IfErr result (FirstShapeFound Exact window.now rom.now cert.now.entries) }
+    ensures cause { IfErr result (ShapeCauseOf window.now) }
+{
+    let list = cert.entries();
+    let mut index = 0;
+    'entries: while index < list.len() {
+        if let Err(finding) = find_made_entry_fault(rom, entries, &list[index], window) {
+            return Err(finding);
+        }
+        index += 1;
+    }
+    Ok(())
+}
+
+/// The checker's verdict on a frame by made entries, with no index of them.
+fn check_walked(
     rom: &RomImage,
     frame: &FrameImage,
     cert: &Cert,
@@ -64,11 +127,13 @@ fn check_relative(
 ) -> Result<Yes, RomFinding>
     requires budget { budget ≤ MOST_WORDS }
     requires made { FrameMade rom.now frame.now cert.now.entries }
-    requires relative { All (λ e. IsRelative e.stop) cert.now.entries }
     ensures judged { IsJudged rom.now frame.now window budget (checked result) }
     ensures found { IfErr result (TellsOf Exact window rom.now cert.now.entries frame.now budget) }
 {
     let entries = ListIndex::new(cert);
+    if let Err(finding) = find_made_fault(rom, frame, cert, &entries, &window) {
+        return Err(RomFinding::Shape(finding));
+    }
     let shapes = JudgedShapes::unchecked(rom, &entries, window, Mode::Exact);
     match shapes.find_fault(frame, budget) {
         Ok(accepted) => Ok(Yes {
@@ -80,8 +145,10 @@ fn check_relative(
     }
 }
 
-/// The checker's verdict on a frame by the certificate that was made for it. A made entry keeps all rules of shapes but the one on
-/// what is lit at absolute places, which are asked only where an entry does not end at a relative one.
+/// The checker's verdict on a frame by the certificate that was made for it.
+///
+/// To judge all shapes at once costs some 17 tails for each word of the ROM at most, to judge one item by item as much as it has
+/// items: so that is done for a few of them alone.
 fn check_made(
     alloc: Global,
     rom: &RomImage,
@@ -96,8 +163,8 @@ fn check_made(
     ensures judged { IsJudged rom.now frame.now window budget (checked result) }
     ensures found { IfErr result (TellsOf Exact window rom.now cert.now.entries frame.now budget) }
 {
-    if all_relative(cert.entries()) {
-        return check_relative(rom, frame, cert, budget, window);
+    if are_mostly_relative(cert.entries()) {
+        return check_walked(rom, frame, cert, budget, window);
     }
     find_parts_fault(alloc, rom, frame, cert, budget, window, Mode::Exact)
 }
@@ -120,8 +187,8 @@ fn checked(verdict: &Result<Yes, RomFinding>) -> Result<Yes, FrameRefusal>
 /// else that of the checker on the made certificate; it means that no certificate gets the frame accepted, but for 62 by the
 /// number of entries, where another one may, and for 63 and 50, where memory was out. 62 by the number of entries comes only
 /// where the calls up to this one really need too many. If the ROM is on the board, what is accepted is safe on its circuit, too,
-/// whatever its registers hold at the start. Takes memory for the certificate, and for its index if one of its entries does not end
-/// at a relative place.
+/// whatever its registers hold at the start. Takes memory for the certificate, and for its index if more than a few of its entries do
+/// not end at a relative place.
 pub fn judge(
     alloc: Global,
     rom: &RomImage,

@@ -5,7 +5,7 @@ use Rattle.dvg_items.specs.Known.{shape_context}
 use Rattle.dvg_words.specs.Memory.{rom_word}
 use Rattle.dvg_check.proofs.Broken.{broken}
 use Rattle.dvg_check.proofs.Faults.{shape_rule_of, shape_rule_of-number}
-use Rattle.dvg_check.proofs.shapes.find_fault.Goals as goal
+use Rattle.dvg_check.proofs.shapes.find_entry_fault.Goals as goal
 
 pub shape_cause-requires-clause-broken : goal.shape_cause-requires-clause-broken
 shape_cause-requires-clause-broken g c =

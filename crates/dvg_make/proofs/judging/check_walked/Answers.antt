@@ -13,8 +13,7 @@ use Rattle.dvg_check.specs.Rules.{Good, GoodFrame}
 use Rattle.dvg_check.specs.Safety.{Safe, CountsAtHalt}
 use Rattle.dvg_check.specs.declared.fault.Mode.TheVariants.{Exact}
 use Rattle.dvg_make.proofs.OwnCertificate.{judged_by}
-use Rattle.dvg_make.proofs.Relative.{all_relative_good}
-use Rattle.dvg_make.proofs.judging.check_relative.Goals as goal
+use Rattle.dvg_make.proofs.judging.check_walked.Goals as goal
 
 -- the shapes of this list, taken as good
 abbrev taken : Rom → Window → List Entry → Shapes
@@ -23,12 +22,12 @@ taken rom w list = record { rom = rom; list = list; window = w; mode = Exact }
 pub unchecked-shapes-requires-clause-good : goal.unchecked-shapes-requires-clause-good
 unchecked-shapes-requires-clause-good c =
     subst (λ (list : List Entry). Good Exact c.args.window c.args.rom.now list) (sym c.new-entries.ensures)
-    (all_relative_good c.args.rom.now c.args.frame.now c.args.cert.now.entries c.args.window c.requires.made c.requires.relative)
+    c.in_default.ensures.ok
 
 pub returns-in-Ok-clause-judged : goal.returns-in-Ok-clause-judged
 returns-in-Ok-clause-judged c =
     let same = c.unchecked-shapes.ensures ∙ ap (taken c.args.rom.now c.args.window) c.new-entries.ensures in
-    let good = all_relative_good c.args.rom.now c.args.frame.now c.args.cert.now.entries c.args.window c.requires.made c.requires.relative in
+    let good = c.in_default.ensures.ok in
     let frame = subst (λ (s : Shapes). GoodFrame s.window s.rom.machine c.args.frame.now s.list c.args.budget c.in-Ok.accepted.words c.in-Ok.accepted.depth) same c.in-Ok.ensures.ok in
     let shapes : length c.entries.result.now ≡ length c.args.cert.now.entries = ap (λ (list : List Entry). length list) c.entries.ensures.value in
     judged_by c.args.rom.now c.args.frame.now c.args.window c.args.budget c.args.cert.now.entries c.requires.made
@@ -39,17 +38,22 @@ returns-in-Ok-clause-judged c =
     (subst (λ (s : Shapes). s.rom.machine ≡ Board → SafeOnCircuit (record { frame = c.args.frame.now; rom = s.rom }) s.window c.in-Ok.accepted.words c.in-Ok.accepted.depth) same c.in-Ok.ensures.circuit)
     (λ board. subst (λ (s : Shapes). s.rom.machine ≡ Board → s.mode ≡ Exact → CountsOnCircuit (record { frame = c.args.frame.now; rom = s.rom }) c.in-Ok.accepted.words c.in-Ok.accepted.depth) same c.in-Ok.ensures.circuit_exact board refl)
 
-pub returns-in-Err-clause-found : goal.returns-in-Err-clause-found
-returns-in-Err-clause-found c =
-    let same = c.unchecked-shapes.ensures ∙ ap (taken c.args.rom.now c.args.window) c.new-entries.ensures in (
-      subst (λ (s : Shapes). FirstFrameFound s.window s.rom.machine c.args.frame.now s.list c.args.budget c.in-Err.finding) same c.in-Err.ensures.err,
-      subst (λ (s : Shapes). CauseOf s.window c.args.budget c.in-Err.finding) same c.in-Err.ensures.cause,
-    )
-
 pub returns-in-Err-clause-judged : goal.returns-in-Err-clause-judged
 returns-in-Err-clause-judged c =
+    judged_by c.args.rom.now c.args.frame.now c.args.window c.args.budget c.args.cert.now.entries c.requires.made (Err (finding.Shape c.in-Err.finding)) c.in-Err.ensures.err.first
+    tt tt (λ board. tt) (λ board. tt)
+
+pub returns-in-Err-find_fault-clause-found : goal.returns-in-Err-find_fault-clause-found
+returns-in-Err-find_fault-clause-found c =
+    let same = c.unchecked-shapes.ensures ∙ ap (taken c.args.rom.now c.args.window) c.new-entries.ensures in (
+      subst (λ (s : Shapes). FirstFrameFound s.window s.rom.machine c.args.frame.now s.list c.args.budget c.in-Err-find_fault.finding) same c.in-Err-find_fault.ensures.err,
+      subst (λ (s : Shapes). CauseOf s.window c.args.budget c.in-Err-find_fault.finding) same c.in-Err-find_fault.ensures.cause,
+    )
+
+pub returns-in-Err-find_fault-clause-judged : goal.returns-in-Err-find_fault-clause-judged
+returns-in-Err-find_fault-clause-judged c =
     let same = c.unchecked-shapes.ensures ∙ ap (taken c.args.rom.now c.args.window) c.new-entries.ensures in
-    let good = all_relative_good c.args.rom.now c.args.frame.now c.args.cert.now.entries c.args.window c.requires.made c.requires.relative in
-    let found = subst (λ (s : Shapes). FirstFrameFound s.window s.rom.machine c.args.frame.now s.list c.args.budget c.in-Err.finding) same c.in-Err.ensures.err in
-    judged_by c.args.rom.now c.args.frame.now c.args.window c.args.budget c.args.cert.now.entries c.requires.made (Err (finding.Frame c.in-Err.finding)) (good, found.fault)
+    let good = c.in_default.ensures.ok in
+    let found = subst (λ (s : Shapes). FirstFrameFound s.window s.rom.machine c.args.frame.now s.list c.args.budget c.in-Err-find_fault.finding) same c.in-Err-find_fault.ensures.err in
+    judged_by c.args.rom.now c.args.frame.now c.args.window c.args.budget c.args.cert.now.entries c.requires.made (Err (finding.Frame c.in-Err-find_fault.finding)) (good, found.fault)
     tt tt (λ board. tt) (λ board. tt)

@@ -1,0 +1,32 @@
+use Rattle.std.proofs.Common.{◌+◌, List, ap, arith, length, pos, slice_index_or, subst, sym}
+use Rattle.std.specs.Prelude.{Contains}
+use Rattle.std.proofs.lemmas.List.Elements.{Contains-get_or}
+use Rattle.dvg_make.specs.Made.{MadeEntry}
+use Rattle.dvg_cert.specs.declared.entry.Key.TheVariants.{At}
+use Rattle.dvg_cert.specs.declared.entry.End.TheVariants.{Rel}
+use Rattle.dvg_cert.specs.declared.entry.LitBox.TheVariants.{Empty}
+use Rattle.dvg_cert.specs.declared.entry.Entry.{Entry}
+use Rattle.dvg_check.proofs.Listed.{faulty_found, good_more}
+use Rattle.dvg_check.specs.declared.fault.Mode.TheVariants.{Exact}
+use Rattle.dvg_make.proofs.judging.find_made_fault.Goals as goal
+
+-- what stands for an entry past the end
+abbrev none : Entry
+none = record { addr = 0; key = At 0; stop = Rel (pos 0) (pos 0); lit = Empty; depth = 0; words = 0; scale = At 0 }
+
+pub find_made_entry_fault-requires-clause-made : goal.find_made_entry_fault-requires-clause-made
+find_made_entry_fault-requires-clause-made c =
+    let entry = slice_index_or c.entries-list.result.now c.entries.index none in
+    let listed = subst (λ (l : List Entry). Contains l entry) c.entries-list.ensures.value (Contains-get_or c.entries-list.result.now c.entries.index none c.entries-test.true) in
+    subst (λ (l : List Entry). MadeEntry c.args.rom.now l entry) (sym c.requires.entries) (c.requires.made.each entry listed)
+
+pub returns-in-Err-clause-err : goal.returns-in-Err-clause-err
+returns-in-Err-clause-err c =
+    faulty_found Exact c.args.window.now c.args.rom.now c.args.cert.now.entries c.entries-list.result.now c.args.entries.now c.entries.index none c.in-Err.finding c.entries-list.ensures.value c.requires.entries c.entries-test.true c.entries.invariant.good c.in-Err.ensures.err c.in-Err.ensures.place.0 c.in-Err.ensures.place.1 c.in-Err.ensures.entry
+
+pub entries-preserved : goal.entries-preserved
+entries-preserved c =
+    record {
+      few = omega (arith, c.entries-test.true, ap length c.entries-list.ensures.value);
+      good = good_more Exact c.args.window.now c.args.rom.now c.args.cert.now.entries c.entries-list.result.now c.args.entries.now c.entries.index (c.entries.index + 1) none c.entries-list.ensures.value c.requires.entries (omega arith) c.entries-test.true c.entries.invariant.good c.in_default.ensures.ok;
+    }
