@@ -1,5 +1,6 @@
 -- What to do about an entry that can't be made. All of it is this project's own.
-use Rattle.std.specs.Prelude.{ℕ, ◌-◌, length, slice_get, Option, Some, None, nat_eq, nat_lt, if◌then◌else◌}
+use Rattle.std.specs.Prelude.{ℕ, ◌-◌, length, slice_get, Option, Some, None, Bool, true, nat_eq, nat_lt, if◌then◌else◌}
+use Rattle.dvg_words.specs.Values.{MemoryMap}
 use Rattle.dvg_words.specs.declared.map.TheConstants.{RAM_WORDS}
 use Rattle.dvg_check.specs.FirstFault.{shape_number}
 use Rattle.dvg_check.specs.declared.fault.ShapeWhy.TheVariants as rule
@@ -20,11 +21,21 @@ outside_cure at = if nat_lt at RAM_WORDS then cure.CallsRam else cure.CallsOutsi
 abbrev pub outside_below_cure : ℕ → MakerCure
 outside_below_cure at = if nat_lt at RAM_WORDS then cure.LeadsToRam else cure.LeadsOutside
 
--- a missing word is the first one of the last shape on the way, which is called or jumped to, or else that shape runs out of the ROM
-abbrev pub missing_cure : Option ShapeAt → ℕ → ℕ → MakerCure
-missing_cure (Some shape) shapes at =
-    if nat_eq shape.addr at then if nat_eq shapes 1 then outside_cure at else outside_below_cure at else cure.OfRule (shape_number rule.Unmapped)
-missing_cure None shapes at = cure.OfRule (shape_number rule.Unmapped)
+-- a word address outside the ROM
+abbrev pub is_outside : MemoryMap → ℕ → Bool
+is_outside map at = if nat_lt at map.rom_first then true else nat_lt map.rom_last at
+
+-- the shape runs out of the ROM
+abbrev pub runs_out : MakerCure
+runs_out = cure.OfRule (shape_number rule.Unmapped)
+
+-- the item with a missing word begins the last shape on the way, and is outside the ROM, or else that shape runs out of the ROM
+abbrev pub missing_cure : MemoryMap → Option ShapeAt → ℕ → ℕ → MakerCure
+missing_cure map (Some shape) shapes at =
+    if nat_eq shape.addr at
+    then if is_outside map at then if nat_eq shapes 1 then outside_cure at else outside_below_cure at else runs_out
+    else runs_out
+missing_cure map None shapes at = runs_out
 
 -- what an item of a shape breaks is cured as the rule says; a frame's call may be none of a shape's first word
 abbrev pub item_cure : Option FrameCall → ℕ → MakerCure
@@ -42,18 +53,18 @@ scale_cure (Some call) = cure.CallScale
 scale_cure None = cure.RootScale
 
 -- what breaks a rule of shapes is cured as that rule says
-abbrev pub cure_by : EntryCause → MakeAccount → MakerCure
-cure_by cause.RootOutside a = cure.RootOutside
-cure_by cause.Missing a = missing_cure (slice_get a.chain.items (length a.chain.items - 1)) (length a.chain.items) a.at
-cure_by cause.Odd a = item_cure a.fault.call (shape_number rule.Odd)
-cure_by cause.Halt a = item_cure a.fault.call (shape_number rule.HaltInShape)
-cure_by cause.BeamUnknown a = scale_cure a.fault.call
-cure_by cause.ScaleUnknown a = scale_cure a.fault.call
-cure_by (cause.Ring from) a = cure.Ring
-cure_by (cause.Deep to scale) a = cure.Deep
-cure_by (cause.TooManyWords words) a = cure.Words
-cure_by cause.TooManyEntries a = entries_cure a.fault.call
-cure_by cause.Memory a = cure.OfRule (fault_number make.Memory)
+abbrev pub cure_by : MemoryMap → EntryCause → MakeAccount → MakerCure
+cure_by map cause.RootOutside a = cure.RootOutside
+cure_by map cause.Missing a = missing_cure map (slice_get a.chain.items (length a.chain.items - 1)) (length a.chain.items) a.at
+cure_by map cause.Odd a = item_cure a.fault.call (shape_number rule.Odd)
+cure_by map cause.Halt a = item_cure a.fault.call (shape_number rule.HaltInShape)
+cure_by map cause.BeamUnknown a = scale_cure a.fault.call
+cure_by map cause.ScaleUnknown a = scale_cure a.fault.call
+cure_by map (cause.Ring from) a = cure.Ring
+cure_by map (cause.Deep to scale) a = cure.Deep
+cure_by map (cause.TooManyWords words) a = cure.Words
+cure_by map cause.TooManyEntries a = entries_cure a.fault.call
+cure_by map cause.Memory a = cure.OfRule (fault_number make.Memory)
 
-abbrev pub cure_of : MakeAccount → MakerCure
-cure_of a = cure_by a.cause a
+abbrev pub cure_of : MemoryMap → MakeAccount → MakerCure
+cure_of map a = cure_by map a.cause a

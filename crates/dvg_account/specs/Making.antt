@@ -122,4 +122,4 @@ pub record UnmadeLines (rom : Rom) (frames : List (List ℕ)) (a : MakeAccount) 
   pub below : Option Line
   pub deep : TellsBelow a.cause below
   pub told : lines ≡ machine_lines rom.machine ++ Rule (fault_number (make_fault_of a.fault.why)) ∷ option_to_list (why_line a.fault.call a.at why)
-      ++ way_lines call item (Path (path.MakerChain (chain_of a))) ++ option_to_list below ++ MakerCure (cure_of a) ∷ []
+      ++ way_lines call item (Path (path.MakerChain (chain_of a))) ++ option_to_list below ++ MakerCure (cure_of rom.map a) ∷ []

@@ -1,11 +1,11 @@
 //! What to do about an entry that can't be made.
 
 ghost use Rattle.std.specs.Prelude.{◌≡◌, ◌-◌, length, slice_get};
-ghost use Rattle.dvg_account.specs.Cures.{missing_cure, item_cure, scale_cure, entries_cure, cure_of};
+ghost use Rattle.dvg_account.specs.Cures.{is_outside, missing_cure, item_cure, scale_cure, entries_cure, cure_of};
 
 use dvg_check::ShapeWhy;
 use dvg_make::{EntryCause, FrameCall, MakeAccount, MakeFault};
-use dvg_words::RAM_WORDS;
+use dvg_words::{RAM_WORDS, RomMap};
 
 /// What to do about an entry that can't be made.
 #[derive(Clone, Copy)]
@@ -38,14 +38,21 @@ pub enum MakerCure {
     CallsEntries,
 }
 
+/// Whether a word address is outside the ROM.
+fn is_outside(map: RomMap, at: u16) -> bool
+    ensures { result ≡ is_outside map at }
+{
+    at < map.first() || map.last() < at
+}
+
 impl MakerCure {
-    /// What to do about a refusal of the maker.
-    pub fn of(account: &MakeAccount) -> MakerCure
-        ensures { result ≡ cure_of account.now }
+    /// What to do about a refusal of the maker over a ROM that lies here.
+    pub fn of(map: RomMap, account: &MakeAccount) -> MakerCure
+        ensures { result ≡ cure_of map account.now }
     {
         match account.cause {
             EntryCause::RootOutside => MakerCure::RootOutside,
-            EntryCause::Missing => MakerCure::of_missing(account),
+            EntryCause::Missing => MakerCure::of_missing(map, account),
             EntryCause::Odd => MakerCure::of_item(account.fault.call, ShapeWhy::Odd.number()),
             EntryCause::Halt => MakerCure::of_item(
                 account.fault.call,
@@ -62,14 +69,15 @@ impl MakerCure {
         }
     }
 
-    /// What to do about a missing word: the end of a shape, or the very word that is called or jumped to.
-    fn of_missing(account: &MakeAccount) -> MakerCure
-        ensures { result ≡ missing_cure (slice_get account.now.chain.items (length account.now.chain.items - 1)) (length account.now.chain.items)
-            account.now.at }
+    /// What to do about a missing word: a shape runs out of the ROM, or the very word that is called or jumped to is outside it.
+    fn of_missing(map: RomMap, account: &MakeAccount) -> MakerCure
+        ensures { result ≡ missing_cure map (slice_get account.now.chain.items (length account.now.chain.items - 1))
+            (length account.now.chain.items) account.now.at }
     {
+        let at = account.at;
         match account.chain.last() {
-            Some(shape) if shape.addr == account.at => {
-                match (account.chain.len() == 1, account.at < RAM_WORDS) {
+            Some(shape) if shape.addr == at && is_outside(map, at) => {
+                match (account.chain.len() == 1, at < RAM_WORDS) {
                     (true, true) => MakerCure::CallsRam,
                     (true, false) => MakerCure::CallsOutside,
                     (false, true) => MakerCure::LeadsToRam,

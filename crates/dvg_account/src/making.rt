@@ -60,7 +60,7 @@ pub fn unmade_lines(
     let item = item_of(rom, frame, &account);
     let why = why_of(rom, &account);
     let told = why_line(account.fault.call, account.at, why);
-    let cure = MakerCure::of(&account);
+    let cure = MakerCure::of(rom.map(), &account);
     let mut lines = Lines::new(alloc);
     lines.push_machine(rom.machine());
     lines.push(Line::Rule(number));
