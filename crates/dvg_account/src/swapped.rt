@@ -1,9 +1,9 @@
 //! Whether inputs that are refused are accepted with the bytes of each word swapped.
 
-ghost use Rattle.std.specs.Prelude.{◌≡◌, Ok, IfOk, IfSome};
-ghost use Rattle.dvg_words.specs.Memory.{rom_on, words_of};
+ghost use Rattle.std.specs.Prelude.{◌≡◌, length, Ok, IfOk, IfSome};
+ghost use Rattle.dvg_words.specs.Memory.{IsRomLength, rom_on, words_of};
 ghost use Rattle.dvg_make.specs.Judging.{VerdictByMade};
-ghost use Rattle.dvg_check.specs.Verdict.{RomVerdict};
+ghost use Rattle.dvg_check.specs.Verdict.{InRange, RomVerdict};
 ghost use Rattle.dvg_account.specs.Swapped.{swapped, IsAcceptedSwapped, AreAccepted};
 
 use crate::inputs::Inputs;
@@ -83,7 +83,8 @@ fn accepted_by(
     rom: &[u8],
     frame: &[u8],
 ) -> Result<Option<Yes>, AllocError>
-    ensures { IfOk result (λ counts. IfSome counts (λ yes. RomVerdict inputs.now.machine inputs.now.mode inputs.now.window rom.now cert.now
+    ensures range { IfOk result (λ counts. IfSome counts (λ _. InRange frame.now inputs.now.budget)) }
+    ensures yes { IfOk result (λ counts. IfSome counts (λ yes. RomVerdict inputs.now.machine inputs.now.mode inputs.now.window rom.now cert.now
         (words_of frame.now) inputs.now.budget (Ok yes))) }
 {
     let Inputs {
@@ -111,7 +112,9 @@ fn accepted_own(
     rom: &[u8],
     frame: &[u8],
 ) -> Result<Option<Yes>, AllocError>
-    ensures { IfOk result (λ counts. IfSome counts (λ yes. VerdictByMade (rom_on inputs.now.machine map rom.now) (words_of frame.now)
+    ensures range { IfOk result (λ counts. IfSome counts (λ _. InRange frame.now inputs.now.budget)) }
+    ensures rom { IfOk result (λ counts. IfSome counts (λ _. IsRomLength map (length rom.now))) }
+    ensures yes { IfOk result (λ counts. IfSome counts (λ yes. VerdictByMade (rom_on inputs.now.machine map rom.now) (words_of frame.now)
         inputs.now.window inputs.now.budget (Ok yes))) }
 {
     let Ok(rom) = RomImage::from_bytes_on(inputs.machine, rom, map) else {
