@@ -100,12 +100,14 @@ pub fn run_places<R1: CountedRead, R2: CountedRead, W: CountedWrite>(
         (of_each (λ frame. R2.failures frame) frames.new) }
     ensures out_count { W.failures out.new ≡ count_after (blames_frames_writer result) (W.failures out.old) }
 
-    // On an answer, ROM and frames were read to their end or to one byte past their limit, and no further. Where the ROM's reader
-    // failed, no frame was read.
+    // Unless its reader failed, the ROM was read to its end or to one byte past its limit, and no further; so were the frames, but
+    // where a reader failed or memory was out. Where the ROM's reader failed, no frame was read.
     ensures rom_read { result ≢ Err (FramesRunFault.Plain maker.ReadRom)
         → IsReadTo MOST_ROM_READ (R1.remaining rom.old) (R1.remaining rom.new) }
     ensures frames_read { OnOk result (EachRead (of_each (λ frame. R2.remaining frame) frames.old)
         (of_each (λ frame. R2.remaining frame) frames.new)) }
+    ensures frames_read_too { IfErr result (λ fault. fault ≢ FramesRunFault.Plain maker.ReadRom → fault ≢ FramesRunFault.ReadFrame
+        → frames_run_number fault ≢ 63 → EachRead (of_each (λ frame. R2.remaining frame) frames.old) (of_each (λ frame. R2.remaining frame) frames.new)) }
     ensures frames_unread { result ≡ Err (FramesRunFault.Plain maker.ReadRom) → frames.new ≡ frames.old }
 
     // What is written are the lines of the entries that are made for all bytes that the readers held, or a prefix of them, or nothing.

@@ -29,11 +29,16 @@ with_lines known [] = known
 with_lines None (line ∷ more) = None
 with_lines (Some known) (line ∷ more) = with_lines (with_line known line) more
 
+-- the line tells a label
+abbrev pub TellsLabel : Meaning → Type 0
+TellsLabel (Label name value) = Unit {0}
+TellsLabel other = ⊥
+
 -- why a line is refused where these labels stand before it
 abbrev pub IsLineFault : Labelling → List ℕ → LabelWhy → Type 0
 IsLineFault known line why.Form = line_meaning line ≡ Wrong
-IsLineFault known line why.TooMany = total known ≡ MOST_LABELS
-IsLineFault known line why.Memory = Unit {0}
+IsLineFault known line why.TooMany = TellsLabel (line_meaning line) × (total known ≡ MOST_LABELS)
+IsLineFault known line why.Memory = TellsLabel (line_meaning line)
 
 -- the line with this number, counted from 1, is refused, and the labels of all lines before it are read
 pub record RefusesLine (text : List ℕ) (number : ℕ) (why : LabelWhy) : Type 0 where
