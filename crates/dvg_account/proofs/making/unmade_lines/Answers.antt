@@ -1,6 +1,7 @@
 use Rattle.std.proofs.Common.{ap, subst, ◌∙◌, [], ◌∷◌}
 use Rattle.std.specs.Prelude.{option_to_list}
 use Rattle.dvg_make.specs.Refusals.{fault_number}
+use Rattle.dvg_account.specs.Cures.{cure_of}
 use Rattle.dvg_account.specs.Machines.{machine_lines}
 use Rattle.dvg_account.specs.Making.{IsCallItem, IsMakerItem, frame_of_call, way_lines}
 use Rattle.dvg_account.specs.declared.line.Line.TheVariants.{Rule, Path, MakerCure}
@@ -28,5 +29,5 @@ returns c =
           (then (then (then (then (told_as (ap machine_lines c.machine-2.ensures) c.push_machine.ensures)
           (then (told_as (ap (λ n. Rule n ∷ []) number_is) c.push.ensures) (told_as (ap option_to_list c.why_line-told.ensures) c.push_some.ensures)))
           (told_as (ap (λ chain. way_lines call item (Path (MakerChain chain))) c.chain_of.ensures) c.push_way.ensures)) c.push_some-2.ensures)
-          (told_as (ap (λ cure. MakerCure cure ∷ []) c.of-cure.ensures) c.push-2.ensures));
+          (told_as (ap (λ cure. MakerCure cure ∷ []) (c.of-cure.ensures ∙ ap (λ map. cure_of map c.args.account) c.map.ensures.value)) c.push-2.ensures));
     })
