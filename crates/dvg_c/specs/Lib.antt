@@ -3,3 +3,4 @@ pub mod Kept
 pub mod Judging
 pub mod Alone
 pub mod Texts
+pub mod Making

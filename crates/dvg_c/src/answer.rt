@@ -29,7 +29,7 @@ pub struct Answer {
     /// 0 where it is accepted, else the number of the refusal, 80 for a bad window, 81 where no shapes are judged, 82 for a bad
     /// machine, or 83 for a bad map.
     pub number: u8,
-    /// With 60 to 62, of a frame: the word address of the call whose entry can't be made.
+    /// With 60 to 62: the word address of the frame's call whose entry can't be made, or `NO_CALL` where it is a root's.
     pub call: u16,
 }
 
@@ -44,6 +44,12 @@ pub const BAD_MACHINE: u8 = 82;
 
 /// The number of a bad map.
 pub const BAD_MAP: u8 = 83;
+
+/// The number of lengths that don't add up to that of the bytes.
+pub const BAD_LENGTHS: u8 = 86;
+
+/// What stands for a call where a root's entry can't be made.
+pub const NO_CALL: u16 = 0xFFFF;
 
 /// What stands for the key of any scale.
 pub const ANY_SCALE: u8 = 16;
@@ -122,7 +128,7 @@ pub fn answer_of(verdict: &Result<Yes, Refusal>) -> Answer
 }
 
 /// Why an entry can't be made.
-fn unmade(why: EntryFault) -> Answer
+pub fn unmade(why: EntryFault) -> Answer
     ensures { result ≡ told_fault why }
 {
     let bare = numbered(MakeFault::from(why).number());

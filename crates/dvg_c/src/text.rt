@@ -11,6 +11,8 @@ use crate::answer::Answer;
 pub struct TextAnswer {
     /// How many bytes the text has; 0 where there is none.
     pub length: usize,
+    /// Of a made text, with 2 and with 60 to 62 at a call: which frame, counted from 0.
+    pub frame: usize,
     /// What the text is about.
     pub answer: Answer,
     /// 0 where the text stands whole in the buffer, 84 where the buffer is too short for it, else why there is none.
@@ -27,11 +29,13 @@ pub const NO_TEXT_MEMORY: u8 = 85;
 pub fn put_text(text: &[u8], answer: Answer, buffer: &mut [u8]) -> TextAnswer
     ensures put { IsPut text.now buffer.old buffer.new result }
     ensures answer { result.answer ≡ answer }
+    ensures frame { result.frame ≡ 0 }
 {
     let length = text.len();
     if buffer.len() < length {
         return TextAnswer {
             length,
+            frame: 0,
             answer,
             number: SHORT_BUFFER,
         };
@@ -39,6 +43,7 @@ pub fn put_text(text: &[u8], answer: Answer, buffer: &mut [u8]) -> TextAnswer
     buffer[..length].copy_from_slice(text);
     TextAnswer {
         length,
+        frame: 0,
         answer,
         number: 0,
     }
@@ -46,10 +51,11 @@ pub fn put_text(text: &[u8], answer: Answer, buffer: &mut [u8]) -> TextAnswer
 
 /// Says by a number why there is no text.
 pub fn no_text(number: u8, answer: Answer) -> TextAnswer
-    ensures { result ≡ record { length = 0; answer = answer; number = number } }
+    ensures { result ≡ record { length = 0; frame = 0; answer = answer; number = number } }
 {
     TextAnswer {
         length: 0,
+        frame: 0,
         answer,
         number,
     }
