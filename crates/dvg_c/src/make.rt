@@ -1,6 +1,6 @@
 //! The certificate that the maker makes, as a text in C's buffer.
 
-ghost use Rattle.std.specs.Prelude.{◌≡◌, ◌×◌, ℕ, List, Result, Ok, Err, Some, Option, length, sum, IfOk, IfErr};
+ghost use Rattle.std.specs.Prelude.{◌≡◌, ℕ, List, Result, Ok, Err, Some, Option, length, sum, IfOk, IfErr};
 ghost use Rattle.dvg_spelling.specs.Each.{of_each};
 ghost use Rattle.dvg_c.specs.Told.{map_of};
 ghost use Rattle.dvg_c.specs.Making.{AreCut, IsMade, MakeVerdict, RefusesCut, root_of, told_run, told_unmade, unmade_frame};
