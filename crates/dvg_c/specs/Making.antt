@@ -50,7 +50,7 @@ abbrev pub MakeVerdict : ℕ → List ℕ → MemoryMap → List (ℕ × Key) �
 MakeVerdict machine rom map roots bytes lengths (Ok text) =
     (machine ≤ BOARD) × IsMap map
     × ((frames : List (List ℕ)) × AreCut bytes lengths frames
-      × WritesMade (MakesForFrames (machine_of machine) (Some rom) map roots (holding frames)) map (Some []) (Some text))
+    × WritesMade (MakesForFrames (machine_of machine) (Some rom) map roots (holding frames)) map (Some []) (Some text))
 MakeVerdict machine rom map roots bytes lengths (Err unmade.Machine) = machine ≤ BOARD → ⊥
 MakeVerdict machine rom map roots bytes lengths (Err unmade.Map) = (machine ≤ BOARD) × (IsMap map → ⊥)
 MakeVerdict machine rom map roots bytes lengths (Err unmade.Lengths) =
@@ -59,7 +59,7 @@ MakeVerdict machine rom map roots bytes lengths (Err unmade.Memory) = Unit {0}
 MakeVerdict machine rom map roots bytes lengths (Err (unmade.Run f)) =
     (machine ≤ BOARD) × IsMap map
     × ((frames : List (List ℕ)) × AreCut bytes lengths frames
-      × FramesFaultMeans (machine_of machine) (Some rom) map roots (holding frames) f)
+    × FramesFaultMeans (machine_of machine) (Some rom) map roots (holding frames) f)
 
 -- the number of the maker's run, with the place of its refusal: a frame's call, or none where it is a root's
 abbrev pub told_run : FramesRunFault → Answer

@@ -118,7 +118,5 @@ pub extern "C" fn dvgcheck_frame_alone(
     ensures verdict { TellsAlone machine rom.now (map_of map) frame.now budget (window_of window) result }
     ensures accepted { result.number ≡ 0 → IsAcceptedAlone machine rom.now (map_of map) frame.now budget (window_of window) result }
 {
-    alone_answer(&judge_alone(
-        alloc, machine, rom, map, frame, budget, window,
-    ))
+    alone_answer(&judge_alone(alloc, machine, rom, map, frame, budget, window))
 }

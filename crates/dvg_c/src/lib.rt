@@ -33,6 +33,3 @@ pub use shapes::KeptShapes;
 pub use text::TextAnswer;
 pub use version::dvgcheck_version;
 pub use window::WindowEnds;
-
-#[cfg(test)]
-mod trying;

@@ -113,7 +113,15 @@ fn made_text(
     };
     let mut rom = Counted::new(rom);
     let mut out = Counted::new(Vec::new(alloc));
-    match run_make_frames(machine, alloc, &mut rom, map, &roots, &mut readers, &mut out) {
+    match run_make_frames(
+        machine,
+        alloc,
+        &mut rom,
+        map,
+        &roots,
+        &mut readers,
+        &mut out,
+    ) {
         Ok(()) => Ok(out.into_inner()),
         Err(FramesRunFault::Plain(MakeRunFault::Write)) => Err(Unmade::Memory),
         Err(fault) => Err(Unmade::Run(fault)),
