@@ -2,3 +2,4 @@ pub mod Searching
 pub mod Unique
 pub mod Keeping
 pub mod Cutting
+pub mod Made

@@ -14,6 +14,9 @@ use crate::text::{TextAnswer, no_text, put_text};
 use dvg_cmd::{Counted, FramesRunFault, Key, MakeFault, MakeRunFault, run_make_frames};
 use std::alloc::{AllocError, Global};
 
+/// The number of a want of memory, as of the maker's.
+const NO_MEMORY: u8 = 63;
+
 /// A shape for which there is to be an entry: its word address, and the global scale at its calls, 0 to 15, or 16 for any.
 #[repr(C)]
 #[derive(Clone, Copy)]
@@ -123,7 +126,6 @@ fn made_text(
         &mut out,
     ) {
         Ok(()) => Ok(out.into_inner()),
-        Err(FramesRunFault::Plain(MakeRunFault::Write)) => Err(Unmade::Memory),
         Err(fault) => Err(Unmade::Run(fault)),
     }
 }
@@ -147,6 +149,7 @@ fn run_answer(fault: &FramesRunFault) -> Answer
             call: NO_CALL,
             ..bare
         },
+        FramesRunFault::Plain(MakeRunFault::Write) => numbered(NO_MEMORY),
         _ => bare,
     }
 }
@@ -159,7 +162,7 @@ fn unmade_answer(unmade: &Unmade) -> Answer
         Unmade::Machine => numbered(BAD_MACHINE),
         Unmade::Map => numbered(BAD_MAP),
         Unmade::Lengths => numbered(BAD_LENGTHS),
-        Unmade::Memory => numbered(63),
+        Unmade::Memory => numbered(NO_MEMORY),
         Unmade::Run(fault) => run_answer(fault),
     }
 }
