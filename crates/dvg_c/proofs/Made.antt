@@ -1,5 +1,5 @@
 -- What a run of the maker over slices means, in the words of C's arguments.
-use Rattle.std.proofs.Common.{◌≡◌, ℕ, List, [], ◌∷◌, Option, Some, refl, ap}
+use Rattle.std.proofs.Common.{◌≡◌, ℕ, List, [], ◌∷◌, Option, refl, ap}
 use Rattle.dvg_words.specs.declared.machine.Machine.{Machine}
 use Rattle.dvg_words.specs.Values.{MemoryMap}
 use Rattle.dvg_cert.specs.declared.entry.Key.{Key}

@@ -4,9 +4,7 @@ use Rattle.std.specs.List.{concat}
 use Rattle.dvg_words.specs.Values.{MemoryMap, IsMap}
 use Rattle.dvg_cert.specs.declared.entry.Key.{Key}
 use Rattle.dvg_cert.specs.declared.entry.Key.TheVariants.{At, Any}
-use Rattle.dvg_make.specs.declared.fault.EntryFault.{EntryFault}
 use Rattle.dvg_make.specs.declared.fault.MakeFault.TheVariants as make
-use Rattle.dvg_make.specs.declared.fault.FrameCall.{FrameCall}
 use Rattle.dvg_spelling.specs.Each.{of_each}
 use Rattle.dvg_spelling.specs.Faults.{frames_run_number}
 use Rattle.dvg_spelling.specs.declared.fault.FramesRunFault.{FramesRunFault}

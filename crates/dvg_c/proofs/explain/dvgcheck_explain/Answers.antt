@@ -1,4 +1,4 @@
-use Rattle.std.proofs.Common.{◌≡◌, ◌∙◌, Ok, Err, refl, ap, subst}
+use Rattle.std.proofs.Common.{◌∙◌, Ok, Err, refl, ap, subst}
 use Rattle.dvg_c.specs.Told.{numbered}
 use Rattle.dvg_c.specs.Alone.{bad_number}
 use Rattle.dvg_c.specs.Texts.{IsPut}

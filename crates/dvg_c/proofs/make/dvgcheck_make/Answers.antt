@@ -1,4 +1,4 @@
-use Rattle.std.proofs.Common.{◌≡◌, ◌∙◌, Ok, Err, refl, ap, subst}
+use Rattle.std.proofs.Common.{◌∙◌, Ok, Err, refl, ap, subst}
 use Rattle.dvg_c.specs.Texts.{IsPut}
 use Rattle.dvg_c.proofs.make.dvgcheck_make.Goals as goal
 

@@ -1,4 +1,4 @@
-use Rattle.std.proofs.Common.{rules, ◌≡◌, ◌∙◌, List, [], Some, ℕ, ap, sym, subst}
+use Rattle.std.proofs.Common.{◌∙◌, Some, ap, sym, subst}
 use Rattle.dvg_words.specs.Values.{IsMap}
 use Rattle.dvg_spelling.specs.Each.{of_each}
 use Rattle.dvg_c.proofs.Made.{of_each_twice, written_as, refused_as}
@@ -8,8 +8,7 @@ pub returns-in-Ok-run_make_frames-clause-ok :
     goal.returns-in-Ok-run_make_frames-clause-ok
 returns-in-Ok-run_make_frames-clause-ok c =
     let readers = c.in_ok-readers.readers.items in
-    let frames_are = ap (of_each (λ reader. Some reader.device.now)) c.deref_mut.ensures.value ∙ of_each_twice (λ reader. reader.device.now) Some readers in
-    (
+    let frames_are = ap (of_each (λ reader. Some reader.device.now)) c.deref_mut.ensures.value ∙ of_each_twice (λ reader. reader.device.now) Some readers in (
       c.in-Some.ensures.range,
       subst IsMap c.in-Some-map_between.ensures.some c.in-Some-map_between.ensures.range,
       (
@@ -23,8 +22,7 @@ returns-in-Ok-run_make_frames-clause-ok c =
 pub returns-clause-err : goal.returns-clause-err
 returns-clause-err c =
     let readers = c.in_ok-readers.readers.items in
-    let frames_are = ap (of_each (λ reader. Some reader.device.now)) c.deref_mut.ensures.value ∙ of_each_twice (λ reader. reader.device.now) Some readers in
-    (
+    let frames_are = ap (of_each (λ reader. Some reader.device.now)) c.deref_mut.ensures.value ∙ of_each_twice (λ reader. reader.device.now) Some readers in (
       c.in-Some.ensures.range,
       subst IsMap c.in-Some-map_between.ensures.some c.in-Some-map_between.ensures.range,
       (
