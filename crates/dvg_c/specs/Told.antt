@@ -1,19 +1,28 @@
 -- What the plain structs that C sees stand for. All of it is this project's own.
 use Rattle.std.specs.Prelude.{◌≡◌, ℕ, Result, Ok, Err}
-use Rattle.dvg_words.specs.Values.{Window}
+use Rattle.dvg_words.specs.Values.{Window, MemoryMap}
 use Rattle.dvg_cert.specs.declared.entry.Key.{Key}
 use Rattle.dvg_cert.specs.declared.entry.Key.TheVariants.{At, Any}
 use Rattle.dvg_check.specs.Numbers.{refusal_number}
 use Rattle.dvg_check.specs.declared.verdict.Yes.{Yes}
 use Rattle.dvg_check.specs.declared.verdict.Refusal.{Refusal}
 use Rattle.dvg_check.specs.declared.verdict.Refusal.TheVariants as refusal
+use Rattle.dvg_make.specs.declared.fault.EntryFault.{EntryFault}
+use Rattle.dvg_make.specs.declared.fault.EntryFault.TheVariants as fault
+use Rattle.dvg_make.specs.declared.judging.FrameRefusal.{FrameRefusal}
+use Rattle.dvg_make.specs.declared.judging.FrameRefusal.TheVariants.{Make, NoMemory, Check}
 use Rattle.dvg_c.specs.declared.window.WindowEnds.{WindowEnds}
+use Rattle.dvg_c.specs.declared.map.MapEnds.{MapEnds}
 use Rattle.dvg_c.specs.declared.answer.Answer.{Answer}
 use Rattle.dvg_c.specs.declared.answer.TheConstants.{ANY_SCALE}
 
 -- the window between these ends
 abbrev pub window_of : WindowEnds → Window
 window_of w = record { x_min = w.x_min; x_max = w.x_max; y_min = w.y_min; y_max = w.y_max }
+
+-- the map between these ends
+abbrev pub map_of : MapEnds → MemoryMap
+map_of m = record { rom_first = m.first; rom_last = m.last }
 
 -- a global scale, or the number after the last for any
 abbrev pub told_key : Key → ℕ
@@ -22,7 +31,7 @@ told_key Any = ANY_SCALE
 
 -- a number alone
 abbrev pub numbered : ℕ → Answer
-numbered n = record { shapes = 0; words = 0; line = 0; word = 0; shape = 0; scale = 0; depth = 0; number = n }
+numbered n = record { shapes = 0; words = 0; line = 0; word = 0; shape = 0; scale = 0; depth = 0; number = n; call = 0 }
 
 -- what is accepted, with its counts
 abbrev pub told_yes : Yes → Answer
@@ -41,6 +50,21 @@ told_refusal (refusal.Frame f) = record (numbered (refusal_number (refusal.Frame
 abbrev pub told : Result Yes Refusal → Answer
 told (Ok y) = told_yes y
 told (Err r) = told_refusal r
+
+-- why an entry can't be made
+abbrev pub told_fault : EntryFault → Answer
+told_fault (fault.Unstraight word) = record (numbered 60) { word = word }
+told_fault fault.Deep = numbered 61
+told_fault fault.TooManyWords = numbered 62
+told_fault fault.TooManyEntries = numbered 62
+told_fault fault.Memory = numbered 63
+
+-- a verdict on a frame by its own certificate; a refusal of the maker with the frame's call
+abbrev pub told_own : Result Yes FrameRefusal → Answer
+told_own (Ok y) = told_yes y
+told_own (Err (Make at why)) = record (told_fault why) { call = at }
+told_own (Err NoMemory) = told_fault fault.Memory
+told_own (Err (Check r)) = told_refusal r
 
 -- the answer tells a verdict that is this one
 abbrev pub Tells : (Result Yes Refusal → Type 0) → Answer → Type 0

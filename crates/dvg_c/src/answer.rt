@@ -1,10 +1,11 @@
 //! What a judgement comes to, in plain numbers.
 
 ghost use Rattle.std.specs.Prelude.{◌≡◌};
-ghost use Rattle.dvg_c.specs.Told.{told_key, numbered, told_yes, told_refusal, told};
+ghost use Rattle.dvg_c.specs.Told.{told_key, numbered, told_yes, told_refusal, told, told_fault, told_own};
 
 use dvg_cert::Key;
 use dvg_check::{Refusal, Yes};
+use dvg_make::{EntryFault, FrameRefusal, MakeFault};
 
 /// What a judgement comes to. A field that its number doesn't speak of is 0.
 #[repr(C)]
@@ -16,7 +17,8 @@ pub struct Answer {
     pub words: u32,
     /// With 10 to 16: the certificate's line, counted from 1.
     pub line: u32,
-    /// With 20 to 33 and 40 to 48: the word address of the first item that breaks a rule.
+    /// With 20 to 33 and 40 to 48: the word address of the first item that breaks a rule. With 60: that of the item that no shape
+    /// can have.
     pub word: u16,
     /// With 20 to 33: the word address of the entry whose shape breaks it.
     pub shape: u16,
@@ -24,9 +26,11 @@ pub struct Answer {
     pub scale: u8,
     /// With 0: how many return places every run stores at once at most.
     pub depth: u8,
-    /// 0 where it is accepted, else the number of the refusal, 80 for a bad window, 81 where no shapes are judged, or 82 for a bad
-    /// machine.
+    /// 0 where it is accepted, else the number of the refusal, 80 for a bad window, 81 where no shapes are judged, 82 for a bad
+    /// machine, or 83 for a bad map.
     pub number: u8,
+    /// With 60 to 62: the word address of the frame's call whose entry can't be made, or `NO_CALL` where it is a root's.
+    pub call: u16,
 }
 
 /// The number of a bad window.
@@ -37,6 +41,15 @@ pub const NO_SHAPES: u8 = 81;
 
 /// The number of a bad machine.
 pub const BAD_MACHINE: u8 = 82;
+
+/// The number of a bad map.
+pub const BAD_MAP: u8 = 83;
+
+/// The number of lengths that don't add up to that of the bytes.
+pub const BAD_LENGTHS: u8 = 86;
+
+/// What stands for a call where a root's entry can't be made.
+pub const NO_CALL: u16 = 0xFFFF;
 
 /// What stands for the key of any scale.
 pub const ANY_SCALE: u8 = 16;
@@ -64,6 +77,7 @@ pub fn numbered(number: u8) -> Answer
         scale: 0,
         depth: 0,
         number,
+        call: 0,
     }
 }
 
@@ -110,5 +124,31 @@ pub fn answer_of(verdict: &Result<Yes, Refusal>) -> Answer
     match verdict {
         Ok(yes) => accepted(yes),
         Err(refusal) => refused(refusal),
+    }
+}
+
+/// Why an entry can't be made.
+pub fn unmade(why: EntryFault) -> Answer
+    ensures { result ≡ told_fault why }
+{
+    let bare = numbered(MakeFault::from(why).number());
+    match why {
+        EntryFault::Unstraight { word } => Answer { word, ..bare },
+        _ => bare,
+    }
+}
+
+/// What a verdict on a frame by its own certificate comes to.
+pub fn own_answer(verdict: &Result<Yes, FrameRefusal>) -> Answer
+    ensures { result ≡ told_own verdict.now }
+{
+    match verdict {
+        Ok(yes) => accepted(yes),
+        Err(FrameRefusal::Make { at, why }) => Answer {
+            call: *at,
+            ..unmade(*why)
+        },
+        Err(FrameRefusal::NoMemory) => unmade(EntryFault::Memory),
+        Err(FrameRefusal::Check(refusal)) => refused(refusal),
     }
 }

@@ -1,0 +1,38 @@
+use Rattle.std.proofs.Common.{◌∙◌, Ok, Err, refl, ap, subst}
+use Rattle.dvg_c.specs.Told.{numbered}
+use Rattle.dvg_c.specs.Alone.{bad_number}
+use Rattle.dvg_c.specs.Texts.{IsPut}
+use Rattle.dvg_c.proofs.explain.dvgcheck_explain.Goals as goal
+
+pub returns-in-Ok-account_of : goal.returns-in-Ok-account_of
+returns-in-Ok-account_of c =
+    record {
+      verdict = Ok c.in-Ok.verdict;
+      holds = c.in-Ok.ensures.ok;
+      answer_is = c.put_text.ensures.answer ∙ c.own_answer-answer.ensures;
+      text = Ok c.in-Ok-account_of.account.items;
+      explains = c.in-Ok-account_of.ensures.ok;
+      told = subst (λ text. IsPut text c.args.text.now c.put_text.new.buffer c.put_text.result) c.deref.ensures.value c.put_text.ensures.put;
+    }
+
+pub returns-in-Ok : goal.returns-in-Ok
+returns-in-Ok c =
+    record {
+      verdict = Ok c.in-Ok.verdict;
+      holds = c.in-Ok.ensures.ok;
+      answer_is = ap (λ t. t.answer) c.no_text.ensures ∙ c.own_answer-answer.ensures;
+      text = Err c.in-Err-account_of.number;
+      explains = c.in-Err-account_of.ensures.err;
+      told = (ap (λ t. t.number) c.no_text.ensures, ap (λ t. t.length) c.no_text.ensures, refl);
+    }
+
+pub returns : goal.returns
+returns c =
+    record {
+      verdict = Err c.in-Err.bad;
+      holds = c.in-Err.ensures.err;
+      answer_is = ap (λ t. t.answer) c.no_text-in-Err.ensures ∙ c.numbered.ensures ∙ ap numbered c.number-in-Err.ensures.value;
+      text = Err (bad_number c.in-Err.bad);
+      explains = refl;
+      told = (ap (λ t. t.number) c.no_text-in-Err.ensures ∙ c.number.ensures.value, ap (λ t. t.length) c.no_text-in-Err.ensures, refl);
+    }

@@ -1,0 +1,211 @@
+//! The certificate that the maker makes, as a text in C's buffer.
+
+ghost use Rattle.std.specs.Prelude.{◌≡◌, ℕ, List, Result, Ok, Err, Some, Option, length, sum, IfOk, IfErr};
+ghost use Rattle.dvg_spelling.specs.Each.{of_each};
+ghost use Rattle.dvg_c.specs.Told.{map_of};
+ghost use Rattle.dvg_c.specs.Making.{AreCut, IsMade, MakeVerdict, RefusesCut, root_of, told_run, told_unmade, unmade_frame};
+
+use crate::answer::{
+    ANY_SCALE, Answer, BAD_LENGTHS, BAD_MACHINE, BAD_MAP, NO_CALL, numbered, unmade,
+};
+use crate::machine::machine_numbered;
+use crate::map::{MapEnds, map_between};
+use crate::text::{TextAnswer, no_text, put_text};
+use dvg_cmd::{Counted, FramesRunFault, Key, MakeFault, MakeRunFault, run_make_frames};
+use std::alloc::{AllocError, Global};
+
+/// The number of a want of memory, as of the maker's.
+const NO_MEMORY: u8 = 63;
+
+/// A shape for which there is to be an entry: its word address, and the global scale at its calls, 0 to 15, or 16 for any.
+#[repr(C)]
+#[derive(Clone, Copy)]
+pub struct Root {
+    pub addr: u16,
+    pub scale: u8,
+}
+
+/// Why there is no certificate.
+#[derive(Clone, Copy)]
+pub enum Unmade {
+    /// The number stands for no machine.
+    Machine,
+    /// No ROM lies there.
+    Map,
+    /// The lengths of the frames don't add up to that of their bytes.
+    Lengths,
+    /// There was no memory, other than the maker's.
+    Memory,
+    /// What the maker's run tells.
+    Run(FramesRunFault),
+}
+
+/// The address and the key of a root.
+fn root_of(root: &Root) -> (u16, Key)
+    ensures { result ≡ root_of root.now }
+{
+    let key = if root.scale == ANY_SCALE {
+        Key::Any
+    } else {
+        Key::At(root.scale)
+    };
+    (root.addr, key)
+}
+
+/// The addresses and keys of roots.
+fn roots_of(alloc: Global, roots: &[Root]) -> Result<Vec<(u16, Key)>, AllocError>
+    ensures { IfOk result (λ all. all.items ≡ of_each root_of roots.now) }
+{
+    let mut all = Vec::new(alloc);
+    'roots: for i in 0..roots.len() {
+        all.push(root_of(&roots[i]))?;
+    }
+    Ok(all)
+}
+
+/// Readers of the frames that lie one behind the other in these bytes, with these lengths.
+fn frames_of<'a>(
+    alloc: Global,
+    bytes: &'a [u8],
+    lengths: &[u32],
+) -> Result<Vec<Counted<&'a [u8]>>, Unmade>
+    ensures ok { IfOk result (λ readers. AreCut bytes.now lengths.now (of_each (λ reader. reader.device.now) readers.items)) }
+    ensures err { IfErr result (RefusesCut bytes.now lengths.now) }
+{
+    let mut readers = Vec::new(alloc);
+    let mut rest = bytes;
+    'frames: for i in 0..lengths.len() {
+        let length = lengths[i] as usize;
+        if rest.len() < length {
+            return Err(Unmade::Lengths);
+        }
+        let (frame, behind) = rest.split_at(length);
+        if readers.push(Counted::new(frame)).is_err() {
+            return Err(Unmade::Memory);
+        }
+        rest = behind;
+    }
+    if !rest.is_empty() {
+        return Err(Unmade::Lengths);
+    }
+    Ok(readers)
+}
+
+/// The text of the certificate, or why there is none.
+fn made_text(
+    alloc: Global,
+    machine: u32,
+    rom: &[u8],
+    map: MapEnds,
+    roots: &[Root],
+    frames: &[u8],
+    lengths: &[u32],
+) -> Result<Vec<u8>, Unmade>
+    ensures ok { IfOk result (λ text. MakeVerdict machine rom.now (map_of map) (of_each root_of roots.now) frames.now lengths.now (Ok text.items)) }
+    ensures err { IfErr result (λ unmade. MakeVerdict machine rom.now (map_of map) (of_each root_of roots.now) frames.now lengths.now (Err unmade)) }
+{
+    let Some(machine) = machine_numbered(machine) else {
+        return Err(Unmade::Machine);
+    };
+    let Some(map) = map_between(map) else {
+        return Err(Unmade::Map);
+    };
+    let mut readers = frames_of(alloc, frames, lengths)?;
+    let Ok(roots) = roots_of(alloc, roots) else {
+        return Err(Unmade::Memory);
+    };
+    let mut rom = Counted::new(rom);
+    let mut out = Counted::new(Vec::new(alloc));
+    match run_make_frames(
+        machine,
+        alloc,
+        &mut rom,
+        map,
+        &roots,
+        &mut readers,
+        &mut out,
+    ) {
+        Ok(()) => Ok(out.into_inner()),
+        Err(fault) => Err(Unmade::Run(fault)),
+    }
+}
+
+/// What a fault of the maker's run comes to.
+fn run_answer(fault: &FramesRunFault) -> Answer
+    ensures { result ≡ told_run fault.now }
+{
+    let bare = numbered(fault.number());
+    match fault {
+        FramesRunFault::Call { call, why } => Answer {
+            call: call.at,
+            ..unmade(*why)
+        },
+        FramesRunFault::Plain(MakeRunFault::Make(MakeFault::Unstraight { word })) => Answer {
+            word: *word,
+            call: NO_CALL,
+            ..bare
+        },
+        FramesRunFault::Plain(MakeRunFault::Make(MakeFault::Deep | MakeFault::TooLarge)) => Answer {
+            call: NO_CALL,
+            ..bare
+        },
+        FramesRunFault::Plain(MakeRunFault::Write) => numbered(NO_MEMORY),
+        _ => bare,
+    }
+}
+
+/// Why there is no certificate, as an answer.
+fn unmade_answer(unmade: &Unmade) -> Answer
+    ensures { result ≡ told_unmade unmade.now }
+{
+    match unmade {
+        Unmade::Machine => numbered(BAD_MACHINE),
+        Unmade::Map => numbered(BAD_MAP),
+        Unmade::Lengths => numbered(BAD_LENGTHS),
+        Unmade::Memory => numbered(NO_MEMORY),
+        Unmade::Run(fault) => run_answer(fault),
+    }
+}
+
+/// The frame that it is about, counted from 0.
+fn unmade_frame(unmade: &Unmade) -> usize
+    ensures { result ≡ unmade_frame unmade.now }
+{
+    match unmade {
+        Unmade::Run(fault) => fault.frame().unwrap_or(0),
+        _ => 0,
+    }
+}
+
+/// Makes a certificate for roots and frames, and writes its text into a buffer: what `dvgcheck make` writes, for C.
+///
+/// `machine` is 0 for the profile's and 1 for the board's, and `map` where the ROM lies. The frames lie one behind the other in `frames`,
+/// and `lengths` says how many bytes each of them has. The answer's number is 82 for another machine, 83 for another map, 86 where the
+/// lengths don't add up to that of the bytes, else the first that applies of 1, 2 and 60 to 63, or 0; and `frame` is with 2 the frame, and
+/// with 60 to 62 that of the answer's call. The number is 0 where the whole text stands at the buffer's start, 84 where the buffer is too
+/// short, and then the length is what is needed, and nothing is written; else it is the answer's, and nothing is written. Takes memory
+/// for the entries, for the text and for what was read of the frames, and gives it back.
+#[unsafe(no_mangle)]
+pub extern "C" fn dvgcheck_make(
+    alloc: Global,
+    machine: u32,
+    rom: &[u8],
+    map: MapEnds,
+    roots: &[Root],
+    frames: &[u8],
+    lengths: &[u32],
+    text: &mut [u8],
+) -> TextAnswer
+    ensures { IsMade machine rom.now (map_of map) (of_each root_of roots.now) frames.now lengths.now text.old text.new result }
+{
+    match made_text(alloc, machine, rom, map, roots, frames, lengths) {
+        Ok(made) => put_text(&made, numbered(0), text),
+        Err(unmade) => {
+            let answer = unmade_answer(&unmade);
+            TextAnswer {
+                frame: unmade_frame(&unmade),
+                ..no_text(answer.number, answer)
+            }
+        }
+    }
+}
