@@ -99,17 +99,17 @@ pub fn plain_text(
     text_of(alloc, Telling::of_own(None), &lines, labels)
 }
 
-/// The account of the refusal of a certificate's text, of which so much was kept, as a text of [`plain_lines`].
+/// The account of the refusal of a certificate's text, of which the watch saw the pieces, as a text of [`plain_lines`].
 pub fn certificate_text(
     machine: Machine,
     alloc: Global,
     fault: CertFault,
-    kept: &TextWatch,
+    watch: &TextWatch,
     labels: Option<&Labels>,
 ) -> Result<String, AllocError> {
     let why = PlainWhy::Line {
         line: fault.line,
-        why: kept.why(alloc, fault)?,
+        why: watch.why(alloc, fault)?,
     };
     let lines = plain_lines(machine, alloc, fault.number(), why)?;
     text_of(alloc, Telling::of_given(None), &lines, labels)
