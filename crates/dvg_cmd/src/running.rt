@@ -296,15 +296,14 @@ pub fn run_check_in<R1: CountedRead, R2: CountedRead, R3: CountedRead, W: Counte
         return Err(RunFault::ReadFrame);
     };
     let mut watch = TextWatch::new(detail.has_account());
-    let read = read_verdict(
+    let Ok(judged) = read_verdict(
         alloc,
         rom.as_slice(),
         cert,
         frame.as_slice(),
         options,
         &mut watch,
-    );
-    let Ok(judged) = read else {
+    ) else {
         return Err(RunFault::ReadCert);
     };
     let behind = account_of(

@@ -284,7 +284,7 @@ fn run_refusal<W: CountedWrite>(
     detail: Detail,
     out: &mut W,
 ) -> Result<FrameOutcome, RunFault>
-    requires { IsBehind detail.entry behind.now }
+    requires { IsBehind detail behind.now }
     ensures ok { IfOk result (λ end. (plain : Plain) × WritesReport detail.entry (Err refusal.now) (W.contents out.old) (W.contents out.new) (W.whole_writes out.old) (W.whole_writes out.new) plain × (end ≡ plain_outcome plain)) }
     ensures prefix { OnErr result (WritesReportPrefix detail.entry (Err refusal.now) (W.contents out.old) (W.contents out.new)) }
     ensures fault { IfErr result (λ fault. fault ≡ RunFault.Write) }

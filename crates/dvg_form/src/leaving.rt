@@ -113,7 +113,8 @@ fn cert_text(alloc: Global, map: RomMap, entries: Vec<Entry>) -> Result<Vec<u8>,
 
 /// A text without so many bytes at its start and at its end.
 fn within(text: &[u8], before: usize, after: usize) -> &[u8]
-    ensures { (first middle last : List ℕ) → text.now ≡ first ++ middle ++ last → length first ≡ before → length last ≡ after → result.now ≡ middle }
+    ensures { (first middle last : List ℕ) → text.now ≡ first ++ middle ++ last → length first ≡ before → length last ≡ after
+        → result.now ≡ middle }
 {
     let end = text.len().saturating_sub(after);
     &text[before.min(end)..end]
