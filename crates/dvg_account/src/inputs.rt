@@ -1,7 +1,7 @@
 //! What was judged, and the account of a refusal before any item was judged.
 
 ghost use Rattle.std.specs.Prelude.{◌≡◌, IfOk};
-ghost use Rattle.dvg_account.specs.Plain.{plain_line, plain_lines};
+ghost use Rattle.dvg_account.specs.Plain.{told_of_line, told_plainly, plain_lines};
 ghost use Rattle.dvg_account.specs.Building.{Adds};
 
 use crate::line::Line;
@@ -9,6 +9,7 @@ use crate::lines::Lines;
 use crate::why::{Addresses, InputWhy, Why};
 use dvg_cert::Cert;
 use dvg_check::{Mode, Refusal};
+use dvg_form::LineWhy;
 use dvg_words::{ImageFault, Machine, RomMap, Window};
 use std::alloc::{AllocError, Global};
 
@@ -37,8 +38,8 @@ pub enum PlainWhy {
     FrameLength { bytes: usize },
     /// The budget is so many words.
     Budget(u32),
-    /// This line of the certificate is refused.
-    Line(u32),
+    /// This line of the certificate is refused, and so much is told of it.
+    Line { line: u32, why: Option<LineWhy> },
 }
 
 impl<'a> Inputs<'a> {
@@ -53,19 +54,40 @@ impl<'a> Inputs<'a> {
                 bytes: self.frame.len(),
             },
             (Refusal::BudgetRange, _) => PlainWhy::Budget(self.budget),
-            (Refusal::Cert(fault), _) => PlainWhy::Line(fault.line),
+            (Refusal::Cert(fault), _) => PlainWhy::Line {
+                line: fault.line,
+                why: None,
+            },
             _ => PlainWhy::Nothing,
         }
     }
 }
 
-/// The line that tells why, if something is known.
-fn plain_line(why: PlainWhy) -> Option<Line>
-    ensures { result ≡ plain_line why }
+/// Adds the lines that tell of a refused line of the certificate.
+fn push_line(lines: &mut Lines, line: u32, why: Option<LineWhy>)
+    ensures { Adds lines.old lines.new (told_of_line line why) }
+{
+    match why {
+        None => lines.push(Line::CertificateLine(line)),
+        Some(LineWhy::Form(leaving)) => {
+            lines.push(Line::CertificateLine(line));
+            lines.push(Line::Column(leaving.column));
+            lines.push(Line::Expected(leaving.expected));
+        }
+        Some(LineWhy::Count(counts)) => {
+            lines.push(Line::Why(Why::Input(InputWhy::EntryCounts(counts))));
+            lines.push(Line::CertificateLine(line));
+        }
+    }
+}
+
+/// Adds the lines that tell why, if something is known.
+fn push_plain(lines: &mut Lines, why: PlainWhy)
+    ensures { Adds lines.old lines.new (told_plainly why) }
 {
     let why = match why {
-        PlainWhy::Nothing => return None,
-        PlainWhy::Line(line) => return Some(Line::CertificateLine(line)),
+        PlainWhy::Nothing => return,
+        PlainWhy::Line { line, why } => return push_line(lines, line, why),
         PlainWhy::RomLength { bytes, map } => InputWhy::RomLength {
             bytes,
             words: Addresses::of_map(map),
@@ -73,7 +95,7 @@ fn plain_line(why: PlainWhy) -> Option<Line>
         PlainWhy::FrameLength { bytes } => InputWhy::FrameLength(bytes),
         PlainWhy::Budget(budget) => InputWhy::Budget(budget),
     };
-    Some(Line::Why(Why::Input(why)))
+    lines.push(Line::Why(Why::Input(why)));
 }
 
 /// The lines of a refusal with this number before any item was judged on a machine (profile).
@@ -88,7 +110,7 @@ pub fn plain_lines(
     let mut lines = Lines::new(alloc);
     lines.push_machine(machine);
     lines.push(Line::Rule(number));
-    lines.push_some(plain_line(why));
+    push_plain(&mut lines, why);
     lines.push(Line::WhatToDo(number));
     lines.finish()
 }

@@ -9,6 +9,7 @@
 mod accepted;
 mod answers;
 mod cure;
+mod expecting;
 mod inputs;
 mod item;
 mod line;
@@ -36,5 +37,7 @@ pub use making::{made_lines, unmade_lines};
 pub use own::{frame_lines, own_lines};
 pub use remarks::Remark;
 pub use swapped::{Swapped, find_swapped};
-pub use texts::{frame_text, made_text, own_text, plain_text, unmade_text, verdict_text};
+pub use texts::{
+    certificate_text, frame_text, made_text, own_text, plain_text, unmade_text, verdict_text,
+};
 pub use why::{Addresses, Bounds, ClaimWhy, Corner, InputWhy, MakerWhy, Owner, Why};

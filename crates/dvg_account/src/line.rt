@@ -8,6 +8,7 @@ use crate::remarks::Remark;
 use crate::why::Why;
 use dvg_cert::{End, Entry, Key, LitBox};
 use dvg_check::Yes;
+use dvg_form::Expected;
 use dvg_items::Item;
 use dvg_make::{FrameCall, FrameRefusal, ShapeAt};
 use dvg_survey::{Call, Margins};
@@ -26,6 +27,10 @@ pub enum Line {
     Why(Why),
     /// Which line of the certificate's text is refused, counted from 1.
     CertificateLine(u32),
+    /// At which column, counted from 1, that line leaves the form.
+    Column(usize),
+    /// What was expected at that column.
+    Expected(Expected),
     /// Why an entry that a frame's call needs can't be made: at this word address the making stops.
     MakingStops { at: u16, why: Why },
     /// The item by which something is refused.

@@ -263,7 +263,19 @@ fn push_input(text: &mut Text, why: &InputWhy) {
             text.push("the budget is ");
             text.push_decimal(*budget);
         }
+        InputWhy::EntryCounts(counts) => {
+            text.push("the `done` line says ");
+            push_entries(text, u32::from(counts.claimed));
+            text.push(", and the certificate has ");
+            text.push_decimal(counts.found);
+        }
     }
+}
+
+/// So many entries.
+fn push_entries(text: &mut Text, count: u32) {
+    text.push_decimal(count);
+    text.push(if count == 1 { " entry" } else { " entries" });
 }
 
 /// What is wrong with so many bytes of a frame, if they are no more than the most.

@@ -4,6 +4,7 @@ ghost use Rattle.std.specs.Prelude.{◌≡◌};
 ghost use Rattle.dvg_words.specs.Beam.{signed_field};
 
 use crate::cure::MakerCure;
+use crate::expecting::push_expected;
 use crate::line::{
     AcceptedLine, EntryName, Instruction, ItemLine, Line, MadeLine, MakerChain, PathLine, Words,
     Zeros,
@@ -138,6 +139,16 @@ fn push_line(text: &mut Text, telling: Telling, line: &Line) {
             text.push("\n");
         }
         Line::CertificateLine(line) => push_count(text, "certificate line: ", *line, ""),
+        Line::Column(column) => {
+            text.push("column: ");
+            text.push_decimal(*column);
+            text.push("\n");
+        }
+        Line::Expected(expected) => {
+            text.push("expected: ");
+            push_expected(text, *expected);
+            text.push("\n");
+        }
         Line::MakingStops { at, why } => push_making_stops(text, *at, why),
         Line::Item(line) => push_item_line(text, "", line),
         Line::Stop(ItemLine::At(at)) => push_at(text, "comes to: ", *at),

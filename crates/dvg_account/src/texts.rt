@@ -6,8 +6,9 @@ use crate::making::{made_lines, unmade_lines};
 use crate::own::{frame_lines, own_lines};
 use crate::spelling::{Telling, text_of};
 use crate::swapped::{Swapped, find_swapped};
-use dvg_cert::Cert;
+use dvg_cert::{Cert, CertFault};
 use dvg_check::{Refusal, RomFinding, Yes};
+use dvg_form::TextWatch;
 use dvg_labels::Labels;
 use dvg_make::{FrameRefusal, JudgedFrame, MakeAccount, own_verdict};
 use dvg_words::{FrameImage, Machine, RomImage};
@@ -96,6 +97,22 @@ pub fn plain_text(
 ) -> Result<String, AllocError> {
     let lines = plain_lines(machine, alloc, number, why)?;
     text_of(alloc, Telling::of_own(None), &lines, labels)
+}
+
+/// The account of the refusal of a certificate's text, of which the watch saw the pieces, as a text of [`plain_lines`].
+pub fn certificate_text(
+    machine: Machine,
+    alloc: Global,
+    fault: CertFault,
+    watch: &TextWatch,
+    labels: Option<&Labels>,
+) -> Result<String, AllocError> {
+    let why = PlainWhy::Line {
+        line: fault.line,
+        why: watch.why(alloc, fault)?,
+    };
+    let lines = plain_lines(machine, alloc, fault.number(), why)?;
+    text_of(alloc, Telling::of_given(None), &lines, labels)
 }
 
 /// The account of [`made_lines`] as a text.

@@ -11,6 +11,7 @@ use crate::item::words_at;
 use crate::line::{EntryName, Words};
 use dvg_cert::{End, Entry, Key};
 use dvg_check::{BoxLeaving, Found, FrameCause, FrameFinding, Leaving, ShapeCause, ShapeFinding};
+use dvg_form::EntryCounts;
 use dvg_items::{LitExtent, Seen};
 use dvg_words::{Fetch, FrameImage, FrameOn, Instr, Machine, Point, RomImage, RomMap};
 
@@ -102,6 +103,8 @@ pub enum InputWhy {
     FrameLength(usize),
     /// The budget is so many words.
     Budget(u32),
+    /// The last line of the certificate says another number of entries than there are.
+    EntryCounts(EntryCounts),
 }
 
 /// Whether words belong to the frame or to the ROM.

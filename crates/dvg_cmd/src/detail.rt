@@ -18,6 +18,16 @@ pub enum Detail<'a> {
     Account(Option<&'a Labels>),
 }
 
+impl<'a> Detail<'a> {
+    /// Whether an account is written.
+    pub fn has_account(self) -> bool {
+        match self {
+            Detail::Line => false,
+            Detail::Account(_) => true,
+        }
+    }
+}
+
 /// What is written in the place of an account for which there was no memory.
 pub const NO_ACCOUNT: &str = "account: out of memory\n";
 

@@ -45,6 +45,7 @@ pub use dvg_check::ShapeFault;
 pub use dvg_check::ShapeWhy;
 pub use dvg_check::Yes;
 pub use dvg_check::check;
+pub use dvg_form::TextWatch;
 pub use dvg_labels::LabelFault;
 pub use dvg_labels::LabelWhy;
 pub use dvg_labels::Labels;

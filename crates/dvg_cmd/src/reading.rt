@@ -9,6 +9,7 @@ ghost use Rattle.dvg_cmd.specs.Private.Reading.{IsPrefix};
 use arrayvec::ArrayVec;
 use dvg_cert::laws::short_text;
 use dvg_cert::{Cert, CertFault, CertReader, CountedRead};
+use dvg_form::TextWatch;
 use dvg_spelling::RunFault;
 use std::alloc::Global;
 use std::io;
@@ -92,10 +93,11 @@ pub fn skip<R: CountedRead>(reader: &mut R, most: usize) -> io::Result<()>
 }
 
 /// The answer to the certificate that a reader holds. It is read piece by piece, up to its end or
-/// through the piece in which it is refused.
+/// through the piece in which it is refused. The watch sees each piece.
 pub fn read_certificate<R: CountedRead>(
     alloc: Global,
     source: &mut R,
+    watch: &mut TextWatch,
 ) -> io::Result<Result<Cert, CertFault>>
     ensures answer { IfOk result (ReadsText (R.remaining source.old) (R.remaining source.new)) }
     ensures count { R.failures source.new ≡ count_after (is_err result) (R.failures source.old) }
@@ -108,8 +110,11 @@ pub fn read_certificate<R: CountedRead>(
     'feeding: while len == PIECE {
         len = fill(source, &mut piece)?;
         match reader.feed(&piece[..len]) {
-            Ok(()) => {}
-            Err(fault) => return Ok(Err(fault)),
+            Ok(()) => watch.see(&piece[..len]),
+            Err(fault) => {
+                watch.stop(&piece[..len], fault);
+                return Ok(Err(fault));
+            }
         }
     }
     Ok(reader.finish())
@@ -131,16 +136,17 @@ pub fn load_rom<R: CountedRead>(rom: &mut R) -> Result<ArrayVec<u8, 4097>, RunFa
 }
 
 /// The answer to the certificate that a reader holds, which is read as [`run_check`](crate::run_check) reads it. Answers 72 if
-/// the reader fails.
+/// the reader fails. The watch keeps of the text what an account of its refusal asks for.
 pub fn load_cert<R: CountedRead>(
     alloc: Global,
     cert: &mut R,
+    watch: &mut TextWatch,
 ) -> Result<Result<Cert, CertFault>, RunFault>
     ensures answer { IfOk result (ReadsText (R.remaining cert.old) (R.remaining cert.new)) }
     ensures fault { IfErr result (λ fault. fault ≡ RunFault.ReadCert) }
     ensures count { R.failures cert.new ≡ count_after (is_err result) (R.failures cert.old) }
 {
-    match read_certificate(alloc, cert) {
+    match read_certificate(alloc, cert, watch) {
         Ok(answer) => Ok(answer),
         Err(_) => Err(RunFault::ReadCert),
     }

@@ -20,10 +20,11 @@ ghost use Rattle.dvg_cmd.specs.Private.Reading.{IsPrefix};
 
 use crate::detail::{Behind, Detail};
 use crate::reading::{read_certificate, read_frame, read_rom, skip};
-use dvg_account::{Inputs, verdict_text};
+use dvg_account::{Inputs, certificate_text, verdict_text};
 use dvg_cert::laws::prefix_refusal;
-use dvg_cert::{Cert, CountedRead, CountedWrite, write_lines};
+use dvg_cert::{Cert, CertFault, CountedRead, CountedWrite, write_lines};
 use dvg_check::{Mode, Refusal, RomFinding, Yes, find_rom_fault, frame_of};
+use dvg_form::TextWatch;
 use dvg_spelling::{Outcome, RunFault, outcome_of, report_of};
 use dvg_words::{FrameImage, Machine, RomMap, Window};
 use std::alloc::Global;
@@ -105,13 +106,14 @@ fn judge_rom(
 }
 
 /// The verdict on the bytes of a ROM and of a frame and on the certificate that a reader holds. If the frame or the budget is
-/// refused, the certificate is read all the same, and nothing of it is kept.
+/// refused, the certificate is read all the same, and nothing of it is kept. Else the watch sees each piece of it.
 pub fn read_verdict<R: CountedRead>(
     alloc: Global,
     rom: &[u8],
     cert: &mut R,
     frame: &[u8],
     options: &CheckOptions,
+    watch: &mut TextWatch,
 ) -> io::Result<Judgment>
     ensures verdict { (rom_held frame_held : Option (List ℕ)) → IsPrefix MOST_ROM_READ rom_held rom.now
         → IsPrefix MOST_FRAME_READ frame_held frame.now
@@ -144,7 +146,7 @@ pub fn read_verdict<R: CountedRead>(
             });
         }
     };
-    match read_certificate(alloc, cert)? {
+    match read_certificate(alloc, cert, watch)? {
         Ok(taken) => {
             let (verdict, cause) = judge_rom(alloc, rom, &frame, &taken, options);
             Ok(Judgment {
@@ -161,6 +163,24 @@ pub fn read_verdict<R: CountedRead>(
     }
 }
 
+/// What the detail asks for behind the refusal of a certificate's text, of which the watch saw the pieces.
+pub fn text_account(
+    machine: Machine,
+    alloc: Global,
+    fault: CertFault,
+    watch: &TextWatch,
+    detail: Detail,
+) -> Behind
+    ensures { IsBehind detail.entry result }
+{
+    match detail {
+        Detail::Line => Behind::Nothing,
+        Detail::Account(labels) => {
+            Behind::of(certificate_text(machine, alloc, fault, watch, labels))
+        }
+    }
+}
+
 /// What the detail asks for behind the report of a verdict on these bytes.
 fn account_of(
     alloc: Global,
@@ -168,10 +188,14 @@ fn account_of(
     frame: &[u8],
     judged: &Judgment,
     options: &CheckOptions,
+    watch: &TextWatch,
     detail: Detail,
 ) -> Behind
     ensures { IsBehind detail.entry result }
 {
+    if let Err(Refusal::Cert(fault)) = &judged.verdict {
+        return text_account(options.machine, alloc, *fault, watch, detail);
+    }
     let Detail::Account(labels) = detail else {
         return Behind::Nothing;
     };
@@ -271,7 +295,15 @@ pub fn run_check_in<R1: CountedRead, R2: CountedRead, R3: CountedRead, W: Counte
     let Ok(frame) = read_frame(frame) else {
         return Err(RunFault::ReadFrame);
     };
-    let Ok(judged) = read_verdict(alloc, rom.as_slice(), cert, frame.as_slice(), options) else {
+    let mut watch = TextWatch::new(detail.has_account());
+    let Ok(judged) = read_verdict(
+        alloc,
+        rom.as_slice(),
+        cert,
+        frame.as_slice(),
+        options,
+        &mut watch,
+    ) else {
         return Err(RunFault::ReadCert);
     };
     let behind = account_of(
@@ -280,6 +312,7 @@ pub fn run_check_in<R1: CountedRead, R2: CountedRead, R3: CountedRead, W: Counte
         frame.as_slice(),
         &judged,
         options,
+        &watch,
         detail,
     );
     write_report(&judged.verdict, &behind, out)

@@ -19,10 +19,11 @@ use crate::detail::{Behind, Detail};
 use crate::frame_judge::{FrameJudge, GivenCertificate};
 use crate::frame_run::{answer_of, outcome_of, unread_account, write_answer};
 use crate::listing::{Lines, Listing};
-use crate::running::write_report;
+use crate::running::{text_account, write_report};
 use dvg_account::{Inputs, verdict_text};
 use dvg_cert::{Cert, CertFault, CountedRead, CountedWrite, HashIndex, write_lines};
 use dvg_check::{JudgedShapes, Mode, Refusal, RomFinding};
+use dvg_form::TextWatch;
 use dvg_spelling::{FrameAnswer, FrameOutcome, RunFault, Tally, summary_of};
 use dvg_words::{Machine, RomImage, Window};
 use std::alloc::Global;
@@ -247,18 +248,16 @@ fn run_frames_over<
     Ok(run_frames(alloc, &judge, options.start, frames, listing, out))
 }
 
-/// What the detail asks for behind the line of a refusal for which no frame was needed.
+/// What the detail asks for behind the line of a refusal of a ROM or of a shape, of which this is the cause.
 fn refusal_account(
     alloc: Global,
     rom: &[u8],
-    cert: Option<&Cert>,
+    cert: &Cert,
     options: &FrameOptions,
-    refusal: &Refusal,
-    cause: Option<&RomFinding>,
+    cause: &RomFinding,
     detail: Detail,
 ) -> Behind
-    requires taken { IfSome cert (λ taken. RefusesShapes options.now.machine options.now.window rom.now taken.now refusal.now) }
-    requires refused { IfNone cert (IsCertRefusal refusal.now) }
+    requires { RefusesShapes options.now.machine options.now.window rom.now cert.now (refusal_of cause.now) }
     ensures { IsBehind detail.entry result }
 {
     let Detail::Account(labels) = detail else {
@@ -267,36 +266,31 @@ fn refusal_account(
     let inputs = Inputs {
         machine: options.machine,
         rom,
-        map: cert.map(|cert| cert.map()),
-        cert,
+        map: Some(cert.map()),
+        cert: Some(cert),
         frame: &[],
         budget: 1,
         window: options.window,
         mode: Mode::Bound,
     };
-    Behind::of(verdict_text(alloc, &inputs, &Err(*refusal), cause, labels))
+    let verdict = Err(cause.refusal());
+    Behind::of(verdict_text(alloc, &inputs, &verdict, Some(cause), labels))
 }
 
-/// Writes the report of a refusal for which no frame was needed, and an account of it if the detail asks for one.
+/// Writes the report of a refusal for which no frame was needed, and a text behind it.
 fn run_refusal<W: CountedWrite>(
-    alloc: Global,
-    rom: &[u8],
-    cert: Option<&Cert>,
-    options: &FrameOptions,
     refusal: &Refusal,
-    cause: Option<&RomFinding>,
+    behind: &Behind,
     detail: Detail,
     out: &mut W,
 ) -> Result<FrameOutcome, RunFault>
-    requires taken { IfSome cert (λ taken. RefusesShapes options.now.machine options.now.window rom.now taken.now refusal.now) }
-    requires refused { IfNone cert (IsCertRefusal refusal.now) }
+    requires { IsBehind detail behind.now }
     ensures ok { IfOk result (λ end. (plain : Plain) × WritesReport detail.entry (Err refusal.now) (W.contents out.old) (W.contents out.new) (W.whole_writes out.old) (W.whole_writes out.new) plain × (end ≡ plain_outcome plain)) }
     ensures prefix { OnErr result (WritesReportPrefix detail.entry (Err refusal.now) (W.contents out.old) (W.contents out.new)) }
     ensures fault { IfErr result (λ fault. fault ≡ RunFault.Write) }
     ensures count { W.failures out.new ≡ count_after (is_err result) (W.failures out.old) }
 {
-    let account = refusal_account(alloc, rom, cert, options, refusal, cause, detail);
-    Ok(write_report(&Err(*refusal), &account, out)?.into())
+    Ok(write_report(&Err(*refusal), behind, out)?.into())
 }
 
 /// Judges frames by a certificate that was taken, as [`run_frames_given`] does.
@@ -325,16 +319,9 @@ fn run_frames_by<R: CountedRead + Drop, I: Iterator<Item = NamedFrame<R>> + Drop
     match run_frames_over(alloc, rom, cert, options, frames, listing, out) {
         Ok(end) => end,
         Err(finding) => {
-            run_refusal(
-                alloc,
-                rom,
-                Some(cert),
-                options,
-                &finding.refusal(),
-                Some(&finding),
-                listing.detail,
-                out,
-            )
+            let detail = listing.detail;
+            let behind = refusal_account(alloc, rom, cert, options, &finding, detail);
+            run_refusal(&finding.refusal(), &behind, detail, out)
         }
     }
 }
@@ -342,7 +329,7 @@ fn run_frames_by<R: CountedRead + Drop, I: Iterator<Item = NamedFrame<R>> + Drop
 /// Judges frames by a given certificate, one after another, and writes a line for each, as [`run_frames`] does; or the line of the
 /// refusal of the certificate, of the ROM's length or of a shape, and no frame is taken.
 ///
-/// The counts of the certificate are bounds.
+/// The counts of the certificate are bounds. The watch saw the pieces of its text.
 pub fn run_frames_given<
     R: CountedRead + Drop,
     I: Iterator<Item = NamedFrame<R>> + Drop,
@@ -351,6 +338,7 @@ pub fn run_frames_given<
     alloc: Global,
     rom: &[u8],
     cert: &Result<Cert, CertFault>,
+    watch: &TextWatch,
     options: &FrameOptions,
     frames: I,
     listing: Listing,
@@ -378,17 +366,10 @@ pub fn run_frames_given<
     match cert {
         Ok(given) => run_frames_by(alloc, rom, given, options, frames, listing, out),
         Err(fault) => {
+            let detail = listing.detail;
             let refusal = Refusal::Cert(*fault);
-            run_refusal(
-                alloc,
-                rom,
-                None,
-                options,
-                &refusal,
-                None,
-                listing.detail,
-                out,
-            )
+            let behind = text_account(options.machine, alloc, *fault, watch, detail);
+            run_refusal(&refusal, &behind, detail, out)
         }
     }
 }

@@ -4,11 +4,11 @@ use crate::rules::Rule;
 
 pub const ROM_LENGTH: Rule = Rule {
     number: 1,
-    meaning: "the ROM has not exactly two bytes for each word address that the certificate gives it: with version 1 not 2048 bytes, with `rom AAA BBB` not 2 * (BBB - AAA + 1)",
+    meaning: "the ROM has not exactly two bytes for each word address at which it lies: 2048 bytes at 800 to BFF, else 2 * (BBB - AAA + 1)",
     line: "refused 1",
     heading: "Shortest input",
     input: "an empty ROM file",
-    cure: "dump the whole vector ROM, and nothing else; see that the certificate is for a ROM that lies there, or name its addresses by `--rom`",
+    cure: "dump the whole vector ROM, and nothing else; where it lies elsewhere, say so by `--rom`, or give a certificate for a ROM that lies there",
 };
 
 pub const FRAME_LENGTH: Rule = Rule {
@@ -143,7 +143,7 @@ pub const SHAPE_OUTSIDE_WINDOW: Rule = Rule {
     line: "refused 25 shape 800/0 at 802",
     heading: "Shortest input (words of the ROM; entry)",
     input: "`A000 0000 F510`; `words 2`",
-    cure: "move the place of the LABS, or draw smaller; claim the least box for what is called; without `--clip`, give `--board --clip`, or a wider `--window` where it is smaller than the screen",
+    cure: "move the place of the LABS, or draw smaller; in a given certificate claim the least box for what is called; without `--clip`, give `--board --clip`, or a wider `--window` where it is smaller than the screen",
 };
 
 pub const SHAPE_NO_ENTRY: Rule = Rule {
@@ -278,7 +278,7 @@ pub const FRAME_OUTSIDE_WINDOW: Rule = Rule {
     line: "refused 46 frame at 002",
     heading: "Shortest input",
     input: "`A000 0000 F510`",
-    cure: "move the place, or draw a smaller size or scale; claim the least box; without `--clip`, give `--board --clip`, or a wider `--window` where it is smaller than the screen; dark moves may leave it",
+    cure: "move the place, or draw a smaller size or scale; in a given certificate claim the least box; without `--clip`, give `--board --clip`, or a wider `--window` where it is smaller than the screen; dark moves may leave it",
 };
 
 pub const FRAME_NO_ENTRY: Rule = Rule {
@@ -296,7 +296,7 @@ pub const FRAME_OVER_BUDGET: Rule = Rule {
     line: "refused 48 frame at 000",
     heading: "Shortest input",
     input: "`0000 0000` with `--budget 1`",
-    cure: "shorten the list, claim the least words, or allow more words by `--budget`",
+    cure: "shorten the list, or allow more words by `--budget`; in a given certificate claim the least words",
 };
 
 pub const BUDGET_RANGE: Rule = Rule {

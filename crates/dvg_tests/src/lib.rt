@@ -13,6 +13,8 @@ mod changed;
 #[cfg(test)]
 mod checking;
 #[cfg(test)]
+mod columns;
+#[cfg(test)]
 mod expecting;
 #[cfg(test)]
 mod explaining;

@@ -21,10 +21,10 @@ use command::{
 };
 use dvg_cmd::{
     Counted, CountedWrite, Detail, FrameOutcome, FramesRunFault, Labels, MakeAnswer, MakeFault,
-    MakeRunFault, NamedFrame, Outcome, OwnCertificates, Rule, RunFault, Window, all_rules,
-    frames_status_of, load_cert, load_rom, make_frames_status_of, message_of, run_check_in,
-    run_explain_make, run_frames, run_frames_given, run_make_frames, run_places, run_rule,
-    run_rules, status_of, write_make_answer, write_make_fault, write_message, write_text,
+    MakeRunFault, NamedFrame, Outcome, OwnCertificates, Rule, RunFault, TextWatch, Window,
+    all_rules, frames_status_of, load_cert, load_rom, make_frames_status_of, message_of,
+    run_check_in, run_explain_make, run_frames, run_frames_given, run_make_frames, run_places,
+    run_rule, run_rules, status_of, write_make_answer, write_make_fault, write_message, write_text,
 };
 use input::{Input, Source};
 use labels::LabelsFault;
@@ -104,11 +104,13 @@ fn judge_frames<I: Iterator<Item = NamedFrame<Counted<Source>>> + Drop>(
         }
         Certificates::Given(cert) => {
             let file = open(rt, cert, RunFault::ReadCert)?;
-            let cert = load_cert(rt.alloc(), &mut Counted::new(file))?;
+            let mut watch = TextWatch::new(asked.listing.detail.has_account());
+            let cert = load_cert(rt.alloc(), &mut Counted::new(file), &mut watch)?;
             run_frames_given(
                 rt.alloc(),
                 rom.as_slice(),
                 &cert,
+                &watch,
                 &asked.options,
                 frames,
                 asked.listing,
