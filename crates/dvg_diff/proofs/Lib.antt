@@ -1,0 +1,4 @@
+pub mod Same
+pub mod Carrying
+pub mod Running
+pub mod Walking
