@@ -29,4 +29,6 @@ mod rows;
 #[cfg(test)]
 mod running;
 #[cfg(test)]
+mod touching;
+#[cfg(test)]
 mod words;
