@@ -2,3 +2,4 @@ pub mod Same
 pub mod Carrying
 pub mod Running
 pub mod Walking
+pub mod EachFrame
