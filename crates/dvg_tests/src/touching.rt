@@ -3,7 +3,7 @@
 use crate::expecting::{expect, expect_same};
 use crate::inputs::{Part, rom_bytes};
 use dvg_cert::Key;
-use dvg_diff::{reaches_touched, touched_entries};
+use dvg_diff::{compare, reaches_touched, touched_entries};
 use dvg_make::make_for_frames;
 use dvg_words::{ASTEROIDS, FrameImage, RomImage};
 use std::slice;
@@ -59,5 +59,15 @@ fn tells_touched(rt: HostRuntime) {
         }
         let reaches = reaches_touched(&rom, &other, cert.entries());
         expect_same(&rt, &reaches, &touched.is_some(), change);
+        let frames = slice::from_ref(&frame);
+        let compared = compare(rt.alloc(), &rom, &other, &[(0x820, Key::At(0))], frames);
+        let compared = compared.expect(&rt, "a comparison");
+        expect(
+            &rt,
+            compared.reaching.as_slice() == [reaches].as_slice(),
+            change,
+        );
+        let others = usize::from(change.0 == 0x820);
+        expect(&rt, compared.entries.len() == told.len() + others, change);
     }
 }
