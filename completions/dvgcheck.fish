@@ -21,6 +21,7 @@ complete -c dvgcheck -n '__dvgcheck_in only' -a frames -d 'Judges frames over a 
 complete -c dvgcheck -n '__dvgcheck_in only' -a check -d 'Judges a frame by a certificate'
 complete -c dvgcheck -n '__dvgcheck_in only' -a make -d 'Makes a certificate of shapes'
 complete -c dvgcheck -n '__dvgcheck_in only' -a places -d 'Prints where calls stay within the window'
+complete -c dvgcheck -n '__dvgcheck_in only' -a diff -d 'Prints what the words touch in which another ROM differs'
 complete -c dvgcheck -n '__dvgcheck_in only' -a explain -d 'Explains the answer of a command'
 complete -c dvgcheck -n '__dvgcheck_in only' -a rules -d 'Prints what each number means'
 complete -c dvgcheck -n '__dvgcheck_in only' -a help -d 'Prints help'
@@ -60,6 +61,11 @@ complete -c dvgcheck -n '__dvgcheck_in places' -l labels -r -F -d 'The labels of
 complete -c dvgcheck -n '__dvgcheck_in places' -l window -x -d 'Where the screen may be lit'
 complete -c dvgcheck -n '__dvgcheck_in places' -l clip -d 'Lets lit strokes reach from -1024 to 2047'
 complete -c dvgcheck -n '__dvgcheck_in places' -s h -l help -d 'Prints help'
+complete -c dvgcheck -n '__dvgcheck_in diff' -l board -d 'Judges for a board of the DVG'
+complete -c dvgcheck -n '__dvgcheck_in diff' -l frame -r -F -d 'A frame; its calls become roots, too'
+complete -c dvgcheck -n '__dvgcheck_in diff' -l rom -x -d 'The word addresses of the ROM\'s first and last word'
+complete -c dvgcheck -n '__dvgcheck_in diff' -l labels -r -F -d 'The labels of the program'
+complete -c dvgcheck -n '__dvgcheck_in diff' -s h -l help -d 'Prints help'
 
 complete -c dvgcheck -n '__dvgcheck_in only explain' -f
 complete -c dvgcheck -n '__dvgcheck_in only explain' -s h -l help -d 'Prints help'

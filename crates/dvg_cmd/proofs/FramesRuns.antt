@@ -55,7 +55,7 @@ reading_refused machine r rom map roots readers f (inr is) some same =
 
 module _ (machine : Machine) (map : MemoryMap) (is : IsMap map) (rom : Option (List ℕ)) (roots : List (ℕ × Key)) (rb : List ℕ) (image : Rom) (read : IsPrefix 4097 rom rb) (h : IsRomLength map (length rb) × (image ≡ rom_on machine map rb))
     (readers : List (Option (List ℕ))) (frames : List (List ℕ)) (prefixes : ArePrefixes readers frames) where
-  all_inputs : AreFrames frames → Inputs rom map readers
+  unfoldable pub all_inputs : AreFrames frames → Inputs rom map readers
   all_inputs lengths =
       record {
         rom_bytes = held_bytes rom rb;
@@ -67,7 +67,7 @@ module _ (machine : Machine) (map : MemoryMap) (is : IsMap map) (rom : Option (L
       }
 
   module _ (lengths : AreFrames frames) (words : List (List ℕ)) (same : words ≡ of_each words_of frames) where
-    words_same : words ≡ of_each words_of (held_each readers frames)
+    pub words_same : words ≡ of_each words_of (held_each readers frames)
     words_same = same ∙ ap (λ l. of_each words_of l) (each_same readers frames prefixes lengths)
 
     pub frames_made : (list : List Entry) → FramesMade image roots words list → MakesForFrames machine rom map roots readers list

@@ -4,6 +4,7 @@
 //! the verdict. [`run_make`] reads a ROM and writes the certificate that [`make`](dvg_make::make) makes.
 #![tactic(auto)]
 
+mod comparing;
 mod detail;
 mod explaining_make;
 mod frame_judge;
@@ -22,6 +23,7 @@ mod running;
 mod several_frames;
 mod start;
 
+pub use comparing::run_comparison;
 pub use detail::Behind;
 pub use detail::Detail;
 pub use dvg_cert::Cert;

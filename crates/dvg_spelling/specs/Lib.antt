@@ -4,6 +4,7 @@ pub mod Faults
 pub mod Messages
 pub mod Outcomes
 pub mod Places
+pub mod Touched
 pub mod Report
 pub mod Rules
 pub mod Status

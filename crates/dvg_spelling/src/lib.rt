@@ -14,6 +14,7 @@ mod rule_table;
 mod rules;
 mod status;
 mod tally;
+mod touched;
 mod window;
 
 pub use arguments::{map_of, root_of, start_of};
@@ -27,4 +28,5 @@ pub use report::{
 pub use rules::{Rule, all_rules, own_rule_of, rule_of, text_of_rule, text_of_rules};
 pub use status::{frames_status_of, make_frames_status_of, make_status_of, message_of, status_of};
 pub use tally::{Summary, Tally, summary_of};
+pub use touched::{TouchedLine, touched_line_of};
 pub use window::window_of;

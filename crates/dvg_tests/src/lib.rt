@@ -31,4 +31,6 @@ mod rows;
 #[cfg(test)]
 mod running;
 #[cfg(test)]
+mod touching;
+#[cfg(test)]
 mod words;

@@ -100,6 +100,8 @@ pub enum Request<'a> {
     Make(MakeArgs<'a>),
     /// `places`, with what may be lit.
     Places(MakeArgs<'a>, Window),
+    /// `diff`, with the other ROM.
+    Diff(MakeArgs<'a>, Input<'a>),
     /// `explain make`.
     ExplainMake(MakeArgs<'a>),
     /// `rules` with the rule of this number, or with all rules.
@@ -116,16 +118,18 @@ enum Task {
     Check,
     Make,
     Places,
+    Diff,
     Explain,
     Rules,
 }
 
 impl Task {
-    const ALL: [Task; 6] = [
+    const ALL: [Task; 7] = [
         Task::Frames,
         Task::Check,
         Task::Make,
         Task::Places,
+        Task::Diff,
         Task::Explain,
         Task::Rules,
     ];
@@ -137,6 +141,7 @@ impl Task {
             "check" => Some(Task::Check),
             "make" => Some(Task::Make),
             "places" => Some(Task::Places),
+            "diff" => Some(Task::Diff),
             "explain" => Some(Task::Explain),
             "rules" => Some(Task::Rules),
             _ => None,
@@ -160,6 +165,7 @@ impl Task {
                 let command = told.with(alloc, command, &MAKER_OPTIONS)?;
                 told.with(alloc, command, &WINDOW_OPTIONS)
             }
+            Task::Diff => told.with(alloc, command, &MAKER_OPTIONS),
             Task::Explain | Task::Rules => Ok(command),
         }
     }
@@ -171,6 +177,7 @@ impl Task {
             Task::Check => check_command(alloc),
             Task::Make => make_command(alloc),
             Task::Places => places_command(alloc),
+            Task::Diff => diff_command(alloc),
             Task::Explain => explain_command(alloc),
             Task::Rules => rules_command(alloc),
         }
@@ -249,6 +256,9 @@ pub fn arguments(rt: &HostRuntime) -> Result<Vec<String>, Usage<'static>> {
     }
 }
 
+/// The arguments of `make` that name files to read.
+const MAKER_FILES: [&str; 3] = ["ROM", "frame", "labels"];
+
 const INPUT_HELP: &str = "One of the files that are read may be -, which is standard input";
 
 const ROM_HELP: &str = "The vector ROM: two bytes for each of its words, low byte first";
@@ -308,6 +318,19 @@ fn places_command<'a>(alloc: Global) -> Result<Command<'a>, AllocError> {
         "Prints where calls of shapes of a vector ROM, and of all that they call, stay within the window",
     );
     with_rom(alloc, command)?.arg(roots_argument(alloc))
+}
+
+fn diff_command<'a>(alloc: Global) -> Result<Command<'a>, AllocError> {
+    let command = Command::new(alloc, "diff").about(
+        "Prints which shapes that are made over a vector ROM, and which frames, read words in which another ROM differs",
+    );
+    with_rom(alloc, command)?
+        .arg(needed(
+            alloc,
+            "OTHER",
+            "The ROM with which it is compared, at the same addresses",
+        ))?
+        .arg(roots_argument(alloc))
 }
 
 /// What the help of a command says that is explained.
@@ -615,17 +638,18 @@ fn output_of<'a>(args: &ArgMatches<'a>) -> Option<&'a str> {
     }
 }
 
-/// The arguments of `make`, whose certificate goes to this path.
+/// The arguments of `make`, whose certificate goes to this path. These are the arguments that name files.
 fn make_args<'a>(
     rt: &HostRuntime,
     args: &ArgMatches<'a>,
+    files: &[&str],
     output: Option<&'a str>,
     labels: Option<&'a Labels>,
 ) -> Result<MakeArgs<'a>, Usage<'a>> {
     if !args.contains_id("ROOT") && !args.contains_id("frame") {
         return Err(Usage::Argument(ArgumentFault::NoRoot));
     }
-    one_standard_input(args, &["ROM", "frame", "labels"])?;
+    one_standard_input(args, files)?;
     let map = map_of_args(args)?;
     Ok(MakeArgs {
         machine: machine_of_args(args),
@@ -650,7 +674,13 @@ fn explain_request<'a>(
             Ok(Request::Check(args, Detail::Account(labels)))
         }
         Some(("frames", args)) => { Ok(Request::Frames(frames_args(rt, args, explained(labels))?)) }
-        Some(("make", args)) => Ok(Request::ExplainMake(make_args(rt, args, None, labels)?)),
+        Some(("make", args)) => Ok(Request::ExplainMake(make_args(
+            rt,
+            args,
+            &MAKER_FILES,
+            None,
+            labels,
+        )?)),
         _ => Err(Usage::Argument(ArgumentFault::Unreadable)),
     }
 }
@@ -676,12 +706,17 @@ fn request_of<'a>(
             Ok(Request::Check(args, Detail::Line))
         }
         Task::Make => {
-            let args = make_args(rt, args, output_of(args), labels)?;
+            let args = make_args(rt, args, &MAKER_FILES, output_of(args), labels)?;
             Ok(Request::Make(args))
         }
         Task::Places => {
-            let args_of_maker = make_args(rt, args, None, labels)?;
+            let args_of_maker = make_args(rt, args, &MAKER_FILES, None, labels)?;
             Ok(Request::Places(args_of_maker, window_of_args(args)?))
+        }
+        Task::Diff => {
+            let files = ["ROM", "OTHER", "frame", "labels"];
+            let args_of_maker = make_args(rt, args, &files, None, labels)?;
+            Ok(Request::Diff(args_of_maker, file_of(rt, args, "OTHER")))
         }
         Task::Explain => explain_request(rt, args, labels),
         Task::Rules => Ok(Request::Rules(rule_of_args(args)?)),
@@ -770,7 +805,7 @@ impl<'a> Parsed<'a> {
     /// The path of the file of labels, if one is given.
     fn labels_path(&self) -> Option<&'a str> {
         match self.task {
-            Task::Frames | Task::Make | Task::Places => self.matches.get_str("labels"),
+            Task::Frames | Task::Make | Task::Places | Task::Diff => self.matches.get_str("labels"),
             Task::Explain => {
                 let (_, args) = self.matches.subcommand()?;
                 args.get_str("labels")

@@ -23,8 +23,9 @@ use dvg_cmd::{
     Counted, CountedWrite, Detail, FrameOutcome, FramesRunFault, Labels, MakeAnswer, MakeFault,
     MakeRunFault, NamedFrame, Outcome, OwnCertificates, Rule, RunFault, TextWatch, Window,
     all_rules, frames_status_of, load_cert, load_rom, make_frames_status_of, message_of,
-    run_check_in, run_explain_make, run_frames, run_frames_given, run_make_frames, run_places,
-    run_rule, run_rules, status_of, write_make_answer, write_make_fault, write_message, write_text,
+    run_check_in, run_comparison, run_explain_make, run_frames, run_frames_given, run_make_frames,
+    run_places, run_rule, run_rules, status_of, write_make_answer, write_make_fault, write_message,
+    write_text,
 };
 use input::{Input, Source};
 use labels::LabelsFault;
@@ -157,6 +158,33 @@ fn places(rt: &HostRuntime, args: &MakeArgs, window: Window) -> Result<(), Frame
         &args.roots,
         &mut frames,
         window,
+        &mut Counted::new(io::writer(rt)),
+    )
+}
+
+/// The names of frames, as lines show them.
+fn names_of(rt: &HostRuntime, frames: &[Named]) -> Result<Vec<String>, FramesRunFault> {
+    let mut names = Vec::new(rt.alloc());
+    for frame in frames {
+        names.push(String::from_str(rt.alloc(), frame.name.as_str())?)?;
+    }
+    Ok(names)
+}
+
+/// Opens both ROMs and the frames, and tells what the change from the one ROM to the other touches.
+fn diff(rt: &HostRuntime, args: &MakeArgs, other: Input) -> Result<bool, FramesRunFault> {
+    let (mut rom, mut frames) = open_all(rt, args)?;
+    let other = open(rt, other, MakeRunFault::ReadRom)?;
+    let names = names_of(rt, &args.frames)?;
+    run_comparison(
+        args.machine,
+        rt.alloc(),
+        &mut rom,
+        &mut Counted::new(other),
+        args.map,
+        &args.roots,
+        &mut frames,
+        &names,
         &mut Counted::new(io::writer(rt)),
     )
 }
@@ -330,6 +358,14 @@ fn tell_make(rt: &HostRuntime, frames: &[Named], end: &Result<(), FramesRunFault
     make_frames_status_of(end)
 }
 
+/// Tells how a comparison ended: 1 if something is touched, and as [`tell_make`] does.
+fn tell_diff(rt: &HostRuntime, frames: &[Named], end: &Result<bool, FramesRunFault>) -> u8 {
+    match end {
+        Ok(touched) => u8::from(*touched),
+        Err(fault) => tell_make(rt, frames, &Err(*fault)),
+    }
+}
+
 /// Tells how the writing of rules or of help ended, by a fault's message and the exit status.
 fn tell_text(rt: &HostRuntime, end: &Result<(), RunFault>) -> u8 {
     match end {
@@ -401,6 +437,7 @@ fn run_parsed<'a>(rt: &HostRuntime, parsed: Parsed<'a>, labels: &'a Option<Label
         Ok(Request::Places(args, window)) => {
             tell_make(rt, &args.frames, &places(rt, &args, window))
         }
+        Ok(Request::Diff(args, other)) => tell_diff(rt, &args.frames, &diff(rt, &args, other)),
         Ok(Request::ExplainMake(args)) => explain_make(rt, &args),
         Ok(Request::Rules(rule)) => tell_text(rt, &rules(rt, rule)),
         Err(usage) => tell_usage(rt, &usage),

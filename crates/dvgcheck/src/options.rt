@@ -55,7 +55,7 @@ pub const CHECK_OPTIONS: [CommandOption; 5] = [
     CommandOption::Exact,
 ];
 
-/// The options of `make`, of `explain make` and of `places` that say what is made.
+/// The options of `make`, of `explain make`, of `places` and of `diff` that say what is made.
 pub const MAKER_OPTIONS: [CommandOption; 4] = [
     CommandOption::Board,
     CommandOption::Frame,

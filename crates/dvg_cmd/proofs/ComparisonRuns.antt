@@ -1,0 +1,50 @@
+-- What a run that compares two ROMs answers, over plain values.
+use Rattle.std.proofs.Common.{◌≡◌, ◌≢◌, ◌⊎◌, ℕ, List, [], ◌∷◌, length, Option, Bool, true, refl, sym, ap, ◌∙◌, subst}
+use Rattle.std.specs.Prelude.{Result, Ok, Err, IfErr}
+use Rattle.dvg_words.specs.declared.machine.Machine.{Machine}
+use Rattle.dvg_words.specs.Memory.{Rom, IsRomLength, rom_on, words_of}
+use Rattle.dvg_words.specs.Values.{MemoryMap, IsMap}
+use Rattle.dvg_cert.specs.declared.entry.Key.{Key}
+use Rattle.dvg_diff.specs.Comparing.{IsComparison}
+use Rattle.dvg_diff.specs.declared.comparing.Comparison.{Comparison}
+use Rattle.dvg_cert.specs.Devices.{count_after}
+use Rattle.dvg_spelling.specs.declared.fault.MakeRunFault.TheVariants as maker
+use Rattle.dvg_spelling.specs.declared.fault.FramesRunFault.{FramesRunFault}
+use Rattle.dvg_spelling.specs.declared.fault.FramesRunFault.TheVariants as fault
+use Rattle.dvg_cmd.specs.MakingFrames.{of_each, AreFrames, FailedAfter, blames_frames_rom}
+use Rattle.dvg_cmd.specs.Comparing.{ComparesFor}
+use Rattle.dvg_cmd.specs.Private.Reading.{IsPrefix, ArePrefixes}
+use Rattle.dvg_cmd.proofs.Whole.{held_bytes, held_told}
+use Rattle.dvg_cmd.proofs.MakerRuns.{whole_length, whole_image}
+use Rattle.dvg_cmd.proofs.SeveralFrames.{held_each}
+use Rattle.dvg_cmd.proofs.FramesRuns.{all_inputs, words_same}
+
+module _ (machine : Machine) (map : MemoryMap) (is : IsMap map) (rom other : Option (List ℕ)) (roots : List (ℕ × Key)) (rb ob : List ℕ) (image other_image : Rom)
+    (read : IsPrefix 4097 rom rb) (h : IsRomLength map (length rb) × (image ≡ rom_on machine map rb)) (other_read : IsPrefix 4097 other ob) (k : IsRomLength map (length ob) × (other_image ≡ rom_on machine map ob))
+    (readers : List (Option (List ℕ))) (frames : List (List ℕ)) (prefixes : ArePrefixes readers frames) (lengths : AreFrames frames) (words : List (List ℕ)) (same : words ≡ of_each words_of frames) where
+  pub compared : (c : Comparison) → IsComparison image other_image roots words c → ComparesFor machine rom other map roots readers c
+  unfolding all_inputs
+  compared c comparison =
+      record {
+        all = all_inputs machine map is rom roots rb image read h readers frames prefixes lengths;
+        other_bytes = held_bytes other ob;
+        other_held = held_told other ob;
+        other_length = whole_length map is other ob other_read k.0;
+        is =
+            subst (λ (x : Rom). IsComparison x (rom_on machine map (held_bytes other ob)) roots (of_each words_of (held_each readers frames)) c) (whole_image machine map is rom rb image read h)
+            (subst (λ (x : Rom). IsComparison image x roots (of_each words_of (held_each readers frames)) c) (whole_image machine map is other ob other_image other_read k)
+            (subst (λ (l : List (List ℕ)). IsComparison image other_image roots l c) (words_same machine map is rom roots rb image read h readers frames prefixes lengths words same) comparison));
+      }
+
+-- ---- which ROM's reader failed
+
+module _ (f : FramesRunFault) (is : f ≡ fault.Plain maker.ReadRom) (a b c : ℕ) where
+  pub first_failed : c ≡ count_after true a → FailedAfter (blames_frames_rom {A = Bool} (Err f)) (a ∷ b ∷ []) (c ∷ b ∷ [])
+  first_failed e =
+      subst (λ (x : FramesRunFault). FailedAfter (blames_frames_rom {A = Bool} (Err x)) (a ∷ b ∷ []) (c ∷ b ∷ [])) (sym is)
+      (record { before = []; count = a; after = b ∷ []; old_is = refl; new_is = ap (λ (n : ℕ). n ∷ b ∷ []) e })
+
+  pub second_failed : (d : ℕ) → d ≡ a → c ≡ count_after true b → FailedAfter (blames_frames_rom {A = Bool} (Err f)) (a ∷ b ∷ []) (d ∷ c ∷ [])
+  second_failed d same e =
+      subst (λ (x : FramesRunFault). FailedAfter (blames_frames_rom {A = Bool} (Err x)) (a ∷ b ∷ []) (d ∷ c ∷ [])) (sym is)
+      (record { before = a ∷ []; count = b; after = []; old_is = refl; new_is = ap (λ (n : ℕ). n ∷ c ∷ []) same ∙ ap (λ (n : ℕ). a ∷ n ∷ []) e })

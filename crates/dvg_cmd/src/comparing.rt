@@ -1,0 +1,214 @@
+//! Running over readers and a writer, to tell what a change of a ROM touches.
+
+ghost use Rattle.std.specs.Prelude.{◌≡◌, ◌≢◌, ◌↔◌, ◌<◌, List, ℕ, [], ◌∷◌, Option, Err, IfOk, IfErr, IsTrue, OnOk, OnErr, is_err, length, string_bytes};
+ghost use Rattle.std.specs.Io.KnownBytes.{Appends};
+ghost use Rattle.dvg_cert.specs.Devices.{AppendsPrefix, TakesOneWrite, count_after};
+ghost use Rattle.dvg_spelling.specs.Faults.{frames_run_number};
+ghost use Rattle.dvg_spelling.specs.Touched.{touched_line, frame_touched_line};
+ghost use Rattle.dvg_cmd.specs.Comparing.{ComparesFor, ComparisonFaultMeans, reaching_lines, comparison_lines, WritesComparison, WritesComparisonPrefix};
+ghost use Rattle.dvg_cmd.specs.MakingFrames.{blames_frames_rom, blames_a_frame, blames_frames_writer, of_each, FailedAfter, EachRead};
+ghost use Rattle.dvg_cmd.specs.SeveralFrames.{joined, TakeOneWriteEach};
+ghost use Rattle.dvg_cmd.specs.Private.Reading.{IsPrefix, ArePrefixes};
+ghost use Rattle.dvg_cmd.specs.Runs.{MOST_ROM_READ, IsReadTo};
+ghost use Rattle.dvg_spelling.specs.declared.fault.MakeRunFault.TheVariants as maker;
+
+use crate::making_frames::{FrameBytes, images_of, read_frames};
+use crate::reading::read_rom;
+use dvg_cert::{CountedRead, CountedWrite, Key, write_lines};
+use dvg_diff::{Comparison, TouchedEntry, compare};
+use dvg_spelling::{FramesRunFault, MakeRunFault, touched_line_of};
+use dvg_words::{Machine, RomImage, RomMap};
+use std::alloc::Global;
+
+/// What the change from one ROM to another touches, of what was read of both at this map, on a machine, and of frames.
+fn comparison_on(
+    machine: Machine,
+    alloc: Global,
+    rom: &[u8],
+    other: &[u8],
+    map: RomMap,
+    roots: &[(u16, Key)],
+    frames: &[FrameBytes],
+) -> Result<Comparison, FramesRunFault>
+    ensures ok { (held other_held : Option (List ℕ)) (readers : List (Option (List ℕ))) → IsPrefix MOST_ROM_READ held rom.now
+        → IsPrefix MOST_ROM_READ other_held other.now → ArePrefixes readers (of_each (λ bytes. bytes.items) frames.now)
+        → IfOk result (ComparesFor machine held other_held map roots.now readers) }
+    ensures refused { (held other_held : Option (List ℕ)) (readers : List (Option (List ℕ))) → IsPrefix MOST_ROM_READ held rom.now
+        → IsPrefix MOST_ROM_READ other_held other.now → ArePrefixes readers (of_each (λ bytes. bytes.items) frames.now)
+        → IfErr result (λ fault. frames_run_number fault ≢ 63 → ComparisonFaultMeans machine held other_held map roots.now readers fault) }
+    ensures fault { IfErr result (λ fault. (fault ≢ FramesRunFault.Plain maker.ReadRom) × (fault ≢ FramesRunFault.ReadFrame)
+        × (fault ≢ FramesRunFault.Plain maker.Write)) }
+{
+    let Ok(rom) = RomImage::from_bytes_on(machine, rom, map) else {
+        return Err(MakeRunFault::RomLength.into());
+    };
+    let Ok(other) = RomImage::from_bytes_on(machine, other, map) else {
+        return Err(MakeRunFault::RomLength.into());
+    };
+    let images = images_of(alloc, frames)?;
+    Ok(compare(alloc, &rom, &other, roots, &images)?)
+}
+
+/// Writes the line of a touched entry, by one write.
+fn write_entry<W: CountedWrite>(entry: &TouchedEntry, out: &mut W) -> Result<(), FramesRunFault>
+    ensures written { OnOk result (Appends (W.contents out.old) (W.contents out.new) (touched_line entry.now)) }
+    ensures prefix { OnErr result (AppendsPrefix (W.contents out.old) (W.contents out.new) (touched_line entry.now)) }
+    ensures one_write { OnOk result (TakesOneWrite (touched_line entry.now) (W.whole_writes out.old) (W.whole_writes out.new)) }
+    ensures fault { IfErr result (λ fault. fault ≡ FramesRunFault.Plain maker.Write) }
+    ensures count { W.failures out.new ≡ count_after (is_err result) (W.failures out.old) }
+{
+    let line = touched_line_of(entry);
+    match write_lines(line.as_slice(), &[], &[], out) {
+        Ok(()) => Ok(()),
+        Err(_) => Err(MakeRunFault::Write.into()),
+    }
+}
+
+/// Writes the line of a frame that reaches a touched shape, by one write if it fits one.
+fn write_frame<W: CountedWrite>(name: &str, out: &mut W) -> Result<(), FramesRunFault>
+    ensures written { OnOk result (Appends (W.contents out.old) (W.contents out.new) (frame_touched_line name.now)) }
+    ensures prefix { OnErr result (AppendsPrefix (W.contents out.old) (W.contents out.new) (frame_touched_line name.now)) }
+    ensures one_write { OnOk result (TakesOneWrite (frame_touched_line name.now) (W.whole_writes out.old) (W.whole_writes out.new)) }
+    ensures fault { IfErr result (λ fault. fault ≡ FramesRunFault.Plain maker.Write) }
+    ensures count { W.failures out.new ≡ count_after (is_err result) (W.failures out.old) }
+{
+    match write_lines(name.as_bytes(), b": touched\n", &[], out) {
+        Ok(()) => Ok(()),
+        Err(_) => Err(MakeRunFault::Write.into()),
+    }
+}
+
+/// Writes the lines of touched entries.
+fn write_entries<W: CountedWrite>(
+    entries: &[TouchedEntry],
+    out: &mut W,
+) -> Result<(), FramesRunFault>
+    ensures written { OnOk result (Appends (W.contents out.old) (W.contents out.new) (joined (of_each touched_line entries.now))) }
+    ensures prefix { OnErr result (AppendsPrefix (W.contents out.old) (W.contents out.new) (joined (of_each touched_line entries.now))) }
+    ensures one_write { OnOk result (TakeOneWriteEach (of_each touched_line entries.now) (W.whole_writes out.old) (W.whole_writes out.new)) }
+    ensures fault { IfErr result (λ fault. fault ≡ FramesRunFault.Plain maker.Write) }
+    ensures count { W.failures out.new ≡ count_after (is_err result) (W.failures out.old) }
+{
+    for entry in entries {
+        write_entry(entry, out)?;
+    }
+    Ok(())
+}
+
+/// Writes the lines of the frames that reach a touched shape, by their names.
+fn write_reaching<W: CountedWrite>(
+    names: &[String],
+    reaching: &[bool],
+    out: &mut W,
+) -> Result<(), FramesRunFault>
+    ensures written { OnOk result (Appends (W.contents out.old) (W.contents out.new)
+        (joined (reaching_lines (of_each (λ name. string_bytes name) names.now) reaching.now))) }
+    ensures prefix { OnErr result (AppendsPrefix (W.contents out.old) (W.contents out.new)
+        (joined (reaching_lines (of_each (λ name. string_bytes name) names.now) reaching.now))) }
+    ensures one_write { OnOk result (TakeOneWriteEach (reaching_lines (of_each (λ name. string_bytes name) names.now) reaching.now)
+        (W.whole_writes out.old) (W.whole_writes out.new)) }
+    ensures fault { IfErr result (λ fault. fault ≡ FramesRunFault.Plain maker.Write) }
+    ensures count { W.failures out.new ≡ count_after (is_err result) (W.failures out.old) }
+{
+    for i in 0..names.len().min(reaching.len()) {
+        if reaching[i] {
+            write_frame(names[i].as_str(), out)?;
+        }
+    }
+    Ok(())
+}
+
+/// Writes the lines of what a change touches.
+fn write_comparison<W: CountedWrite>(
+    names: &[String],
+    comparison: &Comparison,
+    out: &mut W,
+) -> Result<(), FramesRunFault>
+    ensures written { OnOk result (Appends (W.contents out.old) (W.contents out.new)
+        (joined (comparison_lines (of_each (λ name. string_bytes name) names.now) comparison.now))) }
+    ensures prefix { OnErr result (AppendsPrefix (W.contents out.old) (W.contents out.new)
+        (joined (comparison_lines (of_each (λ name. string_bytes name) names.now) comparison.now))) }
+    ensures one_write { OnOk result (TakeOneWriteEach (comparison_lines (of_each (λ name. string_bytes name) names.now) comparison.now)
+        (W.whole_writes out.old) (W.whole_writes out.new)) }
+    ensures fault { IfErr result (λ fault. fault ≡ FramesRunFault.Plain maker.Write) }
+    ensures count { W.failures out.new ≡ count_after (is_err result) (W.failures out.old) }
+{
+    write_entries(&comparison.entries, out)?;
+    write_reaching(names, &comparison.reaching, out)
+}
+
+/// Whether there is a touched entry.
+fn any_touched(entries: &[TouchedEntry]) -> bool
+    ensures { IsTrue result ↔ (0 < length entries.now) }
+{
+    !entries.is_empty()
+}
+
+/// Reads two ROMs at this map, and frames as [`run_make_frames`](crate::run_make_frames) does, and writes what the change from the first ROM
+/// to the other touches: a line for each touched entry of the certificate that `run_make_frames` would write over the first ROM, and one
+/// for each frame, by its name, whose own certificate has a touched entry. Answers whether an entry is touched.
+///
+/// A shape is touched if it reads a word in which the ROMs differ. What is not touched is the same over both ROMs: the laws of
+/// `dvg_diff` say so. The ROMs are read first. The faults are those of `run_make_frames` over the first ROM, 1 and 70 also for the other
+/// one, and 63 too where there is no memory for the answer. On all but 73 nothing was written, on 73 a prefix of the lines. Takes memory
+/// for the frames, a certificate at a time and the answer.
+pub fn run_comparison<R1: CountedRead, R2: CountedRead, W: CountedWrite>(
+    machine: Machine,
+    alloc: Global,
+    rom: &mut R1,
+    other: &mut R1,
+    map: RomMap,
+    roots: &[(u16, Key)],
+    frames: &mut [R2],
+    names: &[String],
+    out: &mut W,
+) -> Result<bool, FramesRunFault>
+    // 70, 71 and 73 come exactly where a device of theirs failed in this call, and the device's count then rises by one.
+    ensures rom_counts { FailedAfter (blames_frames_rom result) (R1.failures rom.old ∷ R1.failures other.old ∷ [])
+        (R1.failures rom.new ∷ R1.failures other.new ∷ []) }
+    ensures frame_counts { FailedAfter (blames_a_frame result) (of_each (λ frame. R2.failures frame) frames.old)
+        (of_each (λ frame. R2.failures frame) frames.new) }
+    ensures out_count { W.failures out.new ≡ count_after (blames_frames_writer result) (W.failures out.old) }
+
+    // On an answer, ROMs and frames were read to their end or to one byte past their limit, and no further. Where a ROM's reader
+    // failed, no frame was read.
+    ensures rom_read { result ≢ Err (FramesRunFault.Plain maker.ReadRom)
+        → IsReadTo MOST_ROM_READ (R1.remaining rom.old) (R1.remaining rom.new) }
+    ensures other_read { result ≢ Err (FramesRunFault.Plain maker.ReadRom)
+        → IsReadTo MOST_ROM_READ (R1.remaining other.old) (R1.remaining other.new) }
+    ensures frames_read { OnOk result (EachRead (of_each (λ frame. R2.remaining frame) frames.old)
+        (of_each (λ frame. R2.remaining frame) frames.new)) }
+    ensures frames_unread { result ≡ Err (FramesRunFault.Plain maker.ReadRom) → frames.new ≡ frames.old }
+
+    // What is written are the lines of what the change touches, by all bytes that the readers held, or a prefix of them, or nothing.
+    ensures text { IfOk result (λ touched. WritesComparison (ComparesFor machine (R1.remaining rom.old) (R1.remaining other.old) map roots.now
+        (of_each (λ frame. R2.remaining frame) frames.old)) (of_each (λ name. string_bytes name) names.now) touched
+        (W.contents out.old) (W.contents out.new) (W.whole_writes out.old) (W.whole_writes out.new)) }
+    ensures prefix { result ≡ Err (FramesRunFault.Plain maker.Write) → WritesComparisonPrefix (ComparesFor machine (R1.remaining rom.old)
+        (R1.remaining other.old) map roots.now (of_each (λ frame. R2.remaining frame) frames.old)) (of_each (λ name. string_bytes name) names.now)
+        (W.contents out.old) (W.contents out.new) }
+    ensures nothing { IfErr result (λ fault. fault ≢ FramesRunFault.Plain maker.Write → Appends (W.contents out.old) (W.contents out.new) []) }
+
+    // 1 and 2 come for a wrong length alone, and 60 to 62 as the maker refuses over the first ROM.
+    ensures refused { IfErr result (λ fault. frames_run_number fault ≢ 63 → ComparisonFaultMeans machine (R1.remaining rom.old)
+        (R1.remaining other.old) map roots.now (of_each (λ frame. R2.remaining frame) frames.old) fault) }
+{
+    let Ok(bytes) = read_rom(rom) else {
+        return Err(MakeRunFault::ReadRom.into());
+    };
+    let Ok(other_bytes) = read_rom(other) else {
+        return Err(MakeRunFault::ReadRom.into());
+    };
+    let frames = read_frames(alloc, frames)?;
+    let comparison = comparison_on(
+        machine,
+        alloc,
+        bytes.as_slice(),
+        other_bytes.as_slice(),
+        map,
+        roots,
+        &frames,
+    )?;
+    write_comparison(names, &comparison, out)?;
+    Ok(any_touched(&comparison.entries))
+}

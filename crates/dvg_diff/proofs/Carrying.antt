@@ -1,0 +1,188 @@
+-- What is made and judged over one ROM, over another whose shapes read the same.
+use Rattle.std.proofs.Common.{◌≡◌, ℕ, ◌∙◌, ◌↔◌, List, [], ◌∷◌, Result, Ok, Err, Contains, refl, sym, subst, inl, inr, ⊎_elim, arith}
+use Rattle.std.specs.List.{AllByRecursion}
+use Rattle.std.proofs.lemmas.List.Elements.{Contains-append_left, Contains-append_right}
+use Rattle.dvg_words.specs.Values.{Window}
+use Rattle.dvg_words.specs.Memory.{Rom, rom_word}
+use Rattle.dvg_words.specs.Decoding.{cell_at}
+use Rattle.dvg_words.specs.declared.instruction.Cell.{Cell}
+use Rattle.dvg_cert.specs.declared.entry.Entry.{Entry}
+use Rattle.dvg_cert.specs.declared.entry.Key.{Key}
+use Rattle.dvg_cert.proofs.OnlyEntries.{later}
+use Rattle.dvg_items.specs.declared.item.Item.{Item}
+use Rattle.dvg_items.specs.declared.item.Kind.TheVariants.{Shape}
+use Rattle.dvg_items.specs.Items.{LeadsTo}
+use Rattle.dvg_items.specs.Known.{shape_context}
+use Rattle.dvg_items.specs.Seen.{seen_at}
+use Rattle.dvg_check.specs.Rules.{CellKeeps, ShapeKeeps, ShapePlaceKeeps, GoodShape, Good}
+use Rattle.dvg_check.specs.declared.fault.Mode.{Mode}
+use Rattle.dvg_check.specs.declared.fault.Mode.TheVariants.{Exact}
+use Rattle.dvg_check.specs.declared.fault.ShapeWhy.{ShapeWhy}
+use Rattle.dvg_check.specs.declared.fault.ShapeWhy.TheVariants as shape
+use Rattle.dvg_check.specs.FirstFault.{AllBefore, FirstShapeFault}
+use Rattle.dvg_check.specs.declared.fault.ShapeFault.{ShapeFault}
+use Rattle.dvg_check.specs.Verdict.{PartsVerdict}
+use Rattle.dvg_check.specs.declared.verdict.Yes.{Yes}
+use Rattle.dvg_check.specs.declared.verdict.Refusal.{Refusal}
+use Rattle.dvg_check.specs.declared.verdict.Refusal.TheVariants as refusal
+use Rattle.dvg_make.specs.Made.{EachItem, MadeEntry, Needs}
+use Rattle.dvg_make.specs.Frames.{IsAskedFor, FramesMade, FrameMade}
+use Rattle.dvg_make.specs.Judging.{ByMade, FrameRefused}
+use Rattle.dvg_make.specs.declared.judging.FrameRefusal.TheVariants.{Make}
+use Rattle.dvg_make.specs.declared.fault.EntryFault.{EntryFault}
+use Rattle.dvg_make.specs.declared.fault.EntryFault.TheVariants.{Unstraight, Deep, TooManyWords, TooManyEntries, Memory}
+use Rattle.dvg_make.proofs.Collecting.{made_all}
+use Rattle.dvg_make.proofs.OneFrame.{one_frames_made}
+use Rattle.dvg_diff.specs.Touched.{IsTouched, ReachesTouched}
+use Rattle.dvg_diff.specs.Laws.{SameList, SameVerdict, NoneRefused}
+use Rattle.dvg_diff.proofs.Same.{with_words, alike_is, cell_there, forth, back, untouched_back}
+
+-- ---- one list
+
+module _ (rom : Rom) (others : List ℕ) (list : List Entry) (untouched : ReachesTouched rom (with_words rom others) list → ⊥) where
+  abbrev other : Rom
+  other = with_words rom others
+
+  pub each_untouched : (e : Entry) → Contains list e → IsTouched rom other e.addr → ⊥
+  each_untouched e c t = untouched (e, c, t)
+
+  pub list_untouched_back : ReachesTouched other rom list → ⊥
+  list_untouched_back t = untouched_back rom others t.0.addr (each_untouched t.0 t.1) t.2
+
+  module _ (e : Entry) (c : Contains list e) where
+    leads_back : (earlier : List Item) (p : ℕ) → LeadsTo Shape (rom_word other) e.addr earlier p → LeadsTo Shape (rom_word rom) e.addr earlier p
+    leads_back = back rom others e.addr (each_untouched e c)
+
+    cell_is : (earlier : List Item) (p : ℕ) → LeadsTo Shape (rom_word rom) e.addr earlier p → cell_at (rom_word rom) p ≡ cell_at (rom_word other) p
+    cell_is = cell_there rom others e.addr (each_untouched e c)
+
+    item_there : (P : List Item → Item → Type 0) → EachItem rom e.addr P → EachItem other e.addr P
+    item_there P h earlier i lead is = let l = leads_back earlier i.at lead in h earlier i l (cell_is earlier i.at l ∙ is)
+
+    module _ (mode : Mode) (w : Window) where
+      abbrev Keeps : List Item → ℕ → ShapeWhy → Cell → Type 0
+      Keeps earlier p why cell =
+          CellKeeps shape.Unmapped shape.Odd (λ i. ShapeKeeps mode w e (seen_at (shape_context rom.machine list e) earlier i)) p cell why
+
+      keep_there : (earlier : List Item) (p : ℕ) → LeadsTo Shape (rom_word rom) e.addr earlier p → (why : ShapeWhy) → ShapePlaceKeeps mode w rom list e earlier p why → ShapePlaceKeeps mode w other list e earlier p why
+      keep_there earlier p lead why = subst (Keeps earlier p why) (cell_is earlier p lead)
+
+      keep_back : (earlier : List Item) (p : ℕ) → LeadsTo Shape (rom_word rom) e.addr earlier p → (why : ShapeWhy) → ShapePlaceKeeps mode w other list e earlier p why → ShapePlaceKeeps mode w rom list e earlier p why
+      keep_back earlier p lead why = subst (Keeps earlier p why) (sym (cell_is earlier p lead))
+
+      good_shape : GoodShape mode w rom list e → GoodShape mode w other list e
+      good_shape g earlier p lead why = let l = leads_back earlier p lead in keep_there earlier p l why (g earlier p l why)
+
+      before_there : (items : List Item) (p : ℕ) → LeadsTo Shape (rom_word rom) e.addr items p → AllBefore (ShapePlaceKeeps mode w rom list e) items → AllBefore (ShapePlaceKeeps mode w other list e) items
+      before_there [] p lead h = tt
+      before_there (i ∷ items) p lead h = (before_there items i.at lead.0 h.0, λ why. keep_there items i.at lead.0 why (h.1 why))
+
+    entry_there : MadeEntry rom list e → MadeEntry other list e
+    entry_there m =
+        record {
+          keeps = λ earlier p lead why w ne. let l = leads_back earlier p lead in keep_there Exact w earlier p l why (m.keeps earlier p l why w ne);
+          keyed = item_there _ m.keyed;
+          box = item_there _ m.box;
+        }
+
+  good_there : (mode : Mode) (w : Window) → Good mode w rom list → Good mode w other list
+  good_there mode w g e c = good_shape e c mode w (g e c)
+
+  shapes_there : (mode : Mode) (w : Window) (es : List Entry) → ((e : Entry) → Contains es e → Contains list e) → AllByRecursion (GoodShape mode w rom list) es → AllByRecursion (GoodShape mode w other list) es
+  shapes_there mode w [] h g = tt
+  shapes_there mode w (e ∷ es) h g = (good_shape e (h e (0, omega arith, refl)) mode w g.0, shapes_there mode w es (λ f c. h f (later e es f c)) g.1)
+
+  fault_there : (mode : Mode) (w : Window) (f : ShapeFault) → FirstShapeFault mode w rom list f → FirstShapeFault mode w other list f
+  fault_there mode w f h =
+      let listed : Contains list h.entry =
+      subst (λ (es : List Entry). Contains es h.entry) (sym h.order_is) (Contains-append_right h.before (h.entry ∷ h.after) h.entry (0, omega arith, refl)) in
+      let among : (e : Entry) → Contains h.before e → Contains list e =
+      λ e c. subst (λ (es : List Entry). Contains es e) (sym h.order_is) (Contains-append_left h.before (h.entry ∷ h.after) e c) in
+      let lead = h.fault.leads in
+      record {
+        before = h.before;
+        entry = h.entry;
+        after = h.after;
+        order_is = h.order_is;
+        good = shapes_there mode w h.before among h.good;
+        addr = h.addr;
+        key = h.key;
+        fault = record {
+          items = h.fault.items;
+          leads = forth rom others h.entry.addr (each_untouched h.entry listed) h.fault.items f.word lead;
+          before = before_there h.entry listed mode w h.fault.items f.word lead h.fault.before;
+          breaks = λ k. h.fault.breaks (keep_back h.entry listed mode w h.fault.items f.word lead f.why k);
+          lowest = λ why lt. keep_there h.entry listed mode w h.fault.items f.word lead why (h.fault.lowest why lt);
+        };
+      }
+
+  verdict_there : (w : Window) (words : List ℕ) (budget : ℕ) (answer : Result Yes Refusal) → PartsVerdict Exact w rom list words budget answer → PartsVerdict Exact w other list words budget answer
+  verdict_there w words budget (Ok y) h = (good_there Exact w h.0, h.1, h.2)
+  verdict_there w words budget (Err (refusal.Shape f)) h = fault_there Exact w f h
+  verdict_there w words budget (Err (refusal.Frame f)) h = (good_there Exact w h.0, h.1)
+  verdict_there w words budget (Err refusal.IndexMemory) h = h
+  verdict_there w words budget (Err (refusal.Image f)) h = absurd h
+  verdict_there w words budget (Err refusal.BudgetRange) h = absurd h
+  verdict_there w words budget (Err (refusal.Cert f)) h = absurd h
+
+  module _ (roots : List (ℕ × Key)) (frames : List (List ℕ)) (made : FramesMade rom roots frames list) where
+    needs_there : (e f : Entry) → Contains list e → Needs rom list e f → Needs other list e f
+    needs_there e f c n =
+        record {
+          earlier = n.earlier;
+          item = n.item;
+          leads = forth rom others e.addr (each_untouched e c) n.earlier n.item.at n.leads;
+          stands = sym (cell_is e c n.earlier n.item.at n.leads) ∙ n.stands;
+          callee_is = n.callee_is;
+        }
+
+    pub made_there : FramesMade other roots frames list
+    made_there =
+        record {
+          certificate = made.certificate;
+          each = λ e c. entry_there e c (made.each e c);
+          rooted = made.rooted;
+          needed = λ f c. ⊎_elim (λ asked. inl asked) (λ n. inr (n.0, n.1, needs_there n.0 f n.1 n.2)) (made.needed f c);
+        }
+
+  -- ---- a frame with this list
+
+  pub judged_there : (words : List ℕ) → FrameMade rom words list → (w : Window) (budget : ℕ) (answer : Result Yes Refusal) → ByMade rom words w budget answer → ByMade other words w budget answer
+  judged_there words made w budget answer by =
+      let same : by.list ≡ list = one_frames_made rom [] (words ∷ []) by.list list by.made made in
+      record {
+        list = list;
+        made = made_there [] (words ∷ []) made;
+        verdict = verdict_there w words budget answer (subst (λ (es : List Entry). PartsVerdict Exact w rom es words budget answer) same by.verdict);
+      }
+
+-- ---- the laws
+
+pub same_list : SameList
+same_list rom other roots frames list u =
+    subst (λ (o : Rom). (ReachesTouched rom o list → ⊥) → FramesMade o roots frames list) (alike_is rom other u.alike)
+    (λ h. made_there rom other.words list h roots frames u.made) u.untouched
+
+pub same_verdict : SameVerdict
+same_verdict rom other words list u w budget answer =
+    subst (λ (o : Rom). (ReachesTouched rom o list → ⊥) → ByMade rom words w budget answer ↔ ByMade o words w budget answer) (alike_is rom other u.alike)
+    (λ h. (
+      judged_there rom other.words list h words u.made w budget answer,
+      judged_there (with_words rom other.words) rom.words list (list_untouched_back rom other.words list h) words (made_there rom other.words list h [] (words ∷ []) u.made) w budget answer,
+    ))
+    u.untouched
+
+pub none_refused : NoneRefused
+none_refused rom other words list u w budget at why refused = by_cause why refused
+  where
+    made : FrameMade other words list
+    made = same_list rom other [] (words ∷ []) list u
+
+    by_cause : (why : EntryFault) → FrameRefused other words w budget (Make at why) → ⊥
+    by_cause (Unstraight word) r = r.0 list made
+    by_cause Deep r = r.0 list made
+    by_cause TooManyWords r = r.0 list made
+    by_cause TooManyEntries r =
+        let long = r.0 list (made_all other (IsAskedFor other.machine [] (words ∷ []) list) list made) made.rooted in
+        omega (arith, long, made.certificate.few)
+    by_cause Memory r = r

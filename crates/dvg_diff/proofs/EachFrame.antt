@@ -1,0 +1,39 @@
+-- Frame after frame, and a want of memory.
+use Rattle.std.proofs.Common.{◌≡◌, ℕ, suc, ◌+◌, ◌<◌, ◌++◌, List, [], ◌∷◌, length, take, get_or, Bool, None, refl, sym, subst, arith}
+use Rattle.std.proofs.Math.Seq.{take-suc}
+use Rattle.dvg_words.specs.Memory.{Rom}
+use Rattle.dvg_cert.specs.declared.entry.Key.{Key}
+use Rattle.dvg_cert.specs.declared.entry.Key.TheVariants.{Any}
+use Rattle.dvg_items.specs.Known.{start}
+use Rattle.dvg_items.specs.declared.item.Kind.TheVariants.{Shape}
+use Rattle.dvg_make.specs.Refusals.{FramesRefuse}
+use Rattle.dvg_make.specs.Accounts.{HasCause}
+use Rattle.dvg_make.specs.declared.account.EntryCause.TheVariants as cause
+use Rattle.dvg_make.specs.declared.fault.EntryFault.TheVariants.{Memory}
+use Rattle.dvg_make.specs.declared.fault.FramesFault.{FramesFault}
+use Rattle.dvg_diff.specs.Comparing.{FrameReaches, EachReaches}
+
+module _ (rom : Rom) (roots : List (ℕ × Key)) (frames : List (List ℕ)) (f : FramesFault) (is : f ≡ record { call = None; why = Memory }) where
+  pub memory_refuses : FramesRefuse rom roots frames f
+  memory_refuses = subst (FramesRefuse rom roots frames) (sym is) (record { list = tt; root = tt; frame = tt })
+
+  pub memory_told : HasCause rom roots frames f
+  memory_told = subst (HasCause rom roots frames) (sym is) (record { chain = []; at = 0; before = start Shape Any; cause = cause.Memory; why_is = refl; told = tt })
+
+module _ (rom other : Rom) where
+  one_more : (frames : List (List ℕ)) (reaching : List Bool) (words : List ℕ) (reaches : Bool) → EachReaches rom other frames reaching → FrameReaches rom other words reaches
+      → EachReaches rom other (frames ++ words ∷ []) (reaching ++ reaches ∷ [])
+  one_more [] [] words reaches h r = (r, tt)
+  one_more (w ∷ frames) (b ∷ reaching) words reaches h r = (h.0, one_more frames reaching words reaches h.1 r)
+  one_more [] (b ∷ reaching) words reaches h r = absurd h
+  one_more (w ∷ frames) [] words reaches h r = absurd h
+
+  module _ (frames : List (List ℕ)) (i : ℕ) (d : List ℕ) (lt : i < length frames) where
+    pub next_frame : (reaching : List Bool) → EachReaches rom other (take i frames) reaching → (words : List ℕ) → words ≡ get_or frames i d
+        → (reaches : Bool) → FrameReaches rom other words reaches → (more : List Bool) → more ≡ reaching ++ reaches ∷ [] → EachReaches rom other (take (i + 1) frames) more
+    next_frame reaching h words same reaches r more grown =
+        let one : i + 1 ≡ suc i = omega arith in
+        let here : FrameReaches rom other (get_or frames i d) reaches = subst (λ (ws : List ℕ). FrameReaches rom other ws reaches) same r in
+        subst (λ (bs : List Bool). EachReaches rom other (take (i + 1) frames) bs) (sym grown)
+        (subst (λ (n : ℕ). EachReaches rom other (take n frames) (reaching ++ reaches ∷ [])) (sym one)
+        (subst (λ (ws : List (List ℕ)). EachReaches rom other ws (reaching ++ reaches ∷ [])) (sym (take-suc frames i d lt)) (one_more (take i frames) reaching (get_or frames i d) reaches h here)))

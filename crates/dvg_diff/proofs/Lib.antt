@@ -1,0 +1,5 @@
+pub mod Same
+pub mod Carrying
+pub mod Running
+pub mod Walking
+pub mod EachFrame

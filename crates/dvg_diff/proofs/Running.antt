@@ -1,0 +1,250 @@
+-- The runs of a good frame over two ROMs whose shapes read the same.
+use Rattle.std.proofs.Common.{◌≡◌, ℕ, zero, suc, ◌+◌, ◌<◌, ◌∙◌, ◌⊎◌, ◌↔◌, ◌++◌, List, [], ◌∷◌, length, nat_lt, None, Some, Bool, true, false, Contains, if◌then◌else◌, refl, sym, ap, subst, inl, inr, ⊎_elim, arith}
+use Rattle.std.proofs.lemmas.Bool.Decides.{nat_tests}
+use Rattle.std.specs.List.{AllByRecursion}
+use Rattle.dvg_words.specs.Values.{Window, Source}
+use Rattle.dvg_words.specs.declared.beam.Point.{Point}
+use Rattle.dvg_words.specs.Memory.{Rom, Memory, IsMemory, rom_word, frame_word, word_at}
+use Rattle.dvg_words.specs.Decoding.{word_count, cell_at}
+use Rattle.dvg_words.specs.Generator.{State, Status, Running, Halted, Fault, Reached, start, next_status, after_call, after_return, after_instruction, places}
+use Rattle.dvg_words.specs.declared.instruction.Cell.{Cell}
+use Rattle.dvg_words.specs.declared.instruction.Cell.TheVariants.{Missing, Odd, Holds}
+use Rattle.dvg_words.specs.declared.instruction.Format.{Format}
+use Rattle.dvg_words.specs.declared.instruction.Format.TheVariants.{Short, Long}
+use Rattle.dvg_words.specs.declared.instruction.Instr.{Instr}
+use Rattle.dvg_words.specs.declared.instruction.Instr.TheVariants.{Draw as Draws, Labs, Halt, Jsrl, Rtsl, Jmpl}
+use Rattle.dvg_cert.specs.declared.entry.Entry.{Entry}
+use Rattle.dvg_cert.specs.declared.entry.Key.{Key}
+use Rattle.dvg_items.specs.declared.item.Item.{Item}
+use Rattle.dvg_items.specs.declared.item.Kind.TheVariants.{Shape, Frame}
+use Rattle.dvg_items.specs.Items.{LeadsTo, address_after}
+use Rattle.dvg_items.specs.Known.{target, scale_before, shape_context, frame_context}
+use Rattle.dvg_items.specs.Seen.{seen_at}
+use Rattle.dvg_items.proofs.Listed.{listed_at}
+use Rattle.dvg_check.specs.Rules.{GoodFrame, CellKeeps, ShapeKeeps, FrameKeeps}
+use Rattle.dvg_check.specs.declared.fault.FrameWhy.{FrameWhy}
+use Rattle.dvg_check.specs.declared.fault.Mode.TheVariants.{Exact}
+use Rattle.dvg_check.specs.declared.fault.ShapeWhy.TheVariants as shape
+use Rattle.dvg_check.specs.declared.fault.FrameWhy.TheVariants as frame
+use Rattle.dvg_check.proofs.Steps.{stands, next_there}
+use Rattle.dvg_check.proofs.Onward.{long_there}
+use Rattle.dvg_make.specs.Made.{HasEntry}
+use Rattle.dvg_make.specs.Frames.{FrameMade, FrameAsksFor}
+use Rattle.dvg_diff.specs.Touched.{ReachesTouched}
+use Rattle.dvg_diff.specs.Laws.{SameRuns}
+use Rattle.dvg_diff.proofs.Same.{with_words, alike_is, cell_there}
+use Rattle.dvg_diff.proofs.Carrying.{each_untouched, list_untouched_back, made_there}
+
+-- ---- an instruction stands at a place that keeps the first two rules
+
+record Instruction (cell : Cell) : Type 0 where
+  format : Format
+  instr : Instr
+  is : cell ≡ Holds format instr
+
+instruction_at : {Why : Type 0} (missing odd : Why) (keeps : Item → Why → Type 0) (p : ℕ) (cell : Cell) → CellKeeps missing odd keeps p cell missing → CellKeeps missing odd keeps p cell odd → Instruction cell
+instruction_at missing odd keeps p Missing k l = absurd (k refl)
+instruction_at missing odd keeps p Odd k l = absurd (l refl)
+instruction_at missing odd keeps p (Holds format instr) k l = record { format = format; instr = instr; is = refl }
+
+one_word : (get : Source) (p to : ℕ) (format : Format) → cell_at get p ≡ Holds format (Jsrl to) → word_count format ≡ 1
+one_word get p to Short is = refl
+one_word get p to Long is = absurd (long_there get p (Jsrl to) is)
+
+goes_forward : (p to : ℕ) (format : Format) → p < to → address_after Frame p format (Jmpl to) ≡ Some to
+goes_forward p to format lt =
+    let test : nat_lt p to ≡ true = grind (arith, nat_tests, lt) in
+    ap (λ (b : Bool). if b then Some to else None) test
+
+module _ (rom : Rom) (others : List ℕ) (words : List ℕ) (list : List Entry) (untouched : ReachesTouched rom (with_words rom others) list → ⊥) (made : FrameMade rom words list)
+    (mem : IsMemory (record { frame = words; rom = rom })) (mem_there : IsMemory (record { frame = words; rom = with_words rom others }))
+    (w : Window) (budget count depth : ℕ) (good : GoodFrame w rom.machine words list budget count depth) where
+  abbrev here : Memory
+  here = record { frame = words; rom = rom }
+
+  abbrev there : Memory
+  there = record { frame = words; rom = with_words rom others }
+
+  -- the place of an item of a shape, or of the frame
+  record OnShape (p : ℕ) : Type 0 where
+    entry : Entry
+    listed : Contains list entry
+    earlier : List Item
+    leads : LeadsTo Shape (rom_word rom) entry.addr earlier p
+
+  record OnFrame (p : ℕ) : Type 0 where
+    earlier : List Item
+    leads : LeadsTo Frame (frame_word rom.machine words) 0 earlier p
+
+  abbrev IsOn : ℕ → Type 0
+  IsOn p = OnShape p ⊎ OnFrame p
+
+  -- where an instruction at such a place leads
+  abbrev Leads : ℕ → Format → Instr → Type 0
+  Leads p format (Draws d) = IsOn (p + word_count format)
+  Leads p format (Labs x y gscale) = IsOn (p + word_count format)
+  Leads p format Halt = Unit {0}
+  Leads p format (Jsrl to) = IsOn to × IsOn (p + 1)
+  Leads p format Rtsl = Unit {0}
+  Leads p format (Jmpl to) = IsOn to
+
+  record StandsAlike (p : ℕ) : Type 0 where
+    format : Format
+    instr : Instr
+    is_here : cell_at (word_at here) p ≡ Holds format instr
+    is_there : cell_at (word_at there) p ≡ Holds format instr
+    leads : Leads p format instr
+
+  at_entry : (to : ℕ) (scale : Key) → HasEntry list to scale → IsOn to
+  at_entry to scale h =
+      let l = listed_at list to scale h.0 h.1 in
+      inl (record { entry = h.0; listed = l.listed; earlier = []; leads = sym l.addr_is })
+
+  module _ (p : ℕ) (o : OnShape p) where
+    shape_next : (format : Format) (instr : Instr) (to : ℕ) → cell_at (rom_word rom) p ≡ Holds format instr → address_after Shape p format instr ≡ Some to → IsOn to
+    shape_next format instr to is goes =
+        inl (record { entry = o.entry; listed = o.listed; earlier = record { at = p; format = format; instr = instr } ∷ o.earlier; leads = (o.leads, is, goes) })
+
+    shape_call : (format : Format) (instr : Instr) (to : ℕ) → cell_at (rom_word rom) p ≡ Holds format instr → target Shape instr ≡ Some to → IsOn to
+    shape_call format instr to is calls =
+        at_entry to _ ((made.each o.entry o.listed).keyed o.earlier (record { at = p; format = format; instr = instr }) o.leads is to calls)
+
+    shape_leads : (format : Format) (instr : Instr) → cell_at (rom_word rom) p ≡ Holds format instr → Leads p format instr
+    shape_leads format (Draws d) is = shape_next format (Draws d) _ is refl
+    shape_leads format (Labs x y gscale) is = shape_next format (Labs x y gscale) _ is refl
+    shape_leads format Halt is = tt
+    shape_leads format (Jsrl to) is = (
+      shape_call format (Jsrl to) to is refl,
+      subst (λ (n : ℕ). IsOn (p + n)) (one_word (rom_word rom) p to format is) (shape_next format (Jsrl to) _ is refl),
+    )
+    shape_leads format Rtsl is = tt
+    shape_leads format (Jmpl to) is = shape_call format (Jmpl to) to is refl
+
+    shape_item : Instruction (cell_at (rom_word rom) p)
+    shape_item =
+        let keeps = (made.each o.entry o.listed).keeps o.earlier p o.leads in
+        instruction_at shape.Unmapped shape.Odd (λ i. ShapeKeeps Exact w o.entry (seen_at (shape_context rom.machine list o.entry) o.earlier i)) p (cell_at (rom_word rom) p)
+        (keeps shape.Unmapped w (λ (e : shape.Unmapped ≡ shape.OffScreen). cc e)) (keeps shape.Odd w (λ (e : shape.Odd ≡ shape.OffScreen). cc e))
+
+    cell_same : cell_at (rom_word rom) p ≡ cell_at (rom_word (with_words rom others)) p
+    cell_same = cell_there rom others o.entry.addr (each_untouched rom others list untouched o.entry o.listed) o.earlier p o.leads
+
+    shape_by : Instruction (cell_at (rom_word rom) p) → StandsAlike p
+    shape_by i =
+        record {
+          format = i.format;
+          instr = i.instr;
+          is_here = stands Shape here p i.format i.instr mem i.is;
+          is_there = stands Shape there p i.format i.instr mem_there (sym cell_same ∙ i.is);
+          leads = shape_leads i.format i.instr i.is;
+        }
+
+    shape_stands : StandsAlike p
+    shape_stands = shape_by shape_item
+
+  module _ (p : ℕ) (o : OnFrame p) where
+    frame_next : (format : Format) (instr : Instr) (to : ℕ) → cell_at (frame_word rom.machine words) p ≡ Holds format instr → address_after Frame p format instr ≡ Some to → IsOn to
+    frame_next format instr to is goes = inr (record { earlier = record { at = p; format = format; instr = instr } ∷ o.earlier; leads = (o.leads, is, goes) })
+
+    frame_call : (format : Format) (to : ℕ) → cell_at (frame_word rom.machine words) p ≡ Holds format (Jsrl to) → IsOn to
+    frame_call format to is =
+        let scale = scale_before (frame_context rom.machine list) o.earlier in
+        let asks : FrameAsksFor rom.machine words list to scale =
+        record { earlier = o.earlier; item = record { at = p; format = format; instr = Jsrl to }; leads = o.leads; stands = is; target_is = refl; scale_is = refl } in
+        at_entry to scale (made.rooted to scale (inr (words, (0, omega arith, refl), asks)))
+
+    abbrev Keeps : FrameWhy → Cell → Type 0
+    Keeps why cell = CellKeeps frame.Unmapped frame.Odd (λ i. FrameKeeps w budget (seen_at (frame_context rom.machine list) o.earlier i)) p cell why
+
+    forward : (format : Format) (to : ℕ) → cell_at (frame_word rom.machine words) p ≡ Holds format (Jmpl to) → p < to
+    forward format to is = subst (Keeps frame.BackJump) is (good.keeps o.earlier p o.leads frame.BackJump)
+
+    frame_leads : (format : Format) (instr : Instr) → cell_at (frame_word rom.machine words) p ≡ Holds format instr → Leads p format instr
+    frame_leads format (Draws d) is = frame_next format (Draws d) _ is refl
+    frame_leads format (Labs x y gscale) is = frame_next format (Labs x y gscale) _ is refl
+    frame_leads format Halt is = tt
+    frame_leads format (Jsrl to) is = (
+      frame_call format to is,
+      subst (λ (n : ℕ). IsOn (p + n)) (one_word (frame_word rom.machine words) p to format is) (frame_next format (Jsrl to) _ is refl),
+    )
+    frame_leads format Rtsl is = tt
+    frame_leads format (Jmpl to) is = frame_next format (Jmpl to) to is (goes_forward p to format (forward format to is))
+
+    frame_stands : StandsAlike p
+    frame_stands =
+        let keeps = good.keeps o.earlier p o.leads in
+        let i = instruction_at frame.Unmapped frame.Odd (λ i. FrameKeeps w budget (seen_at (frame_context rom.machine list) o.earlier i)) p (cell_at (frame_word rom.machine words) p) (keeps frame.Unmapped) (keeps frame.Odd) in
+        record {
+          format = i.format;
+          instr = i.instr;
+          is_here = stands Frame here p i.format i.instr mem i.is;
+          is_there = stands Frame there p i.format i.instr mem_there i.is;
+          leads = frame_leads i.format i.instr i.is;
+        }
+
+  stand_alike : (p : ℕ) → IsOn p → StandsAlike p
+  stand_alike p = ⊎_elim (shape_stands p) (frame_stands p)
+
+  -- ---- the step
+
+  -- the next word and all return places are places of items
+  abbrev OnStatus : Status → Type 0
+  OnStatus (Running s) = IsOn s.pc × AllByRecursion IsOn s.return_stack
+  OnStatus (Halted s) = Unit {0}
+  OnStatus (Fault s) = Unit {0}
+
+  on_call : (b : Bool) (to : ℕ) (s : State) → IsOn to → IsOn (s.pc + 1) → AllByRecursion IsOn s.return_stack → OnStatus (after_call b to s)
+  on_call true to s h k all = (h, (k, all))
+  on_call false to s h k all = tt
+
+  on_return : (stack : List ℕ) (s : State) → AllByRecursion IsOn stack → OnStatus (after_return stack s)
+  on_return [] s all = tt
+  on_return (back ∷ rest) s all = (all.0, all.1)
+
+  on_after : (format : Format) (instr : Instr) (s : State) → Leads s.pc format instr → AllByRecursion IsOn s.return_stack → OnStatus (after_instruction rom.machine instr format s)
+  on_after format (Draws d) s l all = (l, all)
+  on_after format (Labs x y gscale) s l all = (l, all)
+  on_after format Halt s l all = tt
+  on_after format (Jsrl to) s l all = on_call (nat_lt (length s.return_stack) 4) to s l.0 l.1 all
+  on_after format Rtsl s l all = on_return s.return_stack s all
+  on_after format (Jmpl to) s l all = (l, all)
+
+  module _ (s : State) (on : OnStatus (Running s)) where
+    next_alike : next_status here s ≡ next_status there s
+    next_alike =
+        let st = stand_alike s.pc on.0 in
+        next_there here s st.format st.instr st.is_here ∙ sym (next_there there s st.format st.instr st.is_there)
+
+    next_on : OnStatus (next_status here s)
+    next_on =
+        let st = stand_alike s.pc on.0 in
+        subst OnStatus (sym (next_there here s st.format st.instr st.is_here))
+        (on_after st.format st.instr (record s { fetched = places st.format s.pc ++ s.fetched }) st.leads on.1)
+
+  run_there : (steps : ℕ) (from to : Status) → OnStatus from → Reached here steps from to → Reached there steps from to
+  run_there zero from to on r = r
+  run_there (suc n) (Running s) to on r =
+      (r.0, sym (next_alike s on) ∙ r.1, run_there n r.0 to (subst OnStatus r.1 (next_on s on)) r.2)
+  run_there (suc n) (Halted s) to on r = absurd r.1
+  run_there (suc n) (Fault s) to on r = absurd r.1
+
+  pub runs_there : (place : Point) (scale steps : ℕ) (s : Status) → Reached here steps (Running (start place scale)) s → Reached there steps (Running (start place scale)) s
+  runs_there place scale steps s = run_there steps (Running (start place scale)) s (inr (record { earlier = []; leads = refl }), tt)
+
+-- ---- the law
+
+abbrev Same : List ℕ → List Entry → Point → ℕ → ℕ → Status → Rom → Rom → Type 0
+Same words list place scale steps s a b =
+    (ReachesTouched a b list → ⊥) → IsMemory (record { frame = words; rom = b })
+    → Reached (record { frame = words; rom = a }) steps (Running (start place scale)) s ↔ Reached (record { frame = words; rom = b }) steps (Running (start place scale)) s
+
+pub same_runs : SameRuns
+same_runs rom other words list u mem mem_other w budget count depth good place scale steps s =
+    subst (Same words list place scale steps s rom) (alike_is rom other u.alike) alike u.untouched mem_other
+  where
+    alike : Same words list place scale steps s rom (with_words rom other.words)
+    alike h k = (
+      runs_there rom other.words words list h u.made mem k w budget count depth good place scale steps s,
+      runs_there (with_words rom other.words) rom.words words list (list_untouched_back rom other.words list h)
+          (made_there rom other.words list h [] (words ∷ []) u.made) k mem w budget count depth good place scale steps s,
+    )

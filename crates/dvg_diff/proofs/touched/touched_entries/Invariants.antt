@@ -1,0 +1,6 @@
+use Rattle.std.proofs.Common.{take}
+use Rattle.dvg_diff.specs.Touched.{AreTouched}
+use Rattle.dvg_diff.proofs.touched.touched_entries.Given as goal
+
+abbrev pub invariant-loop-entry : goal.invariant-loop-entry
+invariant-loop-entry l = AreTouched l.rom l.other (take l.entry-index l.entries) l.touched.items
