@@ -2,24 +2,25 @@
  * dvgcheck for C: whether a display list for Atari's Digital Vector Generator is safe.
  *
  * dvgcheck_frame_alone judges a frame from the ROM alone, and dvgcheck_explain tells why it is refused. For many frames, judge a
- * vector ROM and the certificate of its shapes once by dvgcheck_judge, and then each frame by dvgcheck_frame, which takes no memory;
- * dvgcheck_make makes such a certificate. dvgcheck_check judges all three at once. The calls whose name ends in _on, and those from the
- * ROM alone, take the machine first: users of a board pass DVGCHECK_BOARD. The others are about the fixed-point profile
- * (docs/MACHINE.md).
+ * vector ROM and the certificate of its shapes once by dvgcheck_judge, and then each frame by dvgcheck_frame, which takes no
+ * memory; dvgcheck_make makes such a certificate. dvgcheck_check judges all three at once. The calls whose name ends in _on, and
+ * those from the ROM alone, take the machine first: users of a board pass DVGCHECK_BOARD. The others are about the fixed-point
+ * profile (docs/MACHINE.md).
  *
  * What the functions answer and keep is proved. It rests on what nothing can test, so it is yours to see to:
  *
  * - A pointer and the length after it are those of so many elements that can be read, that nothing writes during the call, and that
  *   lie outside the struct that is passed with them. It is not null, also where the length is 0. The other pointers are those of a
  *   struct.
- * - Where the pointer is that of a buffer, `text`, its bytes have some value, and nothing else reads or writes them during the call;
- *   what else is passed lies outside of it.
+ * - The bytes of a buffer, `text`, have some value, and nothing else reads or writes them during the call; what else is passed lies
+ *   outside of it.
  * - A `struct dvgcheck_shapes` is all zeros, or has just the bytes that the last call of the dvgcheck_judge family left in it:
  *   nothing else writes into it. It may be copied and moved. While no call writes it, any number of threads may judge frames
  *   over it.
  * - The ROM of the machine has the bytes that were judged, where the certificate says.
  * - malloc, realloc and free are those of one allocator, which aligns as the C standard asks. No call is made from a signal
- *   handler, or in the child that a process with threads forked. 64 KiB of the stack are free.
+ *   handler, or in the child that a process with threads forked. 64 KiB of the stack are free, and 96 KiB for
+ *   dvgcheck_explain.
  *
  * Any number of threads may call these functions at once, each with a struct and a buffer of its own.
  */
@@ -34,8 +35,8 @@ extern "C" {
 #endif
 
 /*
- * The version of this header, 1.0.0: its first number times 10,000, its second times 100, and its third. dvgcheck_version returns that
- * of the library, which `dvgcheck --version` prints for the program.
+ * The version of this header, 1.0.0: its first number times 10,000, its second times 100, and its third. dvgcheck_version returns
+ * that of the library, and `dvgcheck --version` prints that of the program.
  */
 #define DVGCHECK_VERSION 10000
 
@@ -74,13 +75,13 @@ struct dvgcheck_root {
 /* The numbers of an answer, beside those of the refusals (docs/RULES.md). */
 enum {
     DVGCHECK_ACCEPTED = 0,
-    DVGCHECK_BAD_WINDOW = 80, /* the ends are not in order or not on the screen, and not those of DVGCHECK_CLIPPED on the board */
-    DVGCHECK_NO_SHAPES = 81,  /* no shapes are judged: the struct is all zeros, or they were refused */
-    DVGCHECK_BAD_MACHINE = 82, /* the number stands for no machine */
-    DVGCHECK_BAD_MAP = 83,     /* no ROM can lie there */
+    DVGCHECK_BAD_WINDOW = 80,   /* the ends are not in order or not on the screen, and not those of DVGCHECK_CLIPPED on the board */
+    DVGCHECK_NO_SHAPES = 81,    /* no shapes are judged: the struct is all zeros, or they were refused */
+    DVGCHECK_BAD_MACHINE = 82,  /* the number stands for no machine */
+    DVGCHECK_BAD_MAP = 83,      /* no ROM can lie there */
     DVGCHECK_SHORT_BUFFER = 84, /* of a text: the buffer is too short for it */
-    DVGCHECK_NO_MEMORY = 85,   /* of an account: there was no memory for it */
-    DVGCHECK_BAD_LENGTHS = 86  /* the lengths of the frames don't add up to that of their bytes */
+    DVGCHECK_NO_MEMORY = 85,    /* of an account: there was no memory for it */
+    DVGCHECK_BAD_LENGTHS = 86   /* the lengths of the frames don't add up to that of their bytes */
 };
 
 /* The machines. */
@@ -97,7 +98,8 @@ struct dvgcheck_answer {
     uint32_t shapes; /* with 0: how many shapes the certificate claims, also one that was made for the frame */
     uint32_t words;  /* with 0, of a frame: how many words every run fetches at most */
     uint32_t line;   /* with 10 to 16: the certificate's line, counted from 1 */
-    uint16_t word;   /* with 20 to 33 and 40 to 48: the word address of the first item that breaks a rule; with 60: of what no shape can have */
+    uint16_t word;   /* with 20 to 33 and 40 to 48: the word address of the first item that breaks a rule; with 60: of what no
+                        shape can have */
     uint16_t shape;  /* with 20 to 33: the word address of the entry whose shape has it */
     uint8_t scale;   /* with 20 to 33: the global scale of that entry, 0 to 15, or DVGCHECK_ANY_SCALE */
     uint8_t depth;   /* with 0, of a frame: how many return places every run stores at once at most */
@@ -180,12 +182,13 @@ struct dvgcheck_answer dvgcheck_check_exact_on(uint32_t machine, const uint8_t *
                                                struct dvgcheck_window window);
 
 /*
- * Judges a frame, as bytes, from the ROM alone, by the certificate that is made for it: no certificate does better. `map` is where the
- * ROM lies. The number is 82, 83, 80, or the first that applies of 2, 49, 1, 60 to 63, 50, 25, 40 to 44, 46 and 48, or 0. Where it is
- * 0, it means the same as of dvgcheck_frame over shapes that were judged as exact: each run fetches just `words` words and stores
- * just `depth` return places at once; and no certificate gets the frame accepted with less. 60 to 62 are those of the first call whose
- * entry can't be made: `call` is the word address of it, and with 60 `word` that of what no shape can have. Takes memory for the
- * certificate's entries and their index, and gives it back; where there is none, the number is 63 or 50. 26 KiB of the stack.
+ * Judges a frame, as bytes, from the ROM alone, by the certificate that is made for it: no certificate does better. `map` is where
+ * the ROM lies. The number is 82, 83, 80, or the first that applies of 2, 49, 1, 60 to 63, 50, 25, 40 to 44, 46 and 48, or 0. Where
+ * it is 0, it means the same as of dvgcheck_frame over shapes that were judged as exact: each run fetches just `words` words and
+ * stores just `depth` return places at once; and no certificate gets the frame accepted with less. 60 to 62 are those of the first
+ * call whose entry can't be made: `call` is the word address of it, and with 60 `word` that of what no shape can have. Takes memory
+ * for the certificate's entries and their index, and gives it back; where there is none, the number is 63 or 50. 50 KiB of the
+ * stack.
  */
 struct dvgcheck_answer dvgcheck_frame_alone(uint32_t machine, const uint8_t *rom, size_t rom_length, struct dvgcheck_map map,
                                             const uint8_t *frame, size_t frame_length, uint32_t budget,
@@ -194,23 +197,25 @@ struct dvgcheck_answer dvgcheck_frame_alone(uint32_t machine, const uint8_t *rom
 /*
  * The account of a frame: what `dvgcheck explain frames` prints for it behind `NAME: `, the line of its answer and the lines below
  * it, with no labels. `answer` is that of dvgcheck_frame_alone. The number is 0, and the text is in the buffer, with no null byte
- * behind it; or 84, and `length` is what the text needs, and the buffer is as it was; or 85, there was no memory for the account; or
- * 82, 83 or 80 as that of the answer. Takes memory as dvgcheck_frame_alone does, and for the account; 64 KiB of the stack.
+ * behind it; or 84, and `length` is what the text needs, and the buffer is as it was; or 85, and there was no memory for the
+ * account; or 82, 83 or 80, as that of the answer. Takes memory as dvgcheck_frame_alone does, and for the account; 72 KiB of the
+ * stack.
  */
 struct dvgcheck_text dvgcheck_explain(uint32_t machine, const uint8_t *rom, size_t rom_length, struct dvgcheck_map map,
                                       const uint8_t *frame, size_t frame_length, uint32_t budget, struct dvgcheck_window window,
                                       uint8_t *text, size_t text_size);
 
 /*
- * Makes the certificate of these roots and of all that these frames call, and writes its text: what `dvgcheck make` writes. The frames
- * lie one behind the other in `frames`, and `lengths` has how many bytes each of them has. The number is 82, 83, 86, or the first that
- * applies of 1, 2 and 60 to 63, and `answer` has it, too, with its place; or 0, and the text is in the buffer, with no null byte behind
- * it; or 84, and `length` is what the text needs, and the buffer is as it was. Takes memory for the entries, the frames and the text,
- * and gives it back; where there is none, the number is 63. 64 KiB of the stack.
+ * Makes the certificate of these roots and of all that these frames call, and writes its text: what `dvgcheck make` writes. The
+ * frames lie one behind the other in `frames`, and `lengths` has how many bytes each of them has. The number is 82, 83, 86, or the
+ * first that applies of 1, 2 and 60 to 63, and `answer` has it, too, with its place; or 0, and the text is in the buffer, with no
+ * null byte behind it; or 84, and `length` is what the text needs, and the buffer is as it was. Takes memory for the entries, the
+ * frames and the text, and gives it back; where there is none, the number is 63. 38 KiB of the stack.
  */
 struct dvgcheck_text dvgcheck_make(uint32_t machine, const uint8_t *rom, size_t rom_length, struct dvgcheck_map map,
-                                   const struct dvgcheck_root *roots, size_t root_count, const uint8_t *frames, size_t frames_length,
-                                   const uint32_t *lengths, size_t frame_count, uint8_t *text, size_t text_size);
+                                   const struct dvgcheck_root *roots, size_t root_count, const uint8_t *frames,
+                                   size_t frames_length, const uint32_t *lengths, size_t frame_count, uint8_t *text,
+                                   size_t text_size);
 
 /* The version of the library, as DVGCHECK_VERSION has that of the header. */
 uint32_t dvgcheck_version(void);
