@@ -8,9 +8,12 @@ pub fn push_expected(text: &mut Text, expected: Expected) {
     let (token, unit) = match expected {
         Expected::Version => ("`dvgcert 1` or `dvgcert 2`", ""),
         Expected::Rom => ("`rom`", ""),
-        Expected::RomFirst => ("the word address of the ROM's first word, 400 to BFF", ""),
+        Expected::RomFirst => (
+            "the word address of the ROM's first word, three of 0-9 and A-F, 400 to BFF",
+            "",
+        ),
         Expected::RomLast => (
-            "the word address of the ROM's last word, from its first to BFF, but not 800 and BFF",
+            "the word address of the ROM's last word, three of 0-9 and A-F, from its first to BFF, but not 800 and BFF",
             "",
         ),
         Expected::Kind => ("`shape` or `done`", ""),

@@ -22,7 +22,8 @@
  *   handler, or in the child that a process with threads forked. 64 KiB of the stack are free, and 96 KiB for
  *   dvgcheck_explain.
  *
- * Any number of threads may call these functions at once, each with a struct and a buffer of its own.
+ * Any number of threads may call these functions at once, each with a struct and a buffer of its own. No function keeps a pointer
+ * once it has returned.
  */
 #ifndef DVGCHECK_H
 #define DVGCHECK_H
@@ -66,7 +67,10 @@ struct dvgcheck_map {
 /* The map of Asteroids, an initializer. */
 #define DVGCHECK_ASTEROIDS {0x800, 0xBFF}
 
-/* A shape that a certificate is to have: its word address, and the global scale at its calls, 0 to 15, or DVGCHECK_ANY_SCALE. */
+/*
+ * A shape that a certificate is to have: its word address, and the global scale at its calls, 0 to 15, or DVGCHECK_ANY_SCALE. Another
+ * scale, or an address outside the ROM, is refused with 60.
+ */
 struct dvgcheck_root {
     uint16_t address;
     uint8_t scale;
@@ -80,7 +84,7 @@ enum {
     DVGCHECK_BAD_MACHINE = 82,  /* the number stands for no machine */
     DVGCHECK_BAD_MAP = 83,      /* no ROM can lie there */
     DVGCHECK_SHORT_BUFFER = 84, /* of a text: the buffer is too short for it */
-    DVGCHECK_NO_MEMORY = 85,    /* of an account: there was no memory for it */
+    DVGCHECK_NO_MEMORY = 85,    /* of dvgcheck_explain: there was no memory for the account */
     DVGCHECK_BAD_LENGTHS = 86   /* the lengths of the frames don't add up to that of their bytes */
 };
 
@@ -93,9 +97,12 @@ enum {
 /* What stands for any scale, and for the call of a root. */
 enum { DVGCHECK_ANY_SCALE = 16, DVGCHECK_NO_CALL = 0xFFFF };
 
-/* An answer. A field that is not told with its number is 0: with 1, 2, 49, 50, 63 and 80 to 86 only the number is told. */
+/*
+ * An answer. A field that is not told with its number is 0: with 1, 2, 49, 50 and 80 to 86 only the number is told, and with 0 by
+ * dvgcheck_make.
+ */
 struct dvgcheck_answer {
-    uint32_t shapes; /* with 0: how many shapes the certificate claims, also one that was made for the frame */
+    uint32_t shapes; /* with 0: how many shapes the certificate claims, given or made for the frame */
     uint32_t words;  /* with 0, of a frame: how many words every run fetches at most */
     uint32_t line;   /* with 10 to 16: the certificate's line, counted from 1 */
     uint16_t word;   /* with 20 to 33 and 40 to 48: the word address of the first item that breaks a rule; with 60: of what no
@@ -104,13 +111,14 @@ struct dvgcheck_answer {
     uint8_t scale;   /* with 20 to 33: the global scale of that entry, 0 to 15, or DVGCHECK_ANY_SCALE */
     uint8_t depth;   /* with 0, of a frame: how many return places every run stores at once at most */
     uint8_t number;  /* 0 where it is accepted, else the number of the refusal */
-    uint16_t call;   /* with 60 to 62: the word address of the frame's item that calls what can't be made, or DVGCHECK_NO_CALL */
+    uint16_t call;   /* with 60 to 62: the word address of the frame's item that calls what can't be made, or DVGCHECK_NO_CALL if a
+                        root can't; of dvgcheck_make with 63, too, if memory ran out at a frame's call */
 };
 
 /* What a call that writes a text answers. */
 struct dvgcheck_text {
     size_t length;                 /* with 0 and 84: how many bytes the text has; else 0 */
-    size_t frame;                  /* of dvgcheck_make, with 2, and with 60 to 62 at a frame's call: which frame, counted from 0 */
+    size_t frame;                  /* of dvgcheck_make, with 2, and with 60 to 63 at a frame's call: which frame, from 0; else 0 */
     struct dvgcheck_answer answer; /* of dvgcheck_explain what it tells of, of dvgcheck_make why nothing is made */
     uint8_t number;                /* 0 where the whole text stands at the buffer's start, else 84 or why there is none */
 };
@@ -196,7 +204,7 @@ struct dvgcheck_answer dvgcheck_frame_alone(uint32_t machine, const uint8_t *rom
 
 /*
  * The account of a frame: what `dvgcheck explain frames` prints for it behind `NAME: `, the line of its answer and the lines below
- * it, with no labels. `answer` is that of dvgcheck_frame_alone. The number is 0, and the text is in the buffer, with no null byte
+ * it, with no labels. `answer` is one of dvgcheck_frame_alone. `text` is not null, also where `text_size` is 0. The number is 0, and the text is in the buffer, with no null byte
  * behind it; or 84, and `length` is what the text needs, and the buffer is as it was; or 85, and there was no memory for the
  * account; or 82, 83 or 80, as that of the answer. Takes memory as dvgcheck_frame_alone does, and for the account; 72 KiB of the
  * stack.

@@ -59,13 +59,15 @@ MakeVerdict machine rom map roots bytes lengths (Err (unmade.Run f)) =
     × ((frames : List (List ℕ)) × AreCut bytes lengths frames
     × FramesFaultMeans (machine_of machine) (Some rom) map roots (holding frames) f)
 
--- the number of the maker's run, with the place of its refusal: a frame's call, or none where it is a root's; the text is written into
--- memory, so that a failed write is a want of it
+-- the number of the maker's run, with the place of its refusal: a frame's call, or none where it is a root's; all is read from memory and
+-- written into it, so that no reader fails, and a failed write is a want of it
 abbrev pub told_run : FramesRunFault → Answer
 told_run (run.Call call why) = record (told_fault why) { call = call.at }
 told_run (run.Plain (maker.Make (make.Unstraight word))) = record (numbered 60) { word = word; call = NO_CALL }
 told_run (run.Plain (maker.Make make.Deep)) = record (numbered 61) { call = NO_CALL }
 told_run (run.Plain (maker.Make make.TooLarge)) = record (numbered 62) { call = NO_CALL }
+told_run (run.Plain maker.ReadRom) = numbered 63
+told_run run.ReadFrame = numbered 63
 told_run (run.Plain maker.Write) = numbered 63
 told_run f = numbered (frames_run_number f)
 

@@ -39,6 +39,7 @@ pub record IsExplained (machine : ℕ) (rom : List ℕ) (map : MemoryMap) (frame
   pub verdict : Result (Result Yes FrameRefusal) OutOfRange
   pub holds : AloneVerdict machine rom map frame budget w verdict
   pub answer_is : t.answer ≡ told_alone verdict
+  pub frame_is : t.frame ≡ 0
   pub text : Result (List ℕ) ℕ
   pub explains : Explains verdict text
   pub told : TellsText text old new t

@@ -102,9 +102,9 @@ fn alone_answer(judged: &Result<Result<Yes, FrameRefusal>, OutOfRange>) -> Answe
 ///
 /// `machine` is 0 for the profile's and 1 for the board's, `map` where the ROM lies, `budget` how many words the frame may take at most,
 /// 1 to 1,000,000, and `window` where strokes may be lit. The answer is 82 for another number of a machine, 83 for another map, 80 for
-/// another window, else the first that applies of 2, 49, 1, 60 to 63, 50, 25 and 40 to 48, or 0. With 0 every run is safe, and has
-/// just the answered counts; on the board so is every run of its circuit; and no certificate gets the frame accepted with fewer words or
-/// less depth. Takes memory for the certificate and its index, and gives it back.
+/// another window, else the first that applies of 2, 49, 1, 60 to 63, 50, 25 and 40 to 48, or 0; 45 and 47 never come. With 0 every run
+/// is safe, and has just the answered counts; on the board so is every run of its circuit; and no certificate gets the frame accepted
+/// with fewer words or less depth. Takes memory for the certificate and its index, and gives it back.
 #[unsafe(no_mangle)]
 pub extern "C" fn dvgcheck_frame_alone(
     alloc: Global,

@@ -27,7 +27,7 @@ pub struct Answer {
     /// With 0: how many return places every run stores at once at most.
     pub depth: u8,
     /// 0 where it is accepted, else the number of the refusal, 80 for a bad window, 81 where no shapes are judged, 82 for a bad
-    /// machine, or 83 for a bad map.
+    /// machine, 83 for a bad map, or 86 for lengths that don't add up.
     pub number: u8,
     /// With 60 to 62: the word address of the frame's call whose entry can't be made, or `NO_CALL` where it is a root's.
     pub call: u16,

@@ -149,7 +149,8 @@ fn run_answer(fault: &FramesRunFault) -> Answer
             call: NO_CALL,
             ..bare
         },
-        FramesRunFault::Plain(MakeRunFault::Write) => numbered(NO_MEMORY),
+        FramesRunFault::Plain(MakeRunFault::ReadRom | MakeRunFault::Write)
+        | FramesRunFault::ReadFrame => numbered(NO_MEMORY),
         _ => bare,
     }
 }
@@ -182,7 +183,7 @@ fn unmade_frame(unmade: &Unmade) -> usize
 /// `machine` is 0 for the profile's and 1 for the board's, and `map` where the ROM lies. The frames lie one behind the other in `frames`,
 /// and `lengths` says how many bytes each of them has. The answer's number is 82 for another machine, 83 for another map, 86 where the
 /// lengths don't add up to that of the bytes, else the first that applies of 1, 2 and 60 to 63, or 0; and `frame` is with 2 the frame, and
-/// with 60 to 62 that of the answer's call. The number is 0 where the whole text stands at the buffer's start, 84 where the buffer is too
+/// with 60 to 63 that of the answer's call. The number is 0 where the whole text stands at the buffer's start, 84 where the buffer is too
 /// short, and then the length is what is needed, and nothing is written; else it is the answer's, and nothing is written. Takes memory
 /// for the entries, for the text and for what was read of the frames, and gives it back.
 #[unsafe(no_mangle)]

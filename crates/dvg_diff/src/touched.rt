@@ -23,7 +23,7 @@ fn differs(rom: &RomImage, other: &RomImage, addr: u16) -> bool
     rom.word(addr) != other.word(addr)
 }
 
-/// The first word that differs of those that are fetched for what stands at an address.
+/// A word that differs of those that are fetched for what stands at an address.
 fn differing_at(rom: &RomImage, other: &RomImage, at: u16) -> Option<u16>
     ensures some { IfSome result (λ p. Contains (taken_at rom.now at) p × DiffersAt rom.now other.now p) }
     ensures none { IfNone result ((p : ℕ) → Contains (taken_at rom.now at) p → DiffersAt rom.now other.now p → ⊥) }
@@ -38,8 +38,8 @@ fn differing_at(rom: &RomImage, other: &RomImage, at: u16) -> Option<u16>
     None
 }
 
-/// The word address of the first word in which the ROMs differ, of those that the shape at an address of the first ROM reads. A shape
-/// reads all words of its items, up to the RTSL or the tail jump at its end, and not those of shapes that it calls.
+/// The word address of a word in which the ROMs differ, of those that the shape at an address of the first ROM reads: the first (only
+/// tested). A shape reads all words of its items, up to the RTSL or the tail jump at its end, and not those of shapes that it calls.
 pub fn first_differing(rom: &RomImage, other: &RomImage, addr: u16) -> Option<u16>
     ensures some { IfSome result (ReadsDiffering rom.now other.now addr) }
     ensures none { IfNone result (IsTouched rom.now other.now addr → ⊥) }

@@ -1,6 +1,7 @@
 //! The number of entries that the last line says, and how many there are.
 
-ghost use Rattle.std.specs.Prelude.{◌≡◌, ◌-◌, IfSome};
+ghost use Rattle.std.specs.Prelude.{◌≡◌, ◌≤◌, ◌-◌, ℕ, IfNone, IfSome};
+ghost use Rattle.dvg_cert.specs.declared.limits.TheConstants.{MOST_ENTRIES};
 ghost use Rattle.dvg_cert.specs.Grammar.{done_line};
 
 use dvg_cert::{MOST_ENTRIES, read_decimal};
@@ -15,6 +16,7 @@ pub struct EntryCounts {
 /// The counts of a last line with this number, before whose entries so many lines stand. `None` if it is no such line.
 pub fn counts_of(line: &[u8], number: u32, before: u32) -> Option<EntryCounts>
     ensures claimed { IfSome result (λ counts. line.now ≡ done_line counts.claimed) }
+    ensures none { IfNone result ((n : ℕ) → n ≤ MOST_ENTRIES → line.now ≡ done_line n → ⊥) }
     ensures found { IfSome result (λ counts. counts.found ≡ number - before - 1) }
 {
     let claimed = read_decimal(line.strip_prefix(b"done ")?, MOST_ENTRIES as u16)?;

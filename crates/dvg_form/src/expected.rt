@@ -29,8 +29,11 @@ pub enum Expected {
     Box,
     /// The left side of the box, or that there is none.
     BoxLeft,
+    /// The right side of the box.
     BoxRight,
+    /// The lower side of the box.
     BoxBottom,
+    /// The upper side of the box.
     BoxTop,
     /// The word before the depth.
     Depth,

@@ -20,9 +20,9 @@ use std::alloc::{AllocError, Global};
 #[derive(Clone, Copy, Debug, PartialEq, Eq)]
 pub struct FormLeaving {
     /// The column, counted from 1, of the first byte by which the line is no longer the front of a line of the form, or one past
-    /// the line if it ends too early.
+    /// the line if it ends too early. That the bytes before it are such a front is proved, that no more are is only tested.
     pub column: usize,
-    /// What was expected there.
+    /// What was expected there (only tested).
     pub expected: Expected,
 }
 

@@ -3,7 +3,7 @@ use Rattle.std.specs.Prelude.{ℕ, List, ◌++◌, codes}
 use Rattle.dvg_diff.specs.declared.touched.TouchedEntry.{TouchedEntry}
 use Rattle.dvg_spelling.specs.Report.{entry_text, hex_address}
 
--- the entry, and the address of the first word that its shape reads and in which the ROMs differ
+-- the entry, and the address of a word that its shape reads and in which the ROMs differ
 abbrev pub touched_line : TouchedEntry → List ℕ
 touched_line t = codes "touched " ++ entry_text t.entry.addr t.entry.key ++ codes " at " ++ hex_address t.word ++ codes "\n"
 

@@ -4,7 +4,7 @@ use crate::rules::Rule;
 
 pub const ROM_LENGTH: Rule = Rule {
     number: 1,
-    meaning: "the ROM has not exactly two bytes for each word address at which it lies: 2048 bytes at 800 to BFF, else 2 * (BBB - AAA + 1)",
+    meaning: "the ROM has not exactly two bytes for each word address at which it lies: 2048 bytes at 800 to BFF, and 2 * (BBB - AAA + 1) at AAA to BBB",
     line: "refused 1",
     heading: "Shortest input",
     input: "an empty ROM file",
