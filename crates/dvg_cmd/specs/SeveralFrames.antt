@@ -139,11 +139,6 @@ RefusesShapes machine w rom c (refusal.Shape f) =
     IsRomLength c.map (length rom) × FirstShapeFault Bound w (rom_on machine c.map rom) c.entries f
 RefusesShapes machine w rom c r = ⊥
 
--- a text was refused as no certificate
-abbrev pub IsCertRefusal : Refusal → Type 0
-IsCertRefusal (refusal.Cert f) = Unit {0}
-IsCertRefusal r = ⊥
-
 -- a refusal for which no frame is opened: of the text of a certificate, or of the certificate over the bytes of a ROM
 abbrev pub RefusesAll : Machine → Window → List ℕ → Result Certificate CertFault → Refusal → Type 0
 RefusesAll machine w rom (Err f) r = r ≡ refusal.Cert f

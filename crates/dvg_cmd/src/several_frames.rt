@@ -1,6 +1,6 @@
 //! Running a judge of frames on several frames, one after another.
 
-ghost use Rattle.std.specs.Prelude.{◌≡◌, ◌⊎◌, List, [], ◌∷◌, length, Ok, Err, IfOk, IfErr, IfSome, IfNone, OnOk, OnErr, is_err, option_map};
+ghost use Rattle.std.specs.Prelude.{◌≡◌, ◌⊎◌, List, [], ◌∷◌, length, Ok, Err, IfOk, IfErr, OnOk, OnErr, is_err, option_map};
 ghost use Rattle.std.specs.Io.KnownBytes.{Appends};
 ghost use Rattle.std.specs.Iterator.{Drains, Yields, IsFinite};
 ghost use Rattle.dvg_words.specs.Memory.{IsRomLength, rom_on};
@@ -12,7 +12,7 @@ ghost use Rattle.dvg_spelling.specs.Outcomes.{plain_outcome};
 ghost use Rattle.dvg_spelling.specs.declared.outcome.Outcome.{Outcome as Plain};
 ghost use Rattle.dvg_cmd.specs.Detail.{IsBehind};
 ghost use Rattle.dvg_cmd.specs.Runs.{WritesReport, WritesReportPrefix};
-ghost use Rattle.dvg_cmd.specs.SeveralFrames.{AnswersOpened, TakeOneWriteEach, joined, line_outcome, line_texts, opened, summary_of, ReportsFrames, ReportsFramesPrefix, ReportsOver, ReportsOverPrefix, ReportsRefusal, ReportsRefusalPrefix, RefusesShapes, IsCertRefusal, shapes_of};
+ghost use Rattle.dvg_cmd.specs.SeveralFrames.{AnswersOpened, TakeOneWriteEach, joined, line_outcome, line_texts, opened, summary_of, ReportsFrames, ReportsFramesPrefix, ReportsOver, ReportsOverPrefix, ReportsRefusal, ReportsRefusalPrefix, RefusesShapes, shapes_of};
 ghost use Rattle.dvg_cmd.specs.Private.Named.{WritesLineOf, WritesLineOfPrefix, WritesLinesOf};
 
 use crate::detail::{Behind, Detail};
