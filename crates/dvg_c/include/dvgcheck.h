@@ -204,10 +204,10 @@ struct dvgcheck_answer dvgcheck_frame_alone(uint32_t machine, const uint8_t *rom
 
 /*
  * The account of a frame: what `dvgcheck explain frames` prints for it behind `NAME: `, the line of its answer and the lines below
- * it, with no labels. `answer` is one of dvgcheck_frame_alone. `text` is not null, also where `text_size` is 0. The number is 0, and the text is in the buffer, with no null byte
- * behind it; or 84, and `length` is what the text needs, and the buffer is as it was; or 85, and there was no memory for the
- * account; or 82, 83 or 80, as that of the answer. Takes memory as dvgcheck_frame_alone does, and for the account; 72 KiB of the
- * stack.
+ * it, with no labels. `answer` is one of dvgcheck_frame_alone. `text` is not null, also where `text_size` is 0. The number is 0, and
+ * the text is in the buffer, with no null byte behind it; or 84, and `length` is what the text needs, and the buffer is as it was; or
+ * 85, and there was no memory for the account; or 82, 83 or 80, as that of the answer. Takes memory as dvgcheck_frame_alone does, and
+ * for the account; 72 KiB of the stack.
  */
 struct dvgcheck_text dvgcheck_explain(uint32_t machine, const uint8_t *rom, size_t rom_length, struct dvgcheck_map map,
                                       const uint8_t *frame, size_t frame_length, uint32_t budget, struct dvgcheck_window window,
