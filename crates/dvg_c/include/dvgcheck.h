@@ -195,7 +195,7 @@ struct dvgcheck_answer dvgcheck_check_exact_on(uint32_t machine, const uint8_t *
  * it is 0, it means the same as of dvgcheck_frame over shapes that were judged as exact: each run fetches just `words` words and
  * stores just `depth` return places at once; and no certificate gets the frame accepted with less. 60 to 62 are those of the first
  * call whose entry can't be made: `call` is the word address of it, and with 60 `word` that of what no shape can have. Takes memory
- * for the certificate's entries and their index, and gives it back; where there is none, the number is 63 or 50. 50 KiB of the
+ * for the certificate's entries and their index, and gives it back; where there is none, the number is 63 or 50. At most 64 KiB of the
  * stack.
  */
 struct dvgcheck_answer dvgcheck_frame_alone(uint32_t machine, const uint8_t *rom, size_t rom_length, struct dvgcheck_map map,
@@ -207,7 +207,7 @@ struct dvgcheck_answer dvgcheck_frame_alone(uint32_t machine, const uint8_t *rom
  * it, with no labels. `answer` is one of dvgcheck_frame_alone. `text` is not null, also where `text_size` is 0. The number is 0, and
  * the text is in the buffer, with no null byte behind it; or 84, and `length` is what the text needs, and the buffer is as it was; or
  * 85, and there was no memory for the account; or 82, 83 or 80, as that of the answer. Takes memory as dvgcheck_frame_alone does, and
- * for the account; 72 KiB of the stack.
+ * for the account; at most 96 KiB of the stack.
  */
 struct dvgcheck_text dvgcheck_explain(uint32_t machine, const uint8_t *rom, size_t rom_length, struct dvgcheck_map map,
                                       const uint8_t *frame, size_t frame_length, uint32_t budget, struct dvgcheck_window window,
@@ -218,7 +218,7 @@ struct dvgcheck_text dvgcheck_explain(uint32_t machine, const uint8_t *rom, size
  * frames lie one behind the other in `frames`, and `lengths` has how many bytes each of them has. The number is 82, 83, 86, or the
  * first that applies of 1, 2 and 60 to 63, and `answer` has it, too, with its place; or 0, and the text is in the buffer, with no
  * null byte behind it; or 84, and `length` is what the text needs, and the buffer is as it was. Takes memory for the entries, the
- * frames and the text, and gives it back; where there is none, the number is 63. 38 KiB of the stack.
+ * frames and the text, and gives it back; where there is none, the number is 63. At most 64 KiB of the stack.
  */
 struct dvgcheck_text dvgcheck_make(uint32_t machine, const uint8_t *rom, size_t rom_length, struct dvgcheck_map map,
                                    const struct dvgcheck_root *roots, size_t root_count, const uint8_t *frames,
