@@ -1,29 +1,22 @@
 -- What is accepted is safe, and there is one verdict.
-use Rattle.dvg_words.specs.declared.machine.Machine.{Machine}
-use Rattle.std.proofs.Common.{List, length, sym, subst, ap, refl, ◌≡◌, ◌∙◌, ℕ}
+use Rattle.dvg_check.proofs.Common.{Machine, List, length, sym, subst, ap, refl, ◌≡◌, ◌∙◌, ℕ, Rom, Window, Board, Entry, Good, GoodFrame, Safe, Mode, Exact}
 use Rattle.std.specs.Prelude.{Err, Ok, Result, IfOk}
-use Rattle.dvg_words.specs.Memory.{Rom, IsFrame, IsRom, IsRomLength, words_of, rom_on}
-use Rattle.dvg_words.specs.Values.{Window, IsWindowOrZone}
-use Rattle.dvg_words.specs.declared.machine.Machine.TheVariants.{Board}
+use Rattle.dvg_words.specs.Memory.{IsFrame, IsRom, IsRomLength, words_of, rom_on}
+use Rattle.dvg_words.specs.Values.{IsWindowOrZone}
 use Rattle.dvg_words.specs.declared.image.ImageFault.TheVariants.{RomLength, FrameLength}
 use Rattle.dvg_cert.specs.Laws.{OneCertificate, OneAnswer, NotMemory as HasMemory}
 use Rattle.dvg_cert.specs.Order.{Certificate}
 use Rattle.dvg_cert.specs.Grammar.{Spells}
 use Rattle.dvg_cert.specs.Reading.{ReadAnswer}
-use Rattle.dvg_cert.specs.declared.entry.Entry.{Entry}
 use Rattle.dvg_cert.specs.declared.fault.CertFault.{CertFault}
 use Rattle.dvg_cert.specs.declared.fault.CertWhy.TheVariants.{Memory}
 use Rattle.dvg_items.specs.Bounds.{IsSomeCertificate}
 use Rattle.dvg_check.specs.Laws.{CountsAtHalt, OneVerdict}
-use Rattle.dvg_check.specs.Rules.{Good, GoodFrame}
-use Rattle.dvg_check.specs.Safety.{Safe}
 use Rattle.dvg_check.specs.Circuit.{SafeOnCircuit, CountsOnCircuit}
 use Rattle.dvg_check.proofs.Circuit.{safe_on_circuit, counts_on_circuit}
 use Rattle.dvg_check.specs.Judged.{Shapes, IsJudged}
 use Rattle.dvg_check.specs.declared.frames.Accepted.{Accepted}
 use Rattle.dvg_check.specs.Verdict.{RangeRefusal, PartsVerdict, RomVerdict, CertVerdict, VerdictOn, NotMemory}
-use Rattle.dvg_check.specs.declared.fault.Mode.{Mode}
-use Rattle.dvg_check.specs.declared.fault.Mode.TheVariants.{Exact}
 use Rattle.dvg_check.specs.declared.verdict.Refusal.{Refusal}
 use Rattle.dvg_check.specs.declared.verdict.Refusal.TheVariants as refusal
 use Rattle.dvg_check.specs.declared.verdict.Yes.{Yes}

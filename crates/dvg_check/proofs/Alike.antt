@@ -1,20 +1,9 @@
 -- What the two machines read alike: every cell but an odd LABS of the profile.
-use Rattle.std.proofs.Common.{arith, sym, ap, refl, Bool, true, false, Option, None, Some, nat_le, pos, negsuc, ◌≡◌, ◌+◌, ◌≤◌, ◌∙◌, ◌/◌, ◌%◌, ◌==◌, ◌*ℤ◌, ◌+ℤ◌, ℕ}
-use Rattle.std.specs.Prelude.{◌&&◌, if◌then◌else◌}
-use Rattle.std.proofs.lemmas.Int.{ints}
-use Rattle.std.proofs.lemmas.Bool.Decides.{nat_tests}
-use Rattle.dvg_words.specs.declared.machine.Machine.{Machine}
-use Rattle.dvg_words.specs.declared.machine.Machine.TheVariants.{Profile, Board}
-use Rattle.dvg_words.specs.declared.instruction.Cell.{Cell}
-use Rattle.dvg_words.specs.declared.instruction.Cell.TheVariants.{Holds, Odd}
-use Rattle.dvg_words.specs.declared.instruction.Format.{Format}
-use Rattle.dvg_words.specs.declared.instruction.Format.TheVariants.{Short, Long}
-use Rattle.dvg_words.specs.declared.instruction.Instr.{Instr}
-use Rattle.dvg_words.specs.declared.instruction.Instr.TheVariants.{Labs}
+use Rattle.dvg_check.proofs.Common.{arith, sym, ap, refl, Bool, true, false, Option, None, Some, nat_le, pos, ◌≡◌, ◌+◌, ◌≤◌, ◌∙◌, ◌%◌, ◌*ℤ◌, ◌+ℤ◌, ℕ, if◌then◌else◌, ints, nat_tests, Machine, Profile, Board, Cell, Holds, Odd, Format, Short, Long, Instr, Labs, instruction_of, format_of, cell_holding, cell_of_format, cell_of_words, cell_at, Memory, word_at, on}
+use Rattle.std.proofs.Common.{negsuc, ◌/◌, ◌==◌}
+use Rattle.std.specs.Prelude.{◌&&◌}
 use Rattle.dvg_words.specs.Beam.{labs_coordinate}
-use Rattle.dvg_words.specs.Decoding.{opcode, is_plain_labs, labs_of, instruction_of, LabsOnScreen, format_of, cell_holding, cell_of_format, cell_of_words, cell_at}
-use Rattle.dvg_words.specs.Memory.{Memory, word_at}
-use Rattle.dvg_check.specs.Drift.{on}
+use Rattle.dvg_words.specs.Decoding.{opcode, is_plain_labs, labs_of, LabsOnScreen}
 
 module _ (first second : ℕ) where
   field_same : (word : ℕ) → word / 1024 % 4 ≡ 0 → word % 4096 ≡ word % 1024

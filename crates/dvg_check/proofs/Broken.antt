@@ -1,20 +1,10 @@
 -- The rule that a fault names is broken by what stands there.
-use Rattle.std.proofs.Common.{sym, ◌≡◌, ◌≢◌, ℕ, Option, None, Some, ap, ◌∙◌, subst, arith, ⊎_elim}
-use Rattle.std.proofs.lemmas.Bool.{cases_lt}
-use Rattle.dvg_words.specs.Values.{Source}
-use Rattle.dvg_words.specs.Decoding.{cell_at}
-use Rattle.dvg_words.specs.declared.instruction.Cell.{Cell}
+use Rattle.dvg_check.proofs.Common.{sym, ◌≡◌, ◌≢◌, ℕ, Option, None, Some, ap, ◌∙◌, subst, arith, ⊎_elim, cases_lt, Source, cell_at, Cell, Context, seen_at, Known, IsFound, AtLast, AsClaimed, CellKeeps, PlaceKeeps, Mode, Bound, Exact}
 use Rattle.dvg_words.specs.declared.instruction.Cell.TheVariants as cell
-use Rattle.dvg_items.specs.Known.{Context}
-use Rattle.dvg_items.specs.Seen.{seen_at}
-use Rattle.dvg_items.specs.declared.known.Known.{Known}
 use Rattle.dvg_items.specs.declared.seen.Seen.{Seen as SeenItem}
-use Rattle.dvg_check.specs.Finding.{FaultFound, IsFound}
-use Rattle.dvg_check.specs.Rules.{AtLast, AsClaimed, CellKeeps, PlaceKeeps}
+use Rattle.dvg_check.specs.Finding.{FaultFound}
 use Rattle.dvg_check.specs.declared.fault.Found.{Found}
 use Rattle.dvg_check.specs.declared.fault.Found.TheVariants.{Missing, Odd, Seen}
-use Rattle.dvg_check.specs.declared.fault.Mode.{Mode}
-use Rattle.dvg_check.specs.declared.fault.Mode.TheVariants.{Bound, Exact}
 use Rattle.dvg_check.specs.Private.Breaking.{Breaks}
 
 -- where only one rule can be broken, it is that one

@@ -1,23 +1,10 @@
 -- What is safe on the board's generator is safe on its circuit.
-use Rattle.std.proofs.Common.{Bool, true, false, ◌≡◌, ℕ, zero, suc, ◌+◌, ◌%◌, ◌≤◌, inl, inr, ◌⊎◌, ⊎_elim, List, [], ◌∷◌, length, reverse, nat_lt, refl, ap, sym, subst, ◌∙◌, arith, pos}
-use Rattle.std.specs.Prelude.{◌*ℤ◌, if◌then◌else◌}
-use Rattle.std.specs.List.{AllByRecursion, AllZip}
-use Rattle.std.proofs.lemmas.Bool.{cases_lt}
+use Rattle.dvg_check.proofs.Common.{Bool, true, false, ◌≡◌, ℕ, zero, suc, ◌+◌, ◌%◌, ◌≤◌, inl, inr, ◌⊎◌, ⊎_elim, List, [], ◌∷◌, length, nat_lt, refl, ap, sym, subst, ◌∙◌, arith, pos, if◌then◌else◌, AllByRecursion, cases_lt, Window, Point, Machine, Board, Cell, Missing, Odd, Holds, Format, Instr, Labs, Halt, Jsrl, Rtsl, Jmpl, InWindow, cell_at, Memory, IsMemory, word_at, Stroke, State, Status, Running, Halted, Fault, Reached, start, after_call, after_return, after_instruction, after_cell, after_fetch, next_status, state_of, Ends, IsSafeStatus, Safe}
+use Rattle.std.proofs.Common.{reverse}
+use Rattle.std.specs.Prelude.{◌*ℤ◌}
+use Rattle.std.specs.List.{AllZip}
 use Rattle.std.proofs.lemmas.List.{length-reverse}
-use Rattle.dvg_words.specs.Values.{Window}
-use Rattle.dvg_words.specs.declared.beam.Point.{Point}
-use Rattle.dvg_words.specs.declared.machine.Machine.{Machine}
-use Rattle.dvg_words.specs.declared.machine.Machine.TheVariants.{Board}
-use Rattle.dvg_words.specs.declared.instruction.Cell.{Cell}
-use Rattle.dvg_words.specs.declared.instruction.Cell.TheVariants.{Missing, Odd, Holds}
-use Rattle.dvg_words.specs.declared.instruction.Format.{Format}
-use Rattle.dvg_words.specs.declared.instruction.Instr.{Instr}
-use Rattle.dvg_words.specs.declared.instruction.Instr.TheVariants.{Draw as Draws, Labs, Halt, Jsrl, Rtsl, Jmpl}
-use Rattle.dvg_words.specs.Beam.{InWindow}
-use Rattle.dvg_words.specs.Decoding.{cell_at}
-use Rattle.dvg_words.specs.Memory.{Memory, IsMemory, word_at}
-use Rattle.dvg_words.specs.Generator.{Stroke, State, Status, Running, Halted, Fault, Reached, start, after_call, after_return, after_instruction, after_cell, after_fetch, next_status}
-use Rattle.dvg_words.specs.Laws.{state_of}
+use Rattle.dvg_words.specs.declared.instruction.Instr.TheVariants.{Draw as Draws}
 use Rattle.dvg_words.proofs.Stack.{stack_within_max}
 use Rattle.dvg_circuit.specs.declared.circuit.Circuit.{Circuit}
 use Rattle.dvg_circuit.specs.declared.counters.Counters.{Counters}
@@ -30,7 +17,7 @@ use Rattle.dvg_circuit.proofs.Following.{all_reversed, circuit_follows}
 use Rattle.dvg_circuit.specs.Counters.{counters_after}
 use Rattle.dvg_circuit.proofs.Moves.{drawn_on_stroke}
 use Rattle.dvg_circuit.proofs.Showing.{lit_in_window, drawn_in_window}
-use Rattle.dvg_check.specs.Safety.{Ends, IsMapped, IsSafeStatus, Safe, CountsAtHalt}
+use Rattle.dvg_check.specs.Safety.{IsMapped, CountsAtHalt}
 use Rattle.dvg_check.specs.Circuit.{IsPast, IsSafeRun, SafeRuns, CountsOfRun}
 use Rattle.dvg_check.specs.Laws.{IsDrawAtPlaces, SafeIsWithinOnCircuit, SafeIsSafeOnCircuit, CountsAreOnCircuit}
 use Rattle.dvg_check.proofs.Runs.{reached_on, grows}

@@ -1,18 +1,7 @@
 -- The beam is where it was last set, moved by the sum of the moves since then.
-use Rattle.std.proofs.Common.{List, zero, subst, sym, suc, ap, Bool, true, false, nat_lt, length, ◌≡◌, ◌∷◌, ◌∙◌, ℕ, []}
-use Rattle.dvg_words.specs.declared.machine.Machine.{Machine}
-use Rattle.dvg_words.specs.declared.instruction.Cell.{Cell}
-use Rattle.dvg_words.specs.declared.instruction.Cell.TheVariants.{Missing, Odd, Holds}
-use Rattle.dvg_words.specs.declared.instruction.Format.{Format}
-use Rattle.dvg_words.specs.declared.instruction.Instr.{Instr}
-use Rattle.dvg_words.specs.declared.instruction.Instr.TheVariants.{Draw as Draws, Labs, Halt, Jsrl, Rtsl, Jmpl}
-use Rattle.dvg_words.specs.Beam.{shift, displacement, labs_place}
-use Rattle.dvg_words.specs.Decoding.{cell_at}
-use Rattle.dvg_words.specs.Generator.{State, Status, Running, Halted, Fault, Reached, start, after_call, after_return, after_instruction, after_cell, after_fetch, next_status}
-use Rattle.dvg_words.specs.Memory.{Memory, word_at}
-use Rattle.dvg_words.specs.Laws.{state_of}
-use Rattle.dvg_items.proofs.Points.{shift_origin, shift_shift}
-use Rattle.dvg_check.specs.Drift.{Course, sum_of, place_of, course_past, course_at, course_after, course_along, course_at_start, PlaceIsSum}
+use Rattle.dvg_check.proofs.Common.{List, zero, subst, sym, suc, ap, Bool, true, false, nat_lt, length, ◌≡◌, ◌∷◌, ◌∙◌, ℕ, [], Machine, Cell, Missing, Odd, Holds, Format, Instr, Labs, Halt, Jsrl, Rtsl, Jmpl, shift, displacement, labs_place, cell_at, State, Status, Running, Halted, Fault, Reached, start, after_call, after_return, after_instruction, after_cell, after_fetch, next_status, Memory, word_at, state_of, shift_origin, shift_shift, Course, course_past, course_at, course_after, course_along, course_at_start}
+use Rattle.dvg_words.specs.declared.instruction.Instr.TheVariants.{Draw as Draws}
+use Rattle.dvg_check.specs.Drift.{sum_of, place_of, PlaceIsSum}
 
 abbrev IsAt : Course → Status → Type 0
 IsAt c status = (state_of status).place ≡ place_of c

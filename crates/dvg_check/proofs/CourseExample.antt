@@ -1,18 +1,7 @@
 -- The runs of the worked frame, state by state.
-use Rattle.std.proofs.Common.{arith, subst, sym, ap, refl, true, false, inl, inr, length, pos, ◌≡◌, ◌≤◌, ◌⊎◌, ◌∷◌, ◌∙◌, ℕ, []}
-use Rattle.dvg_words.specs.declared.machine.Machine.{Machine}
-use Rattle.dvg_words.specs.declared.machine.Machine.TheVariants.{Profile, Board}
-use Rattle.dvg_words.specs.declared.beam.Point.{Point}
-use Rattle.dvg_words.specs.declared.instruction.Cell.{Cell}
-use Rattle.dvg_words.specs.declared.instruction.Cell.TheVariants.{Holds}
-use Rattle.dvg_words.specs.declared.instruction.Format.TheVariants.{Short, Long}
-use Rattle.dvg_words.specs.declared.instruction.Instr.TheVariants.{Draw as Draws, Labs, Halt}
-use Rattle.dvg_words.specs.Values.{DrawFields}
-use Rattle.dvg_words.specs.Beam.{displacement, labs_place}
-use Rattle.dvg_words.specs.Decoding.{cell_at, instruction_of}
-use Rattle.dvg_words.specs.Generator.{State, Status, Running, Halted, Fault, Reached, start, after_cell, after_fetch, next_status}
-use Rattle.dvg_words.specs.Memory.{word_at}
-use Rattle.dvg_check.specs.Drift.{Course, course_at, course_after, course_at_start, course_of, on, OnlyRounds, FewDraws}
+use Rattle.dvg_check.proofs.Common.{arith, subst, sym, ap, refl, true, false, inl, inr, length, pos, ◌≡◌, ◌≤◌, ◌⊎◌, ◌∷◌, ◌∙◌, ℕ, [], Machine, Profile, Board, Point, Cell, Holds, Short, Long, Labs, Halt, DrawFields, displacement, labs_place, cell_at, instruction_of, State, Status, Running, Halted, Fault, Reached, start, after_cell, after_fetch, next_status, word_at, Course, course_at, course_after, course_at_start, on, OnlyRounds}
+use Rattle.dvg_words.specs.declared.instruction.Instr.TheVariants.{Draw as Draws}
+use Rattle.dvg_check.specs.Drift.{course_of, FewDraws}
 use Rattle.dvg_check.specs.CourseExample.{edge_memory, edge_move, edge_course, WorkedCourse}
 use Rattle.dvg_check.proofs.Course.{along}
 

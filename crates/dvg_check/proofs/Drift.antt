@@ -1,25 +1,12 @@
 -- How far apart runs of the two machines are, and what is safe on one of them by the other.
-use Rattle.std.proofs.Common.{arith, List, zero, subst, sym, suc, ap, refl, Bool, true, false, nat_lt, length, ℤ, pos, negsuc, neg_ℤ, ◌≡◌, ◌+◌, ◌*◌, ◌≤◌, ◌∷◌, ◌++◌, ◌∙◌, ◌+ℤ◌, ◌*ℤ◌, ℕ, []}
-use Rattle.std.specs.List.{AllByRecursion}
-use Rattle.std.proofs.lemmas.Int.{ints}
-use Rattle.dvg_words.specs.declared.machine.Machine.{Machine}
-use Rattle.dvg_words.specs.declared.machine.Machine.TheVariants.{Profile, Board}
-use Rattle.dvg_words.specs.declared.beam.Point.{Point}
-use Rattle.dvg_words.specs.declared.instruction.Cell.{Cell}
-use Rattle.dvg_words.specs.declared.instruction.Cell.TheVariants.{Missing, Odd, Holds}
-use Rattle.dvg_words.specs.declared.instruction.Format.{Format}
-use Rattle.dvg_words.specs.declared.instruction.Instr.{Instr}
-use Rattle.dvg_words.specs.declared.instruction.Instr.TheVariants.{Draw as Draws, Labs, Halt, Jsrl, Rtsl, Jmpl}
-use Rattle.dvg_words.specs.Values.{DrawFields, Window}
-use Rattle.dvg_words.specs.Beam.{effective_scale, axis_move, shift, displacement, labs_coordinate, labs_place, InWindow}
-use Rattle.dvg_words.specs.Decoding.{cell_at}
-use Rattle.dvg_words.specs.Generator.{Stroke, State, Status, Running, Halted, Fault, Reached, start, lit_by, after_call, after_return, after_instruction, after_cell, after_fetch, next_status}
+use Rattle.dvg_check.proofs.Common.{arith, List, zero, subst, sym, suc, ap, refl, Bool, true, false, nat_lt, length, ℤ, pos, ◌≡◌, ◌+◌, ◌≤◌, ◌∷◌, ◌++◌, ◌∙◌, ◌+ℤ◌, ◌*ℤ◌, ℕ, [], AllByRecursion, ints, Machine, Profile, Board, Point, Cell, Missing, Odd, Holds, Format, Instr, Labs, Halt, Jsrl, Rtsl, Jmpl, DrawFields, Window, shift, displacement, labs_place, InWindow, cell_at, Stroke, State, Status, Running, Halted, Fault, Reached, start, lit_by, after_call, after_return, after_instruction, after_cell, after_fetch, next_status, Memory, word_at, state_of, Course, course_past, course_at, course_after, course_along, course_at_start, on, OnlyRounds, Safe, Ends, IsSafeState, IsSafeStatus}
+use Rattle.std.proofs.Common.{negsuc, neg_ℤ, ◌*◌}
+use Rattle.dvg_words.specs.declared.instruction.Instr.TheVariants.{Draw as Draws}
+use Rattle.dvg_words.specs.Beam.{effective_scale, axis_move, labs_coordinate}
 use Rattle.dvg_words.specs.Machines.{IsNearMove, HalfPlace}
-use Rattle.dvg_words.specs.Memory.{Memory, word_at}
-use Rattle.dvg_words.specs.Laws.{state_of}
 use Rattle.dvg_items.proofs.Points.{point_is}
-use Rattle.dvg_check.specs.Drift.{Course, course_past, course_at, course_after, course_along, course_at_start, course_of, on, OnlyRounds, RunsOnlyRound, IsNear, Both, HalfPlaceEach, IsInset, InsetIsSafe}
-use Rattle.dvg_check.specs.Safety.{Safe, Ends, IsMapped, IsSafeState, IsSafeStatus, HaltsWithin, StaysSafe}
+use Rattle.dvg_check.specs.Drift.{course_of, RunsOnlyRound, IsNear, Both, HalfPlaceEach, IsInset, InsetIsSafe}
+use Rattle.dvg_check.specs.Safety.{IsMapped, HaltsWithin, StaysSafe}
 use Rattle.dvg_check.proofs.Alike.{same_cell, coordinate_same}
 use Rattle.dvg_check.proofs.Beside.{both_with, of_both, moved, drawn_on, Relation, IsKept, Beside, not_odd, beside_next, run_on, run_back, Rounds, rounds_on}
 use Rattle.dvg_check.proofs.Safety.{safe_state}

@@ -1,31 +1,14 @@
 -- The worked example: what stands at its places, and that each item keeps each rule.
-use Rattle.std.proofs.Common.{arith, List, refl, sym, subst, pos, zero, suc, ◌≡◌, ◌≢◌, ◌≤◌, ◌∷◌, ℕ, []}
-use Rattle.std.proofs.lemmas.Int.{ints}
+use Rattle.dvg_check.proofs.Common.{arith, List, refl, sym, subst, pos, zero, suc, ◌≡◌, ◌≢◌, ◌≤◌, ◌∷◌, ℕ, [], ints, displacement, screen, cell_at, instruction_of, IsMemory, frame_word, rom_word, Machine, Profile, Board, DrawFields, Holds, Long, Short, Labs, Halt, Jsrl, Rtsl, shape_context, frame_context, target, PlaceKnown, ScaleKnown, LitInWindow, ShapeKeeps, FrameKeeps, ShapePlaceKeeps, FramePlaceKeeps, CellKeeps, AsClaimed, GoodShape, Good, AllKeep, HasCallee, seen_at, FrameWhy, Mode, Bound, Exact, ShapeWhy, Item, Shape, Frame}
 use Rattle.std.proofs.lemmas.List.{length-replicate}
-use Rattle.dvg_words.specs.Beam.{displacement, screen}
-use Rattle.dvg_words.specs.Decoding.{cell_at, instruction_of}
 use Rattle.dvg_words.specs.Example.{example_frame}
-use Rattle.dvg_words.specs.Memory.{IsMemory, frame_word, rom_word}
-use Rattle.dvg_words.specs.declared.machine.Machine.{Machine}
-use Rattle.dvg_words.specs.declared.machine.Machine.TheVariants.{Profile, Board}
-use Rattle.dvg_words.specs.Values.{DrawFields, asteroids}
-use Rattle.dvg_words.specs.declared.instruction.Cell.TheVariants.{Holds}
-use Rattle.dvg_words.specs.declared.instruction.Format.TheVariants.{Long, Short}
-use Rattle.dvg_words.specs.declared.instruction.Instr.TheVariants.{Draw as Draws, Labs, Halt, Jsrl, Rtsl}
+use Rattle.dvg_words.specs.Values.{asteroids}
+use Rattle.dvg_words.specs.declared.instruction.Instr.TheVariants.{Draw as Draws}
 use Rattle.dvg_cert.specs.Order.{IsCertificate}
 use Rattle.dvg_check.specs.Example.{rom_for, memory_for, example_entry, example_list, WorkedExample}
-use Rattle.dvg_items.specs.Known.{shape_context, frame_context, target}
-use Rattle.dvg_items.specs.Lit.{PlaceKnown, ScaleKnown, LitInWindow}
-use Rattle.dvg_check.specs.Rules.{Seen, IsForward, ShapeKeeps, FrameKeeps, ShapePlaceKeeps, FramePlaceKeeps, CellKeeps, AsClaimed, GoodShape, Good, AllKeep}
-use Rattle.dvg_items.specs.Seen.{HasCallee, seen_at}
-use Rattle.dvg_check.specs.declared.fault.FrameWhy.{FrameWhy}
+use Rattle.dvg_check.specs.Rules.{Seen, IsForward}
 use Rattle.dvg_check.specs.declared.fault.FrameWhy.TheVariants as frame
-use Rattle.dvg_check.specs.declared.fault.Mode.{Mode}
-use Rattle.dvg_check.specs.declared.fault.Mode.TheVariants.{Bound, Exact}
-use Rattle.dvg_check.specs.declared.fault.ShapeWhy.{ShapeWhy}
 use Rattle.dvg_check.specs.declared.fault.ShapeWhy.TheVariants as shape
-use Rattle.dvg_items.specs.declared.item.Item.{Item}
-use Rattle.dvg_items.specs.declared.item.Kind.TheVariants.{Shape, Frame}
 use Rattle.dvg_check.proofs.Faults.{all_kept}
 
 -- ---- the shape

@@ -1,30 +1,12 @@
 -- The items of a shape or of a frame are determined: so a walk to the last one has met them all, and there is one first
 -- fault at most.
-use Rattle.dvg_words.specs.Values.{Source}
-use Rattle.dvg_words.specs.declared.machine.Machine.{Machine}
-use Rattle.std.proofs.Common.{List, length, refl, sym, arith, ap, None, subst, suc, ◌≡◌, ◌+◌, ◌<◌, ◌∷◌, ◌++◌, ◌∙◌, ℕ, ⊎_elim, []}
-use Rattle.std.proofs.lemmas.Bool.{cases_lt}
-use Rattle.std.specs.List.{AllByRecursion}
-use Rattle.std.specs.Prelude.{Contains, ◌==◌, if◌then◌else◌}
-use Rattle.dvg_words.specs.Decoding.{cell_at, word_count}
-use Rattle.dvg_words.specs.Memory.{frame_word, rom_word}
-use Rattle.dvg_words.specs.Values.{Window}
-use Rattle.dvg_words.specs.declared.instruction.Cell.TheVariants.{Holds}
-use Rattle.dvg_words.specs.declared.instruction.Instr.TheVariants.{Halt}
-use Rattle.dvg_cert.specs.declared.entry.Entry.{Entry}
+use Rattle.dvg_check.proofs.Common.{Source, Machine, List, length, refl, sym, arith, ap, None, subst, suc, ◌≡◌, ◌+◌, ◌<◌, ◌∷◌, ◌++◌, ◌∙◌, ℕ, ⊎_elim, [], cases_lt, AllByRecursion, Contains, if◌then◌else◌, cell_at, word_count, frame_word, rom_word, Window, Holds, Halt, Entry, frame_number, LeadsTo, next_address, words_before, frame_context, depth_before, AllKeep, FramePlaceKeeps, GoodFrame, ShapePlaceKeeps, GoodShape, FrameWhy, ShapeWhy, Item, Kind, Frame, Shape}
+use Rattle.std.specs.Prelude.{◌==◌}
 use Rattle.dvg_items.proofs.Leading.{Same, same_lead, too_long, shorter, everywhere}
-use Rattle.dvg_check.specs.FirstFault.{AllBefore, FaultAt, frame_number, shape_number, ShapeFaultAt}
-use Rattle.dvg_items.specs.Items.{LeadsTo, next_address}
-use Rattle.dvg_items.specs.Known.{words_before, frame_context, depth_before}
+use Rattle.dvg_check.specs.FirstFault.{AllBefore, FaultAt, shape_number, ShapeFaultAt}
 use Rattle.dvg_check.specs.Laws.{OneFault, NoFault, OneCount, NoShapeFault, OneShapeFault}
-use Rattle.dvg_check.specs.Rules.{AllKeep, FramePlaceKeeps, GoodFrame, ShapePlaceKeeps, GoodShape}
-use Rattle.dvg_check.specs.declared.fault.FrameWhy.{FrameWhy}
 use Rattle.dvg_check.specs.declared.fault.FrameWhy.TheVariants as frame
-use Rattle.dvg_check.specs.declared.fault.ShapeWhy.{ShapeWhy}
 use Rattle.dvg_check.specs.declared.fault.ShapeWhy.TheVariants as shape
-use Rattle.dvg_items.specs.declared.item.Item.{Item}
-use Rattle.dvg_items.specs.declared.item.Kind.{Kind}
-use Rattle.dvg_items.specs.declared.item.Kind.TheVariants.{Frame, Shape}
 
 module _ (kind : Kind) (word : Source) (first : ℕ) (Why : Type 0) (keeps : List Item → ℕ → Why → Type 0) where
   -- what each rule says of a place

@@ -1,41 +1,12 @@
 -- A frame from any start to its halt.
-use Rattle.dvg_words.specs.declared.machine.Machine.{Machine}
-use Rattle.std.proofs.Common.{List, Option, Some, None, arith, refl, length, inl, inr, max, ap, length-append, sym, subst, zero, suc, ◌≡◌, ◌+◌, ◌≤◌, ◌⊎◌, ◌∷◌, ◌++◌, ◌∙◌, ℕ, []}
-use Rattle.std.specs.List.{AllByRecursion}
-use Rattle.std.specs.Prelude.{Contains}
-use Rattle.dvg_words.specs.Beam.{InWindow, origin}
-use Rattle.dvg_words.specs.Decoding.{word_count, cell_at}
-use Rattle.dvg_words.specs.Generator.{State, Reached, Running, Halted, Stroke, places, start, next_status, Status, Fault}
-use Rattle.dvg_words.specs.Memory.{Memory, InFrame, InRom, word_at, IsMemory, frame_word}
-use Rattle.dvg_words.specs.Values.{Window}
-use Rattle.dvg_words.specs.declared.beam.Point.{Point}
-use Rattle.dvg_words.specs.declared.instruction.Cell.TheVariants.{Holds}
-use Rattle.dvg_words.specs.declared.instruction.Format.{Format}
-use Rattle.dvg_words.specs.declared.instruction.Format.TheVariants.{Long, Short}
-use Rattle.dvg_words.specs.declared.instruction.Instr.{Instr}
-use Rattle.dvg_words.specs.declared.instruction.Instr.TheVariants.{Draw as Draws, Labs, Halt, Rtsl, Jsrl, Jmpl}
-use Rattle.dvg_cert.specs.declared.entry.End.{End}
-use Rattle.dvg_cert.specs.declared.entry.End.TheVariants.{Rel, Abs, Lost}
-use Rattle.dvg_cert.specs.declared.entry.Entry.{Entry}
-use Rattle.dvg_cert.specs.declared.entry.LitBox.{LitBox}
-use Rattle.dvg_cert.specs.declared.entry.LitBox.TheVariants.{Empty}
-use Rattle.dvg_check.specs.Behaving.{Counts, LitFits, Stretch}
-use Rattle.dvg_items.specs.Items.{LeadsTo}
-use Rattle.dvg_items.specs.Known.{place_past, place_moved_by, place_before, frame_context, depth_under, depth_before, callee, words_before}
+use Rattle.dvg_check.proofs.Common.{Machine, List, Option, Some, None, arith, refl, length, inl, inr, max, ap, sym, subst, zero, suc, ◌≡◌, ◌+◌, ◌≤◌, ◌⊎◌, ◌∷◌, ◌++◌, ◌∙◌, ℕ, [], AllByRecursion, Contains, InWindow, origin, word_count, cell_at, State, Reached, Running, Halted, Stroke, places, start, next_status, Status, Fault, Memory, InRom, word_at, IsMemory, frame_word, Window, Point, Holds, Format, Long, Short, Instr, Labs, Halt, Rtsl, Jsrl, Jmpl, End, Rel, Abs, Lost, Entry, LitBox, Empty, Counts, LitFits, Stretch, LeadsTo, place_past, place_moved_by, place_before, frame_context, depth_under, depth_before, callee, words_before, LitInBox, seen_at, Good, AllKeep, FramePlaceKeeps, FrameKeeps, CellKeeps, GoodFrame, Ends, IsSafeStatus, IsSafeState, FrameWhy, Mode, Bound, Exact, Item, Frame, Effect, LitExtent}
+use Rattle.std.proofs.Common.{length-append}
+use Rattle.dvg_words.specs.Memory.{InFrame}
+use Rattle.dvg_words.specs.declared.instruction.Instr.TheVariants.{Draw as Draws}
 use Rattle.dvg_check.specs.Laws.{GoodIsSafe, ExactIsExact}
-use Rattle.dvg_items.specs.Lit.{LitInBox}
-use Rattle.dvg_items.specs.Seen.{extent, seen_at}
-use Rattle.dvg_check.specs.Rules.{Good, AllKeep, FramePlaceKeeps, FrameKeeps, CellKeeps, GoodFrame}
-use Rattle.dvg_check.specs.Safety.{Ends, IsSafeStatus, IsSafeState}
-use Rattle.dvg_check.specs.declared.fault.FrameWhy.{FrameWhy}
+use Rattle.dvg_items.specs.Seen.{extent}
 use Rattle.dvg_check.specs.declared.fault.FrameWhy.TheVariants as frame
-use Rattle.dvg_check.specs.declared.fault.Mode.{Mode}
-use Rattle.dvg_check.specs.declared.fault.Mode.TheVariants.{Bound, Exact}
-use Rattle.dvg_items.specs.declared.item.Item.{Item}
-use Rattle.dvg_items.specs.declared.item.Kind.TheVariants.{Frame}
-use Rattle.dvg_items.specs.declared.known.Effect.{Effect}
 use Rattle.dvg_items.specs.declared.known.Effect.TheVariants.{Sets, Loses, Moves}
-use Rattle.dvg_items.specs.declared.lit.LitExtent.{LitExtent}
 use Rattle.dvg_check.proofs.Onward.{Stands}
 use Rattle.dvg_items.proofs.Lists.{all_append, all_map, all_right}
 use Rattle.dvg_check.proofs.Runs.{reached_on, counts_sum, counts_same, rest_of, Grows, grows, stretch_as}

@@ -1,26 +1,9 @@
 -- What a walk over a frame's items gives.
-use Rattle.dvg_words.specs.declared.machine.Machine.{Machine}
-use Rattle.std.proofs.Common.{None, refl, nat_lt, true, arith, Some, ap, List, subst, ◌≡◌, ◌∷◌, ℕ}
-use Rattle.std.proofs.lemmas.Bool.Decides.{nat_tests}
-use Rattle.std.specs.Prelude.{if◌then◌else◌}
-use Rattle.dvg_words.specs.Decoding.{cell_at}
-use Rattle.dvg_words.specs.Memory.{frame_word}
-use Rattle.dvg_words.specs.Values.{Window}
-use Rattle.dvg_words.specs.declared.instruction.Cell.TheVariants.{Holds}
-use Rattle.dvg_words.specs.declared.instruction.Format.{Format}
-use Rattle.dvg_words.specs.declared.instruction.Instr.{Instr}
-use Rattle.dvg_words.specs.declared.instruction.Instr.TheVariants.{Rtsl, Halt, Draw as Draws, Labs, Jsrl, Jmpl}
-use Rattle.dvg_cert.specs.declared.entry.Entry.{Entry}
-use Rattle.dvg_items.specs.Items.{address_after, LeadsTo}
-use Rattle.dvg_items.specs.Known.{known_before, frame_context}
-use Rattle.dvg_check.specs.Rules.{IsForward, AllKeep, FramePlaceKeeps, GoodFrame, FrameKeeps, CellKeeps}
-use Rattle.dvg_items.specs.Seen.{seen_at}
+use Rattle.dvg_check.proofs.Common.{Machine, None, refl, nat_lt, true, arith, Some, ap, List, subst, ◌≡◌, ◌∷◌, ℕ, nat_tests, if◌then◌else◌, cell_at, frame_word, Window, Holds, Format, Instr, Rtsl, Halt, Labs, Jsrl, Jmpl, Entry, address_after, LeadsTo, known_before, frame_context, AllKeep, FramePlaceKeeps, GoodFrame, FrameKeeps, CellKeeps, seen_at, FrameWhy, Item, Frame, Known}
+use Rattle.dvg_words.specs.declared.instruction.Instr.TheVariants.{Draw as Draws}
+use Rattle.dvg_check.specs.Rules.{IsForward}
 use Rattle.dvg_check.specs.Private.Judging.{WalksTo}
-use Rattle.dvg_check.specs.declared.fault.FrameWhy.{FrameWhy}
 use Rattle.dvg_check.specs.declared.fault.FrameWhy.TheVariants as frame
-use Rattle.dvg_items.specs.declared.item.Item.{Item}
-use Rattle.dvg_items.specs.declared.item.Kind.TheVariants.{Frame}
-use Rattle.dvg_items.specs.declared.known.Known.{Known}
 
 -- the last item of a frame is a halt
 last_halts : (at : ℕ) (format : Format) (instr : Instr) → address_after Frame at format instr ≡ None → (instr ≡ Rtsl → ⊥) → IsForward at instr → instr ≡ Halt

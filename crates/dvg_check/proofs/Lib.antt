@@ -1,3 +1,4 @@
+pub mod Common
 pub mod Runs
 pub mod Steps
 pub mod Onward

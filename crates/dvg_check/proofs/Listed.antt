@@ -1,13 +1,7 @@
 -- The first faulty entry of a list.
-use Rattle.std.proofs.Common.{List, length, take, get_or, drop, suc, arith, zero, refl, ap, slice_index_or, subst, sym, ◌≡◌, ◌<◌, ◌∷◌, ◌++◌, ℕ, []}
-use Rattle.std.specs.List.{AllByRecursion}
-use Rattle.dvg_words.specs.Memory.{Rom, rom_word}
-use Rattle.dvg_words.specs.Values.{Window}
-use Rattle.dvg_cert.specs.declared.entry.Entry.{Entry}
-use Rattle.dvg_check.specs.Finding.{IsFound, ShapeFaultFound, ShapeFinding, FirstShapeFound}
-use Rattle.dvg_items.specs.Known.{known_before, shape_context}
-use Rattle.dvg_check.specs.Rules.{GoodShape}
-use Rattle.dvg_check.specs.declared.fault.Mode.{Mode}
+use Rattle.dvg_check.proofs.Common.{List, length, take, get_or, suc, arith, zero, refl, ap, subst, sym, ◌≡◌, ◌<◌, ◌∷◌, ◌++◌, ℕ, [], AllByRecursion, Rom, rom_word, Window, Entry, IsFound, known_before, shape_context, GoodShape, Mode}
+use Rattle.std.proofs.Common.{drop, slice_index_or}
+use Rattle.dvg_check.specs.Finding.{ShapeFaultFound, ShapeFinding, FirstShapeFound}
 
 split_at : (l : List Entry) (i : ℕ) (d : Entry) → i < length l → l ≡ take i l ++ get_or l i d ∷ drop (suc i) l
 split_at [] i d lt = absurd (omega arith)

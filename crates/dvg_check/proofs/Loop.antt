@@ -1,26 +1,9 @@
 -- What the loop over items keeps, and what follows where it stops.
-use Rattle.dvg_words.specs.Values.{Source}
-use Rattle.dvg_words.specs.declared.machine.Machine.{Machine}
-use Rattle.std.proofs.Common.{arith, refl, List, subst, sym, ap, ◌≡◌, ◌≢◌, ◌∷◌, ◌∙◌, ℕ, []}
-use Rattle.dvg_words.specs.Decoding.{cell_at}
-use Rattle.dvg_words.specs.declared.instruction.Cell.{Cell}
-use Rattle.dvg_words.specs.declared.instruction.Cell.TheVariants.{Missing, Odd, Holds}
-use Rattle.dvg_words.specs.declared.instruction.Format.{Format}
-use Rattle.dvg_words.specs.declared.instruction.Instr.{Instr}
-use Rattle.dvg_cert.specs.declared.entry.Entry.{Entry}
-use Rattle.dvg_cert.specs.declared.entry.Key.{Key}
+use Rattle.dvg_check.proofs.Common.{Source, Machine, arith, refl, List, subst, sym, ap, ◌≡◌, ◌≢◌, ◌∷◌, ◌∙◌, ℕ, [], cell_at, Cell, Missing, Odd, Holds, Format, Instr, Entry, Key, IsFound, LeadsTo, Context, known_before, seen_at, PlaceKeeps, CellKeeps, Item, Kind, Known, Seen}
 use Rattle.dvg_check.specs.FirstFault.{AllBefore, FaultAt}
-use Rattle.dvg_check.specs.Finding.{IsFound, FaultFound}
+use Rattle.dvg_check.specs.Finding.{FaultFound}
 use Rattle.dvg_check.specs.declared.fault.Found.TheVariants as found
-use Rattle.dvg_items.specs.Items.{LeadsTo}
-use Rattle.dvg_items.specs.Known.{Context, known_before}
 use Rattle.dvg_check.specs.Private.Judging.{seen_by, WalksTo, KeepsAll, BreaksFirst}
-use Rattle.dvg_items.specs.Seen.{seen_at}
-use Rattle.dvg_check.specs.Rules.{PlaceKeeps, CellKeeps}
-use Rattle.dvg_items.specs.declared.item.Item.{Item}
-use Rattle.dvg_items.specs.declared.item.Kind.{Kind}
-use Rattle.dvg_items.specs.declared.known.Known.{Known}
-use Rattle.dvg_items.specs.declared.seen.Seen.{Seen}
 use Rattle.dvg_items.specs.Bounds.{IsSoundCursor, IsSoundStep}
 use Rattle.dvg_items.specs.declared.cursor.Cursor.{Cursor}
 use Rattle.dvg_items.specs.declared.cursor.Step.{Step}

@@ -1,24 +1,10 @@
 -- The two frames that one machine accepts and the other refuses, item by item.
-use Rattle.std.proofs.Common.{arith, List, refl, sym, subst, pos, ◌≡◌, ◌∷◌, ◌<◌, ℕ, []}
-use Rattle.std.proofs.lemmas.Int.{ints}
-use Rattle.dvg_words.specs.Beam.{displacement, screen}
-use Rattle.dvg_words.specs.Decoding.{cell_at, instruction_of}
-use Rattle.dvg_words.specs.Memory.{frame_word}
-use Rattle.dvg_words.specs.Values.{DrawFields}
-use Rattle.dvg_words.specs.declared.machine.Machine.{Machine}
-use Rattle.dvg_words.specs.declared.machine.Machine.TheVariants.{Profile, Board}
-use Rattle.dvg_words.specs.declared.instruction.Cell.TheVariants.{Holds, Odd}
-use Rattle.dvg_words.specs.declared.instruction.Format.TheVariants.{Long, Short}
-use Rattle.dvg_words.specs.declared.instruction.Instr.TheVariants.{Draw as Draws, Labs, Halt}
-use Rattle.dvg_check.specs.FirstFault.{FirstFrameFault, frame_number}
+use Rattle.dvg_check.proofs.Common.{arith, List, refl, sym, subst, pos, ◌≡◌, ◌∷◌, ◌<◌, ℕ, [], ints, displacement, screen, cell_at, instruction_of, frame_word, DrawFields, Machine, Profile, Board, Holds, Odd, Long, Short, Labs, Halt, frame_number, FrameKeeps, FramePlaceKeeps, CellKeeps, GoodFrame, FrameWhy, frame_context, seen_at, Item, Frame}
+use Rattle.dvg_words.specs.declared.instruction.Instr.TheVariants.{Draw as Draws}
+use Rattle.dvg_check.specs.FirstFault.{FirstFrameFault}
 use Rattle.dvg_check.specs.MachinesExample.{edge_frame, left_frame, WorkedMachines}
-use Rattle.dvg_check.specs.Rules.{Seen, FrameKeeps, FramePlaceKeeps, CellKeeps, GoodFrame}
-use Rattle.dvg_check.specs.declared.fault.FrameWhy.{FrameWhy}
+use Rattle.dvg_check.specs.Rules.{Seen}
 use Rattle.dvg_check.specs.declared.fault.FrameWhy.TheVariants as frame
-use Rattle.dvg_items.specs.Known.{frame_context}
-use Rattle.dvg_items.specs.Seen.{seen_at}
-use Rattle.dvg_items.specs.declared.item.Item.{Item}
-use Rattle.dvg_items.specs.declared.item.Kind.TheVariants.{Frame}
 use Rattle.dvg_check.proofs.Example.{frame_item}
 use Rattle.dvg_check.proofs.Faults.{all_kept}
 

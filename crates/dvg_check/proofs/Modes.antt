@@ -1,19 +1,5 @@
 -- What is good with exact counts is good with bounds.
-use Rattle.std.proofs.Common.{ℕ, List, Option, Some, None}
-use Rattle.dvg_words.specs.Decoding.{cell_at}
-use Rattle.dvg_words.specs.Memory.{Rom, rom_word}
-use Rattle.dvg_words.specs.Values.{Window}
-use Rattle.dvg_words.specs.declared.instruction.Cell.{Cell}
-use Rattle.dvg_words.specs.declared.instruction.Cell.TheVariants.{Missing, Odd, Holds}
-use Rattle.dvg_cert.specs.declared.entry.Entry.{Entry}
-use Rattle.dvg_items.specs.Known.{shape_context}
-use Rattle.dvg_items.specs.Seen.{seen_at}
-use Rattle.dvg_items.specs.declared.item.Item.{Item}
-use Rattle.dvg_items.specs.declared.seen.Seen.{Seen}
-use Rattle.dvg_check.specs.Rules.{AtLast, ShapeKeeps, CellKeeps, Good}
-use Rattle.dvg_check.specs.declared.fault.Mode.{Mode}
-use Rattle.dvg_check.specs.declared.fault.Mode.TheVariants.{Bound, Exact}
-use Rattle.dvg_check.specs.declared.fault.ShapeWhy.{ShapeWhy}
+use Rattle.dvg_check.proofs.Common.{ℕ, List, Option, Some, None, cell_at, Rom, rom_word, Window, Cell, Missing, Odd, Holds, Entry, shape_context, seen_at, Item, Seen, AtLast, ShapeKeeps, CellKeeps, Good, Mode, Bound, Exact, ShapeWhy}
 use Rattle.dvg_check.specs.declared.fault.ShapeWhy.TheVariants as shape
 
 last_any : (o : Option ℕ) → AtLast o (Unit {0})

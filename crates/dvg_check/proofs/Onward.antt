@@ -1,45 +1,20 @@
 -- From one item to the next, over calls too.
-use Rattle.dvg_words.specs.Values.{Source}
-use Rattle.dvg_words.specs.declared.machine.Machine.{Machine}
-use Rattle.std.proofs.Common.{Option, None, Some, Bool, false, true, refl, nat_le, arith, subst, inl, sym, ap, inr, zero, suc, List, max, length, nat_lt, unwrap_or, ◌≡◌, ◌+◌, ◌/◌, ◌<◌, ◌≤◌, ◌⊎◌, ◌∷◌, ◌++◌, ◌∙◌, ℕ, ⊎_elim, []}
-use Rattle.std.proofs.lemmas.Bool.Decides.{nat_tests}
-use Rattle.std.proofs.lemmas.Int.{ints}
-use Rattle.std.specs.List.{AllByRecursion}
-use Rattle.std.specs.Prelude.{Contains, ◌≢◌, ◌==◌, ℤ, if◌then◌else◌}
-use Rattle.dvg_words.specs.Beam.{shift, InWindow, displacement, origin}
-use Rattle.dvg_words.specs.Decoding.{instruction_of, cell_holding, long_cell, cell_of_words, cell_of_format, cell_at, word_count}
-use Rattle.dvg_words.specs.Generator.{Stroke, lit_by, State, next_status, Running, places, after_call}
-use Rattle.dvg_words.specs.Memory.{Memory, InRom, word_at, IsMemory}
-use Rattle.dvg_words.specs.Values.{DrawFields, Window}
-use Rattle.dvg_words.specs.declared.beam.Point.{Point}
-use Rattle.dvg_words.specs.declared.instruction.Cell.TheVariants.{Holds}
-use Rattle.dvg_words.specs.declared.instruction.Format.{Format}
-use Rattle.dvg_words.specs.declared.instruction.Format.TheVariants.{Long, Short}
-use Rattle.dvg_words.specs.declared.instruction.Instr.{Instr}
-use Rattle.dvg_words.specs.declared.instruction.Instr.TheVariants.{Draw as Draws, Labs, Halt, Jsrl, Rtsl, Jmpl}
+use Rattle.dvg_check.proofs.Common.{Source, Machine, Option, None, Some, Bool, false, true, refl, nat_le, arith, subst, inl, sym, ap, inr, zero, suc, List, max, length, nat_lt, ◌≡◌, ◌+◌, ◌<◌, ◌≤◌, ◌⊎◌, ◌∷◌, ◌++◌, ◌∙◌, ℕ, ⊎_elim, [], nat_tests, ints, AllByRecursion, Contains, if◌then◌else◌, shift, InWindow, displacement, origin, instruction_of, cell_holding, cell_of_words, cell_of_format, cell_at, word_count, Stroke, lit_by, State, next_status, Running, places, after_call, Memory, InRom, word_at, IsMemory, DrawFields, Window, Point, Holds, Format, Long, Short, Instr, Labs, Halt, Jsrl, Rtsl, Jmpl, End, Lost, Abs, Rel, Entry, Key, At, LitBox, Empty, Span, PlaceFits, LitFits, ScaleFits, Stretch, address_after, LeadsTo, place_moved_by, Context, place_before, scale_before, target, callee, callee_words, depth_under, place_past, word_of, InBox, LitInWindow, LitInBox, PlaceKnown, ScaleKnown, HasCallee, Mode, Item, Kind, Frame, Shape, shift_shift, shift_origin}
+use Rattle.std.proofs.Common.{unwrap_or, ◌/◌}
+use Rattle.std.specs.Prelude.{◌≢◌, ◌==◌, ℤ}
+use Rattle.dvg_words.specs.Decoding.{long_cell}
+use Rattle.dvg_words.specs.declared.instruction.Instr.TheVariants.{Draw as Draws}
 use Rattle.std.specs.Option.{option_or}
 use Rattle.dvg_cert.specs.Lookup.{entry_at, named_entry}
-use Rattle.dvg_cert.specs.declared.entry.End.{End}
-use Rattle.dvg_cert.specs.declared.entry.End.TheVariants.{Lost, Abs, Rel}
-use Rattle.dvg_cert.specs.declared.entry.Entry.{Entry}
-use Rattle.dvg_cert.specs.declared.entry.Key.{Key}
-use Rattle.dvg_cert.specs.declared.entry.Key.TheVariants.{Any, At}
-use Rattle.dvg_cert.specs.declared.entry.LitBox.{LitBox}
-use Rattle.dvg_cert.specs.declared.entry.LitBox.TheVariants.{Empty, Span}
-use Rattle.dvg_check.specs.Behaving.{box_at, PlaceFits, LitFits, ScaleFits, Stretch, Returned, Behaves}
-use Rattle.dvg_items.specs.Items.{address_after, LeadsTo}
-use Rattle.dvg_items.specs.Known.{place_moved_by, draw_effect, Context, place_before, scale_before, target, callee, stop_effect, callee_effect, callee_words, depth_under, scale_set, callee_at, place_past}
-use Rattle.dvg_check.specs.Laws.{IsDrawOrLabs, lit_on, word_of}
-use Rattle.dvg_items.specs.Lit.{InBox, LitInWindow, LitInBox, PlaceKnown, box_extent, draw_extent, ScaleKnown, callee_extent}
-use Rattle.dvg_items.specs.Seen.{extent, HasCallee}
-use Rattle.dvg_check.specs.declared.fault.Mode.{Mode}
-use Rattle.dvg_items.specs.declared.item.Item.{Item}
-use Rattle.dvg_items.specs.declared.item.Kind.{Kind}
-use Rattle.dvg_items.specs.declared.item.Kind.TheVariants.{Frame, Shape}
+use Rattle.dvg_cert.specs.declared.entry.Key.TheVariants.{Any}
+use Rattle.dvg_check.specs.Behaving.{box_at, Returned, Behaves}
+use Rattle.dvg_items.specs.Known.{draw_effect, stop_effect, callee_effect, scale_set, callee_at}
+use Rattle.dvg_check.specs.Laws.{IsDrawOrLabs, lit_on}
+use Rattle.dvg_items.specs.Lit.{box_extent, draw_extent, callee_extent}
+use Rattle.dvg_items.specs.Seen.{extent}
 use Rattle.dvg_items.specs.declared.lit.LitExtent.TheVariants.{Between}
 use Rattle.dvg_items.proofs.Listed.{listed_at}
 use Rattle.dvg_check.proofs.Runs.{counts_same, stretch_less, stretch_on, stretch_as, deeper}
-use Rattle.dvg_items.proofs.Points.{shift_shift, shift_origin}
 use Rattle.dvg_check.proofs.Steps.{effect, fits_moved, own, next_there, one_item, stands}
 
 -- ---- a long instruction is a draw or a LABS

@@ -1,19 +1,9 @@
 -- Runs: they go on, they are determined, and what is recorded only grows.
-use Rattle.dvg_words.specs.declared.machine.Machine.{Machine}
-use Rattle.std.proofs.Common.{List, zero, arith, subst, sym, suc, ap, append_assoc, refl, Bool, true, false, nat_lt, length, max, length-append, ◌≡◌, ◌+◌, ◌≤◌, ◌∷◌, ◌++◌, ◌∙◌, ℕ, []}
-use Rattle.dvg_words.specs.Decoding.{cell_at}
-use Rattle.dvg_words.specs.Generator.{Status, Reached, Step, Running, Halted, Fault, State, Stroke, after_call, after_return, after_instruction, lit_by, after_cell, next_status, after_fetch, fetches}
-use Rattle.dvg_words.specs.Memory.{Memory, word_at}
-use Rattle.dvg_words.specs.declared.instruction.Cell.{Cell}
-use Rattle.dvg_words.specs.declared.instruction.Cell.TheVariants.{Missing, Odd, Holds}
-use Rattle.dvg_words.specs.declared.instruction.Format.{Format}
-use Rattle.dvg_words.specs.declared.instruction.Instr.{Instr}
-use Rattle.dvg_words.specs.declared.instruction.Instr.TheVariants.{Draw as Draws, Labs, Halt, Jsrl, Rtsl, Jmpl}
-use Rattle.dvg_words.specs.Laws.{state_of}
+use Rattle.dvg_check.proofs.Common.{Machine, List, zero, arith, subst, sym, suc, ap, refl, Bool, true, false, nat_lt, length, max, ◌≡◌, ◌+◌, ◌≤◌, ◌∷◌, ◌++◌, ◌∙◌, ℕ, [], cell_at, Status, Reached, Running, Halted, Fault, State, Stroke, after_call, after_return, after_instruction, lit_by, after_cell, next_status, after_fetch, Memory, word_at, Cell, Missing, Odd, Holds, Format, Instr, Labs, Halt, Jsrl, Rtsl, Jmpl, state_of, Counts, Stretch, Mode, Bound, Exact}
+use Rattle.std.proofs.Common.{append_assoc, length-append}
+use Rattle.dvg_words.specs.Generator.{Step, fetches}
+use Rattle.dvg_words.specs.declared.instruction.Instr.TheVariants.{Draw as Draws}
 use Rattle.dvg_items.proofs.Lists.{all_append, all_map}
-use Rattle.dvg_check.specs.Behaving.{Counts, Stretch}
-use Rattle.dvg_check.specs.declared.fault.Mode.{Mode}
-use Rattle.dvg_check.specs.declared.fault.Mode.TheVariants.{Bound, Exact}
 
 -- ---- runs
 

@@ -1,38 +1,16 @@
 -- A shape's items one after another, and all shapes by induction on their words.
-use Rattle.std.proofs.Common.{List, Some, length, arith, sym, Option, None, zero, ap, suc, max, subst, refl, unwrap_or, ◌≡◌, ◌+◌, ◌<◌, ◌≤◌, ◌∷◌, ◌++◌, ◌∙◌, ℕ, []}
-use Rattle.std.specs.List.{AllByRecursion}
-use Rattle.std.specs.Prelude.{Contains}
-use Rattle.dvg_words.specs.Beam.{shift, origin}
-use Rattle.dvg_words.specs.Decoding.{cell_at, word_count}
-use Rattle.dvg_words.specs.Generator.{places, State, Reached, Running, next_status, after_return}
-use Rattle.dvg_words.specs.Memory.{Memory, IsMemory, InRom, rom_word, word_at}
-use Rattle.dvg_words.specs.Values.{Window}
-use Rattle.dvg_words.specs.declared.beam.Point.{Point}
-use Rattle.dvg_words.specs.declared.instruction.Cell.{Cell}
-use Rattle.dvg_words.specs.declared.instruction.Cell.TheVariants.{Holds, Missing, Odd}
-use Rattle.dvg_words.specs.declared.instruction.Format.{Format}
-use Rattle.dvg_words.specs.declared.instruction.Instr.{Instr}
-use Rattle.dvg_words.specs.declared.instruction.Instr.TheVariants.{Rtsl, Jmpl, Draw as Draws, Labs, Halt, Jsrl}
-use Rattle.dvg_cert.specs.declared.entry.Entry.{Entry}
-use Rattle.dvg_cert.specs.declared.entry.LitBox.{LitBox}
-use Rattle.dvg_check.specs.Behaving.{Behaves, Stretch, LitFits, Counts, PlaceFits, ScaleFits, Returned}
-use Rattle.dvg_items.specs.Items.{LeadsTo, address_after, next_address}
-use Rattle.dvg_items.specs.Known.{Context, callee, depth_before, words_before, shape_context, target, scale_before, callee_words, depth_under, place_before, scale_set}
-use Rattle.dvg_check.specs.Laws.{word_of, OneShape, AllShapes}
-use Rattle.dvg_check.specs.Rules.{GoodShape, CellKeeps, ShapeKeeps, AtLast, Good}
-use Rattle.dvg_items.specs.Seen.{seen_at, HasCallee}
-use Rattle.dvg_check.specs.declared.fault.Mode.{Mode}
-use Rattle.dvg_check.specs.declared.fault.Mode.TheVariants.{Bound, Exact}
-use Rattle.dvg_check.specs.declared.fault.ShapeWhy.{ShapeWhy}
+use Rattle.dvg_check.proofs.Common.{List, Some, length, arith, sym, Option, None, zero, ap, suc, max, subst, refl, ◌≡◌, ◌+◌, ◌<◌, ◌≤◌, ◌∷◌, ◌++◌, ◌∙◌, ℕ, [], AllByRecursion, Contains, shift, origin, cell_at, word_count, places, State, Reached, Running, next_status, after_return, Memory, IsMemory, InRom, rom_word, word_at, Window, Point, Cell, Holds, Missing, Odd, Format, Instr, Rtsl, Jmpl, Labs, Halt, Jsrl, Entry, LitBox, Stretch, LitFits, Counts, PlaceFits, ScaleFits, LeadsTo, address_after, next_address, Context, callee, depth_before, words_before, shape_context, target, scale_before, callee_words, depth_under, place_before, word_of, GoodShape, CellKeeps, ShapeKeeps, AtLast, Good, seen_at, HasCallee, Mode, Bound, Exact, ShapeWhy, Item, Shape, shift_origin}
+use Rattle.std.proofs.Common.{unwrap_or}
+use Rattle.dvg_words.specs.declared.instruction.Instr.TheVariants.{Draw as Draws}
+use Rattle.dvg_check.specs.Behaving.{Behaves, Returned}
+use Rattle.dvg_items.specs.Known.{scale_set}
+use Rattle.dvg_check.specs.Laws.{OneShape, AllShapes}
 use Rattle.dvg_check.specs.declared.fault.ShapeWhy.TheVariants as shape
-use Rattle.dvg_items.specs.declared.item.Item.{Item}
-use Rattle.dvg_items.specs.declared.item.Kind.TheVariants.{Shape}
 use Rattle.dvg_items.proofs.Listed.{named_listed}
 use Rattle.dvg_items.proofs.Near.{word_count-some}
 use Rattle.dvg_check.proofs.Onward.{Fits, Stands, over_item, named_is, one_step, fits_still, called_by, within_caller, after_entry}
 use Rattle.dvg_check.proofs.Runs.{stretch_here, stretch_on, counts_same, stretch_as}
 use Rattle.dvg_check.proofs.Steps.{own, next_there, stands}
-use Rattle.dvg_items.proofs.Points.{shift_origin}
 
 -- ---- any kind: along the items that lead to a place
 

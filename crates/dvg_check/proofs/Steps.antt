@@ -1,35 +1,15 @@
 -- One item: what stands at a place, and what a draw or a LABS does.
-use Rattle.dvg_words.specs.Values.{Source}
-use Rattle.dvg_words.specs.declared.machine.Machine.{Machine}
-use Rattle.std.proofs.Common.{arith, Option, None, Some, ap, subst, sym, refl, List, slice_get, length, nat_le, Bool, true, false, nat_lt, ◌≡◌, ◌+◌, ◌-◌, ◌<◌, ◌≤◌, ◌∷◌, ◌++◌, ◌∙◌, ℕ, ⊎_elim}
-use Rattle.std.proofs.lemmas.Bool.{cases_lt}
-use Rattle.std.proofs.lemmas.Bool.Decides.{nat_tests}
+use Rattle.dvg_check.proofs.Common.{Source, Machine, arith, Option, None, Some, ap, subst, sym, refl, List, length, nat_le, Bool, true, false, nat_lt, ◌≡◌, ◌+◌, ◌-◌, ◌<◌, ◌≤◌, ◌∷◌, ◌++◌, ◌∙◌, ℕ, ⊎_elim, cases_lt, nat_tests, AllByRecursion, if◌then◌else◌, shift, displacement, labs_place, cell_holding, cell_of_format, cell_of_words, format_of, cell_at, word_count, places, State, next_status, after_instruction, after_cell, after_fetch, Memory, InRom, IsMemory, word_at, DrawFields, Point, Holds, Format, Long, Short, Instr, Labs, Halt, Jsrl, Rtsl, Jmpl, End, Rel, Abs, Lost, Key, At, shift_shift, PlaceFits, ScaleFits, place_moved_by, Context, place_before, callee, scale_before, place_past, word_of, Item, Kind, Shape, Frame, Effect}
+use Rattle.std.proofs.Common.{slice_get}
 use Rattle.std.proofs.lemmas.Option.{slice_get_past}
-use Rattle.std.specs.List.{AllByRecursion}
-use Rattle.std.specs.Prelude.{◌&&◌, if◌then◌else◌}
-use Rattle.dvg_words.specs.Beam.{shift, displacement, labs_place}
-use Rattle.dvg_words.specs.Decoding.{cell_holding, long_cell, cell_of_format, cell_of_words, format_of, cell_at, word_count}
-use Rattle.dvg_words.specs.Generator.{fetches, places, State, next_status, after_instruction, after_cell, after_fetch, after_draw}
-use Rattle.dvg_words.specs.Memory.{Memory, InRom, InFrame, word_of_rom, IsMemory, word_at, fetched_at}
-use Rattle.dvg_words.specs.Values.{DrawFields}
-use Rattle.dvg_words.specs.declared.beam.Point.{Point}
-use Rattle.dvg_words.specs.declared.instruction.Cell.TheVariants.{Holds}
-use Rattle.dvg_words.specs.declared.instruction.Format.{Format}
-use Rattle.dvg_words.specs.declared.instruction.Format.TheVariants.{Long, Short}
-use Rattle.dvg_words.specs.declared.instruction.Instr.{Instr}
-use Rattle.dvg_words.specs.declared.instruction.Instr.TheVariants.{Draw as Draws, Labs, Halt, Jsrl, Rtsl, Jmpl}
-use Rattle.dvg_cert.specs.declared.entry.End.{End}
-use Rattle.dvg_cert.specs.declared.entry.End.TheVariants.{Rel, Abs, Lost}
-use Rattle.dvg_cert.specs.declared.entry.Key.{Key}
-use Rattle.dvg_cert.specs.declared.entry.Key.TheVariants.{Any, At}
-use Rattle.dvg_items.proofs.Points.{shift_shift}
-use Rattle.dvg_check.specs.Behaving.{PlaceFits, ScaleFits}
-use Rattle.dvg_items.specs.Known.{place_moved_by, Context, place_before, callee, effect_of, draw_effect, scale_before, place_past}
-use Rattle.dvg_check.specs.Laws.{word_of, IsDrawOrLabs, Past, OneItem}
-use Rattle.dvg_items.specs.declared.item.Item.{Item}
-use Rattle.dvg_items.specs.declared.item.Kind.{Kind}
-use Rattle.dvg_items.specs.declared.item.Kind.TheVariants.{Shape, Frame}
-use Rattle.dvg_items.specs.declared.known.Effect.{Effect}
+use Rattle.std.specs.Prelude.{◌&&◌}
+use Rattle.dvg_words.specs.Decoding.{long_cell}
+use Rattle.dvg_words.specs.Generator.{fetches, after_draw}
+use Rattle.dvg_words.specs.Memory.{InFrame, word_of_rom, fetched_at}
+use Rattle.dvg_words.specs.declared.instruction.Instr.TheVariants.{Draw as Draws}
+use Rattle.dvg_cert.specs.declared.entry.Key.TheVariants.{Any}
+use Rattle.dvg_items.specs.Known.{effect_of, draw_effect}
+use Rattle.dvg_check.specs.Laws.{IsDrawOrLabs, Past, OneItem}
 
 -- ---- what stands at a place
 

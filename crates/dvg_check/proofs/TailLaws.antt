@@ -1,40 +1,12 @@
 -- A weaker claim of a good shape is good, and so is an item before a good tail.
-use Rattle.dvg_words.specs.declared.machine.Machine.{Machine}
-use Rattle.std.proofs.Common.{arith, List, Option, None, Some, refl, sym, ap, subst, inl, inr, max, pos, ⊎_elim, ◌≡◌, ◌⊎◌, ◌+◌, ◌≤◌, ◌∷◌, ◌∙◌, ℕ, ◌+ℤ◌, []}
-use Rattle.std.proofs.lemmas.Int.{ints}
-use Rattle.dvg_words.specs.Decoding.{cell_at, word_count}
-use Rattle.dvg_words.specs.Memory.{Rom, rom_word}
-use Rattle.dvg_words.specs.Values.{Window}
-use Rattle.dvg_words.specs.declared.beam.Point.{Point}
-use Rattle.dvg_words.specs.declared.instruction.Cell.{Cell}
-use Rattle.dvg_words.specs.declared.instruction.Cell.TheVariants.{Holds, Missing, Odd}
-use Rattle.dvg_cert.specs.declared.entry.End.{End}
-use Rattle.dvg_cert.specs.declared.entry.End.TheVariants.{Rel, Abs, Lost}
-use Rattle.dvg_cert.specs.declared.entry.Entry.{Entry}
-use Rattle.dvg_cert.specs.declared.entry.Key.{Key}
-use Rattle.dvg_cert.specs.declared.entry.LitBox.{LitBox}
-use Rattle.dvg_cert.specs.declared.entry.LitBox.TheVariants.{Empty, Span}
-use Rattle.dvg_items.specs.Items.{LeadsTo, next_address}
-use Rattle.dvg_items.specs.Known.{Context, known_before, known_past, place_past, callee_words, depth_under, target, callee_at, effect_of}
-use Rattle.dvg_items.specs.Lit.{PlaceKnown, ScaleKnown, LitInWindow, LitInBox, InBox, IsInside}
-use Rattle.dvg_items.specs.Seen.{seen_at}
-use Rattle.dvg_items.specs.declared.item.Item.{Item}
-use Rattle.dvg_items.specs.declared.item.Kind.TheVariants.{Shape}
-use Rattle.dvg_items.specs.declared.known.Known.{Known}
-use Rattle.dvg_items.specs.declared.lit.LitExtent.{LitExtent}
+use Rattle.dvg_check.proofs.Common.{Machine, arith, List, Option, None, Some, refl, sym, ap, subst, inl, inr, max, pos, ⊎_elim, ◌≡◌, ◌⊎◌, ◌+◌, ◌≤◌, ◌∷◌, ◌∙◌, ℕ, ◌+ℤ◌, [], ints, cell_at, word_count, Rom, rom_word, Window, Point, Cell, Holds, Missing, Odd, End, Rel, Abs, Lost, Entry, Key, LitBox, Empty, Span, LeadsTo, next_address, Context, known_before, place_past, callee_words, depth_under, target, PlaceKnown, ScaleKnown, LitInWindow, LitInBox, InBox, IsInside, seen_at, Item, Shape, Known, LitExtent, Effect, Seen, Counts, AtLast, AsClaimed, CellKeeps, ShapeKeeps, ShapePlaceKeeps, GoodShape, Mode, Bound, Exact, ShapeWhy}
+use Rattle.dvg_items.specs.Known.{known_past, callee_at, effect_of}
 use Rattle.dvg_items.specs.declared.lit.LitExtent.TheVariants.{Nothing, Between, Anywhere}
-use Rattle.dvg_items.specs.declared.known.Effect.{Effect}
 use Rattle.dvg_items.specs.declared.known.Effect.TheVariants.{Sets, Loses, Moves}
-use Rattle.dvg_items.specs.declared.seen.Seen.{Seen}
 use Rattle.dvg_items.proofs.Leading.{item_same, too_long}
 use Rattle.dvg_items.proofs.PlaceLaw.{moves_on}
-use Rattle.dvg_check.specs.Behaving.{Counts}
 use Rattle.dvg_check.specs.Private.Judging.{seen_by}
 use Rattle.dvg_check.specs.Private.Tails.{ClaimsLess, known_at_end, claimed, place_over, known_over, first_seen, MayStandAt, MayStandFirst, IsBehind, last_item, after_item}
-use Rattle.dvg_check.specs.Rules.{AtLast, AsClaimed, CellKeeps, ShapeKeeps, ShapePlaceKeeps, GoodShape}
-use Rattle.dvg_check.specs.declared.fault.Mode.{Mode}
-use Rattle.dvg_check.specs.declared.fault.Mode.TheVariants.{Bound, Exact}
-use Rattle.dvg_check.specs.declared.fault.ShapeWhy.{ShapeWhy}
 use Rattle.dvg_check.specs.declared.fault.ShapeWhy.TheVariants as shape
 use Rattle.dvg_check.proofs.Runs.{counts_le}
 

@@ -1,15 +1,11 @@
 -- What is kept of the tails, and of the entries that they show to be good.
-use Rattle.std.proofs.Common.{arith, List, Option, None, Some, [], ◌∷◌, zero, suc, length, take, get_or, replicate, refl, sym, subst, ◌≡◌, ◌≢◌, ◌<◌, ◌≤◌, ◌∙◌, ℕ, ⊎_elim}
-use Rattle.std.proofs.lemmas.Bool.{cases_lt}
+use Rattle.dvg_check.proofs.Common.{arith, List, Option, None, Some, [], ◌∷◌, zero, suc, length, take, get_or, refl, sym, subst, ◌≡◌, ◌≢◌, ◌<◌, ◌≤◌, ◌∙◌, ℕ, ⊎_elim, cases_lt, AllByRecursion, Rom, Window, Entry, AreTails}
+use Rattle.std.proofs.Common.{replicate}
 use Rattle.std.proofs.lemmas.List.{get_or_default, get_or-set_same, get_or-set_other}
 use Rattle.std.proofs.Math.ListN.{set}
-use Rattle.std.specs.List.{AllByRecursion}
-use Rattle.dvg_words.specs.Memory.{Rom}
-use Rattle.dvg_words.specs.Values.{Window}
-use Rattle.dvg_cert.specs.declared.entry.Entry.{Entry}
 use Rattle.dvg_items.specs.Bounds.{IsClaim, IsSomeCertificate}
 use Rattle.dvg_items.proofs.Listed.{listed_claim}
-use Rattle.dvg_check.specs.Private.Tails.{AreTails, IsTail}
+use Rattle.dvg_check.specs.Private.Tails.{IsTail}
 
 none_at : (n k : ℕ) → get_or {A = Option Entry} (replicate n None) k None ≡ None
 none_at zero k = refl

@@ -1,14 +1,7 @@
 -- A tail's numbers stay small.
-use Rattle.std.proofs.Common.{arith, ◌≤◌, ◌+◌, ◌*◌, ◌^◌, ℕ, ℤ, pos, neg_ℤ}
-use Rattle.std.proofs.lemmas.Int.{ints}
-use Rattle.dvg_words.specs.Beam.{IsWithin, shift}
-use Rattle.dvg_words.specs.declared.beam.Point.{Point}
-use Rattle.dvg_cert.specs.declared.entry.End.{End}
-use Rattle.dvg_cert.specs.declared.entry.End.TheVariants.{Rel, Abs, Lost}
-use Rattle.dvg_cert.specs.declared.entry.Entry.{Entry}
-use Rattle.dvg_cert.specs.declared.entry.LitBox.{LitBox}
-use Rattle.dvg_cert.specs.declared.entry.LitBox.TheVariants.{Empty, Span}
-use Rattle.dvg_items.specs.Lit.{InBox, IsInside}
+use Rattle.dvg_check.proofs.Common.{arith, ◌≤◌, ◌+◌, ℕ, ℤ, pos, ints, shift, Point, End, Rel, Abs, Lost, Entry, LitBox, Empty, Span, InBox, IsInside}
+use Rattle.std.proofs.Common.{◌*◌, ◌^◌, neg_ℤ}
+use Rattle.dvg_words.specs.Beam.{IsWithin}
 use Rattle.dvg_items.specs.Bounds.{IsNear, IsNearPlace}
 use Rattle.dvg_items.proofs.Near.{IsNear-shift, IsNear-more, IsNearPlace-more}
 use Rattle.dvg_check.specs.Private.Tails.{IsNearBox, IsSmall, place_over, moved}

@@ -1,18 +1,8 @@
 -- What is made of an item, alone or before a tail, is a tail.
-use Rattle.std.proofs.Common.{arith, List, Option, None, Some, subst, sym, ap, ◌≡◌, ◌+◌, ◌-◌, ◌≤◌, ◌<◌, ◌∙◌, ℕ}
+use Rattle.dvg_check.proofs.Common.{arith, List, Option, None, Some, subst, sym, ap, ◌≡◌, ◌+◌, ◌-◌, ◌≤◌, ◌<◌, ◌∙◌, ℕ, Rom, Window, ADDRESS_END, Entry, Key, next_address, IsInside, Item, Shape, GoodShape}
 use Rattle.std.specs.Prelude.{IfSome}
-use Rattle.dvg_words.specs.Memory.{Rom}
-use Rattle.dvg_words.specs.Values.{Window}
-use Rattle.dvg_words.specs.declared.map.TheConstants.{ADDRESS_END}
-use Rattle.dvg_cert.specs.declared.entry.Entry.{Entry}
-use Rattle.dvg_cert.specs.declared.entry.Key.{Key}
-use Rattle.dvg_items.specs.Items.{next_address}
-use Rattle.dvg_items.specs.Lit.{IsInside}
-use Rattle.dvg_items.specs.declared.item.Item.{Item}
-use Rattle.dvg_items.specs.declared.item.Kind.TheVariants.{Shape}
 use Rattle.dvg_items.proofs.Near.{next_further}
 use Rattle.dvg_check.specs.Private.Tails.{claimed, first_seen, known_at_end, known_over, last_item, IsBehind, IsSmall, IsTail, MayStandAt, MayStandFirst}
-use Rattle.dvg_check.specs.Rules.{GoodShape}
 use Rattle.dvg_check.proofs.TailLaws.{item_before_tail, last_item_good, lit_in_more}
 use Rattle.dvg_check.proofs.TailSizes.{IsSmall-more}
 

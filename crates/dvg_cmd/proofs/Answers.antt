@@ -1,23 +1,14 @@
 -- The answer to a frame, and what an accepted line says of it, over plain values.
-use Rattle.std.proofs.Common.{◌≡◌, refl, sym, ap, ◌∙◌, subst, ℕ, List, [], ◌∷◌, ◌++◌, length, Option, None, Some}
-use Rattle.std.specs.Prelude.{Result, Ok, Err, IfOk, OnOk, OnErr, IfSome}
-use Rattle.std.specs.Io.KnownBytes.{Appends}
-use Rattle.dvg_words.specs.Memory.{Memory, Rom, words_of, IsFrameLength}
-use Rattle.dvg_words.specs.Values.{Window}
-use Rattle.dvg_words.specs.declared.machine.Machine.TheVariants.{Board}
-use Rattle.dvg_cert.specs.Devices.{AppendsPrefix, TakesOneWrite}
-use Rattle.dvg_check.specs.Safety.{Safe, CountsAtHalt}
-use Rattle.dvg_check.specs.Circuit.{SafeOnCircuit, CountsOnCircuit}
+use Rattle.dvg_cmd.proofs.Common.{◌≡◌, refl, sym, ap, ◌∙◌, subst, ℕ, List, [], ◌∷◌, ◌++◌, length, Option, None, Some, Result, Ok, Err, IfOk, OnOk, OnErr, IfSome, Appends, Rom, words_of, IsFrameLength, Window, Board, AppendsPrefix, TakesOneWrite, Safe, CountsAtHalt, SafeOnCircuit, CountsOnCircuit, Yes, FrameRefusal, Detail, Behind, IsBehind, IsReadTo, RunFault}
+use Rattle.dvg_words.specs.Memory.{Memory}
 use Rattle.dvg_check.specs.declared.verdict.Refusal.TheVariants as refusal
-use Rattle.dvg_check.specs.declared.verdict.Yes.{Yes}
 use Rattle.dvg_make.specs.declared.fault.EntryFault.TheVariants as entry
-use Rattle.dvg_make.specs.declared.judging.FrameRefusal.{FrameRefusal}
 use Rattle.dvg_make.specs.declared.judging.FrameRefusal.TheVariants as frame
 use Rattle.dvg_spelling.specs.Outcomes.{refusal_outcome_of}
 use Rattle.dvg_spelling.specs.declared.outcome.FrameOutcome.TheVariants as outcome
-use Rattle.dvg_cmd.specs.Detail.{Detail, Behind, IsBehind, behind_text, frame_outcome_behind}
+use Rattle.dvg_cmd.specs.Detail.{behind_text, frame_outcome_behind}
 use Rattle.dvg_cmd.specs.declared.detail.Behind.TheVariants as behind
-use Rattle.dvg_cmd.specs.Runs.{MOST_FRAME_READ, IsReadTo, RunFault}
+use Rattle.dvg_cmd.specs.Runs.{MOST_FRAME_READ}
 use Rattle.dvg_cmd.specs.Frames.{FrameAnswer, Judged, Unread, FrameOutcome, worse, ReadsFrame, AnswersFrame, WritesAnswer, WritesAnswerPrefix, ReportsFrame, ReportsFramePrefix, frame_outcome_of, frame_line, is_unread, is_unread_outcome}
 use Rattle.dvg_cmd.specs.Start.{jumped, started}
 use Rattle.dvg_cmd.specs.SafeFrames.{ReportsFrameAccepted}

@@ -1,19 +1,14 @@
 -- What a run that compares two ROMs answers, over plain values.
-use Rattle.std.proofs.Common.{◌≡◌, ◌≢◌, ◌⊎◌, ℕ, List, [], ◌∷◌, length, Option, Bool, true, refl, sym, ap, ◌∙◌, subst}
-use Rattle.std.specs.Prelude.{Result, Ok, Err, IfErr}
-use Rattle.dvg_words.specs.declared.machine.Machine.{Machine}
-use Rattle.dvg_words.specs.Memory.{Rom, IsRomLength, rom_on, words_of}
-use Rattle.dvg_words.specs.Values.{MemoryMap, IsMap}
-use Rattle.dvg_cert.specs.declared.entry.Key.{Key}
+use Rattle.dvg_cmd.proofs.Common.{◌≡◌, ◌≢◌, ◌⊎◌, ℕ, List, [], ◌∷◌, length, Option, true, refl, sym, ap, ◌∙◌, subst, Result, Ok, Err, IfErr, Machine, Rom, IsRomLength, rom_on, words_of, MemoryMap, IsMap, Key, of_each, AreFrames, IsPrefix, ArePrefixes}
+use Rattle.std.proofs.Common.{Bool}
 use Rattle.dvg_diff.specs.Comparing.{IsComparison}
 use Rattle.dvg_diff.specs.declared.comparing.Comparison.{Comparison}
 use Rattle.dvg_cert.specs.Devices.{count_after}
 use Rattle.dvg_spelling.specs.declared.fault.MakeRunFault.TheVariants as maker
 use Rattle.dvg_spelling.specs.declared.fault.FramesRunFault.{FramesRunFault}
 use Rattle.dvg_spelling.specs.declared.fault.FramesRunFault.TheVariants as fault
-use Rattle.dvg_cmd.specs.MakingFrames.{of_each, AreFrames, FailedAfter, blames_frames_rom}
+use Rattle.dvg_cmd.specs.MakingFrames.{FailedAfter, blames_frames_rom}
 use Rattle.dvg_cmd.specs.Comparing.{ComparesFor}
-use Rattle.dvg_cmd.specs.Private.Reading.{IsPrefix, ArePrefixes}
 use Rattle.dvg_cmd.proofs.Whole.{held_bytes, held_told}
 use Rattle.dvg_cmd.proofs.MakerRuns.{whole_length, whole_image}
 use Rattle.dvg_cmd.proofs.SeveralFrames.{held_each}

@@ -1,15 +1,9 @@
 -- What a run of the maker for frames answers, over plain values.
-use Rattle.std.proofs.Common.{◌≡◌, ◌<◌, ◌⊎◌, ℕ, List, [], ◌∷◌, length, Option, None, Some, inl, inr, refl, sym, ap, ◌∙◌, subst, arith}
-use Rattle.std.specs.Prelude.{Result, Ok, Err, IfErr, IsErrAnd}
-use Rattle.std.specs.Io.KnownBytes.{Appends}
-use Rattle.dvg_words.specs.declared.machine.Machine.{Machine}
-use Rattle.dvg_cert.specs.Devices.{AppendsPrefix}
+use Rattle.dvg_cmd.proofs.Common.{◌≡◌, ◌<◌, ◌⊎◌, ℕ, List, [], ◌∷◌, length, Option, None, Some, inl, inr, refl, sym, ap, ◌∙◌, subst, arith, Result, Ok, Err, IfErr, Appends, Machine, AppendsPrefix, Rom, IsRomLength, rom_on, words_of, MemoryMap, IsMap, Window, Key, of_each, AreFrames, MakesForFrames, FramesFaultMeans, IsPrefix, ArePrefixes}
+use Rattle.std.specs.Prelude.{IsErrAnd}
 use Rattle.dvg_cert.specs.Grammar.{text_of}
 use Rattle.dvg_cmd.specs.Making.{WritesMade, WritesMadePrefix}
-use Rattle.dvg_words.specs.Memory.{Rom, IsRomLength, rom_on, words_of}
-use Rattle.dvg_words.specs.Values.{MemoryMap, IsMap, Window}
 use Rattle.dvg_cert.specs.declared.entry.Entry.{Entry}
-use Rattle.dvg_cert.specs.declared.entry.Key.{Key}
 use Rattle.dvg_survey.specs.declared.places.EntryPlaces.{EntryPlaces}
 use Rattle.dvg_survey.specs.Places.{AreAllPlaces}
 use Rattle.dvg_make.specs.Frames.{FramesMade}
@@ -23,9 +17,9 @@ use Rattle.dvg_make.specs.declared.fault.MakeFault.TheVariants as making
 use Rattle.dvg_spelling.specs.Faults.{told_fault}
 use Rattle.dvg_spelling.specs.declared.fault.MakeRunFault.TheVariants as maker
 use Rattle.dvg_spelling.specs.declared.fault.FramesRunFault.TheVariants as fault
-use Rattle.dvg_cmd.specs.MakingFrames.{of_each, AreFrames, Inputs, MakesForFrames, RefusesInputs, RefusesMemory, FramesRunFault, FramesFaultMeans}
+use Rattle.dvg_cmd.specs.MakingFrames.{Inputs, RefusesInputs, RefusesMemory, FramesRunFault}
 use Rattle.dvg_cmd.specs.Placing.{PlacesFor}
-use Rattle.dvg_cmd.specs.Private.Reading.{IsPrefix, ArePrefixes, RefusesLengths}
+use Rattle.dvg_cmd.specs.Private.Reading.{RefusesLengths}
 use Rattle.dvg_cmd.proofs.Whole.{held_bytes, held_told}
 use Rattle.dvg_cmd.proofs.MakerRuns.{whole_length, whole_image}
 use Rattle.dvg_cmd.proofs.SeveralFrames.{held_each, each_held, each_same, first_wrong}

@@ -1,24 +1,12 @@
 -- What a frame comes to, over plain values.
-use Rattle.std.proofs.Common.{◌≡◌, ℕ, List, Option, None, Some, length, take, drop, ◌++◌, ap, ◌∙◌, subst, arith}
-use Rattle.std.proofs.lemmas.Grind.{common_steps}
-use Rattle.std.specs.Prelude.{Result, Ok, Err, IfOk, IfErr, IfSome}
-use Rattle.dvg_words.specs.declared.machine.Machine.{Machine}
-use Rattle.dvg_words.specs.declared.machine.Machine.TheVariants.{Board}
-use Rattle.dvg_words.specs.Values.{MemoryMap, Window}
-use Rattle.dvg_words.specs.Memory.{Rom, words_of, rom_on, IsRomLength, IsFrameLength}
-use Rattle.dvg_words.specs.declared.image.ImageFault.TheVariants.{RomLength, FrameLength}
-use Rattle.dvg_check.specs.Safety.{Safe, CountsAtHalt}
-use Rattle.dvg_check.specs.Circuit.{SafeOnCircuit, CountsOnCircuit}
-use Rattle.dvg_check.specs.Verdict.{InRange}
-use Rattle.dvg_check.specs.declared.verdict.Yes.{Yes}
+use Rattle.dvg_cmd.proofs.Common.{◌≡◌, ℕ, List, Option, None, Some, length, take, drop, ◌++◌, ap, ◌∙◌, subst, arith, common_steps, Result, Ok, Err, IfOk, IfErr, IfSome, Machine, Board, MemoryMap, Window, Rom, words_of, rom_on, IsRomLength, IsFrameLength, RomLength, FrameLength, Safe, CountsAtHalt, SafeOnCircuit, CountsOnCircuit, InRange, Yes, FrameRefusal, IsPrefix}
 use Rattle.dvg_check.specs.declared.verdict.Refusal.TheVariants as refusal
-use Rattle.dvg_make.specs.declared.judging.FrameRefusal.{FrameRefusal}
 use Rattle.dvg_make.specs.declared.judging.FrameRefusal.TheVariants.{Make, NoMemory, Check}
 use Rattle.dvg_make.specs.Judging.{AreLeast, FrameRefused, HasCallCause, VerdictByMade}
 use Rattle.dvg_cmd.specs.Frames.{IsReadFrom, ReadsFrame, VerdictOnBytes, IsRefused, IsJudgedRefusal}
 use Rattle.dvg_cmd.specs.Start.{started}
 use Rattle.dvg_cmd.specs.Private.Judging.{AreImages}
-use Rattle.dvg_cmd.specs.Private.Reading.{limited, IsPrefix}
+use Rattle.dvg_cmd.specs.Private.Reading.{limited}
 use Rattle.dvg_cmd.proofs.Whole.{prefix_of_held, frame_same}
 
 first_bytes : (n : ℕ) (reader : Option (List ℕ)) (bytes : List ℕ) → IfSome reader (λ held. bytes ≡ limited n held) → IfSome reader (λ held. bytes ≡ take n held)

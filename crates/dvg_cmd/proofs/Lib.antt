@@ -1,3 +1,4 @@
+pub mod Common
 pub mod Pieces
 pub mod Limits
 pub mod Whole

@@ -1,9 +1,5 @@
 -- Lines that are sent one after another, over plain values.
-use Rattle.std.proofs.Common.{◌≡◌, ℕ, List, [], ◌∷◌, ◌++◌, Option, refl, sym, ap, ◌∙◌, subst, append-nil, append_assoc}
-use Rattle.std.specs.Io.KnownBytes.{Appends}
-use Rattle.std.proofs.KnownBytes.{Appends-nil, Appends-trans}
-use Rattle.dvg_cert.specs.Devices.{AppendsPrefix, TakesOneWrite}
-use Rattle.dvg_cmd.specs.SeveralFrames.{joined, TakeOneWriteEach}
+use Rattle.dvg_cmd.proofs.Common.{◌≡◌, ℕ, List, [], ◌∷◌, ◌++◌, Option, refl, sym, ap, ◌∙◌, subst, append-nil, append_assoc, Appends, Appends-nil, Appends-trans, AppendsPrefix, TakesOneWrite, joined, TakeOneWriteEach}
 use Rattle.dvg_cmd.proofs.SeveralLines.{joined_on, sent_part, prefix_more, one_write_on}
 
 module _ (old : Option (List ℕ)) (writes : ℕ) where

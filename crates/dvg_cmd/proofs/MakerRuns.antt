@@ -1,11 +1,6 @@
 -- What a run of the maker answers, over plain values.
-use Rattle.std.proofs.Common.{Option, List, length, subst, ◌≡◌, ◌∙◌, ap, ℕ}
-use Rattle.dvg_words.specs.declared.machine.Machine.{Machine}
-use Rattle.dvg_words.specs.Memory.{Rom, IsRomLength, rom_on}
-use Rattle.dvg_words.specs.Values.{MemoryMap, IsMap}
-use Rattle.dvg_cert.specs.declared.entry.Key.{Key}
+use Rattle.dvg_cmd.proofs.Common.{Option, List, length, subst, ◌≡◌, ◌∙◌, ap, ℕ, Machine, Rom, IsRomLength, rom_on, MemoryMap, IsMap, Key, IsPrefix}
 use Rattle.dvg_cmd.specs.Making.{MakeFaultMeans}
-use Rattle.dvg_cmd.specs.Private.Reading.{IsPrefix}
 use Rattle.dvg_spelling.specs.declared.fault.MakeRunFault.TheVariants as fault
 use Rattle.dvg_cmd.proofs.Whole.{held_bytes, held_told, prefix_of_held, rom_same, rom_back}
 

@@ -1,21 +1,14 @@
 -- Reading one piece after another, of known bytes.
-use Rattle.std.proofs.Common.{◌≡◌, ℕ, ◌+◌, ◌-◌, ◌<◌, ◌≤◌, List, [], Option, ◌++◌, length, length-append, take, ap, sym, subst, ◌∙◌, arith}
-use Rattle.std.proofs.KnownBytes.{Consumes-nil, Consumes-trans}
-use Rattle.std.proofs.lemmas.Grind.{common_steps}
-use Rattle.std.proofs.lemmas.List.{take-append-le}
+use Rattle.dvg_cmd.proofs.Common.{◌≡◌, ℕ, ◌+◌, ◌-◌, ◌<◌, ◌≤◌, List, [], Option, ◌++◌, length, length-append, take, ap, sym, subst, ◌∙◌, arith, Consumes-trans, common_steps, take-append-le, Consumes, Result, Ok, Err, Certificate, CertFault, CertWhy, IsReadTo, ReadsText}
+use Rattle.std.proofs.KnownBytes.{Consumes-nil}
 use Rattle.std.proofs.Math.Seq.{take-append-add}
-use Rattle.std.specs.Io.KnownBytes.{Consumes, IsAtEnd}
-use Rattle.std.specs.Prelude.{Result, Ok, Err}
+use Rattle.std.specs.Io.KnownBytes.{IsAtEnd}
 use borrow.Rule.Slice.PartMut.{put_mid, post_of}
-use Rattle.dvg_cert.specs.Order.{Certificate}
-use Rattle.dvg_cert.specs.declared.fault.CertFault.{CertFault}
-use Rattle.dvg_cert.specs.declared.fault.CertWhy.{CertWhy}
 use Rattle.dvg_cert.specs.declared.fault.CertWhy.TheVariants.{Unended, Memory}
 use Rattle.dvg_cert.specs.Laws.{ShortText}
 use Rattle.dvg_cert.specs.Reading.{MayStand, ReadAnswer, IsRefusal, EndsOpen}
 use Rattle.dvg_cert.specs.Stream.{Stream, Open, FeedsTo, FinishesTo}
 use Rattle.dvg_cmd.specs.Private.Reading.{taken_length}
-use Rattle.dvg_cmd.specs.Runs.{IsReadTo, ReadsText}
 
 pub take_filled : (filled n k : ℕ) (buf sub : List ℕ) → filled ≤ length buf → n ≤ length sub → take (filled + n) (put_mid filled k buf sub) ≡ take filled buf ++ take n sub
 take_filled filled n k buf sub h e =

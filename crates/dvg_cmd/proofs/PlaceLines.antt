@@ -1,15 +1,9 @@
 -- The lines of places, one after another, over plain values.
-use Rattle.std.proofs.Common.{◌≡◌, ℕ, suc, ◌+◌, ◌<◌, ◌≤◌, List, [], ◌∷◌, ◌++◌, length, take, drop, get_or, Option, refl, sym, ap, ◌∙◌, subst, arith, append-nil, append_assoc, take-append-drop}
-use Rattle.std.proofs.Math.Seq.{take-suc}
-use Rattle.std.proofs.lemmas.List.{take_all}
-use Rattle.std.specs.Prelude.{Result, Ok, Err, OnErr}
-use Rattle.std.specs.Io.KnownBytes.{Appends}
-use Rattle.std.proofs.KnownBytes.{Appends-nil, Appends-trans}
-use Rattle.dvg_cert.specs.Devices.{AppendsPrefix, TakesOneWrite}
+use Rattle.dvg_cmd.proofs.Common.{◌≡◌, ℕ, suc, ◌+◌, ◌<◌, ◌≤◌, List, [], ◌∷◌, ◌++◌, length, take, drop, get_or, Option, refl, sym, ap, ◌∙◌, subst, arith, append-nil, append_assoc, take-suc, take_all, Result, Ok, Err, OnErr, Appends, Appends-nil, Appends-trans, AppendsPrefix, TakesOneWrite, joined, TakeOneWriteEach}
+use Rattle.std.proofs.Common.{take-append-drop}
 use Rattle.dvg_survey.specs.declared.places.EntryPlaces.{EntryPlaces}
 use Rattle.dvg_spelling.specs.Each.{of_each}
 use Rattle.dvg_spelling.specs.Places.{place_line}
-use Rattle.dvg_cmd.specs.SeveralFrames.{joined, TakeOneWriteEach}
 use Rattle.dvg_cmd.proofs.SeveralFrames.{of_each_append}
 use Rattle.dvg_cmd.proofs.SeveralLines.{joined_on, sent_part, prefix_more, one_write_on}
 

@@ -1,17 +1,11 @@
 -- The lines of a comparison, one after another, over plain values.
-use Rattle.std.proofs.Common.{◌≡◌, ℕ, zero, suc, ◌+◌, ◌<◌, ◌≤◌, ◌⊎◌, List, [], ◌∷◌, ◌++◌, length, take, drop, get_or, slice_get, Bool, true, false, String, Global, string_bytes, Option, Some, None, refl, sym, ap, ◌∙◌, subst, arith, append-nil, append_assoc, take-append-drop, inl, inr, ⊎_elim, min}
-use Rattle.std.proofs.Math.Seq.{take-suc}
-use Rattle.std.proofs.lemmas.List.{take_all}
-use Rattle.std.specs.Prelude.{Result, Ok, Err, OnOk, OnErr}
-use Rattle.std.specs.Io.KnownBytes.{Appends}
-use Rattle.std.proofs.KnownBytes.{Appends-trans}
-use Rattle.dvg_cert.specs.Devices.{AppendsPrefix, TakesOneWrite}
+use Rattle.dvg_cmd.proofs.Common.{◌≡◌, ℕ, zero, suc, ◌+◌, ◌<◌, ◌≤◌, ◌⊎◌, List, [], ◌∷◌, ◌++◌, length, take, drop, get_or, true, string_bytes, Option, Some, None, refl, sym, ap, ◌∙◌, subst, arith, append-nil, append_assoc, inl, inr, take-suc, take_all, Result, Ok, Err, OnOk, OnErr, Appends, Appends-trans, AppendsPrefix, TakesOneWrite, joined, TakeOneWriteEach}
+use Rattle.std.proofs.Common.{slice_get, Bool, false, String, Global, take-append-drop, ⊎_elim, min}
 use Rattle.dvg_diff.specs.declared.touched.TouchedEntry.{TouchedEntry}
 use Rattle.dvg_spelling.specs.Each.{of_each}
 use Rattle.dvg_spelling.specs.Touched.{touched_line, frame_touched_line}
 use Rattle.dvg_cmd.specs.Comparing.{reaching_lines, comparison_lines}
 use Rattle.dvg_diff.specs.declared.comparing.Comparison.{Comparison}
-use Rattle.dvg_cmd.specs.SeveralFrames.{joined, TakeOneWriteEach}
 use Rattle.std.proofs.lemmas.Bool.{cases_lt}
 use Rattle.dvg_cmd.proofs.SeveralFrames.{of_each_append, length_of_each}
 use Rattle.dvg_cmd.proofs.SeveralLines.{joined_on, sent_part, prefix_more, one_write_on}

@@ -1,23 +1,12 @@
 -- What a run of the checker writes, over plain values.
-use Rattle.std.proofs.Common.{◌≡◌, ◌++◌, refl, sym, ◌∙◌, ℕ, List, Option}
-use Rattle.std.specs.Prelude.{Result, IfOk, OnOk, OnErr, Ok, Err}
-use Rattle.std.specs.Io.KnownBytes.{Appends}
-use Rattle.dvg_words.specs.declared.machine.Machine.{Machine}
-use Rattle.dvg_words.specs.declared.machine.Machine.TheVariants.{Board}
-use Rattle.dvg_words.specs.Values.{Window}
-use Rattle.dvg_cert.specs.Devices.{AppendsPrefix, TakesOneWrite}
-use Rattle.dvg_cert.specs.declared.fault.CertWhy.{CertWhy}
+use Rattle.dvg_cmd.proofs.Common.{◌≡◌, ◌++◌, refl, sym, ◌∙◌, ℕ, List, Option, Result, IfOk, OnOk, OnErr, Ok, Err, Appends, Machine, Board, Window, AppendsPrefix, TakesOneWrite, CertWhy, Mode, Exact, Refusal, Yes, Detail, Behind, IsBehind, RunFault, Judges}
 use Rattle.dvg_cert.specs.declared.fault.CertWhy.TheVariants as why
-use Rattle.dvg_check.specs.declared.fault.Mode.{Mode}
-use Rattle.dvg_check.specs.declared.fault.Mode.TheVariants.{Exact}
-use Rattle.dvg_check.specs.declared.verdict.Refusal.{Refusal}
 use Rattle.dvg_check.specs.declared.verdict.Refusal.TheVariants as refusal
-use Rattle.dvg_check.specs.declared.verdict.Yes.{Yes}
 use Rattle.dvg_spelling.specs.Outcomes.{cert_outcome}
 use Rattle.dvg_spelling.specs.Report.{report_text}
-use Rattle.dvg_cmd.specs.Detail.{Detail, Behind, IsBehind, behind_text, outcome_behind}
+use Rattle.dvg_cmd.specs.Detail.{behind_text, outcome_behind}
 use Rattle.dvg_cmd.specs.declared.detail.Behind.TheVariants as behind
-use Rattle.dvg_cmd.specs.Runs.{Outcome, Accepted, RunFault, IsReadFor, Judges, SafeRead, CountsRead, SafeCircuitRead, CountsCircuitRead, outcome_of, WritesReport, WritesReportPrefix, Reports, ReportsAccepted}
+use Rattle.dvg_cmd.specs.Runs.{Outcome, Accepted, IsReadFor, SafeRead, CountsRead, SafeCircuitRead, CountsCircuitRead, outcome_of, WritesReport, WritesReportPrefix, Reports, ReportsAccepted}
 
 -- what was written of a verdict and behind it is its report, if the detail asks for that
 module _ (detail : Detail) (what : Behind) (asked : IsBehind detail what) (v : Result Yes Refusal) (old new : Option (List ℕ)) where

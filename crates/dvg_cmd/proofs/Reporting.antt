@@ -1,22 +1,11 @@
 -- The verdict on what was read is the one on all, and what is reported of it, over plain values.
-use Rattle.std.proofs.Common.{Option, List, [], None, Some, subst, ◌≡◌, ℕ}
-use Rattle.std.specs.Prelude.{Result, IfOk, IfSome, Ok, Err}
-use Rattle.dvg_words.specs.declared.machine.Machine.{Machine}
-use Rattle.dvg_words.specs.Memory.{Memory, words_of, rom_on}
-use Rattle.dvg_words.specs.Values.{Window}
-use Rattle.dvg_words.specs.declared.image.ImageFault.TheVariants.{RomLength, FrameLength}
-use Rattle.dvg_cert.specs.Order.{Certificate}
-use Rattle.dvg_cert.specs.declared.fault.CertFault.{CertFault}
+use Rattle.dvg_cmd.proofs.Common.{Option, List, [], None, Some, subst, ◌≡◌, ℕ, Result, IfOk, IfSome, Ok, Err, Machine, words_of, rom_on, Window, RomLength, FrameLength, Certificate, CertFault, InRange, RomVerdict, Mode, Refusal, Yes, IsPrefix, Judges, ReadsText}
+use Rattle.dvg_words.specs.Memory.{Memory}
 use Rattle.dvg_cert.specs.Grammar.{Spells}
 use Rattle.dvg_cert.specs.Laws.{PrefixRefusal}
 use Rattle.dvg_check.proofs.Accepting.{out_of_range}
-use Rattle.dvg_check.specs.Verdict.{InRange, RangeRefusal, RomVerdict, CertVerdict, VerdictOn}
-use Rattle.dvg_check.specs.declared.fault.Mode.{Mode}
-use Rattle.dvg_check.specs.declared.verdict.Refusal.{Refusal}
+use Rattle.dvg_check.specs.Verdict.{RangeRefusal, CertVerdict, VerdictOn}
 use Rattle.dvg_check.specs.declared.verdict.Refusal.TheVariants as refusal
-use Rattle.dvg_check.specs.declared.verdict.Yes.{Yes}
-use Rattle.dvg_cmd.specs.Private.Reading.{IsPrefix}
-use Rattle.dvg_cmd.specs.Runs.{Judges, ReadsText}
 use Rattle.dvg_cmd.proofs.Whole.{PrefixOf, held_bytes, held_told, prefix_of_held, text_of_held, in_range, range_whole, frame_same, rom_same, rom_whole, refused_whole}
 
 -- a verdict on what was read of the ROM and of the frame, and on all of the certificate

@@ -1,11 +1,6 @@
 -- What a run of the maker for frames answers where there are none, over plain values.
-use Rattle.std.proofs.Common.{◌≡◌, ℕ, List, [], ◌∷◌, Option, None, refl, subst}
-use Rattle.std.specs.Prelude.{Result, Ok, Err, IfErr, OnOk}
-use Rattle.dvg_words.specs.declared.machine.Machine.{Machine}
-use Rattle.dvg_words.specs.Memory.{rom_on, words_of}
-use Rattle.dvg_words.specs.Values.{MemoryMap}
+use Rattle.dvg_cmd.proofs.Common.{◌≡◌, ℕ, List, [], ◌∷◌, Option, None, refl, subst, Result, Ok, Err, IfErr, OnOk, Machine, rom_on, words_of, MemoryMap, Key, of_each, MakesForFrames, FramesFaultMeans}
 use Rattle.dvg_cert.specs.declared.entry.Entry.{Entry}
-use Rattle.dvg_cert.specs.declared.entry.Key.{Key}
 use Rattle.dvg_make.specs.Accounts.{HasCause}
 use Rattle.dvg_make.specs.Frames.{FramesMade}
 use Rattle.dvg_make.specs.Refusals.{make_fault_of}
@@ -17,7 +12,7 @@ use Rattle.dvg_make.proofs.Finishing.{made_roots}
 use Rattle.dvg_spelling.specs.declared.fault.FramesRunFault.TheVariants as fault
 use Rattle.dvg_spelling.specs.declared.fault.MakeRunFault.TheVariants as maker
 use Rattle.dvg_cmd.specs.Making.{MakeRunFault, Makes, WritesMade, WritesMadePrefix, MakeFaultMeans}
-use Rattle.dvg_cmd.specs.MakingFrames.{of_each, EachHeld, MakesForFrames, RefusesInputs, FramesFaultMeans}
+use Rattle.dvg_cmd.specs.MakingFrames.{EachHeld, RefusesInputs}
 
 no_frames : (frames : List (List ℕ)) → EachHeld [] frames → frames ≡ []
 no_frames [] h = refl

@@ -1,32 +1,19 @@
 -- The lines of several frames, one after another, over plain values.
-use Rattle.std.proofs.Common.{◌≡◌, refl, sym, ap, ◌∙◌, subst, ℕ, ◌+◌, List, [], ◌∷◌, ◌++◌, length, take, Option, None, Some, append-nil, append_assoc, length-append, arith}
+use Rattle.dvg_cmd.proofs.Common.{◌≡◌, refl, sym, ap, ◌∙◌, subst, ℕ, ◌+◌, List, [], ◌∷◌, ◌++◌, length, take, Option, None, Some, append-nil, append_assoc, length-append, arith, take-append-le, Result, Ok, Err, IfOk, OnOk, OnErr, Appends, Appends-nil, Appends-trans, Machine, Rom, rom_on, IsRomLength, MemoryMap, Window, AppendsPrefix, TakesOneWrite, Mode, Yes, Certificate, FrameRefusal, Detail, Behind, IsBehind, RunFault, opened, joined, TakeOneWriteEach}
 use Rattle.std.proofs.Math.Seq.{take-append-add}
-use Rattle.std.proofs.lemmas.List.{take-append-le}
-use Rattle.std.specs.Prelude.{Bool, true, false, if◌then◌else◌, Result, Ok, Err, IfOk, OnOk, OnErr, option_map, string_bytes}
-use Rattle.std.specs.Io.KnownBytes.{Appends}
-use Rattle.std.proofs.KnownBytes.{Appends-nil, Appends-trans}
-use Rattle.dvg_words.specs.declared.machine.Machine.{Machine}
-use Rattle.dvg_words.specs.Memory.{Rom, rom_on, IsRomLength}
-use Rattle.dvg_words.specs.Values.{MemoryMap, Window}
-use Rattle.dvg_cert.specs.Devices.{AppendsPrefix, TakesOneWrite}
+use Rattle.std.specs.Prelude.{Bool, true, false, if◌then◌else◌, option_map, string_bytes}
 use Rattle.dvg_check.specs.Judged.{Shapes}
-use Rattle.dvg_check.specs.declared.fault.Mode.{Mode}
 use Rattle.dvg_check.specs.declared.fault.Mode.TheVariants.{Bound}
-use Rattle.dvg_check.specs.declared.verdict.Yes.{Yes}
-use Rattle.dvg_cert.specs.Order.{Certificate}
-use Rattle.dvg_make.specs.declared.judging.FrameRefusal.{FrameRefusal}
 use Rattle.dvg_spelling.specs.declared.outcome.FrameOutcome.TheVariants as outcome
 use Rattle.dvg_spelling.specs.Each.{of_each}
 use Rattle.dvg_spelling.specs.declared.tally.Tally.{Tally}
 use Rattle.dvg_spelling.specs.Tally.{no_lines, with_answer}
 use Rattle.dvg_cmd.proofs.SeveralFrames.{of_each_append}
-use Rattle.dvg_cmd.specs.Detail.{Detail, Behind, IsBehind}
 use Rattle.dvg_cmd.specs.declared.detail.Detail.TheVariants as details
-use Rattle.dvg_cmd.specs.Runs.{RunFault}
 use Rattle.dvg_cmd.specs.declared.listing.Lines.{Lines}
 use Rattle.dvg_cmd.specs.declared.listing.Listing.{Listing}
 use Rattle.dvg_cmd.specs.Frames.{FrameOutcome, FrameAnswer, worse, MayJudgeOver}
-use Rattle.dvg_cmd.specs.SeveralFrames.{OpenedFrame, opened, Line, line_text, line_outcome, is_written, written_lines, line_texts, tally_on, summary_of, listing_texts, joined, TakeOneWriteEach, worst_of, AnswersOpened, IsLineOf, AreLinesOf, ReportsFrames, ReportsFramesPrefix, shapes_of}
+use Rattle.dvg_cmd.specs.SeveralFrames.{OpenedFrame, Line, line_text, line_outcome, is_written, written_lines, line_texts, tally_on, summary_of, listing_texts, worst_of, AnswersOpened, IsLineOf, AreLinesOf, ReportsFrames, ReportsFramesPrefix, shapes_of}
 use Rattle.dvg_cmd.specs.declared.several_frames.NamedFrame.{NamedFrame}
 use Rattle.dvg_cmd.specs.Private.Named.{WritesLineOf, WritesLineOfPrefix, WritesLinesOf}
 

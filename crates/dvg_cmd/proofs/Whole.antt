@@ -1,23 +1,11 @@
 -- The verdict on the first bytes of inputs is the verdict on all of them.
-use Rattle.std.proofs.Common.{append-nil, List, length, Option, None, Some, refl, arith, ap, subst, sym, ◌≡◌, ◌+◌, ◌≤◌, ◌++◌, ◌∙◌, ℕ, []}
-use Rattle.std.specs.Prelude.{IfSome, Result, Ok, Err}
-use Rattle.dvg_words.specs.declared.machine.Machine.{Machine}
-use Rattle.dvg_words.specs.Memory.{IsRomLength, IsFrameLength, rom_on}
-use Rattle.dvg_words.specs.Values.{MemoryMap, IsMap, Window}
-use Rattle.dvg_words.specs.declared.image.ImageFault.TheVariants.{RomLength, FrameLength}
+use Rattle.dvg_cmd.proofs.Common.{append-nil, List, length, Option, None, Some, refl, arith, ap, subst, sym, ◌≡◌, ◌+◌, ◌≤◌, ◌++◌, ◌∙◌, ℕ, [], IfSome, Result, Ok, Err, Machine, IsRomLength, IsFrameLength, rom_on, MemoryMap, IsMap, Window, RomLength, FrameLength, Certificate, CertFault, CertWhy, InRange, RomVerdict, Mode, Refusal, Yes, IsPrefix, ReadsText}
 use Rattle.dvg_cert.specs.Laws.{PrefixRefusal}
 use Rattle.dvg_cert.specs.Reading.{IsRefusal, ReadAnswer}
-use Rattle.dvg_cert.specs.Order.{Certificate}
-use Rattle.dvg_cert.specs.declared.fault.CertFault.{CertFault}
-use Rattle.dvg_cert.specs.declared.fault.CertWhy.{CertWhy}
 use Rattle.dvg_cert.specs.declared.fault.CertWhy.TheVariants.{Form, Order, Count, Unended, After, TooLong, Memory}
-use Rattle.dvg_check.specs.Verdict.{InRange, RangeRefusal, PartsVerdict, RomVerdict}
-use Rattle.dvg_check.specs.declared.fault.Mode.{Mode}
-use Rattle.dvg_check.specs.declared.verdict.Refusal.{Refusal}
+use Rattle.dvg_check.specs.Verdict.{RangeRefusal, PartsVerdict}
 use Rattle.dvg_check.specs.declared.verdict.Refusal.TheVariants as refusal
-use Rattle.dvg_check.specs.declared.verdict.Yes.{Yes}
-use Rattle.dvg_cmd.specs.Private.Reading.{IsPrefix}
-use Rattle.dvg_cmd.specs.Runs.{NeedsEnd, ReadsText}
+use Rattle.dvg_cmd.specs.Runs.{NeedsEnd}
 use Rattle.dvg_cmd.proofs.Limits.{limited-short, limited-long, rest_of, limited-parts}
 
 -- what was read of an input: a prefix, which is all of it where it or the input stays below the limit

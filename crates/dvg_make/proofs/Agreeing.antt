@@ -1,19 +1,5 @@
 -- Two made lists agree at each address and key that both have.
-use Rattle.std.proofs.Common.{◌≡◌, ℕ, zero, suc, ◌+◌, ◌<◌, List, [], ◌∷◌, Option, Some, None, refl, sym, ap, ◌∙◌, subst, arith}
-use Rattle.std.specs.Prelude.{Contains}
-use Rattle.dvg_words.specs.Decoding.{cell_at}
-use Rattle.dvg_words.specs.Memory.{Rom, rom_word}
-use Rattle.dvg_words.specs.declared.instruction.Cell.TheVariants.{Holds}
-use Rattle.dvg_cert.specs.Lookup.{entry_at}
-use Rattle.dvg_cert.specs.declared.entry.Entry.{Entry}
-use Rattle.dvg_cert.specs.declared.entry.Key.{Key}
-use Rattle.dvg_items.specs.Items.{LeadsTo}
-use Rattle.dvg_items.specs.Known.{target, scale_before}
-use Rattle.dvg_items.specs.declared.item.Item.{Item}
-use Rattle.dvg_items.specs.declared.item.Kind.TheVariants.{Shape}
-use Rattle.dvg_make.specs.Made.{MadeEntry}
-use Rattle.dvg_make.specs.Private.Partial.{keyed_context}
-use Rattle.dvg_items.proofs.Listed.{listed_at}
+use Rattle.dvg_make.proofs.Common.{◌≡◌, ℕ, zero, suc, ◌+◌, ◌<◌, List, [], ◌∷◌, Option, Some, None, refl, sym, ap, ◌∙◌, subst, arith, Contains, cell_at, Rom, rom_word, Holds, entry_at, Entry, Key, LeadsTo, target, scale_before, Item, Shape, MadeEntry, keyed_context, listed_at}
 use Rattle.dvg_make.proofs.Matching.{Gathered, SameAt, Matched, gathered_same}
 use Rattle.dvg_make.proofs.Ends.{callee_less, same_sums, made_ends, sums_of}
 

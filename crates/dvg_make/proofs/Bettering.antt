@@ -1,41 +1,11 @@
 -- For what an entry of any list claims of a shape there is a made entry that claims all of it, and counts and lights no more.
-use Rattle.std.proofs.Common.{◌≡◌, ◌≢◌, ℕ, zero, suc, ◌+◌, ◌<◌, ◌≤◌, List, [], ◌∷◌, ◌++◌, Option, Some, None, refl, sym, ap, ◌∙◌, subst, arith, ⊎_elim}
-use Rattle.std.proofs.lemmas.Int.{ints, clamps}
+use Rattle.dvg_make.proofs.Common.{◌≡◌, ◌≢◌, ℕ, zero, suc, ◌+◌, ◌<◌, ◌≤◌, List, [], ◌∷◌, ◌++◌, Option, Some, None, refl, sym, ap, ◌∙◌, subst, arith, ⊎_elim, ints, Contains, if◌then◌else◌, option_or, screen, cell_at, Rom, rom_word, Point, Cell, Missing, Odd, Holds, Format, Instr, entry_at, Entry, Key, Any, LitBox, Empty, Span, at_holds, next_address, LeadsTo, Context, shape_context, target, callee_at, callee, callee_words, scale_before, place_before, words_before, depth_before, depth_under, known_before, InBox, IsInside, relative_corners, extent, seen_at, HasCallee, Item, Shape, listed_at, all_append, word_count-some, ShapeKeeps, CellKeeps, Bound, ShapeWhy, lit_points, HoldsAll, IsLeast, HasEntry, MadeEntry, IsMade, AllMade, keyed_context, entry_of, AllFine, Extends, KnowsMore}
+use Rattle.std.proofs.lemmas.Int.{clamps}
 use Rattle.std.specs.Int.{int_min, int_max}
-use Rattle.std.specs.Prelude.{Contains, if◌then◌else◌}
-use Rattle.std.specs.Option.{option_or}
-use Rattle.dvg_words.specs.Beam.{screen}
-use Rattle.dvg_words.specs.Decoding.{cell_at}
-use Rattle.dvg_words.specs.Memory.{Rom, rom_word}
-use Rattle.dvg_words.specs.declared.beam.Point.{Point}
-use Rattle.dvg_words.specs.declared.instruction.Cell.{Cell}
-use Rattle.dvg_words.specs.declared.instruction.Cell.TheVariants.{Missing, Odd, Holds}
-use Rattle.dvg_words.specs.declared.instruction.Format.{Format}
-use Rattle.dvg_words.specs.declared.instruction.Instr.{Instr}
-use Rattle.dvg_cert.specs.Lookup.{entry_at, named_entry}
-use Rattle.dvg_cert.specs.declared.entry.Entry.{Entry}
-use Rattle.dvg_cert.specs.declared.entry.Key.{Key}
-use Rattle.dvg_cert.specs.declared.entry.Key.TheVariants.{Any}
-use Rattle.dvg_cert.specs.declared.entry.LitBox.{LitBox}
-use Rattle.dvg_cert.specs.declared.entry.LitBox.TheVariants.{Empty, Span}
-use Rattle.dvg_cert.proofs.OnlyEntries.{at_holds}
-use Rattle.dvg_items.specs.Items.{next_address, LeadsTo}
-use Rattle.dvg_items.specs.Known.{Context, shape_context, target, callee_at, callee, callee_words, scale_before, place_before, words_before, depth_before, depth_under, known_before}
-use Rattle.dvg_items.specs.Lit.{InBox, IsInside, relative_corners}
-use Rattle.dvg_items.specs.Seen.{extent, seen_at, HasCallee}
-use Rattle.dvg_items.specs.declared.item.Item.{Item}
-use Rattle.dvg_items.specs.declared.item.Kind.TheVariants.{Shape}
-use Rattle.dvg_items.proofs.Listed.{listed_at}
-use Rattle.dvg_items.proofs.Lists.{all_append, all_map}
-use Rattle.dvg_items.proofs.Near.{word_count-some}
-use Rattle.dvg_check.specs.Rules.{ShapeKeeps, CellKeeps}
-use Rattle.dvg_check.specs.declared.fault.Mode.TheVariants.{Bound}
-use Rattle.dvg_check.specs.declared.fault.ShapeWhy.{ShapeWhy}
+use Rattle.dvg_cert.specs.Lookup.{named_entry}
+use Rattle.dvg_items.proofs.Lists.{all_map}
 use Rattle.dvg_check.specs.declared.fault.ShapeWhy.TheVariants as shape
-use Rattle.dvg_items.specs.Least.{lit_points, HoldsAll, IsLeast}
-use Rattle.dvg_make.specs.Made.{HasEntry, MadeEntry, IsMade, AllMade}
-use Rattle.dvg_make.specs.Private.Partial.{keyed_context, entry_of, AllFine, Extends}
-use Rattle.dvg_make.specs.Private.Covering.{Loosens, LoosensPlace, KnowsMore, Refines, Covers, Upholds}
+use Rattle.dvg_make.specs.Private.Covering.{Loosens, LoosensPlace, Refines, Covers, Upholds}
 use Rattle.dvg_make.proofs.Matching.{Gathered, gathered_same, exact_named, entry_at-append}
 use Rattle.dvg_make.proofs.Ends.{at_last, made_ends, ends_made}
 use Rattle.dvg_make.proofs.Onward.{matched_fine}

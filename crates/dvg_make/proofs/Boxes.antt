@@ -1,11 +1,5 @@
 -- The least box.
-use Rattle.std.proofs.Common.{◌≡◌, List, refl, arith}
-use Rattle.std.proofs.lemmas.Int.{ints}
-use Rattle.dvg_words.specs.declared.beam.Point.{Point}
-use Rattle.dvg_cert.specs.declared.entry.LitBox.{LitBox}
-use Rattle.dvg_cert.specs.declared.entry.LitBox.TheVariants.{Empty, Span}
-use Rattle.dvg_items.specs.Lit.{IsInside}
-use Rattle.dvg_items.specs.Least.{IsLeast}
+use Rattle.dvg_make.proofs.Common.{◌≡◌, List, refl, arith, ints, Point, LitBox, Empty, Span, IsInside, IsLeast}
 
 both_inside : (a b : LitBox) → IsInside a b → IsInside b a → a ≡ b
 both_inside Empty Empty h k = refl

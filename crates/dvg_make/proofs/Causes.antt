@@ -1,17 +1,12 @@
 -- The cause of a refusal, told of roots and frames.
-use Rattle.std.proofs.Common.{◌≡◌, ℕ, zero, suc, List, [], ◌∷◌, Option, Some, None, refl, sym, ◌∙◌, subst}
-use Rattle.std.specs.Prelude.{slice_get}
-use Rattle.dvg_words.specs.Memory.{Rom}
-use Rattle.dvg_cert.specs.declared.entry.Key.{Key}
-use Rattle.dvg_cert.specs.declared.entry.Key.TheVariants.{Any}
-use Rattle.dvg_items.specs.declared.item.Kind.TheVariants.{Shape}
+use Rattle.dvg_make.proofs.Common.{◌≡◌, ℕ, zero, suc, List, [], ◌∷◌, Option, Some, None, refl, sym, ◌∙◌, subst, slice_get, Rom, Key, Any, Shape, EntryCause, HasCause, HasCallCause, EntryFault, Unstraight, Deep, TooManyWords, TooManyEntries, Memory, FrameCall, shapes, IsToldOf}
 use Rattle.dvg_items.specs.Known.{start}
 use Rattle.dvg_make.specs.declared.obstacle.BlockedCall.{BlockedCall}
 use Rattle.dvg_make.specs.declared.account.EntryCause.TheVariants as cause
-use Rattle.dvg_make.specs.Accounts.{EntryCause, MakeAccount, UnlessMemory, IsAccount, IsTold, HasCause, HasRootCause, entry_fault}
-use Rattle.dvg_make.specs.Judging.{HasCallCause, refusal_at}
-use Rattle.dvg_make.specs.Refusals.{EntryFault, Unstraight, Deep, TooManyWords, TooManyEntries, Memory, FrameCall, FramesFault, make_fault_of}
-use Rattle.dvg_make.specs.Private.Making.{shapes, blocked_fault, IsToldOf}
+use Rattle.dvg_make.specs.Accounts.{MakeAccount, UnlessMemory, IsAccount, IsTold, HasRootCause, entry_fault}
+use Rattle.dvg_make.specs.Judging.{refusal_at}
+use Rattle.dvg_make.specs.Refusals.{FramesFault, make_fault_of}
+use Rattle.dvg_make.specs.Private.Making.{blocked_fault}
 
 unless_map : (c : EntryCause) (S T : Type 0) → (S → T) → UnlessMemory c S → UnlessMemory c T
 unless_map cause.Memory S T f h = tt

@@ -1,24 +1,7 @@
 -- The shapes in the making, and the entries that every made list has for them.
-use Rattle.std.proofs.Common.{◌≡◌, ℕ, zero, suc, ◌+◌, ◌<◌, ◌≤◌, List, [], ◌∷◌, ◌++◌, length, Option, Some, None, refl, sym, ap, ◌∙◌, subst, arith, ◌⊎◌, inl, inr, ⊎_elim, length-append}
-use Rattle.std.specs.Prelude.{Bool, true, false, if◌then◌else◌, Contains}
-use Rattle.dvg_words.specs.Memory.{Rom, rom_word}
-use Rattle.dvg_cert.specs.Entry.{IsEntry}
-use Rattle.std.specs.Option.{option_or}
-use Rattle.dvg_cert.specs.Lookup.{is_at, entry_at}
-use Rattle.dvg_cert.specs.declared.entry.Entry.{Entry}
-use Rattle.dvg_cert.specs.declared.entry.Key.{Key}
-use Rattle.dvg_cert.proofs.OnlyEntries.{at_holds}
-use Rattle.dvg_items.specs.Items.{LeadsTo}
-use Rattle.dvg_items.specs.Known.{shape_context, scale_before}
-use Rattle.dvg_items.specs.declared.item.Item.{Item}
-use Rattle.dvg_items.specs.declared.item.Kind.TheVariants.{Shape}
-use Rattle.dvg_items.specs.declared.known.Known.{Known}
-use Rattle.dvg_cert.specs.declared.limits.TheConstants.{MOST_WORDS}
-use Rattle.dvg_make.specs.declared.partial.PartialEntry.{PartialEntry}
-use Rattle.dvg_make.specs.Made.{MadeEntry}
-use Rattle.dvg_make.specs.Private.Partial.{keyed_context, start, IsPartial, Extends, NeverAt, IsFinished, IsWaiting}
-use Rattle.dvg_make.specs.Private.Making.{IsMaking, ArePartial, Chain, Apart, IsUnique, IsPresent, IsCalled, IsGiven, IsAim, NoAim, InProgress}
-use Rattle.dvg_items.proofs.Listed.{listed_at}
+use Rattle.dvg_make.proofs.Common.{◌≡◌, ℕ, zero, suc, ◌+◌, ◌<◌, ◌≤◌, List, [], ◌∷◌, ◌++◌, length, Option, Some, None, refl, sym, ap, ◌∙◌, subst, arith, ◌⊎◌, inl, inr, ⊎_elim, length-append, Bool, true, false, if◌then◌else◌, Contains, Rom, rom_word, IsEntry, option_or, is_at, entry_at, Entry, Key, at_holds, LeadsTo, shape_context, scale_before, Item, Shape, Known, MOST_WORDS, PartialEntry, MadeEntry, keyed_context, start, IsPartial, Extends, IsFinished, IsWaiting, IsMaking, ArePartial, Chain, Apart, IsPresent, IsCalled, IsAim, NoAim, InProgress, listed_at}
+use Rattle.dvg_make.specs.Private.Partial.{NeverAt}
+use Rattle.dvg_make.specs.Private.Making.{IsUnique, IsGiven}
 use Rattle.dvg_make.proofs.Matching.{entry_at-append}
 use Rattle.dvg_make.proofs.Ends.{callee_less, made_some}
 use Rattle.dvg_make.proofs.Linking.{are_grown, are_popped}

@@ -1,28 +1,16 @@
 -- Root after root, and frame after frame.
-use Rattle.dvg_words.specs.declared.machine.Machine.{Machine}
-use Rattle.std.proofs.Common.{◌≡◌, ℕ, zero, suc, ◌+◌, ◌<◌, ◌≤◌, List, [], ◌∷◌, ◌++◌, length, take, get_or, Option, Some, None, refl, sym, ap, ◌∙◌, subst, arith, ◌⊎◌, inl, inr, ⊎_elim}
-use Rattle.std.specs.Prelude.{Contains, slice_get, Bool, false, IsTrue, ◌↔◌}
-use Rattle.dvg_words.specs.Memory.{Rom, InRom}
-use Rattle.dvg_cert.specs.Entry.{IsKey}
-use Rattle.dvg_cert.specs.declared.entry.Entry.{Entry}
-use Rattle.dvg_cert.specs.declared.entry.Key.{Key}
-use Rattle.dvg_cert.specs.declared.limits.TheConstants.{MOST_ENTRIES}
-use Rattle.dvg_items.proofs.Listed.{listed_at}
-use Rattle.dvg_make.specs.Made.{HasEntry, MadeFor, AllMade}
-use Rattle.dvg_make.specs.Frames.{IsAskedFor, HasAsked}
-use Rattle.dvg_make.specs.Refusals.{EntryFault, Unstraight, Deep, TooManyWords, TooManyEntries, Memory, make_fault_of, Refuses, BarsList, NoFramesMade, FramesRefuse}
-use Rattle.dvg_make.specs.Private.Partial.{Extends}
-use Rattle.dvg_make.specs.Private.Making.{IsAim, InProgress, Bars, BarsRoots, obstacle_fault, NoneHas, HasAll, Collected}
-use Rattle.dvg_make.specs.Private.Framing.{HasCalls, IsFramed, BarsHere, BarsCalls, NoneHasCalls, AllFramed}
+use Rattle.dvg_make.proofs.Common.{Machine, ◌≡◌, ℕ, zero, suc, ◌+◌, ◌<◌, ◌≤◌, List, [], ◌∷◌, ◌++◌, length, Option, Some, None, refl, sym, ap, ◌∙◌, subst, arith, ◌⊎◌, inl, inr, ⊎_elim, Contains, slice_get, Bool, false, Rom, IsKey, Entry, Key, MOST_ENTRIES, listed_at, HasEntry, MadeFor, AllMade, IsAskedFor, EntryFault, Unstraight, Deep, TooManyWords, TooManyEntries, Memory, FramesRefuse, Extends, IsAim, InProgress, Bars, obstacle_fault, Collected, HasCalls, IsFramed, BarsHere, AllFramed, PartialEntry, Obstacle, shapes, IsMaking, IsCalled, IsToldOf, TellsHere, keyed_context, start, FrameCall, known_before}
+use Rattle.std.proofs.Common.{take, get_or}
+use Rattle.std.specs.Prelude.{IsTrue, ◌↔◌}
+use Rattle.dvg_words.specs.Memory.{InRom}
+use Rattle.dvg_make.specs.Frames.{HasAsked}
+use Rattle.dvg_make.specs.Refusals.{make_fault_of, Refuses, BarsList, NoFramesMade}
+use Rattle.dvg_make.specs.Private.Making.{BarsRoots, NoneHas, HasAll}
+use Rattle.dvg_make.specs.Private.Framing.{BarsCalls, NoneHasCalls}
 use Rattle.dvg_make.proofs.Onward.{listed_entry}
-use Rattle.dvg_make.specs.declared.partial.PartialEntry.{PartialEntry}
-use Rattle.dvg_make.specs.declared.obstacle.Obstacle.{Obstacle}
-use Rattle.dvg_make.specs.Private.Making.{asked_shape, shapes, IsMaking, IsCalled, IsToldFrom, IsToldOf}
-use Rattle.dvg_make.specs.Private.Framing.{KeyedCall, IsGivenHere, TellsHere}
-use Rattle.dvg_make.specs.Private.Partial.{keyed_context, start}
+use Rattle.dvg_make.specs.Private.Making.{asked_shape, IsToldFrom}
+use Rattle.dvg_make.specs.Private.Framing.{KeyedCall, IsGivenHere}
 use Rattle.dvg_make.specs.Accounts.{RootOutside, IsNamedBy, IsNeededBy}
-use Rattle.dvg_make.specs.Refusals.{FrameCall}
-use Rattle.dvg_items.specs.Known.{known_before}
 use Rattle.dvg_make.proofs.Framing.{done_made, in_left, in_right, in_either, collected_more, call_grows, keyed_call, called_told, calls_grow, has_calls_grow}
 use Rattle.dvg_make.proofs.Finishing.{roots_made}
 use Rattle.dvg_make.proofs.Telling.{length_links, room_of_none, tells_outside}

@@ -1,13 +1,7 @@
 -- A list that has so many different entries has at least that length.
-use Rattle.std.proofs.Common.{◌≡◌, ℕ, ◌+◌, ◌≤◌, List, [], ◌∷◌, length, Option, Some, None, refl, sym, ap, ◌∙◌, subst, arith, inl, inr}
-use Rattle.std.specs.Prelude.{Bool, true, false, if◌then◌else◌}
-use Rattle.dvg_cert.specs.Lookup.{is_at, entry_at}
-use Rattle.dvg_cert.specs.declared.entry.Entry.{Entry}
-use Rattle.dvg_cert.specs.declared.entry.Key.{Key}
-use Rattle.dvg_cert.proofs.OnlyEntries.{at_means, at_holds}
-use Rattle.dvg_make.specs.declared.partial.PartialEntry.{PartialEntry}
-use Rattle.dvg_make.specs.Private.Partial.{Extends}
-use Rattle.dvg_make.specs.Private.Making.{IsMaking, Chain, Apart, IsUnique}
+use Rattle.dvg_make.proofs.Common.{◌≡◌, ℕ, ◌+◌, ◌≤◌, List, [], ◌∷◌, length, Option, Some, None, refl, sym, ap, ◌∙◌, subst, arith, inl, inr, Bool, true, false, if◌then◌else◌, is_at, entry_at, Entry, Key, at_holds, PartialEntry, Extends, IsMaking, Chain, Apart}
+use Rattle.dvg_cert.proofs.OnlyEntries.{at_means}
+use Rattle.dvg_make.specs.Private.Making.{IsUnique}
 
 -- the list without the entry with this address and key
 abbrev without : List Entry → ℕ → Key → List Entry

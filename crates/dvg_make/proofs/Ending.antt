@@ -1,28 +1,8 @@
 -- The entry of a shape after its last item.
-use Rattle.std.proofs.Common.{◌≡◌, ◌≤◌, List, unwrap_or, Option, Some, None, sym, subst, arith}
-use Rattle.std.specs.Prelude.{IfSome}
-use Rattle.dvg_words.specs.Decoding.{cell_at, InstrFits}
-use Rattle.dvg_words.specs.Memory.{Rom, rom_word}
-use Rattle.dvg_words.specs.declared.instruction.Cell.TheVariants.{Holds}
-use Rattle.dvg_words.specs.declared.instruction.Format.{Format}
-use Rattle.dvg_words.specs.declared.instruction.Instr.{Instr}
-use Rattle.dvg_words.specs.declared.instruction.Instr.TheVariants.{Draw as Draws, Labs, Halt, Jsrl, Rtsl, Jmpl}
-use Rattle.dvg_cert.specs.Entry.{IsKey, IsEntry}
-use Rattle.dvg_cert.specs.declared.entry.Entry.{Entry}
-use Rattle.dvg_cert.specs.declared.entry.Key.{Key}
-use Rattle.dvg_cert.specs.declared.entry.LitBox.{LitBox}
-use Rattle.dvg_cert.specs.declared.limits.TheConstants.{MOST_DEPTH, MOST_WORDS}
-use Rattle.dvg_items.specs.Bounds.{IsClaim}
-use Rattle.dvg_items.specs.Cursor.{step_past}
-use Rattle.dvg_items.specs.Known.{scale_set}
-use Rattle.dvg_items.specs.Seen.{seen_with}
+use Rattle.dvg_make.proofs.Common.{◌≡◌, ◌≤◌, List, unwrap_or, Option, Some, None, sym, subst, arith, IfSome, cell_at, InstrFits, Rom, rom_word, Holds, Format, Instr, Labs, Halt, Jsrl, Rtsl, Jmpl, IsKey, IsEntry, Entry, Key, LitBox, MOST_DEPTH, MOST_WORDS, IsClaim, step_past, scale_set, seen_with, Last, Shape, Known, PartialEntry, entry_of, Passes, IsFinished, IsDone}
+use Rattle.dvg_words.specs.declared.instruction.Instr.TheVariants.{Draw as Draws}
 use Rattle.dvg_items.specs.declared.cursor.Step.{Step}
-use Rattle.dvg_items.specs.declared.cursor.Step.TheVariants.{Last}
-use Rattle.dvg_items.specs.declared.item.Kind.TheVariants.{Shape}
-use Rattle.dvg_items.specs.declared.known.Known.{Known}
-use Rattle.dvg_make.specs.declared.partial.PartialEntry.{PartialEntry}
-use Rattle.dvg_make.specs.Private.Partial.{entry_of, Passes, IsCallee, IsFinished}
-use Rattle.dvg_make.specs.Private.Making.{IsDone}
+use Rattle.dvg_make.specs.Private.Partial.{IsCallee}
 use Rattle.dvg_make.proofs.Onward.{Walking, end, knows_last, finished}
 use Rattle.dvg_make.proofs.Small.{made_is_entry}
 

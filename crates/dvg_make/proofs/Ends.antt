@@ -1,36 +1,12 @@
 -- What a made entry says of its shape: at each item, and at the end.
-use Rattle.dvg_words.specs.declared.machine.Machine.{Machine}
-use Rattle.std.proofs.Common.{◌≡◌, ◌≢◌, ℕ, zero, suc, ◌+◌, ◌<◌, ◌≤◌, List, [], ◌∷◌, Option, Some, None, refl, sym, ap, ◌∙◌, subst, arith}
-use Rattle.dvg_words.specs.Decoding.{cell_at}
-use Rattle.dvg_words.specs.Memory.{Rom, rom_word}
-use Rattle.dvg_words.specs.Beam.{screen}
-use Rattle.dvg_words.specs.Values.{Window}
-use Rattle.dvg_words.specs.declared.instruction.Cell.{Cell}
-use Rattle.dvg_words.specs.declared.instruction.Cell.TheVariants.{Missing, Odd, Holds}
-use Rattle.dvg_words.specs.declared.instruction.Format.{Format}
-use Rattle.dvg_words.specs.declared.instruction.Instr.{Instr}
-use Rattle.dvg_cert.specs.Lookup.{entry_at}
-use Rattle.dvg_cert.specs.declared.entry.Entry.{Entry}
-use Rattle.dvg_cert.specs.declared.entry.Key.{Key}
+use Rattle.dvg_make.proofs.Common.{Machine, ◌≡◌, ◌≢◌, ℕ, zero, suc, ◌+◌, ◌<◌, ◌≤◌, List, [], ◌∷◌, Option, Some, None, refl, sym, ap, ◌∙◌, subst, arith, cell_at, Rom, rom_word, screen, Window, Cell, Missing, Odd, Holds, Format, Instr, entry_at, Entry, Key, next_address, LeadsTo, Context, shape_context, target, callee_at, callee, callee_words, scale_before, place_before, words_before, depth_before, depth_under, known_before, extent, seen_at, HasCallee, InBox, relative_corners, ShapeKeeps, CellKeeps, Exact, ShapeWhy, Item, Shape, Known, Seen, word_count-some, lit_points, HoldsAll, IsLeast, HasEntry, EachItem, MadeEntry, keyed_context, IsStraight, AllFine}
 use Rattle.dvg_check.specs.FirstFault.{AllBefore}
-use Rattle.dvg_items.specs.Items.{next_address, LeadsTo}
-use Rattle.dvg_items.specs.Known.{Context, shape_context, target, callee_at, callee, callee_words, scale_before, place_before, words_before, depth_before, depth_under, known_before}
-use Rattle.dvg_items.specs.Seen.{extent, seen_at, HasCallee}
 use Rattle.dvg_items.proofs.Lists.{all_left, all_right}
-use Rattle.dvg_items.specs.Lit.{InBox, relative_corners}
-use Rattle.dvg_check.specs.Rules.{AtLast, ShapeKeeps, CellKeeps}
-use Rattle.dvg_check.specs.declared.fault.Mode.TheVariants.{Exact}
-use Rattle.dvg_check.specs.declared.fault.ShapeWhy.{ShapeWhy}
+use Rattle.dvg_check.specs.Rules.{AtLast}
 use Rattle.dvg_check.specs.declared.fault.ShapeWhy.TheVariants as shape
-use Rattle.dvg_items.specs.declared.item.Item.{Item}
-use Rattle.dvg_items.specs.declared.item.Kind.TheVariants.{Shape}
-use Rattle.dvg_items.specs.declared.known.Known.{Known}
-use Rattle.dvg_items.specs.declared.seen.Seen.{Seen}
 use Rattle.dvg_check.proofs.Faults.{all_kept}
-use Rattle.dvg_items.proofs.Near.{word_count-some}
-use Rattle.dvg_items.specs.Least.{lit_points, HoldsAll, IsLeast}
-use Rattle.dvg_make.specs.Made.{HasEntry, EachItem, AtEnd, MadeKeeps, MadeEntry, AllHold}
-use Rattle.dvg_make.specs.Private.Partial.{keyed_context, IsStraight, IsFine, AllFine}
+use Rattle.dvg_make.specs.Made.{AtEnd, MadeKeeps, AllHold}
+use Rattle.dvg_make.specs.Private.Partial.{IsFine}
 pub use Rattle.dvg_make.specs.Private.Covering.{known_of}
 use Rattle.dvg_make.proofs.Boxes.{one_least}
 use Rattle.dvg_make.proofs.Matching.{Gathered, gathered, Matched, gathered_same, exact_named}

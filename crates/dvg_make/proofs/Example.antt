@@ -1,32 +1,15 @@
 -- The worked example is made.
-use Rattle.std.proofs.Common.{◌≡◌, ◌∙◌, ℕ, zero, suc, List, [], ◌∷◌, ◌⊎◌, Some, None, refl, sym, ap, subst, inl, arith}
-use Rattle.std.specs.Prelude.{Contains}
-use Rattle.std.proofs.lemmas.Int.{ints}
-use Rattle.dvg_words.specs.Beam.{displacement, screen}
-use Rattle.dvg_words.specs.Decoding.{cell_at}
-use Rattle.dvg_words.specs.Memory.{rom_word}
+use Rattle.dvg_make.proofs.Common.{◌≡◌, ◌∙◌, ℕ, zero, suc, List, [], ◌∷◌, ◌⊎◌, Some, None, refl, sym, ap, subst, inl, arith, Contains, ints, screen, cell_at, rom_word, Holds, Entry, Key, At, LitBox, Empty, Span, next_address, shape_context, target, scale_before, IsInside, Exact, Item, Shape, lit_points, HoldsAll, IsLeast, HasEntry, EachItem, MadeEntry, Needs}
+use Rattle.dvg_words.specs.Beam.{displacement}
 use Rattle.dvg_words.specs.declared.machine.Machine.TheVariants.{Profile}
-use Rattle.dvg_words.specs.declared.instruction.Cell.TheVariants.{Holds}
-use Rattle.dvg_cert.specs.declared.entry.Entry.{Entry}
-use Rattle.dvg_cert.specs.declared.entry.Key.{Key}
-use Rattle.dvg_cert.specs.declared.entry.Key.TheVariants.{At}
-use Rattle.dvg_cert.specs.declared.entry.LitBox.{LitBox}
-use Rattle.dvg_cert.specs.declared.entry.LitBox.TheVariants.{Empty, Span}
 use Rattle.dvg_words.specs.Example.{example_rom}
 use Rattle.dvg_check.specs.Example.{example_entry, example_list}
-use Rattle.dvg_items.specs.Items.{next_address}
-use Rattle.dvg_items.specs.Known.{shape_context, target, scale_before}
-use Rattle.dvg_items.specs.Lit.{IsInside}
 use Rattle.dvg_check.specs.Rules.{AllKeep}
-use Rattle.dvg_check.specs.declared.fault.Mode.TheVariants.{Exact}
-use Rattle.dvg_items.specs.declared.item.Item.{Item}
-use Rattle.dvg_items.specs.declared.item.Kind.TheVariants.{Shape}
 use Rattle.dvg_check.proofs.Example.{draw_item, return_item, draw_there, return_there, worked_example as example_good}
 use Rattle.dvg_check.proofs.Faults.{all_kept}
 use Rattle.dvg_make.specs.Laws.{WorkedExampleMade}
 use Rattle.dvg_make.proofs.Windows.{other_window}
-use Rattle.dvg_items.specs.Least.{lit_points, HoldsAll, IsLeast}
-use Rattle.dvg_make.specs.Made.{HasEntry, EachItem, MadeKeeps, MadeEntry, Needs, Made}
+use Rattle.dvg_make.specs.Made.{MadeKeeps, Made}
 
 -- ---- its items
 

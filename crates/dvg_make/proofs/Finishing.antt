@@ -1,23 +1,8 @@
 -- The list that is made, in the order of a certificate.
-use Rattle.std.proofs.Common.{◌≡◌, ℕ, List, [], length, Some, sym, ap, ◌∙◌, subst, arith, inl, inr, ⊎_elim}
-use Rattle.std.specs.Prelude.{Contains}
+use Rattle.dvg_make.proofs.Common.{◌≡◌, ℕ, List, [], length, Some, sym, ap, ◌∙◌, subst, arith, inl, inr, ⊎_elim, Contains, Rom, rom_word, IsEntry, IsRising, IsCertificate, entry_at, Entry, Key, LeadsTo, shape_context, callee_at, scale_before, Shape, HasEntry, Needs, IsAskedFor, FramesMade, keyed_context, Extends, IsPresent, IsCalled, AllFramed, listed_at}
 use Rattle.dvg_words.specs.Values.{IsMap}
-use Rattle.dvg_words.specs.Memory.{Rom, rom_word}
-use Rattle.dvg_cert.specs.Entry.{IsEntry}
-use Rattle.dvg_cert.specs.Order.{IsRising, IsCertificate}
-use Rattle.dvg_cert.specs.Lookup.{entry_at}
-use Rattle.dvg_cert.specs.declared.entry.Entry.{Entry}
-use Rattle.dvg_cert.specs.declared.entry.Key.{Key}
-use Rattle.dvg_items.specs.Items.{LeadsTo}
-use Rattle.dvg_items.specs.Known.{shape_context, callee_at, scale_before}
-use Rattle.dvg_items.specs.declared.item.Kind.TheVariants.{Shape}
-use Rattle.dvg_make.specs.Made.{HasEntry, Needs, Made}
-use Rattle.dvg_make.specs.Frames.{IsAskedFor, FramesMade}
-use Rattle.dvg_make.specs.Private.Partial.{keyed_context, Extends}
-use Rattle.dvg_make.specs.Private.Making.{IsPresent, IsCalled}
+use Rattle.dvg_make.specs.Made.{Made}
 use Rattle.dvg_make.proofs.Onward.{fine_taken}
-use Rattle.dvg_make.specs.Private.Framing.{AllFramed}
-use Rattle.dvg_items.proofs.Listed.{listed_at}
 use Rattle.dvg_items.proofs.Lists.{all_listed}
 use Rattle.dvg_make.proofs.Matching.{exact_named, found_listed}
 use Rattle.dvg_make.proofs.Growing.{scale_grows, made_grows}

@@ -1,31 +1,13 @@
 -- No certificate does better for a frame than the list that is made for it.
-use Rattle.std.proofs.Common.{◌≡◌, ℕ, zero, suc, ◌+◌, ◌<◌, ◌≤◌, List, [], ◌∷◌, Option, Some, None, refl, sym, ap, ◌∙◌, subst, arith, inl, inr, ⊎_elim}
-use Rattle.std.specs.Prelude.{Contains}
-use Rattle.dvg_words.specs.Decoding.{cell_at, word_count}
-use Rattle.dvg_words.specs.Memory.{Rom, rom_word, frame_word}
-use Rattle.dvg_words.specs.Values.{Window}
-use Rattle.dvg_words.specs.declared.instruction.Cell.{Cell}
-use Rattle.dvg_words.specs.declared.instruction.Cell.TheVariants.{Missing, Odd, Holds}
-use Rattle.dvg_cert.specs.Order.{IsCertificate}
-use Rattle.dvg_cert.specs.declared.entry.Entry.{Entry}
-use Rattle.dvg_cert.specs.declared.entry.Key.{Key}
-use Rattle.dvg_cert.specs.declared.limits.TheConstants.{MOST_WORDS}
-use Rattle.dvg_items.specs.Items.{LeadsTo}
-use Rattle.dvg_items.specs.Known.{Context, shape_context, frame_context, target, callee_at, callee, scale_before, place_before, words_before, depth_before, known_before}
-use Rattle.dvg_items.specs.Lit.{LitInWindow}
-use Rattle.dvg_items.specs.Seen.{extent, seen_at, HasCallee}
-use Rattle.dvg_items.specs.declared.item.Item.{Item}
-use Rattle.dvg_items.specs.declared.item.Kind.TheVariants.{Shape, Frame}
-use Rattle.dvg_items.proofs.Listed.{listed_at}
-use Rattle.dvg_check.specs.Rules.{FrameKeeps, CellKeeps, FramePlaceKeeps, AllKeep, Good, GoodFrame}
-use Rattle.dvg_check.specs.declared.fault.Mode.TheVariants.{Bound, Exact}
+use Rattle.dvg_make.proofs.Common.{◌≡◌, ℕ, zero, suc, ◌+◌, ◌<◌, ◌≤◌, List, [], ◌∷◌, Option, Some, None, refl, sym, ap, ◌∙◌, subst, arith, inl, inr, ⊎_elim, Contains, cell_at, Rom, rom_word, frame_word, Window, Cell, Missing, Odd, Holds, IsCertificate, Entry, Key, MOST_WORDS, LeadsTo, Context, shape_context, frame_context, target, callee_at, callee, scale_before, place_before, words_before, depth_before, known_before, LitInWindow, extent, seen_at, HasCallee, Item, Shape, listed_at, CellKeeps, Good, GoodFrame, Bound, Exact, in_bound, Needs, MadeFor, AllMade, IsAskedFor, KnowsMore}
+use Rattle.dvg_words.specs.Decoding.{word_count}
+use Rattle.dvg_items.specs.declared.item.Kind.TheVariants.{Frame}
+use Rattle.dvg_check.specs.Rules.{FrameKeeps, FramePlaceKeeps, AllKeep}
 use Rattle.dvg_check.specs.declared.fault.FrameWhy.{FrameWhy}
 use Rattle.dvg_check.specs.declared.fault.FrameWhy.TheVariants as frame
-use Rattle.dvg_check.proofs.Modes.{in_bound}
 use Rattle.dvg_make.specs.Laws.{AllInWindow, NoneBetter}
-use Rattle.dvg_make.specs.Made.{Needs, MadeFor, AllMade}
-use Rattle.dvg_make.specs.Frames.{IsKeyed, AllKeyed, FrameAsksFor, IsAskedFor}
-use Rattle.dvg_make.specs.Private.Covering.{KnowsMore, Covers, HasCover, Upholds}
+use Rattle.dvg_make.specs.Frames.{IsKeyed, AllKeyed, FrameAsksFor}
+use Rattle.dvg_make.specs.Private.Covering.{Covers, HasCover, Upholds}
 use Rattle.dvg_make.proofs.Matching.{exact_named}
 use Rattle.dvg_make.proofs.Ends.{callee_less, has_callee}
 use Rattle.dvg_make.proofs.Onward.{listed_entry}

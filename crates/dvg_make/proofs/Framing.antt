@@ -1,41 +1,19 @@
 -- A frame whose calls are made one after another.
 use Rattle.dvg_words.specs.Values.{Source}
-use Rattle.dvg_words.specs.declared.machine.Machine.{Machine}
-use Rattle.std.proofs.Common.{◌≡◌, ℕ, zero, suc, ◌+◌, ◌<◌, ◌≤◌, List, [], ◌∷◌, ◌++◌, length, unwrap_or, Option, Some, None, refl, sym, ap, ◌∙◌, subst, arith, ◌⊎◌, inl, inr, ⊎_elim, append_assoc}
+use Rattle.dvg_make.proofs.Common.{Machine, ◌≡◌, ℕ, zero, suc, ◌+◌, ◌<◌, ◌≤◌, List, [], ◌∷◌, ◌++◌, length, unwrap_or, Option, Some, None, refl, sym, ap, ◌∙◌, subst, arith, ◌⊎◌, inl, inr, ⊎_elim, Contains, IfSome, cell_at, InstrFits, Rom, frame_word, ADDRESS_END, Holds, Format, Instr, Labs, Halt, Jsrl, Rtsl, Jmpl, IsKey, entry_at, Entry, Key, Any, MOST_ENTRIES, LeadsTo, next_address, IsClaim, frame_context, target, scale_set, callee_at, scale_before, known_before, known_past, Item, Known, listed_at, in_bound, HasEntry, AllMade, EntryFault, Unstraight, Deep, TooManyWords, TooManyEntries, Memory, Extends, IsAim, NoAim, IsDone, InProgress, Bars, IsCalled, IsPresent, Collected, HasCalls, IsFramed, BarsHere, TellsHere, PartialEntry, Obstacle}
+use Rattle.std.proofs.Common.{append_assoc}
 use Rattle.std.proofs.lemmas.List.{append-nil}
 use Rattle.std.proofs.lemmas.Bool.{cases_lt}
-use Rattle.std.specs.Prelude.{Contains, IfSome}
-use Rattle.dvg_words.specs.Decoding.{cell_at, InstrFits}
-use Rattle.dvg_words.specs.Memory.{Rom, frame_word}
-use Rattle.dvg_words.specs.declared.map.TheConstants.{ADDRESS_END}
-use Rattle.dvg_words.specs.declared.instruction.Cell.TheVariants.{Holds}
-use Rattle.dvg_words.specs.declared.instruction.Format.{Format}
-use Rattle.dvg_words.specs.declared.instruction.Instr.{Instr}
-use Rattle.dvg_words.specs.declared.instruction.Instr.TheVariants.{Draw as Draws, Labs, Halt, Jsrl, Rtsl, Jmpl}
-use Rattle.dvg_cert.specs.Entry.{IsKey}
-use Rattle.dvg_cert.specs.Lookup.{entry_at}
-use Rattle.dvg_cert.specs.declared.entry.Entry.{Entry}
-use Rattle.dvg_cert.specs.declared.entry.Key.{Key}
-use Rattle.dvg_cert.specs.declared.entry.Key.TheVariants.{Any}
-use Rattle.dvg_cert.specs.declared.limits.TheConstants.{MOST_ENTRIES}
-use Rattle.dvg_items.specs.Items.{LeadsTo, next_address, AtEachOf, AtEveryPlace}
-use Rattle.dvg_items.specs.Bounds.{IsClaim}
+use Rattle.dvg_words.specs.declared.instruction.Instr.TheVariants.{Draw as Draws}
+use Rattle.dvg_items.specs.Items.{AtEachOf, AtEveryPlace}
 use Rattle.dvg_items.proofs.Near.{next_near}
-use Rattle.dvg_items.specs.Known.{frame_context, target, scale_set, callee_at, scale_before, known_before, known_past}
-use Rattle.dvg_items.specs.declared.item.Item.{Item}
 use Rattle.dvg_items.specs.declared.item.Kind.TheVariants.{Frame}
-use Rattle.dvg_items.specs.declared.known.Known.{Known}
 use Rattle.dvg_items.proofs.Leading.{same_lead, shorter, everywhere}
-use Rattle.dvg_items.proofs.Listed.{listed_at}
-use Rattle.dvg_check.proofs.Modes.{in_bound}
-use Rattle.dvg_make.specs.Made.{HasEntry, AllMade, Barred}
+use Rattle.dvg_make.specs.Made.{Barred}
 use Rattle.dvg_make.specs.Frames.{IsKeyed, AllKeyed, FrameAsksFor}
-use Rattle.dvg_make.specs.Refusals.{EntryFault, Unstraight, Deep, TooManyWords, TooManyEntries, Memory, NoneAccepts, BarsEntry, CallBarredAt}
-use Rattle.dvg_make.specs.Private.Partial.{Extends}
-use Rattle.dvg_make.specs.Private.Making.{IsAim, NoAim, IsDone, InProgress, Bars, IsCalled, AllCalled, IsPresent, Collected}
-use Rattle.dvg_make.specs.Private.Framing.{HasCalls, IsCalledBy, BarsTarget, IsFramed, NoneHasCalls, LongHasCalls, BarsHere, TellsTarget, KeyedCall, IsGivenHere, TellsHere}
-use Rattle.dvg_make.specs.declared.partial.PartialEntry.{PartialEntry}
-use Rattle.dvg_make.specs.declared.obstacle.Obstacle.{Obstacle}
+use Rattle.dvg_make.specs.Refusals.{NoneAccepts, BarsEntry, CallBarredAt}
+use Rattle.dvg_make.specs.Private.Making.{AllCalled}
+use Rattle.dvg_make.specs.Private.Framing.{IsCalledBy, BarsTarget, NoneHasCalls, LongHasCalls, TellsTarget, KeyedCall, IsGivenHere}
 use Rattle.dvg_make.proofs.Matching.{exact_named}
 use Rattle.dvg_make.proofs.Merging.{extends_more, extends_second, all_merged}
 use Rattle.dvg_make.proofs.Chains.{called_grows}

@@ -1,21 +1,7 @@
 -- What is known by a list is known by each that extends it.
-use Rattle.dvg_words.specs.declared.machine.Machine.{Machine}
-use Rattle.std.proofs.Common.{◌≡◌, List, [], ◌∷◌, sym, ap, ◌∙◌, subst}
-use Rattle.dvg_words.specs.Memory.{Rom, rom_word}
-use Rattle.dvg_items.specs.Items.{LeadsTo}
-use Rattle.dvg_cert.specs.Lookup.{entry_at}
-use Rattle.dvg_cert.specs.declared.entry.Entry.{Entry}
-use Rattle.dvg_cert.specs.declared.entry.Key.{Key}
-use Rattle.dvg_items.specs.Known.{target, scale_before, known_before}
-use Rattle.dvg_items.specs.declared.item.Item.{Item}
-use Rattle.dvg_items.specs.declared.item.Kind.TheVariants.{Shape}
-use Rattle.dvg_cert.specs.declared.entry.LitBox.{LitBox}
-use Rattle.dvg_items.specs.declared.known.Known.{Known}
-use Rattle.dvg_make.specs.declared.partial.PartialEntry.{PartialEntry}
-use Rattle.dvg_items.specs.Least.{IsLeast}
-use Rattle.dvg_make.specs.Made.{MadeEntry}
+use Rattle.dvg_make.proofs.Common.{Machine, ◌≡◌, List, [], ◌∷◌, sym, ap, ◌∙◌, subst, Rom, rom_word, LeadsTo, entry_at, Entry, Key, target, scale_before, known_before, Item, Shape, LitBox, Known, PartialEntry, IsLeast, MadeEntry, keyed_context, IsStraight, AllFine, IsPartial, Extends}
 use Rattle.dvg_make.specs.Accounts.{AllTaken}
-use Rattle.dvg_make.specs.Private.Partial.{keyed_context, IsStraight, IsAsked, AllFine, KnowsAt, IsPartial, Extends}
+use Rattle.dvg_make.specs.Private.Partial.{IsAsked, KnowsAt}
 use Rattle.dvg_make.proofs.Matching.{Gathered, Matched, gathered_same, seen_matched}
 use Rattle.dvg_make.proofs.Ends.{made_ends, ends_made, same_sums, sums_of}
 use Rattle.dvg_make.proofs.Onward.{same_if, matched_fine, fine_taken}

@@ -1,8 +1,6 @@
 -- What is in the making, by its index.
-use Rattle.std.proofs.Common.{◌≡◌, ℕ, List, [], ◌∷◌, slice_get, Some, ap, ◌∙◌, inl, inr, zero, suc}
-use Rattle.dvg_cert.specs.declared.entry.Key.{Key}
-use Rattle.dvg_make.specs.declared.partial.PartialEntry.{PartialEntry}
-use Rattle.dvg_make.specs.Private.Making.{IsMaking}
+use Rattle.dvg_make.proofs.Common.{◌≡◌, ℕ, List, [], ◌∷◌, Some, ap, ◌∙◌, inl, inr, zero, suc, Key, PartialEntry, IsMaking}
+use Rattle.std.proofs.Common.{slice_get}
 
 some_same : {x y : PartialEntry} → Some x ≡ Some y → x ≡ y
 some_same e = cc e

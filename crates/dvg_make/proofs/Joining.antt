@@ -1,45 +1,15 @@
 -- A shape so far and the tail behind it are a made entry.
-use Rattle.dvg_words.specs.declared.machine.Machine.{Machine}
-use Rattle.std.proofs.Common.{◌≡◌, ℕ, ◌+◌, ◌-◌, ◌<◌, ◌≤◌, ◌≤ℤ◌, ℤ, neg_ℤ, List, [], ◌∷◌, ◌++◌, Option, Some, None, refl, sym, ap, ◌∙◌, subst, arith, zero, suc, ⊎_elim}
-use Rattle.std.specs.Prelude.{Contains, IfSome}
-use Rattle.std.proofs.lemmas.Int.{ints}
-use Rattle.dvg_words.specs.Memory.{Rom, rom_word}
-use Rattle.dvg_words.specs.declared.beam.Point.{Point}
+use Rattle.dvg_make.proofs.Common.{Machine, ◌≡◌, ℕ, ◌+◌, ◌-◌, ◌<◌, ◌≤◌, List, [], ◌∷◌, ◌++◌, Option, Some, None, refl, sym, ap, ◌∙◌, subst, arith, zero, suc, ⊎_elim, Contains, IfSome, ints, Rom, rom_word, Point, Jmpl, ADDRESS_END, IsKey, IsEntry, entry_at, End, Rel, Abs, Lost, Entry, Key, LitBox, Empty, Span, MOST_DEPTH, MOST_WORDS, IsClaim, LeadsTo, Context, scale_before, place_before, known_before, InBox, IsInside, box_extent, relative_corners, step_past, seen_at, seen_with, extent, Last, Item, Shape, Known, LitExtent, Nothing, Between, Seen, all_append, listed_at, PartialEntry, lit_points, HoldsAll, IsLeast, HasEntry, MadeEntry, IsDone, keyed_context, entry_of, IsStraight, AllFine, IsPartial, Passes, Extends, AreTails, IsFinished}
+use Rattle.std.proofs.Common.{◌≤ℤ◌, ℤ, neg_ℤ}
 use Rattle.dvg_words.specs.declared.instruction.Format.TheVariants.{Short}
-use Rattle.dvg_words.specs.declared.instruction.Instr.TheVariants.{Jmpl}
-use Rattle.dvg_words.specs.declared.map.TheConstants.{ADDRESS_END}
-use Rattle.dvg_cert.specs.Entry.{IsKey, IsEntry, IsBox}
-use Rattle.dvg_cert.specs.Lookup.{entry_at}
-use Rattle.dvg_cert.specs.declared.entry.End.{End}
-use Rattle.dvg_cert.specs.declared.entry.End.TheVariants.{Rel, Abs, Lost}
-use Rattle.dvg_cert.specs.declared.entry.Entry.{Entry}
-use Rattle.dvg_cert.specs.declared.entry.Key.{Key}
-use Rattle.dvg_cert.specs.declared.entry.LitBox.{LitBox}
-use Rattle.dvg_cert.specs.declared.entry.LitBox.TheVariants.{Empty, Span}
-use Rattle.dvg_cert.specs.declared.limits.TheConstants.{MOST_DEPTH, MOST_WORDS}
-use Rattle.dvg_items.specs.Bounds.{IsClaim}
-use Rattle.dvg_items.specs.Items.{LeadsTo}
-use Rattle.dvg_items.specs.Known.{Context, scale_before, place_before, known_before}
-use Rattle.dvg_items.specs.Lit.{InBox, IsInside, PlaceKnown, ScaleKnown, box_extent, relative_corners}
-use Rattle.dvg_items.specs.Cursor.{step_past}
-use Rattle.dvg_items.specs.Seen.{seen_at, seen_with, extent}
-use Rattle.dvg_items.specs.declared.cursor.Step.TheVariants.{Last}
-use Rattle.dvg_items.specs.declared.item.Item.{Item}
-use Rattle.dvg_items.specs.declared.item.Kind.TheVariants.{Shape}
-use Rattle.dvg_items.specs.declared.known.Known.{Known}
-use Rattle.dvg_items.specs.declared.lit.LitExtent.{LitExtent}
-use Rattle.dvg_items.specs.declared.lit.LitExtent.TheVariants.{Nothing, Between, Anywhere}
-use Rattle.dvg_items.specs.declared.seen.Seen.{Seen}
-use Rattle.dvg_items.proofs.Lists.{all_append, all_left, all_right}
-use Rattle.dvg_items.proofs.Listed.{listed_at}
+use Rattle.dvg_cert.specs.Entry.{IsBox}
+use Rattle.dvg_items.specs.Lit.{PlaceKnown, ScaleKnown}
+use Rattle.dvg_items.specs.declared.lit.LitExtent.TheVariants.{Anywhere}
+use Rattle.dvg_items.proofs.Lists.{all_left, all_right}
 use Rattle.dvg_check.specs.Private.Judging.{seen_by}
 use Rattle.dvg_check.specs.Private.Tails.{known_at_end, known_over, place_over, moved}
 use Rattle.dvg_check.proofs.TailLaws.{seen_over, seen_by_over, over_none}
-use Rattle.dvg_make.specs.declared.partial.PartialEntry.{PartialEntry}
-use Rattle.dvg_items.specs.Least.{lit_points, HoldsAll, IsLeast}
-use Rattle.dvg_make.specs.Made.{HasEntry, MadeEntry}
-use Rattle.dvg_make.specs.Private.Making.{IsDone}
-use Rattle.dvg_make.specs.Private.Partial.{keyed_context, entry_of, IsStraight, IsFine, AllFine, IsPartial, Passes, Extends, IsTail, AreTails, EndsBy, EndsByOne, IsFinished}
+use Rattle.dvg_make.specs.Private.Partial.{IsFine, IsTail, EndsBy, EndsByOne}
 use Rattle.dvg_make.proofs.Ends.{made_ends, ends_made}
 use Rattle.dvg_make.proofs.Onward.{Walking}
 use Rattle.dvg_make.proofs.Growing.{made_grows}

@@ -1,28 +1,11 @@
 -- Who knows more before an item knows more after it, and lights no more.
-use Rattle.dvg_words.specs.declared.machine.Machine.{Machine}
-use Rattle.std.proofs.Common.{◌≡◌, ◌≢◌, ℕ, zero, suc, ◌≤◌, unwrap_or, Option, Some, None, refl, sym, ap, subst, arith}
-use Rattle.std.proofs.lemmas.Int.{ints}
+use Rattle.dvg_make.proofs.Common.{Machine, ◌≡◌, ◌≢◌, ℕ, zero, suc, ◌≤◌, unwrap_or, Option, Some, None, refl, sym, ap, subst, arith, ints, Window, Point, Instr, Labs, Halt, Jsrl, Rtsl, Jmpl, End, Rel, Abs, Lost, Entry, Key, At, Any, LitBox, Empty, Span, Item, Effect, Sets, Loses, Moves, scale_set, place_past, callee_words, depth_under, known_past, LitExtent, Nothing, Between, box_extent, extent_of, LitInWindow, IsInside, Known, KnowsMore}
 use Rattle.std.specs.Prelude.{ℤ, ◌≤ℤ◌}
-use Rattle.dvg_words.specs.Values.{DrawFields, Window}
-use Rattle.dvg_words.specs.declared.beam.Point.{Point}
-use Rattle.dvg_words.specs.declared.instruction.Instr.{Instr}
-use Rattle.dvg_words.specs.declared.instruction.Instr.TheVariants.{Draw as Draws, Labs, Halt, Jsrl, Rtsl, Jmpl}
-use Rattle.dvg_cert.specs.declared.entry.End.{End}
-use Rattle.dvg_cert.specs.declared.entry.End.TheVariants.{Rel, Abs, Lost}
-use Rattle.dvg_cert.specs.declared.entry.Entry.{Entry}
-use Rattle.dvg_cert.specs.declared.entry.Key.{Key}
-use Rattle.dvg_cert.specs.declared.entry.Key.TheVariants.{At, Any}
-use Rattle.dvg_cert.specs.declared.entry.LitBox.{LitBox}
-use Rattle.dvg_cert.specs.declared.entry.LitBox.TheVariants.{Empty, Span}
-use Rattle.dvg_items.specs.declared.item.Item.{Item}
-use Rattle.dvg_items.specs.declared.known.Effect.{Effect}
-use Rattle.dvg_items.specs.declared.known.Effect.TheVariants.{Sets, Loses, Moves}
-use Rattle.dvg_items.specs.Known.{scale_set, draw_effect, stop_effect, effect_of, place_moved_by, place_past, callee_words, depth_under, known_past}
-use Rattle.dvg_items.specs.declared.lit.LitExtent.{LitExtent}
-use Rattle.dvg_items.specs.declared.lit.LitExtent.TheVariants.{Nothing, Between}
-use Rattle.dvg_items.specs.Lit.{draw_extent, box_extent, extent_of, PlaceKnown, ScaleKnown, LitInWindow, LitInBox, IsInside}
-use Rattle.dvg_items.specs.declared.known.Known.{Known}
-use Rattle.dvg_make.specs.Private.Covering.{Loosens, LoosensPlace, KnowsMore, Refines}
+use Rattle.dvg_words.specs.Values.{DrawFields}
+use Rattle.dvg_words.specs.declared.instruction.Instr.TheVariants.{Draw as Draws}
+use Rattle.dvg_items.specs.Known.{draw_effect, stop_effect, effect_of, place_moved_by}
+use Rattle.dvg_items.specs.Lit.{draw_extent, PlaceKnown, ScaleKnown, LitInBox}
+use Rattle.dvg_make.specs.Private.Covering.{Loosens, LoosensPlace, Refines}
 
 -- ---- the entries that an item calls by the two lists
 

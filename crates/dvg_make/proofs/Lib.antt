@@ -1,3 +1,4 @@
+pub mod Common
 pub mod Boxes
 pub mod Matching
 pub mod Ends

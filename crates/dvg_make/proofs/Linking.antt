@@ -1,13 +1,7 @@
 -- The shapes in the making, each of which calls or tail jumps to the next.
-use Rattle.std.proofs.Common.{◌≡◌, ℕ, List, [], ◌∷◌, ◌++◌, refl, sym, ap, ◌∙◌, subst}
-use Rattle.dvg_words.specs.Memory.{Rom}
-use Rattle.dvg_cert.specs.declared.entry.Entry.{Entry}
-use Rattle.dvg_cert.specs.declared.entry.Key.{Key}
-use Rattle.dvg_items.specs.declared.known.Known.{Known}
-use Rattle.dvg_make.specs.declared.partial.PartialEntry.{PartialEntry}
-use Rattle.dvg_make.specs.Accounts.{ShapeAt, Reaches, Precedes, IsLinked, last_shape}
-use Rattle.dvg_make.specs.Private.Partial.{keyed_context, shape_of, Extends}
-use Rattle.dvg_make.specs.Private.Making.{shapes, AreLinked}
+use Rattle.dvg_make.proofs.Common.{◌≡◌, ℕ, List, [], ◌∷◌, ◌++◌, refl, sym, ap, ◌∙◌, subst, Rom, Entry, Key, Known, PartialEntry, ShapeAt, Reaches, keyed_context, shape_of, Extends, shapes}
+use Rattle.dvg_make.specs.Accounts.{Precedes, IsLinked, last_shape}
+use Rattle.dvg_make.specs.Private.Making.{AreLinked}
 use Rattle.dvg_make.proofs.Onward.{fine_taken}
 use Rattle.dvg_make.proofs.Growing.{known_grows, taken_grows}
 

@@ -1,17 +1,6 @@
 -- The partial entries that begin at marks, and the tails that come of them.
-use Rattle.std.proofs.Common.{◌≡◌, ◌<◌, ℕ, List, [], ◌∷◌, ◌++◌, Option, Some, None, sym, subst, arith}
-use Rattle.std.specs.Prelude.{Contains, IfSome}
-use Rattle.dvg_words.specs.Memory.{Rom}
-use Rattle.dvg_words.specs.declared.map.TheConstants.{ADDRESS_END}
-use Rattle.dvg_cert.specs.Entry.{IsKey}
-use Rattle.dvg_cert.specs.Lookup.{entry_at}
-use Rattle.dvg_cert.specs.declared.entry.Entry.{Entry}
-use Rattle.dvg_cert.specs.declared.entry.Key.{Key}
-use Rattle.dvg_items.specs.Bounds.{IsClaim}
-use Rattle.dvg_items.proofs.Listed.{listed_at}
-use Rattle.dvg_make.specs.declared.partial.PartialEntry.{PartialEntry}
-use Rattle.dvg_make.specs.Private.Making.{IsDone, ArePartial}
-use Rattle.dvg_make.specs.Private.Partial.{start, IsFinished, IsTail, AreTails}
+use Rattle.dvg_make.proofs.Common.{◌≡◌, ◌<◌, ℕ, List, [], ◌∷◌, ◌++◌, Option, Some, None, sym, subst, arith, Contains, IfSome, Rom, ADDRESS_END, IsKey, entry_at, Entry, Key, IsClaim, listed_at, PartialEntry, IsDone, ArePartial, start, IsFinished, AreTails}
+use Rattle.dvg_make.specs.Private.Partial.{IsTail}
 use Rattle.dvg_make.proofs.Chains.{walks_push}
 use Rattle.dvg_make.proofs.Joining.{tails_more}
 use Rattle.dvg_make.proofs.Turns.{start_walk}

@@ -1,23 +1,7 @@
 -- Two lists that have the same entries for what items call know the same after them.
-use Rattle.dvg_words.specs.declared.machine.Machine.{Machine}
-use Rattle.std.proofs.Common.{◌≡◌, ℕ, List, [], ◌∷◌, ◌++◌, Option, Some, None, refl, sym, ap, ◌∙◌}
-use Rattle.std.specs.Prelude.{Bool, true, false, if◌then◌else◌, Contains, IfSome, IfNone}
-use Rattle.dvg_words.specs.declared.beam.Point.{Point}
-use Rattle.std.specs.Option.{option_or}
-use Rattle.dvg_cert.specs.Lookup.{is_at, entry_at, named_entry, IsOnlyAt, HasNoneAt}
-use Rattle.dvg_cert.specs.Order.{IsRising}
+use Rattle.dvg_make.proofs.Common.{Machine, ◌≡◌, ℕ, List, [], ◌∷◌, ◌++◌, Option, Some, None, refl, sym, ap, ◌∙◌, Bool, true, false, if◌then◌else◌, Contains, IfSome, IfNone, Point, option_or, is_at, entry_at, IsRising, Entry, Key, Any, Context, target, callee_at, callee, scale_before, known_before, known_past, extent_of, relative_corners, seen_at, seen_with, Item, Shape, Known, lit_points, keyed_context}
+use Rattle.dvg_cert.specs.Lookup.{named_entry, IsOnlyAt, HasNoneAt}
 use Rattle.dvg_cert.proofs.OnlyEntries.{found}
-use Rattle.dvg_cert.specs.declared.entry.Entry.{Entry}
-use Rattle.dvg_cert.specs.declared.entry.Key.{Key}
-use Rattle.dvg_cert.specs.declared.entry.Key.TheVariants.{Any}
-use Rattle.dvg_items.specs.Known.{Context, target, callee_at, callee, scale_before, known_before, known_past}
-use Rattle.dvg_items.specs.Lit.{extent_of, relative_corners}
-use Rattle.dvg_items.specs.Seen.{seen_at, seen_with}
-use Rattle.dvg_items.specs.declared.item.Item.{Item}
-use Rattle.dvg_items.specs.declared.item.Kind.TheVariants.{Shape}
-use Rattle.dvg_items.specs.declared.known.Known.{Known}
-use Rattle.dvg_items.specs.Least.{lit_points}
-use Rattle.dvg_make.specs.Private.Partial.{keyed_context}
 
 -- ---- what is known after items, in one record
 

@@ -1,13 +1,6 @@
 -- A ROM, roots and frames have one made list at most.
-use Rattle.std.proofs.Common.{ℕ, List, ◌++◌, inl, inr}
-use Rattle.std.specs.Prelude.{Contains}
-use Rattle.dvg_words.specs.Memory.{Rom}
-use Rattle.dvg_cert.specs.declared.entry.Entry.{Entry}
-use Rattle.dvg_cert.specs.declared.entry.Key.{Key}
+use Rattle.dvg_make.proofs.Common.{ℕ, List, ◌++◌, inl, inr, Contains, Rom, Entry, Key, HasEntry, IsAskedFor, FramesMade, HasCalls}
 use Rattle.dvg_make.specs.Laws.{OneFramesMade}
-use Rattle.dvg_make.specs.Made.{HasEntry}
-use Rattle.dvg_make.specs.Frames.{IsAskedFor, FramesMade}
-use Rattle.dvg_make.specs.Private.Framing.{HasCalls}
 use Rattle.dvg_make.proofs.Merging.{extends_more, extends_second}
 use Rattle.dvg_make.proofs.OneList.{one_made_for}
 use Rattle.dvg_make.proofs.Framing.{calls_grow, calls_shrink}

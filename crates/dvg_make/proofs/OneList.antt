@@ -1,18 +1,7 @@
 -- A ROM and roots have one made list at most.
-use Rattle.std.proofs.Common.{◌≡◌, ℕ, zero, suc, ◌+◌, ◌<◌, ◌≤◌, List, [], ◌∷◌, Option, Some, None, refl, sym, ap, ◌∙◌, subst, arith, ⊎_elim}
-use Rattle.std.specs.Prelude.{Contains}
-use Rattle.dvg_words.specs.Memory.{Rom}
-use Rattle.dvg_cert.specs.Order.{IsRising}
-use Rattle.dvg_cert.specs.Lookup.{entry_at}
-use Rattle.dvg_cert.specs.declared.entry.Entry.{Entry}
-use Rattle.dvg_cert.specs.declared.entry.Key.{Key}
+use Rattle.dvg_make.proofs.Common.{◌≡◌, ℕ, zero, suc, ◌+◌, ◌<◌, ◌≤◌, List, [], ◌∷◌, Option, Some, None, refl, sym, ap, ◌∙◌, subst, arith, ⊎_elim, Contains, Rom, IsRising, entry_at, Entry, Key, MOST_WORDS, shape_context, target, callee_at, scale_before, Shape, HasEntry, Needs, MadeFor, listed_at}
 use Rattle.dvg_cert.proofs.OnlyEntries.{not_before, before_next, before_later, rising_tail, first_or_later, later}
-use Rattle.dvg_cert.specs.declared.limits.TheConstants.{MOST_WORDS}
-use Rattle.dvg_items.specs.Known.{shape_context, target, callee_at, scale_before}
-use Rattle.dvg_items.specs.declared.item.Kind.TheVariants.{Shape}
 use Rattle.dvg_make.specs.Laws.{OneMade}
-use Rattle.dvg_make.specs.Made.{HasEntry, Needs, MadeFor}
-use Rattle.dvg_items.proofs.Listed.{listed_at}
 use Rattle.dvg_make.proofs.Matching.{Gathered, gathered_same, exact_named, found_listed}
 use Rattle.dvg_make.proofs.Ends.{callee_less}
 use Rattle.dvg_make.proofs.Agreeing.{agree, matched_made}

@@ -1,43 +1,15 @@
 -- A shape in the making, item by item.
-use Rattle.dvg_words.specs.declared.machine.Machine.{Machine}
-use Rattle.std.proofs.Common.{◌≡◌, ℕ, ◌<◌, ◌≤◌, List, [], ◌∷◌, ◌++◌, Option, Some, None, refl, sym, ap, ◌∙◌, subst, arith}
-use Rattle.std.specs.Prelude.{Contains, IfSome}
-use Rattle.std.specs.List.{AllByRecursion}
-use Rattle.dvg_words.specs.Decoding.{cell_at, InstrFits}
-use Rattle.dvg_words.specs.Memory.{Rom, rom_word}
-use Rattle.dvg_words.specs.declared.instruction.Cell.TheVariants.{Holds}
-use Rattle.dvg_words.specs.declared.instruction.Format.{Format}
-use Rattle.dvg_words.specs.declared.instruction.Instr.{Instr}
-use Rattle.dvg_words.specs.declared.instruction.Instr.TheVariants.{Draw as Draws, Labs, Halt, Jsrl, Rtsl, Jmpl}
-use Rattle.dvg_cert.specs.Entry.{IsEntry}
-use Rattle.dvg_cert.specs.declared.entry.Entry.{Entry}
-use Rattle.dvg_cert.specs.declared.entry.Key.{Key}
-use Rattle.dvg_cert.specs.declared.limits.TheConstants.{MOST_DEPTH, MOST_WORDS}
-use Rattle.dvg_items.specs.Items.{next_address, LeadsTo}
-use Rattle.dvg_items.specs.Known.{Context, shape_context, target, callee_at, callee, scale_before, words_before, depth_before, known_before}
-use Rattle.dvg_items.specs.Seen.{seen_at, seen_with}
-use Rattle.dvg_items.specs.Bounds.{IsClaim, IsSoundStep}
-use Rattle.dvg_items.specs.declared.item.Item.{Item}
-use Rattle.dvg_items.specs.declared.item.Kind.TheVariants.{Shape}
-use Rattle.dvg_items.specs.declared.known.Known.{Known}
-use Rattle.dvg_items.specs.declared.seen.Seen.{Seen}
+use Rattle.dvg_make.proofs.Common.{Machine, ◌≡◌, ℕ, ◌<◌, ◌≤◌, List, [], ◌∷◌, ◌++◌, Option, Some, None, refl, sym, ap, ◌∙◌, subst, arith, Contains, IfSome, AllByRecursion, cell_at, InstrFits, Rom, rom_word, Holds, Format, Instr, Labs, Halt, Jsrl, Rtsl, Jmpl, IsEntry, Entry, Key, MOST_DEPTH, MOST_WORDS, next_address, LeadsTo, Context, shape_context, target, callee_at, callee, scale_before, words_before, depth_before, known_before, seen_at, seen_with, IsClaim, Item, Shape, Known, Seen, ADDRESS_END, LitBox, Last, step_past, relative_corners, PartialEntry, lit_points, IsLeast, HasEntry, IsMade, AllMade, Obstacle, ShapeAt, EntryCause, Reaches, keyed_context, entry_of, shape_of, IsStraight, Passes, AllFine, IsPartial, Extends, IsFinished, IsWaiting, IsStopped, listed_at}
+use Rattle.dvg_words.specs.declared.instruction.Instr.TheVariants.{Draw as Draws}
+use Rattle.dvg_items.specs.Bounds.{IsSoundStep}
 use Rattle.dvg_items.proofs.Lists.{at_place}
 use Rattle.dvg_items.proofs.Stepping.{leads_on, ends_at}
-use Rattle.dvg_words.specs.declared.map.TheConstants.{ADDRESS_END}
-use Rattle.dvg_cert.specs.declared.entry.LitBox.{LitBox}
 use Rattle.dvg_items.specs.declared.cursor.Cursor.{Cursor}
 use Rattle.dvg_items.specs.declared.cursor.Step.{Step}
-use Rattle.dvg_items.specs.declared.cursor.Step.TheVariants.{Onward, Last}
-use Rattle.dvg_items.specs.Cursor.{step_past}
-use Rattle.dvg_items.specs.Lit.{relative_corners}
-use Rattle.dvg_make.specs.declared.partial.PartialEntry.{PartialEntry}
-use Rattle.dvg_items.specs.Least.{lit_points, IsLeast}
-use Rattle.dvg_make.specs.Made.{HasEntry, IsMade, AllMade}
-use Rattle.dvg_make.specs.declared.obstacle.Obstacle.{Obstacle}
-use Rattle.dvg_make.specs.Accounts.{ShapeAt, EntryCause, AllTaken, Reaches, SaysOf, SaysAt, CauseAt}
+use Rattle.dvg_items.specs.declared.cursor.Step.TheVariants.{Onward}
+use Rattle.dvg_make.specs.Accounts.{AllTaken, SaysOf, SaysAt, CauseAt}
 use Rattle.dvg_make.specs.declared.account.EntryCause.TheVariants as cause
-use Rattle.dvg_make.specs.Private.Partial.{keyed_context, entry_of, shape_of, IsStraight, IsAsked, Passes, AllFine, KnowsAt, IsPartial, Extends, NeverAt, IsCallee, LacksCallee, IsFinished, IsWaiting, IsStopped, IsAbsent}
-use Rattle.dvg_items.proofs.Listed.{listed_at}
+use Rattle.dvg_make.specs.Private.Partial.{IsAsked, KnowsAt, NeverAt, IsCallee, LacksCallee, IsAbsent}
 use Rattle.dvg_make.proofs.Matching.{SameAt, Matched, exact_named, seen_matched}
 use Rattle.dvg_make.proofs.Ends.{Allows, allows_at, stands_at, ends_made}
 

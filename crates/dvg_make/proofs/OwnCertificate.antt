@@ -1,34 +1,22 @@
 -- A frame judged by the certificate that is made for it.
-use Rattle.dvg_words.specs.declared.machine.Machine.{Machine}
-use Rattle.dvg_words.specs.declared.machine.Machine.TheVariants.{Board}
-use Rattle.std.proofs.Common.{◌≡◌, ℕ, zero, suc, ◌≤◌, max, List, [], ◌∷◌, Option, None, Some, sym, subst, arith}
-use Rattle.std.specs.Prelude.{slice_get, Result, Ok, Err, IfOk}
-use Rattle.dvg_words.specs.Decoding.{cell_at}
-use Rattle.dvg_words.specs.Memory.{Rom, frame_word}
-use Rattle.dvg_words.specs.Values.{Window}
-use Rattle.dvg_words.specs.declared.instruction.Cell.{Cell}
-use Rattle.dvg_words.specs.declared.instruction.Cell.TheVariants.{Missing, Odd, Holds}
-use Rattle.dvg_cert.specs.declared.entry.Entry.{Entry}
-use Rattle.dvg_items.specs.Known.{frame_context}
-use Rattle.dvg_items.specs.Seen.{seen_at}
-use Rattle.dvg_items.specs.declared.item.Item.{Item}
-use Rattle.dvg_items.specs.declared.seen.Seen.{Seen}
-use Rattle.dvg_check.specs.Rules.{FrameKeeps, CellKeeps, GoodFrame}
+use Rattle.dvg_make.proofs.Common.{Machine, Board, ◌≡◌, ℕ, zero, suc, ◌≤◌, List, [], ◌∷◌, Option, None, Some, sym, subst, arith, slice_get, Result, Ok, Err, cell_at, Rom, frame_word, Window, Cell, Missing, Odd, Holds, Entry, frame_context, seen_at, Item, Seen, CellKeeps, GoodFrame, Exact, EntryFault, Unstraight, Deep, TooManyWords, TooManyEntries, Memory, FrameCall, FramesRefuse, FrameRefused}
+use Rattle.std.proofs.Common.{max}
+use Rattle.std.specs.Prelude.{IfOk}
+use Rattle.dvg_check.specs.Rules.{FrameKeeps}
 use Rattle.dvg_check.specs.Verdict.{PartsVerdict}
 use Rattle.dvg_check.specs.Causes.{refusal_of, verdict_of}
 use Rattle.dvg_check.specs.declared.finding.RomFinding.{RomFinding}
 use Rattle.dvg_check.specs.Safety.{Safe, CountsAtHalt}
 use Rattle.dvg_check.specs.Circuit.{SafeOnCircuit, CountsOnCircuit}
 use Rattle.dvg_check.specs.declared.verdict.Yes.{Yes}
-use Rattle.dvg_check.specs.declared.fault.Mode.TheVariants.{Exact}
 use Rattle.dvg_check.specs.declared.fault.FrameWhy.{FrameWhy}
 use Rattle.dvg_check.specs.declared.fault.FrameWhy.TheVariants as frame
 use Rattle.dvg_check.specs.declared.verdict.Refusal.{Refusal}
 use Rattle.dvg_check.specs.declared.verdict.Refusal.TheVariants as refusal
 use Rattle.dvg_check.proofs.Faults.{no_fault, no_shape_fault, one_count}
 use Rattle.dvg_make.specs.Frames.{FrameMade}
-use Rattle.dvg_make.specs.Refusals.{EntryFault, Unstraight, Deep, TooManyWords, TooManyEntries, Memory, FrameCall, FramesRefuse, BarsFrame, CallBarredAt}
-use Rattle.dvg_make.specs.Judging.{VerdictByMade, AreLeast, CheckMeans, FrameRefused, checked, refusal_at}
+use Rattle.dvg_make.specs.Refusals.{BarsFrame, CallBarredAt}
+use Rattle.dvg_make.specs.Judging.{VerdictByMade, AreLeast, CheckMeans, checked, refusal_at}
 use Rattle.dvg_make.specs.Private.Judged.{IsJudged}
 use Rattle.dvg_make.proofs.FrameBest.{none_better}
 

@@ -1,24 +1,7 @@
 -- Where a made shape ends at a relative place, none of its items stands at an absolute one.
-use Rattle.std.proofs.Common.{ℕ, List, [], ◌∷◌, sym, ap, subst}
-use Rattle.dvg_words.specs.Memory.{Rom, rom_word}
-use Rattle.dvg_words.specs.Values.{Window}
-use Rattle.dvg_cert.specs.declared.entry.End.{End}
-use Rattle.dvg_cert.specs.declared.entry.End.TheVariants.{Rel, Abs, Lost}
-use Rattle.dvg_cert.specs.declared.entry.Entry.{Entry}
+use Rattle.dvg_make.proofs.Common.{ℕ, List, [], ◌∷◌, sym, ap, subst, Rom, rom_word, Window, End, Rel, Abs, Lost, Entry, Context, shape_context, place_past, place_before, LitInWindow, extent, Item, Shape, Effect, Sets, Loses, Moves, Known, LitExtent, GoodShape, Exact, MadeEntry}
 use Rattle.dvg_items.specs.Items.{AtEachOf, AtEveryPlace}
-use Rattle.dvg_items.specs.Known.{Context, shape_context, place_past, place_before}
-use Rattle.dvg_items.specs.Lit.{LitInWindow}
-use Rattle.dvg_items.specs.Seen.{extent}
-use Rattle.dvg_items.specs.declared.item.Item.{Item}
-use Rattle.dvg_items.specs.declared.item.Kind.TheVariants.{Shape}
-use Rattle.dvg_items.specs.declared.known.Effect.{Effect}
-use Rattle.dvg_items.specs.declared.known.Effect.TheVariants.{Sets, Loses, Moves}
-use Rattle.dvg_items.specs.declared.known.Known.{Known}
-use Rattle.dvg_items.specs.declared.lit.LitExtent.{LitExtent}
 use Rattle.dvg_items.proofs.Leading.{everywhere}
-use Rattle.dvg_check.specs.Rules.{GoodShape}
-use Rattle.dvg_check.specs.declared.fault.Mode.TheVariants.{Exact}
-use Rattle.dvg_make.specs.Made.{MadeEntry}
 use Rattle.dvg_make.specs.Private.Judged.{IsRelative}
 use Rattle.dvg_make.proofs.Ends.{made_ends}
 use Rattle.dvg_make.proofs.Windows.{good_entry}

@@ -1,53 +1,24 @@
 -- What the maker makes has only small numbers: on either machine a word moves the beam by 1024 screen places at most.
 use Rattle.dvg_words.specs.Values.{Source}
-use Rattle.dvg_words.specs.declared.machine.Machine.{Machine}
-use Rattle.dvg_words.specs.declared.machine.Machine.TheVariants.{Profile, Board}
-use Rattle.std.proofs.Common.{◌≡◌, ℕ, ℤ, pos, negsuc, neg_ℤ, zero, suc, ◌+◌, ◌-◌, ◌*◌, ◌/◌, ◌%◌, ◌^◌, ◌<◌, ◌≤◌, nat_le, ◌+ℤ◌, List, [], ◌∷◌, Bool, true, false, Option, Some, None, refl, sym, ap, ◌∙◌, subst, arith}
+use Rattle.dvg_make.proofs.Common.{Machine, Board, ◌≡◌, ℕ, zero, suc, ◌+◌, ◌-◌, ◌<◌, ◌≤◌, List, [], ◌∷◌, Option, Some, None, refl, sym, ap, ◌∙◌, subst, arith, ints, AllByRecursion, Contains, IfSome, if◌then◌else◌, slice_get, cell_at, Rom, rom_word, Point, Cell, Holds, Format, Instr, Labs, Halt, Jsrl, Rtsl, Jmpl, IsKey, IsEntry, entry_at, End, Rel, Abs, Lost, Entry, Key, At, Any, LitBox, Empty, Span, MOST_DEPTH, MOST_WORDS, LeadsTo, Context, shape_context, target, callee_at, callee, callee_words, place_past, scale_before, place_before, words_before, depth_before, known_before, InBox, IsInside, box_extent, extent_of, relative_corners, extent, Item, Shape, Effect, Sets, Loses, Moves, Known, LitExtent, Nothing, Between, listed_at, all_append, word_count-some, lit_points, IsLeast, HasEntry, MadeEntry, keyed_context, entry_of, AllFine}
+use Rattle.dvg_words.specs.declared.machine.Machine.TheVariants.{Profile}
+use Rattle.std.proofs.Common.{ℤ, pos, negsuc, neg_ℤ, ◌*◌, ◌/◌, ◌%◌, ◌^◌, nat_le, ◌+ℤ◌, Bool, true, false}
 use Rattle.std.proofs.Math.IntN.{pos-*ℤ-pos, negsuc-*ℤ-pos}
 use Rattle.std.proofs.Math.Pow.{pow_mono}
 use Rattle.std.proofs.lemmas.Bool.Decides.{nat_tests}
-use Rattle.std.proofs.lemmas.Int.{ints}
 use Rattle.std.proofs.lemmas.Nat.{mul-le}
-use Rattle.std.specs.List.{AllByRecursion}
-use Rattle.std.specs.Prelude.{Contains, IfSome, ◌≤ℤ◌, ◌*ℤ◌, ◌==◌, ◌&&◌, if◌then◌else◌, slice_get}
+use Rattle.std.specs.Prelude.{◌≤ℤ◌, ◌*ℤ◌, ◌==◌, ◌&&◌}
 use Rattle.dvg_words.specs.Beam.{origin, shift, effective_scale, factor, rounded, rounded_move, axis_move, displacement, labs_coordinate, labs_place, IsWithin}
-use Rattle.dvg_words.specs.Decoding.{opcode, is_long_opcode, target_of, is_plain_labs, labs_field, magnitude_and_sign, vctr_draw, svec_draw, instruction_of, word_count, cell_holding, cell_of_words, cell_of_format, cell_at}
-use Rattle.dvg_words.specs.Memory.{Rom, rom_word, word_of_rom}
+use Rattle.dvg_words.specs.Decoding.{opcode, is_long_opcode, target_of, is_plain_labs, labs_field, magnitude_and_sign, vctr_draw, svec_draw, instruction_of, word_count, cell_holding, cell_of_words, cell_of_format}
+use Rattle.dvg_words.specs.Memory.{word_of_rom}
 use Rattle.dvg_words.specs.Values.{DrawFields}
-use Rattle.dvg_words.specs.declared.beam.Point.{Point}
-use Rattle.dvg_words.specs.declared.instruction.Cell.{Cell}
-use Rattle.dvg_words.specs.declared.instruction.Cell.TheVariants.{Holds}
-use Rattle.dvg_words.specs.declared.instruction.Format.{Format}
 use Rattle.dvg_words.specs.declared.instruction.Format.TheVariants.{Short, Long}
-use Rattle.dvg_words.specs.declared.instruction.Instr.{Instr}
-use Rattle.dvg_words.specs.declared.instruction.Instr.TheVariants.{Draw as Draws, Labs, Halt, Jsrl, Rtsl, Jmpl}
-use Rattle.dvg_cert.specs.Entry.{IsKey, IsEnd, IsBox, IsEntry}
-use Rattle.dvg_cert.specs.Lookup.{entry_at}
-use Rattle.dvg_cert.specs.declared.entry.End.{End}
-use Rattle.dvg_cert.specs.declared.entry.End.TheVariants.{Rel, Abs, Lost}
-use Rattle.dvg_cert.specs.declared.entry.Entry.{Entry}
-use Rattle.dvg_cert.specs.declared.entry.Key.{Key}
-use Rattle.dvg_cert.specs.declared.entry.Key.TheVariants.{At, Any}
-use Rattle.dvg_cert.specs.declared.entry.LitBox.{LitBox}
-use Rattle.dvg_cert.specs.declared.entry.LitBox.TheVariants.{Empty, Span}
-use Rattle.dvg_cert.specs.declared.limits.TheConstants.{MOST_DEPTH, MOST_WORDS}
-use Rattle.dvg_items.specs.Items.{LeadsTo}
-use Rattle.dvg_items.specs.Known.{Context, shape_context, target, callee_at, callee, callee_words, draw_effect, stop_effect, callee_effect, effect_of, place_moved_by, place_past, scale_before, place_before, words_before, depth_before, known_before}
-use Rattle.dvg_items.specs.Lit.{InBox, IsInside, draw_extent, box_extent, callee_extent, extent_of, relative_corners}
-use Rattle.dvg_items.specs.Seen.{extent}
-use Rattle.dvg_items.specs.declared.item.Item.{Item}
-use Rattle.dvg_items.specs.declared.item.Kind.TheVariants.{Shape}
-use Rattle.dvg_items.specs.declared.known.Effect.{Effect}
-use Rattle.dvg_items.specs.declared.known.Effect.TheVariants.{Sets, Loses, Moves}
-use Rattle.dvg_items.specs.declared.known.Known.{Known}
-use Rattle.dvg_items.specs.declared.lit.LitExtent.{LitExtent}
-use Rattle.dvg_items.specs.declared.lit.LitExtent.TheVariants.{Nothing, Between, Anywhere}
-use Rattle.dvg_items.proofs.Listed.{listed_at}
-use Rattle.dvg_items.proofs.Lists.{all_append, all_map}
-use Rattle.dvg_items.proofs.Near.{word_count-some}
-use Rattle.dvg_items.specs.Least.{lit_points, IsLeast}
-use Rattle.dvg_make.specs.Made.{HasEntry, MadeEntry}
-use Rattle.dvg_make.specs.Private.Partial.{keyed_context, entry_of, AllFine}
+use Rattle.dvg_words.specs.declared.instruction.Instr.TheVariants.{Draw as Draws}
+use Rattle.dvg_cert.specs.Entry.{IsEnd, IsBox}
+use Rattle.dvg_items.specs.Known.{draw_effect, stop_effect, callee_effect, effect_of, place_moved_by}
+use Rattle.dvg_items.specs.Lit.{draw_extent, callee_extent}
+use Rattle.dvg_items.specs.declared.lit.LitExtent.TheVariants.{Anywhere}
+use Rattle.dvg_items.proofs.Lists.{all_map}
 use Rattle.dvg_make.proofs.Matching.{exact_named}
 use Rattle.dvg_make.proofs.Ends.{callee_less, made_ends}
 

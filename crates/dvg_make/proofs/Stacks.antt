@@ -1,19 +1,14 @@
 -- The stack of shapes in the making, as pairs of an address and key with a shape.
-use Rattle.std.proofs.Common.{◌≡◌, ℕ, zero, suc, ◌+◌, ◌-◌, ◌<◌, Bool, true, false, cond, List, [], ◌∷◌, ◌++◌, length, Option, Some, None, is_some, slice_get, refl, sym, ap, ◌∙◌, subst, arith, inl, inr}
-use Rattle.std.specs.Prelude.{IfSome, IfNone}
-use Rattle.std.specs.Map.{lookup, values_of}
+use Rattle.dvg_make.proofs.Common.{◌≡◌, ℕ, zero, suc, ◌+◌, ◌-◌, ◌<◌, List, [], ◌∷◌, ◌++◌, length, Option, Some, None, refl, sym, ap, ◌∙◌, subst, arith, inl, inr, IfSome, IfNone, values_of, Entry, Key, at_holds, pair_test, PartialEntry, entry_of, AreOwn, IsMaking}
+use Rattle.std.proofs.Common.{Bool, true, false, cond, is_some, slice_get}
+use Rattle.std.specs.Map.{lookup}
 use Rattle.std.proofs.lemmas.List.Elements.{All-nil, All-cons, All-head, All-tail, All-push}
 use Rattle.std.specs.Prelude.{slice_range}
 use Rattle.indexmap.specs.IndexMap.{set_value_at}
 use Rattle.indexmap.proofs.MapLemmas.{split_last}
-use Rattle.dvg_cert.specs.declared.entry.Entry.{Entry}
-use Rattle.dvg_cert.specs.declared.entry.Key.{Key}
-use Rattle.dvg_cert.proofs.OnlyEntries.{at_means, at_holds}
-use Rattle.dvg_cert.proofs.Pairs.{pair_eq, pair_test}
-use Rattle.dvg_make.specs.declared.partial.PartialEntry.{PartialEntry}
-use Rattle.dvg_make.specs.Private.Partial.{entry_of}
-use Rattle.dvg_make.specs.Private.Stacked.{IsOwnPartial, AreOwn}
-use Rattle.dvg_make.specs.Private.Making.{IsMaking}
+use Rattle.dvg_cert.proofs.OnlyEntries.{at_means}
+use Rattle.dvg_cert.proofs.Pairs.{pair_eq}
+use Rattle.dvg_make.specs.Private.Stacked.{IsOwnPartial}
 
 abbrev Pairs : Type 0
 Pairs = List ((ℕ × Key) × PartialEntry)

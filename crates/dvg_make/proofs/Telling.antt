@@ -1,22 +1,12 @@
 -- What is told where the making stops.
-use Rattle.std.proofs.Common.{◌≡◌, ℕ, zero, suc, ◌+◌, ◌<◌, ◌≤◌, List, [], ◌∷◌, ◌++◌, length, slice_get, Some, None, refl, sym, ap, ◌∙◌, subst, arith, inl, inr, length-append}
-use Rattle.std.specs.Prelude.{Contains}
-use Rattle.dvg_words.specs.Memory.{Rom, InRom}
-use Rattle.dvg_cert.specs.Entry.{IsKey}
-use Rattle.dvg_cert.specs.Lookup.{entry_at}
-use Rattle.dvg_cert.specs.declared.entry.Entry.{Entry}
-use Rattle.dvg_cert.specs.declared.entry.Key.{Key}
-use Rattle.dvg_cert.specs.declared.limits.TheConstants.{MOST_ENTRIES}
-use Rattle.dvg_items.specs.declared.item.Kind.TheVariants.{Shape}
+use Rattle.dvg_make.proofs.Common.{◌≡◌, ℕ, zero, suc, ◌+◌, ◌<◌, ◌≤◌, List, [], ◌∷◌, ◌++◌, length, Some, None, refl, sym, ap, ◌∙◌, subst, arith, inl, inr, length-append, Contains, Rom, IsKey, entry_at, Entry, Key, MOST_ENTRIES, Shape, Known, PartialEntry, Obstacle, ShapeAt, EntryCause, Reaches, start, shape_of, IsWaiting, IsStopped, shapes, IsMaking, Apart, InProgress, NotBegun}
+use Rattle.std.proofs.Common.{slice_get}
+use Rattle.dvg_words.specs.Memory.{InRom}
 use Rattle.dvg_items.specs.declared.cursor.Cursor.{Cursor}
-use Rattle.dvg_items.specs.declared.known.Known.{Known}
 use Rattle.dvg_items.specs.Known.{start as first_known}
-use Rattle.dvg_make.specs.declared.partial.PartialEntry.{PartialEntry}
-use Rattle.dvg_make.specs.declared.obstacle.Obstacle.{Obstacle}
 use Rattle.dvg_make.specs.declared.account.EntryCause.TheVariants as cause
-use Rattle.dvg_make.specs.Accounts.{ShapeAt, EntryCause, IsUnique, AreUnmade, Reaches, last_shape, CauseAt, Tells}
-use Rattle.dvg_make.specs.Private.Partial.{start, shape_of, IsWaiting, IsStopped}
-use Rattle.dvg_make.specs.Private.Making.{shapes, asked_shape, IsMaking, Apart, AreLinked, InProgress, NotBegun, TellsObstacle, IsNoRoot}
+use Rattle.dvg_make.specs.Accounts.{IsUnique, AreUnmade, last_shape, CauseAt, Tells}
+use Rattle.dvg_make.specs.Private.Making.{asked_shape, AreLinked, TellsObstacle, IsNoRoot}
 use Rattle.dvg_make.proofs.Onward.{reached}
 use Rattle.dvg_make.proofs.Linking.{links_push, last_push, are_moved}
 use Rattle.dvg_make.proofs.Turns.{calls_it, apart_moved}

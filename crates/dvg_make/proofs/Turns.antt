@@ -1,32 +1,17 @@
 -- What begins, and what each turn gives.
-use Rattle.std.proofs.Common.{◌≡◌, ℕ, ◌+◌, ◌<◌, ◌≤◌, List, [], ◌∷◌, ◌++◌, length, slice_get, Some, None, refl, sym, ap, ◌∙◌, subst, arith, inl, inr, ⊎_elim, length-append}
-use Rattle.std.specs.Prelude.{Result, Ok, Err, OnOk, IfErr, IsErrAnd, false}
+use Rattle.dvg_make.proofs.Common.{◌≡◌, ℕ, ◌+◌, ◌<◌, ◌≤◌, List, [], ◌∷◌, ◌++◌, length, Some, None, refl, sym, ap, ◌∙◌, subst, arith, inl, inr, ⊎_elim, length-append, Result, Ok, Err, false, ints, Rom, rom_word, IsKey, entry_at, Entry, Key, LeadsTo, Shape, Known, ADDRESS_END, MOST_ENTRIES, MOST_WORDS, PartialEntry, HasEntry, start, IsPartial, IsWaiting, IsMaking, Apart, IsPresent, IsCalled, Chain, IsAim, NoAim, Bars, IsDone, NotBegun, InProgress, EntryCause, shape_of, listed_at}
+use Rattle.std.proofs.Common.{slice_get}
+use Rattle.std.specs.Prelude.{OnOk, IfErr, IsErrAnd}
 use Rattle.std.specs.Result.{is_err}
-use Rattle.std.proofs.lemmas.Int.{ints}
-use Rattle.dvg_words.specs.Memory.{Rom, rom_word}
-use Rattle.dvg_cert.specs.Entry.{IsKey}
-use Rattle.dvg_cert.specs.Lookup.{entry_at}
-use Rattle.dvg_cert.specs.declared.entry.Entry.{Entry}
-use Rattle.dvg_cert.specs.declared.entry.Key.{Key}
-use Rattle.dvg_items.specs.Items.{LeadsTo}
-use Rattle.dvg_items.specs.declared.item.Kind.TheVariants.{Shape}
-use Rattle.dvg_items.specs.declared.known.Known.{Known}
-use Rattle.dvg_words.specs.declared.map.TheConstants.{ADDRESS_END}
-use Rattle.dvg_cert.specs.declared.limits.TheConstants.{MOST_ENTRIES, MOST_WORDS}
-use Rattle.dvg_make.specs.declared.partial.PartialEntry.{PartialEntry}
 use Rattle.dvg_make.specs.declared.fault.EntryFault.{EntryFault}
 use Rattle.dvg_make.specs.declared.fault.EntryFault.TheVariants.{Unstraight, Deep, TooManyWords, TooManyEntries, Memory}
-use Rattle.dvg_make.specs.Made.{HasEntry}
-use Rattle.dvg_make.specs.Private.Partial.{start, IsPartial, IsWaiting}
-use Rattle.dvg_make.specs.Private.Making.{IsMaking, Apart, IsPresent, IsCalled, AllCalled, Chain, IsAim, NoAim, Bars, IsDone, NotBegun, IsBegun, InProgress}
-use Rattle.dvg_make.specs.Accounts.{EntryCause, CallsAt, Precedes, entry_fault}
+use Rattle.dvg_make.specs.Private.Making.{AllCalled, IsBegun}
+use Rattle.dvg_make.specs.Accounts.{CallsAt, Precedes, entry_fault}
 use Rattle.dvg_make.specs.declared.account.EntryCause.TheVariants as cause
-use Rattle.dvg_make.specs.Private.Partial.{shape_of}
 use Rattle.dvg_make.proofs.InMaking.{making_slice}
 use Rattle.dvg_make.proofs.Linking.{are_moved, are_pushed}
 use Rattle.dvg_make.proofs.Onward.{reached}
 use Rattle.dvg_make.proofs.Crowds.{crowded}
-use Rattle.dvg_items.proofs.Listed.{listed_at}
 use Rattle.dvg_make.proofs.Ends.{made_some}
 use Rattle.dvg_make.proofs.Chains.{none_deep, forced_begun, apart_pop, apart_push, walks_pop, walks_push, making_append, making_left, making_last, IsNeeded, needed_grows}
 

@@ -1,25 +1,9 @@
 -- A made list is good where nothing that is lit at an absolute place leaves the window.
-use Rattle.dvg_words.specs.declared.machine.Machine.{Machine}
-use Rattle.std.proofs.Common.{◌≡◌, ◌≢◌, ℕ, List, refl, sym, subst, ◌⊎◌, inl, inr, ⊎_elim}
-use Rattle.std.specs.Prelude.{Contains}
-use Rattle.dvg_words.specs.Decoding.{cell_at}
-use Rattle.dvg_words.specs.Memory.{Rom, rom_word}
-use Rattle.dvg_words.specs.Values.{Window}
-use Rattle.dvg_words.specs.declared.instruction.Cell.{Cell}
-use Rattle.dvg_words.specs.declared.instruction.Cell.TheVariants.{Missing, Odd, Holds}
-use Rattle.dvg_cert.specs.declared.entry.Entry.{Entry}
-use Rattle.dvg_items.specs.Known.{shape_context}
-use Rattle.dvg_items.specs.Seen.{seen_at}
-use Rattle.dvg_check.specs.Rules.{ShapeKeeps, CellKeeps, ShapePlaceKeeps, Good, GoodShape}
+use Rattle.dvg_make.proofs.Common.{Machine, ◌≡◌, ◌≢◌, ℕ, List, refl, sym, subst, ◌⊎◌, inl, inr, ⊎_elim, Contains, cell_at, Rom, rom_word, Window, Cell, Missing, Odd, Holds, Entry, shape_context, seen_at, ShapeKeeps, CellKeeps, Good, GoodShape, Bound, Exact, ShapeWhy, Item, Seen, EachItem, MadeEntry, in_bound}
+use Rattle.dvg_check.specs.Rules.{ShapePlaceKeeps}
 use Rattle.dvg_check.specs.declared.fault.Mode.{Mode}
-use Rattle.dvg_check.specs.declared.fault.Mode.TheVariants.{Bound, Exact}
-use Rattle.dvg_check.specs.declared.fault.ShapeWhy.{ShapeWhy}
 use Rattle.dvg_check.specs.declared.fault.ShapeWhy.TheVariants as shape
-use Rattle.dvg_items.specs.declared.item.Item.{Item}
-use Rattle.dvg_items.specs.declared.seen.Seen.{Seen}
 use Rattle.dvg_make.specs.Laws.{AllInWindow, GoodInWindow, ItemInWindow}
-use Rattle.dvg_make.specs.Made.{EachItem, MadeEntry}
-use Rattle.dvg_check.proofs.Modes.{in_bound}
 
 is_off_screen : (why : ShapeWhy) → (why ≡ shape.OffScreen) ⊎ (why ≢ shape.OffScreen)
 is_off_screen shape.Unmapped = inr (λ q. cc q)

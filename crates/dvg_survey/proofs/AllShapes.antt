@@ -1,18 +1,8 @@
 -- What the shapes of a list light at absolute places, entry after entry.
-use Rattle.std.proofs.Common.{◌≡◌, ℕ, ◌+◌, ◌<◌, ◌≤◌, List, length, get_or, sym, ◌∙◌, subst, arith, ⊎_elim}
-use Rattle.std.proofs.lemmas.Bool.{cases_lt}
+use Rattle.dvg_survey.proofs.Common.{◌≡◌, ℕ, ◌+◌, ◌<◌, ◌≤◌, List, length, get_or, sym, ◌∙◌, subst, arith, ⊎_elim, cases_lt, Contains, Rom, rom_word, Entry, LitBox, Empty, Shape, shape_context, HoldsAll, absolute_points, InBox, all_map, IsJoined}
 use Rattle.std.proofs.lemmas.List.{get_or_default}
-use Rattle.std.specs.Prelude.{Contains}
-use Rattle.dvg_words.specs.Memory.{Rom, rom_word}
-use Rattle.dvg_cert.specs.declared.entry.Entry.{Entry}
-use Rattle.dvg_cert.specs.declared.entry.LitBox.{LitBox}
-use Rattle.dvg_cert.specs.declared.entry.LitBox.TheVariants.{Empty}
-use Rattle.dvg_items.specs.declared.item.Kind.TheVariants.{Shape}
-use Rattle.dvg_items.specs.Known.{shape_context}
-use Rattle.dvg_items.specs.Least.{HoldsAll, absolute_points}
-use Rattle.dvg_items.specs.Lit.{InBox, IsInside}
-use Rattle.dvg_items.proofs.Lists.{all_map}
-use Rattle.dvg_items.proofs.LeastBoxes.{in_wider, IsJoined}
+use Rattle.dvg_items.specs.Lit.{IsInside}
+use Rattle.dvg_items.proofs.LeastBoxes.{in_wider}
 use Rattle.dvg_survey.specs.Calls.{IsExtent, IsShapesExtent, HoldsShape, HoldsShapes}
 use Rattle.dvg_survey.proofs.AllItems.{one_all}
 

@@ -1,24 +1,10 @@
 -- Which call of a shape bears out its entry's depth, and calls that do one below another.
-use Rattle.std.proofs.Common.{◌≡◌, ℕ, suc, ◌+◌, ◌-◌, ◌<◌, ◌≤◌, List, [], ◌∷◌, ◌++◌, Option, None, Some, refl, sym, ap, ◌∙◌, subst, append_assoc, arith}
+use Rattle.dvg_survey.proofs.Common.{◌≡◌, ℕ, suc, ◌+◌, ◌-◌, ◌<◌, ◌≤◌, List, [], ◌∷◌, ◌++◌, Option, None, Some, refl, sym, ap, ◌∙◌, subst, arith, AllByRecursion, Contains, Rom, rom_word, cell_at, Holds, Entry, Cursor, Item, Shape, Seen, IsClaim, IsSomeCertificate, Context, callee, scale_before, shape_context, target, listed_claim, all_append, Call, AreAll, call_of, calls_among, IsShapeCall, IsSeenAt}
+use Rattle.std.proofs.Common.{append_assoc}
 use Rattle.std.proofs.lemmas.List.{append-nil}
-use Rattle.std.specs.List.{AllByRecursion}
-use Rattle.std.specs.Prelude.{Contains}
-use Rattle.dvg_words.specs.Memory.{Rom, rom_word}
-use Rattle.dvg_words.specs.Decoding.{cell_at}
-use Rattle.dvg_words.specs.declared.instruction.Cell.TheVariants.{Holds}
-use Rattle.dvg_cert.specs.declared.entry.Entry.{Entry}
-use Rattle.dvg_items.specs.declared.cursor.Cursor.{Cursor}
-use Rattle.dvg_items.specs.declared.item.Item.{Item}
-use Rattle.dvg_items.specs.declared.item.Kind.TheVariants.{Shape}
-use Rattle.dvg_items.specs.declared.seen.Seen.{Seen}
-use Rattle.dvg_items.specs.Bounds.{IsClaim, IsSomeCertificate}
-use Rattle.dvg_items.specs.Known.{Context, callee, depth_under, scale_before, shape_context, target}
-use Rattle.dvg_items.proofs.Listed.{listed_claim, named_listed}
-use Rattle.dvg_items.proofs.Lists.{all_append}
-use Rattle.dvg_survey.specs.Calls.{Call, AreAll, call_of, calls_among}
-use Rattle.dvg_survey.specs.Chains.{IsShapeCall}
+use Rattle.dvg_items.specs.Known.{depth_under}
+use Rattle.dvg_items.proofs.Listed.{named_listed}
 use Rattle.dvg_survey.specs.Deepest.{BearsOut, BearsNot, FirstBears, GoDeepest}
-use Rattle.dvg_survey.specs.Private.Walking.{IsSeenAt}
 use Rattle.dvg_survey.proofs.Coming.{is_among}
 use Rattle.dvg_survey.proofs.Walking.{Walked, seen_is, here_leads, here_stands}
 

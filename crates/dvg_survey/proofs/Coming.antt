@@ -1,22 +1,8 @@
 -- What a frame comes to, link after link: each link is a step, and in the end no entry that the frame comes to is left out.
-use Rattle.dvg_words.specs.Values.{Source}
-use Rattle.std.proofs.Common.{◌≡◌, ℕ, ◌<◌, ◌≤◌, List, [], ◌∷◌, ◌++◌, length, Option, Some, None, refl, sym, ap, ◌∙◌, subst, arith, ⊎_elim}
-use Rattle.std.proofs.lemmas.Bool.{cases_lt}
-use Rattle.std.specs.List.{AllByRecursion}
+use Rattle.dvg_survey.proofs.Common.{Source, ◌≡◌, ℕ, ◌<◌, ◌≤◌, List, [], ◌∷◌, ◌++◌, length, Option, Some, None, refl, sym, ap, ◌∙◌, subst, arith, ⊎_elim, cases_lt, AllByRecursion, IfSome, Rom, Entry, Key, Any, entry_at, Item, Context, callee, callee_at, all_append, all_map, listed_at, Call, Stand, AreAll, call_of, calls_among, Link, AllSteps, IsBackward, IsStep, reach, reach_all}
 use Rattle.std.specs.Option.{option_or}
-use Rattle.std.specs.Prelude.{IfSome}
-use Rattle.dvg_words.specs.Memory.{Rom}
-use Rattle.dvg_cert.specs.declared.entry.Entry.{Entry}
-use Rattle.dvg_cert.specs.declared.entry.Key.{Key}
-use Rattle.dvg_cert.specs.declared.entry.Key.TheVariants.{Any}
-use Rattle.dvg_cert.specs.Lookup.{entry_at}
-use Rattle.dvg_items.specs.declared.item.Item.{Item}
-use Rattle.dvg_items.specs.Known.{Context, callee, callee_at}
-use Rattle.dvg_items.proofs.Lists.{all_append, all_left, all_map, all_right}
-use Rattle.dvg_items.proofs.Listed.{listed_at}
-use Rattle.dvg_survey.specs.Calls.{Call, Stand, AreAll, call_of, calls_among}
+use Rattle.dvg_items.proofs.Lists.{all_left, all_right}
 use Rattle.dvg_survey.specs.Chains.{Calls}
-use Rattle.dvg_survey.specs.Private.Reaching.{Link, AllSteps, IsBackward, IsStep, reach, reach_all}
 use Rattle.dvg_survey.proofs.AllItems.{stand_before, same_stand, no_more}
 use Rattle.dvg_survey.proofs.Linking.{at_or_new, at_still, reach_keeps}
 

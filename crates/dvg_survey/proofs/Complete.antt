@@ -1,27 +1,17 @@
 -- No entry that a frame comes to is left out.
 use Rattle.dvg_words.specs.declared.machine.Machine.{Machine}
-use Rattle.dvg_words.specs.Values.{Source}
-use Rattle.std.proofs.Common.{◌≡◌, ℕ, zero, suc, ◌+◌, ◌<◌, ◌≤◌, Bool, true, false, List, [], ◌∷◌, ◌++◌, length, Option, Some, None, is_some, if◌then◌else◌, refl, sym, ap, ◌∙◌, subst, arith, ⊎_elim}
+use Rattle.dvg_survey.proofs.Common.{Source, ◌≡◌, ℕ, zero, suc, ◌+◌, ◌<◌, ◌≤◌, Bool, true, false, List, [], ◌∷◌, ◌++◌, length, Option, Some, None, is_some, if◌then◌else◌, refl, sym, ap, ◌∙◌, subst, arith, ⊎_elim, cases_lt, All, AllByRecursion, Contains, slice_get, Rom, rom_word, Entry, Any, entry_at, Context, shape_context, all_map, IsClaim, IsSomeCertificate, listed_at, listed_claim, Call, IsShapeCall, LeadsOn, IsChain, Link, AllSteps, IsBackward, IsStep, entries_of, reach, reach_all, KeyedWord, AreNone, HasWord, context_of}
 use Rattle.std.proofs.lemmas.Option.{slice_get_within}
-use Rattle.std.proofs.lemmas.Bool.{cases_lt}
 use Rattle.std.proofs.lemmas.List.Elements.{All-nil, All-cons}
-use Rattle.std.specs.List.{All, AllByRecursion}
-use Rattle.std.specs.Prelude.{Contains, slice_get}
-use Rattle.dvg_words.specs.Memory.{Rom, frame_word, rom_word}
-use Rattle.dvg_cert.specs.declared.entry.Entry.{Entry}
-use Rattle.dvg_cert.specs.declared.entry.Key.TheVariants.{Any}
-use Rattle.dvg_cert.specs.Lookup.{is_at, entry_at}
+use Rattle.dvg_words.specs.Memory.{frame_word}
+use Rattle.dvg_cert.specs.Lookup.{is_at}
 use Rattle.dvg_items.specs.declared.item.Kind.TheVariants.{Frame}
-use Rattle.dvg_items.specs.Known.{Context, frame_context, shape_context}
-use Rattle.dvg_items.proofs.Lists.{all_map}
-use Rattle.dvg_items.specs.Bounds.{IsClaim, IsSomeCertificate}
-use Rattle.dvg_items.proofs.Listed.{listed_at, listed_claim}
-use Rattle.dvg_survey.specs.Calls.{Call, AreCalls}
-use Rattle.dvg_survey.specs.Chains.{Calls, IsFrameCall, IsShapeCall, LeadsOn, IsChain}
-use Rattle.dvg_survey.specs.Private.Reaching.{Link, AllSteps, IsBackward, IsReachedByFrame, IsReachedByShape, IsStep, entries_of, reach, reach_all}
-use Rattle.dvg_survey.specs.Private.KeyedWords.{KeyedWord, AreNone, HasWord}
+use Rattle.dvg_items.specs.Known.{frame_context}
+use Rattle.dvg_survey.specs.Calls.{AreCalls}
+use Rattle.dvg_survey.specs.Chains.{Calls, IsFrameCall}
+use Rattle.dvg_survey.specs.Private.Reaching.{IsReachedByFrame, IsReachedByShape}
 use Rattle.dvg_survey.specs.Private.Visiting.{CallsFrom, IsMet, AreNewCalls}
-use Rattle.dvg_survey.specs.Private.Walking.{WalkContext, context_of}
+use Rattle.dvg_survey.specs.Private.Walking.{WalkContext}
 use Rattle.dvg_survey.proofs.Linking.{at_self, at_still, reach_keeps}
 use Rattle.dvg_survey.proofs.Coming.{calls_hold, is_among, named_self, step_named, reach_steps, reach_still, all_steps, all_back}
 use Rattle.dvg_survey.proofs.Visiting.{of_each}

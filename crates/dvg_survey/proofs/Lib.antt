@@ -1,3 +1,4 @@
+pub mod Common
 pub mod AllItems
 pub mod Losing
 pub mod Walking

@@ -1,16 +1,10 @@
 -- The names of links, and one link more.
-use Rattle.std.proofs.Common.{◌≡◌, ◌≢◌, ℕ, zero, suc, ◌+◌, ◌<◌, Bool, true, false, ◌||◌, List, [], ◌∷◌, ◌++◌, take, get_or, length, Option, Some, None, is_some, if◌then◌else◌, refl, sym, ap, ◌∙◌, subst, arith, ◌⊎◌, inl, inr, ⊎_elim}
+use Rattle.dvg_survey.proofs.Common.{◌≡◌, ◌≢◌, ℕ, zero, suc, ◌+◌, ◌<◌, Bool, true, false, List, [], ◌∷◌, ◌++◌, take, get_or, length, Option, Some, None, is_some, if◌then◌else◌, refl, sym, ap, ◌∙◌, subst, arith, ◌⊎◌, inl, inr, ⊎_elim, slice_get, IsKey, Entry, Key, At, Any, entry_at, listed_at, Call, KeyedWord, word_number, is_marked, with_word, AreNone, Link, entries_of, reach, reach_all}
+use Rattle.std.proofs.Common.{◌||◌}
 use Rattle.std.proofs.lemmas.Bool.Decides.{nat_tests}
-use Rattle.std.specs.Prelude.{slice_get, ◌==◌}
-use Rattle.dvg_cert.specs.Entry.{IsKey}
-use Rattle.dvg_cert.specs.declared.entry.Entry.{Entry}
-use Rattle.dvg_cert.specs.declared.entry.Key.{Key}
-use Rattle.dvg_cert.specs.declared.entry.Key.TheVariants.{At, Any}
-use Rattle.dvg_cert.specs.Lookup.{is_at, same_key, entry_at}
-use Rattle.dvg_items.proofs.Listed.{listed_at}
-use Rattle.dvg_survey.specs.Calls.{Call}
-use Rattle.dvg_survey.specs.Private.KeyedWords.{KeyedWord, word_number, is_marked, with_word, AreNone}
-use Rattle.dvg_survey.specs.Private.Reaching.{Link, AreNames, entries_of, name_of, reach, reach_all}
+use Rattle.std.specs.Prelude.{◌==◌}
+use Rattle.dvg_cert.specs.Lookup.{is_at, same_key}
+use Rattle.dvg_survey.specs.Private.Reaching.{AreNames, name_of}
 use Rattle.dvg_survey.proofs.Marks.{here_among, others_among, here_or_other}
 
 -- an entry that is at a place is named by it

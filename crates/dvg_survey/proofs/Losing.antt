@@ -1,14 +1,8 @@
 -- Where no items lead.
-use Rattle.std.proofs.Common.{◌≡◌, ℕ, List, ◌∷◌, length, None, refl, sym, arith, ⊎_elim}
-use Rattle.std.proofs.lemmas.Bool.{cases_lt}
-use Rattle.dvg_words.specs.Values.{Source}
-use Rattle.dvg_words.specs.Decoding.{cell_at}
-use Rattle.dvg_words.specs.declared.instruction.Cell.TheVariants.{Holds}
-use Rattle.dvg_items.specs.declared.item.Item.{Item}
+use Rattle.dvg_survey.proofs.Common.{◌≡◌, ℕ, List, ◌∷◌, length, None, refl, sym, arith, ⊎_elim, cases_lt, Source, cell_at, Holds, Item, LeadsTo, next_address, AreAll}
 use Rattle.dvg_items.specs.declared.item.Kind.{Kind}
-use Rattle.dvg_items.specs.Items.{LeadsTo, next_address, AtEachOf}
+use Rattle.dvg_items.specs.Items.{AtEachOf}
 use Rattle.dvg_items.proofs.Leading.{same_lead, shorter, everywhere}
-use Rattle.dvg_survey.specs.Calls.{AreAll}
 use Rattle.dvg_survey.specs.Losses.{NoneLead}
 use Rattle.dvg_survey.proofs.AllItems.{stand_before, no_more}
 

@@ -1,13 +1,9 @@
 -- KeyedWords and their numbers, and sets of them.
-use Rattle.std.proofs.Common.{◌≡◌, ◌≢◌, ℕ, zero, suc, ◌<◌, List, Bool, true, false, length, get_or, replicate, refl, sym, ap, ◌∙◌, arith, ◌⊎◌, inl, inr, ⊎_elim}
-use Rattle.std.proofs.lemmas.Bool.{cases_lt}
+use Rattle.dvg_survey.proofs.Common.{◌≡◌, ◌≢◌, ℕ, zero, suc, ◌<◌, List, Bool, true, false, length, get_or, refl, sym, ap, ◌∙◌, arith, ◌⊎◌, inl, inr, ⊎_elim, cases_lt, ADDRESS_END, IsKey, Key, At, Any, KeyedWord, word_number, is_marked, with_word, AreNone, HasWord}
+use Rattle.std.proofs.Common.{replicate}
 use Rattle.std.proofs.lemmas.List.{get_or-set_same, get_or-set_other}
-use Rattle.dvg_words.specs.declared.map.TheConstants.{ADDRESS_END}
-use Rattle.dvg_cert.specs.Entry.{IsKey}
-use Rattle.dvg_cert.specs.declared.entry.Key.{Key}
-use Rattle.dvg_cert.specs.declared.entry.Key.TheVariants.{At, Any}
 use Rattle.dvg_check.specs.Private.Tails.{key_number}
-use Rattle.dvg_survey.specs.Private.KeyedWords.{KeyedWord, MOST_KEYED_WORDS, word_number, is_marked, with_word, AreNone, HasWord}
+use Rattle.dvg_survey.specs.Private.KeyedWords.{MOST_KEYED_WORDS}
 
 key_below : (k : Key) → IsKey k → key_number k < 17
 key_below (At n) h = omega (arith, h)

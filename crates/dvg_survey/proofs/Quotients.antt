@@ -1,15 +1,9 @@
 -- Whole places from which a distance leads no further than to a screen place, and those at which a box lies in the window.
-use Rattle.std.proofs.Common.{◌≡◌, ℤ, pos, ◌+ℤ◌, ◌-ℤ◌, ◌*ℤ◌, ◌≤ℤ◌, ◌↔◌, sym, subst, arith}
-use Rattle.std.specs.Int.{int_div_euclid}
+use Rattle.dvg_survey.proofs.Common.{◌≡◌, pos, ◌-ℤ◌, sym, subst, arith, int_div_euclid, End, Entry, LitBox, Span, LitExtent, Seen}
+use Rattle.std.proofs.Common.{ℤ, ◌+ℤ◌, ◌*ℤ◌, ◌≤ℤ◌, ◌↔◌}
 use Rattle.std.proofs.lemmas.Int.{ints}
 use Rattle.dvg_words.specs.Values.{Window}
 use Rattle.dvg_cert.specs.Entry.{IsBox}
-use Rattle.dvg_cert.specs.declared.entry.End.{End}
-use Rattle.dvg_cert.specs.declared.entry.Entry.{Entry}
-use Rattle.dvg_cert.specs.declared.entry.LitBox.{LitBox}
-use Rattle.dvg_cert.specs.declared.entry.LitBox.TheVariants.{Span}
-use Rattle.dvg_items.specs.declared.lit.LitExtent.{LitExtent}
-use Rattle.dvg_items.specs.declared.seen.Seen.{Seen}
 use Rattle.dvg_items.specs.Lit.{LitInWindow, box_extent}
 use Rattle.dvg_survey.specs.Places.{CallPlaces, HasPlace, IsCallAt, whole_place}
 

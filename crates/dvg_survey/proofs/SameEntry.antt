@@ -1,14 +1,7 @@
 -- The test of equality tells whether entries are the same.
-use Rattle.std.proofs.Common.{◌≡◌, refl, ap}
+use Rattle.dvg_survey.proofs.Common.{◌≡◌, refl, ap, Entry, Key, At, Any, End, Rel, Abs, Lost, LitBox, Empty, Span}
 use Rattle.std.specs.Bool.{Decides}
 use Rattle.std.proofs.lemmas.Bool.Decides.{Decides-and, Decides-eqb, Decides-int_eq, Decides-like}
-use Rattle.dvg_cert.specs.declared.entry.Entry.{Entry}
-use Rattle.dvg_cert.specs.declared.entry.Key.{Key}
-use Rattle.dvg_cert.specs.declared.entry.Key.TheVariants.{At, Any}
-use Rattle.dvg_cert.specs.declared.entry.End.{End}
-use Rattle.dvg_cert.specs.declared.entry.End.TheVariants.{Rel, Abs, Lost}
-use Rattle.dvg_cert.specs.declared.entry.LitBox.{LitBox}
-use Rattle.dvg_cert.specs.declared.entry.LitBox.TheVariants.{Empty, Span}
 use Rattle.dvg_cert.specs.contracts.entry.KeyPartialEq.TheImpl as key
 use Rattle.dvg_cert.specs.contracts.entry.EndPartialEq.TheImpl as end
 use Rattle.dvg_cert.specs.contracts.entry.LitBoxPartialEq.TheImpl as box

@@ -1,38 +1,19 @@
 -- An item and what stands behind it light together what the shape from the item on lights.
 use Rattle.dvg_words.specs.declared.machine.Machine.{Machine}
-use Rattle.std.proofs.Common.{◌≡◌, ℕ, pos, ◌+◌, ◌-◌, ◌<◌, ◌≤◌, List, [], ◌∷◌, ◌++◌, Option, Some, None, refl, sym, ap, ◌∙◌, subst, arith}
-use Rattle.dvg_words.specs.Decoding.{cell_at}
-use Rattle.dvg_words.specs.Memory.{Rom, rom_word}
-use Rattle.dvg_words.specs.declared.beam.Point.{Point}
-use Rattle.dvg_words.specs.declared.instruction.Cell.TheVariants.{Holds}
-use Rattle.dvg_words.specs.declared.map.TheConstants.{ADDRESS_END}
-use Rattle.dvg_cert.specs.declared.entry.End.{End}
-use Rattle.dvg_cert.specs.declared.entry.End.TheVariants.{Rel, Abs, Lost}
-use Rattle.dvg_cert.specs.declared.entry.Entry.{Entry}
-use Rattle.dvg_cert.specs.declared.entry.Key.{Key}
-use Rattle.dvg_cert.specs.declared.entry.LitBox.{LitBox}
-use Rattle.dvg_cert.specs.declared.entry.LitBox.TheVariants.{Empty}
+use Rattle.dvg_survey.proofs.Common.{◌≡◌, ℕ, pos, ◌+◌, ◌-◌, ◌<◌, ◌≤◌, List, [], ◌∷◌, ◌++◌, Option, Some, None, refl, sym, ap, ◌∙◌, subst, arith, cell_at, Rom, rom_word, Point, Holds, ADDRESS_END, End, Rel, Abs, Lost, Entry, Key, LitBox, Empty, LeadsTo, next_address, callee_at, target, HoldsAll, IsLeast, absolute_points, InBox, absolute_corners, relative_corners, seen_at, Cursor, Item, Shape, Known, Seen, IsJoined, all_append, Stand, AreAll, LitFrom, keyed, relative_part, absolute_part}
 use Rattle.dvg_items.specs.Bounds.{IsNearPlace}
-use Rattle.dvg_items.specs.Items.{LeadsTo, next_address}
 use Rattle.dvg_items.specs.Cursor.{first_cursor}
-use Rattle.dvg_items.specs.Known.{callee_at, known_before, known_past, start, target}
-use Rattle.dvg_items.specs.Least.{HoldsAll, IsLeast, lit_points, absolute_points}
-use Rattle.dvg_items.specs.Lit.{InBox, extent_of, absolute_corners, relative_corners}
-use Rattle.dvg_items.specs.Seen.{seen_at, seen_with}
-use Rattle.dvg_items.specs.declared.cursor.Cursor.{Cursor}
-use Rattle.dvg_items.specs.declared.item.Item.{Item}
-use Rattle.dvg_items.specs.declared.item.Kind.TheVariants.{Shape}
-use Rattle.dvg_items.specs.declared.known.Known.{Known}
-use Rattle.dvg_items.specs.declared.seen.Seen.{Seen}
-use Rattle.dvg_items.proofs.LeastBoxes.{IsJoined}
-use Rattle.dvg_items.proofs.Lists.{all_append, all_left, all_right}
+use Rattle.dvg_items.specs.Known.{known_before, known_past, start}
+use Rattle.dvg_items.specs.Least.{lit_points}
+use Rattle.dvg_items.specs.Lit.{extent_of}
+use Rattle.dvg_items.specs.Seen.{seen_with}
+use Rattle.dvg_items.proofs.Lists.{all_left, all_right}
 use Rattle.dvg_items.proofs.Near.{next_further}
 use Rattle.dvg_check.specs.Private.Judging.{seen_by}
 use Rattle.dvg_check.specs.Private.Tails.{IsNearBox, first_seen, known_over}
 use Rattle.dvg_check.proofs.TailLaws.{seen_over, seen_by_over, over_none}
 use Rattle.dvg_check.proofs.TailSizes.{IsNearBox-joined, IsNearBox-more, IsNearBox-moved}
-use Rattle.dvg_survey.specs.Calls.{Stand, AreAll}
-use Rattle.dvg_survey.specs.Private.Lighting.{LitFrom, IsLitFrom, keyed, relative_part, absolute_part}
+use Rattle.dvg_survey.specs.Private.Lighting.{IsLitFrom}
 use Rattle.dvg_survey.proofs.TailPoints.{relative_from, absolute_from, relative_from_both, absolute_from_both, relative_over, absolute_over, relative_least, absolute_least, both_least, and_none, no_relative, no_absolute}
 use Rattle.dvg_survey.proofs.Walking.{least_none}
 

@@ -1,22 +1,13 @@
 -- What is lit behind an item, from the points that a tail lights.
-use Rattle.std.proofs.Common.{◌≡◌, List, [], ◌∷◌, ◌++◌, refl, sym, ap, subst, arith}
+use Rattle.dvg_survey.proofs.Common.{◌≡◌, List, [], ◌∷◌, ◌++◌, refl, sym, ap, subst, arith, Point, End, Rel, Abs, Lost, LitBox, Empty, Span, HoldsAll, IsLeast, LitExtent, InBox, absolute_corners, relative_corners, IsJoined, all_map, relative_part, absolute_part}
 use Rattle.std.proofs.lemmas.Int.{ints}
 use Rattle.std.specs.Prelude.{map, ◌-ℤ◌}
 use Rattle.dvg_words.specs.Beam.{origin, shift}
-use Rattle.dvg_words.specs.declared.beam.Point.{Point}
-use Rattle.dvg_cert.specs.declared.entry.End.{End}
-use Rattle.dvg_cert.specs.declared.entry.End.TheVariants.{Rel, Abs, Lost}
-use Rattle.dvg_cert.specs.declared.entry.LitBox.{LitBox}
-use Rattle.dvg_cert.specs.declared.entry.LitBox.TheVariants.{Empty, Span}
-use Rattle.dvg_items.specs.Least.{HoldsAll, IsLeast}
-use Rattle.dvg_items.specs.declared.lit.LitExtent.{LitExtent}
 use Rattle.dvg_items.specs.declared.lit.LitExtent.TheVariants.{Nothing, Between, Anywhere}
-use Rattle.dvg_items.specs.Lit.{InBox, IsInside, corners, absolute_corners, relative_corners}
-use Rattle.dvg_items.proofs.LeastBoxes.{IsJoined, in_wider}
+use Rattle.dvg_items.specs.Lit.{IsInside, corners}
+use Rattle.dvg_items.proofs.LeastBoxes.{in_wider}
 use Rattle.dvg_items.proofs.Points.{origin_shift, shift_shift}
-use Rattle.dvg_items.proofs.Lists.{all_map}
 use Rattle.dvg_check.specs.Private.Tails.{moved, place_over}
-use Rattle.dvg_survey.specs.Private.Lighting.{relative_part, absolute_part}
 use Rattle.dvg_survey.proofs.Walking.{least_none}
 
 -- ---- points, seen from a place

@@ -1,11 +1,9 @@
 -- What is kept of the tails.
-use Rattle.std.proofs.Common.{arith, List, Option, None, Some, zero, suc, length, get_or, replicate, refl, sym, subst, ◌≡◌, ◌≢◌, ◌<◌, ◌∙◌, ℕ, ⊎_elim}
-use Rattle.std.proofs.lemmas.Bool.{cases_lt}
+use Rattle.dvg_survey.proofs.Common.{arith, List, Option, None, Some, zero, suc, length, get_or, refl, sym, subst, ◌≡◌, ◌≢◌, ◌<◌, ◌∙◌, ℕ, ⊎_elim, cases_lt, Rom, Entry, AreTails, LitFrom}
+use Rattle.std.proofs.Common.{replicate}
 use Rattle.std.proofs.lemmas.List.{get_or-set_same, get_or-set_other}
 use Rattle.std.proofs.Math.ListN.{set}
-use Rattle.dvg_words.specs.Memory.{Rom}
-use Rattle.dvg_cert.specs.declared.entry.Entry.{Entry}
-use Rattle.dvg_survey.specs.Private.Lighting.{AreTails, IsLitFrom, LitFrom}
+use Rattle.dvg_survey.specs.Private.Lighting.{IsLitFrom}
 
 none_at : (n k : ℕ) → get_or {A = Option LitFrom} (replicate n None) k None ≡ None
 none_at zero k = refl

@@ -1,12 +1,8 @@
 -- A chain followed back from a link to the frame.
-use Rattle.std.proofs.Common.{◌≡◌, ℕ, ◌+◌, ◌<◌, List, [], ◌∷◌, ◌++◌, length, reverse, Option, None, Some, refl, sym, ap, ◌∙◌, subst, arith}
-use Rattle.std.specs.Prelude.{slice_get, IfSome}
+use Rattle.dvg_survey.proofs.Common.{◌≡◌, ℕ, ◌+◌, ◌<◌, List, [], ◌∷◌, ◌++◌, length, Option, None, Some, refl, sym, ap, ◌∙◌, subst, arith, slice_get, IfSome, Rom, Entry, Call, LeadsOn, IsChain, Link, AllSteps, IsBackward, IsStep}
+use Rattle.std.proofs.Common.{reverse}
 use Rattle.std.proofs.lemmas.List.{reverse-append}
-use Rattle.dvg_words.specs.Memory.{Rom}
-use Rattle.dvg_cert.specs.declared.entry.Entry.{Entry}
-use Rattle.dvg_survey.specs.Calls.{Call}
-use Rattle.dvg_survey.specs.Chains.{LeadsOn, IsChain}
-use Rattle.dvg_survey.specs.Private.Reaching.{Link, AllSteps, IsBackward, IsStep, IsTrace}
+use Rattle.dvg_survey.specs.Private.Reaching.{IsTrace}
 
 -- these calls lead from the link at an index, or where there is none from the frame, to the goal
 abbrev pub Leads : Rom → List ℕ → List Entry → List Link → Option ℕ → List Call → Entry → Type 0

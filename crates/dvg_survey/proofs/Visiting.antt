@@ -1,27 +1,12 @@
 -- A walk over a shape that stops where an earlier one came by: what is called from there on was met then.
-use Rattle.std.proofs.Common.{◌≡◌, ℕ, ◌+◌, ◌<◌, ◌≤◌, List, [], ◌∷◌, ◌++◌, Option, Some, None, refl, sym, ap, ◌∙◌, subst, arith, ◌⊎◌, inl, inr, ⊎_elim, Bool, true, zero, suc}
+use Rattle.dvg_survey.proofs.Common.{◌≡◌, ℕ, ◌+◌, ◌<◌, ◌≤◌, List, [], ◌∷◌, ◌++◌, Option, Some, None, refl, sym, ap, ◌∙◌, subst, arith, ◌⊎◌, inl, inr, ⊎_elim, Bool, true, zero, suc, Contains, AllByRecursion, cell_at, Rom, rom_word, Holds, Entry, Key, IsKey, LeadsTo, next_address, callee_at, scale_before, shape_context, target, Item, Shape, Call, call_of, calls_among, IsShapeCall, keyed, KeyedWord, is_marked, with_word, HasWord}
 use Rattle.std.proofs.lemmas.List.Elements.{Contains-append_left, Contains-append_right}
 use Rattle.std.specs.Option.{unwrap_or}
-use Rattle.std.specs.Prelude.{Contains}
-use Rattle.std.specs.List.{AllByRecursion}
-use Rattle.dvg_words.specs.Decoding.{cell_at}
-use Rattle.dvg_words.specs.Memory.{Rom, rom_word}
-use Rattle.dvg_words.specs.declared.instruction.Cell.TheVariants.{Holds}
 use Rattle.dvg_words.specs.declared.instruction.Format.{Format}
 use Rattle.dvg_words.specs.declared.instruction.Instr.{Instr}
-use Rattle.dvg_cert.specs.declared.entry.Entry.{Entry}
-use Rattle.dvg_cert.specs.declared.entry.Key.{Key}
-use Rattle.dvg_cert.specs.Entry.{IsKey}
-use Rattle.dvg_items.specs.Items.{LeadsTo, next_address}
-use Rattle.dvg_items.specs.Known.{callee_at, scale_before, scale_set, shape_context, target}
-use Rattle.dvg_items.specs.declared.item.Item.{Item}
-use Rattle.dvg_items.specs.declared.item.Kind.TheVariants.{Shape}
+use Rattle.dvg_items.specs.Known.{scale_set}
 use Rattle.dvg_items.proofs.Leading.{item_same}
 use Rattle.dvg_items.proofs.Near.{next_further}
-use Rattle.dvg_survey.specs.Calls.{Call, call_of, calls_among}
-use Rattle.dvg_survey.specs.Chains.{IsShapeCall}
-use Rattle.dvg_survey.specs.Private.Lighting.{keyed}
-use Rattle.dvg_survey.specs.Private.KeyedWords.{KeyedWord, is_marked, with_word, HasWord}
 use Rattle.dvg_survey.specs.Private.Visiting.{CallsFrom, IsMet, AllMet, AreNewCalls}
 use Rattle.dvg_survey.proofs.AllItems.{stand_before}
 use Rattle.dvg_survey.proofs.Coming.{calls_hold}

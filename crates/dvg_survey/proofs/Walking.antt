@@ -1,32 +1,17 @@
 -- What a walk over all items keeps, and what follows where it stops.
-use Rattle.dvg_words.specs.Values.{Source}
-use Rattle.std.proofs.Common.{◌≡◌, ℕ, List, [], ◌∷◌, Option, Some, None, refl, sym, ap, ◌∙◌, ◌++◌, subst}
+use Rattle.dvg_survey.proofs.Common.{Source, ◌≡◌, ℕ, List, [], ◌∷◌, Option, Some, None, refl, sym, ap, ◌∙◌, ◌++◌, subst, cell_at, Point, Holds, LitBox, Empty, Item, Known, Seen, Cursor, LeadsTo, Context, callee_at, scale_before, target, seen_at, IsLeast, absolute_points, absolute_corners, Call, Stand, AreAll, call_of, calls_among, IsSeenAt}
 use Rattle.std.specs.Prelude.{IfNone}
-use Rattle.dvg_words.specs.Decoding.{cell_at}
-use Rattle.dvg_words.specs.declared.beam.Point.{Point}
-use Rattle.dvg_words.specs.declared.instruction.Cell.TheVariants.{Holds}
 use Rattle.dvg_words.specs.declared.instruction.Format.{Format}
 use Rattle.dvg_words.specs.declared.instruction.Instr.{Instr}
-use Rattle.dvg_cert.specs.declared.entry.LitBox.{LitBox}
-use Rattle.dvg_cert.specs.declared.entry.LitBox.TheVariants.{Empty}
-use Rattle.dvg_items.specs.declared.item.Item.{Item}
-use Rattle.dvg_items.specs.declared.known.Known.{Known}
-use Rattle.dvg_items.specs.declared.seen.Seen.{Seen}
-use Rattle.dvg_items.specs.declared.cursor.Cursor.{Cursor}
 use Rattle.dvg_items.specs.declared.cursor.Step.{Step}
 use Rattle.dvg_items.specs.declared.cursor.Step.TheVariants.{Onward, Last}
-use Rattle.dvg_items.specs.Items.{LeadsTo}
-use Rattle.dvg_items.specs.Known.{Context, callee_at, known_before, place_before, scale_before, target}
-use Rattle.dvg_items.specs.Seen.{seen_at, seen_with}
+use Rattle.dvg_items.specs.Known.{known_before, place_before}
+use Rattle.dvg_items.specs.Seen.{seen_with}
 use Rattle.dvg_items.specs.Cursor.{first_cursor, step_past}
 use Rattle.dvg_items.specs.Bounds.{IsSoundCursor, IsSoundStep}
 use Rattle.dvg_items.proofs.Stepping.{leads_on, ends_at}
-use Rattle.dvg_items.specs.Least.{IsLeast, absolute_points}
-use Rattle.dvg_items.specs.Lit.{absolute_corners}
-use Rattle.dvg_survey.specs.Calls.{Call, Stand, AreAll, call_of, calls_among}
 use Rattle.dvg_survey.specs.Clipping.{AreClippedAmong, ClippedPast}
 use Rattle.dvg_survey.specs.Losses.{place_loss, place_lost_by, scale_loss, scale_lost_by}
-use Rattle.dvg_survey.specs.Private.Walking.{IsSeenAt}
 use Rattle.dvg_survey.proofs.AllItems.{stand_before}
 
 -- these items lead to where the walk stands, and what is known there is known of them

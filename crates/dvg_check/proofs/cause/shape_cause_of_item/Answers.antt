@@ -1,7 +1,4 @@
-use Rattle.std.proofs.Common.{refl, subst, sym}
-use Rattle.dvg_items.specs.Items.{next_address}
-use Rattle.dvg_items.specs.declared.item.Kind.TheVariants.{Shape}
-use Rattle.dvg_check.specs.Rules.{ShapeKeeps}
+use Rattle.dvg_check.proofs.Common.{refl, subst, sym, next_address, Shape, ShapeKeeps}
 use Rattle.dvg_check.proofs.Broken.{at_last, as_claimed}
 use Rattle.dvg_check.proofs.cause.shape_cause_of_item.Goals as goal
 

@@ -1,10 +1,8 @@
-use Rattle.std.proofs.Common.{ℕ, List, Result, Err, length, subst, ◌≡◌, ◌∙◌, ap}
-use Rattle.dvg_words.specs.Values.{Window}
-use Rattle.dvg_words.specs.Memory.{Rom, rom_on, IsRomLength}
-use Rattle.dvg_words.specs.declared.machine.Machine.{Machine}
+use Rattle.dvg_check.proofs.Common.{ℕ, List, length, subst, ◌≡◌, ◌∙◌, ap, Window, Rom, Machine, Mode}
+use Rattle.std.proofs.Common.{Result, Err}
+use Rattle.dvg_words.specs.Memory.{rom_on, IsRomLength}
 use Rattle.dvg_words.specs.declared.image.ImageFault.TheVariants.{RomLength}
 use Rattle.dvg_cert.specs.Order.{Certificate}
-use Rattle.dvg_check.specs.declared.fault.Mode.{Mode}
 use Rattle.dvg_check.specs.declared.verdict.Yes.{Yes}
 use Rattle.dvg_check.specs.declared.verdict.Refusal.{Refusal}
 use Rattle.dvg_check.specs.declared.verdict.Refusal.TheVariants as refusal

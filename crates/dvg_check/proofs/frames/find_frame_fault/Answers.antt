@@ -1,8 +1,5 @@
-use Rattle.dvg_check.specs.FirstFault.{frame_number}
-use Rattle.dvg_check.specs.Rules.{FrameKeeps}
+use Rattle.dvg_check.proofs.Common.{frame_number, FrameKeeps, frame_context, frame_word}
 use Rattle.dvg_check.specs.declared.fault.FrameWhy.TheVariants as frame
-use Rattle.dvg_items.specs.Known.{frame_context}
-use Rattle.dvg_words.specs.Memory.{frame_word}
 use Rattle.dvg_check.proofs.Broken.{broken}
 use Rattle.dvg_check.proofs.Faults.{rule_of, rule_of-number}
 use Rattle.dvg_check.proofs.FrameWalk.{good_frame}

@@ -1,6 +1,5 @@
-use Rattle.std.proofs.Common.{arith, ℤ, inl, inr}
+use Rattle.dvg_check.proofs.Common.{arith, ℤ, inl, inr, ints}
 use Rattle.std.specs.Prelude.{◌≤ℤ◌}
-use Rattle.std.proofs.lemmas.Int.{ints}
 use Rattle.dvg_check.specs.Laws.{IsBetween}
 use Rattle.dvg_check.proofs.laws.stroke_in_window.Goals as goal
 

@@ -1,8 +1,6 @@
 use Rattle.dvg_check.specs.FirstFault.{shape_number}
-use Rattle.dvg_check.specs.Rules.{ShapeKeeps}
+use Rattle.dvg_check.proofs.Common.{ShapeKeeps, shape_context, rom_word}
 use Rattle.dvg_check.specs.declared.fault.ShapeWhy.TheVariants as shape
-use Rattle.dvg_items.specs.Known.{shape_context}
-use Rattle.dvg_words.specs.Memory.{rom_word}
 use Rattle.dvg_check.proofs.Broken.{broken}
 use Rattle.dvg_check.proofs.Faults.{shape_rule_of, shape_rule_of-number}
 use Rattle.dvg_check.proofs.shapes.find_entry_fault.Goals as goal

@@ -1,8 +1,4 @@
-use Rattle.std.proofs.Common.{◌+◌, ap, arith, length, pos}
-use Rattle.dvg_cert.specs.declared.entry.Key.TheVariants.{At}
-use Rattle.dvg_cert.specs.declared.entry.End.TheVariants.{Rel}
-use Rattle.dvg_cert.specs.declared.entry.LitBox.TheVariants.{Empty}
-use Rattle.dvg_cert.specs.declared.entry.Entry.{Entry}
+use Rattle.dvg_check.proofs.Common.{◌+◌, ap, arith, length, pos, At, Rel, Empty, Entry}
 use Rattle.dvg_check.proofs.Listed.{faulty_found, good_more}
 use Rattle.dvg_check.proofs.shapes.find_shape_fault.Goals as goal
 

@@ -1,6 +1,4 @@
-use Rattle.std.proofs.Common.{◌-◌, ◌≤◌, length, take}
-use Rattle.std.specs.List.{AllByRecursion}
-use Rattle.dvg_check.specs.Rules.{GoodShape}
+use Rattle.dvg_check.proofs.Common.{◌-◌, ◌≤◌, length, take, AllByRecursion, GoodShape}
 use Rattle.dvg_check.proofs.shapes.find_shape_fault.Given as goal
 
 abbrev pub invariant-entries : goal.invariant-entries

@@ -1,7 +1,4 @@
-use Rattle.std.proofs.Common.{sym, subst, pos}
-use Rattle.dvg_cert.specs.declared.entry.End.TheVariants.{Rel}
-use Rattle.dvg_items.specs.declared.lit.LitExtent.{LitExtent}
-use Rattle.dvg_items.specs.Lit.{InBox, LitInBox}
+use Rattle.dvg_check.proofs.Common.{sym, subst, pos, Rel, LitExtent, InBox, LitInBox}
 use Rattle.dvg_items.specs.Bounds.{IsNearExtent}
 use Rattle.dvg_items.proofs.Points.{origin_shift}
 use Rattle.dvg_check.proofs.TailSizes.{IsNearBox-spanning}

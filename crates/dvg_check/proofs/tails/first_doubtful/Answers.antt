@@ -1,12 +1,5 @@
-use Rattle.std.proofs.Common.{arith, List, pos, refl, sym, subst, get_or, take, ◌≡◌, ◌-◌, ◌≤◌, ◌<◌, ℕ, ⊎_elim}
-use Rattle.std.proofs.lemmas.Bool.{cases_lt}
+use Rattle.dvg_check.proofs.Common.{arith, List, pos, refl, sym, subst, get_or, take, ◌≡◌, ◌-◌, ◌≤◌, ◌<◌, ℕ, ⊎_elim, cases_lt, AllByRecursion, Rel, Entry, At, Empty, GoodShape}
 use Rattle.std.proofs.lemmas.List.{get_or_default}
-use Rattle.std.specs.List.{AllByRecursion}
-use Rattle.dvg_cert.specs.declared.entry.End.TheVariants.{Rel}
-use Rattle.dvg_cert.specs.declared.entry.Entry.{Entry}
-use Rattle.dvg_cert.specs.declared.entry.Key.TheVariants.{At}
-use Rattle.dvg_cert.specs.declared.entry.LitBox.TheVariants.{Empty}
-use Rattle.dvg_check.specs.Rules.{GoodShape}
 use Rattle.dvg_check.proofs.TailRows.{all_take, claim_at, none_kept}
 use Rattle.dvg_check.proofs.tails.first_doubtful.Goals as goal
 

@@ -1,8 +1,4 @@
-use Rattle.std.proofs.Common.{◌≤◌, ◌<◌, length, get_or, ℕ}
-use Rattle.dvg_words.specs.declared.map.TheConstants.{ADDRESS_END}
-use Rattle.dvg_cert.specs.declared.entry.Entry.{Entry}
-use Rattle.dvg_check.specs.Rules.{GoodShape}
-use Rattle.dvg_check.specs.Private.Tails.{AreTails}
+use Rattle.dvg_check.proofs.Common.{◌≤◌, ◌<◌, length, get_or, ℕ, ADDRESS_END, Entry, GoodShape, AreTails}
 use Rattle.dvg_check.proofs.tails.first_doubtful.Given as goal
 
 -- the entries from here on, up to the first that is doubtful so far, are good

@@ -1,6 +1,4 @@
-use Rattle.std.proofs.Common.{◌-◌, ◌≤◌}
-use Rattle.dvg_words.specs.declared.map.TheConstants.{ADDRESS_END}
-use Rattle.dvg_check.specs.Private.Tails.{AreTails}
+use Rattle.dvg_check.proofs.Common.{◌-◌, ◌≤◌, ADDRESS_END, AreTails}
 use Rattle.dvg_check.proofs.tails.make_all.Given as goal
 
 abbrev pub invariant-places : goal.invariant-places

@@ -1,5 +1,4 @@
-use Rattle.std.proofs.Common.{sym, subst}
-use Rattle.dvg_check.specs.Private.Tails.{AreTails}
+use Rattle.dvg_check.proofs.Common.{sym, subst, AreTails}
 use Rattle.dvg_check.specs.declared.tails.Tails.{Tails}
 use Rattle.dvg_check.proofs.tails.make_tails.Goals as goal
 use Rattle.dvg_check.proofs.tails.make_tails.Goals.{then-has+in-Some, then-has+in_default-tail_at, else-has}

@@ -1,8 +1,4 @@
-use Rattle.std.proofs.Common.{arith, sym, ap, Some, ◌≡◌, ◌+◌, ◌-◌, ◌≤◌, ◌∙◌}
-use Rattle.dvg_words.specs.declared.map.TheConstants.{ADDRESS_END}
-use Rattle.dvg_cert.specs.declared.entry.Entry.{Entry}
-use Rattle.dvg_items.specs.Items.{next_address}
-use Rattle.dvg_items.specs.declared.item.Kind.TheVariants.{Shape}
+use Rattle.dvg_check.proofs.Common.{arith, sym, ap, Some, ◌≡◌, ◌+◌, ◌-◌, ◌≤◌, ◌∙◌, ADDRESS_END, Entry, next_address, Shape}
 use Rattle.dvg_items.proofs.Near.{next_near}
 use Rattle.dvg_check.proofs.TailSizes.{IsSmall-more}
 use Rattle.dvg_check.proofs.TailSteps.{alone, before_some}

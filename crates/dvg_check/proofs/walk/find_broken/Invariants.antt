@@ -1,7 +1,4 @@
-use Rattle.std.proofs.Common.{◌≡◌, ◌-◌, ◌+◌}
-use Rattle.dvg_words.specs.declared.map.TheConstants.{ADDRESS_END}
-use Rattle.dvg_items.specs.Known.{Context}
-use Rattle.dvg_check.specs.Rules.{PlaceKeeps}
+use Rattle.dvg_check.proofs.Common.{◌≡◌, ◌-◌, ◌+◌, ADDRESS_END, Context, PlaceKeeps}
 use Rattle.dvg_check.proofs.Loop.{Walked}
 use Rattle.dvg_check.proofs.walk.find_broken.Given as goal
 

@@ -1,6 +1,4 @@
-use Rattle.std.proofs.Common.{◌≢◌, ◌∙◌, sym, subst, inl, inr}
-use Rattle.dvg_spelling.specs.Faults.{frames_run_number}
-use Rattle.dvg_cmd.specs.MakingFrames.{of_each, FramesFaultMeans}
+use Rattle.dvg_cmd.proofs.Common.{◌≢◌, ◌∙◌, sym, subst, inl, inr, frames_run_number, of_each, FramesFaultMeans}
 use Rattle.dvg_cmd.specs.Comparing.{ComparisonFaultMeans}
 use Rattle.dvg_cmd.proofs.MakerRuns.{wrong_length}
 use Rattle.dvg_cmd.proofs.FramesRuns.{told_err, frames_refused, lengths_refused}

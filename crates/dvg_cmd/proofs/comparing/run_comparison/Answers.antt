@@ -1,11 +1,9 @@
-use Rattle.std.proofs.Common.{◌≢◌, ◌↔◌, ◌<◌, IsTrue, length, sym, subst}
-use Rattle.dvg_spelling.specs.Faults.{frames_run_number}
+use Rattle.dvg_cmd.proofs.Common.{◌≢◌, ◌<◌, length, sym, subst, frames_run_number, of_each, IsPrefix, ArePrefixes}
+use Rattle.std.proofs.Common.{◌↔◌, IsTrue}
 use Rattle.dvg_cmd.specs.Comparing.{ComparisonFaultMeans}
 use Rattle.dvg_cmd.proofs.FramesRuns.{told_err}
 use Rattle.dvg_cmd.proofs.ComparisonRuns.{first_failed, second_failed}
-use Rattle.dvg_cmd.specs.MakingFrames.{of_each}
 use Rattle.dvg_cmd.specs.Runs.{MOST_ROM_READ}
-use Rattle.dvg_cmd.specs.Private.Reading.{IsPrefix, ArePrefixes}
 use Rattle.dvg_cmd.proofs.comparing.run_comparison.Goals as goal
 
 pub returns-in_default-clause-rom_counts : goal.returns-in_default-clause-rom_counts

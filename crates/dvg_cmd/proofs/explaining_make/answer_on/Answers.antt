@@ -1,6 +1,4 @@
-use Rattle.std.proofs.Common.{◌∙◌, sym, subst, ap, length}
-use Rattle.std.specs.Prelude.{IfErr}
-use Rattle.dvg_cmd.specs.MakingFrames.{of_each, FramesFaultMeans}
+use Rattle.dvg_cmd.proofs.Common.{◌∙◌, sym, subst, ap, length, IfErr, of_each, FramesFaultMeans}
 use Rattle.dvg_make.proofs.Causes.{account_cause}
 use Rattle.dvg_cmd.proofs.MakerRuns.{wrong_length}
 use Rattle.dvg_cmd.proofs.FramesRuns.{frames_made, frames_refused, lengths_refused}

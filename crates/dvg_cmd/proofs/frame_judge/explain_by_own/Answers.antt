@@ -1,7 +1,4 @@
-use Rattle.std.proofs.Common.{sym, subst}
-use Rattle.std.specs.Prelude.{Result}
-use Rattle.dvg_check.specs.declared.verdict.Yes.{Yes}
-use Rattle.dvg_make.specs.declared.judging.FrameRefusal.{FrameRefusal}
+use Rattle.dvg_cmd.proofs.Common.{sym, subst, Result, Yes, FrameRefusal}
 use Rattle.dvg_cmd.specs.Frames.{VerdictOnBytes}
 use Rattle.dvg_cmd.proofs.Framing.{own_verdict}
 use Rattle.dvg_cmd.proofs.frame_judge.explain_by_own.Goals as goal

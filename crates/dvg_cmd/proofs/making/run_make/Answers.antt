@@ -1,6 +1,5 @@
-use Rattle.std.proofs.Common.{[], subst}
+use Rattle.dvg_cmd.proofs.Common.{[], subst, FramesFaultMeans}
 use Rattle.dvg_words.specs.declared.machine.Machine.TheVariants.{Profile}
-use Rattle.dvg_cmd.specs.MakingFrames.{FramesFaultMeans}
 use Rattle.dvg_cmd.proofs.RootsRuns.{roots_written, roots_cut, roots_fault}
 use Rattle.dvg_cmd.proofs.making.run_make.Goals as goal
 

@@ -1,5 +1,4 @@
-use Rattle.std.proofs.Common.{◌+◌, ◌++◌, ◌∷◌, [], ap, ◌∙◌, arith}
-use Rattle.dvg_words.specs.Memory.{words_of}
+use Rattle.dvg_cmd.proofs.Common.{◌+◌, ◌++◌, ◌∷◌, [], ap, ◌∙◌, arith, words_of}
 use Rattle.dvg_cmd.proofs.SeveralFrames.{frames_next, words_next, wrong_here}
 use Rattle.dvg_cmd.proofs.making_frames.images_of.Goals as goal
 

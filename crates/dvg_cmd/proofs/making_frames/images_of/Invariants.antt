@@ -1,6 +1,4 @@
-use Rattle.std.proofs.Common.{◌≡◌, take}
-use Rattle.dvg_words.specs.Memory.{words_of}
-use Rattle.dvg_cmd.specs.MakingFrames.{of_each, AreFrames}
+use Rattle.dvg_cmd.proofs.Common.{◌≡◌, take, words_of, of_each, AreFrames}
 use Rattle.dvg_cmd.proofs.making_frames.images_of.Given as goal
 
 abbrev pub invariant-loop-frame : goal.invariant-loop-frame

@@ -1,5 +1,4 @@
-use Rattle.std.proofs.Common.{◌∙◌, sym, subst}
-use Rattle.dvg_cmd.specs.MakingFrames.{of_each, FramesFaultMeans}
+use Rattle.dvg_cmd.proofs.Common.{◌∙◌, sym, subst, of_each, FramesFaultMeans}
 use Rattle.dvg_cmd.proofs.MakerRuns.{wrong_length}
 use Rattle.dvg_cmd.proofs.FramesRuns.{told_err, frames_made, frames_refused, lengths_refused}
 use Rattle.dvg_cmd.proofs.making_frames.make_on.Goals as goal

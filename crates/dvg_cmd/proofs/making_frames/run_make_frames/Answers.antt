@@ -1,6 +1,4 @@
-use Rattle.std.proofs.Common.{◌<◌, sym, subst}
-use Rattle.dvg_cmd.specs.MakingFrames.{of_each, MakesForFrames}
-use Rattle.dvg_cmd.specs.Private.Reading.{IsPrefix, ArePrefixes}
+use Rattle.dvg_cmd.proofs.Common.{◌<◌, sym, subst, of_each, MakesForFrames, IsPrefix, ArePrefixes}
 use Rattle.dvg_cmd.proofs.FramesRuns.{reading_refused, writes, writes_prefix}
 use Rattle.dvg_cmd.proofs.SeveralFrames.{length_of_each}
 use Rattle.dvg_cmd.proofs.making_frames.run_make_frames.Goals as goal

@@ -1,6 +1,4 @@
-use Rattle.std.proofs.Common.{◌++◌, [], ◌∷◌, ◌∙◌, sym, arith}
-use Rattle.std.proofs.lemmas.Grind.{common_steps}
-use Rattle.std.proofs.lemmas.List.{take_all, take-append-le}
+use Rattle.dvg_cmd.proofs.Common.{◌++◌, [], ◌∷◌, ◌∙◌, sym, arith, common_steps, take_all, take-append-le}
 use Rattle.dvg_cmd.specs.Names.{MOST_NAME_READ}
 use Rattle.dvg_cmd.proofs.names.keep.Goals as goal
 

@@ -1,6 +1,4 @@
-use Rattle.std.proofs.Common.{◌∙◌, get_or, sym, subst, arith}
-use Rattle.std.proofs.lemmas.Grind.{common_steps}
-use Rattle.std.specs.Io.KnownBytes.{Consumes}
+use Rattle.dvg_cmd.proofs.Common.{◌∙◌, get_or, sym, subst, arith, common_steps, Consumes}
 use Rattle.dvg_cmd.specs.Names.{end_byte}
 use Rattle.dvg_cmd.proofs.Naming.{first_byte, one_byte, ended}
 use Rattle.dvg_cmd.proofs.names.read_name.Goals as goal

@@ -1,6 +1,4 @@
-use Rattle.std.proofs.Common.{◌≢◌, ◌∙◌, sym, subst}
-use Rattle.dvg_spelling.specs.Faults.{frames_run_number}
-use Rattle.dvg_cmd.specs.MakingFrames.{of_each, FramesFaultMeans}
+use Rattle.dvg_cmd.proofs.Common.{◌≢◌, ◌∙◌, sym, subst, frames_run_number, of_each, FramesFaultMeans}
 use Rattle.dvg_cmd.proofs.MakerRuns.{wrong_length}
 use Rattle.dvg_cmd.proofs.FramesRuns.{told_err, places_made, frames_refused, lengths_refused}
 use Rattle.dvg_cmd.proofs.placing.places_on.Goals as goal

@@ -1,8 +1,6 @@
-use Rattle.std.proofs.Common.{◌≡◌, ◌+◌, ◌-◌, length, take, ◌++◌, arith, sym, subst, rules}
-use Rattle.std.proofs.lemmas.Grind.{common_steps}
-use Rattle.std.specs.Io.KnownBytes.{Consumes}
+use Rattle.dvg_cmd.proofs.Common.{◌≡◌, ◌+◌, ◌-◌, length, take, ◌++◌, arith, sym, subst, common_steps, Consumes, Consumes-trans}
+use Rattle.std.proofs.Common.{rules}
 use borrow.Rule.Slice.PartMut.{put_mid}
-use Rattle.std.proofs.KnownBytes.{Consumes-trans}
 use Rattle.dvg_cmd.proofs.Pieces.{take_filled}
 use Rattle.dvg_cmd.proofs.reading.fill.Goals as goal
 

@@ -1,5 +1,4 @@
-use Rattle.std.proofs.Common.{length, ◌-◌, ◌≡◌, ◌≤◌, take}
-use Rattle.std.specs.Io.KnownBytes.{Consumes}
+use Rattle.dvg_cmd.proofs.Common.{length, ◌-◌, ◌≡◌, ◌≤◌, take, Consumes}
 use Rattle.dvg_cmd.proofs.reading.fill.Given as goal
 
 abbrev pub invariant-filling : goal.invariant-filling

@@ -1,6 +1,4 @@
-use Rattle.std.proofs.Common.{◌≡◌, ◌++◌, ◌≤◌, length, arith, take}
-use Rattle.std.proofs.KnownBytes.{Consumes-trans}
-use Rattle.std.proofs.lemmas.Grind.{common_steps}
+use Rattle.dvg_cmd.proofs.Common.{◌≡◌, ◌++◌, ◌≤◌, length, arith, take, Consumes-trans, common_steps}
 use Rattle.dvg_cmd.proofs.Pieces.{fed_on, fed_more, fed_refused}
 use Rattle.dvg_cmd.proofs.reading.read_certificate.Goals as goal
 

@@ -1,12 +1,5 @@
-use Rattle.std.proofs.Common.{Ok, Err, ◌≡◌}
-use Rattle.std.specs.Prelude.{IfOk}
-use Rattle.dvg_words.specs.Memory.{words_of, rom_on}
-use Rattle.dvg_words.specs.declared.machine.Machine.TheVariants.{Board}
-use Rattle.dvg_check.specs.Safety.{Safe, CountsAtHalt}
-use Rattle.dvg_check.specs.Circuit.{SafeOnCircuit, CountsOnCircuit}
-use Rattle.dvg_check.specs.Verdict.{RomVerdict}
-use Rattle.dvg_check.specs.declared.fault.Mode.TheVariants.{Exact}
-use Rattle.dvg_cmd.specs.Runs.{ReadsText}
+use Rattle.dvg_cmd.proofs.Common.{◌≡◌, IfOk, words_of, rom_on, Board, Safe, CountsAtHalt, SafeOnCircuit, CountsOnCircuit, RomVerdict, Exact, ReadsText}
+use Rattle.std.proofs.Common.{Ok, Err}
 use Rattle.dvg_cmd.proofs.Reporting.{judges_range, judges_refused, judges_cert, over}
 use Rattle.dvg_cmd.proofs.running.read_verdict.Goals as goal
 

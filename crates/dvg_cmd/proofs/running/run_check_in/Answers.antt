@@ -1,9 +1,5 @@
-use Rattle.std.proofs.Common.{◌≡◌, ℕ, List, Option}
-use Rattle.std.specs.Prelude.{IfOk}
-use Rattle.dvg_words.specs.declared.machine.Machine.TheVariants.{Board}
-use Rattle.dvg_check.specs.declared.fault.Mode.TheVariants.{Exact}
-use Rattle.dvg_cmd.specs.Private.Reading.{IsPrefix}
-use Rattle.dvg_cmd.specs.Runs.{Judges, SafeRead, CountsRead, SafeCircuitRead, CountsCircuitRead}
+use Rattle.dvg_cmd.proofs.Common.{◌≡◌, ℕ, List, Option, IfOk, Board, Exact, IsPrefix, Judges}
+use Rattle.dvg_cmd.specs.Runs.{SafeRead, CountsRead, SafeCircuitRead, CountsCircuitRead}
 use Rattle.dvg_cmd.proofs.Reported.{writes_report, reports, reports_accepted}
 use Rattle.dvg_cmd.proofs.running.run_check_in.Goals as goal
 

@@ -1,9 +1,7 @@
-use Rattle.std.proofs.Common.{◌≡◌, ◌++◌, ◌∷◌, [], subst, arith, rules}
-use Rattle.std.proofs.lemmas.Grind.{common_steps}
+use Rattle.dvg_cmd.proofs.Common.{◌≡◌, ◌++◌, ◌∷◌, [], subst, arith, common_steps, Result, Ok, Err, OnErr, opened}
+use Rattle.std.proofs.Common.{rules}
 use Rattle.std.specs.Iterator.{Yields}
-use Rattle.std.specs.Prelude.{Result, Ok, Err, OnErr}
 use Rattle.std.proofs.iter.Next.{Yields-more}
-use Rattle.dvg_cmd.specs.SeveralFrames.{opened}
 use Rattle.dvg_cmd.proofs.SeveralLines.{more_taken, cut_taken}
 use Rattle.dvg_cmd.proofs.several_frames.run_each.Goals as goal
 

@@ -1,6 +1,5 @@
-use Rattle.std.specs.Prelude.{Result, Ok, Err, OnErr}
+use Rattle.dvg_cmd.proofs.Common.{Result, Ok, Err, OnErr, opened}
 use Rattle.dvg_spelling.specs.Each.{of_each}
-use Rattle.dvg_cmd.specs.SeveralFrames.{opened}
 use Rattle.dvg_cmd.proofs.SeveralLines.{with_summary, cut_summary}
 use Rattle.dvg_cmd.proofs.several_frames.run_frames.Goals as goal
 

@@ -1,8 +1,7 @@
-use Rattle.std.proofs.Common.{List, length, ap, ◌∙◌}
-use Rattle.std.specs.Prelude.{IfOk, OnErr}
+use Rattle.dvg_cmd.proofs.Common.{List, length, ap, ◌∙◌, IfOk, OnErr, opened}
 use Rattle.std.specs.Iterator.{Drains, Yields}
 use Rattle.dvg_spelling.specs.Each.{of_each}
-use Rattle.dvg_cmd.specs.SeveralFrames.{opened, ReportsOver, ReportsOverPrefix}
+use Rattle.dvg_cmd.specs.SeveralFrames.{ReportsOver, ReportsOverPrefix}
 use Rattle.dvg_cmd.specs.declared.several_frames.NamedFrame.{NamedFrame}
 use Rattle.dvg_cmd.proofs.SeveralLines.{shapes_by, over_same}
 use Rattle.dvg_cmd.proofs.several_frames.run_frames_over.Goals as goal

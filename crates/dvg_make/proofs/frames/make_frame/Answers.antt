@@ -1,6 +1,5 @@
-use Rattle.std.proofs.Common.{sym, arith, ◌∙◌}
+use Rattle.dvg_make.proofs.Common.{sym, arith, ◌∙◌, obstacle_fault}
 use Rattle.dvg_make.proofs.Framing.{starts, callee_claim, goes_on, at_last, all_grow, at_nothing, target_barred, target_told}
-use Rattle.dvg_make.specs.Private.Making.{obstacle_fault}
 use Rattle.dvg_make.proofs.frames.make_frame.Goals as goal
 
 pub loop-format-init : goal.loop-format-init

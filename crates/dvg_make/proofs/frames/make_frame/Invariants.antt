@@ -1,6 +1,5 @@
-use Rattle.std.proofs.Common.{◌-◌}
+use Rattle.dvg_make.proofs.Common.{◌-◌, AreTails}
 use Rattle.dvg_make.proofs.Framing.{FrameWalk}
-use Rattle.dvg_make.specs.Private.Partial.{AreTails}
 use Rattle.dvg_make.proofs.frames.make_frame.Given as goal
 
 abbrev pub invariant-loop-format : goal.invariant-loop-format

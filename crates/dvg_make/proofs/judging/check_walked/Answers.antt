@@ -1,17 +1,10 @@
-use Rattle.std.proofs.Common.{◌≡◌, ◌∙◌, List, length, refl, sym, ap, subst}
-use Rattle.std.specs.Prelude.{Ok, Err}
-use Rattle.dvg_words.specs.Memory.{Rom}
-use Rattle.dvg_words.specs.Values.{Window}
-use Rattle.dvg_words.specs.declared.machine.Machine.TheVariants.{Board}
-use Rattle.dvg_cert.specs.declared.entry.Entry.{Entry}
+use Rattle.dvg_make.proofs.Common.{◌≡◌, ◌∙◌, List, length, refl, sym, ap, subst, Ok, Err, Rom, Window, Board, Entry, Good, GoodFrame, Exact}
 use Rattle.dvg_check.specs.Circuit.{SafeOnCircuit, CountsOnCircuit}
 use Rattle.dvg_check.specs.Causes.{CauseOf}
 use Rattle.dvg_check.specs.declared.finding.RomFinding.TheVariants as finding
 use Rattle.dvg_check.specs.Finding.{FirstFrameFound}
 use Rattle.dvg_check.specs.Judged.{Shapes}
-use Rattle.dvg_check.specs.Rules.{Good, GoodFrame}
 use Rattle.dvg_check.specs.Safety.{Safe, CountsAtHalt}
-use Rattle.dvg_check.specs.declared.fault.Mode.TheVariants.{Exact}
 use Rattle.dvg_make.proofs.OwnCertificate.{judged_by}
 use Rattle.dvg_make.proofs.judging.check_walked.Goals as goal
 

@@ -1,8 +1,7 @@
-use Rattle.std.proofs.Common.{◌≡◌, ℕ, [], ◌∷◌, List, sym, subst}
-use Rattle.std.specs.Prelude.{Result, Ok, Err, IfErr, IsErrAnd}
+use Rattle.dvg_make.proofs.Common.{◌≡◌, ℕ, [], ◌∷◌, List, sym, subst, Result, Ok, Err, FrameRefused, HasCallCause, FramesRefuse}
+use Rattle.std.specs.Prelude.{IfErr, IsErrAnd}
 use Rattle.dvg_make.specs.Accounts.{MakeAccount, IsAccount}
-use Rattle.dvg_make.specs.Judging.{FrameRefusal, JudgedFrame, FrameRefused, HasCallCause, own_verdict, refusal_by}
-use Rattle.dvg_make.specs.Refusals.{FramesRefuse}
+use Rattle.dvg_make.specs.Judging.{FrameRefusal, JudgedFrame, own_verdict, refusal_by}
 use Rattle.dvg_make.proofs.OwnCertificate.{made_refused}
 use Rattle.dvg_make.proofs.Causes.{account_cause, call_cause}
 use Rattle.dvg_make.proofs.judging.explain_judging.Goals as goal

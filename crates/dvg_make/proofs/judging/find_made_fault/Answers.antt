@@ -1,13 +1,7 @@
-use Rattle.std.proofs.Common.{◌+◌, List, ap, arith, length, pos, slice_index_or, subst, sym}
-use Rattle.std.specs.Prelude.{Contains}
+use Rattle.dvg_make.proofs.Common.{◌+◌, List, ap, arith, length, subst, sym, Contains, MadeEntry, At, Rel, Empty, Entry, Exact}
+use Rattle.std.proofs.Common.{pos, slice_index_or}
 use Rattle.std.proofs.lemmas.List.Elements.{Contains-get_or}
-use Rattle.dvg_make.specs.Made.{MadeEntry}
-use Rattle.dvg_cert.specs.declared.entry.Key.TheVariants.{At}
-use Rattle.dvg_cert.specs.declared.entry.End.TheVariants.{Rel}
-use Rattle.dvg_cert.specs.declared.entry.LitBox.TheVariants.{Empty}
-use Rattle.dvg_cert.specs.declared.entry.Entry.{Entry}
 use Rattle.dvg_check.proofs.Listed.{faulty_found, good_more}
-use Rattle.dvg_check.specs.declared.fault.Mode.TheVariants.{Exact}
 use Rattle.dvg_make.proofs.judging.find_made_fault.Goals as goal
 
 -- what stands for an entry past the end

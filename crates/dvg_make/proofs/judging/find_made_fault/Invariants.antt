@@ -1,7 +1,5 @@
-use Rattle.std.proofs.Common.{◌-◌, ◌≤◌, length, take}
-use Rattle.std.specs.List.{AllByRecursion}
-use Rattle.dvg_check.specs.Rules.{GoodShape}
-use Rattle.dvg_check.specs.declared.fault.Mode.TheVariants.{Exact}
+use Rattle.dvg_make.proofs.Common.{◌-◌, ◌≤◌, length, AllByRecursion, GoodShape, Exact}
+use Rattle.std.proofs.Common.{take}
 use Rattle.dvg_make.proofs.judging.find_made_fault.Given as goal
 
 abbrev pub invariant-entries : goal.invariant-entries

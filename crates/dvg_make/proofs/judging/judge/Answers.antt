@@ -1,7 +1,6 @@
-use Rattle.std.proofs.Common.{ℕ, [], List, Err, sym, subst}
-use Rattle.dvg_make.specs.Accounts.{HasCause}
-use Rattle.dvg_make.specs.Judging.{FrameRefusal, FrameRefused, HasCallCause, VerdictByMade}
-use Rattle.dvg_make.specs.Refusals.{FramesRefuse}
+use Rattle.dvg_make.proofs.Common.{ℕ, [], List, sym, subst, HasCause, FrameRefused, HasCallCause, FramesRefuse}
+use Rattle.std.proofs.Common.{Err}
+use Rattle.dvg_make.specs.Judging.{FrameRefusal, VerdictByMade}
 use Rattle.dvg_make.proofs.OwnCertificate.{made_refused, made_verdict}
 use Rattle.dvg_make.proofs.Causes.{call_cause}
 use Rattle.dvg_make.proofs.judging.judge.Goals as goal

@@ -1,6 +1,5 @@
-use Rattle.std.proofs.Common.{None}
-use Rattle.dvg_make.specs.Refusals.{FramesRefuse}
-use Rattle.dvg_make.specs.Private.Making.{obstacle_fault, blocked_fault, IsToldOf}
+use Rattle.dvg_make.proofs.Common.{None, FramesRefuse, obstacle_fault, IsToldOf}
+use Rattle.dvg_make.specs.Private.Making.{blocked_fault}
 use Rattle.dvg_make.proofs.Turns.{if_err_same}
 use Rattle.dvg_make.proofs.Collecting.{roots_refused}
 use Rattle.dvg_make.proofs.maker.make_all.Goals as goal

@@ -1,6 +1,4 @@
-use Rattle.std.proofs.Common.{◌+◌, arith, subst}
-use Rattle.dvg_make.specs.Private.Framing.{IsFramed, BarsHere, TellsHere}
-use Rattle.dvg_make.specs.Private.Making.{obstacle_fault}
+use Rattle.dvg_make.proofs.Common.{◌+◌, arith, subst, IsFramed, BarsHere, TellsHere, obstacle_fault}
 use Rattle.dvg_make.proofs.Collecting.{frame_framed, frames_framed, frame_refused, call_told}
 use Rattle.dvg_make.proofs.maker.make_calls.Goals as goal
 

@@ -1,6 +1,5 @@
 use Rattle.std.specs.Prelude.{take}
-use Rattle.dvg_make.specs.Private.Framing.{AllFramed}
-use Rattle.dvg_make.specs.Private.Partial.{AreTails}
+use Rattle.dvg_make.proofs.Common.{AllFramed, AreTails}
 use Rattle.dvg_make.proofs.maker.make_calls.Given as goal
 
 abbrev pub invariant-loop-frame : goal.invariant-loop-frame

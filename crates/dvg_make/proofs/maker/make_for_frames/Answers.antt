@@ -1,6 +1,4 @@
-use Rattle.std.proofs.Common.{None, sym, subst}
-use Rattle.dvg_make.specs.Accounts.{HasCause}
-use Rattle.dvg_make.specs.Refusals.{Memory}
+use Rattle.dvg_make.proofs.Common.{None, sym, subst, HasCause, Memory}
 use Rattle.dvg_make.proofs.Turns.{if_err_same}
 use Rattle.dvg_make.proofs.Causes.{stuck_cause, memory_cause}
 use Rattle.dvg_make.proofs.maker.make_for_frames.Goals as goal

@@ -1,6 +1,5 @@
 use Rattle.std.specs.Prelude.{take}
-use Rattle.dvg_make.specs.Private.Making.{Collected}
-use Rattle.dvg_make.specs.Private.Partial.{AreTails}
+use Rattle.dvg_make.proofs.Common.{Collected, AreTails}
 use Rattle.dvg_make.proofs.maker.make_roots.Given as goal
 
 abbrev pub invariant-loop-addr : goal.invariant-loop-addr

@@ -1,5 +1,4 @@
-use Rattle.std.proofs.Common.{refl, sym, subst, arith, ◌∙◌}
-use Rattle.dvg_make.specs.Private.Partial.{IsFinished, IsStopped}
+use Rattle.dvg_make.proofs.Common.{refl, sym, subst, arith, ◌∙◌, IsFinished, IsStopped}
 use Rattle.dvg_make.proofs.Onward.{claim_of, waits, stops_absent, stops_said, onward}
 use Rattle.dvg_make.proofs.Turns.{if_err_same}
 use Rattle.dvg_make.proofs.Ending.{ended}

@@ -1,5 +1,4 @@
-use Rattle.std.proofs.Common.{sym, subst, ◌++◌, ◌∷◌, []}
-use Rattle.dvg_make.specs.Private.Partial.{AreTails}
+use Rattle.dvg_make.proofs.Common.{sym, subst, ◌++◌, ◌∷◌, [], AreTails}
 use Rattle.dvg_make.proofs.Joining.{tails_grow}
 use Rattle.dvg_make.proofs.Merging.{extends_more}
 use Rattle.dvg_make.proofs.shapes.finish.Goals as goal

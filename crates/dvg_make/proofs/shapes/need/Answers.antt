@@ -1,9 +1,6 @@
-use Rattle.std.proofs.Common.{◌≡◌, false, Option, None, Some, sym, subst, ap, ◌∙◌, rules}
+use Rattle.dvg_make.proofs.Common.{◌≡◌, Option, None, Some, sym, subst, ap, ◌∙◌, rules, Entry, PartialEntry, Obstacle, Bars, obstacle_fault}
+use Rattle.std.proofs.Common.{false}
 use Rattle.std.specs.Prelude.{is_some}
-use Rattle.dvg_cert.specs.declared.entry.Entry.{Entry}
-use Rattle.dvg_make.specs.declared.partial.PartialEntry.{PartialEntry}
-use Rattle.dvg_make.specs.declared.obstacle.Obstacle.{Obstacle}
-use Rattle.dvg_make.specs.Private.Making.{Bars, obstacle_fault}
 use Rattle.dvg_make.proofs.Turns.{first_fault, first_ok, first_present, called_none}
 use Rattle.dvg_make.proofs.Telling.{room_of_none, tells_first, begin_no_root}
 use Rattle.dvg_make.proofs.shapes.need.Goals as goal

@@ -1,6 +1,5 @@
-use Rattle.std.proofs.Common.{◌-◌, ◌+◌, ◌*◌, length}
-use Rattle.dvg_make.specs.Private.Making.{IsPresent, InProgress}
-use Rattle.dvg_make.specs.Private.Partial.{AreTails}
+use Rattle.dvg_make.proofs.Common.{◌-◌, ◌+◌, length, IsPresent, InProgress, AreTails}
+use Rattle.std.proofs.Common.{◌*◌}
 use Rattle.dvg_make.proofs.shapes.need.Given as goal
 
 abbrev pub invariant-loop-partial : goal.invariant-loop-partial

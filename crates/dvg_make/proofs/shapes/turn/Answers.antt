@@ -1,7 +1,6 @@
-use Rattle.std.proofs.Common.{◌++◌, ◌∷◌, [], ◌∙◌, sym, subst}
-use Rattle.dvg_make.specs.declared.obstacle.Obstacle.{Obstacle}
-use Rattle.dvg_make.specs.Private.Partial.{Advances, IsFinished}
-use Rattle.dvg_make.specs.Private.Making.{IsPresent, InProgress, NotBegun, obstacle_fault, Bars, TellsObstacle, BarsAll, TellsAll, IsNoRoot}
+use Rattle.dvg_make.proofs.Common.{◌++◌, ◌∷◌, [], ◌∙◌, sym, subst, Obstacle, IsFinished, IsPresent, InProgress, NotBegun, obstacle_fault, Bars}
+use Rattle.dvg_make.specs.Private.Partial.{Advances}
+use Rattle.dvg_make.specs.Private.Making.{TellsObstacle, BarsAll, TellsAll, IsNoRoot}
 use Rattle.dvg_make.proofs.Chains.{walks_last, none_here, finished_new, making_finished, present_finished}
 use Rattle.dvg_make.proofs.Turns.{begun_ok, begun_present, called_moved, refused, as_bar, not_err, if_err_same}
 use Rattle.dvg_make.proofs.Onward.{reached}

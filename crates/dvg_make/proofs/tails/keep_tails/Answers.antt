@@ -1,5 +1,4 @@
-use Rattle.std.proofs.Common.{rules, ◌≡◌, ◌∷◌, [], ◌++◌, subst}
-use Rattle.dvg_make.specs.Private.Making.{ArePartial}
+use Rattle.dvg_make.proofs.Common.{rules, ◌≡◌, ◌∷◌, [], ◌++◌, subst, ArePartial}
 use Rattle.dvg_make.proofs.Chains.{walks_last, walks_pop}
 use Rattle.dvg_make.proofs.tails.keep_tails.Goals as goal
 

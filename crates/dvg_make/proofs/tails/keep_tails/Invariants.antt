@@ -1,6 +1,4 @@
-use Rattle.std.proofs.Common.{length}
-use Rattle.dvg_make.specs.Private.Making.{ArePartial}
-use Rattle.dvg_make.specs.Private.Partial.{AreTails}
+use Rattle.dvg_make.proofs.Common.{length, ArePartial, AreTails}
 use Rattle.dvg_make.proofs.tails.keep_tails.Given as goal
 
 abbrev pub invariant-loop-mark : goal.invariant-loop-mark

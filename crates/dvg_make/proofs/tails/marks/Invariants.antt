@@ -1,6 +1,4 @@
-use Rattle.std.proofs.Common.{◌-◌}
-use Rattle.dvg_cert.specs.Entry.{IsKey}
-use Rattle.dvg_make.specs.Private.Making.{ArePartial}
+use Rattle.dvg_make.proofs.Common.{◌-◌, IsKey, ArePartial}
 use Rattle.dvg_make.proofs.tails.marks.Given as goal
 
 abbrev pub invariant-loop-format : goal.invariant-loop-format

@@ -1,5 +1,4 @@
-use Rattle.std.proofs.Common.{ap, ◌∙◌, ◌++◌, ◌∷◌, []}
-use Rattle.dvg_make.specs.declared.partial.PartialEntry.{PartialEntry}
+use Rattle.dvg_make.proofs.Common.{ap, ◌∙◌, ◌++◌, ◌∷◌, [], PartialEntry}
 use Rattle.dvg_make.proofs.Marks.{mark_pushed}
 use Rattle.dvg_make.proofs.tails.push_mark.Goals as goal
 

@@ -1,7 +1,4 @@
-use Rattle.std.proofs.Common.{subst, sym, List}
-use Rattle.std.specs.List.{All}
-use Rattle.dvg_items.specs.Bounds.{IsClaim}
-use Rattle.dvg_survey.specs.Calls.{Call}
+use Rattle.dvg_survey.proofs.Common.{subst, sym, List, All, IsClaim, Call}
 use Rattle.dvg_survey.proofs.Complete.{shape_claims}
 use Rattle.dvg_survey.proofs.chains.reach_from.Goals as goal
 

@@ -1,8 +1,4 @@
-use Rattle.std.proofs.Common.{subst, sym, ap, ◌∙◌, List, None}
-use Rattle.std.specs.List.{All}
-use Rattle.dvg_items.specs.Bounds.{IsClaim}
-use Rattle.dvg_survey.specs.Calls.{Call}
-use Rattle.dvg_survey.specs.Private.Reaching.{reach_all}
+use Rattle.dvg_survey.proofs.Common.{subst, sym, ap, ◌∙◌, List, None, All, IsClaim, Call, reach_all}
 use Rattle.dvg_survey.proofs.Complete.{frame_claims, frame_reaches}
 use Rattle.dvg_survey.proofs.chains.reached_by_frame.Goals as goal
 

@@ -1,6 +1,4 @@
-use Rattle.std.proofs.Common.{◌∷◌, arith}
-use Rattle.dvg_items.specs.Known.{shape_context}
-use Rattle.dvg_words.specs.Memory.{rom_word}
+use Rattle.dvg_survey.proofs.Common.{◌∷◌, arith, shape_context, rom_word}
 use Rattle.dvg_survey.proofs.Bearing.{first_bears, none_on, none_bears}
 use Rattle.dvg_survey.proofs.Walking.{goes_on, at_last, at_nothing, where_none}
 use Rattle.dvg_survey.proofs.deepest.first_bearing.Goals as goal

@@ -1,8 +1,4 @@
-use Rattle.std.proofs.Common.{◌-◌, ◌+◌, List}
-use Rattle.dvg_words.specs.declared.map.TheConstants.{ADDRESS_END}
-use Rattle.dvg_words.specs.Memory.{rom_word}
-use Rattle.dvg_items.specs.declared.item.Item.{Item}
-use Rattle.dvg_items.specs.Known.{shape_context}
+use Rattle.dvg_survey.proofs.Common.{◌-◌, ◌+◌, List, ADDRESS_END, rom_word, Item, shape_context}
 use Rattle.dvg_survey.proofs.Bearing.{NoneBears}
 use Rattle.dvg_survey.proofs.Walking.{Walked}
 use Rattle.dvg_survey.proofs.deepest.first_bearing.Given as goal

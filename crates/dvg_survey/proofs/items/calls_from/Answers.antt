@@ -1,5 +1,4 @@
-use Rattle.std.proofs.Common.{◌∷◌}
-use Rattle.dvg_survey.specs.Private.Walking.{context_of}
+use Rattle.dvg_survey.proofs.Common.{◌∷◌, context_of}
 use Rattle.dvg_survey.proofs.Walking.{goes_on, at_last, at_nothing, where_none, calls_on}
 use Rattle.dvg_survey.proofs.items.calls_from.Goals as goal
 

@@ -1,5 +1,4 @@
-use Rattle.std.proofs.Common.{[], ◌∷◌}
-use Rattle.dvg_survey.specs.Private.Walking.{context_of}
+use Rattle.dvg_survey.proofs.Common.{[], ◌∷◌, context_of}
 use Rattle.dvg_survey.proofs.Walking.{begins, goes_on, at_last, at_nothing, where_none, lit_on, least_none}
 use Rattle.dvg_survey.proofs.items.extent_from.Goals as goal
 

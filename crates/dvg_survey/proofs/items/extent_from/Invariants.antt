@@ -1,8 +1,4 @@
-use Rattle.std.proofs.Common.{◌-◌, ◌+◌, List}
-use Rattle.dvg_words.specs.declared.map.TheConstants.{ADDRESS_END}
-use Rattle.dvg_items.specs.declared.item.Item.{Item}
-use Rattle.dvg_items.specs.Least.{IsLeast, absolute_points}
-use Rattle.dvg_survey.specs.Private.Walking.{context_of}
+use Rattle.dvg_survey.proofs.Common.{◌-◌, ◌+◌, List, ADDRESS_END, Item, IsLeast, absolute_points, context_of}
 use Rattle.dvg_survey.proofs.Walking.{Walked}
 use Rattle.dvg_survey.proofs.items.extent_from.Given as goal
 

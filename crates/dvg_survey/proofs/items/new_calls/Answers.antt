@@ -1,5 +1,4 @@
-use Rattle.std.proofs.Common.{Option, ℕ, sym, ap, ◌∙◌}
-use Rattle.dvg_items.specs.Known.{callee_at}
+use Rattle.dvg_survey.proofs.Common.{Option, ℕ, sym, ap, ◌∙◌, callee_at}
 use Rattle.dvg_survey.proofs.Visiting.{starts, stops, finds_none, walks_on, ends_here}
 use Rattle.dvg_survey.proofs.items.new_calls.Goals as goal
 

@@ -1,5 +1,4 @@
-use Rattle.std.proofs.Common.{◌-◌, ◌+◌}
-use Rattle.dvg_words.specs.declared.map.TheConstants.{ADDRESS_END}
+use Rattle.dvg_survey.proofs.Common.{◌-◌, ◌+◌, ADDRESS_END}
 use Rattle.dvg_survey.proofs.Visiting.{Goes}
 use Rattle.dvg_survey.proofs.items.new_calls.Given as goal
 

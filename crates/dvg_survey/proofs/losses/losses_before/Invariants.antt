@@ -1,8 +1,5 @@
-use Rattle.std.proofs.Common.{◌≡◌, ◌-◌, ◌+◌, List}
-use Rattle.dvg_words.specs.declared.map.TheConstants.{ADDRESS_END}
-use Rattle.dvg_items.specs.declared.item.Item.{Item}
+use Rattle.dvg_survey.proofs.Common.{◌≡◌, ◌-◌, ◌+◌, List, ADDRESS_END, Item, context_of}
 use Rattle.dvg_survey.specs.Losses.{place_lost_by, scale_lost_by}
-use Rattle.dvg_survey.specs.Private.Walking.{context_of}
 use Rattle.dvg_survey.proofs.Losing.{NoneAt}
 use Rattle.dvg_survey.proofs.Walking.{Walked}
 use Rattle.dvg_survey.proofs.losses.losses_before.Given as goal

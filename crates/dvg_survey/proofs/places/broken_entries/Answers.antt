@@ -1,6 +1,4 @@
-use Rattle.std.proofs.Common.{rules, ◌≡◌, length, List, subst, sym, ◌∙◌}
-use Rattle.std.specs.Prelude.{Contains}
-use Rattle.dvg_cert.specs.declared.entry.Entry.{Entry}
+use Rattle.dvg_survey.proofs.Common.{rules, ◌≡◌, length, List, subst, sym, ◌∙◌, Contains, Entry}
 use Rattle.dvg_survey.specs.Private.Sweeping.{IsSwept, TellsBroken}
 use Rattle.dvg_survey.proofs.Sweeping.{first_covered, covered_on, told}
 use Rattle.dvg_survey.proofs.places.broken_entries.Goals as goal

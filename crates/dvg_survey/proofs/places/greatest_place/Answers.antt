@@ -1,6 +1,5 @@
-use Rattle.std.proofs.Common.{rules, ◌≡◌, pos, ◌+ℤ◌, ◌-ℤ◌, w64, w16}
-use Rattle.std.specs.Int.{int_div_euclid}
-use Rattle.std.proofs.lemmas.Int.{to_z-of_z}
+use Rattle.dvg_survey.proofs.Common.{rules, ◌≡◌, pos, ◌-ℤ◌, w64, w16, int_div_euclid, to_z-of_z}
+use Rattle.std.proofs.Common.{◌+ℤ◌}
 use mir.Val.{SFits}
 use Rattle.dvg_survey.proofs.Quotients.{quotient, greatest_down, greatest_up}
 use Rattle.dvg_survey.proofs.places.greatest_place.Goals as goal

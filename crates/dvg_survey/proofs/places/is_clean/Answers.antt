@@ -1,6 +1,4 @@
-use Rattle.std.proofs.Common.{◌∷◌}
-use Rattle.dvg_words.specs.Memory.{rom_word}
-use Rattle.dvg_items.specs.Known.{shape_context}
+use Rattle.dvg_survey.proofs.Common.{◌∷◌, rom_word, shape_context}
 use Rattle.dvg_survey.proofs.Sweeping.{clean_on, all_clean}
 use Rattle.dvg_survey.proofs.Walking.{goes_on, at_last, at_nothing, where_none}
 use Rattle.dvg_survey.proofs.places.is_clean.Goals as goal

@@ -1,10 +1,4 @@
-use Rattle.std.proofs.Common.{ℕ, subst}
-use Rattle.dvg_words.specs.Memory.{rom_word}
-use Rattle.dvg_cert.specs.declared.entry.Key.{Key}
-use Rattle.dvg_items.specs.Least.{IsLeast, absolute_points}
-use Rattle.dvg_items.specs.declared.item.Kind.TheVariants.{Shape}
-use Rattle.dvg_survey.specs.Calls.{AreAll}
-use Rattle.dvg_survey.specs.Private.Lighting.{keyed}
+use Rattle.dvg_survey.proofs.Common.{ℕ, subst, rom_word, Key, IsLeast, absolute_points, Shape, AreAll, keyed}
 use Rattle.dvg_survey.proofs.tails.extent_of.Goals as goal
 
 pub returns-in-Some : goal.returns-in-Some

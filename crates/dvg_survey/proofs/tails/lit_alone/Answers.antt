@@ -1,8 +1,4 @@
-use Rattle.std.proofs.Common.{sym, subst, pos}
-use Rattle.dvg_cert.specs.declared.entry.End.TheVariants.{Rel}
-use Rattle.dvg_items.specs.declared.lit.LitExtent.{LitExtent}
-use Rattle.dvg_items.specs.Lit.{relative_corners}
-use Rattle.dvg_items.specs.Least.{IsLeast}
+use Rattle.dvg_survey.proofs.Common.{sym, subst, pos, Rel, LitExtent, relative_corners, IsLeast}
 use Rattle.dvg_items.specs.Bounds.{IsNearExtent}
 use Rattle.dvg_check.proofs.TailSizes.{IsNearBox-spanning}
 use Rattle.dvg_survey.proofs.TailPoints.{spanning_least}

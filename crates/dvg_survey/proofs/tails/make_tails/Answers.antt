@@ -1,5 +1,4 @@
-use Rattle.std.proofs.Common.{sym, subst}
-use Rattle.dvg_survey.specs.Private.Lighting.{AreTails}
+use Rattle.dvg_survey.proofs.Common.{sym, subst, AreTails}
 use Rattle.dvg_survey.specs.declared.tails.Tails.{Tails}
 use Rattle.dvg_survey.proofs.tails.make_tails.Goals as goal
 use Rattle.dvg_survey.proofs.tails.make_tails.Goals.{then-has+in-Some, then-has+in_default-tail_at, else-has}

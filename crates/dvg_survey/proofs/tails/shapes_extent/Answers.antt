@@ -1,11 +1,4 @@
-use Rattle.std.proofs.Common.{arith, ap, pos, subst, sym, get_or, length, List, ℕ, ◌≡◌, ◌+◌, ◌-◌, ◌<◌}
-use Rattle.dvg_words.specs.Memory.{rom_word}
-use Rattle.dvg_cert.specs.declared.entry.End.TheVariants.{Rel}
-use Rattle.dvg_cert.specs.declared.entry.Entry.{Entry}
-use Rattle.dvg_cert.specs.declared.entry.Key.TheVariants.{At}
-use Rattle.dvg_cert.specs.declared.entry.LitBox.TheVariants.{Empty}
-use Rattle.dvg_items.specs.Bounds.{IsSomeCertificate}
-use Rattle.dvg_items.specs.Known.{shape_context}
+use Rattle.dvg_survey.proofs.Common.{arith, ap, pos, subst, sym, get_or, length, List, ℕ, ◌≡◌, ◌+◌, ◌-◌, ◌<◌, rom_word, Rel, Entry, At, Empty, IsSomeCertificate, shape_context}
 use Rattle.dvg_check.proofs.TailRows.{claim_at}
 use Rattle.dvg_survey.specs.Calls.{IsExtent}
 use Rattle.dvg_survey.proofs.AllShapes.{Boxed, one_more}

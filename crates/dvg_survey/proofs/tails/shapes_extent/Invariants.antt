@@ -1,6 +1,4 @@
-use Rattle.std.proofs.Common.{◌≤◌, length}
-use Rattle.dvg_words.specs.declared.map.TheConstants.{ADDRESS_END}
-use Rattle.dvg_survey.specs.Private.Lighting.{AreTails}
+use Rattle.dvg_survey.proofs.Common.{◌≤◌, length, ADDRESS_END, AreTails}
 use Rattle.dvg_survey.proofs.AllShapes.{Boxed}
 use Rattle.dvg_survey.proofs.tails.shapes_extent.Given as goal
 

@@ -1,21 +1,9 @@
-use Rattle.std.proofs.Common.{arith, refl, sym, ap, subst, Some, pos, ℕ, ◌≡◌, ◌+◌, ◌-◌, ◌≤◌, ◌∙◌, List}
-use Rattle.dvg_words.specs.declared.map.TheConstants.{ADDRESS_END}
-use Rattle.dvg_cert.specs.declared.entry.End.{End}
-use Rattle.dvg_cert.specs.declared.entry.End.TheVariants.{Rel}
-use Rattle.dvg_cert.specs.declared.entry.Entry.{Entry}
+use Rattle.dvg_survey.proofs.Common.{arith, refl, sym, ap, subst, Some, pos, ℕ, ◌≡◌, ◌+◌, ◌-◌, ◌≤◌, ◌∙◌, List, ADDRESS_END, End, Rel, Entry, next_address, IsLeast, Cursor, LitExtent, Seen, relative_corners, Shape, Known, LitFrom, relative_part, absolute_part}
 use Rattle.dvg_items.specs.Bounds.{IsNearPlace}
-use Rattle.dvg_items.specs.Items.{next_address}
-use Rattle.dvg_items.specs.Least.{IsLeast}
-use Rattle.dvg_items.specs.declared.cursor.Cursor.{Cursor}
-use Rattle.dvg_items.specs.declared.lit.LitExtent.{LitExtent}
-use Rattle.dvg_items.specs.declared.seen.Seen.{Seen}
-use Rattle.dvg_items.specs.Lit.{relative_corners}
-use Rattle.dvg_items.specs.declared.item.Kind.TheVariants.{Shape}
-use Rattle.dvg_items.specs.declared.known.Known.{Known}
 use Rattle.dvg_items.proofs.Near.{next_near}
 use Rattle.dvg_check.specs.Private.Tails.{first_seen, IsNearBox}
 use Rattle.dvg_check.proofs.TailSizes.{IsNearBox-more}
-use Rattle.dvg_survey.specs.Private.Lighting.{AreJoined, Lit, LitFrom, relative_part, absolute_part}
+use Rattle.dvg_survey.specs.Private.Lighting.{AreJoined, Lit}
 use Rattle.dvg_survey.proofs.TailLaws.{before, ending, part_near, seen_first}
 use Rattle.dvg_survey.proofs.tails.tail_at.Goals as goal
 use Rattle.dvg_survey.proofs.tails.tail_at.Goals.{in-Some+in_ok-tail-in-Some, in-None}

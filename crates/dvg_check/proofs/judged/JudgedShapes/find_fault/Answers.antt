@@ -1,11 +1,8 @@
-use Rattle.std.proofs.Common.{subst, ◌≡◌}
+use Rattle.dvg_check.proofs.Common.{subst, ◌≡◌, Safe, Exact, Board}
 use Rattle.std.specs.Prelude.{IfOk}
 use Rattle.dvg_check.specs.Judged.{Shapes}
 use Rattle.dvg_check.specs.Laws.{CountsAtHalt}
-use Rattle.dvg_check.specs.Safety.{Safe}
-use Rattle.dvg_check.specs.declared.fault.Mode.TheVariants.{Exact}
 use Rattle.dvg_check.specs.Circuit.{SafeOnCircuit, CountsOnCircuit}
-use Rattle.dvg_words.specs.declared.machine.Machine.TheVariants.{Board}
 use Rattle.dvg_check.proofs.Accepting.{safe_over, exact_over, circuit_over, circuit_counts_over}
 use Rattle.dvg_check.proofs.judged.JudgedShapes.find_fault.Goals as goal
 

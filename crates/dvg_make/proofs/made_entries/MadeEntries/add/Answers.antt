@@ -1,10 +1,6 @@
-use Rattle.std.proofs.Common.{◌∙◌, ◌++◌, ◌∷◌, [], List, ap, sym, subst}
+use Rattle.dvg_make.proofs.Common.{◌∙◌, ◌++◌, ◌∷◌, [], List, ap, sym, subst, Entry, entry_at, IsKeyed, values_of, lookup_is, pair_test}
 use Rattle.indexmap.proofs.CallerLemmas.{insert_entry-new}
-use Rattle.dvg_cert.specs.declared.entry.Entry.{Entry}
-use Rattle.dvg_cert.specs.Lookup.{entry_at}
-use Rattle.dvg_cert.specs.Private.Keyed.{IsKeyed}
-use Rattle.std.specs.Map.{values_of}
-use Rattle.dvg_cert.proofs.Pairs.{lookup_is, pair_test, values_of-append, keyed_push}
+use Rattle.dvg_cert.proofs.Pairs.{values_of-append, keyed_push}
 use Rattle.dvg_make.proofs.made_entries.MadeEntries.add.Goals as goal
 
 pub invariant_of-self-2 : goal.invariant_of-self-2

@@ -1,7 +1,4 @@
-use Rattle.std.proofs.Common.{◌∙◌, List, ap}
-use Rattle.dvg_cert.specs.declared.entry.Entry.{Entry}
-use Rattle.dvg_cert.specs.Lookup.{entry_at}
-use Rattle.dvg_cert.proofs.Pairs.{lookup_is, pair_test}
+use Rattle.dvg_make.proofs.Common.{◌∙◌, List, ap, Entry, entry_at, lookup_is, pair_test}
 use Rattle.dvg_make.proofs.made_entries.MadeEntries.find.Goals as goal
 
 pub returns : goal.returns

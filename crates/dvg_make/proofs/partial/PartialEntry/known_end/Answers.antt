@@ -1,5 +1,4 @@
-use Rattle.std.proofs.Common.{sym, ◌∙◌}
-use Rattle.dvg_items.proofs.Listed.{listed_at}
+use Rattle.dvg_make.proofs.Common.{sym, ◌∙◌, listed_at}
 use Rattle.dvg_make.proofs.Joining.{ends_by_one}
 use Rattle.dvg_make.proofs.partial.PartialEntry.known_end.Goals as goal
 

@@ -1,7 +1,4 @@
-use Rattle.std.proofs.Common.{refl, sym, subst, ◌≡◌}
-use Rattle.dvg_items.specs.Seen.{seen_with}
-use Rattle.dvg_items.specs.declared.seen.Seen.{Seen}
-use Rattle.dvg_make.specs.declared.obstacle.Obstacle.{Obstacle}
+use Rattle.dvg_make.proofs.Common.{refl, sym, subst, ◌≡◌, seen_with, Seen, Obstacle}
 use Rattle.dvg_make.specs.Accounts.{SaysOf}
 use Rattle.dvg_make.proofs.partial.PartialEntry.pass.Goals as goal
 

@@ -1,7 +1,5 @@
-use Rattle.std.proofs.Common.{subst}
-use Rattle.std.specs.Prelude.{List, slice_get, Some, IfSome, IfNone, ◌≡◌}
-use Rattle.dvg_make.specs.declared.partial.PartialEntry.{PartialEntry}
-use Rattle.dvg_make.specs.Private.Making.{IsMaking}
+use Rattle.dvg_make.proofs.Common.{subst, slice_get, IfSome, IfNone, PartialEntry, IsMaking}
+use Rattle.std.specs.Prelude.{List, Some, ◌≡◌}
 use Rattle.dvg_make.proofs.Stacks.{at_index, no_index}
 use Rattle.dvg_make.proofs.stack.Stack.position.Goals as goal
 

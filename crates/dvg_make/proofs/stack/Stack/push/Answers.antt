@@ -1,9 +1,5 @@
-use Rattle.std.proofs.Common.{◌∙◌, ◌++◌, ◌∷◌, [], List, ap, sym, subst}
+use Rattle.dvg_make.proofs.Common.{◌∙◌, ◌++◌, ◌∷◌, [], List, ap, sym, subst, values_of, PartialEntry, IsMaking, AreOwn}
 use Rattle.indexmap.proofs.CallerLemmas.{insert_entry-new}
-use Rattle.std.specs.Map.{values_of}
-use Rattle.dvg_make.specs.declared.partial.PartialEntry.{PartialEntry}
-use Rattle.dvg_make.specs.Private.Making.{IsMaking}
-use Rattle.dvg_make.specs.Private.Stacked.{AreOwn}
 use Rattle.dvg_make.proofs.Stacks.{none_found, values_push, own_push}
 use Rattle.dvg_make.proofs.stack.Stack.push.Goals as goal
 

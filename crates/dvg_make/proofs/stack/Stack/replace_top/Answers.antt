@@ -1,7 +1,5 @@
-use Rattle.std.proofs.Common.{◌-◌, length, ap, sym, subst, ◌∙◌}
-use Rattle.std.specs.Map.{values_of}
+use Rattle.dvg_make.proofs.Common.{◌-◌, length, ap, sym, subst, ◌∙◌, values_of, AreOwn}
 use Rattle.std.specs.Prelude.{IsSome}
-use Rattle.dvg_make.specs.Private.Stacked.{AreOwn}
 use Rattle.dvg_make.proofs.Stacks.{set_last, own_set_last, one_less, some_there}
 use Rattle.dvg_make.proofs.stack.Stack.replace_top.Goals as goal
 use Rattle.dvg_make.proofs.stack.Stack.replace_top.Goals.{in-Some, in_default}

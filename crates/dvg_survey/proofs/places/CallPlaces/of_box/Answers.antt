@@ -1,5 +1,4 @@
-use Rattle.std.proofs.Common.{rules, subst, w16, w64}
-use Rattle.std.proofs.lemmas.Int.{to_z-of_z}
+use Rattle.dvg_survey.proofs.Common.{rules, subst, w16, w64, to_z-of_z}
 use mir.Val.{SFits}
 use Rattle.dvg_cert.specs.Entry.{IsBox}
 use Rattle.dvg_survey.proofs.Quotients.{ranges_of, box_places, seen_places}

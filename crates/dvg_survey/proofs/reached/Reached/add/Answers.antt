@@ -1,6 +1,5 @@
-use Rattle.std.proofs.Common.{List, Bool, [], ◌∷◌, ◌++◌, is_some, if◌then◌else◌, ap, sym, subst, ◌∙◌}
-use Rattle.dvg_cert.specs.Lookup.{entry_at}
-use Rattle.dvg_survey.specs.Private.Reaching.{Link, AreNames, entries_of, name_of}
+use Rattle.dvg_survey.proofs.Common.{List, Bool, [], ◌∷◌, ◌++◌, is_some, if◌then◌else◌, ap, sym, subst, ◌∙◌, entry_at, Link, entries_of}
+use Rattle.dvg_survey.specs.Private.Reaching.{AreNames, name_of}
 use Rattle.dvg_survey.proofs.Linking.{names_push}
 use Rattle.dvg_survey.proofs.reached.Reached.add.Goals as goal
 

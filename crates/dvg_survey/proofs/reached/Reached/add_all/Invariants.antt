@@ -1,5 +1,4 @@
-use Rattle.std.proofs.Common.{◌≡◌, take}
-use Rattle.dvg_survey.specs.Private.Reaching.{reach_all}
+use Rattle.dvg_survey.proofs.Common.{◌≡◌, take, reach_all}
 use Rattle.dvg_survey.proofs.reached.Reached.add_all.Given as goal
 
 abbrev pub invariant-loop-call : goal.invariant-loop-call

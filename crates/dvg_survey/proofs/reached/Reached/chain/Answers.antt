@@ -1,5 +1,4 @@
-use Rattle.std.proofs.Common.{sym, subst, ◌∙◌, ◌<◌, length}
-use Rattle.std.specs.Prelude.{IfSome}
+use Rattle.dvg_survey.proofs.Common.{sym, subst, ◌∙◌, ◌<◌, length, IfSome}
 use Rattle.dvg_survey.proofs.Tracing.{goes_back, stays_within, fewer_left, ends}
 use Rattle.dvg_survey.proofs.reached.Reached.chain.Goals as goal
 

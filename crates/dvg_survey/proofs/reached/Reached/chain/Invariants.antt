@@ -1,5 +1,4 @@
-use Rattle.std.proofs.Common.{◌<◌, length}
-use Rattle.std.specs.Prelude.{IfSome}
+use Rattle.dvg_survey.proofs.Common.{◌<◌, length, IfSome}
 use Rattle.dvg_survey.proofs.Tracing.{Traced, steps_left}
 use Rattle.dvg_survey.proofs.reached.Reached.chain.Given as goal
 
