@@ -34,17 +34,17 @@ pub record FrameLines (machine : Machine) (window : Window) (frame : List ℕ) (
   pub told : lines ≡ machine_lines machine ++ option_to_list zone ++ Rule (frame_number f.fault.why) ∷ Why why ∷ item_lines item
       ++ WhatToDo (frame_number f.fault.why) ∷ []
 
--- how the frame with these bytes reaches an entry: by these calls, or by none; without a frame there is no line
-abbrev pub TellsChain : Rom → List ℕ → List Entry → Entry → Option Line → Type 0
-TellsChain rom frame list goal None = IsFrameLength (length frame) → ⊥
-TellsChain rom frame list goal (Some (Path (path.Chain calls))) = IsChain rom (words_of frame) list calls.items goal
-TellsChain rom frame list goal (Some (Path (path.NoChain name))) =
-    (name ≡ record { addr = goal.addr; key = goal.key }) × ((calls : List Call) → IsChain rom (words_of frame) list calls goal → ⊥)
-TellsChain rom frame list goal line = ⊥
+-- how a frame reaches an entry: by these calls, or by none; without a frame there is no line
+abbrev pub TellsChain : Rom → Option (List ℕ) → List Entry → Entry → Option Line → Type 0
+TellsChain rom None list goal line = line ≡ None
+TellsChain rom (Some words) list goal (Some (Path (path.Chain calls))) = IsChain rom words list calls.items goal
+TellsChain rom (Some words) list goal (Some (Path (path.NoChain name))) =
+    (name ≡ record { addr = goal.addr; key = goal.key }) × ((calls : List Call) → IsChain rom words list calls goal → ⊥)
+TellsChain rom (Some words) list goal line = ⊥
 
 -- the lines of the first fault of the shapes: its rule, its cause, its item, its entry, how the frame reaches it,
 -- whether the certificate may have been made for the other machine, and what to do
-pub record ShapeLines (window : Window) (rom : Rom) (frame : List ℕ) (list : List Entry) (f : ShapeFinding) (lines : List Line) : Type 0 where
+pub record ShapeLines (window : Window) (rom : Rom) (frame : Option (List ℕ)) (list : List Entry) (f : ShapeFinding) (lines : List Line) : Type 0 where
   pub why : Sentence
   pub tells : TellsShape rom f f.cause why
   pub item : RefusedItem

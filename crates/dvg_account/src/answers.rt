@@ -1,14 +1,32 @@
 //! The account of a verdict, as lines.
 
 ghost use Rattle.std.specs.Prelude.{IfOk, option_copied};
-ghost use Rattle.dvg_account.specs.Verdicts.{VerdictLines};
+ghost use Rattle.dvg_account.specs.Verdicts.{LinesOf, VerdictLines};
 
 use crate::accepted::accepted_lines;
 use crate::inputs::Inputs;
 use crate::line::Line;
 use crate::refused::refused_lines;
 use dvg_check::{Refusal, RomFinding, Yes};
+use dvg_words::{FrameImage, RomImage};
 use std::alloc::{AllocError, Global};
+
+/// The lines of a verdict on these inputs, of which these are the images, as far as their bytes are of the right length.
+fn lines_of(
+    alloc: Global,
+    inputs: &Inputs,
+    rom: Option<&RomImage>,
+    frame: Option<&FrameImage>,
+    verdict: &Result<Yes, Refusal>,
+    cause: Option<&RomFinding>,
+) -> Result<Vec<Line>, AllocError>
+    ensures { IfOk result (λ lines. LinesOf inputs.now (option_copied rom.entry) (option_copied frame.entry) verdict.now (option_copied cause.entry) lines.items) }
+{
+    match verdict {
+        Ok(yes) => accepted_lines(alloc, inputs, rom, frame, *yes),
+        Err(refusal) => refused_lines(alloc, inputs, rom, frame, refusal, cause),
+    }
+}
 
 /// The lines of a verdict on these inputs, of which this is the cause, if it is a refusal because of an item (profile).
 pub fn verdict_lines(
@@ -19,8 +37,10 @@ pub fn verdict_lines(
 ) -> Result<Vec<Line>, AllocError>
     ensures { IfOk result (λ lines. VerdictLines inputs.now verdict.now (option_copied cause.entry) lines.items) }
 {
-    match verdict {
-        Ok(yes) => accepted_lines(alloc, inputs, *yes),
-        Err(refusal) => refused_lines(alloc, inputs, refusal, cause),
-    }
+    let rom = match inputs.cert {
+        Some(cert) => RomImage::from_bytes_on(inputs.machine, inputs.rom, cert.map()).ok(),
+        None => None,
+    };
+    let frame = FrameImage::from_bytes(inputs.frame).ok();
+    lines_of(alloc, inputs, rom.as_ref(), frame.as_ref(), verdict, cause)
 }

@@ -30,7 +30,7 @@ pub fn own_lines(
     ensures { IfOk result (λ lines. OwnLines inputs.now rom.now frame.now judged lines.items) }
 {
     match judged {
-        Ok(judged) => lines_by(alloc, inputs, &judged),
+        Ok(judged) => lines_by(alloc, inputs, rom, frame, &judged),
         Err(account) if account.cause == EntryCause::Memory => {
             plain_lines(inputs.machine, alloc, NO_MEMORY, PlainWhy::Nothing)
         }
@@ -39,8 +39,14 @@ pub fn own_lines(
 }
 
 /// The lines of the verdict on the frame of these inputs by its own certificate.
-fn lines_by(alloc: Global, inputs: &Inputs, judged: &JudgedFrame) -> Result<Vec<Line>, AllocError>
-    ensures { IfOk result (λ lines. LinesBy inputs.now judged.now lines.items) }
+fn lines_by(
+    alloc: Global,
+    inputs: &Inputs,
+    rom: &RomImage,
+    frame: &FrameImage,
+    judged: &JudgedFrame,
+) -> Result<Vec<Line>, AllocError>
+    ensures { IfOk result (λ lines. LinesBy inputs.now rom.now frame.now judged.now lines.items) }
 {
     let cert = Some(&judged.cert);
     let by_own = Inputs {
@@ -48,20 +54,25 @@ fn lines_by(alloc: Global, inputs: &Inputs, judged: &JudgedFrame) -> Result<Vec<
         mode: Mode::Exact,
         ..*inputs
     };
-    judged_lines(alloc, &by_own, &judged.verdict)
+    judged_lines(alloc, &by_own, rom, frame, &judged.verdict)
 }
 
-/// The lines of a verdict on these inputs that comes with the cause of a refusal.
+/// The lines of a verdict on these inputs, of which these are the images, that comes with the cause of a refusal.
 fn judged_lines(
     alloc: Global,
     inputs: &Inputs,
+    rom: &RomImage,
+    frame: &FrameImage,
     verdict: &Result<Yes, RomFinding>,
 ) -> Result<Vec<Line>, AllocError>
-    ensures { IfOk result (λ lines. JudgedLines inputs.now verdict.now lines.items) }
+    ensures { IfOk result (λ lines. JudgedLines inputs.now rom.now frame.now verdict.now lines.items) }
 {
     match verdict {
-        Ok(yes) => accepted_lines(alloc, inputs, *yes),
-        Err(finding) => refused_lines(alloc, inputs, &finding.refusal(), Some(finding)),
+        Ok(yes) => accepted_lines(alloc, inputs, Some(rom), Some(frame), *yes),
+        Err(finding) => {
+            let refusal = finding.refusal();
+            refused_lines(alloc, inputs, Some(rom), Some(frame), &refusal, Some(finding))
+        }
     }
 }
 

@@ -16,37 +16,37 @@ use crate::item::{RefusedItem, callee_of};
 use crate::line::{EntryName, Line, PathLine, Role};
 use crate::lines::{Lines, zone_line};
 use crate::why::Why;
-use dvg_cert::{Cert, Entries, Entry, HashIndex, ListIndex};
+use dvg_cert::{Cert, Entries, Entry, ListIndex};
 use dvg_check::{FrameFinding, Refusal, RomFinding, ShapeFinding, ShapeWhy};
 use dvg_items::Kind;
 use dvg_survey::{Losses, find_chain, frame_losses, shape_losses};
 use dvg_words::{FrameImage, FrameOn, Machine, RomImage, Window};
 use std::alloc::{AllocError, Global};
 
-/// The lines of a refusal, of which this is the cause, if it is because of an item.
+/// The lines of a refusal of these inputs, of which these are the images, as far as their bytes are of the right length. This is the
+/// cause, if it is because of an item.
 pub fn refused_lines(
     alloc: Global,
     inputs: &Inputs,
+    rom: Option<&RomImage>,
+    frame: Option<&FrameImage>,
     refusal: &Refusal,
     cause: Option<&RomFinding>,
 ) -> Result<Vec<Line>, AllocError>
-    ensures { IfOk result (λ lines. RefusedLines inputs.now refusal.now (option_copied cause.entry) lines.items) }
+    ensures { IfOk result (λ lines. RefusedLines inputs.now (option_copied rom.entry) (option_copied frame.entry) refusal.now (option_copied cause.entry) lines.items) }
 {
-    match (cause, inputs.cert) {
-        (Some(RomFinding::Shape(finding)), Some(cert)) => {
-            if let Ok(rom) = RomImage::from_bytes_on(inputs.machine, inputs.rom, cert.map()) {
-                return shape_lines(alloc, &inputs.window, &rom, cert, inputs.frame, finding);
-            }
+    match (cause, inputs.cert, rom, frame) {
+        (Some(RomFinding::Shape(finding)), Some(cert), Some(rom), frame) => {
+            shape_lines(alloc, &inputs.window, rom, cert, frame, finding)
         }
-        (Some(RomFinding::Frame(finding)), Some(cert)) => {
-            if let Ok(frame) = FrameImage::from_bytes(inputs.frame) {
-                return frame_lines(alloc, inputs.machine, &inputs.window, cert, &frame, finding);
-            }
+        (Some(RomFinding::Frame(finding)), Some(cert), _, Some(frame)) => {
+            frame_lines(alloc, inputs.machine, &inputs.window, cert, frame, finding)
         }
-        _ => {}
+        _ => {
+            let why = inputs.plain_why(refusal);
+            plain_lines(inputs.machine, alloc, refusal.number(), why)
+        }
     }
-    let why = inputs.plain_why(refusal);
-    plain_lines(inputs.machine, alloc, refusal.number(), why)
 }
 
 /// The lines of the first fault of a frame on a machine, judged for a window.
@@ -79,16 +79,16 @@ fn frame_lines(
     lines.finish()
 }
 
-/// The lines of the first fault of the shapes, judged for a window, over the bytes of a frame.
+/// The lines of the first fault of the shapes, judged for a window, with a frame, if there is one.
 fn shape_lines(
     alloc: Global,
     window: &Window,
     rom: &RomImage,
     cert: &Cert,
-    frame: &[u8],
+    frame: Option<&FrameImage>,
     finding: &ShapeFinding,
 ) -> Result<Vec<Line>, AllocError>
-    ensures { IfOk result (λ lines. ShapeLines window.now rom.now frame.now cert.now.entries finding.now lines.items) }
+    ensures { IfOk result (λ lines. ShapeLines window.now rom.now (option_copied frame.entry) cert.now.entries finding.now lines.items) }
 {
     let entry = finding.entry;
     let at = finding.fault.word;
@@ -129,21 +129,20 @@ fn other_machine_line(machine: Machine, why: ShapeWhy) -> Option<Line>
     }
 }
 
-/// The line of how the frame with these bytes reaches an entry; `None` where the bytes are no frame.
+/// The line of how a frame reaches an entry, if there is a frame.
 fn chain_line(
     alloc: Global,
     rom: &RomImage,
     cert: &Cert,
-    frame: &[u8],
+    frame: Option<&FrameImage>,
     goal: &Entry,
 ) -> Result<Option<Line>, AllocError>
-    ensures { IfOk result (TellsChain rom.now frame.now cert.now.entries goal.now) }
+    ensures { IfOk result (TellsChain rom.now (option_copied frame.entry) cert.now.entries goal.now) }
 {
-    let Ok(frame) = FrameImage::from_bytes(frame) else {
+    let Some(frame) = frame else {
         return Ok(None);
     };
-    let entries = HashIndex::new(alloc, cert)?;
-    let line = match find_chain(alloc, rom, cert, &entries, &frame, goal)? {
+    let line = match find_chain(alloc, rom, cert, &ListIndex::new(cert), frame, goal)? {
         Some(calls) => PathLine::Chain(calls),
         None => PathLine::NoChain(EntryName::of(goal)),
     };

@@ -4,14 +4,12 @@ use crate::line::EntryName;
 use crate::zeros::item_below;
 use dvg_cert::{Cert, Entries, Entry, Key};
 use dvg_items::{Item, Kind};
-use dvg_words::{ADDRESS_END, Fetch, FrameImage, FrameOn, Instr, Machine, RomImage};
+use dvg_survey::is_faint;
+use dvg_words::{ADDRESS_END, Instr, RomImage};
 use std::alloc::{AllocError, Global};
 
-/// How many items a shape or a frame has at most.
+/// How many items a shape has at most.
 const MOST_ITEMS: u16 = 2048;
-
-/// The greatest effective scale at which a draw has its length.
-const MOST_SCALE: u8 = 9;
 
 /// Something that its author may not have meant.
 #[derive(Clone, Copy)]
@@ -29,7 +27,7 @@ pub enum Remark {
     },
 }
 
-/// What a walk over the items of a shape or of the frame found.
+/// What a walk over the items of a shape found.
 #[derive(Clone, Copy)]
 struct Walk {
     first: Option<u16>,
@@ -38,31 +36,24 @@ struct Walk {
 }
 
 impl Walk {
-    /// The walk from a word address on, at a known scale, with the entries behind that of the shape, in their order. It ends where
-    /// another shape begins at the very scale that is known there, whose own walk goes on.
-    fn from<F: Fetch, E: Entries>(
-        memory: &F,
-        entries: &E,
-        kind: Kind,
-        first: u16,
-        scale: Key,
-        later: &[Entry],
-    ) -> Walk {
+    /// The walk over the shape of an entry, with the entries behind it, in their order. It ends where another shape begins at the
+    /// very scale that is known there, whose own walk goes on.
+    fn over<E: Entries>(rom: &RomImage, entries: &E, entry: &Entry, later: &[Entry]) -> Walk {
         let mut walk = Walk {
             first: None,
             draws: 0,
             into: None,
         };
-        let mut here = Some(first);
-        let mut scale = scale;
+        let mut here = Some(entry.addr);
+        let mut scale = entry.key;
         let mut later = later;
         for _ in 0..MOST_ITEMS {
-            let Some(item) = item_below(memory, here, ADDRESS_END) else {
+            let Some(item) = item_below(rom, here, ADDRESS_END) else {
                 break;
             };
             walk.note(&item, scale);
-            scale = scale_behind(entries, kind, &item, scale);
-            here = item.next_address(kind);
+            scale = scale_behind(entries, &item, scale);
+            here = item.next_address(Kind::Shape);
             later = from_address(later, here);
             if walk.meets(entries, later, here, scale) {
                 break;
@@ -96,34 +87,22 @@ impl Walk {
         }
     }
 
-    /// The remark on faint draws, if there are any.
-    fn faint(&self, shape: Option<EntryName>) -> Option<Remark> {
+    /// The remark on faint draws of this shape, if there are any.
+    fn faint(&self, shape: EntryName) -> Option<Remark> {
         let first = self.first?;
         Some(Remark::Faint {
-            shape,
+            shape: Some(shape),
             first,
             draws: self.draws,
         })
     }
 }
 
-/// Whether an instruction is a lit draw at an effective scale of 10 to 15.
-fn is_faint(instr: &Instr, scale: Key) -> bool {
-    match (instr, scale) {
-        (Instr::Draw(draw), Key::At(scale)) => {
-            draw.bright != 0 && draw.lscale.wrapping_add(scale) % 16 > MOST_SCALE
-        }
-        _ => false,
-    }
-}
-
 /// The scale that is known behind an item, by the entry that it names.
-fn scale_behind<E: Entries>(entries: &E, kind: Kind, item: &Item, scale: Key) -> Key {
-    match (item.instr, kind) {
-        (Instr::Labs { gscale, .. }, _) => Key::At(gscale),
-        (Instr::Jsrl { to }, _) | (Instr::Jmpl { to }, Kind::Shape) => match entries.named(
-            to, scale,
-        ) {
+fn scale_behind<E: Entries>(entries: &E, item: &Item, scale: Key) -> Key {
+    match item.instr {
+        Instr::Labs { gscale, .. } => Key::At(gscale),
+        Instr::Jsrl { to } | Instr::Jmpl { to } => match entries.named(to, scale) {
             Some(entry) => entry.scale,
             None => scale,
         },
@@ -142,25 +121,29 @@ fn from_address(entries: &[Entry], here: Option<u16>) -> &[Entry] {
     }
 }
 
-/// The remarks on a frame and on the shapes of a certificate, over the bytes of a ROM and of the frame on a machine.
+/// The remarks on a frame, whose faint draws stand at these word addresses, and on the shapes of a certificate over a ROM.
 pub fn remarks_on<E: Entries>(
     alloc: Global,
-    machine: Machine,
     cert: &Cert,
     entries: &E,
-    rom: &[u8],
-    frame: &[u8],
+    rom: Option<&RomImage>,
+    faint: &[u16],
 ) -> Result<Vec<Remark>, AllocError> {
     let mut remarks = Vec::new(alloc);
-    if let Ok(frame) = FrameImage::from_bytes(frame) {
-        let framed = FrameOn::new(machine, &frame);
-        let walk = Walk::from(&framed, entries, Kind::Frame, 0, Key::Any, &[]);
-        push_some(&mut remarks, walk.faint(None))?;
-    }
-    if let Ok(rom) = RomImage::from_bytes_on(machine, rom, cert.map()) {
-        push_shapes(&mut remarks, &rom, cert, entries)?;
+    push_some(&mut remarks, faint_in_frame(faint))?;
+    if let Some(rom) = rom {
+        push_shapes(&mut remarks, rom, cert, entries)?;
     }
     Ok(remarks)
+}
+
+/// The remark on a frame's faint draws, if there are any.
+fn faint_in_frame(faint: &[u16]) -> Option<Remark> {
+    Some(Remark::Faint {
+        shape: None,
+        first: *faint.first()?,
+        draws: faint.len() as u32,
+    })
 }
 
 /// Adds the remarks on the shapes. Where one runs on is told at its first scale alone.
@@ -175,8 +158,8 @@ fn push_shapes<E: Entries>(
     for entry in cert.entries() {
         later = from_address(later, Some(entry.addr));
         let shape = EntryName::of(entry);
-        let walk = Walk::from(rom, entries, Kind::Shape, entry.addr, entry.key, later);
-        push_some(remarks, walk.faint(Some(shape)))?;
+        let walk = Walk::over(rom, entries, entry, later);
+        push_some(remarks, walk.faint(shape))?;
         if told != Some(entry.addr) {
             push_some(
                 remarks,

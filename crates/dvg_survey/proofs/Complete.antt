@@ -1,17 +1,16 @@
 -- No entry that a frame comes to is left out.
 use Rattle.dvg_words.specs.declared.machine.Machine.{Machine}
-use Rattle.dvg_survey.proofs.Common.{Source, ◌≡◌, ℕ, zero, suc, ◌+◌, ◌<◌, ◌≤◌, Bool, true, false, List, [], ◌∷◌, ◌++◌, length, Option, Some, None, is_some, if◌then◌else◌, refl, sym, ap, ◌∙◌, subst, arith, ⊎_elim, cases_lt, All, AllByRecursion, Contains, slice_get, Rom, rom_word, Entry, Any, entry_at, Context, shape_context, all_map, IsClaim, IsSomeCertificate, listed_at, listed_claim, Call, IsShapeCall, LeadsOn, IsChain, Link, AllSteps, IsBackward, IsStep, entries_of, reach, reach_all, KeyedWord, AreNone, HasWord, context_of}
+use Rattle.dvg_survey.proofs.Common.{Source, ◌≡◌, ℕ, zero, suc, ◌+◌, ◌<◌, ◌≤◌, Bool, true, false, List, [], ◌∷◌, ◌++◌, length, Option, Some, None, is_some, if◌then◌else◌, refl, sym, ap, ◌∙◌, subst, arith, ⊎_elim, cases_lt, All, AllByRecursion, Contains, slice_get, Rom, rom_word, Entry, entry_at, Context, shape_context, all_map, IsClaim, IsSomeCertificate, listed_at, listed_claim, Call, IsShapeCall, LeadsOn, IsChain, Link, AllSteps, IsBackward, IsStep, entries_of, reach, reach_all, KeyedWord, AreNone, HasWord}
 use Rattle.std.proofs.lemmas.Option.{slice_get_within}
 use Rattle.std.proofs.lemmas.List.Elements.{All-nil, All-cons}
 use Rattle.dvg_words.specs.Memory.{frame_word}
 use Rattle.dvg_cert.specs.Lookup.{is_at}
-use Rattle.dvg_items.specs.declared.item.Kind.TheVariants.{Frame}
 use Rattle.dvg_items.specs.Known.{frame_context}
 use Rattle.dvg_survey.specs.Calls.{AreCalls}
 use Rattle.dvg_survey.specs.Chains.{Calls, IsFrameCall}
 use Rattle.dvg_survey.specs.Private.Reaching.{IsReachedByFrame, IsReachedByShape}
 use Rattle.dvg_survey.specs.Private.Visiting.{CallsFrom, IsMet, AreNewCalls}
-use Rattle.dvg_survey.specs.Private.Walking.{WalkContext}
+use Rattle.dvg_survey.specs.Survey.{FrameSurvey, IsSurvey}
 use Rattle.dvg_survey.proofs.Linking.{at_self, at_still, reach_keeps}
 use Rattle.dvg_survey.proofs.Coming.{calls_hold, is_among, named_self, step_named, reach_steps, reach_still, all_steps, all_back}
 use Rattle.dvg_survey.proofs.Visiting.{of_each}
@@ -303,18 +302,14 @@ called_claims c word first (call ∷ rest) some are =
     let claim = listed_claim c.list call.entry some (listed_at c.list call.entry.addr call.entry.key call.entry (named_self c.list _ _ call.entry are.0.callee_is)).listed in
     All-cons (λ (x : Call). IsClaim x.entry) call rest claim (called_claims c word first rest some are.1)
 
-module _ (machine : Machine) (words : List ℕ) (list : List Entry) (walk : WalkContext) (calls : List Call) (is : walk ≡ record { kind = Frame; first = 0; scale = Any })
-    (are : AreCalls (context_of machine list walk) (frame_word machine words) walk.first calls) where
-  at_start : AreCalls (frame_context machine list) (frame_word machine words) 0 calls
-  at_start = subst (λ (w : WalkContext). AreCalls (context_of machine list w) (frame_word machine words) w.first calls) is are
-
-  pub frame_claims : IsSomeCertificate list → All (λ (x : Call). IsClaim x.entry) calls
+module _ (machine : Machine) (words : List ℕ) (list : List Entry) (survey : FrameSurvey) (is : IsSurvey (frame_context machine list) (frame_word machine words) survey) where
+  pub frame_claims : IsSomeCertificate list → All (λ (x : Call). IsClaim x.entry) survey.calls.items
   frame_claims some =
-      called_claims (frame_context machine list) (frame_word machine words) 0 calls some
-      (subst (AllByRecursion (Calls (frame_context machine list) (frame_word machine words) 0)) (sym at_start.2) (calls_hold (frame_context machine list) (frame_word machine words) 0 at_start.0 at_start.1.stand))
+      called_claims (frame_context machine list) (frame_word machine words) 0 survey.calls.items some
+      (subst (AllByRecursion (Calls (frame_context machine list) (frame_word machine words) 0)) (sym is.2.are_calls) (calls_hold (frame_context machine list) (frame_word machine words) 0 is.0 is.1.stand))
 
-  pub frame_reaches : (old new : List Link) → old ≡ [] → new ≡ reach_all old None calls → IsReachedByFrame machine words list new
-  frame_reaches old new empty reached = (calls, at_start, reached ∙ ap (λ ls. reach_all ls None calls) empty)
+  pub frame_reaches : (old new : List Link) → old ≡ [] → new ≡ reach_all old None survey.calls.items → IsReachedByFrame machine words list new
+  frame_reaches old new empty reached = (survey.calls.items, (is.0, is.1, is.2.are_calls), reached ∙ ap (λ ls. reach_all ls None survey.calls.items) empty)
 
 pub shape_claims : (rom : Rom) (list : List Entry) (e : Entry) (visited visited_new : List Bool) (calls : List Call) → IsSomeCertificate list → AreNewCalls rom list e visited visited_new calls → All (λ (x : Call). IsClaim x.entry) calls
 shape_claims rom list e visited visited_new calls some are = called_claims (shape_context rom.machine list e) (rom_word rom) e.addr calls some are.own

@@ -10,7 +10,10 @@ use Rattle.dvg_items.specs.Seen.{seen_with}
 use Rattle.dvg_items.specs.Cursor.{first_cursor, step_past}
 use Rattle.dvg_items.specs.Bounds.{IsSoundCursor, IsSoundStep}
 use Rattle.dvg_items.proofs.Stepping.{leads_on, ends_at}
-use Rattle.dvg_survey.specs.Clipping.{AreClippedAmong, ClippedPast}
+use Rattle.dvg_survey.specs.Clipping.{ClippedPast}
+use Rattle.dvg_survey.specs.Faint.{faint_among, faint_past}
+use Rattle.dvg_survey.specs.Survey.{FrameSurvey, IsSurveyAmong}
+use Rattle.dvg_survey.specs.Private.Surveying.{IsSurveyPast}
 use Rattle.dvg_survey.specs.Losses.{place_loss, place_lost_by, scale_loss, scale_lost_by}
 use Rattle.dvg_survey.proofs.AllItems.{stand_before}
 
@@ -62,9 +65,6 @@ module _ (c : Context) (word : Source) (first : ℕ) where
           let end = ends_at c.kind v step known is goes in
           record { stand = (here_leads, here_stands); last = λ next k. let no : None ≡ Some next.at = sym end.0 ∙ k.0.2 in cc no }
 
-      pub calls_on : (old new : List Call) → old ≡ calls_among c items → new ≡ old ++ call_of v.item v.callee → new ≡ calls_among c (v.item ∷ items)
-      calls_on old new h e = e ∙ ap (λ (l : List Call). l ++ call_of v.item v.callee) h ∙ ap (λ (x : Seen). calls_among c items ++ call_of v.item x.callee) seen_is
-
       pub place_lost_on : (old new : Option Item) → old ≡ place_lost_by c items → new ≡ place_loss v.item here.known.place v.after.place old → new ≡ place_lost_by c (v.item ∷ items)
       place_lost_on old new h e =
           e ∙ ap (λ (by : Option Item). place_loss v.item here.known.place v.after.place by) h
@@ -81,8 +81,13 @@ module _ (c : Context) (word : Source) (first : ℕ) where
           → IsLeast (absolute_points c (v.item ∷ items)) new
       lit_on old new h grows = subst (λ (x : Seen). IsLeast (absolute_corners x.extent x.place ++ absolute_points c items) new) seen_is (grows (absolute_points c items) h)
 
-      pub clipped_on : (old new : List ℕ) → AreClippedAmong c items old → ClippedPast old v.item.at v.extent v.place new → AreClippedAmong c (v.item ∷ items) new
-      clipped_on old new h past = (old, h, subst (λ (x : Seen). ClippedPast old v.item.at x.extent x.place new) seen_is past)
+      pub survey_on : (old new : FrameSurvey) → IsSurveyAmong c items old → IsSurveyPast old v here.known.scale new → IsSurveyAmong c (v.item ∷ items) new
+      survey_on old new h past = record {
+        are_calls = past.calls ∙ ap (λ (l : List Call). l ++ call_of v.item v.callee) h.are_calls ∙ ap (λ (x : Seen). calls_among c items ++ call_of v.item x.callee) seen_is;
+        is_extent = lit_on old.lit new.lit h.is_extent past.lit;
+        are_clipped = (old.clipped.items, h.are_clipped, subst (λ (x : Seen). ClippedPast old.clipped.items v.item.at x.extent x.place new.clipped.items) seen_is past.clipped);
+        are_faint = past.faint ∙ ap (λ (l : List ℕ). faint_past l v.item here.known.scale) h.are_faint ∙ ap (λ (k : Known). faint_past (faint_among c items) v.item k.scale) w.knows;
+      }
 
 -- nothing needs no box
 pub least_none : IsLeast [] Empty

@@ -1,5 +1,4 @@
 -- Which items a board clips: those that light past the screen. All of it is this project's own.
-use Rattle.dvg_words.specs.Values.{Source}
 use Rattle.std.specs.Prelude.{◌≡◌, ℕ, List, [], ◌∷◌, ◌++◌, ◌⊎◌}
 use Rattle.dvg_words.specs.Beam.{screen}
 use Rattle.dvg_cert.specs.declared.entry.End.{End}
@@ -8,7 +7,6 @@ use Rattle.dvg_items.specs.declared.lit.LitExtent.{LitExtent}
 use Rattle.dvg_items.specs.Known.{Context, place_before}
 use Rattle.dvg_items.specs.Seen.{extent}
 use Rattle.dvg_items.specs.Lit.{LitInWindow}
-use Rattle.dvg_survey.specs.Calls.{AreAll}
 
 -- past an item, the word addresses of those clipped: its own comes behind, if a corner of what it lights at an absolute place is off
 -- the screen (profile)
@@ -21,7 +19,3 @@ abbrev pub AreClippedAmong : Context → List Item → List ℕ → Type 0
 AreClippedAmong c [] clipped = clipped ≡ []
 AreClippedAmong c (i ∷ earlier) clipped = (before : List ℕ) × AreClippedAmong c earlier before
     × ClippedPast before i.at (extent c earlier i.instr) (place_before c earlier) clipped
-
--- of all items from a word address on (profile)
-abbrev pub AreClipped : Context → Source → ℕ → List ℕ → Type 0
-AreClipped c word first clipped = (items : List Item) × AreAll c.kind word first items × AreClippedAmong c items clipped

@@ -1,6 +1,8 @@
 pub mod Margins
 pub mod Calls
 pub mod Clipping
+pub mod Faint
+pub mod Survey
 pub mod Chains
 pub mod Losses
 pub mod Deepest

@@ -7,7 +7,8 @@ ghost use Rattle.dvg_survey.specs.Chains.{IsChain};
 ghost use Rattle.dvg_survey.specs.Private.Reaching.{IsReachedByFrame, IsReachedByShape};
 
 use crate::calls::Call;
-use crate::items::{WalkContext, calls_from, new_calls};
+use crate::frame_survey::survey_items;
+use crate::items::new_calls;
 use crate::keyed_words::KeyedWords;
 use crate::reached::Reached;
 use dvg_cert::{Cert, Entries, Entry};
@@ -26,8 +27,8 @@ fn reached_by_frame<E: Entries>(
 {
     let mut reached = Reached::new(alloc)?;
     let framed = FrameOn::new(machine, frame);
-    let calls = calls_from(alloc, &framed, entries, &WalkContext::frame())?;
-    reached.add_all(&calls, None)?;
+    let survey = survey_items(alloc, &framed, entries)?;
+    reached.add_all(&survey.calls, None)?;
     Ok(reached)
 }
 

@@ -13,8 +13,7 @@ ghost use Rattle.dvg_items.specs.Bounds.{IsSomeCertificate, IsSoundCursor, IsSou
 ghost use Rattle.dvg_items.specs.Least.{IsLeast};
 ghost use Rattle.dvg_items.specs.Lit.{absolute_corners};
 ghost use Rattle.dvg_items.specs.declared.item.Kind.TheVariants.{Frame, Shape};
-ghost use Rattle.dvg_survey.specs.Calls.{AreCalls, IsExtent, call_of};
-ghost use Rattle.dvg_survey.specs.Clipping.{AreClipped, ClippedPast};
+ghost use Rattle.dvg_survey.specs.Calls.{IsExtent, call_of};
 ghost use Rattle.dvg_survey.specs.Private.Visiting.{AreNewCalls};
 ghost use Rattle.dvg_survey.specs.Private.Walking.{IsSeenAt, context_of};
 
@@ -22,10 +21,9 @@ use crate::calls::Call;
 use crate::keyed_words::KeyedWords;
 use dvg_cert::{Entries, Entry, Key, LitBox};
 use dvg_items::{
-    Cursor, Item, Kind, Seen, Step, absolute_corners, callee, lit_in_window, scale_past, target,
-    widened,
+    Cursor, Item, Kind, Seen, Step, absolute_corners, callee, scale_past, target, widened,
 };
-use dvg_words::{Cell, Fetch, RomImage, SCREEN, read_cell};
+use dvg_words::{Cell, Fetch, RomImage, read_cell};
 use std::alloc::{AllocError, Global};
 
 /// What a walk over items goes by: whose items they are, the word address of the first one, and the known scale there.
@@ -76,37 +74,17 @@ pub fn see<F: Fetch, E: Entries>(memory: &F, entries: &E, kind: Kind, here: &Cur
 }
 
 /// Adds the call of an item, if it names an entry.
-fn push_call(calls: &mut Vec<Call>, item: &Item, named: &Option<Entry>) -> Result<(), AllocError>
+pub fn push_call(
+    calls: &mut Vec<Call>,
+    item: &Item,
+    named: &Option<Entry>,
+) -> Result<(), AllocError>
     ensures { OnOk result (calls.new.items ≡ calls.old.items ++ call_of item.now named.now) }
 {
     if let Some(entry) = *named {
         calls.push(Call { at: item.at, entry })?;
     }
     Ok(())
-}
-
-/// The calls of all items of a walk, in their order.
-pub fn calls_from<F: Fetch, E: Entries>(
-    alloc: Global,
-    memory: &F,
-    entries: &E,
-    walk: &WalkContext,
-) -> Result<Vec<Call>, AllocError>
-    requires entries { IsSomeCertificate (E.list entries.now) }
-    requires first { walk.now.first < ADDRESS_END }
-    requires scale { IsKey walk.now.scale }
-    ensures { IfOk result (λ calls. AreCalls (context_of (F.words memory.now).machine (E.list entries.now) walk.now) (F.words memory.now) walk.now.first calls.items) }
-{
-    let mut calls = Vec::new(alloc);
-    let mut cursor = Cursor::start(walk.kind, walk.first, walk.scale);
-    while let Some(seen) = see(memory, entries, walk.kind, &cursor) {
-        push_call(&mut calls, &seen.item, &seen.callee)?;
-        match seen.step(walk.kind) {
-            Step::Onward(next) => cursor = next,
-            Step::Last(_) => return Ok(calls),
-        }
-    }
-    Ok(calls)
 }
 
 /// The calls of an entry's shape, in their order, up to the first word that was visited before at the same known scale: from there
@@ -144,7 +122,7 @@ pub fn new_calls<E: Entries>(
 }
 
 /// The least box of a box and of what an item lights at an absolute place.
-fn lit_with(lit: &LitBox, seen: &Seen) -> LitBox
+pub fn lit_with(lit: &LitBox, seen: &Seen) -> LitBox
     requires { IsSoundSeen seen.now }
     ensures { (ps : List Point) → IsLeast ps lit.now → IsLeast (absolute_corners seen.now.extent seen.now.place ++ ps) result }
 {
@@ -171,39 +149,4 @@ pub fn extent_from<F: Fetch, E: Entries>(memory: &F, entries: &E, walk: &WalkCon
         }
     }
     lit
-}
-
-/// Adds the word address of an item, if a corner of what it lights at an absolute place is off the screen.
-fn push_clipped(clipped: &mut Vec<u16>, seen: &Seen) -> Result<(), AllocError>
-    requires { IsSoundSeen seen.now }
-    ensures { OnOk result (ClippedPast clipped.old.items seen.now.item.at seen.now.extent seen.now.place clipped.new.items) }
-{
-    if !lit_in_window(&SCREEN, &seen.extent, &seen.place) {
-        clipped.push(seen.item.at)?;
-    }
-    Ok(())
-}
-
-/// The word addresses of the items of a walk that light past the screen, in their order.
-pub fn clipped_from<F: Fetch, E: Entries>(
-    alloc: Global,
-    memory: &F,
-    entries: &E,
-    walk: &WalkContext,
-) -> Result<Vec<u16>, AllocError>
-    requires entries { IsSomeCertificate (E.list entries.now) }
-    requires first { walk.now.first < ADDRESS_END }
-    requires scale { IsKey walk.now.scale }
-    ensures { IfOk result (λ clipped. AreClipped (context_of (F.words memory.now).machine (E.list entries.now) walk.now) (F.words memory.now) walk.now.first clipped.items) }
-{
-    let mut clipped = Vec::new(alloc);
-    let mut cursor = Cursor::start(walk.kind, walk.first, walk.scale);
-    while let Some(seen) = see(memory, entries, walk.kind, &cursor) {
-        push_clipped(&mut clipped, &seen)?;
-        match seen.step(walk.kind) {
-            Step::Onward(next) => cursor = next,
-            Step::Last(_) => return Ok(clipped),
-        }
-    }
-    Ok(clipped)
 }

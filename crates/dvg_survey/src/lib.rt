@@ -1,15 +1,16 @@
 //! What the items of a frame or of a shape come to, judged or not: calls, losses, chains, and how far what is lit is from the
 //! window's edges.
 //!
-//! [`frame_calls`] and [`find_chain`] tell what a frame calls and by which calls it comes to a shape, [`deepest_calls`] which calls
-//! below a shape go deepest, [`frame_losses`] and [`shape_losses`] by which items the known place and the known scale were lost,
-//! [`frame_extent`] and [`shapes_extent`] where something may be lit, [`Margins`] how far that is from the edges of the window,
-//! [`frame_clipped`] which items reach past the screen, and [`entry_places`] where a call of an entry may stand.
+//! [`survey_frame`] tells what a frame's own items call and light, [`find_chain`] by which calls it comes to a shape,
+//! [`deepest_calls`] which calls below a shape go deepest, [`frame_losses`] and [`shape_losses`] by which items the known place and
+//! the known scale were lost, [`shapes_extent`] where shapes may light something, [`Margins`] how far that is from the edges of the
+//! window, and [`entry_places`] where a call of an entry may stand.
 #![tactic(auto)]
 
 mod calls;
 mod chains;
 mod deepest;
+mod frame_survey;
 mod items;
 mod keyed_words;
 mod losses;
@@ -18,9 +19,10 @@ mod places;
 mod reached;
 mod tails;
 
-pub use calls::{Call, frame_calls, frame_clipped, frame_extent};
+pub use calls::Call;
 pub use chains::find_chain;
 pub use deepest::deepest_calls;
+pub use frame_survey::{FrameSurvey, is_faint, survey_frame};
 pub use losses::{Losses, frame_losses, shape_losses};
 pub use margins::Margins;
 pub use places::{CallPlaces, EntryPlaces, Rectangle, entry_places};

@@ -9,7 +9,7 @@ use dvg_check::{
     find_shape_fault,
 };
 use dvg_cmd::report_of;
-use dvg_survey::{CallPlaces, Rectangle, entry_places, frame_clipped};
+use dvg_survey::{CallPlaces, Rectangle, entry_places, survey_frame};
 use dvg_words::{CLIPPED, FrameImage, Machine, Point, RomImage, SCREEN};
 use std::alloc::Global;
 use std::process::Abort;
@@ -200,8 +200,8 @@ fn clipped_items(rt: &impl Abort, alloc: Global, frame: &[u8]) -> Vec<u16> {
     let cert = read_cert(alloc, WIDE_CERT).expect(rt, "a certificate");
     let frame = FrameImage::from_bytes(frame).expect(rt, "a frame");
     let entries = ListIndex::new(&cert);
-    let clipped = frame_clipped(Machine::Board, alloc, &cert, &entries, &frame);
-    clipped.expect(rt, "memory for the addresses")
+    let survey = survey_frame(Machine::Board, alloc, &cert, &entries, &frame);
+    survey.expect(rt, "memory for the survey").clipped
 }
 
 #[test]
