@@ -1,6 +1,6 @@
 //! The account of what is accepted.
 
-ghost use Rattle.std.specs.Prelude.{IfOk, option_copied};
+ghost use Rattle.std.specs.Prelude.{IfOk, IfSome, option_copied};
 ghost use Rattle.dvg_account.specs.Accepted.{Surveyed, TellsMargins, TellsClipped, TellsBoard, AcceptedLines};
 ghost use Rattle.dvg_account.specs.declared.line.AcceptedLine.TheVariants.{FrameMargins, ShapesMargins};
 ghost use Rattle.dvg_account.specs.Building.{Adds};
@@ -32,6 +32,21 @@ impl Survey {
             frame: FrameSurvey::empty(alloc),
             shapes: LitBox::Empty,
             remarks: Vec::new(alloc),
+        }
+    }
+
+    /// The survey of inputs with these images, as far as their bytes are of the right length.
+    fn of(
+        alloc: Global,
+        inputs: &Inputs,
+        rom: Option<&RomImage>,
+        frame: Option<&FrameImage>,
+    ) -> Result<Survey, AllocError>
+        ensures { IfOk result (λ s. IfSome inputs.now.cert (λ cert. Surveyed inputs.now.machine cert.now (option_copied rom.entry) (option_copied frame.entry) s)) }
+    {
+        match inputs.cert {
+            Some(cert) => Survey::by(alloc, inputs.machine, cert, rom, frame),
+            None => Ok(Survey::nothing(alloc)),
         }
     }
 
@@ -120,13 +135,14 @@ pub fn accepted_lines(
 ) -> Result<Vec<Line>, AllocError>
     ensures { IfOk result (λ lines. AcceptedLines inputs.now (option_copied rom.entry) (option_copied frame.entry) yes lines.items) }
 {
-    let survey = match inputs.cert {
-        Some(cert) => Survey::by(alloc, inputs.machine, cert, rom, frame)?,
-        None => Survey::nothing(alloc),
-    };
+    let survey = Survey::of(alloc, inputs, rom, frame)?;
     let on_board = board_line(alloc, inputs)?;
-    let lit = survey.frame.lit;
-    let shapes = survey.shapes;
+    let Survey {
+        frame,
+        shapes,
+        remarks,
+    } = survey;
+    let lit = frame.lit;
     let mut lines = Lines::new(alloc);
     lines.push_machine(inputs.machine);
     lines.push_some(zone_line(&inputs.window));
@@ -136,13 +152,13 @@ pub fn accepted_lines(
         budget: inputs.budget,
     });
     lines.push_accepted(AcceptedLine::ReturnPlaces(yes.depth));
-    lines.push_accepted(AcceptedLine::Calls(survey.frame.calls));
+    lines.push_accepted(AcceptedLine::Calls(frame.calls));
     lines.push_accepted(AcceptedLine::FrameLights(lit));
     lines.push_some(frame_margins(&inputs.window, &lit));
-    lines.push_some(clipped_line(&inputs.window, survey.frame.clipped));
+    lines.push_some(clipped_line(&inputs.window, frame.clipped));
     lines.push_accepted(AcceptedLine::ShapesLight(shapes));
     lines.push_some(shapes_margins(&inputs.window, &shapes));
-    lines.push_accepted(AcceptedLine::Remarks(survey.remarks));
+    lines.push_accepted(AcceptedLine::Remarks(remarks));
     lines.push_some(on_board);
     lines.finish()
 }

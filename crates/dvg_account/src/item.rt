@@ -109,30 +109,14 @@ impl RefusedItem {
     fn place_lost_by(&self) -> Option<ItemLine>
         ensures { result ≡ place_lost_by self.now.losses }
     {
-        match self.losses {
-            Some(
-                Losses {
-                    place: Some(item),
-                    ..
-                },
-            ) => Some(ItemLine::PlaceLostBy(item)),
-            _ => None,
-        }
+        Some(ItemLine::PlaceLostBy(self.losses?.place?))
     }
 
     /// The item by which the scale became unknown.
     fn scale_lost_by(&self) -> Option<ItemLine>
         ensures { result ≡ scale_lost_by self.now.losses }
     {
-        match self.losses {
-            Some(
-                Losses {
-                    scale: Some(item),
-                    ..
-                },
-            ) => Some(ItemLine::ScaleLostBy(item)),
-            _ => None,
-        }
+        Some(ItemLine::ScaleLostBy(self.losses?.scale?))
     }
 
     /// The zeros that lead to the item.

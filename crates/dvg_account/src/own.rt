@@ -71,7 +71,14 @@ fn judged_lines(
         Ok(yes) => accepted_lines(alloc, inputs, Some(rom), Some(frame), *yes),
         Err(finding) => {
             let refusal = finding.refusal();
-            refused_lines(alloc, inputs, Some(rom), Some(frame), &refusal, Some(finding))
+            refused_lines(
+                alloc,
+                inputs,
+                Some(rom),
+                Some(frame),
+                &refusal,
+                Some(finding),
+            )
         }
     }
 }

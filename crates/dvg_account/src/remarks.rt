@@ -18,7 +18,7 @@ pub enum Remark {
     Faint {
         shape: Option<EntryName>,
         first: u16,
-        draws: u32,
+        draws: usize,
     },
     /// A shape runs on into this word address, at which another one begins.
     RunsOn {
@@ -31,7 +31,7 @@ pub enum Remark {
 #[derive(Clone, Copy)]
 struct Walk {
     first: Option<u16>,
-    draws: u32,
+    draws: usize,
     into: Option<u16>,
 }
 
@@ -142,7 +142,7 @@ fn faint_in_frame(faint: &[u16]) -> Option<Remark> {
     Some(Remark::Faint {
         shape: None,
         first: *faint.first()?,
-        draws: faint.len() as u32,
+        draws: faint.len(),
     })
 }
 

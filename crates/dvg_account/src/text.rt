@@ -5,6 +5,7 @@ ghost use Rattle.dvg_cert.specs.Grammar.{key_token};
 ghost use Rattle.dvg_account.specs.Building.{Adds};
 
 use dvg_cert::{End, Entry, Key, LitBox};
+use dvg_items::box_corners;
 use dvg_labels::{Labels, Nearest};
 use dvg_spelling::{hex_address, hex_word};
 use dvg_words::Point;
@@ -193,24 +194,21 @@ impl<'a> Text<'a> {
 
     /// The coordinates between which a box lies.
     pub fn push_extent(&mut self, lit: &LitBox) {
-        match lit {
-            LitBox::Empty => self.push("nothing"),
-            LitBox::Span {
-                x_min,
-                x_max,
-                y_min,
-                y_max,
-            } => {
-                self.push("X ");
-                self.push_coordinate(*x_min);
-                self.push(" to ");
-                self.push_coordinate(*x_max);
-                self.push(", Y ");
-                self.push_coordinate(*y_min);
-                self.push(" to ");
-                self.push_coordinate(*y_max);
+        match box_corners(lit) {
+            Some((low, high)) => {
+                self.push_range("X ", low.x, high.x);
+                self.push_range(", Y ", low.y, high.y);
             }
+            None => self.push("nothing"),
         }
+    }
+
+    /// Two coordinates behind a label.
+    fn push_range(&mut self, label: &str, from: i64, to: i64) {
+        self.push(label);
+        self.push_coordinate(from);
+        self.push(" to ");
+        self.push_coordinate(to);
     }
 
     /// An end as a certificate spells it.
@@ -231,17 +229,12 @@ impl<'a> Text<'a> {
 
     /// A box as a certificate spells it.
     fn push_box(&mut self, lit: &LitBox) {
-        match lit {
-            LitBox::Empty => self.push("none"),
-            LitBox::Span {
-                x_min,
-                x_max,
-                y_min,
-                y_max,
-            } => {
-                self.push_pair("", *x_min, *x_max);
-                self.push_pair(" ", *y_min, *y_max);
+        match box_corners(lit) {
+            Some((low, high)) => {
+                self.push_pair("", low.x, high.x);
+                self.push_pair(" ", low.y, high.y);
             }
+            None => self.push("none"),
         }
     }
 
