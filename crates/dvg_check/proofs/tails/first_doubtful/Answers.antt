@@ -1,5 +1,6 @@
-use Rattle.dvg_check.proofs.Common.{arith, List, pos, refl, sym, subst, get_or, take, ◌≡◌, ◌-◌, ◌≤◌, ◌<◌, ℕ, ⊎_elim, cases_lt, AllByRecursion, Rel, Entry, At, Empty, GoodShape}
+use Rattle.dvg_check.proofs.Common.{arith, List, pos, refl, sym, subst, get_or, take, ◌≡◌, ◌-◌, ◌≤◌, ◌<◌, ℕ, ⊎_elim, cases_lt, AllByRecursion, Rel, Entry, At, Empty, IsTail, GoodShape}
 use Rattle.std.proofs.lemmas.List.{get_or_default}
+use Rattle.dvg_check.specs.declared.slots.TheConstants.{SLOTS}
 use Rattle.dvg_check.proofs.TailRows.{all_take, claim_at, none_kept}
 use Rattle.dvg_check.proofs.tails.first_doubtful.Goals as goal
 
@@ -10,10 +11,10 @@ none = record { addr = 0; key = At 0; stop = Rel (pos 0) (pos 0); lit = Empty; d
 pub entries-init : goal.entries-init
 entries-init g c =
     record {
-      near = omega arith;
+      near = c.for_entries-needed.ensures;
       before = omega arith;
       few = omega arith;
-      tails = none_kept c.args.window.now c.args.rom.now (g.E.Entries.list c.args.entries.now) 68;
+      tails = none_kept (IsTail c.args.window.now c.args.rom.now (g.E.Entries.list c.args.entries.now)) SLOTS;
       good = λ k past le lt. absurd (omega (arith, le, lt));
     }
 

@@ -1,12 +1,22 @@
-use Rattle.dvg_survey.proofs.Common.{arith, ap, pos, subst, sym, get_or, length, List, ℕ, ◌≡◌, ◌+◌, ◌-◌, ◌<◌, rom_word, Rel, Entry, At, Empty, IsSomeCertificate, shape_context}
-use Rattle.dvg_check.proofs.TailRows.{claim_at}
+use Rattle.dvg_survey.proofs.Common.{arith, ap, pos, subst, sym, get_or, length, List, ℕ, ◌≡◌, ◌+◌, ◌-◌, ◌<◌, rom_word, Rel, Entry, At, Empty, IsSomeCertificate, shape_context, IsLitFrom}
+use Rattle.dvg_check.specs.declared.slots.TheConstants.{SLOTS}
+use Rattle.dvg_check.proofs.TailRows.{claim_at, none_kept}
 use Rattle.dvg_survey.specs.Calls.{IsExtent}
-use Rattle.dvg_survey.proofs.AllShapes.{Boxed, one_more}
+use Rattle.dvg_survey.proofs.AllShapes.{Boxed, none_boxed, one_more}
 use Rattle.dvg_survey.proofs.tails.shapes_extent.Goals as goal
 
 -- what stands for an entry past the end
 abbrev none : Entry
 none = record { addr = 0; key = At 0; stop = Rel (pos 0) (pos 0); lit = Empty; depth = 0; words = 0; scale = At 0 }
+
+pub entries-init : goal.entries-init
+entries-init g c =
+    record {
+      near = c.for_entries-needed.ensures;
+      before = omega arith;
+      tails = none_kept (IsLitFrom c.args.rom.now (g.E.Entries.list c.args.entries.now)) SLOTS;
+      boxed = none_boxed c.args.rom.now c.args.cert.now.entries (length c.entries-list.result.now) (omega (arith, ap length c.entries-list.ensures.value));
+    }
 
 pub entries-preserved : goal.entries-preserved
 entries-preserved g c =
