@@ -25,11 +25,7 @@ pub fn key_index(key: Key) -> u8
 fn key_of(index: u8) -> Key
     ensures { IsKey result }
 {
-    if index < 16 {
-        Key::At(index)
-    } else {
-        Key::Any
-    }
+    if index < 16 { Key::At(index) } else { Key::Any }
 }
 
 /// A set of keys.

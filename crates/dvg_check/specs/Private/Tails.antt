@@ -2,7 +2,6 @@
 use Rattle.dvg_words.specs.declared.machine.Machine.{Machine}
 use Rattle.std.specs.Prelude.{◌≡◌, ◌≢◌, ◌+◌, ◌-◌, ◌≤◌, max, ℕ, List, Option, Some}
 use Rattle.dvg_words.specs.Values.{Window}
-use Rattle.dvg_words.specs.declared.beam.Point.{Point}
 use Rattle.dvg_words.specs.declared.map.TheConstants.{ADDRESS_END}
 use Rattle.dvg_words.specs.Memory.{Rom, rom_word}
 use Rattle.dvg_words.specs.Beam.{InWindow}
