@@ -17,7 +17,7 @@ pub use Rattle.dvg_check.specs.Drift.{Course, course_at, on, course_after, cours
 pub use Rattle.dvg_check.specs.Finding.{IsFound}
 pub use Rattle.dvg_check.specs.FirstFault.{frame_number}
 pub use Rattle.dvg_check.specs.Laws.{word_of}
-pub use Rattle.dvg_check.specs.Private.Tails.{AreTails}
+pub use Rattle.dvg_check.specs.Private.Tails.{AreTails, IsTail}
 pub use Rattle.dvg_check.specs.Rules.{GoodShape, CellKeeps, ShapeKeeps, GoodFrame, Good, FrameKeeps, FramePlaceKeeps, AtLast, PlaceKeeps, AllKeep, ShapePlaceKeeps, AsClaimed}
 pub use Rattle.dvg_check.specs.Safety.{Safe, IsSafeStatus, Ends, IsSafeState}
 pub use Rattle.dvg_check.specs.declared.fault.FrameWhy.{FrameWhy}

@@ -1,5 +1,5 @@
 -- The worked example: what stands at its places, and that each item keeps each rule.
-use Rattle.dvg_check.proofs.Common.{arith, List, refl, sym, subst, pos, zero, suc, ◌≡◌, ◌≢◌, ◌≤◌, ◌∷◌, ℕ, [], ints, displacement, screen, cell_at, instruction_of, IsMemory, frame_word, rom_word, Machine, Profile, Board, DrawFields, Holds, Long, Short, Labs, Halt, Jsrl, Rtsl, shape_context, frame_context, target, PlaceKnown, ScaleKnown, LitInWindow, ShapeKeeps, FrameKeeps, ShapePlaceKeeps, FramePlaceKeeps, CellKeeps, AsClaimed, GoodShape, Good, AllKeep, HasCallee, seen_at, FrameWhy, Mode, Bound, Exact, ShapeWhy, Item, Shape, Frame}
+use Rattle.dvg_check.proofs.Common.{arith, List, refl, sym, subst, pos, zero, suc, ◌≡◌, ◌≢◌, ◌≤◌, ◌∷◌, ℕ, [], ints, displacement, screen, cell_at, instruction_of, IsMemory, frame_word, rom_word, Machine, Profile, Board, DrawFields, Holds, Long, Short, Labs, Halt, Jsrl, Rtsl, frame_context, target, PlaceKnown, ScaleKnown, LitInWindow, FrameKeeps, FramePlaceKeeps, CellKeeps, GoodShape, Good, AllKeep, HasCallee, seen_at, FrameWhy, Mode, Bound, Exact, Item, Frame, At, Entry, Empty}
 use Rattle.std.proofs.lemmas.List.{length-replicate}
 use Rattle.dvg_words.specs.Example.{example_frame}
 use Rattle.dvg_words.specs.Values.{asteroids}
@@ -8,8 +8,9 @@ use Rattle.dvg_cert.specs.Order.{IsCertificate}
 use Rattle.dvg_check.specs.Example.{rom_for, memory_for, example_entry, example_list, WorkedExample}
 use Rattle.dvg_check.specs.Rules.{Seen, IsForward}
 use Rattle.dvg_check.specs.declared.fault.FrameWhy.TheVariants as frame
-use Rattle.dvg_check.specs.declared.fault.ShapeWhy.TheVariants as shape
+use Rattle.dvg_check.specs.Private.Tails.{last_item}
 use Rattle.dvg_check.proofs.Faults.{all_kept}
+use Rattle.dvg_check.proofs.TailLaws.{item_before_tail, last_item_good}
 
 -- ---- the shape
 
@@ -32,57 +33,24 @@ unfolding cell_at instruction_of
 return_there Profile = refl
 return_there Board = refl
 
-draw_keeps : (machine : Machine) (mode : Mode) (why : ShapeWhy) → ShapeKeeps mode screen example_entry (seen_at (shape_context machine example_list example_entry) [] draw_item) why
-unfolding displacement
-draw_keeps machine mode shape.Unmapped = tt
-draw_keeps machine mode shape.Odd = tt
-draw_keeps machine mode shape.HaltInShape = λ e. cc
-draw_keeps machine mode shape.BeamUnknown = λ e. cc
-draw_keeps machine mode shape.ScaleUnknown = tt
-draw_keeps machine mode shape.OffScreen = tt
-draw_keeps machine mode shape.NoEntry = tt
-draw_keeps machine mode shape.TooDeep = omega arith
-draw_keeps machine mode shape.TooManyWords = omega arith
-draw_keeps machine mode shape.EndDiffers = tt
-draw_keeps machine mode shape.ScaleDiffers = tt
-draw_keeps Profile mode shape.BoxTooSmall =
-    (record { left = omega (arith, ints); right = omega (arith, ints); bottom = omega (arith, ints); top = omega (arith, ints) }, (record { left = omega (arith, ints); right = omega (arith, ints); bottom = omega (arith, ints); top = omega (arith, ints) }, tt))
-draw_keeps Board mode shape.BoxTooSmall =
-    (record { left = omega (arith, ints); right = omega (arith, ints); bottom = omega (arith, ints); top = omega (arith, ints) }, (record { left = omega (arith, ints); right = omega (arith, ints); bottom = omega (arith, ints); top = omega (arith, ints) }, tt))
-draw_keeps machine mode shape.WordsDiffer = tt
-draw_keeps machine mode shape.DepthDiffers = tt
+abbrev return_alone : Machine → Entry
+return_alone machine = last_item machine example_list (At 0) Empty return_item
 
-as_claimed : (mode : Mode) (n : ℕ) → AsClaimed mode n n
-as_claimed Bound n = tt
-as_claimed Exact n = refl
+return_good : (machine : Machine) (mode : Mode) → GoodShape mode screen (rom_for machine) example_list (return_alone machine)
+return_good machine mode =
+    last_item_good mode screen (rom_for machine) example_list (At 0) Empty return_item (record { there = return_there machine; goes_on = λ e. cc; scale_known = tt; named = tt; boxed = tt }) refl
 
-return_keeps : (machine : Machine) (mode : Mode) (why : ShapeWhy) → ShapeKeeps mode screen example_entry (seen_at (shape_context machine example_list example_entry) (draw_item ∷ []) return_item) why
-unfolding displacement
-return_keeps machine mode shape.Unmapped = tt
-return_keeps machine mode shape.Odd = tt
-return_keeps machine mode shape.HaltInShape = λ e. cc
-return_keeps machine mode shape.BeamUnknown = tt
-return_keeps machine mode shape.ScaleUnknown = tt
-return_keeps machine mode shape.OffScreen = tt
-return_keeps machine mode shape.NoEntry = tt
-return_keeps machine mode shape.TooDeep = omega arith
-return_keeps machine mode shape.TooManyWords = omega arith
-return_keeps Profile mode shape.EndDiffers = refl
-return_keeps Board mode shape.EndDiffers = refl
-return_keeps machine mode shape.ScaleDiffers = refl
-return_keeps machine mode shape.BoxTooSmall = tt
-return_keeps machine mode shape.WordsDiffer = as_claimed mode 3
-return_keeps machine mode shape.DepthDiffers = as_claimed mode 0
-
--- what stands at an item of the shape keeps what the item keeps
-shape_there : (machine : Machine) (mode : Mode) (earlier : List Item) (i : Item) → cell_at (rom_word (rom_for machine)) i.at ≡ Holds i.format i.instr → ((why : ShapeWhy) → ShapeKeeps mode screen example_entry (seen_at (shape_context machine example_list example_entry) earlier i) why) → (why : ShapeWhy) → ShapePlaceKeeps mode screen (rom_for machine) example_list example_entry earlier i.at why
-shape_there machine mode earlier i is kept why =
-    subst (λ cell. CellKeeps shape.Unmapped shape.Odd (λ j. ShapeKeeps mode screen example_entry (seen_at (shape_context machine example_list example_entry) earlier j)) i.at cell why) (sym is) (kept why)
-
+-- the stroke before the return
 shape_good : (machine : Machine) (mode : Mode) → GoodShape mode screen (rom_for machine) example_list example_entry
-shape_good machine mode =
-    all_kept Shape (rom_word (rom_for machine)) 2048 ShapeWhy (ShapePlaceKeeps mode screen (rom_for machine) example_list example_entry) (draw_item ∷ []) return_item (refl, draw_there machine, refl) (return_there machine) refl
-    ((tt, shape_there machine mode [] draw_item (draw_there machine) (draw_keeps machine mode)), shape_there machine mode (draw_item ∷ []) return_item (return_there machine) (return_keeps machine mode))
+unfolding displacement
+shape_good Profile mode =
+    item_before_tail mode screen (rom_for Profile) example_list (At 0) example_entry.lit draw_item (return_alone Profile)
+    (record { there = draw_there Profile; goes_on = λ e. cc; scale_known = tt; named = tt; boxed = (record { left = omega (arith, ints); right = omega (arith, ints); bottom = omega (arith, ints); top = omega (arith, ints) }, (record { left = omega (arith, ints); right = omega (arith, ints); bottom = omega (arith, ints); top = omega (arith, ints) }, tt)) })
+    (record { next = refl; scale = refl; lit = tt }) (return_good Profile mode)
+shape_good Board mode =
+    item_before_tail mode screen (rom_for Board) example_list (At 0) example_entry.lit draw_item (return_alone Board)
+    (record { there = draw_there Board; goes_on = λ e. cc; scale_known = tt; named = tt; boxed = (record { left = omega (arith, ints); right = omega (arith, ints); bottom = omega (arith, ints); top = omega (arith, ints) }, (record { left = omega (arith, ints); right = omega (arith, ints); bottom = omega (arith, ints); top = omega (arith, ints) }, tt)) })
+    (record { next = refl; scale = refl; lit = tt }) (return_good Board mode)
 
 shapes_good : (machine : Machine) (mode : Mode) → Good mode screen (rom_for machine) example_list
 shapes_good machine mode e (zero, lt, is) = subst (GoodShape mode screen (rom_for machine) example_list) is (shape_good machine mode)

@@ -1,7 +1,11 @@
 -- The first faulty entry of a list.
-use Rattle.dvg_check.proofs.Common.{List, length, take, get_or, suc, arith, zero, refl, ap, subst, sym, ◌≡◌, ◌<◌, ◌∷◌, ◌++◌, ℕ, [], AllByRecursion, Rom, rom_word, Window, Entry, IsFound, known_before, shape_context, GoodShape, Mode}
+use Rattle.dvg_check.proofs.Common.{List, length, take, get_or, suc, arith, zero, refl, ap, subst, sym, ◌≡◌, ◌<◌, ◌∷◌, ◌++◌, ℕ, [], AllByRecursion, Rom, rom_word, Window, Entry, At, Rel, pos, Empty, IsFound, known_before, shape_context, GoodShape, Mode}
 use Rattle.std.proofs.Common.{drop, slice_index_or}
 use Rattle.dvg_check.specs.Finding.{ShapeFaultFound, ShapeFinding, FirstShapeFound}
+
+-- what the code reads for an entry past the end
+abbrev pub no_entry : Entry
+no_entry = record { addr = 0; key = At 0; stop = Rel (pos 0) (pos 0); lit = Empty; depth = 0; words = 0; scale = At 0 }
 
 split_at : (l : List Entry) (i : ℕ) (d : Entry) → i < length l → l ≡ take i l ++ get_or l i d ∷ drop (suc i) l
 split_at [] i d lt = absurd (omega arith)

@@ -35,6 +35,10 @@ module _ (Why : Type 0) (order : Why → ℕ) (missing odd : Why) (Keeps : Seen 
   abbrev keeps : List Item → ℕ → Why → Type 0
   keeps = PlaceKeeps missing odd Keeps context word
 
+  -- how the loop stands: the calls' entries are those of the list, and the items so far keep all rules
+  abbrev pub Going : List Entry → Cursor → Type 0
+  Going entries cursor = (entries ≡ list) × Walked context word first keeps cursor
+
   -- what a cell keeps
   abbrev CellKept : List Item → ℕ → Why → Cell → Type 0
   CellKept items at why cell = CellKeeps missing odd (λ i. Keeps (seen_at context items i)) at cell why

@@ -1,5 +1,5 @@
 -- The two frames that one machine accepts and the other refuses, item by item.
-use Rattle.dvg_check.proofs.Common.{arith, List, refl, sym, subst, pos, ◌≡◌, ◌∷◌, ◌<◌, ℕ, [], ints, displacement, screen, cell_at, instruction_of, frame_word, DrawFields, Machine, Profile, Board, Holds, Odd, Long, Short, Labs, Halt, frame_number, FrameKeeps, FramePlaceKeeps, CellKeeps, GoodFrame, FrameWhy, frame_context, seen_at, Item, Frame}
+use Rattle.dvg_check.proofs.Common.{arith, List, refl, sym, subst, pos, ◌≡◌, ◌∷◌, ◌<◌, ℕ, [], ints, displacement, screen, cell_at, instruction_of, frame_word, DrawFields, Machine, Profile, Board, Holds, Odd, Long, Short, Labs, Halt, frame_number, FrameKeeps, FramePlaceKeeps, CellKeeps, GoodFrame, FrameWhy, frame_context, seen_at, Item, Frame, LeadsTo, words_before, depth_before, ◌+◌}
 use Rattle.dvg_words.specs.declared.instruction.Instr.TheVariants.{Draw as Draws}
 use Rattle.dvg_check.specs.FirstFault.{FirstFrameFault}
 use Rattle.dvg_check.specs.MachinesExample.{edge_frame, left_frame, WorkedMachines}
@@ -44,6 +44,23 @@ module _ (machine : Machine) (words : List ℕ) where
   -- an item that lights nothing, or in the window
   abbrev KeepsAll : List Item → Item → Type 0
   KeepsAll earlier i = (why : FrameWhy) → FrameKeeps screen 20000 (seen earlier i) why
+
+  -- a frame of three items and HALT, each of which keeps all rules
+  accepted : (a b c : Item) → LeadsTo Frame (frame_word machine words) 0 (c ∷ b ∷ a ∷ []) 6 → IsThere halt_item → KeepsAll [] a → KeepsAll (a ∷ []) b → KeepsAll (b ∷ a ∷ []) c → KeepsAll (c ∷ b ∷ a ∷ []) halt_item
+      → 7 ≡ words_before (frame_context machine []) (c ∷ b ∷ a ∷ []) + 1 → 0 ≡ depth_before (frame_context machine []) (c ∷ b ∷ a ∷ []) → GoodFrame screen machine words [] 20000 7 0
+  accepted a b c leads halts first second third last count depth =
+      record {
+        keeps =
+            all_kept Frame (frame_word machine words) 0 FrameWhy (FramePlaceKeeps screen machine words [] 20000) (c ∷ b ∷ a ∷ []) halt_item leads halts refl
+            ((((tt, λ why. there [] a why leads.0.0.1 (first why)), λ why. there (a ∷ []) b why leads.0.1 (second why)), λ why. there (b ∷ a ∷ []) c why leads.1 (third why)), λ why. there (c ∷ b ∷ a ∷ []) halt_item why halts (last why));
+        items = c ∷ b ∷ a ∷ [];
+        at = 6;
+        format = Short;
+        leads = leads;
+        halts = halts;
+        count_is = count;
+        depth_is = depth;
+      }
 
 -- ---- the frame at the edge
 
@@ -93,28 +110,8 @@ edge_halt_keeps = frame_item (seen Profile edge_frame (draw_at 4 half ∷ draw_a
 
 edge_accepted : GoodFrame screen Profile edge_frame [] 20000 7 0
 edge_accepted =
-    record {
-      keeps =
-          all_kept Frame (frame_word Profile edge_frame) 0 FrameWhy (FramePlaceKeeps screen Profile edge_frame [] 20000) (draw_at 4 half ∷ draw_at 2 half ∷ labs_at 1022 ∷ []) halt_item
-          (((refl, edge_labs Profile, refl), edge_first Profile, refl), edge_second Profile, refl)
-          (edge_halt Profile) refl (
-            (
-              (
-                (tt, λ why. there Profile edge_frame [] (labs_at 1022) why (edge_labs Profile) (edge_labs_keeps Profile why)),
-                λ why. there Profile edge_frame (labs_at 1022 ∷ []) (draw_at 2 half) why (edge_first Profile) (edge_first_keeps Profile why),
-              ),
-              λ why. there Profile edge_frame (draw_at 2 half ∷ labs_at 1022 ∷ []) (draw_at 4 half) why (edge_second Profile) (edge_second_keeps why),
-            ),
-            λ why. there Profile edge_frame (draw_at 4 half ∷ draw_at 2 half ∷ labs_at 1022 ∷ []) halt_item why (edge_halt Profile) (edge_halt_keeps why),
-          );
-      items = draw_at 4 half ∷ draw_at 2 half ∷ labs_at 1022 ∷ [];
-      at = 6;
-      format = Short;
-      leads = (((refl, edge_labs Profile, refl), edge_first Profile, refl), edge_second Profile, refl);
-      halts = edge_halt Profile;
-      count_is = refl;
-      depth_is = refl;
-    }
+    accepted Profile edge_frame (labs_at 1022) (draw_at 2 half) (draw_at 4 half) (((refl, edge_labs Profile, refl), edge_first Profile, refl), edge_second Profile, refl) (edge_halt Profile)
+    (edge_labs_keeps Profile) (edge_first_keeps Profile) edge_second_keeps edge_halt_keeps refl refl
 
 -- the second draw of the board ends right of the window
 off_screen : FrameKeeps screen 20000 (seen Board edge_frame (draw_at 2 half ∷ labs_at 1022 ∷ []) (draw_at 4 half)) frame.OffScreen → ⊥
@@ -182,28 +179,7 @@ left_halt_keeps = frame_item (seen Board left_frame (draw_at 4 half ∷ draw_at 
 
 left_accepted : GoodFrame screen Board left_frame [] 20000 7 0
 left_accepted =
-    record {
-      keeps =
-          all_kept Frame (frame_word Board left_frame) 0 FrameWhy (FramePlaceKeeps screen Board left_frame [] 20000) (draw_at 4 half ∷ draw_at 2 back ∷ labs_at 4088 ∷ []) halt_item
-          (((refl, left_labs, refl), left_back, refl), left_draw, refl)
-          left_halt refl (
-            (
-              (
-                (tt, λ why. there Board left_frame [] (labs_at 4088) why left_labs (left_labs_keeps why)),
-                λ why. there Board left_frame (labs_at 4088 ∷ []) (draw_at 2 back) why left_back (left_back_keeps why),
-              ),
-              λ why. there Board left_frame (draw_at 2 back ∷ labs_at 4088 ∷ []) (draw_at 4 half) why left_draw (left_draw_keeps why),
-            ),
-            λ why. there Board left_frame (draw_at 4 half ∷ draw_at 2 back ∷ labs_at 4088 ∷ []) halt_item why left_halt (left_halt_keeps why),
-          );
-      items = draw_at 4 half ∷ draw_at 2 back ∷ labs_at 4088 ∷ [];
-      at = 6;
-      format = Short;
-      leads = (((refl, left_labs, refl), left_back, refl), left_draw, refl);
-      halts = left_halt;
-      count_is = refl;
-      depth_is = refl;
-    }
+    accepted Board left_frame (labs_at 4088) (draw_at 2 back) (draw_at 4 half) (((refl, left_labs, refl), left_back, refl), left_draw, refl) left_halt left_labs_keeps left_back_keeps left_draw_keeps left_halt_keeps refl refl
 
 -- the profile decodes no LABS to -8
 left_odd : cell_at (frame_word Profile left_frame) 0 ≡ Odd

@@ -16,9 +16,20 @@ at_last : (o : Option ℕ) (P Q : Type 0) → (P → Q) → AtLast o P → AtLas
 at_last None P Q f h = f h
 at_last (Some next) P Q f h = tt
 
-as_claimed : (mode : Mode) (n a b : ℕ) → Counts mode a b → AsClaimed mode n a → AsClaimed mode n b
-as_claimed Bound n a b le h = tt
-as_claimed Exact n a b is h = h ∙ is
+-- what is good in the one mode is good in the other
+abbrev pub Weakens : Mode → Mode → Type 0
+Weakens mode Bound = Unit {0}
+Weakens Exact Exact = Unit {0}
+Weakens Bound Exact = ⊥
+
+same_mode : (mode : Mode) → Weakens mode mode
+same_mode Bound = tt
+same_mode Exact = tt
+
+as_claimed : (mode to : Mode) (n a b : ℕ) → Weakens mode to → Counts mode a b → AsClaimed mode n a → AsClaimed to n b
+as_claimed mode Bound n a b weakens le h = tt
+as_claimed Exact Exact n a b weakens is h = h ∙ is
+as_claimed Bound Exact n a b weakens le h = absurd weakens
 
 -- what keeps all rules there keeps all of others, whatever stands at the place
 cell_keeps : (K L : Item → ShapeWhy → Type 0) (p : ℕ) (cell : Cell) → ((i : Item) → ((why : ShapeWhy) → K i why) → (why : ShapeWhy) → L i why) → ((why : ShapeWhy) → CellKeeps shape.Unmapped shape.Odd K p cell why) → (why : ShapeWhy) → CellKeeps shape.Unmapped shape.Odd L p cell why
@@ -55,36 +66,39 @@ lit_in_more part whole (Between a b) (Rel x y) inside h = (in_more part whole _ 
 lit_in_more part whole (Between a b) (Abs x y) inside h = tt
 lit_in_more part whole (Between a b) Lost inside h = tt
 
-less_keeps : (mode : Mode) (w : Window) (e strong : Entry) (v : Seen) → ClaimsLess mode e strong → ((why : ShapeWhy) → ShapeKeeps mode w strong v why) → (why : ShapeWhy) → ShapeKeeps mode w e v why
-less_keeps mode w e strong v c h shape.Unmapped = tt
-less_keeps mode w e strong v c h shape.Odd = tt
-less_keeps mode w e strong v c h shape.HaltInShape = h shape.HaltInShape
-less_keeps mode w e strong v c h shape.BeamUnknown = h shape.BeamUnknown
-less_keeps mode w e strong v c h shape.ScaleUnknown = h shape.ScaleUnknown
-less_keeps mode w e strong v c h shape.OffScreen = h shape.OffScreen
-less_keeps mode w e strong v c h shape.NoEntry = h shape.NoEntry
-less_keeps mode w e strong v c h shape.TooDeep = let le : depth_under v.item.instr v.callee ≤ strong.depth = h shape.TooDeep in omega (arith, le, counts_le mode strong.depth e.depth c.depth)
-less_keeps mode w e strong v c h shape.TooManyWords = let le : v.after.words ≤ strong.words = h shape.TooManyWords in omega (arith, le, counts_le mode strong.words e.words c.words)
-less_keeps mode w e strong v c h shape.EndDiffers = at_last (next_address Shape v.item) (v.after.place ≡ strong.stop) (v.after.place ≡ e.stop) (λ is. is ∙ sym c.stop) (h shape.EndDiffers)
-less_keeps mode w e strong v c h shape.ScaleDiffers = at_last (next_address Shape v.item) (v.after.scale ≡ strong.scale) (v.after.scale ≡ e.scale) (λ is. is ∙ sym c.scale) (h shape.ScaleDiffers)
-less_keeps mode w e strong v c h shape.BoxTooSmall = lit_in_more strong.lit e.lit v.extent v.place c.lit (h shape.BoxTooSmall)
-less_keeps mode w e strong v c h shape.WordsDiffer = at_last (next_address Shape v.item) (AsClaimed mode v.after.words strong.words) (AsClaimed mode v.after.words e.words) (as_claimed mode v.after.words strong.words e.words c.words) (h shape.WordsDiffer)
-less_keeps mode w e strong v c h shape.DepthDiffers = at_last (next_address Shape v.item) (AsClaimed mode v.after.depth strong.depth) (AsClaimed mode v.after.depth e.depth) (as_claimed mode v.after.depth strong.depth e.depth c.depth) (h shape.DepthDiffers)
+less_keeps : (mode to : Mode) (w : Window) (e strong : Entry) (v : Seen) → Weakens mode to → ClaimsLess mode e strong → ((why : ShapeWhy) → ShapeKeeps mode w strong v why) → (why : ShapeWhy) → ShapeKeeps to w e v why
+less_keeps mode to w e strong v weakens c h shape.Unmapped = tt
+less_keeps mode to w e strong v weakens c h shape.Odd = tt
+less_keeps mode to w e strong v weakens c h shape.HaltInShape = h shape.HaltInShape
+less_keeps mode to w e strong v weakens c h shape.BeamUnknown = h shape.BeamUnknown
+less_keeps mode to w e strong v weakens c h shape.ScaleUnknown = h shape.ScaleUnknown
+less_keeps mode to w e strong v weakens c h shape.OffScreen = h shape.OffScreen
+less_keeps mode to w e strong v weakens c h shape.NoEntry = h shape.NoEntry
+less_keeps mode to w e strong v weakens c h shape.TooDeep = let le : depth_under v.item.instr v.callee ≤ strong.depth = h shape.TooDeep in omega (arith, le, counts_le mode strong.depth e.depth c.depth)
+less_keeps mode to w e strong v weakens c h shape.TooManyWords = let le : v.after.words ≤ strong.words = h shape.TooManyWords in omega (arith, le, counts_le mode strong.words e.words c.words)
+less_keeps mode to w e strong v weakens c h shape.EndDiffers = at_last (next_address Shape v.item) (v.after.place ≡ strong.stop) (v.after.place ≡ e.stop) (λ is. is ∙ sym c.stop) (h shape.EndDiffers)
+less_keeps mode to w e strong v weakens c h shape.ScaleDiffers = at_last (next_address Shape v.item) (v.after.scale ≡ strong.scale) (v.after.scale ≡ e.scale) (λ is. is ∙ sym c.scale) (h shape.ScaleDiffers)
+less_keeps mode to w e strong v weakens c h shape.BoxTooSmall = lit_in_more strong.lit e.lit v.extent v.place c.lit (h shape.BoxTooSmall)
+less_keeps mode to w e strong v weakens c h shape.WordsDiffer = at_last (next_address Shape v.item) (AsClaimed mode v.after.words strong.words) (AsClaimed to v.after.words e.words) (as_claimed mode to v.after.words strong.words e.words weakens c.words) (h shape.WordsDiffer)
+less_keeps mode to w e strong v weakens c h shape.DepthDiffers = at_last (next_address Shape v.item) (AsClaimed mode v.after.depth strong.depth) (AsClaimed to v.after.depth e.depth) (as_claimed mode to v.after.depth strong.depth e.depth weakens c.depth) (h shape.DepthDiffers)
 
 -- what an item of a shape keeps of a claim
 abbrev Kept : Machine → Mode → Window → List Entry → Entry → Key → List Item → Item → ShapeWhy → Type 0
 Kept a mode w list e key earlier i = ShapeKeeps mode w e (seen_at (record { kind = Shape; machine = a; list = list; scale = key }) earlier i)
 
 -- a weaker claim of a good shape is good
-pub weaker_claim : (mode : Mode) (w : Window) (rom : Rom) (list : List Entry) (e strong : Entry) → ClaimsLess mode e strong → GoodShape mode w rom list strong → GoodShape mode w rom list e
-weaker_claim mode w rom list e strong c good earlier p lead why =
-    cell_keeps (Kept rom.machine mode w list strong strong.key earlier) (Kept rom.machine mode w list e e.key earlier) p (cell_at (rom_word rom) p) on (good earlier p there) why
+pub good_less : (mode to : Mode) (w : Window) (rom : Rom) (list : List Entry) (e strong : Entry) → Weakens mode to → ClaimsLess mode e strong → GoodShape mode w rom list strong → GoodShape to w rom list e
+good_less mode to w rom list e strong weakens c good earlier p lead why =
+    cell_keeps (Kept rom.machine mode w list strong strong.key earlier) (Kept rom.machine to w list e e.key earlier) p (cell_at (rom_word rom) p) on (good earlier p there) why
   where
     there : LeadsTo Shape (rom_word rom) strong.addr earlier p
     there = subst (λ (a : ℕ). LeadsTo Shape (rom_word rom) a earlier p) c.addr lead
 
-    on : (i : Item) → ((x : ShapeWhy) → Kept rom.machine mode w list strong strong.key earlier i x) → (x : ShapeWhy) → Kept rom.machine mode w list e e.key earlier i x
-    on i h = less_keeps mode w e strong (seen_at (record { kind = Shape; machine = rom.machine; list = list; scale = e.key }) earlier i) c (λ x. subst (λ (k : Key). Kept rom.machine mode w list strong k earlier i x) (sym c.key) (h x))
+    on : (i : Item) → ((x : ShapeWhy) → Kept rom.machine mode w list strong strong.key earlier i x) → (x : ShapeWhy) → Kept rom.machine to w list e e.key earlier i x
+    on i h = less_keeps mode to w e strong (seen_at (record { kind = Shape; machine = rom.machine; list = list; scale = e.key }) earlier i) weakens c (λ x. subst (λ (k : Key). Kept rom.machine mode w list strong k earlier i x) (sym c.key) (h x))
+
+pub weaker_claim : (mode : Mode) (w : Window) (rom : Rom) (list : List Entry) (e strong : Entry) → ClaimsLess mode e strong → GoodShape mode w rom list strong → GoodShape mode w rom list e
+weaker_claim mode w rom list e strong c good = good_less mode mode w rom list e strong (same_mode mode) c good
 
 -- ---- rules behind what is known
 

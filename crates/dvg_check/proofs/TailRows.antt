@@ -1,36 +1,23 @@
--- What is kept of the tails, and of the entries that they show to be good.
-use Rattle.dvg_check.proofs.Common.{arith, List, Option, None, Some, [], ◌∷◌, zero, suc, length, take, get_or, refl, sym, subst, ◌≡◌, ◌≢◌, ◌<◌, ◌≤◌, ◌∙◌, ℕ, ⊎_elim, cases_lt, AllByRecursion, Rom, Window, Entry, AreTails}
+-- What is kept by a pass, and the entries that it shows to be good.
+use Rattle.dvg_check.proofs.Common.{arith, List, Option, None, Some, [], ◌∷◌, ◌⊎◌, zero, suc, length, take, get_or, refl, sym, subst, ◌≡◌, ◌<◌, ◌≤◌, ◌∙◌, ℕ, ⊎_elim, AllByRecursion, Entry, Key}
 use Rattle.std.proofs.Common.{replicate}
-use Rattle.std.proofs.lemmas.List.{get_or_default, get_or-set_same, get_or-set_other}
-use Rattle.std.proofs.Math.ListN.{set}
+use Rattle.std.proofs.lemmas.List.{get_or_default}
 use Rattle.dvg_items.specs.Bounds.{IsClaim, IsSomeCertificate}
 use Rattle.dvg_items.proofs.Listed.{listed_claim}
-use Rattle.dvg_check.specs.Private.Tails.{IsTail}
+use Rattle.dvg_check.specs.Passing.{AllKept, IsKept, Kept}
 
-none_at : (n k : ℕ) → get_or {A = Option Entry} (replicate n None) k None ≡ None
+none_at : {T : Type 0} (n k : ℕ) → get_or {A = Option (Kept T)} (replicate n None) k None ≡ None
 none_at zero k = refl
 none_at (suc n) zero = refl
 none_at (suc n) (suc k) = none_at n k
 
 -- nothing is kept
-pub none_kept : (w : Window) (rom : Rom) (list : List Entry) (n : ℕ) → AreTails w rom list (replicate n None)
-none_kept w rom list n k t is = let no : None ≡ Some t = sym (none_at n k) ∙ is in cc no
+pub none_kept : {T : Type 0} (P : ℕ → Key → T → Type 0) (n : ℕ) → AllKept P (replicate n None)
+none_kept P n kept h = let no : None ≡ Some kept = sym (none_at n h.0) ∙ h.1 in cc no
 
--- one more tail
-pub are_set : (w : Window) (rom : Rom) (list : List Entry) (slots : List (Option Entry)) (i : ℕ) (tail : Entry) → i < length slots → AreTails w rom list slots → IsTail w rom list tail → AreTails w rom list (set slots i (Some tail))
-are_set w rom list slots i tail lt tails new k t is =
-    ⊎_elim
-    (λ less. other (omega (arith, less)))
-    (λ ge. ⊎_elim (λ more. other (omega (arith, more))) (λ le. same (omega (arith, le, ge))) (cases_lt i k))
-    (cases_lt k i)
-  where
-    other : k ≢ i → IsTail w rom list t
-    other ne = tails k t (sym (get_or-set_other slots i k (Some tail) None ne) ∙ is)
-
-    same : k ≡ i → IsTail w rom list t
-    same e =
-        let here : Some tail ≡ Some t = sym (get_or-set_same slots i (Some tail) None lt) ∙ subst (λ (j : ℕ). get_or (set slots i (Some tail)) j None ≡ Some t) e is in
-        subst (IsTail w rom list) (cc here) new
+-- one more is kept
+pub one_more_kept : {T : Type 0} (P : ℕ → Key → T → Type 0) (old new : List (Option (Kept T))) (one : Kept T) → ((kept : Kept T) → IsKept new kept → (kept ≡ one) ⊎ IsKept old kept) → AllKept P old → P one.addr one.key one.value → AllKept P new
+one_more_kept {T} P old new one more all is kept h = ⊎_elim (λ same. subst (λ (k : Kept T). P k.addr k.key k.value) (sym same) is) (all kept) (more kept h)
 
 -- an entry of a certificate's list claims what is within the limits
 pub claim_at : (l : List Entry) (k : ℕ) (d : Entry) → IsSomeCertificate l → k < length l → IsClaim (get_or l k d)

@@ -1,10 +1,11 @@
 -- A tail's numbers stay small.
-use Rattle.dvg_check.proofs.Common.{arith, ◌≤◌, ◌+◌, ℕ, ℤ, pos, ints, shift, Point, End, Rel, Abs, Lost, Entry, LitBox, Empty, Span, InBox, IsInside}
+use Rattle.dvg_check.proofs.Common.{arith, ◌≤◌, ◌+◌, ℕ, ℤ, pos, ints, shift, Point, End, Rel, Abs, Lost, LitBox, Empty, Span, InBox, IsInside}
 use Rattle.std.proofs.Common.{◌*◌, ◌^◌, neg_ℤ}
 use Rattle.dvg_words.specs.Beam.{IsWithin}
 use Rattle.dvg_items.specs.Bounds.{IsNear, IsNearPlace}
 use Rattle.dvg_items.proofs.Near.{IsNear-shift, IsNear-more, IsNearPlace-more}
-use Rattle.dvg_check.specs.Private.Tails.{IsNearBox, IsSmall, place_over, moved}
+use Rattle.dvg_check.specs.Passing.{IsNearBox, moved}
+use Rattle.dvg_check.specs.Private.Tails.{IsSmall, Tail, place_over}
 
 -- ---- boxes
 
@@ -72,6 +73,6 @@ IsNearPlace-over n place Lost h k = tt
 
 -- ---- tails
 
-pub IsSmall-more : (m n : ℕ) (e : Entry) → m ≤ n → IsSmall m e → IsSmall n e
-IsSmall-more m n e le h =
-    record { key = h.key; stop = IsNearPlace-more m n e.stop le h.stop; scale = h.scale; words = omega (arith, h.words, le); depth = h.depth; lit = IsNearBox-more m n e.lit le h.lit }
+pub IsSmall-more : (m n : ℕ) (t : Tail) → m ≤ n → IsSmall m t → IsSmall n t
+IsSmall-more m n t le h =
+    record { stop = IsNearPlace-more m n t.stop le h.stop; scale = h.scale; words = omega (arith, h.words, le); depth = h.depth; lit = IsNearBox-more m n t.lit le h.lit }

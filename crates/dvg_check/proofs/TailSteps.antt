@@ -1,42 +1,36 @@
 -- What is made of an item, alone or before a tail, is a tail.
-use Rattle.dvg_check.proofs.Common.{arith, List, Option, None, Some, subst, sym, ap, ◌≡◌, ◌+◌, ◌-◌, ◌≤◌, ◌<◌, ◌∙◌, ℕ, Rom, Window, ADDRESS_END, Entry, Key, next_address, IsInside, Item, Shape, GoodShape}
+use Rattle.dvg_check.proofs.Common.{arith, List, Option, None, Some, subst, sym, ap, ◌≡◌, ◌+◌, ◌-◌, ◌≤◌, ◌<◌, ◌∙◌, ℕ, Rom, Window, ADDRESS_END, Entry, Key, next_address, IsInside, Item, Shape, Known, IsTail, GoodShape}
 use Rattle.std.specs.Prelude.{IfSome}
 use Rattle.dvg_items.proofs.Near.{next_further}
-use Rattle.dvg_check.specs.Private.Tails.{claimed, first_seen, known_at_end, known_over, last_item, IsBehind, IsSmall, IsTail, MayStandAt, MayStandFirst}
+use Rattle.dvg_check.specs.Private.Tails.{claimed, end_of, entry_of, first_seen, known_over, IsBehind, IsSmall, MayStandAt, MayStandFirst, Tail}
 use Rattle.dvg_check.proofs.TailLaws.{item_before_tail, last_item_good, lit_in_more}
 use Rattle.dvg_check.proofs.TailSizes.{IsSmall-more}
 
-module _ (w : Window) (rom : Rom) (list : List Entry) (key : Key) (i : Item) (first : Entry) (is : first ≡ last_item rom.machine list key first.lit i) (stands : MayStandFirst rom list key first.lit i) where
-  at_item : first.addr ≡ i.at
-  at_item = ap (λ (e : Entry). e.addr) is
-
-  pub alone : IsSmall 1 first → i.at < ADDRESS_END → next_address Shape i ≡ None → IsTail w rom list first
+module _ (w : Window) (rom : Rom) (list : List Entry) (key : Key) (i : Item) (first : Tail) (is : end_of first ≡ (first_seen rom.machine list key i).after) (stands : MayStandFirst rom list key first.lit i) where
+  pub alone : IsSmall 1 first → i.at < ADDRESS_END → next_address Shape i ≡ None → IsTail w rom list i.at key first
   alone small near last =
       record {
-        good = λ mode. subst (GoodShape mode w rom list) (sym is) (last_item_good mode w rom list key first.lit i stands last);
-        small = IsSmall-more 1 (ADDRESS_END + 2 - first.addr) first (omega (arith, near, at_item)) small;
+        good = λ mode. subst (λ (k : Known). GoodShape mode w rom list (claimed i.at key first.lit k)) (sym is) (last_item_good mode w rom list key first.lit i stands last);
+        small = IsSmall-more 1 (ADDRESS_END + 2 - i.at) first (omega (arith, near)) small;
       }
 
-  pub before : (tail whole : Entry) → next_address Shape i ≡ Some tail.addr → tail.key ≡ first.scale → IsTail w rom list tail → whole ≡ claimed first.addr first.key whole.lit (known_over (known_at_end first) (known_at_end tail)) → IsInside first.lit whole.lit → MayStandAt w whole.lit tail.lit first.stop → IsSmall (ADDRESS_END + 2 - tail.addr + 1) whole → tail.addr ≤ ADDRESS_END + 2 → IsTail w rom list whole
-  before tail whole goes scale t value inside lit small near =
+  pub before : (next : ℕ) (tail whole : Tail) → next_address Shape i ≡ Some next → IsTail w rom list next first.scale tail → end_of whole ≡ known_over (end_of first) (end_of tail) → IsInside first.lit whole.lit → MayStandAt w whole.lit tail.lit first.stop → IsSmall (ADDRESS_END + 2 - next + 1) whole → next ≤ ADDRESS_END + 2 → IsTail w rom list i.at key whole
+  before next tail whole goes t value inside lit small near =
       record {
-        good = λ mode. subst (GoodShape mode w rom list) (sym same) (item_before_tail mode w rom list key whole.lit i tail more behind (t.good mode));
-        small = IsSmall-more (ADDRESS_END + 2 - tail.addr + 1) (ADDRESS_END + 2 - whole.addr) whole (omega (arith, next_further Shape i tail.addr goes, near, at_whole)) small;
+        good = λ mode. subst (λ (k : Known). GoodShape mode w rom list (claimed i.at key whole.lit k)) (sym same) (item_before_tail mode w rom list key whole.lit i (entry_of next first.scale tail) more behind (t.good mode));
+        small = IsSmall-more (ADDRESS_END + 2 - next + 1) (ADDRESS_END + 2 - i.at) whole (omega (arith, next_further Shape i next goes, near)) small;
       }
     where
-      at_whole : whole.addr ≡ i.at
-      at_whole = ap (λ (e : Entry). e.addr) value ∙ at_item
-
-      same : whole ≡ claimed i.at key whole.lit (known_over (first_seen rom.machine list key i).after (known_at_end tail))
-      same = value ∙ ap (λ (e : Entry). claimed e.addr e.key whole.lit (known_over (known_at_end e) (known_at_end tail))) is
+      same : end_of whole ≡ known_over (first_seen rom.machine list key i).after (end_of tail)
+      same = value ∙ ap (λ (k : Known). known_over k (end_of tail)) is
 
       more : MayStandFirst rom list key whole.lit i
       more = record { there = stands.there; goes_on = stands.goes_on; scale_known = stands.scale_known; named = stands.named; boxed = lit_in_more first.lit whole.lit (first_seen rom.machine list key i).extent (first_seen rom.machine list key i).place inside stands.boxed }
 
-      behind : IsBehind w rom.machine list key whole.lit i tail
-      behind = record { next = goes; scale = scale ∙ ap (λ (e : Entry). e.scale) is; lit = subst (λ (e : Entry). MayStandAt w whole.lit tail.lit e.stop) is lit }
+      behind : IsBehind w rom.machine list key whole.lit i (entry_of next first.scale tail)
+      behind = record { next = goes; scale = ap (λ (k : Known). k.scale) is; lit = subst (λ (k : Known). MayStandAt w whole.lit tail.lit k.place) is lit }
 
-  pub before_some : (tail : Entry) (o : Option Entry) → next_address Shape i ≡ Some tail.addr → tail.key ≡ first.scale → IsTail w rom list tail → IfSome o (λ whole. whole ≡ claimed first.addr first.key whole.lit (known_over (known_at_end first) (known_at_end tail))) → IfSome o (λ whole. IsInside first.lit whole.lit) → IfSome o (λ whole. MayStandAt w whole.lit tail.lit first.stop) → IfSome o (λ whole. (n : ℕ) → IsSmall n tail → IsSmall (n + 1) whole) → tail.addr ≤ ADDRESS_END + 2 → IfSome o (IsTail w rom list)
-  before_some tail None goes scale t value inside lit small near = tt
-  before_some tail (Some whole) goes scale t value inside lit small near =
-      before tail whole goes scale t value inside lit (small (ADDRESS_END + 2 - tail.addr) t.small) near
+  pub before_some : (next : ℕ) (tail : Tail) (o : Option Tail) → next_address Shape i ≡ Some next → IsTail w rom list next first.scale tail → IfSome o (λ whole. end_of whole ≡ known_over (end_of first) (end_of tail)) → IfSome o (λ whole. IsInside first.lit whole.lit) → IfSome o (λ whole. MayStandAt w whole.lit tail.lit first.stop) → IfSome o (λ whole. (n : ℕ) → IsSmall n tail → IsSmall (n + 1) whole) → next ≤ ADDRESS_END + 2 → IfSome o (IsTail w rom list i.at key)
+  before_some next tail None goes t value inside lit small near = tt
+  before_some next tail (Some whole) goes t value inside lit small near =
+      before next tail whole goes t value inside lit (small (ADDRESS_END + 2 - next) t.small) near

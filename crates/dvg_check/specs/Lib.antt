@@ -4,6 +4,7 @@ pub mod Finding
 pub mod Leaving
 pub mod Causes
 pub mod Judged
+pub mod Passing
 pub mod Verdict
 pub mod Numbers
 pub mod Behaving

@@ -2,13 +2,13 @@
 -- the certificate's refusal, 1, the first fault of the shapes, the first fault of the frame, accepted. In place of those after 1
 -- it may be 50, that there was no memory for the index. All of it is this project's own.
 use Rattle.std.specs.Prelude.{◌≡◌, ◌≢◌, ℕ, ◌≤◌, List, length, Result, Ok, Err}
-use Rattle.dvg_words.specs.Values.{Window}
+use Rattle.dvg_words.specs.Values.{MemoryMap, Window}
 use Rattle.dvg_words.specs.declared.machine.Machine.{Machine}
 use Rattle.dvg_words.specs.declared.machine.Machine.TheVariants.{Profile}
-use Rattle.dvg_words.specs.Memory.{Rom, words_of, rom_on, IsRomLength, IsFrameLength}
+use Rattle.dvg_words.specs.Memory.{Memory, Rom, words_of, rom_on, IsRomLength, IsFrameLength}
 use Rattle.dvg_words.specs.declared.image.ImageFault.TheVariants.{RomLength, FrameLength}
 use Rattle.dvg_cert.specs.declared.entry.Entry.{Entry}
-use Rattle.dvg_cert.specs.declared.fault.CertWhy.TheVariants.{Memory}
+use Rattle.dvg_cert.specs.declared.fault.CertWhy.TheVariants as cert_why
 use Rattle.dvg_cert.specs.Order.{Certificate}
 use Rattle.dvg_cert.specs.Grammar.{Spells}
 use Rattle.dvg_cert.specs.Reading.{ReadAnswer}
@@ -71,10 +71,14 @@ VerdictOn machine mode w rom cert frame budget answer = CertVerdict machine mode
 abbrev pub Verdict : Mode → Window → List ℕ → List ℕ → List ℕ → ℕ → Result Yes Refusal → Type 0
 Verdict = VerdictOn Profile
 
+-- a frame, and a ROM of these bytes at a map
+abbrev pub memory_on : Machine → MemoryMap → List ℕ → List ℕ → Memory
+memory_on machine map frame rom = record { frame = frame; rom = rom_on machine map rom }
+
 -- every run from the frame's first word is safe, with the ROM at the map of the certificate that `cert` spells
 abbrev pub SafeOn : Machine → Window → List ℕ → List ℕ → List ℕ → ℕ → ℕ → Type 0
 SafeOn machine w rom cert frame words depth =
-    (c : Certificate) × Spells c cert × Safe (record { frame = words_of frame; rom = rom_on machine c.map rom }) w words depth
+    (c : Certificate) × Spells c cert × Safe (memory_on machine c.map (words_of frame) rom) w words depth
 
 -- the same on the profile's machine
 abbrev pub SafeOver : Window → List ℕ → List ℕ → List ℕ → ℕ → ℕ → Type 0
@@ -83,7 +87,7 @@ SafeOver = SafeOn Profile
 -- every run over the same frame and ROM has just these counts at its halt
 abbrev pub CountsOn : Machine → List ℕ → List ℕ → List ℕ → ℕ → ℕ → Type 0
 CountsOn machine rom cert frame words depth =
-    (c : Certificate) × Spells c cert × CountsAtHalt (record { frame = words_of frame; rom = rom_on machine c.map rom }) words depth
+    (c : Certificate) × Spells c cert × CountsAtHalt (memory_on machine c.map (words_of frame) rom) words depth
 
 -- the same on the profile's machine
 abbrev pub CountsOver : List ℕ → List ℕ → List ℕ → ℕ → ℕ → Type 0
@@ -92,15 +96,15 @@ CountsOver = CountsOn Profile
 -- every run of the board's circuit is safe, over the same frame and ROM
 abbrev pub SafeCircuitOn : Machine → Window → List ℕ → List ℕ → List ℕ → ℕ → ℕ → Type 0
 SafeCircuitOn machine w rom cert frame words depth =
-    (c : Certificate) × Spells c cert × SafeOnCircuit (record { frame = words_of frame; rom = rom_on machine c.map rom }) w words depth
+    (c : Certificate) × Spells c cert × SafeOnCircuit (memory_on machine c.map (words_of frame) rom) w words depth
 
 -- every run of the board's circuit over the same has just these counts when it has halted
 abbrev pub CountsCircuitOn : Machine → List ℕ → List ℕ → List ℕ → ℕ → ℕ → Type 0
 CountsCircuitOn machine rom cert frame words depth =
-    (c : Certificate) × Spells c cert × CountsOnCircuit (record { frame = words_of frame; rom = rom_on machine c.map rom }) words depth
+    (c : Certificate) × Spells c cert × CountsOnCircuit (memory_on machine c.map (words_of frame) rom) words depth
 
 -- the answer is not that memory was short for the certificate or its index
 abbrev pub NotMemory : Result Yes Refusal → Type 0
-NotMemory (Err (refusal.Cert f)) = f.why ≢ Memory
+NotMemory (Err (refusal.Cert f)) = f.why ≢ cert_why.Memory
 NotMemory (Err refusal.IndexMemory) = ⊥
 NotMemory answer = Unit {0}

@@ -5,7 +5,7 @@ ghost use Rattle.dvg_words.specs.Memory.{rom_on};
 ghost use Rattle.dvg_words.specs.declared.machine.Machine.TheVariants.{Board};
 ghost use Rattle.dvg_cert.specs.declared.limits.TheConstants.{MOST_WORDS};
 ghost use Rattle.dvg_check.specs.declared.fault.Mode.TheVariants.{Exact};
-ghost use Rattle.dvg_check.specs.Verdict.{PartsVerdict, RomVerdict};
+ghost use Rattle.dvg_check.specs.Verdict.{PartsVerdict, RomVerdict, memory_on};
 ghost use Rattle.dvg_check.specs.Safety.{Safe, CountsAtHalt};
 ghost use Rattle.dvg_check.specs.Circuit.{SafeOnCircuit, CountsOnCircuit};
 ghost use Rattle.dvg_check.specs.Causes.{refusal_of, verdict_of, TellsOf};
@@ -117,12 +117,11 @@ pub fn find_rom_fault(
     requires { budget ≤ MOST_WORDS }
     ensures verdict { RomVerdict machine mode window rom.now cert.now frame.now budget (verdict_of result) }
     ensures found { IfErr result (TellsOf mode window (rom_on machine cert.now.map rom.now) cert.now.entries frame.now budget) }
-    ensures safe { IfOk result (λ yes. Safe (record { frame = frame.now; rom = rom_on machine cert.now.map rom.now }) window yes.words yes.depth) }
-    ensures exact { mode ≡ Exact → IfOk result (λ yes. CountsAtHalt (record { frame = frame.now; rom = rom_on machine cert.now.map rom.now }) yes.words yes.depth) }
-    ensures circuit { machine ≡ Board
-        → IfOk result (λ yes. SafeOnCircuit (record { frame = frame.now; rom = rom_on machine cert.now.map rom.now }) window yes.words yes.depth) }
+    ensures safe { IfOk result (λ yes. Safe (memory_on machine cert.now.map frame.now rom.now) window yes.words yes.depth) }
+    ensures exact { mode ≡ Exact → IfOk result (λ yes. CountsAtHalt (memory_on machine cert.now.map frame.now rom.now) yes.words yes.depth) }
+    ensures circuit { machine ≡ Board → IfOk result (λ yes. SafeOnCircuit (memory_on machine cert.now.map frame.now rom.now) window yes.words yes.depth) }
     ensures circuit_exact { machine ≡ Board → mode ≡ Exact
-        → IfOk result (λ yes. CountsOnCircuit (record { frame = frame.now; rom = rom_on machine cert.now.map rom.now }) yes.words yes.depth) }
+        → IfOk result (λ yes. CountsOnCircuit (memory_on machine cert.now.map frame.now rom.now) yes.words yes.depth) }
 {
     let Ok(rom) = RomImage::from_bytes_on(machine, rom, cert.map()) else {
         return Err(RomFinding::RomLength);

@@ -1,25 +1,13 @@
 //! The numbers of keys, and sets of keys.
 
-ghost use Rattle.std.specs.Prelude.{◌≡◌, ◌<◌};
+ghost use Rattle.std.specs.Prelude.{◌≡◌, ◌<◌, IfSome};
 ghost use Rattle.dvg_cert.specs.Entry.{IsKey};
-ghost use Rattle.dvg_check.specs.Private.Tails.{key_number};
+ghost use Rattle.dvg_check.specs.Passing.{key_number, set_number};
 
 use dvg_cert::Key;
 
 /// How many keys there are: the sixteen global scales, and `Any`.
 pub const KEYS: u8 = 17;
-
-/// How many tails a pass over a ROM keeps: one for each key at four words in a row. The tail behind an item stands one or two
-/// words further on, so three would do; a row of four is found by the two low bits of the address.
-pub const SLOTS: usize = 4 * KEYS as usize;
-
-/// The slot of the tail at a word address and a key, below [`SLOTS`].
-pub fn slot_of(at: u16, key: Key) -> usize
-    requires { IsKey key }
-    ensures { result < 68 }
-{
-    usize::from(at % 4) * usize::from(KEYS) + usize::from(key_index(key))
-}
 
 /// The number of a key, 0 to 16: its global scale, or 16 for `Any`.
 pub fn key_index(key: Key) -> u8
@@ -34,16 +22,10 @@ pub fn key_index(key: Key) -> u8
 }
 
 /// The key with a number of 0 to 16.
-pub fn key_of(index: u8) -> Key
-    requires { index < 17 }
-    ensures key { IsKey result }
-    ensures number { key_number result ≡ index }
+fn key_of(index: u8) -> Key
+    ensures { IsKey result }
 {
-    if index == 16 {
-        Key::Any
-    } else {
-        Key::At(index)
-    }
+    if index < 16 { Key::At(index) } else { Key::Any }
 }
 
 /// A set of keys.
@@ -78,22 +60,17 @@ impl Keys {
         self.bits == 0
     }
 
-    /// The lowest number of a key in the set, 32 in the empty set.
-    pub fn first(self) -> u8 {
-        self.bits.trailing_zeros() as u8
-    }
-
-    /// Whether no key in the set has this number or a greater one.
-    pub fn has_none_from(self, index: u8) -> bool
-        requires { index < 17 }
+    /// Takes the key with the lowest number out of the set.
+    #[inline(always)]
+    pub fn take_first(&mut self) -> Option<Key>
+        ensures key { IfSome result IsKey }
+        ensures fewer { IfSome result (λ key. set_number self.new < set_number self.old) }
     {
-        self.bits >> index == 0
-    }
-
-    /// Whether the key with this number is in the set.
-    pub fn has(self, index: u8) -> bool
-        requires { index < 17 }
-    {
-        self.bits & (1 << index) != 0
+        if self.bits == 0 {
+            return None;
+        }
+        let key = key_of(self.bits.trailing_zeros() as u8);
+        self.bits &= self.bits - 1;
+        Some(key)
     }
 }

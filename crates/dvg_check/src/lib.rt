@@ -17,6 +17,7 @@ mod leaving;
 mod needed;
 mod rules;
 mod shapes;
+mod slots;
 mod tail;
 mod tails;
 mod verdict;
@@ -29,10 +30,11 @@ pub use fault::{
 pub use finding::{RomFinding, find_parts_fault, find_rom_fault};
 pub use frames::{Accepted, check_frame};
 pub use judged::JudgedShapes;
-pub use keys::{KEYS, Keys, SLOTS, key_index, key_of, slot_of};
+pub use keys::{KEYS, Keys, key_index};
 pub use leaving::{BoxLeaving, Edge, Leaving, Limits, leaves_box, leaves_window};
 pub use needed::Needed;
 pub use shapes::{check_shapes, check_shapes_exact, find_entry_fault, find_shape_fault};
+pub use slots::{Kept, SLOTS, keep, kept_at};
 pub use tail::moved;
 pub use verdict::{
     Refusal, Yes, check, check_exact, check_on, check_parts, check_parts_exact, check_rom, frame_of,

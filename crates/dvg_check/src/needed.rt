@@ -1,11 +1,13 @@
 //! Which tails a pass over a ROM has to make.
 
-ghost use Rattle.std.specs.Prelude.{◌<◌};
-ghost use Rattle.dvg_words.specs.Decoding.{InstrFits};
+ghost use Rattle.std.specs.Prelude.{◌≡◌, ◌<◌, ◌≤◌, IfSome};
+ghost use Rattle.dvg_words.specs.Decoding.{InstrFits, cell_at};
+ghost use Rattle.dvg_words.specs.Memory.{rom_word};
+ghost use Rattle.dvg_words.specs.declared.instruction.Cell.TheVariants.{Holds};
 ghost use Rattle.dvg_words.specs.declared.map.TheConstants.{ADDRESS_END};
 ghost use Rattle.dvg_items.specs.Bounds.{IsSomeCertificate};
 
-use crate::keys::{KEYS, Keys, key_of};
+use crate::keys::Keys;
 use dvg_cert::{Entries, Entry, Key};
 use dvg_items::{Item, Kind, callee};
 use dvg_words::{Cell, Instr, MOST_ROM_WORDS, RomImage, read_cell};
@@ -15,14 +17,10 @@ fn keys_left<E: Entries>(entries: &E, to: u16, keys: Keys) -> Keys
     requires { IsSomeCertificate (E.list entries.now) }
 {
     let mut left = Keys::NONE;
-    for index in keys.first()..KEYS {
-        if keys.has_none_from(index) {
-            break;
-        }
-        if keys.has(index) {
-            if let Some(entry) = callee(entries, Some(to), key_of(index)) {
-                left = left.with(Keys::one(entry.scale));
-            }
+    let mut before = keys;
+    'keys: while let Some(key) = before.take_first() {
+        if let Some(entry) = callee(entries, Some(to), key) {
+            left = left.with(Keys::one(entry.scale));
         }
     }
     left
@@ -37,6 +35,19 @@ fn keys_behind<E: Entries>(entries: &E, instr: &Instr, keys: Keys) -> Keys
         Instr::Labs { gscale, .. } => Keys::one(Key::At(*gscale)),
         Instr::Jsrl { to } => keys_left(entries, *to, keys),
         _ => keys,
+    }
+}
+
+/// The item at a word address of a ROM, if one stands there.
+#[inline(always)]
+fn item_at(rom: &RomImage, at: u16) -> Option<Item>
+    ensures at { IfSome result (λ item. item.at ≡ at) }
+    ensures there { IfSome result (λ item. cell_at (rom_word rom.now) item.at ≡ Holds item.format item.instr) }
+    ensures fields { IfSome result (λ item. InstrFits item.instr) }
+{
+    match read_cell(rom, at) {
+        Cell::Holds { format, instr } => Some(Item { at, format, instr }),
+        Cell::Missing | Cell::Odd => None,
     }
 }
 
@@ -57,6 +68,7 @@ impl Needed {
     pub fn for_entries<E: Entries>(rom: &RomImage, entries: &E, list: &[Entry]) -> Needed
         requires entries { IsSomeCertificate (E.list entries.now) }
         requires list { IsSomeCertificate list.now }
+        ensures { result.end ≤ ADDRESS_END }
     {
         let (first, last) = (rom.map().first(), rom.map().last());
         let mut needed = Needed {
@@ -73,11 +85,34 @@ impl Needed {
             }
             needed.add_behind(rom, entries, at);
         }
+        needed.end = needed.end.min(last + 1);
         needed
     }
 
+    /// The last item at which tails are needed, of those at the word addresses from `from` on and below `to`, and at which keys they
+    /// are.
+    #[inline(always)]
+    pub fn last_between(&self, rom: &RomImage, from: u16, to: u16) -> Option<(Item, Keys)>
+        requires { to ≤ ADDRESS_END }
+        ensures before { IfSome result (λ found. found.0.at < to) }
+        ensures there { IfSome result (λ found. cell_at (rom_word rom.now) found.0.at ≡ Holds found.0.format found.0.instr) }
+        ensures fields { IfSome result (λ found. InstrFits found.0.instr) }
+    {
+        let mut at = to;
+        'places: while from < at {
+            at -= 1;
+            let keys = self.keys_at(at);
+            if !keys.is_empty() {
+                if let Some(item) = item_at(rom, at) {
+                    return Some((item, keys));
+                }
+            }
+        }
+        None
+    }
+
     /// The keys that are needed at a word address.
-    pub fn keys_at(&self, at: u16) -> Keys {
+    fn keys_at(&self, at: u16) -> Keys {
         // Before the first word the difference wraps, to past the last.
         let index = at.wrapping_sub(self.first);
         match self.keys.get(usize::from(index)) {
@@ -104,12 +139,11 @@ impl Needed {
         if keys.is_empty() {
             return;
         }
-        let Cell::Holds { format, instr } = read_cell(rom, at) else {
+        let Some(item) = item_at(rom, at) else {
             return;
         };
-        let item = Item { at, format, instr };
         if let Some(next) = item.next_address(Kind::Shape) {
-            self.add(next, keys_behind(entries, &instr, keys));
+            self.add(next, keys_behind(entries, &item.instr, keys));
         }
     }
 }

@@ -1,7 +1,7 @@
 //! Tails of shapes, each made of one item and the tail behind that item.
 //!
 //! A tail is the part of a shape from a word of the ROM on. What it does depends on this word and on the known scale there alone.
-//! So a tail is told as an entry: the one that claims exactly what a shape does that starts at this word.
+//! So what a tail does is what a shape does that starts at this word.
 
 ghost use Rattle.std.specs.Prelude.{◌≡◌, ◌+◌, ◌<◌, ◌≤◌, ◌≤ℤ◌, ◌↔◌, ℕ, pos, IfSome, IsTrue};
 ghost use Rattle.dvg_words.specs.Decoding.{InstrFits, cell_at};
@@ -17,12 +17,25 @@ ghost use Rattle.dvg_items.specs.declared.item.Kind.TheVariants.{Shape};
 ghost use Rattle.dvg_items.specs.Known.{start};
 ghost use Rattle.dvg_items.specs.Seen.{seen_with};
 ghost use Rattle.dvg_items.specs.Bounds.{IsNear, IsNearPlace, IsNearExtent, IsClaim, IsSomeCertificate};
-ghost use Rattle.dvg_check.specs.Private.Tails.{ClaimsLess, known_at_end, claimed, place_over, known_over, moved, BoxInWindow, MayStandAt, MayStandFirst, last_item, IsNearBox, IsSmall};
+ghost use Rattle.dvg_check.specs.Passing.{IsNearBox, moved};
+ghost use Rattle.dvg_check.specs.Private.Tails.{ClaimsLess, entry_of, end_of, place_over, known_over, first_seen, BoxInWindow, MayStandAt, MayStandFirst, IsSmall};
 
 use crate::fault::Mode;
 use dvg_cert::{End, Entries, Entry, Key, LitBox};
 use dvg_items::{Cursor, Item, Kind, LitExtent, box_corners, callee, joined, spanning};
 use dvg_words::{Instr, Machine, Point, Window, in_window, shift};
+
+/// What a shape does from a word on, seen from its place there.
+///
+/// The large fields stand first, so that none of them has a gap before it.
+#[derive(Clone, Copy)]
+pub struct Tail {
+    pub stop: End,
+    pub lit: LitBox,
+    pub words: u32,
+    pub scale: Key,
+    pub depth: u8,
+}
 
 /// The place at the end of a tail, seen from the start of the item before it: `place` is the place past this item, and `stop` the
 /// end of the tail, seen from its own start.
@@ -109,26 +122,23 @@ fn lit_over(window: &Window, place: &End, lit: &LitBox) -> Option<LitBox>
     }
 }
 
-/// The tail from an item on, made of this item, told as an entry, and the tail behind it. `None` where the tail behind it may not
+/// The tail from an item on, made of this item, told as a tail, and the tail behind it. `None` where the tail behind it may not
 /// be lit past the item.
-pub fn after_item(window: &Window, item: &Entry, tail: &Entry) -> Option<Entry>
+pub fn after_item(window: &Window, item: &Tail, tail: &Tail) -> Option<Tail>
     requires item { IsSmall 1 item.now }
     requires tail { IsSmall (ADDRESS_END + 2) tail.now }
-    ensures value { IfSome result (λ whole. whole ≡ claimed item.now.addr item.now.key whole.lit
-        (known_over (known_at_end item.now) (known_at_end tail.now))) }
+    ensures value { IfSome result (λ whole. end_of whole ≡ known_over (end_of item.now) (end_of tail.now)) }
     ensures item { IfSome result (λ whole. IsInside item.now.lit whole.lit) }
     ensures tail { IfSome result (λ whole. MayStandAt window.now whole.lit tail.now.lit item.now.stop) }
     ensures small { IfSome result (λ whole. (n : ℕ) → IsSmall n tail.now → IsSmall (n + 1) whole) }
 {
     let part = lit_over(window, &item.stop, &tail.lit)?;
-    Some(Entry {
-        addr: item.addr,
-        key: item.key,
+    Some(Tail {
         stop: stop_over(&item.stop, &tail.stop),
         lit: joined(&item.lit, &part),
-        depth: tail.depth.max(item.depth),
         words: tail.words + item.words,
         scale: tail.scale,
+        depth: tail.depth.max(item.depth),
     })
 }
 
@@ -146,13 +156,13 @@ fn box_of(extent: &LitExtent) -> Option<LitBox>
     }
 }
 
-/// An item at a key, told as the entry of a shape that has this item alone. `None` where no shape may have it: it is HALT, it calls
+/// An item at a key, told as the tail of a shape that has this item alone. `None` where no shape may have it: it is HALT, it calls
 /// an address where no entry is named, or it lights at unknown scale.
-pub fn last_item<E: Entries>(machine: Machine, entries: &E, item: &Item, key: Key) -> Option<Entry>
+pub fn last_item<E: Entries>(machine: Machine, entries: &E, item: &Item, key: Key) -> Option<Tail>
     requires entries { IsSomeCertificate (E.list entries.now) }
     requires key { IsKey key }
     requires fields { InstrFits item.now.instr }
-    ensures value { IfSome result (λ first. first ≡ last_item machine (E.list entries.now) key first.lit item.now) }
+    ensures value { IfSome result (λ first. end_of first ≡ (first_seen machine (E.list entries.now) key item.now).after) }
     ensures stands { IfSome result (λ first. (rom : Rom) → rom.machine ≡ machine →
         cell_at (rom_word rom) item.now.at ≡ Holds item.now.format item.now.instr →
         MayStandFirst rom (E.list entries.now) key first.lit item.now) }
@@ -170,14 +180,14 @@ pub fn last_item<E: Entries>(machine: Machine, entries: &E, item: &Item, key: Ke
     }
 }
 
-/// An item at a key that calls this entry, or calls none, told as the entry of a shape that has this item alone. `None` where it
+/// An item at a key that calls this entry, or calls none, told as the tail of a shape that has this item alone. `None` where it
 /// lights at unknown scale.
 #[inline(always)]
-fn item_calling(machine: Machine, item: &Item, key: Key, callee: Option<Entry>) -> Option<Entry>
+fn item_calling(machine: Machine, item: &Item, key: Key, callee: Option<Entry>) -> Option<Tail>
     requires key { IsKey key }
     requires callee { IfSome callee IsClaim }
     requires fields { InstrFits item.now.instr }
-    ensures value { IfSome result (λ first. first ≡ claimed item.now.at key first.lit (seen_with machine callee (start Shape key) item.now).after) }
+    ensures value { IfSome result (λ first. end_of first ≡ (seen_with machine callee (start Shape key) item.now).after) }
     ensures scale { IfSome result (λ first. ScaleKnown (seen_with machine callee (start Shape key) item.now).extent) }
     ensures boxed { IfSome result (λ first. LitInBox first.lit (seen_with machine callee (start Shape key) item.now).extent
         (seen_with machine callee (start Shape key) item.now).place) }
@@ -186,14 +196,12 @@ fn item_calling(machine: Machine, item: &Item, key: Key, callee: Option<Entry>) 
     // What is seen of the first item doesn't depend on where it stands.
     let seen = Cursor::start(Kind::Shape, 0, key).see(machine, item.format, &item.instr, callee);
     let lit = box_of(&seen.extent)?;
-    Some(Entry {
-        addr: item.at,
-        key,
+    Some(Tail {
         stop: seen.after.place,
         lit,
-        depth: seen.after.depth,
         words: seen.after.words,
         scale: seen.after.scale,
+        depth: seen.after.depth,
     })
 }
 
@@ -225,10 +233,8 @@ fn is_inside(part: &LitBox, whole: &LitBox) -> bool
 
 /// Whether the tail at an entry's address and key bears out the entry: the end and the scale are the same, the entry's box holds
 /// the tail's, and its counts are no smaller, in the mode `Exact` the same.
-pub fn claims_less(mode: Mode, entry: &Entry, tail: &Entry) -> bool
-    requires addr { entry.now.addr ≡ tail.now.addr }
-    requires key { entry.now.key ≡ tail.now.key }
-    ensures { IsTrue result → ClaimsLess mode entry.now tail.now }
+pub fn claims_less(mode: Mode, entry: &Entry, tail: &Tail) -> bool
+    ensures { IsTrue result → ClaimsLess mode entry.now (entry_of entry.now.addr entry.now.key tail.now) }
 {
     let counts = match mode {
         Mode::Bound => tail.words <= entry.words && tail.depth <= entry.depth,

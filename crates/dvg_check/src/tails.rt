@@ -14,35 +14,15 @@ ghost use Rattle.dvg_check.specs.Rules.{GoodShape};
 ghost use Rattle.dvg_check.specs.Private.Tails.{IsTail, AreTails};
 
 use crate::fault::Mode;
-use crate::keys::{KEYS, Keys, SLOTS, key_of, slot_of};
 use crate::needed::Needed;
-use crate::tail::{after_item, claims_less, last_item};
+use crate::slots::{Kept, SLOTS, keep, kept_at};
+use crate::tail::{Tail, after_item, claims_less, last_item};
 use dvg_cert::{Entries, Entry, Key};
 use dvg_items::{Item, Kind};
-use dvg_words::{Cell, RomImage, Window, read_cell};
+use dvg_words::{RomImage, Window};
 
-/// The tails that were made last, each in the slot of its address and key. A slot may still hold the tail of a later word, so each
-/// tail has its own address and key to compare.
-#[derive(Drop)]
-pub struct Tails {
-    pub slots: [Option<Entry>; SLOTS],
-}
-
-/// The tail at a word address and a key, if it was made.
-fn tail_kept<'a>(tails: &'a Tails, at: u16, key: Key) -> Option<&'a Entry>
-    requires { IsKey key }
-    ensures addr { IfSome result (λ tail. tail.now.addr ≡ at) }
-    ensures key { IfSome result (λ tail. tail.now.key ≡ key) }
-    ensures tail { (w : Window) (rom : Rom) (list : List Entry) → AreTails w rom list tails.now.slots →
-        IfSome result (λ tail. IsTail w rom list tail.now) }
-{
-    let tail = tails.slots[slot_of(at, key)].as_ref()?;
-    if tail.addr == at && tail.key == key {
-        Some(tail)
-    } else {
-        None
-    }
-}
+/// The tails that were made last.
+type Tails = [Option<Kept<Tail>>; SLOTS];
 
 /// The tail from an item on, at a key. `None` where the tail behind it was not made, or the item may not stand there. The ROM, in
 /// which the item stands, serves the contract alone.
@@ -53,58 +33,19 @@ fn tail_at<E: Entries>(
     item: &Item,
     key: Key,
     tails: &Tails,
-) -> Option<Entry>
+) -> Option<Tail>
     requires entries { IsSomeCertificate (E.list entries.now) }
     requires key { IsKey key }
     requires there { cell_at (rom_word rom.now) item.now.at ≡ Holds item.now.format item.now.instr }
     requires near { item.now.at < ADDRESS_END }
     requires fields { InstrFits item.now.instr }
-    requires tails { AreTails window.now rom.now (E.list entries.now) tails.now.slots }
-    ensures { IfSome result (IsTail window.now rom.now (E.list entries.now)) }
+    requires tails { AreTails window.now rom.now (E.list entries.now) tails.now }
+    ensures { IfSome result (IsTail window.now rom.now (E.list entries.now) item.now.at key) }
 {
     let first = last_item(rom.machine(), entries, item, key)?;
     match item.next_address(Kind::Shape) {
-        Some(next) => after_item(window, &first, tail_kept(tails, next, first.scale)?),
+        Some(next) => after_item(window, &first, kept_at(tails, next, first.scale)?),
         None => Some(first),
-    }
-}
-
-/// Puts a tail into its slot.
-fn keep(tails: &mut Tails, tail: Entry)
-    requires { IsKey tail.key }
-    ensures { (w : Window) (rom : Rom) (list : List Entry) → AreTails w rom list tails.old.slots → IsTail w rom list tail →
-        AreTails w rom list tails.new.slots }
-{
-    tails.slots[slot_of(tail.addr, tail.key)] = Some(tail);
-}
-
-/// Makes the tails at a word address, at these keys. Those at later words were made before.
-fn make_tails<E: Entries>(
-    window: &Window,
-    rom: &RomImage,
-    entries: &E,
-    at: u16,
-    keys: Keys,
-    tails: &mut Tails,
-)
-    requires entries { IsSomeCertificate (E.list entries.now) }
-    requires near { at < ADDRESS_END }
-    requires tails { AreTails window.now rom.now (E.list entries.now) tails.old.slots }
-    ensures { AreTails window.now rom.now (E.list entries.now) tails.new.slots }
-{
-    let Cell::Holds { format, instr } = read_cell(rom, at) else {
-        return;
-    };
-    let item = Item { at, format, instr };
-    for index in keys.first()..KEYS {
-        if keys.has_none_from(index) {
-            break;
-        }
-        if keys.has(index) {
-            if let Some(tail) = tail_at(window, rom, entries, &item, key_of(index), tails) {
-                keep(tails, tail);
-            }
-        }
     }
 }
 
@@ -112,10 +53,10 @@ fn make_tails<E: Entries>(
 #[inline(never)]
 fn shows(mode: Mode, tails: &Tails, entry: &Entry) -> bool
     requires { IsKey entry.now.key }
-    ensures { (w : Window) (rom : Rom) (list : List Entry) → AreTails w rom list tails.now.slots → IsTrue result →
+    ensures { (w : Window) (rom : Rom) (list : List Entry) → AreTails w rom list tails.now → IsTrue result →
         GoodShape mode w rom list entry.now }
 {
-    match tail_kept(tails, entry.addr, entry.key) {
+    match kept_at(tails, entry.addr, entry.key) {
         Some(tail) => claims_less(mode, entry, tail),
         None => false,
     }
@@ -133,15 +74,17 @@ fn make_all<E: Entries>(
 )
     requires entries { IsSomeCertificate (E.list entries.now) }
     requires to { to ≤ ADDRESS_END }
-    requires tails { AreTails window.now rom.now (E.list entries.now) tails.old.slots }
-    ensures { AreTails window.now rom.now (E.list entries.now) tails.new.slots }
+    requires tails { AreTails window.now rom.now (E.list entries.now) tails.old }
+    ensures { AreTails window.now rom.now (E.list entries.now) tails.new }
 {
     let mut at = to;
-    'places: while from < at {
-        at -= 1;
-        let keys = needed.keys_at(at);
-        if !keys.is_empty() {
-            make_tails(window, rom, entries, at, keys, tails);
+    'places: while let Some((item, keys)) = needed.last_between(rom, from, at) {
+        at = item.at;
+        let mut left = keys;
+        'keys: while let Some(key) = left.take_first() {
+            if let Some(tail) = tail_at(window, rom, entries, &item, key, tails) {
+                keep(tails, at, key, tail);
+            }
         }
     }
 }
@@ -160,10 +103,8 @@ pub fn first_doubtful<E: Entries>(
     ensures good { AllByRecursion (GoodShape mode window.now rom.now list.now) (take result list.now) }
 {
     let needed = Needed::for_entries(rom, entries, list);
-    let mut tails = Tails {
-        slots: [None; SLOTS],
-    };
-    let mut at = needed.end.min(rom.map().last() + 1);
+    let mut tails = [None; SLOTS];
+    let mut at = needed.end;
     let mut doubtful = list.len();
     let mut left = list.len();
     'entries: while left > 0 {

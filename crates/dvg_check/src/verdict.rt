@@ -1,10 +1,10 @@
 //! The verdict on bytes.
 
 ghost use Rattle.std.specs.Prelude.{◌≡◌, ◌≤◌, OnOk, IfOk, IfErr};
-ghost use Rattle.dvg_words.specs.Memory.{words_of, rom_on};
+ghost use Rattle.dvg_words.specs.Memory.{words_of};
 ghost use Rattle.dvg_words.specs.declared.machine.Machine.TheVariants.{Board};
 ghost use Rattle.dvg_check.specs.Rules.{Bound, Exact};
-ghost use Rattle.dvg_check.specs.Verdict.{InRange, RangeRefusal, PartsVerdict, RomVerdict, VerdictOn, Verdict, SafeOn, SafeOver, CountsOn, CountsOver, SafeCircuitOn, CountsCircuitOn};
+ghost use Rattle.dvg_check.specs.Verdict.{InRange, RangeRefusal, memory_on, PartsVerdict, RomVerdict, VerdictOn, Verdict, SafeOn, SafeOver, CountsOn, CountsOver, SafeCircuitOn, CountsCircuitOn};
 ghost use Rattle.dvg_check.specs.Numbers.{refusal_number};
 ghost use Rattle.dvg_check.specs.Safety.{Safe};
 ghost use Rattle.dvg_check.specs.Circuit.{SafeOnCircuit, CountsOnCircuit};
@@ -168,39 +168,13 @@ pub fn check_rom(
 ) -> Result<Yes, Refusal>
     requires { budget ≤ MOST_WORDS }
     ensures verdict { RomVerdict machine mode window rom.now cert.now frame.now budget result }
-    ensures safe { IfOk result (λ yes. Safe (record { frame = frame.now; rom = rom_on machine cert.now.map rom.now }) window yes.words yes.depth) }
-    ensures exact { mode ≡ Exact → IfOk result (λ yes. CountsAtHalt (record { frame = frame.now; rom = rom_on machine cert.now.map rom.now }) yes.words yes.depth) }
-    ensures circuit { machine ≡ Board
-        → IfOk result (λ yes. SafeOnCircuit (record { frame = frame.now; rom = rom_on machine cert.now.map rom.now }) window yes.words yes.depth) }
+    ensures safe { IfOk result (λ yes. Safe (memory_on machine cert.now.map frame.now rom.now) window yes.words yes.depth) }
+    ensures exact { mode ≡ Exact → IfOk result (λ yes. CountsAtHalt (memory_on machine cert.now.map frame.now rom.now) yes.words yes.depth) }
+    ensures circuit { machine ≡ Board → IfOk result (λ yes. SafeOnCircuit (memory_on machine cert.now.map frame.now rom.now) window yes.words yes.depth) }
     ensures circuit_exact { machine ≡ Board → mode ≡ Exact
-        → IfOk result (λ yes. CountsOnCircuit (record { frame = frame.now; rom = rom_on machine cert.now.map rom.now }) yes.words yes.depth) }
+        → IfOk result (λ yes. CountsOnCircuit (memory_on machine cert.now.map frame.now rom.now) yes.words yes.depth) }
 {
     match find_rom_fault(machine, alloc, rom, frame, cert, budget, window, mode) {
-        Ok(yes) => Ok(yes),
-        Err(finding) => Err(finding.refusal()),
-    }
-}
-
-/// Judges a frame over a vector ROM and the entries of its certificate in a mode.
-fn check_parts_in(
-    alloc: Global,
-    rom: &RomImage,
-    frame: &FrameImage,
-    cert: &Cert,
-    budget: u32,
-    window: Window,
-    mode: Mode,
-) -> Result<Yes, Refusal>
-    requires budget { budget ≤ MOST_WORDS }
-    requires map { rom.now.map ≡ cert.now.map }
-    ensures verdict { PartsVerdict mode window rom.now cert.now.entries frame.now budget result }
-    ensures safe { IfOk result (λ yes. Safe (record { frame = frame.now; rom = rom.now }) window yes.words yes.depth) }
-    ensures exact { mode ≡ Exact → IfOk result (λ yes. CountsAtHalt (record { frame = frame.now; rom = rom.now }) yes.words yes.depth) }
-    ensures circuit { rom.now.machine ≡ Board → IfOk result (λ yes. SafeOnCircuit (record { frame = frame.now; rom = rom.now }) window yes.words yes.depth) }
-    ensures circuit_exact { rom.now.machine ≡ Board → mode ≡ Exact
-        → IfOk result (λ yes. CountsOnCircuit (record { frame = frame.now; rom = rom.now }) yes.words yes.depth) }
-{
-    match find_parts_fault(alloc, rom, frame, cert, budget, window, mode) {
         Ok(yes) => Ok(yes),
         Err(finding) => Err(finding.refusal()),
     }
@@ -263,7 +237,10 @@ pub fn check_parts(
     ensures safe { IfOk result (λ yes. Safe (record { frame = frame.now; rom = rom.now }) window yes.words yes.depth) }
     ensures circuit { rom.now.machine ≡ Board → IfOk result (λ yes. SafeOnCircuit (record { frame = frame.now; rom = rom.now }) window yes.words yes.depth) }
 {
-    check_parts_in(alloc, rom, frame, cert, budget, window, Mode::Bound)
+    match find_parts_fault(alloc, rom, frame, cert, budget, window, Mode::Bound) {
+        Ok(yes) => Ok(yes),
+        Err(finding) => Err(finding.refusal()),
+    }
 }
 
 /// Judges a frame over a vector ROM and its certificate as [`check`] does, the claimed counts being exact: 32 and 33 come after
@@ -314,5 +291,8 @@ pub fn check_parts_exact(
     ensures circuit { rom.now.machine ≡ Board → IfOk result (λ yes. SafeOnCircuit (record { frame = frame.now; rom = rom.now }) window yes.words yes.depth) }
     ensures circuit_exact { rom.now.machine ≡ Board → IfOk result (λ yes. CountsOnCircuit (record { frame = frame.now; rom = rom.now }) yes.words yes.depth) }
 {
-    check_parts_in(alloc, rom, frame, cert, budget, window, Mode::Exact)
+    match find_parts_fault(alloc, rom, frame, cert, budget, window, Mode::Exact) {
+        Ok(yes) => Ok(yes),
+        Err(finding) => Err(finding.refusal()),
+    }
 }

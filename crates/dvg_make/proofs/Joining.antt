@@ -7,7 +7,8 @@ use Rattle.dvg_items.specs.Lit.{PlaceKnown, ScaleKnown}
 use Rattle.dvg_items.specs.declared.lit.LitExtent.TheVariants.{Anywhere}
 use Rattle.dvg_items.proofs.Lists.{all_left, all_right}
 use Rattle.dvg_check.specs.Private.Judging.{seen_by}
-use Rattle.dvg_check.specs.Private.Tails.{known_at_end, known_over, place_over, moved}
+use Rattle.dvg_check.specs.Passing.{moved}
+use Rattle.dvg_check.specs.Private.Tails.{known_at_end, known_over, place_over}
 use Rattle.dvg_check.proofs.TailLaws.{seen_over, seen_by_over, over_none}
 use Rattle.dvg_make.specs.Private.Partial.{IsFine, IsTail, EndsBy, EndsByOne}
 use Rattle.dvg_make.proofs.Ends.{made_ends, ends_made}

@@ -32,7 +32,7 @@ pub use Rattle.dvg_items.specs.declared.seen.Seen.{Seen}
 pub use Rattle.dvg_survey.specs.Calls.{Call, AreAll, Stand, calls_among, call_of}
 pub use Rattle.dvg_survey.specs.Chains.{IsChain, IsShapeCall, LeadsOn}
 pub use Rattle.dvg_survey.specs.Private.KeyedWords.{KeyedWord, AreNone, with_word, is_marked, word_number, HasWord}
-pub use Rattle.dvg_survey.specs.Private.Lighting.{AreTails, LitFrom, relative_part, keyed, absolute_part}
+pub use Rattle.dvg_survey.specs.Private.Lighting.{AreTails, IsLitFrom, Lit, relative_part, keyed, absolute_part}
 pub use Rattle.dvg_survey.specs.Private.Reaching.{reach_all, Link, AllSteps, IsBackward, entries_of, reach, IsStep}
 pub use Rattle.dvg_survey.specs.Private.Walking.{context_of, IsSeenAt}
 unfoldable pub use Rattle.dvg_words.specs.Decoding.{cell_at}

@@ -12,7 +12,6 @@ pub mod Complete
 pub mod SameEntry
 pub mod TailPoints
 pub mod TailLaws
-pub mod TailRows
 pub mod Bearing
 pub mod Quotients
 pub mod Sweeping

@@ -2,7 +2,7 @@
 use Rattle.dvg_survey.proofs.Common.{◌≡◌, ◌≢◌, ℕ, zero, suc, ◌<◌, List, Bool, true, false, length, get_or, refl, sym, ap, ◌∙◌, arith, ◌⊎◌, inl, inr, ⊎_elim, cases_lt, ADDRESS_END, IsKey, Key, At, Any, KeyedWord, word_number, is_marked, with_word, AreNone, HasWord}
 use Rattle.std.proofs.Common.{replicate}
 use Rattle.std.proofs.lemmas.List.{get_or-set_same, get_or-set_other}
-use Rattle.dvg_check.specs.Private.Tails.{key_number}
+use Rattle.dvg_check.specs.Passing.{key_number}
 use Rattle.dvg_survey.specs.Private.KeyedWords.{MOST_KEYED_WORDS}
 
 key_below : (k : Key) → IsKey k → key_number k < 17

@@ -1,6 +1,6 @@
 -- An item and what stands behind it light together what the shape from the item on lights.
 use Rattle.dvg_words.specs.declared.machine.Machine.{Machine}
-use Rattle.dvg_survey.proofs.Common.{◌≡◌, ℕ, pos, ◌+◌, ◌-◌, ◌<◌, ◌≤◌, List, [], ◌∷◌, ◌++◌, Option, Some, None, refl, sym, ap, ◌∙◌, subst, arith, cell_at, Rom, rom_word, Point, Holds, ADDRESS_END, End, Rel, Abs, Lost, Entry, Key, LitBox, Empty, LeadsTo, next_address, callee_at, target, HoldsAll, IsLeast, absolute_points, InBox, absolute_corners, relative_corners, seen_at, Cursor, Item, Shape, Known, Seen, IsJoined, all_append, Stand, AreAll, LitFrom, keyed, relative_part, absolute_part}
+use Rattle.dvg_survey.proofs.Common.{◌≡◌, ℕ, pos, ◌+◌, ◌-◌, ◌<◌, ◌≤◌, List, [], ◌∷◌, ◌++◌, Option, Some, None, refl, sym, ap, ◌∙◌, subst, arith, cell_at, Rom, rom_word, Point, Holds, ADDRESS_END, End, Rel, Abs, Lost, Entry, Key, LitBox, Empty, LeadsTo, next_address, callee_at, target, HoldsAll, IsLeast, absolute_points, InBox, absolute_corners, relative_corners, seen_at, Cursor, Item, Shape, Known, Seen, IsJoined, all_append, Stand, AreAll, Lit, IsLitFrom, keyed, relative_part, absolute_part}
 use Rattle.dvg_items.specs.Bounds.{IsNearPlace}
 use Rattle.dvg_items.specs.Cursor.{first_cursor}
 use Rattle.dvg_items.specs.Known.{known_before, known_past, start}
@@ -10,10 +10,10 @@ use Rattle.dvg_items.specs.Seen.{seen_with}
 use Rattle.dvg_items.proofs.Lists.{all_left, all_right}
 use Rattle.dvg_items.proofs.Near.{next_further}
 use Rattle.dvg_check.specs.Private.Judging.{seen_by}
-use Rattle.dvg_check.specs.Private.Tails.{IsNearBox, first_seen, known_over}
+use Rattle.dvg_check.specs.Passing.{IsNearBox}
+use Rattle.dvg_check.specs.Private.Tails.{first_seen, known_over}
 use Rattle.dvg_check.proofs.TailLaws.{seen_over, seen_by_over, over_none}
 use Rattle.dvg_check.proofs.TailSizes.{IsNearBox-joined, IsNearBox-more, IsNearBox-moved}
-use Rattle.dvg_survey.specs.Private.Lighting.{IsLitFrom}
 use Rattle.dvg_survey.proofs.TailPoints.{relative_from, absolute_from, relative_from_both, absolute_from_both, relative_over, absolute_over, relative_least, absolute_least, both_least, and_none, no_relative, no_absolute}
 use Rattle.dvg_survey.proofs.Walking.{least_none}
 
@@ -153,49 +153,39 @@ module _ (rom : Rom) (list : List Entry) (key behind_key : Key) (i : Item) (next
 
   -- ---- the tail
 
-  pub before : (tail whole : LitFrom) (first : LitBox) → tail.addr ≡ next → tail.key ≡ behind_key → IsLitFrom rom list tail → next ≤ ADDRESS_END + 2
-      → whole.addr ≡ i.at → whole.key ≡ key → IsLeast alone first → IsNearBox 1 first
-      → IsJoined first (relative_part past.place tail.lit.relative) whole.lit.relative
-      → IsJoined tail.lit.absolute (absolute_part past.place tail.lit.relative) whole.lit.absolute
-      → ((n : ℕ) → IsNearBox n tail.lit.relative → IsNearBox (n + 1) (relative_part past.place tail.lit.relative)) → IsLitFrom rom list whole
-  before tail whole first at_next at_key t near at_item of_key lone small relative absolute moves =
+  pub before : (tail whole : Lit) (first : LitBox) → IsLitFrom rom list next behind_key tail → next ≤ ADDRESS_END + 2 → IsLeast alone first → IsNearBox 1 first
+      → IsJoined first (relative_part past.place tail.relative) whole.relative → IsJoined tail.absolute (absolute_part past.place tail.relative) whole.absolute
+      → ((n : ℕ) → IsNearBox n tail.relative → IsNearBox (n + 1) (relative_part past.place tail.relative)) → IsLitFrom rom list i.at key whole
+  before tail whole first t near lone small relative absolute moves =
       record {
         items = t.items ++ i ∷ [];
-        all = subst (λ (a : ℕ). AreAll Shape (rom_word rom) a (t.items ++ i ∷ [])) (sym at_item) (all_over t.items (subst (λ (a : ℕ). AreAll Shape (rom_word rom) a t.items) at_next t.all));
-        relative = subst (λ (k : Key). IsLeast (lit_points (keyed rom.machine list k) (t.items ++ i ∷ [])) whole.lit.relative) (sym of_key)
-            (both_least alone (relative_from past.place (lit_points (keyed rom.machine list behind_key) t.items)) (lit_points (keyed rom.machine list key) (t.items ++ i ∷ []))
-            first (relative_part past.place tail.lit.relative) whole.lit.relative relative lone
-            (relative_least past.place (lit_points (keyed rom.machine list behind_key) t.items) tail.lit.relative own_relative)
-            (λ box. relative_into box t.items) (λ box. relative_first box t.items) (λ box. relative_rest box t.items));
-        absolute = subst (λ (k : Key). IsLeast (absolute_points (keyed rom.machine list k) (t.items ++ i ∷ [])) whole.lit.absolute) (sym of_key)
-            (both_least (absolute_points (keyed rom.machine list behind_key) t.items) (absolute_from past.place (lit_points (keyed rom.machine list behind_key) t.items)) (absolute_points (keyed rom.machine list key) (t.items ++ i ∷ []))
-            tail.lit.absolute (absolute_part past.place tail.lit.relative) whole.lit.absolute absolute own_absolute
-            (absolute_least past.place (lit_points (keyed rom.machine list behind_key) t.items) tail.lit.relative own_relative)
-            (λ box. absolute_into box t.items) (λ box. absolute_rest box t.items) (λ box. absolute_part_of box t.items));
-        near = IsNearBox-more (ADDRESS_END + 2 - tail.addr + 1) (ADDRESS_END + 2 - whole.addr) whole.lit.relative (omega (arith, next_further Shape i next goes, near, at_next, at_item))
-            (IsNearBox-joined (ADDRESS_END + 2 - tail.addr + 1) first (relative_part past.place tail.lit.relative) whole.lit.relative
-            (IsNearBox-more 1 (ADDRESS_END + 2 - tail.addr + 1) first (omega arith) small) (moves (ADDRESS_END + 2 - tail.addr) t.near)
+        all = all_over t.items t.all;
+        relative = both_least alone (relative_from past.place (lit_points (keyed rom.machine list behind_key) t.items)) (lit_points (keyed rom.machine list key) (t.items ++ i ∷ []))
+            first (relative_part past.place tail.relative) whole.relative relative lone
+            (relative_least past.place (lit_points (keyed rom.machine list behind_key) t.items) tail.relative t.relative)
+            (λ box. relative_into box t.items) (λ box. relative_first box t.items) (λ box. relative_rest box t.items);
+        absolute = both_least (absolute_points (keyed rom.machine list behind_key) t.items) (absolute_from past.place (lit_points (keyed rom.machine list behind_key) t.items)) (absolute_points (keyed rom.machine list key) (t.items ++ i ∷ []))
+            tail.absolute (absolute_part past.place tail.relative) whole.absolute absolute t.absolute
+            (absolute_least past.place (lit_points (keyed rom.machine list behind_key) t.items) tail.relative t.relative)
+            (λ box. absolute_into box t.items) (λ box. absolute_rest box t.items) (λ box. absolute_part_of box t.items);
+        near = IsNearBox-more (ADDRESS_END + 2 - next + 1) (ADDRESS_END + 2 - i.at) whole.relative (omega (arith, next_further Shape i next goes, near))
+            (IsNearBox-joined (ADDRESS_END + 2 - next + 1) first (relative_part past.place tail.relative) whole.relative
+            (IsNearBox-more 1 (ADDRESS_END + 2 - next + 1) first (omega arith) small) (moves (ADDRESS_END + 2 - next) t.near)
             relative.first relative.second relative.least);
       }
-    where
-      own_relative : IsLeast (lit_points (keyed rom.machine list behind_key) t.items) tail.lit.relative
-      own_relative = subst (λ (k : Key). IsLeast (lit_points (keyed rom.machine list k) t.items) tail.lit.relative) at_key t.relative
-
-      own_absolute : IsLeast (absolute_points (keyed rom.machine list behind_key) t.items) tail.lit.absolute
-      own_absolute = subst (λ (k : Key). IsLeast (absolute_points (keyed rom.machine list k) t.items) tail.lit.absolute) at_key t.absolute
 
 -- an item that ends a shape is a tail alone
 module _ (rom : Rom) (list : List Entry) (key : Key) (i : Item) (is : cell_at (rom_word rom) i.at ≡ Holds i.format i.instr) (ends : next_address Shape i ≡ None) where
   all_alone : AreAll Shape (rom_word rom) i.at (i ∷ [])
   all_alone = record { stand = (refl, is); last = λ n h. let no : None ≡ Some n.at = sym ends ∙ h.0.2 in cc no }
 
-  pub ending : (whole : LitFrom) → i.at < ADDRESS_END → whole.addr ≡ i.at → whole.key ≡ key
-      → IsLeast (relative_corners (first_seen rom.machine list key i).extent (Rel (pos 0) (pos 0))) whole.lit.relative → IsNearBox 1 whole.lit.relative → whole.lit.absolute ≡ Empty → IsLitFrom rom list whole
-  ending whole near at_item of_key lone small none =
+  pub ending : (lit : LitBox) → i.at < ADDRESS_END → IsLeast (relative_corners (first_seen rom.machine list key i).extent (Rel (pos 0) (pos 0))) lit → IsNearBox 1 lit
+      → IsLitFrom rom list i.at key (record { relative = lit; absolute = Empty })
+  ending lit near lone small =
       record {
         items = i ∷ [];
-        all = subst (λ (a : ℕ). AreAll Shape (rom_word rom) a (i ∷ [])) (sym at_item) all_alone;
-        relative = subst (λ (k : Key). IsLeast (lit_points (keyed rom.machine list k) (i ∷ [])) whole.lit.relative) (sym of_key) (subst (λ (l : List Point). IsLeast l whole.lit.relative) (and_none (relative_corners (first_seen rom.machine list key i).extent (Rel (pos 0) (pos 0)))) lone);
-        absolute = subst (IsLeast []) (sym none) least_none;
-        near = IsNearBox-more 1 (ADDRESS_END + 2 - whole.addr) whole.lit.relative (omega (arith, near, at_item)) small;
+        all = all_alone;
+        relative = subst (λ (l : List Point). IsLeast l lit) (and_none (relative_corners (first_seen rom.machine list key i).extent (Rel (pos 0) (pos 0)))) lone;
+        absolute = least_none;
+        near = IsNearBox-more 1 (ADDRESS_END + 2 - i.at) lit (omega (arith, near)) small;
       }

@@ -7,7 +7,8 @@ use Rattle.dvg_items.specs.declared.lit.LitExtent.TheVariants.{Nothing, Between,
 use Rattle.dvg_items.specs.Lit.{IsInside, corners}
 use Rattle.dvg_items.proofs.LeastBoxes.{in_wider}
 use Rattle.dvg_items.proofs.Points.{origin_shift, shift_shift}
-use Rattle.dvg_check.specs.Private.Tails.{moved, place_over}
+use Rattle.dvg_check.specs.Passing.{moved}
+use Rattle.dvg_check.specs.Private.Tails.{place_over}
 use Rattle.dvg_survey.proofs.Walking.{least_none}
 
 -- ---- points, seen from a place

@@ -16,15 +16,15 @@ ghost use Rattle.dvg_items.specs.Bounds.{IsNearExtent, IsNearPlace, IsSomeCertif
 ghost use Rattle.dvg_items.specs.Known.{shape_context};
 ghost use Rattle.dvg_items.specs.Least.{IsLeast};
 ghost use Rattle.dvg_items.specs.Lit.{relative_corners};
-ghost use Rattle.dvg_check.specs.Private.Tails.{IsNearBox};
+ghost use Rattle.dvg_check.specs.Passing.{IsNearBox};
 ghost use Rattle.dvg_survey.specs.Calls.{IsExtent, IsShapesExtent};
 ghost use Rattle.dvg_survey.specs.Private.Lighting.{IsLitFrom, AreTails, AreJoined, relative_part, absolute_part};
 
 use crate::items::{WalkContext, extent_from};
 use dvg_cert::{Cert, End, Entries, Entry, Key, LitBox};
-use dvg_check::{KEYS, Keys, Needed, SLOTS, key_of, moved, slot_of};
+use dvg_check::{Kept, Needed, SLOTS, keep, kept_at, moved};
 use dvg_items::{Cursor, Item, Kind, LitExtent, callee, joined, spanning, target};
-use dvg_words::{Cell, Point, RomImage, read_cell};
+use dvg_words::{Point, RomImage};
 
 /// The least boxes of what is lit at relative places and of what is lit at absolute places.
 #[derive(Clone, Copy)]
@@ -33,20 +33,8 @@ pub struct Lit {
     pub absolute: LitBox,
 }
 
-/// What a shape lights that starts at a word address and a key.
-#[derive(Clone, Copy)]
-pub struct LitFrom {
-    pub addr: u16,
-    pub key: Key,
-    pub lit: Lit,
-}
-
-/// What is lit from the words on that were gone over last, each in the slot of its address and key. A slot may still hold what is
-/// lit from a later word on, so each has its own address and key to compare.
-#[derive(Drop)]
-pub struct Tails {
-    pub slots: [Option<LitFrom>; SLOTS],
-}
+/// What is lit from the words on that were gone over last.
+type Tails = [Option<Kept<Lit>>; SLOTS];
 
 /// The least box of what an item lights, seen from the place before it. It is empty where the scale is unknown.
 fn lit_alone(extent: &LitExtent) -> LitBox
@@ -87,40 +75,6 @@ fn lit_over(alone: &LitBox, place: &End, tail: &Lit) -> Lit
     }
 }
 
-impl Tails {
-    /// Empty slots.
-    fn new() -> Tails
-        ensures { (rom : Rom) (list : List Entry) → AreTails rom list result.slots }
-    {
-        Tails {
-            slots: [None; SLOTS],
-        }
-    }
-
-    /// What is lit from a word address on at a key, if it was made.
-    fn get(&self, at: u16, key: Key) -> Option<&LitFrom>
-        requires { IsKey key }
-        ensures addr { IfSome result (λ tail. tail.now.addr ≡ at) }
-        ensures key { IfSome result (λ tail. tail.now.key ≡ key) }
-        ensures tail { (rom : Rom) (list : List Entry) → AreTails rom list self.now.slots → IfSome result (λ tail. IsLitFrom rom list tail.now) }
-    {
-        let tail = self.slots[slot_of(at, key)].as_ref()?;
-        if tail.addr == at && tail.key == key {
-            Some(tail)
-        } else {
-            None
-        }
-    }
-
-    /// Puts what is lit from a word address on into its slot.
-    fn keep(&mut self, tail: LitFrom)
-        requires { IsKey tail.key }
-        ensures { (rom : Rom) (list : List Entry) → AreTails rom list self.old.slots → IsLitFrom rom list tail → AreTails rom list self.new.slots }
-    {
-        self.slots[slot_of(tail.addr, tail.key)] = Some(tail);
-    }
-}
-
 /// What is lit from an item on at a key. `None` where it was not made for what stands behind the item. The ROM, in which the item
 /// stands, serves the contract alone.
 fn tail_at<E: Entries>(
@@ -129,15 +83,14 @@ fn tail_at<E: Entries>(
     item: &Item,
     key: Key,
     tails: &Tails,
-) -> Option<LitFrom>
+) -> Option<Lit>
     requires entries { IsSomeCertificate (E.list entries.now) }
     requires key { IsKey key }
     requires there { cell_at (rom_word rom.now) item.now.at ≡ Holds item.now.format item.now.instr }
     requires near { item.now.at < ADDRESS_END }
     requires fields { InstrFits item.now.instr }
-    requires tails { AreTails rom.now (E.list entries.now) tails.now.slots }
-    ensures tail { IfSome result (IsLitFrom rom.now (E.list entries.now)) }
-    ensures key { IfSome result (λ tail. IsKey tail.key) }
+    requires tails { AreTails rom.now (E.list entries.now) tails.now }
+    ensures { IfSome result (IsLitFrom rom.now (E.list entries.now) item.now.at key) }
 {
     // What is seen of the first item doesn't depend on where it stands.
     let callee = callee(entries, target(Kind::Shape, &item.instr), key);
@@ -148,43 +101,15 @@ fn tail_at<E: Entries>(
         callee,
     );
     let alone = lit_alone(&seen.extent);
-    let lit = match item.next_address(Kind::Shape) {
+    match item.next_address(Kind::Shape) {
         Some(next) => {
-            let tail = tails.get(next, seen.after.scale)?;
-            lit_over(&alone, &seen.after.place, &tail.lit)
+            let tail = kept_at(tails, next, seen.after.scale)?;
+            Some(lit_over(&alone, &seen.after.place, tail))
         }
-        None => Lit {
+        None => Some(Lit {
             relative: alone,
             absolute: LitBox::Empty,
-        },
-    };
-    Some(LitFrom {
-        addr: item.at,
-        key,
-        lit,
-    })
-}
-
-/// Makes what is lit from a word address on, at these keys. It was made for later words before.
-fn make_tails<E: Entries>(rom: &RomImage, entries: &E, at: u16, keys: Keys, tails: &mut Tails)
-    requires entries { IsSomeCertificate (E.list entries.now) }
-    requires near { at < ADDRESS_END }
-    requires tails { AreTails rom.now (E.list entries.now) tails.old.slots }
-    ensures { AreTails rom.now (E.list entries.now) tails.new.slots }
-{
-    let Cell::Holds { format, instr } = read_cell(rom, at) else {
-        return;
-    };
-    let item = Item { at, format, instr };
-    for index in keys.first()..KEYS {
-        if keys.has_none_from(index) {
-            break;
-        }
-        if keys.has(index) {
-            if let Some(tail) = tail_at(rom, entries, &item, key_of(index), tails) {
-                tails.keep(tail);
-            }
-        }
+        }),
     }
 }
 
@@ -200,15 +125,17 @@ fn make_all<E: Entries>(
 )
     requires entries { IsSomeCertificate (E.list entries.now) }
     requires to { to ≤ ADDRESS_END }
-    requires tails { AreTails rom.now (E.list entries.now) tails.old.slots }
-    ensures { AreTails rom.now (E.list entries.now) tails.new.slots }
+    requires tails { AreTails rom.now (E.list entries.now) tails.old }
+    ensures { AreTails rom.now (E.list entries.now) tails.new }
 {
     let mut at = to;
-    'places: while from < at {
-        at -= 1;
-        let keys = needed.keys_at(at);
-        if !keys.is_empty() {
-            make_tails(rom, entries, at, keys, tails);
+    'places: while let Some((item, keys)) = needed.last_between(rom, from, at) {
+        at = item.at;
+        let mut left = keys;
+        'keys: while let Some(key) = left.take_first() {
+            if let Some(tail) = tail_at(rom, entries, &item, key, tails) {
+                keep(tails, at, key, tail);
+            }
         }
     }
 }
@@ -219,11 +146,11 @@ fn extent_of<E: Entries>(rom: &RomImage, entries: &E, entry: &Entry, tails: &Tai
     requires entries { IsSomeCertificate (E.list entries.now) }
     requires addr { entry.now.addr < ADDRESS_END }
     requires key { IsKey entry.now.key }
-    requires tails { AreTails rom.now (E.list entries.now) tails.now.slots }
+    requires tails { AreTails rom.now (E.list entries.now) tails.now }
     ensures { IsExtent (shape_context rom.now.machine (E.list entries.now) entry.now) (rom_word rom.now) entry.now.addr result }
 {
-    match tails.get(entry.addr, entry.key) {
-        Some(tail) => tail.lit.absolute,
+    match kept_at(tails, entry.addr, entry.key) {
+        Some(tail) => tail.absolute,
         None => extent_from(rom, entries, &WalkContext::shape(entry)),
     }
 }
@@ -237,9 +164,9 @@ pub fn shapes_extent<E: Entries>(rom: &RomImage, cert: &Cert, entries: &E) -> Li
 {
     let list = cert.entries();
     let needed = Needed::for_entries(rom, entries, list);
-    let mut tails = Tails::new();
+    let mut tails = [None; SLOTS];
     let mut lit = LitBox::Empty;
-    let mut at = needed.end.min(rom.map().last() + 1);
+    let mut at = needed.end;
     let mut left = list.len();
     'entries: while left > 0 {
         left -= 1;

@@ -1,8 +1,7 @@
 -- Tails: the part of a shape from a word on, as the entry that claims exactly what it does. No rule stands here.
 use Rattle.dvg_words.specs.declared.machine.Machine.{Machine}
-use Rattle.std.specs.Prelude.{◌≡◌, ◌≢◌, ◌+◌, ◌-◌, ◌*◌, ◌≤◌, max, ◌+ℤ◌, ℕ, List, Option, Some, None, slice_index_or}
+use Rattle.std.specs.Prelude.{◌≡◌, ◌≢◌, ◌+◌, ◌-◌, ◌≤◌, max, ℕ, List, Option, Some}
 use Rattle.dvg_words.specs.Values.{Window}
-use Rattle.dvg_words.specs.declared.beam.Point.{Point}
 use Rattle.dvg_words.specs.declared.map.TheConstants.{ADDRESS_END}
 use Rattle.dvg_words.specs.Memory.{Rom, rom_word}
 use Rattle.dvg_words.specs.Beam.{InWindow}
@@ -11,13 +10,11 @@ use Rattle.dvg_words.specs.declared.instruction.Cell.TheVariants.{Holds}
 use Rattle.dvg_words.specs.Decoding.{cell_at}
 use Rattle.dvg_cert.specs.Entry.{IsKey}
 use Rattle.dvg_cert.specs.declared.entry.Key.{Key}
-use Rattle.dvg_cert.specs.declared.entry.Key.TheVariants.{At, Any}
 use Rattle.dvg_cert.specs.declared.entry.End.{End}
 use Rattle.dvg_cert.specs.declared.entry.End.TheVariants.{Rel, Abs, Lost}
 use Rattle.dvg_cert.specs.declared.entry.LitBox.{LitBox}
 use Rattle.dvg_cert.specs.declared.entry.LitBox.TheVariants.{Empty, Span}
 use Rattle.dvg_cert.specs.declared.entry.Entry.{Entry}
-use Rattle.dvg_cert.specs.declared.limits.TheConstants.{MOST_WORDS}
 use Rattle.dvg_items.specs.declared.item.Kind.TheVariants.{Shape}
 use Rattle.dvg_items.specs.declared.item.Item.{Item}
 use Rattle.dvg_items.specs.declared.known.Known.{Known}
@@ -25,10 +22,12 @@ use Rattle.dvg_items.specs.Items.{next_address}
 use Rattle.dvg_items.specs.Known.{place_past, stop_effect, start, target}
 use Rattle.dvg_items.specs.Lit.{ScaleKnown, LitInBox, IsInside}
 use Rattle.dvg_items.specs.Seen.{HasCallee}
-use Rattle.dvg_items.specs.Bounds.{IsNear, IsNearPlace}
+use Rattle.dvg_items.specs.Bounds.{IsFewWords, IsNearPlace}
 use Rattle.dvg_check.specs.Rules.{Mode, Seen, GoodShape}
 use Rattle.dvg_check.specs.Behaving.{Counts}
+use Rattle.dvg_check.specs.Passing.{AllKept, IsNearBox, Kept, moved}
 use Rattle.dvg_check.specs.Private.Judging.{seen_by}
+pub use Rattle.dvg_check.specs.declared.tail.Tail.{Tail}
 
 -- ---- what is claimed
 
@@ -52,6 +51,14 @@ abbrev pub claimed : ℕ → Key → LitBox → Known → Entry
 claimed addr key lit end =
     record { addr = addr; key = key; stop = end.place; lit = lit; depth = end.depth; words = end.words; scale = end.scale }
 
+-- what is known at the end of a tail
+abbrev pub end_of : Tail → Known
+end_of t = record { place = t.stop; scale = t.scale; words = t.words; depth = t.depth }
+
+-- the tail at this address and key, as the entry that claims it
+abbrev pub entry_of : ℕ → Key → Tail → Entry
+entry_of addr key t = claimed addr key t.lit (end_of t)
+
 -- ---- an item and what stands behind it
 
 -- the place past a tail that starts at this place and has this end: the same as past a call
@@ -71,11 +78,6 @@ known_over first second =
 -- the first item of a shape at this key, as the rules see it
 abbrev pub first_seen : Machine → List Entry → Key → Item → Seen
 first_seen machine list key i = seen_by machine list Shape (start Shape key) i
-
--- a box, moved
-abbrev pub moved : LitBox → Point → LitBox
-moved Empty d = Empty
-moved (Span x_min x_max y_min y_max) d = Span (x_min +ℤ d.x) (x_max +ℤ d.x) (y_min +ℤ d.y) (y_max +ℤ d.y)
 
 -- both corners of the box are in the window
 abbrev pub BoxInWindow : Window → LitBox → Type 0
@@ -113,35 +115,21 @@ last_item machine list key box i = claimed i.at key box (first_seen machine list
 abbrev pub after_item : Machine → List Entry → Key → LitBox → Item → Entry → Entry
 after_item machine list key box i tail = claimed i.at key box (known_over (first_seen machine list key i).after (known_at_end tail))
 
--- ---- keys
-
--- the number of a key, 0 to 16
-abbrev pub key_number : Key → ℕ
-key_number (At scale) = scale
-key_number Any = 16
-
 -- ---- tails, and how large their numbers are
 
--- the corners of the box are no further from 0 than n items can move them
-abbrev pub IsNearBox : ℕ → LitBox → Type 0
-IsNearBox n Empty = Unit {0}
-IsNearBox n (Span x_min x_max y_min y_max) =
-    IsNear n (record { x = x_min; y = y_min }) × IsNear n (record { x = x_max; y = y_max })
+-- the numbers of a tail are within the limits for n items
+pub record IsSmall (n : ℕ) (t : Tail) : Type 0 where
+  pub stop : IsNearPlace n t.stop
+  pub scale : IsKey t.scale
+  pub words : IsFewWords n t.words
+  pub depth : t.depth ≤ 4
+  pub lit : IsNearBox n t.lit
 
--- the numbers of an entry are within the limits for a shape of n items
-pub record IsSmall (n : ℕ) (e : Entry) : Type 0 where
-  pub key : IsKey e.key
-  pub stop : IsNearPlace n e.stop
-  pub scale : IsKey e.scale
-  pub words : e.words ≤ (MOST_WORDS + 2) * n
-  pub depth : e.depth ≤ 4
-  pub lit : IsNearBox n e.lit
-
--- the entry is good in each mode, and its numbers are within the limits for the items that may stand from its address on
-pub record IsTail (w : Window) (rom : Rom) (list : List Entry) (tail : Entry) : Type 0 where
-  pub good : (mode : Mode) → GoodShape mode w rom list tail
-  pub small : IsSmall (ADDRESS_END + 2 - tail.addr) tail
+-- the tail is good in each mode, and its numbers are within the limits for the items that may stand from its address on
+pub record IsTail (w : Window) (rom : Rom) (list : List Entry) (addr : ℕ) (key : Key) (t : Tail) : Type 0 where
+  pub good : (mode : Mode) → GoodShape mode w rom list (entry_of addr key t)
+  pub small : IsSmall (ADDRESS_END + 2 - addr) t
 
 -- each of these slots is empty or holds a tail
-abbrev pub AreTails : Window → Rom → List Entry → List (Option Entry) → Type 0
-AreTails w rom list slots = (k : ℕ) (tail : Entry) → slice_index_or slots k None ≡ Some tail → IsTail w rom list tail
+abbrev pub AreTails : Window → Rom → List Entry → List (Option (Kept Tail)) → Type 0
+AreTails w rom list slots = AllKept (IsTail w rom list) slots

@@ -2,7 +2,7 @@
 use Rattle.std.specs.Prelude.{◌≡◌, ◌+◌, ◌*◌, ℕ, List, Bool, true, false, get_or, set}
 use Rattle.dvg_cert.specs.Entry.{IsKey}
 use Rattle.dvg_cert.specs.declared.entry.Key.{Key}
-use Rattle.dvg_check.specs.Private.Tails.{key_number}
+use Rattle.dvg_check.specs.Passing.{key_number}
 pub use Rattle.dvg_survey.specs.declared.keyed_words.TheConstants.{MOST_KEYED_WORDS}
 
 -- a word address, and the known scale there, or the key of an entry

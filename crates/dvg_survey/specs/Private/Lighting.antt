@@ -1,6 +1,6 @@
 -- What shapes light from a word on, seen from the place there.
 use Rattle.dvg_words.specs.declared.machine.Machine.{Machine}
-use Rattle.std.specs.Prelude.{◌≡◌, ◌+◌, ◌-◌, ℕ, List, Option, None, Some, slice_index_or}
+use Rattle.std.specs.Prelude.{◌+◌, ◌-◌, ℕ, List, Option}
 use Rattle.dvg_words.specs.Memory.{Rom, rom_word}
 use Rattle.dvg_words.specs.declared.map.TheConstants.{ADDRESS_END}
 use Rattle.dvg_cert.specs.declared.entry.End.{End}
@@ -14,9 +14,9 @@ use Rattle.dvg_items.specs.declared.item.Kind.TheVariants.{Shape}
 use Rattle.dvg_items.specs.Known.{Context}
 use Rattle.dvg_items.specs.Least.{IsLeast, lit_points, absolute_points}
 use Rattle.dvg_items.specs.Lit.{IsInside}
-use Rattle.dvg_check.specs.Private.Tails.{IsNearBox, moved}
+use Rattle.dvg_check.specs.Passing.{AllKept, IsNearBox, moved}
+use Rattle.dvg_check.specs.declared.slots.Kept.{Kept}
 use Rattle.dvg_survey.specs.Calls.{AreAll}
-pub use Rattle.dvg_survey.specs.declared.tails.LitFrom.{LitFrom}
 pub use Rattle.dvg_survey.specs.declared.tails.Lit.{Lit}
 
 -- what is lit from a place, where this box is lit at relative places: at relative places, and at absolute ones
@@ -41,13 +41,13 @@ abbrev pub keyed : Machine → List Entry → Key → Context
 keyed machine list key = record { kind = Shape; machine = machine; list = list; scale = key }
 
 -- the boxes are the least ones of what all items from the address on light, and their numbers are within the limits
-pub record IsLitFrom (rom : Rom) (list : List Entry) (t : LitFrom) : Type 0 where
+pub record IsLitFrom (rom : Rom) (list : List Entry) (addr : ℕ) (key : Key) (lit : Lit) : Type 0 where
   pub items : List Item
-  pub all : AreAll Shape (rom_word rom) t.addr items
-  pub relative : IsLeast (lit_points (keyed rom.machine list t.key) items) t.lit.relative
-  pub absolute : IsLeast (absolute_points (keyed rom.machine list t.key) items) t.lit.absolute
-  pub near : IsNearBox (ADDRESS_END + 2 - t.addr) t.lit.relative
+  pub all : AreAll Shape (rom_word rom) addr items
+  pub relative : IsLeast (lit_points (keyed rom.machine list key) items) lit.relative
+  pub absolute : IsLeast (absolute_points (keyed rom.machine list key) items) lit.absolute
+  pub near : IsNearBox (ADDRESS_END + 2 - addr) lit.relative
 
 -- each of these slots is empty or holds what is lit from a word on
-abbrev pub AreTails : Rom → List Entry → List (Option LitFrom) → Type 0
-AreTails rom list slots = (k : ℕ) (tail : LitFrom) → slice_index_or slots k None ≡ Some tail → IsLitFrom rom list tail
+abbrev pub AreTails : Rom → List Entry → List (Option (Kept Lit)) → Type 0
+AreTails rom list slots = AllKept (IsLitFrom rom list) slots

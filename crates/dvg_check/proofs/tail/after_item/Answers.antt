@@ -1,4 +1,4 @@
-use Rattle.std.proofs.Common.{arith, subst, sym, ◌+◌}
+use Rattle.dvg_check.proofs.Common.{arith, subst, sym, ◌+◌}
 use Rattle.dvg_items.specs.Bounds.{IsNearPlace}
 use Rattle.dvg_check.proofs.TailSizes.{IsNearPlace-over, IsNearBox-joined, IsNearBox-more}
 use Rattle.dvg_check.proofs.tail.after_item.Goals as goal
@@ -6,7 +6,6 @@ use Rattle.dvg_check.proofs.tail.after_item.Goals as goal
 pub returns-clause-small : goal.returns-clause-small
 returns-clause-small c =
     λ n tail. record {
-      key = c.requires.item.key;
       stop = subst (IsNearPlace (n + 1)) (sym c.stop_over.ensures) (IsNearPlace-over n c.args.item.now.stop c.args.tail.now.stop c.requires.item.stop tail.stop);
       scale = tail.scale;
       words = omega (arith, c.requires.item.words, tail.words);

@@ -1,26 +1,24 @@
-use Rattle.dvg_check.proofs.Common.{arith, List, pos, refl, sym, subst, get_or, take, ◌≡◌, ◌-◌, ◌≤◌, ◌<◌, ℕ, ⊎_elim, cases_lt, AllByRecursion, Rel, Entry, At, Empty, GoodShape}
+use Rattle.dvg_check.proofs.Common.{arith, List, refl, sym, subst, get_or, take, ◌≡◌, ◌-◌, ◌≤◌, ◌<◌, ℕ, ⊎_elim, cases_lt, AllByRecursion, Entry, IsTail, GoodShape}
 use Rattle.std.proofs.lemmas.List.{get_or_default}
+use Rattle.dvg_check.specs.declared.slots.TheConstants.{SLOTS}
+use Rattle.dvg_check.proofs.Listed.{no_entry}
 use Rattle.dvg_check.proofs.TailRows.{all_take, claim_at, none_kept}
 use Rattle.dvg_check.proofs.tails.first_doubtful.Goals as goal
-
--- what stands for an entry past the end
-abbrev none : Entry
-none = record { addr = 0; key = At 0; stop = Rel (pos 0) (pos 0); lit = Empty; depth = 0; words = 0; scale = At 0 }
 
 pub entries-init : goal.entries-init
 entries-init g c =
     record {
-      near = omega arith;
+      near = c.for_entries-needed.ensures;
       before = omega arith;
       few = omega arith;
-      tails = none_kept c.args.window.now c.args.rom.now (g.E.Entries.list c.args.entries.now) 68;
+      tails = none_kept (IsTail c.args.window.now c.args.rom.now (g.E.Entries.list c.args.entries.now)) SLOTS;
       good = λ k past le lt. absurd (omega (arith, le, lt));
     }
 
 pub entries-preserved : goal.entries-preserved
 entries-preserved g c =
     record {
-      near = omega (arith, (claim_at c.args.list.now (c.entries.left - 1) none c.requires.certificate (omega (arith, c.entries.invariant.before, c.entries-test.true))).addr);
+      near = omega (arith, (claim_at c.args.list.now (c.entries.left - 1) no_entry c.requires.certificate (omega (arith, c.entries.invariant.before, c.entries-test.true))).addr);
       before = omega (arith, c.entries.invariant.before);
       few = c.entries.invariant.few;
       tails = c.make_all.ensures;
@@ -29,7 +27,7 @@ entries-preserved g c =
           (λ (less : k < c.entries.left).
           let same : k ≡ c.entries.left - 1 = omega (arith, le, less, c.entries-test.true) in
           subst (λ (j : ℕ). GoodShape c.args.mode c.args.window.now c.args.rom.now (g.E.Entries.list c.args.entries.now) (get_or c.args.list.now j past)) (sym same)
-          (subst (GoodShape c.args.mode c.args.window.now c.args.rom.now (g.E.Entries.list c.args.entries.now)) (get_or_default c.args.list.now (c.entries.left - 1) none past (omega (arith, c.entries.invariant.before, c.entries-test.true)))
+          (subst (GoodShape c.args.mode c.args.window.now c.args.rom.now (g.E.Entries.list c.args.entries.now)) (get_or_default c.args.list.now (c.entries.left - 1) no_entry past (omega (arith, c.entries.invariant.before, c.entries-test.true)))
           (c.if-not-shows.ensures c.args.window.now c.args.rom.now (g.E.Entries.list c.args.entries.now) c.make_all.ensures refl)))
           (λ (more : c.entries.left ≤ k). c.entries.invariant.good k past more lt)
           (cases_lt k c.entries.left);

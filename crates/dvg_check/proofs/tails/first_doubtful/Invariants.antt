@@ -7,7 +7,7 @@ invariant-entries g l = record {
   near : l.at ≤ ADDRESS_END;
   before : l.left ≤ length l.list;
   few : l.doubtful ≤ length l.list;
-  tails : AreTails l.window l.rom (g.E.Entries.list l.entries) l.tails.slots;
+  tails : AreTails l.window l.rom (g.E.Entries.list l.entries) l.tails;
   good : (k : ℕ) (past : Entry) → l.left ≤ k → k < l.doubtful → GoodShape l.mode l.window l.rom (g.E.Entries.list l.entries) (get_or l.list k past);
 }
 

@@ -1,4 +1,4 @@
-use Rattle.dvg_check.proofs.Common.{arith, sym, ap, Some, ◌≡◌, ◌+◌, ◌-◌, ◌≤◌, ◌∙◌, ADDRESS_END, Entry, next_address, Shape}
+use Rattle.dvg_check.proofs.Common.{arith, sym, ◌∙◌, ◌+◌, ◌-◌, ADDRESS_END, Shape}
 use Rattle.dvg_items.proofs.Near.{next_near}
 use Rattle.dvg_check.proofs.TailSizes.{IsSmall-more}
 use Rattle.dvg_check.proofs.TailSteps.{alone, before_some}
@@ -6,19 +6,16 @@ use Rattle.dvg_check.proofs.tails.tail_at.Goals as goal
 
 pub after_item-requires-clause-tail : goal.after_item-requires-clause-tail
 after_item-requires-clause-tail g c =
-    let tail : Entry = c.in_ok-tail_kept-in-Some.field-0.now in
-    IsSmall-more (ADDRESS_END + 2 - tail.addr) (ADDRESS_END + 2) tail (omega arith) (c.in_ok-tail_kept-in-Some.ensures.tail c.args.window.now c.args.rom.now (g.E.Entries.list c.args.entries.now) c.requires.tails).small
+    IsSmall-more (ADDRESS_END + 2 - c.in-Some.next) (ADDRESS_END + 2) c.in_ok-kept_at-in-Some.field-0.now (omega arith) (c.requires.tails _ c.in_ok-kept_at-in-Some.ensures).small
 
-pub returns-in_ok-tail_kept-in-Some : goal.returns-in_ok-tail_kept-in-Some
-returns-in_ok-tail_kept-in-Some g c =
+pub returns-in_ok-kept_at-in-Some : goal.returns-in_ok-kept_at-in-Some
+returns-in_ok-kept_at-in-Some g c =
     let h = c.in_ok-first.ensures in
-    let t = c.in_ok-tail_kept-in-Some.ensures in
     let e = c.after_item.ensures in
-    let tail : Entry = c.in_ok-tail_kept-in-Some.field-0.now in
-    let goes : next_address Shape c.args.item.now ≡ Some tail.addr = sym c.next_address.ensures ∙ c.in-Some.is ∙ ap Some (sym t.addr) in
-    let near : tail.addr ≤ ADDRESS_END + 2 = next_near Shape c.args.item.now.at c.args.item.now.format c.args.item.now.instr tail.addr c.requires.near c.requires.fields goes in
+    let goes = sym c.next_address.ensures ∙ c.in-Some.is in
+    let near = next_near Shape c.args.item.now.at c.args.item.now.format c.args.item.now.instr c.in-Some.next c.requires.near c.requires.fields goes in
     before_some c.args.window.now c.args.rom.now (g.E.Entries.list c.args.entries.now) c.args.key c.args.item.now c.in_ok-first.first (rw c.machine.ensures at h.value) (h.stands c.args.rom.now (sym c.machine.ensures) c.requires.there)
-    tail c.after_item.result goes t.key (t.tail c.args.window.now c.args.rom.now (g.E.Entries.list c.args.entries.now) c.requires.tails) e.value e.item e.tail e.small near
+    c.in-Some.next c.in_ok-kept_at-in-Some.field-0.now c.after_item.result goes (c.requires.tails _ c.in_ok-kept_at-in-Some.ensures) e.value e.item e.tail e.small near
 
 pub returns-in-None : goal.returns-in-None
 returns-in-None g c =

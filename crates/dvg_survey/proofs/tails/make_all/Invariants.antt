@@ -1,8 +1,15 @@
-use Rattle.dvg_survey.proofs.Common.{◌-◌, ◌≤◌, ADDRESS_END, AreTails}
+use Rattle.dvg_survey.proofs.Common.{◌≤◌, ADDRESS_END, AreTails}
+use Rattle.dvg_check.specs.Passing.{set_number}
 use Rattle.dvg_survey.proofs.tails.make_all.Given as goal
 
 abbrev pub invariant-places : goal.invariant-places
-invariant-places g l = record { near : l.at ≤ ADDRESS_END; tails : AreTails l.rom (g.E.Entries.list l.entries) l.tails.slots }
+invariant-places g l = record { near : l.at ≤ ADDRESS_END; tails : AreTails l.rom (g.E.Entries.list l.entries) l.tails }
 
 abbrev pub decreases-places : goal.decreases-places
-decreases-places g l = l.at - l.from
+decreases-places g l = l.at
+
+abbrev pub invariant-keys : goal.invariant-keys
+invariant-keys g l = record { tails : AreTails l.rom (g.E.Entries.list l.entries) l.tails }
+
+abbrev pub decreases-keys : goal.decreases-keys
+decreases-keys g l = set_number l.left

@@ -7,7 +7,7 @@ abbrev pub invariant-entries : goal.invariant-entries
 invariant-entries g l = record {
   near : l.at ≤ ADDRESS_END;
   before : l.left ≤ length l.list;
-  tails : AreTails l.rom (g.E.Entries.list l.entries) l.tails.slots;
+  tails : AreTails l.rom (g.E.Entries.list l.entries) l.tails;
   boxed : Boxed l.rom l.cert.entries l.left l.lit;
 }
 

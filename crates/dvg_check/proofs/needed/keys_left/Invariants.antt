@@ -1,0 +1,5 @@
+use Rattle.dvg_check.specs.Passing.{set_number}
+use Rattle.dvg_check.proofs.needed.keys_left.Given as goal
+
+abbrev pub decreases-keys : goal.decreases-keys
+decreases-keys g l = set_number l.before
