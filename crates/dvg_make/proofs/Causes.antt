@@ -1,12 +1,12 @@
 -- The cause of a refusal, told of roots and frames.
 use Rattle.dvg_make.proofs.Common.{◌≡◌, ℕ, zero, suc, List, [], ◌∷◌, Option, Some, None, refl, sym, ◌∙◌, subst, slice_get, Rom, Key, Any, Shape, EntryCause, HasCause, HasCallCause, EntryFault, Unstraight, Deep, TooManyWords, TooManyEntries, Memory, FrameCall, shapes, IsToldOf}
 use Rattle.dvg_items.specs.Known.{start}
-use Rattle.dvg_make.specs.declared.obstacle.BlockedCall.{BlockedCall}
+use Rattle.dvg_make.specs.declared.obstacle.Blocked.{Blocked}
 use Rattle.dvg_make.specs.declared.account.EntryCause.TheVariants as cause
 use Rattle.dvg_make.specs.Accounts.{MakeAccount, UnlessMemory, IsAccount, IsTold, HasRootCause, entry_fault}
 use Rattle.dvg_make.specs.Judging.{refusal_at}
 use Rattle.dvg_make.specs.Refusals.{FramesFault, make_fault_of}
-use Rattle.dvg_make.specs.Private.Making.{blocked_fault}
+use Rattle.dvg_make.specs.Private.Making.{blocked_fault, IsRefused}
 
 unless_map : (c : EntryCause) (S T : Type 0) → (S → T) → UnlessMemory c S → UnlessMemory c T
 unless_map cause.Memory S T f h = tt
@@ -36,15 +36,15 @@ unless cause.TooManyEntries T t = t
 
 module _ (rom : Rom) (roots : List (ℕ × Key)) (frames : List (List ℕ)) where
   -- where the making stopped
-  pub stuck_cause : (refusal : BlockedCall) → IsToldOf rom roots frames refusal.call refusal.blocked.chain refusal.blocked.obstacle → HasCause rom roots frames (blocked_fault refusal)
-  stuck_cause refusal told =
+  pub stuck_cause : (blocked : Blocked) → IsRefused rom roots frames blocked → HasCause rom roots frames (blocked_fault blocked)
+  stuck_cause blocked refused =
       record {
-        chain = shapes refusal.blocked.chain;
-        at = refusal.blocked.obstacle.cursor.at;
-        before = refusal.blocked.obstacle.cursor.known;
-        cause = refusal.blocked.obstacle.cause;
+        chain = shapes blocked.chain;
+        at = blocked.obstacle.cursor.at;
+        before = blocked.obstacle.cursor.known;
+        cause = blocked.obstacle.cause;
         why_is = refl;
-        told = unless refusal.blocked.obstacle.cause (IsToldOf rom roots frames refusal.call refusal.blocked.chain refusal.blocked.obstacle) told;
+        told = unless blocked.obstacle.cause (IsToldOf rom roots frames blocked.call blocked.chain blocked.obstacle) refused.told;
       }
 
   -- where memory was out

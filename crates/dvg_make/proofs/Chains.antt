@@ -1,6 +1,6 @@
 -- The shapes in the making, and the entries that every made list has for them.
-use Rattle.dvg_make.proofs.Common.{◌≡◌, ℕ, zero, suc, ◌+◌, ◌<◌, ◌≤◌, List, [], ◌∷◌, ◌++◌, length, Option, Some, None, refl, sym, ap, ◌∙◌, subst, arith, ◌⊎◌, inl, inr, ⊎_elim, length-append, Bool, true, false, if◌then◌else◌, Contains, Rom, rom_word, IsEntry, option_or, is_at, entry_at, Entry, Key, at_holds, LeadsTo, shape_context, scale_before, Item, Shape, Known, MOST_WORDS, PartialEntry, MadeEntry, keyed_context, start, IsPartial, Extends, IsFinished, IsWaiting, IsMaking, ArePartial, Chain, Apart, IsPresent, IsCalled, IsAim, NoAim, InProgress, listed_at}
-use Rattle.dvg_make.specs.Private.Partial.{NeverAt}
+use Rattle.dvg_make.proofs.Common.{◌≡◌, ℕ, zero, suc, ◌+◌, ◌<◌, ◌≤◌, List, [], ◌∷◌, ◌++◌, length, Option, Some, None, refl, sym, ap, ◌∙◌, subst, arith, ◌⊎◌, inl, inr, ⊎_elim, length-append, Bool, true, false, if◌then◌else◌, Contains, Rom, rom_word, IsEntry, option_or, is_at, entry_at, Entry, Key, at_holds, LeadsTo, shape_context, scale_before, Item, Shape, Known, MOST_ENTRIES, MOST_WORDS, PartialEntry, MadeEntry, keyed_context, start, IsPartial, Extends, IsFinished, IsWaiting, IsMaking, ArePartial, Chain, Apart, IsPresent, IsCalled, IsAim, NoAim, IsDone, InProgress, listed_at}
+use Rattle.dvg_make.specs.Private.Partial.{NeverAt, IsTail}
 use Rattle.dvg_make.specs.Private.Making.{IsUnique, IsGiven}
 use Rattle.dvg_make.proofs.Matching.{entry_at-append}
 use Rattle.dvg_make.proofs.Ends.{callee_less, made_some}
@@ -209,6 +209,18 @@ unique_more (x ∷ done) e u none = by_test (is_at e.addr e.key x) refl none (λ
     by_test true q n more = cc n
     by_test false q n more = (entry_at-append done (e ∷ []) x.addr x.key ∙ ap (λ o. option_or o (entry_at (e ∷ []) x.addr x.key)) u.0 ∙ find_one e x.addr x.key (not_same q), more n)
 
+-- one made entry more
+pub done_more : (rom : Rom) (done : List Entry) (e : Entry) → IsDone rom done → IsTail rom done e → entry_at done e.addr e.key ≡ None → length done < MOST_ENTRIES → IsDone rom (done ++ e ∷ [])
+done_more rom done e h f new few =
+    let ext = extends_more done (e ∷ []) in
+    let len : length (done ++ e ∷ []) ≡ length done + 1 = length-append done (e ∷ []) in
+    record {
+      entries = λ x c. ⊎_elim (λ c. h.entries x c) (λ c. subst (IsEntry rom.map.rom_first rom.map.rom_last) (only_listed e x c) f.entry) (listed_append done (e ∷ []) x c);
+      made = λ x c. ⊎_elim (λ c. made_grows rom done (done ++ e ∷ []) x ext (h.made x c)) (λ c. subst (MadeEntry rom (done ++ e ∷ [])) (only_listed e x c) (made_grows rom done (done ++ e ∷ []) e ext f.made)) (listed_append done (e ∷ []) x c);
+      unique = unique_more done e h.unique new;
+      room = omega (arith, few, len);
+    }
+
 -- ---- who needs what
 
 pub called_grows : (rom : Rom) (a b : List Entry) (old new : List PartialEntry) → Extends a b → ((addr : ℕ) (key : Key) → IsPresent a old addr key → IsPresent b new addr key) → (addr : ℕ) (key : Key) → IsCalled rom a old addr key → IsCalled rom b new addr key
@@ -299,12 +311,7 @@ module _ (rom : Rom) (from : List Entry) (root : ℕ × Key) (done : List Entry)
         let pop = apart_pop done stack partial h.apart in
         let len : length (done ++ e ∷ []) ≡ length done + 1 = length-append done (e ∷ []) in
         record {
-          is_done = record {
-            entries = λ x c. ⊎_elim (λ c. h.is_done.entries x c) (λ c. subst (IsEntry rom.map.rom_first rom.map.rom_last) (only_listed e x c) f.entry) (listed_append done (e ∷ []) x c);
-            made = λ x c. ⊎_elim (λ c. made_grows rom done (done ++ e ∷ []) x ext (h.is_done.made x c)) (λ c. subst (MadeEntry rom (done ++ e ∷ [])) (only_listed e x c) (made_grows rom done (done ++ e ∷ []) e ext f.made)) (listed_append done (e ∷ []) x c);
-            unique = unique_more done e h.is_done.unique finished_new;
-            room = omega (arith, h.room, long, len);
-          };
+          is_done = done_more rom done e h.is_done (record { entry = f.entry; made = f.made }) finished_new (omega (arith, h.room, long));
           extends = λ a k x q. ext a k x (h.extends a k x q);
           partials = walks_grow rom done (done ++ e ∷ []) stack ext (walks_pop rom done stack (partial ∷ []) h.partials);
           apart = apart_more done stack e pop.rest (λ m. pop.other (subst (λ a. IsMaking stack a partial.key) f.addr (subst (λ k. IsMaking stack e.addr k) f.key m)));

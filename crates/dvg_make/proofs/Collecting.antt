@@ -1,13 +1,14 @@
 -- Root after root, and frame after frame.
-use Rattle.dvg_make.proofs.Common.{Machine, ◌≡◌, ℕ, zero, suc, ◌+◌, ◌<◌, ◌≤◌, List, [], ◌∷◌, ◌++◌, length, Option, Some, None, refl, sym, ap, ◌∙◌, subst, arith, ◌⊎◌, inl, inr, ⊎_elim, Contains, slice_get, Bool, false, Rom, IsKey, Entry, Key, MOST_ENTRIES, listed_at, HasEntry, MadeFor, AllMade, IsAskedFor, EntryFault, Unstraight, Deep, TooManyWords, TooManyEntries, Memory, FramesRefuse, Extends, IsAim, InProgress, Bars, obstacle_fault, Collected, HasCalls, IsFramed, BarsHere, AllFramed, PartialEntry, Obstacle, shapes, IsMaking, IsCalled, IsToldOf, TellsHere, keyed_context, start, FrameCall, known_before}
+use Rattle.dvg_make.proofs.Common.{Machine, ◌≡◌, ℕ, zero, suc, ◌+◌, ◌<◌, ◌≤◌, List, [], ◌∷◌, ◌++◌, length, Option, Some, None, refl, sym, ap, ◌∙◌, subst, arith, ◌⊎◌, inl, inr, ⊎_elim, Contains, slice_get, Bool, false, Rom, IsKey, Entry, Key, MOST_ENTRIES, listed_at, HasEntry, MadeFor, AllMade, IsAskedFor, EntryFault, Unstraight, Deep, TooManyWords, TooManyEntries, Memory, FramesRefuse, Extends, IsAim, NoAim, InProgress, Bars, obstacle_fault, Collected, HasCalls, IsFramed, BarsHere, AllFramed, PartialEntry, Obstacle, shapes, IsMaking, IsCalled, IsToldOf, TellsHere, keyed_context, start, FrameCall, known_before}
 use Rattle.std.proofs.Common.{take, get_or}
 use Rattle.std.specs.Prelude.{IsTrue, ◌↔◌}
 use Rattle.dvg_words.specs.Memory.{InRom}
 use Rattle.dvg_make.specs.Frames.{HasAsked}
 use Rattle.dvg_make.specs.Refusals.{make_fault_of, Refuses, BarsList, NoFramesMade}
-use Rattle.dvg_make.specs.Private.Making.{BarsRoots, NoneHas, HasAll}
-use Rattle.dvg_make.specs.Private.Framing.{BarsCalls, NoneHasCalls}
+use Rattle.dvg_make.specs.Private.Making.{HasAll, IsBlocked, IsRefused}
+use Rattle.dvg_make.specs.Private.Framing.{BarsCalls, NoneHasCalls, BlocksHere}
 use Rattle.dvg_make.proofs.Onward.{listed_entry}
+use Rattle.dvg_make.specs.declared.obstacle.Blocked.{Blocked}
 use Rattle.dvg_make.specs.Private.Making.{asked_shape, IsToldFrom}
 use Rattle.dvg_make.specs.Private.Framing.{KeyedCall, IsGivenHere}
 use Rattle.dvg_make.specs.Accounts.{RootOutside, IsNamedBy, IsNeededBy}
@@ -91,6 +92,9 @@ root_collected rom roots i j d old new next lt h m has =
 pub roots_collected : (rom : Rom) (roots : List (ℕ × Key)) (i : ℕ) (done : List Entry) → length roots ≤ i → Collected rom (take i roots) done → Collected rom roots done
 roots_collected rom roots i done le h = subst (λ a. Collected rom a done) (all_taken roots i le) h
 
+pub made_all : (rom : Rom) (P : ℕ → Key → Type 0) (list : List Entry) → MadeFor rom P list → AllMade rom list
+made_all rom P list m e c = let is = listed_entry rom.map.rom_first rom.map.rom_last list e m.certificate.each c in record { made = m.each e c; words = is.words_high; depth = is.depth }
+
 module _ (rom : Rom) (roots : List (ℕ × Key)) (i : ℕ) (d : ℕ × Key) (done : List Entry) (lt : i < length roots) (h : Collected rom (take i roots) done) where
   -- a certificate that has all roots has what is made so far, and this root
   aims : (list : List Entry) → AllMade rom list → HasAll roots list → IsAim rom done ((get_or roots i d).0, (get_or roots i d).1) list
@@ -101,19 +105,23 @@ module _ (rom : Rom) (roots : List (ℕ × Key)) (i : ℕ) (d : ℕ × Key) (don
         has = has (get_or roots i d).0 (get_or roots i d).1 (at_index roots i d lt);
       }
 
-  outside : (InRom rom.map (get_or roots i d).0 × IsKey (get_or roots i d).1 → ⊥) → NoneHas rom roots
-  outside not list cert all has =
-      let r = has (get_or roots i d).0 (get_or roots i d).1 (at_index roots i d lt) in
-      let l = listed_at list (get_or roots i d).0 (get_or roots i d).1 r.0 r.1 in
-      let e = listed_entry rom.map.rom_first rom.map.rom_last list r.0 cert.each l.listed in
-      not ((subst (λ a. rom.map.rom_first ≤ a) l.addr_is e.addr_low, subst (λ a. a ≤ rom.map.rom_last) l.addr_is e.addr_high), subst IsKey l.key_is e.key)
+  none_made : (frames : List (List ℕ)) → NoAim rom done ((get_or roots i d).0, (get_or roots i d).1) → NoFramesMade rom roots frames
+  none_made frames b list m = b list (aims list (made_all rom (IsAskedFor rom.machine roots frames list) list m) (λ a k r. m.rooted a k (inl r)))
 
-  pub root_barred : (why : EntryFault) → Bars rom done ((get_or roots i d).0, (get_or roots i d).1) why → BarsRoots rom roots why
-  root_barred (Unstraight word) b = λ list cert all has. b list (aims list all has)
-  root_barred Deep b = λ list cert all has. b list (aims list all has)
-  root_barred TooManyWords b = λ list cert all has. b list (aims list all has)
-  root_barred TooManyEntries b = λ list all has. b list (aims list all has)
-  root_barred Memory b = tt
+  -- so what a refusal says of such lists, it says of those that have all that frames call, too
+  pub root_barred : (frames : List (List ℕ)) (why : EntryFault) → Bars rom done ((get_or roots i d).0, (get_or roots i d).1) why → BarsList rom roots frames why
+  root_barred frames (Unstraight word) b = none_made frames b
+  root_barred frames Deep b = none_made frames b
+  root_barred frames TooManyWords b = none_made frames b
+  root_barred frames TooManyEntries b = λ list all has. b list (aims list all (λ a k r. has a k (inl r)))
+  root_barred frames Memory b = tt
+
+  outside : (InRom rom.map (get_or roots i d).0 × IsKey (get_or roots i d).1 → ⊥) → (frames : List (List ℕ)) → NoFramesMade rom roots frames
+  outside not frames list m =
+      let r = m.rooted (get_or roots i d).0 (get_or roots i d).1 (inl (at_index roots i d lt)) in
+      let l = listed_at list (get_or roots i d).0 (get_or roots i d).1 r.0 r.1 in
+      let e = listed_entry rom.map.rom_first rom.map.rom_last list r.0 m.certificate.each l.listed in
+      not ((subst (λ a. rom.map.rom_first ≤ a) l.addr_is e.addr_low, subst (λ a. a ≤ rom.map.rom_last) l.addr_is e.addr_high), subst IsKey l.key_is e.key)
 
 -- ---- what is needed
 
@@ -183,7 +191,7 @@ module _ (machine : Machine) (roots : List (ℕ × Key)) (frames : List (List �
       fewer i is a k (inr b) = has a k (inr (b.0, taken_before frames n i words b.0 is b.1, b.2))
 
 -- what is told of a root, whatever the frames are
-pub root_told : (rom : Rom) (roots : List (ℕ × Key)) (i : ℕ) (d : ℕ × Key) (done : List Entry) → i < length roots → Collected rom (take i roots) done → (chain : List PartialEntry) (obstacle : Obstacle) → IsToldFrom rom done ((get_or roots i d).0, (get_or roots i d).1) chain obstacle → (frames : List (List ℕ)) → IsToldOf rom roots frames None chain obstacle
+root_told : (rom : Rom) (roots : List (ℕ × Key)) (i : ℕ) (d : ℕ × Key) (done : List Entry) → i < length roots → Collected rom (take i roots) done → (chain : List PartialEntry) (obstacle : Obstacle) → IsToldFrom rom done ((get_or roots i d).0, (get_or roots i d).1) chain obstacle → (frames : List (List ℕ)) → IsToldOf rom roots frames None chain obstacle
 root_told rom roots i d done lt h chain obstacle b frames =
     record {
       list = b.list;
@@ -206,30 +214,43 @@ root_told rom roots i d done lt h chain obstacle b frames =
     was : (a : ℕ) (k : Key) → HasEntry done a k → IsNamed rom.machine roots frames b.list a k ⊎ IsCalled rom done [] a k
     was a k has = ⊎_elim (λ c. inl (named_taken rom.machine roots frames b.list i before a k c)) (λ c. inr c) (h.needed a k has)
 
+-- what is said whatever the frames are
+roots_refused : (rom : Rom) (roots : List (ℕ × Key)) (frames : List (List ℕ)) (why : EntryFault) → ((f : List (List ℕ)) → BarsList rom roots f why) → FramesRefuse rom roots frames (record { call = None; why = why })
+roots_refused rom roots frames why b = record { list = b frames; root = b []; frame = tt }
+
 module _ (rom : Rom) (roots : List (ℕ × Key)) (i : ℕ) (d : ℕ × Key) (done : List Entry) (lt : i < length roots) (h : Collected rom (take i roots) done) where
   outside_at : (r : Bool) → r ≡ false → (IsTrue r ↔ (InRom rom.map (get_or roots i d).0 × IsKey (get_or roots i d).1)) → InRom rom.map (get_or roots i d).0 × IsKey (get_or roots i d).1 → ⊥
   outside_at r failed is inside = let t : IsTrue false = subst IsTrue failed (is.1 inside) in cc t
 
-  -- a root outside the ROM, or with a key over 15
-  pub outside_barred : (r : Bool) → r ≡ false → (IsTrue r ↔ (InRom rom.map (get_or roots i d).0 × IsKey (get_or roots i d).1)) → (obstacle : Obstacle) → obstacle ≡ record { cursor = (start (get_or roots i d).0 (get_or roots i d).1).cursor; cause = RootOutside } → BarsRoots rom roots (obstacle_fault obstacle)
-  outside_barred r failed is obstacle e = subst (λ o. BarsRoots rom roots (obstacle_fault o)) (sym e) (outside rom roots i d done lt h (outside_at r failed is))
-
-  pub outside_told : (r : Bool) → r ≡ false → (IsTrue r ↔ (InRom rom.map (get_or roots i d).0 × IsKey (get_or roots i d).1)) → (chain : List PartialEntry) → chain ≡ [] → (obstacle : Obstacle) → obstacle ≡ record { cursor = (start (get_or roots i d).0 (get_or roots i d).1).cursor; cause = RootOutside } → (frames : List (List ℕ)) → IsToldOf rom roots frames None chain obstacle
-  outside_told r failed is chain none obstacle e =
-      root_told rom roots i d done lt h chain obstacle
+  -- a root whose entry can't be made
+  pub root_refused : (blocked : Blocked) → IsBlocked rom done ((get_or roots i d).0, (get_or roots i d).1) blocked → (frames : List (List ℕ)) → IsRefused rom roots frames blocked
+  root_refused blocked b frames =
+      subst (λ (call : Option FrameCall). IsRefused rom roots frames (record { call = call; chain = blocked.chain; obstacle = blocked.obstacle })) (sym b.call)
       (record {
-        list = done;
-        is_done = h.is_done;
-        extends = λ addr key e q. q;
-        needed = called_none rom done ((get_or roots i d).0, (get_or roots i d).1) chain none;
-        room = room_of_none done chain none h.is_done.room;
-        tells = tells_outside rom done (get_or roots i d).0 (get_or roots i d).1 (outside_at r failed is) chain none obstacle e;
+        refuse = roots_refused rom roots frames (obstacle_fault blocked.obstacle) (λ f. root_barred rom roots i d done lt h f (obstacle_fault blocked.obstacle) b.bars);
+        told = root_told rom roots i d done lt h blocked.chain blocked.obstacle b.told frames;
       })
+
+  -- a root outside the ROM, or with a key over 15
+  pub outside_refused : (r : Bool) → r ≡ false → (IsTrue r ↔ (InRom rom.map (get_or roots i d).0 × IsKey (get_or roots i d).1)) → (chain : List PartialEntry) → chain ≡ [] → (obstacle : Obstacle) → obstacle ≡ record { cursor = (start (get_or roots i d).0 (get_or roots i d).1).cursor; cause = RootOutside } → (frames : List (List ℕ)) → IsRefused rom roots frames (record { call = None; chain = chain; obstacle = obstacle })
+  outside_refused r failed is chain none obstacle e frames =
+      record {
+        refuse = subst (λ o. FramesRefuse rom roots frames (record { call = None; why = obstacle_fault o })) (sym e) (roots_refused rom roots frames (Unstraight (get_or roots i d).0) (outside rom roots i d done lt h (outside_at r failed is)));
+        told = root_told rom roots i d done lt h chain obstacle
+            (record {
+              list = done;
+              is_done = h.is_done;
+              extends = λ addr key e q. q;
+              needed = called_none rom done ((get_or roots i d).0, (get_or roots i d).1) chain none;
+              room = room_of_none done chain none h.is_done.room;
+              tells = tells_outside rom done (get_or roots i d).0 (get_or roots i d).1 (outside_at r failed is) chain none obstacle e;
+            }) frames;
+      }
 
 -- ---- frames
 
 -- what is told of a frame's call
-pub call_told : (rom : Rom) (roots : List (ℕ × Key)) (frames : List (List ℕ)) (i : ℕ) (d : List ℕ) (old : List Entry) → i < length frames → AllFramed rom roots (take i frames) old → (at : ℕ) (chain : List PartialEntry) (obstacle : Obstacle) → TellsHere rom (get_or frames i d) old at chain obstacle → IsToldOf rom roots frames (Some (record { frame = i; at = at })) chain obstacle
+call_told : (rom : Rom) (roots : List (ℕ × Key)) (frames : List (List ℕ)) (i : ℕ) (d : List ℕ) (old : List Entry) → i < length frames → AllFramed rom roots (take i frames) old → (at : ℕ) (chain : List PartialEntry) (obstacle : Obstacle) → TellsHere rom (get_or frames i d) old at chain obstacle → IsToldOf rom roots frames (Some (record { frame = i; at = at })) chain obstacle
 call_told rom roots frames i d old lt h at chain obstacle t =
     record {
       list = t.list;
@@ -257,9 +278,6 @@ call_told rom roots frames i d old lt h at chain obstacle t =
     asked_here : (a : ℕ) (k : Key) → IsGivenHere rom.machine (get_or frames i d) h.asked t.list a k → IsNamed rom.machine roots frames t.list a k
     asked_here a k (inl c) = asked_before a k (h.asked_for a k c)
     asked_here a k (inr c) = named_call rom.machine roots frames t.list i (get_or frames i d) (got frames i d lt) before a k c
-
-pub made_all : (rom : Rom) (P : ℕ → Key → Type 0) (list : List Entry) → MadeFor rom P list → AllMade rom list
-made_all rom P list m e c = let is = listed_entry rom.map.rom_first rom.map.rom_last list e m.certificate.each c in record { made = m.each e c; words = is.words_high; depth = is.depth }
 
 pub no_frames : (rom : Rom) (roots : List (ℕ × Key)) (frames : List (List ℕ)) (done : List Entry) → Collected rom roots done → AllFramed rom roots (take 0 frames) done
 no_frames rom roots frames done h =
@@ -325,26 +343,19 @@ module _ (rom : Rom) (roots : List (ℕ × Key)) (frames : List (List ℕ)) (i :
   list_barred TooManyEntries b = λ list all has. b list all (has_before list all has) (has_now list all has)
   list_barred Memory b = tt
 
-  pub frame_refused : (at : ℕ) (why : EntryFault) → BarsHere rom now old at why → FramesRefuse rom roots frames (record { call = Some (record { frame = i; at = at }); why = why })
+  frame_refused : (at : ℕ) (why : EntryFault) → BarsHere rom now old at why → FramesRefuse rom roots frames (record { call = Some (record { frame = i; at = at }); why = why })
   frame_refused at why b = record { list = list_barred why b.0; root = tt; frame = (now, got frames i d lt, b.1, b.2) }
+
+  pub call_refused : (blocked : Blocked) → BlocksHere rom i now old blocked → IsRefused rom roots frames blocked
+  call_refused blocked b =
+      subst (λ (call : Option FrameCall). IsRefused rom roots frames (record { call = call; chain = blocked.chain; obstacle = blocked.obstacle })) (sym b.call)
+      (record {
+        refuse = frame_refused b.at (obstacle_fault blocked.obstacle) b.bars;
+        told = call_told rom roots frames i d old lt h b.at blocked.chain blocked.obstacle b.told;
+      })
 
 pub frames_framed : (rom : Rom) (roots : List (ℕ × Key)) (frames : List (List ℕ)) (i : ℕ) (done : List Entry) → length frames ≤ i → AllFramed rom roots (take i frames) done → AllFramed rom roots frames done
 frames_framed rom roots frames i done le h = subst (λ f. AllFramed rom roots f done) (all_taken frames i le) h
-
--- ---- roots that are refused
-
-roots_none : (rom : Rom) (roots : List (ℕ × Key)) (frames : List (List ℕ)) → NoneHas rom roots → NoFramesMade rom roots frames
-roots_none rom roots frames none list m = none list m.certificate (made_all rom (IsAskedFor rom.machine roots frames list) list m) (λ a k r. m.rooted a k (inl r))
-
-roots_list : (rom : Rom) (roots : List (ℕ × Key)) (frames : List (List ℕ)) (why : EntryFault) → BarsRoots rom roots why → BarsList rom roots frames why
-roots_list rom roots frames (Unstraight word) b = roots_none rom roots frames b
-roots_list rom roots frames Deep b = roots_none rom roots frames b
-roots_list rom roots frames TooManyWords b = roots_none rom roots frames b
-roots_list rom roots frames TooManyEntries b = λ list all has. b list all (λ a k r. has a k (inl r))
-roots_list rom roots frames Memory b = tt
-
-pub roots_refused : (rom : Rom) (roots : List (ℕ × Key)) (frames : List (List ℕ)) (why : EntryFault) → BarsRoots rom roots why → FramesRefuse rom roots frames (record { call = None; why = why })
-roots_refused rom roots frames why b = record { list = roots_list rom roots frames why b; root = roots_list rom roots [] why b; frame = tt }
 
 pub memory_refused : (rom : Rom) (roots : List (ℕ × Key)) (frames : List (List ℕ)) → FramesRefuse rom roots frames (record { call = None; why = Memory })
 memory_refused rom roots frames = record { list = tt; root = tt; frame = tt }

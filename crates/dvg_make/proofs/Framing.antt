@@ -1,6 +1,6 @@
 -- A frame whose calls are made one after another.
+use Rattle.dvg_make.proofs.Common.{Machine, ◌≡◌, ℕ, zero, suc, ◌+◌, ◌<◌, ◌≤◌, List, [], ◌∷◌, ◌++◌, length, unwrap_or, Option, Some, None, refl, sym, ap, ◌∙◌, subst, arith, ◌⊎◌, inl, inr, ⊎_elim, Contains, IfSome, cell_at, InstrFits, Rom, frame_word, ADDRESS_END, Holds, Format, Instr, Labs, Halt, Jsrl, Rtsl, Jmpl, IsKey, entry_at, Entry, Key, Any, MOST_ENTRIES, LeadsTo, next_address, IsClaim, frame_context, target, scale_set, callee_at, scale_before, known_before, known_past, Item, Known, listed_at, in_bound, HasEntry, AllMade, EntryFault, Unstraight, Deep, TooManyWords, TooManyEntries, Memory, Extends, IsAim, NoAim, IsDone, InProgress, Bars, IsCalled, IsPresent, Collected, obstacle_fault, HasCalls, IsFramed, BarsHere, PartialEntry}
 use Rattle.dvg_words.specs.Values.{Source}
-use Rattle.dvg_make.proofs.Common.{Machine, ◌≡◌, ℕ, zero, suc, ◌+◌, ◌<◌, ◌≤◌, List, [], ◌∷◌, ◌++◌, length, unwrap_or, Option, Some, None, refl, sym, ap, ◌∙◌, subst, arith, ◌⊎◌, inl, inr, ⊎_elim, Contains, IfSome, cell_at, InstrFits, Rom, frame_word, ADDRESS_END, Holds, Format, Instr, Labs, Halt, Jsrl, Rtsl, Jmpl, IsKey, entry_at, Entry, Key, Any, MOST_ENTRIES, LeadsTo, next_address, IsClaim, frame_context, target, scale_set, callee_at, scale_before, known_before, known_past, Item, Known, listed_at, in_bound, HasEntry, AllMade, EntryFault, Unstraight, Deep, TooManyWords, TooManyEntries, Memory, Extends, IsAim, NoAim, IsDone, InProgress, Bars, IsCalled, IsPresent, Collected, HasCalls, IsFramed, BarsHere, TellsHere, PartialEntry, Obstacle}
 use Rattle.std.proofs.Common.{append_assoc}
 use Rattle.std.proofs.lemmas.List.{append-nil}
 use Rattle.std.proofs.lemmas.Bool.{cases_lt}
@@ -12,8 +12,9 @@ use Rattle.dvg_items.proofs.Leading.{same_lead, shorter, everywhere}
 use Rattle.dvg_make.specs.Made.{Barred}
 use Rattle.dvg_make.specs.Frames.{IsKeyed, AllKeyed, FrameAsksFor}
 use Rattle.dvg_make.specs.Refusals.{NoneAccepts, BarsEntry, CallBarredAt}
-use Rattle.dvg_make.specs.Private.Making.{AllCalled}
-use Rattle.dvg_make.specs.Private.Framing.{IsCalledBy, BarsTarget, NoneHasCalls, LongHasCalls, TellsTarget, KeyedCall, IsGivenHere}
+use Rattle.dvg_make.specs.Private.Making.{AllCalled, IsToldFrom}
+use Rattle.dvg_make.specs.Private.Framing.{IsCalledBy, NoneHasCalls, LongHasCalls, KeyedCall, IsGivenHere, BlocksTarget, BlocksHere}
+use Rattle.dvg_make.specs.declared.obstacle.Blocked.{Blocked}
 use Rattle.dvg_make.proofs.Matching.{exact_named}
 use Rattle.dvg_make.proofs.Merging.{extends_more, extends_second, all_merged}
 use Rattle.dvg_make.proofs.Chains.{called_grows}
@@ -383,32 +384,39 @@ at_nothing rom words old done at scale w not =
       forced = w.forced;
     }
 
-pub target_barred : (rom : Rom) (words : List ℕ) (old done : List Entry) (at : ℕ) (scale : Key) → FrameWalk rom words old done at scale → (format : Format) (instr : Instr) → cell_at (frame_word rom.machine words) at ≡ Holds format instr → (why : EntryFault) → BarsTarget rom done instr scale why → BarsHere rom words old at why
-target_barred rom words old done at scale w format instr is why b = call_barred rom words old done at scale w format instr is b.0 b.1 why b.2
-
--- what is told of it
-pub target_told : (rom : Rom) (words : List ℕ) (old done : List Entry) (at : ℕ) (scale : Key) → FrameWalk rom words old done at scale → (format : Format) (instr : Instr) → cell_at (frame_word rom.machine words) at ≡ Holds format instr → (chain : List PartialEntry) (obstacle : Obstacle) → TellsTarget rom done instr scale chain obstacle → TellsHere rom words old at chain obstacle
+-- a refusal of the entry that the item calls is one of the frame's call
+pub target_blocked : (rom : Rom) (words : List ℕ) (old done : List Entry) (at : ℕ) (scale : Key) → FrameWalk rom words old done at scale → (format : Format) (instr : Instr) → cell_at (frame_word rom.machine words) at ≡ Holds format instr → (blocked : Blocked) → BlocksTarget rom done instr scale blocked → (index : ℕ) → BlocksHere rom index words old (record { call = Some (record { frame = index; at = at }); chain = blocked.chain; obstacle = blocked.obstacle })
 unfolding called_by
-target_told rom words old done at scale w format instr is chain obstacle b =
-    let call = called_by rom words old done at scale w format instr is b.0 b.1 b.2.list b.2.extends in
+target_blocked rom words old done at scale w format instr is blocked b index =
     record {
-      list = b.2.list;
-      within = b.2.is_done.entries;
-      made = done_made rom b.2.list b.2.is_done;
-      to = b.0;
-      scale = scale;
-      call = record { calls = call.calls; at_is = refl; before = call.keyed };
-      extends = λ a k e q. b.2.extends a k e (w.grows a k e q);
-      needed = λ asked h. called_told rom done b.2.list (b.0, scale) chain (IsGivenHere rom.machine words asked b.2.list) b.2.extends b.2.needed (given asked h) (inr call);
-      room = b.2.room;
-      tells = b.2.tells;
-      no_root = b.3;
+      at = at;
+      call = refl;
+      bars = call_barred rom words old done at scale w format instr is b.0 b.1 (obstacle_fault blocked.obstacle) b.2.bars;
+      told = record {
+        list = t.list;
+        within = t.is_done.entries;
+        made = done_made rom t.list t.is_done;
+        to = b.0;
+        scale = scale;
+        call = record { calls = call.calls; at_is = refl; before = call.keyed };
+        extends = λ a k e q. t.extends a k e (w.grows a k e q);
+        needed = λ asked h. called_told rom done t.list (b.0, scale) blocked.chain (IsGivenHere rom.machine words asked t.list) t.extends t.needed (given asked h) (inr call);
+        room = t.room;
+        tells = t.tells;
+        no_root = b.2.no_root;
+      };
     }
   where
-    given : (asked : List (ℕ × Key)) → Collected rom asked old → (a : ℕ) (k : Key) → HasEntry done a k → IsGivenHere rom.machine words asked b.2.list a k ⊎ IsCalled rom done [] a k
+    t : IsToldFrom rom done (b.0, scale) blocked.chain blocked.obstacle
+    t = b.2.told
+
+    call : KeyedCall rom.machine words t.list b.0 scale
+    call = called_by rom words old done at scale w format instr is b.0 b.1 t.list t.extends
+
+    given : (asked : List (ℕ × Key)) → Collected rom asked old → (a : ℕ) (k : Key) → HasEntry done a k → IsGivenHere rom.machine words asked t.list a k ⊎ IsCalled rom done [] a k
     given asked h a k has =
         ⊎_elim
-        (λ c. inl (⊎_elim (λ x. inl x) (λ x. inr (call_grows rom.machine words done b.2.list b.2.extends a k (w.calls_are a k x))) (in_either asked w.calls (a, k) c)))
+        (λ c. inl (⊎_elim (λ x. inl x) (λ x. inr (call_grows rom.machine words done t.list t.extends a k (w.calls_are a k x))) (in_either asked w.calls (a, k) c)))
         (λ c. inr c)
         ((w.collected asked h).needed a k has)
 

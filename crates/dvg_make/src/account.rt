@@ -8,7 +8,7 @@ ghost use Rattle.dvg_make.specs.Private.Making.{TellsIt, TellsMemory};
 
 use crate::fault::{EntryFault, FramesFault};
 use crate::maker::{certificate_of, make_all};
-use crate::obstacle::BlockedCall;
+use crate::obstacle::Blocked;
 use dvg_cert::{Cert, Key};
 use dvg_items::{Kind, Known};
 use dvg_words::{FrameImage, RomImage};
@@ -108,13 +108,13 @@ fn out_of_memory(alloc: Global) -> MakeAccount
 }
 
 /// The account of a refusal. It is a want of memory if there is none for the chain.
-fn account_of(alloc: Global, refusal: &BlockedCall) -> MakeAccount
-    ensures { TellsIt refusal.now result ⊎ TellsMemory result }
+fn account_of(alloc: Global, blocked: &Blocked) -> MakeAccount
+    ensures { TellsIt blocked.now result ⊎ TellsMemory result }
 {
-    let obstacle = refusal.blocked.obstacle;
-    match refusal.blocked.chain.shapes(alloc) {
+    let obstacle = blocked.obstacle;
+    match blocked.chain.shapes(alloc) {
         Ok(chain) => MakeAccount {
-            fault: refusal.fault(),
+            fault: blocked.fault(),
             chain,
             at: obstacle.cursor.at,
             before: obstacle.cursor.known,
@@ -144,7 +144,7 @@ pub fn explain_making(
     let map = rom.map();
     let done = match make_all(alloc, rom, roots, frames) {
         Ok(done) => done,
-        Err(refusal) => return Err(account_of(alloc, &refusal)),
+        Err(blocked) => return Err(account_of(alloc, &blocked)),
     };
     match certificate_of(alloc, map, done) {
         Ok(cert) => Ok(cert),
