@@ -1,6 +1,5 @@
 -- The cause of a refusal, told of roots and frames.
-use Rattle.dvg_make.proofs.Common.{◌≡◌, ℕ, zero, suc, List, [], ◌∷◌, Option, Some, None, refl, sym, ◌∙◌, subst, slice_get, Rom, Key, Any, Shape, EntryCause, HasCause, HasCallCause, EntryFault, Unstraight, Deep, TooManyWords, TooManyEntries, Memory, FrameCall, shapes, IsToldOf}
-use Rattle.dvg_items.specs.Known.{start}
+use Rattle.dvg_make.proofs.Common.{◌≡◌, ℕ, zero, suc, List, [], ◌∷◌, Option, Some, None, refl, sym, ◌∙◌, subst, slice_get, Rom, Key, EntryCause, HasCause, HasCallCause, EntryFault, Unstraight, Deep, TooManyWords, TooManyEntries, Memory, FrameCall, shapes}
 use Rattle.dvg_make.specs.declared.obstacle.Blocked.{Blocked}
 use Rattle.dvg_make.specs.declared.account.EntryCause.TheVariants as cause
 use Rattle.dvg_make.specs.Accounts.{MakeAccount, UnlessMemory, IsAccount, IsTold, HasRootCause, entry_fault}
@@ -21,19 +20,6 @@ unless_map (cause.Deep to key) S T f h = f h
 unless_map (cause.TooManyWords words) S T f h = f h
 unless_map cause.TooManyEntries S T f h = f h
 
-unless : (c : EntryCause) (T : Type 0) → T → UnlessMemory c T
-unless cause.Memory T t = tt
-unless cause.RootOutside T t = t
-unless cause.Missing T t = t
-unless cause.Odd T t = t
-unless cause.Halt T t = t
-unless cause.BeamUnknown T t = t
-unless cause.ScaleUnknown T t = t
-unless (cause.Ring from) T t = t
-unless (cause.Deep to key) T t = t
-unless (cause.TooManyWords words) T t = t
-unless cause.TooManyEntries T t = t
-
 module _ (rom : Rom) (roots : List (ℕ × Key)) (frames : List (List ℕ)) where
   -- where the making stopped
   pub stuck_cause : (blocked : Blocked) → IsRefused rom roots frames blocked → HasCause rom roots frames (blocked_fault blocked)
@@ -44,12 +30,8 @@ module _ (rom : Rom) (roots : List (ℕ × Key)) (frames : List (List ℕ)) wher
         before = blocked.obstacle.cursor.known;
         cause = blocked.obstacle.cause;
         why_is = refl;
-        told = unless blocked.obstacle.cause (IsToldOf rom roots frames blocked.call blocked.chain blocked.obstacle) refused.told;
+        told = refused.told;
       }
-
-  -- where memory was out
-  pub memory_cause : (call : Option FrameCall) → HasCause rom roots frames (record { call = call; why = Memory })
-  memory_cause call = record { chain = []; at = 0; before = start Shape Any; cause = cause.Memory; why_is = refl; told = tt }
 
   -- what an account tells
   pub account_cause : (a : MakeAccount) → a.fault.why ≡ entry_fault a.at a.cause → IsAccount rom roots frames a → HasCause rom roots frames a.fault

@@ -9,7 +9,7 @@ ghost use Rattle.dvg_make.specs.Frames.{FramesMade};
 ghost use Rattle.dvg_make.specs.Refusals.{Refuses, FramesRefuse};
 ghost use Rattle.dvg_make.specs.Accounts.{HasCause, HasRootCause};
 ghost use Rattle.dvg_make.specs.Private.Making.{IsRightFor, Collected, IsRefused};
-ghost use Rattle.dvg_make.specs.Private.Framing.{AllFramed, IsForSome, MakesFor};
+ghost use Rattle.dvg_make.specs.Private.Framing.{AllFramed, IsForSome, MakesFor, IsMadeFor};
 
 use crate::account::EntryCause;
 use crate::fault::{FramesFault, MakeFault};
@@ -75,7 +75,7 @@ impl Making {
 }
 
 /// Makes the entries of all roots, of all that frames call, and of all that these need.
-pub fn make_all(
+fn make_all(
     alloc: Global,
     rom: &RomImage,
     roots: &[(u16, Key)],
@@ -91,16 +91,45 @@ pub fn make_all(
     Ok(making.done)
 }
 
+/// What is made: a certificate, and its entries, found by address and key.
+#[derive(Drop)]
+pub struct MadeCert {
+    pub cert: Cert,
+    pub entries: MadeEntries,
+}
+
 /// The certificate of the made entries, for a ROM at this map.
-pub fn certificate_of(alloc: Global, map: RomMap, mut done: MadeEntries) -> Result<Cert, AllocError>
+fn certificate_of(alloc: Global, map: RomMap, mut done: MadeEntries) -> Result<MadeCert, AllocError>
     requires map { IsMap map }
     requires done { IsForSome map done }
-    ensures made { IfOk result (λ cert. MakesFor map done cert.entries) }
-    ensures map { IfOk result (λ cert. cert.map ≡ map) }
+    ensures made { IfOk result (λ made. MakesFor map done made.cert.entries) }
+    ensures map { IfOk result (λ made. made.cert.map ≡ map) }
+    ensures entries { IfOk result (λ made. made.entries ≡ made.cert.entries) }
 {
     done.sort()?;
     let entries = done.entries(alloc)?;
-    Ok(certificate_unchecked(map, entries))
+    Ok(MadeCert {
+        cert: certificate_unchecked(map, entries),
+        entries: done,
+    })
+}
+
+/// Makes what [`make_for_frames`] makes. The refusal comes with the shapes in the making.
+pub fn make_indexed(
+    alloc: Global,
+    rom: &RomImage,
+    roots: &[(u16, Key)],
+    frames: &[FrameImage],
+) -> Result<MadeCert, Blocked>
+    ensures ok { IfOk result (IsMadeFor rom.now roots.now frames.now) }
+    ensures err { IfErr result (IsRefused rom.now roots.now frames.now) }
+{
+    let map = rom.map();
+    let done = make_all(alloc, rom, roots, frames)?;
+    match certificate_of(alloc, map, done) {
+        Ok(made) => Ok(made),
+        Err(_) => Err(Blocked::by_memory(alloc)),
+    }
 }
 
 /// Makes the certificate of the shapes at these addresses and keys, of those that the frames call, each at the scale that is
@@ -126,12 +155,10 @@ pub fn make_for_frames(
     ensures err { IfErr result (FramesRefuse rom.now roots.now frames.now) }
     ensures told { IfErr result (HasCause rom.now roots.now frames.now) }
 {
-    let map = rom.map();
-    let done = match make_all(alloc, rom, roots, frames) {
-        Ok(done) => done,
-        Err(blocked) => return Err(blocked.fault()),
-    };
-    Ok(certificate_of(alloc, map, done)?)
+    match make_indexed(alloc, rom, roots, frames) {
+        Ok(made) => Ok(made.cert),
+        Err(blocked) => Err(blocked.fault()),
+    }
 }
 
 /// Makes the certificate of the shapes at these addresses and keys, and of all that they call or tail jump to: what

@@ -17,7 +17,7 @@ use Rattle.dvg_make.specs.declared.partial.PartialEntry.{PartialEntry}
 use Rattle.dvg_make.specs.Made.{HasEntry, MadeEntry, AllMade}
 use Rattle.dvg_make.specs.Refusals.{EntryFault, Unstraight, Deep, TooManyWords, TooManyEntries, Memory}
 use Rattle.dvg_make.specs.Refusals.{FrameCall, FramesFault, FramesRefuse}
-use Rattle.dvg_make.specs.Accounts.{ShapeAt, EntryCause, AllTaken, IsLinked, Tells, IsTold, entry_fault}
+use Rattle.dvg_make.specs.Accounts.{ShapeAt, EntryCause, AllTaken, IsLinked, Tells, IsTold, UnlessMemory, IsAccount, entry_fault}
 pub use Rattle.dvg_make.specs.Accounts.{IsUnique}
 use Rattle.dvg_make.specs.declared.account.EntryCause.TheVariants as cause
 use Rattle.dvg_make.specs.declared.account.MakeAccount.{MakeAccount}
@@ -210,20 +210,13 @@ IsToldOf rom roots frames call chain obstacle = IsTold rom roots frames call (sh
 abbrev pub blocked_fault : Blocked → FramesFault
 blocked_fault blocked = record { call = blocked.call; why = obstacle_fault blocked.obstacle }
 
--- the refusal of the certificate for these roots and frames is right, and so is its account
+-- the refusal of the certificate for these roots and frames is right, and so is its account, unless memory was out
 pub record IsRefused (rom : Rom) (roots : List (ℕ × Key)) (frames : List (List ℕ)) (blocked : Blocked) : Type 0 where
   pub refuse : FramesRefuse rom roots frames (blocked_fault blocked)
-  pub told : IsToldOf rom roots frames blocked.call blocked.chain blocked.obstacle
+  pub told : UnlessMemory blocked.obstacle.cause (IsToldOf rom roots frames blocked.call blocked.chain blocked.obstacle)
 
--- the account has the fault, the chain, the word address, the knowledge and the cause of the refusal
-pub record TellsIt (blocked : Blocked) (account : MakeAccount) : Type 0 where
-  pub fault : account.fault ≡ blocked_fault blocked
-  pub chain : account.chain.items ≡ shapes blocked.chain
-  pub at : account.at ≡ blocked.obstacle.cursor.at
-  pub before : account.before ≡ blocked.obstacle.cursor.known
-  pub cause : account.cause ≡ blocked.obstacle.cause
-
--- the account says that memory was out
-pub record TellsMemory (account : MakeAccount) : Type 0 where
-  pub fault : account.fault ≡ record { call = None; why = Memory }
-  pub cause : account.cause ≡ cause.Memory
+-- the refusal and the account that are told for these roots and frames are right
+pub record TellsRight (rom : Rom) (roots : List (ℕ × Key)) (frames : List (List ℕ)) (account : MakeAccount) : Type 0 where
+  pub refuse : FramesRefuse rom roots frames account.fault
+  pub why : account.fault.why ≡ entry_fault account.at account.cause
+  pub chain : IsAccount rom roots frames account
