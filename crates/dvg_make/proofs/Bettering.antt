@@ -1,5 +1,6 @@
 -- For what an entry of any list claims of a shape there is a made entry that claims all of it, and counts and lights no more.
 use Rattle.dvg_make.proofs.Common.{◌≡◌, ◌≢◌, ℕ, zero, suc, ◌+◌, ◌<◌, ◌≤◌, List, [], ◌∷◌, ◌++◌, Option, Some, None, refl, sym, ap, ◌∙◌, subst, arith, ⊎_elim, ints, Contains, if◌then◌else◌, option_or, screen, cell_at, Rom, rom_word, Point, Cell, Missing, Odd, Holds, Format, Instr, entry_at, Entry, Key, Any, LitBox, Empty, Span, at_holds, next_address, LeadsTo, Context, shape_context, target, callee_at, callee, callee_words, scale_before, place_before, words_before, depth_before, depth_under, known_before, InBox, IsInside, relative_corners, extent, seen_at, HasCallee, Item, Shape, listed_at, all_append, word_count-some, ShapeKeeps, CellKeeps, Bound, ShapeWhy, lit_points, HoldsAll, IsLeast, HasEntry, MadeEntry, IsMade, AllMade, keyed_context, entry_of, AllFine, Extends, KnowsMore}
+use Rattle.std.proofs.lemmas.List.Elements.{Contains-append_cases}
 use Rattle.std.proofs.lemmas.Int.{clamps}
 use Rattle.std.specs.Int.{int_min, int_max}
 use Rattle.dvg_cert.specs.Lookup.{named_entry}
@@ -11,7 +12,7 @@ use Rattle.dvg_make.proofs.Ends.{at_last, made_ends, ends_made}
 use Rattle.dvg_make.proofs.Onward.{matched_fine}
 use Rattle.dvg_make.proofs.Growing.{fine_grows, same_made}
 use Rattle.dvg_make.proofs.Knowing.{IsOrdered, CalleeRefines, more_after, LightsLess, lights_less}
-use Rattle.dvg_make.proofs.Merging.{extends_more, listed_append, is_made_grows, same_found, extends_second, all_merged}
+use Rattle.dvg_make.proofs.Merging.{extends_more, is_made_grows, same_found, extends_second, all_merged}
 
 -- ---- least boxes
 
@@ -289,7 +290,7 @@ module _ (rom : Rom) (list : List Entry) (up : Upholds rom list) where
           finish =
               record {
                 list = made ++ f ∷ [];
-                all = λ x m. ⊎_elim (λ a. is_made_grows rom made (made ++ f ∷ []) x (extends_more made (f ∷ [])) (h.walked.all x a)) (λ a. subst (IsMade rom (made ++ f ∷ [])) (one_listed x a) (is_made_grows rom made (made ++ f ∷ []) f (extends_more made (f ∷ [])) is_made)) (listed_append made (f ∷ []) x m);
+                all = λ x m. ⊎_elim (λ a. is_made_grows rom made (made ++ f ∷ []) x (extends_more made (f ∷ [])) (h.walked.all x a)) (λ a. subst (IsMade rom (made ++ f ∷ [])) (one_listed x a) (is_made_grows rom made (made ++ f ∷ []) f (extends_more made (f ∷ [])) is_made)) (Contains-append_cases made (f ∷ []) x m);
                 f = f;
                 found_it = found_last (entry_at made e.addr key) refl;
                 refines = refines;

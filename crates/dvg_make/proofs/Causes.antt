@@ -1,12 +1,11 @@
 -- The cause of a refusal, told of roots and frames.
-use Rattle.dvg_make.proofs.Common.{◌≡◌, ℕ, zero, suc, List, [], ◌∷◌, Option, Some, None, refl, sym, ◌∙◌, subst, slice_get, Rom, Key, Any, Shape, EntryCause, HasCause, HasCallCause, EntryFault, Unstraight, Deep, TooManyWords, TooManyEntries, Memory, FrameCall, shapes, IsToldOf}
-use Rattle.dvg_items.specs.Known.{start}
-use Rattle.dvg_make.specs.declared.obstacle.BlockedCall.{BlockedCall}
+use Rattle.dvg_make.proofs.Common.{◌≡◌, ℕ, zero, suc, List, [], ◌∷◌, Option, Some, None, refl, sym, ◌∙◌, subst, slice_get, Rom, Key, EntryCause, HasCause, HasCallCause, EntryFault, Unstraight, Deep, TooManyWords, TooManyEntries, Memory, FrameCall, shapes}
+use Rattle.dvg_make.specs.declared.obstacle.Blocked.{Blocked}
 use Rattle.dvg_make.specs.declared.account.EntryCause.TheVariants as cause
 use Rattle.dvg_make.specs.Accounts.{MakeAccount, UnlessMemory, IsAccount, IsTold, HasRootCause, entry_fault}
 use Rattle.dvg_make.specs.Judging.{refusal_at}
 use Rattle.dvg_make.specs.Refusals.{FramesFault, make_fault_of}
-use Rattle.dvg_make.specs.Private.Making.{blocked_fault}
+use Rattle.dvg_make.specs.Private.Making.{blocked_fault, IsRefused}
 
 unless_map : (c : EntryCause) (S T : Type 0) → (S → T) → UnlessMemory c S → UnlessMemory c T
 unless_map cause.Memory S T f h = tt
@@ -21,35 +20,18 @@ unless_map (cause.Deep to key) S T f h = f h
 unless_map (cause.TooManyWords words) S T f h = f h
 unless_map cause.TooManyEntries S T f h = f h
 
-unless : (c : EntryCause) (T : Type 0) → T → UnlessMemory c T
-unless cause.Memory T t = tt
-unless cause.RootOutside T t = t
-unless cause.Missing T t = t
-unless cause.Odd T t = t
-unless cause.Halt T t = t
-unless cause.BeamUnknown T t = t
-unless cause.ScaleUnknown T t = t
-unless (cause.Ring from) T t = t
-unless (cause.Deep to key) T t = t
-unless (cause.TooManyWords words) T t = t
-unless cause.TooManyEntries T t = t
-
 module _ (rom : Rom) (roots : List (ℕ × Key)) (frames : List (List ℕ)) where
   -- where the making stopped
-  pub stuck_cause : (refusal : BlockedCall) → IsToldOf rom roots frames refusal.call refusal.blocked.chain refusal.blocked.obstacle → HasCause rom roots frames (blocked_fault refusal)
-  stuck_cause refusal told =
+  pub stuck_cause : (blocked : Blocked) → IsRefused rom roots frames blocked → HasCause rom roots frames (blocked_fault blocked)
+  stuck_cause blocked refused =
       record {
-        chain = shapes refusal.blocked.chain;
-        at = refusal.blocked.obstacle.cursor.at;
-        before = refusal.blocked.obstacle.cursor.known;
-        cause = refusal.blocked.obstacle.cause;
+        chain = shapes blocked.chain;
+        at = blocked.obstacle.cursor.at;
+        before = blocked.obstacle.cursor.known;
+        cause = blocked.obstacle.cause;
         why_is = refl;
-        told = unless refusal.blocked.obstacle.cause (IsToldOf rom roots frames refusal.call refusal.blocked.chain refusal.blocked.obstacle) told;
+        told = refused.told;
       }
-
-  -- where memory was out
-  pub memory_cause : (call : Option FrameCall) → HasCause rom roots frames (record { call = call; why = Memory })
-  memory_cause call = record { chain = []; at = 0; before = start Shape Any; cause = cause.Memory; why_is = refl; told = tt }
 
   -- what an account tells
   pub account_cause : (a : MakeAccount) → a.fault.why ≡ entry_fault a.at a.cause → IsAccount rom roots frames a → HasCause rom roots frames a.fault

@@ -1,11 +1,12 @@
 -- The shapes in the making, and the entries that every made list has for them.
-use Rattle.dvg_make.proofs.Common.{◌≡◌, ℕ, zero, suc, ◌+◌, ◌<◌, ◌≤◌, List, [], ◌∷◌, ◌++◌, length, Option, Some, None, refl, sym, ap, ◌∙◌, subst, arith, ◌⊎◌, inl, inr, ⊎_elim, length-append, Bool, true, false, if◌then◌else◌, Contains, Rom, rom_word, IsEntry, option_or, is_at, entry_at, Entry, Key, at_holds, LeadsTo, shape_context, scale_before, Item, Shape, Known, MOST_WORDS, PartialEntry, MadeEntry, keyed_context, start, IsPartial, Extends, IsFinished, IsWaiting, IsMaking, ArePartial, Chain, Apart, IsPresent, IsCalled, IsAim, NoAim, InProgress, listed_at}
-use Rattle.dvg_make.specs.Private.Partial.{NeverAt}
+use Rattle.dvg_make.proofs.Common.{◌≡◌, ℕ, zero, suc, ◌+◌, ◌<◌, ◌≤◌, List, [], ◌∷◌, ◌++◌, length, Option, Some, None, refl, sym, ap, ◌∙◌, subst, arith, ◌⊎◌, inl, inr, ⊎_elim, length-append, Bool, true, false, if◌then◌else◌, Contains, Rom, rom_word, IsEntry, option_or, is_at, entry_at, Entry, Key, at_holds, LeadsTo, shape_context, scale_before, Item, Shape, Known, MOST_ENTRIES, MOST_WORDS, PartialEntry, MadeEntry, keyed_context, start, IsPartial, Extends, IsFinished, IsWaiting, IsMaking, ArePartial, Chain, Apart, IsPresent, IsCalled, IsAim, NoAim, IsDone, InProgress, listed_at}
+use Rattle.std.proofs.lemmas.List.Elements.{Contains-append_cases}
+use Rattle.dvg_make.specs.Private.Partial.{NeverAt, IsTail}
 use Rattle.dvg_make.specs.Private.Making.{IsUnique, IsGiven}
 use Rattle.dvg_make.proofs.Matching.{entry_at-append}
 use Rattle.dvg_make.proofs.Ends.{callee_less, made_some}
 use Rattle.dvg_make.proofs.Linking.{are_grown, are_popped}
-use Rattle.dvg_make.proofs.Merging.{extends_more, listed_append}
+use Rattle.dvg_make.proofs.Merging.{extends_more, only_listed}
 use Rattle.dvg_make.proofs.Onward.{fine_taken}
 use Rattle.dvg_make.proofs.Growing.{scale_grows, taken_grows, walk_grows, made_grows, same_made}
 
@@ -179,10 +180,6 @@ walks_grow rom a b (v ∷ stack) ext h = (walk_grows rom a b v ext h.0, walks_gr
 
 -- ---- one entry more
 
-only_listed : (e x : Entry) → Contains (e ∷ []) x → e ≡ x
-only_listed e x (zero, lt, is) = is
-only_listed e x (suc k, lt, is) = absurd (omega (arith, lt))
-
 -- an entry that is found in no other
 find_one : (e : Entry) (addr : ℕ) (key : Key) → ((e.addr ≡ addr) × (e.key ≡ key) → ⊥) → entry_at (e ∷ []) addr key ≡ None
 find_one e addr key not = by_found (entry_at (e ∷ []) addr key) refl
@@ -208,6 +205,18 @@ unique_more (x ∷ done) e u none = by_test (is_at e.addr e.key x) refl none (λ
     by_test : (t : Bool) → is_at e.addr e.key x ≡ t → (if t then Some x else entry_at done e.addr e.key) ≡ None → (entry_at done e.addr e.key ≡ None → IsUnique (done ++ e ∷ [])) → IsUnique ((x ∷ done) ++ e ∷ [])
     by_test true q n more = cc n
     by_test false q n more = (entry_at-append done (e ∷ []) x.addr x.key ∙ ap (λ o. option_or o (entry_at (e ∷ []) x.addr x.key)) u.0 ∙ find_one e x.addr x.key (not_same q), more n)
+
+-- one made entry more
+pub done_more : (rom : Rom) (done : List Entry) (e : Entry) → IsDone rom done → IsTail rom done e → entry_at done e.addr e.key ≡ None → length done < MOST_ENTRIES → IsDone rom (done ++ e ∷ [])
+done_more rom done e h f new few =
+    let ext = extends_more done (e ∷ []) in
+    let len : length (done ++ e ∷ []) ≡ length done + 1 = length-append done (e ∷ []) in
+    record {
+      entries = λ x c. ⊎_elim (λ c. h.entries x c) (λ c. subst (IsEntry rom.map.rom_first rom.map.rom_last) (only_listed e x c) f.entry) (Contains-append_cases done (e ∷ []) x c);
+      made = λ x c. ⊎_elim (λ c. made_grows rom done (done ++ e ∷ []) x ext (h.made x c)) (λ c. subst (MadeEntry rom (done ++ e ∷ [])) (only_listed e x c) (made_grows rom done (done ++ e ∷ []) e ext f.made)) (Contains-append_cases done (e ∷ []) x c);
+      unique = unique_more done e h.unique new;
+      room = omega (arith, few, len);
+    }
 
 -- ---- who needs what
 
@@ -286,12 +295,8 @@ module _ (rom : Rom) (from : List Entry) (root : ℕ × Key) (done : List Entry)
         by_found None q =
             let last : entry_at (e ∷ []) addr key ≡ Some has.0 = sym (ap (λ o. option_or o (entry_at (e ∷ []) addr key)) q) ∙ sym (entry_at-append done (e ∷ []) addr key) ∙ has.1 in
             let l = listed_at (e ∷ []) addr key has.0 last in
-            let is : e ≡ has.0 = only has.0 l.listed in
+            let is : e ≡ has.0 = only_listed e has.0 l.listed in
             inr (making_last stack partial addr key (sym f.addr ∙ ap (λ (x : Entry). x.addr) is ∙ l.addr_is) (sym f.key ∙ ap (λ (x : Entry). x.key) is ∙ l.key_is))
-          where
-            only : (g : Entry) → Contains (e ∷ []) g → e ≡ g
-            only g (zero, lt, is) = is
-            only g (suc k, lt, is) = absurd (omega (arith, lt))
 
     pub making_finished : InProgress rom from root (done ++ e ∷ []) stack
     making_finished =
@@ -299,12 +304,7 @@ module _ (rom : Rom) (from : List Entry) (root : ℕ × Key) (done : List Entry)
         let pop = apart_pop done stack partial h.apart in
         let len : length (done ++ e ∷ []) ≡ length done + 1 = length-append done (e ∷ []) in
         record {
-          is_done = record {
-            entries = λ x c. ⊎_elim (λ c. h.is_done.entries x c) (λ c. subst (IsEntry rom.map.rom_first rom.map.rom_last) (only_listed e x c) f.entry) (listed_append done (e ∷ []) x c);
-            made = λ x c. ⊎_elim (λ c. made_grows rom done (done ++ e ∷ []) x ext (h.is_done.made x c)) (λ c. subst (MadeEntry rom (done ++ e ∷ [])) (only_listed e x c) (made_grows rom done (done ++ e ∷ []) e ext f.made)) (listed_append done (e ∷ []) x c);
-            unique = unique_more done e h.is_done.unique finished_new;
-            room = omega (arith, h.room, long, len);
-          };
+          is_done = done_more rom done e h.is_done (record { entry = f.entry; made = f.made }) finished_new (omega (arith, h.room, long));
           extends = λ a k x q. ext a k x (h.extends a k x q);
           partials = walks_grow rom done (done ++ e ∷ []) stack ext (walks_pop rom done stack (partial ∷ []) h.partials);
           apart = apart_more done stack e pop.rest (λ m. pop.other (subst (λ a. IsMaking stack a partial.key) f.addr (subst (λ k. IsMaking stack e.addr k) f.key m)));

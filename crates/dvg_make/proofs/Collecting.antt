@@ -1,17 +1,22 @@
 -- Root after root, and frame after frame.
-use Rattle.dvg_make.proofs.Common.{Machine, ◌≡◌, ℕ, zero, suc, ◌+◌, ◌<◌, ◌≤◌, List, [], ◌∷◌, ◌++◌, length, Option, Some, None, refl, sym, ap, ◌∙◌, subst, arith, ◌⊎◌, inl, inr, ⊎_elim, Contains, slice_get, Bool, false, Rom, IsKey, Entry, Key, MOST_ENTRIES, listed_at, HasEntry, MadeFor, AllMade, IsAskedFor, EntryFault, Unstraight, Deep, TooManyWords, TooManyEntries, Memory, FramesRefuse, Extends, IsAim, InProgress, Bars, obstacle_fault, Collected, HasCalls, IsFramed, BarsHere, AllFramed, PartialEntry, Obstacle, shapes, IsMaking, IsCalled, IsToldOf, TellsHere, keyed_context, start, FrameCall, known_before}
-use Rattle.std.proofs.Common.{take, get_or}
+use Rattle.dvg_make.proofs.Common.{Machine, ◌≡◌, ℕ, zero, suc, ◌+◌, ◌<◌, ◌≤◌, List, [], ◌∷◌, ◌++◌, length, Option, Some, None, refl, sym, ap, ◌∙◌, subst, arith, ◌⊎◌, inl, inr, ⊎_elim, Contains, slice_get, Bool, false, Rom, IsKey, Entry, Key, MOST_ENTRIES, listed_at, HasEntry, MadeFor, AllMade, IsAskedFor, EntryFault, Unstraight, Deep, TooManyWords, TooManyEntries, Memory, FramesRefuse, Extends, IsAim, NoAim, InProgress, Bars, obstacle_fault, Collected, HasCalls, IsFramed, BarsHere, AllFramed, PartialEntry, Obstacle, shapes, IsMaking, IsCalled, IsToldOf, TellsHere, keyed_context, start, FrameCall, known_before}
+use Rattle.std.proofs.lemmas.List.Elements.{Contains-append_left, Contains-append_right, Contains-append_cases, Contains-get_or}
+use Rattle.std.proofs.lemmas.Option.{slice_get-get_or}
+use Rattle.std.proofs.Common.{take, drop, get_or, take-suc, take_all, take-append-drop}
 use Rattle.std.specs.Prelude.{IsTrue, ◌↔◌}
 use Rattle.dvg_words.specs.Memory.{InRom}
 use Rattle.dvg_make.specs.Frames.{HasAsked}
 use Rattle.dvg_make.specs.Refusals.{make_fault_of, Refuses, BarsList, NoFramesMade}
-use Rattle.dvg_make.specs.Private.Making.{BarsRoots, NoneHas, HasAll}
-use Rattle.dvg_make.specs.Private.Framing.{BarsCalls, NoneHasCalls}
+use Rattle.dvg_make.specs.Private.Making.{HasAll, IsBlocked, IsRefused}
+use Rattle.dvg_make.specs.Private.Framing.{BarsCalls, NoneHasCalls, BlocksHere}
 use Rattle.dvg_make.proofs.Onward.{listed_entry}
+use Rattle.dvg_make.specs.declared.obstacle.Blocked.{Blocked}
 use Rattle.dvg_make.specs.Private.Making.{asked_shape, IsToldFrom}
 use Rattle.dvg_make.specs.Private.Framing.{KeyedCall, IsGivenHere}
-use Rattle.dvg_make.specs.Accounts.{RootOutside, IsNamedBy, IsNeededBy}
-use Rattle.dvg_make.proofs.Framing.{done_made, in_left, in_right, in_either, collected_more, call_grows, keyed_call, called_told, calls_grow, has_calls_grow}
+use Rattle.dvg_make.specs.Accounts.{RootOutside, IsNamedBy, IsNeededBy, EntryCause, UnlessMemory}
+use Rattle.dvg_make.specs.declared.account.EntryCause.TheVariants as cause
+use Rattle.dvg_make.proofs.Framing.{done_made, collected_more, call_grows, keyed_call, called_told, calls_grow, has_calls_grow}
+use Rattle.dvg_make.proofs.Merging.{only_listed}
 use Rattle.dvg_make.proofs.Finishing.{roots_made}
 use Rattle.dvg_make.proofs.Telling.{length_links, room_of_none, tells_outside}
 use Rattle.dvg_make.proofs.Turns.{called_none}
@@ -19,34 +24,11 @@ use Rattle.dvg_make.proofs.Turns.{called_none}
 -- ---- one element more of what is taken
 
 one_more : {A : Type 0} (xs : List A) (i : ℕ) (d x : A) → i < length xs → Contains (take (suc i) xs) x → Contains (take i xs) x ⊎ (get_or xs i d ≡ x)
-one_more [] i d x lt c = absurd (omega (arith, lt))
-one_more (y ∷ xs) zero d x lt (zero, in_range, is) = inr is
-one_more (y ∷ xs) zero d x lt (suc k, in_range, is) = absurd (omega (arith, in_range))
-one_more (y ∷ xs) (suc i) d x lt (zero, in_range, is) = inl (zero, omega arith, is)
-one_more (y ∷ xs) (suc i) d x lt (suc k, in_range, is) = ⊎_elim (λ c. inl (suc c.0, omega (arith, c.1), c.2)) (λ e. inr e) (one_more xs i d x (omega (arith, lt)) (k, omega (arith, in_range), is))
-
-taken_next : {A : Type 0} (xs : List A) (i : ℕ) (d : A) → i < length xs → take (suc i) xs ≡ take i xs ++ get_or xs i d ∷ []
-taken_next [] i d lt = absurd (omega (arith, lt))
-taken_next (y ∷ xs) zero d lt = refl
-taken_next (y ∷ xs) (suc i) d lt = ap (λ l. y ∷ l) (taken_next xs i d (omega (arith, lt)))
-
-all_taken : {A : Type 0} (xs : List A) (n : ℕ) → length xs ≤ n → take n xs ≡ xs
-all_taken [] zero le = refl
-all_taken [] (suc n) le = refl
-all_taken (x ∷ xs) zero le = absurd (omega (arith, le))
-all_taken (x ∷ xs) (suc n) le = ap (λ l. x ∷ l) (all_taken xs n (omega (arith, le)))
+one_more xs i d x lt c =
+    ⊎_elim (λ h. inl h) (λ h. inr (only_listed (get_or xs i d) x h)) (Contains-append_cases (take i xs) (get_or xs i d ∷ []) x (subst (λ l. Contains l x) (take-suc xs i d lt) c))
 
 in_taken : {A : Type 0} (xs : List A) (n : ℕ) (x : A) → Contains (take n xs) x → Contains xs x
-in_taken [] zero x c = c
-in_taken [] (suc n) x c = c
-in_taken (y ∷ xs) zero x c = absurd (omega (arith, c.1))
-in_taken (y ∷ xs) (suc n) x (zero, lt, is) = (zero, omega arith, is)
-in_taken (y ∷ xs) (suc n) x (suc k, lt, is) = let c = in_taken xs n x (k, omega (arith, lt), is) in (suc c.0, omega (arith, c.1), c.2)
-
-at_index : {A : Type 0} (xs : List A) (i : ℕ) (d : A) → i < length xs → Contains xs (get_or xs i d)
-at_index [] i d lt = absurd (omega (arith, lt))
-at_index (y ∷ xs) zero d lt = (zero, omega arith, refl)
-at_index (y ∷ xs) (suc i) d lt = let c = at_index xs i d (omega (arith, lt)) in (suc c.0, omega (arith, c.1), c.2)
+in_taken xs n x c = subst (λ l. Contains l x) (take-append-drop n xs) (Contains-append_left (take n xs) (drop n xs) x c)
 
 -- an element of what is taken stands at the same place in the whole
 taken_at : {A : Type 0} (xs : List A) (i j : ℕ) (x : A) → slice_get (take i xs) j ≡ Some x → slice_get xs j ≡ Some x
@@ -65,11 +47,6 @@ taken_before (y ∷ xs) (suc i) zero x z e c = absurd (omega (arith, c.1))
 taken_before (y ∷ xs) (suc i) (suc j) x z e (zero, lt, is) = (zero, omega arith, is)
 taken_before (y ∷ xs) (suc i) (suc j) x z e (suc k, lt, is) = let c = taken_before xs i j x z e (k, omega (arith, lt), is) in (suc c.0, omega (arith, c.1), c.2)
 
-got : {A : Type 0} (xs : List A) (i : ℕ) (d : A) → i < length xs → slice_get xs i ≡ Some (get_or xs i d)
-got [] i d lt = absurd (omega (arith, lt))
-got (y ∷ xs) zero d lt = refl
-got (y ∷ xs) (suc i) d lt = got xs i d (omega (arith, lt))
-
 -- ---- roots
 
 pub none_collected : (rom : Rom) → Collected rom [] []
@@ -86,10 +63,13 @@ none_collected rom =
 
 pub root_collected : (rom : Rom) (roots : List (ℕ × Key)) (i j : ℕ) (d : ℕ × Key) (old new : List Entry) → j ≡ suc i → i < length roots → Collected rom (take i roots) old → InProgress rom old ((get_or roots i d).0, (get_or roots i d).1) new [] → HasEntry new (get_or roots i d).0 (get_or roots i d).1 → Collected rom (take j roots) new
 root_collected rom roots i j d old new next lt h m has =
-    subst (λ a. Collected rom a new) (sym (ap (λ n. take n roots) next ∙ taken_next roots i d lt)) (collected_more rom (take i roots) old new (get_or roots i d).0 (get_or roots i d).1 h m has)
+    subst (λ a. Collected rom a new) (sym (ap (λ n. take n roots) next ∙ take-suc roots i d lt)) (collected_more rom (take i roots) old new (get_or roots i d).0 (get_or roots i d).1 h m has)
 
 pub roots_collected : (rom : Rom) (roots : List (ℕ × Key)) (i : ℕ) (done : List Entry) → length roots ≤ i → Collected rom (take i roots) done → Collected rom roots done
-roots_collected rom roots i done le h = subst (λ a. Collected rom a done) (all_taken roots i le) h
+roots_collected rom roots i done le h = subst (λ a. Collected rom a done) (take_all i roots le) h
+
+pub made_all : (rom : Rom) (P : ℕ → Key → Type 0) (list : List Entry) → MadeFor rom P list → AllMade rom list
+made_all rom P list m e c = let is = listed_entry rom.map.rom_first rom.map.rom_last list e m.certificate.each c in record { made = m.each e c; words = is.words_high; depth = is.depth }
 
 module _ (rom : Rom) (roots : List (ℕ × Key)) (i : ℕ) (d : ℕ × Key) (done : List Entry) (lt : i < length roots) (h : Collected rom (take i roots) done) where
   -- a certificate that has all roots has what is made so far, and this root
@@ -98,22 +78,26 @@ module _ (rom : Rom) (roots : List (ℕ × Key)) (i : ℕ) (d : ℕ × Key) (don
       record {
         all = all;
         extends = h.forced list all (λ a k c. has a k (in_taken roots i (a, k) c));
-        has = has (get_or roots i d).0 (get_or roots i d).1 (at_index roots i d lt);
+        has = has (get_or roots i d).0 (get_or roots i d).1 (Contains-get_or roots i d lt);
       }
 
-  outside : (InRom rom.map (get_or roots i d).0 × IsKey (get_or roots i d).1 → ⊥) → NoneHas rom roots
-  outside not list cert all has =
-      let r = has (get_or roots i d).0 (get_or roots i d).1 (at_index roots i d lt) in
-      let l = listed_at list (get_or roots i d).0 (get_or roots i d).1 r.0 r.1 in
-      let e = listed_entry rom.map.rom_first rom.map.rom_last list r.0 cert.each l.listed in
-      not ((subst (λ a. rom.map.rom_first ≤ a) l.addr_is e.addr_low, subst (λ a. a ≤ rom.map.rom_last) l.addr_is e.addr_high), subst IsKey l.key_is e.key)
+  none_made : (frames : List (List ℕ)) → NoAim rom done ((get_or roots i d).0, (get_or roots i d).1) → NoFramesMade rom roots frames
+  none_made frames b list m = b list (aims list (made_all rom (IsAskedFor rom.machine roots frames list) list m) (λ a k r. m.rooted a k (inl r)))
 
-  pub root_barred : (why : EntryFault) → Bars rom done ((get_or roots i d).0, (get_or roots i d).1) why → BarsRoots rom roots why
-  root_barred (Unstraight word) b = λ list cert all has. b list (aims list all has)
-  root_barred Deep b = λ list cert all has. b list (aims list all has)
-  root_barred TooManyWords b = λ list cert all has. b list (aims list all has)
-  root_barred TooManyEntries b = λ list all has. b list (aims list all has)
-  root_barred Memory b = tt
+  -- so what a refusal says of such lists, it says of those that have all that frames call, too
+  pub root_barred : (frames : List (List ℕ)) (why : EntryFault) → Bars rom done ((get_or roots i d).0, (get_or roots i d).1) why → BarsList rom roots frames why
+  root_barred frames (Unstraight word) b = none_made frames b
+  root_barred frames Deep b = none_made frames b
+  root_barred frames TooManyWords b = none_made frames b
+  root_barred frames TooManyEntries b = λ list all has. b list (aims list all (λ a k r. has a k (inl r)))
+  root_barred frames Memory b = tt
+
+  outside : (InRom rom.map (get_or roots i d).0 × IsKey (get_or roots i d).1 → ⊥) → (frames : List (List ℕ)) → NoFramesMade rom roots frames
+  outside not frames list m =
+      let r = m.rooted (get_or roots i d).0 (get_or roots i d).1 (inl (Contains-get_or roots i d lt)) in
+      let l = listed_at list (get_or roots i d).0 (get_or roots i d).1 r.0 r.1 in
+      let e = listed_entry rom.map.rom_first rom.map.rom_last list r.0 m.certificate.each l.listed in
+      not ((subst (λ a. rom.map.rom_first ≤ a) l.addr_is e.addr_low, subst (λ a. a ≤ rom.map.rom_last) l.addr_is e.addr_high), subst IsKey l.key_is e.key)
 
 -- ---- what is needed
 
@@ -183,7 +167,7 @@ module _ (machine : Machine) (roots : List (ℕ × Key)) (frames : List (List �
       fewer i is a k (inr b) = has a k (inr (b.0, taken_before frames n i words b.0 is b.1, b.2))
 
 -- what is told of a root, whatever the frames are
-pub root_told : (rom : Rom) (roots : List (ℕ × Key)) (i : ℕ) (d : ℕ × Key) (done : List Entry) → i < length roots → Collected rom (take i roots) done → (chain : List PartialEntry) (obstacle : Obstacle) → IsToldFrom rom done ((get_or roots i d).0, (get_or roots i d).1) chain obstacle → (frames : List (List ℕ)) → IsToldOf rom roots frames None chain obstacle
+root_told : (rom : Rom) (roots : List (ℕ × Key)) (i : ℕ) (d : ℕ × Key) (done : List Entry) → i < length roots → Collected rom (take i roots) done → (chain : List PartialEntry) (obstacle : Obstacle) → IsToldFrom rom done ((get_or roots i d).0, (get_or roots i d).1) chain obstacle → (frames : List (List ℕ)) → IsToldOf rom roots frames None chain obstacle
 root_told rom roots i d done lt h chain obstacle b frames =
     record {
       list = b.list;
@@ -201,42 +185,71 @@ root_told rom roots i d done lt h chain obstacle b frames =
     before a k c = let f = h.rooted a k c in (f.0, b.extends a k f.0 f.1)
 
     here : IsNamedBy rom.machine roots frames b.list None (asked_shape (get_or roots i d))
-    here = (i, got roots i d lt, has_roots rom.machine (take i roots) b.list before)
+    here = (i, slice_get-get_or roots i d lt, has_roots rom.machine (take i roots) b.list before)
 
     was : (a : ℕ) (k : Key) → HasEntry done a k → IsNamed rom.machine roots frames b.list a k ⊎ IsCalled rom done [] a k
     was a k has = ⊎_elim (λ c. inl (named_taken rom.machine roots frames b.list i before a k c)) (λ c. inr c) (h.needed a k has)
+
+-- what is said whatever the frames are
+roots_refused : (rom : Rom) (roots : List (ℕ × Key)) (frames : List (List ℕ)) (why : EntryFault) → ((f : List (List ℕ)) → BarsList rom roots f why) → FramesRefuse rom roots frames (record { call = None; why = why })
+roots_refused rom roots frames why b = record { list = b frames; root = b []; frame = tt }
+
+unless : (c : EntryCause) (T : Type 0) → T → UnlessMemory c T
+unless cause.Memory T t = tt
+unless cause.RootOutside T t = t
+unless cause.Missing T t = t
+unless cause.Odd T t = t
+unless cause.Halt T t = t
+unless cause.BeamUnknown T t = t
+unless cause.ScaleUnknown T t = t
+unless (cause.Ring from) T t = t
+unless (cause.Deep to key) T t = t
+unless (cause.TooManyWords words) T t = t
+unless cause.TooManyEntries T t = t
 
 module _ (rom : Rom) (roots : List (ℕ × Key)) (i : ℕ) (d : ℕ × Key) (done : List Entry) (lt : i < length roots) (h : Collected rom (take i roots) done) where
   outside_at : (r : Bool) → r ≡ false → (IsTrue r ↔ (InRom rom.map (get_or roots i d).0 × IsKey (get_or roots i d).1)) → InRom rom.map (get_or roots i d).0 × IsKey (get_or roots i d).1 → ⊥
   outside_at r failed is inside = let t : IsTrue false = subst IsTrue failed (is.1 inside) in cc t
 
-  -- a root outside the ROM, or with a key over 15
-  pub outside_barred : (r : Bool) → r ≡ false → (IsTrue r ↔ (InRom rom.map (get_or roots i d).0 × IsKey (get_or roots i d).1)) → (obstacle : Obstacle) → obstacle ≡ record { cursor = (start (get_or roots i d).0 (get_or roots i d).1).cursor; cause = RootOutside } → BarsRoots rom roots (obstacle_fault obstacle)
-  outside_barred r failed is obstacle e = subst (λ o. BarsRoots rom roots (obstacle_fault o)) (sym e) (outside rom roots i d done lt h (outside_at r failed is))
-
-  pub outside_told : (r : Bool) → r ≡ false → (IsTrue r ↔ (InRom rom.map (get_or roots i d).0 × IsKey (get_or roots i d).1)) → (chain : List PartialEntry) → chain ≡ [] → (obstacle : Obstacle) → obstacle ≡ record { cursor = (start (get_or roots i d).0 (get_or roots i d).1).cursor; cause = RootOutside } → (frames : List (List ℕ)) → IsToldOf rom roots frames None chain obstacle
-  outside_told r failed is chain none obstacle e =
-      root_told rom roots i d done lt h chain obstacle
+  -- a root whose entry can't be made
+  pub root_refused : (blocked : Blocked) → IsBlocked rom done ((get_or roots i d).0, (get_or roots i d).1) blocked → (frames : List (List ℕ)) → IsRefused rom roots frames blocked
+  root_refused blocked b frames =
+      subst (λ (call : Option FrameCall). IsRefused rom roots frames (record { call = call; chain = blocked.chain; obstacle = blocked.obstacle })) (sym b.call)
       (record {
-        list = done;
-        is_done = h.is_done;
-        extends = λ addr key e q. q;
-        needed = called_none rom done ((get_or roots i d).0, (get_or roots i d).1) chain none;
-        room = room_of_none done chain none h.is_done.room;
-        tells = tells_outside rom done (get_or roots i d).0 (get_or roots i d).1 (outside_at r failed is) chain none obstacle e;
+        refuse = roots_refused rom roots frames (obstacle_fault blocked.obstacle) (λ f. root_barred rom roots i d done lt h f (obstacle_fault blocked.obstacle) b.bars);
+        told = unless blocked.obstacle.cause (IsToldOf rom roots frames None blocked.chain blocked.obstacle) (root_told rom roots i d done lt h blocked.chain blocked.obstacle b.told frames);
       })
+
+  -- a root outside the ROM, or with a key over 15
+  pub outside_refused : (r : Bool) → r ≡ false → (IsTrue r ↔ (InRom rom.map (get_or roots i d).0 × IsKey (get_or roots i d).1)) → (chain : List PartialEntry) → chain ≡ [] → (obstacle : Obstacle) → obstacle ≡ record { cursor = (start (get_or roots i d).0 (get_or roots i d).1).cursor; cause = RootOutside } → (frames : List (List ℕ)) → IsRefused rom roots frames (record { call = None; chain = chain; obstacle = obstacle })
+  outside_refused r failed is chain none obstacle e frames =
+      record {
+        refuse = subst (λ o. FramesRefuse rom roots frames (record { call = None; why = obstacle_fault o })) (sym e) (roots_refused rom roots frames (Unstraight (get_or roots i d).0) (outside rom roots i d done lt h (outside_at r failed is)));
+        told = unless obstacle.cause (IsToldOf rom roots frames None chain obstacle) (root_told rom roots i d done lt h chain obstacle told frames);
+      }
+    where
+      told : IsToldFrom rom done ((get_or roots i d).0, (get_or roots i d).1) chain obstacle
+      told =
+          record {
+            list = done;
+            is_done = h.is_done;
+            extends = λ addr key e q. q;
+            needed = called_none rom done ((get_or roots i d).0, (get_or roots i d).1) chain none;
+            room = room_of_none done chain none h.is_done.room;
+            tells = tells_outside rom done (get_or roots i d).0 (get_or roots i d).1 (outside_at r failed is) chain none obstacle e;
+          }
 
 -- ---- frames
 
 -- what is told of a frame's call
-pub call_told : (rom : Rom) (roots : List (ℕ × Key)) (frames : List (List ℕ)) (i : ℕ) (d : List ℕ) (old : List Entry) → i < length frames → AllFramed rom roots (take i frames) old → (at : ℕ) (chain : List PartialEntry) (obstacle : Obstacle) → TellsHere rom (get_or frames i d) old at chain obstacle → IsToldOf rom roots frames (Some (record { frame = i; at = at })) chain obstacle
+call_told : (rom : Rom) (roots : List (ℕ × Key)) (frames : List (List ℕ)) (i : ℕ) (d : List ℕ) (old : List Entry) → i < length frames → AllFramed rom roots (take i frames) old → (at : ℕ) (chain : List PartialEntry) (obstacle : Obstacle) → TellsHere rom (get_or frames i d) old at chain obstacle → IsToldOf rom roots frames (Some (record { frame = i; at = at })) chain obstacle
 call_told rom roots frames i d old lt h at chain obstacle t =
     record {
       list = t.list;
       within = t.within;
       made = t.made;
       asked = asked_shape (t.to, t.scale);
-      named = (get_or frames i d, got frames i d lt, t.call, before);
+      named = (get_or frames i d, slice_get-get_or frames i d lt, t.call, before);
       needed = λ shape has. ⊎_elim (λ g. inl (asked_here shape.addr shape.key g)) (λ c. inr (needed_by rom t.list chain shape.addr shape.key c)) (t.needed h.asked h.collected shape.addr shape.key has);
       room = room_of_links t.list chain t.room;
       tells = t.tells;
@@ -256,10 +269,7 @@ call_told rom roots frames i d old lt h at chain obstacle t =
 
     asked_here : (a : ℕ) (k : Key) → IsGivenHere rom.machine (get_or frames i d) h.asked t.list a k → IsNamed rom.machine roots frames t.list a k
     asked_here a k (inl c) = asked_before a k (h.asked_for a k c)
-    asked_here a k (inr c) = named_call rom.machine roots frames t.list i (get_or frames i d) (got frames i d lt) before a k c
-
-pub made_all : (rom : Rom) (P : ℕ → Key → Type 0) (list : List Entry) → MadeFor rom P list → AllMade rom list
-made_all rom P list m e c = let is = listed_entry rom.map.rom_first rom.map.rom_last list e m.certificate.each c in record { made = m.each e c; words = is.words_high; depth = is.depth }
+    asked_here a k (inr c) = named_call rom.machine roots frames t.list i (get_or frames i d) (slice_get-get_or frames i d lt) before a k c
 
 pub no_frames : (rom : Rom) (roots : List (ℕ × Key)) (frames : List (List ℕ)) (done : List Entry) → Collected rom roots done → AllFramed rom roots (take 0 frames) done
 no_frames rom roots frames done h =
@@ -281,10 +291,10 @@ module _ (rom : Rom) (roots : List (ℕ × Key)) (frames : List (List ℕ)) (i :
   now = get_or frames i d
 
   was_taken : (words : List ℕ) → Contains (take i frames) words → Contains (take (suc i) frames) words
-  was_taken words c = subst (λ l. Contains l words) (sym (taken_next frames i d lt)) (in_left (take i frames) (now ∷ []) words c)
+  was_taken words c = subst (λ l. Contains l words) (sym (take-suc frames i d lt)) (Contains-append_left (take i frames) (now ∷ []) words c)
 
   now_taken : Contains (take (suc i) frames) now
-  now_taken = subst (λ l. Contains l now) (sym (taken_next frames i d lt)) (in_right (take i frames) (now ∷ []) now (0, omega arith, refl))
+  now_taken = subst (λ l. Contains l now) (sym (take-suc frames i d lt)) (Contains-append_right (take i frames) (now ∷ []) now (0, omega arith, refl))
 
   module _ (new : List Entry) (ext : Extends old new) (f : IsFramed rom now old new) where
     still_asked : (addr : ℕ) (key : Key) → IsAskedFor rom.machine roots (take i frames) old addr key → IsAskedFor rom.machine roots (take (suc i) frames) new addr key
@@ -297,7 +307,7 @@ module _ (rom : Rom) (roots : List (ℕ × Key)) (frames : List (List ℕ)) (i :
           rooted = λ addr key r. let x = h.rooted addr key r in (x.0, ext addr key x.0 x.1);
           has_calls = λ words c. ⊎_elim (λ x. has_calls_grow rom.machine words old new ext (h.has_calls words x)) (λ e. subst (λ z. HasCalls rom.machine z new) e f.has_calls) (one_more frames i d words lt c);
           asked = h.asked ++ f.calls;
-          asked_for = λ addr key c. ⊎_elim (λ x. still_asked addr key (h.asked_for addr key x)) (λ x. inr (now, now_taken, f.calls_are addr key x)) (in_either h.asked f.calls (addr, key) c);
+          asked_for = λ addr key c. ⊎_elim (λ x. still_asked addr key (h.asked_for addr key x)) (λ x. inr (now, now_taken, f.calls_are addr key x)) (Contains-append_cases h.asked f.calls (addr, key) c);
           collected = f.collected h.asked h.collected;
           forced = λ list all has calls. f.forced list all (h.forced list all has (λ words c. calls words (was_taken words c))) (calls now now_taken);
         }
@@ -313,7 +323,7 @@ module _ (rom : Rom) (roots : List (ℕ × Key)) (frames : List (List ℕ)) (i :
     has_before = h.forced list all (λ a k r. has a k (inl r)) (λ words c to scale calls. has to scale (inr (words, in_taken frames i words c, calls)))
 
     has_now : HasCalls rom.machine now list
-    has_now to scale calls = has to scale (inr (now, at_index frames i d lt, calls))
+    has_now to scale calls = has to scale (inr (now, Contains-get_or frames i d lt, calls))
 
   none_framed : NoneHasCalls rom now old → NoFramesMade rom roots frames
   none_framed none list m = let all = made_all rom (IsAskedFor rom.machine roots frames list) list m in none list all (has_before list all m.rooted) (has_now list all m.rooted)
@@ -325,29 +335,26 @@ module _ (rom : Rom) (roots : List (ℕ × Key)) (frames : List (List ℕ)) (i :
   list_barred TooManyEntries b = λ list all has. b list all (has_before list all has) (has_now list all has)
   list_barred Memory b = tt
 
-  pub frame_refused : (at : ℕ) (why : EntryFault) → BarsHere rom now old at why → FramesRefuse rom roots frames (record { call = Some (record { frame = i; at = at }); why = why })
-  frame_refused at why b = record { list = list_barred why b.0; root = tt; frame = (now, got frames i d lt, b.1, b.2) }
+  frame_refused : (at : ℕ) (why : EntryFault) → BarsHere rom now old at why → FramesRefuse rom roots frames (record { call = Some (record { frame = i; at = at }); why = why })
+  frame_refused at why b = record { list = list_barred why b.0; root = tt; frame = (now, slice_get-get_or frames i d lt, b.1, b.2) }
+
+  pub call_refused : (blocked : Blocked) → BlocksHere rom i now old blocked → IsRefused rom roots frames blocked
+  call_refused blocked b =
+      subst (λ (call : Option FrameCall). IsRefused rom roots frames (record { call = call; chain = blocked.chain; obstacle = blocked.obstacle })) (sym b.call)
+      (record {
+        refuse = frame_refused b.at (obstacle_fault blocked.obstacle) b.bars;
+        told = unless blocked.obstacle.cause (IsToldOf rom roots frames (Some (record { frame = i; at = b.at })) blocked.chain blocked.obstacle) (call_told rom roots frames i d old lt h b.at blocked.chain blocked.obstacle b.told);
+      })
 
 pub frames_framed : (rom : Rom) (roots : List (ℕ × Key)) (frames : List (List ℕ)) (i : ℕ) (done : List Entry) → length frames ≤ i → AllFramed rom roots (take i frames) done → AllFramed rom roots frames done
-frames_framed rom roots frames i done le h = subst (λ f. AllFramed rom roots f done) (all_taken frames i le) h
+frames_framed rom roots frames i done le h = subst (λ f. AllFramed rom roots f done) (take_all i frames le) h
 
--- ---- roots that are refused
-
-roots_none : (rom : Rom) (roots : List (ℕ × Key)) (frames : List (List ℕ)) → NoneHas rom roots → NoFramesMade rom roots frames
-roots_none rom roots frames none list m = none list m.certificate (made_all rom (IsAskedFor rom.machine roots frames list) list m) (λ a k r. m.rooted a k (inl r))
-
-roots_list : (rom : Rom) (roots : List (ℕ × Key)) (frames : List (List ℕ)) (why : EntryFault) → BarsRoots rom roots why → BarsList rom roots frames why
-roots_list rom roots frames (Unstraight word) b = roots_none rom roots frames b
-roots_list rom roots frames Deep b = roots_none rom roots frames b
-roots_list rom roots frames TooManyWords b = roots_none rom roots frames b
-roots_list rom roots frames TooManyEntries b = λ list all has. b list all (λ a k r. has a k (inl r))
-roots_list rom roots frames Memory b = tt
-
-pub roots_refused : (rom : Rom) (roots : List (ℕ × Key)) (frames : List (List ℕ)) (why : EntryFault) → BarsRoots rom roots why → FramesRefuse rom roots frames (record { call = None; why = why })
-roots_refused rom roots frames why b = record { list = roots_list rom roots frames why b; root = roots_list rom roots [] why b; frame = tt }
-
-pub memory_refused : (rom : Rom) (roots : List (ℕ × Key)) (frames : List (List ℕ)) → FramesRefuse rom roots frames (record { call = None; why = Memory })
-memory_refused rom roots frames = record { list = tt; root = tt; frame = tt }
+-- where memory was out
+pub memory_refused : (rom : Rom) (roots : List (ℕ × Key)) (frames : List (List ℕ)) (blocked : Blocked) → blocked.call ≡ None → blocked.obstacle.cause ≡ cause.Memory → IsRefused rom roots frames blocked
+memory_refused rom roots frames blocked none memory =
+    subst (λ (call : Option FrameCall). IsRefused rom roots frames (record { call = call; chain = blocked.chain; obstacle = blocked.obstacle })) (sym none)
+    (subst (λ (why : EntryCause). IsRefused rom roots frames (record { call = None; chain = blocked.chain; obstacle = record { cursor = blocked.obstacle.cursor; cause = why } })) (sym memory)
+    (record { refuse = record { list = tt; root = tt; frame = tt }; told = tt }))
 
 -- what a refusal says where there is no frame
 pub as_make_fault : (rom : Rom) (roots : List (ℕ × Key)) (why : EntryFault) → BarsList rom roots [] why → Refuses rom roots (make_fault_of why)

@@ -1,6 +1,7 @@
 -- A frame whose calls are made one after another.
+use Rattle.dvg_make.proofs.Common.{Machine, ◌≡◌, ℕ, ◌+◌, ◌<◌, ◌≤◌, List, [], ◌∷◌, ◌++◌, length, unwrap_or, Option, Some, None, refl, sym, ap, ◌∙◌, subst, arith, ◌⊎◌, inl, inr, ⊎_elim, Contains, IfSome, cell_at, InstrFits, Rom, frame_word, ADDRESS_END, Holds, Format, Instr, Labs, Halt, Jsrl, Rtsl, Jmpl, IsKey, entry_at, Entry, Key, Any, MOST_ENTRIES, LeadsTo, next_address, IsClaim, frame_context, target, scale_set, callee_at, scale_before, known_before, known_past, Item, Known, listed_at, in_bound, HasEntry, AllMade, EntryFault, Unstraight, Deep, TooManyWords, TooManyEntries, Memory, Extends, IsAim, NoAim, IsDone, InProgress, Bars, IsCalled, IsPresent, Collected, obstacle_fault, HasCalls, IsFramed, BarsHere, PartialEntry}
+use Rattle.std.proofs.lemmas.List.Elements.{Contains-append_left, Contains-append_right, Contains-append_cases}
 use Rattle.dvg_words.specs.Values.{Source}
-use Rattle.dvg_make.proofs.Common.{Machine, ◌≡◌, ℕ, zero, suc, ◌+◌, ◌<◌, ◌≤◌, List, [], ◌∷◌, ◌++◌, length, unwrap_or, Option, Some, None, refl, sym, ap, ◌∙◌, subst, arith, ◌⊎◌, inl, inr, ⊎_elim, Contains, IfSome, cell_at, InstrFits, Rom, frame_word, ADDRESS_END, Holds, Format, Instr, Labs, Halt, Jsrl, Rtsl, Jmpl, IsKey, entry_at, Entry, Key, Any, MOST_ENTRIES, LeadsTo, next_address, IsClaim, frame_context, target, scale_set, callee_at, scale_before, known_before, known_past, Item, Known, listed_at, in_bound, HasEntry, AllMade, EntryFault, Unstraight, Deep, TooManyWords, TooManyEntries, Memory, Extends, IsAim, NoAim, IsDone, InProgress, Bars, IsCalled, IsPresent, Collected, HasCalls, IsFramed, BarsHere, TellsHere, PartialEntry, Obstacle}
 use Rattle.std.proofs.Common.{append_assoc}
 use Rattle.std.proofs.lemmas.List.{append-nil}
 use Rattle.std.proofs.lemmas.Bool.{cases_lt}
@@ -12,10 +13,11 @@ use Rattle.dvg_items.proofs.Leading.{same_lead, shorter, everywhere}
 use Rattle.dvg_make.specs.Made.{Barred}
 use Rattle.dvg_make.specs.Frames.{IsKeyed, AllKeyed, FrameAsksFor}
 use Rattle.dvg_make.specs.Refusals.{NoneAccepts, BarsEntry, CallBarredAt}
-use Rattle.dvg_make.specs.Private.Making.{AllCalled}
-use Rattle.dvg_make.specs.Private.Framing.{IsCalledBy, BarsTarget, NoneHasCalls, LongHasCalls, TellsTarget, KeyedCall, IsGivenHere}
+use Rattle.dvg_make.specs.Private.Making.{AllCalled, IsToldFrom}
+use Rattle.dvg_make.specs.Private.Framing.{IsCalledBy, NoneHasCalls, LongHasCalls, KeyedCall, IsGivenHere, BlocksTarget, BlocksHere}
+use Rattle.dvg_make.specs.declared.obstacle.Blocked.{Blocked}
 use Rattle.dvg_make.proofs.Matching.{exact_named}
-use Rattle.dvg_make.proofs.Merging.{extends_more, extends_second, all_merged}
+use Rattle.dvg_make.proofs.Merging.{only_listed, extends_more, extends_second, all_merged}
 use Rattle.dvg_make.proofs.Chains.{called_grows}
 use Rattle.dvg_make.proofs.Bettering.{better}
 use Rattle.dvg_make.proofs.FrameBest.{upheld, frame_cover}
@@ -144,31 +146,13 @@ module _ (machine : Machine) (words : List ℕ) (list : List Entry) where
 
 -- ---- what is asked for, one more
 
-in_one : (x y : ℕ × Key) → Contains (x ∷ []) y → x ≡ y
-in_one x y (zero, lt, is) = is
-in_one x y (suc k, lt, is) = absurd (omega (arith, lt))
-
-pub in_left : {A : Type 0} (a b : List A) (x : A) → Contains a x → Contains (a ++ b) x
-in_left [] b x c = absurd (omega (arith, c.1))
-in_left (y ∷ a) b x (zero, lt, is) = (zero, omega arith, is)
-in_left (y ∷ a) b x (suc k, lt, is) = let c = in_left a b x (k, omega (arith, lt), is) in (suc c.0, omega (arith, c.1), c.2)
-
-pub in_right : {A : Type 0} (a b : List A) (x : A) → Contains b x → Contains (a ++ b) x
-in_right [] b x c = c
-in_right (y ∷ a) b x c = let d = in_right a b x c in (suc d.0, omega (arith, d.1), d.2)
-
-pub in_either : {A : Type 0} (a b : List A) (x : A) → Contains (a ++ b) x → Contains a x ⊎ Contains b x
-in_either [] b x c = inr c
-in_either (y ∷ a) b x (zero, lt, is) = inl (zero, omega arith, is)
-in_either (y ∷ a) b x (suc k, lt, is) = ⊎_elim (λ c. inl (suc c.0, omega (arith, c.1), c.2)) (λ c. inr c) (in_either a b x (k, omega (arith, lt), is))
-
 pub collected_more : (rom : Rom) (asked : List (ℕ × Key)) (old new : List Entry) (addr : ℕ) (key : Key) → Collected rom asked old → InProgress rom old (addr, key) new [] → HasEntry new addr key → Collected rom (asked ++ (addr, key) ∷ []) new
 collected_more rom asked old new addr key h m has =
     record {
       is_done = m.is_done;
-      rooted = λ a k c. ⊎_elim (λ x. let f = h.rooted a k x in (f.0, m.extends a k f.0 f.1)) (λ x. subst (λ (r : ℕ × Key). HasEntry new r.0 r.1) (in_one (addr, key) (a, k) x) has) (in_either asked ((addr, key) ∷ []) (a, k) c);
+      rooted = λ a k c. ⊎_elim (λ x. let f = h.rooted a k x in (f.0, m.extends a k f.0 f.1)) (λ x. subst (λ (r : ℕ × Key). HasEntry new r.0 r.1) (only_listed (addr, key) (a, k) x) has) (Contains-append_cases asked ((addr, key) ∷ []) (a, k) c);
       needed = needs;
-      forced = λ made all has_all. (m.forced made (record { all = all; extends = h.forced made all (λ a k c. has_all a k (in_left asked ((addr, key) ∷ []) (a, k) c)); has = has_all addr key (in_right asked ((addr, key) ∷ []) (addr, key) (0, omega arith, refl)) })).0;
+      forced = λ made all has_all. (m.forced made (record { all = all; extends = h.forced made all (λ a k c. has_all a k (Contains-append_left asked ((addr, key) ∷ []) (a, k) c)); has = has_all addr key (Contains-append_right asked ((addr, key) ∷ []) (addr, key) (0, omega arith, refl)) })).0;
     }
   where
     was : (a : ℕ) (k : Key) → IsPresent old [] a k → IsPresent new [] a k
@@ -179,8 +163,8 @@ collected_more rom asked old new addr key h m has =
     needs a k x =
         ⊎_elim
         (λ given. ⊎_elim
-        (λ f. ⊎_elim (λ c. inl (in_left asked ((addr, key) ∷ []) (a, k) c)) (λ c. inr (called_grows rom old new [] [] m.extends was a k c)) (h.needed a k f))
-        (λ s. inl (in_right asked ((addr, key) ∷ []) (a, k) (0, omega arith, λ x. (s.0 x, s.1 x))))
+        (λ f. ⊎_elim (λ c. inl (Contains-append_left asked ((addr, key) ∷ []) (a, k) c)) (λ c. inr (called_grows rom old new [] [] m.extends was a k c)) (h.needed a k f))
+        (λ s. inl (Contains-append_right asked ((addr, key) ∷ []) (a, k) (0, omega arith, λ x. (s.0 x, s.1 x))))
         given)
         (λ c. inr c)
         (m.needed a k (inl x))
@@ -257,7 +241,7 @@ module _ (rom : Rom) (words : List ℕ) (old done : List Entry) (at : ℕ) (scal
           is_key = w.is_key;
           near = w.near;
           calls = w.calls ++ (to, scale) ∷ [];
-          calls_are = λ a k c. ⊎_elim (λ x. call_grows rom.machine words done new m.extends a k (w.calls_are a k x)) (λ x. subst (λ (r : ℕ × Key). KeyedCall rom.machine words new r.0 r.1) (in_one (to, scale) (a, k) x) (called_by new m.extends)) (in_either w.calls ((to, scale) ∷ []) (a, k) c);
+          calls_are = λ a k c. ⊎_elim (λ x. call_grows rom.machine words done new m.extends a k (w.calls_are a k x)) (λ x. subst (λ (r : ℕ × Key). KeyedCall rom.machine words new r.0 r.1) (only_listed (to, scale) (a, k) x) (called_by new m.extends)) (Contains-append_cases w.calls ((to, scale) ∷ []) (a, k) c);
           collected = λ asked c. subst (λ a. Collected rom a new) (append_assoc asked w.calls ((to, scale) ∷ [])) (collected_more rom (asked ++ w.calls) done new to scale (w.collected asked c) m has);
           forced = λ list all ext has_calls. let e = w.forced list all ext has_calls in (m.forced list (record { all = all; extends = e; has = has_calls to scale (called_by list e).calls })).0;
         }
@@ -383,32 +367,39 @@ at_nothing rom words old done at scale w not =
       forced = w.forced;
     }
 
-pub target_barred : (rom : Rom) (words : List ℕ) (old done : List Entry) (at : ℕ) (scale : Key) → FrameWalk rom words old done at scale → (format : Format) (instr : Instr) → cell_at (frame_word rom.machine words) at ≡ Holds format instr → (why : EntryFault) → BarsTarget rom done instr scale why → BarsHere rom words old at why
-target_barred rom words old done at scale w format instr is why b = call_barred rom words old done at scale w format instr is b.0 b.1 why b.2
-
--- what is told of it
-pub target_told : (rom : Rom) (words : List ℕ) (old done : List Entry) (at : ℕ) (scale : Key) → FrameWalk rom words old done at scale → (format : Format) (instr : Instr) → cell_at (frame_word rom.machine words) at ≡ Holds format instr → (chain : List PartialEntry) (obstacle : Obstacle) → TellsTarget rom done instr scale chain obstacle → TellsHere rom words old at chain obstacle
+-- a refusal of the entry that the item calls is one of the frame's call
+pub target_blocked : (rom : Rom) (words : List ℕ) (old done : List Entry) (at : ℕ) (scale : Key) → FrameWalk rom words old done at scale → (format : Format) (instr : Instr) → cell_at (frame_word rom.machine words) at ≡ Holds format instr → (blocked : Blocked) → BlocksTarget rom done instr scale blocked → (index : ℕ) → BlocksHere rom index words old (record { call = Some (record { frame = index; at = at }); chain = blocked.chain; obstacle = blocked.obstacle })
 unfolding called_by
-target_told rom words old done at scale w format instr is chain obstacle b =
-    let call = called_by rom words old done at scale w format instr is b.0 b.1 b.2.list b.2.extends in
+target_blocked rom words old done at scale w format instr is blocked b index =
     record {
-      list = b.2.list;
-      within = b.2.is_done.entries;
-      made = done_made rom b.2.list b.2.is_done;
-      to = b.0;
-      scale = scale;
-      call = record { calls = call.calls; at_is = refl; before = call.keyed };
-      extends = λ a k e q. b.2.extends a k e (w.grows a k e q);
-      needed = λ asked h. called_told rom done b.2.list (b.0, scale) chain (IsGivenHere rom.machine words asked b.2.list) b.2.extends b.2.needed (given asked h) (inr call);
-      room = b.2.room;
-      tells = b.2.tells;
-      no_root = b.3;
+      at = at;
+      call = refl;
+      bars = call_barred rom words old done at scale w format instr is b.0 b.1 (obstacle_fault blocked.obstacle) b.2.bars;
+      told = record {
+        list = t.list;
+        within = t.is_done.entries;
+        made = done_made rom t.list t.is_done;
+        to = b.0;
+        scale = scale;
+        call = record { calls = call.calls; at_is = refl; before = call.keyed };
+        extends = λ a k e q. t.extends a k e (w.grows a k e q);
+        needed = λ asked h. called_told rom done t.list (b.0, scale) blocked.chain (IsGivenHere rom.machine words asked t.list) t.extends t.needed (given asked h) (inr call);
+        room = t.room;
+        tells = t.tells;
+        no_root = b.2.no_root;
+      };
     }
   where
-    given : (asked : List (ℕ × Key)) → Collected rom asked old → (a : ℕ) (k : Key) → HasEntry done a k → IsGivenHere rom.machine words asked b.2.list a k ⊎ IsCalled rom done [] a k
+    t : IsToldFrom rom done (b.0, scale) blocked.chain blocked.obstacle
+    t = b.2.told
+
+    call : KeyedCall rom.machine words t.list b.0 scale
+    call = called_by rom words old done at scale w format instr is b.0 b.1 t.list t.extends
+
+    given : (asked : List (ℕ × Key)) → Collected rom asked old → (a : ℕ) (k : Key) → HasEntry done a k → IsGivenHere rom.machine words asked t.list a k ⊎ IsCalled rom done [] a k
     given asked h a k has =
         ⊎_elim
-        (λ c. inl (⊎_elim (λ x. inl x) (λ x. inr (call_grows rom.machine words done b.2.list b.2.extends a k (w.calls_are a k x))) (in_either asked w.calls (a, k) c)))
+        (λ c. inl (⊎_elim (λ x. inl x) (λ x. inr (call_grows rom.machine words done t.list t.extends a k (w.calls_are a k x))) (Contains-append_cases asked w.calls (a, k) c)))
         (λ c. inr c)
         ((w.collected asked h).needed a k has)
 

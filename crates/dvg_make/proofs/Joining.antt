@@ -1,5 +1,6 @@
 -- A shape so far and the tail behind it are a made entry.
-use Rattle.dvg_make.proofs.Common.{Machine, ◌≡◌, ℕ, ◌+◌, ◌-◌, ◌<◌, ◌≤◌, List, [], ◌∷◌, ◌++◌, Option, Some, None, refl, sym, ap, ◌∙◌, subst, arith, zero, suc, ⊎_elim, Contains, IfSome, ints, Rom, rom_word, Point, Jmpl, ADDRESS_END, IsKey, IsEntry, entry_at, End, Rel, Abs, Lost, Entry, Key, LitBox, Empty, Span, MOST_DEPTH, MOST_WORDS, IsClaim, LeadsTo, Context, scale_before, place_before, known_before, InBox, IsInside, box_extent, relative_corners, step_past, seen_at, seen_with, extent, Last, Item, Shape, Known, LitExtent, Nothing, Between, Seen, all_append, listed_at, PartialEntry, lit_points, HoldsAll, IsLeast, HasEntry, MadeEntry, IsDone, keyed_context, entry_of, IsStraight, AllFine, IsPartial, Passes, Extends, AreTails, IsFinished}
+use Rattle.dvg_make.proofs.Common.{Machine, ◌≡◌, ℕ, ◌+◌, ◌-◌, ◌<◌, ◌≤◌, List, [], ◌∷◌, ◌++◌, Option, Some, None, refl, sym, ap, ◌∙◌, subst, arith, ⊎_elim, Contains, IfSome, ints, Rom, rom_word, Point, Jmpl, ADDRESS_END, IsKey, IsEntry, entry_at, End, Rel, Abs, Lost, Entry, Key, LitBox, Empty, Span, MOST_DEPTH, MOST_WORDS, IsClaim, LeadsTo, Context, scale_before, place_before, known_before, InBox, IsInside, box_extent, relative_corners, step_past, seen_at, seen_with, extent, Last, Item, Shape, Known, LitExtent, Nothing, Between, Seen, all_append, listed_at, PartialEntry, lit_points, HoldsAll, IsLeast, HasEntry, MadeEntry, IsDone, keyed_context, entry_of, IsStraight, AllFine, IsPartial, Passes, Extends, AreTails, IsFinished}
+use Rattle.std.proofs.lemmas.List.Elements.{Contains-append_cases}
 use Rattle.std.proofs.Common.{◌≤ℤ◌, ℤ, neg_ℤ}
 use Rattle.dvg_words.specs.declared.instruction.Format.TheVariants.{Short}
 use Rattle.dvg_cert.specs.Entry.{IsBox}
@@ -14,7 +15,7 @@ use Rattle.dvg_make.specs.Private.Partial.{IsFine, IsTail, EndsBy, EndsByOne}
 use Rattle.dvg_make.proofs.Ends.{made_ends, ends_made}
 use Rattle.dvg_make.proofs.Onward.{Walking}
 use Rattle.dvg_make.proofs.Growing.{made_grows}
-use Rattle.dvg_make.proofs.Merging.{listed_append}
+use Rattle.dvg_make.proofs.Merging.{only_listed}
 use Rattle.dvg_make.proofs.Small.{made_is_entry}
 
 -- ---- what is lit in a tail, seen from where the tail stands
@@ -243,12 +244,8 @@ ends_by_one w tails t (Some e) there h = record { tail = t; there = there; ends 
 -- ---- tails that are kept
 
 pub tails_more : (rom : Rom) (list tails : List Entry) (e : Entry) → AreTails rom list tails → IsTail rom list e → AreTails rom list (tails ++ e ∷ [])
-tails_more rom list tails e h is t c = ⊎_elim (h t) (λ l. one t (Contains-one l)) (listed_append tails (e ∷ []) t c)
+tails_more rom list tails e h is t c = ⊎_elim (h t) (λ l. one t (only_listed e t l)) (Contains-append_cases tails (e ∷ []) t c)
   where
-    Contains-one : {x : Entry} → Contains (e ∷ []) x → e ≡ x
-    Contains-one (zero, lt, q) = q
-    Contains-one (suc k, lt, q) = absurd (omega (arith, lt))
-
     one : (t : Entry) → e ≡ t → IsTail rom list t
     one t q = subst (IsTail rom list) q is
 

@@ -1,5 +1,6 @@
 -- Two lists of made entries are one such list.
-use Rattle.dvg_make.proofs.Common.{◌≡◌, ℕ, zero, suc, List, [], ◌∷◌, ◌++◌, Option, Some, None, refl, ap, ◌∙◌, arith, ◌⊎◌, inl, inr, ⊎_elim, Contains, option_or, Rom, entry_at, Entry, Key, Extends, IsMade, AllMade}
+use Rattle.dvg_make.proofs.Common.{◌≡◌, ℕ, zero, suc, List, [], ◌∷◌, ◌++◌, Option, Some, None, refl, ap, ◌∙◌, arith, ⊎_elim, Contains, option_or, Rom, entry_at, Entry, Key, Extends, IsMade, AllMade}
+use Rattle.std.proofs.lemmas.List.Elements.{Contains-append_cases}
 use Rattle.dvg_make.proofs.Matching.{entry_at-append}
 use Rattle.dvg_make.proofs.Agreeing.{agree}
 use Rattle.dvg_make.proofs.Growing.{made_grows}
@@ -7,10 +8,10 @@ use Rattle.dvg_make.proofs.Growing.{made_grows}
 pub extends_more : (done more : List Entry) → Extends done (done ++ more)
 extends_more done more addr key f e = entry_at-append done more addr key ∙ ap (λ o. option_or o (entry_at more addr key)) e
 
-pub listed_append : (a b : List Entry) (x : Entry) → Contains (a ++ b) x → Contains a x ⊎ Contains b x
-listed_append [] b x c = inr c
-listed_append (y ∷ a) b x (zero, lt, is) = inl (zero, omega arith, is)
-listed_append (y ∷ a) b x (suc k, lt, is) = ⊎_elim (λ c. inl (suc c.0, omega (arith, c.1), c.2)) (λ c. inr c) (listed_append a b x (k, omega (arith, lt), is))
+-- a list of one has no other element
+pub only_listed : {A : Type 0} (x y : A) → Contains (x ∷ []) y → x ≡ y
+only_listed x y (zero, lt, is) = is
+only_listed x y (suc k, lt, is) = absurd (omega (arith, lt))
 
 -- a made entry is one in each list that has more
 pub is_made_grows : (rom : Rom) (a b : List Entry) (e : Entry) → Extends a b → IsMade rom a e → IsMade rom b e
@@ -29,4 +30,4 @@ module _ (rom : Rom) (a b : List Entry) (all_a : AllMade rom a) (all_b : AllMade
 
   pub all_merged : AllMade rom (a ++ b)
   all_merged e c =
-      ⊎_elim (λ h. is_made_grows rom a (a ++ b) e (extends_more a b) (all_a e h)) (λ h. is_made_grows rom b (a ++ b) e extends_second (all_b e h)) (listed_append a b e c)
+      ⊎_elim (λ h. is_made_grows rom a (a ++ b) e (extends_more a b) (all_a e h)) (λ h. is_made_grows rom b (a ++ b) e extends_second (all_b e h)) (Contains-append_cases a b e c)

@@ -18,6 +18,7 @@ use Rattle.dvg_make.specs.Frames.{FrameMade}
 use Rattle.dvg_make.specs.Refusals.{BarsFrame, CallBarredAt}
 use Rattle.dvg_make.specs.Judging.{VerdictByMade, AreLeast, CheckMeans, checked, refusal_at}
 use Rattle.dvg_make.specs.Private.Judged.{IsJudged}
+use Rattle.dvg_check.specs.Judged.{Shapes}
 use Rattle.dvg_make.proofs.FrameBest.{none_better}
 
 -- ---- budgets
@@ -57,6 +58,10 @@ module _ (machine : Machine) (w : Window) (words : List ℕ) (list : List Entry)
       }
 
 -- ---- the verdict
+
+-- the shapes of this list, taken as good
+abbrev pub taken : Rom → Window → List Entry → Shapes
+taken rom w list = record { rom = rom; list = list; window = w; mode = Exact }
 
 module _ (rom : Rom) (words : List ℕ) (w : Window) (budget : ℕ) (made : List Entry) (m : FrameMade rom words made) where
   -- the counts by the made certificate are the least

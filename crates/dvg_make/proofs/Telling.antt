@@ -1,6 +1,5 @@
 -- What is told where the making stops.
-use Rattle.dvg_make.proofs.Common.{◌≡◌, ℕ, zero, suc, ◌+◌, ◌<◌, ◌≤◌, List, [], ◌∷◌, ◌++◌, length, Some, None, refl, sym, ap, ◌∙◌, subst, arith, inl, inr, length-append, Contains, Rom, IsKey, entry_at, Entry, Key, MOST_ENTRIES, Shape, Known, PartialEntry, Obstacle, ShapeAt, EntryCause, Reaches, start, shape_of, IsWaiting, IsStopped, shapes, IsMaking, Apart, InProgress, NotBegun}
-use Rattle.std.proofs.Common.{slice_get}
+use Rattle.dvg_make.proofs.Common.{◌≡◌, ℕ, zero, suc, ◌+◌, ◌<◌, ◌≤◌, List, [], ◌∷◌, ◌++◌, length, slice_get, Some, None, refl, sym, ap, ◌∙◌, subst, arith, inl, inr, length-append, Contains, Rom, IsKey, entry_at, Entry, Key, MOST_ENTRIES, Shape, Known, PartialEntry, Obstacle, ShapeAt, EntryCause, Reaches, start, shape_of, IsWaiting, IsStopped, shapes, IsMaking, Apart, InProgress, NotBegun}
 use Rattle.dvg_words.specs.Memory.{InRom}
 use Rattle.dvg_items.specs.declared.cursor.Cursor.{Cursor}
 use Rattle.dvg_items.specs.Known.{start as first_known}
@@ -55,7 +54,7 @@ module _ (rom : Rom) (list : List Entry) (root : ℕ × Key) where
 
 module _ (rom : Rom) (from : List Entry) (root : ℕ × Key) (done : List Entry) (stack : List PartialEntry) (partial : PartialEntry) (h : InProgress rom from root done (stack ++ partial ∷ [])) where
   -- there is room for it
-  has_room : length done < MOST_ENTRIES
+  pub has_room : length done < MOST_ENTRIES
   has_room = let long : length (stack ++ partial ∷ []) ≡ length stack + 1 = length-append stack (partial ∷ []) in omega (arith, long, h.room)
 
   -- an item stops it

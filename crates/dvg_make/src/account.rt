@@ -1,14 +1,16 @@
 //! The account of a refusal: why an entry can't be made.
 
-ghost use Rattle.std.specs.Prelude.{◌≡◌, ◌⊎◌, IfOk, IfErr};
+ghost use Rattle.std.specs.Prelude.{◌≡◌, ℕ, List, IfOk, IfErr};
+ghost use Rattle.dvg_words.specs.Memory.{Rom};
+ghost use Rattle.dvg_cert.specs.declared.entry.Key.{Key as KeyValue};
 ghost use Rattle.dvg_make.specs.Frames.{FramesMade};
 ghost use Rattle.dvg_make.specs.Refusals.{FramesRefuse};
 ghost use Rattle.dvg_make.specs.Accounts.{entry_fault, Memory, IsAccount};
-ghost use Rattle.dvg_make.specs.Private.Making.{TellsIt, TellsMemory};
+ghost use Rattle.dvg_make.specs.Private.Making.{IsRefused, TellsRight};
 
 use crate::fault::{EntryFault, FramesFault};
-use crate::maker::{certificate_of, make_all};
-use crate::obstacle::BlockedCall;
+use crate::maker::make_indexed;
+use crate::obstacle::Blocked;
 use dvg_cert::{Cert, Key};
 use dvg_items::{Kind, Known};
 use dvg_words::{FrameImage, RomImage};
@@ -93,7 +95,7 @@ pub struct MakeAccount {
 
 /// The account of a want of memory.
 fn out_of_memory(alloc: Global) -> MakeAccount
-    ensures { TellsMemory result }
+    ensures { (rom : Rom) (roots : List (ℕ × KeyValue)) (frames : List (List ℕ)) → TellsRight rom roots frames result }
 {
     MakeAccount {
         fault: FramesFault {
@@ -108,13 +110,13 @@ fn out_of_memory(alloc: Global) -> MakeAccount
 }
 
 /// The account of a refusal. It is a want of memory if there is none for the chain.
-fn account_of(alloc: Global, refusal: &BlockedCall) -> MakeAccount
-    ensures { TellsIt refusal.now result ⊎ TellsMemory result }
+pub fn account_of(alloc: Global, blocked: &Blocked) -> MakeAccount
+    ensures { (rom : Rom) (roots : List (ℕ × KeyValue)) (frames : List (List ℕ)) → IsRefused rom roots frames blocked.now → TellsRight rom roots frames result }
 {
-    let obstacle = refusal.blocked.obstacle;
-    match refusal.blocked.chain.shapes(alloc) {
+    let obstacle = blocked.obstacle;
+    match blocked.chain.shapes(alloc) {
         Ok(chain) => MakeAccount {
-            fault: refusal.fault(),
+            fault: blocked.fault(),
             chain,
             at: obstacle.cursor.at,
             before: obstacle.cursor.known,
@@ -141,13 +143,8 @@ pub fn explain_making(
     ensures why { IfErr result (λ account. account.fault.why ≡ entry_fault account.at account.cause) }
     ensures chain { IfErr result (IsAccount rom.now roots.now frames.now) }
 {
-    let map = rom.map();
-    let done = match make_all(alloc, rom, roots, frames) {
-        Ok(done) => done,
-        Err(refusal) => return Err(account_of(alloc, &refusal)),
-    };
-    match certificate_of(alloc, map, done) {
-        Ok(cert) => Ok(cert),
-        Err(_) => Err(out_of_memory(alloc)),
+    match make_indexed(alloc, rom, roots, frames) {
+        Ok(made) => Ok(made.cert),
+        Err(blocked) => Err(account_of(alloc, &blocked)),
     }
 }

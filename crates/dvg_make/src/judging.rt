@@ -14,16 +14,15 @@ ghost use Rattle.dvg_items.specs.Bounds.{IsClaim, IsSomeCertificate};
 ghost use Rattle.dvg_make.specs.Frames.{FrameMade};
 ghost use Rattle.dvg_make.specs.Made.{MadeEntry};
 ghost use Rattle.dvg_make.specs.Refusals.{FramesRefuse};
-ghost use Rattle.dvg_make.specs.Private.Judged.{IsJudged, IsRelative};
+ghost use Rattle.dvg_make.specs.Private.Judged.{IsJudged, IsOwn, IsRelative};
 ghost use Rattle.dvg_make.specs.Judging.{AreLeast, FrameRefused, VerdictByMade, HasCallCause, checked, own_verdict, refusal_by};
 
-use crate::account::{MakeAccount, explain_making};
+use crate::account::{MakeAccount, account_of};
 use crate::fault::{EntryFault, FramesFault};
-use crate::maker::make_for_frames;
-use dvg_cert::{Cert, End, Entry, ListIndex};
-use dvg_check::{
-    JudgedShapes, Mode, Refusal, RomFinding, ShapeFinding, Yes, find_entry_fault, find_parts_fault,
-};
+use crate::made_entries::MadeEntries;
+use crate::maker::{MadeCert, make_indexed};
+use dvg_cert::{Cert, End, Entry};
+use dvg_check::{JudgedShapes, Mode, Refusal, RomFinding, ShapeFinding, Yes, find_entry_fault};
 use dvg_words::{FrameImage, RomImage, Window};
 use std::alloc::Global;
 use std::slice;
@@ -35,7 +34,7 @@ pub enum FrameRefusal {
     Make { at: u16, why: EntryFault },
     /// 63: there was no memory for the certificate.
     NoMemory,
-    /// The checker's refusal: the first fault of the made shapes or of the frame, or 50.
+    /// The checker's refusal: the first fault of the made shapes or of the frame.
     Check(Refusal),
 }
 
@@ -73,7 +72,7 @@ fn are_mostly_relative(entries: &[Entry]) -> bool {
 /// ends at a relative place, and is judged item by item else.
 fn find_made_entry_fault(
     rom: &RomImage,
-    entries: &ListIndex,
+    entries: &MadeEntries,
     entry: &Entry,
     window: &Window,
 ) -> Result<(), ShapeFinding>
@@ -92,24 +91,22 @@ fn find_made_entry_fault(
     find_entry_fault(Mode::Exact, window, rom, entries, entry)
 }
 
-/// Judges the shapes of made entries, in the order of the certificate.
+/// Judges the shapes of the entries that were made for a frame, one by one, in the order of the certificate.
 fn find_made_fault(
     rom: &RomImage,
     frame: &FrameImage,
-    cert: &Cert,
-    entries: &ListIndex,
+    made: &MadeCert,
     window: &Window,
 ) -> Result<(), ShapeFinding>
-    requires entries { entries.now ≡ cert.now.entries }
-    requires made { FrameMade rom.now frame.now cert.now.entries }
-    ensures ok { OnOk result (Good Exact window.now rom.now cert.now.entries) }
-    ensures err { IfErr result (FirstShapeFound Exact window.now rom.now cert.now.entries) }
+    requires made { IsOwn rom.now frame.now made.now }
+    ensures ok { OnOk result (Good Exact window.now rom.now made.now.cert.entries) }
+    ensures err { IfErr result (FirstShapeFound Exact window.now rom.now made.now.cert.entries) }
     ensures cause { IfErr result (ShapeCauseOf window.now) }
 {
-    let list = cert.entries();
+    let list = made.cert.entries();
     let mut index = 0;
     'entries: while index < list.len() {
-        if let Err(finding) = find_made_entry_fault(rom, entries, &list[index], window) {
+        if let Err(finding) = find_made_entry_fault(rom, &made.entries, &list[index], window) {
             return Err(finding);
         }
         index += 1;
@@ -117,56 +114,56 @@ fn find_made_fault(
     Ok(())
 }
 
-/// The checker's verdict on a frame by made entries, with no index of them.
-fn check_walked(
+/// The shapes of the entries that were made for a frame, judged.
+///
+/// To judge all shapes at once costs some 17 tails for each word of the ROM at most, to judge one item by item as much as it has
+/// items: so that is done for a few of them alone.
+fn judged_shapes<'a>(
+    rom: &'a RomImage<'a>,
+    frame: &FrameImage,
+    made: &'a MadeCert,
+    window: Window,
+) -> Result<JudgedShapes<'a, MadeEntries>, ShapeFinding>
+    requires made { IsOwn rom.now frame.now made.now }
+    ensures ok { IfOk result (λ shapes. shapes ≡ record { rom = rom.now; list = made.now.cert.entries; window = window; mode = Exact }) }
+    ensures good { OnOk result (Good Exact window rom.now made.now.cert.entries) }
+    ensures err { IfErr result (FirstShapeFound Exact window rom.now made.now.cert.entries) }
+    ensures cause { IfErr result (ShapeCauseOf window) }
+{
+    if !are_mostly_relative(made.cert.entries()) {
+        return JudgedShapes::find_shape_fault(rom, &made.cert, &made.entries, window, Mode::Exact);
+    }
+    if let Err(finding) = find_made_fault(rom, frame, made, &window) {
+        return Err(finding);
+    }
+    Ok(JudgedShapes::unchecked(rom, &made.entries, window, Mode::Exact))
+}
+
+/// The checker's verdict on a frame by what was made for it.
+fn check_made(
     rom: &RomImage,
     frame: &FrameImage,
-    cert: &Cert,
+    made: &MadeCert,
     budget: u32,
     window: Window,
 ) -> Result<Yes, RomFinding>
     requires budget { budget ≤ MOST_WORDS }
-    requires made { FrameMade rom.now frame.now cert.now.entries }
+    requires made { IsOwn rom.now frame.now made.now }
     ensures judged { IsJudged rom.now frame.now window budget (checked result) }
-    ensures found { IfErr result (TellsOf Exact window rom.now cert.now.entries frame.now budget) }
+    ensures found { IfErr result (TellsOf Exact window rom.now made.now.cert.entries frame.now budget) }
 {
-    let entries = ListIndex::new(cert);
-    if let Err(finding) = find_made_fault(rom, frame, cert, &entries, &window) {
-        return Err(RomFinding::Shape(finding));
-    }
-    let shapes = JudgedShapes::unchecked(rom, &entries, window, Mode::Exact);
+    let shapes = match judged_shapes(rom, frame, made, window) {
+        Ok(shapes) => shapes,
+        Err(finding) => return Err(RomFinding::Shape(finding)),
+    };
     match shapes.find_fault(frame, budget) {
         Ok(accepted) => Ok(Yes {
-            shapes: cert.entries().len() as u32,
+            shapes: made.cert.entries().len() as u32,
             words: accepted.words,
             depth: accepted.depth,
         }),
         Err(finding) => Err(RomFinding::Frame(finding)),
     }
-}
-
-/// The checker's verdict on a frame by the certificate that was made for it.
-///
-/// To judge all shapes at once costs some 17 tails for each word of the ROM at most, to judge one item by item as much as it has
-/// items: so that is done for a few of them alone.
-fn check_made(
-    alloc: Global,
-    rom: &RomImage,
-    frame: &FrameImage,
-    cert: &Cert,
-    budget: u32,
-    window: Window,
-) -> Result<Yes, RomFinding>
-    requires budget { budget ≤ MOST_WORDS }
-    requires map { rom.now.map ≡ cert.now.map }
-    requires made { FrameMade rom.now frame.now cert.now.entries }
-    ensures judged { IsJudged rom.now frame.now window budget (checked result) }
-    ensures found { IfErr result (TellsOf Exact window rom.now cert.now.entries frame.now budget) }
-{
-    if are_mostly_relative(cert.entries()) {
-        return check_walked(rom, frame, cert, budget, window);
-    }
-    find_parts_fault(alloc, rom, frame, cert, budget, window, Mode::Exact)
 }
 
 /// The checker's verdict by the certificate that was made for a frame, without the cause of a refusal.
@@ -185,10 +182,9 @@ fn checked(verdict: &Result<Yes, RomFinding>) -> Result<Yes, FrameRefusal>
 /// What is accepted is safe, with exact counts, as [`check_parts_exact`] says, and no certificate gets the frame accepted
 /// with fewer words or less depth. The answer is the refusal of [`make_for_frames`] for the first call whose entry is not made,
 /// else that of the checker on the made certificate; it means that no certificate gets the frame accepted, but for 62 by the
-/// number of entries, where another one may, and for 63 and 50, where memory was out. 62 by the number of entries comes only
+/// number of entries, where another one may, and for 63, where memory was out. 62 by the number of entries comes only
 /// where the calls up to this one really need too many. If the ROM is on the board, what is accepted is safe on its circuit, too,
-/// whatever its registers hold at the start. Takes memory for the certificate, and for its index if more than a few of its entries do
-/// not end at a relative place.
+/// whatever its registers hold at the start. Takes memory for the certificate and its making.
 pub fn judge(
     alloc: Global,
     rom: &RomImage,
@@ -206,9 +202,9 @@ pub fn judge(
     ensures refused { IfErr result (FrameRefused rom.now frame.now window budget) }
     ensures told { IfErr result (HasCallCause rom.now frame.now) }
 {
-    match make_for_frames(alloc, rom, &[], slice::from_ref(frame)) {
-        Ok(cert) => checked(&check_made(alloc, rom, frame, &cert, budget, window)),
-        Err(fault) => Err(refusal_of(&fault)),
+    match make_indexed(alloc, rom, &[], slice::from_ref(frame)) {
+        Ok(made) => checked(&check_made(rom, frame, &made, budget, window)),
+        Err(blocked) => Err(refusal_of(&blocked.fault())),
     }
 }
 
@@ -254,9 +250,16 @@ pub fn explain_judging(
     // A refusal by the certificate comes with what is known at the first fault by it, and the rule's own numbers.
     ensures found { IfOk result (λ judged. IfErr judged.verdict (TellsOf Exact window rom.now judged.cert.entries frame.now budget)) }
 {
-    let cert = explain_making(alloc, rom, &[], slice::from_ref(frame))?;
-    let verdict = check_made(alloc, rom, frame, &cert, budget, window);
-    Ok(JudgedFrame { cert, verdict })
+    match make_indexed(alloc, rom, &[], slice::from_ref(frame)) {
+        Ok(made) => {
+            let verdict = check_made(rom, frame, &made, budget, window);
+            Ok(JudgedFrame {
+                cert: made.cert,
+                verdict,
+            })
+        }
+        Err(blocked) => Err(account_of(alloc, &blocked)),
+    }
 }
 
 /// The verdict of [`judge`] that an answer of [`explain_judging`] gives.

@@ -13,6 +13,7 @@ pub mod laws;
 mod least;
 mod made_entries;
 mod maker;
+mod making;
 mod obstacle;
 mod partial;
 mod shapes;

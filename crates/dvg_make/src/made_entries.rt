@@ -5,7 +5,7 @@ ghost use Rattle.dvg_cert.specs.declared.entry.Key.{Key as KeyValue};
 ghost use Rattle.dvg_cert.specs.Order.{IsRising};
 ghost use Rattle.dvg_cert.specs.Lookup.{entry_at};
 
-use dvg_cert::{Entry, Key};
+use dvg_cert::{Entries, Entry, Key};
 use indexmap::IndexMap;
 use std::alloc::{AllocError, Global};
 use std::marker::Model;
@@ -77,5 +77,13 @@ impl MadeEntries {
         ensures { IfOk result (λ entries. entries.items ≡ self.now) }
     {
         self.found.values().copied().collect(alloc)
+    }
+}
+
+impl Entries for MadeEntries {
+    ghost list = { λ done. done };
+
+    fn find(&self, addr: u16, key: Key) -> Option<Entry> {
+        MadeEntries::find(self, addr, key)
     }
 }

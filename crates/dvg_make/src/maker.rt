@@ -4,21 +4,19 @@ ghost use Rattle.std.specs.Prelude.{◌≡◌, ◌↔◌, ◌≤◌, ℕ, List, 
 ghost use Rattle.dvg_words.specs.Values.{IsMap};
 ghost use Rattle.dvg_words.specs.Memory.{InRom};
 ghost use Rattle.dvg_cert.specs.Entry.{IsKey};
-ghost use Rattle.dvg_make.specs.Made.{HasEntry, Made};
+ghost use Rattle.dvg_make.specs.Made.{Made};
 ghost use Rattle.dvg_make.specs.Frames.{FramesMade};
 ghost use Rattle.dvg_make.specs.Refusals.{Refuses, FramesRefuse};
 ghost use Rattle.dvg_make.specs.Accounts.{HasCause, HasRootCause};
-ghost use Rattle.dvg_make.specs.Private.Making.{IsDone, InProgress, BarsRoots, Collected, obstacle_fault, blocked_fault, IsToldOf};
-ghost use Rattle.dvg_make.specs.Private.Partial.{AreTails};
-ghost use Rattle.dvg_make.specs.Private.Framing.{AllFramed, IsForSome, MakesFor};
+ghost use Rattle.dvg_make.specs.Private.Making.{IsRightFor, Collected, IsRefused};
+ghost use Rattle.dvg_make.specs.Private.Framing.{AllFramed, IsForSome, MakesFor, IsMadeFor};
 
 use crate::account::EntryCause;
-use crate::fault::{FrameCall, FramesFault, MakeFault};
-use crate::frames::make_frame;
+use crate::fault::{FramesFault, MakeFault};
 use crate::made_entries::MadeEntries;
-use crate::obstacle::{BlockedCall, BlockedChain};
+use crate::making::Making;
+use crate::obstacle::Blocked;
 use crate::partial::PartialEntry;
-use crate::shapes::need;
 use crate::stack::Stack;
 use dvg_cert::{Cert, Key, certificate_unchecked, is_key};
 use dvg_words::{FrameImage, RomImage, RomMap};
@@ -32,94 +30,106 @@ fn can_be_root(rom: &RomImage, addr: u16, key: Key) -> bool
     map.first() <= addr && addr <= map.last() && is_key(key)
 }
 
-/// Makes the entries of all roots, and all that these need.
-fn make_roots(
-    alloc: Global,
-    rom: &RomImage,
-    roots: &[(u16, Key)],
-    done: &mut MadeEntries,
-    tails: &mut MadeEntries,
-) -> Result<(), BlockedChain>
-    requires map { IsMap rom.now.map }
-    requires new { done.old ≡ [] }
-    requires tails { AreTails rom.now done.old tails.old }
-    ensures tails { OnOk result (AreTails rom.now done.new tails.new) }
-    ensures ok { OnOk result (Collected rom.now roots.now done.new) }
-    ensures err { IfErr result (λ blocked. BarsRoots rom.now roots.now (obstacle_fault blocked.obstacle)) }
-    ensures told { IfErr result (λ blocked. (frames : List (List ℕ)) → IsToldOf rom.now roots.now frames None blocked.chain blocked.obstacle) }
-{
-    for &(addr, key) in roots {
-        if !can_be_root(rom, addr, key) {
-            let obstacle = PartialEntry::start(addr, key).obstacle(EntryCause::RootOutside);
-            let chain = Stack::new(alloc);
-            return Err(BlockedChain { chain, obstacle });
+impl Making {
+    /// Makes the entries of all roots, and all that these need.
+    fn make_roots(&mut self, rom: &RomImage, roots: &[(u16, Key)]) -> Result<(), Blocked>
+        requires right { IsRightFor rom.now self.old }
+        requires none { self.old.done ≡ [] }
+        ensures right { OnOk result (IsRightFor rom.now self.new) }
+        ensures ok { OnOk result (Collected rom.now roots.now self.new.done) }
+        ensures err { IfErr result (λ blocked. (frames : List (List ℕ)) → IsRefused rom.now roots.now frames blocked) }
+    {
+        for &(addr, key) in roots {
+            if !can_be_root(rom, addr, key) {
+                let obstacle = PartialEntry::start(addr, key).obstacle(EntryCause::RootOutside);
+                let chain = Stack::new(self.alloc);
+                return Err(Blocked {
+                    call: None,
+                    chain,
+                    obstacle,
+                });
+            }
+            self.need(rom, addr, key)?;
         }
-        need(alloc, rom, done, tails, addr, key)?;
+        Ok(())
     }
-    Ok(())
-}
 
-/// Makes the entries that frames call, and all that these need. The entries of `roots` are made already; only the contract speaks
-/// of them.
-fn make_calls(
-    alloc: Global,
-    rom: &RomImage,
-    roots: &[(u16, Key)],
-    frames: &[FrameImage],
-    done: &mut MadeEntries,
-    tails: &mut MadeEntries,
-) -> Result<(), BlockedCall>
-    requires map { IsMap rom.now.map }
-    requires tails { AreTails rom.now done.old tails.old }
-    requires roots { Collected rom.now roots.now done.old }
-    ensures ok { OnOk result (AllFramed rom.now roots.now frames.now done.new) }
-    ensures err { IfErr result (λ refusal. FramesRefuse rom.now roots.now frames.now (blocked_fault refusal)) }
-    ensures told { IfErr result (λ refusal. IsToldOf rom.now roots.now frames.now refusal.call refusal.blocked.chain refusal.blocked.obstacle) }
-{
-    for (frame, image) in frames.iter().enumerate() {
-        if let Err(fault) = make_frame(alloc, rom, done, tails, image) {
-            let call = FrameCall {
-                frame,
-                at: fault.at,
-            };
-            return Err(BlockedCall {
-                call: Some(call),
-                blocked: fault.blocked,
-            });
+    /// Makes the entries that frames call, and all that these need. The entries of `roots` are made already; only the contract
+    /// speaks of them.
+    fn make_calls(
+        &mut self,
+        rom: &RomImage,
+        roots: &[(u16, Key)],
+        frames: &[FrameImage],
+    ) -> Result<(), Blocked>
+        requires right { IsRightFor rom.now self.old }
+        requires roots { Collected rom.now roots.now self.old.done }
+        ensures ok { OnOk result (AllFramed rom.now roots.now frames.now self.new.done) }
+        ensures err { IfErr result (IsRefused rom.now roots.now frames.now) }
+    {
+        for (index, frame) in frames.iter().enumerate() {
+            self.make_frame(rom, index, frame)?;
         }
+        Ok(())
     }
-    Ok(())
 }
 
 /// Makes the entries of all roots, of all that frames call, and of all that these need.
-pub fn make_all(
+fn make_all(
     alloc: Global,
     rom: &RomImage,
     roots: &[(u16, Key)],
     frames: &[FrameImage],
-) -> Result<MadeEntries, BlockedCall>
+) -> Result<MadeEntries, Blocked>
     requires map { IsMap rom.now.map }
     ensures ok { IfOk result (AllFramed rom.now roots.now frames.now) }
-    ensures err { IfErr result (λ refusal. FramesRefuse rom.now roots.now frames.now (blocked_fault refusal)) }
-    ensures told { IfErr result (λ refusal. IsToldOf rom.now roots.now frames.now refusal.call refusal.blocked.chain refusal.blocked.obstacle) }
+    ensures err { IfErr result (IsRefused rom.now roots.now frames.now) }
 {
-    let mut done = MadeEntries::new(alloc);
-    let mut tails = MadeEntries::new(alloc);
-    make_roots(alloc, rom, roots, &mut done, &mut tails)?;
-    make_calls(alloc, rom, roots, frames, &mut done, &mut tails)?;
-    Ok(done)
+    let mut making = Making::new(alloc);
+    making.make_roots(rom, roots)?;
+    making.make_calls(rom, roots, frames)?;
+    Ok(making.done)
+}
+
+/// What is made: a certificate, and its entries, found by address and key.
+#[derive(Drop)]
+pub struct MadeCert {
+    pub cert: Cert,
+    pub entries: MadeEntries,
 }
 
 /// The certificate of the made entries, for a ROM at this map.
-pub fn certificate_of(alloc: Global, map: RomMap, mut done: MadeEntries) -> Result<Cert, AllocError>
+fn certificate_of(alloc: Global, map: RomMap, mut done: MadeEntries) -> Result<MadeCert, AllocError>
     requires map { IsMap map }
     requires done { IsForSome map done }
-    ensures made { IfOk result (λ cert. MakesFor map done cert.entries) }
-    ensures map { IfOk result (λ cert. cert.map ≡ map) }
+    ensures made { IfOk result (λ made. MakesFor map done made.cert.entries) }
+    ensures map { IfOk result (λ made. made.cert.map ≡ map) }
+    ensures entries { IfOk result (λ made. made.entries ≡ made.cert.entries) }
 {
     done.sort()?;
     let entries = done.entries(alloc)?;
-    Ok(certificate_unchecked(map, entries))
+    Ok(MadeCert {
+        cert: certificate_unchecked(map, entries),
+        entries: done,
+    })
+}
+
+/// Makes what [`make_for_frames`] makes. The refusal comes with the shapes in the making.
+pub fn make_indexed(
+    alloc: Global,
+    rom: &RomImage,
+    roots: &[(u16, Key)],
+    frames: &[FrameImage],
+) -> Result<MadeCert, Blocked>
+    ensures ok { IfOk result (IsMadeFor rom.now roots.now frames.now) }
+    ensures err { IfErr result (IsRefused rom.now roots.now frames.now) }
+{
+    let map = rom.map();
+    let done = make_all(alloc, rom, roots, frames)?;
+    match certificate_of(alloc, map, done) {
+        Ok(made) => Ok(made),
+        Err(_) => Err(Blocked::by_memory(alloc)),
+    }
 }
 
 /// Makes the certificate of the shapes at these addresses and keys, of those that the frames call, each at the scale that is
@@ -145,12 +155,10 @@ pub fn make_for_frames(
     ensures err { IfErr result (FramesRefuse rom.now roots.now frames.now) }
     ensures told { IfErr result (HasCause rom.now roots.now frames.now) }
 {
-    let map = rom.map();
-    let done = match make_all(alloc, rom, roots, frames) {
-        Ok(done) => done,
-        Err(refusal) => return Err(refusal.fault()),
-    };
-    Ok(certificate_of(alloc, map, done)?)
+    match make_indexed(alloc, rom, roots, frames) {
+        Ok(made) => Ok(made.cert),
+        Err(blocked) => Err(blocked.fault()),
+    }
 }
 
 /// Makes the certificate of the shapes at these addresses and keys, and of all that they call or tail jump to: what

@@ -1,12 +1,16 @@
 //! Where the maker stops, and why.
 
 ghost use Rattle.std.specs.Prelude.{◌≡◌, None};
-ghost use Rattle.dvg_make.specs.Accounts.{entry_fault};
+ghost use Rattle.dvg_make.specs.Accounts.{Memory};
+ghost use Rattle.dvg_make.specs.Private.Making.{obstacle_fault, blocked_fault};
 
 use crate::account::EntryCause;
 use crate::fault::{EntryFault, FrameCall, FramesFault};
+use crate::partial::PartialEntry;
 use crate::stack::Stack;
+use dvg_cert::Key;
 use dvg_items::Cursor;
+use std::alloc::Global;
 
 /// The item by which an entry can't be made.
 #[derive(Clone, Copy)]
@@ -19,47 +23,42 @@ pub struct Obstacle {
 impl Obstacle {
     /// The refusal of the entry.
     pub fn fault(&self) -> EntryFault
-        ensures { result ≡ entry_fault self.now.cursor.at self.now.cause }
+        ensures { result ≡ obstacle_fault self.now }
     {
         self.cause.fault(self.cursor.at)
     }
 }
 
-/// An obstacle, and the shapes that wait for the one in which it stands.
+/// Why the entry of a root, or of a call of a frame, can't be made.
 #[derive(Drop)]
-pub struct BlockedChain {
+pub struct Blocked {
+    /// The call. `None` if the entry is a root's, or if memory was out after all calls.
+    pub call: Option<FrameCall>,
     /// The shapes in the making. The obstacle is an item of the last one.
     pub chain: Stack,
     pub obstacle: Obstacle,
 }
 
-/// Why the entry of a root, or of a call of a frame, can't be made.
-#[derive(Drop)]
-pub struct BlockedCall {
-    /// The call. `None` if the entry is a root's.
-    pub call: Option<FrameCall>,
-    pub blocked: BlockedChain,
-}
+impl Blocked {
+    /// The refusal where memory was out after all calls.
+    pub fn by_memory(alloc: Global) -> Blocked
+        ensures call { result.call ≡ None }
+        ensures cause { result.obstacle.cause ≡ Memory }
+    {
+        Blocked {
+            call: None,
+            chain: Stack::new(alloc),
+            obstacle: PartialEntry::start(0, Key::Any).obstacle(EntryCause::Memory),
+        }
+    }
 
-impl BlockedCall {
     /// The refusal of the certificate.
     pub fn fault(&self) -> FramesFault
-        ensures { result ≡ record { call = self.now.call; why = entry_fault self.now.blocked.obstacle.cursor.at self.now.blocked.obstacle.cause } }
+        ensures { result ≡ blocked_fault self.now }
     {
         FramesFault {
             call: self.call,
-            why: self.blocked.obstacle.fault(),
-        }
-    }
-}
-
-impl From<BlockedChain> for BlockedCall {
-    ghost from_gives = { λ blocked fault. fault ≡ record { call = None; blocked = blocked } };
-
-    fn from(blocked: BlockedChain) -> BlockedCall {
-        BlockedCall {
-            call: None,
-            blocked,
+            why: self.obstacle.fault(),
         }
     }
 }

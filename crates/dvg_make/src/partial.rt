@@ -1,7 +1,6 @@
 //! The entry of one shape, made item by item.
 
 ghost use Rattle.std.specs.Prelude.{◌≡◌, ◌<◌, ◌≤◌, Contains, Some, IfOk, IfErr, IfSome, IfNone};
-ghost use Rattle.dvg_words.specs.Values.{IsMap};
 ghost use Rattle.dvg_words.specs.Memory.{rom_word};
 ghost use Rattle.dvg_words.specs.Decoding.{InstrFits, cell_at};
 ghost use Rattle.dvg_words.specs.declared.instruction.Cell.TheVariants.{Holds};
@@ -17,12 +16,13 @@ ghost use Rattle.dvg_items.specs.Seen.{seen_with};
 ghost use Rattle.dvg_items.specs.Cursor.{step_past};
 ghost use Rattle.dvg_items.specs.Bounds.{IsSoundCursor, IsSoundStep, IsClaim};
 ghost use Rattle.dvg_make.specs.Accounts.{IsStraight, SaysOf};
-ghost use Rattle.dvg_make.specs.Private.Partial.{start, entry_of, Passes, IsPartial, IsStopped, IsAbsent, IsCallee, LacksCallee, AreTails, EndsBy, EndsByOne, Advances};
-ghost use Rattle.dvg_make.specs.Private.Making.{IsDone};
+ghost use Rattle.dvg_make.specs.Private.Partial.{start, entry_of, Passes, IsPartial, IsStopped, IsAbsent, IsCallee, LacksCallee, EndsBy, EndsByOne, Advances};
+ghost use Rattle.dvg_make.specs.Private.Making.{IsRightFor};
 
 use crate::account::EntryCause;
 use crate::least::boxed;
 use crate::made_entries::MadeEntries;
+use crate::making::Making;
 use crate::obstacle::Obstacle;
 use crate::tails::is_mark;
 use dvg_cert::{Entry, Key, LitBox, MOST_DEPTH, MOST_WORDS};
@@ -213,43 +213,38 @@ fn look_up(done: &MadeEntries, instr: &Instr, scale: Key) -> Result<Option<Entry
     }
 }
 
-/// Passes items up to the end of the shape, or to a tail that was kept, or to an item whose callee has no entry yet.
-pub fn advance(
-    rom: &RomImage,
-    done: &MadeEntries,
-    tails: &MadeEntries,
-    from: PartialEntry,
-) -> Result<Progress, Obstacle>
-    requires map { IsMap rom.now.map }
-    requires partial { IsPartial rom.now done.now from }
-    requires done { IsDone rom.now done.now }
-    requires tails { AreTails rom.now done.now tails.now }
-    ensures ok { IfOk result (Advances rom.now done.now from) }
-    ensures err { IfErr result (IsStopped rom.now done.now from) }
-{
-    let machine = rom.machine();
-    let mut partial = from;
-    while let Cell::Holds { format, instr } = read_cell(rom, partial.cursor.at) {
-        let at = partial.cursor.at;
-        if let Some(entry) = partial.known_end(machine, tails) {
-            return Ok(Progress::Finished { entry, at });
-        }
-        let callee = match look_up(done, &instr, partial.cursor.known.scale) {
-            Ok(callee) => callee,
-            Err(addr) => return Ok(Progress::Waiting { partial, addr }),
-        };
-        let (step, lit) = partial.pass(machine, format, &instr, callee)?;
-        match step {
-            Step::Onward(cursor) => partial = PartialEntry {
-                cursor,
-                lit,
-                ..partial
-            },
-            Step::Last(known) => {
-                let entry = partial.entry(&known, lit);
+impl Making {
+    /// Passes items up to the end of the shape, or to a tail that was kept, or to an item whose callee has no entry yet.
+    pub fn advance(&self, rom: &RomImage, from: PartialEntry) -> Result<Progress, Obstacle>
+        requires right { IsRightFor rom.now self.now }
+        requires partial { IsPartial rom.now self.now.done from }
+        ensures ok { IfOk result (Advances rom.now self.now.done from) }
+        ensures err { IfErr result (IsStopped rom.now self.now.done from) }
+    {
+        let machine = rom.machine();
+        let mut partial = from;
+        while let Cell::Holds { format, instr } = read_cell(rom, partial.cursor.at) {
+            let at = partial.cursor.at;
+            if let Some(entry) = partial.known_end(machine, &self.tails) {
                 return Ok(Progress::Finished { entry, at });
             }
+            let callee = match look_up(&self.done, &instr, partial.cursor.known.scale) {
+                Ok(callee) => callee,
+                Err(addr) => return Ok(Progress::Waiting { partial, addr }),
+            };
+            let (step, lit) = partial.pass(machine, format, &instr, callee)?;
+            match step {
+                Step::Onward(cursor) => partial = PartialEntry {
+                    cursor,
+                    lit,
+                    ..partial
+                },
+                Step::Last(known) => {
+                    let entry = partial.entry(&known, lit);
+                    return Ok(Progress::Finished { entry, at });
+                }
+            }
         }
+        Err(partial.obstacle(absence(rom, partial.cursor.at)))
     }
-    Err(partial.obstacle(absence(rom, partial.cursor.at)))
 }

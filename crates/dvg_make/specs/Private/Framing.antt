@@ -17,7 +17,9 @@ use Rattle.dvg_make.specs.Refusals.{BarsFrame, CallBarredAt, EntryFault, Unstrai
 use Rattle.dvg_make.specs.Private.Partial.{Extends}
 use Rattle.dvg_make.specs.declared.partial.PartialEntry.{PartialEntry}
 use Rattle.dvg_make.specs.declared.obstacle.Obstacle.{Obstacle}
-use Rattle.dvg_make.specs.Private.Making.{HasAll, InProgress, Bars, IsCalled, Collected, TellsObstacle, IsToldFrom, IsNoRoot}
+use Rattle.dvg_make.specs.declared.obstacle.Blocked.{Blocked}
+use Rattle.dvg_make.specs.declared.maker.MadeCert.{MadeCert}
+use Rattle.dvg_make.specs.Private.Making.{HasAll, InProgress, IsCalled, Collected, obstacle_fault, TellsObstacle, IsNoRoot, IsBlocked}
 
 -- the list has an entry for each call of the frame with these words
 abbrev pub HasCalls : Machine → List ℕ → List Entry → Type 0
@@ -28,14 +30,9 @@ pub record IsCalledBy (rom : Rom) (old : List Entry) (instr : Instr) (scale : Ke
   pub none : target Frame instr ≡ None → (new ≡ old) × (callee ≡ None)
   pub some : (to : ℕ) → target Frame instr ≡ Some to → InProgress rom old (to, scale) new [] × HasEntry new to scale × (callee ≡ entry_at new to scale)
 
--- the entry that the instruction calls can't be made, with this refusal
-abbrev pub BarsTarget : Rom → List Entry → Instr → Key → EntryFault → Type 0
-BarsTarget rom old instr scale why = (to : ℕ) × (target Frame instr ≡ Some to) × Bars rom old (to, scale) why
-
--- the account of that entry is right
-abbrev pub TellsTarget : Rom → List Entry → Instr → Key → List PartialEntry → Obstacle → Type 0
-TellsTarget rom old instr scale chain obstacle =
-    (to : ℕ) × (target Frame instr ≡ Some to) × IsToldFrom rom old (to, scale) chain obstacle × IsNoRoot obstacle
+-- the refusal of the entry that the instruction calls is right
+abbrev pub BlocksTarget : Rom → List Entry → Instr → Key → Blocked → Type 0
+BlocksTarget rom old instr scale blocked = (to : ℕ) × (target Frame instr ≡ Some to) × IsBlocked rom old (to, scale) blocked
 
 -- from the old list on, the entries for all calls of a frame are made
 pub record IsFramed (rom : Rom) (words : List ℕ) (old new : List Entry) : Type 0 where
@@ -94,6 +91,13 @@ pub record TellsHere (rom : Rom) (words : List ℕ) (old : List Entry) (at : ℕ
   pub tells : TellsObstacle rom list (to, scale) chain obstacle
   pub no_root : IsNoRoot obstacle
 
+-- the refusal of a call of this frame, which is at this index among the frames, is right, and so is its account
+pub record BlocksHere (rom : Rom) (index : ℕ) (words : List ℕ) (old : List Entry) (blocked : Blocked) : Type 0 where
+  pub at : ℕ
+  pub call : blocked.call ≡ Some (record { frame = index; at = at })
+  pub bars : BarsHere rom words old at (obstacle_fault blocked.obstacle)
+  pub told : TellsHere rom words old at blocked.chain blocked.obstacle
+
 -- ---- frame after frame
 
 -- each of these addresses and keys is a root, or a call of a frame asks for it
@@ -117,3 +121,9 @@ IsForSome map done = (rom : Rom) × (rom.map ≡ map) × (roots : List (ℕ × K
 abbrev pub MakesFor : MemoryMap → List Entry → List Entry → Type 0
 MakesFor map done list =
     (rom : Rom) (roots : List (ℕ × Key)) (frames : List (List ℕ)) → rom.map ≡ map → AllFramed rom roots frames done → FramesMade rom roots frames list
+
+-- the certificate is made for these roots and frames, and the map has its entries
+pub record IsMadeFor (rom : Rom) (roots : List (ℕ × Key)) (frames : List (List ℕ)) (made : MadeCert) : Type 0 where
+  pub list : FramesMade rom roots frames made.cert.entries
+  pub map : made.cert.map ≡ rom.map
+  pub entries : made.entries ≡ made.cert.entries

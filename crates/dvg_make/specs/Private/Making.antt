@@ -3,8 +3,8 @@ use Rattle.std.specs.Prelude.{◌≡◌, ◌≢◌, ◌⊎◌, ℕ, ◌++◌, �
 use Rattle.dvg_words.specs.declared.instruction.Cell.TheVariants.{Holds}
 use Rattle.dvg_words.specs.Decoding.{cell_at}
 use Rattle.dvg_words.specs.Memory.{Rom, rom_word}
+use Rattle.dvg_words.specs.Values.{IsMap}
 use Rattle.dvg_cert.specs.Entry.{IsEntry}
-use Rattle.dvg_cert.specs.Order.{IsCertificate}
 use Rattle.dvg_cert.specs.declared.entry.Entry.{Entry}
 use Rattle.dvg_cert.specs.declared.entry.Key.{Key}
 use Rattle.dvg_cert.specs.Lookup.{entry_at}
@@ -16,14 +16,15 @@ use Rattle.dvg_items.specs.Known.{target, scale_before}
 use Rattle.dvg_make.specs.declared.partial.PartialEntry.{PartialEntry}
 use Rattle.dvg_make.specs.Made.{HasEntry, MadeEntry, AllMade}
 use Rattle.dvg_make.specs.Refusals.{EntryFault, Unstraight, Deep, TooManyWords, TooManyEntries, Memory}
-use Rattle.dvg_make.specs.Refusals.{FrameCall, FramesFault}
-use Rattle.dvg_make.specs.Accounts.{ShapeAt, EntryCause, AllTaken, IsLinked, Tells, IsTold, entry_fault}
+use Rattle.dvg_make.specs.Refusals.{FrameCall, FramesFault, FramesRefuse}
+use Rattle.dvg_make.specs.Accounts.{ShapeAt, EntryCause, AllTaken, IsLinked, Tells, IsTold, UnlessMemory, IsAccount, entry_fault}
 pub use Rattle.dvg_make.specs.Accounts.{IsUnique}
 use Rattle.dvg_make.specs.declared.account.EntryCause.TheVariants as cause
 use Rattle.dvg_make.specs.declared.account.MakeAccount.{MakeAccount}
 use Rattle.dvg_make.specs.declared.obstacle.Obstacle.{Obstacle}
-use Rattle.dvg_make.specs.declared.obstacle.BlockedCall.{BlockedCall}
-use Rattle.dvg_make.specs.Private.Partial.{keyed_context, start, shape_of, IsPartial, Extends}
+use Rattle.dvg_make.specs.declared.making.Making.{Making}
+use Rattle.dvg_make.specs.declared.obstacle.Blocked.{Blocked}
+use Rattle.dvg_make.specs.Private.Partial.{keyed_context, start, shape_of, IsPartial, Extends, AreTails}
 
 -- a shape with this address and key is in the making
 abbrev pub IsMaking : List PartialEntry → ℕ → Key → Type 0
@@ -78,6 +79,12 @@ pub record IsDone (rom : Rom) (done : List Entry) : Type 0 where
   pub made : (e : Entry) → Contains done e → MadeEntry rom done e
   pub unique : IsUnique done
   pub room : length done ≤ MOST_ENTRIES
+
+-- what is made so far is right for this ROM: its entries are, and the tails are made ones by these
+pub record IsRightFor (rom : Rom) (making : Making) : Type 0 where
+  pub map : IsMap rom.map
+  pub done : IsDone rom making.done
+  pub tails : AreTails rom making.done making.tails
 
 -- the addresses and keys of these shapes
 abbrev pub shapes : List PartialEntry → List ShapeAt
@@ -160,6 +167,13 @@ pub record IsToldFrom (rom : Rom) (from : List Entry) (root : ℕ × Key) (chain
 abbrev pub IsNoRoot : Obstacle → Type 0
 IsNoRoot obstacle = obstacle.cause ≢ cause.RootOutside
 
+-- the refusal of a root's entry is right, and so is its account; it names no call
+pub record IsBlocked (rom : Rom) (from : List Entry) (root : ℕ × Key) (blocked : Blocked) : Type 0 where
+  pub bars : Bars rom from root (obstacle_fault blocked.obstacle)
+  pub told : IsToldFrom rom from root blocked.chain blocked.obstacle
+  pub no_root : IsNoRoot blocked.obstacle
+  pub call : blocked.call ≡ None
+
 -- why a shape is not begun
 abbrev pub NotBegun : List Entry → List PartialEntry → ℕ → Key → EntryCause → Type 0
 NotBegun done stack addr key (cause.Ring from) = (partial : PartialEntry) × (slice_get stack from ≡ Some partial) × (partial.addr ≡ addr) × (partial.key ≡ key)
@@ -186,22 +200,6 @@ pub record Collected (rom : Rom) (asked : List (ℕ × Key)) (done : List Entry)
   pub needed : (addr : ℕ) (key : Key) → HasEntry done addr key → Contains asked (addr, key) ⊎ IsCalled rom done [] addr key
   pub forced : (made : List Entry) → AllMade rom made → HasAll asked made → Extends done made
 
--- no certificate of made entries has an entry for all of these
-abbrev pub NoneHas : Rom → List (ℕ × Key) → Type 0
-NoneHas rom asked = (list : List Entry) → IsCertificate rom.map list → AllMade rom list → HasAll asked list → ⊥
-
--- each list of made entries that has one for all of these is too long for a certificate
-abbrev pub LongHas : Rom → List (ℕ × Key) → Type 0
-LongHas rom asked = (list : List Entry) → AllMade rom list → HasAll asked list → MOST_ENTRIES < length list
-
--- what a refusal says of such lists
-abbrev pub BarsRoots : Rom → List (ℕ × Key) → EntryFault → Type 0
-BarsRoots rom asked (Unstraight word) = NoneHas rom asked
-BarsRoots rom asked Deep = NoneHas rom asked
-BarsRoots rom asked TooManyWords = NoneHas rom asked
-BarsRoots rom asked TooManyEntries = LongHas rom asked
-BarsRoots rom asked Memory = Unit {0}
-
 -- ---- accounts of refusals
 
 -- the account of the obstacle is right, for these roots and frames and this call
@@ -209,18 +207,16 @@ abbrev pub IsToldOf : Rom → List (ℕ × Key) → List (List ℕ) → Option F
 IsToldOf rom roots frames call chain obstacle = IsTold rom roots frames call (shapes chain) obstacle.cursor.at obstacle.cursor.known obstacle.cause
 
 -- the refusal of the certificate, by the root or call whose entry can't be made
-abbrev pub blocked_fault : BlockedCall → FramesFault
-blocked_fault refusal = record { call = refusal.call; why = obstacle_fault refusal.blocked.obstacle }
+abbrev pub blocked_fault : Blocked → FramesFault
+blocked_fault blocked = record { call = blocked.call; why = obstacle_fault blocked.obstacle }
 
--- the account has the fault, the chain, the word address, the knowledge and the cause of the refusal
-pub record TellsIt (refusal : BlockedCall) (account : MakeAccount) : Type 0 where
-  pub fault : account.fault ≡ blocked_fault refusal
-  pub chain : account.chain.items ≡ shapes refusal.blocked.chain
-  pub at : account.at ≡ refusal.blocked.obstacle.cursor.at
-  pub before : account.before ≡ refusal.blocked.obstacle.cursor.known
-  pub cause : account.cause ≡ refusal.blocked.obstacle.cause
+-- the refusal of the certificate for these roots and frames is right, and so is its account, unless memory was out
+pub record IsRefused (rom : Rom) (roots : List (ℕ × Key)) (frames : List (List ℕ)) (blocked : Blocked) : Type 0 where
+  pub refuse : FramesRefuse rom roots frames (blocked_fault blocked)
+  pub told : UnlessMemory blocked.obstacle.cause (IsToldOf rom roots frames blocked.call blocked.chain blocked.obstacle)
 
--- the account says that memory was out
-pub record TellsMemory (account : MakeAccount) : Type 0 where
-  pub fault : account.fault ≡ record { call = None; why = Memory }
-  pub cause : account.cause ≡ cause.Memory
+-- the refusal and the account that are told for these roots and frames are right
+pub record TellsRight (rom : Rom) (roots : List (ℕ × Key)) (frames : List (List ℕ)) (account : MakeAccount) : Type 0 where
+  pub refuse : FramesRefuse rom roots frames account.fault
+  pub why : account.fault.why ≡ entry_fault account.at account.cause
+  pub chain : IsAccount rom roots frames account

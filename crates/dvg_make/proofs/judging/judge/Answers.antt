@@ -1,24 +1,24 @@
-use Rattle.dvg_make.proofs.Common.{ℕ, [], List, sym, subst, HasCause, FrameRefused, HasCallCause, FramesRefuse}
-use Rattle.std.proofs.Common.{Err}
-use Rattle.dvg_make.specs.Judging.{FrameRefusal, VerdictByMade}
+use Rattle.dvg_make.proofs.Common.{ℕ, [], List, Err, sym, subst, ap, ◌∙◌, FrameRefused, HasCallCause}
+use Rattle.dvg_make.specs.Judging.{FrameRefusal, VerdictByMade, refusal_by}
+use Rattle.dvg_make.specs.Private.Making.{IsRefused, blocked_fault}
 use Rattle.dvg_make.proofs.OwnCertificate.{made_refused, made_verdict}
-use Rattle.dvg_make.proofs.Causes.{call_cause}
+use Rattle.dvg_make.proofs.Causes.{call_cause, stuck_cause}
 use Rattle.dvg_make.proofs.judging.judge.Goals as goal
 
 pub returns-in-Err-clause-verdict : goal.returns-in-Err-clause-verdict
 returns-in-Err-clause-verdict c =
-    let told = subst (λ (f : List (List ℕ)). FramesRefuse c.args.rom.now [] f c.in-Err.fault) c.from_ref.ensures.value c.in-Err.ensures.err in
-    subst (λ (r : FrameRefusal). VerdictByMade c.args.rom.now c.args.frame.now c.args.window c.args.budget (Err r)) (sym c.refusal_of.ensures)
-    (made_verdict c.args.rom.now c.args.frame.now c.args.window c.args.budget c.in-Err.fault.call c.in-Err.fault.why told)
+    let told = subst (λ (f : List (List ℕ)). IsRefused c.args.rom.now [] f c.in-Err.blocked) c.from_ref.ensures.value c.in-Err.ensures.err in
+    subst (λ (r : FrameRefusal). VerdictByMade c.args.rom.now c.args.frame.now c.args.window c.args.budget (Err r)) (sym (c.refusal_of.ensures ∙ ap refusal_by c.fault.ensures))
+    (made_verdict c.args.rom.now c.args.frame.now c.args.window c.args.budget c.in-Err.blocked.call (blocked_fault c.in-Err.blocked).why told.refuse)
 
 pub returns-in-Err-clause-refused : goal.returns-in-Err-clause-refused
 returns-in-Err-clause-refused c =
-    let told = subst (λ (f : List (List ℕ)). FramesRefuse c.args.rom.now [] f c.in-Err.fault) c.from_ref.ensures.value c.in-Err.ensures.err in
-    subst (FrameRefused c.args.rom.now c.args.frame.now c.args.window c.args.budget) (sym c.refusal_of.ensures)
-    (made_refused c.args.rom.now c.args.frame.now c.args.window c.args.budget c.in-Err.fault.call c.in-Err.fault.why told)
+    let told = subst (λ (f : List (List ℕ)). IsRefused c.args.rom.now [] f c.in-Err.blocked) c.from_ref.ensures.value c.in-Err.ensures.err in
+    subst (FrameRefused c.args.rom.now c.args.frame.now c.args.window c.args.budget) (sym (c.refusal_of.ensures ∙ ap refusal_by c.fault.ensures))
+    (made_refused c.args.rom.now c.args.frame.now c.args.window c.args.budget c.in-Err.blocked.call (blocked_fault c.in-Err.blocked).why told.refuse)
 
 pub returns-in-Err-clause-told : goal.returns-in-Err-clause-told
 returns-in-Err-clause-told c =
-    let told = subst (λ (f : List (List ℕ)). HasCause c.args.rom.now [] f c.in-Err.fault) c.from_ref.ensures.value c.in-Err.ensures.told in
-    subst (HasCallCause c.args.rom.now c.args.frame.now) (sym c.refusal_of.ensures)
-    (call_cause c.args.rom.now c.args.frame.now c.in-Err.fault.call c.in-Err.fault.why told)
+    let told = subst (λ (f : List (List ℕ)). IsRefused c.args.rom.now [] f c.in-Err.blocked) c.from_ref.ensures.value c.in-Err.ensures.err in
+    subst (HasCallCause c.args.rom.now c.args.frame.now) (sym (c.refusal_of.ensures ∙ ap refusal_by c.fault.ensures))
+    (call_cause c.args.rom.now c.args.frame.now c.in-Err.blocked.call (blocked_fault c.in-Err.blocked).why (stuck_cause c.args.rom.now [] _ c.in-Err.blocked told))

@@ -1,9 +1,0 @@
-use Rattle.std.proofs.Common.{◌-◌}
-use Rattle.dvg_make.proofs.Onward.{Walking}
-use Rattle.dvg_make.proofs.partial.advance.Given as goal
-
-abbrev pub invariant-loop-format : goal.invariant-loop-format
-invariant-loop-format l = Walking l.rom l.done l.fn.from l.partial
-
-abbrev pub decreases-loop-format : goal.decreases-loop-format
-decreases-loop-format l = 5000 - l.partial.cursor.at
