@@ -122,10 +122,8 @@ in_line false false prefix taken rest b e f u h =
     shorter n m d lt e = grind (arith, nat_tests)
 
 one_more : (prefix : List ℕ) (taken : Taken) (rest : List ℕ) (b : ℕ) → Holds prefix taken rest → OneMore prefix taken rest b
-one_more prefix Nothing rest b h = in_line (b == LINE_FEED) (length rest == LONGEST_LINE - 1) prefix Nothing rest b refl refl tt h
-one_more prefix Versioned rest b h = in_line (b == LINE_FEED) (length rest == LONGEST_LINE - 1) prefix Versioned rest b refl refl tt h
-one_more prefix (Begun map es) rest b h = in_line (b == LINE_FEED) (length rest == LONGEST_LINE - 1) prefix (Begun map es) rest b refl refl tt h
 one_more prefix (Whole map es) rest b h = inr (After, refl)
+one_more prefix taken rest b h = in_line (b == LINE_FEED) (length rest == LONGEST_LINE - 1) prefix taken rest b refl refl tt h
 
 -- the text may stand, or a byte stops it
 abbrev pub Judged : List ℕ → Type 0
@@ -142,39 +140,30 @@ goes prefix (b ∷ text) taken rest h =
 pub judged : (text : List ℕ) → Judged text
 judged text = goes [] text Nothing [] (record { parts = refl; lines = tt; begun = (tt, omega arith) })
 
+-- a byte that cannot come stays where it is
+pub stuck_stays : {line : ℕ} {why : CertWhy} (prefix after : List ℕ) → StopsAt prefix line why → StopsAt (prefix ++ after) line why
+stuck_stays prefix after s = (s.0, s.1, s.2 ++ after, s.3, s.4, ap (λ (x : List ℕ). x ++ after) s.5 ∙ append_assoc s.0 (s.1 ∷ s.2) after, s.6, s.7, s.8)
+
 -- a prefix of a text that may stand
 pub open_prefix : (prefix after : List ℕ) → MayStand (prefix ++ after) → MayStand prefix
 open_prefix prefix after h =
     elim (judged prefix) [
       | inl s ↦ s
-      | inr s ↦ absurd (stuck_stands (prefix ++ after) s.0 s.1 h.0 h.1 (longer s.2) h.2)
+      | inr s ↦ absurd (stuck_stands (prefix ++ after) s.0 s.1 h.0 h.1 (stuck_stays prefix after s.2) h.2)
     ]
-  where
-    longer : {line : ℕ} {why : CertWhy} → StopsAt prefix line why → StopsAt (prefix ++ after) line why
-    longer s = (s.0, s.1, s.2 ++ after, s.3, s.4, ap (λ (x : List ℕ). x ++ after) s.5 ∙ append_assoc s.0 (s.1 ∷ s.2) after, s.6, s.7, s.8)
 
 -- what is wrong with no line, and neither too long nor after the last line, is met by no byte
 never_met : (why : CertWhy) → ((taken : Taken) (line : List ℕ) → IsWrong taken line why → ⊥) → (why ≢ TooLong) → (why ≢ After) → (taken : Taken) (rest : List ℕ) (b : ℕ) → Meets taken rest b why → ⊥
-never_met why right short before Nothing rest b (inl h) = short h.2
-never_met why right short before Nothing rest b (inr h) = right Nothing rest h.1
-never_met why right short before Versioned rest b (inl h) = short h.2
-never_met why right short before Versioned rest b (inr h) = right Versioned rest h.1
-never_met why right short before (Begun map es) rest b (inl h) = short h.2
-never_met why right short before (Begun map es) rest b (inr h) = right (Begun map es) rest h.1
 never_met why right short before (Whole map es) rest b h = before h
+never_met why right short before taken rest b (inl h) = short h.2
+never_met why right short before taken rest b (inr h) = right taken rest h.1
 
 never_wrong : (taken : Taken) (line : List ℕ) → (IsWrong taken line Memory → ⊥) × (IsWrong taken line Unended → ⊥)
 never_wrong Nothing line = (λ h. h, λ h. h)
-never_wrong Versioned line = (λ h. h, λ h. h)
-never_wrong (Begun map es) line = (λ h. h, λ h. h)
-never_wrong (Whole map es) line = (λ h. h, λ h. h)
+never_wrong taken line = (λ h. h, λ h. h)
 
 -- a text that a byte stops is refused
 pub stuck_refusal : (why : CertWhy) (text : List ℕ) (line : ℕ) → StopsAt text line why → IsRefusal text line why × (why ≢ Memory)
 stuck_refusal Memory text line s = absurd (never_met Memory (λ t l. (never_wrong t l).0) (λ e. absurd cc) (λ e. absurd cc) s.3 s.4 s.1 s.7)
 stuck_refusal Unended text line s = absurd (never_met Unended (λ t l. (never_wrong t l).1) (λ e. absurd cc) (λ e. absurd cc) s.3 s.4 s.1 s.7)
-stuck_refusal Form text line s = (s, λ e. absurd cc)
-stuck_refusal Order text line s = (s, λ e. absurd cc)
-stuck_refusal Count text line s = (s, λ e. absurd cc)
-stuck_refusal After text line s = (s, λ e. absurd cc)
-stuck_refusal TooLong text line s = (s, λ e. absurd cc)
+stuck_refusal why text line s = (s, λ e. absurd cc)

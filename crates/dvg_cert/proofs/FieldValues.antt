@@ -1,5 +1,5 @@
 -- A field that is read is the field that is spelled, and what is spelled is read again.
-use Rattle.dvg_cert.proofs.Common.{◌≡◌, ℕ, suc, ◌+◌, ◌*◌, ◌/◌, ◌%◌, ◌^◌, ◌<◌, ◌≤◌, true, false, ◌&&◌, List, [], ◌∷◌, length, Option, Some, None, IfSome, IfNone, refl, sym, ap, subst, ◌∙◌, arith, codes, decimal, nat_le, nat_lt, pos, neg_ℤ, option_map, signed_decimal, digit_glyph, bytes_eq, digits_value, bytes_eq-Decides, nat_tests, cond_some, zero, ints, and_parts, decimal_is_IsNumeral, AllDigits, MOST_MAGNITUDE, ADDRESS_END, Key, At, Any, IsNumber, IsKey, address_token, key_token, natural_in, hex_value, address_in}
+use Rattle.dvg_cert.proofs.Common.{◌≡◌, ℕ, suc, ◌+◌, ◌*◌, ◌/◌, ◌%◌, ◌^◌, ◌<◌, ◌≤◌, true, false, ◌&&◌, List, [], ◌∷◌, length, Option, Some, None, none-some, IfSome, IfNone, refl, sym, ap, subst, ◌∙◌, arith, codes, decimal, nat_le, nat_lt, pos, neg_ℤ, option_map, signed_decimal, digit_glyph, bytes_eq, digits_value, bytes_eq-Decides, nat_tests, cond_some, zero, ints, and_parts, decimal_is_IsNumeral, AllDigits, MOST_MAGNITUDE, ADDRESS_END, Key, At, Any, IsNumber, IsKey, address_token, key_token, natural_in, hex_value, address_in}
 use Rattle.dvg_cert.proofs.NaturalNumbers.{natural_some}
 
 pub same_bytes : (xs ys : List ℕ) → bytes_eq xs ys ≡ true → xs ≡ ys
@@ -22,6 +22,20 @@ natural_takes low high token n e =
 pub map_some : {A B : Type 0} (f : A → B) (o : Option A) (y : B) → option_map f o ≡ Some y → (x : A) × (o ≡ Some x) × (f x ≡ y)
 map_some f None y e = absurd cc
 map_some f (Some x) y e = (x, refl, cc)
+
+-- what is never some is none
+pub none_of : {X : Type 0} (o : Option X) → ((x : X) → o ≡ Some x → ⊥) → o ≡ None
+none_of None never = refl
+none_of (Some x) never = absurd (never x refl)
+
+-- what is answered, if it is some, and if it is none
+pub some_as : {X : Type 0} {P : X → Type 0} {o : Option X} (r : Option X) → r ≡ o → ((x : X) → o ≡ Some x → P x) → IfSome r P
+some_as None e holds = tt
+some_as (Some x) e holds = holds x (sym e)
+
+pub none_as : {X P : Type 0} {o : Option X} (r : Option X) → r ≡ o → (o ≡ None → P) → IfNone r P
+none_as None e holds = holds (sym e)
+none_as (Some x) e holds = tt
 
 pub negated : (n : ℕ) → 1 ≤ n → n ≤ MOST_MAGNITUDE → (45 ∷ decimal n ≡ signed_decimal (neg_ℤ (pos n))) × IsNumber (neg_ℤ (pos n))
 negated zero from to = absurd (omega arith)
@@ -87,12 +101,10 @@ address_again first last a small from to =
 -- ---- tokens on their own
 
 pub address_found : (token : List ℕ) (o : Option ℕ) → o ≡ address_in 0 4095 token → IfSome o (λ a. (a < ADDRESS_END) × (token ≡ address_token a))
-address_found token None e = tt
-address_found token (Some a) e = let t = address_takes 0 4095 token a (omega arith) (sym e) in (omega (arith, t.2), t.0)
+address_found token o e = some_as o e (λ a is. let t = address_takes 0 4095 token a (omega arith) is in (omega (arith, t.2), t.0))
 
 pub no_address : (token : List ℕ) (o : Option ℕ) → o ≡ address_in 0 4095 token → IfNone o ((a : ℕ) → a < ADDRESS_END → token ≡ address_token a → ⊥)
-no_address token None e = λ a small is. let again = address_again 0 4095 a (omega arith) (omega arith) (omega (arith, small)) in let found : address_in 0 4095 token ≡ Some a = ap (address_in 0 4095) is ∙ again in cc
-no_address token (Some a) e = tt
+no_address token o e = none_as o e (λ none a small is. none-some a (sym none ∙ ap (address_in 0 4095) is ∙ address_again 0 4095 a (omega arith) (omega arith) (omega (arith, small))))
 
 pub no_key : (high : ℕ) (token : List ℕ) → 15 ≤ high → high < 2 ^ 64 → bytes_eq token (codes "any") ≡ false → natural_in 0 high token ≡ None → (k : Key) → IsKey k → token ≡ key_token k → ⊥
 no_key high token room small any none (At n) h is = let found : natural_in 0 high token ≡ Some n = natural_some 0 high n token (omega arith) (omega arith) (omega arith) is in cc

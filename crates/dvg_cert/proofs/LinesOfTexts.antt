@@ -1,5 +1,5 @@
 -- A text is cut into lines in one way, and says one thing.
-use Rattle.dvg_cert.proofs.Common.{◌≡◌, ℕ, ◌<◌, ◌≤◌, List, [], ◌∷◌, ◌++◌, length, Some, refl, sym, ap, subst, ◌∙◌, append_assoc, arith, inl, inr, ◌⊎◌, AllByRecursion, append-nil, length-append, nat_tests, MemoryMap, IsMap, MOST_ENTRIES, LINE_FEED, ADDRESS_END, Entry, IsEntry, IsCertificate, StandsAfter, IsRising, entry_line, first_version_line, second_version_line, rom_line, heading, done_line, IsWrong, IsLine, IsElsewhere, Nothing, Versioned, Begun, Whole, Taken, Without, IsTaken, Line, EntryLine, DoneLine, CertWhy, Form, Order, Count, Unended, After, TooLong, Memory}
+use Rattle.dvg_cert.proofs.Common.{◌≡◌, ℕ, ◌<◌, ◌≤◌, List, [], ◌∷◌, ◌++◌, length, Some, Bool, true, false, map, refl, sym, ap, subst, ◌∙◌, append_assoc, arith, inl, inr, ◌⊎◌, AllByRecursion, length-append, nat_tests, MemoryMap, IsMap, MOST_ENTRIES, LONGEST_LINE, LINE_FEED, ADDRESS_END, Entry, IsEntry, IsCertificate, StandsAfter, IsRising, entry_line, first_version_line, second_version_line, rom_line, heading, done_line, IsWrong, IsLine, IsElsewhere, Nothing, Versioned, Begun, Whole, Taken, Without, IsTaken, Line, EntryLine, DoneLine, CertWhy, Form, Order, Count, Unended, After, TooLong, Memory}
 use Rattle.dvg_cert.proofs.Rising.{small_map}
 use Rattle.dvg_cert.proofs.FirstLines.{cons_parts, heads_once, first_of, second_of}
 use Rattle.dvg_cert.proofs.WholeLines.{line_again}
@@ -28,16 +28,16 @@ abbrev pub lines_text : List (List ℕ) → List ℕ
 lines_text [] = []
 lines_text (l ∷ ls) = l ++ LINE_FEED ∷ lines_text ls
 
-abbrev pub Frees : List (List ℕ) → Type 0
-Frees [] = Unit {0}
-Frees (l ∷ ls) = Without LINE_FEED l × Frees ls
+-- a line has no LF within, and room for its end
+abbrev pub Fits : List ℕ → Type 0
+Fits l = Without LINE_FEED l × (length l < LONGEST_LINE)
 
 -- if lines and a tail equal other lines and a rest without LF, the first lines begin the others
-pub lines_prefix : (ls ms : List (List ℕ)) (tail rest : List ℕ) → Frees ls → Frees ms → Without LINE_FEED rest → lines_text ls ++ tail ≡ lines_text ms ++ rest → (more : List (List ℕ)) × (ms ≡ ls ++ more) × (tail ≡ lines_text more ++ rest)
+pub lines_prefix : (ls ms : List (List ℕ)) (tail rest : List ℕ) → AllByRecursion Fits ls → AllByRecursion Fits ms → Without LINE_FEED rest → lines_text ls ++ tail ≡ lines_text ms ++ rest → (more : List (List ℕ)) × (ms ≡ ls ++ more) × (tail ≡ lines_text more ++ rest)
 lines_prefix [] ms tail rest h k free e = (ms, refl, e)
 lines_prefix (l ∷ ls) [] tail rest h k free e = absurd (no_cut l (lines_text ls ++ tail) rest free (sym (append_assoc l (LINE_FEED ∷ lines_text ls) tail) ∙ e))
 lines_prefix (l ∷ ls) (m ∷ ms) tail rest h k free e =
-    let c = cut_once l (lines_text ls ++ tail) m (lines_text ms ++ rest) h.0 k.0 (sym (append_assoc l (LINE_FEED ∷ lines_text ls) tail) ∙ e ∙ append_assoc m (LINE_FEED ∷ lines_text ms) rest) in
+    let c = cut_once l (lines_text ls ++ tail) m (lines_text ms ++ rest) h.0.0 k.0.0 (sym (append_assoc l (LINE_FEED ∷ lines_text ls) tail) ∙ e ∙ append_assoc m (LINE_FEED ∷ lines_text ms) rest) in
     let r = lines_prefix ls ms tail rest h.1 k.1 free c.1 in
     (r.0, cc (c.0, r.1), r.2)
 
@@ -59,58 +59,67 @@ entry_not_done first last x n small h k e =
 
 -- the lines of entries
 abbrev pub entry_lines : List Entry → List (List ℕ)
-entry_lines [] = []
-entry_lines (e ∷ es) = entry_line e ∷ entry_lines es
+entry_lines es = map entry_line es
+
+-- what stands behind them: nothing, or the last line
+abbrev pub behind : Bool → List Entry → List (List ℕ)
+behind false es = []
+behind true es = done_line (length es) ∷ []
 
 abbrev pub lines_of : Taken → List (List ℕ)
 lines_of Nothing = []
 lines_of Versioned = second_version_line ∷ []
-lines_of (Begun map es) = heading map ++ entry_lines es
+lines_of (Begun map es) = heading map ++ (entry_lines es ++ [])
 lines_of (Whole map es) = heading map ++ (entry_lines es ++ done_line (length es) ∷ [])
 
--- what follows is no entry line
-abbrev pub NoEntry : ℕ → ℕ → List (List ℕ) → Type 0
-NoEntry first last end = (x : Entry) (ls : List (List ℕ)) → IsEntry first last x → end ≡ entry_line x ∷ ls → ⊥
+no_entry_behind : (done : Bool) (first last : ℕ) (es : List Entry) (x : Entry) (ls : List (List ℕ)) → last < ADDRESS_END → length es ≤ MOST_ENTRIES → IsEntry first last x → behind done es ≡ entry_line x ∷ ls → ⊥
+no_entry_behind false first last es x ls small few h e = absurd cc
+no_entry_behind true first last es x ls small few h e = let head : done_line (length es) ≡ entry_line x = cc in entry_not_done first last x (length es) small h few (sym head)
 
--- one list goes on where the other has a line
-pub next_of : (first last : ℕ) (es fs : List Entry) (end ms : List (List ℕ)) (line : List ℕ) → last < ADDRESS_END → AllByRecursion (IsEntry first last) es → AllByRecursion (IsEntry first last) fs → NoEntry first last end
-    → entry_lines fs ++ end ≡ entry_lines es ++ line ∷ ms → ((e : Entry) × (gs : List Entry) × (fs ≡ es ++ e ∷ gs) × (line ≡ entry_line e)) ⊎ ((fs ≡ es) × (end ≡ line ∷ ms))
-next_of first last [] [] end ms line small h k never e = inr (refl, e)
-next_of first last [] (f ∷ fs) end ms line small h k never e = inl (f, fs, refl, sym (cc))
-next_of first last (x ∷ es) [] end ms line small h k never e = absurd (never x (entry_lines es ++ line ∷ ms) h.0 e)
-next_of first last (x ∷ es) (f ∷ fs) end ms line small h k never e =
+-- of two lists that begin the same lines, the first with no entry's line behind it goes on with an entry, or is the other
+next : (first last : ℕ) (es fs : List Entry) (end more : List (List ℕ)) → last < ADDRESS_END → AllByRecursion (IsEntry first last) es → AllByRecursion (IsEntry first last) fs → ((x : Entry) (ls : List (List ℕ)) → IsEntry first last x → end ≡ entry_line x ∷ ls → ⊥)
+    → entry_lines fs ++ end ≡ entry_lines es ++ more → ((e : Entry) × (gs : List Entry) × (ls : List (List ℕ)) × (fs ≡ es ++ e ∷ gs) × (more ≡ entry_line e ∷ ls)) ⊎ ((fs ≡ es) × (end ≡ more))
+next first last [] [] end more small h k never e = inr (refl, e)
+next first last [] (f ∷ fs) end more small h k never e = inl (f, fs, entry_lines fs ++ end, refl, sym e)
+next first last (x ∷ es) [] end more small h k never e = absurd (never x (entry_lines es ++ more) h.0 e)
+next first last (x ∷ es) (f ∷ fs) end more small h k never e =
     let head : entry_line f ≡ entry_line x = cc in
-    let tail : entry_lines fs ++ end ≡ entry_lines es ++ line ∷ ms = cc in
     let same = one_entry first last f x small k.0 h.0 head in
-    elim (next_of first last es fs end ms line small h.1 k.1 never tail) [
-      | inl r ↦ inl (r.0, r.1, cc (same, r.2), r.3)
+    elim (next first last es fs end more small h.1 k.1 never (cc)) [
+      | inl r ↦ inl (r.0, r.1, r.2, cc (same, r.3), r.4)
       | inr r ↦ inr (cc (same, r.0), r.1)
     ]
 
--- two lists that end alike
-pub ends_once : (first last : ℕ) (es fs : List Entry) (end end' : List (List ℕ)) → last < ADDRESS_END → AllByRecursion (IsEntry first last) es → AllByRecursion (IsEntry first last) fs → NoEntry first last end → NoEntry first last end'
-    → entry_lines es ++ end ≡ entry_lines fs ++ end' → (es ≡ fs) × (end ≡ end')
-ends_once first last [] [] end end' small h k never never' e = (refl, e)
-ends_once first last [] (f ∷ fs) end end' small h k never never' e = absurd (never f (entry_lines fs ++ end') k.0 e)
-ends_once first last (x ∷ es) [] end end' small h k never never' e = absurd (never' x (entry_lines es ++ end) h.0 (sym e))
-ends_once first last (x ∷ es) (f ∷ fs) end end' small h k never never' e =
-    let head : entry_line x ≡ entry_line f = cc in
-    let tail : entry_lines es ++ end ≡ entry_lines fs ++ end' = cc in
-    let same = one_entry first last x f small h.0 k.0 head in
-    let r = ends_once first last es fs end end' small h.1 k.1 never never' tail in
-    (cc (same, r.0), r.1)
+-- a list within a list
+pub each_mid : {X : Type 0} (P : X → Type 0) (xs : List X) (y : X) (ys : List X) → AllByRecursion P (xs ++ y ∷ ys) → P y
+each_mid P [] y ys h = h.0
+each_mid P (x ∷ xs) y ys h = each_mid P xs y ys h.1
 
-no_entry_nil : (first last : ℕ) → NoEntry first last []
-no_entry_nil first last = λ x ls h e. absurd cc
+pub rising_mid : (es : List Entry) (e : Entry) (gs : List Entry) → IsRising (es ++ e ∷ gs) → StandsAfter es e
+rising_mid [] e gs h = tt
+rising_mid (x ∷ []) e [] h = h.0
+rising_mid (x ∷ []) e (g ∷ gs) h = h.0
+rising_mid (x ∷ y ∷ es) e gs h = rising_mid (y ∷ es) e gs h.1
 
-no_entry_done : (first last n : ℕ) → last < ADDRESS_END → n ≤ MOST_ENTRIES → NoEntry first last (done_line n ∷ [])
-no_entry_done first last n small few = λ x ls h e. let head : done_line n ≡ entry_line x = cc in entry_not_done first last x n small h few (sym head)
+-- an entry's line comes next, and the entry may stand after these
+abbrev pub Next : MemoryMap → List Entry → List (List ℕ) → Type 0
+Next map es more = (e : Entry) × (ls : List (List ℕ)) × IsEntry map.rom_first map.rom_last e × StandsAfter es e × (length es < MOST_ENTRIES) × (more ≡ entry_line e ∷ ls)
 
-same_begun : (map map' : MemoryMap) (es fs : List Entry) → map ≡ map' → es ≡ fs → Begun map es ≡ Begun map' fs
-same_begun map map' es fs p q = cc
-
-same_whole : (map map' : MemoryMap) (es fs : List Entry) → map ≡ map' → es ≡ fs → Whole map es ≡ Whole map' fs
-same_whole map map' es fs p q = cc
+-- after the lines of a list, those of another list go on with an entry, or it is the same
+after : (done : Bool) (map map' : MemoryMap) (es fs : List Entry) (more : List (List ℕ)) → IsCertificate map es → IsCertificate map' fs → heading map' ++ (entry_lines fs ++ behind done fs) ≡ heading map ++ (entry_lines es ++ more)
+    → (map' ≡ map) × (Next map es more ⊎ ((fs ≡ es) × (behind done fs ≡ more)))
+after done map map' es fs more h k e =
+    let r = heads_once map' map (entry_lines fs ++ behind done fs) (entry_lines es ++ more) k.map_is h.map_is e in
+    let small = small_map map h.map_is in
+    let y = subst (λ (m : MemoryMap). IsCertificate m fs) r.0 k in (
+      r.0,
+      elim (next map.rom_first map.rom_last es fs (behind done fs) more small h.each y.each (λ x ls fits. no_entry_behind done map.rom_first map.rom_last fs x ls small y.few fits) r.1) [
+        | inl n ↦
+            let c = subst (λ (xs : List Entry). IsCertificate map xs) n.3 y in
+            inl (n.0, n.2, each_mid (IsEntry map.rom_first map.rom_last) es n.0 n.1 c.each, rising_mid es n.0 n.1 c.rising, omega (arith, c.few, length-append es (n.0 ∷ n.1)), n.4)
+        | inr s ↦ inr s
+      ],
+    )
 
 no_cons : (l : List ℕ) (ls : List (List ℕ)) → [] ≡ l ∷ ls → ⊥
 no_cons l ls e = absurd cc
@@ -127,51 +136,42 @@ no_heads map xs e =
 no_version : (map : MemoryMap) (xs : List (List ℕ)) → second_version_line ∷ [] ≡ heading map ++ xs → ⊥
 no_version map xs e = no_cons (rom_line map) xs (second_of map xs [] (sym e)).1
 
+-- the first lines and entries, with the last line or without
+abbrev pub body : Bool → MemoryMap → List Entry → Taken
+body false map es = Begun map es
+body true map es = Whole map es
+
+bodies_once : (one other : Bool) (map map' : MemoryMap) (es fs : List Entry) → IsCertificate map es → IsCertificate map' fs → heading map ++ (entry_lines es ++ behind one es) ≡ heading map' ++ (entry_lines fs ++ behind other fs) → body one map es ≡ body other map' fs
+bodies_once one other map map' es fs h k e =
+    let r = after other map map' es fs (behind one es) h k (sym e) in
+    elim r.1 [
+      | inl n ↦ absurd (no_entry_behind one map.rom_first map.rom_last es n.0 n.1 (small_map map h.map_is) h.few n.2 n.5)
+      | inr s ↦ same one other r.0 s.0 s.1
+    ]
+  where
+    same : (one other : Bool) → map' ≡ map → fs ≡ es → behind other fs ≡ behind one es → body one map es ≡ body other map' fs
+    same false false p q e = cc
+    same false true p q e = absurd cc
+    same true false p q e = absurd cc
+    same true true p q e = cc
+
 pub lines_once : (t u : Taken) → IsTaken t → IsTaken u → lines_of t ≡ lines_of u → t ≡ u
 lines_once Nothing Nothing h k e = refl
 lines_once Nothing Versioned h k e = absurd (no_cons second_version_line [] e)
-lines_once Nothing (Begun map' fs) h k e = absurd (no_heads map' (entry_lines fs) e)
-lines_once Nothing (Whole map' fs) h k e = absurd (no_heads map' (entry_lines fs ++ done_line (length fs) ∷ []) e)
+lines_once Nothing (Begun map' fs) h k e = absurd (no_heads map' _ e)
+lines_once Nothing (Whole map' fs) h k e = absurd (no_heads map' _ e)
 lines_once Versioned Nothing h k e = absurd (no_cons second_version_line [] (sym e))
 lines_once Versioned Versioned h k e = refl
-lines_once Versioned (Begun map' fs) h k e = absurd (no_version map' (entry_lines fs) e)
-lines_once Versioned (Whole map' fs) h k e = absurd (no_version map' (entry_lines fs ++ done_line (length fs) ∷ []) e)
-lines_once (Begun map es) Nothing h k e = absurd (no_heads map (entry_lines es) (sym e))
-lines_once (Begun map es) Versioned h k e = absurd (no_version map (entry_lines es) (sym e))
-lines_once (Whole map es) Nothing h k e = absurd (no_heads map (entry_lines es ++ done_line (length es) ∷ []) (sym e))
-lines_once (Whole map es) Versioned h k e = absurd (no_version map (entry_lines es ++ done_line (length es) ∷ []) (sym e))
-lines_once (Begun map es) (Begun map' fs) h k e =
-    let r = heads_once map map' (entry_lines es) (entry_lines fs) h.map_is k.map_is e in
-    let y = subst (λ (m : MemoryMap). IsCertificate m fs) (sym r.0) k in
-    same_begun map map' es fs r.0 (ends_once map.rom_first map.rom_last es fs [] [] (small_map map h.map_is) h.each y.each (no_entry_nil map.rom_first map.rom_last) (no_entry_nil map.rom_first map.rom_last) (append-nil (entry_lines es) ∙ r.1 ∙ sym (append-nil (entry_lines fs)))).0
-lines_once (Begun map es) (Whole map' fs) h k e =
-    let r = heads_once map map' (entry_lines es) (entry_lines fs ++ done_line (length fs) ∷ []) h.map_is k.map_is e in
-    let y = subst (λ (m : MemoryMap). IsCertificate m fs) (sym r.0) k in
-    let small = small_map map h.map_is in
-    let n = ends_once map.rom_first map.rom_last es fs [] (done_line (length fs) ∷ []) small h.each y.each (no_entry_nil map.rom_first map.rom_last) (no_entry_done map.rom_first map.rom_last (length fs) small y.few) (append-nil (entry_lines es) ∙ r.1) in
-    absurd (cc (n.1))
-lines_once (Whole map es) (Begun map' fs) h k e =
-    let r = heads_once map map' (entry_lines es ++ done_line (length es) ∷ []) (entry_lines fs) h.map_is k.map_is e in
-    let y = subst (λ (m : MemoryMap). IsCertificate m fs) (sym r.0) k in
-    let small = small_map map h.map_is in
-    let n = ends_once map.rom_first map.rom_last es fs (done_line (length es) ∷ []) [] small h.each y.each (no_entry_done map.rom_first map.rom_last (length es) small h.few) (no_entry_nil map.rom_first map.rom_last) (r.1 ∙ sym (append-nil (entry_lines fs))) in
-    absurd (cc (n.1))
-lines_once (Whole map es) (Whole map' fs) h k e =
-    let r = heads_once map map' (entry_lines es ++ done_line (length es) ∷ []) (entry_lines fs ++ done_line (length fs) ∷ []) h.map_is k.map_is e in
-    let y = subst (λ (m : MemoryMap). IsCertificate m fs) (sym r.0) k in
-    let small = small_map map h.map_is in
-    same_whole map map' es fs r.0 (ends_once map.rom_first map.rom_last es fs (done_line (length es) ∷ []) (done_line (length fs) ∷ []) small h.each y.each (no_entry_done map.rom_first map.rom_last (length es) small h.few) (no_entry_done map.rom_first map.rom_last (length fs) small y.few) r.1).0
-
--- a list within a list
-pub each_mid : (first last : ℕ) (es : List Entry) (e : Entry) (gs : List Entry) → AllByRecursion (IsEntry first last) (es ++ e ∷ gs) → IsEntry first last e
-each_mid first last [] e gs h = h.0
-each_mid first last (x ∷ es) e gs h = each_mid first last es e gs h.1
-
-pub rising_mid : (es : List Entry) (e : Entry) (gs : List Entry) → IsRising (es ++ e ∷ gs) → StandsAfter es e
-rising_mid [] e gs h = tt
-rising_mid (x ∷ []) e [] h = h.0
-rising_mid (x ∷ []) e (g ∷ gs) h = h.0
-rising_mid (x ∷ y ∷ es) e gs h = rising_mid (y ∷ es) e gs h.1
+lines_once Versioned (Begun map' fs) h k e = absurd (no_version map' _ e)
+lines_once Versioned (Whole map' fs) h k e = absurd (no_version map' _ e)
+lines_once (Begun map es) Nothing h k e = absurd (no_heads map _ (sym e))
+lines_once (Begun map es) Versioned h k e = absurd (no_version map _ (sym e))
+lines_once (Whole map es) Nothing h k e = absurd (no_heads map _ (sym e))
+lines_once (Whole map es) Versioned h k e = absurd (no_version map _ (sym e))
+lines_once (Begun map es) (Begun map' fs) h k e = bodies_once false false map map' es fs h k e
+lines_once (Begun map es) (Whole map' fs) h k e = bodies_once false true map map' es fs h k e
+lines_once (Whole map es) (Begun map' fs) h k e = bodies_once true false map map' es fs h k e
+lines_once (Whole map es) (Whole map' fs) h k e = bodies_once true true map map' es fs h k e
 
 -- the line may stand after these
 abbrev pub GoesOn : Taken → List ℕ → Type 0
@@ -193,13 +193,6 @@ small_taken Versioned h = tt
 small_taken (Begun map es) h = small_map map h.map_is
 small_taken (Whole map es) h = small_map map h.map_is
 
-goes_entry : (map : MemoryMap) (es fs : List Entry) (line : List ℕ) → IsCertificate map fs → ((e : Entry) × (gs : List Entry) × (fs ≡ es ++ e ∷ gs) × (line ≡ entry_line e)) → (e : Entry) × IsLine map.rom_first map.rom_last (EntryLine e) line × StandsAfter es e × (length es < MOST_ENTRIES)
-goes_entry map es fs line h r =
-    let each : AllByRecursion (IsEntry map.rom_first map.rom_last) (es ++ r.0 ∷ r.1) = subst (λ (xs : List Entry). AllByRecursion (IsEntry map.rom_first map.rom_last) xs) r.2 h.each in
-    let rising : IsRising (es ++ r.0 ∷ r.1) = subst (λ (xs : List Entry). IsRising xs) r.2 h.rising in
-    let few : length (es ++ r.0 ∷ r.1) ≤ MOST_ENTRIES = subst (λ (xs : List Entry). length xs ≤ MOST_ENTRIES) r.2 h.few in
-    (r.0, (each_mid map.rom_first map.rom_last es r.0 r.1 each, r.3), rising_mid es r.0 r.1 rising, omega (arith, length-append es (r.0 ∷ r.1)))
-
 -- the line after nothing
 goes_first : (map : MemoryMap) (xs ms : List (List ℕ)) (line : List ℕ) → heading map ++ xs ≡ line ∷ ms → GoesOn Nothing line
 goes_first map xs ms line e =
@@ -214,12 +207,6 @@ goes_second map xs ms line is e =
     let r = second_of map xs (line ∷ ms) e in
     (map, (is, r.0), (cons_parts line (rom_line map) ms xs r.1).0)
 
--- the lines after the first ones
-after_heads : (map map' : MemoryMap) (es fs : List Entry) (xs ys ms : List (List ℕ)) (line : List ℕ) → IsCertificate map es → IsCertificate map' fs → heading map' ++ ys ≡ (heading map ++ xs) ++ line ∷ ms → IsCertificate map fs × (ys ≡ xs ++ line ∷ ms)
-after_heads map map' es fs xs ys ms line h k e =
-    let r = heads_once map' map ys (xs ++ line ∷ ms) k.map_is h.map_is (e ∙ append_assoc (heading map) xs (line ∷ ms)) in
-    (subst (λ (m : MemoryMap). IsCertificate m fs) r.0 k, r.1)
-
 none_more : (ls ms : List (List ℕ)) (line : List ℕ) → [] ≡ ls ++ line ∷ ms → ⊥
 none_more [] ms line e = absurd cc
 none_more (l ∷ ls) ms line e = absurd cc
@@ -228,47 +215,40 @@ none_more (l ∷ ls) ms line e = absurd cc
 one_more_line : (map : MemoryMap) (xs ms : List (List ℕ)) (line : List ℕ) → second_version_line ∷ [] ≡ (heading map ++ xs) ++ line ∷ ms → ⊥
 one_more_line map xs ms line e = no_version map (xs ++ line ∷ ms) (e ∙ append_assoc (heading map) xs (line ∷ ms))
 
+bodies_go : (one other : Bool) (map map' : MemoryMap) (es fs : List Entry) (line : List ℕ) (ms : List (List ℕ)) → IsCertificate map es → IsCertificate map' fs
+    → heading map' ++ (entry_lines fs ++ behind other fs) ≡ (heading map ++ (entry_lines es ++ behind one es)) ++ line ∷ ms → GoesOn (body one map es) line
+bodies_go one other map map' es fs line ms h k e =
+    elim (after other map map' es fs (behind one es ++ line ∷ ms) h k (e ∙ simp append_assoc)).1 [
+      | inl n ↦ entry one n
+      | inr s ↦ last one other s.0 s.1
+    ]
+  where
+    entry : (one : Bool) → Next map es (behind one es ++ line ∷ ms) → GoesOn (body one map es) line
+    entry false n = inl (n.0, (n.2, cc (n.5)), n.3, n.4)
+    entry true n = let head : done_line (length es) ≡ entry_line n.0 = cc (n.5) in entry_not_done map.rom_first map.rom_last n.0 (length es) (small_map map h.map_is) n.2 h.few (sym head)
+
+    last : (one other : Bool) → fs ≡ es → behind other fs ≡ behind one es ++ line ∷ ms → GoesOn (body one map es) line
+    last one false p e = absurd (none_more (behind one es) ms line e)
+    last false true p e = let l : done_line (length fs) ≡ line = cc in inr (h.few, sym l ∙ ap (λ (xs : List Entry). done_line (length xs)) p)
+    last true true p e = absurd cc
+
 pub goes_on : (t u : Taken) (line : List ℕ) (ms : List (List ℕ)) → IsTaken t → IsTaken u → lines_of u ≡ lines_of t ++ line ∷ ms → GoesOn t line
 goes_on Nothing Nothing line ms h k e = absurd (no_cons line ms e)
 goes_on Nothing Versioned line ms h k e = inr (sym (cons_parts second_version_line line [] ms e).0)
-goes_on Nothing (Begun map' fs) line ms h k e = goes_first map' (entry_lines fs) ms line e
-goes_on Nothing (Whole map' fs) line ms h k e = goes_first map' (entry_lines fs ++ done_line (length fs) ∷ []) ms line e
+goes_on Nothing (Begun map' fs) line ms h k e = goes_first map' _ ms line e
+goes_on Nothing (Whole map' fs) line ms h k e = goes_first map' _ ms line e
 goes_on Versioned Nothing line ms h k e = absurd (no_cons second_version_line (line ∷ ms) e)
 goes_on Versioned Versioned line ms h k e = absurd (no_cons line ms (cons_parts second_version_line second_version_line [] (line ∷ ms) e).1)
-goes_on Versioned (Begun map' fs) line ms h k e = goes_second map' (entry_lines fs) ms line k.map_is e
-goes_on Versioned (Whole map' fs) line ms h k e = goes_second map' (entry_lines fs ++ done_line (length fs) ∷ []) ms line k.map_is e
+goes_on Versioned (Begun map' fs) line ms h k e = goes_second map' _ ms line k.map_is e
+goes_on Versioned (Whole map' fs) line ms h k e = goes_second map' _ ms line k.map_is e
 goes_on (Begun map es) Nothing line ms h k e = absurd (none_more (lines_of (Begun map es)) ms line e)
-goes_on (Begun map es) Versioned line ms h k e = absurd (one_more_line map (entry_lines es) ms line e)
-goes_on (Begun map es) (Begun map' fs) line ms h k e =
-    let less = small_map map h.map_is in
-    let r = after_heads map map' es fs (entry_lines es) (entry_lines fs) ms line h k e in
-    elim (next_of map.rom_first map.rom_last es fs [] ms line less h.each r.0.each (no_entry_nil map.rom_first map.rom_last) (append-nil (entry_lines fs) ∙ r.1)) [
-      | inl x ↦ inl (goes_entry map es fs line r.0 x)
-      | inr x ↦ absurd (cc (x.1))
-    ]
-goes_on (Begun map es) (Whole map' fs) line ms h k e =
-    let less = small_map map h.map_is in
-    let r = after_heads map map' es fs (entry_lines es) (entry_lines fs ++ done_line (length fs) ∷ []) ms line h k e in
-    elim (next_of map.rom_first map.rom_last es fs (done_line (length fs) ∷ []) ms line less h.each r.0.each (no_entry_done map.rom_first map.rom_last (length fs) less r.0.few) r.1) [
-      | inl x ↦ inl (goes_entry map es fs line r.0 x)
-      | inr x ↦ let l : done_line (length fs) ≡ line = cc (x.1) in inr (h.few, sym l ∙ ap (λ (xs : List Entry). done_line (length xs)) x.0)
-    ]
+goes_on (Begun map es) Versioned line ms h k e = absurd (one_more_line map _ ms line e)
+goes_on (Begun map es) (Begun map' fs) line ms h k e = bodies_go false false map map' es fs line ms h k e
+goes_on (Begun map es) (Whole map' fs) line ms h k e = bodies_go false true map map' es fs line ms h k e
 goes_on (Whole map es) Nothing line ms h k e = absurd (none_more (lines_of (Whole map es)) ms line e)
-goes_on (Whole map es) Versioned line ms h k e = absurd (one_more_line map (entry_lines es ++ done_line (length es) ∷ []) ms line e)
-goes_on (Whole map es) (Begun map' fs) line ms h k e =
-    let less = small_map map h.map_is in
-    let r = after_heads map map' es fs (entry_lines es ++ done_line (length es) ∷ []) (entry_lines fs) ms line h k e in
-    elim (next_of map.rom_first map.rom_last es fs [] (line ∷ ms) (done_line (length es)) less h.each r.0.each (no_entry_nil map.rom_first map.rom_last) (append-nil (entry_lines fs) ∙ r.1 ∙ append_assoc (entry_lines es) (done_line (length es) ∷ []) (line ∷ ms))) [
-      | inl x ↦ let g = goes_entry map es fs (done_line (length es)) r.0 x in absurd (entry_not_done map.rom_first map.rom_last g.0 (length es) less g.1.0 h.few (sym g.1.1))
-      | inr x ↦ absurd (cc (x.1))
-    ]
-goes_on (Whole map es) (Whole map' fs) line ms h k e =
-    let less = small_map map h.map_is in
-    let r = after_heads map map' es fs (entry_lines es ++ done_line (length es) ∷ []) (entry_lines fs ++ done_line (length fs) ∷ []) ms line h k e in
-    elim (next_of map.rom_first map.rom_last es fs (done_line (length fs) ∷ []) (line ∷ ms) (done_line (length es)) less h.each r.0.each (no_entry_done map.rom_first map.rom_last (length fs) less r.0.few) (r.1 ∙ append_assoc (entry_lines es) (done_line (length es) ∷ []) (line ∷ ms))) [
-      | inl x ↦ let g = goes_entry map es fs (done_line (length es)) r.0 x in absurd (entry_not_done map.rom_first map.rom_last g.0 (length es) less g.1.0 h.few (sym g.1.1))
-      | inr x ↦ absurd (cc (x.1))
-    ]
+goes_on (Whole map es) Versioned line ms h k e = absurd (one_more_line map _ ms line e)
+goes_on (Whole map es) (Begun map' fs) line ms h k e = bodies_go true false map map' es fs line ms h k e
+goes_on (Whole map es) (Whole map' fs) line ms h k e = bodies_go true true map map' es fs line ms h k e
 
 pub not_both : (first last : ℕ) (e : Entry) (n : ℕ) (line : List ℕ) → last < ADDRESS_END → IsLine first last (EntryLine e) line → IsLine first last (DoneLine n) line → ⊥
 not_both first last e n line small h k = let s = one_line first last line (EntryLine e) (DoneLine n) small h k in absurd cc
@@ -309,6 +289,4 @@ wrong_goes Count (Begun map es) line small w (inl g) = not_both map.rom_first ma
 wrong_goes Count (Begun map es) line small w (inr g) =
     let same = one_line map.rom_first map.rom_last line (DoneLine w.0) (DoneLine (length es)) small w.1 g in
     w.2 cc
-wrong_goes Unended (Begun map es) line small w g = w
-wrong_goes After (Begun map es) line small w g = w
-wrong_goes Memory (Begun map es) line small w g = w
+wrong_goes why (Begun map es) line small w g = w

@@ -9,7 +9,7 @@ cut_at (x ∷ es) zero d lt = (refl, refl)
 cut_at (x ∷ es) (suc i) d lt = let r = cut_at es i d (omega arith) in (ap (λ (t : List Entry). x ∷ t) r.0, ap (λ (t : List Entry). x ∷ t) r.1)
 
 pub not_entry : (map : MemoryMap) (es : List Entry) (i : ℕ) (d : Entry) → i < length es → (IsEntry map.rom_first map.rom_last (get_or es i d) → IsTrue false) → IsCertificate map es → IsTrue false
-not_entry map es i d lt h k = h (each_mid map.rom_first map.rom_last (take i es) (get_or es i d) (drop (suc i) es) (subst (λ (xs : List Entry). AllByRecursion (IsEntry map.rom_first map.rom_last) xs) (cut_at es i d lt).0 k.each))
+not_entry map es i d lt h k = h (each_mid (IsEntry map.rom_first map.rom_last) (take i es) (get_or es i d) (drop (suc i) es) (subst (λ (xs : List Entry). AllByRecursion (IsEntry map.rom_first map.rom_last) xs) (cut_at es i d lt).0 k.each))
 
 pub not_rising : (map : MemoryMap) (es : List Entry) (i : ℕ) (d : Entry) → i < length es → (StandsAfter (take i es) (get_or es i d) → IsTrue false) → IsCertificate map es → IsTrue false
 not_rising map es i d lt h k = h (rising_mid (take i es) (get_or es i d) (drop (suc i) es) (subst (λ (xs : List Entry). IsRising xs) (cut_at es i d lt).0 k.rising))

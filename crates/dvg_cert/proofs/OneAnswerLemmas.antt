@@ -1,93 +1,60 @@
 -- A text has one answer.
-use Rattle.dvg_cert.proofs.Common.{◌≡◌, ◌≢◌, ℕ, ◌-◌, ◌<◌, ◌≤◌, List, [], ◌∷◌, ◌++◌, length, Bool, true, false, refl, sym, ap, subst, ◌∙◌, append_assoc, arith, lit<, inl, inr, ◌⊎◌, decimal, codes, flat_map, AllByRecursion, append-nil, length-append, nat_tests, MemoryMap, is_asteroids, MOST_ENTRIES, LONGEST_LINE, LINE_FEED, Entry, IsEntry, Certificate, StandsAfter, entry_line, entry_tokens, heading, begun_with, text_of, ended, done_line, Spells, IsRefusal, EndsOpen, StopsAt, IsWrong, Nothing, Versioned, Begun, Whole, Taken, Without, text_taken, line_number, IsTaken, IsUnended, IsRest, Holds, Meets, EntryLine, DoneLine, CertWhy, Form, Order, Count, Unended, After, TooLong, Memory}
+use Rattle.dvg_cert.proofs.Common.{◌≡◌, ◌≢◌, ℕ, ◌-◌, ◌<◌, ◌≤◌, List, [], ◌∷◌, ◌++◌, length, Bool, true, false, refl, sym, ap, subst, ◌∙◌, append_assoc, arith, lit<, inl, inr, ◌⊎◌, decimal, codes, flat_map, AllByRecursion, append-nil, length-append, nat_tests, MemoryMap, is_asteroids, MOST_ENTRIES, LONGEST_LINE, LINE_FEED, Entry, IsEntry, Certificate, IsCertificate, StandsAfter, entry_line, entry_tokens, heading, begun_with, text_of, ended, done_line, Spells, IsRefusal, EndsOpen, StopsAt, IsWrong, Nothing, Versioned, Begun, Whole, Taken, Without, text_taken, line_number, IsTaken, IsUnended, IsRest, Holds, Meets, EntryLine, DoneLine, CertWhy, Form, Order, Count, Unended, After, TooLong, Memory}
+use Rattle.std.proofs.lemmas.Grind.{flat_map-append}
+use Rattle.std.proofs.lemmas.List.Folds.{flat_map-map}
 use Rattle.dvg_cert.proofs.Graphics.{line_free, graphics_entry, graphic_decimal}
 use Rattle.dvg_cert.proofs.Lengths.{length_entry, length_done}
 use Rattle.dvg_cert.proofs.FirstLines.{heads, version_free, rom_free}
-use Rattle.dvg_cert.proofs.LinesOfTexts.{only_form, cut_once, no_cut, lines_text, Frees, lines_prefix, entry_lines, lines_of, lines_once, goes_on, Small, small_taken, wrong_goes, same_entry, not_both}
+use Rattle.dvg_cert.proofs.LinesOfTexts.{only_form, cut_once, no_cut, lines_text, Fits, lines_prefix, each_mid, behind, entry_lines, lines_of, lines_once, goes_on, Small, small_taken, wrong_goes, same_entry, not_both}
 
 done_free : (n : ℕ) → n ≤ MOST_ENTRIES → Without LINE_FEED (done_line n)
 done_free n h = line_free (codes "done" ∷ decimal n ∷ []) ((lit< tt, (lit< tt, (lit< tt, (lit< tt, tt)))), (graphic_decimal n (omega arith), tt))
 
-Frees-append : (ls ms : List (List ℕ)) → Frees ls → Frees ms → Frees (ls ++ ms)
-Frees-append [] ms h k = k
-Frees-append (l ∷ ls) ms h k = (h.0, Frees-append ls ms h.1 k)
+fits-append : (ls ms : List (List ℕ)) → AllByRecursion Fits ls → AllByRecursion Fits ms → AllByRecursion Fits (ls ++ ms)
+fits-append [] ms h k = k
+fits-append (l ∷ ls) ms h k = (h.0, fits-append ls ms h.1 k)
 
-entries_free : (first last : ℕ) (es : List Entry) → AllByRecursion (IsEntry first last) es → Frees (entry_lines es)
-entries_free first last [] h = tt
-entries_free first last (e ∷ es) h = (line_free (entry_tokens e) (graphics_entry first last e h.0), entries_free first last es h.1)
+entries_fit : (first last : ℕ) (es : List Entry) → AllByRecursion (IsEntry first last) es → AllByRecursion Fits (entry_lines es)
+entries_fit first last [] h = tt
+entries_fit first last (e ∷ es) h = ((line_free (entry_tokens e) (graphics_entry first last e h.0), omega (arith, length_entry first last e h.0)), entries_fit first last es h.1)
 
-heads_free : (b : Bool) (map : MemoryMap) → Frees (heads b map)
-heads_free true map = (version_free.0, tt)
-heads_free false map = (version_free.1, (rom_free map, tt))
+heads_fit : (b : Bool) (map : MemoryMap) → AllByRecursion Fits (heads b map)
+heads_fit true map = ((version_free.0, omega arith), tt)
+heads_fit false map = ((version_free.1, omega arith), ((rom_free map, omega arith), tt))
 
-pub taken_free : (t : Taken) → IsTaken t → Frees (lines_of t)
-taken_free Nothing h = tt
-taken_free Versioned h = (version_free.1, tt)
-taken_free (Begun map es) h = Frees-append (heading map) (entry_lines es) (heads_free (is_asteroids map) map) (entries_free map.rom_first map.rom_last es h.each)
-taken_free (Whole map es) h = Frees-append (heading map) (entry_lines es ++ done_line (length es) ∷ []) (heads_free (is_asteroids map) map) (Frees-append (entry_lines es) (done_line (length es) ∷ []) (entries_free map.rom_first map.rom_last es h.each) (done_free (length es) h.few, tt))
+behind_fits : (done : Bool) (es : List Entry) → length es ≤ MOST_ENTRIES → AllByRecursion Fits (behind done es)
+behind_fits false es few = tt
+behind_fits true es few = ((done_free (length es) few, omega (arith, length_done (length es) few)), tt)
 
--- each line has room for its end
-abbrev pub Shorts : List (List ℕ) → Type 0
-Shorts [] = Unit {0}
-Shorts (l ∷ ls) = (length l < LONGEST_LINE) × Shorts ls
+body_fits : (done : Bool) (map : MemoryMap) (es : List Entry) → IsCertificate map es → AllByRecursion Fits (heading map ++ (entry_lines es ++ behind done es))
+body_fits done map es h =
+    fits-append (heading map) _ (heads_fit (is_asteroids map) map) (fits-append (entry_lines es) _ (entries_fit map.rom_first map.rom_last es h.each) (behind_fits done es h.few))
 
-Shorts-append : (ls ms : List (List ℕ)) → Shorts ls → Shorts ms → Shorts (ls ++ ms)
-Shorts-append [] ms h k = k
-Shorts-append (l ∷ ls) ms h k = (h.0, Shorts-append ls ms h.1 k)
-
-Shorts-mid : (ls ms : List (List ℕ)) (m : List ℕ) → Shorts (ls ++ m ∷ ms) → length m < LONGEST_LINE
-Shorts-mid [] ms m h = h.0
-Shorts-mid (l ∷ ls) ms m h = Shorts-mid ls ms m h.1
-
-Frees-mid : (ls ms : List (List ℕ)) (m : List ℕ) → Frees (ls ++ m ∷ ms) → Without LINE_FEED m
-Frees-mid [] ms m h = h.0
-Frees-mid (l ∷ ls) ms m h = Frees-mid ls ms m h.1
-
-entries_short : (first last : ℕ) (es : List Entry) → AllByRecursion (IsEntry first last) es → Shorts (entry_lines es)
-entries_short first last [] h = tt
-entries_short first last (e ∷ es) h = let n = length_entry first last e h.0 in (omega arith, entries_short first last es h.1)
-
-heads_short : (b : Bool) (map : MemoryMap) → Shorts (heads b map)
-heads_short true map = (omega arith, tt)
-heads_short false map = (omega arith, (omega arith, tt))
-
-pub taken_short : (t : Taken) → IsTaken t → Shorts (lines_of t)
-taken_short Nothing h = tt
-taken_short Versioned h = (omega arith, tt)
-taken_short (Begun map es) h = Shorts-append (heading map) (entry_lines es) (heads_short (is_asteroids map) map) (entries_short map.rom_first map.rom_last es h.each)
-taken_short (Whole map es) h =
-    let n = length_done (length es) h.few in
-    Shorts-append (heading map) (entry_lines es ++ done_line (length es) ∷ []) (heads_short (is_asteroids map) map) (Shorts-append (entry_lines es) (done_line (length es) ∷ []) (entries_short map.rom_first map.rom_last es h.each) (omega arith, tt))
-
-lines_text-append : (ls ms : List (List ℕ)) → lines_text (ls ++ ms) ≡ lines_text ls ++ lines_text ms
-lines_text-append [] ms = refl
-lines_text-append (l ∷ ls) ms = ap (λ (t : List ℕ). l ++ LINE_FEED ∷ t) (lines_text-append ls ms) ∙ sym (append_assoc l (LINE_FEED ∷ lines_text ls) (lines_text ms))
-
-flat_lines : (es : List Entry) → flat_map (λ e. ended (entry_line e)) es ≡ lines_text (entry_lines es)
-flat_lines [] = refl
-flat_lines (e ∷ es) = append_assoc (entry_line e) (LINE_FEED ∷ []) (flat_map (λ e. ended (entry_line e)) es) ∙ ap (λ (t : List ℕ). entry_line e ++ LINE_FEED ∷ t) (flat_lines es)
+pub taken_fits : (t : Taken) → IsTaken t → AllByRecursion Fits (lines_of t)
+taken_fits Nothing h = tt
+taken_fits Versioned h = ((version_free.1, omega arith), tt)
+taken_fits (Begun map es) h = body_fits false map es h
+taken_fits (Whole map es) h = body_fits true map es h
 
 ended_lines : (ls : List (List ℕ)) → flat_map ended ls ≡ lines_text ls
 ended_lines [] = refl
 ended_lines (l ∷ ls) = append_assoc l (LINE_FEED ∷ []) (flat_map ended ls) ∙ ap (λ (t : List ℕ). l ++ LINE_FEED ∷ t) (ended_lines ls)
 
-begun_lines : (map : MemoryMap) (es : List Entry) → begun_with map es ≡ lines_text (heading map ++ entry_lines es)
+body_text : (map : MemoryMap) (es : List Entry) (end : List (List ℕ)) → begun_with map es ++ flat_map ended end ≡ lines_text (heading map ++ (entry_lines es ++ end))
 unfolding begun_with
-begun_lines map es = ap (λ (t : List ℕ). t ++ flat_map (λ e. ended (entry_line e)) es) (ended_lines (heading map)) ∙ ap (λ (t : List ℕ). lines_text (heading map) ++ t) (flat_lines es) ∙ sym (lines_text-append (heading map) (entry_lines es))
+body_text map es end =
+    ap (λ (t : List ℕ). (flat_map ended (heading map) ++ t) ++ flat_map ended end) (sym (flat_map-map ended entry_line es)) ∙ append_assoc (flat_map ended (heading map)) _ _
+    ∙ ap (λ (t : List ℕ). flat_map ended (heading map) ++ t) (sym (flat_map-append ended (entry_lines es) end)) ∙ sym (flat_map-append ended (heading map) _) ∙ ended_lines _
 
 pub taken_lines : (t : Taken) → text_taken t ≡ lines_text (lines_of t)
 taken_lines Nothing = refl
 taken_lines Versioned = refl
-taken_lines (Begun map es) = begun_lines map es
-taken_lines (Whole map es) =
-    ap (λ (t : List ℕ). t ++ ended (done_line (length es))) (begun_lines map es) ∙ sym (lines_text-append (heading map ++ entry_lines es) (done_line (length es) ∷ []))
-    ∙ ap lines_text (append_assoc (heading map) (entry_lines es) (done_line (length es) ∷ []))
+taken_lines (Begun map es) = sym (append-nil (begun_with map es)) ∙ body_text map es []
+taken_lines (Whole map es) = ap (λ (t : List ℕ). begun_with map es ++ t) (sym (append-nil (ended (done_line (length es))))) ∙ body_text map es (done_line (length es) ∷ [])
 
 pub rest_free : (t : Taken) (rest : List ℕ) → IsRest t rest → Without LINE_FEED rest × (length rest < LONGEST_LINE)
-rest_free Nothing rest h = h
-rest_free Versioned rest h = h
-rest_free (Begun map es) rest h = h
 rest_free (Whole map es) rest h = subst (λ (r : List ℕ). Without LINE_FEED r × (length r < LONGEST_LINE)) (sym h) (tt, omega arith)
+rest_free taken rest h = h
 
 -- a cut at a byte that is not LF, with no LF before it, comes earlier than a cut at an LF
 longer : (a b c d : List ℕ) (x : ℕ) → Without LINE_FEED a → x ≢ LINE_FEED → a ++ x ∷ b ≡ c ++ LINE_FEED ∷ d → length a < length c
@@ -99,7 +66,7 @@ longer (z ∷ a) b (y ∷ c) d x h n e = omega (arith, longer a b c d x h.1 n (c
 -- what may stand, and what is in front of it
 prefix_of : (prefix text after : List ℕ) (t u : Taken) (rest rest' : List ℕ) → Holds prefix t rest → Holds text u rest' → text ≡ prefix ++ after → (more : List (List ℕ)) × (lines_of u ≡ lines_of t ++ more) × (rest ++ after ≡ lines_text more ++ rest')
 prefix_of prefix text after t u rest rest' h k e =
-    lines_prefix (lines_of t) (lines_of u) (rest ++ after) rest' (taken_free t h.lines) (taken_free u k.lines) (rest_free u rest' k.begun).0
+    lines_prefix (lines_of t) (lines_of u) (rest ++ after) rest' (taken_fits t h.lines) (taken_fits u k.lines) (rest_free u rest' k.begun).0
     (ap (λ (x : List ℕ). x ++ (rest ++ after)) (sym (taken_lines t)) ∙ sym (append_assoc (text_taken t) rest after) ∙ ap (λ (x : List ℕ). x ++ after) (sym h.parts) ∙ sym e ∙ k.parts ∙ ap (λ (x : List ℕ). x ++ rest') (taken_lines u))
 
 -- a text stands in one way
@@ -149,10 +116,11 @@ stops_once t rest b why why' small (inr h) (inl k) = absurd (k.0 h.0)
 stops_once t rest b why why' small (inr h) (inr k) = same_meets t rest why why' small h.1 k.1
 
 meets_once : (t : Taken) (rest : List ℕ) (b : ℕ) (why why' : CertWhy) → Small t → Meets t rest b why → Meets t rest b why' → why ≡ why'
-meets_once Nothing rest b why why' small h k = stops_once Nothing rest b why why' small h k
-meets_once Versioned rest b why why' small h k = stops_once Versioned rest b why why' small h k
-meets_once (Begun map es) rest b why why' small h k = stops_once (Begun map es) rest b why why' small h k
 meets_once (Whole map es) rest b why why' small h k = h ∙ sym k
+meets_once taken rest b why why' small h k = stops_once taken rest b why why' small h k
+
+fits_mid : (t u : Taken) (m : List ℕ) (ms : List (List ℕ)) → IsTaken u → lines_of u ≡ lines_of t ++ m ∷ ms → Fits m
+fits_mid t u m ms k l = each_mid Fits (lines_of t) m ms (subst (AllByRecursion Fits) l (taken_fits u k))
 
 -- what a byte meets cannot stand
 stops_not : (t u : Taken) (rest rest' after : List ℕ) (b : ℕ) (why : CertWhy) → IsTaken t → IsTaken u → Without LINE_FEED rest → IsRest u rest' → Stops t rest b why
@@ -161,13 +129,11 @@ stops_not t u rest rest' after b why h k free r (inl s) ([], l, e) =
     let n : length (rest ++ b ∷ after) ≡ length rest' = ap length e in absurd (omega (arith, length-append rest (b ∷ after), s.1, (rest_free u rest' r).1))
 stops_not t u rest rest' after b why h k free r (inl s) ((m ∷ ms), l, e) =
     let n = longer rest after m (lines_text ms ++ rest') b free s.0 (e ∙ append_assoc m (LINE_FEED ∷ lines_text ms) rest') in
-    let short : length m < LONGEST_LINE = Shorts-mid (lines_of t) ms m (subst (λ (ls : List (List ℕ)). Shorts ls) l (taken_short u k)) in
-    absurd (omega (arith, s.1))
+    absurd (omega (arith, s.1, (fits_mid t u m ms k l).1))
 stops_not t u rest rest' after b why h k free r (inr s) ([], l, e) =
     no_cut rest after rest' (rest_free u rest' r).0 (ap (λ (x : ℕ). rest ++ x ∷ after) (sym s.0) ∙ e)
 stops_not t u rest rest' after b why h k free r (inr s) ((m ∷ ms), l, e) =
-    let mfree : Without LINE_FEED m = Frees-mid (lines_of t) ms m (subst (λ (ls : List (List ℕ)). Frees ls) l (taken_free u k)) in
-    let c = cut_once rest after m (lines_text ms ++ rest') free mfree (ap (λ (x : ℕ). rest ++ x ∷ after) (sym s.0) ∙ e ∙ append_assoc m (LINE_FEED ∷ lines_text ms) rest') in
+    let c = cut_once rest after m (lines_text ms ++ rest') free (fits_mid t u m ms k l).0 (ap (λ (x : ℕ). rest ++ x ∷ after) (sym s.0) ∙ e ∙ append_assoc m (LINE_FEED ∷ lines_text ms) rest') in
     let g = goes_on t u rest ms h k (l ∙ ap (λ (x : List ℕ). lines_of t ++ x ∷ ms) (sym c.0)) in
     wrong_goes why t rest (small_taken t h) s.1 g
 
@@ -182,19 +148,13 @@ after_not map es u rest rest' after b h k r ((m ∷ ms), l, e) = goes_on (Whole 
 
 -- where a byte cannot stand no text stands
 pub no_meet : (prefix text after : List ℕ) (t u : Taken) (rest rest' : List ℕ) (b : ℕ) (why : CertWhy) → Holds prefix t rest → Holds text u rest' → text ≡ prefix ++ b ∷ after → Meets t rest b why → ⊥
-no_meet prefix text after Nothing u rest rest' b why h k e m = stops_not Nothing u rest rest' after b why tt k.lines h.begun.0 k.begun m (prefix_of prefix text (b ∷ after) Nothing u rest rest' h k e)
-no_meet prefix text after Versioned u rest rest' b why h k e m = stops_not Versioned u rest rest' after b why tt k.lines h.begun.0 k.begun m (prefix_of prefix text (b ∷ after) Versioned u rest rest' h k e)
-no_meet prefix text after (Begun map es) u rest rest' b why h k e m = stops_not (Begun map es) u rest rest' after b why h.lines k.lines h.begun.0 k.begun m (prefix_of prefix text (b ∷ after) (Begun map es) u rest rest' h k e)
 no_meet prefix text after (Whole map es) u rest rest' b why h k e m = after_not map es u rest rest' after b h.lines k.lines k.begun (prefix_of prefix text (b ∷ after) (Whole map es) u rest rest' h k e)
+no_meet prefix text after t u rest rest' b why h k e m = stops_not t u rest rest' after b why h.lines k.lines h.begun.0 k.begun m (prefix_of prefix text (b ∷ after) t u rest rest' h k e)
 
 fault_is : (why : CertWhy) (text : List ℕ) (line : ℕ) → why ≢ Memory → IsRefusal text line why → ((why ≡ Unended) × EndsOpen text line) ⊎ StopsAt text line why
 fault_is Memory text line never h = absurd (never refl)
 fault_is Unended text line never h = inl (refl, h)
-fault_is Form text line never h = inr h
-fault_is Order text line never h = inr h
-fault_is Count text line never h = inr h
-fault_is After text line never h = inr h
-fault_is TooLong text line never h = inr h
+fault_is why text line never h = inr h
 
 -- a text that stands has no byte that cannot
 pub stuck_stands : (text : List ℕ) (line : ℕ) (why : CertWhy) (u : Taken) (rest' : List ℕ) → StopsAt text line why → Holds text u rest' → ⊥

@@ -2,7 +2,7 @@
 use Rattle.dvg_cert.proofs.Common.{◌≡◌, ◌≢◌, ℕ, zero, suc, ◌+◌, ◌-◌, ◌/◌, ◌%◌, ◌^◌, ◌<◌, ◌≤◌, Bool, true, false, cond, ◌&&◌, [], ◌∷◌, ◌++◌, length, map, take, drop, get_or, Option, Some, None, refl, sym, ap, subst, ◌∙◌, arith, codes, decimal, nat_le, nat_lt, ◌==◌, digit_value, option_map, option_map_or, AllDigits, digits_value, cond_some, some_pair_parts, none-some, same_Some, and_parts, eqb-true, nat_tests, decimal_digit, decimal-digits_of, digits_of_step, take-append-drop, length-append, take-append_seam, digit_value_digit, MOST_MAGNITUDE, ADDRESS_END, Key, At, Any, IsKey, address_token, key_token, Reads, natural_in, address_in, NoDigitFirst, past, digits_off, natural_at, digit_at, address_at, key_at}
 use Rattle.std.specs.Int.Digits.{digits_of}
 use Rattle.dvg_cert.proofs.NaturalNumbers.{natural_some}
-use Rattle.dvg_cert.proofs.FieldValues.{first_digit, map_some, natural_takes, address_takes, address_again}
+use Rattle.dvg_cert.proofs.FieldValues.{first_digit, map_some, none_of, natural_takes, address_takes, address_again}
 use Rattle.dvg_cert.proofs.Leading.{Text, same_number, digits_lead}
 
 -- ---- texts
@@ -29,11 +29,7 @@ pub past_is : (text bytes rest : Text) → bytes ≡ text ++ rest → past text 
 past_is text bytes rest e = ap (past text) e ∙ past_again text rest
 
 pub past_never : (text bytes : Text) → ((rest : Text) → bytes ≢ text ++ rest) → past text bytes ≡ None
-past_never text bytes never = by_answer (past text bytes) refl
-  where
-    by_answer : (o : Option Text) → past text bytes ≡ o → past text bytes ≡ None
-    by_answer None e = e
-    by_answer (Some rest) e = absurd (never rest (past_takes text bytes rest e))
+past_never text bytes never = none_of (past text bytes) (λ rest e. never rest (past_takes text bytes rest e))
 
 -- the bytes cut where the text would end
 pub past_found : (n : ℕ) (text bytes prefix rest : Text) → prefix ≡ take n bytes → rest ≡ drop n bytes → prefix ≡ text → past text bytes ≡ Some rest
@@ -85,11 +81,7 @@ natural_found low high bytes n rest e =
     (off.0 ∙ rw (t.0, s.0, s.1) refl, subst (λ (k : ℕ). low ≤ k) s.0 t.1, subst (λ (k : ℕ). k ≤ high) s.0 t.2, subst NoDigitFirst s.1 off.1)
 
 natural_never : (low high : ℕ) (bytes : Text) → ((n : ℕ) (rest : Text) → (bytes ≡ decimal n ++ rest) → low ≤ n → n ≤ high → NoDigitFirst rest → ⊥) → natural_at low high bytes ≡ None
-natural_never low high bytes never = by_answer (natural_at low high bytes) refl
-  where
-    by_answer : (o : Option (ℕ × Text)) → natural_at low high bytes ≡ o → natural_at low high bytes ≡ None
-    by_answer None e = e
-    by_answer (Some p) e = let f = natural_found low high bytes p.0 p.1 e in absurd (never p.0 p.1 f.0 f.1 f.2 f.3)
+natural_never low high bytes never = none_of (natural_at low high bytes) (λ p e. let f = natural_found low high bytes p.0 p.1 e in never p.0 p.1 f.0 f.1 f.2 f.3)
 
 pub natural_is : (low high n : ℕ) (bytes rest : Text) → n < 2 ^ 64 → low ≤ n → n ≤ high → bytes ≡ decimal n ++ rest → NoDigitFirst rest → natural_at low high bytes ≡ Some (n, rest)
 natural_is low high n bytes rest small from to e stop = ap (natural_at low high) e ∙ natural_again low high n rest small from to stop
@@ -154,11 +146,7 @@ digit_is most c bytes rest is from to =
     ap (digit_at most) (is ∙ ap (λ (x : ℕ). x ∷ rest) spelled) ∙ digit_again most (c - 48) rest (omega arith)
 
 digit_none : (most : ℕ) (bytes : Text) → ((d : ℕ) (rest : Text) → bytes ≡ (48 + d) ∷ rest → d ≤ most → ⊥) → digit_at most bytes ≡ None
-digit_none most bytes never = by_answer (digit_at most bytes) refl
-  where
-    by_answer : (o : Option (ℕ × Text)) → digit_at most bytes ≡ o → digit_at most bytes ≡ None
-    by_answer None e = e
-    by_answer (Some p) e = let f = digit_found most bytes p.0 p.1 e in absurd (never p.0 p.1 f.0 f.1)
+digit_none most bytes never = none_of (digit_at most bytes) (λ p e. let f = digit_found most bytes p.0 p.1 e in never p.0 p.1 f.0 f.1)
 
 pub digit_other : (most c : ℕ) (bytes rest : Text) → bytes ≡ c ∷ rest → (48 ≤ c → c ≤ 48 + most → ⊥) → digit_at most bytes ≡ None
 digit_other most c bytes rest is outside = digit_none most bytes (λ d left e le.
@@ -171,17 +159,13 @@ digit_empty most bytes none = digit_none most bytes (λ d left e le. omega (arit
 -- ---- addresses
 
 first_three : (bytes : Text) → 3 ≤ length bytes → bytes ≡ get_or bytes 0 0 ∷ get_or bytes 1 0 ∷ get_or bytes 2 0 ∷ drop 3 bytes
-first_three [] le = absurd (omega arith)
-first_three (a ∷ []) le = absurd (omega arith)
-first_three (a ∷ b ∷ []) le = absurd (omega arith)
 first_three (a ∷ b ∷ c ∷ bytes) le = refl
+first_three bytes le = absurd (omega arith)
 
 pub address_short : (first last : ℕ) (bytes : Text) → length bytes < 3 → address_at first last bytes ≡ None
 unfolding address_at
-address_short first last [] lt = refl
-address_short first last (a ∷ []) lt = refl
-address_short first last (a ∷ b ∷ []) lt = refl
 address_short first last (a ∷ b ∷ c ∷ bytes) lt = absurd (omega arith)
+address_short first last bytes lt = refl
 
 pub address_read : (first last : ℕ) (bytes : Text) (o : Option ℕ) → 3 ≤ length bytes → o ≡ address_in first last (get_or bytes 0 0 ∷ get_or bytes 1 0 ∷ get_or bytes 2 0 ∷ []) → Reads o (drop 3 bytes) (address_at first last bytes)
 unfolding address_at
@@ -190,14 +174,12 @@ address_read first last bytes None le is = ap (address_at first last) (first_thr
 
 pub address_found : (first last : ℕ) (bytes : Text) (a : ℕ) (rest : Text) → last < ADDRESS_END → address_at first last bytes ≡ Some (a, rest) → (bytes ≡ address_token a ++ rest) × (first ≤ a) × (a ≤ last)
 unfolding address_at
-address_found first last [] a rest small e = absurd (none-some (a, rest) e)
-address_found first last (x ∷ []) a rest small e = absurd (none-some (a, rest) e)
-address_found first last (x ∷ y ∷ []) a rest small e = absurd (none-some (a, rest) e)
 address_found first last (x ∷ y ∷ z ∷ bytes) a rest small e =
     let m = map_some (λ n. (n, bytes)) (address_in first last (x ∷ y ∷ z ∷ [])) (a, rest) e in
     let s = some_pair_parts m.0 a bytes rest (ap Some m.2) in
     let t = address_takes first last (x ∷ y ∷ z ∷ []) m.0 small m.1 in
     (ap (λ (xs : Text). xs ++ bytes) t.0 ∙ rw (s.0, s.1) refl, subst (λ (k : ℕ). first ≤ k) s.0 t.1, subst (λ (k : ℕ). k ≤ last) s.0 t.2)
+address_found first last bytes a rest small e = absurd (none-some (a, rest) e)
 
 pub address_spelled : (first last a : ℕ) (rest : Text) → last < ADDRESS_END → first ≤ a → a ≤ last → address_at first last (address_token a ++ rest) ≡ Some (a, rest)
 unfolding address_at

@@ -1,11 +1,11 @@
 -- The laws of texts.
-use Rattle.dvg_cert.proofs.Common.{◌≡◌, ◌≢◌, ℕ, ◌+◌, ◌*◌, ◌≤◌, Bool, true, false, cond, List, [], ◌∷◌, ◌++◌, length, Result, Ok, Err, refl, ap, ◌∙◌, append_assoc, arith, inl, inr, ◌==◌, count_by, append-nil, length-append, MOST_ENTRIES, LONGEST_LINE, LINE_FEED, CertWhy, Form, Order, Count, Unended, After, TooLong, Memory, CertFault, Entry, heading, done_line, begun_with, text_of, Certificate, Taken, Nothing, Versioned, Begun, Whole, text_taken, line_number, Without, IsTaken, IsRest, Holds, MayStand, StopsAt, IsRefusal, ReadAnswer}
+use Rattle.dvg_cert.proofs.Common.{◌≡◌, ◌≢◌, ℕ, ◌+◌, ◌*◌, ◌≤◌, Bool, true, false, cond, List, [], ◌∷◌, ◌++◌, length, Result, Ok, Err, map, refl, ap, subst, ◌∙◌, append_assoc, arith, inl, inr, ◌==◌, count_by, AllByRecursion, length-map, append-nil, length-append, MOST_ENTRIES, LONGEST_LINE, LINE_FEED, CertWhy, Unended, Memory, CertFault, Entry, entry_line, heading, begun_with, text_of, Certificate, Taken, Nothing, Versioned, Begun, Whole, text_taken, line_number, Without, IsTaken, IsRest, Holds, MayStand, EndsOpen, MemoryMap, IsRefusal, ReadAnswer}
 use Rattle.std.proofs.lemmas.List.Recursion.{is_count_by}
 use Rattle.dvg_cert.specs.Laws.{NotMemory, OneAnswer, ShortText, PrefixRefusal, CutRefusal}
 use Rattle.dvg_cert.proofs.FirstLines.{few_heads}
-use Rattle.dvg_cert.proofs.LinesOfTexts.{lines_text, Frees, entry_lines, lines_of}
-use Rattle.dvg_cert.proofs.OneAnswerLemmas.{taken_free, taken_lines, Shorts, taken_short, rest_free, spelled_once, spelled_fault, fault_once, standing_fault}
-use Rattle.dvg_cert.proofs.AnyText.{judged, stuck_refusal}
+use Rattle.dvg_cert.proofs.LinesOfTexts.{lines_text, Fits, behind, entry_lines, lines_of}
+use Rattle.dvg_cert.proofs.OneAnswerLemmas.{taken_fits, taken_lines, rest_free, spelled_once, spelled_fault, fault_once, standing_fault}
+use Rattle.dvg_cert.proofs.AnyText.{judged, stuck_refusal, stuck_stays}
 
 same_fault : (f g : CertFault) → f.line ≡ g.line → f.why ≡ g.why → f ≡ g
 same_fault f g p q = made f.line g.line f.why g.why p q
@@ -22,12 +22,10 @@ answers_once text (Err f) (Err g) h n k m = let r = fault_once text f.line g.lin
 
 -- the answer to a text that may stand
 standing_answer : (text : List ℕ) (taken : Taken) (rest : List ℕ) → Holds text taken rest → (answer : Result Certificate CertFault) × ReadAnswer text answer × NotMemory answer
-standing_answer text Nothing rest h = (Err (record { line = 1; why = Unended }), (Nothing, rest, h, tt, refl), λ e. absurd cc)
-standing_answer text Versioned rest h = (Err (record { line = 2; why = Unended }), (Versioned, rest, h, tt, refl), λ e. absurd cc)
-standing_answer text (Begun map es) rest h = (Err (record { line = line_number (Begun map es); why = Unended }), (Begun map es, rest, h, tt, refl), λ e. absurd cc)
 standing_answer text (Whole map es) rest h =
     let none : rest ≡ [] = h.begun in
     (Ok (record { map = map; entries = es }), (h.lines, h.parts ∙ ap (λ (x : List ℕ). text_of map es ++ x) none ∙ append-nil (text_of map es)), tt)
+standing_answer text taken rest h = (Err (record { line = line_number taken; why = Unended }), (taken, rest, h, tt, refl), λ e. absurd cc)
 
 some_answer : (text : List ℕ) → (answer : Result Certificate CertFault) × ReadAnswer text answer × NotMemory answer
 some_answer text =
@@ -43,11 +41,7 @@ one_answer = λ text. let a = some_answer text in (a.0, a.1, a.2, λ other h n. 
 pub only_memory : (why : CertWhy) (text : List ℕ) (line : ℕ) → IsRefusal text line why → why ≢ Unended → MayStand text → why ≡ Memory
 only_memory Memory text line h n m = refl
 only_memory Unended text line h n m = absurd (n refl)
-only_memory Form text line h n m = absurd (n (standing_fault text m.0 m.1 line Form m.2 (λ e. absurd cc) h).0)
-only_memory Order text line h n m = absurd (n (standing_fault text m.0 m.1 line Order m.2 (λ e. absurd cc) h).0)
-only_memory Count text line h n m = absurd (n (standing_fault text m.0 m.1 line Count m.2 (λ e. absurd cc) h).0)
-only_memory After text line h n m = absurd (n (standing_fault text m.0 m.1 line After m.2 (λ e. absurd cc) h).0)
-only_memory TooLong text line h n m = absurd (n (standing_fault text m.0 m.1 line TooLong m.2 (λ e. absurd cc) h).0)
+only_memory why text line h n m = absurd (n (standing_fault text m.0 m.1 line why m.2 (λ e. absurd cc) h).0)
 
 -- the line ends of a text
 abbrev pub ends_in : List ℕ → ℕ
@@ -70,40 +64,37 @@ ends-free (x ∷ xs) h = none (x == LINE_FEED) (ends_in xs) h.0 (ends-free xs h.
     none true a e z = absurd cc
     none false a e z = z
 
-ends-lines : (ls : List (List ℕ)) → Frees ls → ends_in (lines_text ls) ≡ length ls
+ends-lines : (ls : List (List ℕ)) → AllByRecursion Fits ls → ends_in (lines_text ls) ≡ length ls
 ends-lines [] h = refl
-ends-lines (l ∷ ls) h = omega (arith, ends-append l (LINE_FEED ∷ lines_text ls), ends-free l h.0, ends-lines ls h.1)
+ends-lines (l ∷ ls) h = omega (arith, ends-append l (LINE_FEED ∷ lines_text ls), ends-free l h.0.0, ends-lines ls h.1)
 
-length-entries : (es : List Entry) → length (entry_lines es) ≡ length es
-length-entries [] = refl
-length-entries (e ∷ es) = omega (arith, length-entries es)
+length-body : (done : Bool) (map : MemoryMap) (es : List Entry) → length (heading map ++ (entry_lines es ++ behind done es)) ≡ length (heading map) + (length es + length (behind done es))
+length-body done map es = omega (arith, length-append (heading map) (entry_lines es ++ behind done es), length-append (entry_lines es) (behind done es), length-map es entry_line)
 
 length-lines : (taken : Taken) → line_number taken ≡ length (lines_of taken) + 1
 length-lines Nothing = refl
 length-lines Versioned = refl
-length-lines (Begun map es) = omega (arith, length-entries es, length-append (heading map) (entry_lines es))
-length-lines (Whole map es) = omega (arith, length-entries es, length-append (entry_lines es) (done_line (length es) ∷ []), length-append (heading map) (entry_lines es ++ done_line (length es) ∷ []))
+length-lines (Begun map es) = omega (arith, length-body false map es)
+length-lines (Whole map es) = omega (arith, length-body true map es)
 
 pub line_at : (text : List ℕ) (taken : Taken) (rest : List ℕ) → Holds text taken rest → line_number taken ≡ count_by (λ b. b == LINE_FEED) text + 1
 line_at text taken rest h =
     let whole : ends_in text ≡ ends_in (text_taken taken) + ends_in rest = ap ends_in h.parts ∙ ends-append (text_taken taken) rest in
-    let all : ends_in (text_taken taken) ≡ length (lines_of taken) = ap ends_in (taken_lines taken) ∙ ends-lines (lines_of taken) (taken_free taken h.lines) in
+    let all : ends_in (text_taken taken) ≡ length (lines_of taken) = ap ends_in (taken_lines taken) ∙ ends-lines (lines_of taken) (taken_fits taken h.lines) in
     let counted : ends_in text ≡ count_by (λ b. b == LINE_FEED) text = is_count_by ends_in (λ b. b == LINE_FEED) refl (λ x xs. refl) text in
     omega (arith, counted, whole, all, ends-free rest (rest_free taken rest h.begun).0, length-lines taken)
 
 -- short lines with their ends
-short_lines : (ls : List (List ℕ)) → Shorts ls → length (lines_text ls) ≤ LONGEST_LINE * length ls
+short_lines : (ls : List (List ℕ)) → AllByRecursion Fits ls → length (lines_text ls) ≤ LONGEST_LINE * length ls
 short_lines [] h = omega arith
-short_lines (l ∷ ls) h = omega (arith, length-append l (LINE_FEED ∷ lines_text ls), h.0, short_lines ls h.1)
+short_lines (l ∷ ls) h = omega (arith, length-append l (LINE_FEED ∷ lines_text ls), h.0.1, short_lines ls h.1)
 
 -- the lines that were taken, and the line begun after them
 few_lines : (taken : Taken) (rest : List ℕ) → IsTaken taken → IsRest taken rest → LONGEST_LINE * length (lines_of taken) + length rest ≤ (MOST_ENTRIES + 3) * LONGEST_LINE
 few_lines Nothing rest h r = omega (arith, r.1)
 few_lines Versioned rest h r = omega (arith, r.1)
-few_lines (Begun map es) rest h r = omega (arith, few_heads map, length-append (heading map) (entry_lines es), length-entries es, h.few, r.1)
-few_lines (Whole map es) rest h r =
-    let none : length rest ≡ length {A = ℕ} [] = ap length r in
-    omega (arith, few_heads map, length-append (heading map) (entry_lines es ++ done_line (length es) ∷ []), length-entries es, length-append (entry_lines es) (done_line (length es) ∷ []), h.few)
+few_lines (Begun map es) rest h r = omega (arith, few_heads map, length-body false map es, h.few, r.1)
+few_lines (Whole map es) rest h r = let none : length rest ≡ length {A = ℕ} [] = ap length r in omega (arith, few_heads map, length-body true map es, h.few)
 
 pub short_text : ShortText
 short_text = λ text m.
@@ -112,36 +103,21 @@ short_text = λ text m.
     let h = m.2 in
     let parts : length text ≡ length (text_taken taken) + length rest = ap length h.parts ∙ length-append (text_taken taken) rest in
     let all : length (text_taken taken) ≡ length (lines_text (lines_of taken)) = ap length (taken_lines taken) in
-    omega (arith, parts, all, short_lines (lines_of taken) (taken_short taken h.lines), few_lines taken rest h.lines h.begun)
+    omega (arith, parts, all, short_lines (lines_of taken) (taken_fits taken h.lines), few_lines taken rest h.lines h.begun)
 
--- a byte that cannot come stays where it is
-stuck_stays : (why : CertWhy) (prefix after : List ℕ) (line : ℕ) → StopsAt prefix line why → StopsAt (prefix ++ after) line why
-stuck_stays why prefix after line s =
-    (s.0, s.1, s.2 ++ after, s.3, s.4, ap (λ (x : List ℕ). x ++ after) s.5 ∙ append_assoc s.0 (s.1 ∷ s.2) after, s.6, s.7, s.8)
-
--- so does a refusal, its end aside
+-- a refusal stays where it is, its end aside
 refusal_stays : (why : CertWhy) (prefix after : List ℕ) (line : ℕ) → IsRefusal prefix line why → why ≢ Unended → IsRefusal (prefix ++ after) line why
 refusal_stays Memory prefix after line h n =
     (h.0, h.1, h.2 ++ after, h.3, h.4, ap (λ (x : List ℕ). x ++ after) h.5 ∙ append_assoc (begun_with h.0 h.1) h.2 after, h.6)
 refusal_stays Unended prefix after line h n = absurd (n refl)
-refusal_stays Form prefix after line h n = stuck_stays Form prefix after line h
-refusal_stays Order prefix after line h n = stuck_stays Order prefix after line h
-refusal_stays Count prefix after line h n = stuck_stays Count prefix after line h
-refusal_stays After prefix after line h n = stuck_stays After prefix after line h
-refusal_stays TooLong prefix after line h n = stuck_stays TooLong prefix after line h
+refusal_stays why prefix after line h n = stuck_stays prefix after h
 
 pub prefix_refusal : PrefixRefusal
 prefix_refusal = λ prefix after f h n. refusal_stays f.why prefix after f.line h n
 
 -- an open text may stand
 open_stands : (why : CertWhy) (text : List ℕ) (line : ℕ) → IsRefusal text line why → why ≡ Unended → MayStand text
-open_stands Unended text line h e = (h.0, h.1, h.2)
-open_stands Memory text line h e = absurd cc
-open_stands Form text line h e = absurd cc
-open_stands Order text line h e = absurd cc
-open_stands Count text line h e = absurd cc
-open_stands After text line h e = absurd cc
-open_stands TooLong text line h e = absurd cc
+open_stands why text line h e = let o : EndsOpen text line = subst (λ (w : CertWhy). IsRefusal text line w) e h in (o.0, o.1, o.2)
 
 pub cut_refusal : CutRefusal
 cut_refusal = λ text piece after new f answer h never k m.

@@ -1,5 +1,5 @@
 -- A line that is read says what it is read as, and each line that says something is read as that.
-use Rattle.dvg_cert.proofs.Common.{◌≡◌, ℕ, zero, suc, ◌<◌, ◌≤◌, true, ◌&&◌, List, [], ◌∷◌, ◌++◌, length, get_or, Option, Some, None, IfSome, IfNone, refl, sym, ap, subst, ◌∙◌, append_assoc, arith, rules, ◌⊎◌, inl, inr, codes, decimal, ℤ, pos, negsuc, neg_ℤ, ◌≤ℤ◌, int_le, signed_decimal, join_with_byte, option_map, option_map_or, option_or, bytes_eq, AllDigits, and_parts, decimal_digit, ints, append-nil, cond_some, some_pair_parts, none-some, option_and_then_some, digit_from_value, MOST_ENTRIES, MOST_DEPTH, MOST_WORDS, MOST_MAGNITUDE, LINE_FEED, ADDRESS_END, SPACE, End, Rel, Abs, Lost, LitBox, Empty, Span, Entry, IsNumber, IsEnd, IsBox, IsEntry, address_token, key_token, end_tokens, box_tokens, entry_line, done_line, ended, Line, EntryLine, DoneLine, IsLine, ◌>>=◌, NoDigitFirst, past, natural_at, digit_at, number_at, two_at, end_at, span_at, box_at, entry_at, done_at, nothing_left}
+use Rattle.dvg_cert.proofs.Common.{◌≡◌, ℕ, zero, suc, ◌<◌, ◌≤◌, true, ◌&&◌, List, [], ◌∷◌, ◌++◌, length, get_or, Option, Some, None, refl, sym, ap, subst, ◌∙◌, append_assoc, arith, rules, ◌⊎◌, inl, inr, codes, decimal, ℤ, pos, negsuc, neg_ℤ, ◌≤ℤ◌, int_le, signed_decimal, join_with_byte, option_map, option_map_or, option_or, bytes_eq, AllDigits, and_parts, decimal_digit, ints, append-nil, cond_some, some_pair_parts, option_and_then_some, digit_from_value, MOST_ENTRIES, MOST_DEPTH, MOST_WORDS, MOST_MAGNITUDE, LINE_FEED, ADDRESS_END, SPACE, End, Rel, Abs, Lost, LitBox, Empty, Span, Entry, IsNumber, IsEnd, IsBox, IsEntry, address_token, key_token, end_tokens, box_tokens, entry_line, done_line, ended, Line, EntryLine, DoneLine, IsLine, ◌>>=◌, NoDigitFirst, past, natural_at, digit_at, number_at, two_at, end_at, span_at, box_at, entry_at, done_at, nothing_left}
 use Rattle.dvg_cert.proofs.FieldValues.{first_digit, map_some, negated, same_bytes}
 use Rattle.dvg_cert.proofs.Digits.{no_zero, same_decimal}
 use Rattle.dvg_cert.proofs.Leading.{Text}
@@ -346,22 +346,6 @@ entry_ended first last bytes e rest after small h is =
     (t.1, t.0 ∙ fields_then e rest ∙ ap (λ (xs : Text). entry_line e ++ xs) (past_takes (LINE_FEED ∷ []) rest after is) ∙ sym (append_assoc (entry_line e) (LINE_FEED ∷ []) after))
 
 -- ---- what a line says, and that it says only one thing
-
-pub entry_said : (first last : ℕ) (bytes : Text) (r : Option Entry) → last < ADDRESS_END → r ≡ nothing_left (entry_at first last bytes) → IfSome r (λ e. IsLine first last (EntryLine e) bytes)
-entry_said first last bytes None small e = tt
-entry_said first last bytes (Some x) small e = entry_takes first last bytes x small (sym e)
-
-pub no_entry_said : (first last : ℕ) (bytes : Text) (r : Option Entry) → last < ADDRESS_END → r ≡ nothing_left (entry_at first last bytes) → IfNone r ((e : Entry) → IsLine first last (EntryLine e) bytes → ⊥)
-no_entry_said first last bytes None small e = λ x h. none-some x (e ∙ entry_again first last bytes x small h)
-no_entry_said first last bytes (Some x) small e = tt
-
-pub count_said : (bytes : Text) (r : Option ℕ) → r ≡ nothing_left (done_at bytes) → IfSome r (λ n. (n ≤ MOST_ENTRIES) × (bytes ≡ done_line n))
-count_said bytes None e = tt
-count_said bytes (Some n) e = count_takes bytes n (sym e)
-
-pub no_count_said : (bytes : Text) (r : Option ℕ) → r ≡ nothing_left (done_at bytes) → IfNone r ((n : ℕ) → n ≤ MOST_ENTRIES → bytes ≡ done_line n → ⊥)
-no_count_said bytes None e = λ n few is. none-some n (e ∙ count_again bytes n few is)
-no_count_said bytes (Some n) e = tt
 
 pub nothing_said : (first last : ℕ) (bytes : Text) → ((e : Entry) → IsLine first last (EntryLine e) bytes → ⊥) → ((n : ℕ) → n ≤ MOST_ENTRIES → bytes ≡ done_line n → ⊥) → (l : Line) → IsLine first last l bytes → ⊥
 nothing_said first last bytes no_entries no_counts (EntryLine e) h = no_entries e h

@@ -3,6 +3,7 @@
 ghost use Rattle.std.specs.Prelude.{◌≤◌, ◌<◌};
 ghost use Rattle.dvg_words.specs.declared.map.TheConstants.{ADDRESS_END};
 ghost use Rattle.dvg_cert.specs.declared.limits.TheConstants.{MOST_ENTRIES};
+ghost use Rattle.dvg_cert.specs.declared.entry.LitBox.TheVariants.{Span};
 ghost use Rattle.dvg_cert.specs.Entry.{IsNumber, IsKey, IsEnd, IsBox, IsEntry};
 ghost use Rattle.dvg_cert.specs.Reading.{IsElsewhere};
 
@@ -166,6 +167,19 @@ fn nearest_place(kind: &[u8], words: &mut Words) -> (i64, i64, Result<(), Expect
     (x, y, words.pass_number(y, Expected::EndY))
 }
 
+/// The box between these ends.
+fn span(x_min: i64, x_max: i64, y_min: i64, y_max: i64) -> LitBox
+    requires { IsBox (Span x_min x_max y_min y_max) }
+    ensures { IsBox result }
+{
+    LitBox::Span {
+        x_min,
+        x_max,
+        y_min,
+        y_max,
+    }
+}
+
 /// Sets a box to one of which a line spells the most.
 fn fill_box(lit: &mut LitBox, words: &mut Words) -> Result<(), Expected>
     requires { IsBox lit.old }
@@ -176,36 +190,15 @@ fn fill_box(lit: &mut LitBox, words: &mut Words) -> Result<(), Expected>
         return words.pass(b"none", Expected::BoxLeft);
     }
     let x_min = nearest_number(words.next(), -MOST_NUMBER, MOST_NUMBER);
-    let (y_min, y_max) = (0, 0);
-    *lit = LitBox::Span {
-        x_min,
-        x_max: x_min,
-        y_min,
-        y_max,
-    };
+    *lit = span(x_min, x_min, 0, 0);
     words.pass_number(x_min, Expected::BoxLeft)?;
     let x_max = nearest_number(words.next(), x_min, MOST_NUMBER);
-    *lit = LitBox::Span {
-        x_min,
-        x_max,
-        y_min,
-        y_max,
-    };
+    *lit = span(x_min, x_max, 0, 0);
     words.pass_number(x_max, Expected::BoxRight)?;
     let y_min = nearest_number(words.next(), -MOST_NUMBER, MOST_NUMBER);
-    *lit = LitBox::Span {
-        x_min,
-        x_max,
-        y_min,
-        y_max: y_min,
-    };
+    *lit = span(x_min, x_max, y_min, y_min);
     words.pass_number(y_min, Expected::BoxBottom)?;
     let y_max = nearest_number(words.next(), y_min, MOST_NUMBER);
-    *lit = LitBox::Span {
-        x_min,
-        x_max,
-        y_min,
-        y_max,
-    };
+    *lit = span(x_min, x_max, y_min, y_max);
     words.pass_number(y_max, Expected::BoxTop)
 }

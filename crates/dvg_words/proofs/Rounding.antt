@@ -1,9 +1,9 @@
 -- Rounding half up by one multiplication: the size once more, in units of 1/2048, makes halves go away from 0.
-use Rattle.std.proofs.Common.{◌≡◌, ℕ, ℤ, pos, negsuc, neg_ℤ, zero, suc, ◌+◌, ◌*◌, ◌/◌, ◌%◌, ◌^◌, ◌≤◌, ◌<◌, nat_le, true, false, ◌+ℤ◌, ◌*ℤ◌, ◌≤ℤ◌, ◌∙◌, arith, refl, ap, sym}
+use Rattle.std.proofs.Common.{◌≡◌, ℕ, ℤ, pos, negsuc, neg_ℤ, zero, suc, ◌+◌, ◌*◌, ◌/◌, ◌%◌, ◌^◌, ◌≤◌, ◌<◌, nat_le, true, false, ◌+ℤ◌, ◌*ℤ◌, ◌≤ℤ◌, ◌∙◌, arith, refl}
 use Rattle.std.specs.Int.{int_div_euclid}
 use Rattle.std.proofs.lemmas.Int.{ints}
 use Rattle.std.proofs.Math.Pow.{pow_mono}
-use Rattle.std.proofs.Math.Nat.{pow-suc, mod-eq_of_lt, mul-add, mul_comm, mul_left_comm, mul-le-mul}
+use Rattle.std.proofs.Math.Nat.{pow-suc, mod-eq_of_lt, mul-add, mul_left_comm, mul-le-mul}
 use Rattle.std.proofs.lemmas.Bool.Decides.{nat_tests}
 use Rattle.dvg_words.specs.Values.{Board}
 use Rattle.dvg_words.specs.Beam.{effective_scale, axis_move, rounded_move}

@@ -1,8 +1,4 @@
-use Rattle.std.proofs.Common.{rules, ◌+◌, ◌^◌, ℤ, ◌≡◌, ◌≤ℤ◌, ◌+ℤ◌, pos, negsuc, ◌*ℤ◌, arith}
-use Rattle.std.specs.Int.{int_div_euclid, w64}
-use mir.Val.{SFits}
-use Rattle.std.proofs.lemmas.Int.{ints}
-use Rattle.dvg_words.specs.Beam.{rounded_move}
+use Rattle.std.proofs.Common.{rules, ◌+◌, ◌^◌}
 use Rattle.dvg_words.proofs.Rounding.{rounds, near, lossless}
 use Rattle.dvg_words.proofs.beam.rounded_move.Goals as goal
 
