@@ -1,6 +1,6 @@
 //! The rules of frames.
 
-ghost use Rattle.std.specs.Prelude.{◌≡◌, ◌≤◌, [], IfOk, IfErr, IfNone, IfSome, IsTrue, ◌↔◌};
+ghost use Rattle.std.specs.Prelude.{◌≡◌, ◌≤◌, IfOk, IfErr, IfNone, IfSome, IsTrue, ◌↔◌};
 ghost use Rattle.dvg_cert.specs.declared.entry.Key.TheVariants.{Any};
 ghost use Rattle.dvg_cert.specs.declared.limits.TheConstants.{MOST_WORDS};
 ghost use Rattle.dvg_items.specs.declared.item.Kind.TheVariants.{Frame};

@@ -2,7 +2,6 @@
 
 ghost use Rattle.std.specs.Prelude.{◌≡◌, ◌∷◌, [], IfSome, IfNone};
 ghost use Rattle.dvg_words.specs.declared.map.TheConstants.{ADDRESS_END};
-ghost use Rattle.dvg_words.specs.Beam.{InWindow};
 ghost use Rattle.dvg_items.specs.Bounds.{IsNearPlace, IsNearExtent};
 ghost use Rattle.dvg_items.specs.Lit.{LitInWindow, LitInBox, relative_corners};
 ghost use Rattle.dvg_check.specs.Leaving.{window_limits, InLimits, IsLeft, FirstLeft, LeavesFrom, LeavesBox};

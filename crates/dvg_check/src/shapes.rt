@@ -1,10 +1,8 @@
 //! The rules of shapes, and the check of all shapes of a certificate.
 
-ghost use Rattle.std.specs.Prelude.{◌≡◌, ◌<◌, ◌≤◌, ◌≤ℤ◌, ◌↔◌, IsTrue, OnOk, IfErr, IfNone, IfSome};
-ghost use Rattle.dvg_cert.specs.declared.entry.LitBox.TheVariants.{Span};
+ghost use Rattle.std.specs.Prelude.{◌≡◌, ◌<◌, ◌↔◌, IsTrue, OnOk, IfErr, IfNone, IfSome};
 ghost use Rattle.dvg_items.specs.declared.item.Kind.TheVariants.{Shape};
 ghost use Rattle.dvg_items.specs.Items.{next_address};
-ghost use Rattle.dvg_items.specs.Lit.{InBox, LitInBox};
 ghost use Rattle.dvg_check.specs.declared.fault.Mode.TheVariants.{Bound, Exact};
 ghost use Rattle.dvg_check.specs.declared.fault.ShapeWhy.TheVariants as shape;
 ghost use Rattle.dvg_check.specs.Rules.{AtLast, AsClaimed, ShapeKeeps, GoodShape, Good};

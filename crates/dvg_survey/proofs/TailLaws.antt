@@ -1,6 +1,6 @@
 -- An item and what stands behind it light together what the shape from the item on lights.
 use Rattle.dvg_words.specs.declared.machine.Machine.{Machine}
-use Rattle.dvg_survey.proofs.Common.{◌≡◌, ℕ, pos, ◌+◌, ◌-◌, ◌<◌, ◌≤◌, List, [], ◌∷◌, ◌++◌, Option, Some, None, refl, sym, ap, ◌∙◌, subst, arith, cell_at, Rom, rom_word, Point, Holds, ADDRESS_END, End, Rel, Abs, Lost, Entry, Key, LitBox, Empty, LeadsTo, next_address, callee_at, target, HoldsAll, IsLeast, absolute_points, InBox, absolute_corners, relative_corners, seen_at, Cursor, Item, Shape, Known, Seen, IsJoined, all_append, Stand, AreAll, Lit, IsLitFrom, keyed, relative_part, absolute_part}
+use Rattle.dvg_survey.proofs.Common.{◌≡◌, ℕ, pos, ◌+◌, ◌-◌, ◌<◌, ◌≤◌, List, [], ◌∷◌, ◌++◌, Option, Some, None, refl, sym, ap, ◌∙◌, subst, arith, cell_at, Rom, rom_word, Point, Holds, ADDRESS_END, End, Rel, Abs, Lost, Entry, Key, LitBox, Empty, LeadsTo, next_address, callee_at, target, HoldsAll, IsLeast, absolute_points, InBox, absolute_corners, relative_corners, seen_at, Cursor, Item, Shape, Known, Seen, IsJoined, all_append, Stand, AreAll, Lit, IsLitFrom, keyed, relative_part, absolute_part, Context}
 use Rattle.dvg_items.specs.Bounds.{IsNearPlace}
 use Rattle.dvg_items.specs.Cursor.{first_cursor}
 use Rattle.dvg_items.specs.Known.{known_before, known_past, start}
@@ -9,12 +9,13 @@ use Rattle.dvg_items.specs.Lit.{extent_of}
 use Rattle.dvg_items.specs.Seen.{seen_with}
 use Rattle.dvg_items.proofs.Lists.{all_left, all_right}
 use Rattle.dvg_items.proofs.Near.{next_further}
+use Rattle.std.proofs.Common.{append_assoc}
 use Rattle.dvg_check.specs.Private.Judging.{seen_by}
 use Rattle.dvg_check.specs.Passing.{IsNearBox}
 use Rattle.dvg_check.specs.Private.Tails.{first_seen, known_over}
 use Rattle.dvg_check.proofs.TailLaws.{seen_over, seen_by_over, over_none}
 use Rattle.dvg_check.proofs.TailSizes.{IsNearBox-joined, IsNearBox-more, IsNearBox-moved}
-use Rattle.dvg_survey.proofs.TailPoints.{relative_from, absolute_from, relative_from_both, absolute_from_both, relative_over, absolute_over, relative_least, absolute_least, both_least, and_none, no_relative, no_absolute}
+use Rattle.dvg_survey.proofs.TailPoints.{relative_from, absolute_from, relative_from_both, absolute_from_both, relative_over, absolute_over, relative_least, absolute_least, both_least, and_none, relative_none, no_absolute}
 use Rattle.dvg_survey.proofs.Walking.{least_none}
 
 -- what is seen of the first item doesn't depend on where it stands
@@ -58,15 +59,20 @@ module _ (rom : Rom) (list : List Entry) (key behind_key : Key) (i : Item) (next
 
   -- ---- what is known of them
 
-  sees_by : (rest : List Item) (j : Item) → known_before (keyed rom.machine list key) (rest ++ i ∷ []) ≡ known_over past (known_before (keyed rom.machine list behind_key) rest)
-      → seen_at (keyed rom.machine list key) (rest ++ i ∷ []) j ≡ seen_over past (seen_at (keyed rom.machine list behind_key) rest j)
-  sees_by rest j knows = ap (λ (k : Known). seen_by rom.machine list Shape k j) knows ∙ seen_by_over rom.machine list past (known_before (keyed rom.machine list behind_key) rest) j
+  abbrev in_whole : Context
+  in_whole = keyed rom.machine list key
 
-  knows : (rest : List Item) → known_before (keyed rom.machine list key) (rest ++ i ∷ []) ≡ known_over past (known_before (keyed rom.machine list behind_key) rest)
+  abbrev in_tail : Context
+  in_tail = keyed rom.machine list behind_key
+
+  sees_by : (rest : List Item) (j : Item) → known_before in_whole (rest ++ i ∷ []) ≡ known_over past (known_before in_tail rest) → seen_at in_whole (rest ++ i ∷ []) j ≡ seen_over past (seen_at in_tail rest j)
+  sees_by rest j knows = ap (λ (k : Known). seen_by rom.machine list Shape k j) knows ∙ seen_by_over rom.machine list past (known_before in_tail rest) j
+
+  knows : (rest : List Item) → known_before in_whole (rest ++ i ∷ []) ≡ known_over past (known_before in_tail rest)
   knows [] = over_none past behind_key (sym scale)
   knows (j ∷ rest) = ap (λ (v : Seen). v.after) (sees_by rest j (knows rest))
 
-  sees : (rest : List Item) (j : Item) → seen_at (keyed rom.machine list key) (rest ++ i ∷ []) j ≡ seen_over past (seen_at (keyed rom.machine list behind_key) rest j)
+  sees : (rest : List Item) (j : Item) → seen_at in_whole (rest ++ i ∷ []) j ≡ seen_over past (seen_at in_tail rest j)
   sees rest j = sees_by rest j (knows rest)
 
   -- ---- what they light
@@ -75,81 +81,55 @@ module _ (rom : Rom) (list : List Entry) (key behind_key : Key) (i : Item) (next
   abbrev alone : List Point
   alone = relative_corners (first_seen rom.machine list key i).extent (Rel (pos 0) (pos 0))
 
-  relative_one : (rest : List Item) (j : Item) → relative_corners (seen_at (keyed rom.machine list key) (rest ++ i ∷ []) j).extent (seen_at (keyed rom.machine list key) (rest ++ i ∷ []) j).place
-      ≡ relative_from past.place (relative_corners (seen_at (keyed rom.machine list behind_key) rest j).extent (seen_at (keyed rom.machine list behind_key) rest j).place)
-  relative_one rest j =
-      ap (λ (v : Seen). relative_corners v.extent v.place) (sees rest j)
-      ∙ relative_over (seen_at (keyed rom.machine list behind_key) rest j).extent past.place (seen_at (keyed rom.machine list behind_key) rest j).place
+  -- what one behind it lights, by what is seen of it
+  abbrev relative_of : Seen → List Point
+  relative_of v = relative_corners v.extent v.place
 
-  absolute_one : (rest : List Item) (j : Item) → absolute_corners (seen_at (keyed rom.machine list key) (rest ++ i ∷ []) j).extent (seen_at (keyed rom.machine list key) (rest ++ i ∷ []) j).place
-      ≡ absolute_corners (seen_at (keyed rom.machine list behind_key) rest j).extent (seen_at (keyed rom.machine list behind_key) rest j).place
-      ++ absolute_from past.place (relative_corners (seen_at (keyed rom.machine list behind_key) rest j).extent (seen_at (keyed rom.machine list behind_key) rest j).place)
-  absolute_one rest j =
-      ap (λ (v : Seen). absolute_corners v.extent v.place) (sees rest j)
-      ∙ absolute_over (seen_at (keyed rom.machine list behind_key) rest j).extent past.place (seen_at (keyed rom.machine list behind_key) rest j).place
+  abbrev absolute_of : Seen → List Point
+  absolute_of v = absolute_corners v.extent v.place
 
+  relative_one : (rest : List Item) (j : Item) → relative_of (seen_at in_whole (rest ++ i ∷ []) j) ≡ relative_from past.place (relative_of (seen_at in_tail rest j))
+  relative_one rest j = ap relative_of (sees rest j) ∙ relative_over (seen_at in_tail rest j).extent past.place (seen_at in_tail rest j).place
+
+  absolute_one : (rest : List Item) (j : Item) → absolute_of (seen_at in_whole (rest ++ i ∷ []) j) ≡ absolute_of (seen_at in_tail rest j) ++ absolute_from past.place (relative_of (seen_at in_tail rest j))
+  absolute_one rest j = ap absolute_of (sees rest j) ∙ absolute_over (seen_at in_tail rest j).extent past.place (seen_at in_tail rest j).place
+
+  -- at relative places: what the tail lights, seen from before the first, and what the first lights
+  relative_all : (rest : List Item) → lit_points in_whole (rest ++ i ∷ []) ≡ relative_from past.place (lit_points in_tail rest) ++ alone
+  relative_all [] = sym (and_none alone) ∙ ap (λ (l : List Point). l ++ alone) (sym (relative_none past.place))
+  relative_all (j ∷ rest) =
+      let here : List Point = relative_of (seen_at in_tail rest j) in
+      let behind : List Point = relative_from past.place (lit_points in_tail rest) in
+      ap (λ (l : List Point). relative_of (seen_at in_whole (rest ++ i ∷ []) j) ++ l) (relative_all rest)
+      ∙ ap (λ (l : List Point). l ++ (behind ++ alone)) (relative_one rest j)
+      ∙ sym (append_assoc (relative_from past.place here) behind alone)
+      ∙ ap (λ (l : List Point). l ++ alone) (sym (relative_from_both past.place here (lit_points in_tail rest)))
+
+  -- at absolute places: what the tail lights there, and the part of what it lights at relative ones that is at absolute ones by now
   module _ (box : LitBox) where
-    relative_into : (rest : List Item) → HoldsAll box alone → HoldsAll box (relative_from past.place (lit_points (keyed rom.machine list behind_key) rest)) → HoldsAll box (lit_points (keyed rom.machine list key) (rest ++ i ∷ []))
-    relative_into [] h k = all_append (InBox box) alone [] h tt
-    relative_into (j ∷ rest) h k =
-        let here : List Point = relative_corners (seen_at (keyed rom.machine list behind_key) rest j).extent (seen_at (keyed rom.machine list behind_key) rest j).place in
-        let both = subst (HoldsAll box) (relative_from_both past.place here (lit_points (keyed rom.machine list behind_key) rest)) k in
-        let one = subst (HoldsAll box) (sym (relative_one rest j)) (all_left (InBox box) (relative_from past.place here) (relative_from past.place (lit_points (keyed rom.machine list behind_key) rest)) both) in
-        let more = relative_into rest h (all_right (InBox box) (relative_from past.place here) (relative_from past.place (lit_points (keyed rom.machine list behind_key) rest)) both) in
-        all_append (InBox box) (relative_corners (seen_at (keyed rom.machine list key) (rest ++ i ∷ []) j).extent (seen_at (keyed rom.machine list key) (rest ++ i ∷ []) j).place) (lit_points (keyed rom.machine list key) (rest ++ i ∷ [])) one more
-
-    relative_first : (rest : List Item) → HoldsAll box (lit_points (keyed rom.machine list key) (rest ++ i ∷ [])) → HoldsAll box alone
-    relative_first [] h = all_left (InBox box) alone [] h
-    relative_first (j ∷ rest) h =
-        relative_first rest (all_right (InBox box) (relative_corners (seen_at (keyed rom.machine list key) (rest ++ i ∷ []) j).extent (seen_at (keyed rom.machine list key) (rest ++ i ∷ []) j).place) (lit_points (keyed rom.machine list key) (rest ++ i ∷ [])) h)
-
-    relative_rest : (rest : List Item) → HoldsAll box (lit_points (keyed rom.machine list key) (rest ++ i ∷ [])) → HoldsAll box (relative_from past.place (lit_points (keyed rom.machine list behind_key) rest))
-    relative_rest [] h = no_relative box past.place
-    relative_rest (j ∷ rest) h =
-        let here : List Point = relative_corners (seen_at (keyed rom.machine list behind_key) rest j).extent (seen_at (keyed rom.machine list behind_key) rest j).place in
-        let whole : List Point = relative_corners (seen_at (keyed rom.machine list key) (rest ++ i ∷ []) j).extent (seen_at (keyed rom.machine list key) (rest ++ i ∷ []) j).place in
-        let one = subst (HoldsAll box) (relative_one rest j) (all_left (InBox box) whole (lit_points (keyed rom.machine list key) (rest ++ i ∷ [])) h) in
-        let more = relative_rest rest (all_right (InBox box) whole (lit_points (keyed rom.machine list key) (rest ++ i ∷ [])) h) in
-        subst (HoldsAll box) (sym (relative_from_both past.place here (lit_points (keyed rom.machine list behind_key) rest)))
-        (all_append (InBox box) (relative_from past.place here) (relative_from past.place (lit_points (keyed rom.machine list behind_key) rest)) one more)
-
-    absolute_into : (rest : List Item) → HoldsAll box (absolute_points (keyed rom.machine list behind_key) rest) → HoldsAll box (absolute_from past.place (lit_points (keyed rom.machine list behind_key) rest))
-        → HoldsAll box (absolute_points (keyed rom.machine list key) (rest ++ i ∷ []))
+    absolute_into : (rest : List Item) → HoldsAll box (absolute_points in_tail rest) → HoldsAll box (absolute_from past.place (lit_points in_tail rest)) → HoldsAll box (absolute_points in_whole (rest ++ i ∷ []))
     absolute_into [] h k = tt
     absolute_into (j ∷ rest) h k =
-        let v : Seen = seen_at (keyed rom.machine list behind_key) rest j in
-        let here : List Point = absolute_corners v.extent v.place in
-        let part : List Point = relative_corners v.extent v.place in
-        let whole : List Point = absolute_corners (seen_at (keyed rom.machine list key) (rest ++ i ∷ []) j).extent (seen_at (keyed rom.machine list key) (rest ++ i ∷ []) j).place in
-        let both = subst (HoldsAll box) (absolute_from_both past.place part (lit_points (keyed rom.machine list behind_key) rest)) k in
-        let parts = all_left (InBox box) (absolute_from past.place part) (absolute_from past.place (lit_points (keyed rom.machine list behind_key) rest)) both in
-        let one = subst (HoldsAll box) (sym (absolute_one rest j)) (all_append (InBox box) here (absolute_from past.place part) (all_left (InBox box) here (absolute_points (keyed rom.machine list behind_key) rest) h) parts) in
-        let more = absolute_into rest (all_right (InBox box) here (absolute_points (keyed rom.machine list behind_key) rest) h) (all_right (InBox box) (absolute_from past.place part) (absolute_from past.place (lit_points (keyed rom.machine list behind_key) rest)) both) in
-        all_append (InBox box) whole (absolute_points (keyed rom.machine list key) (rest ++ i ∷ [])) one more
+        let here : List Point = absolute_of (seen_at in_tail rest j) in
+        let part : List Point = relative_of (seen_at in_tail rest j) in
+        let both = subst (HoldsAll box) (absolute_from_both past.place part (lit_points in_tail rest)) k in
+        let parts = all_left (InBox box) (absolute_from past.place part) (absolute_from past.place (lit_points in_tail rest)) both in
+        let one = subst (HoldsAll box) (sym (absolute_one rest j)) (all_append (InBox box) here (absolute_from past.place part) (all_left (InBox box) here (absolute_points in_tail rest) h) parts) in
+        let more = absolute_into rest (all_right (InBox box) here (absolute_points in_tail rest) h) (all_right (InBox box) (absolute_from past.place part) (absolute_from past.place (lit_points in_tail rest)) both) in
+        all_append (InBox box) (absolute_of (seen_at in_whole (rest ++ i ∷ []) j)) (absolute_points in_whole (rest ++ i ∷ [])) one more
 
-    absolute_rest : (rest : List Item) → HoldsAll box (absolute_points (keyed rom.machine list key) (rest ++ i ∷ [])) → HoldsAll box (absolute_points (keyed rom.machine list behind_key) rest)
-    absolute_rest [] h = tt
-    absolute_rest (j ∷ rest) h =
-        let v : Seen = seen_at (keyed rom.machine list behind_key) rest j in
-        let here : List Point = absolute_corners v.extent v.place in
-        let part : List Point = relative_corners v.extent v.place in
-        let whole : List Point = absolute_corners (seen_at (keyed rom.machine list key) (rest ++ i ∷ []) j).extent (seen_at (keyed rom.machine list key) (rest ++ i ∷ []) j).place in
-        let one = subst (HoldsAll box) (absolute_one rest j) (all_left (InBox box) whole (absolute_points (keyed rom.machine list key) (rest ++ i ∷ [])) h) in
-        all_append (InBox box) here (absolute_points (keyed rom.machine list behind_key) rest) (all_left (InBox box) here (absolute_from past.place part) one)
-        (absolute_rest rest (all_right (InBox box) whole (absolute_points (keyed rom.machine list key) (rest ++ i ∷ [])) h))
-
-    absolute_part_of : (rest : List Item) → HoldsAll box (absolute_points (keyed rom.machine list key) (rest ++ i ∷ [])) → HoldsAll box (absolute_from past.place (lit_points (keyed rom.machine list behind_key) rest))
-    absolute_part_of [] h = no_absolute box past.place
-    absolute_part_of (j ∷ rest) h =
-        let v : Seen = seen_at (keyed rom.machine list behind_key) rest j in
-        let here : List Point = absolute_corners v.extent v.place in
-        let part : List Point = relative_corners v.extent v.place in
-        let whole : List Point = absolute_corners (seen_at (keyed rom.machine list key) (rest ++ i ∷ []) j).extent (seen_at (keyed rom.machine list key) (rest ++ i ∷ []) j).place in
-        let one = subst (HoldsAll box) (absolute_one rest j) (all_left (InBox box) whole (absolute_points (keyed rom.machine list key) (rest ++ i ∷ [])) h) in
-        subst (HoldsAll box) (sym (absolute_from_both past.place part (lit_points (keyed rom.machine list behind_key) rest)))
-        (all_append (InBox box) (absolute_from past.place part) (absolute_from past.place (lit_points (keyed rom.machine list behind_key) rest))
-        (all_right (InBox box) here (absolute_from past.place part) one)
-        (absolute_part_of rest (all_right (InBox box) whole (absolute_points (keyed rom.machine list key) (rest ++ i ∷ [])) h)))
+    absolute_back : (rest : List Item) → HoldsAll box (absolute_points in_whole (rest ++ i ∷ [])) → HoldsAll box (absolute_points in_tail rest) × HoldsAll box (absolute_from past.place (lit_points in_tail rest))
+    absolute_back [] h = (tt, no_absolute box past.place)
+    absolute_back (j ∷ rest) h =
+        let whole : List Point = absolute_of (seen_at in_whole (rest ++ i ∷ []) j) in
+        let here : List Point = absolute_of (seen_at in_tail rest j) in
+        let part : List Point = relative_of (seen_at in_tail rest j) in
+        let one = subst (HoldsAll box) (absolute_one rest j) (all_left (InBox box) whole (absolute_points in_whole (rest ++ i ∷ [])) h) in
+        let more = absolute_back rest (all_right (InBox box) whole (absolute_points in_whole (rest ++ i ∷ [])) h) in (
+          all_append (InBox box) here (absolute_points in_tail rest) (all_left (InBox box) here (absolute_from past.place part) one) more.0,
+          subst (HoldsAll box) (sym (absolute_from_both past.place part (lit_points in_tail rest)))
+              (all_append (InBox box) (absolute_from past.place part) (absolute_from past.place (lit_points in_tail rest)) (all_right (InBox box) here (absolute_from past.place part) one) more.1),
+        )
 
   -- ---- the tail
 
@@ -160,19 +140,20 @@ module _ (rom : Rom) (list : List Entry) (key behind_key : Key) (i : Item) (next
       record {
         items = t.items ++ i ∷ [];
         all = all_over t.items t.all;
-        relative = both_least alone (relative_from past.place (lit_points (keyed rom.machine list behind_key) t.items)) (lit_points (keyed rom.machine list key) (t.items ++ i ∷ []))
-            first (relative_part past.place tail.relative) whole.relative relative lone
-            (relative_least past.place (lit_points (keyed rom.machine list behind_key) t.items) tail.relative t.relative)
-            (λ box. relative_into box t.items) (λ box. relative_first box t.items) (λ box. relative_rest box t.items);
-        absolute = both_least (absolute_points (keyed rom.machine list behind_key) t.items) (absolute_from past.place (lit_points (keyed rom.machine list behind_key) t.items)) (absolute_points (keyed rom.machine list key) (t.items ++ i ∷ []))
-            tail.absolute (absolute_part past.place tail.relative) whole.absolute absolute t.absolute
-            (absolute_least past.place (lit_points (keyed rom.machine list behind_key) t.items) tail.relative t.relative)
-            (λ box. absolute_into box t.items) (λ box. absolute_rest box t.items) (λ box. absolute_part_of box t.items);
+        relative = both_least alone behind (lit_points in_whole (t.items ++ i ∷ [])) first (relative_part past.place tail.relative) whole.relative relative lone (relative_least past.place (lit_points in_tail t.items) tail.relative t.relative)
+            (λ box h k. subst (HoldsAll box) (sym (relative_all t.items)) (all_append (InBox box) behind alone k h))
+            (λ box h. all_right (InBox box) behind alone (subst (HoldsAll box) (relative_all t.items) h)) (λ box h. all_left (InBox box) behind alone (subst (HoldsAll box) (relative_all t.items) h));
+        absolute = both_least (absolute_points in_tail t.items) (absolute_from past.place (lit_points in_tail t.items)) (absolute_points in_whole (t.items ++ i ∷ []))
+            tail.absolute (absolute_part past.place tail.relative) whole.absolute absolute t.absolute (absolute_least past.place (lit_points in_tail t.items) tail.relative t.relative)
+            (λ box. absolute_into box t.items) (λ box h. (absolute_back box t.items h).0) (λ box h. (absolute_back box t.items h).1);
         near = IsNearBox-more (ADDRESS_END + 2 - next + 1) (ADDRESS_END + 2 - i.at) whole.relative (omega (arith, next_further Shape i next goes, near))
             (IsNearBox-joined (ADDRESS_END + 2 - next + 1) first (relative_part past.place tail.relative) whole.relative
             (IsNearBox-more 1 (ADDRESS_END + 2 - next + 1) first (omega arith) small) (moves (ADDRESS_END + 2 - next) t.near)
             relative.first relative.second relative.least);
       }
+    where
+      behind : List Point
+      behind = relative_from past.place (lit_points in_tail t.items)
 
 -- an item that ends a shape is a tail alone
 module _ (rom : Rom) (list : List Entry) (key : Key) (i : Item) (is : cell_at (rom_word rom) i.at ≡ Holds i.format i.instr) (ends : next_address Shape i ≡ None) where

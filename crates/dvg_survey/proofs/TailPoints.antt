@@ -37,10 +37,10 @@ absolute_from_both (Rel x y) xs ys = refl
 absolute_from_both (Abs x y) xs ys = map_over (shift (record { x = x; y = y })) xs ys
 absolute_from_both Lost xs ys = refl
 
-pub no_relative : (box : LitBox) (place : End) → HoldsAll box (relative_from place [])
-no_relative box (Rel x y) = tt
-no_relative box (Abs x y) = tt
-no_relative box Lost = tt
+pub relative_none : (place : End) → relative_from place [] ≡ []
+relative_none (Rel x y) = refl
+relative_none (Abs x y) = refl
+relative_none Lost = refl
 
 pub no_absolute : (box : LitBox) (place : End) → HoldsAll box (absolute_from place [])
 no_absolute box (Rel x y) = tt

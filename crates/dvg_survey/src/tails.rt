@@ -4,14 +4,13 @@
 //! pass from the ROM's last word back to the first entry makes it once for each word and scale, of the item at the word and of what
 //! is lit behind this item.
 
-ghost use Rattle.std.specs.Prelude.{◌≡◌, ◌+◌, ◌<◌, ◌≤◌, pos, IfSome, List};
+ghost use Rattle.std.specs.Prelude.{◌≡◌, ◌+◌, ◌<◌, ◌≤◌, pos, IfSome};
 ghost use Rattle.dvg_words.specs.Decoding.{InstrFits, cell_at};
-ghost use Rattle.dvg_words.specs.Memory.{Rom, rom_word};
+ghost use Rattle.dvg_words.specs.Memory.{rom_word};
 ghost use Rattle.dvg_words.specs.declared.instruction.Cell.TheVariants.{Holds};
 ghost use Rattle.dvg_words.specs.declared.map.TheConstants.{ADDRESS_END};
 ghost use Rattle.dvg_cert.specs.Entry.{IsKey};
 ghost use Rattle.dvg_cert.specs.declared.entry.End.TheVariants.{Rel};
-ghost use Rattle.dvg_cert.specs.declared.entry.Entry.{Entry};
 ghost use Rattle.dvg_items.specs.Bounds.{IsNearExtent, IsNearPlace, IsSomeCertificate};
 ghost use Rattle.dvg_items.specs.Known.{shape_context};
 ghost use Rattle.dvg_items.specs.Least.{IsLeast};
