@@ -83,6 +83,7 @@ impl MadeEntries {
 impl Entries for MadeEntries {
     ghost list = { λ done. done };
 
+    #[inline(never)]
     fn find(&self, addr: u16, key: Key) -> Option<Entry> {
         MadeEntries::find(self, addr, key)
     }
