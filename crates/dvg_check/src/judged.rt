@@ -106,6 +106,7 @@ impl<'a, E: Entries> JudgedShapes<'a, E> {
     /// Judges a frame over these shapes, as [`check_frame`](JudgedShapes::check_frame) does; with its first fault it answers what
     /// is known there: place, scale, words and depth before the item that breaks a rule, what stands there, and the rule's own
     /// numbers (profile).
+    #[inline(never)]
     pub fn find_fault(&self, frame: &FrameImage, budget: u32) -> Result<Accepted, FrameFinding>
         requires { budget ≤ MOST_WORDS }
         ensures ok { IfOk result (λ yes. GoodFrame self.now.window self.now.rom.machine frame.now self.now.list budget yes.words yes.depth) }

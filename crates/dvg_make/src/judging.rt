@@ -140,6 +140,7 @@ fn judged_shapes<'a>(
 }
 
 /// The checker's verdict on a frame by what was made for it.
+#[inline(never)]
 fn check_made(
     rom: &RomImage,
     frame: &FrameImage,

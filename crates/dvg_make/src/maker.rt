@@ -115,6 +115,7 @@ fn certificate_of(alloc: Global, map: RomMap, mut done: MadeEntries) -> Result<M
 }
 
 /// Makes what [`make_for_frames`] makes. The refusal comes with the shapes in the making.
+#[inline(never)]
 pub fn make_indexed(
     alloc: Global,
     rom: &RomImage,

@@ -81,6 +81,7 @@ impl<'a> RomImage<'a> {
 
     /// The image of these bytes, which it borrows, for a ROM at this map on a machine. Refuses 1 unless there are exactly two bytes
     /// for each of its addresses.
+    #[inline(never)]
     pub fn from_bytes_on(
         machine: Machine,
         bytes: &'a [u8],
@@ -162,6 +163,7 @@ impl<'a> Model for FrameImage<'a> {
 
 impl<'a> FrameImage<'a> {
     /// The image of these bytes, which it borrows. Refuses 2 if they are fewer than 2, more than 2048, or an odd number.
+    #[inline(never)]
     pub fn from_bytes(bytes: &'a [u8]) -> Result<FrameImage<'a>, ImageFault>
         ensures image { MatchResult result
             (λ frame. IsFrameLength (length bytes.now) × (frame ≡ words_of bytes.now))
