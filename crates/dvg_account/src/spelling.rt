@@ -606,14 +606,16 @@ fn push_calls(text: &mut Text, calls: &[Call]) {
 /// How far a box is from each edge of the window.
 fn push_margins(text: &mut Text, label: &str, margins: &Margins) {
     text.push(label);
-    text.push("left ");
-    text.push_distance(margins.left);
-    text.push(", right ");
-    text.push_distance(margins.right);
-    text.push(", bottom ");
-    text.push_distance(margins.bottom);
-    text.push(", top ");
-    text.push_distance(margins.top);
+    let sides = [
+        ("left ", margins.left),
+        (", right ", margins.right),
+        (", bottom ", margins.bottom),
+        (", top ", margins.top),
+    ];
+    for (side, distance) in sides {
+        text.push(side);
+        text.push_distance(distance);
+    }
     text.push("\n");
 }
 
