@@ -1,11 +1,12 @@
 -- The rule that a fault names is broken by what stands there.
-use Rattle.dvg_check.proofs.Common.{sym, ◌≡◌, ◌≢◌, ℕ, Option, None, Some, ap, ◌∙◌, subst, arith, ⊎_elim, cases_lt, Source, cell_at, Cell, Context, seen_at, Known, IsFound, AtLast, AsClaimed, CellKeeps, PlaceKeeps, Mode, Bound, Exact}
+use Rattle.dvg_check.proofs.Common.{sym, ◌≡◌, ◌≢◌, ℕ, Option, None, Some, ap, ◌∙◌, subst, arith, Source, cell_at, Cell, Context, seen_at, Known, IsFound, AtLast, AsClaimed, CellKeeps, PlaceKeeps, Mode, Bound, Exact}
 use Rattle.dvg_words.specs.declared.instruction.Cell.TheVariants as cell
 use Rattle.dvg_items.specs.declared.seen.Seen.{Seen as SeenItem}
 use Rattle.dvg_check.specs.Finding.{FaultFound}
 use Rattle.dvg_check.specs.declared.fault.Found.{Found}
 use Rattle.dvg_check.specs.declared.fault.Found.TheVariants.{Missing, Odd, Seen}
 use Rattle.dvg_check.specs.Private.Breaking.{Breaks}
+use Rattle.dvg_check.proofs.Faults.{neither_less}
 
 -- where only one rule can be broken, it is that one
 only : {Why : Type 0} (number : Why → ℕ) (rule : ℕ → Why) → ((why : Why) → rule (number why) ≡ why) → (why one : Why) → (why ≢ one → ⊥) → why ≡ one
@@ -13,13 +14,8 @@ only {Why} number rule back why one h = sym (back why) ∙ ap rule same ∙ back
   where
     same : number why ≡ number one
     same =
-        ⊎_elim
-        (λ less. absurd (h (λ e. let o : number why ≡ number one = ap number e in omega (arith, less, o))))
-        (λ le. ⊎_elim
-        (λ more. absurd (h (λ e. let o : number why ≡ number one = ap number e in omega (arith, more, o))))
-        (λ ge. omega (arith, le, ge))
-        (cases_lt (number one) (number why)))
-        (cases_lt (number why) (number one))
+        neither_less (number why) (number one) (λ less. h (λ e. let o : number why ≡ number one = ap number e in omega (arith, less, o)))
+        (λ more. h (λ e. let o : number why ≡ number one = ap number e in omega (arith, more, o)))
 
 -- a fault, in rules that are told apart by their numbers
 module _ {Why : Type 0} (number : Why → ℕ) (rule : ℕ → Why) (back : (why : Why) → rule (number why) ≡ why) (c : Context) (word : Source) (first : ℕ)

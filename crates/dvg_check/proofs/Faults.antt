@@ -8,6 +8,10 @@ use Rattle.dvg_check.specs.Laws.{OneFault, NoFault, OneCount, NoShapeFault, OneS
 use Rattle.dvg_check.specs.declared.fault.FrameWhy.TheVariants as frame
 use Rattle.dvg_check.specs.declared.fault.ShapeWhy.TheVariants as shape
 
+-- two numbers of which neither is less are one
+pub neither_less : (a b : ℕ) → (a < b → ⊥) → (b < a → ⊥) → a ≡ b
+neither_less a b first second = ⊎_elim (λ less. absurd (first less)) (λ le. ⊎_elim (λ more. absurd (second more)) (λ ge. omega (arith, le, ge)) (cases_lt b a)) (cases_lt a b)
+
 module _ (kind : Kind) (word : Source) (first : ℕ) (Why : Type 0) (keeps : List Item → ℕ → Why → Type 0) where
   -- what each rule says of a place
   abbrev AllKept : List Item → ℕ → Type 0
@@ -27,14 +31,7 @@ module _ (kind : Kind) (word : Source) (first : ℕ) (Why : Type 0) (keeps : Lis
     not_before p q u v f g less = f.breaks (shorter kind word first AllKept g.items q g.leads g.before f.items p f.leads less u)
 
     pub same_items : (p q : ℕ) (u v : Why) → (f : FaultAt order kind word first keeps p u) → (g : FaultAt order kind word first keeps q v) → Same f.items g.items p q
-    same_items p q u v f g =
-        ⊎_elim
-        (λ less. absurd (not_before p q u v f g less))
-        (λ le. ⊎_elim
-        (λ more. absurd (not_before q p v u g f more))
-        (λ ge. same_lead kind word first f.items g.items p q f.leads g.leads (omega arith))
-        (cases_lt (length g.items) (length f.items)))
-        (cases_lt (length f.items) (length g.items))
+    same_items p q u v f g = same_lead kind word first f.items g.items p q f.leads g.leads (neither_less (length f.items) (length g.items) (not_before p q u v f g) (not_before q p v u g f))
 
     not_lower : (p q : ℕ) (u v : Why) → (f : FaultAt order kind word first keeps p u) → (g : FaultAt order kind word first keeps q v) → order u < order v → ⊥
     not_lower p q u v f g less =
@@ -43,14 +40,7 @@ module _ (kind : Kind) (word : Source) (first : ℕ) (Why : Type 0) (keeps : Lis
 
     -- and the lowest rule is one
     pub same_order : (p q : ℕ) (u v : Why) → (f : FaultAt order kind word first keeps p u) → (g : FaultAt order kind word first keeps q v) → order u ≡ order v
-    same_order p q u v f g =
-        ⊎_elim
-        (λ less. absurd (not_lower p q u v f g less))
-        (λ le. ⊎_elim
-        (λ more. absurd (not_lower q p v u g f more))
-        (λ ge. omega arith)
-        (cases_lt (order v) (order u)))
-        (cases_lt (order u) (order v))
+    same_order p q u v f g = neither_less (order u) (order v) (not_lower p q u v f g) (not_lower q p v u g f)
 
 -- ---- frames
 
@@ -86,13 +76,8 @@ last_same : (w : Window) (machine : Machine) (words : List ℕ) (list : List Ent
 last_same w machine words list budget count depth count' depth' a b =
     let i : Item = record { at = a.at; format = a.format; instr = Halt } in
     let j : Item = record { at = b.at; format = b.format; instr = Halt } in
-    ⊎_elim
-    (λ less. absurd (too_long Frame (frame_word machine words) 0 a.items i a.leads a.halts refl b.items b.at b.leads less))
-    (λ le. ⊎_elim
-    (λ more. absurd (too_long Frame (frame_word machine words) 0 b.items j b.leads b.halts refl a.items a.at a.leads more))
-    (λ ge. same_lead Frame (frame_word machine words) 0 a.items b.items a.at b.at a.leads b.leads (omega arith))
-    (cases_lt (length b.items) (length a.items)))
-    (cases_lt (length a.items) (length b.items))
+    same_lead Frame (frame_word machine words) 0 a.items b.items a.at b.at a.leads b.leads
+    (neither_less (length a.items) (length b.items) (too_long Frame (frame_word machine words) 0 a.items i a.leads a.halts refl b.items b.at b.leads) (too_long Frame (frame_word machine words) 0 b.items j b.leads b.halts refl a.items a.at a.leads))
 
 pub one_count : OneCount
 one_count w machine words list budget count depth count' depth' a b =

@@ -1,6 +1,8 @@
 -- The first faulty entry of a list.
 use Rattle.dvg_check.proofs.Common.{List, length, take, get_or, suc, arith, zero, refl, ap, subst, sym, ◌≡◌, ◌<◌, ◌∷◌, ◌++◌, ℕ, [], AllByRecursion, Rom, rom_word, Window, Entry, At, Rel, pos, Empty, IsFound, known_before, shape_context, GoodShape, Mode}
 use Rattle.std.proofs.Common.{drop, slice_index_or}
+use Rattle.std.proofs.Math.Seq.{take-suc}
+use Rattle.dvg_items.proofs.Lists.{all_append}
 use Rattle.dvg_check.specs.Finding.{ShapeFaultFound, ShapeFinding, FirstShapeFound}
 
 -- what the code reads for an entry past the end
@@ -42,13 +44,9 @@ faulty_found mode w rom list items other i d f same also lt good found addr key 
     found_at mode w rom list items i d f same lt good (subst (λ (l : List Entry). ShapeFaultFound mode w rom l (slice_index_or items i d) f) also found) addr key entry
 
 -- one good entry more
-take_good : (P : Entry → Type 0) (l : List Entry) (i : ℕ) (d : Entry) → i < length l → AllByRecursion P (take i l) → P (get_or l i d) → AllByRecursion P (take (suc i) l)
-take_good P [] i d lt all h = absurd (omega arith)
-take_good P (x ∷ l) zero d lt all h = (h, tt)
-take_good P (x ∷ l) (suc i) d lt all h = (all.0, take_good P l i d (omega arith) all.1 h)
-
 pub good_more : (mode : Mode) (w : Window) (rom : Rom) (list items other : List Entry) (i j : ℕ) (d : Entry) → items ≡ list → other ≡ list → j ≡ suc i → i < length items → AllByRecursion (GoodShape mode w rom list) (take i list) → GoodShape mode w rom other (slice_index_or items i d) → AllByRecursion (GoodShape mode w rom list) (take j list)
 good_more mode w rom list items other i j d same also next lt all good =
     subst (λ n. AllByRecursion (GoodShape mode w rom list) (take n list)) (sym next)
-    (take_good (GoodShape mode w rom list) list i d (omega (arith, ap length same, lt)) all
-    (subst (λ (l : List Entry). GoodShape mode w rom list (get_or l i d)) same (subst (λ (l : List Entry). GoodShape mode w rom l (slice_index_or items i d)) also good)))
+    (subst (AllByRecursion (GoodShape mode w rom list)) (sym (take-suc list i d (omega (arith, ap length same, lt))))
+    (all_append (GoodShape mode w rom list) (take i list) (get_or list i d ∷ []) all
+    (subst (λ (l : List Entry). GoodShape mode w rom list (get_or l i d)) same (subst (λ (l : List Entry). GoodShape mode w rom l (slice_index_or items i d)) also good), tt)))
