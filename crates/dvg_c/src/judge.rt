@@ -14,7 +14,7 @@ ghost use Rattle.dvg_c.specs.Judging.{ShapesVerdict, Keeps, IsJudgement, told_sh
 
 use crate::answer::{Answer, BAD_MACHINE, BAD_WINDOW, numbered, refused};
 use crate::entry::kept_entry;
-use crate::machine::{kept_machine, machine_numbered};
+use crate::machine::{PROFILE, kept_machine, machine_numbered};
 use crate::shapes::{KeptShapes, MOST_ROM_BYTES};
 use crate::stage::{NOT_JUDGED, kept_mode};
 use crate::window::{WindowEnds, window_for};
@@ -103,20 +103,25 @@ fn judge_and_keep(
     Ok(cert)
 }
 
-/// Judges the shapes of a certificate over a ROM on a machine in a mode, for a window that is tested here.
-fn judge_in(
-    machine: Machine,
+/// Judges the shapes of a certificate over a ROM in a mode, on the machine that a number stands for and for a window; tests both.
+fn judge_numbered(
     alloc: Global,
+    machine: u32,
     rom: &[u8],
     cert: &[u8],
     window: WindowEnds,
     mode: Mode,
     kept: &mut KeptShapes,
 ) -> Answer
-    ensures window { (IsFor machine (window_of window) → ⊥) → (result ≡ numbered BAD_WINDOW) × (kept.new.judged ≡ NOT_JUDGED) }
-    ensures verdict { IsFor machine (window_of window) → IsJudgement machine mode (window_of window) rom.now cert.now kept.new result }
+    ensures machine { (machine ≤ BOARD → ⊥) → (result ≡ numbered BAD_MACHINE) × (kept.new.judged ≡ NOT_JUDGED) }
+    ensures window { machine ≤ BOARD → (IsFor (machine_of machine) (window_of window) → ⊥) → (result ≡ numbered BAD_WINDOW) × (kept.new.judged ≡ NOT_JUDGED) }
+    ensures verdict { machine ≤ BOARD → IsFor (machine_of machine) (window_of window)
+        → IsJudgement (machine_of machine) mode (window_of window) rom.now cert.now kept.new result }
 {
     kept.judged = NOT_JUDGED;
+    let Some(machine) = machine_numbered(machine) else {
+        return numbered(BAD_MACHINE);
+    };
     if window_for(machine, window).is_none() {
         return numbered(BAD_WINDOW);
     }
@@ -140,15 +145,8 @@ pub extern "C" fn dvgcheck_judge(
     ensures window { (IsWindow (window_of window) → ⊥) → (result ≡ numbered BAD_WINDOW) × (kept.new.judged ≡ NOT_JUDGED) }
     ensures verdict { IsWindow (window_of window) → IsJudgement Profile Bound (window_of window) rom.now cert.now kept.new result }
 {
-    judge_in(
-        Machine::Profile,
-        alloc,
-        rom,
-        cert,
-        window,
-        Mode::Bound,
-        kept,
-    )
+    let profile = u32::from(PROFILE);
+    judge_numbered(alloc, profile, rom, cert, window, Mode::Bound, kept)
 }
 
 /// The same with counts as exact: among the rules of shapes are 32 and 33.
@@ -163,37 +161,8 @@ pub extern "C" fn dvgcheck_judge_exact(
     ensures window { (IsWindow (window_of window) → ⊥) → (result ≡ numbered BAD_WINDOW) × (kept.new.judged ≡ NOT_JUDGED) }
     ensures verdict { IsWindow (window_of window) → IsJudgement Profile Exact (window_of window) rom.now cert.now kept.new result }
 {
-    judge_in(
-        Machine::Profile,
-        alloc,
-        rom,
-        cert,
-        window,
-        Mode::Exact,
-        kept,
-    )
-}
-
-/// Judges the shapes of a certificate over a ROM in a mode, on the machine that a number stands for, if it stands for one.
-fn judge_numbered(
-    alloc: Global,
-    machine: u32,
-    rom: &[u8],
-    cert: &[u8],
-    window: WindowEnds,
-    mode: Mode,
-    kept: &mut KeptShapes,
-) -> Answer
-    ensures machine { (machine ≤ BOARD → ⊥) → (result ≡ numbered BAD_MACHINE) × (kept.new.judged ≡ NOT_JUDGED) }
-    ensures window { machine ≤ BOARD → (IsFor (machine_of machine) (window_of window) → ⊥) → (result ≡ numbered BAD_WINDOW) × (kept.new.judged ≡ NOT_JUDGED) }
-    ensures verdict { machine ≤ BOARD → IsFor (machine_of machine) (window_of window)
-        → IsJudgement (machine_of machine) mode (window_of window) rom.now cert.now kept.new result }
-{
-    kept.judged = NOT_JUDGED;
-    let Some(machine) = machine_numbered(machine) else {
-        return numbered(BAD_MACHINE);
-    };
-    judge_in(machine, alloc, rom, cert, window, mode, kept)
+    let profile = u32::from(PROFILE);
+    judge_numbered(alloc, profile, rom, cert, window, Mode::Exact, kept)
 }
 
 /// Judges as [`dvgcheck_judge`] does, on a machine: 0 for the profile's, about which `dvgcheck_judge` is, and 1 for the board's. Frames

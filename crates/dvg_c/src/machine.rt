@@ -28,11 +28,7 @@ pub fn machine_numbered(number: u32) -> Option<Machine>
 pub fn machine_of(kept: u8) -> Machine
     ensures { result ≡ machine_of kept }
 {
-    if kept == BOARD {
-        Machine::Board
-    } else {
-        Machine::Profile
-    }
+    machine_numbered(u32::from(kept)).unwrap_or(Machine::Profile)
 }
 
 /// The number that stands for a machine.

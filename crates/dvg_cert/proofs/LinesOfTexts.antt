@@ -180,19 +180,6 @@ GoesOn Versioned line = (map : MemoryMap) × IsElsewhere map × (line ≡ rom_li
 GoesOn (Begun map es) line = ((e : Entry) × IsLine map.rom_first map.rom_last (EntryLine e) line × StandsAfter es e × (length es < MOST_ENTRIES)) ⊎ IsLine map.rom_first map.rom_last (DoneLine (length es)) line
 GoesOn (Whole map es) line = ⊥
 
--- the addresses of these lines are three digits
-abbrev pub Small : Taken → Type 0
-Small Nothing = Unit {0}
-Small Versioned = Unit {0}
-Small (Begun map es) = map.rom_last < ADDRESS_END
-Small (Whole map es) = map.rom_last < ADDRESS_END
-
-pub small_taken : (t : Taken) → IsTaken t → Small t
-small_taken Nothing h = tt
-small_taken Versioned h = tt
-small_taken (Begun map es) h = small_map map h.map_is
-small_taken (Whole map es) h = small_map map h.map_is
-
 -- the line after nothing
 goes_first : (map : MemoryMap) (xs ms : List (List ℕ)) (line : List ℕ) → heading map ++ xs ≡ line ∷ ms → GoesOn Nothing line
 goes_first map xs ms line e =
@@ -267,26 +254,26 @@ only_form P order count unended after long memory TooLong h = absurd (long h)
 only_form P order count unended after long memory Memory h = absurd (memory h)
 
 -- what is wrong may not stand
-pub wrong_goes : (why : CertWhy) (t : Taken) (line : List ℕ) → Small t → IsWrong t line why → GoesOn t line → ⊥
-wrong_goes why (Whole map es) line small w g = g
-wrong_goes why Nothing line small w g =
+pub wrong_goes : (why : CertWhy) (t : Taken) (line : List ℕ) → IsTaken t → IsWrong t line why → GoesOn t line → ⊥
+wrong_goes why (Whole map es) line t w g = g
+wrong_goes why Nothing line t w g =
     let form = only_form (IsWrong Nothing line) (λ x. x) (λ x. x) (λ x. x) (λ x. x) (λ x. x) (λ x. x) why w in
     not_first (subst (IsWrong Nothing line) form w) g
   where
     not_first : IsWrong Nothing line Form → GoesOn Nothing line → ⊥
     not_first n (inl e) = n.0 e
     not_first n (inr e) = n.1 e
-wrong_goes why Versioned line small w g =
+wrong_goes why Versioned line t w g =
     let form = only_form (IsWrong Versioned line) (λ x. x) (λ x. x) (λ x. x) (λ x. x) (λ x. x) (λ x. x) why w in
     subst (IsWrong Versioned line) form w g.0 g.1 g.2
-wrong_goes Form (Begun map es) line small w (inl g) = w (EntryLine g.0) g.1
-wrong_goes Form (Begun map es) line small w (inr g) = w (DoneLine (length es)) g
-wrong_goes Order (Begun map es) line small w (inl g) = w.2 (subst (λ (x : Entry). StandsAfter es x) (same_entry map.rom_first map.rom_last g.0 w.0 line small g.1 w.1) g.2)
-wrong_goes Order (Begun map es) line small w (inr g) = not_both map.rom_first map.rom_last w.0 (length es) line small w.1 g
-wrong_goes TooLong (Begun map es) line small w (inl g) = absurd (omega (arith, g.3, w.3))
-wrong_goes TooLong (Begun map es) line small w (inr g) = not_both map.rom_first map.rom_last w.0 (length es) line small w.1 g
-wrong_goes Count (Begun map es) line small w (inl g) = not_both map.rom_first map.rom_last g.0 w.0 line small g.1 w.1
-wrong_goes Count (Begun map es) line small w (inr g) =
-    let same = one_line map.rom_first map.rom_last line (DoneLine w.0) (DoneLine (length es)) small w.1 g in
+wrong_goes Form (Begun map es) line t w (inl g) = w (EntryLine g.0) g.1
+wrong_goes Form (Begun map es) line t w (inr g) = w (DoneLine (length es)) g
+wrong_goes Order (Begun map es) line t w (inl g) = w.2 (subst (λ (x : Entry). StandsAfter es x) (same_entry map.rom_first map.rom_last g.0 w.0 line (small_map map t.map_is) g.1 w.1) g.2)
+wrong_goes Order (Begun map es) line t w (inr g) = not_both map.rom_first map.rom_last w.0 (length es) line (small_map map t.map_is) w.1 g
+wrong_goes TooLong (Begun map es) line t w (inl g) = absurd (omega (arith, g.3, w.3))
+wrong_goes TooLong (Begun map es) line t w (inr g) = not_both map.rom_first map.rom_last w.0 (length es) line (small_map map t.map_is) w.1 g
+wrong_goes Count (Begun map es) line t w (inl g) = not_both map.rom_first map.rom_last g.0 w.0 line (small_map map t.map_is) g.1 w.1
+wrong_goes Count (Begun map es) line t w (inr g) =
+    let same = one_line map.rom_first map.rom_last line (DoneLine w.0) (DoneLine (length es)) (small_map map t.map_is) w.1 g in
     w.2 cc
-wrong_goes why (Begun map es) line small w g = w
+wrong_goes why (Begun map es) line t w g = w

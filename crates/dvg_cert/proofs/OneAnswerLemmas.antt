@@ -4,8 +4,9 @@ use Rattle.std.proofs.lemmas.Grind.{flat_map-append}
 use Rattle.std.proofs.lemmas.List.Folds.{flat_map-map}
 use Rattle.dvg_cert.proofs.Graphics.{line_free, graphics_entry, graphic_decimal}
 use Rattle.dvg_cert.proofs.Lengths.{length_entry, length_done}
+use Rattle.dvg_cert.proofs.Rising.{small_map}
 use Rattle.dvg_cert.proofs.FirstLines.{heads, version_free, rom_free}
-use Rattle.dvg_cert.proofs.LinesOfTexts.{only_form, cut_once, no_cut, lines_text, Fits, lines_prefix, each_mid, behind, entry_lines, lines_of, lines_once, goes_on, Small, small_taken, wrong_goes, same_entry, not_both}
+use Rattle.dvg_cert.proofs.LinesOfTexts.{only_form, cut_once, no_cut, lines_text, Fits, lines_prefix, each_mid, behind, entry_lines, lines_of, lines_once, goes_on, wrong_goes, same_entry, not_both}
 
 done_free : (n : ℕ) → n ≤ MOST_ENTRIES → Without LINE_FEED (done_line n)
 done_free n h = line_free (codes "done" ∷ decimal n ∷ []) ((lit< tt, (lit< tt, (lit< tt, (lit< tt, tt)))), (graphic_decimal n (omega arith), tt))
@@ -47,10 +48,9 @@ body_text map es end =
     ∙ ap (λ (t : List ℕ). flat_map ended (heading map) ++ t) (sym (flat_map-append ended (entry_lines es) end)) ∙ sym (flat_map-append ended (heading map) _) ∙ ended_lines _
 
 pub taken_lines : (t : Taken) → text_taken t ≡ lines_text (lines_of t)
-taken_lines Nothing = refl
-taken_lines Versioned = refl
 taken_lines (Begun map es) = sym (append-nil (begun_with map es)) ∙ body_text map es []
 taken_lines (Whole map es) = ap (λ (t : List ℕ). begun_with map es ++ t) (sym (append-nil (ended (done_line (length es))))) ∙ body_text map es (done_line (length es) ∷ [])
+taken_lines t = refl
 
 pub rest_free : (t : Taken) (rest : List ℕ) → IsRest t rest → Without LINE_FEED rest × (length rest < LONGEST_LINE)
 rest_free (Whole map es) rest h = subst (λ (r : List ℕ). Without LINE_FEED r × (length r < LONGEST_LINE)) (sym h) (tt, omega arith)
@@ -77,45 +77,42 @@ holds_once text t u rest rest' h k = same (prefix_of text text [] t u rest rest'
     same ([], l, r) = (lines_once t u h.lines k.lines (sym (l ∙ append-nil (lines_of t))), sym (append-nil rest) ∙ r)
     same ((m ∷ ms), l, r) = absurd (no_cut m (lines_text ms ++ rest') rest (rest_free t rest h.begun).0 (sym (append_assoc m (LINE_FEED ∷ lines_text ms) rest') ∙ sym r ∙ append-nil rest))
 
-same_meets : (t : Taken) (line : List ℕ) (why why' : CertWhy) → Small t → IsWrong t line why → IsWrong t line why' → why ≡ why'
+same_meets : (t : Taken) (line : List ℕ) (why why' : CertWhy) → IsTaken t → IsWrong t line why → IsWrong t line why' → why ≡ why'
 same_meets Nothing line why why' small h k =
     let form = only_form (IsWrong Nothing line) (λ x. x) (λ x. x) (λ x. x) (λ x. x) (λ x. x) (λ x. x) in form why h ∙ sym (form why' k)
 same_meets Versioned line why why' small h k =
     let form = only_form (IsWrong Versioned line) (λ x. x) (λ x. x) (λ x. x) (λ x. x) (λ x. x) (λ x. x) in form why h ∙ sym (form why' k)
 same_meets (Whole map es) line why why' small h k = absurd h
-same_meets (Begun map es) line Unended why' small h k = absurd h
-same_meets (Begun map es) line After why' small h k = absurd h
-same_meets (Begun map es) line Memory why' small h k = absurd h
-same_meets (Begun map es) line why Unended small h k = absurd k
-same_meets (Begun map es) line why After small h k = absurd k
-same_meets (Begun map es) line why Memory small h k = absurd k
-same_meets (Begun map es) line Form Form small h k = refl
-same_meets (Begun map es) line Form Order small h k = absurd (h (EntryLine k.0) k.1)
-same_meets (Begun map es) line Form TooLong small h k = absurd (h (EntryLine k.0) k.1)
-same_meets (Begun map es) line Form Count small h k = absurd (h (DoneLine k.0) k.1)
-same_meets (Begun map es) line Order Form small h k = absurd (k (EntryLine h.0) h.1)
-same_meets (Begun map es) line Order Order small h k = refl
-same_meets (Begun map es) line Order TooLong small h k = absurd (h.2 (subst (λ (x : Entry). StandsAfter es x) (same_entry map.rom_first map.rom_last k.0 h.0 line small k.1 h.1) k.2))
-same_meets (Begun map es) line Order Count small h k = absurd (not_both map.rom_first map.rom_last h.0 k.0 line small h.1 k.1)
-same_meets (Begun map es) line TooLong Form small h k = absurd (k (EntryLine h.0) h.1)
-same_meets (Begun map es) line TooLong Order small h k = absurd (k.2 (subst (λ (x : Entry). StandsAfter es x) (same_entry map.rom_first map.rom_last h.0 k.0 line small h.1 k.1) h.2))
-same_meets (Begun map es) line TooLong TooLong small h k = refl
-same_meets (Begun map es) line TooLong Count small h k = absurd (not_both map.rom_first map.rom_last h.0 k.0 line small h.1 k.1)
-same_meets (Begun map es) line Count Form small h k = absurd (k (DoneLine h.0) h.1)
-same_meets (Begun map es) line Count Order small h k = absurd (not_both map.rom_first map.rom_last k.0 h.0 line small k.1 h.1)
-same_meets (Begun map es) line Count TooLong small h k = absurd (not_both map.rom_first map.rom_last k.0 h.0 line small k.1 h.1)
-same_meets (Begun map es) line Count Count small h k = refl
+same_meets (Begun map es) line Unended why' t h k = absurd h
+same_meets (Begun map es) line After why' t h k = absurd h
+same_meets (Begun map es) line Memory why' t h k = absurd h
+same_meets (Begun map es) line why Unended t h k = absurd k
+same_meets (Begun map es) line why After t h k = absurd k
+same_meets (Begun map es) line why Memory t h k = absurd k
+same_meets (Begun map es) line Form Order t h k = absurd (h (EntryLine k.0) k.1)
+same_meets (Begun map es) line Form TooLong t h k = absurd (h (EntryLine k.0) k.1)
+same_meets (Begun map es) line Form Count t h k = absurd (h (DoneLine k.0) k.1)
+same_meets (Begun map es) line Order Form t h k = absurd (k (EntryLine h.0) h.1)
+same_meets (Begun map es) line Order TooLong t h k = absurd (h.2 (subst (λ (x : Entry). StandsAfter es x) (same_entry map.rom_first map.rom_last k.0 h.0 line (small_map map t.map_is) k.1 h.1) k.2))
+same_meets (Begun map es) line Order Count t h k = absurd (not_both map.rom_first map.rom_last h.0 k.0 line (small_map map t.map_is) h.1 k.1)
+same_meets (Begun map es) line TooLong Form t h k = absurd (k (EntryLine h.0) h.1)
+same_meets (Begun map es) line TooLong Order t h k = absurd (k.2 (subst (λ (x : Entry). StandsAfter es x) (same_entry map.rom_first map.rom_last h.0 k.0 line (small_map map t.map_is) h.1 k.1) h.2))
+same_meets (Begun map es) line TooLong Count t h k = absurd (not_both map.rom_first map.rom_last h.0 k.0 line (small_map map t.map_is) h.1 k.1)
+same_meets (Begun map es) line Count Form t h k = absurd (k (DoneLine h.0) h.1)
+same_meets (Begun map es) line Count Order t h k = absurd (not_both map.rom_first map.rom_last k.0 h.0 line (small_map map t.map_is) k.1 h.1)
+same_meets (Begun map es) line Count TooLong t h k = absurd (not_both map.rom_first map.rom_last k.0 h.0 line (small_map map t.map_is) k.1 h.1)
+same_meets (Begun map es) line why why' t h k = refl
 
 abbrev pub Stops : Taken → List ℕ → ℕ → CertWhy → Type 0
 Stops t rest b why = ((b ≢ LINE_FEED) × (length rest ≡ LONGEST_LINE - 1) × (why ≡ TooLong)) ⊎ ((b ≡ LINE_FEED) × IsWrong t rest why)
 
-stops_once : (t : Taken) (rest : List ℕ) (b : ℕ) (why why' : CertWhy) → Small t → Stops t rest b why → Stops t rest b why' → why ≡ why'
+stops_once : (t : Taken) (rest : List ℕ) (b : ℕ) (why why' : CertWhy) → IsTaken t → Stops t rest b why → Stops t rest b why' → why ≡ why'
 stops_once t rest b why why' small (inl h) (inl k) = h.2 ∙ sym k.2
 stops_once t rest b why why' small (inl h) (inr k) = absurd (h.0 k.0)
 stops_once t rest b why why' small (inr h) (inl k) = absurd (k.0 h.0)
 stops_once t rest b why why' small (inr h) (inr k) = same_meets t rest why why' small h.1 k.1
 
-meets_once : (t : Taken) (rest : List ℕ) (b : ℕ) (why why' : CertWhy) → Small t → Meets t rest b why → Meets t rest b why' → why ≡ why'
+meets_once : (t : Taken) (rest : List ℕ) (b : ℕ) (why why' : CertWhy) → IsTaken t → Meets t rest b why → Meets t rest b why' → why ≡ why'
 meets_once (Whole map es) rest b why why' small h k = h ∙ sym k
 meets_once taken rest b why why' small h k = stops_once taken rest b why why' small h k
 
@@ -135,7 +132,7 @@ stops_not t u rest rest' after b why h k free r (inr s) ([], l, e) =
 stops_not t u rest rest' after b why h k free r (inr s) ((m ∷ ms), l, e) =
     let c = cut_once rest after m (lines_text ms ++ rest') free (fits_mid t u m ms k l).0 (ap (λ (x : ℕ). rest ++ x ∷ after) (sym s.0) ∙ e ∙ append_assoc m (LINE_FEED ∷ lines_text ms) rest') in
     let g = goes_on t u rest ms h k (l ∙ ap (λ (x : List ℕ). lines_of t ++ x ∷ ms) (sym c.0)) in
-    wrong_goes why t rest (small_taken t h) s.1 g
+    wrong_goes why t rest h s.1 g
 
 after_not : (map : MemoryMap) (es : List Entry) (u : Taken) (rest rest' after : List ℕ) (b : ℕ) → IsTaken (Whole map es) → IsTaken u → IsRest u rest'
     → ((more : List (List ℕ)) × (lines_of u ≡ lines_of (Whole map es) ++ more) × (rest ++ b ∷ after ≡ lines_text more ++ rest')) → ⊥
@@ -179,7 +176,7 @@ stuck_once text line line' why why' s r =
           let k = subst (λ (f : List ℕ). Holds f r.3 r.4) (sym q.0) r.6 in
           let t = holds_once s.0 s.3 r.3 s.4 r.4 s.6 k in
           let m = subst (λ (x : List ℕ). Meets s.3 x s.1 why') (sym t.1) (subst (λ (x : Taken). Meets x r.4 s.1 why') (sym t.0) (subst (λ (x : ℕ). Meets r.3 r.4 x why') (sym q.1) r.7)) in
-          (s.8 ∙ ap line_number t.0 ∙ sym r.8, meets_once s.3 s.4 s.1 why why' (small_taken s.3 s.6.lines) s.7 m)
+          (s.8 ∙ ap line_number t.0 ∙ sym r.8, meets_once s.3 s.4 s.1 why why' s.6.lines s.7 m)
       | inr (inl q) ↦ absurd (no_meet s.0 r.0 q.0 s.3 r.3 s.4 r.4 s.1 why s.6 r.6 q.1 s.7)
       | inr (inr q) ↦ absurd (no_meet r.0 s.0 q.0 r.3 s.3 r.4 s.4 r.1 why' r.6 s.6 q.1 r.7)
     ]

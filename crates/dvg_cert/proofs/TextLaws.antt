@@ -1,5 +1,5 @@
 -- The laws of texts.
-use Rattle.dvg_cert.proofs.Common.{◌≡◌, ◌≢◌, ℕ, ◌+◌, ◌*◌, ◌≤◌, Bool, true, false, cond, List, [], ◌∷◌, ◌++◌, length, Result, Ok, Err, map, refl, ap, subst, ◌∙◌, append_assoc, arith, inl, inr, ◌==◌, count_by, AllByRecursion, length-map, append-nil, length-append, MOST_ENTRIES, LONGEST_LINE, LINE_FEED, CertWhy, Unended, Memory, CertFault, Entry, entry_line, heading, begun_with, text_of, Certificate, Taken, Nothing, Versioned, Begun, Whole, text_taken, line_number, Without, IsTaken, IsRest, Holds, MayStand, EndsOpen, MemoryMap, IsRefusal, ReadAnswer}
+use Rattle.dvg_cert.proofs.Common.{◌≡◌, ◌≢◌, ℕ, ◌+◌, ◌*◌, ◌≤◌, Bool, true, false, cond, List, [], ◌∷◌, ◌++◌, length, Result, Ok, Err, map, refl, ap, subst, ◌∙◌, append_assoc, arith, inl, inr, ◌==◌, count_by, AllByRecursion, length-map, append-nil, length-append, MOST_ENTRIES, LONGEST_LINE, LINE_FEED, CertWhy, Unended, Memory, CertFault, Entry, entry_line, heading, begun_with, text_of, Certificate, Taken, Begun, Whole, text_taken, line_number, Without, IsTaken, IsRest, Holds, MayStand, EndsOpen, MemoryMap, IsRefusal, ReadAnswer}
 use Rattle.std.proofs.lemmas.List.Recursion.{is_count_by}
 use Rattle.dvg_cert.specs.Laws.{NotMemory, OneAnswer, ShortText, PrefixRefusal, CutRefusal}
 use Rattle.dvg_cert.proofs.FirstLines.{few_heads}
@@ -72,10 +72,9 @@ length-body : (done : Bool) (map : MemoryMap) (es : List Entry) → length (head
 length-body done map es = omega (arith, length-append (heading map) (entry_lines es ++ behind done es), length-append (entry_lines es) (behind done es), length-map es entry_line)
 
 length-lines : (taken : Taken) → line_number taken ≡ length (lines_of taken) + 1
-length-lines Nothing = refl
-length-lines Versioned = refl
 length-lines (Begun map es) = omega (arith, length-body false map es)
 length-lines (Whole map es) = omega (arith, length-body true map es)
+length-lines taken = refl
 
 pub line_at : (text : List ℕ) (taken : Taken) (rest : List ℕ) → Holds text taken rest → line_number taken ≡ count_by (λ b. b == LINE_FEED) text + 1
 line_at text taken rest h =
@@ -91,10 +90,9 @@ short_lines (l ∷ ls) h = omega (arith, length-append l (LINE_FEED ∷ lines_te
 
 -- the lines that were taken, and the line begun after them
 few_lines : (taken : Taken) (rest : List ℕ) → IsTaken taken → IsRest taken rest → LONGEST_LINE * length (lines_of taken) + length rest ≤ (MOST_ENTRIES + 3) * LONGEST_LINE
-few_lines Nothing rest h r = omega (arith, r.1)
-few_lines Versioned rest h r = omega (arith, r.1)
 few_lines (Begun map es) rest h r = omega (arith, few_heads map, length-body false map es, h.few, r.1)
 few_lines (Whole map es) rest h r = let none : length rest ≡ length {A = ℕ} [] = ap length r in omega (arith, few_heads map, length-body true map es, h.few)
+few_lines taken rest h r = omega (arith, r.1)
 
 pub short_text : ShortText
 short_text = λ text m.
