@@ -124,6 +124,7 @@ fn lit_over(window: &Window, place: &End, lit: &LitBox) -> Option<LitBox>
 
 /// The tail from an item on, made of this item, told as a tail, and the tail behind it. `None` where the tail behind it may not
 /// be lit past the item.
+#[inline(always)]
 pub fn after_item(window: &Window, item: &Tail, tail: &Tail) -> Option<Tail>
     requires item { IsSmall 1 item.now }
     requires tail { IsSmall (ADDRESS_END + 2) tail.now }
