@@ -6,7 +6,7 @@ use crate::entries::{cert_of, items_of};
 use crate::filling::Filling;
 use crate::reading::text_of;
 use anyhow::{Result, bail};
-use dvg_cert::{HashIndex, MOST_WORDS};
+use dvg_cert::{Cert, HashIndex, MOST_WORDS};
 use dvg_check::{JudgedShapes, Mode, check_on, check_shapes};
 use dvg_words::{FrameImage, Machine, ROM_LAST, RomImage, SCREEN};
 use std::alloc::{AllocError, Global};
@@ -67,17 +67,27 @@ impl Frame {
     }
 }
 
-/// Checks the shapes of so many entries so many times, and gives how many items they have together.
-pub fn check_entries(
-    machine: Machine,
-    alloc: Global,
-    filling: Filling,
-    count: u16,
-    times: u32,
-) -> Result<u64> {
-    let bytes = filling.rom_bytes(alloc)?;
-    let cert = cert_of(machine, alloc, filling, count)?;
-    let Ok(rom) = RomImage::from_bytes_on(machine, &bytes, cert.map()) else {
+/// A ROM that is full of one thing, and so many entries of it, on a machine.
+#[derive(Clone, Copy)]
+pub struct Filled {
+    pub machine: Machine,
+    pub filling: Filling,
+    pub count: u16,
+}
+
+impl Filled {
+    /// The bytes of the ROM, and the certificate of the entries.
+    fn made(self, alloc: Global) -> Result<(Vec<u8>, Cert)> {
+        let bytes = self.filling.rom_bytes(alloc)?;
+        let cert = cert_of(self.machine, alloc, self.filling, self.count)?;
+        Ok((bytes, cert))
+    }
+}
+
+/// Checks the shapes of such entries so many times, and gives how many items they have together.
+pub fn check_entries(alloc: Global, filled: Filled, times: u32) -> Result<u64> {
+    let (bytes, cert) = filled.made(alloc)?;
+    let Ok(rom) = RomImage::from_bytes_on(filled.machine, &bytes, cert.map()) else {
         bail!("these are not the bytes of a ROM");
     };
     let index = HashIndex::new(alloc, &cert)?;
@@ -86,25 +96,27 @@ pub fn check_entries(
             bail!("a shape was refused");
         }
     }
-    Ok(items_of(filling, &cert))
+    Ok(items_of(filled.filling, &cert))
 }
 
 /// Checks the bytes of such a ROM, the text of such a certificate and a frame of HALT alone so many times, and gives how many
 /// items the shapes have together.
-pub fn check_bytes(
-    machine: Machine,
-    alloc: Global,
-    filling: Filling,
-    count: u16,
-    times: u32,
-) -> Result<u64> {
-    let rom = filling.rom_bytes(alloc)?;
-    let cert = cert_of(machine, alloc, filling, count)?;
+pub fn check_bytes(alloc: Global, filled: Filled, times: u32) -> Result<u64> {
+    let (rom, cert) = filled.made(alloc)?;
     let text = text_of(alloc, &cert)?;
     for _ in 0..times {
-        check_on(machine, alloc, &rom, &text, HALT, 1, SCREEN, Mode::Bound)?;
+        check_on(
+            filled.machine,
+            alloc,
+            &rom,
+            &text,
+            HALT,
+            1,
+            SCREEN,
+            Mode::Bound,
+        )?;
     }
-    Ok(items_of(filling, &cert))
+    Ok(items_of(filled.filling, &cert))
 }
 
 /// Checks a frame over so many entries of draws so many times, and gives how many items it has between its LABS and its HALT.

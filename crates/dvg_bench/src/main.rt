@@ -19,7 +19,7 @@ mod filling;
 mod reading;
 
 use anyhow::{Context, Result, bail};
-use checking::{Frame, check_bytes, check_entries, check_files, check_frames};
+use checking::{Filled, Frame, check_bytes, check_entries, check_files, check_frames};
 use dvg_words::Machine;
 use filling::Filling;
 use reading::read_texts;
@@ -31,6 +31,15 @@ fn machine_of(name: &str) -> Result<Machine> {
         "profile" => Machine::Profile,
         "board" => Machine::Board,
         _ => bail!("the machine is profile or board"),
+    })
+}
+
+/// So many entries of a ROM that is full of what this names, on a machine.
+fn filled(machine: Machine, name: &str, count: u16) -> Result<Filled> {
+    Ok(Filled {
+        machine,
+        filling: Filling::of_name(name)?,
+        count,
     })
 }
 
@@ -46,8 +55,8 @@ fn run(
     let alloc = rt.alloc();
     match what {
         "read" => read_texts(alloc, count, times),
-        "shapes" => check_entries(machine, alloc, Filling::of_name(input)?, count, times),
-        "whole" => check_bytes(machine, alloc, Filling::of_name(input)?, count, times),
+        "shapes" => check_entries(alloc, filled(machine, input, count)?, times),
+        "whole" => check_bytes(alloc, filled(machine, input, count)?, times),
         "frame" => check_frames(machine, alloc, Frame::of_name(input)?, count, times),
         "files" => check_files(machine, rt, count, times),
         _ => bail!("the first word is read, shapes, whole, frame or files"),

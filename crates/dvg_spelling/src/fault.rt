@@ -136,6 +136,14 @@ impl From<MakeRunFault> for FramesRunFault {
     }
 }
 
+impl From<WriteFault> for FramesRunFault {
+    ghost from_gives = { λ _ fault. fault ≡ faults.Plain maker.Write };
+
+    fn from(_fault: WriteFault) -> FramesRunFault {
+        FramesRunFault::Plain(MakeRunFault::Write)
+    }
+}
+
 impl From<FramesFault> for FramesRunFault {
     ghost from_gives = { λ refusal fault. fault ≡ told_fault refusal.call refusal.why };
 

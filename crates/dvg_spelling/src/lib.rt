@@ -6,6 +6,7 @@
 #![tactic(auto)]
 
 mod arguments;
+mod entry_line;
 mod fault;
 mod outcome;
 mod places;
@@ -18,9 +19,10 @@ mod touched;
 mod window;
 
 pub use arguments::{map_of, root_of, start_of};
+pub use entry_line::EntryLine;
 pub use fault::{FramesRunFault, MakeRunFault, RunFault};
 pub use outcome::{FrameAnswer, FrameOutcome, Outcome, frame_outcome_of, outcome_of};
-pub use places::{PlaceLine, place_line_of};
+pub use places::place_line_of;
 pub use report::{
     Report, entry_name, frame_report_of, hex_address, hex_word, make_frames_report_of,
     make_line_of, make_report_of, report_of,
@@ -28,5 +30,5 @@ pub use report::{
 pub use rules::{Rule, all_rules, own_rule_of, rule_of, text_of_rule, text_of_rules};
 pub use status::{frames_status_of, make_frames_status_of, make_status_of, message_of, status_of};
 pub use tally::{Summary, Tally, summary_of};
-pub use touched::{TouchedLine, touched_line_of};
+pub use touched::touched_line_of;
 pub use window::window_of;

@@ -2,7 +2,7 @@
 
 ghost use Rattle.std.specs.Prelude.{◌≡◌, ◌+◌, ◌≤◌, ◌<◌, ◌++◌, [], length, codes, decimal};
 ghost use Rattle.dvg_spelling.specs.Messages.{fault_message, make_message, frames_message, make_line_text};
-ghost use Rattle.dvg_spelling.specs.Report.{report_text, verdict_text, accepted_text, refusal_text, cert_fault_text, shape_fault_text, frame_fault_text, entry_text, hex_word, hex_address, call_fault_text, frame_refusal_text, answer_text, frame_line_text};
+ghost use Rattle.dvg_spelling.specs.Report.{report_text, accepted_text, refusal_text, cert_fault_text, shape_fault_text, frame_fault_text, entry_text, hex_word, hex_address, call_fault_text, frame_refusal_text, answer_text, frame_line_text};
 
 use crate::fault::{FramesRunFault, MakeRunFault, RunFault};
 use crate::outcome::FrameAnswer;
@@ -96,11 +96,14 @@ impl Report {
         }
     }
 
-    fn end_line(&mut self)
-        requires { length self.old ≤ 63 }
-        ensures { self.new ≡ self.old ++ codes "\n" }
+    /// With its LF.
+    fn ended(self) -> Report
+        requires { length self ≤ 63 }
+        ensures { result ≡ self ++ codes "\n" }
     {
-        self.push(b"\n");
+        let mut line = self;
+        line.push(b"\n");
+        line
     }
 }
 
@@ -145,9 +148,14 @@ pub fn report_of(verdict: &Result<Yes, Refusal>) -> Report
     ensures short { length result ≤ 64 }
 {
     let mut report = Report::new();
-    push_verdict(&mut report, verdict);
-    report.end_line();
-    report
+    match verdict {
+        Ok(yes) => push_accepted(&mut report, yes),
+        Err(refusal) => {
+            report.push(b"refused ");
+            push_refusal(&mut report, refusal);
+        }
+    }
+    report.ended()
 }
 
 /// The line on standard error of a run that made no certificate, with its LF: 64 bytes at most. Takes no memory.
@@ -155,10 +163,7 @@ pub fn make_report_of(fault: &MakeRunFault) -> Report
     ensures text { result ≡ make_message fault.now ++ codes "\n" }
     ensures short { length result ≤ 64 }
 {
-    let mut report = Report::new();
-    push_make_fault(&mut report, fault);
-    report.end_line();
-    report
+    make_frames_report_of(&(*fault).into())
 }
 
 /// The line of an answer to a frame, from behind the frame's name on, with its LF: 64 bytes at most. Takes no memory.
@@ -169,8 +174,7 @@ pub fn frame_report_of(answer: &FrameAnswer) -> Report
     let mut report = Report::new();
     report.push(b": ");
     push_answer(&mut report, answer);
-    report.end_line();
-    report
+    report.ended()
 }
 
 /// The line on standard error of a run of the maker for frames that made no certificate, with its LF: 64 bytes at most. Where
@@ -180,9 +184,16 @@ pub fn make_frames_report_of(fault: &FramesRunFault) -> Report
     ensures short { length result ≤ 64 }
 {
     let mut report = Report::new();
-    push_frames_fault(&mut report, fault);
-    report.end_line();
-    report
+    match fault {
+        FramesRunFault::Plain(fault) => push_make_fault(&mut report, fault),
+        FramesRunFault::FrameLength { .. } => report.push(b": refused 2"),
+        FramesRunFault::Call { call, why } => {
+            report.push(b": ");
+            push_call_fault(&mut report, call.at, *why);
+        }
+        FramesRunFault::ReadFrame => push_message(&mut report, &RunFault::ReadFrame),
+    }
+    report.ended()
 }
 
 /// The line of what the maker comes to, with its LF: how many entries it makes, or the line of why it makes none. 64 bytes at most.
@@ -191,13 +202,14 @@ pub fn make_line_of(made: &Result<u32, FramesRunFault>) -> Report
     ensures text { result ≡ make_line_text made.now }
     ensures short { length result ≤ 64 }
 {
-    let mut report = Report::new();
     match made {
-        Ok(entries) => report.push_count(b"made entries=", *entries),
-        Err(fault) => push_frames_fault(&mut report, fault),
+        Ok(entries) => {
+            let mut report = Report::new();
+            report.push_count(b"made entries=", *entries);
+            report.ended()
+        }
+        Err(fault) => make_frames_report_of(fault),
     }
-    report.end_line();
-    report
 }
 
 fn push_make_fault(report: &mut Report, fault: &MakeRunFault)
@@ -216,22 +228,6 @@ fn push_make_fault(report: &mut Report, fault: &MakeRunFault)
         MakeRunFault::Make(MakeFault::Memory) => push_message(report, &RunFault::Memory),
         MakeRunFault::ReadRom => push_message(report, &RunFault::ReadRom),
         MakeRunFault::Write => push_message(report, &RunFault::Write),
-    }
-}
-
-fn push_frames_fault(report: &mut Report, fault: &FramesRunFault)
-    requires { report.old ≡ [] }
-    ensures text { report.new ≡ frames_message fault.now }
-    ensures short { length report.new ≤ 63 }
-{
-    match fault {
-        FramesRunFault::Plain(fault) => push_make_fault(report, fault),
-        FramesRunFault::FrameLength { .. } => report.push(b": refused 2"),
-        FramesRunFault::Call { call, why } => {
-            report.push(b": ");
-            push_call_fault(report, call.at, *why);
-        }
-        FramesRunFault::ReadFrame => push_message(report, &RunFault::ReadFrame),
     }
 }
 
@@ -289,20 +285,6 @@ fn push_message(report: &mut Report, fault: &RunFault)
     ensures short { length report.new ≤ 63 }
 {
     report.push(message_of(fault).as_bytes());
-}
-
-fn push_verdict(report: &mut Report, verdict: &Result<Yes, Refusal>)
-    requires { report.old ≡ [] }
-    ensures text { report.new ≡ verdict_text verdict.now }
-    ensures short { length report.new ≤ 63 }
-{
-    match verdict {
-        Ok(yes) => push_accepted(report, yes),
-        Err(refusal) => {
-            report.push(b"refused ");
-            push_refusal(report, refusal);
-        }
-    }
 }
 
 fn push_accepted(report: &mut Report, yes: &Yes)

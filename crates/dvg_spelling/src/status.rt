@@ -2,21 +2,41 @@
 
 ghost use Rattle.std.specs.Prelude.{◌≡◌, ◌++◌, codes};
 ghost use Rattle.dvg_spelling.specs.Messages.{fault_message};
-ghost use Rattle.dvg_spelling.specs.Status.{exit_status, make_exit_status, frames_exit_status, make_frames_exit_status};
+ghost use Rattle.dvg_spelling.specs.Status.{outcome_status, fault_status, exit_status, make_exit_status, frames_exit_status, make_frames_exit_status};
 
 use crate::fault::{FramesRunFault, MakeRunFault, RunFault};
 use crate::outcome::{FrameOutcome, Outcome};
 use dvg_make::{EntryFault, MakeFault};
+
+/// The exit status of a run that reported this.
+fn outcome_status(outcome: FrameOutcome) -> u8
+    ensures { result ≡ outcome_status outcome }
+{
+    match outcome {
+        FrameOutcome::Accepted => 0,
+        FrameOutcome::Refused => 1,
+        FrameOutcome::NoMemory => 4,
+        FrameOutcome::Unread => 3,
+    }
+}
+
+/// The exit status of a run that ended with this fault.
+fn fault_status(fault: RunFault) -> u8
+    ensures { result ≡ fault_status fault }
+{
+    match fault {
+        RunFault::Memory => 4,
+        RunFault::ReadRom | RunFault::ReadFrame | RunFault::ReadCert | RunFault::Write => 3,
+    }
+}
 
 /// The exit status of a run: 0 accepted, 1 refused, 3 a failed read or write, 4 out of memory.
 pub fn status_of(end: &Result<Outcome, RunFault>) -> u8
     ensures { result ≡ exit_status end.now }
 {
     match end {
-        Ok(Outcome::Accepted) => 0,
-        Ok(Outcome::Refused) => 1,
-        Ok(Outcome::NoMemory) | Err(RunFault::Memory) => 4,
-        Err(_) => 3,
+        Ok(outcome) => outcome_status((*outcome).into()),
+        Err(fault) => fault_status(*fault),
     }
 }
 
@@ -59,10 +79,8 @@ pub fn frames_status_of(end: &Result<FrameOutcome, RunFault>) -> u8
     ensures { result ≡ frames_exit_status end.now }
 {
     match end {
-        Ok(FrameOutcome::Accepted) => 0,
-        Ok(FrameOutcome::Refused) => 1,
-        Ok(FrameOutcome::NoMemory) | Err(RunFault::Memory) => 4,
-        Ok(FrameOutcome::Unread) | Err(_) => 3,
+        Ok(outcome) => outcome_status(*outcome),
+        Err(fault) => fault_status(*fault),
     }
 }
 

@@ -39,6 +39,24 @@ impl<'a> Input<'a> {
     }
 }
 
+/// Why there is nothing to be had from a file.
+#[derive(Clone, Copy)]
+pub enum InputFault {
+    /// It can't be opened or read.
+    Unreadable,
+    OutOfMemory,
+}
+
+impl From<io::Error> for InputFault {
+    fn from(error: io::Error) -> InputFault {
+        if error.kind() == io::ErrorKind::OutOfMemory {
+            InputFault::OutOfMemory
+        } else {
+            InputFault::Unreadable
+        }
+    }
+}
+
 /// An open file that is read.
 #[derive(Drop)]
 pub enum Source {

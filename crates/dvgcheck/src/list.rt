@@ -1,10 +1,10 @@
 //! A list of frames that a file or standard input holds, read as a stream.
 
 use crate::escaping::shown;
-use crate::input::{Input, Source};
+use crate::input::{Input, InputFault, Source};
 use dvg_cmd::{Counted, FrameOutcome, NameBytes, NameEnd, NamedFrame, read_name};
 use std::alloc::AllocError;
-use std::io::{BufReader, ErrorKind};
+use std::io::BufReader;
 use std::{io, str};
 
 /// How many bytes a name may have.
@@ -15,9 +15,7 @@ const LONGEST_NAME: usize = 4096;
 pub enum ListFault {
     /// It has no name.
     Empty,
-    /// It can't be opened or read.
-    Unreadable,
-    OutOfMemory,
+    Input(InputFault),
 }
 
 impl ListFault {
@@ -25,8 +23,8 @@ impl ListFault {
     pub fn message(self) -> &'static str {
         match self {
             ListFault::Empty => "dvgcheck: the list is empty",
-            ListFault::Unreadable => "dvgcheck: cannot read the list",
-            ListFault::OutOfMemory => "dvgcheck: out of memory",
+            ListFault::Input(InputFault::Unreadable) => "dvgcheck: cannot read the list",
+            ListFault::Input(InputFault::OutOfMemory) => "dvgcheck: out of memory",
         }
     }
 
@@ -34,25 +32,21 @@ impl ListFault {
     pub fn outcome(self) -> FrameOutcome {
         match self {
             ListFault::Empty => FrameOutcome::Accepted,
-            ListFault::Unreadable => FrameOutcome::Unread,
-            ListFault::OutOfMemory => FrameOutcome::NoMemory,
+            ListFault::Input(InputFault::Unreadable) => FrameOutcome::Unread,
+            ListFault::Input(InputFault::OutOfMemory) => FrameOutcome::NoMemory,
         }
     }
 }
 
 impl From<io::Error> for ListFault {
     fn from(error: io::Error) -> ListFault {
-        if error.kind() == ErrorKind::OutOfMemory {
-            ListFault::OutOfMemory
-        } else {
-            ListFault::Unreadable
-        }
+        ListFault::Input(error.into())
     }
 }
 
 impl From<AllocError> for ListFault {
     fn from(_error: AllocError) -> ListFault {
-        ListFault::OutOfMemory
+        ListFault::Input(InputFault::OutOfMemory)
     }
 }
 

@@ -318,7 +318,7 @@ fn tell_list(rt: &HostRuntime, fault: ListFault) -> u8 {
     say(rt, fault.message());
     match fault {
         ListFault::Empty => 2,
-        ListFault::Unreadable | ListFault::OutOfMemory => frames_status_of(&Ok(fault.outcome())),
+        ListFault::Input(_) => frames_status_of(&Ok(fault.outcome())),
     }
 }
 
