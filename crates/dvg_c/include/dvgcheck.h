@@ -191,11 +191,11 @@ struct dvgcheck_answer dvgcheck_check_exact_on(uint32_t machine, const uint8_t *
 
 /*
  * Judges a frame, as bytes, from the ROM alone, by the certificate that is made for it: no certificate does better. `map` is where
- * the ROM lies. The number is 82, 83, 80, or the first that applies of 2, 49, 1, 60 to 63, 50, 25, 40 to 44, 46 and 48, or 0. Where
+ * the ROM lies. The number is 82, 83, 80, or the first that applies of 2, 49, 1, 60 to 63, 25, 40 to 44, 46 and 48, or 0. Where
  * it is 0, it means the same as of dvgcheck_frame over shapes that were judged as exact: each run fetches just `words` words and
  * stores just `depth` return places at once; and no certificate gets the frame accepted with less. 60 to 62 are those of the first
  * call whose entry can't be made: `call` is the word address of it, and with 60 `word` that of what no shape can have. Takes memory
- * for the certificate's entries and their index, and gives it back; where there is none, the number is 63 or 50. At most 64 KiB of the
+ * for the certificate's entries and their index, and gives it back; where there is none, the number is 63. At most 64 KiB of the
  * stack.
  */
 struct dvgcheck_answer dvgcheck_frame_alone(uint32_t machine, const uint8_t *rom, size_t rom_length, struct dvgcheck_map map,
