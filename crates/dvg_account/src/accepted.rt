@@ -9,7 +9,7 @@ use crate::inputs::Inputs;
 use crate::line::{AcceptedLine, Line};
 use crate::lines::{Lines, zone_line};
 use crate::remarks::{Remark, remarks_on};
-use dvg_cert::{Cert, ListIndex, LitBox};
+use dvg_cert::{Cert, HashIndex, LitBox};
 use dvg_check::{Refusal, Yes, frame_of};
 use dvg_make::{FrameRefusal, judge};
 use dvg_survey::{FrameSurvey, Margins, shapes_extent, survey_frame};
@@ -60,7 +60,7 @@ impl Survey {
     ) -> Result<Survey, AllocError>
         ensures { IfOk result (Surveyed machine cert.now (option_copied rom.entry) (option_copied frame.entry)) }
     {
-        let entries = ListIndex::new(cert);
+        let entries = HashIndex::new(alloc, cert)?;
         let frame = match frame {
             Some(frame) => survey_frame(machine, alloc, cert, &entries, frame)?,
             None => FrameSurvey::empty(alloc),

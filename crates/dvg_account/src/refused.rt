@@ -16,7 +16,7 @@ use crate::item::{RefusedItem, callee_of};
 use crate::line::{EntryName, Line, PathLine, Role};
 use crate::lines::{Lines, zone_line};
 use crate::why::Why;
-use dvg_cert::{Cert, Entries, Entry, ListIndex};
+use dvg_cert::{Cert, Entries, Entry, HashIndex, ListIndex};
 use dvg_check::{FrameFinding, Refusal, RomFinding, ShapeFinding, ShapeWhy};
 use dvg_items::Kind;
 use dvg_survey::{Losses, find_chain, frame_losses, shape_losses};
@@ -142,7 +142,8 @@ fn chain_line(
     let Some(frame) = frame else {
         return Ok(None);
     };
-    let line = match find_chain(alloc, rom, cert, &ListIndex::new(cert), frame, goal)? {
+    let entries = HashIndex::new(alloc, cert)?;
+    let line = match find_chain(alloc, rom, cert, &entries, frame, goal)? {
         Some(calls) => PathLine::Chain(calls),
         None => PathLine::NoChain(EntryName::of(goal)),
     };
