@@ -86,13 +86,14 @@ pub fn own_rule_of(number: u8) -> Option<Rule>
     ensures some { IfSome result (λ rule. rule.number ≡ number) }
     ensures known { is_some result ≡ is_rule_number number }
 {
-    match number {
-        1 => Some(table::OWN_ROM_LENGTH),
-        25 => Some(table::OWN_SHAPE_OUTSIDE_WINDOW),
-        46 => Some(table::OWN_FRAME_OUTSIDE_WINDOW),
-        48 => Some(table::OWN_FRAME_OVER_BUDGET),
-        _ => rule_of(number),
-    }
+    let own = match number {
+        1 => table::OWN_ROM_LENGTH,
+        25 => table::OWN_SHAPE_OUTSIDE_WINDOW,
+        46 => table::OWN_FRAME_OUTSIDE_WINDOW,
+        48 => table::OWN_FRAME_OVER_BUDGET,
+        _ => return rule_of(number),
+    };
+    Some(own)
 }
 
 /// Adds a line, the number and what it means.
