@@ -1,32 +1,28 @@
-use Rattle.std.proofs.Common.{refl, string_bytes}
-use Rattle.dvg_spelling.specs.Each.{of_each}
-use Rattle.dvg_cmd.proofs.PlaceLines.{on_err}
-use Rattle.dvg_cmd.proofs.ReachingLines.{entries_cut, reaching_cut, both_written, both_sent, on_ok, on_each_err}
+use Rattle.dvg_cmd.proofs.Common.{subst, string_bytes, of_each, AppendsPrefix, joined}
+use Rattle.dvg_spelling.specs.Touched.{touched_line}
+use Rattle.dvg_cmd.specs.Comparing.{reaching_lines}
+use Rattle.dvg_cmd.specs.Private.Sent.{Sent}
+use Rattle.dvg_cmd.proofs.LineByLine.{on_err, on_ok, on_each_err, both_sent, both_cut, first_cut}
 use Rattle.dvg_cmd.proofs.comparing.write_comparison.Goals as goal
 
-pub returns-in_err-write_entries-clause-prefix : goal.returns-in_err-write_entries-clause-prefix
-returns-in_err-write_entries-clause-prefix g c =
+pub returns-in_err-write_each-clause-prefix : goal.returns-in_err-write_each-clause-prefix
+returns-in_err-write_each-clause-prefix g c =
     on_err c.from_residual.result
-    (entries_cut (of_each (λ name. string_bytes name) c.args.names.now) c.args.comparison.now c.deref.result.now c.deref.ensures.value c.args.comparison.now.reaching.items refl
-    (g.W.Write.contents c.args.out.now) (g.W.Write.contents c.write_entries.new.out) (g.W.Write.contents c.write_entries.new.out) c.in_err-write_entries.ensures.prefix)
+    (first_cut (of_each touched_line c.args.comparison.now.entries.items) (reaching_lines (of_each (λ name. string_bytes name) c.args.names.now) c.args.comparison.now.reaching.items) _ _
+    (subst (λ es. AppendsPrefix (g.W.Write.contents c.args.out.now) (g.W.Write.contents c.write_each.new.out) (joined (of_each touched_line es))) c.deref.ensures.value c.in_err-write_each.ensures.prefix))
 
-pub returns-clause-written : goal.returns-clause-written
-returns-clause-written g c =
+pub returns-clause-sent : goal.returns-clause-sent
+returns-clause-sent g c =
     on_ok c.write_reaching.result _ _
-    (both_written (of_each (λ name. string_bytes name) c.args.names.now) c.args.comparison.now c.deref.result.now c.deref.ensures.value c.deref-2.result.now c.deref-2.ensures.value
-    (g.W.Write.contents c.args.out.now) (g.W.Write.contents c.write_entries.new.out) (g.W.Write.contents c.write_reaching.new.out) c.in_ok-write_entries.ensures.written)
-    c.write_reaching.ensures.written
+    (λ k. both_sent (of_each touched_line c.args.comparison.now.entries.items) (reaching_lines (of_each (λ name. string_bytes name) c.args.names.now) c.args.comparison.now.reaching.items) (g.W.Write.contents c.args.out.now) (g.W.Write.contents c.write_each.new.out) (g.W.Write.contents c.write_reaching.new.out) (g.W.CountedWrite.whole_writes c.args.out.now) (g.W.CountedWrite.whole_writes c.write_each.new.out) (g.W.CountedWrite.whole_writes c.write_reaching.new.out)
+    (subst (λ es. Sent (of_each touched_line es) (g.W.Write.contents c.args.out.now) (g.W.Write.contents c.write_each.new.out) (g.W.CountedWrite.whole_writes c.args.out.now) (g.W.CountedWrite.whole_writes c.write_each.new.out)) c.deref.ensures.value c.in_ok-write_each.ensures.sent)
+    (subst (λ bs. Sent (reaching_lines (of_each (λ name. string_bytes name) c.args.names.now) bs) (g.W.Write.contents c.write_each.new.out) (g.W.Write.contents c.write_reaching.new.out) (g.W.CountedWrite.whole_writes c.write_each.new.out) (g.W.CountedWrite.whole_writes c.write_reaching.new.out)) c.deref-2.ensures.value k))
+    c.write_reaching.ensures.sent
 
 pub returns-clause-prefix : goal.returns-clause-prefix
 returns-clause-prefix g c =
     on_each_err c.write_reaching.result _ _
-    (reaching_cut (of_each (λ name. string_bytes name) c.args.names.now) c.args.comparison.now c.deref.result.now c.deref.ensures.value c.deref-2.result.now c.deref-2.ensures.value
-    (g.W.Write.contents c.args.out.now) (g.W.Write.contents c.write_entries.new.out) (g.W.Write.contents c.write_reaching.new.out) c.in_ok-write_entries.ensures.written)
+    (λ k. both_cut (of_each touched_line c.args.comparison.now.entries.items) (reaching_lines (of_each (λ name. string_bytes name) c.args.names.now) c.args.comparison.now.reaching.items) (g.W.Write.contents c.args.out.now) (g.W.Write.contents c.write_each.new.out) (g.W.Write.contents c.write_reaching.new.out) (g.W.CountedWrite.whole_writes c.args.out.now) (g.W.CountedWrite.whole_writes c.write_each.new.out) (g.W.CountedWrite.whole_writes c.write_each.new.out)
+    (subst (λ es. Sent (of_each touched_line es) (g.W.Write.contents c.args.out.now) (g.W.Write.contents c.write_each.new.out) (g.W.CountedWrite.whole_writes c.args.out.now) (g.W.CountedWrite.whole_writes c.write_each.new.out)) c.deref.ensures.value c.in_ok-write_each.ensures.sent)
+    (subst (λ bs. AppendsPrefix (g.W.Write.contents c.write_each.new.out) (g.W.Write.contents c.write_reaching.new.out) (joined (reaching_lines (of_each (λ name. string_bytes name) c.args.names.now) bs))) c.deref-2.ensures.value k))
     c.write_reaching.ensures.prefix
-
-pub returns-clause-one_write : goal.returns-clause-one_write
-returns-clause-one_write g c =
-    on_ok c.write_reaching.result _ _
-    (both_sent (of_each (λ name. string_bytes name) c.args.names.now) c.args.comparison.now c.deref.result.now c.deref.ensures.value c.deref-2.result.now c.deref-2.ensures.value
-    (g.W.CountedWrite.whole_writes c.args.out.now) (g.W.CountedWrite.whole_writes c.write_entries.new.out) (g.W.CountedWrite.whole_writes c.write_reaching.new.out) c.in_ok-write_entries.ensures.one_write)
-    c.write_reaching.ensures.one_write
