@@ -1,6 +1,6 @@
 -- What a run that compares two ROMs answers, over plain values.
-use Rattle.dvg_cmd.proofs.Common.{◌≡◌, ◌≢◌, ◌⊎◌, ℕ, List, [], ◌∷◌, length, Option, true, refl, sym, ap, ◌∙◌, subst, Result, Ok, Err, IfErr, Machine, Rom, IsRomLength, rom_on, words_of, MemoryMap, IsMap, Key, of_each, AreFrames, IsPrefix, ArePrefixes}
-use Rattle.std.proofs.Common.{Bool}
+use Rattle.dvg_cmd.proofs.Common.{◌≡◌, ◌≢◌, ◌⊎◌, ℕ, List, [], ◌∷◌, ◌++◌, length, Option, true, refl, sym, ap, ◌∙◌, subst, Result, Ok, Err, IfErr, Machine, Rom, IsRomLength, rom_on, words_of, MemoryMap, IsMap, Key, of_each, AreFrames, IsPrefix, ArePrefixes}
+use Rattle.std.specs.Prelude.{IsErrAnd}
 use Rattle.dvg_diff.specs.Comparing.{IsComparison}
 use Rattle.dvg_diff.specs.declared.comparing.Comparison.{Comparison}
 use Rattle.dvg_cert.specs.Devices.{count_after}
@@ -30,13 +30,9 @@ module _ {machine : Machine} {rom : Option (List ℕ)} {map : MemoryMap} {reader
 
 -- ---- which ROM's reader failed
 
-module _ (f : FramesRunFault) (is : f ≡ fault.Plain maker.ReadRom) (a b c : ℕ) where
-  pub first_failed : c ≡ count_after true a → FailedAfter (blames_frames_rom {A = Bool} (Err f)) (a ∷ b ∷ []) (c ∷ b ∷ [])
-  first_failed e =
-      subst (λ (x : FramesRunFault). FailedAfter (blames_frames_rom {A = Bool} (Err x)) (a ∷ b ∷ []) (c ∷ b ∷ [])) (sym is)
-      (record { before = []; count = a; after = b ∷ []; old_is = refl; new_is = ap (λ (n : ℕ). n ∷ b ∷ []) e })
-
-  pub second_failed : (d : ℕ) → d ≡ a → c ≡ count_after true b → FailedAfter (blames_frames_rom {A = Bool} (Err f)) (a ∷ b ∷ []) (d ∷ c ∷ [])
-  second_failed d same e =
-      subst (λ (x : FramesRunFault). FailedAfter (blames_frames_rom {A = Bool} (Err x)) (a ∷ b ∷ []) (d ∷ c ∷ [])) (sym is)
-      (record { before = a ∷ []; count = b; after = []; old_is = refl; new_is = ap (λ (n : ℕ). n ∷ c ∷ []) same ∙ ap (λ (n : ℕ). a ∷ n ∷ []) e })
+pub rom_failed : {A : Type 0} (r : Result A FramesRunFault) (f : FramesRunFault) → IsErrAnd r (λ x. x ≡ f) → f ≡ fault.Plain maker.ReadRom → (olds news after : List ℕ) → news ≡ olds
+    → (old new : ℕ) → new ≡ count_after true old → FailedAfter (blames_frames_rom r) (olds ++ old ∷ after) (news ++ new ∷ after)
+rom_failed (Ok x) f e is olds news after same old new failed = absurd e
+rom_failed {A} (Err x) f e is olds news after same old new failed =
+    subst (λ y. FailedAfter (blames_frames_rom {A = A} (Err y)) (olds ++ old ∷ after) (news ++ new ∷ after)) (sym (e ∙ is))
+    (record { before = olds; count = old; after = after; old_is = refl; new_is = ap (λ l. l ++ new ∷ after) same ∙ ap (λ n. olds ++ n ∷ after) failed })

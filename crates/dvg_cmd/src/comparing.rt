@@ -4,7 +4,7 @@ ghost use Rattle.std.specs.Prelude.{◌≡◌, ◌≢◌, ◌↔◌, ◌<◌, []
 ghost use Rattle.std.specs.Io.KnownBytes.{Appends};
 ghost use Rattle.dvg_cert.specs.Devices.{AppendsPrefix, count_after};
 ghost use Rattle.dvg_spelling.specs.Faults.{frames_run_number};
-ghost use Rattle.dvg_cmd.specs.Comparing.{ComparesFor, ComparisonFaultMeans, reaching_lines, comparison_lines, WritesComparison, WritesComparisonPrefix};
+ghost use Rattle.dvg_cmd.specs.Comparing.{ComparesFor, ComparisonFaultMeans, comparison_lines, WritesComparison, WritesComparisonPrefix};
 ghost use Rattle.dvg_cmd.specs.MakingFrames.{blames_frames_rom, blames_a_frame, blames_frames_writer, of_each, FailedAfter, EachRead};
 ghost use Rattle.dvg_cmd.specs.SeveralFrames.{joined};
 ghost use Rattle.dvg_cmd.specs.Private.Sent.{Sent};
@@ -20,27 +20,7 @@ use dvg_spelling::FramesRunFault;
 use dvg_words::{Machine, RomMap};
 use std::alloc::Global;
 
-/// Writes the lines of the frames that reach a touched shape, by their names.
-fn write_reaching<W: CountedWrite>(
-    names: &[String],
-    reaching: &[bool],
-    out: &mut W,
-) -> Result<(), WriteFault>
-    ensures sent { OnOk result (Sent (reaching_lines (of_each (λ name. string_bytes name) names.now) reaching.now)
-        (W.contents out.old) (W.contents out.new) (W.whole_writes out.old) (W.whole_writes out.new)) }
-    ensures prefix { OnErr result (AppendsPrefix (W.contents out.old) (W.contents out.new)
-        (joined (reaching_lines (of_each (λ name. string_bytes name) names.now) reaching.now))) }
-    ensures count { W.failures out.new ≡ count_after (is_err result) (W.failures out.old) }
-{
-    for i in 0..names.len().min(reaching.len()) {
-        if reaching[i] {
-            write_lines(names[i].as_str().as_bytes(), b": touched\n", &[], out)?;
-        }
-    }
-    Ok(())
-}
-
-/// Writes the lines of what a change touches.
+/// Writes the lines of what a change touches: of the entries, and of the frames that reach one, by their names.
 fn write_comparison<W: CountedWrite>(
     names: &[String],
     comparison: &Comparison,
@@ -53,7 +33,13 @@ fn write_comparison<W: CountedWrite>(
     ensures count { W.failures out.new ≡ count_after (is_err result) (W.failures out.old) }
 {
     write_each(&comparison.entries, out)?;
-    write_reaching(names, &comparison.reaching, out)
+    let reaching = comparison.reaching.as_slice();
+    for i in 0..names.len().min(reaching.len()) {
+        if reaching[i] {
+            write_lines(names[i].as_str().as_bytes(), b": touched\n", &[], out)?;
+        }
+    }
+    Ok(())
 }
 
 /// Whether there is a touched entry.

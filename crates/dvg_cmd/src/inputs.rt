@@ -1,6 +1,6 @@
 //! The bytes of a ROM and of frames that runs of the maker read, and their images.
 
-ghost use Rattle.std.specs.Prelude.{◌≡◌, ◌≢◌, ◌⊎◌, ◌<◌, length, List, ℕ, Option, Err, IfOk, IfErr, OnOk, OnErr, MatchResult};
+ghost use Rattle.std.specs.Prelude.{◌≡◌, ◌≢◌, ◌⊎◌, ◌<◌, length, List, ℕ, Option, Err, IfOk, IfErr, OnOk, OnErr, MatchResult, is_err};
 ghost use Rattle.dvg_words.specs.Values.{IsMap, MemoryMap};
 ghost use Rattle.dvg_words.specs.Memory.{IsRomLength, rom_on, words_of};
 ghost use Rattle.dvg_cert.specs.Devices.{count_after};
@@ -43,7 +43,7 @@ pub struct InputImages<'a> {
 pub fn read_maker_rom<R: CountedRead>(rom: &mut R) -> Result<RomBytes, FramesRunFault>
     ensures bytes { IfOk result (λ bytes. IsPrefix MOST_ROM_READ (R.remaining rom.old) bytes.items) }
     ensures read { OnOk result (IsReadTo MOST_ROM_READ (R.remaining rom.old) (R.remaining rom.new)) }
-    ensures count { R.failures rom.new ≡ count_after (blames_frames_rom result) (R.failures rom.old) }
+    ensures count { R.failures rom.new ≡ count_after (is_err result) (R.failures rom.old) }
     ensures fault { IfErr result (λ fault. fault ≡ FramesRunFault.Plain maker.ReadRom) }
 {
     match read_rom(rom) {

@@ -1,10 +1,20 @@
-use Rattle.dvg_cmd.proofs.Common.{◌≢◌, ◌<◌, length, inl, inr, sym, subst, frames_run_number, of_each, FramesFaultMeans}
+use Rattle.dvg_cmd.proofs.Common.{◌≢◌, ◌<◌, [], ◌∷◌, length, refl, ap, inl, inr, sym, subst, frames_run_number, of_each, FramesFaultMeans}
 use Rattle.std.proofs.Common.{◌↔◌, IsTrue}
 use Rattle.dvg_cmd.specs.Comparing.{ComparisonFaultMeans}
 use Rattle.dvg_cmd.proofs.MakerRuns.{wrong_length}
 use Rattle.dvg_cmd.proofs.FramesRuns.{told_err, with_words, frames_refused}
-use Rattle.dvg_cmd.proofs.ComparisonRuns.{compared}
+use Rattle.dvg_cmd.proofs.ComparisonRuns.{compared, rom_failed}
 use Rattle.dvg_cmd.proofs.comparing.run_comparison.Goals as goal
+
+pub returns-in_err-rom-clause-rom_counts : goal.returns-in_err-rom-clause-rom_counts
+returns-in_err-rom-clause-rom_counts g c =
+    rom_failed c.from_residual.result _ c.from_residual.ensures.1 c.in_err-rom.ensures.fault [] [] (g.R1.CountedRead.failures c.args.other.now ∷ []) refl _ _ c.in_err-rom.ensures.count
+
+pub returns-in_err-other_bytes-clause-rom_counts :
+    goal.returns-in_err-other_bytes-clause-rom_counts
+returns-in_err-other_bytes-clause-rom_counts g c =
+    rom_failed c.from_residual-in_err-other_bytes.result _ c.from_residual-in_err-other_bytes.ensures.1 c.in_err-other_bytes.ensures.fault
+    (g.R1.CountedRead.failures c.args.rom.now ∷ []) (g.R1.CountedRead.failures c.read_maker_rom.new.rom ∷ []) [] (ap (λ n. n ∷ []) c.in_ok-rom.ensures.count) _ _ c.in_err-other_bytes.ensures.count
 
 pub returns-in_err-other_image-clause-refused : goal.returns-in_err-other_image-clause-refused
 returns-in_err-other_image-clause-refused g c =

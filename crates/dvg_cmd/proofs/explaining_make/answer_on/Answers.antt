@@ -19,6 +19,6 @@ returns-in-Ok-explain_making-clause-made c =
 
 pub returns-clause-refused : goal.returns-clause-refused
 returns-clause-refused c =
-    λ held readers read. subst (λ f. FramesFaultMeans c.args.machine held c.args.map c.args.roots.now readers f) (sym c.into-in-Err-explain_making.ensures)
+    λ held readers read. subst (λ f. FramesFaultMeans c.args.machine held c.args.map c.args.roots.now readers f) (sym c.into.ensures)
     (frames_refused (with_words (c.in-Ok.ensures.images held readers read) c.deref.ensures.value) c.args.roots.now c.in-Err-explain_making.account.fault c.in-Err-explain_making.ensures.err
     (account_cause c.in-Ok.images.rom c.args.roots.now c.deref.result.now c.in-Err-explain_making.account c.in-Err-explain_making.ensures.why c.in-Err-explain_making.ensures.chain))
