@@ -1,5 +1,5 @@
 use Rattle.dvg_cmd.proofs.Common.{◌≡◌, take, words_of, of_each, AreFrames}
-use Rattle.dvg_cmd.proofs.making_frames.images_of.Given as goal
+use Rattle.dvg_cmd.proofs.inputs.frame_images.Given as goal
 
 abbrev pub invariant-loop-frame : goal.invariant-loop-frame
 invariant-loop-frame l =

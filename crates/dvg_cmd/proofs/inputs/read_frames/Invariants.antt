@@ -1,6 +1,6 @@
 use Rattle.dvg_cmd.specs.MakingFrames.{of_each}
 use Rattle.dvg_cmd.proofs.SeveralFrames.{ReadSoFar}
-use Rattle.dvg_cmd.proofs.making_frames.read_frames.Given as goal
+use Rattle.dvg_cmd.proofs.inputs.read_frames.Given as goal
 
 abbrev pub invariant-loop-frame : goal.invariant-loop-frame
 invariant-loop-frame g l =

@@ -1,7 +1,7 @@
 use Rattle.std.proofs.Common.{◌+◌, ◌++◌, ◌∷◌, [], set, refl, sym, subst, arith}
 use Rattle.dvg_cmd.specs.MakingFrames.{of_each}
 use Rattle.dvg_cmd.proofs.SeveralFrames.{ReadSoFar, none_read, more_read, one_failed, none_failed, no_frame_blamed, of_each_push}
-use Rattle.dvg_cmd.proofs.making_frames.read_frames.Goals as goal
+use Rattle.dvg_cmd.proofs.inputs.read_frames.Goals as goal
 
 pub loop-frame-init : goal.loop-frame-init
 loop-frame-init g c =

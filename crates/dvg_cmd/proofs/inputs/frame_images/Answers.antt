@@ -1,6 +1,6 @@
 use Rattle.dvg_cmd.proofs.Common.{◌+◌, ◌++◌, ◌∷◌, [], ap, ◌∙◌, arith, words_of}
 use Rattle.dvg_cmd.proofs.SeveralFrames.{frames_next, words_next, wrong_here}
-use Rattle.dvg_cmd.proofs.making_frames.images_of.Goals as goal
+use Rattle.dvg_cmd.proofs.inputs.frame_images.Goals as goal
 
 pub returns-in_default-clause-refused : goal.returns-in_default-clause-refused
 returns-in_default-clause-refused c =
