@@ -1,5 +1,5 @@
 -- The answer to a frame, and what an accepted line says of it, over plain values.
-use Rattle.dvg_cmd.proofs.Common.{◌≡◌, refl, ap, ◌∙◌, subst, ℕ, List, [], ◌∷◌, ◌++◌, length, Option, None, Some, Result, Ok, Err, IfOk, OnOk, OnErr, IfSome, Appends, words_of, IsFrameLength, Board, AppendsPrefix, TakesOneWrite, Safe, CountsAtHalt, SafeOnCircuit, CountsOnCircuit, Yes, FrameRefusal, Detail, Behind, IsBehind, IsReadTo, RunFault}
+use Rattle.dvg_cmd.proofs.Common.{◌≡◌, refl, ap, ◌∙◌, subst, ℕ, List, [], ◌∷◌, ◌++◌, length, Option, None, Some, Result, Ok, Err, IfOk, OnOk, IfSome, Appends, words_of, IsFrameLength, Board, Safe, CountsAtHalt, SafeOnCircuit, CountsOnCircuit, Yes, FrameRefusal, Detail, Behind, IsBehind, IsReadTo, RunFault}
 use Rattle.dvg_words.specs.Memory.{Memory}
 use Rattle.dvg_check.specs.declared.verdict.Refusal.TheVariants as refusal
 use Rattle.dvg_make.specs.declared.fault.EntryFault.TheVariants as entry
@@ -9,7 +9,7 @@ use Rattle.dvg_spelling.specs.declared.outcome.FrameOutcome.TheVariants as outco
 use Rattle.dvg_cmd.specs.Detail.{behind_text, frame_outcome_behind}
 use Rattle.dvg_cmd.specs.declared.detail.Behind.TheVariants as behind
 use Rattle.dvg_cmd.specs.Runs.{MOST_FRAME_READ}
-use Rattle.dvg_cmd.specs.Frames.{FrameAnswer, Judged, Unread, FrameOutcome, Judging, worse, ReadsFrame, AnswersFrame, ReportsFrame, ReportsFramePrefix, frame_outcome_of, frame_line}
+use Rattle.dvg_cmd.specs.Frames.{FrameAnswer, Judged, Unread, FrameOutcome, Judging, worse, ReadsFrame, AnswersFrame, frame_outcome_of, frame_line}
 use Rattle.dvg_cmd.specs.Start.{jumped, started}
 use Rattle.dvg_cmd.specs.SafeFrames.{HoldsOfFrame, ReportsFrameAccepted}
 
@@ -93,21 +93,8 @@ accepted_yes Unread is = cc
 accepted_yes (Judged (Err r)) is = absurd (refused r is)
 accepted_yes (Judged (Ok y)) is = (y, refl)
 
--- ---- what was written of an answer and behind it, if the detail asks for that
-
+-- what holds of each accepted answer holds of the line that was written, with what the detail asks for behind it
 module _ (detail : Detail) (what : Behind) (asked : IsBehind detail what) (name : List ℕ) (answer : FrameAnswer) (old new : Option (List ℕ)) where
-  module _ (j : Judging) (start : Option ℕ) (reader left : Option (List ℕ)) (answers : AnswersFrame j start reader left answer) where
-    pub reports_frame : (r : Result FrameOutcome RunFault) (writes writes_after : ℕ) → IfOk r (λ end. end ≡ frame_outcome_behind what (frame_outcome_of answer)) → OnOk r (Appends old new (frame_line name answer ++ behind_text what))
-        → OnOk r (TakesOneWrite (frame_line name answer ++ behind_text what) writes writes_after) → IfOk r (ReportsFrame j detail start name reader left old new writes writes_after)
-    reports_frame (Ok end) writes writes_after is text one =
-        record { answer = answer; answers = answers; line = record { behind = what; asked = asked; written = text; one_write = one; outcome_is = is } }
-    reports_frame (Err fault) writes writes_after is text one = tt
-
-    pub cuts_frame : (r : Result FrameOutcome RunFault) → OnErr r (AppendsPrefix old new (frame_line name answer ++ behind_text what)) → OnErr r (ReportsFramePrefix j detail start name reader left old new)
-    cuts_frame (Ok end) text = tt
-    cuts_frame (Err fault) text = record { answer = answer; answers = answers; line = record { behind = what; asked = asked; written = text } }
-
-  -- what holds of each accepted answer holds of the line
   pub frame_accepted : (r : Result FrameOutcome RunFault) → IfOk r (λ end. end ≡ frame_outcome_behind what (frame_outcome_of answer)) → OnOk r (Appends old new (frame_line name answer ++ behind_text what)) → r ≡ Ok outcome.Accepted
       → (P : Yes → Type 0) → ((y : Yes) → answer ≡ Judged (Ok y) → P y) → ReportsFrameAccepted detail name old new P
   frame_accepted (Err fault) end_is text is P holds = cc

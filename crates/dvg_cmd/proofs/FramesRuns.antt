@@ -17,7 +17,7 @@ use Rattle.dvg_make.specs.declared.fault.MakeFault.TheVariants as making
 use Rattle.dvg_spelling.specs.Faults.{told_fault}
 use Rattle.dvg_spelling.specs.declared.fault.MakeRunFault.TheVariants as maker
 use Rattle.dvg_spelling.specs.declared.fault.FramesRunFault.TheVariants as fault
-use Rattle.dvg_cmd.specs.MakingFrames.{AllHeld, FirstWrong, Inputs, RefusesInputs, RefusesMemory, FramesRunFault}
+use Rattle.dvg_cmd.specs.MakingFrames.{Inputs, RefusesInputs, RefusesMemory, FramesRunFault}
 use Rattle.dvg_cmd.specs.Placing.{PlacesFor}
 use Rattle.dvg_cmd.specs.Private.Reading.{RefusesLengths}
 use Rattle.dvg_cmd.proofs.Whole.{held_bytes, held_told}
@@ -49,19 +49,16 @@ reading_refused machine r rom map roots readers f (inr is) some same =
 
 module _ (machine : Machine) (map : MemoryMap) (is : IsMap map) (rom : Option (List ℕ)) (roots : List (ℕ × Key)) (rb : List ℕ) (image : Rom) (read : IsPrefix 4097 rom rb) (h : IsRomLength map (length rb) × (image ≡ rom_on machine map rb))
     (readers : List (Option (List ℕ))) (frames : List (List ℕ)) (prefixes : ArePrefixes readers frames) where
-  abbrev all_held : (P : List (List ℕ) → Type 0) → P (held_each readers frames) → AllHeld P rom map readers
-  all_held P holds =
+  unfoldable pub all_inputs : AreFrames frames → Inputs rom map readers
+  all_inputs lengths =
       record {
         rom_bytes = held_bytes rom rb;
         frame_bytes = held_each readers frames;
         rom_held = held_told rom rb;
         frames_held = each_held readers frames prefixes;
         rom_length = whole_length map is rom rb read h.0;
-        holds = holds;
+        frame_lengths = subst AreFrames (each_same readers frames prefixes lengths) lengths;
       }
-
-  unfoldable pub all_inputs : AreFrames frames → Inputs rom map readers
-  all_inputs lengths = all_held AreFrames (subst AreFrames (each_same readers frames prefixes lengths) lengths)
 
   module _ (lengths : AreFrames frames) (words : List (List ℕ)) (same : words ≡ of_each words_of frames) where
     pub words_same : words ≡ of_each words_of (held_each readers frames)
@@ -114,7 +111,15 @@ module _ (machine : Machine) (map : MemoryMap) (is : IsMap map) (rom : Option (L
     frames_refused f refuses told = told_at f.call f.why (refused_all f refuses told)
 
   pub lengths_refused : (f : FramesRunFault) → RefusesLengths frames f → FramesFaultMeans machine rom map roots readers f
-  lengths_refused (fault.FrameLength n) wrong = all_held (λ all. FirstWrong all n) (first_wrong readers frames n prefixes wrong)
+  lengths_refused (fault.FrameLength n) wrong =
+      record {
+        rom_bytes = held_bytes rom rb;
+        frame_bytes = held_each readers frames;
+        rom_held = held_told rom rb;
+        frames_held = each_held readers frames prefixes;
+        rom_length = whole_length map is rom rb read h.0;
+        wrong = first_wrong readers frames n prefixes wrong;
+      }
   lengths_refused (fault.Plain (maker.Make making.Memory)) wrong = memory_refused machine rom map roots readers (some_readers readers frames prefixes wrong)
   lengths_refused (fault.Plain (maker.Make (making.Unstraight word))) wrong = absurd wrong
   lengths_refused (fault.Plain (maker.Make making.Deep)) wrong = absurd wrong

@@ -1,5 +1,5 @@
 -- The lines of several frames, one after another, over plain values.
-use Rattle.dvg_cmd.proofs.Common.{◌≡◌, refl, sym, ap, ◌∙◌, subst, ℕ, ◌+◌, List, [], ◌∷◌, ◌++◌, length, take, Option, append_assoc, length-append, arith, take-append-le, Result, Ok, Err, IfOk, OnOk, OnErr, Appends, Appends-trans, AppendsPrefix, Behind, IsBehind, RunFault, joined, TakeOneWriteEach}
+use Rattle.dvg_cmd.proofs.Common.{◌≡◌, refl, sym, ap, ◌∙◌, subst, ℕ, ◌+◌, List, [], ◌∷◌, ◌++◌, length, take, Option, append_assoc, length-append, arith, take-append-le, Appends, Appends-trans, AppendsPrefix, joined, TakeOneWriteEach}
 use Rattle.std.proofs.Math.Seq.{take-append-add}
 use Rattle.std.specs.Prelude.{Bool, true, false, if◌then◌else◌}
 use Rattle.dvg_spelling.specs.declared.outcome.FrameOutcome.TheVariants as outcome
@@ -9,8 +9,8 @@ use Rattle.dvg_spelling.specs.Tally.{no_lines, with_answer}
 use Rattle.dvg_cmd.proofs.SeveralFrames.{of_each_append}
 use Rattle.dvg_cmd.specs.declared.listing.Lines.{Lines}
 use Rattle.dvg_cmd.specs.declared.listing.Listing.{Listing}
-use Rattle.dvg_cmd.specs.Frames.{FrameOutcome, FrameAnswer, Judging, worse}
-use Rattle.dvg_cmd.specs.SeveralFrames.{OpenedFrame, Line, line_text, line_outcome, is_written, written_lines, line_texts, tally_on, summary_of, listing_texts, worst_of, AnswersOpened, IsLineOf, AreLinesOf, ReportsFrames, ReportsFramesPrefix}
+use Rattle.dvg_cmd.specs.Frames.{FrameOutcome, Judging, worse}
+use Rattle.dvg_cmd.specs.SeveralFrames.{OpenedFrame, Line, line_text, line_outcome, is_written, written_lines, line_texts, tally_on, summary_of, listing_texts, worst_of, IsLineOf, AreLinesOf, ReportsFrames, ReportsFramesPrefix}
 use Rattle.dvg_cmd.specs.Private.Named.{WritesLineOf, WritesLineOfPrefix, WritesLinesOf}
 
 -- ---- the texts that are written
@@ -138,30 +138,3 @@ module _ (j : Judging) (listing : Listing) (start : Option ℕ) where
           lines_of = h.lines_of;
           written = sent_part old mid new (joined (listing_texts listing h.lines)) (joined texts) (joined last) all_joined h.written text;
         }
-
-  -- ---- one line
-
-  module _ (name frame_name : List ℕ) (same : name ≡ frame_name) (answer : FrameAnswer) (what : Behind) (held : Option (Option (List ℕ))) (old new : Option (List ℕ))
-      (answers : AnswersOpened j listing start held answer) (asked : IsBehind listing.detail what) where
-    abbrev pub line_of_answer : Line
-    line_of_answer = record { name = name; answer = answer; behind = what }
-
-    pub writes_line : (r : Result FrameOutcome RunFault) (tally tally_after : Tally) (writes writes_after : ℕ) → tally_after ≡ with_answer tally answer
-        → IfOk r (λ end. line_outcome line_of_answer ≡ end) → OnOk r (Appends old new (joined (line_texts listing.lines (line_of_answer ∷ []))))
-        → OnOk r (TakeOneWriteEach (line_texts listing.lines (line_of_answer ∷ [])) writes writes_after)
-        → IfOk r (WritesLineOf j listing start (record { name = frame_name; held = held }) old new tally tally_after writes writes_after)
-    writes_line (Err fault) tally tally_after writes writes_after tally_is end text one = tt
-    writes_line (Ok o) tally tally_after writes writes_after tally_is end text one =
-        record {
-          line = line_of_answer;
-          line_of = record { name_is = same; answers = answers; asked = asked };
-          written = text;
-          one_write = one;
-          end_is = end;
-          tally_is = tally_is;
-        }
-
-    pub cuts_line : (r : Result FrameOutcome RunFault) → OnErr r (AppendsPrefix old new (joined (line_texts listing.lines (line_of_answer ∷ []))))
-        → OnErr r (WritesLineOfPrefix j listing start (record { name = frame_name; held = held }) old new)
-    cuts_line (Ok o) text = tt
-    cuts_line (Err fault) text = record { line = line_of_answer; line_of = record { name_is = same; answers = answers; asked = asked }; written = text }

@@ -78,19 +78,14 @@ FirstWrong [] n = ⊥
 FirstWrong (bytes ∷ rest) zero = IsFrameLength (length bytes) → ⊥
 FirstWrong (bytes ∷ rest) (suc n) = IsFrameLength (length bytes) × FirstWrong rest n
 
--- all bytes that the readers held, of a ROM at this map and of frames, where P holds of the frames' bytes
-pub record AllHeld
-    (P : List (List ℕ) → Type 0) (rom : Option (List ℕ)) (map : MemoryMap) (frames : List (Option (List ℕ))) : Type 0 where
+-- all bytes that the readers held, of a ROM at this map and of frames, each of its right length
+pub record Inputs (rom : Option (List ℕ)) (map : MemoryMap) (frames : List (Option (List ℕ))) : Type 0 where
   pub rom_bytes : List ℕ
   pub frame_bytes : List (List ℕ)
   pub rom_held : Held rom rom_bytes
   pub frames_held : EachHeld frames frame_bytes
   pub rom_length : IsRomLength map (length rom_bytes)
-  pub holds : P frame_bytes
-
--- the ROM and each frame have their right lengths
-abbrev pub Inputs : Option (List ℕ) → MemoryMap → List (Option (List ℕ)) → Type 0
-Inputs = AllHeld AreFrames
+  pub frame_lengths : AreFrames frame_bytes
 
 -- ---- what is answered
 
@@ -117,8 +112,13 @@ RefusesRoots machine rom map roots frames f =
     (why : EntryFault) × (make_fault_of why ≡ f) × RefusesInputs machine rom map roots frames (record { call = None; why = why })
 
 -- the ROM has its map's length, and the first frame of a wrong length is at this index, from 0
-abbrev pub WrongFrame : Option (List ℕ) → MemoryMap → List (Option (List ℕ)) → ℕ → Type 0
-WrongFrame rom map frames frame = AllHeld (λ read. FirstWrong read frame) rom map frames
+pub record WrongFrame (rom : Option (List ℕ)) (map : MemoryMap) (frames : List (Option (List ℕ))) (frame : ℕ) : Type 0 where
+  pub rom_bytes : List ℕ
+  pub frame_bytes : List (List ℕ)
+  pub rom_held : Held rom rom_bytes
+  pub frames_held : EachHeld frames frame_bytes
+  pub rom_length : IsRomLength map (length rom_bytes)
+  pub wrong : FirstWrong frame_bytes frame
 
 -- what a fault says of all bytes that the readers held: the first that applies of 1, 2, and the maker's refusal
 abbrev pub FramesFaultMeans : Machine → Option (List ℕ) → MemoryMap → List (ℕ × Key) → List (Option (List ℕ)) → FramesRunFault → Type 0
