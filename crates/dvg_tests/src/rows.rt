@@ -555,6 +555,7 @@ frame C8FF B000
 accepted shapes=1 words=3 depth=1";
 
 /// What is judged, and how.
+#[derive(Clone, Copy)]
 pub struct Case<'a> {
     pub rom: &'a [u8],
     pub text: &'a [u8],
