@@ -132,21 +132,13 @@ fn columns(rt: HostRuntime) {
     }
     for row in ROM_LINES {
         let leaving = rom_leaving(rt.alloc(), &bytes_of(&rt, rt.alloc(), row));
-        expect_leaving(
-            &rt,
-            rt.alloc(),
-            row,
-            leaving.expect(&rt, "memory for a line"),
-        );
+        let leaving = leaving.expect(&rt, "memory for a line");
+        expect_leaving(&rt, rt.alloc(), row, leaving);
     }
     for row in LATER_LINES {
         let leaving = later_leaving(rt.alloc(), ASTEROIDS, &bytes_of(&rt, rt.alloc(), row));
-        expect_leaving(
-            &rt,
-            rt.alloc(),
-            row,
-            leaving.expect(&rt, "memory for a line"),
-        );
+        let leaving = leaving.expect(&rt, "memory for a line");
+        expect_leaving(&rt, rt.alloc(), row, leaving);
     }
 }
 
@@ -163,10 +155,8 @@ fn no_column_is_too_small(rt: HostRuntime) {
     for &line in OF_THE_FORM {
         for at in 0..line.len() {
             for &byte in b" 09aF-" {
-                let mut changed = Vec::from_slice(rt.alloc(), line).expect(
-                    &rt,
-                    "memory for a line",
-                );
+                let changed = Vec::from_slice(rt.alloc(), line);
+                let mut changed = changed.expect(&rt, "memory for a line");
                 if let Some(place) = changed.get_mut(at) {
                     *place = byte;
                 }
@@ -199,54 +189,49 @@ fn told_of(rt: &impl Abort, alloc: Global, text: &[u8], size: usize) -> Option<L
     None
 }
 
-/// Texts, and what is told of each.
-const TEXTS: &[(&[u8], Option<LineWhy>)] = &[
-    (
-        b"dvgcert 1\r\ndone 0\r\n",
-        Some(LineWhy::Form(FormLeaving {
-            column: 10,
-            expected: Expected::Version,
-        })),
-    ),
-    (
-        b"dvgcert 2\nrom 400 40f\ndone 0\n",
-        Some(LineWhy::Form(FormLeaving {
-            column: 11,
-            expected: Expected::RomLast,
-        })),
-    ),
+/// Texts of which a line leaves the form, the column at which it does, and what is expected there.
+const LEAVING_TEXTS: &[(&[u8], usize, Expected)] = &[
+    (b"dvgcert 1\r\ndone 0\r\n", 10, Expected::Version),
+    (b"dvgcert 2\nrom 400 40f\ndone 0\n", 11, Expected::RomLast),
     (
         b"dvgcert 2\nrom 400 40F\nshape 410 0 end lost box none depth 0 words 1 scale 0\ndone 1\n",
-        Some(LineWhy::Form(FormLeaving {
-            column: 8,
-            expected: Expected::Address,
-        })),
+        8,
+        Expected::Address,
     ),
-    (
-        b"dvgcert 1\nshape 800 0 end lost box none depth 0 words 1 scale 0\ndone 2\n",
-        Some(LineWhy::Count(EntryCounts {
-            claimed: 2,
-            found: 1,
-        })),
-    ),
-    (
-        b"dvgcert 2\nrom 400 7FF\ndone 4096\n",
-        Some(LineWhy::Count(EntryCounts {
-            claimed: 4096,
-            found: 0,
-        })),
-    ),
-    (b"dvgcert 1\ndone 0\n\n", None),
-    (b"dvgcert 1\ndone 0", None),
 ];
 
-/// A text is told of in the same way, however it is cut.
+/// Texts, how many entries they claim, and how many they have.
+const COUNTED_TEXTS: &[(&[u8], u16, u32)] = &[
+    (
+        b"dvgcert 1\nshape 800 0 end lost box none depth 0 words 1 scale 0\ndone 2\n",
+        2,
+        1,
+    ),
+    (b"dvgcert 2\nrom 400 7FF\ndone 4096\n", 4096, 0),
+];
+
+/// Refused texts of which nothing is told.
+const UNTOLD_TEXTS: &[&[u8]] = &[b"dvgcert 1\ndone 0\n\n", b"dvgcert 1\ndone 0"];
+
+/// Stops the test unless this is told of a text, however it is cut.
+fn expect_told(rt: &impl Abort, alloc: Global, text: &[u8], want: Option<LineWhy>) {
+    for size in 1..=text.len() {
+        expect_same(rt, &told_of(rt, alloc, text, size), &want, &(text, size));
+    }
+}
+
 #[test]
 fn pieces(rt: HostRuntime) {
-    for &(text, want) in TEXTS {
-        for size in 1..=text.len() {
-            expect_same(&rt, &told_of(&rt, rt.alloc(), text, size), &want, &size);
-        }
+    for &(text, column, expected) in LEAVING_TEXTS {
+        let leaving = FormLeaving { column, expected };
+        expect_told(&rt, rt.alloc(), text, Some(LineWhy::Form(leaving)));
+    }
+    for &(text, claimed, found) in COUNTED_TEXTS {
+        let counts = EntryCounts { claimed, found };
+        expect_told(&rt, rt.alloc(), text, Some(LineWhy::Count(counts)));
+    }
+    for text in UNTOLD_TEXTS {
+        expect_told(&rt, rt.alloc(), text, None);
     }
 }
 

@@ -101,7 +101,7 @@ const SHORT: Draw = Draw {
 type Move = (i32, i32);
 
 /// Draws, global scales, and the moves at them by the profile and on the board.
-const MOVES: &[(Draw, u8, Move, Move)] = &[
+const MOVES: [(Draw, u8, Move, Move); 6] = [
     (LONG, 0, (1047552, 785408), (1047552, 785408)),
     (LONG, 15, (523776, 392704), (524288, 393216)),
     (LONG, 6, (1023, 767), (0, 0)),
@@ -113,15 +113,16 @@ const MOVES: &[(Draw, u8, Move, Move)] = &[
 #[test]
 fn moves_the_beam(rt: HostRuntime) {
     for (draw, gscale, by, _) in MOVES {
-        expect_same(&rt, &displacement(draw, gscale % 16), by, &(draw, gscale));
+        let got = displacement(&draw, gscale % 16);
+        expect_same(&rt, &got, &by, &(draw, gscale));
     }
 }
 
 #[test]
 fn moves_the_beam_of_the_board(rt: HostRuntime) {
     for (draw, gscale, _, by) in MOVES {
-        let got = displacement_on(Machine::Board, draw, gscale % 16);
-        expect_same(&rt, &got, by, &(draw, gscale));
+        let got = displacement_on(Machine::Board, &draw, gscale % 16);
+        expect_same(&rt, &got, &by, &(draw, gscale));
     }
 }
 
