@@ -197,7 +197,7 @@ impl<'a> Row<'a> {
         }
         let text = match self.text {
             "" => text_of_entries(rt, alloc, self.map, self.entries),
-            text => text_between(rt, alloc, text),
+            text => text_of_lines(rt, alloc, text),
         };
         Inputs {
             rom,
@@ -277,7 +277,7 @@ fn text_of_entries(rt: &impl Abort, alloc: Global, map: &str, lines: &str) -> Ve
 }
 
 /// The text whose lines each end with `|`.
-fn text_between(rt: &impl Abort, alloc: Global, lines: &str) -> Vec<u8> {
+fn text_of_lines(rt: &impl Abort, alloc: Global, lines: &str) -> Vec<u8> {
     let mut text = Vec::from_slice(alloc, lines.as_bytes()).expect(rt, "memory");
     for byte in &mut text {
         if *byte == b'|' {
