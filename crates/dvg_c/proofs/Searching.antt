@@ -6,7 +6,6 @@ use Rattle.std.proofs.lemmas.List.{get_or-map, length-map}
 use Rattle.dvg_cert.specs.Lookup.{is_at, entry_at}
 use Rattle.dvg_cert.specs.Order.{IsRising}
 use Rattle.dvg_cert.specs.Private.Searching.{stands_before}
-use Rattle.dvg_cert.specs.declared.entry.Entry.{Entry}
 use Rattle.dvg_cert.specs.declared.entry.Key.{Key}
 use Rattle.dvg_cert.proofs.Searching.{parted, nothing_there, other_there, this_there}
 use Rattle.dvg_c.specs.declared.entry.KeptEntry.{KeptEntry}
@@ -51,14 +50,9 @@ module _ (xs : List KeptEntry) (addr : ℕ) (key : Key) (rising : IsRising (map 
 
     -- else what stands there, if it is the one
     pub one_found : (x : KeptEntry) → i < length xs → x ≡ get_or xs i x → then_some (is_at addr key (entry_of x)) (entry_of x) ≡ entry_at (map entry_of xs) addr key
-    one_found x less is = by (is_at addr key (entry_of x)) refl
+    one_found x less is = by (get_or-map entry_of xs i x (entry_of x) less ∙ ap entry_of (sym is)) (omega (arith, less, length-map xs entry_of)) (is_at addr key (entry_of x)) refl
       where
-        here : get_or (map entry_of xs) i (entry_of x) ≡ entry_of x
-        here = get_or-map entry_of xs i x (entry_of x) less ∙ ap entry_of (sym is)
-
-        within : i < length (map entry_of xs)
-        within = omega (arith, less, length-map xs entry_of)
-
-        by : (b : Bool) → is_at addr key (entry_of x) ≡ b → then_some b (entry_of x) ≡ entry_at (map entry_of xs) addr key
-        by true e = subst (λ f. Some f ≡ entry_at (map entry_of xs) addr key) here (this_there (map entry_of xs) addr key i (entry_of x) rising within (ap (is_at addr key) here ∙ e))
-        by false e = other_there (map entry_of xs) addr key i (entry_of x) rising within (point_of_list i le point) (ap (is_at addr key) here ∙ e)
+        by : get_or (map entry_of xs) i (entry_of x) ≡ entry_of x → i < length (map entry_of xs)
+            → (b : Bool) → is_at addr key (entry_of x) ≡ b → then_some b (entry_of x) ≡ entry_at (map entry_of xs) addr key
+        by here within true e = subst (λ f. Some f ≡ entry_at (map entry_of xs) addr key) here (this_there (map entry_of xs) addr key i (entry_of x) rising within (ap (is_at addr key) here ∙ e))
+        by here within false e = other_there (map entry_of xs) addr key i (entry_of x) rising within (point_of_list i le point) (ap (is_at addr key) here ∙ e)

@@ -90,11 +90,11 @@ TellsCheck machine mode w rom cert frame budget a =
     OnMachine machine w (λ number. a ≡ numbered number) (λ on. Tells (VerdictOn on mode w rom cert frame budget) a)
 
 -- every run is safe with these counts, and has just these where they are exact; on the board the same holds of its circuit
-pub record IsAcceptedOn (machine : ℕ) (mode : Mode) (w : Window) (rom cert frame : List ℕ) (a : Answer) : Type 0 where
-  pub safe : SafeOn (machine_of machine) w rom cert frame a.words a.depth
-  pub exact : mode ≡ Exact → CountsOn (machine_of machine) rom cert frame a.words a.depth
-  pub circuit : machine_of machine ≡ Board → SafeCircuitOn (machine_of machine) w rom cert frame a.words a.depth
-  pub circuit_exact : machine_of machine ≡ Board → mode ≡ Exact → CountsCircuitOn (machine_of machine) rom cert frame a.words a.depth
+pub record IsAcceptedOn (machine : Machine) (mode : Mode) (w : Window) (rom cert frame : List ℕ) (a : Answer) : Type 0 where
+  pub safe : SafeOn machine w rom cert frame a.words a.depth
+  pub exact : mode ≡ Exact → CountsOn machine rom cert frame a.words a.depth
+  pub circuit : machine ≡ Board → SafeCircuitOn machine w rom cert frame a.words a.depth
+  pub circuit_exact : machine ≡ Board → mode ≡ Exact → CountsCircuitOn machine rom cert frame a.words a.depth
 
 -- the answer tells which of these it is, and nothing is kept, or what the bytes come to, and just that is kept
 abbrev pub TellsJudge : ℕ → Mode → Window → List ℕ → List ℕ → KeptShapes → Answer → Type 0

@@ -1,6 +1,7 @@
 //! The functions that C calls, in the header's words: the contract of each says what it answers, and what stands in memory of C's.
 
 ghost use Rattle.std.specs.Prelude.{◌≡◌, ◌≢◌, ◌≤◌};
+ghost use Rattle.dvg_words.specs.declared.machine.Machine.TheVariants.{Profile};
 ghost use Rattle.dvg_check.specs.declared.fault.Mode.TheVariants.{Bound, Exact};
 ghost use Rattle.dvg_spelling.specs.Each.{of_each};
 ghost use Rattle.dvg_c.specs.Told.{Tells, map_of, numbered, window_of};
@@ -50,7 +51,7 @@ fn check_in(
     mode: Mode,
 ) -> Answer
     ensures verdict { TellsCheck machine mode (window_of window) rom.now cert.now frame.now budget result }
-    ensures accepted { result.number ≡ 0 → IsAcceptedOn machine mode (window_of window) rom.now cert.now frame.now result }
+    ensures accepted { result.number ≡ 0 → IsAcceptedOn (machine_of machine) mode (window_of window) rom.now cert.now frame.now result }
 {
     let Some(machine) = machine_numbered(machine) else {
         return numbered(BAD_MACHINE);
@@ -79,7 +80,7 @@ pub extern "C" fn dvgcheck_check(
     window: WindowEnds,
 ) -> Answer
     ensures verdict { TellsCheck PROFILE Bound (window_of window) rom.now cert.now frame.now budget result }
-    ensures accepted { result.number ≡ 0 → IsAcceptedOn PROFILE Bound (window_of window) rom.now cert.now frame.now result }
+    ensures accepted { result.number ≡ 0 → IsAcceptedOn Profile Bound (window_of window) rom.now cert.now frame.now result }
 {
     check_in(alloc, PROFILE, rom, cert, frame, budget, window, Bound)
 }
@@ -98,7 +99,7 @@ pub extern "C" fn dvgcheck_check_exact(
     window: WindowEnds,
 ) -> Answer
     ensures verdict { TellsCheck PROFILE Exact (window_of window) rom.now cert.now frame.now budget result }
-    ensures accepted { result.number ≡ 0 → IsAcceptedOn PROFILE Exact (window_of window) rom.now cert.now frame.now result }
+    ensures accepted { result.number ≡ 0 → IsAcceptedOn Profile Exact (window_of window) rom.now cert.now frame.now result }
 {
     check_in(alloc, PROFILE, rom, cert, frame, budget, window, Exact)
 }
@@ -119,7 +120,7 @@ pub extern "C" fn dvgcheck_check_on(
     window: WindowEnds,
 ) -> Answer
     ensures verdict { TellsCheck machine Bound (window_of window) rom.now cert.now frame.now budget result }
-    ensures accepted { result.number ≡ 0 → IsAcceptedOn machine Bound (window_of window) rom.now cert.now frame.now result }
+    ensures accepted { result.number ≡ 0 → IsAcceptedOn (machine_of machine) Bound (window_of window) rom.now cert.now frame.now result }
 {
     check_in(alloc, machine, rom, cert, frame, budget, window, Bound)
 }
@@ -136,7 +137,7 @@ pub extern "C" fn dvgcheck_check_exact_on(
     window: WindowEnds,
 ) -> Answer
     ensures verdict { TellsCheck machine Exact (window_of window) rom.now cert.now frame.now budget result }
-    ensures accepted { result.number ≡ 0 → IsAcceptedOn machine Exact (window_of window) rom.now cert.now frame.now result }
+    ensures accepted { result.number ≡ 0 → IsAcceptedOn (machine_of machine) Exact (window_of window) rom.now cert.now frame.now result }
 {
     check_in(alloc, machine, rom, cert, frame, budget, window, Exact)
 }

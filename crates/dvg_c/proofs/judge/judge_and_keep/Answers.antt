@@ -1,8 +1,7 @@
-use Rattle.std.proofs.Common.{rules, ◌≡◌, ◌∙◌, ◌≤◌, List, length, sym, ap, subst}
+use Rattle.std.proofs.Common.{rules, ◌≡◌, ◌∙◌, List, length, sym, ap, subst}
 use Rattle.dvg_words.specs.Values.{Window}
 use Rattle.dvg_words.specs.Memory.{Rom, IsRom, rom_on, IsRomLength}
 use Rattle.dvg_cert.specs.declared.entry.Entry.{Entry}
-use Rattle.dvg_cert.specs.declared.limits.TheConstants.{MOST_ENTRIES}
 use Rattle.dvg_check.specs.Rules.{Good}
 use Rattle.dvg_c.specs.Told.{window_of}
 use Rattle.dvg_c.specs.Kept.{IsKept, kept_list}
