@@ -1,15 +1,14 @@
 use Rattle.std.proofs.Common.{◌∙◌, Ok, Err, refl, ap, subst}
-use Rattle.dvg_c.specs.Told.{numbered}
-use Rattle.dvg_c.specs.Alone.{bad_number}
+use Rattle.dvg_c.specs.Told.{bad_number, numbered}
 use Rattle.dvg_c.specs.Texts.{IsPut}
-use Rattle.dvg_c.proofs.explain.dvgcheck_explain.Goals as goal
+use Rattle.dvg_c.proofs.exports.dvgcheck_explain.Goals as goal
 
 pub returns-in-Ok-account_of : goal.returns-in-Ok-account_of
 returns-in-Ok-account_of c =
     record {
-      verdict = Ok c.in-Ok.verdict;
-      holds = c.in-Ok.ensures.ok;
-      answer_is = c.put_text.ensures.answer ∙ c.own_answer-answer.ensures;
+      verdict = Ok c.verdict-verdict.result.0;
+      holds = c.in-Ok.ensures.ok c.args.frame.now c.verdict-verdict.result.0 c.verdict-verdict.ensures.verdict;
+      answer_is = c.put_text.ensures.answer ∙ c.own_answer-answer.ensures.value;
       frame_is = c.put_text.ensures.frame;
       text = Ok c.in-Ok-account_of.account.items;
       explains = c.in-Ok-account_of.ensures.ok;
@@ -19,9 +18,9 @@ returns-in-Ok-account_of c =
 pub returns-in-Ok : goal.returns-in-Ok
 returns-in-Ok c =
     record {
-      verdict = Ok c.in-Ok.verdict;
-      holds = c.in-Ok.ensures.ok;
-      answer_is = ap (λ t. t.answer) c.no_text.ensures ∙ c.own_answer-answer.ensures;
+      verdict = Ok c.verdict-verdict.result.0;
+      holds = c.in-Ok.ensures.ok c.args.frame.now c.verdict-verdict.result.0 c.verdict-verdict.ensures.verdict;
+      answer_is = ap (λ t. t.answer) c.no_text.ensures ∙ c.own_answer-answer.ensures.value;
       frame_is = ap (λ t. t.frame) c.no_text.ensures;
       text = Err c.in-Err-account_of.number;
       explains = c.in-Err-account_of.ensures.err;
