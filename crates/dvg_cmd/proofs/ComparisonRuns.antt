@@ -1,5 +1,5 @@
 -- What a run that compares two ROMs answers, over plain values.
-use Rattle.dvg_cmd.proofs.Common.{◌≡◌, ◌≢◌, ◌⊎◌, ℕ, List, [], ◌∷◌, ◌++◌, length, Option, true, refl, sym, ap, ◌∙◌, subst, Result, Ok, Err, IfErr, Machine, Rom, IsRomLength, rom_on, words_of, MemoryMap, IsMap, Key, of_each, AreFrames, IsPrefix, ArePrefixes}
+use Rattle.dvg_cmd.proofs.Common.{◌≡◌, ℕ, List, ◌∷◌, ◌++◌, length, Option, true, refl, sym, ap, ◌∙◌, subst, Result, Ok, Err, Machine, Rom, IsRomLength, rom_on, MemoryMap, IsMap, Key, IsPrefix}
 use Rattle.std.specs.Prelude.{IsErrAnd}
 use Rattle.dvg_diff.specs.Comparing.{IsComparison}
 use Rattle.dvg_diff.specs.declared.comparing.Comparison.{Comparison}

@@ -1,5 +1,5 @@
 -- What a run of the maker for frames answers, over plain values.
-use Rattle.dvg_cmd.proofs.Common.{◌≡◌, ◌<◌, ◌⊎◌, ℕ, List, [], ◌∷◌, length, Option, None, Some, inl, inr, refl, sym, ap, ◌∙◌, subst, arith, Result, Ok, Err, IfErr, Appends, Machine, AppendsPrefix, Rom, IsRomLength, rom_on, words_of, MemoryMap, IsMap, Window, Key, of_each, AreFrames, MakesForFrames, FramesFaultMeans, IsPrefix, ArePrefixes}
+use Rattle.dvg_cmd.proofs.Common.{◌≡◌, ◌<◌, ℕ, List, [], ◌∷◌, length, Option, None, Some, refl, sym, ap, ◌∙◌, subst, arith, Result, Ok, Err, IfErr, Appends, Machine, AppendsPrefix, Rom, IsRomLength, rom_on, words_of, MemoryMap, IsMap, Window, Key, of_each, AreFrames, MakesForFrames, FramesFaultMeans, ArePrefixes}
 use Rattle.std.specs.Prelude.{IsErrAnd}
 use Rattle.dvg_cert.specs.Grammar.{text_of}
 use Rattle.dvg_cmd.specs.Making.{WritesMade, WritesMadePrefix}
@@ -17,7 +17,7 @@ use Rattle.dvg_make.specs.declared.fault.MakeFault.TheVariants as making
 use Rattle.dvg_spelling.specs.Faults.{told_fault}
 use Rattle.dvg_spelling.specs.declared.fault.MakeRunFault.TheVariants as maker
 use Rattle.dvg_spelling.specs.declared.fault.FramesRunFault.TheVariants as fault
-use Rattle.dvg_cmd.specs.MakingFrames.{Inputs, RefusesInputs, RefusesMemory, FramesRunFault}
+use Rattle.dvg_cmd.specs.MakingFrames.{RefusesInputs, RefusesMemory, FramesRunFault}
 use Rattle.dvg_cmd.specs.Placing.{PlacesFor}
 use Rattle.dvg_cmd.specs.Private.Inputs.{AreRead, AreInputImages}
 use Rattle.dvg_cmd.specs.Private.Reading.{RefusesLengths}

@@ -1,21 +1,12 @@
 -- Lines that are sent one after another, over plain values.
-use Rattle.dvg_cmd.proofs.Common.{◌≡◌, ℕ, zero, suc, ◌+◌, ◌<◌, ◌≤◌, List, [], ◌∷◌, ◌++◌, length, drop, get_or, Option, refl, sym, ap, ◌∙◌, subst, arith, append-nil, append_assoc, Result, Ok, Err, OnOk, OnErr, Appends, Appends-nil, Appends-trans, AppendsPrefix, TakesOneWrite, of_each, joined, TakeOneWriteEach}
+use Rattle.dvg_cmd.proofs.Common.{◌≡◌, ℕ, suc, ◌+◌, ◌<◌, List, [], ◌∷◌, ◌++◌, length, drop, get_or, Option, refl, sym, ap, ◌∙◌, subst, arith, append-nil, append_assoc, Result, Ok, Err, OnErr, Appends, Appends-trans, AppendsPrefix, TakesOneWrite, of_each, joined}
 use Rattle.std.proofs.Math.Seq.{drop-cons}
-use Rattle.std.proofs.lemmas.List.{drop_all}
 use Rattle.dvg_cmd.specs.Private.Sent.{Sent}
 use Rattle.dvg_cmd.proofs.SeveralLines.{joined_on, sent_part, prefix_more, one_write_on}
 
 pub on_err : {A E P : Type 0} (r : Result A E) → P → OnErr r P
 on_err (Ok a) p = tt
 on_err (Err e) p = p
-
-pub on_ok : {A E : Type 0} (r : Result A E) (P Q : Type 0) → (P → Q) → OnOk r P → OnOk r Q
-on_ok (Ok a) P Q f h = f h
-on_ok (Err e) P Q f h = tt
-
-pub on_each_err : {A E : Type 0} (r : Result A E) (P Q : Type 0) → (P → Q) → OnErr r P → OnErr r Q
-on_each_err (Ok a) P Q f h = tt
-on_each_err (Err e) P Q f h = f h
 
 -- two runs of lines, one after the other
 module _ (lines more : List (List ℕ)) (old mid new : Option (List ℕ)) (writes writes_mid writes_after : ℕ) (h : Sent lines old mid writes writes_mid) where
@@ -38,9 +29,6 @@ module _ (all : List (List ℕ)) (old : Option (List ℕ)) (writes : ℕ) where
     pub done : List (List ℕ)
     pub sent : Sent done old mid writes writes_mid
     pub whole : done ++ left ≡ all
-
-  pub none_sent : SentTo all old writes
-  none_sent = record { done = []; sent = record { written = Appends-nil old; one_write = refl }; whole = refl }
 
   pub all_sent : (left : List (List ℕ)) → left ≡ [] → (mid : Option (List ℕ)) (writes_mid : ℕ) → SentTo left mid writes_mid → Sent all old mid writes writes_mid
   all_sent left none mid writes_mid h = subst (λ ls. Sent ls old mid writes writes_mid) (sym (append-nil h.done) ∙ ap (λ ls. h.done ++ ls) (sym none) ∙ h.whole) h.sent
@@ -79,6 +67,3 @@ module _ {A : Type 0} (line_of : A → List ℕ) (things : List A) (n : ℕ) whe
       let more : n + 1 ≡ suc n = omega arith in
       ap (of_each line_of) (drop-cons things n thing lt)
       ∙ ap (λ x. line_of x ∷ of_each line_of (drop (suc n) things)) (sym is) ∙ ap (λ m. line_of thing ∷ of_each line_of (drop m things)) (sym more)
-
-  pub no_line : length things ≤ n → of_each line_of (drop n things) ≡ []
-  no_line le = ap (of_each line_of) (drop_all n things le)

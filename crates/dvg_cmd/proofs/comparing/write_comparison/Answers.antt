@@ -1,4 +1,4 @@
-use Rattle.dvg_cmd.proofs.Common.{◌≡◌, ◌+◌, ◌++◌, ◌∙◌, refl, ap, sym, subst, append-nil, string_bytes, of_each, AppendsPrefix, joined}
+use Rattle.dvg_cmd.proofs.Common.{◌≡◌, ◌+◌, ◌++◌, ◌∙◌, ap, sym, subst, append-nil, string_bytes, of_each, AppendsPrefix, joined}
 use Rattle.std.proofs.Common.{codes}
 use Rattle.dvg_spelling.specs.Touched.{touched_line}
 use Rattle.dvg_cmd.specs.Comparing.{reaching_lines, comparison_lines}
