@@ -78,13 +78,13 @@ pub record IsAcceptedOver (s : Shapes) (frame : List ℕ) (words depth : ℕ) : 
 
 -- ---- by the number of a machine
 
--- what comes of a call: it is refused for its machine or its window, by this number, or judges on that machine
-pub record OnMachine (machine : ℕ) (w : Window) (Refused : ℕ → Type 0) (Judges : Machine → Type 0) : Type 0 where
+-- what comes of a call: 82 for a number that stands for no machine, else 80 for no window of it, else what is judged on that machine
+pub record OnMachine (machine : ℕ) (w : Window) (Refused : ℕ → Type 0) (Judged : Machine → Type 0) : Type 0 where
   pub no_machine : (machine ≤ BOARD → ⊥) → Refused BAD_MACHINE
   pub no_window : machine ≤ BOARD → (IsFor (machine_of machine) w → ⊥) → Refused BAD_WINDOW
-  pub judged : machine ≤ BOARD → IsFor (machine_of machine) w → Judges (machine_of machine)
+  pub judged : machine ≤ BOARD → IsFor (machine_of machine) w → Judged (machine_of machine)
 
--- the answer tells which of these it is, or the verdict on the bytes
+-- a check of bytes: the answer is that number, or tells the verdict
 abbrev pub TellsCheck : ℕ → Mode → Window → List ℕ → List ℕ → List ℕ → ℕ → Answer → Type 0
 TellsCheck machine mode w rom cert frame budget a =
     OnMachine machine w (λ number. a ≡ numbered number) (λ on. Tells (VerdictOn on mode w rom cert frame budget) a)
@@ -96,7 +96,7 @@ pub record IsAcceptedOn (machine : Machine) (mode : Mode) (w : Window) (rom cert
   pub circuit : machine ≡ Board → SafeCircuitOn machine w rom cert frame a.words a.depth
   pub circuit_exact : machine ≡ Board → mode ≡ Exact → CountsCircuitOn machine rom cert frame a.words a.depth
 
--- the answer tells which of these it is, and nothing is kept, or what the bytes come to, and just that is kept
+-- a judgement of shapes: the answer is that number and nothing is kept, or it tells what the bytes come to, and just that is kept
 abbrev pub TellsJudge : ℕ → Mode → Window → List ℕ → List ℕ → KeptShapes → Answer → Type 0
 TellsJudge machine mode w rom cert s a =
     OnMachine machine w (λ number. (a ≡ numbered number) × (s.judged ≡ NOT_JUDGED)) (λ on. IsJudgement on mode w rom cert s a)

@@ -1,11 +1,10 @@
 //! The account of a frame that is judged from the ROM alone.
 
-ghost use Rattle.std.specs.Prelude.{◌≡◌, ◌++◌, Ok, Err, IfOk, IfErr, codes};
+ghost use Rattle.std.specs.Prelude.{◌≡◌, ◌++◌, IfOk, IfSome, codes};
 ghost use Rattle.dvg_spelling.specs.Report.{answer_text};
 ghost use Rattle.dvg_spelling.specs.declared.outcome.FrameAnswer.TheVariants.{Judged};
-ghost use Rattle.dvg_c.specs.Texts.{Explains};
+ghost use Rattle.dvg_c.specs.Texts.{IsAccount};
 
-use crate::answer::NO_TEXT_MEMORY;
 use dvg_check::Yes;
 use dvg_cmd::{Behind, FrameAnswer, FrameRefusal, frame_report_of};
 use std::alloc::{AllocError, Global};
@@ -28,20 +27,16 @@ fn text_of(
     Ok(text)
 }
 
-/// The account of a verdict, or the number that there was no memory for it.
+/// The account of a verdict; `None` where there was no memory for it.
 pub fn account_of(
     alloc: Global,
     verdict: &Result<Yes, FrameRefusal>,
     behind: &Behind,
-) -> Result<Vec<u8>, u8>
-    ensures ok { IfOk result (λ text. Explains (Ok verdict.now) (Ok text.items)) }
-    ensures err { IfErr result (λ number. Explains (Ok verdict.now) (Err number)) }
+) -> Option<Vec<u8>>
+    ensures { IfSome result (λ text. IsAccount verdict.now text.items) }
 {
     let Behind::Account(account) = behind else {
-        return Err(NO_TEXT_MEMORY);
+        return None;
     };
-    match text_of(alloc, verdict, account.as_str().as_bytes()) {
-        Ok(text) => Ok(text),
-        Err(_) => Err(NO_TEXT_MEMORY),
-    }
+    text_of(alloc, verdict, account.as_str().as_bytes()).ok()
 }

@@ -1,4 +1,4 @@
-//! The functions that C calls, in the header's words: the contract of each says what it answers, and what stands in memory of C's.
+//! The functions that C calls, which the header declares. Their contracts say what they answer, and what they leave in memory of C's.
 
 ghost use Rattle.std.specs.Prelude.{◌≡◌, ◌≢◌, ◌≤◌};
 ghost use Rattle.dvg_words.specs.declared.machine.Machine.TheVariants.{Profile};
@@ -12,7 +12,9 @@ ghost use Rattle.dvg_c.specs.Texts.{IsExplained};
 ghost use Rattle.dvg_c.specs.Making.{IsMade, root_of};
 
 use crate::alone::own_certificates;
-use crate::answer::{Answer, BAD_MACHINE, BAD_WINDOW, NO_SHAPES, answer_of, numbered, own_answer};
+use crate::answer::{
+    Answer, BAD_MACHINE, BAD_WINDOW, NO_SHAPES, NO_TEXT_MEMORY, answer_of, numbered, own_answer,
+};
 use crate::explain::account_of;
 use crate::frame::{check_kept, good_shapes};
 use crate::judge::judge_numbered;
@@ -312,8 +314,8 @@ pub extern "C" fn dvgcheck_explain(
             let (verdict, behind) = own.verdict(alloc, frame, Detail::Account(None));
             let answer = own_answer(&verdict);
             match account_of(alloc, &verdict, &behind) {
-                Ok(account) => put_text(&account, answer, text),
-                Err(number) => no_text(number, answer),
+                Some(account) => put_text(&account, answer, text),
+                None => no_text(NO_TEXT_MEMORY, answer),
             }
         }
         Err(bad) => no_text(bad.number(), numbered(bad.number())),

@@ -1,17 +1,18 @@
 use Rattle.std.proofs.Common.{◌∙◌, Ok, Err, refl, ap, subst}
 use Rattle.dvg_c.specs.Told.{bad_number, numbered}
 use Rattle.dvg_c.specs.Texts.{IsPut}
+use Rattle.dvg_c.specs.declared.answer.TheConstants.{NO_TEXT_MEMORY}
 use Rattle.dvg_c.proofs.exports.dvgcheck_explain.Goals as goal
 
-pub returns-in-Ok-account_of : goal.returns-in-Ok-account_of
-returns-in-Ok-account_of c =
+pub returns-in-Some : goal.returns-in-Some
+returns-in-Some c =
     record {
       verdict = Ok c.verdict-verdict.result.0;
       holds = c.in-Ok.ensures.ok c.args.frame.now c.verdict-verdict.result.0 c.verdict-verdict.ensures.verdict;
       answer_is = c.put_text.ensures.answer ∙ c.own_answer-answer.ensures.value;
       frame_is = c.put_text.ensures.frame;
-      text = Ok c.in-Ok-account_of.account.items;
-      explains = c.in-Ok-account_of.ensures.ok;
+      text = Ok c.in-Some.account.items;
+      explains = c.in-Some.ensures;
       told = subst (λ text. IsPut text c.args.text.now c.put_text.new.buffer c.put_text.result) c.deref.ensures.value c.put_text.ensures.put;
     }
 
@@ -22,8 +23,8 @@ returns-in-Ok c =
       holds = c.in-Ok.ensures.ok c.args.frame.now c.verdict-verdict.result.0 c.verdict-verdict.ensures.verdict;
       answer_is = ap (λ t. t.answer) c.no_text.ensures ∙ c.own_answer-answer.ensures.value;
       frame_is = ap (λ t. t.frame) c.no_text.ensures;
-      text = Err c.in-Err-account_of.number;
-      explains = c.in-Err-account_of.ensures.err;
+      text = Err NO_TEXT_MEMORY;
+      explains = refl;
       told = (ap (λ t. t.number) c.no_text.ensures, ap (λ t. t.length) c.no_text.ensures, refl);
     }
 
