@@ -1,5 +1,7 @@
 //! The lines of an account, each with the value that it tells.
 
+ghost use Rattle.std.specs.Prelude.{◌≡◌};
+
 use crate::cure::MakerCure;
 use crate::remarks::Remark;
 use crate::why::Why;
