@@ -32,9 +32,46 @@ pub fn rule_of(number: u8) -> Option<Rule>
     ensures some { IfSome result (λ rule. rule.number ≡ number) }
     ensures known { is_some result ≡ is_rule_number number }
 {
+    image_rule(number)
+        .or(certificate_rule(number))
+        .or(shape_rule(number))
+        .or(frame_rule(number))
+        .or(maker_rule(number))
+        .or(device_rule(number))
+}
+
+/// What is told of this number where no certificate was given, so that none has to be changed.
+pub fn own_rule_of(number: u8) -> Option<Rule>
+    ensures some { IfSome result (λ rule. rule.number ≡ number) }
+    ensures known { is_some result ≡ is_rule_number number }
+{
+    match number {
+        1 => Some(table::OWN_ROM_LENGTH),
+        25 => Some(table::OWN_SHAPE_OUTSIDE_WINDOW),
+        46 => Some(table::OWN_FRAME_OUTSIDE_WINDOW),
+        48 => Some(table::OWN_FRAME_OVER_BUDGET),
+        _ => rule_of(number),
+    }
+}
+
+/// Of the images: 1 and 2.
+fn image_rule(number: u8) -> Option<Rule>
+    ensures some { IfSome result (λ rule. rule.number ≡ number) }
+    ensures known { is_some result ≡ is_within 1 2 number }
+{
     match number {
         1 => Some(table::ROM_LENGTH),
         2 => Some(table::FRAME_LENGTH),
+        _ => None,
+    }
+}
+
+/// Of a certificate's text: 10 to 17.
+fn certificate_rule(number: u8) -> Option<Rule>
+    ensures some { IfSome result (λ rule. rule.number ≡ number) }
+    ensures known { is_some result ≡ is_within 10 17 number }
+{
+    match number {
         10 => Some(table::CERT_FORM),
         11 => Some(table::CERT_ORDER),
         12 => Some(table::CERT_COUNT),
@@ -43,6 +80,16 @@ pub fn rule_of(number: u8) -> Option<Rule>
         15 => Some(table::CERT_TOO_LONG),
         16 => Some(table::CERT_MEMORY),
         17 => Some(table::CERT_WRITER),
+        _ => None,
+    }
+}
+
+/// Of shapes: 20 to 33.
+fn shape_rule(number: u8) -> Option<Rule>
+    ensures some { IfSome result (λ rule. rule.number ≡ number) }
+    ensures known { is_some result ≡ is_within 20 33 number }
+{
+    match number {
         20 => Some(table::SHAPE_MISSING),
         21 => Some(table::SHAPE_ODD_LABS),
         22 => Some(table::SHAPE_HALT),
@@ -57,6 +104,16 @@ pub fn rule_of(number: u8) -> Option<Rule>
         31 => Some(table::SHAPE_OUTSIDE_BOX),
         32 => Some(table::SHAPE_FEWER_WORDS),
         33 => Some(table::SHAPE_LESS_DEPTH),
+        _ => None,
+    }
+}
+
+/// Of frames: 40 to 48, and 49 and 50.
+fn frame_rule(number: u8) -> Option<Rule>
+    ensures some { IfSome result (λ rule. rule.number ≡ number) }
+    ensures known { is_some result ≡ is_within 40 50 number }
+{
+    match number {
         40 => Some(table::FRAME_MISSING),
         41 => Some(table::FRAME_ODD_LABS),
         42 => Some(table::FRAME_RETURN),
@@ -68,10 +125,30 @@ pub fn rule_of(number: u8) -> Option<Rule>
         48 => Some(table::FRAME_OVER_BUDGET),
         49 => Some(table::BUDGET_RANGE),
         50 => Some(table::INDEX_MEMORY),
+        _ => None,
+    }
+}
+
+/// Of the maker: 60 to 63.
+fn maker_rule(number: u8) -> Option<Rule>
+    ensures some { IfSome result (λ rule. rule.number ≡ number) }
+    ensures known { is_some result ≡ is_within 60 63 number }
+{
+    match number {
         60 => Some(table::MAKER_NO_SHAPE),
         61 => Some(table::MAKER_DEPTH),
         62 => Some(table::MAKER_TOO_LARGE),
         63 => Some(table::MAKER_MEMORY),
+        _ => None,
+    }
+}
+
+/// Of devices and memory: 70 to 74.
+fn device_rule(number: u8) -> Option<Rule>
+    ensures some { IfSome result (λ rule. rule.number ≡ number) }
+    ensures known { is_some result ≡ is_within 70 74 number }
+{
+    match number {
         70 => Some(table::READ_ROM),
         71 => Some(table::READ_FRAME),
         72 => Some(table::READ_CERT),
@@ -79,21 +156,6 @@ pub fn rule_of(number: u8) -> Option<Rule>
         74 => Some(table::MEMORY),
         _ => None,
     }
-}
-
-/// What is told of this number where no certificate was given, so that none has to be changed.
-pub fn own_rule_of(number: u8) -> Option<Rule>
-    ensures some { IfSome result (λ rule. rule.number ≡ number) }
-    ensures known { is_some result ≡ is_rule_number number }
-{
-    let own = match number {
-        1 => table::OWN_ROM_LENGTH,
-        25 => table::OWN_SHAPE_OUTSIDE_WINDOW,
-        46 => table::OWN_FRAME_OUTSIDE_WINDOW,
-        48 => table::OWN_FRAME_OVER_BUDGET,
-        _ => return rule_of(number),
-    };
-    Some(own)
 }
 
 /// Adds a line, the number and what it means.
