@@ -19,7 +19,7 @@ pub use Rattle.dvg_account.specs.declared.line.Words.{Words}
 pub use Rattle.dvg_account.specs.declared.line.Words.TheVariants as words
 pub use Rattle.dvg_account.specs.declared.line.Instruction.{Instruction}
 pub use Rattle.dvg_account.specs.declared.line.Line.{Line}
-use Rattle.dvg_account.specs.declared.line.Line.TheVariants.{Item, Stop}
+use Rattle.dvg_account.specs.declared.line.Line.TheVariants.{Item}
 pub use Rattle.dvg_account.specs.declared.line.Role.{Role}
 use Rattle.dvg_account.specs.declared.line.Role.TheVariants as role
 use Rattle.dvg_account.specs.declared.line.ItemLine.{ItemLine}
@@ -65,14 +65,9 @@ IsItem kind source at before callee i = IsItemWith kind source at (Some before) 
 
 -- ---- lines
 
--- a line of the item in a role
-abbrev pub line_as : Role → ItemLine → Line
-line_as role.Refused l = Item l
-line_as role.Stop l = Stop l
-
--- such a line, if there is one
+-- a line of the item in a role, if there is one
 abbrev pub item_line : Role → Option ItemLine → List Line
-item_line r l = map (line_as r) (option_to_list l)
+item_line r l = map (Item r) (option_to_list l)
 
 -- an item of a frame is told with the item that goes on to it, unless zeros lead there; one of a shape only where it is missing
 abbrev pub unless_zeros : Option Zeros → Option Before → Option ItemLine
@@ -96,12 +91,12 @@ scale_lost_by (Some l) = option_map line.ScaleLostBy l.scale
 -- what is known before the item, if that is told
 abbrev pub known_lines : Role → Option Known → List Line
 known_lines r None = []
-known_lines r (Some known) = line_as r (line.PlaceBefore known.place) ∷ line_as r (line.ScaleBefore known.scale) ∷ line_as r (line.WordsBefore known.words) ∷ []
+known_lines r (Some known) = Item r (line.PlaceBefore known.place) ∷ Item r (line.ScaleBefore known.scale) ∷ Item r (line.WordsBefore known.words) ∷ []
 
 -- where the item stands, what it is, what is known before it, by which items the rest was lost, and the zeros that lead to it
 abbrev pub lines_as : Role → RefusedItem → List Line
 lines_as r i =
-    line_as r (line.At i.at) ∷ line_as r (line.Holds i.words) ∷ line_as r (line.Instruction i.instruction)
+    Item r (line.At i.at) ∷ Item r (line.Holds i.words) ∷ Item r (line.Instruction i.instruction)
     ∷ item_line r (option_map line.CalledEntry i.callee) ++ item_line r (comes_from i.kind i.words i.way) ++ known_lines r i.before
     ++ item_line r (place_lost_by i.losses) ++ item_line r (scale_lost_by i.losses) ++ item_line r (option_map line.Zeros i.way.zeros)
 

@@ -88,12 +88,12 @@ TellsFrame machine words f (frame.Budget over) told = told ≡ why.OverBudget (w
 
 -- what the entry claims, and the numbers of a cause of its shape
 abbrev pub TellsClaim : Entry → ℕ → ShapeCause → ClaimWhy → Type 0
-TellsClaim e words (shape.TooDeep needed) told = told ≡ claim.TooDeep needed e.depth
+TellsClaim e words (shape.TooDeep needed) told = told ≡ claim.TooDeep (record { actual = needed; claimed = e.depth })
 TellsClaim e words (shape.TooManyWords over) told = told ≡ claim.TooManyWords words e.words over
-TellsClaim e words (shape.EndDiffers end) told = told ≡ claim.EndDiffers end e.stop
-TellsClaim e words (shape.ScaleDiffers scale) told = told ≡ claim.ScaleDiffers scale e.scale
-TellsClaim e words (shape.WordsDiffer needed) told = told ≡ claim.WordsDiffer needed e.words
-TellsClaim e words (shape.DepthDiffers needed) told = told ≡ claim.DepthDiffers needed e.depth
+TellsClaim e words (shape.EndDiffers end) told = told ≡ claim.EndDiffers (record { actual = end; claimed = e.stop })
+TellsClaim e words (shape.ScaleDiffers scale) told = told ≡ claim.ScaleDiffers (record { actual = scale; claimed = e.scale })
+TellsClaim e words (shape.WordsDiffer needed) told = told ≡ claim.WordsDiffer (record { actual = needed; claimed = e.words })
+TellsClaim e words (shape.DepthDiffers needed) told = told ≡ claim.DepthDiffers (record { actual = needed; claimed = e.depth })
 TellsClaim e words cause told = Unit {0}
 
 -- the numbers of a cause of shapes

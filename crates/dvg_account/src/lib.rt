@@ -40,4 +40,4 @@ pub use swapped::{Swapped, find_swapped};
 pub use texts::{
     certificate_text, frame_text, made_text, own_text, plain_text, unmade_text, verdict_text,
 };
-pub use why::{Addresses, Bounds, ClaimWhy, Corner, InputWhy, MakerWhy, Owner, Why};
+pub use why::{Addresses, Bounds, ClaimWhy, Corner, Difference, InputWhy, MakerWhy, Owner, Why};

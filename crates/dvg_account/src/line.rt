@@ -1,7 +1,6 @@
 //! The lines of an account, each with the value that it tells.
 
 ghost use Rattle.std.specs.Prelude.{◌≡◌};
-ghost use Rattle.dvg_account.specs.Items.{line_as};
 
 use crate::cure::MakerCure;
 use crate::remarks::Remark;
@@ -33,10 +32,8 @@ pub enum Line {
     Expected(Expected),
     /// Why an entry that a frame's call needs can't be made: at this word address the making stops.
     MakingStops { at: u16, why: Why },
-    /// The item by which something is refused.
-    Item(ItemLine),
-    /// The item at which the making of an entry stops, which a frame's call needs.
-    Stop(ItemLine),
+    /// The item in this role.
+    Item(Role, ItemLine),
     /// How that item is reached.
     Path(PathLine),
     /// What is accepted.
@@ -57,18 +54,6 @@ pub enum Line {
 pub enum Role {
     Refused,
     Stop,
-}
-
-impl Role {
-    /// A line about the item in this role.
-    pub fn line(self, line: ItemLine) -> Line
-        ensures { result ≡ line_as self line }
-    {
-        match self {
-            Role::Refused => Line::Item(line),
-            Role::Stop => Line::Stop(line),
-        }
-    }
 }
 
 /// A line about an item.

@@ -1,8 +1,8 @@
 //! The lines of an account, put together.
 
 ghost use Rattle.std.specs.Prelude.{◌≡◌, [], ◌∷◌, Some, IfOk, option_to_list};
-ghost use Rattle.dvg_account.specs.declared.line.Line.TheVariants.{Accepted};
-ghost use Rattle.dvg_account.specs.Items.{line_as, item_line};
+ghost use Rattle.dvg_account.specs.declared.line.Line.TheVariants.{Accepted, Item};
+ghost use Rattle.dvg_account.specs.Items.{item_line};
 ghost use Rattle.dvg_account.specs.Building.{Adds};
 ghost use Rattle.dvg_account.specs.Machines.{machine_lines, TellsZone};
 
@@ -71,9 +71,9 @@ impl Lines {
 
     /// Adds a line about an item in this role.
     pub fn push_item(&mut self, role: Role, line: ItemLine)
-        ensures { Adds self.old self.new (line_as role line ∷ []) }
+        ensures { Adds self.old self.new (Item role line ∷ []) }
     {
-        self.push(role.line(line));
+        self.push(Line::Item(role, line));
     }
 
     /// Adds a line about an item in this role, if there is one.

@@ -2,7 +2,7 @@
 
 use crate::line::EntryName;
 use crate::text::Text;
-use crate::why::{Addresses, Bounds, ClaimWhy, Corner, InputWhy, MakerWhy, Owner, Why};
+use crate::why::{Addresses, Bounds, ClaimWhy, Corner, Difference, InputWhy, MakerWhy, Owner, Why};
 use dvg_cert::{Key, MOST_WORDS};
 use dvg_check::{Edge, Leaving};
 
@@ -36,7 +36,10 @@ pub fn push_why(text: &mut Text, why: &Why) {
             text.push(" is lit, and the entry claims box none");
         }
         Why::NoEntry { to, scale } => push_no_entry(text, *to, *scale),
-        Why::OverBudget { words, over } => push_over_budget(text, *words, *over),
+        Why::OverBudget { words, over } => {
+            let budget = words.saturating_sub(*over);
+            push_words_over(text, *words, "the budget is ", budget, *over);
+        }
         Why::Claim(claim) => push_claim(text, claim),
         Why::Maker(why) => push_maker(text, why),
         Why::Input(why) => push_input(text, why),
@@ -44,8 +47,7 @@ pub fn push_why(text: &mut Text, why: &Why) {
 }
 
 fn push_missing(text: &mut Text, word: u16, words: &Addresses) {
-    text.push("word ");
-    text.push_address(word);
+    text.push_addressed("word ", word);
     text.push(match words.owner {
         Owner::Frame => " is not in the frame, whose words are ",
         Owner::Rom => " is not in the ROM, whose words are ",
@@ -56,8 +58,7 @@ fn push_missing(text: &mut Text, word: u16, words: &Addresses) {
 /// The addresses of the first and the last word.
 fn push_addresses(text: &mut Text, words: &Addresses) {
     text.push_address(words.first);
-    text.push(" to ");
-    text.push_address(words.last);
+    text.push_addressed(" to ", words.last);
 }
 
 /// Which words of a LABS are odd, and what their fields hold.
@@ -82,8 +83,7 @@ fn push_odd_field(text: &mut Text, before: &str, field: Option<u16>) {
 }
 
 fn push_jump(text: &mut Text, to: u16, which: &str) {
-    text.push("it jumps to ");
-    text.push_address(to);
+    text.push_addressed("it jumps to ", to);
     text.push(which);
 }
 
@@ -135,82 +135,59 @@ fn edge_of(leaving: &Leaving) -> i64 {
 fn push_no_entry(text: &mut Text, to: u16, scale: Key) {
     match scale {
         Key::At(scale) => {
-            text.push("no entry is for ");
-            text.push_address(to);
-            text.push(" at scale ");
-            text.push_decimal(scale);
-            text.push(", and none for ");
-            text.push_address(to);
+            text.push_addressed("no entry is for ", to);
+            text.push_number(" at scale ", scale);
+            text.push_addressed(", and none for ", to);
             text.push(" at any");
         }
         Key::Any => {
-            text.push("the scale is unknown, and no entry is for ");
-            text.push_address(to);
+            text.push_addressed("the scale is unknown, and no entry is for ", to);
             text.push(" at any");
         }
     }
-}
-
-fn push_over_budget(text: &mut Text, words: u32, over: u32) {
-    text.push_decimal(words);
-    text.push(" words with it, and the budget is ");
-    text.push_decimal(words.saturating_sub(over));
-    text.push(": over by ");
-    text.push_decimal(over);
 }
 
 /// Which claim of an entry its shape breaks.
 fn push_claim(text: &mut Text, claim: &ClaimWhy) {
     match claim {
-        ClaimWhy::TooDeep { needed, claimed } => {
-            text.push("it needs depth ");
-            text.push_decimal(*needed);
-            push_claimed_depth(text, *claimed);
-        }
+        ClaimWhy::TooDeep(depth) => push_depths(text, "it needs depth ", depth),
         ClaimWhy::TooManyWords {
             words,
             claimed,
             over,
-        } => push_too_many_words(text, *words, *claimed, *over),
-        ClaimWhy::EndDiffers { end, claimed } => {
+        } => push_words_over(text, *words, "the entry claims ", *claimed, *over),
+        ClaimWhy::EndDiffers(end) => {
             text.push("the shape ends at ");
-            text.push_place(*end);
+            text.push_place(end.actual);
             text.push(", and the entry claims end ");
-            text.push_end(*claimed);
+            text.push_end(end.claimed);
         }
-        ClaimWhy::ScaleDiffers { scale, claimed } => {
+        ClaimWhy::ScaleDiffers(scale) => {
             text.push("the shape ends at scale ");
-            text.push_scale(*scale);
+            text.push_scale(scale.actual);
             text.push(", and the entry claims scale ");
-            text.push_key(*claimed);
+            text.push_key(scale.claimed);
         }
-        ClaimWhy::WordsDiffer { words, claimed } => push_words_differ(text, *words, *claimed),
-        ClaimWhy::DepthDiffers { depth, claimed } => {
-            text.push("the shape needs depth ");
-            text.push_decimal(*depth);
-            push_claimed_depth(text, *claimed);
+        ClaimWhy::WordsDiffer(words) => {
+            text.push_number("the entry claims ", words.claimed);
+            text.push_number(" words, and the shape takes ", words.actual);
         }
+        ClaimWhy::DepthDiffers(depth) => push_depths(text, "the shape needs depth ", depth),
     }
 }
 
-fn push_claimed_depth(text: &mut Text, claimed: u8) {
-    text.push(", and the entry claims ");
-    text.push_decimal(claimed);
+/// The depth that a shape needs, and the claimed one.
+fn push_depths(text: &mut Text, needs: &str, depth: &Difference<u8>) {
+    text.push_number(needs, depth.actual);
+    text.push_number(", and the entry claims ", depth.claimed);
 }
 
-fn push_too_many_words(text: &mut Text, words: u32, claimed: u32, over: u32) {
+/// So many words up to and with an item, what allows fewer, and by how many they are over.
+fn push_words_over(text: &mut Text, words: u32, allows: &str, most: u32, over: u32) {
     text.push_decimal(words);
-    text.push(" words with it, and the entry claims ");
-    text.push_decimal(claimed);
-    text.push(": over by ");
-    text.push_decimal(over);
-}
-
-fn push_words_differ(text: &mut Text, words: u32, claimed: u32) {
-    text.push("the entry claims ");
-    text.push_decimal(claimed);
-    text.push(" words, and the shape takes ");
-    text.push_decimal(words);
+    text.push(" words with it, and ");
+    text.push_number(allows, most);
+    text.push_number(": over by ", over);
 }
 
 /// Why the maker stops at an item that calls, or that takes words.
@@ -229,11 +206,8 @@ fn push_maker(text: &mut Text, why: &MakerWhy) {
             );
         }
         MakerWhy::TooManyWords(words) => {
-            text.push_decimal(*words);
-            text.push(" words with it, and a shape may take ");
-            text.push_decimal(MOST_WORDS);
-            text.push(": over by ");
-            text.push_decimal(words.saturating_sub(MOST_WORDS));
+            let over = words.saturating_sub(MOST_WORDS);
+            push_words_over(text, *words, "a shape may take ", MOST_WORDS, over);
         }
         MakerWhy::TooManyEntries => text.push("it would be the 4097th entry"),
     }
@@ -250,8 +224,7 @@ fn push_input(text: &mut Text, why: &InputWhy) {
             }
             text.push(", and words ");
             push_addresses(text, words);
-            text.push(" are ");
-            text.push_decimal(words.bytes());
+            text.push_number(" are ", words.bytes());
             text.push(" bytes");
         }
         InputWhy::FrameLength(bytes) => {
@@ -260,14 +233,12 @@ fn push_input(text: &mut Text, why: &InputWhy) {
             push_frame_fault(text, *bytes);
         }
         InputWhy::Budget(budget) => {
-            text.push("the budget is ");
-            text.push_decimal(*budget);
+            text.push_number("the budget is ", *budget);
         }
         InputWhy::EntryCounts(counts) => {
             text.push("the `done` line says ");
             push_entries(text, u32::from(counts.claimed));
-            text.push(", and the certificate has ");
-            text.push_decimal(counts.found);
+            text.push_number(", and the certificate has ", counts.found);
         }
     }
 }

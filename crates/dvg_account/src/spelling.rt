@@ -6,8 +6,8 @@ ghost use Rattle.dvg_words.specs.Beam.{signed_field};
 use crate::cure::MakerCure;
 use crate::expecting::push_expected;
 use crate::line::{
-    AcceptedLine, EntryName, Instruction, ItemLine, Line, MadeLine, MakerChain, PathLine, Words,
-    Zeros,
+    AcceptedLine, EntryName, Instruction, ItemLine, Line, MadeLine, MakerChain, PathLine, Role,
+    Words, Zeros,
 };
 use crate::remarks::Remark;
 use crate::sentences::push_why;
@@ -82,8 +82,7 @@ pub fn text_of(
 /// How many labels were passed over, if any were.
 fn push_passed(text: &mut Text, passed: usize) {
     if passed > 0 {
-        text.push("labels passed over: ");
-        text.push_decimal(passed);
+        text.push_number("labels passed over: ", passed);
         text.push(", not the address of a word in 4000 to 57FF\n");
     }
 }
@@ -140,8 +139,7 @@ fn push_line(text: &mut Text, telling: Telling, line: &Line) {
         }
         Line::CertificateLine(line) => push_count(text, "certificate line: ", *line, ""),
         Line::Column(column) => {
-            text.push("column: ");
-            text.push_decimal(*column);
+            text.push_number("column: ", *column);
             text.push("\n");
         }
         Line::Expected(expected) => {
@@ -150,9 +148,9 @@ fn push_line(text: &mut Text, telling: Telling, line: &Line) {
             text.push("\n");
         }
         Line::MakingStops { at, why } => push_making_stops(text, *at, why),
-        Line::Item(line) => push_item_line(text, "", line),
-        Line::Stop(ItemLine::At(at)) => push_at(text, "comes to: ", *at),
-        Line::Stop(line) => push_item_line(text, "there ", line),
+        Line::Item(Role::Refused, line) => push_item_line(text, "", line),
+        Line::Item(Role::Stop, ItemLine::At(at)) => push_at(text, "comes to: ", *at),
+        Line::Item(Role::Stop, line) => push_item_line(text, "there ", line),
         Line::Path(line) => push_path_line(text, line),
         Line::Accepted(line) => push_accepted_line(text, line),
         Line::Made(line) => push_made_line(text, *line),
@@ -167,17 +165,17 @@ fn push_making_stops(text: &mut Text, at: u16, why: &Why) {
     text.push("why: ");
     match why {
         Why::MissingWord { word, .. } if *word < RAM_WORDS => {
-            text.push("word ");
-            text.push_address(*word);
+            text.push_addressed("word ", *word);
             text.push(" is in vector RAM, and a call into vector RAM is always refused");
         }
         Why::DrawsAtLostPlace | Why::ScaleUnknown => {
-            text.push("no LABS before the call sets the scale, and what it calls draws lit at ");
-            text.push_address(at);
+            text.push_addressed(
+                "no LABS before the call sets the scale, and what it calls draws lit at ",
+                at,
+            );
         }
         _ => {
-            text.push("what it calls comes to ");
-            text.push_address(at);
+            text.push_addressed("what it calls comes to ", at);
             text.push(": ");
             push_why(text, why);
         }
@@ -218,8 +216,7 @@ fn push_other_machine(text: &mut Text, machine: Machine) {
 /// The meaning of a number, if it has one.
 fn push_rule(text: &mut Text, cert: CertificateOf, number: u8) {
     if let Some(rule) = rule_by(cert, number) {
-        text.push("rule: ");
-        text.push_decimal(number);
+        text.push_number("rule: ", number);
         text.push(" ");
         text.push(rule.meaning);
         text.push("\n");
@@ -304,8 +301,7 @@ fn push_item_line(text: &mut Text, before: &str, line: &ItemLine) {
             text.push_scale(*scale);
         }
         ItemLine::WordsBefore(words) => {
-            text.push("words before: ");
-            text.push_decimal(*words);
+            text.push_number("words before: ", *words);
         }
         ItemLine::PlaceLostBy(item) => push_item(text, "place lost by: ", item),
         ItemLine::ScaleLostBy(item) => push_item(text, "scale lost by: ", item),
@@ -354,10 +350,8 @@ fn push_item(text: &mut Text, label: &str, item: &Item) {
 
 /// The addresses of zeros, and the item before them on a line of its own, with this before its key.
 fn push_zeros(text: &mut Text, before: &str, zeros: &Zeros) {
-    text.push("zeros: ");
-    text.push_address(zeros.first);
-    text.push(" to ");
-    text.push_address(zeros.last);
+    text.push_addressed("zeros: ", zeros.first);
+    text.push_addressed(" to ", zeros.last);
     text.push("\n");
     text.push(before);
     match &zeros.before {
@@ -371,22 +365,17 @@ fn push_instruction(text: &mut Text, format: Format, instr: &Instr) {
     match instr {
         Instr::Draw(draw) => push_draw(text, format, draw),
         Instr::Labs { x, y, gscale } => {
-            text.push("LABS Y ");
-            text.push_decimal(signed_field(*y));
-            text.push(", global scale ");
-            text.push_decimal(*gscale);
-            text.push(", X ");
-            text.push_decimal(signed_field(*x));
+            text.push_number("LABS Y ", signed_field(*y));
+            text.push_number(", global scale ", *gscale);
+            text.push_number(", X ", signed_field(*x));
         }
         Instr::Halt => text.push("HALT"),
         Instr::Jsrl { to } => {
-            text.push("JSRL address ");
-            text.push_address(*to);
+            text.push_addressed("JSRL address ", *to);
         }
         Instr::Rtsl => text.push("RTSL"),
         Instr::Jmpl { to } => {
-            text.push("JMPL address ");
-            text.push_address(*to);
+            text.push_addressed("JMPL address ", *to);
         }
     }
 }
@@ -419,12 +408,9 @@ fn push_draw(text: &mut Text, format: Format, draw: &Draw) {
 
 fn push_fields(text: &mut Text, scale: u8, y: i16, intensity: u8, x: i16) {
     text.push_decimal(scale);
-    text.push(", Y ");
-    text.push_decimal(y);
-    text.push(", intensity ");
-    text.push_decimal(intensity);
-    text.push(", X ");
-    text.push_decimal(x);
+    text.push_number(", Y ", y);
+    text.push_number(", intensity ", intensity);
+    text.push_number(", X ", x);
 }
 
 fn push_path_line(text: &mut Text, line: &PathLine) {
@@ -474,8 +460,7 @@ fn push_below(text: &mut Text, called: EntryName, calls: &[Call]) {
 
 /// The call at a word address leads to an entry.
 fn push_leads(text: &mut Text, at: u16, called: EntryName) {
-    text.push(" at ");
-    text.push_address(at);
+    text.push_addressed(" at ", at);
     text.push(" leads to ");
     text.push_entry_name(called.addr, called.key);
     text.push("\n");
@@ -506,8 +491,7 @@ fn push_maker_chain(text: &mut Text, chain: &MakerChain) {
 fn push_origin(text: &mut Text, chain: &MakerChain) {
     match chain.call {
         Some(call) => {
-            text.push("frame at ");
-            text.push_address(call.at);
+            text.push_addressed("frame at ", call.at);
         }
         None => text.push("root"),
     }
@@ -522,8 +506,7 @@ fn push_accepted_line(text: &mut Text, line: &AcceptedLine) {
     match line {
         AcceptedLine::Shapes(shapes) => push_count(text, "shapes: ", *shapes, " of 4096"),
         AcceptedLine::Words { words, budget } => {
-            text.push("words: ");
-            text.push_decimal(*words);
+            text.push_number("words: ", *words);
             push_count(text, " of the budget ", *budget, "");
         }
         AcceptedLine::ReturnPlaces(depth) => {
@@ -560,19 +543,16 @@ fn push_remark(text: &mut Text, remark: &Remark) {
             first,
             draws,
         } => {
-            text.push("scales over 9: ");
-            text.push_decimal(*draws);
+            text.push_number("scales over 9: ", *draws);
             text.push(" of the lit draws of ");
             push_of(text, *shape);
-            text.push(", the first at ");
-            text.push_address(*first);
+            text.push_addressed(", the first at ", *first);
             text.push(": on the board each is a dot\n");
         }
         Remark::RunsOn { shape, into } => {
             text.push("runs on: ");
             push_of(text, Some(*shape));
-            text.push(" into ");
-            text.push_address(*into);
+            text.push_addressed(" into ", *into);
             text.push(", where another shape begins\n");
         }
     }
@@ -595,8 +575,7 @@ fn push_on_board(text: &mut Text, answer: &Result<Yes, FrameRefusal>) {
 /// The calls of a frame.
 fn push_calls(text: &mut Text, calls: &[Call]) {
     for call in calls {
-        text.push("call: ");
-        text.push_address(call.at);
+        text.push_addressed("call: ", call.at);
         text.push(" ");
         text.push_entry(&call.entry);
         text.push("\n");
@@ -625,8 +604,7 @@ fn push_clipped(text: &mut Text, items: &[u16]) {
     match items.first() {
         Some(first) => {
             text.push_decimal(items.len());
-            text.push(" of the frame's items, the first at ");
-            text.push_address(*first);
+            text.push_addressed(" of the frame's items, the first at ", *first);
         }
         None => text.push("none of the frame's items"),
     }
@@ -637,18 +615,15 @@ fn push_clipped(text: &mut Text, items: &[u16]) {
 fn push_made_line(text: &mut Text, line: MadeLine) {
     match line {
         MadeLine::Entries(entries) => {
-            text.push("entries: ");
-            text.push_decimal(entries);
+            text.push_number("entries: ", entries);
             push_limit(text, MOST_ENTRIES)
         }
         MadeLine::Words(words) => {
-            text.push("words: at most ");
-            text.push_decimal(words);
+            text.push_number("words: at most ", words);
             push_limit(text, MOST_WORDS)
         }
         MadeLine::ReturnPlaces(depth) => {
-            text.push("return places: at most ");
-            text.push_decimal(depth);
+            text.push_number("return places: at most ", depth);
             push_limit(text, MOST_DEPTH)
         }
     }
@@ -656,7 +631,6 @@ fn push_made_line(text: &mut Text, line: MadeLine) {
 
 /// The limit of a number.
 fn push_limit<N: Integer>(text: &mut Text, limit: N) {
-    text.push(" of ");
-    text.push_decimal(limit);
+    text.push_number(" of ", limit);
     text.push("\n");
 }

@@ -70,6 +70,12 @@ impl<'a> Text<'a> {
         self.push(Buffer::new().format(number));
     }
 
+    /// A number behind a label.
+    pub fn push_number<N: Integer>(&mut self, label: &str, number: N) {
+        self.push(label);
+        self.push_decimal(number);
+    }
+
     /// ASCII characters.
     pub fn push_ascii(&mut self, piece: &[u8]) {
         if let Ok(piece) = str::from_utf8(piece) {
@@ -96,6 +102,12 @@ impl<'a> Text<'a> {
         }
     }
 
+    /// A word address behind a text.
+    pub fn push_addressed(&mut self, before: &str, addr: u16) {
+        self.push(before);
+        self.push_address(addr);
+    }
+
     /// The label that names an address.
     fn label_at(&self, addr: u16) -> Option<Nearest<'a>> {
         self.labels?.name_at(addr)
@@ -109,8 +121,7 @@ impl<'a> Text<'a> {
     fn push_label(&mut self, label: Nearest) {
         self.push_ascii(label.name);
         if label.distance > 0 {
-            self.push("+");
-            self.push_decimal(label.distance);
+            self.push_number("+", label.distance);
         }
     }
 
@@ -221,10 +232,8 @@ impl<'a> Text<'a> {
     }
 
     fn push_pair(&mut self, label: &str, x: i64, y: i64) {
-        self.push(label);
-        self.push_decimal(x);
-        self.push(" ");
-        self.push_decimal(y);
+        self.push_number(label, x);
+        self.push_number(" ", y);
     }
 
     /// A box as a certificate spells it.
@@ -240,18 +249,15 @@ impl<'a> Text<'a> {
 
     /// An entry as a certificate spells it.
     pub fn push_entry(&mut self, entry: &Entry) {
-        self.push("shape ");
-        self.push_address(entry.addr);
+        self.push_addressed("shape ", entry.addr);
         self.push(" ");
         self.push_key(entry.key);
         self.push(" end ");
         self.push_end(entry.stop);
         self.push(" box ");
         self.push_box(&entry.lit);
-        self.push(" depth ");
-        self.push_decimal(entry.depth);
-        self.push(" words ");
-        self.push_decimal(entry.words);
+        self.push_number(" depth ", entry.depth);
+        self.push_number(" words ", entry.words);
         self.push(" scale ");
         self.push_key(entry.scale);
     }

@@ -74,12 +74,27 @@ pub enum Why {
 /// What an entry claims, and what its shape needs.
 #[derive(Clone, Copy)]
 pub enum ClaimWhy {
-    TooDeep { needed: u8, claimed: u8 },
+    TooDeep(Difference<u8>),
     TooManyWords { words: u32, claimed: u32, over: u32 },
-    EndDiffers { end: End, claimed: End },
-    ScaleDiffers { scale: Key, claimed: Key },
-    WordsDiffer { words: u32, claimed: u32 },
-    DepthDiffers { depth: u8, claimed: u8 },
+    EndDiffers(Difference<End>),
+    ScaleDiffers(Difference<Key>),
+    WordsDiffer(Difference<u32>),
+    DepthDiffers(Difference<u8>),
+}
+
+/// What a shape comes to, and what its entry claims.
+#[derive(Clone, Copy)]
+pub struct Difference<T> {
+    pub actual: T,
+    pub claimed: T,
+}
+
+impl<T> Difference<T> {
+    fn new(actual: T, claimed: T) -> Difference<T>
+        ensures { result ≡ record { actual = actual; claimed = claimed } }
+    {
+        Difference { actual, claimed }
+    }
 }
 
 /// Why the maker stops at an item that calls, or that takes words.
@@ -349,26 +364,19 @@ impl ClaimWhy {
         ensures { TellsClaim entry.now words cause result }
     {
         match cause {
-            ShapeCause::TooDeep(needed) => ClaimWhy::TooDeep {
-                needed,
-                claimed: entry.depth,
-            },
-            ShapeCause::EndDiffers(end) => ClaimWhy::EndDiffers {
-                end,
-                claimed: entry.stop,
-            },
-            ShapeCause::ScaleDiffers(scale) => ClaimWhy::ScaleDiffers {
-                scale,
-                claimed: entry.scale,
-            },
-            ShapeCause::WordsDiffer(words) => ClaimWhy::WordsDiffer {
-                words,
-                claimed: entry.words,
-            },
-            ShapeCause::DepthDiffers(depth) => ClaimWhy::DepthDiffers {
-                depth,
-                claimed: entry.depth,
-            },
+            ShapeCause::TooDeep(needed) => {
+                ClaimWhy::TooDeep(Difference::new(needed, entry.depth))
+            }
+            ShapeCause::EndDiffers(end) => ClaimWhy::EndDiffers(Difference::new(end, entry.stop)),
+            ShapeCause::ScaleDiffers(scale) => {
+                ClaimWhy::ScaleDiffers(Difference::new(scale, entry.scale))
+            }
+            ShapeCause::WordsDiffer(words) => {
+                ClaimWhy::WordsDiffer(Difference::new(words, entry.words))
+            }
+            ShapeCause::DepthDiffers(depth) => {
+                ClaimWhy::DepthDiffers(Difference::new(depth, entry.depth))
+            }
             ShapeCause::TooManyWords(over) => ClaimWhy::too_many_words(entry, words, over),
             _ => ClaimWhy::too_many_words(entry, words, 0),
         }

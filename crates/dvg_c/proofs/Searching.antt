@@ -1,13 +1,18 @@
 -- Binary search in entries that are kept in plain numbers: what is known of them is known of the list that they stand for.
-use Rattle.std.proofs.Common.{◌≡◌, ℕ, ◌≤◌, Bool, true, false, List, length, map, pos, sym, subst, arith}
+use Rattle.std.proofs.Common.{◌≡◌, ◌∙◌, ℕ, ◌≤◌, ◌<◌, Bool, true, false, List, length, map, get_or, Some, None, pos, ap, sym, subst, refl, arith}
+use Rattle.std.specs.Bool.{then_some}
 use Rattle.std.specs.List.Sorted.{IsPartitionedBy, IsPartitionPoint}
 use Rattle.std.proofs.lemmas.List.{get_or-map, length-map}
-use Rattle.dvg_cert.specs.declared.entry.Entry.{Entry}
+use Rattle.dvg_cert.specs.Lookup.{is_at, entry_at}
+use Rattle.dvg_cert.specs.Order.{IsRising}
+use Rattle.dvg_cert.specs.Private.Searching.{stands_before}
+use Rattle.dvg_cert.specs.declared.entry.Key.{Key}
+use Rattle.dvg_cert.proofs.Searching.{parted, nothing_there, other_there, this_there}
 use Rattle.dvg_c.specs.declared.entry.KeptEntry.{KeptEntry}
 use Rattle.dvg_c.specs.Kept.{entry_of}
 
 -- what stands past the end
-abbrev pub blank : KeptEntry
+blank : KeptEntry
 blank =
     record {
       stop = record { x = pos 0; y = pos 0; kind = 0 };
@@ -19,21 +24,35 @@ blank =
       depth = 0;
     }
 
-module _ (p : Entry → Bool) (xs : List KeptEntry) where
-  -- where the list is parted, what stands for it is
-  pub parted_as_kept : IsPartitionedBy p (map entry_of xs) → IsPartitionedBy (λ x. p (entry_of x)) xs
-  parted_as_kept h = λ i j d le lt s.
+module _ (xs : List KeptEntry) (addr : ℕ) (key : Key) (rising : IsRising (map entry_of xs)) where
+  -- the entries are parted as the list that they stand for is
+  pub kept_parted : IsPartitionedBy (λ x. stands_before addr key (entry_of x)) xs
+  kept_parted = λ i j d le lt s.
       let same = length-map xs entry_of in
       let at_j = get_or-map entry_of xs j d (entry_of d) lt in
       let at_i = get_or-map entry_of xs i d (entry_of d) (omega (arith, le, lt)) in
-      let told = h i j (entry_of d) le (omega (arith, same, lt)) (subst (λ e. p e ≡ true) (sym at_j) s) in
-      subst (λ e. p e ≡ true) at_i told
+      let told = parted (map entry_of xs) addr key rising i j (entry_of d) le (omega (arith, same, lt)) (subst (λ e. stands_before addr key e ≡ true) (sym at_j) s) in
+      subst (λ e. stands_before addr key e ≡ true) at_i told
 
-  -- and where that has its point, the list has its own
-  pub point_of_list : (i : ℕ) → i ≤ length xs → IsPartitionPoint (λ x. p (entry_of x) ≡ true) (λ x. p (entry_of x) ≡ false) xs i
-      → IsPartitionPoint (λ e. p e ≡ true) (λ e. p e ≡ false) (map entry_of xs) i
+  -- and where they have their point, the list has its own
+  point_of_list : (i : ℕ) → i ≤ length xs → IsPartitionPoint (λ x. stands_before addr key (entry_of x) ≡ true) (λ x. stands_before addr key (entry_of x) ≡ false) xs i
+      → IsPartitionPoint (λ e. stands_before addr key e ≡ true) (λ e. stands_before addr key e ≡ false) (map entry_of xs) i
   point_of_list i le h =
       let same = length-map xs entry_of in (
-        (λ k e low high. subst (λ f. p f ≡ true) (sym (get_or-map entry_of xs k blank e (omega (arith, le, high)))) (h.0 k blank low high)),
-        (λ k e low high. subst (λ f. p f ≡ false) (sym (get_or-map entry_of xs k blank e (omega (arith, same, high)))) (h.1 k blank low (omega (arith, same, high)))),
+        (λ k e low high. subst (λ f. stands_before addr key f ≡ true) (sym (get_or-map entry_of xs k blank e (omega (arith, le, high)))) (h.0 k blank low high)),
+        (λ k e low high. subst (λ f. stands_before addr key f ≡ false) (sym (get_or-map entry_of xs k blank e (omega (arith, same, high)))) (h.1 k blank low (omega (arith, same, high)))),
       )
+
+  module _ (i : ℕ) (le : i ≤ length xs) (point : IsPartitionPoint (λ x. stands_before addr key (entry_of x) ≡ true) (λ x. stands_before addr key (entry_of x) ≡ false) xs i) where
+    -- past the end nothing is found
+    pub none_found : length xs ≤ i → None ≡ entry_at (map entry_of xs) addr key
+    none_found past = nothing_there (map entry_of xs) addr key i rising (omega (arith, past, le, length-map xs entry_of)) (point_of_list i le point)
+
+    -- else what stands there, if it is the one
+    pub one_found : (x : KeptEntry) → i < length xs → x ≡ get_or xs i x → then_some (is_at addr key (entry_of x)) (entry_of x) ≡ entry_at (map entry_of xs) addr key
+    one_found x less is = by (get_or-map entry_of xs i x (entry_of x) less ∙ ap entry_of (sym is)) (omega (arith, less, length-map xs entry_of)) (is_at addr key (entry_of x)) refl
+      where
+        by : get_or (map entry_of xs) i (entry_of x) ≡ entry_of x → i < length (map entry_of xs)
+            → (b : Bool) → is_at addr key (entry_of x) ≡ b → then_some b (entry_of x) ≡ entry_at (map entry_of xs) addr key
+        by here within true e = subst (λ f. Some f ≡ entry_at (map entry_of xs) addr key) here (this_there (map entry_of xs) addr key i (entry_of x) rising within (ap (is_at addr key) here ∙ e))
+        by here within false e = other_there (map entry_of xs) addr key i (entry_of x) rising within (point_of_list i le point) (ap (is_at addr key) here ∙ e)

@@ -4,11 +4,11 @@ use Rattle.std.specs.Prelude.{◌≤ℤ◌}
 use Rattle.std.specs.Coded.{×_prop, Π_prop, →_prop, le_prop}
 use Rattle.std.proofs.Math.Nat.{ℕ_set}
 use Rattle.std.proofs.Props.{props}
-use Rattle.std.specs.List.{AllByRecursion-prop}
-use Rattle.dvg_words.specs.Values.{MemoryMap, Window, IsWindow, IsWindowOrZone, IsFor, IsMap, clipped}
+use Rattle.std.specs.List.{AllByRecursion, AllByRecursion-prop}
+use Rattle.dvg_words.specs.Values.{Window, IsWindow, IsWindowOrZone, IsFor, clipped}
 use Rattle.dvg_words.specs.declared.machine.Machine.{Machine}
 use Rattle.dvg_words.specs.declared.machine.Machine.TheVariants.{Profile, Board}
-use Rattle.dvg_words.specs.Memory.{Rom, IsRom, rom_word}
+use Rattle.dvg_words.specs.Memory.{Rom, rom_word}
 use Rattle.dvg_words.specs.Decoding.{cell_at}
 use Rattle.dvg_words.specs.Beam.{InWindow}
 use Rattle.dvg_words.specs.declared.instruction.Cell.{Cell}
@@ -28,7 +28,7 @@ use Rattle.dvg_check.specs.declared.fault.ShapeWhy.TheVariants as shape
 use Rattle.dvg_check.specs.Rules.{AtLast, AsClaimed, ShapeKeeps, CellKeeps, Good}
 use Rattle.dvg_c.specs.Kept.{IsKept}
 use Rattle.dvg_cert.specs.Entry.{IsKey, IsEnd, IsBox, IsEntry}
-use Rattle.dvg_cert.specs.Order.{KeyBefore, Before, IsRising, IsCertificate}
+use Rattle.dvg_cert.specs.Order.{KeyBefore, Before, IsRising}
 use Rattle.dvg_cert.specs.declared.entry.Entry.{Entry}
 use Rattle.dvg_cert.specs.declared.entry.Key.{Key}
 use Rattle.dvg_cert.specs.declared.entry.Key.TheVariants.{At, Any}
@@ -141,17 +141,8 @@ Good-prop mode w rom list =
 
 -- ---- what is kept
 
-IsMap-prop : (map : MemoryMap) → IsProp (IsMap map)
-IsMap-prop map = hlevel props
-
-IsRom-prop : (rom : Rom) → IsProp (IsRom rom)
-IsRom-prop rom = hlevel props
-
 IsWindow-prop : (w : Window) → IsProp (IsWindow w)
 IsWindow-prop w = hlevel props
-
-Window-set : (a b : Window) → IsProp (a ≡ b)
-Window-set a b = hlevel props
 
 -- the zone that a board clips is no part of the screen
 zone_outside : (w : Window) → IsWindow w → w ≡ clipped → ⊥
@@ -161,24 +152,14 @@ IsWindowOrZone-prop : (w : Window) → IsProp (IsWindowOrZone w)
 IsWindowOrZone-prop w (inl p) (inl q) = ap inl (IsWindow-prop w p q)
 IsWindowOrZone-prop w (inl p) (inr q) = absurd (zone_outside w p q)
 IsWindowOrZone-prop w (inr p) (inl q) = absurd (zone_outside w q p)
-IsWindowOrZone-prop w (inr p) (inr q) = ap inr (Window-set w clipped p q)
+IsWindowOrZone-prop w (inr p) (inr q) = let same : IsProp (w ≡ clipped) = hlevel props in ap inr (same p q)
 
 IsFor-prop : (machine : Machine) (w : Window) → IsProp (IsFor machine w)
 IsFor-prop Profile w = IsWindow-prop w
 IsFor-prop Board w = IsWindowOrZone-prop w
 
-IsCertificate-prop : (shapes : Shapes) → IsProp (IsCertificate shapes.rom.map shapes.list)
-IsCertificate-prop shapes a b = λ i. record {
-  map_is = IsMap-prop shapes.rom.map a.map_is b.map_is i;
-  each = AllByRecursion-prop (IsEntry shapes.rom.map.rom_first shapes.rom.map.rom_last) (IsEntry-prop _ _) shapes.list a.each b.each i;
-  rising = IsRising-prop shapes.list a.rising b.rising i;
-  few = le_prop a.few b.few i;
-}
+IsEach-prop : (first last : ℕ) (es : List Entry) → IsProp (AllByRecursion (IsEntry first last) es)
+IsEach-prop first last = AllByRecursion-prop (IsEntry first last) (IsEntry-prop first last)
 
 pub IsKept-prop : (shapes : Shapes) → IsProp (IsKept shapes)
-IsKept-prop shapes a b = λ i. record {
-  window = IsFor-prop shapes.rom.machine shapes.window a.window b.window i;
-  rom = IsRom-prop shapes.rom a.rom b.rom i;
-  list = IsCertificate-prop shapes a.list b.list i;
-  good = Good-prop shapes.mode shapes.window shapes.rom shapes.list a.good b.good i;
-}
+IsKept-prop shapes = hlevel (props, IsFor-prop, IsEach-prop, IsRising-prop, Good-prop)

@@ -3,14 +3,14 @@ use Rattle.std.specs.Prelude.{◌≡◌, ◌≤◌, ℕ, List, Result, Ok, Err}
 use Rattle.dvg_words.specs.Values.{MemoryMap, Window, IsMap, IsFor}
 use Rattle.dvg_check.specs.declared.verdict.Yes.{Yes}
 use Rattle.dvg_make.specs.declared.judging.FrameRefusal.{FrameRefusal}
+use Rattle.dvg_cmd.specs.declared.frame_judge.OwnCertificates.{OwnCertificates}
 use Rattle.dvg_cmd.specs.Frames.{VerdictOnBytes, IsAccepted}
 use Rattle.dvg_c.specs.declared.answer.Answer.{Answer}
-use Rattle.dvg_c.specs.declared.answer.TheConstants.{BAD_MACHINE, BAD_MAP, BAD_WINDOW}
 use Rattle.dvg_c.specs.declared.machine.TheConstants.{BOARD}
-pub use Rattle.dvg_c.specs.declared.alone.OutOfRange.{OutOfRange}
-pub use Rattle.dvg_c.specs.declared.alone.OutOfRange.TheVariants as bad
+use Rattle.dvg_c.specs.declared.answer.OutOfRange.{OutOfRange}
+use Rattle.dvg_c.specs.declared.answer.OutOfRange.TheVariants as bad
 use Rattle.dvg_c.specs.Kept.{machine_of}
-use Rattle.dvg_c.specs.Told.{numbered, told_own}
+use Rattle.dvg_c.specs.Told.{bad_number, numbered, told_own, yes_of}
 
 -- the number stands for a machine, a ROM may lie there, and the window is one for that machine
 pub record AreTaken (machine : ℕ) (map : MemoryMap) (w : Window) : Type 0 where
@@ -24,16 +24,17 @@ IsBad machine map w bad.Machine = machine ≤ BOARD → ⊥
 IsBad machine map w bad.Map = (machine ≤ BOARD) × (IsMap map → ⊥)
 IsBad machine map w bad.Window = (machine ≤ BOARD) × IsMap map × (IsFor (machine_of machine) w → ⊥)
 
-abbrev pub bad_number : OutOfRange → ℕ
-bad_number bad.Machine = BAD_MACHINE
-bad_number bad.Map = BAD_MAP
-bad_number bad.Window = BAD_WINDOW
-
 -- what is out of range, or the verdict on the frame's bytes by its own certificate
 abbrev pub AloneVerdict : ℕ → List ℕ → MemoryMap → List ℕ → ℕ → Window → Result (Result Yes FrameRefusal) OutOfRange → Type 0
 AloneVerdict machine rom map frame budget w (Ok v) =
     AreTaken machine map w × VerdictOnBytes (machine_of machine) rom map frame budget w v
 AloneVerdict machine rom map frame budget w (Err b) = IsBad machine map w b
+
+-- what certificates of frames' own judge is what C passes
+abbrev pub JudgesAlone : ℕ → List ℕ → MemoryMap → ℕ → Window → OwnCertificates → Type 0
+JudgesAlone machine rom map budget w own =
+    (frame : List ℕ) (v : Result Yes FrameRefusal) → VerdictOnBytes own.machine own.rom.now own.map frame own.budget own.window v
+    → AloneVerdict machine rom map frame budget w (Ok v)
 
 abbrev pub told_alone : Result (Result Yes FrameRefusal) OutOfRange → Answer
 told_alone (Ok v) = told_own v
@@ -43,10 +44,6 @@ told_alone (Err b) = numbered (bad_number b)
 abbrev pub TellsAlone : ℕ → List ℕ → MemoryMap → List ℕ → ℕ → Window → Answer → Type 0
 TellsAlone machine rom map frame budget w a =
     (v : Result (Result Yes FrameRefusal) OutOfRange) × AloneVerdict machine rom map frame budget w v × (a ≡ told_alone v)
-
--- the counts of what is accepted
-abbrev pub yes_of : Answer → Yes
-yes_of a = record { shapes = a.shapes; words = a.words; depth = a.depth }
 
 -- every run of the frame is safe, and has just the answer's counts
 abbrev pub IsAcceptedAlone : ℕ → List ℕ → MemoryMap → List ℕ → ℕ → Window → Answer → Type 0

@@ -2,6 +2,7 @@
 use Rattle.std.specs.Prelude.{◌≡◌, ◌≤◌, ◌==◌, ℕ, List, [], length, sum, Option, Some, Result, Ok, Err, if◌then◌else◌}
 use Rattle.std.specs.List.{concat}
 use Rattle.dvg_words.specs.Values.{MemoryMap, IsMap}
+use Rattle.dvg_words.specs.declared.machine.Machine.{Machine}
 use Rattle.dvg_cert.specs.declared.entry.Key.{Key}
 use Rattle.dvg_cert.specs.declared.entry.Key.TheVariants.{At, Any}
 use Rattle.dvg_make.specs.declared.fault.MakeFault.TheVariants as make
@@ -42,22 +43,22 @@ RefusesCut bytes lengths other = ⊥
 abbrev pub holding : List (List ℕ) → List (Option (List ℕ))
 holding frames = of_each Some frames
 
--- the text of the certificate for a ROM's bytes, roots and frames, or why there is none: the first of a bad machine, a bad map, lengths
--- that don't add up to those of the bytes, and what the maker's run tells; a want of memory says nothing
+-- the text of the certificate on a machine, for a ROM's bytes at a map, roots and frames, or why there is none: lengths that don't add up
+-- to those of the bytes, or what the maker's run tells; a want of memory says nothing
+abbrev pub RunVerdict : Machine → List ℕ → MemoryMap → List (ℕ × Key) → List ℕ → List ℕ → Result (List ℕ) Unmade → Type 0
+RunVerdict machine rom map roots bytes lengths (Ok text) =
+    (frames : List (List ℕ)) × AreCut bytes lengths frames
+    × WritesMade (MakesForFrames machine (Some rom) map roots (holding frames)) map (Some []) (Some text)
+RunVerdict machine rom map roots bytes lengths (Err (unmade.Run f)) =
+    (frames : List (List ℕ)) × AreCut bytes lengths frames × FramesFaultMeans machine (Some rom) map roots (holding frames) f
+RunVerdict machine rom map roots bytes lengths (Err u) = RefusesCut bytes lengths u
+
+-- the first of a bad machine, a bad map, and what comes of the run on that machine
 abbrev pub MakeVerdict : ℕ → List ℕ → MemoryMap → List (ℕ × Key) → List ℕ → List ℕ → Result (List ℕ) Unmade → Type 0
-MakeVerdict machine rom map roots bytes lengths (Ok text) =
-    (machine ≤ BOARD) × IsMap map
-    × ((frames : List (List ℕ)) × AreCut bytes lengths frames
-    × WritesMade (MakesForFrames (machine_of machine) (Some rom) map roots (holding frames)) map (Some []) (Some text))
 MakeVerdict machine rom map roots bytes lengths (Err unmade.Machine) = machine ≤ BOARD → ⊥
 MakeVerdict machine rom map roots bytes lengths (Err unmade.Map) = (machine ≤ BOARD) × (IsMap map → ⊥)
-MakeVerdict machine rom map roots bytes lengths (Err unmade.Lengths) =
-    (machine ≤ BOARD) × IsMap map × (sum lengths ≡ length bytes → ⊥)
-MakeVerdict machine rom map roots bytes lengths (Err unmade.Memory) = Unit {0}
-MakeVerdict machine rom map roots bytes lengths (Err (unmade.Run f)) =
-    (machine ≤ BOARD) × IsMap map
-    × ((frames : List (List ℕ)) × AreCut bytes lengths frames
-    × FramesFaultMeans (machine_of machine) (Some rom) map roots (holding frames) f)
+MakeVerdict machine rom map roots bytes lengths answer =
+    (machine ≤ BOARD) × IsMap map × RunVerdict (machine_of machine) rom map roots bytes lengths answer
 
 -- the number of the maker's run, with the place of its refusal: a frame's call, or none where it is a root's; all is read from memory and
 -- written into it, so that no reader fails, and a failed write is a want of it

@@ -6,8 +6,10 @@ use Rattle.dvg_make.specs.declared.judging.FrameRefusal.{FrameRefusal}
 use Rattle.dvg_spelling.specs.Report.{answer_text}
 use Rattle.dvg_spelling.specs.declared.outcome.FrameAnswer.TheVariants.{Judged}
 use Rattle.dvg_c.specs.declared.text.TextAnswer.{TextAnswer}
-use Rattle.dvg_c.specs.declared.text.TheConstants.{SHORT_BUFFER, NO_TEXT_MEMORY}
-use Rattle.dvg_c.specs.Alone.{OutOfRange, AloneVerdict, bad_number, told_alone}
+use Rattle.dvg_c.specs.declared.answer.TheConstants.{SHORT_BUFFER, NO_TEXT_MEMORY}
+use Rattle.dvg_c.specs.declared.answer.OutOfRange.{OutOfRange}
+use Rattle.dvg_c.specs.Told.{bad_number}
+use Rattle.dvg_c.specs.Alone.{AloneVerdict, told_alone}
 
 -- the text stands whole at the buffer's start, and what is behind it is as it was; where it is longer than the buffer, all of the buffer
 -- is as it was

@@ -1,5 +1,5 @@
 -- What the plain structs that C sees stand for. All of it is this project's own.
-use Rattle.std.specs.Prelude.{◌≡◌, ℕ, Result, Ok, Err}
+use Rattle.std.specs.Prelude.{◌≡◌, ℕ, Option, Some, None, Result, Ok, Err}
 use Rattle.dvg_words.specs.Values.{Window, MemoryMap}
 use Rattle.dvg_cert.specs.declared.entry.Key.{Key}
 use Rattle.dvg_cert.specs.declared.entry.Key.TheVariants.{At, Any}
@@ -14,7 +14,9 @@ use Rattle.dvg_make.specs.declared.judging.FrameRefusal.TheVariants.{Make, NoMem
 use Rattle.dvg_c.specs.declared.window.WindowEnds.{WindowEnds}
 use Rattle.dvg_c.specs.declared.map.MapEnds.{MapEnds}
 use Rattle.dvg_c.specs.declared.answer.Answer.{Answer}
-use Rattle.dvg_c.specs.declared.answer.TheConstants.{ANY_SCALE}
+use Rattle.dvg_c.specs.declared.answer.OutOfRange.{OutOfRange}
+use Rattle.dvg_c.specs.declared.answer.OutOfRange.TheVariants as bad
+use Rattle.dvg_c.specs.declared.answer.TheConstants.{ANY_SCALE, BAD_MACHINE, BAD_MAP, BAD_WINDOW}
 
 -- the window between these ends
 abbrev pub window_of : WindowEnds → Window
@@ -23,6 +25,11 @@ window_of w = record { x_min = w.x_min; x_max = w.x_max; y_min = w.y_min; y_max 
 -- the map between these ends
 abbrev pub map_of : MapEnds → MemoryMap
 map_of m = record { rom_first = m.first; rom_last = m.last }
+
+-- what C passes was tested: what stands for it is taken, in range, or there is none, since it is not
+abbrev pub Tested : {A : Type 0} → (A → Type 0) → A → Option A → Type 0
+Tested InRange x (Some y) = (y ≡ x) × InRange x
+Tested InRange x None = InRange x → ⊥
 
 -- a global scale, or the number after the last for any
 abbrev pub told_key : Key → ℕ
@@ -33,9 +40,19 @@ told_key Any = ANY_SCALE
 abbrev pub numbered : ℕ → Answer
 numbered n = record { shapes = 0; words = 0; line = 0; word = 0; shape = 0; scale = 0; depth = 0; number = n; call = 0 }
 
+-- what is out of range
+abbrev pub bad_number : OutOfRange → ℕ
+bad_number bad.Machine = BAD_MACHINE
+bad_number bad.Map = BAD_MAP
+bad_number bad.Window = BAD_WINDOW
+
 -- what is accepted, with its counts
 abbrev pub told_yes : Yes → Answer
 told_yes y = record (numbered 0) { shapes = y.shapes; words = y.words; depth = y.depth }
+
+-- the counts of what is accepted
+abbrev pub yes_of : Answer → Yes
+yes_of a = record { shapes = a.shapes; words = a.words; depth = a.depth }
 
 -- a refusal, with its number and its place
 abbrev pub told_refusal : Refusal → Answer

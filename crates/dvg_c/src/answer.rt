@@ -1,7 +1,9 @@
 //! What a judgement comes to, in plain numbers.
 
-ghost use Rattle.std.specs.Prelude.{◌≡◌};
-ghost use Rattle.dvg_c.specs.Told.{told_key, numbered, told_yes, told_refusal, told, told_fault, told_own};
+ghost use Rattle.std.specs.Prelude.{◌≡◌, ◌≢◌, Ok};
+ghost use Rattle.dvg_cert.specs.Entry.{IsKey};
+ghost use Rattle.dvg_c.specs.Kept.{key_of};
+ghost use Rattle.dvg_c.specs.Told.{bad_number, told_key, numbered, told_yes, told_refusal, told, told_fault, told_own, yes_of};
 
 use dvg_cert::Key;
 use dvg_check::{Refusal, Yes};
@@ -45,6 +47,12 @@ pub const BAD_MACHINE: u8 = 82;
 /// The number of a bad map.
 pub const BAD_MAP: u8 = 83;
 
+/// The number of a buffer that is too short.
+pub const SHORT_BUFFER: u8 = 84;
+
+/// The number of a want of memory for a text.
+pub const NO_TEXT_MEMORY: u8 = 85;
+
 /// The number of lengths that don't add up to that of the bytes.
 pub const BAD_LENGTHS: u8 = 86;
 
@@ -54,9 +62,35 @@ pub const NO_CALL: u16 = 0xFFFF;
 /// What stands for the key of any scale.
 pub const ANY_SCALE: u8 = 16;
 
+/// What of a call's parts is out of range.
+#[derive(Clone, Copy)]
+pub enum OutOfRange {
+    /// The number stands for no machine.
+    Machine,
+    /// No ROM lies there.
+    Map,
+    /// It is no window for the machine.
+    Window,
+}
+
+impl OutOfRange {
+    /// Its number.
+    pub fn number(self) -> u8
+        ensures value { result ≡ bad_number self }
+        ensures refused { result ≢ 0 }
+    {
+        match self {
+            OutOfRange::Machine => BAD_MACHINE,
+            OutOfRange::Map => BAD_MAP,
+            OutOfRange::Window => BAD_WINDOW,
+        }
+    }
+}
+
 /// A number that stands for a key.
 pub fn scale_of(key: Key) -> u8
-    ensures { result ≡ told_key key }
+    ensures value { result ≡ told_key key }
+    ensures key { IsKey key → key_of result ≡ key }
 {
     match key {
         Key::At(scale) => scale,
@@ -119,7 +153,8 @@ pub fn refused(refusal: &Refusal) -> Answer
 
 /// What a verdict comes to.
 pub fn answer_of(verdict: &Result<Yes, Refusal>) -> Answer
-    ensures { result ≡ told verdict.now }
+    ensures value { result ≡ told verdict.now }
+    ensures accepted { result.number ≡ 0 → verdict.now ≡ Ok (yes_of result) }
 {
     match verdict {
         Ok(yes) => accepted(yes),
@@ -140,7 +175,8 @@ pub fn unmade(why: EntryFault) -> Answer
 
 /// What a verdict on a frame by its own certificate comes to.
 pub fn own_answer(verdict: &Result<Yes, FrameRefusal>) -> Answer
-    ensures { result ≡ told_own verdict.now }
+    ensures value { result ≡ told_own verdict.now }
+    ensures accepted { result.number ≡ 0 → verdict.now ≡ Ok (yes_of result) }
 {
     match verdict {
         Ok(yes) => accepted(yes),

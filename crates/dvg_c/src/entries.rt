@@ -53,15 +53,8 @@ fn find_in(entries: &[KeptEntry], addr: u16, key: Key) -> Option<Entry>
     ensures { result ≡ entry_at (map entry_of entries.now) addr key }
 {
     let at = entries.partition_point(|entry| stands_before(entry, addr, key));
-    if at == entries.len() {
-        return None;
-    }
-    let entry = entry_of(&entries[at]);
-    if entry.is_at(addr, key) {
-        Some(entry)
-    } else {
-        None
-    }
+    let entry = entry_of(entries.get(at)?);
+    entry.is_at(addr, key).then_some(entry)
 }
 
 /// Whether an entry stands before the place of an address and key.

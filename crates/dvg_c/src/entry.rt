@@ -147,14 +147,6 @@ pub fn entry_of(entry: &KeptEntry) -> Entry
     }
 }
 
-/// A key in plain numbers.
-fn kept_key(key: Key) -> u8
-    requires { IsKey key }
-    ensures { key_of result ≡ key }
-{
-    scale_of(key)
-}
-
 /// An entry in plain numbers.
 pub fn kept_entry(entry: &Entry) -> KeptEntry
     requires key { IsKey entry.now.key }
@@ -166,8 +158,8 @@ pub fn kept_entry(entry: &Entry) -> KeptEntry
         lit: kept_box(entry.lit),
         words: entry.words,
         addr: entry.addr,
-        key: kept_key(entry.key),
-        scale: kept_key(entry.scale),
+        key: scale_of(entry.key),
+        scale: scale_of(entry.scale),
         depth: entry.depth,
     }
 }

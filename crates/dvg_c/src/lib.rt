@@ -5,10 +5,10 @@
 
 mod alone;
 mod answer;
-mod check;
 mod entries;
 mod entry;
 mod explain;
+mod exports;
 mod frame;
 mod judge;
 mod machine;
@@ -17,19 +17,18 @@ mod map;
 mod shapes;
 mod stage;
 mod text;
-mod version;
 mod window;
 
-pub use alone::dvgcheck_frame_alone;
 pub use answer::Answer;
-pub use check::{dvgcheck_check, dvgcheck_check_exact, dvgcheck_check_exact_on, dvgcheck_check_on};
 pub use entry::{KeptBox, KeptEnd, KeptEntry};
-pub use explain::dvgcheck_explain;
-pub use frame::{dvgcheck_frame, dvgcheck_frame_on};
-pub use judge::{dvgcheck_judge, dvgcheck_judge_exact, dvgcheck_judge_exact_on, dvgcheck_judge_on};
-pub use make::{Root, dvgcheck_make};
+pub use exports::{
+    dvgcheck_check, dvgcheck_check_exact, dvgcheck_check_exact_on, dvgcheck_check_on,
+    dvgcheck_explain, dvgcheck_frame, dvgcheck_frame_alone, dvgcheck_frame_on, dvgcheck_judge,
+    dvgcheck_judge_exact, dvgcheck_judge_exact_on, dvgcheck_judge_on, dvgcheck_make,
+    dvgcheck_version,
+};
+pub use make::Root;
 pub use map::MapEnds;
 pub use shapes::KeptShapes;
 pub use text::TextAnswer;
-pub use version::dvgcheck_version;
 pub use window::WindowEnds;

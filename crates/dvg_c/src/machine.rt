@@ -1,25 +1,24 @@
 //! Machines, as C gives them.
 
-ghost use Rattle.std.specs.Prelude.{◌≡◌, ◌≤◌, IfSome, IfNone};
+ghost use Rattle.std.specs.Prelude.{◌≡◌, ◌≤◌};
+ghost use Rattle.dvg_c.specs.Told.{Tested};
 ghost use Rattle.dvg_c.specs.Kept.{machine_of};
 
 use dvg_words::Machine;
 
 /// The fixed-point profile, which the calls without a machine are about.
-pub const PROFILE: u8 = 0;
+pub const PROFILE: u32 = 0;
 
 /// A board of the DVG.
-pub const BOARD: u8 = 1;
+pub const BOARD: u32 = 1;
 
 /// The machine that a number stands for; `None` where it stands for none.
 pub fn machine_numbered(number: u32) -> Option<Machine>
-    ensures some { IfSome result (λ machine. machine ≡ machine_of number) }
-    ensures range { IfSome result (λ _. number ≤ BOARD) }
-    ensures none { IfNone result (number ≤ BOARD → ⊥) }
+    ensures { Tested (λ _. number ≤ BOARD) (machine_of number) result }
 {
     match number {
-        0 => Some(Machine::Profile),
-        1 => Some(Machine::Board),
+        PROFILE => Some(Machine::Profile),
+        BOARD => Some(Machine::Board),
         _ => None,
     }
 }
@@ -36,7 +35,7 @@ pub fn kept_machine(machine: Machine) -> u8
     ensures { machine_of result ≡ machine }
 {
     match machine {
-        Machine::Profile => PROFILE,
-        Machine::Board => BOARD,
+        Machine::Profile => 0,
+        Machine::Board => 1,
     }
 }

@@ -1,17 +1,15 @@
 //! The certificate that the maker makes, as a text in C's buffer.
 
-ghost use Rattle.std.specs.Prelude.{◌≡◌, ℕ, List, Result, Ok, Err, Some, Option, length, sum, IfOk, IfErr};
+ghost use Rattle.std.specs.Prelude.{◌≡◌, ℕ, List, Ok, Err, IfOk, IfErr};
 ghost use Rattle.dvg_spelling.specs.Each.{of_each};
-ghost use Rattle.dvg_c.specs.Told.{map_of};
-ghost use Rattle.dvg_c.specs.Making.{AreCut, IsMade, MakeVerdict, RefusesCut, root_of, told_run, told_unmade, unmade_frame};
+ghost use Rattle.dvg_c.specs.Making.{AreCut, RefusesCut, RunVerdict, TellsMade, root_of, told_run, told_unmade, unmade_frame};
 
 use crate::answer::{
     ANY_SCALE, Answer, BAD_LENGTHS, BAD_MACHINE, BAD_MAP, NO_CALL, numbered, unmade,
 };
-use crate::machine::machine_numbered;
-use crate::map::{MapEnds, map_between};
-use crate::text::{TextAnswer, no_text, put_text};
+use crate::text::{TextAnswer, no_text};
 use dvg_cmd::{Counted, FramesRunFault, Key, MakeFault, MakeRunFault, run_make_frames};
+use dvg_words::{Machine, RomMap};
 use std::alloc::{AllocError, Global};
 
 /// The number of a want of memory, as of the maker's.
@@ -91,25 +89,19 @@ fn frames_of<'a>(
     Ok(readers)
 }
 
-/// The text of the certificate, or why there is none.
-fn made_text(
+/// The text of the certificate on a machine, for a ROM that lies at a map, or why there is none.
+pub fn made_text(
     alloc: Global,
-    machine: u32,
+    machine: Machine,
+    map: RomMap,
     rom: &[u8],
-    map: MapEnds,
     roots: &[Root],
     frames: &[u8],
     lengths: &[u32],
 ) -> Result<Vec<u8>, Unmade>
-    ensures ok { IfOk result (λ text. MakeVerdict machine rom.now (map_of map) (of_each root_of roots.now) frames.now lengths.now (Ok text.items)) }
-    ensures err { IfErr result (λ unmade. MakeVerdict machine rom.now (map_of map) (of_each root_of roots.now) frames.now lengths.now (Err unmade)) }
+    ensures ok { IfOk result (λ text. RunVerdict machine rom.now map (of_each root_of roots.now) frames.now lengths.now (Ok text.items)) }
+    ensures err { IfErr result (λ unmade. RunVerdict machine rom.now map (of_each root_of roots.now) frames.now lengths.now (Err unmade)) }
 {
-    let Some(machine) = machine_numbered(machine) else {
-        return Err(Unmade::Machine);
-    };
-    let Some(map) = map_between(map) else {
-        return Err(Unmade::Map);
-    };
     let mut readers = frames_of(alloc, frames, lengths)?;
     let Ok(roots) = roots_of(alloc, roots) else {
         return Err(Unmade::Memory);
@@ -178,35 +170,13 @@ fn unmade_frame(unmade: &Unmade) -> usize
     }
 }
 
-/// Makes a certificate for roots and frames, and writes its text into a buffer: what `dvgcheck make` writes, for C.
-///
-/// `machine` is 0 for the profile's and 1 for the board's, and `map` where the ROM lies. The frames lie one behind the other in `frames`,
-/// and `lengths` says how many bytes each of them has. The answer's number is 82 for another machine, 83 for another map, 86 where the
-/// lengths don't add up to that of the bytes, else the first that applies of 1, 2 and 60 to 63, or 0; and `frame` is with 2 the frame, and
-/// with 60 to 63 that of the answer's call. The number is 0 where the whole text stands at the buffer's start, 84 where the buffer is too
-/// short, and then the length is what is needed, and nothing is written; else it is the answer's, and nothing is written. Takes memory
-/// for the entries, for the text and for what was read of the frames, and gives it back.
-#[unsafe(no_mangle)]
-pub extern "C" fn dvgcheck_make(
-    alloc: Global,
-    machine: u32,
-    rom: &[u8],
-    map: MapEnds,
-    roots: &[Root],
-    frames: &[u8],
-    lengths: &[u32],
-    text: &mut [u8],
-) -> TextAnswer
-    ensures { IsMade machine rom.now (map_of map) (of_each root_of roots.now) frames.now lengths.now text.old text.new result }
+/// What is told where there is no certificate.
+pub fn no_certificate(unmade: &Unmade) -> TextAnswer
+    ensures { (buffer : List ℕ) → TellsMade (Err unmade.now) buffer buffer result }
 {
-    match made_text(alloc, machine, rom, map, roots, frames, lengths) {
-        Ok(made) => put_text(&made, numbered(0), text),
-        Err(unmade) => {
-            let answer = unmade_answer(&unmade);
-            TextAnswer {
-                frame: unmade_frame(&unmade),
-                ..no_text(answer.number, answer)
-            }
-        }
+    let answer = unmade_answer(unmade);
+    TextAnswer {
+        frame: unmade_frame(unmade),
+        ..no_text(answer.number, answer)
     }
 }

@@ -1,8 +1,7 @@
 //! Where a ROM lies, as C gives it.
 
-ghost use Rattle.std.specs.Prelude.{◌≡◌, IfSome, IfNone};
 ghost use Rattle.dvg_words.specs.Values.{IsMap};
-ghost use Rattle.dvg_c.specs.Told.{map_of};
+ghost use Rattle.dvg_c.specs.Told.{Tested, map_of};
 
 use dvg_words::RomMap;
 
@@ -16,9 +15,7 @@ pub struct MapEnds {
 
 /// The map between these ends; `None` unless 400 <= `first` <= `last` <= BFF.
 pub fn map_between(ends: MapEnds) -> Option<RomMap>
-    ensures some { IfSome result (λ map. map ≡ map_of ends) }
-    ensures range { IfSome result IsMap }
-    ensures none { IfNone result (IsMap (map_of ends) → ⊥) }
+    ensures { Tested IsMap (map_of ends) result }
 {
     RomMap::new(ends.first, ends.last)
 }

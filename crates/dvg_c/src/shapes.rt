@@ -1,6 +1,6 @@
 //! Shapes that were judged, in memory of C's.
 
-ghost use Rattle.std.specs.Prelude.{◌≡◌, ◌≢◌, ◌≤◌};
+ghost use Rattle.std.specs.Prelude.{◌≢◌, ◌≤◌};
 ghost use Rattle.dvg_cert.specs.declared.limits.TheConstants.{MOST_ENTRIES};
 ghost use Rattle.dvg_c.specs.Kept.{IsKept, kept_shapes};
 

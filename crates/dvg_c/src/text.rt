@@ -3,7 +3,7 @@
 ghost use Rattle.std.specs.Prelude.{◌≡◌};
 ghost use Rattle.dvg_c.specs.Texts.{IsPut};
 
-use crate::answer::Answer;
+use crate::answer::{Answer, SHORT_BUFFER};
 
 /// What a call that writes a text comes to.
 #[repr(C)]
@@ -18,12 +18,6 @@ pub struct TextAnswer {
     /// 0 where the text stands whole in the buffer, 84 where the buffer is too short for it, else why there is none.
     pub number: u8,
 }
-
-/// The number of a buffer that is too short.
-pub const SHORT_BUFFER: u8 = 84;
-
-/// The number of a want of memory for a text.
-pub const NO_TEXT_MEMORY: u8 = 85;
 
 /// Puts a text at the start of a buffer, if it fits.
 pub fn put_text(text: &[u8], answer: Answer, buffer: &mut [u8]) -> TextAnswer

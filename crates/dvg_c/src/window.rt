@@ -1,8 +1,8 @@
 //! Windows, as C gives them.
 
-ghost use Rattle.std.specs.Prelude.{◌≡◌, ◌↔◌, IsTrue, IfSome, IfNone};
+ghost use Rattle.std.specs.Prelude.{◌≡◌, ◌↔◌, IsTrue};
 ghost use Rattle.dvg_words.specs.Values.{IsWindow, IsFor};
-ghost use Rattle.dvg_c.specs.Told.{window_of};
+ghost use Rattle.dvg_c.specs.Told.{Tested, window_of};
 
 use dvg_words::{CLIPPED, Machine, Window};
 
@@ -18,9 +18,7 @@ pub struct WindowEnds {
 
 /// The part of the screen between these ends; `None` where a least place is below 0 or over the greatest, or a greatest over 1023.
 pub fn window_between(ends: WindowEnds) -> Option<Window>
-    ensures some { IfSome result (λ window. window ≡ window_of ends) }
-    ensures range { IfSome result IsWindow }
-    ensures none { IfNone result (IsWindow (window_of ends) → ⊥) }
+    ensures { Tested IsWindow (window_of ends) result }
 {
     let x_min = u16::try_from(ends.x_min).ok()?;
     let x_max = u16::try_from(ends.x_max).ok()?;
@@ -41,9 +39,7 @@ fn are_ends_of(ends: WindowEnds, window: &Window) -> bool
 
 /// The window between these ends for a machine: a part of the screen, or, on the board, what it clips; `None` for all other ends.
 pub fn window_for(machine: Machine, ends: WindowEnds) -> Option<Window>
-    ensures some { IfSome result (λ window. window ≡ window_of ends) }
-    ensures range { IfSome result (IsFor machine) }
-    ensures none { IfNone result (IsFor machine (window_of ends) → ⊥) }
+    ensures { Tested (IsFor machine) (window_of ends) result }
 {
     if are_ends_of(ends, &CLIPPED) && CLIPPED.is_for(machine) {
         return Some(CLIPPED);

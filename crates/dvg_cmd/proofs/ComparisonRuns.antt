@@ -1,6 +1,6 @@
 -- What a run that compares two ROMs answers, over plain values.
-use Rattle.dvg_cmd.proofs.Common.{◌≡◌, ◌≢◌, ◌⊎◌, ℕ, List, [], ◌∷◌, length, Option, true, refl, sym, ap, ◌∙◌, subst, Result, Ok, Err, IfErr, Machine, Rom, IsRomLength, rom_on, words_of, MemoryMap, IsMap, Key, of_each, AreFrames, IsPrefix, ArePrefixes}
-use Rattle.std.proofs.Common.{Bool}
+use Rattle.dvg_cmd.proofs.Common.{◌≡◌, ℕ, List, ◌∷◌, ◌++◌, length, Option, true, refl, sym, ap, ◌∙◌, subst, Result, Ok, Err, Machine, Rom, IsRomLength, rom_on, MemoryMap, IsMap, Key, IsPrefix}
+use Rattle.std.specs.Prelude.{IsErrAnd}
 use Rattle.dvg_diff.specs.Comparing.{IsComparison}
 use Rattle.dvg_diff.specs.declared.comparing.Comparison.{Comparison}
 use Rattle.dvg_cert.specs.Devices.{count_after}
@@ -9,37 +9,30 @@ use Rattle.dvg_spelling.specs.declared.fault.FramesRunFault.{FramesRunFault}
 use Rattle.dvg_spelling.specs.declared.fault.FramesRunFault.TheVariants as fault
 use Rattle.dvg_cmd.specs.MakingFrames.{FailedAfter, blames_frames_rom}
 use Rattle.dvg_cmd.specs.Comparing.{ComparesFor}
+use Rattle.dvg_cmd.specs.Private.Inputs.{AreInputImages}
 use Rattle.dvg_cmd.proofs.Whole.{held_bytes, held_told}
 use Rattle.dvg_cmd.proofs.MakerRuns.{whole_length, whole_image}
-use Rattle.dvg_cmd.proofs.SeveralFrames.{held_each}
-use Rattle.dvg_cmd.proofs.FramesRuns.{all_inputs, words_same}
+use Rattle.dvg_cmd.proofs.FramesRuns.{on_all}
 
-module _ (machine : Machine) (map : MemoryMap) (is : IsMap map) (rom other : Option (List ℕ)) (roots : List (ℕ × Key)) (rb ob : List ℕ) (image other_image : Rom)
-    (read : IsPrefix 4097 rom rb) (h : IsRomLength map (length rb) × (image ≡ rom_on machine map rb)) (other_read : IsPrefix 4097 other ob) (k : IsRomLength map (length ob) × (other_image ≡ rom_on machine map ob))
-    (readers : List (Option (List ℕ))) (frames : List (List ℕ)) (prefixes : ArePrefixes readers frames) (lengths : AreFrames frames) (words : List (List ℕ)) (same : words ≡ of_each words_of frames) where
+module _ {machine : Machine} {rom : Option (List ℕ)} {map : MemoryMap} {readers : List (Option (List ℕ))} {image : Rom} {words : List (List ℕ)} (images : AreInputImages machine rom map readers image words)
+    (is : IsMap map) (other : Option (List ℕ)) (other_image : Rom) (ob : List ℕ) (read : IsPrefix 4097 other ob) (h : IsRomLength map (length ob) × (other_image ≡ rom_on machine map ob)) (roots : List (ℕ × Key)) where
   pub compared : (c : Comparison) → IsComparison image other_image roots words c → ComparesFor machine rom other map roots readers c
-  unfolding all_inputs
   compared c comparison =
       record {
-        all = all_inputs machine map is rom roots rb image read h readers frames prefixes lengths;
+        all = images.all;
         other_bytes = held_bytes other ob;
         other_held = held_told other ob;
-        other_length = whole_length map is other ob other_read k.0;
+        other_length = whole_length map is other ob read h.0;
         is =
-            subst (λ (x : Rom). IsComparison x (rom_on machine map (held_bytes other ob)) roots (of_each words_of (held_each readers frames)) c) (whole_image machine map is rom rb image read h)
-            (subst (λ (x : Rom). IsComparison image x roots (of_each words_of (held_each readers frames)) c) (whole_image machine map is other ob other_image other_read k)
-            (subst (λ (l : List (List ℕ)). IsComparison image other_image roots l c) (words_same machine map is rom roots rb image read h readers frames prefixes lengths words same) comparison));
+            on_all images (λ x ws. IsComparison x (rom_on machine map (held_bytes other ob)) roots ws c)
+            (subst (λ x. IsComparison image x roots words c) (whole_image machine map is other ob other_image read h) comparison);
       }
 
 -- ---- which ROM's reader failed
 
-module _ (f : FramesRunFault) (is : f ≡ fault.Plain maker.ReadRom) (a b c : ℕ) where
-  pub first_failed : c ≡ count_after true a → FailedAfter (blames_frames_rom {A = Bool} (Err f)) (a ∷ b ∷ []) (c ∷ b ∷ [])
-  first_failed e =
-      subst (λ (x : FramesRunFault). FailedAfter (blames_frames_rom {A = Bool} (Err x)) (a ∷ b ∷ []) (c ∷ b ∷ [])) (sym is)
-      (record { before = []; count = a; after = b ∷ []; old_is = refl; new_is = ap (λ (n : ℕ). n ∷ b ∷ []) e })
-
-  pub second_failed : (d : ℕ) → d ≡ a → c ≡ count_after true b → FailedAfter (blames_frames_rom {A = Bool} (Err f)) (a ∷ b ∷ []) (d ∷ c ∷ [])
-  second_failed d same e =
-      subst (λ (x : FramesRunFault). FailedAfter (blames_frames_rom {A = Bool} (Err x)) (a ∷ b ∷ []) (d ∷ c ∷ [])) (sym is)
-      (record { before = a ∷ []; count = b; after = []; old_is = refl; new_is = ap (λ (n : ℕ). n ∷ c ∷ []) same ∙ ap (λ (n : ℕ). a ∷ n ∷ []) e })
+pub rom_failed : {A : Type 0} (r : Result A FramesRunFault) (f : FramesRunFault) → IsErrAnd r (λ x. x ≡ f) → f ≡ fault.Plain maker.ReadRom → (olds news after : List ℕ) → news ≡ olds
+    → (old new : ℕ) → new ≡ count_after true old → FailedAfter (blames_frames_rom r) (olds ++ old ∷ after) (news ++ new ∷ after)
+rom_failed (Ok x) f e is olds news after same old new failed = absurd e
+rom_failed {A} (Err x) f e is olds news after same old new failed =
+    subst (λ y. FailedAfter (blames_frames_rom {A = A} (Err y)) (olds ++ old ∷ after) (news ++ new ∷ after)) (sym (e ∙ is))
+    (record { before = olds; count = old; after = after; old_is = refl; new_is = ap (λ l. l ++ new ∷ after) same ∙ ap (λ n. olds ++ n ∷ after) failed })

@@ -1,5 +1,5 @@
 -- What a run of the maker for frames answers, over plain values.
-use Rattle.dvg_cmd.proofs.Common.{◌≡◌, ◌<◌, ◌⊎◌, ℕ, List, [], ◌∷◌, length, Option, None, Some, inl, inr, refl, sym, ap, ◌∙◌, subst, arith, Result, Ok, Err, IfErr, Appends, Machine, AppendsPrefix, Rom, IsRomLength, rom_on, words_of, MemoryMap, IsMap, Window, Key, of_each, AreFrames, MakesForFrames, FramesFaultMeans, IsPrefix, ArePrefixes}
+use Rattle.dvg_cmd.proofs.Common.{◌≡◌, ◌<◌, ℕ, List, [], ◌∷◌, length, Option, None, Some, refl, sym, ap, ◌∙◌, subst, arith, Result, Ok, Err, IfErr, Appends, Machine, AppendsPrefix, Rom, IsRomLength, rom_on, words_of, MemoryMap, IsMap, Window, Key, of_each, AreFrames, MakesForFrames, FramesFaultMeans, ArePrefixes}
 use Rattle.std.specs.Prelude.{IsErrAnd}
 use Rattle.dvg_cert.specs.Grammar.{text_of}
 use Rattle.dvg_cmd.specs.Making.{WritesMade, WritesMadePrefix}
@@ -17,8 +17,9 @@ use Rattle.dvg_make.specs.declared.fault.MakeFault.TheVariants as making
 use Rattle.dvg_spelling.specs.Faults.{told_fault}
 use Rattle.dvg_spelling.specs.declared.fault.MakeRunFault.TheVariants as maker
 use Rattle.dvg_spelling.specs.declared.fault.FramesRunFault.TheVariants as fault
-use Rattle.dvg_cmd.specs.MakingFrames.{Inputs, RefusesInputs, RefusesMemory, FramesRunFault}
+use Rattle.dvg_cmd.specs.MakingFrames.{RefusesInputs, RefusesMemory, FramesRunFault}
 use Rattle.dvg_cmd.specs.Placing.{PlacesFor}
+use Rattle.dvg_cmd.specs.Private.Inputs.{AreRead, AreInputImages}
 use Rattle.dvg_cmd.specs.Private.Reading.{RefusesLengths}
 use Rattle.dvg_cmd.proofs.Whole.{held_bytes, held_told}
 use Rattle.dvg_cmd.proofs.MakerRuns.{whole_length, whole_image}
@@ -40,61 +41,70 @@ some_readers (r ∷ readers) (b ∷ frames) h some = omega arith
 some_readers [] (b ∷ frames) h some = absurd h
 some_readers (r ∷ readers) [] h some = absurd h
 
--- a fault of reading frames says no more than that there are some
-pub reading_refused : {A : Type 0} (machine : Machine) (r : Result A FramesRunFault) (rom : Option (List ℕ)) (map : MemoryMap) (roots : List (ℕ × Key)) (readers : List (Option (List ℕ))) (f : FramesRunFault)
-    → (f ≡ fault.ReadFrame) ⊎ (f ≡ fault.Plain (maker.Make making.Memory)) → 0 < length readers → IsErrAnd r (λ x. x ≡ f) → IfErr r (FramesFaultMeans machine rom map roots readers)
-reading_refused machine r rom map roots readers f (inl is) some same = told_err r f (FramesFaultMeans machine rom map roots readers) same (subst (λ x. FramesFaultMeans machine rom map roots readers x) (sym is) tt)
-reading_refused machine r rom map roots readers f (inr is) some same =
-    told_err r f (FramesFaultMeans machine rom map roots readers) same (subst (λ x. FramesFaultMeans machine rom map roots readers x) (sym is) (memory_refused machine rom map roots readers some))
+-- what was read of a ROM of the right length
+module _ {rom : Option (List ℕ)} {readers : List (Option (List ℕ))} {rb : List ℕ} {frames : List (List ℕ)} (read : AreRead rom readers rb frames) (machine : Machine) (map : MemoryMap) (is : IsMap map) (image : Rom)
+    (h : IsRomLength map (length rb) × (image ≡ rom_on machine map rb)) where
+  pub images_read : AreFrames frames → (words : List (List ℕ)) → words ≡ of_each words_of frames → AreInputImages machine rom map readers image words
+  images_read lengths words same =
+      let whole : frames ≡ held_each readers frames = each_same readers frames read.frame_prefixes lengths in
+      record {
+        all = record {
+          rom_bytes = held_bytes rom rb;
+          frame_bytes = held_each readers frames;
+          rom_held = held_told rom rb;
+          frames_held = each_held readers frames read.frame_prefixes;
+          rom_length = whole_length map is rom rb read.rom_prefix h.0;
+          frame_lengths = subst AreFrames whole lengths;
+        };
+        rom_is = whole_image machine map is rom rb image read.rom_prefix h;
+        words_are = same ∙ ap (λ l. of_each words_of l) whole;
+      }
 
-module _ (machine : Machine) (map : MemoryMap) (is : IsMap map) (rom : Option (List ℕ)) (roots : List (ℕ × Key)) (rb : List ℕ) (image : Rom) (read : IsPrefix 4097 rom rb) (h : IsRomLength map (length rb) × (image ≡ rom_on machine map rb))
-    (readers : List (Option (List ℕ))) (frames : List (List ℕ)) (prefixes : ArePrefixes readers frames) where
-  unfoldable pub all_inputs : AreFrames frames → Inputs rom map readers
-  all_inputs lengths =
+  pub lengths_refused : (roots : List (ℕ × Key)) (f : FramesRunFault) → RefusesLengths frames f → FramesFaultMeans machine rom map roots readers f
+  lengths_refused roots (fault.FrameLength n) wrong =
       record {
         rom_bytes = held_bytes rom rb;
         frame_bytes = held_each readers frames;
         rom_held = held_told rom rb;
-        frames_held = each_held readers frames prefixes;
-        rom_length = whole_length map is rom rb read h.0;
-        frame_lengths = subst AreFrames (each_same readers frames prefixes lengths) lengths;
+        frames_held = each_held readers frames read.frame_prefixes;
+        rom_length = whole_length map is rom rb read.rom_prefix h.0;
+        wrong = first_wrong readers frames n read.frame_prefixes wrong;
+      }
+  lengths_refused roots (fault.Plain (maker.Make making.Memory)) wrong = memory_refused machine rom map roots readers (some_readers readers frames read.frame_prefixes wrong)
+  lengths_refused roots (fault.Plain (maker.Make (making.Unstraight word))) wrong = absurd wrong
+  lengths_refused roots (fault.Plain (maker.Make making.Deep)) wrong = absurd wrong
+  lengths_refused roots (fault.Plain (maker.Make making.TooLarge)) wrong = absurd wrong
+  lengths_refused roots (fault.Plain maker.RomLength) wrong = absurd wrong
+  lengths_refused roots (fault.Plain maker.ReadRom) wrong = absurd wrong
+  lengths_refused roots (fault.Plain maker.Write) wrong = absurd wrong
+  lengths_refused roots (fault.Call call why) wrong = absurd wrong
+  lengths_refused roots fault.ReadFrame wrong = absurd wrong
+
+-- the images of all that readers held
+module _ {machine : Machine} {rom : Option (List ℕ)} {map : MemoryMap} {readers : List (Option (List ℕ))} {image : Rom} {words : List (List ℕ)} (images : AreInputImages machine rom map readers image words) where
+  pub with_words : {ws : List (List ℕ)} → ws ≡ words → AreInputImages machine rom map readers image ws
+  with_words same = record { all = images.all; rom_is = images.rom_is; words_are = same ∙ images.words_are }
+
+  pub own_map : image.map ≡ map
+  own_map = ap (λ r. r.map) images.rom_is
+
+  pub on_all : (P : Rom → List (List ℕ) → Type 0) → P image words → P (rom_on machine map images.all.rom_bytes) (of_each words_of images.all.frame_bytes)
+  on_all P p = subst (λ x. P x (of_each words_of images.all.frame_bytes)) images.rom_is (subst (λ ws. P image ws) images.words_are p)
+
+  pub frames_made : (roots : List (ℕ × Key)) (list : List Entry) → FramesMade image roots words list → MakesForFrames machine rom map roots readers list
+  frames_made roots list made = (images.all, on_all (λ x ws. FramesMade x roots ws list) made)
+
+  pub places_made : (roots : List (ℕ × Key)) (w : Window) (list : List Entry) (places : List EntryPlaces) → FramesMade image roots words list → AreAllPlaces w image list list places
+      → PlacesFor machine w rom map roots readers places
+  places_made roots w list places made are =
+      record {
+        list = list;
+        all = images.all;
+        made = on_all (λ x ws. FramesMade x roots ws list) made;
+        are = subst (λ x. AreAllPlaces w x list list places) images.rom_is are;
       }
 
-  module _ (lengths : AreFrames frames) (words : List (List ℕ)) (same : words ≡ of_each words_of frames) where
-    pub words_same : words ≡ of_each words_of (held_each readers frames)
-    words_same = same ∙ ap (λ l. of_each words_of l) (each_same readers frames prefixes lengths)
-
-    pub frames_made : (list : List Entry) → FramesMade image roots words list → MakesForFrames machine rom map roots readers list
-    unfolding all_inputs
-    frames_made list made = (
-      all_inputs lengths,
-      subst (λ x. FramesMade x roots (of_each words_of (held_each readers frames)) list) (whole_image machine map is rom rb image read h)
-          (subst (λ l. FramesMade image roots l list) words_same made),
-    )
-
-    pub places_made : (w : Window) (list : List Entry) (places : List EntryPlaces) → FramesMade image roots words list → AreAllPlaces w image list list places
-        → PlacesFor machine w rom map roots readers places
-    unfolding all_inputs
-    places_made w list places made are =
-        record {
-          list = list;
-          all = all_inputs lengths;
-          made =
-              subst (λ x. FramesMade x roots (of_each words_of (held_each readers frames)) list) (whole_image machine map is rom rb image read h)
-              (subst (λ l. FramesMade image roots l list) words_same made);
-          are = subst (λ x. AreAllPlaces w x list list places) (whole_image machine map is rom rb image read h) are;
-        }
-
-    refused_all : (f : FramesFault) → FramesRefuse image roots words f → HasCause image roots words f → RefusesInputs machine rom map roots readers f
-    unfolding all_inputs
-    refused_all f refuses told = (
-      all_inputs lengths,
-      subst (λ x. FramesRefuse x roots (of_each words_of (held_each readers frames)) f) (whole_image machine map is rom rb image read h)
-          (subst (λ l. FramesRefuse image roots l f) words_same refuses),
-      subst (λ x. HasCause x roots (of_each words_of (held_each readers frames)) f) (whole_image machine map is rom rb image read h)
-          (subst (λ l. HasCause image roots l f) words_same told),
-    )
-
+  module _ (roots : List (ℕ × Key)) where
     told_memory : (rs : List (Option (List ℕ))) → RefusesInputs machine rom map roots rs (record { call = None; why = entry.Memory }) → RefusesMemory machine rom map roots rs
     told_memory [] refuses = refuses
     told_memory (r ∷ rs) refuses = tt
@@ -108,27 +118,7 @@ module _ (machine : Machine) (map : MemoryMap) (is : IsMap map) (rom : Option (L
     told_at None entry.Memory refuses = told_memory readers refuses
 
     pub frames_refused : (f : FramesFault) → FramesRefuse image roots words f → HasCause image roots words f → FramesFaultMeans machine rom map roots readers (told_fault f.call f.why)
-    frames_refused f refuses told = told_at f.call f.why (refused_all f refuses told)
-
-  pub lengths_refused : (f : FramesRunFault) → RefusesLengths frames f → FramesFaultMeans machine rom map roots readers f
-  lengths_refused (fault.FrameLength n) wrong =
-      record {
-        rom_bytes = held_bytes rom rb;
-        frame_bytes = held_each readers frames;
-        rom_held = held_told rom rb;
-        frames_held = each_held readers frames prefixes;
-        rom_length = whole_length map is rom rb read h.0;
-        wrong = first_wrong readers frames n prefixes wrong;
-      }
-  lengths_refused (fault.Plain (maker.Make making.Memory)) wrong = memory_refused machine rom map roots readers (some_readers readers frames prefixes wrong)
-  lengths_refused (fault.Plain (maker.Make (making.Unstraight word))) wrong = absurd wrong
-  lengths_refused (fault.Plain (maker.Make making.Deep)) wrong = absurd wrong
-  lengths_refused (fault.Plain (maker.Make making.TooLarge)) wrong = absurd wrong
-  lengths_refused (fault.Plain maker.RomLength) wrong = absurd wrong
-  lengths_refused (fault.Plain maker.ReadRom) wrong = absurd wrong
-  lengths_refused (fault.Plain maker.Write) wrong = absurd wrong
-  lengths_refused (fault.Call call why) wrong = absurd wrong
-  lengths_refused fault.ReadFrame wrong = absurd wrong
+    frames_refused f refuses told = told_at f.call f.why (images.all, on_all (λ x ws. FramesRefuse x roots ws f) refuses, on_all (λ x ws. HasCause x roots ws f) told)
 
 -- ---- what is written
 

@@ -1,8 +1,9 @@
 -- What a frame comes to, over plain values.
-use Rattle.dvg_cmd.proofs.Common.{◌≡◌, ℕ, List, Option, None, Some, length, take, drop, ◌++◌, ap, ◌∙◌, subst, arith, common_steps, Result, Ok, Err, IfOk, IfErr, IfSome, Machine, Board, MemoryMap, Window, Rom, words_of, rom_on, IsRomLength, IsFrameLength, RomLength, FrameLength, Safe, CountsAtHalt, SafeOnCircuit, CountsOnCircuit, InRange, Yes, FrameRefusal, IsPrefix}
+use Rattle.dvg_cmd.proofs.Common.{◌≡◌, ℕ, List, Option, None, Some, length, take, drop, ◌++◌, ap, ◌∙◌, subst, arith, common_steps, Result, Ok, Err, IfSome, Machine, MemoryMap, Window, Rom, words_of, rom_on, IsRomLength, IsFrameLength, RomLength, FrameLength, InRange, Yes, FrameRefusal, IsPrefix}
 use Rattle.dvg_check.specs.declared.verdict.Refusal.TheVariants as refusal
 use Rattle.dvg_make.specs.declared.judging.FrameRefusal.TheVariants.{Make, NoMemory, Check}
-use Rattle.dvg_make.specs.Judging.{AreLeast, FrameRefused, HasCallCause, VerdictByMade}
+use Rattle.dvg_make.specs.Judging.{FrameRefused, HasCallCause, VerdictByMade}
+use Rattle.dvg_make.specs.Private.Judged.{IsJudged}
 use Rattle.dvg_cmd.specs.Frames.{IsReadFrom, ReadsFrame, VerdictOnBytes, IsRefused, IsJudgedRefusal}
 use Rattle.dvg_cmd.specs.Start.{started}
 use Rattle.dvg_cmd.specs.Private.Judging.{AreImages}
@@ -47,43 +48,13 @@ module _ (machine : Machine) (rom : List ℕ) (map : MemoryMap) (bytes : List �
   refused (Check (refusal.Shape f)) own h told = judged (Check (refusal.Shape f)) own h told
   refused (Check (refusal.Frame f)) own h told = judged (Check (refusal.Frame f)) own h told
 
-  pub frame_verdict : (v : Result Yes FrameRefusal)
-      → IfOk v (λ yes. Safe (record { frame = words_of bytes; rom = rom_on machine map rom }) w yes.words yes.depth)
-      → IfOk v (λ yes. CountsAtHalt (record { frame = words_of bytes; rom = rom_on machine map rom }) yes.words yes.depth)
-      → (machine ≡ Board → IfOk v (λ yes. SafeOnCircuit (record { frame = words_of bytes; rom = rom_on machine map rom }) w yes.words yes.depth))
-      → (machine ≡ Board → IfOk v (λ yes. CountsOnCircuit (record { frame = words_of bytes; rom = rom_on machine map rom }) yes.words yes.depth))
-      → IfOk v (λ yes. AreLeast (rom_on machine map rom) (words_of bytes) w yes.words yes.depth)
-      → IfErr v (FrameRefused (rom_on machine map rom) (words_of bytes) w budget)
-      → VerdictByMade (rom_on machine map rom) (words_of bytes) w budget v
-      → IfErr v (HasCallCause (rom_on machine map rom) (words_of bytes))
-      → VerdictOnBytes machine rom map bytes budget w v
-  frame_verdict (Ok y) safe exact circuit circuit_exact least none own told = record { in_range = range; rom_length = long; safe = safe; exact = exact; circuit = circuit; circuit_exact = circuit_exact; least = least; by_own = own }
-  frame_verdict (Err r) safe exact circuit circuit_exact least h own told = refused r own h told
-
--- what the judge says of a frame's words over a ROM
-record Said (w : Window) (budget : ℕ) (words : List ℕ) (image : Rom) (v : Result Yes FrameRefusal) : Type 0 where
-  safe : IfOk v (λ yes. Safe (record { frame = words; rom = image }) w yes.words yes.depth)
-  exact : IfOk v (λ yes. CountsAtHalt (record { frame = words; rom = image }) yes.words yes.depth)
-  circuit : image.machine ≡ Board → IfOk v (λ yes. SafeOnCircuit (record { frame = words; rom = image }) w yes.words yes.depth)
-  circuit_exact : image.machine ≡ Board → IfOk v (λ yes. CountsOnCircuit (record { frame = words; rom = image }) yes.words yes.depth)
-  least : IfOk v (λ yes. AreLeast image words w yes.words yes.depth)
-  refuses : IfErr v (FrameRefused image words w budget)
-  own : VerdictByMade image words w budget v
-  told : IfErr v (HasCallCause image words)
+  frame_verdict : (v : Result Yes FrameRefusal) → IsJudged (rom_on machine map rom) (words_of bytes) w budget v → VerdictOnBytes machine rom map bytes budget w v
+  frame_verdict (Ok y) said =
+      record { in_range = range; rom_length = long; safe = said.safe; exact = said.exact; circuit = said.circuit; circuit_exact = said.circuit_exact; least = said.least; by_own = said.verdict }
+  frame_verdict (Err r) said = refused r said.verdict said.refused said.told
 
 -- what the judge says of the images of these bytes
 pub own_verdict : (machine : Machine) (rom : List ℕ) (map : MemoryMap) (bytes : List ℕ) (budget : ℕ) (w : Window) (words : List ℕ) (image : Rom) → AreImages machine rom map bytes budget words image
-    → (v : Result Yes FrameRefusal)
-    → IfOk v (λ yes. Safe (record { frame = words; rom = image }) w yes.words yes.depth)
-    → IfOk v (λ yes. CountsAtHalt (record { frame = words; rom = image }) yes.words yes.depth)
-    → (image.machine ≡ Board → IfOk v (λ yes. SafeOnCircuit (record { frame = words; rom = image }) w yes.words yes.depth))
-    → (image.machine ≡ Board → IfOk v (λ yes. CountsOnCircuit (record { frame = words; rom = image }) yes.words yes.depth))
-    → IfOk v (λ yes. AreLeast image words w yes.words yes.depth)
-    → IfErr v (FrameRefused image words w budget)
-    → VerdictByMade image words w budget v
-    → IfErr v (HasCallCause image words)
-    → VerdictOnBytes machine rom map bytes budget w v
-own_verdict machine rom map bytes budget w words image a v safe exact circuit circuit_exact least refused own told =
-    let said : Said w budget words image v = record { safe = safe; exact = exact; circuit = circuit; circuit_exact = circuit_exact; least = least; refuses = refused; own = own; told = told } in
-    let all = subst (λ x. Said w budget x (rom_on machine map rom) v) a.words_are (subst (λ y. Said w budget words y v) a.rom_is said) in
-    frame_verdict machine rom map bytes budget w a.in_range a.rom_length v all.safe all.exact all.circuit all.circuit_exact all.least all.refuses all.own all.told
+    → (v : Result Yes FrameRefusal) → IsJudged image words w budget v → VerdictOnBytes machine rom map bytes budget w v
+own_verdict machine rom map bytes budget w words image a v said =
+    frame_verdict machine rom map bytes budget w a.in_range a.rom_length v (subst (λ x. IsJudged (rom_on machine map rom) x w budget v) a.words_are (subst (λ y. IsJudged y words w budget v) a.rom_is said))

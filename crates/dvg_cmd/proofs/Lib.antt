@@ -13,7 +13,6 @@ pub mod Answers
 pub mod SeveralLines
 pub mod Naming
 pub mod Starting
-pub mod PlaceLines
 pub mod LineByLine
 pub mod ReachingLines
 pub mod ComparisonRuns

@@ -1,28 +1,69 @@
 -- Lines that are sent one after another, over plain values.
-use Rattle.dvg_cmd.proofs.Common.{◌≡◌, ℕ, List, [], ◌∷◌, ◌++◌, Option, refl, sym, ap, ◌∙◌, subst, append-nil, append_assoc, Appends, Appends-nil, Appends-trans, AppendsPrefix, TakesOneWrite, joined, TakeOneWriteEach}
+use Rattle.dvg_cmd.proofs.Common.{◌≡◌, ℕ, suc, ◌+◌, ◌<◌, List, [], ◌∷◌, ◌++◌, length, drop, get_or, Option, refl, sym, ap, ◌∙◌, subst, arith, append-nil, append_assoc, Result, Ok, Err, OnErr, Appends, Appends-trans, AppendsPrefix, TakesOneWrite, of_each, joined}
+use Rattle.std.proofs.Math.Seq.{drop-cons}
+use Rattle.dvg_cmd.specs.Private.Sent.{Sent}
 use Rattle.dvg_cmd.proofs.SeveralLines.{joined_on, sent_part, prefix_more, one_write_on}
 
-module _ (old : Option (List ℕ)) (writes : ℕ) where
-  -- these lines were sent
-  pub record Sent (lines : List (List ℕ)) (mid : Option (List ℕ)) (writes_mid : ℕ) : Type 0 where
-    pub written : Appends old mid (joined lines)
-    pub one_write : TakeOneWriteEach lines writes writes_mid
+pub on_err : {A E P : Type 0} (r : Result A E) → P → OnErr r P
+on_err (Ok a) p = tt
+on_err (Err e) p = p
 
-  pub none_sent : Sent [] old writes
-  none_sent = record { written = Appends-nil old; one_write = refl }
+-- two runs of lines, one after the other
+module _ (lines more : List (List ℕ)) (old mid new : Option (List ℕ)) (writes writes_mid writes_after : ℕ) (h : Sent lines old mid writes writes_mid) where
+  pub both_sent : Sent more mid new writes_mid writes_after → Sent (lines ++ more) old new writes writes_after
+  both_sent k =
+      record {
+        written = subst (Appends old new) (sym (joined_on lines more)) (Appends-trans old mid new (joined lines) (joined more) h.written k.written);
+        one_write = one_write_on lines more writes writes_mid writes_after h.one_write k.one_write;
+      }
 
-  module _ (lines : List (List ℕ)) (mid new : Option (List ℕ)) (writes_mid : ℕ) (h : Sent lines mid writes_mid) (line : List ℕ) where
-    text : joined (lines ++ line ∷ []) ≡ joined lines ++ line
-    text = joined_on lines (line ∷ []) ∙ ap (λ (t : List ℕ). joined lines ++ t) (append-nil line)
+  pub both_cut : AppendsPrefix mid new (joined more) → AppendsPrefix old new (joined (lines ++ more))
+  both_cut k = sent_part old mid new (joined (lines ++ more)) (joined lines) (joined more) (joined_on lines more) h.written k
 
-    pub one_sent : (writes_after : ℕ) → Appends mid new line → TakesOneWrite line writes_mid writes_after → Sent (lines ++ line ∷ []) new writes_after
-    one_sent writes_after written one =
+pub first_cut : (lines more : List (List ℕ)) (old new : Option (List ℕ)) → AppendsPrefix old new (joined lines) → AppendsPrefix old new (joined (lines ++ more))
+first_cut lines more old new h = subst (AppendsPrefix old new) (sym (joined_on lines more)) (prefix_more old new (joined lines) (joined more) h)
+
+module _ (all : List (List ℕ)) (old : Option (List ℕ)) (writes : ℕ) where
+  -- of all lines these are left, and those before them were sent
+  pub record SentTo (left : List (List ℕ)) (mid : Option (List ℕ)) (writes_mid : ℕ) : Type 0 where
+    pub done : List (List ℕ)
+    pub sent : Sent done old mid writes writes_mid
+    pub whole : done ++ left ≡ all
+
+  pub all_sent : (left : List (List ℕ)) → left ≡ [] → (mid : Option (List ℕ)) (writes_mid : ℕ) → SentTo left mid writes_mid → Sent all old mid writes writes_mid
+  all_sent left none mid writes_mid h = subst (λ ls. Sent ls old mid writes writes_mid) (sym (append-nil h.done) ∙ ap (λ ls. h.done ++ ls) (sym none) ∙ h.whole) h.sent
+
+  module _ (left : List (List ℕ)) (line : List ℕ) (rest : List (List ℕ)) (next : left ≡ line ∷ rest) (mid new : Option (List ℕ)) (writes_mid : ℕ) (h : SentTo left mid writes_mid) (piece : List ℕ) (is : piece ≡ line) where
+    first : joined (line ∷ []) ≡ piece
+    first = append-nil line ∙ sym is
+
+    whole_on : (h.done ++ line ∷ []) ++ rest ≡ all
+    whole_on = append_assoc h.done (line ∷ []) rest ∙ ap (λ ls. h.done ++ ls) (sym next) ∙ h.whole
+
+    pub one_sent : 0 < length line → (writes_after : ℕ) → Appends mid new piece → (0 < length piece → TakesOneWrite piece writes_mid writes_after) → SentTo rest new writes_after
+    one_sent some writes_after written one =
         record {
-          written = subst (Appends old new) (sym text) (Appends-trans old mid new (joined lines) line h.written written);
-          one_write = one_write_on lines (line ∷ []) writes writes_mid writes_after h.one_write (writes_after, one, refl);
+          done = h.done ++ line ∷ [];
+          sent =
+              both_sent h.done (line ∷ []) old mid new writes writes_mid writes_after h.sent
+              (record {
+                written = subst (Appends mid new) (sym first) written;
+                one_write = (writes_after, subst (λ t. TakesOneWrite t writes_mid writes_after) is (one (subst (λ t. 0 < length t) (sym is) some)), refl);
+              });
+          whole = whole_on;
         }
 
-    pub cut_sent : (rest : List (List ℕ)) → AppendsPrefix mid new line → AppendsPrefix old new (joined (lines ++ line ∷ [] ++ rest))
-    cut_sent rest written =
-        subst (AppendsPrefix old new) (sym (joined_on (lines ++ line ∷ []) rest))
-        (prefix_more old new (joined (lines ++ line ∷ [])) (joined rest) (sent_part old mid new (joined (lines ++ line ∷ [])) (joined lines) line text h.written written))
+    pub one_cut : AppendsPrefix mid new piece → AppendsPrefix old new (joined all)
+    one_cut written =
+        subst (λ ls. AppendsPrefix old new (joined ls)) whole_on
+        (first_cut (h.done ++ line ∷ []) rest old new
+        (both_cut h.done (line ∷ []) old mid new writes writes_mid writes_mid h.sent (subst (AppendsPrefix mid new) (sym first) written)))
+
+-- ---- the lines of things, each by one of these texts
+
+module _ {A : Type 0} (line_of : A → List ℕ) (things : List A) (n : ℕ) where
+  pub next_line : (thing : A) → thing ≡ get_or things n thing → n < length things → of_each line_of (drop n things) ≡ line_of thing ∷ of_each line_of (drop (n + 1) things)
+  next_line thing is lt =
+      let more : n + 1 ≡ suc n = omega arith in
+      ap (of_each line_of) (drop-cons things n thing lt)
+      ∙ ap (λ x. line_of x ∷ of_each line_of (drop (suc n) things)) (sym is) ∙ ap (λ m. line_of thing ∷ of_each line_of (drop m things)) (sym more)

@@ -1,5 +1,5 @@
 -- Reading one piece after another, of known bytes.
-use Rattle.dvg_cmd.proofs.Common.{◌≡◌, ℕ, ◌+◌, ◌-◌, ◌<◌, ◌≤◌, List, [], Option, ◌++◌, length, length-append, take, ap, sym, subst, ◌∙◌, arith, Consumes-trans, common_steps, take-append-le, Consumes, Result, Ok, Err, Certificate, CertFault, CertWhy, IsReadTo, ReadsText}
+use Rattle.dvg_cmd.proofs.Common.{◌≡◌, ℕ, ◌+◌, ◌-◌, ◌<◌, ◌≤◌, List, [], Option, ◌++◌, length, length-append, take, ap, sym, subst, ◌∙◌, arith, Consumes-trans, common_steps, take-append-le, Consumes, Ok, Err, CertFault, CertWhy, IsReadTo, ReadsText}
 use Rattle.std.proofs.KnownBytes.{Consumes-nil}
 use Rattle.std.proofs.Math.Seq.{take-append-add}
 use Rattle.std.specs.Io.KnownBytes.{IsAtEnd}
@@ -7,7 +7,7 @@ use borrow.Rule.Slice.PartMut.{put_mid, post_of}
 use Rattle.dvg_cert.specs.declared.fault.CertWhy.TheVariants.{Unended, Memory}
 use Rattle.dvg_cert.specs.Laws.{ShortText}
 use Rattle.dvg_cert.specs.Reading.{MayStand, ReadAnswer, IsRefusal, EndsOpen}
-use Rattle.dvg_cert.specs.Stream.{Stream, Open, FeedsTo, FinishesTo}
+use Rattle.dvg_cert.specs.Stream.{Stream, Open, FeedsTo}
 use Rattle.dvg_cmd.specs.Private.Reading.{taken_length}
 
 pub take_filled : (filled n k : ℕ) (buf sub : List ℕ) → filled ≤ length buf → n ≤ length sub → take (filled + n) (put_mid filled k buf sub) ≡ take filled buf ++ take n sub
@@ -91,12 +91,3 @@ fed_refused old mid new text piece stream next f is before few read long fed =
       is = h.0;
       end = λ e. absurd (not_at_end (text ++ piece) f h.0 h.1 e);
     }
-
-finish_answer : (text : List ℕ) (answer : Result Certificate CertFault) → FinishesTo (Open text) answer → ReadAnswer text answer
-finish_answer text (Ok c) h = h
-finish_answer text (Err f) h = h.0
-
--- the answer to all of a text
-pub finished : (old new : Option (List ℕ)) (text : List ℕ) (stream : Stream) (answer : Result Certificate CertFault) → stream ≡ Open text → Consumes old new text → length text ≤ 819800 → IsAtEnd new → FinishesTo stream answer → ReadsText old new answer
-finished old new text stream answer is read few end fed =
-    record { bytes = text; read = read; few = omega (arith, few); is = finish_answer text answer (subst (λ (s : Stream). FinishesTo s answer) is fed); end = λ e. end }

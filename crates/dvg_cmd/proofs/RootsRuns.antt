@@ -1,5 +1,5 @@
 -- What a run of the maker for frames answers where there are none, over plain values.
-use Rattle.dvg_cmd.proofs.Common.{◌≡◌, ℕ, List, [], ◌∷◌, Option, None, refl, subst, Result, Ok, Err, IfErr, OnOk, Machine, rom_on, words_of, MemoryMap, Key, of_each, MakesForFrames, FramesFaultMeans}
+use Rattle.dvg_cmd.proofs.Common.{◌≡◌, ℕ, List, [], ◌∷◌, Option, None, refl, subst, Machine, rom_on, words_of, MemoryMap, Key, of_each, MakesForFrames, FramesFaultMeans}
 use Rattle.dvg_cert.specs.declared.entry.Entry.{Entry}
 use Rattle.dvg_make.specs.Accounts.{HasCause}
 use Rattle.dvg_make.specs.Frames.{FramesMade}

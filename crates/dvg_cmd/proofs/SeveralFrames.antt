@@ -123,25 +123,6 @@ module _ {A : Type 0} (remaining : A → Option (List ℕ)) (failures : A → �
         ap (λ l. of_each failures l) h.news_is ∙ of_each_append failures h.now h.rest ∙ ap (λ l. l ++ of_each failures h.rest) h.counts
         ∙ sym (of_each_append failures h.done h.rest) ∙ ap (λ l. of_each failures l) (sym h.olds_is)
 
-    longer : (behind : List A) (x : A) (front rest : List A) → rest ≡ x ∷ behind → front ≡ h.now → rest ≡ h.rest → n < length news
-    longer behind x front rest is same all =
-        let long : length news ≡ length front + suc (length behind) = ap length h.news_is ∙ ap (λ l. length (l ++ h.rest)) (sym same) ∙ ap (λ l. length (front ++ l)) (sym all ∙ is) ∙ length-append front (x ∷ behind) in
-        omega (arith, long, ap length same, h.so_many)
-
-    no_rest : (rest : List A) → h.rest ≡ rest → (n < length news → ⊥) → h.rest ≡ []
-    no_rest [] is end = is
-    no_rest (x ∷ rest) is end = absurd (end (longer rest x h.now h.rest is refl refl))
-
-    pub all_prefixes : (n < length news → ⊥) → ArePrefixes (of_each remaining olds) read
-    all_prefixes end =
-        subst (λ l. ArePrefixes (of_each remaining l) read) (sym (h.olds_is ∙ ap (λ l. h.done ++ l) (no_rest h.rest refl end) ∙ append-nil h.done)) h.prefixes
-
-    pub all_read : (n < length news → ⊥) → EachRead (of_each remaining olds) (of_each remaining news)
-    all_read end =
-        let old : olds ≡ h.done = h.olds_is ∙ ap (λ l. h.done ++ l) (no_rest h.rest refl end) ∙ append-nil h.done in
-        let new : news ≡ h.now = h.news_is ∙ ap (λ l. h.now ++ l) (no_rest h.rest refl end) ∙ append-nil h.now in
-        read_both (ap (λ l. of_each remaining l) old) (ap (λ l. of_each remaining l) new) h.each_read
-
 -- memory that was out blames no reader
 pub no_frame_blamed : {A : Type 0} (r : Result A FramesRunFault) (old new : List ℕ) → IsErrAnd r (λ f. f ≡ fault.Plain (maker.Make making.Memory)) → new ≡ old → FailedAfter (blames_a_frame r) old new
 no_frame_blamed (Ok a) old new h same = absurd h

@@ -1,20 +1,16 @@
 -- The lines of several frames, one after another, over plain values.
-use Rattle.dvg_cmd.proofs.Common.{◌≡◌, refl, sym, ap, ◌∙◌, subst, ℕ, ◌+◌, List, [], ◌∷◌, ◌++◌, length, take, Option, None, Some, append-nil, append_assoc, length-append, arith, take-append-le, Result, Ok, Err, IfOk, OnOk, OnErr, Appends, Appends-nil, Appends-trans, Machine, Rom, rom_on, IsRomLength, MemoryMap, Window, AppendsPrefix, TakesOneWrite, Mode, Yes, Certificate, FrameRefusal, Detail, Behind, IsBehind, RunFault, opened, joined, TakeOneWriteEach}
+use Rattle.dvg_cmd.proofs.Common.{◌≡◌, refl, sym, ap, ◌∙◌, subst, ℕ, ◌+◌, List, [], ◌∷◌, ◌++◌, length, take, Option, append_assoc, length-append, arith, take-append-le, Appends, Appends-trans, AppendsPrefix, joined, TakeOneWriteEach}
 use Rattle.std.proofs.Math.Seq.{take-append-add}
-use Rattle.std.specs.Prelude.{Bool, true, false, if◌then◌else◌, option_map, string_bytes}
-use Rattle.dvg_check.specs.Judged.{Shapes}
-use Rattle.dvg_check.specs.declared.fault.Mode.TheVariants.{Bound}
+use Rattle.std.specs.Prelude.{Bool, true, false, if◌then◌else◌}
 use Rattle.dvg_spelling.specs.declared.outcome.FrameOutcome.TheVariants as outcome
 use Rattle.dvg_spelling.specs.Each.{of_each}
 use Rattle.dvg_spelling.specs.declared.tally.Tally.{Tally}
 use Rattle.dvg_spelling.specs.Tally.{no_lines, with_answer}
 use Rattle.dvg_cmd.proofs.SeveralFrames.{of_each_append}
-use Rattle.dvg_cmd.specs.declared.detail.Detail.TheVariants as details
 use Rattle.dvg_cmd.specs.declared.listing.Lines.{Lines}
 use Rattle.dvg_cmd.specs.declared.listing.Listing.{Listing}
-use Rattle.dvg_cmd.specs.Frames.{FrameOutcome, FrameAnswer, worse, MayJudgeOver}
-use Rattle.dvg_cmd.specs.SeveralFrames.{OpenedFrame, Line, line_text, line_outcome, is_written, written_lines, line_texts, tally_on, summary_of, listing_texts, worst_of, AnswersOpened, IsLineOf, AreLinesOf, ReportsFrames, ReportsFramesPrefix, shapes_of}
-use Rattle.dvg_cmd.specs.declared.several_frames.NamedFrame.{NamedFrame}
+use Rattle.dvg_cmd.specs.Frames.{FrameOutcome, Judging, worse}
+use Rattle.dvg_cmd.specs.SeveralFrames.{OpenedFrame, Line, line_text, line_outcome, is_written, written_lines, line_texts, tally_on, summary_of, listing_texts, worst_of, IsLineOf, AreLinesOf, ReportsFrames, ReportsFramesPrefix}
 use Rattle.dvg_cmd.specs.Private.Named.{WritesLineOf, WritesLineOfPrefix, WritesLinesOf}
 
 -- ---- the texts that are written
@@ -63,26 +59,24 @@ worst_on : (end : FrameOutcome) (lines : List Line) (line : Line) → worst_of e
 worst_on end [] line = refl
 worst_on end (l ∷ lines) line = worst_on (worse end (line_outcome l)) lines line
 
-module _ (IsVerdict : List ℕ → Result Yes FrameRefusal → Type 0) (rom : Rom) (w : Window) (IsExact : Type 0) (listing : Listing) (start : Option ℕ) where
-  lines_of_on : (frames : List OpenedFrame) (lines : List Line) (frame : OpenedFrame) (line : Line) → AreLinesOf IsVerdict rom w IsExact listing start frames lines → IsLineOf IsVerdict rom w IsExact listing start frame line
-      → AreLinesOf IsVerdict rom w IsExact listing start (frames ++ frame ∷ []) (lines ++ line ∷ [])
-  lines_of_on [] [] frame line h one = (one, tt)
-  lines_of_on (f ∷ frames) (l ∷ lines) frame line h one = (h.0, lines_of_on frames lines frame line h.1 one)
-  lines_of_on [] (l ∷ lines) frame line h one = absurd h
-  lines_of_on (f ∷ frames) [] frame line h one = absurd h
-
-  pub none_written : (old : Option (List ℕ)) (tally : Tally) (writes : ℕ) → WritesLinesOf IsVerdict rom w IsExact listing start [] old old tally tally writes writes outcome.Accepted
-  none_written old tally writes = record { lines = []; lines_of = tt; written = Appends-nil old; one_write = refl; outcome_is = refl; tally_is = refl }
+module _ (j : Judging) (listing : Listing) (start : Option ℕ) where
+  -- what each frame is that was taken, and one more
+  lines_of_on : {A : Type 0} (f : A → OpenedFrame) (taken : List A) (lines : List Line) (x : A) (line : Line) → AreLinesOf j listing start (of_each f taken) lines → IsLineOf j listing start (f x) line
+      → AreLinesOf j listing start (of_each f (taken ++ x ∷ [])) (lines ++ line ∷ [])
+  lines_of_on f [] [] x line h one = (one, tt)
+  lines_of_on f (y ∷ taken) (l ∷ lines) x line h one = (h.0, lines_of_on f taken lines x line h.1 one)
+  lines_of_on f [] (l ∷ lines) x line h one = absurd h
+  lines_of_on f (y ∷ taken) [] x line h one = absurd h
 
   -- the next line was written
-  pub more_lines : (frames : List OpenedFrame) (frame : OpenedFrame) (old mid new : Option (List ℕ)) (tally tally_mid tally_after : Tally) (writes writes_mid writes_after : ℕ) (worst end both : FrameOutcome)
-      → WritesLinesOf IsVerdict rom w IsExact listing start frames old mid tally tally_mid writes writes_mid worst
-      → WritesLineOf IsVerdict rom w IsExact listing start frame mid new tally_mid tally_after writes_mid writes_after end → both ≡ worse worst end
-      → WritesLinesOf IsVerdict rom w IsExact listing start (frames ++ frame ∷ []) old new tally tally_after writes writes_after both
-  more_lines frames frame old mid new tally tally_mid tally_after writes writes_mid writes_after worst end both h one is =
+  pub more_lines : {A : Type 0} (f : A → OpenedFrame) (taken : List A) (x : A) (old mid new : Option (List ℕ)) (tally tally_mid tally_after : Tally) (writes writes_mid writes_after : ℕ) (worst end both : FrameOutcome)
+      → WritesLinesOf j listing start (of_each f taken) old mid tally tally_mid writes writes_mid worst
+      → WritesLineOf j listing start (f x) mid new tally_mid tally_after writes_mid writes_after end → both ≡ worse worst end
+      → WritesLinesOf j listing start (of_each f (taken ++ x ∷ [])) old new tally tally_after writes writes_after both
+  more_lines f taken x old mid new tally tally_mid tally_after writes writes_mid writes_after worst end both h one is =
       record {
         lines = h.lines ++ one.line ∷ [];
-        lines_of = lines_of_on frames h.lines frame one.line h.lines_of one.line_of;
+        lines_of = lines_of_on f taken h.lines x one.line h.lines_of one.line_of;
         written =
             subst (λ t. Appends old new t) (sym (joined_texts_on listing.lines h.lines (one.line ∷ [])))
             (Appends-trans old mid new (joined (line_texts listing.lines h.lines)) (joined (line_texts listing.lines (one.line ∷ []))) h.written one.written);
@@ -94,15 +88,15 @@ module _ (IsVerdict : List ℕ → Result Yes FrameRefusal → Type 0) (rom : Ro
       }
 
   -- a prefix of the next line was written
-  pub cut_lines : (frames : List OpenedFrame) (frame : OpenedFrame) (old mid new : Option (List ℕ)) (tally tally_mid : Tally) (writes writes_mid : ℕ) (worst : FrameOutcome)
-      → WritesLinesOf IsVerdict rom w IsExact listing start frames old mid tally tally_mid writes writes_mid worst → WritesLineOfPrefix IsVerdict rom w IsExact listing start frame mid new
-      → ReportsFramesPrefix IsVerdict rom w IsExact listing start (frames ++ frame ∷ []) old new
-  cut_lines frames frame old mid new tally tally_mid writes writes_mid worst h one =
+  pub cut_lines : {A : Type 0} (f : A → OpenedFrame) (taken : List A) (x : A) (old mid new : Option (List ℕ)) (tally tally_mid : Tally) (writes writes_mid : ℕ) (worst : FrameOutcome)
+      → WritesLinesOf j listing start (of_each f taken) old mid tally tally_mid writes writes_mid worst → WritesLineOfPrefix j listing start (f x) mid new
+      → ReportsFramesPrefix j listing start (of_each f (taken ++ x ∷ [])) old new
+  cut_lines f taken x old mid new tally tally_mid writes writes_mid worst h one =
       let lines : List Line = h.lines ++ one.line ∷ [] in
       let last : List (List ℕ) = summary_of listing.summary (tally_on no_lines lines) in
       record {
         lines = lines;
-        lines_of = lines_of_on frames h.lines frame one.line h.lines_of one.line_of;
+        lines_of = lines_of_on f taken h.lines x one.line h.lines_of one.line_of;
         written =
             subst (λ t. AppendsPrefix old new t) (sym (joined_on (line_texts listing.lines lines) last))
             (prefix_more old new (joined (line_texts listing.lines lines)) (joined last)
@@ -113,7 +107,7 @@ module _ (IsVerdict : List ℕ → Result Yes FrameRefusal → Type 0) (rom : Ro
   -- ---- the summary
 
   module _ (frames : List OpenedFrame) (old mid new : Option (List ℕ)) (first tally : Tally) (writes writes_mid : ℕ) (end : FrameOutcome)
-      (begun : first ≡ no_lines) (h : WritesLinesOf IsVerdict rom w IsExact listing start frames old mid first tally writes writes_mid end) where
+      (begun : first ≡ no_lines) (h : WritesLinesOf j listing start frames old mid first tally writes writes_mid end) where
     abbrev pub texts : List (List ℕ)
     texts = line_texts listing.lines h.lines
 
@@ -127,7 +121,7 @@ module _ (IsVerdict : List ℕ → Result Yes FrameRefusal → Type 0) (rom : Ro
     all_joined = ap joined all_texts ∙ joined_on texts last
 
     pub with_summary : (writes_after : ℕ) → Appends mid new (joined last) → TakeOneWriteEach last writes_mid writes_after
-        → ReportsFrames IsVerdict rom w IsExact listing start frames old new writes writes_after end
+        → ReportsFrames j listing start frames old new writes writes_after end
     with_summary writes_after text one =
         record {
           lines = h.lines;
@@ -137,69 +131,10 @@ module _ (IsVerdict : List ℕ → Result Yes FrameRefusal → Type 0) (rom : Ro
           outcome_is = h.outcome_is;
         }
 
-    pub cut_summary : AppendsPrefix mid new (joined last) → ReportsFramesPrefix IsVerdict rom w IsExact listing start frames old new
+    pub cut_summary : AppendsPrefix mid new (joined last) → ReportsFramesPrefix j listing start frames old new
     cut_summary text =
         record {
           lines = h.lines;
           lines_of = h.lines_of;
           written = sent_part old mid new (joined (listing_texts listing h.lines)) (joined texts) (joined last) all_joined h.written text;
         }
-
-  -- the same, for what each frame is that was taken
-  pub more_taken : {A : Type 0} (f : A → OpenedFrame) (taken : List A) (x : A) (old mid new : Option (List ℕ)) (tally tally_mid tally_after : Tally) (writes writes_mid writes_after : ℕ) (worst end both : FrameOutcome)
-      → WritesLinesOf IsVerdict rom w IsExact listing start (of_each f taken) old mid tally tally_mid writes writes_mid worst
-      → WritesLineOf IsVerdict rom w IsExact listing start (f x) mid new tally_mid tally_after writes_mid writes_after end → both ≡ worse worst end
-      → WritesLinesOf IsVerdict rom w IsExact listing start (of_each f (taken ++ x ∷ [])) old new tally tally_after writes writes_after both
-  more_taken f taken x old mid new tally tally_mid tally_after writes writes_mid writes_after worst end both h one is =
-      subst (λ frames. WritesLinesOf IsVerdict rom w IsExact listing start frames old new tally tally_after writes writes_after both) (sym (of_each_append f taken (x ∷ [])))
-      (more_lines (of_each f taken) (f x) old mid new tally tally_mid tally_after writes writes_mid writes_after worst end both h one is)
-
-  pub cut_taken : {A : Type 0} (f : A → OpenedFrame) (taken : List A) (x : A) (old mid new : Option (List ℕ)) (tally tally_mid : Tally) (writes writes_mid : ℕ) (worst : FrameOutcome)
-      → WritesLinesOf IsVerdict rom w IsExact listing start (of_each f taken) old mid tally tally_mid writes writes_mid worst → WritesLineOfPrefix IsVerdict rom w IsExact listing start (f x) mid new
-      → ReportsFramesPrefix IsVerdict rom w IsExact listing start (of_each f (taken ++ x ∷ [])) old new
-  cut_taken f taken x old mid new tally tally_mid writes writes_mid worst h one =
-      subst (λ frames. ReportsFramesPrefix IsVerdict rom w IsExact listing start frames old new) (sym (of_each_append f taken (x ∷ [])))
-      (cut_lines (of_each f taken) (f x) old mid new tally tally_mid writes writes_mid worst h one)
-
-  -- ---- one line
-
-  module _ (name frame_name : List ℕ) (same : name ≡ frame_name) (answer : FrameAnswer) (what : Behind) (held : Option (Option (List ℕ))) (old new : Option (List ℕ))
-      (answers : AnswersOpened IsVerdict rom w IsExact listing start held answer) (asked : IsBehind listing.detail what) where
-    abbrev pub line_of_answer : Line
-    line_of_answer = record { name = name; answer = answer; behind = what }
-
-    pub writes_line : (r : Result FrameOutcome RunFault) (tally tally_after : Tally) (writes writes_after : ℕ) → tally_after ≡ with_answer tally answer
-        → IfOk r (λ end. line_outcome line_of_answer ≡ end) → OnOk r (Appends old new (joined (line_texts listing.lines (line_of_answer ∷ []))))
-        → OnOk r (TakeOneWriteEach (line_texts listing.lines (line_of_answer ∷ [])) writes writes_after)
-        → IfOk r (WritesLineOf IsVerdict rom w IsExact listing start (record { name = frame_name; held = held }) old new tally tally_after writes writes_after)
-    writes_line (Err fault) tally tally_after writes writes_after tally_is end text one = tt
-    writes_line (Ok o) tally tally_after writes writes_after tally_is end text one =
-        record {
-          line = line_of_answer;
-          line_of = record { name_is = same; answers = answers; asked = asked };
-          written = text;
-          one_write = one;
-          end_is = end;
-          tally_is = tally_is;
-        }
-
-    pub cuts_line : (r : Result FrameOutcome RunFault) → OnErr r (AppendsPrefix old new (joined (line_texts listing.lines (line_of_answer ∷ []))))
-        → OnErr r (WritesLineOfPrefix IsVerdict rom w IsExact listing start (record { name = frame_name; held = held }) old new)
-    cuts_line (Ok o) text = tt
-    cuts_line (Err fault) text = record { line = line_of_answer; line_of = record { name_is = same; answers = answers; asked = asked }; written = text }
-
--- ---- judged shapes
-
-abbrev shapes_with : Window → Certificate → Rom → Shapes
-shapes_with w c rom = record { rom = rom; list = c.entries; window = w; mode = Bound }
-
-pub shapes_by : (machine : Machine) (w : Window) (rom : List ℕ) (c : Certificate) (map : MemoryMap) (image : Rom) (shapes : Shapes) → shapes ≡ record { rom = image; list = c.entries; window = w; mode = Bound } → image ≡ rom_on machine map rom → map ≡ c.map → shapes ≡ shapes_of machine w rom c
-shapes_by machine w rom c map image shapes is image_is map_is = is ∙ ap (shapes_with w c) (image_is ∙ ap (λ m. rom_on machine m rom) map_is)
-
-pub judges_over : (machine : Machine) (shapes : Shapes) (c : Certificate) (rom : List ℕ) (mode : Mode) → IsRomLength c.map (length rom) → shapes.rom ≡ rom_on machine c.map rom → shapes.list ≡ c.entries → shapes.mode ≡ mode
-    → (detail : Detail) → MayJudgeOver machine shapes c rom mode detail
-judges_over machine shapes c rom mode long rom_is list_is mode_is details.Line = (ap (λ r. r.map) rom_is, list_is)
-judges_over machine shapes c rom mode long rom_is list_is mode_is (details.Account labels) = (long, rom_is, list_is, mode_is)
-
-pub over_same : (P : Shapes → ℕ → ℕ → Type 0) (s t : Shapes) → s ≡ t → (m n : ℕ) → m ≡ n → (a b : ℕ) → a ≡ b → P s m a → P t n b
-over_same P s t st m n mn a b ab h = subst (λ x. P x n b) st (subst (λ x. P s x b) mn (subst (λ x. P s m x) ab h))

@@ -154,15 +154,42 @@ pub record WritesAnswerPrefix (detail : Detail) (name : List ℕ) (answer : Fram
   pub asked : IsBehind detail behind
   pub written : AppendsPrefix old new (frame_line name answer ++ behind_text behind)
 
--- how frames are judged: what is a verdict on bytes, and of which ROM, which window and whether exact counts it speaks
-module _ (IsVerdict : List ℕ → Result Yes FrameRefusal → Type 0) (rom : Rom) (w : Window) (IsExact : Type 0) where
+-- how frames are judged: what is a verdict on the bytes of a frame, and of which ROM, which window and whether exact counts it speaks
+pub record Judging : Type 1 where
+  pub is_verdict : List ℕ → Result Yes FrameRefusal → Type 0
+  pub rom : Rom
+  pub window : Window
+  pub is_exact : Type 0
+
+-- by the frame's own certificate, over a ROM's bytes at this map on a machine
+abbrev pub judged_by_own : Machine → List ℕ → MemoryMap → ℕ → Window → Judging
+judged_by_own machine rom map budget w =
+    record {
+      is_verdict = λ bytes verdict. VerdictOnBytes machine rom map bytes budget w verdict;
+      rom = rom_on machine map rom;
+      window = w;
+      is_exact = Unit {0};
+    }
+
+-- over judged shapes, with this count of shapes
+abbrev pub judged_over : Shapes → ℕ → ℕ → Judging
+judged_over shapes count budget =
+    record {
+      is_verdict = λ bytes verdict. VerdictOver shapes count bytes budget verdict;
+      rom = shapes.rom;
+      window = shapes.window;
+      is_exact = shapes.mode ≡ Exact;
+    }
+
+module _ (j : Judging) where
   -- the answer to a frame that a reader held, which still holds `left`; an accepted frame is safe
   pub record AnswersFrame (start : Option ℕ) (frame left : Option (List ℕ)) (answer : FrameAnswer) : Type 0 where
-    pub means : AnswerMeans IsVerdict start frame left answer
-    pub safe : (yes : Yes) → answer ≡ Judged (Ok yes) → SafeFrame rom w start frame yes
-    pub exact : IsExact → (yes : Yes) → answer ≡ Judged (Ok yes) → CountsFrame rom start frame yes
-    pub circuit : rom.machine ≡ Board → (yes : Yes) → answer ≡ Judged (Ok yes) → SafeCircuitFrame rom w start frame yes
-    pub circuit_exact : rom.machine ≡ Board → IsExact → (yes : Yes) → answer ≡ Judged (Ok yes) → CountsCircuitFrame rom start frame yes
+    pub means : AnswerMeans j.is_verdict start frame left answer
+    pub safe : (yes : Yes) → answer ≡ Judged (Ok yes) → SafeFrame j.rom j.window start frame yes
+    pub exact : j.is_exact → (yes : Yes) → answer ≡ Judged (Ok yes) → CountsFrame j.rom start frame yes
+    pub circuit : j.rom.machine ≡ Board → (yes : Yes) → answer ≡ Judged (Ok yes) → SafeCircuitFrame j.rom j.window start frame yes
+    pub circuit_exact :
+        j.rom.machine ≡ Board → j.is_exact → (yes : Yes) → answer ≡ Judged (Ok yes) → CountsCircuitFrame j.rom start frame yes
 
   -- it was written
   pub record ReportsFrame

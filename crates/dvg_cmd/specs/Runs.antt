@@ -1,10 +1,10 @@
 -- What a run says of the bytes that its readers held, and what it writes. All of it is this project's own.
-use Rattle.std.specs.Prelude.{◌≡◌, ◌<◌, ◌≤◌, ℕ, Bool, true, false, List, ◌++◌, length, Option, IfSome, Result, Ok, Err, IfOk}
+use Rattle.std.specs.Prelude.{◌≡◌, ◌≢◌, ◌<◌, ◌≤◌, ◌==◌, ℕ, Bool, false, List, ◌++◌, length, Option, IfSome, Result, Ok, Err, IfOk, IfErr, OnOk}
 use Rattle.std.specs.Io.KnownBytes.{Appends, Consumes, IsAtEnd}
 use Rattle.dvg_words.specs.declared.machine.Machine.{Machine}
 use Rattle.dvg_words.specs.declared.machine.Machine.TheVariants.{Board}
 use Rattle.dvg_words.specs.Values.{Window}
-use Rattle.dvg_cert.specs.Devices.{AppendsPrefix, TakesOneWrite}
+use Rattle.dvg_cert.specs.Devices.{AppendsPrefix, TakesOneWrite, count_after}
 use Rattle.dvg_cert.specs.declared.fault.CertWhy.TheVariants.{Unended}
 use Rattle.dvg_cert.specs.declared.fault.CertFault.{CertFault}
 use Rattle.dvg_cert.specs.Order.{Certificate}
@@ -20,26 +20,29 @@ pub use Rattle.dvg_spelling.specs.declared.outcome.Outcome.{Outcome}
 pub use Rattle.dvg_spelling.specs.declared.outcome.Outcome.TheVariants.{Accepted, Refused, NoMemory}
 pub use Rattle.dvg_spelling.specs.declared.fault.RunFault.{RunFault}
 pub use Rattle.dvg_spelling.specs.Outcomes.{outcome_of}
+use Rattle.dvg_spelling.specs.Faults.{run_number}
 use Rattle.dvg_spelling.specs.declared.fault.RunFault.TheVariants as fault
 use Rattle.dvg_cmd.specs.Detail.{Detail, Behind, IsBehind, behind_text, outcome_behind}
 
 -- ---- which device an answer blames
 
-abbrev pub blames_rom : {A : Type 0} → Result A RunFault → Bool
-blames_rom (Err fault.ReadRom) = true
-blames_rom answer = false
-
-abbrev pub blames_frame : {A : Type 0} → Result A RunFault → Bool
-blames_frame (Err fault.ReadFrame) = true
-blames_frame answer = false
-
-abbrev pub blames_certificate : {A : Type 0} → Result A RunFault → Bool
-blames_certificate (Err fault.ReadCert) = true
-blames_certificate answer = false
+-- the answer is this fault
+abbrev pub blames : {A : Type 0} → RunFault → Result A RunFault → Bool
+blames blamed (Ok answer) = false
+blames blamed (Err f) = run_number f == run_number blamed
 
 abbrev pub blames_writer : {A : Type 0} → Result A RunFault → Bool
-blames_writer (Err fault.Write) = true
-blames_writer answer = false
+blames_writer answer = blames fault.Write answer
+
+-- a fault of 70 to 73 comes exactly where its device failed in the run, and the device's count of failed calls then rises by one; 74
+-- never comes
+pub record CountsFaults
+    {A : Type 0} (answer : Result A RunFault) (rom rom_after cert cert_after frame frame_after out out_after : ℕ) : Type 0 where
+  pub rom_count : rom_after ≡ count_after (blames fault.ReadRom answer) rom
+  pub cert_count : cert_after ≡ count_after (blames fault.ReadCert answer) cert
+  pub frame_count : frame_after ≡ count_after (blames fault.ReadFrame answer) frame
+  pub out_count : out_after ≡ count_after (blames fault.Write answer) out
+  pub no_memory : answer ≢ Err fault.Memory
 
 -- ---- how far inputs are read
 
@@ -61,6 +64,17 @@ pub record IsReadTo (most : ℕ) (old new : Option (List ℕ)) : Type 0 where
   pub few : length bytes ≤ most
   pub end : length bytes < most → IsAtEnd new
 
+-- with an outcome a ROM and a frame were read to their end or to one byte past their limit, and after a failed read no later device is
+-- touched: the readers of the frame and of a certificate, in this order, and the writer
+pub record ReadsInOrder
+    {A F C W : Type 0} (answer : Result A RunFault) (rom rom_left held left : Option (List ℕ)) (frame frame_after : F)
+    (cert cert_after : C) (out out_after : W) : Type 0 where
+  pub rom_read : OnOk answer (IsReadTo MOST_ROM_READ rom rom_left)
+  pub frame_read : OnOk answer (IsReadTo MOST_FRAME_READ held left)
+  pub frame_unread : answer ≡ Err fault.ReadRom → frame_after ≡ frame
+  pub cert_unread : IfErr answer (λ f. f ≢ fault.ReadCert → f ≢ fault.Write → cert_after ≡ cert)
+  pub nothing : IfErr answer (λ f. f ≢ fault.Write → out_after ≡ out)
+
 -- the answer to a text can't be known before its end
 abbrev pub NeedsEnd : Result Certificate CertFault → Type 0
 NeedsEnd (Ok c) = Unit {0}
@@ -81,9 +95,31 @@ IsReadFor verdict old new = IsReadTo MOST_TEXT_READ old new
 
 -- ---- what is written
 
--- the verdict on all bytes that three readers held, on a machine, in a mode and for a window; if the bytes of a reader are not known, some bytes
+-- P holds of all bytes that three readers held, with these counts, if all of them are known
+abbrev pub HoldsOfRead : (List ℕ → List ℕ → List ℕ → ℕ → ℕ → Type 0) → Option (List ℕ) → Option (List ℕ) → Option (List ℕ) → Yes → Type 0
+HoldsOfRead P rom cert frame y = IfSome rom (λ r. IfSome cert (λ c. IfSome frame (λ f. P r c f y.words y.depth)))
+
+-- every run over them is safe with these counts
+abbrev pub SafeRead : Machine → Window → Option (List ℕ) → Option (List ℕ) → Option (List ℕ) → Yes → Type 0
+SafeRead machine w = HoldsOfRead (SafeOn machine w)
+
+-- every run over them has just these counts at its halt
+abbrev pub CountsRead : Machine → Option (List ℕ) → Option (List ℕ) → Option (List ℕ) → Yes → Type 0
+CountsRead machine = HoldsOfRead (CountsOn machine)
+
+-- every run of the board's circuit over them is safe
+abbrev pub SafeCircuitRead : Machine → Window → Option (List ℕ) → Option (List ℕ) → Option (List ℕ) → Yes → Type 0
+SafeCircuitRead machine w = HoldsOfRead (SafeCircuitOn machine w)
+
+-- and has just these counts when it has halted
+abbrev pub CountsCircuitRead : Machine → Option (List ℕ) → Option (List ℕ) → Option (List ℕ) → Yes → Type 0
+CountsCircuitRead machine = HoldsOfRead (CountsCircuitOn machine)
+
+-- the verdict on all bytes that three readers held, on a machine, in a mode and for a window; if the bytes of a reader are not known,
+-- some bytes. An accepted frame is safe.
 pub record Judges
-    (machine : Machine) (mode : Mode) (w : Window) (rom cert frame : Option (List ℕ)) (budget : ℕ) (verdict : Result Yes Refusal) : Type 0 where
+    (machine : Machine) (mode : Mode) (w : Window) (rom cert frame : Option (List ℕ)) (budget : ℕ)
+    (verdict : Result Yes Refusal) : Type 0 where
   pub rom_bytes : List ℕ
   pub cert_bytes : List ℕ
   pub frame_bytes : List ℕ
@@ -91,24 +127,10 @@ pub record Judges
   pub cert_held : IfSome cert (λ held. cert_bytes ≡ held)
   pub frame_held : IfSome frame (λ held. frame_bytes ≡ held)
   pub is : VerdictOn machine mode w rom_bytes cert_bytes frame_bytes budget verdict
-
--- every run over all bytes that three readers held is safe with these counts, if all of them are known
-abbrev pub SafeRead : Machine → Window → Option (List ℕ) → Option (List ℕ) → Option (List ℕ) → Yes → Type 0
-SafeRead machine w rom cert frame y = IfSome rom (λ r. IfSome cert (λ c. IfSome frame (λ f. SafeOn machine w r c f y.words y.depth)))
-
--- every run over all bytes that three readers held has just these counts at its halt, if all of them are known
-abbrev pub CountsRead : Machine → Option (List ℕ) → Option (List ℕ) → Option (List ℕ) → Yes → Type 0
-CountsRead machine rom cert frame y = IfSome rom (λ r. IfSome cert (λ c. IfSome frame (λ f. CountsOn machine r c f y.words y.depth)))
-
--- every run of the board's circuit over the same is safe, if all of it is known
-abbrev pub SafeCircuitRead : Machine → Window → Option (List ℕ) → Option (List ℕ) → Option (List ℕ) → Yes → Type 0
-SafeCircuitRead machine w rom cert frame y =
-    IfSome rom (λ r. IfSome cert (λ c. IfSome frame (λ f. SafeCircuitOn machine w r c f y.words y.depth)))
-
--- and has just these counts when it has halted
-abbrev pub CountsCircuitRead : Machine → Option (List ℕ) → Option (List ℕ) → Option (List ℕ) → Yes → Type 0
-CountsCircuitRead machine rom cert frame y =
-    IfSome rom (λ r. IfSome cert (λ c. IfSome frame (λ f. CountsCircuitOn machine r c f y.words y.depth)))
+  pub safe : IfOk verdict (SafeRead machine w rom cert frame)
+  pub exact : mode ≡ Exact → IfOk verdict (CountsRead machine rom cert frame)
+  pub circuit : machine ≡ Board → IfOk verdict (SafeCircuitRead machine w rom cert frame)
+  pub circuit_exact : machine ≡ Board → mode ≡ Exact → IfOk verdict (CountsCircuitRead machine rom cert frame)
 
 -- the report of a verdict and what the detail asks for behind it were written, by one write if they fit one, and nothing else;
 -- `writes` and `writes_after` count the writes that took their whole piece
@@ -135,10 +157,6 @@ pub record Reports
   pub verdict : Result Yes Refusal
   pub judges : Judges machine mode w rom cert frame budget verdict
   pub read : IsReadFor verdict cert left
-  pub safe : IfOk verdict (SafeRead machine w rom cert frame)
-  pub exact : mode ≡ Exact → IfOk verdict (CountsRead machine rom cert frame)
-  pub circuit : machine ≡ Board → IfOk verdict (SafeCircuitRead machine w rom cert frame)
-  pub circuit_exact : machine ≡ Board → mode ≡ Exact → IfOk verdict (CountsCircuitRead machine rom cert frame)
   pub report : WritesReport detail verdict old new writes writes_after outcome
 
 -- a prefix of that report was written

@@ -1,8 +1,9 @@
 -- What a run writes of several frames that are judged one after another. All of it is this project's own.
 use Rattle.std.specs.Prelude.{◌≡◌, ℕ, Bool, true, false, if◌then◌else◌, List, [], ◌∷◌, ◌++◌, length, Option, None, Some, option_map, string_bytes, Result, Ok, Err}
 use Rattle.std.specs.Io.KnownBytes.{Appends}
+use Rattle.std.specs.Iterator.{Drains, Yields}
 use Rattle.dvg_words.specs.declared.machine.Machine.{Machine}
-use Rattle.dvg_words.specs.Memory.{Rom, rom_on, IsRomLength}
+use Rattle.dvg_words.specs.Memory.{rom_on, IsRomLength}
 use Rattle.dvg_words.specs.Values.{Window}
 use Rattle.dvg_words.specs.declared.image.ImageFault.TheVariants.{RomLength}
 use Rattle.dvg_cert.specs.Devices.{AppendsPrefix, TakesOneWrite}
@@ -10,11 +11,9 @@ use Rattle.dvg_cert.specs.Order.{Certificate}
 use Rattle.dvg_cert.specs.declared.fault.CertFault.{CertFault}
 use Rattle.dvg_check.specs.FirstFault.{FirstShapeFault}
 use Rattle.dvg_check.specs.Judged.{Shapes}
-use Rattle.dvg_check.specs.declared.fault.Mode.TheVariants.{Bound, Exact}
+use Rattle.dvg_check.specs.declared.fault.Mode.TheVariants.{Bound}
 use Rattle.dvg_check.specs.declared.verdict.Refusal.{Refusal}
 use Rattle.dvg_check.specs.declared.verdict.Refusal.TheVariants as refusal
-use Rattle.dvg_check.specs.declared.verdict.Yes.{Yes}
-use Rattle.dvg_make.specs.declared.judging.FrameRefusal.{FrameRefusal}
 use Rattle.dvg_spelling.specs.Each.{of_each}
 use Rattle.dvg_spelling.specs.Outcomes.{plain_outcome}
 use Rattle.dvg_spelling.specs.declared.tally.Tally.{Tally}
@@ -26,7 +25,7 @@ use Rattle.dvg_cmd.specs.declared.listing.Lines.TheVariants as which
 use Rattle.dvg_cmd.specs.declared.listing.Listing.{Listing}
 use Rattle.dvg_cmd.specs.declared.several_frames.NamedFrame.{NamedFrame}
 use Rattle.dvg_cmd.specs.Runs.{Outcome, WritesReport, WritesReportPrefix}
-use Rattle.dvg_cmd.specs.Frames.{FrameAnswer, Unread, FrameOutcome, frame_outcome_of, worse, frame_line, AnswersFrame, VerdictOver}
+use Rattle.dvg_cmd.specs.Frames.{FrameAnswer, Unread, FrameOutcome, frame_outcome_of, worse, frame_line, Judging, AnswersFrame, judged_over}
 
 -- a frame whose turn it is: its name, and what its reader holds; `None` if it can't be opened
 pub record OpenedFrame : Type 0 where
@@ -35,6 +34,15 @@ pub record OpenedFrame : Type 0 where
 
 abbrev pub opened : {R : Type 0} → (R → Option (List ℕ)) → NamedFrame R → OpenedFrame
 opened remaining frame = record { name = string_bytes frame.name; held = option_map remaining frame.reader }
+
+-- an iterator gave frames and then none, or some frames, and P holds of what they are
+module _ {I R : Type 0} (next_gives : I → Option (NamedFrame R) → I → Type 0) (remaining : R → Option (List ℕ))
+    (frames : I) (P : List OpenedFrame → Type 0) where
+  abbrev pub HoldsOfAll : Type 0
+  HoldsOfAll = (taken : List (NamedFrame R)) × Drains next_gives frames taken × P (of_each (opened remaining) taken)
+
+  abbrev pub HoldsOfTaken : Type 0
+  HoldsOfTaken = (taken : List (NamedFrame R)) × (left : I) × Yields next_gives frames taken left × P (of_each (opened remaining) taken)
 
 -- the line of a frame's answer: the name, the answer, and what is behind the line
 pub record Line : Type 0 where
@@ -94,12 +102,11 @@ abbrev pub worst_of : FrameOutcome → List Line → FrameOutcome
 worst_of end [] = end
 worst_of end (line ∷ rest) = worst_of (worse end (line_outcome line)) rest
 
-module _ (IsVerdict : List ℕ → Result Yes FrameRefusal → Type 0) (rom : Rom) (w : Window) (IsExact : Type 0)
-    (listing : Listing) (start : Option ℕ) where
+module _ (j : Judging) (listing : Listing) (start : Option ℕ) where
   -- the answer to a frame: `Unread` if it can't be opened, else the answer to what its reader held
   abbrev pub AnswersOpened : Option (Option (List ℕ)) → FrameAnswer → Type 0
   AnswersOpened None answer = answer ≡ Unread
-  AnswersOpened (Some reader) answer = (left : Option (List ℕ)) × AnswersFrame IsVerdict rom w IsExact start reader left answer
+  AnswersOpened (Some reader) answer = (left : Option (List ℕ)) × AnswersFrame j start reader left answer
 
   pub record IsLineOf (frame : OpenedFrame) (line : Line) : Type 0 where
     pub name_is : line.name ≡ frame.name
@@ -156,7 +163,8 @@ pub record ReportsRefusal
 
 -- a prefix of its report was written
 pub record ReportsRefusalPrefix
-    (machine : Machine) (detail : Detail) (w : Window) (rom : List ℕ) (cert : Result Certificate CertFault) (old new : Option (List ℕ)) : Type 0 where
+    (machine : Machine) (detail : Detail) (w : Window) (rom : List ℕ) (cert : Result Certificate CertFault)
+    (old new : Option (List ℕ)) : Type 0 where
   pub refused : Refusal
   pub refuses : RefusesAll machine w rom cert refused
   pub report : WritesReportPrefix detail (Err refused) old new
@@ -165,13 +173,6 @@ pub record ReportsRefusalPrefix
 abbrev pub shapes_of : Machine → Window → List ℕ → Certificate → Shapes
 shapes_of machine w rom c = record { rom = rom_on machine c.map rom; list = c.entries; window = w; mode = Bound }
 
--- the lines of frames that are judged over judged shapes, with this count of shapes
-abbrev pub ReportsOver : Shapes → ℕ → ℕ → Listing → Option ℕ → List OpenedFrame → Option (List ℕ) → Option (List ℕ)
-    → ℕ → ℕ → FrameOutcome → Type 0
-ReportsOver shapes count budget =
-    ReportsFrames (λ bytes. VerdictOver shapes count bytes budget) shapes.rom shapes.window (shapes.mode ≡ Exact)
-
--- a prefix of these lines was written, and nothing else
-abbrev pub ReportsOverPrefix : Shapes → ℕ → ℕ → Listing → Option ℕ → List OpenedFrame → Option (List ℕ) → Option (List ℕ) → Type 0
-ReportsOverPrefix shapes count budget =
-    ReportsFramesPrefix (λ bytes. VerdictOver shapes count bytes budget) shapes.rom shapes.window (shapes.mode ≡ Exact)
+-- how frames are judged over them
+abbrev pub judged_given : Machine → Window → List ℕ → Certificate → ℕ → Judging
+judged_given machine w rom c budget = judged_over (shapes_of machine w rom c) (length c.entries) budget

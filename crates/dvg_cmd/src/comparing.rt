@@ -1,140 +1,45 @@
 //! Running over readers and a writer, to tell what a change of a ROM touches.
 
-ghost use Rattle.std.specs.Prelude.{◌≡◌, ◌≢◌, ◌↔◌, ◌<◌, List, ℕ, [], ◌∷◌, Option, Err, IfOk, IfErr, IsTrue, OnOk, OnErr, is_err, length, string_bytes};
+ghost use Rattle.std.specs.Prelude.{◌≡◌, ◌≢◌, ◌↔◌, ◌<◌, [], ◌∷◌, Err, IfOk, IfErr, IsTrue, OnOk, OnErr, is_err, length, string_bytes};
 ghost use Rattle.std.specs.Io.KnownBytes.{Appends};
-ghost use Rattle.dvg_cert.specs.Devices.{AppendsPrefix, TakesOneWrite, count_after};
+ghost use Rattle.dvg_cert.specs.Devices.{AppendsPrefix, count_after};
 ghost use Rattle.dvg_spelling.specs.Faults.{frames_run_number};
-ghost use Rattle.dvg_spelling.specs.Touched.{touched_line, frame_touched_line};
-ghost use Rattle.dvg_cmd.specs.Comparing.{ComparesFor, ComparisonFaultMeans, reaching_lines, comparison_lines, WritesComparison, WritesComparisonPrefix};
+ghost use Rattle.dvg_cmd.specs.Comparing.{ComparesFor, ComparisonFaultMeans, comparison_lines, WritesComparison, WritesComparisonPrefix};
 ghost use Rattle.dvg_cmd.specs.MakingFrames.{blames_frames_rom, blames_a_frame, blames_frames_writer, of_each, FailedAfter, EachRead};
-ghost use Rattle.dvg_cmd.specs.SeveralFrames.{joined, TakeOneWriteEach};
-ghost use Rattle.dvg_cmd.specs.Private.Reading.{IsPrefix, ArePrefixes};
+ghost use Rattle.dvg_cmd.specs.SeveralFrames.{joined};
+ghost use Rattle.dvg_cmd.specs.Private.Sent.{Sent};
 ghost use Rattle.dvg_cmd.specs.Runs.{MOST_ROM_READ, IsReadTo};
 ghost use Rattle.dvg_spelling.specs.declared.fault.MakeRunFault.TheVariants as maker;
 
-use crate::making_frames::{FrameBytes, images_of, read_frames};
-use crate::reading::read_rom;
-use dvg_cert::{CountedRead, CountedWrite, Key, write_lines};
+use crate::entry_lines::write_each;
+use crate::inputs::{InputBytes, read_frames, read_maker_rom, rom_image};
+use dvg_cert::{CountedRead, CountedWrite, Key, WriteFault, write_lines};
 use dvg_diff::{Comparison, TouchedEntry, compare};
-use dvg_spelling::{FramesRunFault, MakeRunFault, touched_line_of};
-use dvg_words::{Machine, RomImage, RomMap};
+use dvg_make::FramesFault;
+use dvg_spelling::FramesRunFault;
+use dvg_words::{Machine, RomMap};
 use std::alloc::Global;
 
-/// What the change from one ROM to another touches, of what was read of both at this map, on a machine, and of frames.
-fn comparison_on(
-    machine: Machine,
-    alloc: Global,
-    rom: &[u8],
-    other: &[u8],
-    map: RomMap,
-    roots: &[(u16, Key)],
-    frames: &[FrameBytes],
-) -> Result<Comparison, FramesRunFault>
-    ensures ok { (held other_held : Option (List ℕ)) (readers : List (Option (List ℕ))) → IsPrefix MOST_ROM_READ held rom.now
-        → IsPrefix MOST_ROM_READ other_held other.now → ArePrefixes readers (of_each (λ bytes. bytes.items) frames.now)
-        → IfOk result (ComparesFor machine held other_held map roots.now readers) }
-    ensures refused { (held other_held : Option (List ℕ)) (readers : List (Option (List ℕ))) → IsPrefix MOST_ROM_READ held rom.now
-        → IsPrefix MOST_ROM_READ other_held other.now → ArePrefixes readers (of_each (λ bytes. bytes.items) frames.now)
-        → IfErr result (λ fault. frames_run_number fault ≢ 63 → ComparisonFaultMeans machine held other_held map roots.now readers fault) }
-    ensures fault { IfErr result (λ fault. (fault ≢ FramesRunFault.Plain maker.ReadRom) × (fault ≢ FramesRunFault.ReadFrame)
-        × (fault ≢ FramesRunFault.Plain maker.Write)) }
-{
-    let Ok(rom) = RomImage::from_bytes_on(machine, rom, map) else {
-        return Err(MakeRunFault::RomLength.into());
-    };
-    let Ok(other) = RomImage::from_bytes_on(machine, other, map) else {
-        return Err(MakeRunFault::RomLength.into());
-    };
-    let images = images_of(alloc, frames)?;
-    Ok(compare(alloc, &rom, &other, roots, &images)?)
-}
-
-/// Writes the line of a touched entry, by one write.
-fn write_entry<W: CountedWrite>(entry: &TouchedEntry, out: &mut W) -> Result<(), FramesRunFault>
-    ensures written { OnOk result (Appends (W.contents out.old) (W.contents out.new) (touched_line entry.now)) }
-    ensures prefix { OnErr result (AppendsPrefix (W.contents out.old) (W.contents out.new) (touched_line entry.now)) }
-    ensures one_write { OnOk result (TakesOneWrite (touched_line entry.now) (W.whole_writes out.old) (W.whole_writes out.new)) }
-    ensures fault { IfErr result (λ fault. fault ≡ FramesRunFault.Plain maker.Write) }
-    ensures count { W.failures out.new ≡ count_after (is_err result) (W.failures out.old) }
-{
-    let line = touched_line_of(entry);
-    match write_lines(line.as_slice(), &[], &[], out) {
-        Ok(()) => Ok(()),
-        Err(_) => Err(MakeRunFault::Write.into()),
-    }
-}
-
-/// Writes the line of a frame that reaches a touched shape, by one write if it fits one.
-fn write_frame<W: CountedWrite>(name: &str, out: &mut W) -> Result<(), FramesRunFault>
-    ensures written { OnOk result (Appends (W.contents out.old) (W.contents out.new) (frame_touched_line name.now)) }
-    ensures prefix { OnErr result (AppendsPrefix (W.contents out.old) (W.contents out.new) (frame_touched_line name.now)) }
-    ensures one_write { OnOk result (TakesOneWrite (frame_touched_line name.now) (W.whole_writes out.old) (W.whole_writes out.new)) }
-    ensures fault { IfErr result (λ fault. fault ≡ FramesRunFault.Plain maker.Write) }
-    ensures count { W.failures out.new ≡ count_after (is_err result) (W.failures out.old) }
-{
-    match write_lines(name.as_bytes(), b": touched\n", &[], out) {
-        Ok(()) => Ok(()),
-        Err(_) => Err(MakeRunFault::Write.into()),
-    }
-}
-
-/// Writes the lines of touched entries.
-fn write_entries<W: CountedWrite>(
-    entries: &[TouchedEntry],
-    out: &mut W,
-) -> Result<(), FramesRunFault>
-    ensures written { OnOk result (Appends (W.contents out.old) (W.contents out.new) (joined (of_each touched_line entries.now))) }
-    ensures prefix { OnErr result (AppendsPrefix (W.contents out.old) (W.contents out.new) (joined (of_each touched_line entries.now))) }
-    ensures one_write { OnOk result (TakeOneWriteEach (of_each touched_line entries.now) (W.whole_writes out.old) (W.whole_writes out.new)) }
-    ensures fault { IfErr result (λ fault. fault ≡ FramesRunFault.Plain maker.Write) }
-    ensures count { W.failures out.new ≡ count_after (is_err result) (W.failures out.old) }
-{
-    for entry in entries {
-        write_entry(entry, out)?;
-    }
-    Ok(())
-}
-
-/// Writes the lines of the frames that reach a touched shape, by their names.
-fn write_reaching<W: CountedWrite>(
-    names: &[String],
-    reaching: &[bool],
-    out: &mut W,
-) -> Result<(), FramesRunFault>
-    ensures written { OnOk result (Appends (W.contents out.old) (W.contents out.new)
-        (joined (reaching_lines (of_each (λ name. string_bytes name) names.now) reaching.now))) }
-    ensures prefix { OnErr result (AppendsPrefix (W.contents out.old) (W.contents out.new)
-        (joined (reaching_lines (of_each (λ name. string_bytes name) names.now) reaching.now))) }
-    ensures one_write { OnOk result (TakeOneWriteEach (reaching_lines (of_each (λ name. string_bytes name) names.now) reaching.now)
-        (W.whole_writes out.old) (W.whole_writes out.new)) }
-    ensures fault { IfErr result (λ fault. fault ≡ FramesRunFault.Plain maker.Write) }
-    ensures count { W.failures out.new ≡ count_after (is_err result) (W.failures out.old) }
-{
-    for i in 0..names.len().min(reaching.len()) {
-        if reaching[i] {
-            write_frame(names[i].as_str(), out)?;
-        }
-    }
-    Ok(())
-}
-
-/// Writes the lines of what a change touches.
+/// Writes the lines of what a change touches: of the entries, and of the frames that reach one, by their names.
 fn write_comparison<W: CountedWrite>(
     names: &[String],
     comparison: &Comparison,
     out: &mut W,
-) -> Result<(), FramesRunFault>
-    ensures written { OnOk result (Appends (W.contents out.old) (W.contents out.new)
-        (joined (comparison_lines (of_each (λ name. string_bytes name) names.now) comparison.now))) }
+) -> Result<(), WriteFault>
+    ensures sent { OnOk result (Sent (comparison_lines (of_each (λ name. string_bytes name) names.now) comparison.now)
+        (W.contents out.old) (W.contents out.new) (W.whole_writes out.old) (W.whole_writes out.new)) }
     ensures prefix { OnErr result (AppendsPrefix (W.contents out.old) (W.contents out.new)
         (joined (comparison_lines (of_each (λ name. string_bytes name) names.now) comparison.now))) }
-    ensures one_write { OnOk result (TakeOneWriteEach (comparison_lines (of_each (λ name. string_bytes name) names.now) comparison.now)
-        (W.whole_writes out.old) (W.whole_writes out.new)) }
-    ensures fault { IfErr result (λ fault. fault ≡ FramesRunFault.Plain maker.Write) }
     ensures count { W.failures out.new ≡ count_after (is_err result) (W.failures out.old) }
 {
-    write_entries(&comparison.entries, out)?;
-    write_reaching(names, &comparison.reaching, out)
+    write_each(&comparison.entries, out)?;
+    let reaching = comparison.reaching.as_slice();
+    for i in 0..names.len().min(reaching.len()) {
+        if reaching[i] {
+            write_lines(names[i].as_str().as_bytes(), b": touched\n", &[], out)?;
+        }
+    }
+    Ok(())
 }
 
 /// Whether there is a touched entry.
@@ -193,22 +98,13 @@ pub fn run_comparison<R1: CountedRead, R2: CountedRead, W: CountedWrite>(
     ensures refused { IfErr result (λ fault. frames_run_number fault ≢ 63 → ComparisonFaultMeans machine (R1.remaining rom.old)
         (R1.remaining other.old) map roots.now (of_each (λ frame. R2.remaining frame) frames.old) fault) }
 {
-    let Ok(bytes) = read_rom(rom) else {
-        return Err(MakeRunFault::ReadRom.into());
-    };
-    let Ok(other_bytes) = read_rom(other) else {
-        return Err(MakeRunFault::ReadRom.into());
-    };
+    let rom = read_maker_rom(rom)?;
+    let other_bytes = read_maker_rom(other)?;
     let frames = read_frames(alloc, frames)?;
-    let comparison = comparison_on(
-        machine,
-        alloc,
-        bytes.as_slice(),
-        other_bytes.as_slice(),
-        map,
-        roots,
-        &frames,
-    )?;
+    let bytes = InputBytes { rom, frames };
+    let other_image = rom_image(machine, &other_bytes, map)?;
+    let images = bytes.images(machine, alloc, map)?;
+    let comparison = compare(alloc, &images.rom, &other_image, roots, &images.frames)?;
     write_comparison(names, &comparison, out)?;
     Ok(any_touched(&comparison.entries))
 }

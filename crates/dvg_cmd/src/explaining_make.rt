@@ -6,19 +6,18 @@ ghost use Rattle.dvg_cert.specs.Devices.{AppendsPrefix, TakesOneWrite, count_aft
 ghost use Rattle.dvg_cmd.specs.Explaining.{MakesEntries, MakeExplained, MakeExplainedPrefix, frame_to_blame, make_line, make_outcome_of};
 ghost use Rattle.dvg_cmd.specs.MakingFrames.{blames_frames_rom, blames_a_frame, blames_frames_writer, of_each, FailedAfter, EachRead, FramesFaultMeans};
 ghost use Rattle.dvg_spelling.specs.Faults.{frames_run_number};
-ghost use Rattle.dvg_cmd.specs.Private.Reading.{IsPrefix, ArePrefixes};
+ghost use Rattle.dvg_cmd.specs.Private.Inputs.{AreRead};
 ghost use Rattle.dvg_cmd.specs.Runs.{MOST_ROM_READ, IsReadTo};
 ghost use Rattle.dvg_spelling.specs.declared.fault.MakeRunFault.TheVariants as maker;
 
 use crate::detail::NO_ACCOUNT;
-use crate::making_frames::{FrameBytes, images_of, read_frames};
-use crate::reading::read_rom;
+use crate::inputs::InputBytes;
 use dvg_account::{PlainWhy, made_text, plain_text, unmade_text};
 use dvg_cert::{CountedRead, CountedWrite, Key, write_lines};
 use dvg_labels::Labels;
 use dvg_make::explain_making;
 use dvg_spelling::{FramesRunFault, MakeRunFault, Outcome, RunFault, make_line_of};
-use dvg_words::{Machine, RomImage, RomMap};
+use dvg_words::{Machine, RomMap};
 use std::alloc::{AllocError, Global};
 
 /// The maker's answer: how many entries it makes, or why none, and the account of the answer, if there was memory for it.
@@ -56,11 +55,19 @@ fn unasked(
     }
 }
 
-/// Why the bytes of these frames are not frames.
-fn length_why(fault: FramesRunFault, frames: &[FrameBytes]) -> PlainWhy {
-    match fault.frame().and_then(|frame| frames.get(frame)) {
-        Some(bytes) => PlainWhy::FrameLength { bytes: bytes.len() },
-        None => PlainWhy::Nothing,
+/// Why these bytes make no images, with this ROM's map.
+fn length_why(fault: FramesRunFault, bytes: &InputBytes, map: RomMap) -> PlainWhy {
+    match fault {
+        FramesRunFault::Plain(MakeRunFault::RomLength) => PlainWhy::RomLength {
+            bytes: bytes.rom.len(),
+            map,
+        },
+        FramesRunFault::FrameLength { frame } if frame < bytes.frames.len() => {
+            PlainWhy::FrameLength {
+                bytes: bytes.frames[frame].len(),
+            }
+        }
+        _ => PlainWhy::Nothing,
     }
 }
 
@@ -68,39 +75,34 @@ fn length_why(fault: FramesRunFault, frames: &[FrameBytes]) -> PlainWhy {
 fn answer_on(
     machine: Machine,
     alloc: Global,
-    rom: &[u8],
+    bytes: &InputBytes,
     map: RomMap,
     roots: &[(u16, Key)],
-    frames: &[FrameBytes],
     labels: Option<&Labels>,
 ) -> MakeAnswer
-    ensures made { (held : Option (List ℕ)) (readers : List (Option (List ℕ))) → IsPrefix MOST_ROM_READ held rom.now
-        → ArePrefixes readers (of_each (λ bytes. bytes.items) frames.now)
+    ensures made { (held : Option (List ℕ)) (readers : List (Option (List ℕ)))
+        → AreRead held readers bytes.now.rom.items (of_each (λ bytes. bytes.items) bytes.now.frames.items)
         → IfOk result.made (MakesEntries machine held map roots.now readers) }
-    ensures refused { (held : Option (List ℕ)) (readers : List (Option (List ℕ))) → IsPrefix MOST_ROM_READ held rom.now
-        → ArePrefixes readers (of_each (λ bytes. bytes.items) frames.now)
+    ensures refused { (held : Option (List ℕ)) (readers : List (Option (List ℕ)))
+        → AreRead held readers bytes.now.rom.items (of_each (λ bytes. bytes.items) bytes.now.frames.items)
         → IfErr result.made (FramesFaultMeans machine held map roots.now readers) }
     ensures no_device { (blames_frames_rom result.made ≡ false) × (blames_a_frame result.made ≡ false) × (blames_frames_writer result.made ≡ false) }
 {
-    let Ok(image) = RomImage::from_bytes_on(machine, rom, map) else {
-        let why = PlainWhy::RomLength {
-            bytes: rom.len(),
-            map,
-        };
-        return unasked(machine, alloc, MakeRunFault::RomLength.into(), why, labels);
-    };
-    let images = match images_of(alloc, frames) {
+    let images = match bytes.images(machine, alloc, map) {
         Ok(images) => images,
-        Err(fault) => return unasked(machine, alloc, fault, length_why(fault, frames), labels),
+        Err(fault) => {
+            let why = length_why(fault, bytes, map);
+            return unasked(machine, alloc, fault, why, labels);
+        }
     };
-    match explain_making(alloc, &image, roots, &images) {
+    match explain_making(alloc, &images.rom, roots, &images.frames) {
         Ok(cert) => MakeAnswer {
             made: Ok(cert.entries().len() as u32),
             account: made_text(machine, alloc, &cert, labels),
         },
         Err(account) => MakeAnswer {
             made: Err(account.fault.into()),
-            account: unmade_text(alloc, &image, &images, account, labels),
+            account: unmade_text(alloc, &images.rom, &images.frames, account, labels),
         },
     }
 }
@@ -143,19 +145,8 @@ pub fn run_explain_make<R1: CountedRead, R2: CountedRead>(
     ensures no_device { IfOk result (λ answer. (blames_frames_rom answer.made ≡ false) × (blames_a_frame answer.made ≡ false)
         × (blames_frames_writer answer.made ≡ false)) }
 {
-    let Ok(bytes) = read_rom(rom) else {
-        return Err(MakeRunFault::ReadRom.into());
-    };
-    let frames = read_frames(alloc, frames)?;
-    let answer = answer_on(
-        machine,
-        alloc,
-        bytes.as_slice(),
-        map,
-        roots,
-        &frames,
-        labels,
-    );
+    let bytes = InputBytes::read(alloc, rom, frames)?;
+    let answer = answer_on(machine, alloc, &bytes, map, roots, labels);
     if let Err(fault) = answer.made {
         if fault.number() == NO_MEMORY_NUMBER {
             return Err(fault);

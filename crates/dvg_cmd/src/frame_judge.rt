@@ -1,17 +1,14 @@
 //! By which certificate a frame is judged: by its own, which is made for it, or by a given one, whose shapes were judged.
 
-ghost use Rattle.std.specs.Prelude.{◌≡◌, ℕ, List, Result, length, Err, None, IfOk, IfErr};
-ghost use Rattle.dvg_words.specs.Memory.{Rom, IsFrameLength, rom_on, words_of};
+ghost use Rattle.std.specs.Prelude.{◌≡◌, length, Err, None, IfOk, IfErr};
+ghost use Rattle.dvg_words.specs.Memory.{IsFrameLength, words_of};
 ghost use Rattle.dvg_words.specs.Values.{Window as Places};
 ghost use Rattle.dvg_words.specs.declared.machine.Machine.TheVariants.{Board};
 ghost use Rattle.dvg_check.specs.Safety.{Safe, CountsAtHalt};
 ghost use Rattle.dvg_check.specs.Circuit.{SafeOnCircuit, CountsOnCircuit};
-ghost use Rattle.dvg_check.specs.declared.fault.Mode.TheVariants.{Exact};
-ghost use Rattle.dvg_check.specs.declared.verdict.Yes.{Yes as Counts};
-ghost use Rattle.dvg_make.specs.declared.judging.FrameRefusal.{FrameRefusal as Refused};
 ghost use Rattle.dvg_make.specs.declared.judging.FrameRefusal.TheVariants.{Check};
 ghost use Rattle.dvg_cmd.specs.Detail.{IsBehind};
-ghost use Rattle.dvg_cmd.specs.Frames.{MayJudgeOver, VerdictOnBytes, VerdictOver};
+ghost use Rattle.dvg_cmd.specs.Frames.{Judging, MayJudgeOver, VerdictOnBytes, VerdictOver, judged_by_own, judged_over};
 ghost use Rattle.dvg_cmd.specs.declared.detail.Detail.{Detail};
 ghost use Rattle.dvg_cmd.specs.declared.detail.Detail.TheVariants as details;
 ghost use Rattle.dvg_cmd.specs.Private.Judging.{AreImages};
@@ -25,43 +22,34 @@ use dvg_make::{FrameRefusal, explain_judging, judge, own_verdict};
 use dvg_words::{FrameImage, Machine, RomImage, RomMap, Window};
 use std::alloc::Global;
 
+/// A verdict on a frame, and what the detail asks for behind its line.
+pub type ToldVerdict = (Result<Yes, FrameRefusal>, Behind);
+
 /// A judge of frames over a vector ROM.
 pub trait FrameJudge {
     /// What must hold of it before it judges with this detail.
     ghost valid: { Self → Detail → Type 0 };
 
-    /// What is a verdict on the bytes of a frame.
-    ghost is_verdict: { Self → List ℕ → Result Counts Refused → Type 0 };
-
-    /// The ROM that frames call.
-    ghost rom: { Self → Rom };
-
-    /// The part of the screen that may be lit.
-    ghost window: { Self → Places };
-
-    /// The counts of what is accepted are exact.
-    ghost is_exact: { Self → Type 0 };
+    /// What is a verdict on the bytes of a frame, which ROM frames call, which part of the screen may be lit, and whether the counts
+    /// of what is accepted are exact.
+    ghost judging: { Self → Judging };
 
     /// The machine that accounts name.
     fn machine(&self) -> Machine;
 
     /// The verdict on the bytes of a frame, and what the detail asks for behind its line.
-    fn verdict(
-        &self,
-        alloc: Global,
-        frame: &[u8],
-        detail: Detail,
-    ) -> (Result<Yes, FrameRefusal>, Behind)
+    fn verdict(&self, alloc: Global, frame: &[u8], detail: Detail) -> ToldVerdict
         requires { valid self.now detail }
-        ensures verdict { is_verdict self.now frame.now result.0 }
+        ensures verdict { (judging self.now).is_verdict frame.now result.0 }
         ensures behind { IsBehind detail.entry result.1 }
         ensures whole { IfOk result.0 (λ yes. IsFrameLength (length frame.now)) }
-        ensures safe { IfOk result.0 (λ yes. Safe (record { frame = words_of frame.now; rom = rom self.now }) (window self.now) yes.words yes.depth) }
-        ensures exact { is_exact self.now → IfOk result.0 (λ yes. CountsAtHalt (record { frame = words_of frame.now; rom = rom self.now }) yes.words yes.depth) }
-        ensures circuit { (rom self.now).machine ≡ Board
-            → IfOk result.0 (λ yes. SafeOnCircuit (record { frame = words_of frame.now; rom = rom self.now }) (window self.now) yes.words yes.depth) }
-        ensures circuit_exact { (rom self.now).machine ≡ Board → is_exact self.now
-            → IfOk result.0 (λ yes. CountsOnCircuit (record { frame = words_of frame.now; rom = rom self.now }) yes.words yes.depth) };
+        ensures safe { IfOk result.0 (λ yes. Safe (record { frame = words_of frame.now; rom = (judging self.now).rom }) (judging self.now).window yes.words yes.depth) }
+        ensures exact { (judging self.now).is_exact
+            → IfOk result.0 (λ yes. CountsAtHalt (record { frame = words_of frame.now; rom = (judging self.now).rom }) yes.words yes.depth) }
+        ensures circuit { (judging self.now).rom.machine ≡ Board
+            → IfOk result.0 (λ yes. SafeOnCircuit (record { frame = words_of frame.now; rom = (judging self.now).rom }) (judging self.now).window yes.words yes.depth) }
+        ensures circuit_exact { (judging self.now).rom.machine ≡ Board → (judging self.now).is_exact
+            → IfOk result.0 (λ yes. CountsOnCircuit (record { frame = words_of frame.now; rom = (judging self.now).rom }) yes.words yes.depth) };
 }
 
 /// The judge of each frame by its own certificate, as [`judge`] judges.
@@ -82,24 +70,13 @@ pub struct OwnCertificates<'a> {
 impl<'a> FrameJudge for OwnCertificates<'a> {
     ghost valid = { λ _ _. Unit {0} };
 
-    ghost is_verdict = { λ own bytes verdict. VerdictOnBytes own.machine own.rom.now own.map bytes own.budget own.window verdict };
-
-    ghost rom = { λ own. rom_on own.machine own.map own.rom.now };
-
-    ghost window = { λ own. own.window };
-
-    ghost is_exact = { λ _. Unit {0} };
+    ghost judging = { λ own. judged_by_own own.machine own.rom.now own.map own.budget own.window };
 
     fn machine(&self) -> Machine {
         self.machine
     }
 
-    fn verdict(
-        &self,
-        alloc: Global,
-        frame: &[u8],
-        detail: Detail,
-    ) -> (Result<Yes, FrameRefusal>, Behind) {
+    fn verdict(&self, alloc: Global, frame: &[u8], detail: Detail) -> ToldVerdict {
         match detail {
             Detail::Line => (verdict_by_own(alloc, self, frame), Behind::Nothing),
             Detail::Account(labels) => explain_by_own(alloc, self, frame, labels),
@@ -138,7 +115,7 @@ fn explain_by_own<'a>(
     own: &OwnCertificates<'a>,
     frame: &'a [u8],
     labels: Option<&Labels>,
-) -> (Result<Yes, FrameRefusal>, Behind)
+) -> ToldVerdict
     ensures verdict { VerdictOnBytes own.now.machine own.now.rom.now own.now.map frame.now own.now.budget own.now.window result.0 }
     ensures behind { IsBehind (details.Account None) result.1 }
 {
@@ -209,24 +186,13 @@ impl<'a, E: Entries> GivenCertificate<'a, E> {
 impl<'a, E: Entries> FrameJudge for GivenCertificate<'a, E> {
     ghost valid = { λ given detail. MayJudgeOver given.machine given.shapes.now given.cert.now given.rom.now given.mode detail };
 
-    ghost is_verdict = { λ given bytes verdict. VerdictOver given.shapes.now (length given.cert.now.entries) bytes given.budget verdict };
-
-    ghost rom = { λ given. given.shapes.now.rom };
-
-    ghost window = { λ given. given.shapes.now.window };
-
-    ghost is_exact = { λ given. given.shapes.now.mode ≡ Exact };
+    ghost judging = { λ given. judged_over given.shapes.now (length given.cert.now.entries) given.budget };
 
     fn machine(&self) -> Machine {
         self.machine
     }
 
-    fn verdict(
-        &self,
-        alloc: Global,
-        frame: &[u8],
-        detail: Detail,
-    ) -> (Result<Yes, FrameRefusal>, Behind) {
+    fn verdict(&self, alloc: Global, frame: &[u8], detail: Detail) -> ToldVerdict {
         let (verdict, cause) = verdict_over(self.shapes, self.cert, frame, self.budget);
         let behind = match detail {
             Detail::Line => Behind::Nothing,

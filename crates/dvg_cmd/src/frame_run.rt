@@ -53,7 +53,7 @@ pub fn answer_of<J: FrameJudge, R: CountedRead>(
     detail: Detail,
 ) -> (FrameAnswer, Behind)
     requires { J.valid judge.now detail }
-    ensures answers { AnswersFrame (J.is_verdict judge.now) (J.rom judge.now) (J.window judge.now) (J.is_exact judge.now)
+    ensures answers { AnswersFrame (J.judging judge.now)
         start (R.remaining frame.old) (R.remaining frame.new) result.0 }
     ensures behind { IsBehind detail.entry result.1 }
     ensures count { R.failures frame.new ≡ count_after (is_unread result.0) (R.failures frame.old) }
@@ -122,25 +122,25 @@ pub fn run_frame<J: FrameJudge, R: CountedRead, W: CountedWrite>(
     requires { J.valid judge.now detail }
 
     // The line of an answer is written, or a prefix of it if the writer failed, which alone ends a run.
-    ensures report { IfOk result (ReportsFrame (J.is_verdict judge.now) (J.rom judge.now) (J.window judge.now) (J.is_exact judge.now)
+    ensures report { IfOk result (ReportsFrame (J.judging judge.now)
         detail.entry start name.now (R.remaining frame.old) (R.remaining frame.new) (W.contents out.old) (W.contents out.new)
         (W.whole_writes out.old) (W.whole_writes out.new)) }
-    ensures prefix { OnErr result (ReportsFramePrefix (J.is_verdict judge.now) (J.rom judge.now) (J.window judge.now) (J.is_exact judge.now)
+    ensures prefix { OnErr result (ReportsFramePrefix (J.judging judge.now)
         detail.entry start name.now (R.remaining frame.old) (R.remaining frame.new) (W.contents out.old) (W.contents out.new)) }
 
     // What is accepted is safe, with the counts of the line that was written, and if these are exact, they are those of each run; on
     // the board also on its circuit.
     ensures safe { result ≡ Ok FrameOutcome.Accepted → ReportsFrameAccepted detail.entry name.now (W.contents out.old) (W.contents out.new)
-        (SafeFrame (J.rom judge.now) (J.window judge.now) start (R.remaining frame.old)) }
-    ensures exact { J.is_exact judge.now → result ≡ Ok FrameOutcome.Accepted
+        (SafeFrame (J.judging judge.now).rom (J.judging judge.now).window start (R.remaining frame.old)) }
+    ensures exact { (J.judging judge.now).is_exact → result ≡ Ok FrameOutcome.Accepted
         → ReportsFrameAccepted detail.entry name.now (W.contents out.old) (W.contents out.new)
-        (CountsFrame (J.rom judge.now) start (R.remaining frame.old)) }
-    ensures circuit { (J.rom judge.now).machine ≡ Board → result ≡ Ok FrameOutcome.Accepted
+        (CountsFrame (J.judging judge.now).rom start (R.remaining frame.old)) }
+    ensures circuit { (J.judging judge.now).rom.machine ≡ Board → result ≡ Ok FrameOutcome.Accepted
         → ReportsFrameAccepted detail.entry name.now (W.contents out.old) (W.contents out.new)
-        (SafeCircuitFrame (J.rom judge.now) (J.window judge.now) start (R.remaining frame.old)) }
-    ensures circuit_exact { (J.rom judge.now).machine ≡ Board → J.is_exact judge.now → result ≡ Ok FrameOutcome.Accepted
+        (SafeCircuitFrame (J.judging judge.now).rom (J.judging judge.now).window start (R.remaining frame.old)) }
+    ensures circuit_exact { (J.judging judge.now).rom.machine ≡ Board → (J.judging judge.now).is_exact → result ≡ Ok FrameOutcome.Accepted
         → ReportsFrameAccepted detail.entry name.now (W.contents out.old) (W.contents out.new)
-        (CountsCircuitFrame (J.rom judge.now) start (R.remaining frame.old)) }
+        (CountsCircuitFrame (J.judging judge.now).rom start (R.remaining frame.old)) }
     ensures fault { IfErr result (λ fault. fault ≡ RunFault.Write) }
 
     // The frame's count rises by one if it could not be read, and by no more if the run ends; the writer's rises there.

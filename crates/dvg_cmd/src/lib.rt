@@ -6,9 +6,11 @@
 
 mod comparing;
 mod detail;
+mod entry_lines;
 mod explaining_make;
 mod frame_judge;
 mod frame_run;
+mod inputs;
 pub mod laws;
 mod listing;
 mod making;

@@ -1,82 +1,22 @@
 //! Running over readers and a writer, to tell where calls may stand.
 
-ghost use Rattle.std.specs.Prelude.{◌≡◌, ◌≢◌, List, ℕ, [], Option, Err, IfOk, IfErr, OnOk, OnErr, is_err};
+ghost use Rattle.std.specs.Prelude.{◌≡◌, ◌≢◌, [], Err, IfErr, OnOk};
 ghost use Rattle.std.specs.Io.KnownBytes.{Appends};
-ghost use Rattle.dvg_cert.specs.Devices.{AppendsPrefix, TakesOneWrite, count_after};
+ghost use Rattle.dvg_cert.specs.Devices.{count_after};
 ghost use Rattle.dvg_spelling.specs.Faults.{frames_run_number};
-ghost use Rattle.dvg_spelling.specs.Places.{place_line};
 ghost use Rattle.dvg_cmd.specs.MakingFrames.{blames_frames_rom, blames_a_frame, blames_frames_writer, of_each, FailedAfter, EachRead, FramesFaultMeans};
 ghost use Rattle.dvg_cmd.specs.Placing.{PlacesFor, WritesPlaces, WritesPlacesPrefix};
-ghost use Rattle.dvg_cmd.specs.SeveralFrames.{joined, TakeOneWriteEach};
-ghost use Rattle.dvg_cmd.specs.Private.Reading.{IsPrefix, ArePrefixes};
 ghost use Rattle.dvg_cmd.specs.Runs.{MOST_ROM_READ, IsReadTo};
 ghost use Rattle.dvg_spelling.specs.declared.fault.MakeRunFault.TheVariants as maker;
 
-use crate::making_frames::{FrameBytes, images_of, read_frames};
-use crate::reading::read_rom;
-use dvg_cert::{CountedRead, CountedWrite, HashIndex, Key, write_lines};
-use dvg_make::make_for_frames;
-use dvg_spelling::{FramesRunFault, MakeRunFault, place_line_of};
-use dvg_survey::{EntryPlaces, entry_places};
-use dvg_words::{Machine, RomImage, RomMap, Window};
-use std::alloc::Global;
-
-/// The places of the calls of each entry that is made for what was read of a ROM at this map, on a machine, and of frames.
-fn places_on(
-    machine: Machine,
-    alloc: Global,
-    rom: &[u8],
-    map: RomMap,
-    roots: &[(u16, Key)],
-    frames: &[FrameBytes],
-    window: Window,
-) -> Result<Vec<EntryPlaces>, FramesRunFault>
-    ensures ok { (held : Option (List ℕ)) (readers : List (Option (List ℕ))) → IsPrefix MOST_ROM_READ held rom.now
-        → ArePrefixes readers (of_each (λ bytes. bytes.items) frames.now)
-        → IfOk result (λ places. PlacesFor machine window held map roots.now readers places.items) }
-    ensures refused { (held : Option (List ℕ)) (readers : List (Option (List ℕ))) → IsPrefix MOST_ROM_READ held rom.now
-        → ArePrefixes readers (of_each (λ bytes. bytes.items) frames.now)
-        → IfErr result (λ fault. frames_run_number fault ≢ 63 → FramesFaultMeans machine held map roots.now readers fault) }
-    ensures fault { IfErr result (λ fault. (fault ≢ FramesRunFault.Plain maker.ReadRom) × (fault ≢ FramesRunFault.ReadFrame)
-        × (fault ≢ FramesRunFault.Plain maker.Write)) }
-{
-    let Ok(rom) = RomImage::from_bytes_on(machine, rom, map) else {
-        return Err(MakeRunFault::RomLength.into());
-    };
-    let images = images_of(alloc, frames)?;
-    let cert = make_for_frames(alloc, &rom, roots, &images)?;
-    let entries = HashIndex::new(alloc, &cert)?;
-    Ok(entry_places(alloc, &rom, &cert, &entries, &window)?)
-}
-
-/// Writes the line of the places of an entry's calls, by one write.
-fn write_place<W: CountedWrite>(entry: &EntryPlaces, out: &mut W) -> Result<(), FramesRunFault>
-    ensures written { OnOk result (Appends (W.contents out.old) (W.contents out.new) (place_line entry.now)) }
-    ensures prefix { OnErr result (AppendsPrefix (W.contents out.old) (W.contents out.new) (place_line entry.now)) }
-    ensures one_write { OnOk result (TakesOneWrite (place_line entry.now) (W.whole_writes out.old) (W.whole_writes out.new)) }
-    ensures fault { IfErr result (λ fault. fault ≡ FramesRunFault.Plain maker.Write) }
-    ensures count { W.failures out.new ≡ count_after (is_err result) (W.failures out.old) }
-{
-    let line = place_line_of(entry);
-    match write_lines(line.as_slice(), &[], &[], out) {
-        Ok(()) => Ok(()),
-        Err(_) => Err(MakeRunFault::Write.into()),
-    }
-}
-
-/// Writes the lines of the places of entries' calls, each by one write.
-fn write_places<W: CountedWrite>(places: &[EntryPlaces], out: &mut W) -> Result<(), FramesRunFault>
-    ensures written { OnOk result (Appends (W.contents out.old) (W.contents out.new) (joined (of_each place_line places.now))) }
-    ensures prefix { OnErr result (AppendsPrefix (W.contents out.old) (W.contents out.new) (joined (of_each place_line places.now))) }
-    ensures one_write { OnOk result (TakeOneWriteEach (of_each place_line places.now) (W.whole_writes out.old) (W.whole_writes out.new)) }
-    ensures fault { IfErr result (λ fault. fault ≡ FramesRunFault.Plain maker.Write) }
-    ensures count { W.failures out.new ≡ count_after (is_err result) (W.failures out.old) }
-{
-    for entry in places {
-        write_place(entry, out)?;
-    }
-    Ok(())
-}
+use crate::entry_lines::write_each;
+use crate::inputs::InputBytes;
+use dvg_cert::{CountedRead, CountedWrite, HashIndex, Key, WriteFault};
+use dvg_make::{FramesFault, make_for_frames};
+use dvg_spelling::FramesRunFault;
+use dvg_survey::entry_places;
+use dvg_words::{Machine, RomMap, Window};
+use std::alloc::{AllocError, Global};
 
 /// Reads a ROM and frames as [`run_make_frames`](crate::run_make_frames) does, and writes a line for each entry of the certificate
 /// that it would write: at which absolute whole places a call of the entry breaks no rule on this window. It says nothing of what
@@ -121,18 +61,10 @@ pub fn run_places<R1: CountedRead, R2: CountedRead, W: CountedWrite>(
     ensures refused { IfErr result (λ fault. frames_run_number fault ≢ 63
         → FramesFaultMeans machine (R1.remaining rom.old) map roots.now (of_each (λ frame. R2.remaining frame) frames.old) fault) }
 {
-    let Ok(bytes) = read_rom(rom) else {
-        return Err(MakeRunFault::ReadRom.into());
-    };
-    let frames = read_frames(alloc, frames)?;
-    let places = places_on(
-        machine,
-        alloc,
-        bytes.as_slice(),
-        map,
-        roots,
-        &frames,
-        window,
-    )?;
-    write_places(&places, out)
+    let bytes = InputBytes::read(alloc, rom, frames)?;
+    let images = bytes.images(machine, alloc, map)?;
+    let cert = make_for_frames(alloc, &images.rom, roots, &images.frames)?;
+    let entries = HashIndex::new(alloc, &cert)?;
+    let places = entry_places(alloc, &images.rom, &cert, &entries, &window)?;
+    Ok(write_each(&places, out)?)
 }

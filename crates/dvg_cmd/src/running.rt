@@ -1,21 +1,16 @@
 //! Running a check over readers and a writer.
 
-ghost use Rattle.std.specs.Prelude.{◌≡◌, ◌≢◌, ◌≤◌, ◌++◌, ℕ, List, Option, Ok, Err, IfOk, IfErr, OnOk, OnErr, is_err, true};
+ghost use Rattle.std.specs.Prelude.{◌≡◌, ◌≤◌, ◌++◌, ℕ, List, Option, Ok, Err, IfOk, IfErr, OnOk, OnErr, is_err, true};
 ghost use Rattle.std.specs.Io.KnownBytes.{Appends};
-ghost use Rattle.dvg_words.specs.Memory.{rom_on};
 ghost use Rattle.dvg_words.specs.declared.machine.Machine.TheVariants.{Profile, Board};
 ghost use Rattle.dvg_cert.specs.declared.limits.TheConstants.{MOST_WORDS};
-ghost use Rattle.dvg_check.specs.Safety.{Safe, CountsAtHalt};
-ghost use Rattle.dvg_check.specs.Circuit.{SafeOnCircuit, CountsOnCircuit};
-ghost use Rattle.dvg_check.specs.Verdict.{RomVerdict};
 ghost use Rattle.dvg_check.specs.declared.fault.Mode.TheVariants.{Exact};
 ghost use Rattle.dvg_cert.specs.Devices.{AppendsPrefix, TakesOneWrite, count_after};
 ghost use Rattle.dvg_spelling.specs.Report.{report_text};
 ghost use Rattle.dvg_cmd.specs.Detail.{IsBehind, behind_text, outcome_behind};
-ghost use Rattle.dvg_cmd.specs.Runs.{blames_rom, blames_frame, blames_certificate, blames_writer};
-ghost use Rattle.dvg_cmd.specs.Runs.{MOST_ROM_READ, MOST_FRAME_READ, IsReadTo, IsReadFor, Judges, SafeRead, CountsRead, SafeCircuitRead, CountsCircuitRead, outcome_of};
-ghost use Rattle.dvg_cmd.specs.Runs.{Reports, ReportsPrefix, ReportsAccepted};
+ghost use Rattle.dvg_cmd.specs.Runs.{CountsFaults, ReadsInOrder, MOST_ROM_READ, MOST_FRAME_READ, IsReadFor, Judges, SafeRead, CountsRead, SafeCircuitRead, CountsCircuitRead, outcome_of, Reports, ReportsPrefix, ReportsAccepted};
 ghost use Rattle.dvg_cmd.specs.declared.detail.Detail.TheVariants as details;
+ghost use Rattle.dvg_cmd.specs.Private.Judging.{JudgesRom};
 ghost use Rattle.dvg_cmd.specs.Private.Reading.{IsPrefix};
 
 use crate::detail::{Behind, Detail};
@@ -75,13 +70,7 @@ fn judge_rom(
     options: &CheckOptions,
 ) -> (Result<Yes, Refusal>, Option<RomFinding>)
     requires { options.now.budget ≤ MOST_WORDS }
-    ensures verdict { RomVerdict options.now.machine options.now.mode options.now.window rom.now cert.now frame.now options.now.budget result.0 }
-    ensures safe { IfOk result.0 (λ yes. Safe (record { frame = frame.now; rom = rom_on options.now.machine cert.now.map rom.now }) options.now.window yes.words yes.depth) }
-    ensures exact { options.now.mode ≡ Exact → IfOk result.0 (λ yes. CountsAtHalt (record { frame = frame.now; rom = rom_on options.now.machine cert.now.map rom.now }) yes.words yes.depth) }
-    ensures circuit { options.now.machine ≡ Board
-        → IfOk result.0 (λ yes. SafeOnCircuit (record { frame = frame.now; rom = rom_on options.now.machine cert.now.map rom.now }) options.now.window yes.words yes.depth) }
-    ensures circuit_exact { options.now.machine ≡ Board → options.now.mode ≡ Exact
-        → IfOk result.0 (λ yes. CountsOnCircuit (record { frame = frame.now; rom = rom_on options.now.machine cert.now.map rom.now }) yes.words yes.depth) }
+    ensures { JudgesRom options.now.machine options.now.mode options.now.window rom.now cert.now frame.now options.now.budget result.0 }
 {
     let CheckOptions {
         budget,
@@ -118,18 +107,6 @@ pub fn read_verdict<R: CountedRead>(
     ensures verdict { (rom_held frame_held : Option (List ℕ)) → IsPrefix MOST_ROM_READ rom_held rom.now
         → IsPrefix MOST_FRAME_READ frame_held frame.now
         → IfOk result (λ judged. Judges options.now.machine options.now.mode options.now.window rom_held (R.remaining cert.old) frame_held options.now.budget judged.verdict) }
-    ensures safe { (rom_held frame_held : Option (List ℕ)) → IsPrefix MOST_ROM_READ rom_held rom.now
-        → IsPrefix MOST_FRAME_READ frame_held frame.now
-        → IfOk result (λ judged. IfOk judged.verdict (SafeRead options.now.machine options.now.window rom_held (R.remaining cert.old) frame_held)) }
-    ensures exact { options.now.mode ≡ Exact → (rom_held frame_held : Option (List ℕ)) → IsPrefix MOST_ROM_READ rom_held rom.now
-        → IsPrefix MOST_FRAME_READ frame_held frame.now
-        → IfOk result (λ judged. IfOk judged.verdict (CountsRead options.now.machine rom_held (R.remaining cert.old) frame_held)) }
-    ensures circuit { options.now.machine ≡ Board → (rom_held frame_held : Option (List ℕ)) → IsPrefix MOST_ROM_READ rom_held rom.now
-        → IsPrefix MOST_FRAME_READ frame_held frame.now
-        → IfOk result (λ judged. IfOk judged.verdict (SafeCircuitRead options.now.machine options.now.window rom_held (R.remaining cert.old) frame_held)) }
-    ensures circuit_exact { options.now.machine ≡ Board → options.now.mode ≡ Exact → (rom_held frame_held : Option (List ℕ))
-        → IsPrefix MOST_ROM_READ rom_held rom.now → IsPrefix MOST_FRAME_READ frame_held frame.now
-        → IfOk result (λ judged. IfOk judged.verdict (CountsCircuitRead options.now.machine rom_held (R.remaining cert.old) frame_held)) }
     ensures read { IfOk result (λ judged. IsReadFor judged.verdict (R.remaining cert.old) (R.remaining cert.new)) }
     ensures count { R.failures cert.new ≡ count_after (is_err result) (R.failures cert.old) }
 {
@@ -255,19 +232,11 @@ pub fn run_check_in<R1: CountedRead, R2: CountedRead, R3: CountedRead, W: Counte
     out: &mut W,
 ) -> Result<Outcome, RunFault>
     // A fault of 70 to 73 comes exactly where its device failed in this call, and the device's count then rises by one.
-    ensures rom_count { R1.failures rom.new ≡ count_after (blames_rom result) (R1.failures rom.old) }
-    ensures cert_count { R2.failures cert.new ≡ count_after (blames_certificate result) (R2.failures cert.old) }
-    ensures frame_count { R3.failures frame.new ≡ count_after (blames_frame result) (R3.failures frame.old) }
-    ensures out_count { W.failures out.new ≡ count_after (blames_writer result) (W.failures out.old) }
-    ensures no_memory { result ≢ Err RunFault.Memory }
+    ensures counts { CountsFaults result (R1.failures rom.old) (R1.failures rom.new) (R2.failures cert.old) (R2.failures cert.new) (R3.failures frame.old) (R3.failures frame.new) (W.failures out.old) (W.failures out.new) }
 
     // With an outcome the ROM and the frame were read to their end or to one byte past their limit, whatever was known by
     // then. After a failed read no later device is touched, and by the counts none is called again.
-    ensures rom_read { OnOk result (IsReadTo MOST_ROM_READ (R1.remaining rom.old) (R1.remaining rom.new)) }
-    ensures frame_read { OnOk result (IsReadTo MOST_FRAME_READ (R3.remaining frame.old) (R3.remaining frame.new)) }
-    ensures frame_unread { result ≡ Err RunFault.ReadRom → frame.new ≡ frame.old }
-    ensures cert_unread { IfErr result (λ fault. fault ≢ RunFault.ReadCert → fault ≢ RunFault.Write → cert.new ≡ cert.old) }
-    ensures nothing { IfErr result (λ fault. fault ≢ RunFault.Write → out.new ≡ out.old) }
+    ensures reads { ReadsInOrder result (R1.remaining rom.old) (R1.remaining rom.new) (R3.remaining frame.old) (R3.remaining frame.new) frame.old frame.new cert.old cert.new out.old out.new }
 
     // What is written is the report of the verdict on all bytes that the readers held, with its account, or a prefix of them.
     ensures report { IfOk result (Reports options.now.machine detail.entry options.now.mode options.now.window (R1.remaining rom.old) (R2.remaining cert.old)
@@ -337,19 +306,11 @@ pub fn run_check<R1: CountedRead, R2: CountedRead, R3: CountedRead, W: CountedWr
     out: &mut W,
 ) -> Result<Outcome, RunFault>
     // A fault of 70 to 73 comes exactly where its device failed in this call, and the device's count then rises by one.
-    ensures rom_count { R1.failures rom.new ≡ count_after (blames_rom result) (R1.failures rom.old) }
-    ensures cert_count { R2.failures cert.new ≡ count_after (blames_certificate result) (R2.failures cert.old) }
-    ensures frame_count { R3.failures frame.new ≡ count_after (blames_frame result) (R3.failures frame.old) }
-    ensures out_count { W.failures out.new ≡ count_after (blames_writer result) (W.failures out.old) }
-    ensures no_memory { result ≢ Err RunFault.Memory }
+    ensures counts { CountsFaults result (R1.failures rom.old) (R1.failures rom.new) (R2.failures cert.old) (R2.failures cert.new) (R3.failures frame.old) (R3.failures frame.new) (W.failures out.old) (W.failures out.new) }
 
     // With an outcome the ROM and the frame were read to their end or to one byte past their limit, whatever was known by
     // then. After a failed read no later device is touched, and by the counts none is called again.
-    ensures rom_read { OnOk result (IsReadTo MOST_ROM_READ (R1.remaining rom.old) (R1.remaining rom.new)) }
-    ensures frame_read { OnOk result (IsReadTo MOST_FRAME_READ (R3.remaining frame.old) (R3.remaining frame.new)) }
-    ensures frame_unread { result ≡ Err RunFault.ReadRom → frame.new ≡ frame.old }
-    ensures cert_unread { IfErr result (λ fault. fault ≢ RunFault.ReadCert → fault ≢ RunFault.Write → cert.new ≡ cert.old) }
-    ensures nothing { IfErr result (λ fault. fault ≢ RunFault.Write → out.new ≡ out.old) }
+    ensures reads { ReadsInOrder result (R1.remaining rom.old) (R1.remaining rom.new) (R3.remaining frame.old) (R3.remaining frame.new) frame.old frame.new cert.old cert.new out.old out.new }
 
     // What is written is the report of the verdict on all bytes that the readers held, or a prefix of it. The certificate was
     // read as far as the ROM, or so far that its own refusal was known.

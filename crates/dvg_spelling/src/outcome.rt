@@ -40,7 +40,7 @@ pub enum FrameAnswer {
 }
 
 /// What was reported of one frame, or of several: the worst, in this order.
-#[derive(Clone, Copy, Debug, PartialEq, Eq)]
+#[derive(Clone, Copy, Debug, PartialEq, Eq, PartialOrd, Ord)]
 pub enum FrameOutcome {
     /// An accepted line.
     Accepted,
@@ -57,12 +57,7 @@ impl FrameOutcome {
     pub fn or_worse(self, other: FrameOutcome) -> FrameOutcome
         ensures { result ≡ worse self other }
     {
-        match (self, other) {
-            (FrameOutcome::Unread, _) | (_, FrameOutcome::Unread) => FrameOutcome::Unread,
-            (FrameOutcome::NoMemory, _) | (_, FrameOutcome::NoMemory) => FrameOutcome::NoMemory,
-            (FrameOutcome::Refused, _) | (_, FrameOutcome::Refused) => FrameOutcome::Refused,
-            (FrameOutcome::Accepted, FrameOutcome::Accepted) => FrameOutcome::Accepted,
-        }
+        self.max(other)
     }
 }
 

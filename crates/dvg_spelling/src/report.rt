@@ -2,14 +2,14 @@
 
 ghost use Rattle.std.specs.Prelude.{◌≡◌, ◌+◌, ◌≤◌, ◌<◌, ◌++◌, [], length, codes, decimal};
 ghost use Rattle.dvg_spelling.specs.Messages.{fault_message, make_message, frames_message, make_line_text};
-ghost use Rattle.dvg_spelling.specs.Report.{report_text, accepted_text, refusal_text, cert_fault_text, shape_fault_text, frame_fault_text, entry_text, hex_word, hex_address, call_fault_text, frame_refusal_text, answer_text, frame_line_text};
+ghost use Rattle.dvg_spelling.specs.Report.{report_text, accepted_text, refusal_text, entry_text, hex_word, hex_address, call_fault_text, frame_refusal_text, answer_text, frame_line_text};
 
 use crate::fault::{FramesRunFault, MakeRunFault, RunFault};
 use crate::outcome::FrameAnswer;
 use crate::status::message_of;
 use arrayvec::ArrayVec;
-use dvg_cert::{CertFault, Key, address_digits, push_bytes};
-use dvg_check::{FrameFault, Refusal, ShapeFault, Yes};
+use dvg_cert::{Key, address_digits, push_bytes};
+use dvg_check::{Refusal, Yes};
 use dvg_make::{EntryFault, FrameRefusal, MakeFault};
 use dvg_words::{ADDRESS_END, ImageFault};
 use itoa::Buffer;
@@ -73,22 +73,23 @@ impl Report {
         self.push_decimal(count);
     }
 
-    /// A word address in hexadecimal capitals.
-    fn push_address(&mut self, word: u16)
-        requires { length self.old ≤ 59 }
-        ensures text { self.new ≡ self.old ++ hex_address word }
-        ensures short { length self.new ≤ length self.old + 4 }
+    /// A word address behind its label, in hexadecimal capitals.
+    fn push_address(&mut self, label: &[u8], word: u16)
+        requires { length self.old + length label.now ≤ 59 }
+        ensures text { self.new ≡ self.old ++ label.now ++ hex_address word }
+        ensures short { length self.new ≤ length self.old + length label.now + 4 }
     {
+        self.push(label);
         self.push(hex_address(word).as_slice());
     }
 
-    /// The name of an entry: its address, a slash and its key.
-    fn push_entry_name(&mut self, addr: u16, key: Key)
-        requires { length self.old ≤ 49 }
-        ensures text { self.new ≡ self.old ++ entry_text addr key }
-        ensures short { length self.new ≤ length self.old + 15 }
+    /// The name of an entry behind a label: its address, a slash and its key.
+    fn push_entry_name(&mut self, label: &[u8], addr: u16, key: Key)
+        requires { length self.old + length label.now ≤ 49 }
+        ensures text { self.new ≡ self.old ++ label.now ++ entry_text addr key }
+        ensures short { length self.new ≤ length self.old + length label.now + 15 }
     {
-        self.push_address(addr);
+        self.push_address(label, addr);
         self.push(b"/");
         match key {
             Key::At(scale) => self.push_decimal(u32::from(scale)),
@@ -138,7 +139,7 @@ pub fn entry_name(addr: u16, key: Key) -> Report
     ensures { result ≡ entry_text addr key }
 {
     let mut name = Report::new();
-    name.push_entry_name(addr, key);
+    name.push_entry_name(b"", addr, key);
     name
 }
 
@@ -150,10 +151,7 @@ pub fn report_of(verdict: &Result<Yes, Refusal>) -> Report
     let mut report = Report::new();
     match verdict {
         Ok(yes) => push_accepted(&mut report, yes),
-        Err(refusal) => {
-            report.push(b"refused ");
-            push_refusal(&mut report, refusal);
-        }
+        Err(refusal) => push_refusal(&mut report, refusal),
     }
     report.ended()
 }
@@ -220,8 +218,7 @@ fn push_make_fault(report: &mut Report, fault: &MakeRunFault)
     match fault {
         MakeRunFault::RomLength => report.push(b"refused 1"),
         MakeRunFault::Make(MakeFault::Unstraight { word }) => {
-            report.push(b"refused 60 at ");
-            report.push_address(*word);
+            report.push_address(b"refused 60 at ", *word)
         }
         MakeRunFault::Make(MakeFault::Deep) => report.push(b"refused 61"),
         MakeRunFault::Make(MakeFault::TooLarge) => report.push(b"refused 62"),
@@ -252,10 +249,7 @@ fn push_frame_refusal(report: &mut Report, refusal: &FrameRefusal)
         FrameRefusal::Make { at, why } => push_call_fault(report, *at, *why),
         FrameRefusal::NoMemory => report.push(b"out of memory"),
         FrameRefusal::Check(Refusal::IndexMemory) => report.push(b"out of memory"),
-        FrameRefusal::Check(refusal) => {
-            report.push(b"refused ");
-            push_refusal(report, refusal);
-        }
+        FrameRefusal::Check(refusal) => push_refusal(report, refusal),
     }
 }
 
@@ -266,17 +260,13 @@ fn push_call_fault(report: &mut Report, at: u16, why: EntryFault)
     ensures short { length report.new ≤ 63 }
 {
     match why {
-        EntryFault::Unstraight { word } => {
-            report.push(b"refused 60 at ");
-            report.push_address(word);
-        }
+        EntryFault::Unstraight { word } => report.push_address(b"refused 60 at ", word),
         EntryFault::Deep => report.push(b"refused 61"),
         EntryFault::TooManyWords => report.push(b"refused 62"),
         EntryFault::TooManyEntries => report.push(b"refused 62 by entries"),
         EntryFault::Memory => return report.push(b"out of memory"),
     }
-    report.push(b" for frame at ");
-    report.push_address(at);
+    report.push_address(b" for frame at ", at);
 }
 
 fn push_message(report: &mut Report, fault: &RunFault)
@@ -297,50 +287,29 @@ fn push_accepted(report: &mut Report, yes: &Yes)
     report.push_count(b" depth=", u32::from(yes.depth));
 }
 
+/// The number of a refusal, and where it stands.
 fn push_refusal(report: &mut Report, refusal: &Refusal)
-    requires { length report.old ≤ 10 }
-    ensures text { report.new ≡ report.old ++ refusal_text refusal.now }
+    requires { length report.old ≤ 2 }
+    ensures text { report.new ≡ report.old ++ codes "refused " ++ refusal_text refusal.now }
     ensures short { length report.new ≤ 63 }
 {
     match refusal {
-        Refusal::Image(ImageFault::RomLength) => report.push(b"1"),
-        Refusal::Image(ImageFault::FrameLength) => report.push(b"2"),
-        Refusal::BudgetRange => report.push(b"49"),
-        Refusal::Cert(fault) => push_cert_fault(report, fault),
-        Refusal::IndexMemory => report.push(b"50"),
-        Refusal::Shape(fault) => push_shape_fault(report, fault),
-        Refusal::Frame(fault) => push_frame_fault(report, fault),
+        Refusal::Image(ImageFault::RomLength) => report.push(b"refused 1"),
+        Refusal::Image(ImageFault::FrameLength) => report.push(b"refused 2"),
+        Refusal::BudgetRange => report.push(b"refused 49"),
+        Refusal::Cert(fault) => {
+            report.push_count(b"refused ", u32::from(fault.why.number()));
+            report.push_count(b" certificate line ", fault.line);
+        }
+        Refusal::IndexMemory => report.push(b"refused 50"),
+        Refusal::Shape(fault) => {
+            report.push_count(b"refused ", u32::from(fault.why.number()));
+            report.push_entry_name(b" shape ", fault.addr, fault.key);
+            report.push_address(b" at ", fault.word);
+        }
+        Refusal::Frame(fault) => {
+            report.push_count(b"refused ", u32::from(fault.why.number()));
+            report.push_address(b" frame at ", fault.word);
+        }
     }
-}
-
-fn push_cert_fault(report: &mut Report, fault: &CertFault)
-    requires { length report.old ≤ 10 }
-    ensures text { report.new ≡ report.old ++ cert_fault_text fault.now }
-    ensures short { length report.new ≤ 63 }
-{
-    report.push_decimal(u32::from(fault.why.number()));
-    report.push(b" certificate line ");
-    report.push_decimal(fault.line);
-}
-
-fn push_shape_fault(report: &mut Report, fault: &ShapeFault)
-    requires { length report.old ≤ 10 }
-    ensures text { report.new ≡ report.old ++ shape_fault_text fault.now }
-    ensures short { length report.new ≤ 63 }
-{
-    report.push_decimal(u32::from(fault.why.number()));
-    report.push(b" shape ");
-    report.push_entry_name(fault.addr, fault.key);
-    report.push(b" at ");
-    report.push_address(fault.word);
-}
-
-fn push_frame_fault(report: &mut Report, fault: &FrameFault)
-    requires { length report.old ≤ 10 }
-    ensures text { report.new ≡ report.old ++ frame_fault_text fault.now }
-    ensures short { length report.new ≤ 63 }
-{
-    report.push_decimal(u32::from(fault.why.number()));
-    report.push(b" frame at ");
-    report.push_address(fault.word);
 }

@@ -3,7 +3,8 @@
 //! none at 10 to 15; a LABS loads twelve bits as two's complement.
 
 use crate::expecting::{expect, expect_same};
-use crate::rows::{Row, judge_rows};
+use crate::rows::judge_rows;
+use crate::table::{Inputs, MADE, Row, ZEROS, read_rows};
 use dvg_cert::read_cert;
 use dvg_check::{Refusal, Yes, frame_of};
 use dvg_cmd::report_of;
@@ -87,12 +88,8 @@ fn moves_of(first: u16, second: u16, gscale: u8) -> Option<[(i32, i32); 2]> {
 fn moves_on_both(rt: HostRuntime) {
     for &(first, second, gscale, profile, board) in MOVES {
         let moves = moves_of(first, second, gscale);
-        expect_same(
-            &rt,
-            &moves,
-            &Some([profile, board]),
-            &(first, second, gscale),
-        );
+        let want = Some([profile, board]);
+        expect_same(&rt, &moves, &want, &(first, second, gscale));
     }
 }
 
@@ -119,25 +116,16 @@ fn sets_places(rt: HostRuntime) {
     for &(first, second, (x, y, gscale), place, is_plain) in LABS {
         let labs = Some(Instr::Labs { x, y, gscale });
         let profile = if is_plain { labs } else { None };
-        expect_same(
-            &rt,
-            &decode_on(Machine::Board, first, second),
-            &labs,
-            &first,
-        );
-        expect_same(
-            &rt,
-            &decode_on(Machine::Profile, first, second),
-            &profile,
-            &first,
-        );
+        for (machine, instr) in [(Machine::Board, labs), (Machine::Profile, profile)] {
+            expect_same(&rt, &decode_on(machine, first, second), &instr, &first);
+        }
         expect_same(&rt, &decode(first, second), &profile, &first);
         let (x, y) = (labs_place(Machine::Board, x, y), place);
         expect_same(&rt, &x, &Point { x: y.0, y: y.1 }, &first);
     }
 }
 
-/// Rows as those of `rows`, each judged on both machines.
+/// Rows that are judged on both machines.
 const ROWS: &str = "\
 size 255 at effective scale 0, lit at the right edge: on the board a dot
 frame A000 03FF 0000 70FF B000
@@ -146,13 +134,10 @@ refused 46 frame at 002
 
 the same at the left edge, by -255
 frame A000 0000 0000 74FF B000
-board accepted shapes=0 words=5 depth=0
-refused 46 frame at 002
 
-by -256 from the left edge: half a place, and on the board a place
+the same by -256: half a place, and on the board a place
 frame A000 0000 0000 7500 B000
 board refused 46 frame at 002
-refused 46 frame at 002
 
 sizes 256 and 255 up: on the board a place and none
 frame A3FE 0000 0100 7000 00FF 7000 B000
@@ -171,18 +156,13 @@ accepted shapes=0 words=7 depth=0
 
 the same, the first dark
 frame A3FE 0000 0100 0000 0100 7000 B000
-board refused 46 frame at 004
-accepted shapes=0 words=7 depth=0
 
 the same, both dark
 frame A3FE 0000 0100 0000 0100 0000 B000
 board accepted shapes=0 words=7 depth=0
-accepted shapes=0 words=7 depth=0
 
-size 256 up and down again
+the same, both lit, up and down again
 frame A3FE 0000 0100 7000 0500 7000 B000
-board accepted shapes=0 words=7 depth=0
-accepted shapes=0 words=7 depth=0
 
 size 257 up from place 1022
 frame A3FE 0000 0101 7000 B000
@@ -199,12 +179,10 @@ frame A000 03FE 8000 7002 B000
 board accepted shapes=0 words=5 depth=0
 accepted shapes=0 words=5 depth=0
 
-effective scale 9, by 1 to the edge
+the same way by 1 at effective scale 9
 frame A000 03FE 9000 7001 B000
-board accepted shapes=0 words=5 depth=0
-accepted shapes=0 words=5 depth=0
 
-effective scale 9, by 2 over it
+the same and one place more, over the edge
 frame A000 03FE 9000 7002 B000
 board refused 46 frame at 002
 refused 46 frame at 002
@@ -214,20 +192,16 @@ frame A000 A3FF 0000 73FF B000
 board accepted shapes=0 words=5 depth=0
 refused 46 frame at 002
 
-effective scale 15, lit at the edge
+the same at effective scale 15
 frame A000 63FF 9000 73FF B000
-board accepted shapes=0 words=5 depth=0
-refused 46 frame at 002
 
 effective scale 10, dark at the edge, and a lit dot
 frame A000 A3FF 0000 03FF 0000 7000 B000
 board accepted shapes=0 words=7 depth=0
 refused 46 frame at 004
 
-effective scale 15, dark at the edge, and a lit dot
+the same dot at effective scale 15
 frame A000 F000 0000 07FF 0000 7000 B000
-board accepted shapes=0 words=7 depth=0
-refused 46 frame at 004
 
 effective scale 10, a lit dot outside the window
 frame A000 A3FF 0000 73FF B000
@@ -248,8 +222,6 @@ accepted shapes=0 words=5 depth=0
 
 the same to the left
 frame A000 E001 F075 F075 B000
-board refused 46 frame at 003
-accepted shapes=0 words=5 depth=0
 
 a short draw of 768 at effective scale 0
 frame A000 E3FD F073 B000
@@ -281,60 +253,44 @@ frame A005 0FFF 9000 7000 B000
 board refused 46 frame at 002
 refused 41 frame at 000
 
-LABS at x -2048, and a lit dot
+the same at x -2048
 frame A005 0800 9000 7000 B000
-board refused 46 frame at 002
-refused 41 frame at 000
 
-LABS at x 2047, and a lit dot
+the same at x 2047
 frame A005 07FF 9000 7000 B000
-board refused 46 frame at 002
-refused 41 frame at 000
 
-LABS at y -1, and a lit dot
+the same at y -1
 frame AFFF 0005 9000 7000 B000
-board refused 46 frame at 002
-refused 41 frame at 000
 
-LABS at y -2048, and a lit dot
+the same at y -2048
 frame A800 0005 9000 7000 B000
-board refused 46 frame at 002
-refused 41 frame at 000
 
-LABS at y 2047, and a lit dot
+the same at y 2047
 frame A7FF 0005 9000 7000 B000
-board refused 46 frame at 002
-refused 41 frame at 000
 
-a stroke from x -1 onto the screen
+the same with a stroke from x -1 onto the screen
 frame A005 0FFF 9000 7002 B000
-board refused 46 frame at 002
-refused 41 frame at 000
 
 a dark way from x -1 onto the screen
 frame A005 0FFF 9000 0001 9000 7001 B000
 board accepted shapes=0 words=7 depth=0
 refused 41 frame at 000
 
-a dark way from x -2048 onto the screen
+the same from x -2048
 frame A005 0800 9000,03FF*2 9000 0002 9000 7001 B000
 board accepted shapes=0 words=11 depth=0
-refused 41 frame at 000
 
 the same, and one place less
 frame A005 0800 9000,03FF*2 9000 0001 9000 7001 B000
 board refused 46 frame at 008
-refused 41 frame at 000
 
-a dark way from x 2047 onto the screen
+the same from x 2047
 frame A005 07FF 9000 07FF 9000 0401 9000 7401 B000
 board accepted shapes=0 words=9 depth=0
-refused 41 frame at 000
 
-dark ways from y -1, -2048 and 2047 onto the screen
+the same from y -1, -2048 and 2047
 frame AFFF 0000 9001 0000 9000 7001 A800 0000 93FF,0000*2 9002 0000 9000 7001 A7FF 0000 97FF 0000 9401 0000 9401 7000 B000
 board accepted shapes=0 words=25 depth=0
-refused 41 frame at 000
 
 LABS outside, dark to the end
 frame A800 0800 9000 0001 B000
@@ -354,7 +310,6 @@ refused 41 frame at 000
 the same, dark
 frame A7EC 0FEC B000
 board accepted shapes=0 words=3 depth=0
-refused 41 frame at 000
 
 a LABS whose second word is missing
 frame A7EC
@@ -363,158 +318,105 @@ refused 40 frame at 000
 
 a shape at unknown scale, with a LABS at -1, -1
 rom 800 AFFF 0FFF D000
+shape 800 any end abs -1024 -1024 box none depth 0 words 3 scale 0
 frame C800 B000
 board accepted shapes=1 words=5 depth=1
 refused 21 shape 800/any at 800
-dvgcert 1
-shape 800 any end abs -1024 -1024 box none depth 0 words 3 scale 0
-done 1
 
 the same, and a lit dot behind the call
-rom 800 AFFF 0FFF D000
 frame C800 9000 7000 B000
 board refused 46 frame at 001
-refused 21 shape 800/any at 800
-dvgcert 1
-shape 800 any end abs -1024 -1024 box none depth 0 words 3 scale 0
-done 1
 
 a shape at unknown scale that lights where its LABS is
 rom 800 A005 0FFF 9000 7001 D000
+shape 800 any end abs 0 5120 box none depth 0 words 5 scale 0
 frame C800 B000
 board refused 25 shape 800/any at 802
 refused 21 shape 800/any at 800
-dvgcert 1
-shape 800 any end abs 0 5120 box none depth 0 words 5 scale 0
-done 1
 
 the same, dark onto the screen
 rom 800 A005 0FFF 9000 0001 9000 7001 D000
-frame C800 B000
-board accepted shapes=1 words=9 depth=1
-refused 21 shape 800/any at 800
-dvgcert 1
 shape 800 any end abs 1024 5120 box none depth 0 words 7 scale 0
-done 1
+board accepted shapes=1 words=9 depth=1
 
 a shape at unknown scale that sets the scale and draws half a place
 rom 800 A000 0000 0000 7100 D000
+shape 800 any end abs 1024 0 box none depth 0 words 5 scale 0
 frame C800 B000
 board accepted shapes=1 words=7 depth=1
 refused 29 shape 800/any at 804
-dvgcert 1
-shape 800 any end abs 1024 0 box none depth 0 words 5 scale 0
-done 1
 
 a draw at unknown scale loses the place, though a board might not move by it
 rom 800 0000 0000 D000
+shape 800 any end lost box none depth 0 words 3 scale any
 frame A000 A000 C800 0000 7000 B000
 board refused 44 frame at 003
 refused 44 frame at 003
-dvgcert 1
-shape 800 any end lost box none depth 0 words 3 scale any
-done 1
 
 the same shape with its place kept
-rom 800 0000 0000 D000
+shape 800 any end rel 0 0 box none depth 0 words 3 scale any
 frame A000 A000 C800 B000
 board refused 29 shape 800/any at 802
 refused 29 shape 800/any at 802
-dvgcert 1
-shape 800 any end rel 0 0 box none depth 0 words 3 scale any
-done 1
 
 half a place there and back, as the profile has it
 rom 800 0000 7100 0000 7500 D000
+shape 800 0 end rel 0 0 box 0 512 0 0 depth 0 words 5 scale 0
 frame A000 0000 C800 B000
 board refused 31 shape 800/0 at 800
 accepted shapes=1 words=9 depth=1
-dvgcert 1
-shape 800 0 end rel 0 0 box 0 512 0 0 depth 0 words 5 scale 0
-done 1
 
 the same as the board has it: a wider box for the profile
-rom 800 0000 7100 0000 7500 D000
-frame A000 0000 C800 B000
-board accepted shapes=1 words=9 depth=1
-accepted shapes=1 words=9 depth=1
-dvgcert 1
 shape 800 0 end rel 0 0 box 0 1024 0 0 depth 0 words 5 scale 0
-done 1
+board accepted shapes=1 words=9 depth=1
 
 the same from the right edge
-rom 800 0000 7100 0000 7500 D000
 frame A000 03FF C800 B000
 board refused 46 frame at 002
 refused 46 frame at 002
-dvgcert 1
-shape 800 0 end rel 0 0 box 0 1024 0 0 depth 0 words 5 scale 0
-done 1
 
 255 units there and back, as the profile has it: a wider box for the board
 rom 800 0000 70FF 0000 74FF D000
+shape 800 0 end rel 0 0 box 0 510 0 0 depth 0 words 5 scale 0
 frame A000 0000 C800 B000
 board accepted shapes=1 words=9 depth=1
 accepted shapes=1 words=9 depth=1
-dvgcert 1
-shape 800 0 end rel 0 0 box 0 510 0 0 depth 0 words 5 scale 0
-done 1
 
 the same as the board has it
-rom 800 0000 70FF 0000 74FF D000
-frame A000 0000 C800 B000
-board accepted shapes=1 words=9 depth=1
-refused 31 shape 800/0 at 800
-dvgcert 1
 shape 800 0 end rel 0 0 box 0 0 0 0 depth 0 words 5 scale 0
-done 1
+refused 31 shape 800/0 at 800
 
 half a place, by the profile's end
 rom 800 0000 7100 D000
+shape 800 0 end rel 512 0 box 0 1024 0 0 depth 0 words 3 scale 0
 frame A000 0000 C800 B000
 board refused 29 shape 800/0 at 802
 accepted shapes=1 words=7 depth=1
-dvgcert 1
-shape 800 0 end rel 512 0 box 0 1024 0 0 depth 0 words 3 scale 0
-done 1
 
-half a place, by the board's end
-rom 800 0000 7100 D000
-frame A000 0000 C800 B000
+the same by the board's end
+shape 800 0 end rel 1024 0 box 0 1024 0 0 depth 0 words 3 scale 0
 board accepted shapes=1 words=7 depth=1
 refused 29 shape 800/0 at 802
-dvgcert 1
-shape 800 0 end rel 1024 0 box 0 1024 0 0 depth 0 words 3 scale 0
-done 1
 
 a place at effective scale 9, with more words and depth than there are
 rom 800 9000 7001 D000
+shape 800 0 end rel 1024 0 box 0 1024 0 0 depth 1 words 9 scale 0
 frame A000 0000 C800 B000
 board accepted shapes=1 words=13 depth=2
 accepted shapes=1 words=13 depth=2
-dvgcert 1
-shape 800 0 end rel 1024 0 box 0 1024 0 0 depth 1 words 9 scale 0
-done 1
 
 the same, where counts are exact
-rom 800 9000 7001 D000
-frame A000 0000 C800 B000
 mode exact
 board refused 32 shape 800/0 at 802
 refused 32 shape 800/0 at 802
-dvgcert 1
-shape 800 0 end rel 1024 0 box 0 1024 0 0 depth 1 words 9 scale 0
-done 1
 
 a call of a call, twice half a place
 rom 800 C802 E802 0000 7100 D000
-frame A000 03FE C800 B000
-board refused 46 frame at 002
-refused 29 shape 802/0 at 804
-dvgcert 1
 shape 800 0 end rel 2048 0 box 0 2048 0 0 depth 1 words 8 scale 0
 shape 802 0 end rel 1024 0 box 0 1024 0 0 depth 0 words 3 scale 0
-done 2";
+frame A000 03FE C800 B000
+board refused 46 frame at 002
+refused 29 shape 802/0 at 804";
 
 /// Frames that the profile accepts and the board refuses, but for the last, which both accept. `made` names the machines for which
 /// the certificate is made: the other machine's judges a made shape as its own moves have it.
@@ -537,152 +439,97 @@ frame A200 03FF 9000 0432 0000,0100*100 9000 7000 B000
 board refused 46 frame at 0CC
 accepted shapes=0 words=207 depth=0
 
-a hundred dark draws of a unit less
-made profile board
+the same of a unit less than half a place
 frame A200 0000 9000 0000*2 00FF,0000*99 00FF 9000 7431 B000
-board refused 46 frame at 0CC
-accepted shapes=0 words=207 depth=0
 
 a shape of short draws over effective scale 9 and one below, by the profile
 made profile
 rom 800 FF7F,FF7F,FF7F,FF7F,4003,7003*170 D000*4
+shape 800 5 end rel 0 0 box -3072 0 -3072 0 depth 0 words 1021 scale 5
 frame A200 5200 C800*19 B000
 board refused 31 shape 800/5 at 804
 accepted shapes=1 words=19421 depth=1
-dvgcert 1
-shape 800 5 end rel 0 0 box -3072 0 -3072 0 depth 0 words 1021 scale 5
-done 1
 
-the same on the board
-made board
-rom 800 FF7F,FF7F,FF7F,FF7F,4003,7003*170 D000*4
-frame A200 5200 C800*19 B000
-board refused 46 frame at 003
-refused 31 shape 800/5 at 800
-dvgcert 1
-shape 800 5 end rel 522240 522240 box 0 522240 0 522240 depth 0 words 1021 scale 5
-done 1
-
-the same shape, called 970 times, by the profile
-made profile
-rom 800 FF7F,FF7F,FF7F,FF7F,4003,7003*170 D000*4
+the same, called 970 times
 frame A200 5200 C800*970 B000
 budget 1000000
-board refused 31 shape 800/5 at 804
 accepted shapes=1 words=991343 depth=1
-dvgcert 1
-shape 800 5 end rel 0 0 box -3072 0 -3072 0 depth 0 words 1021 scale 5
-done 1
 
-the same on the board
+the same shape on the board
 made board
-rom 800 FF7F,FF7F,FF7F,FF7F,4003,7003*170 D000*4
-frame A200 5200 C800*970 B000
-budget 1000000
+shape 800 5 end rel 522240 522240 box 0 522240 0 522240 depth 0 words 1021 scale 5
 board refused 46 frame at 003
 refused 31 shape 800/5 at 800
-dvgcert 1
-shape 800 5 end rel 522240 522240 box 0 522240 0 522240 depth 0 words 1021 scale 5
-done 1
+
+the same, called 19 times
+frame A200 5200 C800*19 B000
+budget 20000
 
 a shape of half places and a unit less, by the profile
 made profile
 rom 800 0100,7100,04FF,74FF*255 D000*4
+shape 800 0 end rel 510 510 box 0 1020 0 1020 depth 0 words 1021 scale 0
 frame A200 0200 C800*19 B000
 board refused 31 shape 800/0 at 800
 accepted shapes=1 words=19421 depth=1
-dvgcert 1
-shape 800 0 end rel 510 510 box 0 1020 0 1020 depth 0 words 1021 scale 0
-done 1
 
-the same on the board
+the same halves on the board
 made board
-rom 800 0100,7100,04FF,74FF*255 D000*4
-frame A200 0200 C800*19 B000
+shape 800 0 end rel 261120 261120 box 0 261120 0 261120 depth 0 words 1021 scale 0
 board refused 46 frame at 004
 refused 29 shape 800/0 at BFC
-dvgcert 1
-shape 800 0 end rel 261120 261120 box 0 261120 0 261120 depth 0 words 1021 scale 0
-done 1
 
 a closed outline, which drifts by a place a call on the board, by the profile
 made profile
 rom 800 7082 7101 7581 7101*2 7582 7402 7480 D000*1016
+shape 800 9 end rel 0 0 box 0 1028 -510 260 depth 0 words 9 scale 9
 frame A200 9200 C800*400 B000
 board refused 31 shape 800/9 at 802
 accepted shapes=1 words=4003 depth=1
-dvgcert 1
-shape 800 9 end rel 0 0 box 0 1028 -510 260 depth 0 words 9 scale 9
-done 1
 
-the same on the board
+the same outline on the board
 made board
-rom 800 7082 7101 7581 7101*2 7582 7402 7480 D000*1016
-frame A200 9200 C800*400 B000
-board accepted shapes=1 words=4003 depth=1
-refused 31 shape 800/9 at 800
-dvgcert 1
 shape 800 9 end rel 1024 0 box 0 2048 -1024 0 depth 0 words 9 scale 9
-done 1";
+board accepted shapes=1 words=4003 depth=1
+refused 31 shape 800/9 at 800";
 
 /// Frames by their own certificates, in windows: what lies outside is lit by a shape at an absolute place, or by the frame, where
 /// a shape ends at a relative one.
 const WINDOWS: &str = "\
 a shape that lights from 400,100 to 401,100 wherever it is called
-window 400,401,100,100
-made profile
 rom 800 A064 0190 9000 7001 D000*1020
-frame C800 B000
-accepted shapes=1 words=7 depth=1
-dvgcert 1
 shape 800 any end abs 410624 102400 box none depth 0 words 5 scale 0
-done 1
+frame C800 B000
+window 400,401,100,100
+accepted shapes=1 words=7 depth=1
 
 the same, where the window ends at 400
 window 400,400,100,100
-made profile
-rom 800 A064 0190 9000 7001 D000*1020
-frame C800 B000
 refused 25 shape 800/any at 802
-dvgcert 1
-shape 800 any end abs 410624 102400 box none depth 0 words 5 scale 0
-done 1
 
 a shape that lights one place to the right of its call at 400,100
+rom 800 9000 7001 D000*1022
+shape 800 0 end rel 1024 0 box 0 1024 0 0 depth 0 words 3 scale 0
+frame A064 0190 C800 B000
 window 400,401,100,100
-made profile
-rom 800 9000 7001 D000*1022
-frame A064 0190 C800 B000
 accepted shapes=1 words=7 depth=1
-dvgcert 1
-shape 800 0 end rel 1024 0 box 0 1024 0 0 depth 0 words 3 scale 0
-done 1
 
-the same, where the window ends at 400
+the same box, where the window ends at 400
 window 400,400,100,100
-made profile
-rom 800 9000 7001 D000*1022
-frame A064 0190 C800 B000
 refused 46 frame at 002
-dvgcert 1
-shape 800 0 end rel 1024 0 box 0 1024 0 0 depth 0 words 3 scale 0
-done 1
 
 a shape that sets the place and one that does not, where the second is lit past the window by the frame
-window 400,401,100,101
-made profile
 rom 800 A064 0190 9000 7001 D000*4 9001 7000 D000*1014
-frame C800 C808*2 B000
-refused 46 frame at 002
-dvgcert 1
 shape 800 any end abs 410624 102400 box none depth 0 words 5 scale 0
 shape 808 0 end rel 0 1024 box 0 0 0 1024 depth 0 words 3 scale 0
-done 2";
+frame C800 C808*2 B000
+window 400,401,100,101
+refused 46 frame at 002";
 
 #[test]
 fn judges_rows_on_both(rt: HostRuntime) {
-    judge_rows(&rt, rt.alloc(), ROWS);
-    judge_rows(&rt, rt.alloc(), DRIFTS);
+    judge_rows(&rt, rt.alloc(), &ZEROS, ROWS);
+    judge_rows(&rt, rt.alloc(), &ZEROS, DRIFTS);
 }
 
 /// What a machine's verdict on a row's frame is by the certificate made for it; `None` where that certificate is not the row's.
@@ -690,7 +537,7 @@ fn judge_made(
     rt: &impl Abort,
     alloc: Global,
     machine: Machine,
-    row: &Row,
+    row: &Inputs,
 ) -> Option<Result<Yes, Refusal>> {
     let wanted = read_cert(alloc, &row.text).expect(rt, "a certificate");
     let rom = RomImage::from_bytes_on(machine, &row.rom, wanted.map()).expect(rt, "a ROM");
@@ -709,22 +556,27 @@ fn judge_made(
 
 /// Stops the test unless the row's certificate is the one that a machine makes, and its report that of the verdict by it.
 fn expect_made(rt: &impl Abort, alloc: Global, machine: Machine, row: &Row, report: &str) {
-    let verdict = judge_made(rt, alloc, machine, row);
-    let verdict = verdict.expect(rt, "the certificate of the row");
-    let line = report_of(&verdict);
+    let verdict = judge_made(rt, alloc, machine, &row.inputs(rt, alloc));
+    expect(rt, verdict.is_some(), &("the certificate of", row.lines));
+    let line = report_of(&verdict.expect(rt, "a verdict"));
     let is = line.as_bytes().strip_suffix(b"\n") == Some(report.as_bytes());
-    expect(rt, is, &report);
+    expect(rt, is, &(machine, row.lines));
+}
+
+/// Stops the test unless the certificates of a table's rows are those that their machines make.
+fn make_rows(rt: &impl Abort, alloc: Global, usual: &Row, table: &str) {
+    for row in &read_rows(rt, alloc, usual, table) {
+        for made in row.made.split_whitespace() {
+            match made {
+                "board" => expect_made(rt, alloc, Machine::Board, row, row.board),
+                _ => expect_made(rt, alloc, Machine::Profile, row, row.report),
+            }
+        }
+    }
 }
 
 #[test]
 fn makes_by_the_machine(rt: HostRuntime) {
-    for row in DRIFTS.split("\n\n").chain(WINDOWS.split("\n\n")) {
-        let row = Row::read(&rt, rt.alloc(), row);
-        for made in row.words("made").split_whitespace() {
-            match made {
-                "board" => expect_made(&rt, rt.alloc(), Machine::Board, &row, row.board_report),
-                _ => expect_made(&rt, rt.alloc(), Machine::Profile, &row, row.report),
-            }
-        }
-    }
+    make_rows(&rt, rt.alloc(), &ZEROS, DRIFTS);
+    make_rows(&rt, rt.alloc(), &MADE, WINDOWS);
 }

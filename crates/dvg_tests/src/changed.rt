@@ -8,7 +8,8 @@
 use crate::certificates::is_written;
 use crate::expecting::{expect, expect_same};
 use crate::inputs::{STROKE_CERT, stroke_rom};
-use crate::rows::{USUAL, is_reported};
+use crate::rows::Case;
+use crate::table::USUAL;
 use dvg_cert::{Cert, CertFault, CertReader, read_cert};
 use dvg_check::{Refusal, Yes, check};
 use dvg_words::SCREEN;
@@ -30,17 +31,26 @@ const FOUR_CERT: &[u8] =
 /// A frame that calls the first: `A000 0000 C800 B000`.
 const FOUR_FRAME: &[u8] = &[0x00, 0xA0, 0x00, 0x00, 0x00, 0xC8, 0x00, 0xB0];
 
+/// Whether this is reported of these shapes with a text and a frame.
+fn is_reported(alloc: Global, text: &[u8], frame: &[u8], report: &str) -> bool {
+    let case = Case {
+        rom: &four_rom(),
+        text,
+        frame,
+        asked: USUAL,
+    };
+    case.is_reported(alloc, report)
+}
+
 /// The certificate of the four shapes, cut after each of its bytes but the last, and before the first: refused at the line that is
 /// cut.
 #[test]
 fn cut_certificates(rt: HostRuntime) {
-    let rom = four_rom();
     let mut line = 1usize;
     for at in 0..FOUR_CERT.len() {
         let report = format!(in rt.alloc(); "refused 13 certificate line {line}");
         let report = report.expect(&rt, "memory");
-        let text = &FOUR_CERT[..at];
-        let is = is_reported(rt.alloc(), &rom, text, FOUR_FRAME, &USUAL, &report);
+        let is = is_reported(rt.alloc(), &FOUR_CERT[..at], FOUR_FRAME, &report);
         expect(&rt, is, &at);
         if FOUR_CERT[at] == b'\n' {
             line = line.saturating_add(1);
@@ -59,15 +69,14 @@ const CUT_FRAMES: &[(usize, &str)] = &[
 /// The frame cut at each place: refused by its length where half a word or nothing is left.
 #[test]
 fn cut_frames(rt: HostRuntime) {
-    let rom = four_rom();
     for len in [0, 1, 3, 5, 7] {
         let frame = FOUR_FRAME.get(..len).unwrap_or(FOUR_FRAME);
-        let is = is_reported(rt.alloc(), &rom, FOUR_CERT, frame, &USUAL, "refused 2");
+        let is = is_reported(rt.alloc(), FOUR_CERT, frame, "refused 2");
         expect(&rt, is, &len);
     }
     for &(len, report) in CUT_FRAMES {
         let frame = FOUR_FRAME.get(..len).unwrap_or(&[]);
-        let is = is_reported(rt.alloc(), &rom, FOUR_CERT, frame, &USUAL, report);
+        let is = is_reported(rt.alloc(), FOUR_CERT, frame, report);
         expect(&rt, is, &len);
     }
 }

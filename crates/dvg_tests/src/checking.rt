@@ -1,7 +1,7 @@
 //! Verdicts on a ROM, on shapes and on frames by each call: a shape with a lit stroke and a frame that calls it, accepted and
 //! refused. And what faults show.
 
-use crate::expecting::{FaultRow, expect_same, expect_shown};
+use crate::expecting::{expect_same, expect_shown};
 use crate::inputs::{EMPTY, STROKE_CERT, STROKE_FRAME, stroke_rom};
 use dvg_cert::{CertFault, CertWhy, Entries, HashIndex, Key, ListIndex, read_cert};
 use dvg_check::{
@@ -200,144 +200,75 @@ enum Refused {
     Whole(Refusal),
 }
 
-/// The refusals, their numbers and their texts behind the place.
-const REFUSALS: &[FaultRow<Refused>] = &[
-    (
-        Refused::Whole(Refusal::Image(ImageFault::RomLength)),
-        1,
-        "the ROM has a wrong length",
-    ),
-    (
-        Refused::Whole(Refusal::Image(ImageFault::FrameLength)),
-        2,
-        "the frame has a wrong length",
-    ),
-    (
-        Refused::Whole(Refusal::Cert(CertFault {
+/// The numbers of refusals, and their texts behind the place.
+const REFUSALS: &str = "\
+1 the ROM has a wrong length
+2 the frame has a wrong length
+11 certificate line 12: entries are out of order, or one is repeated
+20 a word of the item is outside the ROM
+21 the item is an odd LABS
+22 the item is HALT
+23 it lights at a lost place
+24 it lights at unknown scale
+25 it lights outside the window
+26 it calls a shape that has no entry
+27 more return places are needed than claimed
+28 more words are needed than claimed
+29 the place at the end is not the claimed one
+30 the scale at the end is not the claimed one
+31 it lights outside the claimed box
+32 the words are fewer than claimed
+33 the depth is less than claimed
+40 a word of the item is outside the frame
+41 the item is an odd LABS
+42 the item is RTSL
+43 the item is a jump to its own address or a lower one
+44 it lights at a lost place
+45 it lights at unknown scale
+46 it lights outside the window
+47 it calls a shape that has no entry
+48 the words so far are over the budget
+49 the budget is out of range
+50 out of memory for the index";
+
+/// What is refused by a number.
+fn refused_by(number: u8) -> Option<Refused> {
+    let refused = match number {
+        1 => Refused::Whole(Refusal::Image(ImageFault::RomLength)),
+        2 => Refused::Whole(Refusal::Image(ImageFault::FrameLength)),
+        11 => Refused::Whole(Refusal::Cert(CertFault {
             line: 12,
             why: CertWhy::Order,
         })),
-        11,
-        "certificate line 12: entries are out of order, or one is repeated",
-    ),
-    (
-        Refused::Shape(ShapeWhy::Unmapped),
-        20,
-        "a word of the item is outside the ROM",
-    ),
-    (Refused::Shape(ShapeWhy::Odd), 21, "the item is an odd LABS"),
-    (
-        Refused::Shape(ShapeWhy::HaltInShape),
-        22,
-        "the item is HALT",
-    ),
-    (
-        Refused::Shape(ShapeWhy::BeamUnknown),
-        23,
-        "it lights at a lost place",
-    ),
-    (
-        Refused::Shape(ShapeWhy::ScaleUnknown),
-        24,
-        "it lights at unknown scale",
-    ),
-    (
-        Refused::Shape(ShapeWhy::OffScreen),
-        25,
-        "it lights outside the window",
-    ),
-    (
-        Refused::Shape(ShapeWhy::NoEntry),
-        26,
-        "it calls a shape that has no entry",
-    ),
-    (
-        Refused::Shape(ShapeWhy::TooDeep),
-        27,
-        "more return places are needed than claimed",
-    ),
-    (
-        Refused::Shape(ShapeWhy::TooManyWords),
-        28,
-        "more words are needed than claimed",
-    ),
-    (
-        Refused::Shape(ShapeWhy::EndDiffers),
-        29,
-        "the place at the end is not the claimed one",
-    ),
-    (
-        Refused::Shape(ShapeWhy::ScaleDiffers),
-        30,
-        "the scale at the end is not the claimed one",
-    ),
-    (
-        Refused::Shape(ShapeWhy::BoxTooSmall),
-        31,
-        "it lights outside the claimed box",
-    ),
-    (
-        Refused::Shape(ShapeWhy::WordsDiffer),
-        32,
-        "the words are fewer than claimed",
-    ),
-    (
-        Refused::Shape(ShapeWhy::DepthDiffers),
-        33,
-        "the depth is less than claimed",
-    ),
-    (
-        Refused::Frame(FrameWhy::Unmapped),
-        40,
-        "a word of the item is outside the frame",
-    ),
-    (Refused::Frame(FrameWhy::Odd), 41, "the item is an odd LABS"),
-    (
-        Refused::Frame(FrameWhy::ReturnInFrame),
-        42,
-        "the item is RTSL",
-    ),
-    (
-        Refused::Frame(FrameWhy::BackJump),
-        43,
-        "the item is a jump to its own address or a lower one",
-    ),
-    (
-        Refused::Frame(FrameWhy::BeamUnknown),
-        44,
-        "it lights at a lost place",
-    ),
-    (
-        Refused::Frame(FrameWhy::ScaleUnknown),
-        45,
-        "it lights at unknown scale",
-    ),
-    (
-        Refused::Frame(FrameWhy::OffScreen),
-        46,
-        "it lights outside the window",
-    ),
-    (
-        Refused::Frame(FrameWhy::NoEntry),
-        47,
-        "it calls a shape that has no entry",
-    ),
-    (
-        Refused::Frame(FrameWhy::Budget),
-        48,
-        "the words so far are over the budget",
-    ),
-    (
-        Refused::Whole(Refusal::BudgetRange),
-        49,
-        "the budget is out of range",
-    ),
-    (
-        Refused::Whole(Refusal::IndexMemory),
-        50,
-        "out of memory for the index",
-    ),
-];
+        20 => Refused::Shape(ShapeWhy::Unmapped),
+        21 => Refused::Shape(ShapeWhy::Odd),
+        22 => Refused::Shape(ShapeWhy::HaltInShape),
+        23 => Refused::Shape(ShapeWhy::BeamUnknown),
+        24 => Refused::Shape(ShapeWhy::ScaleUnknown),
+        25 => Refused::Shape(ShapeWhy::OffScreen),
+        26 => Refused::Shape(ShapeWhy::NoEntry),
+        27 => Refused::Shape(ShapeWhy::TooDeep),
+        28 => Refused::Shape(ShapeWhy::TooManyWords),
+        29 => Refused::Shape(ShapeWhy::EndDiffers),
+        30 => Refused::Shape(ShapeWhy::ScaleDiffers),
+        31 => Refused::Shape(ShapeWhy::BoxTooSmall),
+        32 => Refused::Shape(ShapeWhy::WordsDiffer),
+        33 => Refused::Shape(ShapeWhy::DepthDiffers),
+        40 => Refused::Frame(FrameWhy::Unmapped),
+        41 => Refused::Frame(FrameWhy::Odd),
+        42 => Refused::Frame(FrameWhy::ReturnInFrame),
+        43 => Refused::Frame(FrameWhy::BackJump),
+        44 => Refused::Frame(FrameWhy::BeamUnknown),
+        45 => Refused::Frame(FrameWhy::ScaleUnknown),
+        46 => Refused::Frame(FrameWhy::OffScreen),
+        47 => Refused::Frame(FrameWhy::NoEntry),
+        48 => Refused::Frame(FrameWhy::Budget),
+        49 => Refused::Whole(Refusal::BudgetRange),
+        50 => Refused::Whole(Refusal::IndexMemory),
+        _ => return None,
+    };
+    Some(refused)
+}
 
 /// Stops the test unless a rule and its fault have this number, and show this text, the fault behind its place.
 fn expect_fault<W: Display, F: Display>(
@@ -385,7 +316,10 @@ fn expect_refused(rt: &impl Abort, alloc: Global, refused: Refused, number: u8, 
 
 #[test]
 fn shows_refusals(rt: HostRuntime) {
-    for &(refused, number, text) in REFUSALS {
+    for row in REFUSALS.lines() {
+        let (number, text) = row.split_once(' ').expect(&rt, "a row");
+        let number = number.parse::<u8>().expect(&rt, "a number");
+        let refused = refused_by(number).expect(&rt, "a number of a refusal");
         expect_refused(&rt, rt.alloc(), refused, number, text);
     }
 }

@@ -10,283 +10,135 @@ use dvg_words::ASTEROIDS;
 use std::alloc::Global;
 use std::process::Abort;
 
-/// A line without its end, the column at which it leaves the form, and what is expected there.
-type LineRow = (&'static [u8], usize, Expected);
-
-/// First lines.
-const FIRST_LINES: &[LineRow] = &[
-    (b"", 1, Expected::Version),
-    (b"Dvgcert 1", 1, Expected::Version),
-    (b"dvgcert  1", 9, Expected::Version),
-    (b"dvgcert 3", 9, Expected::Version),
-    (b"dvgcert 1\r", 10, Expected::Version),
-    (b"dvgcert 2 ", 10, Expected::Version),
-    (b"dvgcert", 8, Expected::Version),
+/// First lines. Each row is what is expected, and a line without its end, with `|` where it leaves the form.
+const FIRST_LINES: &[&str] = &[
+    "Version |",
+    "Version |Dvgcert 1",
+    "Version dvgcert | 1",
+    "Version dvgcert |3",
+    "Version dvgcert 1|\r",
+    "Version dvgcert 2| ",
+    "Version dvgcert|",
 ];
 
 /// Lines that say where the ROM lies.
-const ROM_LINES: &[LineRow] = &[
-    (b"", 1, Expected::Rom),
-    (b"ram 400 7FF", 2, Expected::Rom),
-    (b"rom\t400 7FF", 4, Expected::Rom),
-    (b"rom 3FF 7FF", 5, Expected::RomFirst),
-    (b"rom C00 C00", 5, Expected::RomFirst),
-    (b"rom 4a0 7FF", 6, Expected::RomFirst),
-    (b"rom 400-7FF", 8, Expected::RomFirst),
-    (b"rom  400 7FF", 5, Expected::RomFirst),
-    (b"rom 500 400", 9, Expected::RomLast),
-    (b"rom 57F 579", 11, Expected::RomLast),
-    (b"rom 400 C00", 9, Expected::RomLast),
-    (b"rom 800 BFF", 11, Expected::RomLast),
-    (b"rom 400 7F", 11, Expected::RomLast),
-    (b"rom 400 7FF\r", 12, Expected::RomLast),
+const ROM_LINES: &[&str] = &[
+    "Rom |",
+    "Rom r|am 400 7FF",
+    "Rom rom|\t400 7FF",
+    "RomFirst rom |3FF 7FF",
+    "RomFirst rom |C00 C00",
+    "RomFirst rom 4|a0 7FF",
+    "RomFirst rom 400|-7FF",
+    "RomFirst rom | 400 7FF",
+    "RomLast rom 500 |400",
+    "RomLast rom 57F 57|9",
+    "RomLast rom 400 |C00",
+    "RomLast rom 800 BF|F",
+    "RomLast rom 400 7F|",
+    "RomLast rom 400 7FF|\r",
 ];
 
 /// Later lines, over the map of Asteroids.
-const LATER_LINES: &[LineRow] = &[
-    (b"", 1, Expected::Kind),
-    (b"shap", 5, Expected::Kind),
-    (
-        b"Shape 800 0 end rel 0 0 box none depth 0 words 1 scale 0",
-        1,
-        Expected::Kind,
-    ),
-    (
-        b"shape\t800 0 end rel 0 0 box none depth 0 words 1 scale 0",
-        6,
-        Expected::Kind,
-    ),
-    (
-        b"shape  800 0 end rel 0 0 box none depth 0 words 1 scale 0",
-        7,
-        Expected::Address,
-    ),
-    (
-        b"shape 7FF 0 end rel 0 0 box none depth 0 words 1 scale 0",
-        7,
-        Expected::Address,
-    ),
-    (
-        b"shape C00 0 end rel 0 0 box none depth 0 words 1 scale 0",
-        7,
-        Expected::Address,
-    ),
-    (
-        b"shape 80a 0 end rel 0 0 box none depth 0 words 1 scale 0",
-        9,
-        Expected::Address,
-    ),
-    (
-        b"shape 800/0 end rel 0 0 box none depth 0 words 1 scale 0",
-        10,
-        Expected::Address,
-    ),
-    (
-        b"shape 800 16 end rel 0 0 box none depth 0 words 1 scale 0",
-        12,
-        Expected::Key,
-    ),
-    (
-        b"shape 800 00 end rel 0 0 box none depth 0 words 1 scale 0",
-        12,
-        Expected::Key,
-    ),
-    (
-        b"shape 800 all end rel 0 0 box none depth 0 words 1 scale 0",
-        12,
-        Expected::Key,
-    ),
-    (
-        b"shape 800 -1 end rel 0 0 box none depth 0 words 1 scale 0",
-        11,
-        Expected::Key,
-    ),
-    (
-        b"shape 800 0 End rel 0 0 box none depth 0 words 1 scale 0",
-        13,
-        Expected::End,
-    ),
-    (
-        b"shape 800 0 end ret 0 0 box none depth 0 words 1 scale 0",
-        19,
-        Expected::EndKind,
-    ),
-    (
-        b"shape 800 0 end abt 0 0 box none depth 0 words 1 scale 0",
-        19,
-        Expected::EndKind,
-    ),
-    (
-        b"shape 800 0 end los box none depth 0 words 1 scale 0",
-        20,
-        Expected::EndKind,
-    ),
-    (
-        b"shape 800 0 end 0 0 box none depth 0 words 1 scale 0",
-        17,
-        Expected::EndKind,
-    ),
-    (
-        b"shape 800 0 end rel -0 0 box none depth 0 words 1 scale 0",
-        22,
-        Expected::EndX,
-    ),
-    (
-        b"shape 800 0 end rel +5 0 box none depth 0 words 1 scale 0",
-        21,
-        Expected::EndX,
-    ),
-    (
-        b"shape 800 0 end abs 05 0 box none depth 0 words 1 scale 0",
-        22,
-        Expected::EndX,
-    ),
-    (
-        b"shape 800 0 end rel 2000000000001 0 box none depth 0 words 1 scale 0",
-        33,
-        Expected::EndX,
-    ),
-    (
-        b"shape 800 0 end rel 0 -2000000000001 box none depth 0 words 1 scale 0",
-        36,
-        Expected::EndY,
-    ),
-    (
-        b"shape 800 0 end rel 0 box none depth 0 words 1 scale 0",
-        23,
-        Expected::EndY,
-    ),
-    (
-        b"shape 800 0 end rel 0 0  box none depth 0 words 1 scale 0",
-        25,
-        Expected::Box,
-    ),
-    (
-        b"shape 800 0 end rel 0 0 bax none depth 0 words 1 scale 0",
-        26,
-        Expected::Box,
-    ),
-    (
-        b"shape 800 0 end rel 0 0 box nine depth 0 words 1 scale 0",
-        30,
-        Expected::BoxLeft,
-    ),
-    (
-        b"shape 800 0 end rel 0 0 box x depth 0 words 1 scale 0",
-        29,
-        Expected::BoxLeft,
-    ),
-    (
-        b"shape 800 0 end rel 0 0 box -5.5 5 -6 6 depth 0 words 1 scale 0",
-        31,
-        Expected::BoxLeft,
-    ),
-    (
-        b"shape 800 0 end rel 0 0 box -5 -6 -6 6 depth 0 words 1 scale 0",
-        33,
-        Expected::BoxRight,
-    ),
-    (
-        b"shape 800 0 end rel 0 0 box 100 5 -6 6 depth 0 words 1 scale 0",
-        34,
-        Expected::BoxRight,
-    ),
-    (
-        b"shape 800 0 end rel 0 0 box -5 5 x 6 depth 0 words 1 scale 0",
-        34,
-        Expected::BoxBottom,
-    ),
-    (
-        b"shape 800 0 end rel 0 0 box -5 5 6 -6 depth 0 words 1 scale 0",
-        36,
-        Expected::BoxTop,
-    ),
-    (
-        b"shape 800 0 end rel 0 0 box -5 5 -6 depth 0 words 1 scale 0",
-        37,
-        Expected::BoxTop,
-    ),
-    (
-        b"shape 800 0 end rel 0 0 box none Depth 0 words 1 scale 0",
-        34,
-        Expected::Depth,
-    ),
-    (
-        b"shape 800 0 end rel 0 0 box none depth 4 words 1 scale 0",
-        40,
-        Expected::DepthNumber,
-    ),
-    (
-        b"shape 800 0 end rel 0 0 box none depth 0 word 1 scale 0",
-        46,
-        Expected::Words,
-    ),
-    (
-        b"shape 800 0 end rel 0 0 box none depth 0 words 0 scale 0",
-        48,
-        Expected::WordsNumber,
-    ),
-    (
-        b"shape 800 0 end rel 0 0 box none depth 0 words 1000001 scale 0",
-        54,
-        Expected::WordsNumber,
-    ),
-    (
-        b"shape 800 0 end rel 0 0 box none depth 0 words 1",
-        49,
-        Expected::WordsNumber,
-    ),
-    (
-        b"shape 800 0 end rel 0 0 box none depth 0 words 1 scale",
-        55,
-        Expected::Scale,
-    ),
-    (
-        b"shape 800 0 end rel 0 0 box none depth 0 words 1 scale ",
-        56,
-        Expected::ScaleKey,
-    ),
-    (
-        b"shape 800 0 end rel 0 0 box none depth 0 words 1 scale 16",
-        57,
-        Expected::ScaleKey,
-    ),
-    (
-        b"shape 800 0 end rel 0 0 box none depth 0 words 1 scale 0 ",
-        57,
-        Expected::ScaleKey,
-    ),
-    (
-        b"shape 800 0 end rel 0 0 box none depth 0 words 1 scale 0\r",
-        57,
-        Expected::ScaleKey,
-    ),
-    (b"done", 5, Expected::Kind),
-    (b"dnoe 0", 2, Expected::Kind),
-    (b"done\t0", 5, Expected::Kind),
-    (b"done ", 6, Expected::Count),
-    (b"done -1", 6, Expected::Count),
-    (b"done 01", 7, Expected::Count),
-    (b"done 0 ", 7, Expected::Count),
-    (b"done 0\r", 7, Expected::Count),
-    (b"done 5000", 9, Expected::Count),
-    (b"done 4097", 9, Expected::Count),
+const LATER_LINES: &[&str] = &[
+    "Kind |",
+    "Kind shap|",
+    "Kind |Shape 800 0 end rel 0 0 box none depth 0 words 1 scale 0",
+    "Kind shape|\t800 0 end rel 0 0 box none depth 0 words 1 scale 0",
+    "Address shape | 800 0 end rel 0 0 box none depth 0 words 1 scale 0",
+    "Address shape |7FF 0 end rel 0 0 box none depth 0 words 1 scale 0",
+    "Address shape |C00 0 end rel 0 0 box none depth 0 words 1 scale 0",
+    "Address shape 80|a 0 end rel 0 0 box none depth 0 words 1 scale 0",
+    "Address shape 800|/0 end rel 0 0 box none depth 0 words 1 scale 0",
+    "Key shape 800 1|6 end rel 0 0 box none depth 0 words 1 scale 0",
+    "Key shape 800 0|0 end rel 0 0 box none depth 0 words 1 scale 0",
+    "Key shape 800 a|ll end rel 0 0 box none depth 0 words 1 scale 0",
+    "Key shape 800 |-1 end rel 0 0 box none depth 0 words 1 scale 0",
+    "End shape 800 0 |End rel 0 0 box none depth 0 words 1 scale 0",
+    "EndKind shape 800 0 end re|t 0 0 box none depth 0 words 1 scale 0",
+    "EndKind shape 800 0 end ab|t 0 0 box none depth 0 words 1 scale 0",
+    "EndKind shape 800 0 end los| box none depth 0 words 1 scale 0",
+    "EndKind shape 800 0 end |0 0 box none depth 0 words 1 scale 0",
+    "EndX shape 800 0 end rel -|0 0 box none depth 0 words 1 scale 0",
+    "EndX shape 800 0 end rel |+5 0 box none depth 0 words 1 scale 0",
+    "EndX shape 800 0 end abs 0|5 0 box none depth 0 words 1 scale 0",
+    "EndX shape 800 0 end rel 200000000000|1 0 box none depth 0 words 1 scale 0",
+    "EndY shape 800 0 end rel 0 -200000000000|1 box none depth 0 words 1 scale 0",
+    "EndY shape 800 0 end rel 0 |box none depth 0 words 1 scale 0",
+    "Box shape 800 0 end rel 0 0 | box none depth 0 words 1 scale 0",
+    "Box shape 800 0 end rel 0 0 b|ax none depth 0 words 1 scale 0",
+    "BoxLeft shape 800 0 end rel 0 0 box n|ine depth 0 words 1 scale 0",
+    "BoxLeft shape 800 0 end rel 0 0 box |x depth 0 words 1 scale 0",
+    "BoxLeft shape 800 0 end rel 0 0 box -5|.5 5 -6 6 depth 0 words 1 scale 0",
+    "BoxRight shape 800 0 end rel 0 0 box -5 -|6 -6 6 depth 0 words 1 scale 0",
+    "BoxRight shape 800 0 end rel 0 0 box 100 5| -6 6 depth 0 words 1 scale 0",
+    "BoxBottom shape 800 0 end rel 0 0 box -5 5 |x 6 depth 0 words 1 scale 0",
+    "BoxTop shape 800 0 end rel 0 0 box -5 5 6 |-6 depth 0 words 1 scale 0",
+    "BoxTop shape 800 0 end rel 0 0 box -5 5 -6 |depth 0 words 1 scale 0",
+    "Depth shape 800 0 end rel 0 0 box none |Depth 0 words 1 scale 0",
+    "DepthNumber shape 800 0 end rel 0 0 box none depth |4 words 1 scale 0",
+    "Words shape 800 0 end rel 0 0 box none depth 0 word| 1 scale 0",
+    "WordsNumber shape 800 0 end rel 0 0 box none depth 0 words |0 scale 0",
+    "WordsNumber shape 800 0 end rel 0 0 box none depth 0 words 100000|1 scale 0",
+    "WordsNumber shape 800 0 end rel 0 0 box none depth 0 words 1|",
+    "Scale shape 800 0 end rel 0 0 box none depth 0 words 1 scale|",
+    "ScaleKey shape 800 0 end rel 0 0 box none depth 0 words 1 scale |",
+    "ScaleKey shape 800 0 end rel 0 0 box none depth 0 words 1 scale 1|6",
+    "ScaleKey shape 800 0 end rel 0 0 box none depth 0 words 1 scale 0| ",
+    "ScaleKey shape 800 0 end rel 0 0 box none depth 0 words 1 scale 0|\r",
+    "Kind done|",
+    "Kind d|noe 0",
+    "Kind done|\t0",
+    "Count done |",
+    "Count done |-1",
+    "Count done 0|1",
+    "Count done 0| ",
+    "Count done 0|\r",
+    "Count done 500|0",
+    "Count done 409|7",
 ];
+
+/// What is expected, and the bytes before and behind the place where it is.
+fn cut(row: &str) -> Option<(&str, &str, &str)> {
+    let (expected, marked) = row.split_once(' ')?;
+    let (before, behind) = marked.split_once('|')?;
+    Some((expected, before, behind))
+}
+
+/// The line or the text of a row.
+fn bytes_of(rt: &impl Abort, alloc: Global, row: &str) -> Vec<u8> {
+    let (_, before, behind) = cut(row).expect(rt, "a row");
+    let mut bytes = Vec::from_slice(alloc, before.as_bytes()).expect(rt, "memory");
+    bytes
+        .extend_from_slice(behind.as_bytes())
+        .expect(rt, "memory");
+    bytes
+}
+
+/// Stops the test unless a line leaves the form where its row says.
+fn expect_leaving(rt: &impl Abort, alloc: Global, row: &str, leaving: FormLeaving) {
+    let (expected, before, _) = cut(row).expect(rt, "a row");
+    let told = format!(in alloc; "{:?}", leaving.expected).expect(rt, "memory");
+    expect_same(rt, &told.as_str(), &expected, &row);
+    let column = before.len().saturating_add(1);
+    expect_same(rt, &leaving.column, &column, &row);
+}
 
 #[test]
 fn columns(rt: HostRuntime) {
-    for &(line, column, expected) in FIRST_LINES {
-        let want = FormLeaving { column, expected };
-        expect_same(&rt, &first_leaving(line), &want, &line);
+    for row in FIRST_LINES {
+        let leaving = first_leaving(&bytes_of(&rt, rt.alloc(), row));
+        expect_leaving(&rt, rt.alloc(), row, leaving);
     }
-    for &(line, column, expected) in ROM_LINES {
-        let want = Ok(FormLeaving { column, expected });
-        expect_same(&rt, &rom_leaving(rt.alloc(), line), &want, &line);
+    for row in ROM_LINES {
+        let leaving = rom_leaving(rt.alloc(), &bytes_of(&rt, rt.alloc(), row));
+        let leaving = leaving.expect(&rt, "memory for a line");
+        expect_leaving(&rt, rt.alloc(), row, leaving);
     }
-    for &(line, column, expected) in LATER_LINES {
-        let want = Ok(FormLeaving { column, expected });
-        let told = later_leaving(rt.alloc(), ASTEROIDS, line);
-        expect_same(&rt, &told, &want, &line);
+    for row in LATER_LINES {
+        let leaving = later_leaving(rt.alloc(), ASTEROIDS, &bytes_of(&rt, rt.alloc(), row));
+        let leaving = leaving.expect(&rt, "memory for a line");
+        expect_leaving(&rt, rt.alloc(), row, leaving);
     }
 }
 
@@ -303,10 +155,8 @@ fn no_column_is_too_small(rt: HostRuntime) {
     for &line in OF_THE_FORM {
         for at in 0..line.len() {
             for &byte in b" 09aF-" {
-                let mut changed = Vec::from_slice(rt.alloc(), line).expect(
-                    &rt,
-                    "memory for a line",
-                );
+                let changed = Vec::from_slice(rt.alloc(), line);
+                let mut changed = changed.expect(&rt, "memory for a line");
                 if let Some(place) = changed.get_mut(at) {
                     *place = byte;
                 }
@@ -339,54 +189,49 @@ fn told_of(rt: &impl Abort, alloc: Global, text: &[u8], size: usize) -> Option<L
     None
 }
 
-/// Texts, and what is told of each.
-const TEXTS: &[(&[u8], Option<LineWhy>)] = &[
-    (
-        b"dvgcert 1\r\ndone 0\r\n",
-        Some(LineWhy::Form(FormLeaving {
-            column: 10,
-            expected: Expected::Version,
-        })),
-    ),
-    (
-        b"dvgcert 2\nrom 400 40f\ndone 0\n",
-        Some(LineWhy::Form(FormLeaving {
-            column: 11,
-            expected: Expected::RomLast,
-        })),
-    ),
+/// Texts of which a line leaves the form, the column at which it does, and what is expected there.
+const LEAVING_TEXTS: &[(&[u8], usize, Expected)] = &[
+    (b"dvgcert 1\r\ndone 0\r\n", 10, Expected::Version),
+    (b"dvgcert 2\nrom 400 40f\ndone 0\n", 11, Expected::RomLast),
     (
         b"dvgcert 2\nrom 400 40F\nshape 410 0 end lost box none depth 0 words 1 scale 0\ndone 1\n",
-        Some(LineWhy::Form(FormLeaving {
-            column: 8,
-            expected: Expected::Address,
-        })),
+        8,
+        Expected::Address,
     ),
-    (
-        b"dvgcert 1\nshape 800 0 end lost box none depth 0 words 1 scale 0\ndone 2\n",
-        Some(LineWhy::Count(EntryCounts {
-            claimed: 2,
-            found: 1,
-        })),
-    ),
-    (
-        b"dvgcert 2\nrom 400 7FF\ndone 4096\n",
-        Some(LineWhy::Count(EntryCounts {
-            claimed: 4096,
-            found: 0,
-        })),
-    ),
-    (b"dvgcert 1\ndone 0\n\n", None),
-    (b"dvgcert 1\ndone 0", None),
 ];
 
-/// A text is told of in the same way, however it is cut.
+/// Texts, how many entries they claim, and how many they have.
+const COUNTED_TEXTS: &[(&[u8], u16, u32)] = &[
+    (
+        b"dvgcert 1\nshape 800 0 end lost box none depth 0 words 1 scale 0\ndone 2\n",
+        2,
+        1,
+    ),
+    (b"dvgcert 2\nrom 400 7FF\ndone 4096\n", 4096, 0),
+];
+
+/// Refused texts of which nothing is told.
+const UNTOLD_TEXTS: &[&[u8]] = &[b"dvgcert 1\ndone 0\n\n", b"dvgcert 1\ndone 0"];
+
+/// Stops the test unless this is told of a text, however it is cut.
+fn expect_told(rt: &impl Abort, alloc: Global, text: &[u8], want: Option<LineWhy>) {
+    for size in 1..=text.len() {
+        expect_same(rt, &told_of(rt, alloc, text, size), &want, &(text, size));
+    }
+}
+
 #[test]
 fn pieces(rt: HostRuntime) {
-    for &(text, want) in TEXTS {
-        for size in 1..=text.len() {
-            expect_same(&rt, &told_of(&rt, rt.alloc(), text, size), &want, &size);
-        }
+    for &(text, column, expected) in LEAVING_TEXTS {
+        let leaving = FormLeaving { column, expected };
+        expect_told(&rt, rt.alloc(), text, Some(LineWhy::Form(leaving)));
+    }
+    for &(text, claimed, found) in COUNTED_TEXTS {
+        let counts = EntryCounts { claimed, found };
+        expect_told(&rt, rt.alloc(), text, Some(LineWhy::Count(counts)));
+    }
+    for text in UNTOLD_TEXTS {
+        expect_told(&rt, rt.alloc(), text, None);
     }
 }
 

@@ -31,6 +31,8 @@ mod rows;
 #[cfg(test)]
 mod running;
 #[cfg(test)]
+mod table;
+#[cfg(test)]
 mod touching;
 #[cfg(test)]
 mod words;

@@ -97,51 +97,32 @@ const SHORT: Draw = Draw {
     bright: 8,
 };
 
-/// Global scales, and how far the long and the short draw move the beam at them.
-const LONG_MOVES: &[(u8, (i32, i32))] = &[
-    (0, (1047552, 785408)),
-    (15, (523776, 392704)),
-    (6, (1023, 767)),
-];
+/// How far a draw moves the beam.
+type Move = (i32, i32);
 
-const SHORT_MOVES: &[(u8, (i32, i32))] = &[
-    (0, (-49152, -49152)),
-    (5, (-768, -768)),
-    (11, (-1536, -1536)),
+/// Draws, global scales, and the moves at them by the profile and on the board.
+const MOVES: [(Draw, u8, Move, Move); 6] = [
+    (LONG, 0, (1047552, 785408), (1047552, 785408)),
+    (LONG, 15, (523776, 392704), (524288, 393216)),
+    (LONG, 6, (1023, 767), (0, 0)),
+    (SHORT, 0, (-49152, -49152), (-49152, -49152)),
+    (SHORT, 5, (-768, -768), (0, 0)),
+    (SHORT, 11, (-1536, -1536), (-2048, -2048)),
 ];
 
 #[test]
 fn moves_the_beam(rt: HostRuntime) {
-    for &(gscale, by) in LONG_MOVES {
-        expect_same(&rt, &displacement(&LONG, gscale % 16), &by, &gscale);
-    }
-    for &(gscale, by) in SHORT_MOVES {
-        expect_same(&rt, &displacement(&SHORT, gscale % 16), &by, &gscale);
+    for (draw, gscale, by, _) in MOVES {
+        let got = displacement(&draw, gscale % 16);
+        expect_same(&rt, &got, &by, &(draw, gscale));
     }
 }
 
-/// Global scales, and how far the same draws move the beam on the board at them.
-const LONG_MOVES_OF_BOARD: &[(u8, (i32, i32))] = &[
-    (0, (1047552, 785408)),
-    (15, (524288, 393216)),
-    (6, (0, 0)),
-];
-
-const SHORT_MOVES_OF_BOARD: &[(u8, (i32, i32))] = &[
-    (0, (-49152, -49152)),
-    (5, (0, 0)),
-    (11, (-2048, -2048)),
-];
-
 #[test]
 fn moves_the_beam_of_the_board(rt: HostRuntime) {
-    for &(gscale, by) in LONG_MOVES_OF_BOARD {
-        let got = displacement_on(Machine::Board, &LONG, gscale % 16);
-        expect_same(&rt, &got, &by, &gscale);
-    }
-    for &(gscale, by) in SHORT_MOVES_OF_BOARD {
-        let got = displacement_on(Machine::Board, &SHORT, gscale % 16);
-        expect_same(&rt, &got, &by, &gscale);
+    for (draw, gscale, _, by) in MOVES {
+        let got = displacement_on(Machine::Board, &draw, gscale % 16);
+        expect_same(&rt, &got, &by, &(draw, gscale));
     }
 }
 
@@ -302,18 +283,18 @@ fn reads_images_of_other_maps(rt: HostRuntime) {
     let mut bytes = [0u8; 4096];
     bytes[..2].copy_from_slice(&[0x00, 0xD0]);
     bytes[4094..].copy_from_slice(&[0x34, 0x12]);
-    let longest = Some([None, Some(0xD000), Some(0x1234)]);
+    let longest = words_of(&bytes, 0x400, 0xBFF);
     expect_same(
         &rt,
-        &words_of(&bytes, 0x400, 0xBFF),
         &longest,
+        &Some([None, Some(0xD000), Some(0x1234)]),
         &"4096 bytes",
     );
-    let shortest = Some([None, Some(0xD000), None]);
+    let shortest = words_of(&bytes[..2], 0x400, 0x400);
     expect_same(
         &rt,
-        &words_of(&bytes[..2], 0x400, 0x400),
         &shortest,
+        &Some([None, Some(0xD000), None]),
         &"2 bytes",
     );
     let refused = Some(ImageFault::RomLength);

@@ -16,8 +16,7 @@ mod options;
 mod output;
 
 use command::{
-    ArgumentFault, Asked, Certificates, CheckArgs, FrameNames, FramesArgs, MakeArgs, Named, Parsed,
-    Request, Usage,
+    Asked, Certificates, CheckArgs, FrameNames, FramesArgs, MakeArgs, Named, Parsed, Request, Usage,
 };
 use dvg_cmd::{
     Counted, CountedWrite, Detail, FrameOutcome, FramesRunFault, Labels, MakeAnswer, MakeFault,
@@ -28,9 +27,9 @@ use dvg_cmd::{
     write_text,
 };
 use input::{Input, Source};
-use labels::LabelsFault;
 use list::{List, ListFault};
 use output::Output;
+use std::alloc::AllocError;
 use std::io;
 use std::process::ExitCode;
 
@@ -374,23 +373,12 @@ fn tell_text(rt: &HostRuntime, end: &Result<(), RunFault>) -> u8 {
     }
 }
 
-/// Tells what is wrong with the arguments, and answers the exit status.
-fn tell_fault(rt: &HostRuntime, fault: ArgumentFault) -> u8 {
-    match fault.message(rt.alloc()) {
+/// Says why there was no run, and answers this exit status, or that memory was out for the message.
+fn tell_message(rt: &HostRuntime, message: Result<String, AllocError>, status: u8) -> u8 {
+    match message {
         Ok(message) => {
             say(rt, message.as_str());
-            2
-        }
-        Err(_) => tell_check(rt, &Err(RunFault::Memory)),
-    }
-}
-
-/// Tells why there are no labels, and answers the exit status.
-fn tell_labels(rt: &HostRuntime, fault: LabelsFault) -> u8 {
-    match fault.message(rt.alloc()) {
-        Ok(message) => {
-            say(rt, message.as_str());
-            fault.status()
+            status
         }
         Err(_) => tell_check(rt, &Err(RunFault::Memory)),
     }
@@ -399,7 +387,7 @@ fn tell_labels(rt: &HostRuntime, fault: LabelsFault) -> u8 {
 /// Tells why no run was asked for, and answers the exit status.
 fn tell_usage(rt: &HostRuntime, usage: &Usage) -> u8 {
     match usage {
-        Usage::Argument(fault) => tell_fault(rt, *fault),
+        Usage::Argument(fault) => tell_message(rt, fault.message(rt.alloc()), 2),
         Usage::OutOfMemory => tell_check(rt, &Err(RunFault::Memory)),
         Usage::Fault(text) => {
             let _ = write_text(text.as_str(), &mut Counted::new(rt.stderr()));
@@ -423,7 +411,7 @@ fn run(rt: &HostRuntime) -> u8 {
     };
     let labels = match parsed.labels(rt) {
         Ok(labels) => labels,
-        Err(fault) => return tell_labels(rt, fault),
+        Err(fault) => return tell_message(rt, fault.message(rt.alloc()), fault.status()),
     };
     run_parsed(rt, parsed, &labels)
 }

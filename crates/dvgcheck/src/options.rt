@@ -94,24 +94,73 @@ impl CommandOption {
         }
     }
 
+    /// How the help names its value, where it has one.
+    fn value_name(self) -> Option<&'static str> {
+        match self {
+            CommandOption::Budget => Some("N"),
+            CommandOption::Cert => Some("CERT"),
+            CommandOption::Frame => Some("FRAME"),
+            CommandOption::Labels | CommandOption::List | CommandOption::Output => Some("FILE"),
+            CommandOption::Map => Some(Form::Map.pattern()),
+            CommandOption::Start => Some(Form::Start.pattern()),
+            CommandOption::Window => Some(Form::Window.pattern()),
+            _ => None,
+        }
+    }
+
+    /// What the help says of it.
+    fn help(self) -> &'static str {
+        match self {
+            CommandOption::Board =>
+                "Judges for a board of the DVG: draws move by whole places, LABS has twelve bits",
+            CommandOption::Budget => "How many words the frame may take at most [default: 20000]",
+            CommandOption::Cert =>
+                "Judges all frames by this certificate of the ROM's shapes, which says where the ROM lies",
+            CommandOption::Clip =>
+                "Lets lit strokes reach from -1024 to 2047, where the board blanks what is off the screen",
+            CommandOption::Exact =>
+                "Takes the certificate's words and depths as exact, not as bounds",
+            CommandOption::Frame => "A frame; its calls become roots, too",
+            CommandOption::Labels =>
+                "The labels of the program, which name addresses in accounts and roots",
+            CommandOption::List =>
+                "Judges the frames that this file names, one a line, in place of FRAME",
+            CommandOption::Map =>
+                "The word addresses of the ROM's first and last word, within 400 to BFF [default: 800/BFF]",
+            CommandOption::Null => "Names in the list end with NUL, not LF",
+            CommandOption::OnlyRefused => "Leaves out the lines of accepted frames",
+            CommandOption::Output =>
+                "Writes the certificate to this file, which keeps what it holds until the new one is whole",
+            CommandOption::Start =>
+                "Judges each frame as though its word 000 were the jump to this word address",
+            CommandOption::Summary =>
+                "Ends with a line that counts the frames by what is said of them",
+            CommandOption::Window =>
+                "Where the screen may be lit: from X0 to X1 across, from Y0 to Y1 up [default: 0,1023,0,1023]",
+        }
+    }
+
     /// The option as `clap` takes it.
     fn arg<'a>(self, alloc: Global) -> Result<Arg<'a>, AllocError> {
+        let (name, help) = (self.name(), self.help());
+        self.bounded(match self.value_name() {
+            Some(value) => valued(alloc, name, value, help),
+            None => flag(alloc, name, help),
+        })
+    }
+
+    /// With its short name, what bounds its value, and which options it requires or conflicts with.
+    fn bounded<'a>(self, arg: Arg<'a>) -> Result<Arg<'a>, AllocError> {
         match self {
-            CommandOption::Board => Ok(board_option(alloc)),
-            CommandOption::Budget => Ok(budget_option(alloc)),
-            CommandOption::Cert => cert_option(alloc),
-            CommandOption::Clip => clip_option(alloc),
-            CommandOption::Exact => Ok(exact_option(alloc)),
-            CommandOption::Frame => Ok(frame_option(alloc)),
-            CommandOption::Labels => Ok(labels_option(alloc)),
-            CommandOption::List => Ok(list_option(alloc)),
-            CommandOption::Map => Ok(map_option(alloc)),
-            CommandOption::Null => null_option(alloc),
-            CommandOption::OnlyRefused => Ok(only_refused_option(alloc)),
-            CommandOption::Output => Ok(output_option(alloc)),
-            CommandOption::Start => Ok(start_option(alloc)),
-            CommandOption::Summary => Ok(summary_option(alloc)),
-            CommandOption::Window => Ok(window_option(alloc)),
+            CommandOption::Budget => {
+                Ok(arg.value_parser(value_parser!(u32).range(1..=i64::from(MOST_WORDS))))
+            }
+            CommandOption::Cert => arg.conflicts_with("rom"),
+            CommandOption::Clip => arg.conflicts_with("window")?.requires_arg("board"),
+            CommandOption::Frame => Ok(arg.action(ArgAction::Append)),
+            CommandOption::Null => arg.requires_arg("list")?.conflicts_with("FRAME"),
+            CommandOption::Output => Ok(arg.short('o')),
+            _ => Ok(arg),
         }
     }
 
@@ -143,126 +192,25 @@ impl CommandOption {
     }
 }
 
-fn board_option<'a>(alloc: Global) -> Arg<'a> {
-    Arg::new(alloc, "board")
-        .long("board")
+/// An option that has no value.
+fn flag<'a>(alloc: Global, name: &'static str, help: &'static str) -> Arg<'a> {
+    Arg::new(alloc, name)
+        .long(name)
         .action(ArgAction::SetTrue)
-        .help("Judges for a board of the DVG: draws move by whole places, LABS has twelve bits")
+        .help(help)
 }
 
-fn budget_option<'a>(alloc: Global) -> Arg<'a> {
-    Arg::new(alloc, "budget")
-        .long("budget")
-        .value_name("N")
-        .help("How many words the frame may take at most [default: 20000]")
-        .value_parser(value_parser!(u32).range(1..=i64::from(MOST_WORDS)))
-}
-
-fn cert_option<'a>(alloc: Global) -> Result<Arg<'a>, AllocError> {
-    Arg::new(alloc, "cert")
-        .long("cert")
-        .value_name("CERT")
-        .help(
-            "Judges all frames by this certificate of the ROM's shapes, which says where the ROM lies",
-        )
-        .conflicts_with("rom")
-}
-
-fn clip_option<'a>(alloc: Global) -> Result<Arg<'a>, AllocError> {
-    Arg::new(alloc, "clip")
-        .long("clip")
-        .action(ArgAction::SetTrue)
-        .help(
-            "Lets lit strokes reach from -1024 to 2047, where the board blanks what is off the screen",
-        )
-        .conflicts_with("window")?
-        .requires_arg("board")
-}
-
-fn exact_option<'a>(alloc: Global) -> Arg<'a> {
-    Arg::new(alloc, "exact")
-        .long("exact")
-        .action(ArgAction::SetTrue)
-        .help("Takes the certificate's words and depths as exact, not as bounds")
-}
-
-fn frame_option<'a>(alloc: Global) -> Arg<'a> {
-    Arg::new(alloc, "frame")
-        .long("frame")
-        .value_name("FRAME")
-        .action(ArgAction::Append)
-        .help("A frame; its calls become roots, too")
-}
-
-fn labels_option<'a>(alloc: Global) -> Arg<'a> {
-    Arg::new(alloc, "labels")
-        .long("labels")
-        .value_name("FILE")
-        .help("The labels of the program, which name addresses in accounts and roots")
-}
-
-fn list_option<'a>(alloc: Global) -> Arg<'a> {
-    Arg::new(alloc, "list").long("list").value_name("FILE").help(
-        "Judges the frames that this file names, one a line, in place of FRAME",
-    )
-}
-
-fn map_option<'a>(alloc: Global) -> Arg<'a> {
-    Arg::new(alloc, "rom")
-        .long("rom")
-        .value_name(Form::Map.pattern())
-        .help(
-            "The word addresses of the ROM's first and last word, within 400 to BFF [default: 800/BFF]",
-        )
-}
-
-fn null_option<'a>(alloc: Global) -> Result<Arg<'a>, AllocError> {
-    Arg::new(alloc, "null")
-        .long("null")
-        .action(ArgAction::SetTrue)
-        .help("Names in the list end with NUL, not LF")
-        .requires_arg("list")?
-        .conflicts_with("FRAME")
-}
-
-fn only_refused_option<'a>(alloc: Global) -> Arg<'a> {
-    Arg::new(alloc, "only-refused")
-        .long("only-refused")
-        .action(ArgAction::SetTrue)
-        .help("Leaves out the lines of accepted frames")
-}
-
-fn output_option<'a>(alloc: Global) -> Arg<'a> {
-    Arg::new(alloc, "output")
-        .short('o')
-        .long("output")
-        .value_name("FILE")
-        .help(
-            "Writes the certificate to this file, which keeps what it holds until the new one is whole",
-        )
-}
-
-fn start_option<'a>(alloc: Global) -> Arg<'a> {
-    Arg::new(alloc, "start")
-        .long("start")
-        .value_name(Form::Start.pattern())
-        .help("Judges each frame as though its word 000 were the jump to this word address")
-}
-
-fn summary_option<'a>(alloc: Global) -> Arg<'a> {
-    Arg::new(alloc, "summary")
-        .long("summary")
-        .action(ArgAction::SetTrue)
-        .help("Ends with a line that counts the frames by what is said of them")
-}
-
-fn window_option<'a>(alloc: Global) -> Arg<'a> {
-    Arg::new(alloc, "window")
-        .long("window")
-        .value_name(Form::Window.pattern())
-        .help(
-            "Where the screen may be lit: from X0 to X1 across, from Y0 to Y1 up [default: 0,1023,0,1023]",
-        )
+/// An option that has a value, which the help names so.
+fn valued<'a>(
+    alloc: Global,
+    name: &'static str,
+    value: &'static str,
+    help: &'static str,
+) -> Arg<'a> {
+    Arg::new(alloc, name)
+        .long(name)
+        .value_name(value)
+        .help(help)
 }
 
 /// Which options of a subcommand `clap` is told of.

@@ -1,26 +1,21 @@
 -- What is written of frames before the summary: of one, and of several so far.
-use Rattle.std.specs.Prelude.{◌≡◌, ℕ, List, [], ◌∷◌, Option, Result}
+use Rattle.std.specs.Prelude.{◌≡◌, ℕ, List, [], ◌∷◌, Option}
 use Rattle.std.specs.Io.KnownBytes.{Appends}
-use Rattle.dvg_words.specs.Memory.{Rom}
-use Rattle.dvg_words.specs.Values.{Window}
 use Rattle.dvg_cert.specs.Devices.{AppendsPrefix}
-use Rattle.dvg_check.specs.declared.verdict.Yes.{Yes}
-use Rattle.dvg_make.specs.declared.judging.FrameRefusal.{FrameRefusal}
 use Rattle.dvg_spelling.specs.declared.tally.Tally.{Tally}
 use Rattle.dvg_spelling.specs.Tally.{with_answer}
 use Rattle.dvg_spelling.specs.declared.outcome.FrameOutcome.TheVariants as outcome
 use Rattle.dvg_cmd.specs.declared.listing.Listing.{Listing}
-use Rattle.dvg_cmd.specs.Frames.{FrameOutcome}
+use Rattle.dvg_cmd.specs.Frames.{FrameOutcome, Judging}
 use Rattle.dvg_cmd.specs.SeveralFrames.{OpenedFrame, Line, line_outcome, line_texts, joined, TakeOneWriteEach, worst_of, tally_on, IsLineOf, AreLinesOf}
 
-module _ (IsVerdict : List ℕ → Result Yes FrameRefusal → Type 0) (rom : Rom) (w : Window) (IsExact : Type 0)
-    (listing : Listing) (start : Option ℕ) where
+module _ (j : Judging) (listing : Listing) (start : Option ℕ) where
   -- the line of a frame was written if the listing has it, and nothing else; it was counted
   pub record WritesLineOf
       (frame : OpenedFrame) (old new : Option (List ℕ)) (tally tally_after : Tally) (writes writes_after : ℕ)
       (end : FrameOutcome) : Type 0 where
     pub line : Line
-    pub line_of : IsLineOf IsVerdict rom w IsExact listing start frame line
+    pub line_of : IsLineOf j listing start frame line
     pub written : Appends old new (joined (line_texts listing.lines (line ∷ [])))
     pub one_write : TakeOneWriteEach (line_texts listing.lines (line ∷ [])) writes writes_after
     pub end_is : line_outcome line ≡ end
@@ -29,7 +24,7 @@ module _ (IsVerdict : List ℕ → Result Yes FrameRefusal → Type 0) (rom : Ro
   -- a prefix of it was written
   pub record WritesLineOfPrefix (frame : OpenedFrame) (old new : Option (List ℕ)) : Type 0 where
     pub line : Line
-    pub line_of : IsLineOf IsVerdict rom w IsExact listing start frame line
+    pub line_of : IsLineOf j listing start frame line
     pub written : AppendsPrefix old new (joined (line_texts listing.lines (line ∷ [])))
 
   -- so were those of several frames
@@ -37,7 +32,7 @@ module _ (IsVerdict : List ℕ → Result Yes FrameRefusal → Type 0) (rom : Ro
       (frames : List OpenedFrame) (old new : Option (List ℕ)) (tally tally_after : Tally) (writes writes_after : ℕ)
       (end : FrameOutcome) : Type 0 where
     pub lines : List Line
-    pub lines_of : AreLinesOf IsVerdict rom w IsExact listing start frames lines
+    pub lines_of : AreLinesOf j listing start frames lines
     pub written : Appends old new (joined (line_texts listing.lines lines))
     pub one_write : TakeOneWriteEach (line_texts listing.lines lines) writes writes_after
     pub outcome_is : end ≡ worst_of outcome.Accepted lines

@@ -1,16 +1,12 @@
-use Rattle.std.proofs.Common.{rules, ◌≡◌, ◌∙◌, ◌≤◌, List, length, sym, ap, subst}
+use Rattle.std.proofs.Common.{rules, ◌≡◌, ◌∙◌, List, length, sym, ap, subst}
 use Rattle.dvg_words.specs.Values.{Window}
 use Rattle.dvg_words.specs.Memory.{Rom, IsRom, rom_on, IsRomLength}
 use Rattle.dvg_cert.specs.declared.entry.Entry.{Entry}
-use Rattle.dvg_cert.specs.declared.limits.TheConstants.{MOST_ENTRIES}
 use Rattle.dvg_check.specs.Rules.{Good}
 use Rattle.dvg_c.specs.Told.{window_of}
 use Rattle.dvg_c.specs.Kept.{IsKept, kept_list}
 use Rattle.dvg_c.proofs.Keeping.{same_shapes}
 use Rattle.dvg_c.proofs.judge.judge_and_keep.Goals as goal
-
-pub invariant_of-kept-clause-few : goal.invariant_of-kept-clause-few
-invariant_of-kept-clause-few c = subst (λ (es : List Entry). length es ≤ MOST_ENTRIES) (sym c.entries-2.ensures.value) c.entries-2.ensures.certificate.few
 
 pub invariant_of-kept-clause-good : goal.invariant_of-kept-clause-good
 invariant_of-kept-clause-good c = λ _.
@@ -22,7 +18,7 @@ invariant_of-kept-clause-good c = λ _.
     let whole : IsRom (rom_on c.args.machine c.in_ok-cert.cert.map c.args.rom.now) = search rules in
     let long : IsRomLength c.in_ok-cert.cert.map (length c.args.rom.now) = search rules in
     let good : Good c.args.mode (window_of c.args.ends) (rom_on c.args.machine c.in_ok-cert.cert.map c.args.rom.now) list =
-    subst (λ (r : Rom). Good c.args.mode (window_of c.args.ends) r list) image_is (subst (λ (w : Window). Good c.args.mode w c.in_ok-image.image list) window_is c.in_ok-judge_shapes.ensures.ok) in
+    subst (λ (r : Rom). Good c.args.mode (window_of c.args.ends) r list) image_is (subst (λ (w : Window). Good c.args.mode w c.in_ok-image.image list) window_is c.in_ok-judge.ensures.good) in
     let same = same_shapes c.args.machine c.kept_machine-kept.result c.in_ok-cert.cert.map c.args.mode c.args.ends c.kept_mode-kept.result c.rom.result.0 c.rom.result.1 (length c.entries-2.result.now) c.keep_rom.new.kept.rom c.args.rom.now c.keep_rom.new.kept.entries list
     c.rom.ensures.first c.rom.ensures.last long c.keep_rom.ensures.bytes list_is c.kept_mode-kept.ensures.mode c.kept_machine-kept.ensures in
     ∣ subst IsKept (sym same) (record { window = c.requires.window; rom = whole; list = c.entries.ensures.certificate; good = good }) ∣₁

@@ -1,17 +1,14 @@
 use Rattle.std.proofs.Common.{refl, sym, subst}
-use Rattle.std.specs.Prelude.{Result, Ok, Err, OnErr, string_bytes}
+use Rattle.std.specs.Prelude.{OnErr, string_bytes}
 use Rattle.dvg_cmd.specs.Explaining.{MakeExplained, MakeExplainedPrefix}
 use Rattle.dvg_cmd.specs.Runs.{NoMemory}
+use Rattle.dvg_cmd.proofs.LineByLine.{on_err}
 use Rattle.dvg_cmd.proofs.explaining_make.write_make_answer.Goals as goal
-
-on_err : {A E : Type 0} (r : Result A E) (P : Type 0) → P → OnErr r P
-on_err (Ok a) P p = tt
-on_err (Err e) P p = p
 
 pub returns-in_err-write_make_line_and-in-Err-clause-prefix : goal.returns-in_err-write_make_line_and-in-Err-clause-prefix
 returns-in_err-write_make_line_and-in-Err-clause-prefix g c =
     subst (λ r. OnErr c.from_residual.result (MakeExplainedPrefix string_bytes c.args.name.now c.args.answer.now.made r (g.W.Write.contents c.args.out.now) (g.W.Write.contents c.write_make_line_and-in-Err.new.out)))
-    (sym c.in-Err.is) (on_err c.from_residual.result _ c.in_err-write_make_line_and-in-Err.ensures.prefix)
+    (sym c.in-Err.is) (on_err c.from_residual.result c.in_err-write_make_line_and-in-Err.ensures.prefix)
 
 pub returns-in_ok-write_make_line_and-in-Err-clause-ok : goal.returns-in_ok-write_make_line_and-in-Err-clause-ok
 returns-in_ok-write_make_line_and-in-Err-clause-ok g c =

@@ -1,25 +1,31 @@
-use Rattle.dvg_cmd.proofs.Common.{◌<◌, sym, subst, of_each, MakesForFrames, IsPrefix, ArePrefixes}
-use Rattle.dvg_cmd.proofs.FramesRuns.{reading_refused, writes, writes_prefix}
-use Rattle.dvg_cmd.proofs.SeveralFrames.{length_of_each}
+use Rattle.dvg_cmd.proofs.Common.{◌∙◌, of_each, MakesForFrames, FramesFaultMeans}
+use Rattle.dvg_cmd.proofs.FramesRuns.{told_err, with_words, own_map, frames_made, frames_refused, writes, writes_prefix}
 use Rattle.dvg_cmd.proofs.making_frames.run_make_frames.Goals as goal
 
-pub returns-in_err-frames-clause-refused : goal.returns-in_err-frames-clause-refused
-returns-in_err-frames-clause-refused g c =
-    reading_refused c.args.machine c.from_residual.result (g.R1.Read.remaining c.args.rom.now) c.args.map c.args.roots.now (of_each (λ frame. g.R2.Read.remaining frame) c.args.frames.now) _ c.in_err-frames.ensures.fault
-    (subst (λ n. 0 < n) (sym (length_of_each (λ frame. g.R2.Read.remaining frame) c.args.frames.now)) c.in_err-frames.ensures.some) c.from_residual.ensures.1
+pub returns-in_err-bytes-clause-refused : goal.returns-in_err-bytes-clause-refused
+returns-in_err-bytes-clause-refused g c =
+    told_err c.from_residual.result _ (FramesFaultMeans c.args.machine (g.R1.Read.remaining c.args.rom.now) c.args.map c.args.roots.now (of_each (λ frame. g.R2.Read.remaining frame) c.args.frames.now))
+    c.from_residual.ensures.1 (c.in_err-bytes.ensures.refused c.args.machine c.args.map c.args.roots.now)
 
-pub returns-in-Ok-write_cert-clause-text : goal.returns-in-Ok-write_cert-clause-text
-returns-in-Ok-write_cert-clause-text g c =
+pub returns-in_err-images-clause-refused : goal.returns-in_err-images-clause-refused
+returns-in_err-images-clause-refused g c =
+    told_err c.from_residual-in_err-images.result _ (FramesFaultMeans c.args.machine (g.R1.Read.remaining c.args.rom.now) c.args.map c.args.roots.now (of_each (λ frame. g.R2.Read.remaining frame) c.args.frames.now))
+    c.from_residual-in_err-images.ensures.1 (c.in_err-images.ensures.refused _ _ c.in_ok-bytes.ensures.bytes c.args.roots.now)
+
+pub returns-in_err-cert-clause-refused : goal.returns-in_err-cert-clause-refused
+returns-in_err-cert-clause-refused g c =
+    told_err c.from_residual-in_err-cert.result _ (FramesFaultMeans c.args.machine (g.R1.Read.remaining c.args.rom.now) c.args.map c.args.roots.now (of_each (λ frame. g.R2.Read.remaining frame) c.args.frames.now))
+    c.from_residual-in_err-cert.ensures.1
+    (frames_refused (with_words (c.in_ok-images.ensures.images _ _ c.in_ok-bytes.ensures.bytes) c.deref.ensures.value) c.args.roots.now c.in_err-cert.field-0.0 c.in_err-cert.ensures.err c.in_err-cert.ensures.told)
+
+pub returns-in_err-write_cert-clause-prefix : goal.returns-in_err-write_cert-clause-prefix
+returns-in_err-write_cert-clause-prefix g c =
+    λ told. writes_prefix (MakesForFrames c.args.machine (g.R1.Read.remaining c.args.rom.now) c.args.map c.args.roots.now (of_each (λ frame. g.R2.Read.remaining frame) c.args.frames.now)) c.args.map c.in_ok-cert.cert.map c.in_ok-cert.cert.entries _ _
+    (frames_made (with_words (c.in_ok-images.ensures.images _ _ c.in_ok-bytes.ensures.bytes) c.deref.ensures.value) c.args.roots.now c.in_ok-cert.cert.entries c.in_ok-cert.ensures.ok)
+    (c.in_ok-cert.ensures.map ∙ own_map (c.in_ok-images.ensures.images _ _ c.in_ok-bytes.ensures.bytes)) c.in_err-write_cert.ensures.prefix
+
+pub returns-clause-text : goal.returns-clause-text
+returns-clause-text g c =
     writes (MakesForFrames c.args.machine (g.R1.Read.remaining c.args.rom.now) c.args.map c.args.roots.now (of_each (λ frame. g.R2.Read.remaining frame) c.args.frames.now)) c.args.map c.in_ok-cert.cert.map c.in_ok-cert.cert.entries _ _
-    (c.in_ok-cert.ensures.ok (g.R1.Read.remaining c.args.rom.now) (of_each (λ frame. g.R2.Read.remaining frame) c.args.frames.now)
-    (subst (λ b. IsPrefix 4097 (g.R1.Read.remaining c.args.rom.now) b) (sym c.as_slice.ensures.value) c.in-Ok.ensures.bytes)
-    (subst (λ l. ArePrefixes (of_each (λ frame. g.R2.Read.remaining frame) c.args.frames.now) (of_each (λ bytes. bytes.items) l)) (sym c.deref.ensures.value) c.in_ok-frames.ensures.bytes))
-    c.in_ok-cert.ensures.map c.in-Ok-write_cert.ensures.ok
-
-pub returns-clause-prefix : goal.returns-clause-prefix
-returns-clause-prefix g c =
-    λ e. writes_prefix (MakesForFrames c.args.machine (g.R1.Read.remaining c.args.rom.now) c.args.map c.args.roots.now (of_each (λ frame. g.R2.Read.remaining frame) c.args.frames.now)) c.args.map c.in_ok-cert.cert.map c.in_ok-cert.cert.entries _ _
-    (c.in_ok-cert.ensures.ok (g.R1.Read.remaining c.args.rom.now) (of_each (λ frame. g.R2.Read.remaining frame) c.args.frames.now)
-    (subst (λ b. IsPrefix 4097 (g.R1.Read.remaining c.args.rom.now) b) (sym c.as_slice.ensures.value) c.in-Ok.ensures.bytes)
-    (subst (λ l. ArePrefixes (of_each (λ frame. g.R2.Read.remaining frame) c.args.frames.now) (of_each (λ bytes. bytes.items) l)) (sym c.deref.ensures.value) c.in_ok-frames.ensures.bytes))
-    c.in_ok-cert.ensures.map c.in-Err.ensures.prefix
+    (frames_made (with_words (c.in_ok-images.ensures.images _ _ c.in_ok-bytes.ensures.bytes) c.deref.ensures.value) c.args.roots.now c.in_ok-cert.cert.entries c.in_ok-cert.ensures.ok)
+    (c.in_ok-cert.ensures.map ∙ own_map (c.in_ok-images.ensures.images _ _ c.in_ok-bytes.ensures.bytes)) c.in_ok-write_cert.ensures.ok

@@ -1,28 +1,45 @@
-use Rattle.dvg_cmd.proofs.Common.{Result, Ok, Err, OnErr, opened}
-use Rattle.dvg_spelling.specs.Each.{of_each}
-use Rattle.dvg_cmd.proofs.SeveralLines.{with_summary, cut_summary}
+use Rattle.dvg_cmd.proofs.Common.{◌≡◌, ◌++◌, ◌∷◌, [], subst, arith, common_steps, Result, Ok, Err, OnErr, opened}
+use Rattle.std.proofs.Common.{rules}
+use Rattle.std.specs.Iterator.{Drains, Yields}
+use Rattle.std.proofs.iter.Next.{Yields-more}
+use Rattle.dvg_cmd.proofs.SeveralLines.{more_lines, cut_lines, with_summary, cut_summary}
 use Rattle.dvg_cmd.proofs.several_frames.run_frames.Goals as goal
 
 on_err : {A E : Type 0} (r : Result A E) (P : Type 0) → P → OnErr r P
 on_err (Ok a) P p = tt
 on_err (Err e) P p = p
 
+pub returns-in_err-run_named-clause-prefix : goal.returns-in_err-run_named-clause-prefix
+returns-in_err-run_named-clause-prefix g c =
+    let same : c.into_iter-frame-iterator.result ≡ c.args.frames = cc in
+    on_err c.from_residual.result _ (
+      c.loop-frame.yielded ++ c.in-Some.frame ∷ [],
+      c.next.new.self,
+      subst (λ it. Yields g.I.Iterator.next_gives it (c.loop-frame.yielded ++ c.in-Some.frame ∷ []) c.next.new.self) same
+          (Yields-more g.I.Iterator.next_gives c.into_iter-frame-iterator.result c.loop-frame.yielded c.loop-frame.frame-iterator c.in-Some.frame c.next.new.self c.loop-frame.yielded_by c.in-Some.ensures.steps),
+      cut_lines _ c.args.listing c.args.start (opened (λ reader. g.R.Read.remaining reader)) c.loop-frame.yielded c.in-Some.frame _ _ _ _ _ _ _ _ c.loop-frame.invariant.reports c.in_err-run_named.ensures.prefix,
+    )
+
+pub loop-frame-preserved : goal.loop-frame-preserved
+loop-frame-preserved g c =
+    record {
+      can = search rules;
+      finite = search rules;
+      reports = more_lines _ c.args.listing c.args.start (opened (λ reader. g.R.Read.remaining reader)) c.loop-frame.yielded c.in-Some.frame _ _ _ _ _ _ _ _ _ _ _ _ c.loop-frame.invariant.reports c.in_ok-run_named.ensures.ok c.or_worse-worst.ensures;
+      count = grind (arith, common_steps);
+    }
+
 pub returns-in_err-write_summary-clause-prefix : goal.returns-in_err-write_summary-clause-prefix
 returns-in_err-write_summary-clause-prefix g c =
-    let r = c.in_ok-worst.ensures.report in
+    let all : Drains g.I.Iterator.next_gives c.args.frames c.loop-frame.yielded = search rules in
     on_err c.from_residual-in_err-write_summary.result _ (
-      r.0,
-      r.1.1.0,
-      r.1.1.1,
-      cut_summary _ _ _ _ c.args.listing c.args.start (of_each (λ frame. opened (λ reader. g.R.Read.remaining reader) frame) r.0) _ _ _ _ _ _ _ _ c.new-tally.ensures r.2
-          c.in_err-write_summary.ensures.prefix,
+      c.loop-frame.yielded,
+      all.1.0,
+      all.1.1,
+      cut_summary _ c.args.listing c.args.start _ _ _ _ _ _ _ _ _ c.new-tally.ensures c.loop-frame.invariant.reports c.in_err-write_summary.ensures.prefix,
     )
 
 pub returns-clause-report : goal.returns-clause-report
 returns-clause-report g c =
-    let r = c.in_ok-worst.ensures.report in (
-      r.0,
-      r.1,
-      with_summary _ _ _ _ c.args.listing c.args.start (of_each (λ frame. opened (λ reader. g.R.Read.remaining reader) frame) r.0) _ _ _ _ _ _ _ _ c.new-tally.ensures r.2 _
-          c.in_ok-write_summary.ensures.written c.in_ok-write_summary.ensures.one_write,
-    )
+    let all : Drains g.I.Iterator.next_gives c.args.frames c.loop-frame.yielded = search rules in
+    (c.loop-frame.yielded, all, with_summary _ c.args.listing c.args.start _ _ _ _ _ _ _ _ _ c.new-tally.ensures c.loop-frame.invariant.reports _ c.in_ok-write_summary.ensures.written c.in_ok-write_summary.ensures.one_write)

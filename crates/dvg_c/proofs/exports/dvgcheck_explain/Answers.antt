@@ -1,0 +1,41 @@
+use Rattle.std.proofs.Common.{◌∙◌, Ok, Err, refl, ap, subst}
+use Rattle.dvg_c.specs.Told.{bad_number, numbered}
+use Rattle.dvg_c.specs.Texts.{IsPut}
+use Rattle.dvg_c.specs.declared.answer.TheConstants.{NO_TEXT_MEMORY}
+use Rattle.dvg_c.proofs.exports.dvgcheck_explain.Goals as goal
+
+pub returns-in-Some : goal.returns-in-Some
+returns-in-Some c =
+    record {
+      verdict = Ok c.verdict-verdict.result.0;
+      holds = c.in-Ok.ensures.ok c.args.frame.now c.verdict-verdict.result.0 c.verdict-verdict.ensures.verdict;
+      answer_is = c.put_text.ensures.answer ∙ c.own_answer-answer.ensures.value;
+      frame_is = c.put_text.ensures.frame;
+      text = Ok c.in-Some.account.items;
+      explains = c.in-Some.ensures;
+      told = subst (λ text. IsPut text c.args.text.now c.put_text.new.buffer c.put_text.result) c.deref.ensures.value c.put_text.ensures.put;
+    }
+
+pub returns-in-Ok : goal.returns-in-Ok
+returns-in-Ok c =
+    record {
+      verdict = Ok c.verdict-verdict.result.0;
+      holds = c.in-Ok.ensures.ok c.args.frame.now c.verdict-verdict.result.0 c.verdict-verdict.ensures.verdict;
+      answer_is = ap (λ t. t.answer) c.no_text.ensures ∙ c.own_answer-answer.ensures.value;
+      frame_is = ap (λ t. t.frame) c.no_text.ensures;
+      text = Err NO_TEXT_MEMORY;
+      explains = refl;
+      told = (ap (λ t. t.number) c.no_text.ensures, ap (λ t. t.length) c.no_text.ensures, refl);
+    }
+
+pub returns : goal.returns
+returns c =
+    record {
+      verdict = Err c.in-Err.bad;
+      holds = c.in-Err.ensures.err;
+      answer_is = ap (λ t. t.answer) c.no_text-in-Err.ensures ∙ c.numbered.ensures ∙ ap numbered c.number-in-Err.ensures.value;
+      frame_is = ap (λ t. t.frame) c.no_text-in-Err.ensures;
+      text = Err (bad_number c.in-Err.bad);
+      explains = refl;
+      told = (ap (λ t. t.number) c.no_text-in-Err.ensures ∙ c.number.ensures.value, ap (λ t. t.length) c.no_text-in-Err.ensures, refl);
+    }

@@ -1,0 +1,34 @@
+use Rattle.std.proofs.Common.{◌∙◌, Ok, Err, subst}
+use Rattle.dvg_spelling.specs.Each.{of_each}
+use Rattle.dvg_c.specs.Making.{root_of}
+use Rattle.dvg_c.specs.Texts.{IsPut}
+use Rattle.dvg_c.specs.declared.make.Unmade.TheVariants as unmade
+use Rattle.dvg_c.proofs.Made.{verdict_of}
+use Rattle.dvg_c.proofs.exports.dvgcheck_make.Goals as goal
+
+pub returns-in_default : goal.returns-in_default
+returns-in_default c = record { verdict = Err unmade.Machine; holds = c.in_default.ensures; told = c.no_certificate.ensures c.args.text.now }
+
+pub returns-in_default-map_between : goal.returns-in_default-map_between
+returns-in_default-map_between c =
+    record { verdict = Err unmade.Map; holds = (c.in-Some.ensures.1, c.in_default-map_between.ensures); told = c.no_certificate-in_default-map_between.ensures c.args.text.now }
+
+pub returns-in-Ok : goal.returns-in-Ok
+returns-in-Ok c =
+    record {
+      verdict = Ok c.in-Ok.made.items;
+      holds = verdict_of c.args.rom.now (of_each root_of c.args.roots.now) c.args.frames.now c.args.lengths.now c.in-Some.ensures c.in-Some-map_between.ensures (Ok c.in-Ok.made.items) c.in-Ok.ensures.ok;
+      told = (
+        c.put_text.ensures.answer ∙ c.numbered.ensures,
+        c.put_text.ensures.frame,
+        subst (λ text. IsPut text c.args.text.now c.put_text.new.buffer c.put_text.result) c.deref.ensures.value c.put_text.ensures.put,
+      );
+    }
+
+pub returns-in-Err : goal.returns-in-Err
+returns-in-Err c =
+    record {
+      verdict = Err c.in-Err.unmade;
+      holds = verdict_of c.args.rom.now (of_each root_of c.args.roots.now) c.args.frames.now c.args.lengths.now c.in-Some.ensures c.in-Some-map_between.ensures (Err c.in-Err.unmade) c.in-Err.ensures.err;
+      told = c.no_certificate-in-Err.ensures c.args.text.now;
+    }

@@ -1,0 +1,7 @@
+use Rattle.dvg_cmd.specs.MakingFrames.{of_each}
+use Rattle.dvg_cmd.proofs.SeveralFrames.{ReadSoFar}
+use Rattle.dvg_cmd.proofs.inputs.read_frames.Given as goal
+
+abbrev pub invariant-loop-frame : goal.invariant-loop-frame
+invariant-loop-frame g l =
+    ReadSoFar (λ frame. g.R.Read.remaining frame) (λ frame. g.R.CountedRead.failures frame) l.initial.frame-items l.frame-items l.frame-index (of_each (λ bytes. bytes.items) l.read.items)

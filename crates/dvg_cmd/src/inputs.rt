@@ -1,0 +1,156 @@
+//! The bytes of a ROM and of frames that runs of the maker read, and their images.
+
+ghost use Rattle.std.specs.Prelude.{◌≡◌, ◌≢◌, ◌⊎◌, ◌<◌, length, List, ℕ, Option, Err, IfOk, IfErr, OnOk, OnErr, MatchResult, is_err};
+ghost use Rattle.dvg_words.specs.Values.{IsMap, MemoryMap};
+ghost use Rattle.dvg_words.specs.Memory.{IsRomLength, rom_on, words_of};
+ghost use Rattle.dvg_cert.specs.Devices.{count_after};
+ghost use Rattle.dvg_cert.specs.declared.entry.Key.{Key};
+ghost use Rattle.dvg_cmd.specs.MakingFrames.{blames_frames_rom, blames_a_frame, of_each, FailedAfter, EachRead, AreFrames, FramesFaultMeans};
+ghost use Rattle.dvg_cmd.specs.Private.Inputs.{AreRead, AreInputImages};
+ghost use Rattle.dvg_cmd.specs.Private.Reading.{IsPrefix, ArePrefixes, RefusesLengths};
+ghost use Rattle.dvg_cmd.specs.Runs.{MOST_ROM_READ, IsReadTo};
+ghost use Rattle.dvg_spelling.specs.declared.fault.MakeRunFault.TheVariants as maker;
+ghost use Rattle.dvg_make.specs.declared.fault.MakeFault.TheVariants as making;
+
+use crate::reading::{read_frame, read_rom};
+use arrayvec::ArrayVec;
+use dvg_cert::CountedRead;
+use dvg_spelling::{FramesRunFault, MakeRunFault};
+use dvg_words::{FrameImage, Machine, RomImage, RomMap};
+use std::alloc::Global;
+
+/// What was read of a ROM.
+pub type RomBytes = ArrayVec<u8, 4097>;
+
+/// What was read of a frame.
+pub type FrameBytes = ArrayVec<u8, 2049>;
+
+/// What was read of a ROM and of frames.
+#[derive(Drop)]
+pub struct InputBytes {
+    pub rom: RomBytes,
+    pub frames: Vec<FrameBytes>,
+}
+
+/// The images of a ROM and of frames.
+#[derive(Drop)]
+pub struct InputImages<'a> {
+    pub rom: RomImage<'a>,
+    pub frames: Vec<FrameImage<'a>>,
+}
+
+/// What is read of a ROM that the maker takes.
+pub fn read_maker_rom<R: CountedRead>(rom: &mut R) -> Result<RomBytes, FramesRunFault>
+    ensures bytes { IfOk result (λ bytes. IsPrefix MOST_ROM_READ (R.remaining rom.old) bytes.items) }
+    ensures read { OnOk result (IsReadTo MOST_ROM_READ (R.remaining rom.old) (R.remaining rom.new)) }
+    ensures count { R.failures rom.new ≡ count_after (is_err result) (R.failures rom.old) }
+    ensures fault { IfErr result (λ fault. fault ≡ FramesRunFault.Plain maker.ReadRom) }
+{
+    match read_rom(rom) {
+        Ok(bytes) => Ok(bytes),
+        Err(_) => Err(MakeRunFault::ReadRom.into()),
+    }
+}
+
+/// What is read of each frame.
+pub fn read_frames<R: CountedRead>(
+    alloc: Global,
+    frames: &mut [R],
+) -> Result<Vec<FrameBytes>, FramesRunFault>
+    ensures bytes { IfOk result (λ read. ArePrefixes (of_each (λ frame. R.remaining frame) frames.old) (of_each (λ bytes. bytes.items) read.items)) }
+    ensures read { OnOk result (EachRead (of_each (λ frame. R.remaining frame) frames.old) (of_each (λ frame. R.remaining frame) frames.new)) }
+    ensures counts { FailedAfter (blames_a_frame result) (of_each (λ frame. R.failures frame) frames.old) (of_each (λ frame. R.failures frame) frames.new) }
+    ensures fault { IfErr result (λ fault. (fault ≡ FramesRunFault.ReadFrame) ⊎ (fault ≡ FramesRunFault.Plain (maker.Make making.Memory))) }
+    ensures some { OnErr result (0 < length frames.old) }
+{
+    let mut read = Vec::new(alloc);
+    for frame in frames {
+        let Ok(bytes) = read_frame(frame) else {
+            return Err(FramesRunFault::ReadFrame);
+        };
+        read.push(bytes)?;
+    }
+    Ok(read)
+}
+
+/// The image of what was read of a ROM at this map, on a machine.
+pub fn rom_image(
+    machine: Machine,
+    bytes: &RomBytes,
+    map: RomMap,
+) -> Result<RomImage<'_>, FramesRunFault>
+    ensures image { MatchResult result
+        (λ rom. IsRomLength map (length bytes.now.items) × (rom ≡ rom_on machine map bytes.now.items))
+        (λ fault. (IsRomLength map (length bytes.now.items) → ⊥) × (fault ≡ FramesRunFault.Plain maker.RomLength)) }
+    ensures map { IsMap map }
+{
+    match RomImage::from_bytes_on(machine, bytes.as_slice(), map) {
+        Ok(image) => Ok(image),
+        Err(_) => Err(MakeRunFault::RomLength.into()),
+    }
+}
+
+/// The images of what was read of frames.
+fn frame_images(alloc: Global, read: &[FrameBytes]) -> Result<Vec<FrameImage<'_>>, FramesRunFault>
+    ensures frames { OnOk result (AreFrames (of_each (λ bytes. bytes.items) read.now)) }
+    ensures images { IfOk result (λ images. images.items ≡ of_each words_of (of_each (λ bytes. bytes.items) read.now)) }
+    ensures refused { IfErr result (RefusesLengths (of_each (λ bytes. bytes.items) read.now)) }
+{
+    let mut images = Vec::new(alloc);
+    for (frame, bytes) in read.iter().enumerate() {
+        let Ok(image) = FrameImage::from_bytes(bytes.as_slice()) else {
+            return Err(FramesRunFault::FrameLength { frame });
+        };
+        images.push(image)?;
+    }
+    Ok(images)
+}
+
+impl InputBytes {
+    /// What is read of a ROM, and then of each frame.
+    pub fn read<R1: CountedRead, R2: CountedRead>(
+        alloc: Global,
+        rom: &mut R1,
+        frames: &mut [R2],
+    ) -> Result<InputBytes, FramesRunFault>
+        ensures bytes { IfOk result (λ read. AreRead (R1.remaining rom.old) (of_each (λ frame. R2.remaining frame) frames.old)
+            read.rom.items (of_each (λ bytes. bytes.items) read.frames.items)) }
+        ensures rom_count { R1.failures rom.new ≡ count_after (blames_frames_rom result) (R1.failures rom.old) }
+        ensures frame_counts { FailedAfter (blames_a_frame result) (of_each (λ frame. R2.failures frame) frames.old)
+            (of_each (λ frame. R2.failures frame) frames.new) }
+        ensures rom_read { result ≢ Err (FramesRunFault.Plain maker.ReadRom)
+            → IsReadTo MOST_ROM_READ (R1.remaining rom.old) (R1.remaining rom.new) }
+        ensures frames_read { OnOk result (EachRead (of_each (λ frame. R2.remaining frame) frames.old)
+            (of_each (λ frame. R2.remaining frame) frames.new)) }
+        ensures frames_unread { result ≡ Err (FramesRunFault.Plain maker.ReadRom) → frames.new ≡ frames.old }
+        ensures fault { IfErr result (λ fault. (fault ≡ FramesRunFault.Plain maker.ReadRom) ⊎ (fault ≡ FramesRunFault.ReadFrame)
+            ⊎ (fault ≡ FramesRunFault.Plain (maker.Make making.Memory))) }
+        ensures refused { (machine : Machine) (map : MemoryMap) (roots : List (ℕ × Key)) → IfErr result (FramesFaultMeans machine (R1.remaining rom.old) map roots
+            (of_each (λ frame. R2.remaining frame) frames.old)) }
+    {
+        let rom = read_maker_rom(rom)?;
+        let frames = read_frames(alloc, frames)?;
+        Ok(InputBytes { rom, frames })
+    }
+
+    /// The images of these bytes, the ROM's at this map, on a machine.
+    pub fn images(
+        &self,
+        machine: Machine,
+        alloc: Global,
+        map: RomMap,
+    ) -> Result<InputImages<'_>, FramesRunFault>
+        ensures images { (held : Option (List ℕ)) (readers : List (Option (List ℕ)))
+            → AreRead held readers self.now.rom.items (of_each (λ bytes. bytes.items) self.now.frames.items)
+            → IfOk result (λ images. AreInputImages machine held map readers images.rom images.frames.items) }
+        ensures refused { (held : Option (List ℕ)) (readers : List (Option (List ℕ)))
+            → AreRead held readers self.now.rom.items (of_each (λ bytes. bytes.items) self.now.frames.items)
+            → (roots : List (ℕ × Key)) → IfErr result (FramesFaultMeans machine held map roots readers) }
+        ensures fault { IfErr result (λ fault. (fault ≢ FramesRunFault.Plain maker.ReadRom) × (fault ≢ FramesRunFault.ReadFrame)
+            × (fault ≢ FramesRunFault.Plain maker.Write)) }
+    {
+        let rom = rom_image(machine, &self.rom, map)?;
+        let frames = frame_images(alloc, &self.frames)?;
+        Ok(InputImages { rom, frames })
+    }
+}
