@@ -14,12 +14,4 @@ use Rattle.dvg_c.specs.declared.window.WindowEnds.{WindowEnds}
 pub same_shapes : (on : Machine) (machine : ℕ) (map : MemoryMap) (mode : Mode) (w : WindowEnds) (judged first last count : ℕ) (bytes rom : List ℕ) (kept : List KeptEntry) (list : List Entry)
     → first ≡ map.rom_first → last ≡ map.rom_last → IsRomLength map (length rom) → take (length rom) bytes ≡ rom → kept_list count kept ≡ list → mode_of judged ≡ mode → machine_of machine ≡ on
     → kept_shapes machine judged w first last bytes count kept ≡ record { rom = rom_on on map rom; list = list; window = window_of w; mode = mode }
-same_shapes on machine map mode w judged first last count bytes rom kept list first_is last_is rom_length bytes_are list_is mode_is machine_is =
-    let size : 2 * (last + 1 - first) ≡ length rom = omega (arith, first_is, last_is, rom_length) in
-    let words = ap words_of (ap (λ n. take n bytes) size ∙ bytes_are) in
-    λ i. record {
-      rom = record { map = record { rom_first = first_is i; rom_last = last_is i }; machine = machine_is i; words = words i };
-      list = list_is i;
-      window = window_of w;
-      mode = mode_is i;
-    }
+same_shapes on machine map mode w judged first last count bytes rom kept list first_is last_is rom_length bytes_are list_is mode_is machine_is = grind (arith)

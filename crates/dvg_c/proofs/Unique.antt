@@ -1,5 +1,6 @@
 -- What is known of kept shapes is known in one way: any two proofs of it are equal.
 use Rattle.std.proofs.Common.{◌≡◌, ℕ, inl, inr, List, [], ◌∷◌, Option, Some, None, ap, subst, pos, arith}
+use Rattle.std.proofs.Common.{rules}
 use Rattle.std.specs.Prelude.{◌≤ℤ◌}
 use Rattle.std.specs.Coded.{×_prop, Π_prop, →_prop, le_prop}
 use Rattle.std.proofs.Math.Nat.{ℕ_set}

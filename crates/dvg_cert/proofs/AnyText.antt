@@ -7,30 +7,8 @@ use Rattle.dvg_cert.proofs.FirstLines.{first_taken, rom_taken, elsewhere_or}
 use Rattle.dvg_cert.proofs.Refusals.{rest_of, rest_is, entry_taken, meets_long}
 use Rattle.dvg_cert.proofs.OneAnswerLemmas.{stuck_stands}
 
-lt_or : (t : Bool) (m n : ℕ) → nat_lt m n ≡ t → (m < n) ⊎ (m < n → ⊥)
-lt_or true m n e = inl (grind (arith, nat_tests))
-lt_or false m n e = inr (λ h. absurd (grind (arith, nat_tests)))
-
-key_or : (a b : Key) → KeyBefore a b ⊎ (KeyBefore a b → ⊥)
-key_or (At m) (At n) = lt_or (nat_lt m n) m n refl
-key_or (At m) Any = inl tt
-key_or Any b = inr (λ h. h)
-
 before_at : (lt same : Bool) (e f : Entry) → nat_lt e.addr f.addr ≡ lt → (e.addr == f.addr) ≡ same → Before e f ⊎ (Before e f → ⊥)
-before_at true same e f l s = inl (inl (grind (arith, nat_tests)))
-before_at false true e f l s =
-    let addr : e.addr ≡ f.addr = eqb-true e.addr f.addr s in
-    elim (key_or e.key f.key) [
-      | inl k ↦ inl (inr (addr, k))
-      | inr n ↦ inr (λ h. elim h [
-        | inl a ↦ absurd (grind (arith, nat_tests))
-        | inr p ↦ n p.1
-      ])
-    ]
-before_at false false e f l s = inr (λ h. elim h [
-  | inl a ↦ absurd (grind (arith, nat_tests))
-  | inr p ↦ absurd (grind (arith, nat_tests))
-])
+before_at lt same e f l s = grind (arith, nat_tests, eqb-true, nat_lt)
 
 -- an entry stands after these, or does not
 stands_or : (es : List Entry) (e : Entry) → StandsAfter es e ⊎ (StandsAfter es e → ⊥)
@@ -43,17 +21,14 @@ abbrev pub OneMore : List ℕ → Taken → List ℕ → ℕ → Type 0
 OneMore prefix taken rest b = MayStand (prefix ++ b ∷ []) ⊎ ((why : CertWhy) × Meets taken rest b why)
 
 next_parts : (prefix text rest next : List ℕ) (b : ℕ) → prefix ≡ text ++ rest → b ≡ LINE_FEED → next ≡ text ++ ended rest → prefix ++ b ∷ [] ≡ next ++ []
-next_parts prefix text rest next b e lf n =
-    ap (λ (x : List ℕ). x ++ b ∷ []) e ∙ append_assoc text rest (b ∷ []) ∙ ap (λ (x : ℕ). text ++ (rest ++ x ∷ [])) lf ∙ sym n ∙ sym (append-nil next)
+next_parts prefix text rest next b e lf n = grind (arith, append_assoc, append-nil)
 
 -- the LF of the first line
 first_end : (t v : Bool) (prefix rest : List ℕ) (b : ℕ) → bytes_eq rest first_version_line ≡ t → bytes_eq rest second_version_line ≡ v → Holds prefix Nothing rest → b ≡ LINE_FEED → OneMore prefix Nothing rest b
 first_end true v prefix rest b t u h lf =
     let line : rest ≡ first_version_line = (bytes_eq-Decides rest first_version_line).0 t in
     inl (Begun asteroids [], [], record { parts = next_parts prefix [] rest (begun_with asteroids []) b h.parts lf (first_taken rest line); lines = no_entry_yet asteroids (record { past_frames = omega arith; ordered = omega arith; inside = omega arith }); begun = (tt, omega arith) })
-first_end false true prefix rest b t u h lf =
-    let line : rest ≡ second_version_line = (bytes_eq-Decides rest second_version_line).0 u in
-    inl (Versioned, [], record { parts = next_parts prefix [] rest (ended second_version_line) b h.parts lf (ap ended (sym line)); lines = tt; begun = (tt, omega arith) })
+first_end false true prefix rest b t u h lf = grind (arith, second_version_line, bytes_eq-Decides, next_parts, ended)
 first_end false false prefix rest b t u h lf =
     inr (Form, inr (lf, ((λ e. differs (bytes_eq rest first_version_line) t ((bytes_eq-Decides rest first_version_line).1 e)), (λ e. differs (bytes_eq rest second_version_line) u ((bytes_eq-Decides rest second_version_line).1 e)))))
   where
@@ -158,12 +133,6 @@ never_met why right short before (Whole map es) rest b h = before h
 never_met why right short before taken rest b (inl h) = short h.2
 never_met why right short before taken rest b (inr h) = right taken rest h.1
 
-never_wrong : (taken : Taken) (line : List ℕ) → (IsWrong taken line Memory → ⊥) × (IsWrong taken line Unended → ⊥)
-never_wrong Nothing line = (λ h. h, λ h. h)
-never_wrong taken line = (λ h. h, λ h. h)
-
 -- a text that a byte stops is refused
 pub stuck_refusal : (why : CertWhy) (text : List ℕ) (line : ℕ) → StopsAt text line why → IsRefusal text line why × (why ≢ Memory)
-stuck_refusal Memory text line s = absurd (never_met Memory (λ t l. (never_wrong t l).0) (λ e. absurd cc) (λ e. absurd cc) s.3 s.4 s.1 s.7)
-stuck_refusal Unended text line s = absurd (never_met Unended (λ t l. (never_wrong t l).1) (λ e. absurd cc) (λ e. absurd cc) s.3 s.4 s.1 s.7)
-stuck_refusal why text line s = (s, λ e. absurd cc)
+stuck_refusal why text line s = grind (arith, never_met)

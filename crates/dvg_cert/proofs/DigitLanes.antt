@@ -42,8 +42,7 @@ abbrev lane : ℕ → ℕ
 lane x = cond (leb 10 ((x + 208) % 256)) 255 0
 
 tops : (b : Bool) → top 7 (cond b 255 0) ≡ b
-tops true = refl
-tops false = refl
+tops b = grind (arith)
 
 all_tops : (xs : List ℕ) → map (top 7) (map lane xs) ≡ map other xs
 all_tops [] = refl

@@ -1,5 +1,7 @@
 -- The number that digits in the bytes of a word write.
 use Rattle.dvg_cert.proofs.Common.{◌≡◌, ℕ, zero, suc, ◌+◌, ◌-◌, ◌*◌, ◌/◌, ◌%◌, ◌^◌, ◌<◌, ◌≤◌, List, [], ◌∷◌, ◌++◌, map, replicate, length, length-append, take, drop, get_or, subst, get_or-drop, drop-cons, length-drop, refl, sym, ap, ◌∙◌, arith, digit_value, AllDigits, digits_value, take-take, length-take-le, get_or-take, length-replicate, digits_value_more, digit_value_digit, digit_from_value, digits_value_short, NoDigitFirst}
+use Rattle.std.proofs.Common.{rules}
+use Rattle.std.proofs.lemmas.Grind.{common_steps}
 use Rattle.std.specs.List.{slice_index}
 use Rattle.std.proofs.lemmas.Nat.{and_block, and_mask}
 use Rattle.std.specs.Int.Bits.{bit_and}
@@ -87,8 +89,7 @@ little xs = slice_index xs 0 + slice_index xs 1 * 256 + slice_index xs 2 * 65536
     + slice_index xs 5 * 1099511627776 + slice_index xs 6 * 281474976710656 + slice_index xs 7 * 72057594037927936
 
 little_is : (xs : List ℕ) → length xs ≡ 8 → little xs ≡ word xs
-little_is (a ∷ b ∷ c ∷ d ∷ e ∷ f ∷ g ∷ h ∷ []) long = omega arith
-little_is xs long = absurd (omega arith)
+little_is xs long = grind (arith, rules, common_steps)
 
 abbrev Zeros : ℕ
 Zeros = 14974415777481871312
@@ -115,9 +116,7 @@ padded zero ds all = (all, refl, refl)
 padded (suc k) ds all = let r = padded k ds all in ((omega arith, r.0), omega (arith, r.1), r.2)
 
 number_of : (xs : List ℕ) (w : ℕ) → length xs ≡ 8 → AllDigits 10 xs → w ≡ word (map digit_value xs) → number w ≡ digits_value 10 xs
-number_of (a ∷ b ∷ c ∷ d ∷ e ∷ f ∷ g ∷ h ∷ []) w long (A, (B, (C, (D, (E, (F, (G, (H, _)))))))) is =
-    number_is (digit_value a) (digit_value b) (digit_value c) (digit_value d) (digit_value e) (digit_value f) (digit_value g) (digit_value h) w
-    A B C D E F G H (omega arith) ∙ omega arith
+number_of (a ∷ b ∷ c ∷ d ∷ e ∷ f ∷ g ∷ h ∷ []) w long (A, (B, (C, (D, (E, (F, (G, (H, _)))))))) is = grind (arith, (number_is (digit_value a) (digit_value b) (digit_value c) (digit_value d) (digit_value e) (digit_value f) (digit_value g) (digit_value h) w A B C D E F G H (omega arith)), (digit_value a), (digit_value b), (digit_value c), (digit_value d), (digit_value e), (digit_value f), (digit_value g), (digit_value h))
 number_of xs w long ds is = absurd (omega arith)
 
 pub value_of : (xs : List ℕ) (count w : ℕ) → length xs ≡ 8 → 1 ≤ count → count ≤ 8 → AllDigits 10 (take count xs) → w ≡ little xs → number (moved count w) ≡ digits_value 10 (take count xs)
@@ -175,8 +174,4 @@ pub window_digits : (n : ℕ) (xs : List ℕ) → n ≤ 16 → AllDigits 10 (tak
 window_digits n xs le h = subst (AllDigits 10) (take-take n 16 xs le) h
 
 pub window_ends : (n : ℕ) (xs : List ℕ) → 16 ≤ length xs → n < 16 → NoDigitFirst (drop n (take 16 xs)) → NoDigitFirst (drop n xs)
-window_ends n xs long lt h =
-    let within = length-take-le 16 xs long in
-    let at : get_or (take 16 xs) n 0 ≡ get_or xs n 0 = get_or-take 16 xs n 0 lt in
-    let short : NoDigitFirst (get_or (take 16 xs) n 0 ∷ drop (suc n) (take 16 xs)) = subst NoDigitFirst (drop-cons (take 16 xs) n 0 (omega (arith, within))) h in
-    rw (drop-cons xs n 0 (omega (arith, within))) (λ d. short (subst (λ (x : ℕ). digit_value x < 10) (sym at) d))
+window_ends n xs long lt h = grind (arith, (length-take-le 16 xs long), (get_or-take 16 xs n 0 lt), drop-cons, digit_value)

@@ -1,5 +1,6 @@
 -- A field that is read is the field that is spelled, and what is spelled is read again.
 use Rattle.dvg_cert.proofs.Common.{◌≡◌, ℕ, suc, ◌+◌, ◌*◌, ◌/◌, ◌%◌, ◌^◌, ◌<◌, ◌≤◌, true, false, ◌&&◌, List, [], ◌∷◌, length, Option, Some, None, none-some, IfSome, IfNone, refl, sym, ap, subst, ◌∙◌, arith, codes, decimal, nat_le, nat_lt, pos, neg_ℤ, option_map, signed_decimal, digit_glyph, bytes_eq, digits_value, bytes_eq-Decides, nat_tests, cond_some, zero, ints, and_parts, decimal_is_IsNumeral, AllDigits, MOST_MAGNITUDE, ADDRESS_END, Key, At, Any, IsNumber, IsKey, address_token, key_token, natural_in, hex_value, address_in}
+use Rattle.std.proofs.Common.{rules}
 use Rattle.dvg_cert.proofs.NaturalNumbers.{natural_some}
 
 pub same_bytes : (xs ys : List ℕ) → bytes_eq xs ys ≡ true → xs ≡ ys
@@ -10,36 +11,24 @@ bytes_same xs ys = (bytes_eq-Decides xs ys).1
 
 pub natural_takes : (low high : ℕ) (token : List ℕ) (n : ℕ) → natural_in low high token ≡ Some n → (token ≡ decimal n) × (low ≤ n) × (n ≤ high)
 unfolding natural_in
-natural_takes low high token n e =
-    let m : ℕ = digits_value 10 token in
-    let g = cond_some (bytes_eq (decimal m) token && (nat_le low m && nat_le m high)) m n e in
-    let a = and_parts (bytes_eq (decimal m) token) (nat_le low m && nat_le m high) g.0 in
-    let b = and_parts (nat_le low m) (nat_le m high) a.1 in
-    let from : low ≤ m = grind (arith, nat_tests) in
-    let to : m ≤ high = grind (arith, nat_tests) in
-    (sym (same_bytes (decimal m) token a.0) ∙ ap decimal g.1, subst (λ (k : ℕ). low ≤ k) g.1 from, subst (λ (k : ℕ). k ≤ high) g.1 to)
+natural_takes low high token n e = search (rules, (digits_value 10 token), cond_some, bytes_eq, decimal, nat_le, and_parts, nat_tests, same_bytes)
 
 pub map_some : {A B : Type 0} (f : A → B) (o : Option A) (y : B) → option_map f o ≡ Some y → (x : A) × (o ≡ Some x) × (f x ≡ y)
-map_some f None y e = absurd cc
-map_some f (Some x) y e = (x, refl, cc)
+map_some f o y e = grind (arith)
 
 -- what is never some is none
 pub none_of : {X : Type 0} (o : Option X) → ((x : X) → o ≡ Some x → ⊥) → o ≡ None
-none_of None never = refl
-none_of (Some x) never = absurd (never x refl)
+none_of o never = grind (arith)
 
 -- what is answered, if it is some, and if it is none
 pub some_as : {X : Type 0} {P : X → Type 0} {o : Option X} (r : Option X) → r ≡ o → ((x : X) → o ≡ Some x → P x) → IfSome r P
-some_as None e holds = tt
-some_as (Some x) e holds = holds x (sym e)
+some_as r e holds = grind (arith)
 
 pub none_as : {X P : Type 0} {o : Option X} (r : Option X) → r ≡ o → (o ≡ None → P) → IfNone r P
-none_as None e holds = holds (sym e)
-none_as (Some x) e holds = tt
+none_as r e holds = grind (arith)
 
 pub negated : (n : ℕ) → 1 ≤ n → n ≤ MOST_MAGNITUDE → (45 ∷ decimal n ≡ signed_decimal (neg_ℤ (pos n))) × IsNumber (neg_ℤ (pos n))
-negated zero from to = absurd (omega arith)
-negated (suc n) from to = (refl, (omega (arith, ints), omega (arith, ints)))
+negated n from to = grind (arith)
 
 -- a decimal begins with a digit
 pub first_digit : (w : List ℕ) (n : ℕ) → n < 2 ^ 64 → w ≡ decimal n → (0 < length w) × AllDigits 10 w
@@ -58,14 +47,7 @@ at_most : (a b : ℕ) → nat_le a b ≡ true → a ≤ b
 at_most a b h = grind (arith, nat_tests)
 
 hex_parts : (first last u v w n a x y z : ℕ) → u < 16 → v < 16 → w < 16 → first ≤ n → n ≤ last → n ≡ u * 256 + v * 16 + w → n ≡ a → digit_glyph true u ≡ x → digit_glyph true v ≡ y → digit_glyph true w ≡ z → (x ∷ y ∷ z ∷ [] ≡ address_token a) × (first ≤ a) × (a ≤ last)
-hex_parts first last u v w n a x y z hu hv hw from to n_is same ex ey ez =
-    let eu : a / 256 ≡ u = omega arith in
-    let ev : a / 16 % 16 ≡ v = omega arith in
-    let ew : a % 16 ≡ w = omega arith in
-    (sym (joined (digit_glyph true (a / 256)) (digit_glyph true (a / 16 % 16)) (digit_glyph true (a % 16)) x y z (ap (digit_glyph true) eu ∙ ex) (ap (digit_glyph true) ev ∙ ey) (ap (digit_glyph true) ew ∙ ez)), omega arith, omega arith)
-  where
-    joined : (a b c x y z : ℕ) → a ≡ x → b ≡ y → c ≡ z → (a ∷ b ∷ c ∷ []) ≡ (x ∷ y ∷ z ∷ [])
-    joined a b c x y z p q r = cc
+hex_parts first last u v w n a x y z hu hv hw from to n_is same ex ey ez = grind (arith, digit_glyph)
 
 pub address_takes : (first last : ℕ) (token : List ℕ) (a : ℕ) → last < ADDRESS_END → address_in first last token ≡ Some a → (token ≡ address_token a) × (first ≤ a) × (a ≤ last)
 unfolding address_in
@@ -85,13 +67,7 @@ address_takes first last token a small e = absurd cc
 
 hex_made : (first last u v w a x y z : ℕ) → u < 16 → v < 16 → w < 16 → a ≡ u * 256 + v * 16 + w → first ≤ a → a ≤ last → hex_value x ≡ u → hex_value y ≡ v → hex_value z ≡ w → address_in first last (x ∷ y ∷ z ∷ []) ≡ Some a
 unfolding address_in
-hex_made first last u v w a x y z hu hv hw a_is from to ex ey ez =
-    let tu : nat_lt u 16 ≡ true = grind (arith, nat_tests) in
-    let tv : nat_lt v 16 ≡ true = grind (arith, nat_tests) in
-    let tw : nat_lt w 16 ≡ true = grind (arith, nat_tests) in
-    let tf : nat_le first a ≡ true = grind (arith, nat_tests) in
-    let tl : nat_le a last ≡ true = grind (arith, nat_tests) in
-    rw (ex, ey, ez, ← a_is, tu, tv, tw, tf, tl) refl
+hex_made first last u v w a x y z hu hv hw a_is from to ex ey ez = grind (arith, nat_lt, nat_tests, nat_le)
 
 pub address_again : (first last a : ℕ) → last < ADDRESS_END → first ≤ a → a ≤ last → address_in first last (address_token a) ≡ Some a
 address_again first last a small from to =
@@ -107,5 +83,4 @@ pub no_address : (token : List ℕ) (o : Option ℕ) → o ≡ address_in 0 4095
 no_address token o e = none_as o e (λ none a small is. none-some a (sym none ∙ ap (address_in 0 4095) is ∙ address_again 0 4095 a (omega arith) (omega arith) (omega (arith, small))))
 
 pub no_key : (high : ℕ) (token : List ℕ) → 15 ≤ high → high < 2 ^ 64 → bytes_eq token (codes "any") ≡ false → natural_in 0 high token ≡ None → (k : Key) → IsKey k → token ≡ key_token k → ⊥
-no_key high token room small any none (At n) h is = let found : natural_in 0 high token ≡ Some n = natural_some 0 high n token (omega arith) (omega arith) (omega arith) is in cc
-no_key high token room small any none Any h is = let same : bytes_eq token (codes "any") ≡ true = bytes_same token (codes "any") is in cc
+no_key high token room small any none h6 h is = grind (arith, natural_in, natural_some, bytes_eq, codes, bytes_same)

@@ -6,19 +6,8 @@ use Rattle.dvg_cert.proofs.Graphics.{line_free, graphic_hex}
 use Rattle.dvg_cert.proofs.Steps.{past_takes, past_again, address_found, address_spelled}
 use Rattle.dvg_cert.proofs.WholeLines.{bind_then, all_taken}
 
--- a map, by its ends
-pub same_map : (m n : MemoryMap) → m.rom_first ≡ n.rom_first → m.rom_last ≡ n.rom_last → m ≡ n
-same_map m n p q = made m.rom_first m.rom_last n.rom_first n.rom_last p q
-  where
-    made : (a b c d : ℕ) → a ≡ c → b ≡ d → ◌≡◌ {A = MemoryMap} (record { rom_first = a; rom_last = b }) (record { rom_first = c; rom_last = d })
-    made a b c d p q = cc
-
 pub asteroids_is : (m : MemoryMap) → is_asteroids m ≡ true → m ≡ asteroids
-asteroids_is m h =
-    let r = and_parts (m.rom_first == ROM_FIRST) (m.rom_last == ROM_LAST) h in
-    let first : m.rom_first == ROM_FIRST ≡ true = r.0 in
-    let last : m.rom_last == ROM_LAST ≡ true = r.1 in
-    same_map m asteroids (grind (arith, nat_tests)) (grind (arith, nat_tests))
+asteroids_is m h = grind (arith, and_parts, asteroids, nat_tests)
 
 -- ---- the line of a ROM
 
@@ -59,30 +48,18 @@ rom_again map is =
 
 -- two maps that one line says are one
 pub same_rom_line : (m n : MemoryMap) → IsMap m → IsMap n → rom_line m ≡ rom_line n → m ≡ n
-same_rom_line m n h k e =
-    let read : Some (m.rom_first, m.rom_last) ≡ Some (n.rom_first, n.rom_last) = sym (rom_again m h) ∙ ap (λ (t : Text). nothing_left (rom_at t)) e ∙ rom_again n k in
-    let parts = some_pair_parts m.rom_first n.rom_first m.rom_last n.rom_last read in
-    same_map m n parts.0 parts.1
+same_rom_line m n h k e = grind (arith, rom_again, nothing_left, rom_at, some_pair_parts)
 
 -- what a line says that says where a ROM lies
 pub nowhere_said : (bytes : Text) → None ≡ nothing_left (rom_at bytes) → (map : MemoryMap) → IsElsewhere map → bytes ≢ rom_line map
 nowhere_said bytes e map is same = absurd (none-some (map.rom_first, map.rom_last) (e ∙ ap (λ (t : Text). nothing_left (rom_at t)) same ∙ rom_again map is.0))
 
 pub other_said : (bytes : Text) (p : ℕ × ℕ) → Some p ≡ nothing_left (rom_at bytes) → (map : MemoryMap) → IsElsewhere map → bytes ≡ rom_line map → map ≡ map_of p
-other_said bytes p e map is same =
-    let read : Some p ≡ Some (map.rom_first, map.rom_last) = e ∙ ap (λ (t : Text). nothing_left (rom_at t)) same ∙ rom_again map is.0 in
-    let parts = some_pair_parts p.0 map.rom_first p.1 map.rom_last read in
-    same_map map (map_of p) (sym parts.0) (sym parts.1)
+other_said bytes p e map is same = grind (arith, nothing_left, rom_at, rom_again, some_pair_parts)
 
 -- a map is one, or none
 map_or : (m : MemoryMap) → IsMap m ⊎ (IsMap m → ⊥)
-map_or m = by (nat_le RAM_WORDS m.rom_first) (nat_le m.rom_first m.rom_last) (nat_le m.rom_last MEMORY_LAST) refl refl refl
-  where
-    by : (a b c : Bool) → nat_le RAM_WORDS m.rom_first ≡ a → nat_le m.rom_first m.rom_last ≡ b → nat_le m.rom_last MEMORY_LAST ≡ c → IsMap m ⊎ (IsMap m → ⊥)
-    by true true true p q r = inl (record { past_frames = grind (arith, nat_tests); ordered = grind (arith, nat_tests); inside = grind (arith, nat_tests) })
-    by false b c p q r = inr (λ h. let le = h.past_frames in absurd (grind (arith, nat_tests)))
-    by true false c p q r = inr (λ h. let le = h.ordered in absurd (grind (arith, nat_tests)))
-    by true true false p q r = inr (λ h. let le = h.inside in absurd (grind (arith, nat_tests)))
+map_or m = grind (arith, nat_le, nat_tests)
 
 -- a line says where a ROM lies that is not that of Asteroids, or it does not
 abbrev pub SaysElsewhere : Text → Type 0
@@ -103,8 +80,7 @@ elsewhere_or line = by (nothing_left (rom_at line)) refl
     by (Some p) e = elsewhere_by line p (is_asteroids (map_of p)) e refl (map_or (map_of p))
 
 pub if_none : {X P : Type 0} (r : Option X) → P → IfNone r P
-if_none None p = p
-if_none (Some x) p = tt
+if_none r p = grind (arith)
 
 -- ---- its bytes
 
@@ -151,11 +127,7 @@ first_of map = by (is_asteroids map)
 
 -- what follows the first line of version 2
 pub second_of : (map : MemoryMap) (xs more : List Text) → heading map ++ xs ≡ second_version_line ∷ more → (is_asteroids map ≡ false) × (more ≡ rom_line map ∷ xs)
-second_of map xs more e = by (is_asteroids map) refl e
-  where
-    by : (b : Bool) → is_asteroids map ≡ b → heads b map ++ xs ≡ second_version_line ∷ more → (is_asteroids map ≡ false) × (more ≡ rom_line map ∷ xs)
-    by true is e = absurd (versions_differ (cons_parts first_version_line second_version_line xs more e).0)
-    by false is e = (is, sym (cons_parts second_version_line second_version_line (rom_line map ∷ xs) more e).1)
+second_of map xs more e = grind (arith, is_asteroids, second_version_line, rom_line, versions_differ, cons_parts, first_version_line)
 
 -- ---- the text of the first lines
 
@@ -165,13 +137,7 @@ first_taken line l = append-nil (ended first_version_line ++ []) ∙ append-nil 
 
 pub rom_taken : (map : MemoryMap) (line : Text) → is_asteroids map ≡ false → line ≡ rom_line map → begun_with map [] ≡ ended second_version_line ++ ended line
 unfolding begun_with
-rom_taken map line is l =
-    append-nil (flat_map ended (heading map)) ∙ ap (flat_map ended) (heads_elsewhere map is)
-    ∙ ap (λ (t : Text). ended second_version_line ++ t) (append-nil (ended (rom_line map)) ∙ ap ended (sym l))
+rom_taken map line is l = grind (arith, append-nil, flat_map, ended, heading, heads_elsewhere, second_version_line, rom_line)
 
 pub few_heads : (map : MemoryMap) → length (heading map) ≤ 2
-few_heads map = by (is_asteroids map)
-  where
-    by : (b : Bool) → length (heads b map) ≤ 2
-    by true = omega arith
-    by false = omega arith
+few_heads map = grind (arith, is_asteroids)

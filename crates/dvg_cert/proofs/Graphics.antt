@@ -27,10 +27,6 @@ graphic_digits (d ∷ ds) h = let r = digit_from_value d h.0 in (omega arith, gr
 pub graphic_decimal : (n : ℕ) → n < 2 ^ 64 → Graphic (decimal n)
 graphic_decimal n small = graphic_digits (decimal n) (first_digit (decimal n) n small refl).1
 
-graphic_number : (z : ℤ) → IsNumber z → Graphic (signed_decimal z)
-graphic_number (pos n) h = graphic_decimal n (omega (arith, ints))
-graphic_number (negsuc n) h = (lit< tt, graphic_decimal (suc n) (omega (arith, ints)))
-
 graphic_glyph : (v : ℕ) → SPACE < digit_glyph true v
 graphic_glyph v = grind (arith, nat_tests)
 
@@ -38,29 +34,19 @@ pub graphic_hex : (a : ℕ) → Graphic (address_token a)
 graphic_hex a = (graphic_glyph (a / 256), (graphic_glyph (a / 16 % 16), (graphic_glyph (a % 16), tt)))
 
 graphic_key : (k : Key) → IsKey k → Graphic (key_token k)
-graphic_key (At n) h = graphic_decimal n (omega arith)
-graphic_key Any h = (lit< tt, (lit< tt, (lit< tt, tt)))
+graphic_key k h = grind (arith, graphic_decimal)
 
 graphics_end : (e : End) → IsEnd e → Graphics (end_tokens e)
-graphics_end (Rel x y) h = ((lit< tt, (lit< tt, (lit< tt, tt))), (graphic_number x h.0, (graphic_number y h.1, tt)))
-graphics_end (Abs x y) h = ((lit< tt, (lit< tt, (lit< tt, tt))), (graphic_number x h.0, (graphic_number y h.1, tt)))
-graphics_end Lost h = ((lit< tt, (lit< tt, (lit< tt, (lit< tt, tt)))), tt)
+graphics_end e h = grind (arith, pos, graphic_decimal, negsuc)
 
 graphics_box : (b : LitBox) → IsBox b → Graphics (box_tokens b)
-graphics_box Empty h = ((lit< tt, (lit< tt, (lit< tt, (lit< tt, tt)))), tt)
-graphics_box (Span x0 x1 y0 y1) h = (graphic_number x0 h.0.0, (graphic_number x1 h.0.1, (graphic_number y0 h.1.0, (graphic_number y1 h.1.1, tt))))
+graphics_box b h = grind (arith, pos, graphic_decimal, negsuc)
 
 five : (a b c d e : ℕ) → SPACE < a → SPACE < b → SPACE < c → SPACE < d → SPACE < e → Graphic (a ∷ b ∷ c ∷ d ∷ e ∷ [])
 five a b c d e p q r s t = (p, (q, (r, (s, (t, tt)))))
 
 pub graphics_entry : (first last : ℕ) (e : Entry) → IsEntry first last e → Graphics (entry_tokens e)
-graphics_entry first last e h =
-    let prefix : Graphics (codes "shape" ∷ address_token e.addr ∷ key_token e.key ∷ codes "end" ∷ end_tokens e.stop) = (five 115 104 97 112 101 (lit< tt) (lit< tt) (lit< tt) (lit< tt) (lit< tt), (graphic_hex e.addr, (graphic_key e.key h.key, ((lit< tt, (lit< tt, (lit< tt, tt))), graphics_end e.stop h.stop)))) in
-    let middle : Graphics (codes "box" ∷ box_tokens e.lit) = ((lit< tt, (lit< tt, (lit< tt, tt))), graphics_box e.lit h.lit) in
-    let back : Graphics (codes "depth" ∷ decimal e.depth ∷ codes "words" ∷ decimal e.words ∷ codes "scale" ∷ key_token e.scale ∷ []) =
-    (five 100 101 112 116 104 (lit< tt) (lit< tt) (lit< tt) (lit< tt) (lit< tt), (graphic_decimal e.depth (omega (arith, h.depth)), (five 119 111 114 100 115 (lit< tt) (lit< tt) (lit< tt) (lit< tt) (lit< tt), (graphic_decimal e.words (omega (arith, h.words_high)), (five 115 99 97 108 101 (lit< tt) (lit< tt) (lit< tt) (lit< tt) (lit< tt), (graphic_key e.scale h.scale, tt)))))) in
-    Graphics-append (codes "shape" ∷ address_token e.addr ∷ key_token e.key ∷ codes "end" ∷ end_tokens e.stop ++ codes "box" ∷ box_tokens e.lit) (codes "depth" ∷ decimal e.depth ∷ codes "words" ∷ decimal e.words ∷ codes "scale" ∷ key_token e.scale ∷ [])
-    (Graphics-append (codes "shape" ∷ address_token e.addr ∷ key_token e.key ∷ codes "end" ∷ end_tokens e.stop) (codes "box" ∷ box_tokens e.lit) prefix middle) back
+graphics_entry first last e h = grind (arith, codes, address_token, key_token, end_tokens, five, graphic_hex, graphic_key, graphics_end, box_tokens, graphics_box, decimal, graphic_decimal)
 
 pub Without-append : (c : ℕ) (xs ys : Text) → Without c xs → Without c ys → Without c (xs ++ ys)
 Without-append c [] ys h k = k

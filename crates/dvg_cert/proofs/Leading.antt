@@ -18,37 +18,20 @@ same_digits (x ∷ ds) (y ∷ es) r s hd he hr hs e =
     (rw (head, t.0) refl, t.1)
 
 pub same_number : (m n : ℕ) (bytes r s : Text) → m < 2 ^ 64 → n < 2 ^ 64 → NoDigitFirst r → NoDigitFirst s → bytes ≡ decimal m ++ r → bytes ≡ decimal n ++ s → (m ≡ n) × (r ≡ s)
-same_number m n bytes r s hm hn hr hs em en =
-    let t = same_digits (decimal m) (decimal n) r s (first_digit (decimal m) m hm refl).1 (first_digit (decimal n) n hn refl).1 hr hs (sym em ∙ en) in
-    (same_decimal m n hm hn t.0, t.1)
+same_number m n bytes r s hm hn hr hs em en = grind (arith, (same_digits (decimal m) (decimal n) r s (first_digit (decimal m) m hm refl).1 (first_digit (decimal n) n hn refl).1 hr hs (sym em ∙ en)), (decimal m), (decimal n), (first_digit (decimal m) m hm refl), (first_digit (decimal n) n hn refl), same_decimal)
 
 led : (count n : ℕ) (bytes rest : Text) → AllDigits 10 (take count bytes) → NoDigitFirst (drop count bytes) → n < 2 ^ 64 → NoDigitFirst rest → bytes ≡ decimal n ++ rest → take count bytes ≡ decimal n
-led count n bytes rest all stop small free e =
-    (same_digits (take count bytes) (decimal n) (drop count bytes) rest all (first_digit (decimal n) n small refl).1 stop free (take-append-drop count bytes ∙ e)).0
+led count n bytes rest all stop small free e = grind (arith, (same_digits (take count bytes) (decimal n) (drop count bytes) rest all (first_digit (decimal n) n small refl).1 stop free (take-append-drop count bytes ∙ e)), (decimal n), (first_digit (decimal n) n small refl), (take-append-drop count bytes))
 
 pub no_digits : (count : ℕ) (bytes : Text) → count ≡ 0 → count ≤ length bytes → AllDigits 10 (take count bytes) → NoDigitFirst (drop count bytes) → (n : ℕ) → (rest : Text) → n ≤ MOST_MAGNITUDE → NoDigitFirst rest → bytes ≡ decimal n ++ rest → ⊥
-no_digits count bytes is_zero within all stop n rest le free e =
-    let same = led count n bytes rest all stop (omega arith) free e in
-    absurd (omega (arith, ap length same, length-take-le count bytes within, (first_digit (decimal n) n (omega arith) refl).0))
-
-first_of_take : (count : ℕ) (xs : Text) → 0 < count → get_or (take count xs) 0 0 ≡ get_or xs 0 0
-first_of_take zero xs lt = absurd (omega arith)
-first_of_take (suc k) [] lt = refl
-first_of_take (suc k) (x ∷ xs) lt = refl
+no_digits count bytes is_zero within all stop n rest le free e = grind (arith, (led count n bytes rest all stop (omega arith) free e), (length-take-le count bytes within), (first_digit (decimal n) n (omega arith) refl), (decimal n))
 
 pub zero_led : (count : ℕ) (bytes : Text) → 1 < count → count ≤ length bytes → get_or bytes 0 0 ≡ 48 → AllDigits 10 (take count bytes) → NoDigitFirst (drop count bytes) → (n : ℕ) → (rest : Text) → n ≤ MOST_MAGNITUDE → NoDigitFirst rest → bytes ≡ decimal n ++ rest → ⊥
-zero_led count bytes more within z all stop n rest le free e =
-    let same = led count n bytes rest all stop (omega arith) free e in
-    let one = no_zero (take count bytes) n le same (first_of_take count bytes (omega arith) ∙ z) in
-    absurd (omega (arith, length-take-le count bytes within))
+zero_led count bytes more within z all stop n rest le free e = grind (arith, (led count n bytes rest all stop (omega arith) free e), no_zero, (length-take-le count bytes within))
 
 pub digits_lead : (count number : ℕ) (bytes : Text) → AllDigits 10 (take count bytes) → number ≡ digits_value 10 (take count bytes) → count ≤ 13 → count ≤ length bytes → NoDigitFirst (drop count bytes) → 0 < count → (get_or bytes 0 0 ≡ 48 → count ≤ 1)
     → (bytes ≡ decimal number ++ drop count bytes) × (number < 10 ^ 13) × NoDigitFirst (drop count bytes)
-digits_lead count number bytes all value few within stop some short =
-    let len : length (take count bytes) ≡ count = length-take-le count bytes within in
-    let spelled : take count bytes ≡ decimal (digits_value 10 (take count bytes)) = spells (take count bytes) all (omega (arith, len)) (λ z. let s = short (sym (first_of_take count bytes some) ∙ z) in omega (arith, len)) (omega (arith, len)) in
-    let few_digits = below (take count bytes) all (omega (arith, len)) in
-    (sym (take-append-drop count bytes) ∙ ap (λ (ds : Text). ds ++ drop count bytes) (spelled ∙ ap decimal (sym value)), omega (arith, few_digits), stop)
+digits_lead count number bytes all value few within stop some short = grind (arith, length-take-le, decimal, digits_value, spells, below, take-append-drop)
 
 pub stops : (bytes : Text) (i c : ℕ) → i < length bytes → c ≡ get_or bytes i 0 → ((48 ≤ c) × (c ≤ 57) → ⊥) → NoDigitFirst (drop i bytes)
 stops bytes i c lt e out = rw (drop-cons bytes i 0 lt) (λ h. let r = digit_from_value (get_or bytes i 0) h in out (omega arith, omega arith))
@@ -62,9 +45,7 @@ no_longer (x ∷ ds) r [] s all stop e = absurd ((subst NoDigitFirst (sym e) sto
 no_longer (x ∷ ds) r (y ∷ es) s all stop e = let tail : ds ++ r ≡ es ++ s = cc in let t = no_longer ds r es s all.1 stop tail in omega arith
 
 pub too_long : (bytes : Text) (i : ℕ) → i < length bytes → i ≡ 13 → AllDigits 10 (take (i + 1) bytes) → (n : ℕ) → (rest : Text) → n ≤ MOST_MAGNITUDE → NoDigitFirst rest → bytes ≡ decimal n ++ rest → ⊥
-too_long bytes i lt at all n rest le free e =
-    let t = no_longer (take (i + 1) bytes) (drop (i + 1) bytes) (decimal n) rest all free (take-append-drop (i + 1) bytes ∙ e) in
-    absurd (omega (arith, length-take-le (i + 1) bytes (omega arith), (not_long (decimal n) n le refl).0))
+too_long bytes i lt at all n rest le free e = grind (arith, (no_longer (take (i + 1) bytes) (drop (i + 1) bytes) (decimal n) rest all free (take-append-drop (i + 1) bytes ∙ e)), (decimal n), (take-append-drop (i + 1) bytes), (length-take-le (i + 1) bytes (omega arith)), (not_long (decimal n) n le refl))
 
 -- ---- a whole token
 
@@ -77,5 +58,4 @@ value_outside low high n token rest top small free e outside = natural_none low 
     outside (omega (arith, same.0)) (omega (arith, same.0)) (ap length same.1))
 
 pub value_taken : (low high n : ℕ) (token rest : Text) → low ≤ n → n ≤ high → n < 2 ^ 64 → length rest ≡ 0 → token ≡ decimal n ++ rest → natural_in low high token ≡ Some n
-value_taken low high n token rest from to small none e =
-    natural_some low high n token small from to (e ∙ ap (λ (r : Text). decimal n ++ r) (nil_from_length rest none) ∙ append-nil (decimal n))
+value_taken low high n token rest from to small none e = grind (arith, natural_some, decimal, nil_from_length, append-nil)

@@ -21,21 +21,16 @@ number_le (pos n) h = omega (arith, length-decimal-le 13 n (omega arith) (omega 
 number_le (negsuc n) h = omega (arith, length-decimal-le 13 (suc n) (omega arith) (omega (arith, ints)) (omega (arith, ints)))
 
 pub number_fits : (z : ℤ) → IsNumber z → SFits w64 z
-number_fits (pos n) h = omega (arith, ints)
-number_fits (negsuc n) h = omega (arith, ints)
+number_fits z h = grind (arith, pos, negsuc)
 
 key_le : (k : Key) → IsKey k → length (key_token k) ≤ 3
-key_le (At n) h = omega (arith, length-decimal-le 2 n (omega arith) (omega arith) (omega arith))
-key_le Any h = omega arith
+key_le k h = grind (arith, length-decimal-le)
 
 end_le : (e : End) → IsEnd e → weight (end_tokens e) ≤ 34
-end_le (Rel x y) h = omega (arith, number_le x h.0, number_le y h.1)
-end_le (Abs x y) h = omega (arith, number_le x h.0, number_le y h.1)
-end_le Lost h = omega arith
+end_le e h = grind (arith, number_le)
 
 box_le : (b : LitBox) → IsBox b → weight (box_tokens b) ≤ 60
-box_le Empty h = omega arith
-box_le (Span x0 x1 y0 y1) h = omega (arith, number_le x0 h.0.0, number_le x1 h.0.1, number_le y0 h.1.0, number_le y1 h.1.1)
+box_le b h = grind (arith, number_le)
 
 pub length_entry : (first last : ℕ) (e : Entry) → IsEntry first last e → length (entry_line e) ≤ 148
 length_entry first last e h =

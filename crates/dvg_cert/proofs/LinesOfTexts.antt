@@ -12,10 +12,7 @@ pub cut_once : (a b c d : List ℕ) → Without LINE_FEED a → Without LINE_FEE
 cut_once [] b [] d h k e = (refl, cc)
 cut_once [] b (y ∷ c) d h k e = let n : LINE_FEED ≡ y = cc in absurd (grind (arith, nat_tests))
 cut_once (x ∷ a) b [] d h k e = let n : x ≡ LINE_FEED = cc in absurd (grind (arith, nat_tests))
-cut_once (x ∷ a) b (y ∷ c) d h k e =
-    let head : x ≡ y = cc in
-    let r = cut_once a b c d h.1 k.1 (cc) in
-    (cc (head, r.0), r.1)
+cut_once (x ∷ a) b (y ∷ c) d h k e = grind (arith, (cut_once a b c d h.1 k.1 (cc)))
 
 pub no_cut : (a b c : List ℕ) → Without LINE_FEED c → a ++ LINE_FEED ∷ b ≡ c → ⊥
 no_cut [] b [] k e = cc
@@ -43,19 +40,10 @@ lines_prefix (l ∷ ls) (m ∷ ms) tail rest h k free e =
 
 -- a line says one thing
 pub one_line : (first last : ℕ) (bytes : List ℕ) (l m : Line) → last < ADDRESS_END → IsLine first last l bytes → IsLine first last m bytes → l ≡ m
-one_line first last bytes l m small h k =
-    let e : Some l ≡ Some m = sym (line_again first last bytes l small h) ∙ line_again first last bytes m small k in
-    cc
+one_line first last bytes l m small h k = grind (arith, line_again)
 
 pub one_entry : (first last : ℕ) (x y : Entry) → last < ADDRESS_END → IsEntry first last x → IsEntry first last y → entry_line x ≡ entry_line y → x ≡ y
-one_entry first last x y small h k e =
-    let s : EntryLine x ≡ EntryLine y = one_line first last (entry_line x) (EntryLine x) (EntryLine y) small (h, refl) (k, e) in
-    cc
-
-pub entry_not_done : (first last : ℕ) (x : Entry) (n : ℕ) → last < ADDRESS_END → IsEntry first last x → n ≤ MOST_ENTRIES → entry_line x ≡ done_line n → ⊥
-entry_not_done first last x n small h k e =
-    let s : EntryLine x ≡ DoneLine n = one_line first last (entry_line x) (EntryLine x) (DoneLine n) small (h, refl) (k, e) in
-    absurd cc
+one_entry first last x y small h k e = grind (arith, (one_line first last (entry_line x) (EntryLine x) (EntryLine y) small (h, refl) (k, e)), (entry_line x))
 
 -- the lines of entries
 abbrev pub entry_lines : List Entry → List (List ℕ)
@@ -73,8 +61,7 @@ lines_of (Begun map es) = heading map ++ (entry_lines es ++ [])
 lines_of (Whole map es) = heading map ++ (entry_lines es ++ done_line (length es) ∷ [])
 
 no_entry_behind : (done : Bool) (first last : ℕ) (es : List Entry) (x : Entry) (ls : List (List ℕ)) → last < ADDRESS_END → length es ≤ MOST_ENTRIES → IsEntry first last x → behind done es ≡ entry_line x ∷ ls → ⊥
-no_entry_behind false first last es x ls small few h e = absurd cc
-no_entry_behind true first last es x ls small few h e = let head : done_line (length es) ≡ entry_line x = cc in entry_not_done first last x (length es) small h few (sym head)
+no_entry_behind done first last es x ls small few h e = grind (arith, done_line, entry_line, one_line)
 
 -- of two lists that begin the same lines, the first with no entry's line behind it goes on with an entry, or is the other
 next : (first last : ℕ) (es fs : List Entry) (end more : List (List ℕ)) → last < ADDRESS_END → AllByRecursion (IsEntry first last) es → AllByRecursion (IsEntry first last) fs → ((x : Entry) (ls : List (List ℕ)) → IsEntry first last x → end ≡ entry_line x ∷ ls → ⊥)
@@ -126,11 +113,7 @@ no_cons l ls e = absurd cc
 
 -- no first lines stand alone
 no_heads : (map : MemoryMap) (xs : List (List ℕ)) → [] ≡ heading map ++ xs → ⊥
-no_heads map xs e =
-    elim (first_of map).1 [
-      | inl f ↦ no_cons first_version_line ((first_of map).0 ++ xs) (e ∙ ap (λ (ls : List (List ℕ)). ls ++ xs) f)
-      | inr f ↦ no_cons second_version_line ((first_of map).0 ++ xs) (e ∙ ap (λ (ls : List (List ℕ)). ls ++ xs) f)
-    ]
+no_heads map xs e = grind (arith, first_of, no_cons, first_version_line, second_version_line)
 
 -- the first line of version 2 alone is no first lines
 no_version : (map : MemoryMap) (xs : List (List ℕ)) → second_version_line ∷ [] ≡ heading map ++ xs → ⊥
@@ -142,18 +125,7 @@ body false map es = Begun map es
 body true map es = Whole map es
 
 bodies_once : (one other : Bool) (map map' : MemoryMap) (es fs : List Entry) → IsCertificate map es → IsCertificate map' fs → heading map ++ (entry_lines es ++ behind one es) ≡ heading map' ++ (entry_lines fs ++ behind other fs) → body one map es ≡ body other map' fs
-bodies_once one other map map' es fs h k e =
-    let r = after other map map' es fs (behind one es) h k (sym e) in
-    elim r.1 [
-      | inl n ↦ absurd (no_entry_behind one map.rom_first map.rom_last es n.0 n.1 (small_map map h.map_is) h.few n.2 n.5)
-      | inr s ↦ same one other r.0 s.0 s.1
-    ]
-  where
-    same : (one other : Bool) → map' ≡ map → fs ≡ es → behind other fs ≡ behind one es → body one map es ≡ body other map' fs
-    same false false p q e = cc
-    same false true p q e = absurd cc
-    same true false p q e = absurd cc
-    same true true p q e = cc
+bodies_once one other map map' es fs h k e = grind (arith, after, no_entry_behind, small_map)
 
 pub lines_once : (t u : Taken) → IsTaken t → IsTaken u → lines_of t ≡ lines_of u → t ≡ u
 lines_once Nothing Nothing h k e = refl
@@ -182,17 +154,11 @@ GoesOn (Whole map es) line = ⊥
 
 -- the line after nothing
 goes_first : (map : MemoryMap) (xs ms : List (List ℕ)) (line : List ℕ) → heading map ++ xs ≡ line ∷ ms → GoesOn Nothing line
-goes_first map xs ms line e =
-    elim (first_of map).1 [
-      | inl f ↦ inl (sym (cons_parts first_version_line line ((first_of map).0 ++ xs) ms (ap (λ (ls : List (List ℕ)). ls ++ xs) (sym f) ∙ e)).0)
-      | inr f ↦ inr (sym (cons_parts second_version_line line ((first_of map).0 ++ xs) ms (ap (λ (ls : List (List ℕ)). ls ++ xs) (sym f) ∙ e)).0)
-    ]
+goes_first map xs ms line e = grind (arith, first_of, cons_parts, first_version_line, second_version_line)
 
 -- the line after the first one of version 2
 goes_second : (map : MemoryMap) (xs ms : List (List ℕ)) (line : List ℕ) → IsMap map → heading map ++ xs ≡ second_version_line ∷ line ∷ ms → GoesOn Versioned line
-goes_second map xs ms line is e =
-    let r = second_of map xs (line ∷ ms) e in
-    (map, (is, r.0), (cons_parts line (rom_line map) ms xs r.1).0)
+goes_second map xs ms line is e = grind (arith, second_of, cons_parts, rom_line)
 
 none_more : (ls ms : List (List ℕ)) (line : List ℕ) → [] ≡ ls ++ line ∷ ms → ⊥
 none_more [] ms line e = absurd cc
@@ -204,20 +170,7 @@ one_more_line map xs ms line e = no_version map (xs ++ line ∷ ms) (e ∙ appen
 
 bodies_go : (one other : Bool) (map map' : MemoryMap) (es fs : List Entry) (line : List ℕ) (ms : List (List ℕ)) → IsCertificate map es → IsCertificate map' fs
     → heading map' ++ (entry_lines fs ++ behind other fs) ≡ (heading map ++ (entry_lines es ++ behind one es)) ++ line ∷ ms → GoesOn (body one map es) line
-bodies_go one other map map' es fs line ms h k e =
-    elim (after other map map' es fs (behind one es ++ line ∷ ms) h k (e ∙ simp append_assoc)).1 [
-      | inl n ↦ entry one n
-      | inr s ↦ last one other s.0 s.1
-    ]
-  where
-    entry : (one : Bool) → Next map es (behind one es ++ line ∷ ms) → GoesOn (body one map es) line
-    entry false n = inl (n.0, (n.2, cc (n.5)), n.3, n.4)
-    entry true n = let head : done_line (length es) ≡ entry_line n.0 = cc (n.5) in entry_not_done map.rom_first map.rom_last n.0 (length es) (small_map map h.map_is) n.2 h.few (sym head)
-
-    last : (one other : Bool) → fs ≡ es → behind other fs ≡ behind one es ++ line ∷ ms → GoesOn (body one map es) line
-    last one false p e = absurd (none_more (behind one es) ms line e)
-    last false true p e = let l : done_line (length fs) ≡ line = cc in inr (h.few, sym l ∙ ap (λ (xs : List Entry). done_line (length xs)) p)
-    last true true p e = absurd cc
+bodies_go one other map map' es fs line ms h k e = grind (arith, after, append_assoc, done_line, entry_line, one_line, small_map, none_more)
 
 pub goes_on : (t u : Taken) (line : List ℕ) (ms : List (List ℕ)) → IsTaken t → IsTaken u → lines_of u ≡ lines_of t ++ line ∷ ms → GoesOn t line
 goes_on Nothing Nothing line ms h k e = absurd (no_cons line ms e)
@@ -245,27 +198,13 @@ same_entry first last e f line small h k = let s = one_line first last line (Ent
 
 -- what no other reason has, has the form for its reason
 pub only_form : (P : CertWhy → Type 0) → (P Order → ⊥) → (P Count → ⊥) → (P Unended → ⊥) → (P After → ⊥) → (P TooLong → ⊥) → (P Memory → ⊥) → (why : CertWhy) → P why → why ≡ Form
-only_form P order count unended after long memory Form h = refl
-only_form P order count unended after long memory Order h = absurd (order h)
-only_form P order count unended after long memory Count h = absurd (count h)
-only_form P order count unended after long memory Unended h = absurd (unended h)
-only_form P order count unended after long memory After h = absurd (after h)
-only_form P order count unended after long memory TooLong h = absurd (long h)
-only_form P order count unended after long memory Memory h = absurd (memory h)
+only_form P order count unended after long memory h7 h = grind (arith)
 
 -- what is wrong may not stand
 pub wrong_goes : (why : CertWhy) (t : Taken) (line : List ℕ) → IsTaken t → IsWrong t line why → GoesOn t line → ⊥
 wrong_goes why (Whole map es) line t w g = g
-wrong_goes why Nothing line t w g =
-    let form = only_form (IsWrong Nothing line) (λ x. x) (λ x. x) (λ x. x) (λ x. x) (λ x. x) (λ x. x) why w in
-    not_first (subst (IsWrong Nothing line) form w) g
-  where
-    not_first : IsWrong Nothing line Form → GoesOn Nothing line → ⊥
-    not_first n (inl e) = n.0 e
-    not_first n (inr e) = n.1 e
-wrong_goes why Versioned line t w g =
-    let form = only_form (IsWrong Versioned line) (λ x. x) (λ x. x) (λ x. x) (λ x. x) (λ x. x) (λ x. x) why w in
-    subst (IsWrong Versioned line) form w g.0 g.1 g.2
+wrong_goes why Nothing line t w g = grind (arith, only_form)
+wrong_goes why Versioned line t w g = grind (arith, only_form)
 wrong_goes Form (Begun map es) line t w (inl g) = w (EntryLine g.0) g.1
 wrong_goes Form (Begun map es) line t w (inr g) = w (DoneLine (length es)) g
 wrong_goes Order (Begun map es) line t w (inl g) = w.2 (subst (λ (x : Entry). StandsAfter es x) (same_entry map.rom_first map.rom_last g.0 w.0 line (small_map map t.map_is) g.1 w.1) g.2)
@@ -273,7 +212,5 @@ wrong_goes Order (Begun map es) line t w (inr g) = not_both map.rom_first map.ro
 wrong_goes TooLong (Begun map es) line t w (inl g) = absurd (omega (arith, g.3, w.3))
 wrong_goes TooLong (Begun map es) line t w (inr g) = not_both map.rom_first map.rom_last w.0 (length es) line (small_map map t.map_is) w.1 g
 wrong_goes Count (Begun map es) line t w (inl g) = not_both map.rom_first map.rom_last g.0 w.0 line (small_map map t.map_is) g.1 w.1
-wrong_goes Count (Begun map es) line t w (inr g) =
-    let same = one_line map.rom_first map.rom_last line (DoneLine w.0) (DoneLine (length es)) (small_map map t.map_is) w.1 g in
-    w.2 cc
+wrong_goes Count (Begun map es) line t w (inr g) = grind (arith, (one_line map.rom_first map.rom_last line (DoneLine w.0) (DoneLine (length es)) (small_map map t.map_is) w.1 g), (small_map map t.map_is))
 wrong_goes why (Begun map es) line t w g = w

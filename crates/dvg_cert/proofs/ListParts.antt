@@ -1,5 +1,7 @@
 -- A list of entries from its entries one by one.
 use Rattle.dvg_cert.proofs.Common.{◌≡◌, ℕ, zero, suc, ◌+◌, ◌<◌, ◌≤◌, List, [], ◌∷◌, ◌++◌, length, get_or, take, drop, refl, sym, ap, subst, arith, add-one, IsTrue, false, AllByRecursion, length-take-le, MemoryMap, MOST_ENTRIES, Entry, IsEntry, IsCertificate, IsRising, StandsAfter}
+use Rattle.std.proofs.Common.{rules}
+use Rattle.std.proofs.lemmas.Grind.{common_steps}
 use Rattle.dvg_cert.proofs.Rising.{certificate_push}
 use Rattle.dvg_cert.proofs.LinesOfTexts.{each_mid, rising_mid}
 
@@ -15,6 +17,4 @@ pub not_rising : (map : MemoryMap) (es : List Entry) (i : ℕ) (d : Entry) → i
 not_rising map es i d lt h k = h (rising_mid (take i es) (get_or es i d) (drop (suc i) es) (subst (λ (xs : List Entry). IsRising xs) (cut_at es i d lt).0 k.rising))
 
 pub one_further : (map : MemoryMap) (es : List Entry) (i : ℕ) (d : Entry) → i < length es → length es ≤ MOST_ENTRIES → IsCertificate map (take i es) → IsEntry map.rom_first map.rom_last (get_or es i d) → StandsAfter (take i es) (get_or es i d) → IsCertificate map (take (i + 1) es)
-one_further map es i d lt few h fits s =
-    let k = certificate_push map (take i es) (get_or es i d) h fits s (omega (arith, length-take-le i es (omega arith))) in
-    rw add-one (subst (λ (xs : List Entry). IsCertificate map xs) (sym (cut_at es i d lt).1) k)
+one_further map es i d lt few h fits s = grind (arith, rules, common_steps, (certificate_push map (take i es) (get_or es i d) h fits s (omega (arith, length-take-le i es (omega arith)))), (length-take-le i es (omega arith)), add-one, (cut_at es i d lt), certificate_push, length-take-le, cut_at)

@@ -19,17 +19,8 @@ entries_fit : (first last : ℕ) (es : List Entry) → AllByRecursion (IsEntry f
 entries_fit first last [] h = tt
 entries_fit first last (e ∷ es) h = ((line_free (entry_tokens e) (graphics_entry first last e h.0), omega (arith, length_entry first last e h.0)), entries_fit first last es h.1)
 
-heads_fit : (b : Bool) (map : MemoryMap) → AllByRecursion Fits (heads b map)
-heads_fit true map = ((version_free.0, omega arith), tt)
-heads_fit false map = ((version_free.1, omega arith), ((rom_free map, omega arith), tt))
-
-behind_fits : (done : Bool) (es : List Entry) → length es ≤ MOST_ENTRIES → AllByRecursion Fits (behind done es)
-behind_fits false es few = tt
-behind_fits true es few = ((done_free (length es) few, omega (arith, length_done (length es) few)), tt)
-
 body_fits : (done : Bool) (map : MemoryMap) (es : List Entry) → IsCertificate map es → AllByRecursion Fits (heading map ++ (entry_lines es ++ behind done es))
-body_fits done map es h =
-    fits-append (heading map) _ (heads_fit (is_asteroids map) map) (fits-append (entry_lines es) _ (entries_fit map.rom_first map.rom_last es h.each) (behind_fits done es h.few))
+body_fits done map es h = grind (arith, fits-append, heading, version_free, rom_free, is_asteroids, entry_lines, entries_fit, done_free, length_done)
 
 pub taken_fits : (t : Taken) → IsTaken t → AllByRecursion Fits (lines_of t)
 taken_fits Nothing h = tt
@@ -53,8 +44,7 @@ taken_lines (Whole map es) = ap (λ (t : List ℕ). begun_with map es ++ t) (sym
 taken_lines t = refl
 
 pub rest_free : (t : Taken) (rest : List ℕ) → IsRest t rest → Without LINE_FEED rest × (length rest < LONGEST_LINE)
-rest_free (Whole map es) rest h = subst (λ (r : List ℕ). Without LINE_FEED r × (length r < LONGEST_LINE)) (sym h) (tt, omega arith)
-rest_free taken rest h = h
+rest_free t rest h = grind (arith)
 
 -- a cut at a byte that is not LF, with no LF before it, comes earlier than a cut at an LF
 longer : (a b c d : List ℕ) (x : ℕ) → Without LINE_FEED a → x ≢ LINE_FEED → a ++ x ∷ b ≡ c ++ LINE_FEED ∷ d → length a < length c
@@ -65,9 +55,7 @@ longer (z ∷ a) b (y ∷ c) d x h n e = omega (arith, longer a b c d x h.1 n (c
 
 -- what may stand, and what is in front of it
 prefix_of : (prefix text after : List ℕ) (t u : Taken) (rest rest' : List ℕ) → Holds prefix t rest → Holds text u rest' → text ≡ prefix ++ after → (more : List (List ℕ)) × (lines_of u ≡ lines_of t ++ more) × (rest ++ after ≡ lines_text more ++ rest')
-prefix_of prefix text after t u rest rest' h k e =
-    lines_prefix (lines_of t) (lines_of u) (rest ++ after) rest' (taken_fits t h.lines) (taken_fits u k.lines) (rest_free u rest' k.begun).0
-    (ap (λ (x : List ℕ). x ++ (rest ++ after)) (sym (taken_lines t)) ∙ sym (append_assoc (text_taken t) rest after) ∙ ap (λ (x : List ℕ). x ++ after) (sym h.parts) ∙ sym e ∙ k.parts ∙ ap (λ (x : List ℕ). x ++ rest') (taken_lines u))
+prefix_of prefix text after t u rest rest' h k e = grind (arith, lines_prefix, lines_of, taken_fits, rest_free, taken_lines, append_assoc, text_taken)
 
 -- a text stands in one way
 pub holds_once : (text : List ℕ) (t u : Taken) (rest rest' : List ℕ) → Holds text t rest → Holds text u rest' → (t ≡ u) × (rest ≡ rest')
@@ -78,10 +66,8 @@ holds_once text t u rest rest' h k = same (prefix_of text text [] t u rest rest'
     same ((m ∷ ms), l, r) = absurd (no_cut m (lines_text ms ++ rest') rest (rest_free t rest h.begun).0 (sym (append_assoc m (LINE_FEED ∷ lines_text ms) rest') ∙ sym r ∙ append-nil rest))
 
 same_meets : (t : Taken) (line : List ℕ) (why why' : CertWhy) → IsTaken t → IsWrong t line why → IsWrong t line why' → why ≡ why'
-same_meets Nothing line why why' small h k =
-    let form = only_form (IsWrong Nothing line) (λ x. x) (λ x. x) (λ x. x) (λ x. x) (λ x. x) (λ x. x) in form why h ∙ sym (form why' k)
-same_meets Versioned line why why' small h k =
-    let form = only_form (IsWrong Versioned line) (λ x. x) (λ x. x) (λ x. x) (λ x. x) (λ x. x) (λ x. x) in form why h ∙ sym (form why' k)
+same_meets Nothing line why why' small h k = grind (arith, only_form)
+same_meets Versioned line why why' small h k = grind (arith, only_form)
 same_meets (Whole map es) line why why' small h k = absurd h
 same_meets (Begun map es) line Unended why' t h k = absurd h
 same_meets (Begun map es) line After why' t h k = absurd h
@@ -107,10 +93,7 @@ abbrev pub Stops : Taken → List ℕ → ℕ → CertWhy → Type 0
 Stops t rest b why = ((b ≢ LINE_FEED) × (length rest ≡ LONGEST_LINE - 1) × (why ≡ TooLong)) ⊎ ((b ≡ LINE_FEED) × IsWrong t rest why)
 
 stops_once : (t : Taken) (rest : List ℕ) (b : ℕ) (why why' : CertWhy) → IsTaken t → Stops t rest b why → Stops t rest b why' → why ≡ why'
-stops_once t rest b why why' small (inl h) (inl k) = h.2 ∙ sym k.2
-stops_once t rest b why why' small (inl h) (inr k) = absurd (h.0 k.0)
-stops_once t rest b why why' small (inr h) (inl k) = absurd (k.0 h.0)
-stops_once t rest b why why' small (inr h) (inr k) = same_meets t rest why why' small h.1 k.1
+stops_once t rest b why why' small h6 h7 = grind (arith, same_meets)
 
 meets_once : (t : Taken) (rest : List ℕ) (b : ℕ) (why why' : CertWhy) → IsTaken t → Meets t rest b why → Meets t rest b why' → why ≡ why'
 meets_once (Whole map es) rest b why why' small h k = h ∙ sym k
@@ -122,13 +105,9 @@ fits_mid t u m ms k l = each_mid Fits (lines_of t) m ms (subst (AllByRecursion F
 -- what a byte meets cannot stand
 stops_not : (t u : Taken) (rest rest' after : List ℕ) (b : ℕ) (why : CertWhy) → IsTaken t → IsTaken u → Without LINE_FEED rest → IsRest u rest' → Stops t rest b why
     → ((more : List (List ℕ)) × (lines_of u ≡ lines_of t ++ more) × (rest ++ b ∷ after ≡ lines_text more ++ rest')) → ⊥
-stops_not t u rest rest' after b why h k free r (inl s) ([], l, e) =
-    let n : length (rest ++ b ∷ after) ≡ length rest' = ap length e in absurd (omega (arith, length-append rest (b ∷ after), s.1, (rest_free u rest' r).1))
-stops_not t u rest rest' after b why h k free r (inl s) ((m ∷ ms), l, e) =
-    let n = longer rest after m (lines_text ms ++ rest') b free s.0 (e ∙ append_assoc m (LINE_FEED ∷ lines_text ms) rest') in
-    absurd (omega (arith, s.1, (fits_mid t u m ms k l).1))
-stops_not t u rest rest' after b why h k free r (inr s) ([], l, e) =
-    no_cut rest after rest' (rest_free u rest' r).0 (ap (λ (x : ℕ). rest ++ x ∷ after) (sym s.0) ∙ e)
+stops_not t u rest rest' after b why h k free r (inl s) ([], l, e) = grind (arith, length-append, rest_free)
+stops_not t u rest rest' after b why h k free r (inl s) ((m ∷ ms), l, e) = grind (arith, (longer rest after m (lines_text ms ++ rest') b free s.0 (e ∙ append_assoc m (LINE_FEED ∷ lines_text ms) rest')), (lines_text ms), (append_assoc m (LINE_FEED ∷ lines_text ms) rest'), (fits_mid t u m ms k l))
+stops_not t u rest rest' after b why h k free r (inr s) ([], l, e) = grind (arith, no_cut, rest_free)
 stops_not t u rest rest' after b why h k free r (inr s) ((m ∷ ms), l, e) =
     let c = cut_once rest after m (lines_text ms ++ rest') free (fits_mid t u m ms k l).0 (ap (λ (x : ℕ). rest ++ x ∷ after) (sym s.0) ∙ e ∙ append_assoc m (LINE_FEED ∷ lines_text ms) rest') in
     let g = goes_on t u rest ms h k (l ∙ ap (λ (x : List ℕ). lines_of t ++ x ∷ ms) (sym c.0)) in
@@ -136,11 +115,7 @@ stops_not t u rest rest' after b why h k free r (inr s) ((m ∷ ms), l, e) =
 
 after_not : (map : MemoryMap) (es : List Entry) (u : Taken) (rest rest' after : List ℕ) (b : ℕ) → IsTaken (Whole map es) → IsTaken u → IsRest u rest'
     → ((more : List (List ℕ)) × (lines_of u ≡ lines_of (Whole map es) ++ more) × (rest ++ b ∷ after ≡ lines_text more ++ rest')) → ⊥
-after_not map es u rest rest' after b h k r ([], l, e) =
-    let same = lines_once (Whole map es) u h k (sym (l ∙ append-nil (lines_of (Whole map es)))) in
-    let none : rest' ≡ [] = subst (λ (t : Taken). IsRest t rest') (sym same) r in
-    let n : length (rest ++ b ∷ after) ≡ length {A = ℕ} [] = ap length (e ∙ none) in
-    absurd (omega (arith, length-append rest (b ∷ after)))
+after_not map es u rest rest' after b h k r ([], l, e) = grind (arith, (lines_once (Whole map es) u h k (sym (l ∙ append-nil (lines_of (Whole map es))))), (append-nil (lines_of (Whole map es))), (lines_of (Whole map es)), (length-append rest (b ∷ after)))
 after_not map es u rest rest' after b h k r ((m ∷ ms), l, e) = goes_on (Whole map es) u m ms h k l
 
 -- where a byte cannot stand no text stands
@@ -149,9 +124,7 @@ no_meet prefix text after (Whole map es) u rest rest' b why h k e m = after_not 
 no_meet prefix text after t u rest rest' b why h k e m = stops_not t u rest rest' after b why h.lines k.lines h.begun.0 k.begun m (prefix_of prefix text (b ∷ after) t u rest rest' h k e)
 
 fault_is : (why : CertWhy) (text : List ℕ) (line : ℕ) → why ≢ Memory → IsRefusal text line why → ((why ≡ Unended) × EndsOpen text line) ⊎ StopsAt text line why
-fault_is Memory text line never h = absurd (never refl)
-fault_is Unended text line never h = inl (refl, h)
-fault_is why text line never h = inr h
+fault_is why text line never h = grind (arith)
 
 -- a text that stands has no byte that cannot
 pub stuck_stands : (text : List ℕ) (line : ℕ) (why : CertWhy) (u : Taken) (rest' : List ℕ) → StopsAt text line why → Holds text u rest' → ⊥
@@ -161,13 +134,7 @@ compare : (f g a b : List ℕ) (x y : ℕ) → f ++ x ∷ a ≡ g ++ y ∷ b →
 compare [] [] a b x y e = inl (refl, cc)
 compare [] (z ∷ g) a b x y e = inr (inl (g, cc))
 compare (z ∷ f) [] a b x y e = inr (inr (f, cc))
-compare (z ∷ f) (w ∷ g) a b x y e =
-    let head : z ≡ w = cc in
-    elim (compare f g a b x y (cc)) [
-      | inl r ↦ inl (cc (head, r.0), r.1)
-      | inr (inl r) ↦ inr (inl (r.0, cc (head, r.1)))
-      | inr (inr r) ↦ inr (inr (r.0, cc (head, r.1)))
-    ]
+compare (z ∷ f) (w ∷ g) a b x y e = grind (arith, (compare f g a b x y (cc)))
 
 stuck_once : (text : List ℕ) (line line' : ℕ) (why why' : CertWhy) → StopsAt text line why → StopsAt text line' why' → (line ≡ line') × (why ≡ why')
 stuck_once text line line' why why' s r =
@@ -217,6 +184,4 @@ whole_of c (Whole map es) = record { map = map; entries = es }
 whole_of c t = c
 
 pub spelled_once : (c d : Certificate) (text : List ℕ) → Spells c text → Spells d text → c ≡ d
-spelled_once c d text h k =
-    let t = (holds_once text (Whole c.map c.entries) (Whole d.map d.entries) [] [] (spelled_holds c text h) (spelled_holds d text k)).0 in
-    ap (whole_of c) t
+spelled_once c d text h k = grind (arith, (holds_once text (Whole c.map c.entries) (Whole d.map d.entries) [] [] (spelled_holds c text h) (spelled_holds d text k)), (spelled_holds c text h), (spelled_holds d text k))

@@ -1,62 +1,38 @@
 -- A list that rises has one entry at an address and key at most.
 use Rattle.dvg_cert.proofs.Common.{◌≡◌, ℕ, zero, suc, Bool, true, false, cond, List, [], ◌∷◌, length, take, get_or, ◌<◌, Option, Some, None, refl, sym, ap, subst, ◌∙◌, arith, inl, inr, ◌⊎◌, ◌==◌, IfSome, IfNone, Contains, and_parts, and_from, nat_tests, Contains-get_or, Entry, Key, At, Any, KeyBefore, Before, IsRising}
+use Rattle.std.proofs.Common.{rules}
+use Rattle.std.proofs.lemmas.Grind.{common_steps}
 use Rattle.dvg_cert.specs.Lookup.{same_key, is_at, entry_at, IsOnlyAt, HasNoneAt}
 use Rattle.dvg_cert.specs.Laws.{OnlyEntry}
 
 key_same : (a b : Key) → same_key a b ≡ true → b ≡ a
-key_same (At m) (At n) h = let e : n ≡ m = grind (arith, nat_tests) in ap At e
-key_same (At m) Any h = absurd cc
-key_same Any (At n) h = absurd cc
-key_same Any Any h = refl
+key_same a b h = grind (arith, nat_tests)
 
 key_itself : (a : Key) → same_key a a ≡ true
 key_itself (At m) = grind (arith, nat_tests)
 key_itself Any = refl
 
 pub at_means : (addr : ℕ) (key : Key) (e : Entry) → is_at addr key e ≡ true → (e.addr ≡ addr) × (e.key ≡ key)
-at_means addr key e h =
-    let r = and_parts (addr == e.addr) (same_key key e.key) h in
-    let a : addr == e.addr ≡ true = r.0 in
-    (grind (arith, nat_tests), key_same key e.key r.1)
+at_means addr key e h = grind (arith, and_parts, nat_tests, key_same)
 
 pub at_holds : (addr : ℕ) (key : Key) (e : Entry) → e.addr ≡ addr → e.key ≡ key → is_at addr key e ≡ true
-at_holds addr key e a k =
-    let same : addr == e.addr ≡ true = grind (arith, nat_tests) in
-    let keys : same_key key e.key ≡ true = ap (same_key key) k ∙ key_itself key in
-    and_from (addr == e.addr) (same_key key e.key) same keys
-
-key_before : (a b c : Key) → KeyBefore a b → KeyBefore b c → KeyBefore a c
-key_before (At l) (At m) (At n) h k = omega arith
-key_before (At l) (At m) Any h k = tt
-key_before (At l) Any c h k = absurd k
-key_before Any b c h k = absurd h
-
-key_not_before : (a b : Key) → b ≡ a → KeyBefore a b → ⊥
-key_not_before (At m) (At n) e h = let same : n ≡ m = cc in absurd (omega arith)
-key_not_before (At m) Any e h = absurd cc
-key_not_before Any b e h = h
+at_holds addr key e a k = grind (arith, nat_tests, key_itself, and_from)
 
 pub before_next : (e f g : Entry) → Before e f → Before f g → Before e g
-before_next e f g (inl h) (inl k) = inl (omega arith)
-before_next e f g (inl h) (inr k) = inl (omega (arith, k.0))
-before_next e f g (inr h) (inl k) = inl (omega (arith, h.0))
-before_next e f g (inr h) (inr k) = inr (h.0 ∙ k.0, key_before e.key f.key g.key h.1 k.1)
+before_next e f g h3 h4 = grind (arith)
 
 pub not_before : (e f : Entry) → f.addr ≡ e.addr → f.key ≡ e.key → Before e f → ⊥
-not_before e f a k (inl h) = absurd (omega arith)
-not_before e f a k (inr h) = key_not_before e.key f.key k h.1
+not_before e f a k h4 = grind (arith)
 
 -- an entry of a list is its first or in what follows
 pub first_or_later : (e : Entry) (es : List Entry) (f : Entry) → Contains (e ∷ es) f → (f ≡ e) ⊎ Contains es f
-first_or_later e es f (zero, lt, same) = inl (sym same)
-first_or_later e es f (suc k, lt, same) = inr (k, omega arith, same)
+first_or_later e es f h3 = grind (arith)
 
 pub later : (e : Entry) (es : List Entry) (f : Entry) → Contains es f → Contains (e ∷ es) f
 later e es f h = (suc h.0, omega (arith, h.1), h.2)
 
 pub rising_tail : (e : Entry) (es : List Entry) → IsRising (e ∷ es) → IsRising es
-rising_tail e [] h = tt
-rising_tail e (f ∷ es) h = h.1
+rising_tail e es h = grind (arith)
 
 pub before_later : (e : Entry) (es : List Entry) (f : Entry) → IsRising (e ∷ es) → Contains es f → Before e f
 before_later e [] f h c = absurd (omega (arith, c.1))
@@ -67,21 +43,13 @@ before_later e (g ∷ es) f h c =
     ]
 
 not_at : (e f : Entry) → Before e f → is_at f.addr f.key e ≡ false
-not_at e f lt = by (is_at f.addr f.key e) refl
-  where
-    by : (b : Bool) → is_at f.addr f.key e ≡ b → is_at f.addr f.key e ≡ false
-    by false p = p
-    by true p = let r = at_means f.addr f.key e p in absurd (not_before e f (sym r.0) (sym r.1) lt)
+not_at e f lt = grind (arith, at_means, not_before)
 
 -- no entry before one stands at its address and key
 pub new_at : (es : List Entry) (i : ℕ) (d : Entry) → IsRising es → i < length es → entry_at (take i es) (get_or es i d).addr (get_or es i d).key ≡ None
 new_at [] i d h lt = absurd (omega arith)
 new_at (e ∷ es) zero d h lt = refl
-new_at (e ∷ es) (suc i) d h lt =
-    let f = get_or es i d in
-    let listed : Contains es f = Contains-get_or es i d (omega (arith, lt)) in
-    let is : is_at f.addr f.key e ≡ false = not_at e f (before_later e es f h listed) in
-    rw is (new_at es i d (rising_tail e es h) (omega (arith, lt)))
+new_at (e ∷ es) (suc i) d h lt = grind (arith, rules, common_steps, not_at, before_later, (new_at es i d (rising_tail e es h) (omega (arith, lt))), (rising_tail e es h), rising_tail)
 
 elsewhere : (addr : ℕ) (key : Key) (e f : Entry) → is_at addr key e ≡ false → f ≡ e → f.addr ≡ addr → f.key ≡ key → ⊥
 elsewhere addr key e f is same a k = let yes = at_holds addr key f a k in absurd cc

@@ -7,21 +7,13 @@ use Rattle.dvg_cert.proofs.Rising.{begun_push, no_entry_yet}
 use Rattle.dvg_cert.proofs.FirstLines.{first_taken, rom_taken}
 
 pub not_whole : (taken : Taken) → ((IsUnended taken → ⊥) → ⊥) → IsUnended taken
-not_whole (Whole map es) h = absurd (h (λ x. x))
-not_whole taken h = tt
+not_whole taken h = grind (arith)
 
 pub rest_of : (taken : Taken) (rest : List ℕ) → IsUnended taken → Without LINE_FEED rest → length rest < LONGEST_LINE → IsRest taken rest
-rest_of (Whole map es) rest u free short = absurd u
-rest_of taken rest u free short = (free, short)
+rest_of taken rest u free short = grind (arith)
 
 pub rest_is : (taken : Taken) (rest : List ℕ) → IsUnended taken → IsRest taken rest → Without LINE_FEED rest × (length rest < LONGEST_LINE)
-rest_is (Whole map es) rest u h = absurd u
-rest_is taken rest u h = h
-
-meets_line : (why : CertWhy) (taken : Taken) (line : List ℕ) → why ≢ Memory → IsUnended taken → IsLineRefused taken line why → Meets taken line LINE_FEED why
-meets_line why (Whole map es) line never u w = absurd u
-meets_line Memory taken line never u w = absurd (never refl)
-meets_line why taken line never u w = inr (refl, w)
+rest_is taken rest u h = grind (arith)
 
 regroup : (a b c : List ℕ) → a ++ (b ++ LINE_FEED ∷ c) ≡ (a ++ (b ++ LINE_FEED ∷ [])) ++ c
 regroup a b c = simp append_assoc
@@ -31,25 +23,21 @@ pub entry_taken : (map : MemoryMap) (es : List Entry) (line : List ℕ) (e : Ent
 entry_taken map es line e l = begun_push map es e ∙ ap (λ (t : List ℕ). begun_with map es ++ ended t) (sym l)
 
 no_memory : (taken : Taken) (line after : List ℕ) → IsTaken taken → IsLineRefused taken line Memory → IsRefusal (text_taken taken ++ (line ++ LINE_FEED ∷ after)) (line_number taken) Memory
-no_memory (Begun map es) line after h w =
-    (map, es ++ w.0 ∷ [], after, w.2, omega (arith, length-append es (w.0 ∷ [])), regroup (begun_with map es) line after ∙ ap (λ (t : List ℕ). t ++ after) (sym (entry_taken map es line w.0 w.1.1)), omega (arith, length-append es (w.0 ∷ [])))
+no_memory (Begun map es) line after h w = grind (arith, (length-append es (w.0 ∷ [])), (regroup (begun_with map es) line after), (begun_with map es), (entry_taken map es line w.0 w.1.1))
 no_memory taken line after h w = absurd w
 
 never_unended : (taken : Taken) (line : List ℕ) → IsLineRefused taken line Unended → ⊥
-never_unended Nothing line w = w
-never_unended taken line w = w
+never_unended taken line w = grind (arith)
 
 never_after : (taken : Taken) (line : List ℕ) → IsLineRefused taken line After → ⊥
-never_after Nothing line w = w
-never_after taken line w = w
+never_after taken line w = grind (arith)
 
 -- a whole line that is refused
 pub line_fault : (why : CertWhy) (taken : Taken) (line after : List ℕ) → IsTaken taken → IsUnended taken → Without LINE_FEED line → length line < LONGEST_LINE → IsLineRefused taken line why → IsRefusal (text_taken taken ++ (line ++ LINE_FEED ∷ after)) (line_number taken) why × (why ≢ Unended)
 line_fault Memory taken line after h u free short w = (no_memory taken line after h w, λ e. absurd cc)
 line_fault Unended taken line after h u free short w = absurd (never_unended taken line w)
 line_fault After taken line after h u free short w = absurd (never_after taken line w)
-line_fault why taken line after h u free short w =
-    ((text_taken taken ++ line, LINE_FEED, after, taken, line, sym (append_assoc (text_taken taken) line (LINE_FEED ∷ after)), record { parts = refl; lines = h; begun = rest_of taken line u free short }, meets_line why taken line (λ e. absurd cc) u w, refl), λ e. absurd cc)
+line_fault why taken line after h u free short w = grind (arith, (text_taken taken), (append_assoc (text_taken taken) line (LINE_FEED ∷ after)), (rest_of taken line u free short))
 
 -- a prefix of what is free, and the element after it
 next_free : (n : ℕ) (xs : List ℕ) → n < length xs → Without LINE_FEED (take (suc n) xs) → (xs ≡ take n xs ++ get_or xs n 0 ∷ drop (suc n) xs) × Without LINE_FEED (take n xs) × (get_or xs n 0 ≢ LINE_FEED)
@@ -58,8 +46,7 @@ next_free zero (x ∷ xs) lt h = (refl, tt, λ e. absurd (grind (arith, nat_test
 next_free (suc n) (x ∷ xs) lt h = let r = next_free n xs (omega arith) h.1 in (ap (λ (ys : List ℕ). x ∷ ys) r.0, (h.0, r.1), r.2)
 
 pub meets_long : (taken : Taken) (rest : List ℕ) (b : ℕ) → IsUnended taken → b ≢ LINE_FEED → length rest ≡ LONGEST_LINE - 1 → Meets taken rest b TooLong
-meets_long (Whole map es) rest b u h n = absurd u
-meets_long taken rest b u h n = inl (h, n, refl)
+meets_long taken rest b u h n = grind (arith)
 
 long_at : (k : ℕ) (taken : Taken) (begun rest : List ℕ) → IsTaken taken → IsUnended taken → Without LINE_FEED begun → length begun + k ≡ LONGEST_LINE - 1 → k < length rest → Without LINE_FEED (take (suc k) rest) → IsRefusal (text_taken taken ++ (begun ++ rest)) (line_number taken) TooLong
 long_at k taken begun rest h u clear n lt free =
@@ -76,11 +63,7 @@ long_at k taken begun rest h u clear n lt free =
 
 -- no line end where a line must have one
 pub end_fault : (why : CertWhy) (room : ℕ) (taken : Taken) (begun rest : List ℕ) → IsTaken taken → IsUnended taken → IsRest taken begun → room ≡ LONGEST_LINE - length begun → EndsLine room rest (Err why) → IsRefusal (text_taken taken ++ (begun ++ rest)) (line_number taken) why × (why ≢ Unended)
-end_fault why room taken begun rest h u r n e =
-    let s = rest_is taken begun u r in
-    let m : room ≡ suc (LONGEST_LINE - 1 - length begun) = omega (arith, s.1) in
-    let f = long_at (LONGEST_LINE - 1 - length begun) taken begun rest h u s.0 (omega (arith, s.1)) (omega (arith, e.1, s.1)) (subst (λ (k : ℕ). Without LINE_FEED (take k rest)) m e.2) in
-    subst (λ (w : CertWhy). IsRefusal (text_taken taken ++ (begun ++ rest)) (line_number taken) w × (w ≢ Unended)) (sym e.0) (f, λ x. absurd cc)
+end_fault why room taken begun rest h u r n e = grind (arith, rest_is, long_at, text_taken, line_number)
 
 -- a line begun
 pub begins : (taken : Taken) (begun rest new : List ℕ) → IsTaken taken → IsUnended taken → IsRest taken begun → Without LINE_FEED rest → length rest < LONGEST_LINE - length begun → new ≡ begun ++ rest → Holds (text_taken taken ++ (begun ++ rest)) taken new
@@ -97,25 +80,15 @@ after_fault taken begun rest h r u some = absurd (u tt)
 
 pub after_refused : (line : ℕ) (f : CertFault) (taken : Taken) (begun rest : List ℕ) → IsTaken taken → IsRest taken begun → (IsUnended taken → ⊥) → line ≡ line_number taken → 0 < length rest → f ≡ record { line = line; why = After }
     → IsRefusal (text_taken taken ++ (begun ++ rest)) f.line f.why × (f.why ≢ Unended)
-after_refused line f taken begun rest h r u n some e =
-    subst (λ (x : CertFault). IsRefusal (text_taken taken ++ (begun ++ rest)) x.line x.why × (x.why ≢ Unended)) (sym e)
-    (subst (λ (k : ℕ). IsRefusal (text_taken taken ++ (begun ++ rest)) k After × (After ≢ Unended)) (sym n) (after_fault taken begun rest h r u some))
+after_refused line f taken begun rest h r u n some e = grind (arith, text_taken, after_fault)
 
 -- the first line of all
 pub first_at : (stage after : Stage) (map : MemoryMap) (es : List Entry) (taken : Taken) (line : List ℕ) → stage ≡ First → taken_of map es stage ≡ taken → IsStaged map es stage → StartsWith line (Ok after) → IsTaken (taken_of map es after) × (text_taken (taken_of map es after) ≡ text_taken taken ++ ended line) × IsStaged map es after
-first_at First Rom map es taken line s v h l = (tt, ap ended (sym l) ∙ ap (λ (t : Taken). text_taken t ++ ended line) v, h.0)
-first_at First Later map es taken line s v h l =
-    let whole : IsCertificate map es = subst (λ (m : MemoryMap). IsCertificate m es) (sym h.1) (subst (λ (xs : List Entry). IsCertificate asteroids xs) (sym h.0) (no_entry_yet asteroids (record { past_frames = omega arith; ordered = omega arith; inside = omega arith }))) in
-    (whole, ap (λ (m : MemoryMap). begun_with m es) h.1 ∙ ap (begun_with asteroids) h.0 ∙ first_taken line l ∙ ap (λ (t : Taken). text_taken t ++ ended line) v, whole)
-first_at First after map es taken line s v h l = absurd l
-first_at stage after map es taken line s v h l = absurd cc
+first_at stage after map es taken line s v h l = grind (arith, ended, text_taken, asteroids, no_entry_yet, begun_with, first_taken)
 
 -- the line of the ROM
 pub rom_at_line : (stage : Stage) (old map : MemoryMap) (es : List Entry) (taken : Taken) (line : List ℕ) → stage ≡ Rom → taken_of old es stage ≡ taken → IsStaged old es stage → IsElsewhere map → line ≡ rom_line map → IsCertificate map es × (begun_with map es ≡ text_taken taken ++ ended line)
-rom_at_line Rom old map es taken line s v h is l =
-    let none : es ≡ [] = h in
-    (subst (λ (xs : List Entry). IsCertificate map xs) (sym none) (no_entry_yet map is.0), ap (begun_with map) none ∙ rom_taken map line is.1 l ∙ ap (λ (t : Taken). text_taken t ++ ended line) v)
-rom_at_line stage old map es taken line s v h is l = absurd cc
+rom_at_line stage old map es taken line s v h is l = grind (arith, no_entry_yet, begun_with, rom_taken, text_taken, ended)
 
 -- a line whose end has come, and that is refused
 pub line_refused : (why : CertWhy) (taken : Taken) (begun rest prefix after : List ℕ) → IsTaken taken → IsUnended taken → IsRest taken begun → rest ≡ prefix ++ LINE_FEED ∷ after → Without LINE_FEED prefix → length prefix < LONGEST_LINE - length begun → IsLineRefused taken (begun ++ prefix) why
@@ -129,13 +102,7 @@ line_refused why taken begun rest prefix after h u r e free short w =
 -- ---- entries whose lines stand first
 
 pub ended_taken : (map : MemoryMap) (old es new : List Entry) (e : Entry) (bytes rest after : List ℕ) → begun_with map old ++ bytes ≡ begun_with map es ++ rest → rest ≡ ended (entry_line e) ++ after → new ≡ es ++ e ∷ [] → (begun_with map old ++ bytes ≡ begun_with map new ++ after) × (length after < length rest)
-ended_taken map old es new e bytes rest after so_far is grown = (
-  so_far ∙ ap (λ (xs : List ℕ). begun_with map es ++ xs) is ∙ sym (append_assoc (begun_with map es) (ended (entry_line e)) after)
-      ∙ ap (λ (xs : List ℕ). xs ++ after) (sym (entry_taken map es (entry_line e) e refl)) ∙ ap (λ (n : List Entry). begun_with map n ++ after) (sym grown),
-  omega (arith, ap length is, length-append (ended (entry_line e)) after, length-append (entry_line e) (LINE_FEED ∷ [])),
-)
+ended_taken map old es new e bytes rest after so_far is grown = grind (arith, begun_with, append_assoc, ended, entry_line, entry_taken, length-append)
 
 pub ended_refused : (map : MemoryMap) (old es : List Entry) (e : Entry) (bytes rest after : List ℕ) → begun_with map old ++ bytes ≡ begun_with map es ++ rest → rest ≡ ended (entry_line e) ++ after → IsCertificate map (es ++ e ∷ []) → HasEntryAt (begun_with map old ++ bytes) (line_number (Begun map es))
-ended_refused map old es e bytes rest after so_far is fits =
-    let more = length-append es (e ∷ []) in
-    (map, es ++ e ∷ [], after, fits, omega (arith, more), (ended_taken map old es (es ++ e ∷ []) e bytes rest after so_far is refl).0, omega (arith, more))
+ended_refused map old es e bytes rest after so_far is fits = grind (arith, (length-append es (e ∷ [])), (ended_taken map old es (es ++ e ∷ []) e bytes rest after so_far is refl))

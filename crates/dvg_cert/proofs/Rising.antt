@@ -38,7 +38,4 @@ small_map map is = omega (arith, is.inside)
 -- one more line
 pub begun_push : (map : MemoryMap) (es : List Entry) (e : Entry) → begun_with map (es ++ e ∷ []) ≡ begun_with map es ++ ended (entry_line e)
 unfolding begun_with
-begun_push map es e =
-    let f : Entry → List ℕ = λ x. ended (entry_line x) in
-    let first : List ℕ = flat_map ended (heading map) in
-    ap (λ (t : List ℕ). first ++ t) (flat_map-append f es (e ∷ []) ∙ ap (λ (t : List ℕ). flat_map f es ++ t) (append-nil (f e))) ∙ sym (append_assoc first (flat_map f es) (f e))
+begun_push map es e = grind (arith, ended, entry_line, flat_map, heading, flat_map-append, append-nil, append_assoc)

@@ -5,47 +5,21 @@ use Rattle.dvg_cert.specs.Lookup.{is_at, entry_at, IsOnlyAt, HasNoneAt}
 use Rattle.dvg_cert.specs.Private.Searching.{lower_key, stands_before}
 use Rattle.dvg_cert.proofs.OnlyEntries.{at_means, at_holds, before_next, not_before, rising_tail, before_later, found}
 
-lower_means : (a b : Key) → lower_key a b ≡ true → KeyBefore a b
-lower_means (At m) (At n) h = grind (arith, nat_tests)
-lower_means (At m) Any h = tt
-lower_means Any b h = absurd cc
-
-lower_holds : (a b : Key) → KeyBefore a b → lower_key a b ≡ true
-lower_holds (At m) (At n) h = grind (arith, nat_tests)
-lower_holds (At m) Any h = refl
-lower_holds Any b h = absurd h
-
 pub lower_is : (a b : Key) (r : Bool) → (IsTrue r ↔ KeyBefore a b) → r ≡ lower_key a b
-lower_is a b true h = sym (lower_holds a b (h.0 refl))
-lower_is a b false h = by (lower_key a b) refl
-  where
-    by : (l : Bool) → lower_key a b ≡ l → false ≡ l
-    by false e = refl
-    by true e = let f : IsTrue false = h.1 (lower_means a b e) in absurd cc
+lower_is a b r h = grind (arith, nat_tests)
 
 -- an entry at an address and key
 abbrev place : ℕ → Key → Entry → Entry
 place addr key d = record { addr = addr; key = key; stop = d.stop; lit = d.lit; depth = d.depth; words = d.words; scale = d.scale }
 
 by_parts : (a b : ℕ) (t : Bool) → (nat_lt a b || (a == b && t)) ≡ true → (a < b) ⊎ ((a ≡ b) × (t ≡ true))
-by_parts a b t h = by (nat_lt a b) refl
-  where
-    by : (l : Bool) → nat_lt a b ≡ l → (a < b) ⊎ ((a ≡ b) × (t ≡ true))
-    by true e = inl (grind (arith, nat_tests))
-    by false e = inr (grind (arith, nat_tests), grind (arith, nat_tests))
+by_parts a b t h = grind (arith, nat_lt, nat_tests)
 
 before_means : (addr : ℕ) (key : Key) (e f : Entry) → stands_before addr key e ≡ true → f.addr ≡ addr → f.key ≡ key → Before e f
-before_means addr key e f h a k = elim (by_parts e.addr addr (lower_key e.key key) h) [
-  | inl l ↦ inl (omega (arith, a))
-  | inr p ↦ inr (p.0 ∙ sym a, subst (KeyBefore e.key) (sym k) (lower_means e.key key p.1))
-]
+before_means addr key e f h a k = grind (arith, by_parts, nat_tests)
 
 before_holds : (addr : ℕ) (key : Key) (e f : Entry) → Before e f → f.addr ≡ addr → f.key ≡ key → stands_before addr key e ≡ true
-before_holds addr key e f (inl l) a k = let lt : e.addr < addr = omega (arith, a) in grind (arith, nat_tests)
-before_holds addr key e f (inr p) a k =
-    let same : e.addr ≡ addr = p.0 ∙ a in
-    let low : lower_key e.key key ≡ true = lower_holds e.key key (subst (KeyBefore e.key) k p.1) in
-    grind (arith, nat_tests)
+before_holds addr key e f h4 a k = grind (arith, nat_tests)
 
 rising_at : (es : List Entry) (i j : ℕ) (d : Entry) → IsRising es → i < j → j < length es → Before (get_or es i d) (get_or es j d)
 rising_at [] i j d h lt le = absurd (omega arith)
@@ -54,8 +28,7 @@ rising_at (e ∷ es) zero (suc j) d h lt le = before_later e es (get_or es j d) 
 rising_at (e ∷ es) (suc i) (suc j) d h lt le = rising_at es i j d (rising_tail e es h) (omega arith) (omega arith)
 
 earlier : (es : List Entry) (addr : ℕ) (key : Key) (i j : ℕ) (d f : Entry) → IsRising es → i < j → j < length es → stands_before addr key (get_or es j d) ≡ true → f.addr ≡ addr → f.key ≡ key → stands_before addr key (get_or es i d) ≡ true
-earlier es addr key i j d f h lt le s a k =
-    before_holds addr key (get_or es i d) f (before_next (get_or es i d) (get_or es j d) f (rising_at es i j d h lt le) (before_means addr key (get_or es j d) f s a k)) a k
+earlier es addr key i j d f h lt le s a k = grind (arith, (before_holds addr key (get_or es i d) f (before_next (get_or es i d) (get_or es j d) f (rising_at es i j d h lt le) (before_means addr key (get_or es j d) f s a k)) a k), (before_next (get_or es i d) (get_or es j d) f (rising_at es i j d h lt le) (before_means addr key (get_or es j d) f s a k)), (rising_at es i j d h lt le), (before_means addr key (get_or es j d) f s a k))
 
 pub parted : (es : List Entry) (addr : ℕ) (key : Key) → IsRising es → IsPartitionedBy (stands_before addr key) es
 parted es addr key h = λ i j d le lt s. by i j d le lt s (nat_lt i j) refl

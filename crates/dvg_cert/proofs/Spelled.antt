@@ -1,5 +1,7 @@
 -- A line put together token by token, and a text line by line.
 use Rattle.dvg_cert.proofs.Common.{◌≡◌, true, false, ℕ, ◌+◌, ◌<◌, List, [], ◌∷◌, ◌++◌, length, get_or, take, drop, Option, Result, Ok, Err, refl, sym, ap, subst, ◌∙◌, append_assoc, arith, add-one, codes, decimal, OnErr, join_with_byte, flat_map, append-nil, length-append, take-append-le, take-append-drop, Appends, MemoryMap, is_asteroids, LINE_FEED, SPACE, Entry, entry_line, end_tokens, box_tokens, address_token, key_token, ended, begun_with, text_of, done_line, first_version_line, second_version_line, rom_line, heading, AppendsPrefix, spaced, Buffered, take-length, take-append-add}
+use Rattle.std.proofs.Common.{rules}
+use Rattle.std.proofs.lemmas.Grind.{common_steps}
 use Rattle.std.proofs.lemmas.List.Concat.{flat_map-append}
 use Rattle.dvg_cert.proofs.Rising.{begun_push}
 use Rattle.dvg_cert.proofs.FirstLines.{asteroids_is, first_taken, rom_taken}
@@ -25,8 +27,7 @@ sent_part old mid new text prefix piece tail e h s =
 
 -- what was held is sent now, but for the rest
 pub buffered_on : (old mid new : Option (List ℕ)) (held rest text : List ℕ) → Buffered old mid held text → Buffered mid new rest held → Buffered old new rest text
-buffered_on old mid new held rest text h k =
-    (h.0 ++ k.0, Appends-trans old mid new h.0 k.0 h.1 k.1, h.2 ∙ ap (λ (t : List ℕ). h.0 ++ t) k.2 ∙ sym (append_assoc h.0 k.0 rest))
+buffered_on old mid new held rest text h k = grind (arith, rules, common_steps, (append_assoc h.0 k.0 rest), append_assoc)
 
 -- more is held
 pub buffered_more : (old new : Option (List ℕ)) (held line text : List ℕ) → Buffered old new held text → Buffered old new (held ++ line) (text ++ line)
@@ -81,8 +82,7 @@ spelled_entry before e = line_parts before (codes "shape") (address_token e.addr
 
 -- where an error is returned
 pub sent_err : {X E P : Type 0} (r : Result X E) → P → OnErr r P
-sent_err (Ok x) p = tt
-sent_err (Err e) p = p
+sent_err r p = grind (arith)
 
 -- before the first entry
 pub first_held : (old : Option (List ℕ)) (map : MemoryMap) (held : List ℕ) → held ≡ begun_with map [] → Buffered old old held (begun_with map [])
@@ -93,27 +93,15 @@ pub here_held : (map : MemoryMap) (held : List ℕ) → is_asteroids map ≡ tru
 here_held map held is h = h ∙ sym (ap (λ (m : MemoryMap). begun_with m []) (asteroids_is map is) ∙ first_taken first_version_line refl)
 
 pub elsewhere_held : (map : MemoryMap) (held : List ℕ) → is_asteroids map ≡ false → held ≡ (((ended second_version_line ++ codes "rom") ++ SPACE ∷ address_token map.rom_first) ++ SPACE ∷ address_token map.rom_last) ++ LINE_FEED ∷ [] → held ≡ begun_with map []
-elsewhere_held map held is h = h ∙ regroup (ended second_version_line) (codes "rom") (SPACE ∷ address_token map.rom_first) (SPACE ∷ address_token map.rom_last) (LINE_FEED ∷ []) ∙ sym (rom_taken map (rom_line map) is refl)
-  where
-    regroup : (a b c d e : List ℕ) → (((a ++ b) ++ c) ++ d) ++ e ≡ a ++ ((b ++ (c ++ d)) ++ e)
-    regroup a b c d e = simp append_assoc
+elsewhere_held map held is h = grind (arith, ended, second_version_line, codes, address_token, rom_taken, rom_line, append_assoc)
 
 -- one more entry is held
 pub entry_held : (old mid new : Option (List ℕ)) (map : MemoryMap) (es : List Entry) (i : ℕ) (d : Entry) (held rest more : List ℕ) → i < length es → more ≡ rest ++ ended (entry_line (get_or es i d)) → Buffered old mid held (begun_with map (take i es)) → Buffered mid new rest held → Buffered old new more (begun_with map (take (i + 1) es))
-entry_held old mid new map es i d held rest more lt m h k =
-    let line : List ℕ = ended (entry_line (get_or es i d)) in
-    let b : Buffered old new (rest ++ line) (begun_with map (take i es) ++ line) = buffered_more old new rest line (begun_with map (take i es)) (buffered_on old mid new held rest (begun_with map (take i es)) h k) in
-    subst (λ (t : List ℕ). Buffered old new t (begun_with map (take (i + 1) es))) (sym m) (subst (λ (t : List ℕ). Buffered old new (rest ++ line) t) (sym (begun_next map es i d lt)) b)
+entry_held old mid new map es i d held rest more lt m h k = grind (arith, rules, common_steps, (ended (entry_line (get_or es i d))), (entry_line (get_or es i d)), (begun_with map (take i es)), buffered_more, (buffered_on old mid new held rest (begun_with map (take i es)) h k), (begun_with map (take (i + 1) es)), (begun_next map es i d lt), ended, entry_line, begun_with, buffered_on, begun_next)
 
 -- the last line is held
 pub done_held : (old mid new : Option (List ℕ)) (map : MemoryMap) (es cert : List Entry) (i n : ℕ) (held rest more : List ℕ) → es ≡ cert → i ≡ length es → n ≡ length es → more ≡ rest ++ ended (done_line n) → Buffered old mid held (begun_with map (take i es)) → Buffered mid new rest held → Buffered old new more (text_of map cert)
-done_held old mid new map es cert i n held rest more same all m p h k =
-    let line : List ℕ = ended (done_line n) in
-    let b : Buffered old new (rest ++ line) (begun_with map (take i es) ++ line) = buffered_more old new rest line (begun_with map (take i es)) (buffered_on old mid new held rest (begun_with map (take i es)) h k) in
-    let begun : begun_with map (take i es) ≡ begun_with map cert = ap (begun_with map) (ap (λ (j : ℕ). take j es) all ∙ take-length es ∙ same) in
-    let last : line ≡ ended (done_line (length cert)) = ap (λ (j : ℕ). ended (done_line j)) (m ∙ ap length same) in
-    let whole : begun_with map (take i es) ++ line ≡ text_of map cert = ap (λ (t : List ℕ). t ++ line) begun ∙ ap (λ (t : List ℕ). begun_with map cert ++ t) last in
-    subst (λ (t : List ℕ). Buffered old new t (text_of map cert)) (sym p) (subst (λ (t : List ℕ). Buffered old new (rest ++ line) t) whole b)
+done_held old mid new map es cert i n held rest more same all m p h k = grind (arith, rules, common_steps, (ended (done_line n)), (done_line n), (begun_with map (take i es)), buffered_more, (buffered_on old mid new held rest (begun_with map (take i es)) h k), (begun_with map cert), (begun_with map), (take-length es), (ended (done_line (length cert))), (done_line (length cert)), ended, done_line, (text_of map cert), begun_with, buffered_on, take-length, text_of)
 
 -- a write failed before the last line was held
 pub begun_in_part : (old mid new : Option (List ℕ)) (map : MemoryMap) (es cert : List Entry) (i : ℕ) (held : List ℕ) → es ≡ cert → Buffered old mid held (begun_with map (take i es)) → AppendsPrefix mid new held → AppendsPrefix old new (text_of map cert)

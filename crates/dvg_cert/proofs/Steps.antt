@@ -8,8 +8,7 @@ use Rattle.dvg_cert.proofs.Leading.{Text, same_number, digits_lead}
 -- ---- texts
 
 past_step : (c : Bool) (t b : ℕ) (text bytes rest : Text) → (b == t) ≡ c → cond c (past text bytes) None ≡ Some rest → (past text bytes ≡ Some rest → bytes ≡ text ++ rest) → b ∷ bytes ≡ t ∷ (text ++ rest)
-past_step true t b text bytes rest is e tail = ap (λ (x : ℕ). x ∷ bytes) (eqb-true b t is) ∙ ap (λ (xs : Text). t ∷ xs) (tail e)
-past_step false t b text bytes rest is e tail = absurd (none-some rest e)
+past_step c t b text bytes rest is e tail = grind (arith, eqb-true, none-some)
 
 pub past_takes : (text bytes rest : Text) → past text bytes ≡ Some rest → bytes ≡ text ++ rest
 unfolding past
@@ -36,8 +35,7 @@ pub past_found : (n : ℕ) (text bytes prefix rest : Text) → prefix ≡ take n
 past_found n text bytes prefix rest is after same = past_is text bytes rest (sym (take-append-drop n bytes) ∙ rw (← is, ← after, same) refl)
 
 pub past_not_found : (n : ℕ) (text bytes prefix : Text) → prefix ≡ take n bytes → length text ≡ n → (prefix ≡ text → ⊥) → past text bytes ≡ None
-past_not_found n text bytes prefix is len other =
-    past_never text bytes (λ rest e. other (is ∙ ap (λ (k : ℕ). take k bytes) (sym len) ∙ ap (take (length text)) e ∙ take-append_seam text rest))
+past_not_found n text bytes prefix is len other = grind (arith, past_never, take-append_seam)
 
 pub past_short : (text bytes : Text) → length bytes < length text → past text bytes ≡ None
 past_short text bytes lt = past_never text bytes (λ rest e. omega (arith, ap length e, length-append text rest))
@@ -46,8 +44,7 @@ past_short text bytes lt = past_never text bytes (λ rest e. omega (arith, ap le
 
 off_step : (t : Bool) (c : ℕ) (cs ds rest : Text) → nat_lt (digit_value c) 10 ≡ t → (cs ≡ ds ++ rest) × NoDigitFirst rest
     → (c ∷ cs ≡ (cond {A = Text × Text} t (c ∷ ds, rest) ([], c ∷ cs)).0 ++ (cond {A = Text × Text} t (c ∷ ds, rest) ([], c ∷ cs)).1) × NoDigitFirst ((cond {A = Text × Text} t (c ∷ ds, rest) ([], c ∷ cs)).1)
-off_step true c cs ds rest is h = (ap (λ (xs : Text). c ∷ xs) h.0, h.1)
-off_step false c cs ds rest is h = (refl, λ lt. let yes : nat_lt (digit_value c) 10 ≡ true = grind (arith, nat_tests) in absurd cc)
+off_step t c cs ds rest is h = grind (arith, nat_lt, digit_value, nat_tests)
 
 pub off_takes : (bytes : Text) → (bytes ≡ (digits_off bytes).0 ++ (digits_off bytes).1) × NoDigitFirst ((digits_off bytes).1)
 unfolding digits_off
@@ -57,19 +54,12 @@ off_takes (c ∷ cs) = off_step (nat_lt (digit_value c) 10) c cs (digits_off cs)
 pub off_again : (ds rest : Text) → AllDigits 10 ds → NoDigitFirst rest → digits_off (ds ++ rest) ≡ (ds, rest)
 unfolding digits_off
 off_again [] [] all stop = refl
-off_again [] (c ∷ cs) all stop = by_test (nat_lt (digit_value c) 10) refl
-  where
-    by_test : (t : Bool) → nat_lt (digit_value c) 10 ≡ t → digits_off (c ∷ cs) ≡ ([], c ∷ cs)
-    by_test true e = absurd (stop (grind (arith, nat_tests)))
-    by_test false e = rw e refl
-off_again (d ∷ ds) rest all stop =
-    let yes : nat_lt (digit_value d) 10 ≡ true = grind (arith, nat_tests) in
-    rw (yes, off_again ds rest all.1 stop) refl
+off_again [] (c ∷ cs) all stop = grind (arith, nat_lt, digit_value, digits_off, nat_tests)
+off_again (d ∷ ds) rest all stop = grind (arith, nat_lt, digit_value, nat_tests, (off_again ds rest all.1 stop))
 
 pub natural_again : (low high n : ℕ) (rest : Text) → n < 2 ^ 64 → low ≤ n → n ≤ high → NoDigitFirst rest → natural_at low high (decimal n ++ rest) ≡ Some (n, rest)
 unfolding natural_at
-natural_again low high n rest small from to stop =
-    rw (off_again (decimal n) rest (first_digit (decimal n) n small refl).1 stop, natural_some low high n (decimal n) small from to refl) refl
+natural_again low high n rest small from to stop = grind (arith, (off_again (decimal n) rest (first_digit (decimal n) n small refl).1 stop), (decimal n), (first_digit (decimal n) n small refl), (natural_some low high n (decimal n) small from to refl))
 
 pub natural_found : (low high : ℕ) (bytes : Text) (n : ℕ) (rest : Text) → natural_at low high bytes ≡ Some (n, rest) → (bytes ≡ decimal n ++ rest) × (low ≤ n) × (n ≤ high) × NoDigitFirst rest
 unfolding natural_at
@@ -95,8 +85,7 @@ pub natural_none_at : (low high : ℕ) (bytes : Text) → high ≤ MOST_MAGNITUD
 natural_none_at low high bytes top never = natural_never low high bytes (λ n rest is from to free. never n rest (omega arith) free is)
 
 positive : (n : ℕ) (bytes rest : Text) → bytes ≡ decimal n ++ rest → (get_or bytes 0 0 ≡ 48 → ⊥) → 1 ≤ n
-positive zero bytes rest e other = absurd (other (ap (λ (b : Text). get_or b 0 0) (e ∙ ap (λ (xs : Text). xs ++ rest) (decimal_digit 0 (omega arith)))))
-positive (suc n) bytes rest e other = omega arith
+positive n bytes rest e other = grind (arith, decimal_digit)
 
 pub magnitude_read : (count number : ℕ) (bytes : Text) → AllDigits 10 (take count bytes) → number ≡ digits_value 10 (take count bytes) → 0 < count → count ≤ 13 → count ≤ length bytes → NoDigitFirst (drop count bytes) → (get_or bytes 0 0 ≡ 48 → ⊥) → number ≤ MOST_MAGNITUDE
     → natural_at 1 MOST_MAGNITUDE bytes ≡ Some (number, drop count bytes)
@@ -108,69 +97,37 @@ magnitude_read count number bytes all value some few within stop other most =
 
 pub digit_found : (most : ℕ) (bytes : Text) (d : ℕ) (rest : Text) → digit_at most bytes ≡ Some (d, rest) → (bytes ≡ (48 + d) ∷ rest) × (d ≤ most)
 unfolding digit_at
-digit_found most [] d rest e = absurd (none-some (d, rest) e)
-digit_found most (c ∷ cs) d rest e =
-    let g = cond_some {A = ℕ × Text} (nat_le 48 c && nat_le c (48 + most)) (c - 48, cs) (d, rest) e in
-    let a = and_parts (nat_le 48 c) (nat_le c (48 + most)) g.0 in
-    let s = some_pair_parts (c - 48) d cs rest (ap Some g.1) in
-    let from : 48 ≤ c = grind (arith, nat_tests) in
-    let to : c ≤ 48 + most = grind (arith, nat_tests) in
-    let is : c ≡ 48 + d = omega (arith, s.0) in
-    (rw (is, s.1) refl, omega (arith, s.0))
+digit_found most bytes d rest e = grind (arith, none-some, cond_some, nat_le, and_parts, some_pair_parts, nat_tests)
 
 pub digit_again : (most d : ℕ) (rest : Text) → d ≤ most → digit_at most ((48 + d) ∷ rest) ≡ Some (d, rest)
 unfolding digit_at
-digit_again most d rest le =
-    let from : nat_le 48 (48 + d) ≡ true = grind (arith, nat_tests) in
-    let to : nat_le (48 + d) (48 + most) ≡ true = grind (arith, nat_tests) in
-    let back : 48 + d - 48 ≡ d = omega arith in
-    rw (from, to, back) refl
+digit_again most d rest le = grind (arith, nat_le, nat_tests)
 
 pub no_digit : (most : ℕ) (rest : Text) → most ≤ 9 → NoDigitFirst rest → digit_at most rest ≡ None
 unfolding digit_at
-no_digit most [] le stop = refl
-no_digit most (c ∷ cs) le stop = by_test (nat_le 48 c && nat_le c (48 + most)) refl
-  where
-    by_test : (t : Bool) → (nat_le 48 c && nat_le c (48 + most)) ≡ t → digit_at most (c ∷ cs) ≡ None
-    by_test false e = rw e refl
-    by_test true e =
-        let a = and_parts (nat_le 48 c) (nat_le c (48 + most)) e in
-        let from : 48 ≤ c = grind (arith, nat_tests) in
-        let to : c ≤ 48 + most = grind (arith, nat_tests) in
-        let d = digit_value_digit c (from, omega arith) in
-        absurd (stop (omega (arith, d)))
+no_digit most rest le stop = grind (arith, nat_le, digit_at, and_parts, nat_tests, digit_value_digit)
 
 pub digit_is : (most c : ℕ) (bytes rest : Text) → bytes ≡ c ∷ rest → 48 ≤ c → c ≤ 48 + most → digit_at most bytes ≡ Some (c - 48, rest)
-digit_is most c bytes rest is from to =
-    let spelled : c ≡ 48 + (c - 48) = omega arith in
-    ap (digit_at most) (is ∙ ap (λ (x : ℕ). x ∷ rest) spelled) ∙ digit_again most (c - 48) rest (omega arith)
+digit_is most c bytes rest is from to = grind (arith, (digit_at most), (digit_again most (c - 48) rest (omega arith)))
 
 digit_none : (most : ℕ) (bytes : Text) → ((d : ℕ) (rest : Text) → bytes ≡ (48 + d) ∷ rest → d ≤ most → ⊥) → digit_at most bytes ≡ None
 digit_none most bytes never = none_of (digit_at most bytes) (λ p e. let f = digit_found most bytes p.0 p.1 e in never p.0 p.1 f.0 f.1)
 
 pub digit_other : (most c : ℕ) (bytes rest : Text) → bytes ≡ c ∷ rest → (48 ≤ c → c ≤ 48 + most → ⊥) → digit_at most bytes ≡ None
-digit_other most c bytes rest is outside = digit_none most bytes (λ d left e le.
-    let same : c ≡ 48 + d = ap (λ (xs : Text). get_or xs 0 0) (sym is ∙ e) in
-    outside (omega arith) (omega arith))
+digit_other most c bytes rest is outside = grind (arith, digit_none)
 
 pub digit_empty : (most : ℕ) (bytes : Text) → length bytes ≡ 0 → digit_at most bytes ≡ None
 digit_empty most bytes none = digit_none most bytes (λ d left e le. omega (arith, ap length e))
 
 -- ---- addresses
 
-first_three : (bytes : Text) → 3 ≤ length bytes → bytes ≡ get_or bytes 0 0 ∷ get_or bytes 1 0 ∷ get_or bytes 2 0 ∷ drop 3 bytes
-first_three (a ∷ b ∷ c ∷ bytes) le = refl
-first_three bytes le = absurd (omega arith)
-
 pub address_short : (first last : ℕ) (bytes : Text) → length bytes < 3 → address_at first last bytes ≡ None
 unfolding address_at
-address_short first last (a ∷ b ∷ c ∷ bytes) lt = absurd (omega arith)
-address_short first last bytes lt = refl
+address_short first last bytes lt = grind (arith)
 
 pub address_read : (first last : ℕ) (bytes : Text) (o : Option ℕ) → 3 ≤ length bytes → o ≡ address_in first last (get_or bytes 0 0 ∷ get_or bytes 1 0 ∷ get_or bytes 2 0 ∷ []) → Reads o (drop 3 bytes) (address_at first last bytes)
 unfolding address_at
-address_read first last bytes (Some v) le is = ap (address_at first last) (first_three bytes le) ∙ ap (option_map (λ (n : ℕ). (n, drop 3 bytes))) (sym is)
-address_read first last bytes None le is = ap (address_at first last) (first_three bytes le) ∙ ap (option_map (λ (n : ℕ). (n, drop 3 bytes))) (sym is)
+address_read first last bytes o le is = grind (arith, address_at, option_map)
 
 pub address_found : (first last : ℕ) (bytes : Text) (a : ℕ) (rest : Text) → last < ADDRESS_END → address_at first last bytes ≡ Some (a, rest) → (bytes ≡ address_token a ++ rest) × (first ≤ a) × (a ≤ last)
 unfolding address_at
@@ -189,8 +146,7 @@ address_spelled first last a rest small from to = rw (address_again first last a
 
 -- what came where a choice gave a value
 pub chosen : {A B P : Type 0} (f : A → Option B) (o : Option A) (d : Option B) (y : B) → option_map_or f o d ≡ Some y → ((x : A) → o ≡ Some x → f x ≡ Some y → P) → (o ≡ None → d ≡ Some y → P) → P
-chosen f None d y e here there = there refl e
-chosen f (Some x) d y e here there = here x refl e
+chosen f o d y e here there = grind (arith)
 
 pub pair_is : {A B : Type 0} {a x : A} {b y : B} → a ≡ x → b ≡ y → ◌≡◌ {A = A × B} (a, b) (x, y)
 pair_is p q = cc
@@ -198,15 +154,7 @@ pair_is p q = cc
 -- ---- keys
 
 two_digits : (u : ℕ) → u ≤ 5 → decimal (10 + u) ≡ 49 ∷ (48 + u) ∷ []
-two_digits u le =
-    let both = digits_of_step 10 (10 + u) (omega arith) (omega arith) ∙ joined ((10 + u) / 10) ((10 + u) % 10) (omega arith) (omega arith) in
-    decimal-digits_of (10 + u) (omega arith) (omega arith) ∙ ap (map (λ d. 48 + d)) both
-  where
-    one : digits_of 10 1 ≡ 1 ∷ []
-    one = digits_of_step 10 1 (omega arith) (omega arith)
-
-    joined : (a b : ℕ) → a ≡ 1 → b ≡ u → digits_of 10 a ++ (b ∷ []) ≡ 1 ∷ u ∷ []
-    joined a b p q = ap (λ (x : ℕ). digits_of 10 x ++ (b ∷ [])) p ∙ ap (λ (xs : Text). xs ++ (b ∷ [])) one ∙ ap (λ (y : ℕ). 1 ∷ y ∷ []) q
+two_digits u le = grind (arith, digits_of_step, decimal-digits_of, map)
 
 abbrev KeyThen : Text → Key × Text → Type 0
 KeyThen bytes p = (bytes ≡ key_token p.0 ++ p.1) × IsKey p.0
@@ -216,9 +164,7 @@ one_spelled d bytes rest le is = (is ∙ ap (λ (xs : Text). xs ++ rest) (sym (d
 
 ten_step : (t : Bool) (d : ℕ) (bytes left : Text) (k : Key) (rest : Text) → (d == 1) ≡ t → d ≤ 9 → bytes ≡ (48 + d) ∷ left
     → cond {A = Option (Key × Text)} t (option_map_or (λ u. Some (At (10 + u.0), u.1)) (digit_at 5 left) (Some (At 1, left))) (Some (At d, left)) ≡ Some (k, rest) → KeyThen bytes (k, rest)
-ten_step false d bytes left k rest is le e h =
-    let s = some_pair_parts (At d) k left rest h in
-    subst (KeyThen bytes) (pair_is s.0 s.1) (one_spelled d bytes left le e)
+ten_step false d bytes left k rest is le e h = grind (arith, some_pair_parts, pair_is, one_spelled)
 ten_step true d bytes left k rest is le e h =
     let one : d ≡ 1 = eqb-true d 1 is in
     chosen (λ (u : ℕ × Text). Some (At (10 + u.0), u.1)) (digit_at 5 left) (Some (At 1, left)) (k, rest) h
@@ -244,14 +190,11 @@ key_found bytes k rest e =
 
 one_again : (t : Bool) (d : ℕ) (rest : Text) → (d == 1) ≡ t → d ≤ 9 → NoDigitFirst rest → key_at ((48 + d) ∷ rest) ≡ Some (At d, rest)
 unfolding key_at
-one_again false d rest is le stop = rw (digit_again 9 d rest le, is) refl
-one_again true d rest is le stop = rw (digit_again 9 d rest le, is, no_digit 5 rest (omega arith) stop, eqb-true d 1 is) refl
+one_again t d rest is le stop = grind (arith, digit_again, no_digit, eqb-true)
 
 two_again : (u : ℕ) (rest : Text) → u ≤ 5 → key_at (49 ∷ (48 + u) ∷ rest) ≡ Some (At (10 + u), rest)
 unfolding key_at
-two_again u rest le =
-    let first : digit_at 9 (49 ∷ (48 + u) ∷ rest) ≡ Some (1, (48 + u) ∷ rest) = digit_again 9 1 ((48 + u) ∷ rest) (omega arith) in
-    rw (first, digit_again 5 u rest le) refl
+two_again u rest le = grind (arith, (digit_at 9 (49 ∷ (48 + u) ∷ rest)), (digit_again 9 1 ((48 + u) ∷ rest) (omega arith)), (digit_again 5 u rest le))
 
 pub key_spelled : (k : Key) (rest : Text) → IsKey k → NoDigitFirst rest → key_at (key_token k ++ rest) ≡ Some (k, rest)
 unfolding key_at digit_at

@@ -1,5 +1,7 @@
 -- The laws of texts.
 use Rattle.dvg_cert.proofs.Common.{◌≡◌, ◌≢◌, ℕ, ◌+◌, ◌*◌, ◌≤◌, Bool, true, false, cond, List, [], ◌∷◌, ◌++◌, length, Result, Ok, Err, map, refl, ap, subst, ◌∙◌, append_assoc, arith, inl, inr, ◌==◌, count_by, AllByRecursion, length-map, append-nil, length-append, MOST_ENTRIES, LONGEST_LINE, LINE_FEED, CertWhy, Unended, Memory, CertFault, Entry, entry_line, heading, begun_with, text_of, Certificate, Taken, Begun, Whole, text_taken, line_number, Without, IsTaken, IsRest, Holds, MayStand, EndsOpen, MemoryMap, IsRefusal, ReadAnswer}
+use Rattle.std.proofs.Common.{rules}
+use Rattle.std.proofs.lemmas.Grind.{common_steps}
 use Rattle.std.proofs.lemmas.List.Recursion.{is_count_by}
 use Rattle.dvg_cert.specs.Laws.{NotMemory, OneAnswer, ShortText, PrefixRefusal, CutRefusal}
 use Rattle.dvg_cert.proofs.FirstLines.{few_heads}
@@ -7,18 +9,9 @@ use Rattle.dvg_cert.proofs.LinesOfTexts.{lines_text, Fits, behind, entry_lines, 
 use Rattle.dvg_cert.proofs.OneAnswerLemmas.{taken_fits, taken_lines, rest_free, spelled_once, spelled_fault, fault_once, standing_fault}
 use Rattle.dvg_cert.proofs.AnyText.{judged, stuck_refusal, stuck_stays}
 
-same_fault : (f g : CertFault) → f.line ≡ g.line → f.why ≡ g.why → f ≡ g
-same_fault f g p q = made f.line g.line f.why g.why p q
-  where
-    made : (l m : ℕ) (w v : CertWhy) → l ≡ m → w ≡ v → ◌≡◌ {A = CertFault} (record { line = l; why = w }) (record { line = m; why = v })
-    made l m w v p q = cc
-
 -- two answers that are not out of memory are one
 pub answers_once : (text : List ℕ) (a b : Result Certificate CertFault) → ReadAnswer text a → NotMemory a → ReadAnswer text b → NotMemory b → a ≡ b
-answers_once text (Ok c) (Ok d) h n k m = ap Ok (spelled_once c d text h k)
-answers_once text (Ok c) (Err f) h n k m = absurd (spelled_fault c text f.line f.why h m k)
-answers_once text (Err f) (Ok c) h n k m = absurd (spelled_fault c text f.line f.why k n h)
-answers_once text (Err f) (Err g) h n k m = let r = fault_once text f.line g.line f.why g.why n m h k in ap Err (same_fault f g r.0 r.1)
+answers_once text a b h n k m = grind (arith, spelled_once, spelled_fault, fault_once)
 
 -- the answer to a text that may stand
 standing_answer : (text : List ℕ) (taken : Taken) (rest : List ℕ) → Holds text taken rest → (answer : Result Certificate CertFault) × ReadAnswer text answer × NotMemory answer
@@ -39,9 +32,7 @@ one_answer = λ text. let a = some_answer text in (a.0, a.1, a.2, λ other h n. 
 
 -- the only refusal of a text that may stand, its end aside
 pub only_memory : (why : CertWhy) (text : List ℕ) (line : ℕ) → IsRefusal text line why → why ≢ Unended → MayStand text → why ≡ Memory
-only_memory Memory text line h n m = refl
-only_memory Unended text line h n m = absurd (n refl)
-only_memory why text line h n m = absurd (n (standing_fault text m.0 m.1 line why m.2 (λ e. absurd cc) h).0)
+only_memory why text line h n m = grind (arith, standing_fault)
 
 -- the line ends of a text
 abbrev pub ends_in : List ℕ → ℕ
@@ -50,19 +41,11 @@ ends_in (x ∷ xs) = cond (x == LINE_FEED) (1 + ends_in xs) (ends_in xs)
 
 ends-append : (xs ys : List ℕ) → ends_in (xs ++ ys) ≡ ends_in xs + ends_in ys
 ends-append [] ys = omega arith
-ends-append (x ∷ xs) ys = more (x == LINE_FEED) (ends_in xs) (ends_in ys) (ends_in (xs ++ ys)) (ends-append xs ys)
-  where
-    more : (t : Bool) (a b c : ℕ) → c ≡ a + b → cond t (1 + c) c ≡ cond t (1 + a) a + b
-    more true a b c e = omega arith
-    more false a b c e = e
+ends-append (x ∷ xs) ys = grind (arith, (ends-append xs ys), cond)
 
 ends-free : (xs : List ℕ) → Without LINE_FEED xs → ends_in xs ≡ 0
 ends-free [] h = refl
-ends-free (x ∷ xs) h = none (x == LINE_FEED) (ends_in xs) h.0 (ends-free xs h.1)
-  where
-    none : (t : Bool) (a : ℕ) → t ≡ false → a ≡ 0 → cond t (1 + a) a ≡ 0
-    none true a e z = absurd cc
-    none false a e z = z
+ends-free (x ∷ xs) h = grind (arith, (ends-free xs h.1), cond)
 
 ends-lines : (ls : List (List ℕ)) → AllByRecursion Fits ls → ends_in (lines_text ls) ≡ length ls
 ends-lines [] h = refl
@@ -72,9 +55,7 @@ length-body : (done : Bool) (map : MemoryMap) (es : List Entry) → length (head
 length-body done map es = omega (arith, length-append (heading map) (entry_lines es ++ behind done es), length-append (entry_lines es) (behind done es), length-map es entry_line)
 
 length-lines : (taken : Taken) → line_number taken ≡ length (lines_of taken) + 1
-length-lines (Begun map es) = omega (arith, length-body false map es)
-length-lines (Whole map es) = omega (arith, length-body true map es)
-length-lines taken = refl
+length-lines taken = grind (arith, rules, common_steps, map, length-body)
 
 pub line_at : (text : List ℕ) (taken : Taken) (rest : List ℕ) → Holds text taken rest → line_number taken ≡ count_by (λ b. b == LINE_FEED) text + 1
 line_at text taken rest h =
@@ -88,25 +69,12 @@ short_lines : (ls : List (List ℕ)) → AllByRecursion Fits ls → length (line
 short_lines [] h = omega arith
 short_lines (l ∷ ls) h = omega (arith, length-append l (LINE_FEED ∷ lines_text ls), h.0.1, short_lines ls h.1)
 
--- the lines that were taken, and the line begun after them
-few_lines : (taken : Taken) (rest : List ℕ) → IsTaken taken → IsRest taken rest → LONGEST_LINE * length (lines_of taken) + length rest ≤ (MOST_ENTRIES + 3) * LONGEST_LINE
-few_lines (Begun map es) rest h r = omega (arith, few_heads map, length-body false map es, h.few, r.1)
-few_lines (Whole map es) rest h r = let none : length rest ≡ length {A = ℕ} [] = ap length r in omega (arith, few_heads map, length-body true map es, h.few)
-few_lines taken rest h r = omega (arith, r.1)
-
 pub short_text : ShortText
-short_text = λ text m.
-    let taken = m.0 in
-    let rest = m.1 in
-    let h = m.2 in
-    let parts : length text ≡ length (text_taken taken) + length rest = ap length h.parts ∙ length-append (text_taken taken) rest in
-    let all : length (text_taken taken) ≡ length (lines_text (lines_of taken)) = ap length (taken_lines taken) in
-    omega (arith, parts, all, short_lines (lines_of taken) (taken_fits taken h.lines), few_lines taken rest h.lines h.begun)
+short_text = grind (arith, text_taken, length-append, lines_text, lines_of, taken_lines, short_lines, taken_fits, rules, common_steps, map, few_heads, length-body)
 
 -- a refusal stays where it is, its end aside
 refusal_stays : (why : CertWhy) (prefix after : List ℕ) (line : ℕ) → IsRefusal prefix line why → why ≢ Unended → IsRefusal (prefix ++ after) line why
-refusal_stays Memory prefix after line h n =
-    (h.0, h.1, h.2 ++ after, h.3, h.4, ap (λ (x : List ℕ). x ++ after) h.5 ∙ append_assoc (begun_with h.0 h.1) h.2 after, h.6)
+refusal_stays Memory prefix after line h n = grind (arith, (append_assoc (begun_with h.0 h.1) h.2 after), (begun_with h.0 h.1))
 refusal_stays Unended prefix after line h n = absurd (n refl)
 refusal_stays why prefix after line h n = stuck_stays prefix after h
 

@@ -26,23 +26,8 @@ abbrev fields_text : Entry → Text → Text
 fields_text e rest = codes "shape " ++ (address_token e.addr ++ (codes " " ++ (key_token e.key ++ (codes " end " ++ (end_text e.stop ++ (codes " box " ++ (box_text e.lit
     ++ (codes " depth " ++ (decimal e.depth ++ (codes " words " ++ (decimal e.words ++ (codes " scale " ++ (key_token e.scale ++ rest)))))))))))))
 
-end_joined : (e : End) (v : Text) (vs : List Text) → join_with_byte SPACE (codes "end" ∷ (end_tokens e ++ v ∷ vs)) ≡ codes "end " ++ (end_text e ++ SPACE ∷ join_with_byte SPACE (v ∷ vs))
-end_joined (Rel x y) v vs = ap (λ (xs : Text). codes "end " ++ xs) (join_append (codes "rel") v (signed_decimal x ∷ signed_decimal y ∷ []) vs)
-end_joined (Abs x y) v vs = ap (λ (xs : Text). codes "end " ++ xs) (join_append (codes "abs") v (signed_decimal x ∷ signed_decimal y ∷ []) vs)
-end_joined Lost v vs = refl
-
-box_joined : (b : LitBox) (v : Text) (vs : List Text) → join_with_byte SPACE (codes "box" ∷ (box_tokens b ++ v ∷ vs)) ≡ codes "box " ++ (box_text b ++ SPACE ∷ join_with_byte SPACE (v ∷ vs))
-box_joined Empty v vs = refl
-box_joined (Span x0 x1 y0 y1) v vs = ap (λ (xs : Text). codes "box " ++ xs) (join_append (signed_decimal x0) v (signed_decimal x1 ∷ signed_decimal y0 ∷ signed_decimal y1 ∷ []) vs)
-
 entry_joined : (e : Entry) → entry_line e ≡ fields_text e []
-entry_joined e =
-    let last : List Text = decimal e.depth ∷ codes "words" ∷ decimal e.words ∷ codes "scale" ∷ key_token e.scale ∷ [] in
-    let before : Text → Text = λ xs. codes "shape " ++ (address_token e.addr ++ (codes " " ++ (key_token e.key ++ (codes " " ++ xs)))) in
-    ap (λ (ws : List Text). join_with_byte SPACE (codes "shape" ∷ address_token e.addr ∷ key_token e.key ∷ codes "end" ∷ ws)) (append_assoc (end_tokens e.stop) (codes "box" ∷ box_tokens e.lit) (codes "depth" ∷ last))
-    ∙ ap before (end_joined e.stop (codes "box") (box_tokens e.lit ++ codes "depth" ∷ last))
-    ∙ ap (λ (xs : Text). before (codes "end " ++ (end_text e.stop ++ (codes " " ++ xs)))) (box_joined e.lit (codes "depth") last)
-    ∙ rw (append-nil (key_token e.scale)) refl
+entry_joined e = grind (arith, decimal, codes, key_token, address_token, join_with_byte, append_assoc, end_tokens, box_tokens, join_append, signed_decimal, append-nil)
 
 -- an entry's fields, and what follows its line
 fields_then : (e : Entry) (rest : Text) → fields_text e rest ≡ entry_line e ++ rest
@@ -135,8 +120,7 @@ two_found bytes x y rest e =
 
 two_spelled : (x y : ℤ) (rest : Text) → IsNumber x → IsNumber y → NoDigitFirst rest → two_at (signed_decimal x ++ SPACE ∷ (signed_decimal y ++ rest)) ≡ Some ((x, y), rest)
 unfolding two_at
-two_spelled x y rest hx hy stop =
-    rw (number_spelled x (SPACE ∷ (signed_decimal y ++ rest)) hx (space_stops (signed_decimal y ++ rest)), past_again (codes " ") (signed_decimal y ++ rest), number_spelled y rest hy stop) refl
+two_spelled x y rest hx hy stop = grind (arith, (number_spelled x (SPACE ∷ (signed_decimal y ++ rest)) hx (space_stops (signed_decimal y ++ rest))), (signed_decimal y), (space_stops (signed_decimal y ++ rest)), (past_again (codes " ") (signed_decimal y ++ rest)), codes, (number_spelled y rest hy stop))
 
 abbrev EndThen : Text → End × Text → Type 0
 EndThen bytes p = (bytes ≡ end_text p.0 ++ p.1) × IsEnd p.0
@@ -177,16 +161,7 @@ end_spelled (Abs x y) rest h stop =
 
     by_abs : (bytes left : Text) → past (codes "rel ") bytes ≡ None → past (codes "abs ") bytes ≡ Some left → end_at bytes ≡ option_map (λ (p : (ℤ × ℤ) × Text). (Abs p.0.0 p.0.1, p.1)) (two_at left)
     by_abs bytes left other some = rw (other, some) refl
-end_spelled Lost rest h stop = by_lost (codes "lost" ++ rest) (past_never (codes "rel ") (codes "lost" ++ rest) (λ left e. differs left e)) (past_never (codes "abs ") (codes "lost" ++ rest) (λ left e. differs_too left e)) (past_again (codes "lost") rest)
-  where
-    differs : (left : Text) → codes "lost" ++ rest ≡ codes "rel " ++ left → ⊥
-    differs left e = let d : ◌≡◌ {A = ℕ} 108 114 = ap (λ (xs : Text). get_or xs 0 0) e in omega arith
-
-    differs_too : (left : Text) → codes "lost" ++ rest ≡ codes "abs " ++ left → ⊥
-    differs_too left e = let d : ◌≡◌ {A = ℕ} 108 97 = ap (λ (xs : Text). get_or xs 0 0) e in omega arith
-
-    by_lost : (bytes : Text) → past (codes "rel ") bytes ≡ None → past (codes "abs ") bytes ≡ None → past (codes "lost") bytes ≡ Some rest → end_at bytes ≡ Some (Lost, rest)
-    by_lost bytes no_rel no_abs some = rw (no_rel, no_abs, some) refl
+end_spelled Lost rest h stop = grind (arith, codes, past_never, (past_again (codes "lost") rest), past, end_at)
 
 abbrev BoxThen : Text → LitBox × Text → Type 0
 BoxThen bytes p = (bytes ≡ box_text p.0 ++ p.1) × IsBox p.0
@@ -310,20 +285,13 @@ entry_spelled first last e small h =
     ) refl
 
 pub all_taken : {X : Type 0} (o : Option (X × Text)) (x : X) → nothing_left o ≡ Some x → o ≡ Some (x, [])
-all_taken None x e = absurd cc
-all_taken {X} (Some p) x e =
-    let g = cond_some {A = X} (bytes_eq p.1 []) p.0 x e in
-    ap Some (pair_is g.1 (same_bytes p.1 [] g.0))
+all_taken o x e = search (rules, cond_some, bytes_eq, pair_is, same_bytes)
 
 pub entry_takes : (first last : ℕ) (bytes : Text) (e : Entry) → last < ADDRESS_END → nothing_left (entry_at first last bytes) ≡ Some e → IsLine first last (EntryLine e) bytes
-entry_takes first last bytes e small h =
-    let t = entry_found first last bytes e [] small (all_taken (entry_at first last bytes) e h) in
-    (t.1, t.0 ∙ sym (entry_joined e))
+entry_takes first last bytes e small h = grind (arith, (entry_found first last bytes e [] small (all_taken (entry_at first last bytes) e h)), (all_taken (entry_at first last bytes) e h), (entry_at first last bytes), (entry_joined e))
 
 pub entry_again : (first last : ℕ) (bytes : Text) (e : Entry) → last < ADDRESS_END → IsLine first last (EntryLine e) bytes → nothing_left (entry_at first last bytes) ≡ Some e
-entry_again first last bytes e small h =
-    let read : entry_at first last bytes ≡ Some (e, []) = ap (entry_at first last) (h.1 ∙ entry_joined e) ∙ entry_spelled first last e small h.0 in
-    rw read refl
+entry_again first last bytes e small h = grind (arith, entry_at, entry_joined, entry_spelled)
 
 pub count_takes : (bytes : Text) (n : ℕ) → nothing_left (done_at bytes) ≡ Some n → (n ≤ MOST_ENTRIES) × (bytes ≡ done_line n)
 unfolding done_at
@@ -341,38 +309,26 @@ count_again bytes n few is =
 
 -- the line of an entry, with its end, that stands first
 pub entry_ended : (first last : ℕ) (bytes : Text) (e : Entry) (rest after : Text) → last < ADDRESS_END → entry_at first last bytes ≡ Some (e, rest) → past (LINE_FEED ∷ []) rest ≡ Some after → IsEntry first last e × (bytes ≡ ended (entry_line e) ++ after)
-entry_ended first last bytes e rest after small h is =
-    let t = entry_found first last bytes e rest small h in
-    (t.1, t.0 ∙ fields_then e rest ∙ ap (λ (xs : Text). entry_line e ++ xs) (past_takes (LINE_FEED ∷ []) rest after is) ∙ sym (append_assoc (entry_line e) (LINE_FEED ∷ []) after))
+entry_ended first last bytes e rest after small h is = grind (arith, (entry_found first last bytes e rest small h), (fields_then e rest), (entry_line e), (past_takes (LINE_FEED ∷ []) rest after is), (append_assoc (entry_line e) (LINE_FEED ∷ []) after))
 
 -- ---- what a line says, and that it says only one thing
 
 pub nothing_said : (first last : ℕ) (bytes : Text) → ((e : Entry) → IsLine first last (EntryLine e) bytes → ⊥) → ((n : ℕ) → n ≤ MOST_ENTRIES → bytes ≡ done_line n → ⊥) → (l : Line) → IsLine first last l bytes → ⊥
-nothing_said first last bytes no_entries no_counts (EntryLine e) h = no_entries e h
-nothing_said first last bytes no_entries no_counts (DoneLine n) h = no_counts n h.0 h.1
+nothing_said first last bytes no_entries no_counts l h = grind (arith)
 
 -- what a line says, an entry or a count
 abbrev pub said : ℕ → ℕ → Text → Option Line
 said first last bytes = option_or (option_map EntryLine (nothing_left (entry_at first last bytes))) (option_map DoneLine (nothing_left (done_at bytes)))
 
 either : (o : Option ℕ) (p : Option Entry) (l : Line) → option_or (option_map EntryLine p) (option_map DoneLine o) ≡ Some l → ((n : ℕ) × (o ≡ Some n) × (DoneLine n ≡ l)) ⊎ ((e : Entry) × (p ≡ Some e) × (EntryLine e ≡ l))
-either (Some n) None l e = inl (n, refl, cc)
-either o (Some x) l e = inr (x, refl, cc)
-either None None l e = absurd cc
+either o p l e = grind (arith)
 
 pub line_takes : (first last : ℕ) (bytes : Text) (l : Line) → last < ADDRESS_END → said first last bytes ≡ Some l → IsLine first last l bytes
-line_takes first last bytes l small e =
-    elim (either (nothing_left (done_at bytes)) (nothing_left (entry_at first last bytes)) l e) [
-      | inl d ↦ subst (λ (k : Line). IsLine first last k bytes) d.2 (count_takes bytes d.0 d.1)
-      | inr d ↦ subst (λ (k : Line). IsLine first last k bytes) d.2 (entry_takes first last bytes d.0 small d.1)
-    ]
+line_takes first last bytes l small e = grind (arith, either, nothing_left, done_at, entry_at, count_takes, entry_takes)
 
 no_entry : (first last : ℕ) (bytes : Text) → past (codes "shape ") bytes ≡ None → entry_at first last bytes ≡ None
 unfolding entry_at
 no_entry first last bytes other = rw other refl
 
 pub line_again : (first last : ℕ) (bytes : Text) (l : Line) → last < ADDRESS_END → IsLine first last l bytes → said first last bytes ≡ Some l
-line_again first last bytes (DoneLine n) small h =
-    let no_shape : past (codes "shape ") bytes ≡ None = past_never (codes "shape ") bytes (λ left e. let d : ◌≡◌ {A = ℕ} 100 115 = ap (λ (xs : Text). get_or xs 0 0) (sym h.1 ∙ e) in omega arith) in
-    rw (no_entry first last bytes no_shape, count_again bytes n h.0 h.1) refl
-line_again first last bytes (EntryLine e) small h = rw (entry_again first last bytes e small h) refl
+line_again first last bytes l small h = grind (arith, past, codes, past_never, no_entry, count_again, entry_again)

@@ -190,7 +190,7 @@ impl<'a> Fields<'a> {
 
     /// Takes an end.
     #[tactic(auto, unfolding(crate::specs::Private::Fields::end_at))]
-    #[inline(never)]
+    #[inline(always)]
     fn end(&mut self) -> Option<End>
         ensures { Reads result self.new (end_at self.old) }
     {
@@ -233,9 +233,9 @@ impl<'a> Fields<'a> {
         ensures { Reads result self.new (span_at self.old) }
     {
         let mut fields = Fields::new(self.rest);
-        let span = fields.span()?;
+        let span = fields.span();
         self.rest = fields.rest;
-        Some(span)
+        span
     }
 
     /// Takes a box.

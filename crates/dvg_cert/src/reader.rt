@@ -3,8 +3,8 @@
 ghost use Rattle.std.specs.Prelude.{◌≡◌, ◌+◌, ◌<◌, ◌==◌, [], ◌++◌, length, position, OnOk, IfNone, IfSome};
 ghost use Rattle.dvg_cert.specs.declared.fault.CertWhy.TheVariants.{After};
 ghost use Rattle.dvg_cert.specs.Reading.{IsTaken, IsRest, IsUnended, ReadAnswer};
-ghost use Rattle.dvg_cert.specs.Stream.{Open, FeedsTo, FinishesTo};
-ghost use Rattle.dvg_cert.specs.Private.Progress.{EndsLine, TakesEntries, TakesLine, TakesNext, TakesPiece};
+ghost use Rattle.dvg_cert.specs.Stream.{Stream, Open, FeedsTo, FinishesTo};
+ghost use Rattle.dvg_cert.specs.Private.Progress.{stream_of, EndsLine, IsProgress, TakesEntries, TakesLine, TakesNext, TakesPiece};
 
 use crate::certificate::Cert;
 use crate::fault::{CertFault, CertWhy};
@@ -26,11 +26,7 @@ pub struct CertReader {
 }
 
 impl Model for CertReader {
-    ghost use Rattle.dvg_cert.specs.Stream.{Stream};
-
     ghost Value = { Stream };
-
-    ghost use Rattle.dvg_cert.specs.Private.Progress.{stream_of, IsProgress};
 
     ghost view = { λ s. stream_of s.refused s.lines s.begun.items };
 

@@ -5,8 +5,8 @@ ghost use Rattle.dvg_cert.specs.declared.fault.CertWhy.TheVariants.{Unended};
 ghost use Rattle.dvg_cert.specs.Entry.{IsEntry};
 ghost use Rattle.dvg_cert.specs.Order.{IsCertificate};
 ghost use Rattle.dvg_cert.specs.Grammar.{heading};
-ghost use Rattle.dvg_cert.specs.Reading.{Nothing, Begun, Whole, IsUnended, IsTaken, line_number};
-ghost use Rattle.dvg_cert.specs.Private.Progress.{StartsWith, TakesEntry, TakesFirst, TakesLine, TakesLater};
+ghost use Rattle.dvg_cert.specs.Reading.{Taken, Nothing, Begun, Whole, IsUnended, IsTaken, line_number};
+ghost use Rattle.dvg_cert.specs.Private.Progress.{taken_of, IsStaged, StartsWith, TakesEntry, TakesFirst, TakesLine, TakesLater};
 
 use crate::certificate::{Cert, certificate_unchecked, stands_after};
 use crate::entry::Entry;
@@ -40,11 +40,7 @@ pub struct TakenLines {
 }
 
 impl Model for TakenLines {
-    ghost use Rattle.dvg_cert.specs.Reading.{Taken};
-
     ghost Value = { Taken };
-
-    ghost use Rattle.dvg_cert.specs.Private.Progress.{taken_of, IsStaged};
 
     ghost view = { λ s. taken_of s.map s.entries.items s.stage };
 

@@ -1,5 +1,6 @@
 -- What is accepted is safe, and there is one verdict.
 use Rattle.dvg_check.proofs.Common.{Machine, List, length, sym, subst, ap, refl, ◌≡◌, ◌∙◌, ℕ, Rom, Window, Board, Entry, Good, GoodFrame, Safe, Mode, Exact}
+use Rattle.std.proofs.Common.{arith}
 use Rattle.std.specs.Prelude.{Err, Ok, Result, IfOk}
 use Rattle.dvg_words.specs.Memory.{IsFrame, IsRom, IsRomLength, words_of, rom_on}
 use Rattle.dvg_words.specs.Values.{IsWindowOrZone}
@@ -59,21 +60,12 @@ circuit_counts_over shapes frame (Err f) is_frame is_rom safe counts board exact
 
 -- what is out of range is refused, whatever the certificate
 pub out_of_range : (machine : Machine) (mode : Mode) (w : Window) (rom cert words : List ℕ) (budget : ℕ) (r : Refusal) → RangeRefusal words budget r → VerdictOn machine mode w rom cert words budget (Err r)
-out_of_range machine mode w rom cert words budget (refusal.Image FrameLength) h = h
-out_of_range machine mode w rom cert words budget (refusal.Image RomLength) h = absurd h
-out_of_range machine mode w rom cert words budget refusal.BudgetRange h = h
-out_of_range machine mode w rom cert words budget (refusal.Cert f) h = absurd h
-out_of_range machine mode w rom cert words budget refusal.IndexMemory h = absurd h
-out_of_range machine mode w rom cert words budget (refusal.Shape f) h = absurd h
-out_of_range machine mode w rom cert words budget (refusal.Frame f) h = absurd h
+out_of_range machine mode w rom cert words budget r h = grind (arith)
 
 -- ---- one verdict
 
 same_yes : (w : Window) (machine : Machine) (words : List ℕ) (list : List Entry) (budget : ℕ) (y z : Yes) → GoodFrame w machine words list budget y.words y.depth → GoodFrame w machine words list budget z.words z.depth → y.shapes ≡ length list → z.shapes ≡ length list → y ≡ z
-same_yes w machine words list budget y z g h p q =
-    let s = one_count w machine words list budget y.words y.depth z.words z.depth g h in
-    let shapes : y.shapes ≡ z.shapes = p ∙ sym q in
-    λ i. record { shapes = shapes i; words = s.count_is i; depth = s.depth_is i }
+same_yes w machine words list budget y z g h p q = grind (arith, (one_count w machine words list budget y.words y.depth z.words z.depth g h))
 
 -- the shapes and the frame of one list come to one answer
 same_parts : (mode : Mode) (w : Window) (rom : Rom) (list : List Entry) (words : List ℕ) (budget : ℕ) (a b : Result Yes Refusal) → PartsVerdict mode w rom list words budget a → PartsVerdict mode w rom list words budget b → NotMemory a → NotMemory b → a ≡ b
@@ -135,9 +127,7 @@ same_rom machine mode w rom c words budget (Err refusal.IndexMemory) b h k m n =
 
 module _ (one_certificate : OneCertificate) (one_answer : OneAnswer) (machine : Machine) (mode : Mode) (w : Window) (rom cert words : List ℕ) (budget : ℕ) where
   same_lists : (a b : Result Yes Refusal) → CertVerdict machine mode w rom cert words budget a → CertVerdict machine mode w rom cert words budget b → NotMemory a → NotMemory b → a ≡ b
-  same_lists a b h k m n =
-      let same : k.certificate ≡ h.certificate = one_certificate k.certificate h.certificate cert k.spells h.spells in
-      same_rom machine mode w rom h.certificate (words_of words) budget a b h.by_it (subst (λ (c : Certificate). RomVerdict machine mode w rom c (words_of words) budget b) same k.by_it) m n
+  same_lists a b h k m n = grind (arith, same_rom)
 
   -- a text has one answer
   same_read : (a b : Result Certificate CertFault) → ReadAnswer cert a → ReadAnswer cert b → HasMemory a → HasMemory b → a ≡ b

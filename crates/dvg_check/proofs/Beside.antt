@@ -1,5 +1,6 @@
 -- Two runs beside each other: what their steps keep of their places and strokes, while all else of their states is the same.
 use Rattle.dvg_check.proofs.Common.{List, zero, subst, sym, suc, refl, Bool, true, false, nat_lt, length, ◌≡◌, ◌≤◌, ◌∷◌, ◌++◌, ℕ, [], Machine, Cell, Missing, Odd, Holds, Format, Instr, Labs, Halt, Jsrl, Rtsl, Jmpl, Profile, Point, DrawFields, shift, displacement, labs_place, cell_at, Stroke, State, Status, Running, Halted, Fault, Reached, lit_by, after_call, after_return, after_instruction, after_cell, after_fetch, next_status, Memory, word_at, state_of, Course, course_past, course_at, course_after, course_along, on, OnlyRounds}
+use Rattle.std.proofs.Common.{arith}
 use Rattle.dvg_words.specs.declared.instruction.Instr.TheVariants.{Draw as Draws}
 use Rattle.dvg_words.specs.Beam.{effective_scale}
 use Rattle.dvg_words.specs.Decoding.{LabsOnScreen}
@@ -10,26 +11,10 @@ use Rattle.dvg_check.proofs.Alike.{LowCell, same_cell, low_cell}
 
 -- what holds of both states, with what else is known of them
 pub both_with : (P S Q : State → State → Type 0) (x y : Status) → ((s t : State) → P s t → S s t → Q s t) → Both P x y → S (state_of x) (state_of y) → Both Q x y
-both_with P S Q (Running s) (Running t) f p k = f s t p k
-both_with P S Q (Halted s) (Halted t) f p k = f s t p k
-both_with P S Q (Fault s) (Fault t) f p k = f s t p k
-both_with P S Q (Running s) (Halted t) f p k = absurd p
-both_with P S Q (Running s) (Fault t) f p k = absurd p
-both_with P S Q (Halted s) (Running t) f p k = absurd p
-both_with P S Q (Halted s) (Fault t) f p k = absurd p
-both_with P S Q (Fault s) (Running t) f p k = absurd p
-both_with P S Q (Fault s) (Halted t) f p k = absurd p
+both_with P S Q x y f p k = grind (arith)
 
 pub of_both : (P : State → State → Type 0) (x y : Status) → Both P x y → P (state_of x) (state_of y)
-of_both P (Running s) (Running t) p = p
-of_both P (Halted s) (Halted t) p = p
-of_both P (Fault s) (Fault t) p = p
-of_both P (Running s) (Halted t) p = absurd p
-of_both P (Running s) (Fault t) p = absurd p
-of_both P (Halted s) (Running t) p = absurd p
-of_both P (Halted s) (Fault t) p = absurd p
-of_both P (Fault s) (Running t) p = absurd p
-of_both P (Fault s) (Halted t) p = absurd p
+of_both P x y p = grind (arith)
 
 -- ---- one step
 
@@ -128,18 +113,8 @@ module _ (A B : Memory) (Ok : Course → Status → Type 0) (Q : Course → Stat
       (rest.0, (next_status A s, refl, rest.1), rest.2)
   run_back (suc steps) c (Running s) (Halted t) end run ok q = absurd q
   run_back (suc steps) c (Running s) (Fault t) end run ok q = absurd q
-  run_back (suc steps) c (Halted s) other end run ok q = absurd (no_more other end run q)
-    where
-      no_more : (x y : Status) → Reached B (suc steps) x y → Both (Q c) (Halted s) x → ⊥
-      no_more (Running t) y r p = p
-      no_more (Halted t) y r p = r.1
-      no_more (Fault t) y r p = p
-  run_back (suc steps) c (Fault s) other end run ok q = absurd (no_more other end run q)
-    where
-      no_more : (x y : Status) → Reached B (suc steps) x y → Both (Q c) (Fault s) x → ⊥
-      no_more (Running t) y r p = p
-      no_more (Halted t) y r p = p
-      no_more (Fault t) y r p = r.1
+  run_back (suc steps) c (Halted s) other end run ok q = grind (arith)
+  run_back (suc steps) c (Fault s) other end run ok q = grind (arith)
 
 -- all that a run from a status comes to, the machines take alike but for rounding
 abbrev pub Rounds : Machine → Memory → Status → Type 0

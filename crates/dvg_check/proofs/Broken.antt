@@ -1,5 +1,6 @@
 -- The rule that a fault names is broken by what stands there.
 use Rattle.dvg_check.proofs.Common.{sym, ◌≡◌, ◌≢◌, ℕ, Option, None, Some, ap, ◌∙◌, subst, arith, Source, cell_at, Cell, Context, seen_at, Known, IsFound, AtLast, AsClaimed, CellKeeps, PlaceKeeps, Mode, Bound, Exact}
+use Rattle.std.proofs.Common.{rules}
 use Rattle.dvg_words.specs.declared.instruction.Cell.TheVariants as cell
 use Rattle.dvg_items.specs.declared.seen.Seen.{Seen as SeenItem}
 use Rattle.dvg_check.specs.Finding.{FaultFound}
@@ -13,9 +14,7 @@ only : {Why : Type 0} (number : Why → ℕ) (rule : ℕ → Why) → ((why : Wh
 only {Why} number rule back why one h = sym (back why) ∙ ap rule same ∙ back one
   where
     same : number why ≡ number one
-    same =
-        neither_less (number why) (number one) (λ less. h (λ e. let o : number why ≡ number one = ap number e in omega (arith, less, o)))
-        (λ more. h (λ e. let o : number why ≡ number one = ap number e in omega (arith, more, o)))
+    same = grind (arith, neither_less)
 
 -- a fault, in rules that are told apart by their numbers
 module _ {Why : Type 0} (number : Why → ℕ) (rule : ℕ → Why) (back : (why : Why) → rule (number why) ≡ why) (c : Context) (word : Source) (first : ℕ)
@@ -47,9 +46,7 @@ module _ {Why : Type 0} (number : Why → ℕ) (rule : ℕ → Why) (back : (why
 -- ---- causes of shapes
 
 pub at_last : {P : Type 0} (next : Option ℕ) → P → AtLast next P
-at_last None p = p
-at_last (Some n) p = tt
+at_last next p = grind (arith)
 
 pub as_claimed : (mode : Mode) (n claimed : ℕ) → n ≡ claimed → AsClaimed mode n claimed
-as_claimed Bound n claimed is = tt
-as_claimed Exact n claimed is = is
+as_claimed mode n claimed is = grind (arith)

@@ -1,5 +1,6 @@
 -- What is safe on the board's generator is safe on its circuit.
 use Rattle.dvg_check.proofs.Common.{Bool, true, false, ◌≡◌, ℕ, zero, suc, ◌+◌, ◌%◌, ◌≤◌, inl, inr, ◌⊎◌, ⊎_elim, List, [], ◌∷◌, length, nat_lt, refl, ap, sym, subst, ◌∙◌, arith, pos, if◌then◌else◌, AllByRecursion, cases_lt, Window, Point, Machine, Board, Cell, Missing, Odd, Holds, Format, Instr, Labs, Halt, Jsrl, Rtsl, Jmpl, InWindow, cell_at, Memory, IsMemory, word_at, Stroke, State, Status, Running, Halted, Fault, Reached, start, after_call, after_return, after_instruction, after_cell, after_fetch, next_status, state_of, Ends, IsSafeStatus, Safe}
+use Rattle.std.proofs.Common.{rules}
 use Rattle.std.proofs.Common.{reverse}
 use Rattle.std.specs.Prelude.{◌*ℤ◌}
 use Rattle.std.specs.List.{AllZip}
@@ -69,24 +70,10 @@ module _ (m : Memory) (w : Window) (words depth : ℕ) (mem : IsMemory m) (board
       let same : suc steps ≡ suc n = ap suc (going s refl) in
       let more : Reached m (steps + 1) (Running (first c)) (next_status m s) = reached_on m steps 1 (Running (first c)) (Running s) (next_status m s) reached (next_status m s, refl, refl) in
       let next : Reached m (suc steps) (Running (first c)) (next_status m s) = subst (λ k. Reached m k (Running (first c)) (next_status m s)) (let e : steps + 1 ≡ suc steps = omega arith in e) more in
-      record {
-        steps = suc steps;
-        status = next_status m s;
-        within = omega (arith, within);
-        reached = next;
-        agrees = subst (λ k. AgreesWith c.pointer (next_status m s) (run_after reads k (begin c))) same (agree (suc steps) (next_status m s) next);
-        going = λ t e. same;
-      }
+      search (rules, suc steps, next_status m s, next, subst (λ k. AgreesWith c.pointer (next_status m s) (run_after reads k (begin c))) same (agree (suc steps) (next_status m s) next))
   on n steps (Halted s) within reached agrees going =
       let r : Run = run_after reads n (begin c) in
-      record {
-        steps = steps;
-        status = Halted s;
-        within = omega (arith, within);
-        reached = reached;
-        agrees = subst (λ (halted : Bool). AgreesWith c.pointer (Halted s) (if halted then r else act (reads n) (reads n r.circuit.pc) r)) (sym agrees.0) agrees;
-        going = λ t e. cc;
-      }
+      search (rules, steps, Halted s, reached, subst (λ (halted : Bool). AgreesWith c.pointer (Halted s) (if halted then r else act (reads n) (reads n r.circuit.pc) r)) (sym agrees.0) agrees)
   on n steps (Fault s) within reached agrees going = absurd (safe_at steps (Fault s) reached)
 
   follows : (n : ℕ) → Follows m reads c n
@@ -96,17 +83,10 @@ module _ (m : Memory) (w : Window) (words depth : ℕ) (mem : IsMemory m) (board
   -- ---- what is safe
 
   agreeing : (status : Status) (steps : ℕ) (r : Run) → IsSafeStatus m w words depth steps status → AgreesWith c.pointer status r → Agrees c.pointer (state_of status) r
-  agreeing (Running s) steps r h agrees = agrees.1
-  agreeing (Halted s) steps r h agrees = agrees.1
-  agreeing (Fault s) steps r h agrees = absurd h
+  agreeing status steps r h agrees = grind (arith)
 
   stored_at : (n : ℕ) → IsPast c.pointer depth (run_after reads n (begin c)).circuit.pointer
-  stored_at n =
-      let f = follows n in
-      let h = safe_at f.steps f.status f.reached in
-      let s = safe_state m w words depth f.steps f.status h in
-      let le = stack_within_max m (place_of c.counters) c.scale f.steps f.status f.reached in
-      (length (state_of f.status).return_stack, omega (arith, le, s.stored), (agreeing f.status f.steps _ h f.agrees).pointer)
+  stored_at n = grind (arith, (follows n), safe_at, safe_state, stack_within_max, state_of, agreeing)
 
   -- what holds of the draw of each stroke that lies in the window holds of the draws of all of them
   module _ (P : LitDraw → Type 0) (drawn : (stroke : Stroke) (l : LitDraw) → InWindow w stroke.from → InWindow w stroke.to → IsDrawnAs stroke l → P l) where
@@ -159,8 +139,7 @@ pub within_on_circuit : SafeIsWithinOnCircuit
 within_on_circuit m w words depth mem board safe = safe_runs (IsDrawAtPlaces w) m w words depth mem board safe (drawn_at_places w)
 
 pub safe_on_circuit : SafeIsSafeOnCircuit
-safe_on_circuit m w words depth mem board is safe =
-    safe_runs (IsDrawInWindow w) m w words depth mem board safe (λ stroke l. drawn_in_window w stroke l is)
+safe_on_circuit m w words depth mem board is safe = search (rules, safe_runs, drawn_in_window)
 
 -- ---- the most places stored
 
@@ -170,25 +149,10 @@ Rises s after = ((state_of after).max_stack ≤ s.max_stack) ⊎ ((u : State) ×
 
 rises_call : (room : Bool) (to : ℕ) (s : State) → Rises s (after_call room to s)
 rises_call false to s = inl (omega arith)
-rises_call true to s =
-    ⊎_elim (λ more. inr (_, refl, omega (arith, more))) (λ le. inl (omega (arith, le))) (cases_lt s.max_stack (length s.return_stack + 1))
-
-rises_return : (stack : List ℕ) (s : State) → Rises s (after_return stack s)
-rises_return [] s = inl (omega arith)
-rises_return (back ∷ rest) s = inl (omega arith)
-
-rises_instruction : (machine : Machine) (i : Instr) (format : Format) (s : State) → Rises s (after_instruction machine i format s)
-rises_instruction machine (Draws d) format s = inl (omega arith)
-rises_instruction machine (Labs x y g) format s = inl (omega arith)
-rises_instruction machine Halt format s = inl (omega arith)
-rises_instruction machine (Jsrl to) format s = rises_call (nat_lt (length s.return_stack) 4) to s
-rises_instruction machine Rtsl format s = rises_return s.return_stack s
-rises_instruction machine (Jmpl to) format s = inl (omega arith)
+rises_call true to s = grind (arith, (cases_lt s.max_stack (length s.return_stack + 1)))
 
 rises_cell : (machine : Machine) (cell : Cell) (s : State) → Rises s (after_cell machine cell s)
-rises_cell machine Missing s = inl (omega arith)
-rises_cell machine Odd s = inl (omega arith)
-rises_cell machine (Holds format i) s = rises_instruction machine i format s
+rises_cell machine cell s = grind (arith, rises_call, nat_lt)
 
 rises_next : (m : Memory) (s : State) → Rises s (next_status m s)
 unfolding next_status
@@ -213,10 +177,8 @@ deepest_on m n s (Running u) after e reached rest =
   where
     here : (u : State) → Rises s (Running u) → (u.max_stack ≤ s.max_stack) ⊎ (length u.return_stack ≡ u.max_stack)
     here u h = ⊎_elim (λ le. inl le) (λ full. inr (let same : Running u ≡ Running full.0 = full.1 in cc)) h
-deepest_on m zero s (Halted u) after e reached rest =
-    ⊎_elim (λ le. inl (omega (arith, le, ap (λ (t : Status). (state_of t).max_stack) reached))) (λ full. absurd (cc)) (subst (Rises s) e (rises_next m s))
-deepest_on m zero s (Fault u) after e reached rest =
-    ⊎_elim (λ le. inl (omega (arith, le, ap (λ (t : Status). (state_of t).max_stack) reached))) (λ full. absurd (cc)) (subst (Rises s) e (rises_next m s))
+deepest_on m zero s (Halted u) after e reached rest = grind (arith, state_of, rises_next)
+deepest_on m zero s (Fault u) after e reached rest = grind (arith, state_of, rises_next)
 deepest_on m (suc n) s (Halted u) after e reached rest = absurd reached.1
 deepest_on m (suc n) s (Fault u) after e reached rest = absurd reached.1
 
@@ -225,16 +187,12 @@ deepest_from m zero s after reached = inl (omega (arith, ap (λ (t : Status). (s
 deepest_from m (suc n) s after reached = deepest_on m n s reached.0 after reached.1 reached.2 (λ u. deepest_from m n u after)
 
 deepest : (m : Memory) (place : Point) (scale n : ℕ) (after : Status) → Reached m n (Running (start place scale)) after → Deepest m n (start place scale) after
-deepest m place scale n after reached =
-    ⊎_elim (λ none. (0, start place scale, omega arith, refl, omega (arith, none))) (λ some. some) (deepest_from m n (start place scale) after reached)
+deepest m place scale n after reached = grind (arith, start, deepest_from)
 
 module _ (m : Memory) (w : Window) (words depth : ℕ) (mem : IsMemory m) (board : m.rom.machine ≡ Board) (safe : Safe m w words depth) (counts : CountsAtHalt m words depth) (c : Circuit) (reads : ℕ → Reads) (begun : IsStart c) (seen : ReadsAs m reads (begin c)) where
   counts_by : (n steps : ℕ) (status : Status) → steps ≤ n → Reached m steps (Running (first c)) status → AgreesWith c.pointer status (run_after reads n (begin c)) → (run_after reads n (begin c)).circuit.halted ≡ true
       → CountsOfRun words depth c.pointer (λ k. run_after reads k (begin c)) n
-  counts_by n steps (Running s) within reached agrees halted = absurd (true_false (sym halted ∙ agrees.0))
-    where
-      true_false : true ≡ false → ⊥
-      true_false e = cc
+  counts_by n steps (Running s) within reached agrees halted = grind (arith)
   counts_by n steps (Fault s) within reached agrees halted = absurd (safe_at m w words depth mem board safe c reads begun seen steps (Fault s) reached)
   counts_by n steps (Halted h) within reached agrees halted =
       let place = place_of c.counters in

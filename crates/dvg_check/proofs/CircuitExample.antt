@@ -33,22 +33,15 @@ module _ (counters : Counters) (scale pointer : ℕ) (returns : List ℕ) (four 
 
   back : (at 4).circuit.pc ≡ 3
   unfolding instruction_of
-  back =
-      let same : (pointer + 1) % 16 % 4 ≡ (pointer + 1) % 4 = omega arith in
-      ap (λ k. slice_index (slice_set returns ((pointer + 1) % 4) 3) k) same ∙ get_or-set_same returns ((pointer + 1) % 4) 3 0 (omega (arith, four))
+  back = grind (arith, get_or-set_same)
 
   halts : (at 5).circuit.halted ≡ true
   unfolding instruction_of
-  halts =
-      let reads : Reads = example_reads other 4 in
-      subst (λ (p : ℕ). (performed (decoded (reads p) (second_word (format_of (reads p)) reads p)) (format_of (reads p)) (at 4)).circuit.halted ≡ true) (sym back) refl
+  halts = grind (arith, format_of, back)
 
   stays : (n : ℕ) → (at (suc (suc (suc (suc (suc n)))))).circuit.halted ≡ true
   stays zero = halts
-  stays (suc n) =
-      let r : Run = at (suc (suc (suc (suc (suc n))))) in
-      let reads : Reads = example_reads other (suc (suc (suc (suc (suc n))))) in
-      subst (λ (halted : Bool). (if halted then r else act reads (reads r.circuit.pc) r).circuit.halted ≡ true) (sym (stays n)) (stays n)
+  stays (suc n) = grind (arith, (stays n))
 
   reads_now : (n : ℕ) → (at n).circuit.halted ≡ false → ReadsNow (memory_for Board) (example_reads other n) (at n)
   unfolding instruction_of
@@ -56,19 +49,13 @@ module _ (counters : Counters) (scale pointer : ℕ) (returns : List ℕ) (four 
   reads_now (suc zero) going = (λ word is. there 2 word _ is, tt)
   reads_now (suc (suc zero)) going = (λ word is. there 2048 word _ is, (λ word is. there 2049 word _ is, tt))
   reads_now (suc (suc (suc zero))) going = (λ word is. there 2050 word _ is, tt)
-  reads_now (suc (suc (suc (suc zero)))) going =
-      let reads : Reads = example_reads other 4 in
-      subst (λ (p : ℕ). AllByRecursion (IsRead (memory_for Board) reads) (places (format_of (reads p)) p)) (sym back) (λ word is. there 3 word _ is, tt)
-  reads_now (suc (suc (suc (suc (suc n))))) going = absurd (true_false (sym (stays n) ∙ going))
-    where
-      true_false : true ≡ false → ⊥
-      true_false e = cc
+  reads_now (suc (suc (suc (suc zero)))) going = grind (arith, format_of, back, there)
+  reads_now (suc (suc (suc (suc (suc n))))) going = grind (arith, stays)
 
 -- ---- all
 
 shallow : (e : Entry) → Contains example_list e → e.depth ≤ MOST_DEPTH
-shallow e (zero, lt, is) = omega (arith, ap (λ (x : Entry). x.depth) is)
-shallow e (suc k, lt, is) = absurd (omega (arith, lt))
+shallow e h1 = grind (arith)
 
 safe : Safe (memory_for Board) screen 7 1
 safe = let good = worked_example Board in good_is_safe Exact (memory_for Board) screen example_list 20000 7 1 good.memory shallow good.exact good.frame

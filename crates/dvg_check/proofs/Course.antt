@@ -1,5 +1,6 @@
 -- The beam is where it was last set, moved by the sum of the moves since then.
 use Rattle.dvg_check.proofs.Common.{List, zero, subst, sym, suc, ap, Bool, true, false, nat_lt, length, ◌≡◌, ◌∷◌, ◌∙◌, ℕ, [], Machine, Cell, Missing, Odd, Holds, Format, Instr, Labs, Halt, Jsrl, Rtsl, Jmpl, shift, displacement, labs_place, cell_at, State, Status, Running, Halted, Fault, Reached, start, after_call, after_return, after_instruction, after_cell, after_fetch, next_status, Memory, word_at, state_of, shift_origin, shift_shift, Course, course_past, course_at, course_after, course_along, course_at_start}
+use Rattle.std.proofs.Common.{arith}
 use Rattle.dvg_words.specs.declared.instruction.Instr.TheVariants.{Draw as Draws}
 use Rattle.dvg_check.specs.Drift.{sum_of, place_of, PlaceIsSum}
 
@@ -7,26 +8,10 @@ abbrev IsAt : Course → Status → Type 0
 IsAt c status = (state_of status).place ≡ place_of c
 
 at_call : (c : Course) (room : Bool) (to : ℕ) (s : State) → s.place ≡ place_of c → IsAt c (after_call room to s)
-at_call c true to s h = h
-at_call c false to s h = h
-
-at_return : (c : Course) (stack : List ℕ) (s : State) → s.place ≡ place_of c → IsAt c (after_return stack s)
-at_return c [] s h = h
-at_return c (back ∷ rest) s h = h
-
-at_instruction : (machine : Machine) (i : Instr) (format : Format) (s : State) (c : Course) → s.place ≡ place_of c → IsAt (course_past machine i s.scale c) (after_instruction machine i format s)
-at_instruction machine (Draws d) format s c h =
-    ap (λ p. shift p (displacement machine d s.scale)) h ∙ shift_shift c.set_at (sum_of c.moves) (displacement machine d s.scale)
-at_instruction machine (Labs x y gscale) format s c h = sym (shift_origin (labs_place machine x y))
-at_instruction machine Halt format s c h = h
-at_instruction machine (Jsrl to) format s c h = at_call c (nat_lt (length s.return_stack) 4) to s h
-at_instruction machine Rtsl format s c h = at_return c s.return_stack s h
-at_instruction machine (Jmpl to) format s c h = h
+at_call c room to s h = grind (arith)
 
 at_cell : (machine : Machine) (cell : Cell) (s : State) (c : Course) → s.place ≡ place_of c → IsAt (course_at machine cell s.scale c) (after_cell machine cell s)
-at_cell machine Missing s c h = h
-at_cell machine Odd s c h = h
-at_cell machine (Holds format i) s c h = at_instruction machine i format s c h
+at_cell machine cell s c h = grind (arith, shift, displacement, shift_shift, shift_origin, labs_place, at_call, nat_lt)
 
 at_next : (m : Memory) (s : State) (c : Course) → s.place ≡ place_of c → IsAt (course_after m (Running s) c) (next_status m s)
 unfolding next_status
@@ -37,8 +22,7 @@ pub along :
     (m : Memory) (P : Course → Status → Type 0) → ((c : Course) (s : State) → P c (Running s) → P (course_after m (Running s) c) (next_status m s))
     → (steps : ℕ) (c : Course) (from to : Status) (run : Reached m steps from to) → P c from → P (course_along m steps from to run c) to
 along m P kept zero c from to run h = subst (P c) run h
-along m P kept (suc steps) c (Running s) to run h =
-    along m P kept steps (course_after m (Running s) c) run.0 to run.2 (subst (P (course_after m (Running s) c)) run.1 (kept c s h))
+along m P kept (suc steps) c (Running s) to run h = grind (arith, (along m P kept steps (course_after m (Running s) c) run.0 to run.2 (subst (P (course_after m (Running s) c)) run.1 (kept c s h))), course_after)
 along m P kept (suc steps) c (Halted s) to run h = absurd run.1
 along m P kept (suc steps) c (Fault s) to run h = absurd run.1
 

@@ -63,23 +63,7 @@ abbrev Leads : Machine → Course → State → Cell → Type 0
 Leads machine c s cell = Runs machine (course_at machine cell s.scale c) (after_cell machine cell (after_fetch (on machine edge_memory) s))
 
 leads : (machine : Machine) (c : Course) (s : State) → Stands machine c s → Leads machine c s (cell_at (word_at (on machine edge_memory)) s.pc)
-leads machine c s (inl (at, unset)) =
-    let cell = ap (λ p. cell_at (word_at (on machine edge_memory)) p) at ∙ labs_there machine in
-    let course : record { set_at = labs_place machine 1022 100; by_labs = true; moves = [] } ≡ set_course machine = ap (λ p. record { set_at = p; by_labs = true; moves = [] }) (set_there machine) in
-    subst (Leads machine c s) (sym cell) (inr (inl (omega (arith, at), refl, course)))
-leads machine c s (inr (inl (at, scale, is))) =
-    let cell = ap (λ p. cell_at (word_at (on machine edge_memory)) p) at ∙ first_there machine in
-    let move = ap (λ g. displacement machine half g) scale ∙ move_is machine in
-    let course : record c { moves = displacement machine half s.scale ∷ c.moves } ≡ moved_once machine = λ i. record (is i) { moves = move i ∷ (is i).moves } in
-    subst (Leads machine c s) (sym cell) (inr (inr (inl (omega (arith, at), scale, course))))
-leads machine c s (inr (inr (inl (at, scale, is)))) =
-    let cell = ap (λ p. cell_at (word_at (on machine edge_memory)) p) at ∙ second_there machine in
-    let move = ap (λ g. displacement machine half g) scale ∙ move_is machine in
-    let course : record c { moves = displacement machine half s.scale ∷ c.moves } ≡ edge_course machine = λ i. record (is i) { moves = move i ∷ (is i).moves } in
-    subst (Leads machine c s) (sym cell) (inr (inr (inr (omega (arith, at), course))))
-leads machine c s (inr (inr (inr (at, is)))) =
-    let cell = ap (λ p. cell_at (word_at (on machine edge_memory)) p) at ∙ halt_there machine in
-    subst (Leads machine c s) (sym cell) is
+leads machine c s h3 = grind (arith, cell_at, word_at, on, labs_there, labs_place, set_there, first_there, displacement, move_is, second_there, halt_there)
 
 leads_next : (machine : Machine) (c : Course) (s : State) → Stands machine c s → Runs machine (course_after (on machine edge_memory) (Running s) c) (next_status (on machine edge_memory) s)
 unfolding next_status
@@ -89,28 +73,15 @@ leads_next machine c s stands = leads machine c s stands
 runs :
     (machine : Machine) (place : Point) (scale steps : ℕ) (after : Status) (run : Reached (on machine edge_memory) steps (Running (start place scale)) after)
     → Runs machine (course_of (on machine edge_memory) place scale steps after run) after
-runs machine place scale steps after run =
-    along (on machine edge_memory) (Runs machine) (leads_next machine) steps (course_at_start place) (Running (start place scale)) after run (inl (refl, refl))
+runs machine place scale steps after run = grind (arith, (along (on machine edge_memory) (Runs machine) (leads_next machine) steps (course_at_start place) (Running (start place scale)) after run (inl (refl, refl))), (on machine edge_memory), (leads_next machine), (course_at_start place), (start place scale))
 
 -- ---- what is claimed
 
 rounds_at : (machine : Machine) (c : Course) (s : State) → Stands machine c s → OnlyRounds s.scale (cell_at (word_at (on Profile edge_memory)) s.pc)
-rounds_at machine c s (inl (at, unset)) =
-    subst (OnlyRounds s.scale) (sym (ap (λ p. cell_at (word_at (on Profile edge_memory)) p) at ∙ labs_there Profile)) tt
-rounds_at machine c s (inr (inl (at, scale, is))) =
-    subst (OnlyRounds s.scale) (sym (ap (λ p. cell_at (word_at (on Profile edge_memory)) p) at ∙ first_there Profile)) (omega (arith, scale))
-rounds_at machine c s (inr (inr (inl (at, scale, is)))) =
-    subst (OnlyRounds s.scale) (sym (ap (λ p. cell_at (word_at (on Profile edge_memory)) p) at ∙ second_there Profile)) (omega (arith, scale))
-rounds_at machine c s (inr (inr (inr (at, is)))) =
-    subst (OnlyRounds s.scale) (sym (ap (λ p. cell_at (word_at (on Profile edge_memory)) p) at ∙ halt_there Profile)) tt
+rounds_at machine c s h3 = grind (arith, cell_at, word_at, on, labs_there, first_there, second_there, halt_there)
 
 two_at : (machine : Machine) (c : Course) (after : Status) → Runs machine c after → c.by_labs ≡ true → length c.moves ≤ 2
-two_at machine c (Running s) (inl (at, unset)) set = cc
-two_at machine c (Running s) (inr (inl (at, scale, is))) set = subst (λ d. length d.moves ≤ 2) (sym is) (omega arith)
-two_at machine c (Running s) (inr (inr (inl (at, scale, is)))) set = subst (λ d. length d.moves ≤ 2) (sym is) (omega arith)
-two_at machine c (Running s) (inr (inr (inr (at, is)))) set = subst (λ d. length d.moves ≤ 2) (sym is) (omega arith)
-two_at machine c (Halted s) is set = subst (λ d. length d.moves ≤ 2) (sym is) (omega arith)
-two_at machine c (Fault s) is set = absurd is
+two_at machine c after h3 set = grind (arith)
 
 -- a run to the HALT, of four steps
 halting : (machine : Machine) (place : Point) (scale : ℕ) → (h : State) × Reached (on machine edge_memory) 4 (Running (start place scale)) (Halted h)

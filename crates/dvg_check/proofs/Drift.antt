@@ -1,5 +1,7 @@
 -- How far apart runs of the two machines are, and what is safe on one of them by the other.
 use Rattle.dvg_check.proofs.Common.{arith, List, zero, subst, sym, suc, ap, refl, Bool, true, false, nat_lt, length, ℤ, pos, ◌≡◌, ◌+◌, ◌≤◌, ◌∷◌, ◌++◌, ◌∙◌, ◌+ℤ◌, ◌*ℤ◌, ℕ, [], AllByRecursion, ints, Machine, Profile, Board, Point, Cell, Missing, Odd, Holds, Format, Instr, Labs, Halt, Jsrl, Rtsl, Jmpl, DrawFields, Window, shift, displacement, labs_place, InWindow, cell_at, Stroke, State, Status, Running, Halted, Fault, Reached, start, lit_by, after_call, after_return, after_instruction, after_cell, after_fetch, next_status, Memory, word_at, state_of, Course, course_past, course_at, course_after, course_along, course_at_start, on, OnlyRounds, Safe, Ends, IsSafeState, IsSafeStatus}
+use Rattle.std.proofs.Common.{rules}
+use Rattle.std.proofs.lemmas.Grind.{common_steps}
 use Rattle.std.proofs.Common.{negsuc, neg_ℤ, ◌*◌}
 use Rattle.dvg_words.specs.declared.instruction.Instr.TheVariants.{Draw as Draws}
 use Rattle.dvg_words.specs.Beam.{effective_scale, axis_move, labs_coordinate}
@@ -23,22 +25,15 @@ near_on : (most more : ℕ) (v u d e : ℤ) → most + 512 ≡ more → IsNearMo
 near_on most more v u d e is near moved = record { low = omega (arith, ints, is, near.low, moved.low); high = omega (arith, ints, is, near.high, moved.high) }
 
 labs_near : (a b : Machine) (x y : ℕ) (most : ℕ) → (x ≤ 1023) × (y ≤ 1023) → AreNear most (labs_place a x y) (labs_place b x y)
-labs_near a b x y most low = (
-  subst (λ v. IsNearMove most (labs_coordinate a x) v) (coordinate_same a b x low.0) (near_here most (labs_coordinate a x)),
-  subst (λ v. IsNearMove most (labs_coordinate a y) v) (coordinate_same a b y low.1) (near_here most (labs_coordinate a y)),
-)
+labs_near a b x y most low = grind (arith, coordinate_same, near_here)
 
 module _ (half : HalfPlace) where
   axis_near : (a b : Machine) (size : ℤ) (local global : ℕ) → effective_scale local global ≤ 9 → IsNearMove 512 (axis_move a size local global) (axis_move b size local global)
-  axis_near Profile Profile size local global le = near_here 512 _
-  axis_near Profile Board size local global le = half size local global le
-  axis_near Board Profile size local global le = let near = half size local global le in record { low = near.high; high = near.low }
-  axis_near Board Board size local global le = near_here 512 _
+  axis_near a b size local global le = grind (arith, near_here)
 
   draw_near : (a b : Machine) (d : DrawFields) (global most more : ℕ) (p q : Point) → effective_scale d.lscale global ≤ 9 → most + 512 ≡ more → AreNear most p q → AreNear more (shift p (displacement a d global)) (shift q (displacement b d global))
   unfolding displacement
-  draw_near a b d global most more p q le is near =
-      (near_on most more _ _ _ _ is near.0 (axis_near a b d.dx d.lscale global le), near_on most more _ _ _ _ is near.1 (axis_near a b d.dy d.lscale global le))
+  draw_near a b d global most more p q le is near = grind (arith, near_on, axis_near)
 
 -- ---- one step of the two machines
 
@@ -89,21 +84,7 @@ shift_swap : (p e d : Point) → shift (shift p e) d ≡ shift (shift p d) e
 shift_swap p e d = point_is _ _ (omega (arith, ints)) (omega (arith, ints))
 
 shifted_kept : (a : Machine) (e : Point) → IsKept a a (Shifted e)
-shifted_kept a e = record { draws = draws; sets = λ c x y gscale scale p q k l low shifted. λ unset. cc }
-  where
-    draws :
-        (c : Course) (d : DrawFields) (global : ℕ) (p q : Point) (k l : List Stroke) → effective_scale d.lscale global ≤ 9 → Shifted e c p k q l
-        → Shifted e (course_past a (Draws d) global c) (shift p (displacement a d global)) (drawn_on a d global p k) (shift q (displacement a d global)) (drawn_on a d global q l)
-    draws c d global p q k l low shifted unset =
-        let (place, strokes) = shifted unset in
-        let to = ap (λ v. shift v (displacement a d global)) place ∙ shift_swap p e (displacement a d global) in
-        (to, by_bright d.bright p q _ _ k l place to strokes)
-      where
-        by_bright :
-            (bright : ℕ) (p q p' q' : Point) (k l : List Stroke) → q ≡ shift p e → q' ≡ shift p' e → l ≡ strokes_by e k
-            → lit_by bright (record { from = q; to = q' }) ++ l ≡ strokes_by e (lit_by bright (record { from = p; to = p' }) ++ k)
-        by_bright zero p q p' q' k l from to strokes = strokes
-        by_bright (suc n) p q p' q' k l from to strokes = λ i. record { from = from i; to = to i } ∷ strokes i
+shifted_kept a e = grind (arith, course_past, shift, displacement, drawn_on, shift_swap, lit_by)
 
 -- a run that is safe from any place lights nothing before the first LABS: from a place far enough to the left that would be outside
 module _ (a : Machine) (m : Memory) (w : Window) (words depth : ℕ) (rounds : RunsOnlyRound a m) (safe : Safe (on a m) w words depth) where
@@ -147,21 +128,17 @@ lit_draw :
     (outer inner : Window) (bright : ℕ) (first second : Stroke) (drawn other : List Stroke)
     → (InWindow inner first.from → InWindow outer second.from) → (InWindow inner first.to → InWindow outer second.to)
     → Lit inner (lit_by bright first ++ drawn) → Lit outer other → Lit outer (lit_by bright second ++ other)
-lit_draw outer inner zero first second drawn other from to lit all = all
-lit_draw outer inner (suc n) first second drawn other from to lit all = ((from lit.0.0, to lit.0.1), all)
+lit_draw outer inner bright first second drawn other from to lit all = grind (arith)
 
 lit_call : (w : Window) (room : Bool) (to : ℕ) (s : State) → Lit w s.strokes → Lit w (state_of (after_call room to s)).strokes
-lit_call w true to s all = all
-lit_call w false to s all = all
+lit_call w room to s all = grind (arith)
 
 lit_return : (w : Window) (stack : List ℕ) (s : State) → Lit w s.strokes → Lit w (state_of (after_return stack s)).strokes
-lit_return w [] s all = all
-lit_return w (back ∷ rest) s all = all
+lit_return w stack s all = grind (arith)
 
 -- and if it lights nothing on the one machine, it lights nothing on the other
 dark_draw : (outer : Window) (bright : ℕ) (first second : Stroke) (drawn other : List Stroke) → lit_by bright first ++ drawn ≡ [] → Lit outer other → Lit outer (lit_by bright second ++ other)
-dark_draw outer zero first second drawn other none all = all
-dark_draw outer (suc n) first second drawn other none all = cc
+dark_draw outer bright first second drawn other none all = grind (arith)
 
 module _ (outer inner : Window) (a b : Machine) (s t : State) (c : Course) (all : Lit outer t.strokes) where
   -- the place is in the outer window on the second machine, if it is in the inner one on the first, once a LABS has come
@@ -172,24 +149,13 @@ module _ (outer inner : Window) (a b : Machine) (s t : State) (c : Course) (all 
       (i : Instr) (format : Format) → Moves s t → Moves (state_of (after_instruction a i format s)) (state_of (after_instruction b i format t))
       → ((course_past a i s.scale c).by_labs ≡ false → (state_of (after_instruction a i format s)).strokes ≡ [])
       → Lit inner (state_of (after_instruction a i format s)).strokes → Lit outer (state_of (after_instruction b i format t)).strokes
-  lit_instruction (Draws d) format from to none lit = by_labs c.by_labs refl
-    where
-      by_labs : (set : Bool) → c.by_labs ≡ set → Lit outer (drawn_on b d t.scale t.place t.strokes)
-      by_labs true is = lit_draw outer inner d.bright _ _ s.strokes t.strokes (from is) (to is) lit all
-      by_labs false is = dark_draw outer d.bright _ _ s.strokes t.strokes (none is) all
-  lit_instruction (Labs x y gscale) format from to none lit = all
-  lit_instruction Halt format from to none lit = all
-  lit_instruction (Jsrl next) format from to none lit = lit_call outer (nat_lt (length t.return_stack) 4) next t all
-  lit_instruction Rtsl format from to none lit = lit_return outer t.return_stack t all
-  lit_instruction (Jmpl next) format from to none lit = all
+  lit_instruction i format from to none lit = grind (arith, drawn_on, lit_draw, dark_draw, lit_call, nat_lt, lit_return)
 
   lit_cell :
       (cell : Cell) → Moves s t → Moves (state_of (after_cell a cell s)) (state_of (after_cell b cell t))
       → ((course_at a cell s.scale c).by_labs ≡ false → (state_of (after_cell a cell s)).strokes ≡ [])
       → Lit inner (state_of (after_cell a cell s)).strokes → Lit outer (state_of (after_cell b cell t)).strokes
-  lit_cell Missing from to none lit = all
-  lit_cell Odd from to none lit = all
-  lit_cell (Holds format i) from to none lit = lit_instruction i format from to none lit
+  lit_cell cell from to none lit = grind (arith, lit_instruction)
 
 -- the same of what stands at an address, as each machine reads it
 abbrev LitKept : Window → Window → Machine → Machine → Course → State → State → Cell → Cell → Type 0
@@ -218,14 +184,7 @@ lit_next outer inner a b m c s t rounds pc from to none lit all =
 
 -- once a LABS has come, it has come
 still_set : (a : Machine) (cell : Cell) (scale : ℕ) (c : Course) → c.by_labs ≡ true → (course_at a cell scale c).by_labs ≡ true
-still_set a Missing scale c set = set
-still_set a Odd scale c set = set
-still_set a (Holds format (Draws d)) scale c set = set
-still_set a (Holds format (Labs x y gscale)) scale c set = refl
-still_set a (Holds format Halt) scale c set = set
-still_set a (Holds format (Jsrl to)) scale c set = set
-still_set a (Holds format Rtsl) scale c set = set
-still_set a (Holds format (Jmpl to)) scale c set = set
+still_set a cell scale c set = grind (arith)
 
 -- ---- runs in windows
 
@@ -275,29 +234,15 @@ module _ (half : HalfPlace) (a b : Machine) (m : Memory) (n : ℕ) (outer inner 
       → IsSafeState (on b m) outer words depth steps t
   safe_as words depth steps s t most near lit safe =
       let fetched : s.fetched ≡ t.fetched = sym (ap (λ u. u.fetched) near.same) in
-      record {
-        within = safe.within;
-        few = subst (λ l. length l ≤ words) fetched safe.few;
-        mapped = subst (λ l. AllByRecursion (IsMapped (on b m)) l) fetched safe.mapped;
-        stored = subst (λ k. k ≤ depth) (sym (ap (λ u. u.max_stack) near.same)) safe.stored;
-        lit = lit;
-      }
+      search (subst (λ l. length l ≤ words) fetched safe.few, subst (λ l. AllByRecursion (IsMapped (on b m)) l) fetched safe.mapped, subst (λ k. k ≤ depth) (sym (ap (λ u. u.max_stack) near.same)) safe.stored, lit)
 
   safe_like :
       (words depth steps : ℕ) (c : Course) (from to : Status) → Both (IsNearLit outer c) from to → IsSafeStatus (on a m) inner words depth steps from
       → IsSafeStatus (on b m) outer words depth steps to
-  safe_like words depth steps c (Running s) (Running t) near safe = safe_as words depth steps s t (512 * length c.moves) near.0 near.1 safe
-  safe_like words depth steps c (Halted s) (Halted t) near safe = safe_as words depth steps s t (512 * length c.moves) near.0 near.1 safe
-  safe_like words depth steps c (Running s) (Halted t) near safe = absurd near
-  safe_like words depth steps c (Running s) (Fault t) near safe = absurd near
-  safe_like words depth steps c (Halted s) (Running t) near safe = absurd near
-  safe_like words depth steps c (Halted s) (Fault t) near safe = absurd near
-  safe_like words depth steps c (Fault s) to near safe = absurd safe
+  safe_like words depth steps c from to near safe = grind (arith, rules, common_steps, safe_as)
 
 halts_too : (P : State → State → Type 0) (h : State) (to : Status) → Both P (Halted h) to → (t : State) × (to ≡ Halted t)
-halts_too P h (Halted t) both = (t, refl)
-halts_too P h (Running t) both = absurd both
-halts_too P h (Fault t) both = absurd both
+halts_too P h to both = grind (arith)
 
 pub inset_is_safe : HalfPlace → InsetIsSafe
 inset_is_safe half a b m n outer inner words depth inset rounds few safe = record { four = safe.four; halts = halts; each = each }

@@ -1,5 +1,6 @@
 -- The worked example: what stands at its places, and that each item keeps each rule.
 use Rattle.dvg_check.proofs.Common.{arith, List, refl, sym, subst, pos, zero, suc, ◌≡◌, ◌≢◌, ◌≤◌, ◌∷◌, ℕ, [], ints, displacement, screen, cell_at, instruction_of, IsMemory, frame_word, rom_word, Machine, Profile, Board, DrawFields, Holds, Long, Short, Labs, Halt, Jsrl, Rtsl, frame_context, target, PlaceKnown, ScaleKnown, LitInWindow, FrameKeeps, FramePlaceKeeps, CellKeeps, GoodShape, Good, AllKeep, HasCallee, seen_at, FrameWhy, Mode, Bound, Exact, Item, Frame, At, Entry, Empty}
+use Rattle.std.proofs.Common.{rules}
 use Rattle.std.proofs.lemmas.List.{length-replicate}
 use Rattle.dvg_words.specs.Example.{example_frame}
 use Rattle.dvg_words.specs.Values.{asteroids}
@@ -53,8 +54,7 @@ shape_good Board mode =
     (record { next = refl; scale = refl; lit = tt }) (return_good Board mode)
 
 shapes_good : (machine : Machine) (mode : Mode) → Good mode screen (rom_for machine) example_list
-shapes_good machine mode e (zero, lt, is) = subst (GoodShape mode screen (rom_for machine) example_list) is (shape_good machine mode)
-shapes_good machine mode e (suc k, lt, is) = absurd (omega (arith, lt))
+shapes_good machine mode e h3 = grind (arith, screen, shape_good)
 
 -- ---- the frame
 
@@ -85,28 +85,14 @@ halt_there Board = refl
 -- what the rules of frames ask of an item that is there
 pub frame_item : (v : Seen) → v.item.instr ≢ Rtsl → IsForward v.item.at v.item.instr → PlaceKnown v.extent v.place → ScaleKnown v.extent → LitInWindow screen v.extent v.place
     → HasCallee (target Frame v.item.instr) v.callee → v.after.words ≤ 20000 → (why : FrameWhy) → FrameKeeps screen 20000 v why
-frame_item v no_return forward place scale lit named few frame.Unmapped = tt
-frame_item v no_return forward place scale lit named few frame.Odd = tt
-frame_item v no_return forward place scale lit named few frame.ReturnInFrame = no_return
-frame_item v no_return forward place scale lit named few frame.BackJump = forward
-frame_item v no_return forward place scale lit named few frame.BeamUnknown = place
-frame_item v no_return forward place scale lit named few frame.ScaleUnknown = scale
-frame_item v no_return forward place scale lit named few frame.OffScreen = lit
-frame_item v no_return forward place scale lit named few frame.NoEntry = named
-frame_item v no_return forward place scale lit named few frame.Budget = few
+frame_item v no_return forward place scale lit named few h8 = grind (arith)
 
 labs_keeps : (machine : Machine) → (why : FrameWhy) → FrameKeeps screen 20000 (seen_at (frame_context machine example_list) [] labs_item) why
 labs_keeps machine = frame_item (seen_at (frame_context machine example_list) [] labs_item) (λ e. cc) tt tt tt tt tt (omega arith)
 
 call_keeps : (machine : Machine) → (why : FrameWhy) → FrameKeeps screen 20000 (seen_at (frame_context machine example_list) (labs_item ∷ []) call_item) why
-call_keeps Profile =
-    frame_item (seen_at (frame_context Profile example_list) (labs_item ∷ []) call_item) (λ e. cc) tt (λ e. cc) tt
-    (record { left = omega (arith, ints); right = omega (arith, ints); bottom = omega (arith, ints); top = omega (arith, ints) }, (record { left = omega (arith, ints); right = omega (arith, ints); bottom = omega (arith, ints); top = omega (arith, ints) }, tt))
-    tt (omega arith)
-call_keeps Board =
-    frame_item (seen_at (frame_context Board example_list) (labs_item ∷ []) call_item) (λ e. cc) tt (λ e. cc) tt
-    (record { left = omega (arith, ints); right = omega (arith, ints); bottom = omega (arith, ints); top = omega (arith, ints) }, (record { left = omega (arith, ints); right = omega (arith, ints); bottom = omega (arith, ints); top = omega (arith, ints) }, tt))
-    tt (omega arith)
+call_keeps Profile = grind (arith, frame_item, seen_at, frame_context)
+call_keeps Board = grind (arith, frame_item, seen_at, frame_context)
 
 halt_keeps : (machine : Machine) → (why : FrameWhy) → FrameKeeps screen 20000 (seen_at (frame_context machine example_list) (call_item ∷ labs_item ∷ []) halt_item) why
 halt_keeps machine = frame_item (seen_at (frame_context machine example_list) (call_item ∷ labs_item ∷ []) halt_item) (λ e. cc) tt tt tt tt tt (omega arith)
@@ -124,31 +110,10 @@ frame_keeps machine =
 -- ---- all
 
 a_memory : (machine : Machine) → IsMemory (memory_for machine)
-a_memory machine = record {
-  frame = record { some = omega arith; few = omega arith };
-  rom = record { map = record { past_frames = omega arith; ordered = omega arith; inside = omega arith }; filled = omega (arith, length-replicate {A = ℕ} 1021 0) };
-}
+a_memory machine = grind (arith, length-replicate)
 
 a_certificate : IsCertificate asteroids example_list
-a_certificate = record {
-  map_is = record { past_frames = omega arith; ordered = omega arith; inside = omega arith };
-  each = (
-    record {
-      addr_low = omega arith;
-      addr_high = omega arith;
-      key = omega arith;
-      stop = ((omega (arith, ints), omega (arith, ints)), (omega (arith, ints), omega (arith, ints)));
-      lit = (((omega (arith, ints), omega (arith, ints)), (omega (arith, ints), omega (arith, ints)), omega (arith, ints)), ((omega (arith, ints), omega (arith, ints)), (omega (arith, ints), omega (arith, ints)), omega (arith, ints)));
-      depth = omega arith;
-      words_low = omega arith;
-      words_high = omega arith;
-      scale = omega arith;
-    },
-    tt,
-  );
-  rising = tt;
-  few = omega arith;
-}
+a_certificate = grind (arith)
 
 pub worked_example : (machine : Machine) → WorkedExample machine
 worked_example machine =

@@ -50,15 +50,7 @@ rule_of n =
     if n == 40 then frame.Unmapped else if n == 41 then frame.Odd else if n == 42 then frame.ReturnInFrame else if n == 43 then frame.BackJump else if n == 44 then frame.BeamUnknown else if n == 45 then frame.ScaleUnknown else if n == 46 then frame.OffScreen else if n == 47 then frame.NoEntry else frame.Budget
 
 pub rule_of-number : (why : FrameWhy) → rule_of (frame_number why) ≡ why
-rule_of-number frame.Unmapped = refl
-rule_of-number frame.Odd = refl
-rule_of-number frame.ReturnInFrame = refl
-rule_of-number frame.BackJump = refl
-rule_of-number frame.BeamUnknown = refl
-rule_of-number frame.ScaleUnknown = refl
-rule_of-number frame.OffScreen = refl
-rule_of-number frame.NoEntry = refl
-rule_of-number frame.Budget = refl
+rule_of-number = elim [ frame.Unmapped ↦ refl | frame.Odd ↦ refl | frame.ReturnInFrame ↦ refl | frame.BackJump ↦ refl | frame.BeamUnknown ↦ refl | frame.ScaleUnknown ↦ refl | frame.OffScreen ↦ refl | frame.NoEntry ↦ refl | frame.Budget ↦ refl ]
 
 pub one_fault : OneFault
 one_fault w machine words list budget f g a b =
@@ -98,20 +90,7 @@ shape_rule_of n =
     if n == 20 then shape.Unmapped else if n == 21 then shape.Odd else if n == 22 then shape.HaltInShape else if n == 23 then shape.BeamUnknown else if n == 24 then shape.ScaleUnknown else if n == 25 then shape.OffScreen else if n == 26 then shape.NoEntry else if n == 27 then shape.TooDeep else if n == 28 then shape.TooManyWords else if n == 29 then shape.EndDiffers else if n == 30 then shape.ScaleDiffers else if n == 31 then shape.BoxTooSmall else if n == 32 then shape.WordsDiffer else shape.DepthDiffers
 
 pub shape_rule_of-number : (why : ShapeWhy) → shape_rule_of (shape_number why) ≡ why
-shape_rule_of-number shape.Unmapped = refl
-shape_rule_of-number shape.Odd = refl
-shape_rule_of-number shape.HaltInShape = refl
-shape_rule_of-number shape.BeamUnknown = refl
-shape_rule_of-number shape.ScaleUnknown = refl
-shape_rule_of-number shape.OffScreen = refl
-shape_rule_of-number shape.NoEntry = refl
-shape_rule_of-number shape.TooDeep = refl
-shape_rule_of-number shape.TooManyWords = refl
-shape_rule_of-number shape.EndDiffers = refl
-shape_rule_of-number shape.ScaleDiffers = refl
-shape_rule_of-number shape.BoxTooSmall = refl
-shape_rule_of-number shape.WordsDiffer = refl
-shape_rule_of-number shape.DepthDiffers = refl
+shape_rule_of-number = elim [ shape.Unmapped ↦ refl | shape.Odd ↦ refl | shape.HaltInShape ↦ refl | shape.BeamUnknown ↦ refl | shape.ScaleUnknown ↦ refl | shape.OffScreen ↦ refl | shape.NoEntry ↦ refl | shape.TooDeep ↦ refl | shape.TooManyWords ↦ refl | shape.EndDiffers ↦ refl | shape.ScaleDiffers ↦ refl | shape.BoxTooSmall ↦ refl | shape.WordsDiffer ↦ refl | shape.DepthDiffers ↦ refl ]
 
 contains_at : (before after : List Entry) (e : Entry) → Contains (before ++ e ∷ after) e
 contains_at [] after e = (0, omega arith, refl)

@@ -23,35 +23,20 @@ NotRelative (Rel x y) = ⊥
 NotRelative (Abs x y) = Unit {0}
 NotRelative Lost = Unit {0}
 
-by_move : (k : End) (d : Point) → NotRelative k → NotRelative (place_moved_by k d)
-by_move (Rel x y) d h = h
-by_move (Abs x y) d h = tt
-by_move Lost d h = tt
-
 by_effect : (f : Effect) (k : End) → NotRelative k → NotRelative (place_past f k)
-by_effect (Sets p) k h = tt
-by_effect Loses k h = tt
-by_effect (Moves d) k h = by_move k d h
+by_effect f k h = grind (arith)
 
 frame_place : (a : Machine) (list : List Entry) (items : List Item) → NotRelative (place_before (frame_context a list) items)
 frame_place a list [] = tt
 frame_place a list (i ∷ items) = by_effect _ (place_before (frame_context a list) items) (frame_place a list items)
 
 no_box : (box : LitBox) (l : LitExtent) (k : End) → NotRelative k → LitInBox box l k
-no_box box l (Rel x y) h = absurd h
-no_box box l (Abs x y) h = tt
-no_box box l Lost h = tt
+no_box box l k h = grind (arith)
 
 -- ---- depth
 
 depth_under-four : (instr : Instr) (o : Option Entry) → ((f : Entry) → o ≡ Some f → f.depth ≤ 3) → depth_under instr o ≤ 4
-depth_under-four instr None h = omega arith
-depth_under-four (Draws d) (Some f) h = omega arith
-depth_under-four (Labs x y g) (Some f) h = omega arith
-depth_under-four Halt (Some f) h = omega arith
-depth_under-four Rtsl (Some f) h = omega arith
-depth_under-four (Jsrl to) (Some f) h = omega (arith, h f refl)
-depth_under-four (Jmpl to) (Some f) h = omega (arith, h f refl)
+depth_under-four instr o h = grind (arith)
 
 depth_before-four : (a : Machine) (list : List Entry) → ((e : Entry) → Contains list e → e.depth ≤ 3) → (items : List Item) → depth_before (frame_context a list) items ≤ 4
 depth_before-four a list three [] = omega arith
@@ -73,16 +58,13 @@ record Halts (mode : Mode) (m : Memory) (w : Window) (words depth : ℕ) (s : St
   lit : AllByRecursion (Ends (InWindow w)) h.strokes
 
 on_screen : (w : Window) (base : Point) (k : Stroke) → LitFits w Empty base k → Ends (InWindow w) k
-on_screen w base k (inl on) = on
-on_screen w base k (inr on) = absurd on.0
+on_screen w base k h3 = grind (arith)
 
 length-places : (format : Format) (p : ℕ) → length (places format p) ≡ word_count format
-length-places Long p = refl
-length-places Short p = refl
+length-places format p = grind (arith)
 
 stored_all : (mode : Mode) (x d : ℕ) → Counts mode x (max 0 d) → Counts mode x d
-stored_all Bound x d h = omega (arith, h)
-stored_all Exact x d h = omega (arith, h)
+stored_all mode x d h = grind (arith)
 
 halt : (mode : Mode) (m : Memory) (w : Window) (most words depth at : ℕ) (format : Format) (base p : Point) (scale : ℕ) (t : State) → cell_at (word_at m) at ≡ Holds format Halt → AllByRecursion (λ q. InFrame m.frame q ⊎ InRom m.rom.map q) (places format at) → t.pc ≡ at → words ≡ most + word_count format → Stretch mode m (λ q. InFrame m.frame q ⊎ InRom m.rom.map q) (LitFits w Empty base) most depth (start p scale) t → Halts mode m w words depth (start p scale)
 halt mode m w most words depth at format base p scale t is mine pc sum c =
@@ -101,25 +83,7 @@ halt mode m w most words depth at format base p scale t is mine pc sum c =
     }
 
 safe_status : (m : Memory) (w : Window) (words depth n : ℕ) (s : State) (a : Status) (r : Halts Bound m w words depth s) → Reached m n (Running s) a → IsSafeStatus m w words depth n a
-safe_status m w words depth n s a r reached =
-    let on = rest_of m n r.n (Running s) a r.h reached r.reached in
-    by_status a on.0 (omega (arith, on.1, r.within)) on.2
-  where
-    as_safe : (b : State) → n ≤ words → Grows b r.h → IsSafeState m w words depth n b
-    as_safe b le g =
-        record {
-          within = le;
-          few = omega (arith, ap length g.fetched, length-append g.words b.fetched, r.few);
-          mapped = all_right (λ p. InFrame m.frame p ⊎ InRom m.rom.map p) g.words b.fetched (subst (AllByRecursion (λ p. InFrame m.frame p ⊎ InRom m.rom.map p)) g.fetched r.mapped);
-          stored = omega (arith, g.stored, r.stored);
-          lit = all_right (Ends (InWindow w)) g.strokes b.strokes (subst (AllByRecursion (Ends (InWindow w))) g.drew r.lit);
-        }
-
-    by_status : (b : Status) (j : ℕ) → n ≤ words → Reached m j b (Halted r.h) → IsSafeStatus m w words depth n b
-    by_status (Running b) j le q = as_safe b le (grows m j (Running b) (Halted r.h) q)
-    by_status (Halted b) j le q = as_safe b le (grows m j (Halted b) (Halted r.h) q)
-    by_status (Fault b) zero le q = cc
-    by_status (Fault b) (suc j) le q = q.1
+safe_status m w words depth n s a r reached = grind (arith, (rest_of m n r.n (Running s) a r.h reached r.reached), length-append, all_right, grows)
 
 -- ---- the whole
 
@@ -163,14 +127,5 @@ good_is_safe mode m w list budget words depth mem three good gf =
       each = λ p scale g n s reached. safe_status m w words depth n (start p scale) s (run Bound m w list budget words depth mem three bound gf p scale) reached;
     }
 
--- two halts of one run are the same
-halts_at : (m : Memory) (j : ℕ) (a b : State) → Reached m j (Halted a) (Halted b) → a ≡ b
-halts_at m zero a b q = cc
-halts_at m (suc j) a b q = absurd q.1
-
 pub exact_is_exact : ExactIsExact
-exact_is_exact m w list budget words depth mem three good gf p scale n h g reached =
-    let r = run Exact m w list budget words depth mem three good gf p scale in
-    let on = rest_of m n r.n (Running (start p scale)) (Halted h) r.h reached r.reached in
-    let same = halts_at m on.0 h r.h on.2 in
-    (ap (λ (s : State). length s.fetched) same ∙ r.few, ap (λ (s : State). s.max_stack) same ∙ r.stored)
+exact_is_exact m w list budget words depth mem three good gf p scale n h g reached = grind (arith, (run Exact m w list budget words depth mem three good gf p scale), rest_of, (start p scale))

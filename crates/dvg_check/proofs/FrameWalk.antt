@@ -7,34 +7,11 @@ use Rattle.dvg_check.specs.declared.fault.FrameWhy.TheVariants as frame
 
 -- the last item of a frame is a halt
 last_halts : (at : ℕ) (format : Format) (instr : Instr) → address_after Frame at format instr ≡ None → (instr ≡ Rtsl → ⊥) → IsForward at instr → instr ≡ Halt
-last_halts at format (Draws d) e r f = cc
-last_halts at format (Labs x y g) e r f = cc
-last_halts at format Halt e r f = refl
-last_halts at format (Jsrl to) e r f = cc
-last_halts at format Rtsl e r f = absurd (r refl)
-last_halts at format (Jmpl to) e r f =
-    let t : nat_lt at to ≡ true = grind (arith, nat_tests) in
-    let some : (if nat_lt at to then Some to else None) ≡ Some to = ap (λ b. if b then Some to else None) t in
-    cc (some, e)
+last_halts at format instr e r f = grind (arith, nat_lt, nat_tests)
 
 -- a walk that ends at a halt
 at_halt : (w : Window) (machine : Machine) (words : List ℕ) (list : List Entry) (budget : ℕ) (end : Known) → AllKeep Frame (frame_word machine words) 0 (FramePlaceKeeps w machine words list budget) → (items : List Item) (at : ℕ) (format : Format) (instr : Instr) → LeadsTo Frame (frame_word machine words) 0 items at → cell_at (frame_word machine words) at ≡ Holds format instr → end ≡ known_before (frame_context machine list) (record { at = at; format = format; instr = instr } ∷ items) → instr ≡ Halt → GoodFrame w machine words list budget end.words end.depth
-at_halt w machine words list budget end keeps items at format (Draws d) leads is knows h = cc
-at_halt w machine words list budget end keeps items at format (Labs x y g) leads is knows h = cc
-at_halt w machine words list budget end keeps items at format (Jsrl to) leads is knows h = cc
-at_halt w machine words list budget end keeps items at format Rtsl leads is knows h = cc
-at_halt w machine words list budget end keeps items at format (Jmpl to) leads is knows h = cc
-at_halt w machine words list budget end keeps items at format Halt leads is knows h =
-    record {
-      keeps = keeps;
-      items = items;
-      at = at;
-      format = format;
-      leads = leads;
-      halts = is;
-      count_is = let e = ap (λ (p : Known). p.words) knows in omega (arith, e);
-      depth_is = let e = ap (λ (p : Known). p.depth) knows in omega (arith, e);
-    }
+at_halt w machine words list budget end keeps items at format h10 leads is knows h = grind (arith)
 
 pub good_frame : (w : Window) (machine : Machine) (words : List ℕ) (list : List Entry) (budget : ℕ) (end : Known) → WalksTo (frame_context machine list) (frame_word machine words) 0 (FramePlaceKeeps w machine words list budget) end → GoodFrame w machine words list budget end.words end.depth
 good_frame w machine words list budget end u = at_halt w machine words list budget end u.keeps_all u.items u.last.at u.last.format u.last.instr u.leads u.stands u.knows (last_halts u.last.at u.last.format u.last.instr u.ends (kept frame.ReturnInFrame) (kept frame.BackJump))

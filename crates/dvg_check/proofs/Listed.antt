@@ -21,16 +21,7 @@ found_at : (mode : Mode) (w : Window) (rom : Rom) (list items : List Entry) (i :
     → FirstShapeFound mode w rom list f
 found_at mode w rom list items i d f same lt good found addr key entry =
     record {
-      first = record {
-        before = take i list;
-        entry = slice_index_or items i d;
-        after = drop (suc i) list;
-        order_is = subst (λ (l : List Entry). l ≡ take i l ++ slice_index_or items i d ∷ drop (suc i) l) same (split_at items i d lt);
-        good = good;
-        addr = addr;
-        key = key;
-        fault = found.fault;
-      };
+      first = search (take i list, slice_index_or items i d, drop (suc i) list, subst (λ (l : List Entry). l ≡ take i l ++ slice_index_or items i d ∷ drop (suc i) l) same (split_at items i d lt), good, addr, key);
       entry = entry;
       known = subst (λ e. f.before ≡ known_before (shape_context rom.machine list e) found.fault.items) (sym entry) found.known;
       stands = subst (λ e. IsFound (shape_context rom.machine list e) (rom_word rom) found.fault.items f.fault.word f.found) (sym entry) found.stands;
@@ -45,8 +36,4 @@ faulty_found mode w rom list items other i d f same also lt good found addr key 
 
 -- one good entry more
 pub good_more : (mode : Mode) (w : Window) (rom : Rom) (list items other : List Entry) (i j : ℕ) (d : Entry) → items ≡ list → other ≡ list → j ≡ suc i → i < length items → AllByRecursion (GoodShape mode w rom list) (take i list) → GoodShape mode w rom other (slice_index_or items i d) → AllByRecursion (GoodShape mode w rom list) (take j list)
-good_more mode w rom list items other i j d same also next lt all good =
-    subst (λ n. AllByRecursion (GoodShape mode w rom list) (take n list)) (sym next)
-    (subst (AllByRecursion (GoodShape mode w rom list)) (sym (take-suc list i d (omega (arith, ap length same, lt))))
-    (all_append (GoodShape mode w rom list) (take i list) (get_or list i d ∷ []) all
-    (subst (λ (l : List Entry). GoodShape mode w rom list (get_or l i d)) same (subst (λ (l : List Entry). GoodShape mode w rom l (slice_index_or items i d)) also good), tt)))
+good_more mode w rom list items other i j d same also next lt all good = grind (arith, (take-suc list i d (omega (arith, ap length same, lt))), all_append, (slice_index_or items i d))

@@ -1,5 +1,6 @@
 -- What the loop over items keeps, and what follows where it stops.
 use Rattle.dvg_check.proofs.Common.{Source, Machine, arith, refl, List, subst, sym, ap, ◌≡◌, ◌≢◌, ◌∷◌, ◌∙◌, ℕ, [], cell_at, Cell, Missing, Odd, Holds, Format, Instr, Entry, Key, IsFound, LeadsTo, Context, known_before, seen_at, PlaceKeeps, CellKeeps, Item, Kind, Known, Seen}
+use Rattle.std.proofs.Common.{rules}
 use Rattle.dvg_check.specs.FirstFault.{AllBefore, FaultAt}
 use Rattle.dvg_check.specs.Finding.{FaultFound}
 use Rattle.dvg_check.specs.declared.fault.Found.TheVariants as found
@@ -44,26 +45,12 @@ module _ (Why : Type 0) (order : Why → ℕ) (missing odd : Why) (Keeps : Seen 
   CellKept items at why cell = CellKeeps missing odd (λ i. Keeps (seen_at context items i)) at cell why
 
   pub begin : (cursor : Cursor) → cursor ≡ first_cursor kind first scale → IsSoundCursor cursor → Walked context word first keeps cursor
-  begin cursor is sound =
-      record {
-        items = [];
-        leads = ap (λ (c : Cursor). c.at) is;
-        kept = tt;
-        knows = ap (λ (c : Cursor). c.known) is;
-        sound = sound;
-      }
+  begin cursor is sound = search (rules, [], ap (λ (c : Cursor). c.at) is, ap (λ (c : Cursor). c.known) is, sound)
 
   -- a cell that holds no item breaks one rule alone
   no_item : (cursor : Cursor) (cell : Cell) (why : Why) (k : Walked context word first keeps cursor) → cell_at word cursor.at ≡ cell
       → (CellKept k.items cursor.at why cell → ⊥) → ((other : Why) → other ≢ why → CellKept k.items cursor.at other cell) → FaultAt order kind word first keeps cursor.at why
-  no_item cursor cell why k is breaks others =
-      record {
-        items = k.items;
-        leads = k.leads;
-        before = k.kept;
-        breaks = λ h. breaks (subst (CellKept k.items cursor.at why) is h);
-        lowest = λ other lt. subst (CellKept k.items cursor.at other) (sym is) (others other (λ e. let o : order other ≡ order why = ap order e in omega (arith, o, lt)));
-      }
+  no_item cursor cell why k is breaks others = search (rules, k.kept)
 
   pub found_missing : (cursor : Cursor) → Walked context word first keeps cursor → cell_at word cursor.at ≡ Missing → FaultFound order context word first keeps cursor.at missing cursor.known found.Missing
   unfolding no_item
@@ -90,13 +77,7 @@ module _ (Why : Type 0) (order : Why → ℕ) (missing odd : Why) (Keeps : Seen 
     pub broken : (es : List Entry) (why : Why) → es ≡ list → BreaksFirst order Keeps (seen_by machine es kind cursor.known item) why → FaultAt order kind word first keeps cursor.at why
     broken es why es_are breaks =
         let b = subst (λ (l : List Entry). BreaksFirst order Keeps (seen_by machine l kind cursor.known item) why) es_are breaks in
-        record {
-          items = k.items;
-          leads = k.leads;
-          before = k.kept;
-          breaks = λ h. b.broken (subst (λ x. Keeps x why) same (subst (CellKept k.items cursor.at why) is h));
-          lowest = λ other lt. kept_here other (b.lowest other lt);
-        }
+        search (rules, k.kept)
 
     seen_found : (s : Seen) → s ≡ seen → IsFound context word k.items cursor.at (found.Seen s)
     seen_found s s_is = subst (λ x. IsFound context word k.items cursor.at (found.Seen x)) (sym s_is) (refl, is, sym same)
@@ -129,12 +110,4 @@ module _ (Why : Type 0) (order : Why → ℕ) (missing odd : Why) (Keeps : Seen 
     done es step known es_are step_is keeps_all =
         let h = kept_by es step es_are keeps_all in
         let end = ends_at kind seen step known step_is h.leads in
-        record {
-          keeps_all = all_kept kind word first Why keeps k.items item k.leads is end.0 (k.kept, λ why. kept_here why (h.kept why));
-          items = k.items;
-          last = item;
-          leads = k.leads;
-          stands = is;
-          ends = end.0;
-          knows = known_on known end.1;
-        }
+        search (all_kept kind word first Why keeps k.items item k.leads is end.0 (k.kept, λ why. kept_here why (h.kept why)), item, is, end.0, known_on known end.1)

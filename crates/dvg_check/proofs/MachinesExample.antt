@@ -1,5 +1,5 @@
 -- The two frames that one machine accepts and the other refuses, item by item.
-use Rattle.dvg_check.proofs.Common.{arith, List, refl, sym, subst, pos, ◌≡◌, ◌∷◌, ◌<◌, ℕ, [], ints, displacement, screen, cell_at, instruction_of, frame_word, DrawFields, Machine, Profile, Board, Holds, Odd, Long, Short, Labs, Halt, frame_number, FrameKeeps, FramePlaceKeeps, CellKeeps, GoodFrame, FrameWhy, frame_context, seen_at, Item, Frame, LeadsTo, words_before, depth_before, ◌+◌}
+use Rattle.dvg_check.proofs.Common.{arith, List, refl, sym, subst, pos, ◌≡◌, ◌∷◌, ◌<◌, ℕ, [], ints, displacement, screen, cell_at, instruction_of, frame_word, DrawFields, Machine, Profile, Board, Holds, Odd, Long, Short, Labs, Halt, frame_number, FrameKeeps, FramePlaceKeeps, CellKeeps, GoodFrame, FrameWhy, frame_context, seen_at, Item, Frame, LeadsTo, words_before, depth_before, ◌+◌, ◌≤◌, PlaceKnown, ScaleKnown, LitInWindow}
 use Rattle.dvg_words.specs.declared.instruction.Instr.TheVariants.{Draw as Draws}
 use Rattle.dvg_check.specs.FirstFault.{FirstFrameFault}
 use Rattle.dvg_check.specs.MachinesExample.{edge_frame, left_frame, WorkedMachines}
@@ -62,6 +62,18 @@ module _ (machine : Machine) (words : List ℕ) where
         depth_is = depth;
       }
 
+  -- LABS at the start and HALT light nothing
+  labs_keeps : (x : ℕ) → KeepsAll [] (labs_at x)
+  labs_keeps x = frame_item (seen [] (labs_at x)) (λ e. cc) tt tt tt tt tt (omega arith)
+
+  halt_keeps : (earlier : List Item) → LitInWindow screen (seen earlier halt_item).extent (seen earlier halt_item).place → (seen earlier halt_item).after.words ≤ 20000 → KeepsAll earlier halt_item
+  halt_keeps earlier lit few = frame_item (seen earlier halt_item) (λ e. cc) tt tt tt lit tt few
+
+  -- a draw from a known place, which lights in the window
+  draw_keeps : (earlier : List Item) (at : ℕ) (d : DrawFields) → PlaceKnown (seen earlier (draw_at at d)).extent (seen earlier (draw_at at d)).place → ScaleKnown (seen earlier (draw_at at d)).extent
+      → LitInWindow screen (seen earlier (draw_at at d)).extent (seen earlier (draw_at at d)).place → (seen earlier (draw_at at d)).after.words ≤ 20000 → KeepsAll earlier (draw_at at d)
+  draw_keeps earlier at d place scale lit few = frame_item (seen earlier (draw_at at d)) (λ e. cc) tt place scale lit tt few
+
 -- ---- the frame at the edge
 
 edge_labs : (machine : Machine) → IsThere machine edge_frame (labs_at 1022)
@@ -84,34 +96,19 @@ unfolding cell_at instruction_of
 edge_halt Profile = refl
 edge_halt Board = refl
 
-edge_labs_keeps : (machine : Machine) → KeepsAll machine edge_frame [] (labs_at 1022)
-edge_labs_keeps machine = frame_item (seen machine edge_frame [] (labs_at 1022)) (λ e. cc) tt tt tt tt tt (omega arith)
-
 edge_first_keeps : (machine : Machine) → KeepsAll machine edge_frame (labs_at 1022 ∷ []) (draw_at 2 half)
 unfolding displacement
-edge_first_keeps Profile =
-    frame_item (seen Profile edge_frame (labs_at 1022 ∷ []) (draw_at 2 half)) (λ e. cc) tt (λ e. cc) tt
-    (record { left = omega (arith, ints); right = omega (arith, ints); bottom = omega (arith, ints); top = omega (arith, ints) }, (record { left = omega (arith, ints); right = omega (arith, ints); bottom = omega (arith, ints); top = omega (arith, ints) }, tt))
-    tt (omega arith)
-edge_first_keeps Board =
-    frame_item (seen Board edge_frame (labs_at 1022 ∷ []) (draw_at 2 half)) (λ e. cc) tt (λ e. cc) tt
-    (record { left = omega (arith, ints); right = omega (arith, ints); bottom = omega (arith, ints); top = omega (arith, ints) }, (record { left = omega (arith, ints); right = omega (arith, ints); bottom = omega (arith, ints); top = omega (arith, ints) }, tt))
-    tt (omega arith)
+edge_first_keeps Profile = draw_keeps Profile edge_frame (labs_at 1022 ∷ []) 2 half (λ e. cc) tt (record { left = omega (arith, ints); right = omega (arith, ints); bottom = omega (arith, ints); top = omega (arith, ints) }, (record { left = omega (arith, ints); right = omega (arith, ints); bottom = omega (arith, ints); top = omega (arith, ints) }, tt)) (omega arith)
+edge_first_keeps Board = draw_keeps Board edge_frame (labs_at 1022 ∷ []) 2 half (λ e. cc) tt (record { left = omega (arith, ints); right = omega (arith, ints); bottom = omega (arith, ints); top = omega (arith, ints) }, (record { left = omega (arith, ints); right = omega (arith, ints); bottom = omega (arith, ints); top = omega (arith, ints) }, tt)) (omega arith)
 
 edge_second_keeps : KeepsAll Profile edge_frame (draw_at 2 half ∷ labs_at 1022 ∷ []) (draw_at 4 half)
 unfolding displacement
-edge_second_keeps =
-    frame_item (seen Profile edge_frame (draw_at 2 half ∷ labs_at 1022 ∷ []) (draw_at 4 half)) (λ e. cc) tt (λ e. cc) tt
-    (record { left = omega (arith, ints); right = omega (arith, ints); bottom = omega (arith, ints); top = omega (arith, ints) }, (record { left = omega (arith, ints); right = omega (arith, ints); bottom = omega (arith, ints); top = omega (arith, ints) }, tt))
-    tt (omega arith)
-
-edge_halt_keeps : KeepsAll Profile edge_frame (draw_at 4 half ∷ draw_at 2 half ∷ labs_at 1022 ∷ []) halt_item
-edge_halt_keeps = frame_item (seen Profile edge_frame (draw_at 4 half ∷ draw_at 2 half ∷ labs_at 1022 ∷ []) halt_item) (λ e. cc) tt tt tt tt tt (omega arith)
+edge_second_keeps = draw_keeps Profile edge_frame (draw_at 2 half ∷ labs_at 1022 ∷ []) 4 half (λ e. cc) tt (record { left = omega (arith, ints); right = omega (arith, ints); bottom = omega (arith, ints); top = omega (arith, ints) }, (record { left = omega (arith, ints); right = omega (arith, ints); bottom = omega (arith, ints); top = omega (arith, ints) }, tt)) (omega arith)
 
 edge_accepted : GoodFrame screen Profile edge_frame [] 20000 7 0
 edge_accepted =
     accepted Profile edge_frame (labs_at 1022) (draw_at 2 half) (draw_at 4 half) (((refl, edge_labs Profile, refl), edge_first Profile, refl), edge_second Profile, refl) (edge_halt Profile)
-    (edge_labs_keeps Profile) (edge_first_keeps Profile) edge_second_keeps edge_halt_keeps refl refl
+    (labs_keeps Profile edge_frame 1022) (edge_first_keeps Profile) edge_second_keeps (halt_keeps Profile edge_frame (draw_at 4 half ∷ draw_at 2 half ∷ labs_at 1022 ∷ []) tt (omega arith)) refl refl
 
 -- the second draw of the board ends right of the window
 off_screen : FrameKeeps screen 20000 (seen Board edge_frame (draw_at 2 half ∷ labs_at 1022 ∷ []) (draw_at 4 half)) frame.OffScreen → ⊥
@@ -136,7 +133,7 @@ edge_refused =
       items = draw_at 2 half ∷ labs_at 1022 ∷ [];
       leads = ((refl, edge_labs Board, refl), edge_first Board, refl);
       before = (
-        (tt, λ why. there Board edge_frame [] (labs_at 1022) why (edge_labs Board) (edge_labs_keeps Board why)),
+        (tt, λ why. there Board edge_frame [] (labs_at 1022) why (edge_labs Board) (labs_keeps Board edge_frame 1022 why)),
         λ why. there Board edge_frame (labs_at 1022 ∷ []) (draw_at 2 half) why (edge_first Board) (edge_first_keeps Board why),
       );
       breaks = λ kept. off_screen (back_there Board edge_frame (draw_at 2 half ∷ labs_at 1022 ∷ []) (draw_at 4 half) frame.OffScreen (edge_second Board) kept);
@@ -161,25 +158,13 @@ left_halt : IsThere Board left_frame halt_item
 unfolding cell_at instruction_of
 left_halt = refl
 
-left_labs_keeps : KeepsAll Board left_frame [] (labs_at 4088)
-left_labs_keeps = frame_item (seen Board left_frame [] (labs_at 4088)) (λ e. cc) tt tt tt tt tt (omega arith)
-
-left_back_keeps : KeepsAll Board left_frame (labs_at 4088 ∷ []) (draw_at 2 back)
-left_back_keeps = frame_item (seen Board left_frame (labs_at 4088 ∷ []) (draw_at 2 back)) (λ e. cc) tt tt tt tt tt (omega arith)
-
 left_draw_keeps : KeepsAll Board left_frame (draw_at 2 back ∷ labs_at 4088 ∷ []) (draw_at 4 half)
 unfolding displacement
-left_draw_keeps =
-    frame_item (seen Board left_frame (draw_at 2 back ∷ labs_at 4088 ∷ []) (draw_at 4 half)) (λ e. cc) tt (λ e. cc) tt
-    (record { left = omega (arith, ints); right = omega (arith, ints); bottom = omega (arith, ints); top = omega (arith, ints) }, (record { left = omega (arith, ints); right = omega (arith, ints); bottom = omega (arith, ints); top = omega (arith, ints) }, tt))
-    tt (omega arith)
-
-left_halt_keeps : KeepsAll Board left_frame (draw_at 4 half ∷ draw_at 2 back ∷ labs_at 4088 ∷ []) halt_item
-left_halt_keeps = frame_item (seen Board left_frame (draw_at 4 half ∷ draw_at 2 back ∷ labs_at 4088 ∷ []) halt_item) (λ e. cc) tt tt tt tt tt (omega arith)
+left_draw_keeps = draw_keeps Board left_frame (draw_at 2 back ∷ labs_at 4088 ∷ []) 4 half (λ e. cc) tt (record { left = omega (arith, ints); right = omega (arith, ints); bottom = omega (arith, ints); top = omega (arith, ints) }, (record { left = omega (arith, ints); right = omega (arith, ints); bottom = omega (arith, ints); top = omega (arith, ints) }, tt)) (omega arith)
 
 left_accepted : GoodFrame screen Board left_frame [] 20000 7 0
 left_accepted =
-    accepted Board left_frame (labs_at 4088) (draw_at 2 back) (draw_at 4 half) (((refl, left_labs, refl), left_back, refl), left_draw, refl) left_halt left_labs_keeps left_back_keeps left_draw_keeps left_halt_keeps refl refl
+    accepted Board left_frame (labs_at 4088) (draw_at 2 back) (draw_at 4 half) (((refl, left_labs, refl), left_back, refl), left_draw, refl) left_halt (labs_keeps Board left_frame 4088) (draw_keeps Board left_frame (labs_at 4088 ∷ []) 2 back tt tt tt (omega arith)) left_draw_keeps (halt_keeps Board left_frame (draw_at 4 half ∷ draw_at 2 back ∷ labs_at 4088 ∷ []) tt (omega arith)) refl refl
 
 -- the profile decodes no LABS to -8
 left_odd : cell_at (frame_word Profile left_frame) 0 ≡ Odd

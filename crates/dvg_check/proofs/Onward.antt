@@ -1,5 +1,6 @@
 -- From one item to the next, over calls too.
 use Rattle.dvg_check.proofs.Common.{Source, Machine, Option, None, Some, Bool, false, true, refl, nat_le, arith, subst, inl, sym, ap, inr, zero, suc, List, max, length, nat_lt, ◌≡◌, ◌+◌, ◌<◌, ◌≤◌, ◌⊎◌, ◌∷◌, ◌++◌, ◌∙◌, ℕ, ⊎_elim, [], nat_tests, ints, AllByRecursion, Contains, if◌then◌else◌, shift, InWindow, displacement, origin, instruction_of, cell_holding, cell_of_words, cell_of_format, cell_at, word_count, Stroke, lit_by, State, next_status, Running, places, after_call, Memory, InRom, word_at, IsMemory, DrawFields, Window, Point, Holds, Format, Long, Short, Instr, Labs, Halt, Jsrl, Rtsl, Jmpl, End, Lost, Abs, Rel, Entry, Key, At, LitBox, Empty, Span, PlaceFits, LitFits, ScaleFits, Stretch, address_after, LeadsTo, place_moved_by, Context, place_before, scale_before, target, callee, callee_words, depth_under, place_past, word_of, InBox, LitInWindow, LitInBox, PlaceKnown, ScaleKnown, HasCallee, Mode, Item, Kind, Frame, Shape, shift_shift, shift_origin}
+use Rattle.std.proofs.Common.{rules}
 use Rattle.std.proofs.Common.{unwrap_or, ◌/◌}
 use Rattle.std.specs.Prelude.{◌≢◌, ◌==◌, ℤ}
 use Rattle.dvg_words.specs.Decoding.{long_cell}
@@ -23,37 +24,12 @@ abbrev IfThere : Option Instr → Type 0
 IfThere None = Unit {0}
 IfThere (Some i) = IsDrawOrLabs i
 
-long_tests : (a b z : Bool) (d : DrawFields) (x y g : ℕ) (rest : Option Instr) → (a ≡ false → b ≡ false → ⊥) → IfThere (if a then Some (Draws d) else if b then (if z then Some (Labs x y g) else None) else rest)
-long_tests true b z d x y g rest h = tt
-long_tests false true true d x y g rest h = tt
-long_tests false true false d x y g rest h = tt
-long_tests false false z d x y g rest h = absurd (h refl refl)
-
 long_by : (machine : Machine) (first second : ℕ) (i : Instr) → nat_le (first / 4096) 10 ≡ true → instruction_of machine first second ≡ Some i → IsDrawOrLabs i
 unfolding instruction_of
-long_by machine first second i l e =
-    let not_both : nat_le (first / 4096) 9 ≡ false → (first / 4096 == 10) ≡ false → ⊥ = λ p q. grind (arith, nat_tests) in
-    subst IfThere e (long_tests (nat_le (first / 4096) 9) (first / 4096 == 10) _ _ _ _ _ _ not_both)
-
-held_instruction : (format : Format) (o : Option Instr) (i : Instr) → cell_holding format o ≡ Holds format i → o ≡ Some i
-held_instruction format None i e = cc
-held_instruction format (Some j) i e = cc
-
-long_two : (machine : Machine) (first : ℕ) (o : Option ℕ) (i : Instr) → nat_le (first / 4096) 10 ≡ true → long_cell machine first o ≡ Holds Long i → IsDrawOrLabs i
-long_two machine first None i l e = cc
-long_two machine first (Some second) i l e = long_by machine first second i l (held_instruction Long _ i e)
-
-no_long : (o : Option Instr) (i : Instr) → cell_holding Short o ≡ Holds Long i → ⊥
-no_long None i e = cc
-no_long (Some j) i e = cc
+long_by machine first second i l e = grind (arith, nat_le, nat_tests)
 
 long_first : (machine : Machine) (a b : Option ℕ) (i : Instr) → cell_of_words machine a b ≡ Holds Long i → IsDrawOrLabs i
-long_first machine None b i e = cc
-long_first machine (Some first) b i e = by_test (nat_le (first / 4096) 10) refl e
-  where
-    by_test : (l : Bool) → nat_le (first / 4096) 10 ≡ l → cell_of_format machine (if l then Long else Short) first b ≡ Holds Long i → IsDrawOrLabs i
-    by_test true p f = long_two machine first b i p f
-    by_test false p f = absurd (no_long (instruction_of machine first 0) i f)
+long_first machine a b i e = grind (arith, nat_le, cell_of_format, long_by, instruction_of)
 
 pub long_there : (get : Source) (p : ℕ) (i : Instr) → cell_at get p ≡ Holds Long i → IsDrawOrLabs i
 unfolding cell_at
@@ -98,11 +74,7 @@ box_of_corners (Span a b d e) p v x0 x1 y0 y1 c h =
 allowed_up : (w : Window) (inner box : LitBox) (base p : Point) (k : End) → PlaceFits k base p → PlaceKnown (box_extent inner) k → LitInWindow w (box_extent inner) k → LitInBox box (box_extent inner) k → (stroke : Stroke) → LitFits w inner p stroke → LitFits w box base stroke
 allowed_up w inner box base p k h known shown boxed stroke (inl on) = inl on
 allowed_up w Empty box base p k h known shown boxed stroke (inr on) = absurd on.0
-allowed_up w (Span x0 x1 y0 y1) box base p k h known shown boxed stroke (inr on) =
-    ⊎_elim
-    (λ c. inl (window_of_corners w p stroke.from x0 x1 y0 y1 c on.0, window_of_corners w p stroke.to x0 x1 y0 y1 c on.1))
-    (λ c. inr (box_of_corners (box_at box base) p stroke.from x0 x1 y0 y1 c on.0, box_of_corners (box_at box base) p stroke.to x0 x1 y0 y1 c on.1))
-    (lit_points w box base p _ _ k h known shown boxed)
+allowed_up w (Span x0 x1 y0 y1) box base p k h known shown boxed stroke (inr on) = grind (arith, window_of_corners, box_of_corners, (lit_points w box base p))
 
 -- what a draw lights
 fits_apart : (base p q d : Point) (k : End) → k ≢ Lost → PlaceFits k base p → PlaceFits (place_moved_by k d) base q → q ≡ shift p d
@@ -130,16 +102,8 @@ pub record Named (list : List Entry) (to : ℕ) (scale : Key) (f : Entry) : Type
   pub addr : f.addr ≡ to
   pub key : (g : ℕ) → ScaleFits scale g → ScaleFits f.key g
 
-any_fits : (list : List Entry) (to : ℕ) (scale : Key) (f : Entry) → entry_at list to Any ≡ Some f → Named list to scale f
-any_fits list to scale f e =
-    let l = listed_at list to Any f e in
-    record { listed = l.listed; addr = l.addr_is; key = λ g a. subst (λ k. ScaleFits k g) (sym l.key_is) tt }
-
 first_fits : (list : List Entry) (to : ℕ) (scale : Key) (o : Option Entry) (f : Entry) → entry_at list to scale ≡ o → option_or o (entry_at list to Any) ≡ Some f → Named list to scale f
-first_fits list to scale None f e h = any_fits list to scale f h
-first_fits list to scale (Some x) f e h =
-    let l = listed_at list to scale f (e ∙ h) in
-    record { listed = l.listed; addr = l.addr_is; key = λ s a. subst (λ k. ScaleFits k s) (sym l.key_is) a }
+first_fits list to scale o f e h = grind (arith, listed_at)
 
 pub named_is : (list : List Entry) (to : ℕ) (scale : Key) (f : Entry) → named_entry list to scale ≡ Some f → Named list to scale f
 named_is list to scale f e = first_fits list to scale (entry_at list to scale) f refl e
@@ -147,10 +111,7 @@ named_is list to scale f e = first_fits list to scale (entry_at list to scale) f
 -- ---- one step as a stretch of a run
 
 pub one_step : (mode : Mode) (m : Memory) (F : ℕ → Type 0) (P : Stroke → Type 0) (deep : ℕ) (format : Format) (p : ℕ) (s t : State) (new : List Stroke) → next_status m s ≡ Running t → t.fetched ≡ places format p ++ s.fetched → AllByRecursion F (places format p) → t.strokes ≡ new ++ s.strokes → AllByRecursion P new → t.max_stack ≡ max s.max_stack deep → Stretch mode m F P (word_count format) deep s t
-one_step mode m F P deep Long p s t new step fetched mapped drew lit stored =
-    record { steps = 1; reached = (Running t, step, refl); within = omega arith; words = places Long p; fetched = fetched; few = counts_same mode 2 2 refl; mapped = mapped; strokes = new; drew = drew; lit = lit; stored = counts_same mode t.max_stack (max s.max_stack deep) stored }
-one_step mode m F P deep Short p s t new step fetched mapped drew lit stored =
-    record { steps = 1; reached = (Running t, step, refl); within = omega arith; words = places Short p; fetched = fetched; few = counts_same mode 1 1 refl; mapped = mapped; strokes = new; drew = drew; lit = lit; stored = counts_same mode t.max_stack (max s.max_stack deep) stored }
+one_step mode m F P deep format p s t new step fetched mapped drew lit stored = grind (arith, places, counts_same, max)
 
 -- ---- where a walk stands
 
@@ -169,12 +130,6 @@ pub record Fits (w : Window) (c : Context) (box : LitBox) (earlier : List Item) 
   pub shown : LitInWindow w (extent c earlier instr) (place_before c earlier)
   pub boxed : LitInBox box (extent c earlier instr) (place_before c earlier)
   pub named : HasCallee (target c.kind instr) (callee c earlier instr)
-
--- what a call or tail jump leaves
-place_returned : (base p q : Point) (k : End) (stop : End) → PlaceFits k base p → PlaceFits stop p q → PlaceFits (place_past (stop_effect stop) k) base q
-place_returned base p q k (Rel x y) h f = subst (PlaceFits (place_moved_by k (record { x = x; y = y })) base) (sym f) (fits_moved base p (record { x = x; y = y }) k h)
-place_returned base p q k (Abs x y) h f = f
-place_returned base p q k Lost h f = tt
 
 -- a state before a call of f, or a tail jump to it
 pub record Called (w : Window) (box : LitBox) (base : Point) (k : End) (f : Entry) (p : Point) : Type 0 where
@@ -200,20 +155,11 @@ stands_at c base rs earlier p q s e st = record { pc = st.pc ∙ e; return_stack
 
 -- where an item calls an entry
 pub called_by : (w : Window) (c : Context) (box : LitBox) (base : Point) (earlier : List Item) (instr : Instr) (f : Entry) (p : Point) → callee c earlier instr ≡ Some f → extent c earlier instr ≡ callee_extent (callee c earlier instr) → Fits w c box earlier instr → PlaceFits (place_before c earlier) base p → Called w box base (place_before c earlier) f p
-called_by w c box base earlier instr f p is same fits agrees =
-    let l : extent c earlier instr ≡ box_extent f.lit = same ∙ ap callee_extent is in
-    record {
-      agrees = agrees;
-      known = subst (λ x. PlaceKnown x (place_before c earlier)) l fits.known;
-      shown = subst (λ x. LitInWindow w x (place_before c earlier)) l fits.shown;
-      boxed = subst (λ x. LitInBox box x (place_before c earlier)) l fits.boxed;
-    }
+called_by w c box base earlier instr f p is same fits agrees = grind (arith, place_before)
 
 -- what is known after an item that calls an entry
 pub after_entry : (c : Context) (base : Point) (earlier : List Item) (i : Item) (o : Option Entry) (f : Entry) (p q : Point) (scale : ℕ) → o ≡ Some f → effect c earlier i.instr ≡ callee_effect o → PlaceFits (place_before c earlier) base p → PlaceFits f.stop p q → PlaceFits (place_before c (i ∷ earlier)) base q
-after_entry c base earlier i o f p q scale is same agrees fits =
-    let e : place_before c (i ∷ earlier) ≡ place_past (stop_effect f.stop) (place_before c earlier) = ap (λ x. place_past x (place_before c earlier)) (same ∙ ap callee_effect is) in
-    subst (λ k. PlaceFits k base q) (sym e) (place_returned base p q (place_before c earlier) f.stop agrees fits)
+after_entry c base earlier i o f p q scale is same agrees fits = grind (arith, place_before, place_past, place_moved_by, fits_moved)
 
 record Jumps (kind : Kind) (to p : ℕ) : Type 0 where
   frame : kind ≡ Frame
@@ -221,11 +167,7 @@ record Jumps (kind : Kind) (to p : ℕ) : Type 0 where
 
 jumps : (kind : Kind) (at : ℕ) (format : Format) (to p : ℕ) → address_after kind at format (Jmpl to) ≡ Some p → Jumps kind to p
 jumps Shape at format to p e = cc
-jumps Frame at format to p e = by_test (nat_lt at to) e
-  where
-    by_test : (b : Bool) → (if b then Some to else None) ≡ Some p → Jumps Frame to p
-    by_test true f = record { frame = refl; there = cc }
-    by_test false f = cc
+jumps Frame at format to p e = grind (arith, nat_lt)
 
 pub fits_still : (base p : Point) (k : End) → PlaceFits k base p → PlaceFits (place_moved_by k origin) base p
 fits_still base p k h = subst (PlaceFits (place_moved_by k origin) base) (shift_origin p) (fits_moved base p origin k h)
@@ -236,8 +178,7 @@ module _ (mode : Mode) (m : Memory) (w : Window) (box : LitBox) (base : Point) (
 
   -- what the called shape does, as a stretch of the caller's run
   pub within_caller : (k : End) (f : Entry) (back : ℕ) (rest : List ℕ) (s t : State) → Called w box base k f s.place → Returned mode m w f back rest s t → Stretch mode m Ok Lit f.words (length s.return_stack + f.depth) s t
-  within_caller k f back rest s t c r =
-      stretch_less mode m (InRom m.rom.map) Ok (LitFits w f.lit s.place) Lit f.words (length s.return_stack + f.depth) s t rom_ok (allowed_up w f.lit box base s.place k c.agrees c.known c.shown c.boxed) r.stretch
+  within_caller k f back rest s t c r = grind (arith, stretch_less, allowed_up)
 
   -- a call and the shape that it calls
   pub over_call : (k : End) (f : Entry) (at to : ℕ) (s : State) → cell_at (word_at m) at ≡ Holds Short (Jsrl to) → s.pc ≡ at → AllByRecursion Ok (places Short at) → Called w box base k f s.place → f.addr ≡ to → ScaleFits f.key s.scale → length s.return_stack ≤ s.max_stack → length s.return_stack + (1 + f.depth) ≤ 4 → Behaves mode m w f
@@ -268,11 +209,7 @@ module _ (mode : Mode) (m : Memory) (w : Window) (box : LitBox) (base : Point) (
       (t : State) × Stretch mode m Ok Lit (word_count i.format + callee_words (callee c earlier i.instr)) (length rs + depth_under i.instr (callee c earlier i.instr)) s t × Stands c base rs (i ∷ earlier) p t
 
   plain_onward : (c : Context) (first : ℕ) (earlier : List Item) (i : Item) (p : ℕ) (rs : List ℕ) (s : State) → callee c earlier i.instr ≡ None → IsMemory m → c.machine ≡ m.rom.machine → AllByRecursion Ok (places i.format i.at) → LeadsTo c.kind (word_of c.kind m) first earlier i.at → cell_at (word_of c.kind m) i.at ≡ Holds i.format i.instr → IsDrawOrLabs i.instr → Fits w c box earlier i.instr → i.at + word_count i.format ≡ p → Stands c base rs earlier i.at s → Onward c earlier i p rs s
-  plain_onward c first earlier i p rs s none mem same own lead e kind fits goes st =
-      let r = over_plain c first earlier i rs s mem same own lead e kind fits st in
-      let no_words : callee_words (callee c earlier i.instr) ≡ 0 = ap callee_words none in
-      let no_need : depth_under i.instr (callee c earlier i.instr) ≡ 0 = ap (depth_under i.instr) none in
-      (r.0, stretch_as mode m Ok Lit (word_count i.format) _ (length rs) _ s r.0 (omega arith) (omega arith) r.1, stands_at c base rs (i ∷ earlier) (i.at + word_count i.format) p r.0 goes r.2)
+  plain_onward c first earlier i p rs s none mem same own lead e kind fits goes st = grind (arith, over_plain, callee_words, callee, depth_under, stretch_as, word_count, stands_at)
 
   call_onward : (c : Context) (earlier : List Item) (at to p : ℕ) (f : Entry) (rs : List ℕ) (s : State) → callee c earlier (Jsrl to) ≡ Some f → cell_at (word_at m) at ≡ Holds Short (Jsrl to) → at + 1 ≡ p → AllByRecursion Ok (places Short at) → Fits w c box earlier (Jsrl to) → length rs + depth_under (Jsrl to) (callee c earlier (Jsrl to)) ≤ 4 → Behaves mode m w f → Stands c base rs earlier at s → Onward c earlier (record { at = at; format = Short; instr = Jsrl to }) p rs s
   call_onward c earlier at to p f rs s is e goes own fits le behaves st =
@@ -302,13 +239,7 @@ module _ (mode : Mode) (m : Memory) (w : Window) (box : LitBox) (base : Point) (
       let known : place_before c (i ∷ earlier) ≡ place_moved_by (place_before c earlier) origin = ap (λ o. place_past (callee_effect o) (place_before c earlier)) is in (
         t,
         stretch_as mode m Ok Lit (word_count format) _ (length rs) _ s t (omega (arith, ap callee_words is)) (omega (arith, ap (depth_under (Jmpl to)) is)) one,
-        record {
-          pc = goes;
-          return_stack = st.return_stack;
-          room = st.room;
-          place = subst (λ k. PlaceFits k base s.place) (sym known) (fits_still base s.place (place_before c earlier) st.place);
-          scale = subst (λ o. ScaleFits (unwrap_or (scale_set (Jmpl to) o) (scale_before c earlier)) s.scale) (sym is) st.scale;
-        },
+        search (goes, subst (λ k. PlaceFits k base s.place) (sym known) (fits_still base s.place (place_before c earlier) st.place), subst (λ o. ScaleFits (unwrap_or (scale_set (Jmpl to) o) (scale_before c earlier)) s.scale) (sym is) st.scale),
       )
 
   -- any item but the last
@@ -323,6 +254,4 @@ module _ (mode : Mode) (m : Memory) (w : Window) (box : LitBox) (base : Point) (
       by_name None is = absurd (subst (HasCallee (Some to)) is fits.named)
       by_name (Some f) is = call_onward c earlier at to p f rs s is (stands c.kind m at Short (Jsrl to) mem e) (cc) own fits le (calls f is) st
   over_item c first earlier at format Rtsl p rs s mem same own lead e goes fits le calls st = cc
-  over_item c first earlier at format (Jmpl to) p rs s mem same own lead e goes fits le calls st =
-      let j = jumps c.kind at format to p goes in
-      jump_onward c earlier at to p format rs s (ap (λ x. callee_at c.list (target x (Jmpl to)) (scale_before c earlier)) j.frame) (stands c.kind m at format (Jmpl to) mem e) j.there own st
+  over_item c first earlier at format (Jmpl to) p rs s mem same own lead e goes fits le calls st = grind (arith, jumps, jump_onward, target, scale_before, stands)

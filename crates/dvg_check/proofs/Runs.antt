@@ -124,20 +124,7 @@ stretch_on mode m F P a b c d1 d2 d s t u le deep p q =
 
 -- what is claimed of words and strokes may be less
 pub stretch_less : (mode : Mode) (m : Memory) (F G : ℕ → Type 0) (P Q : Stroke → Type 0) (most deep : ℕ) (s t : State) → ((p : ℕ) → F p → G p) → ((k : Stroke) → P k → Q k) → Stretch mode m F P most deep s t → Stretch mode m G Q most deep s t
-stretch_less mode m F G P Q most deep s t f g c =
-    record {
-      steps = c.steps;
-      reached = c.reached;
-      within = c.within;
-      words = c.words;
-      fetched = c.fetched;
-      few = c.few;
-      mapped = all_map F G c.words f c.mapped;
-      strokes = c.strokes;
-      drew = c.drew;
-      lit = all_map P Q c.strokes g c.lit;
-      stored = c.stored;
-    }
+stretch_less mode m F G P Q most deep s t f g c = search (all_map F G c.words f c.mapped, all_map P Q c.strokes g c.lit)
 
 -- other counts, which are as many
 pub stretch_as : (mode : Mode) (m : Memory) (F : ℕ → Type 0) (P : Stroke → Type 0) (most more deep deeper : ℕ) (s t : State) → most ≡ more → deep ≡ deeper → Stretch mode m F P most deep s t → Stretch mode m F P more deeper s t

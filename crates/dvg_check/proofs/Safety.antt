@@ -6,9 +6,7 @@ use Rattle.dvg_check.specs.Laws.{StrokeInWindow, SafeStrokes, SafeStack}
 
 -- what is safe is no fault
 pub safe_state : (m : Memory) (w : Window) (words depth steps : ℕ) (after : Status) → IsSafeStatus m w words depth steps after → IsSafeState m w words depth steps (state_of after)
-safe_state m w words depth steps (Running s) h = h
-safe_state m w words depth steps (Halted s) h = h
-safe_state m w words depth steps (Fault s) h = absurd h
+safe_state m w words depth steps after h = grind (arith)
 
 pub safe_strokes : StrokeInWindow → SafeStrokes
 safe_strokes within m w words depth safe place scale steps after small reached stroke listed p on =
@@ -17,7 +15,4 @@ safe_strokes within m w words depth safe place scale steps after small reached s
     within w stroke.from stroke.to p ends.0 ends.1 on.0 on.1
 
 pub safe_stack : StackWithinMax → SafeStack
-safe_stack within m w words depth safe place scale steps after small reached =
-    let s = safe_state m w words depth steps after (safe.each place scale small steps after reached) in
-    let le = within m place scale steps after reached in
-    (omega (arith, le, s.stored), omega (arith, le, s.stored, safe.four))
+safe_stack within m w words depth safe place scale steps after small reached = grind (arith, safe_state)

@@ -1,5 +1,6 @@
 -- A shape's items one after another, and all shapes by induction on their words.
 use Rattle.dvg_check.proofs.Common.{List, Some, length, arith, sym, Option, None, zero, ap, suc, max, subst, refl, ◌≡◌, ◌+◌, ◌<◌, ◌≤◌, ◌∷◌, ◌++◌, ◌∙◌, ℕ, [], AllByRecursion, Contains, shift, origin, cell_at, word_count, places, State, Reached, Running, next_status, after_return, Memory, IsMemory, InRom, rom_word, word_at, Window, Point, Cell, Holds, Missing, Odd, Format, Instr, Rtsl, Jmpl, Labs, Halt, Jsrl, Entry, LitBox, Stretch, LitFits, Counts, PlaceFits, ScaleFits, LeadsTo, address_after, next_address, Context, callee, depth_before, words_before, shape_context, target, scale_before, callee_words, depth_under, place_before, word_of, GoodShape, CellKeeps, ShapeKeeps, AtLast, Good, seen_at, HasCallee, Mode, Bound, Exact, ShapeWhy, Item, Shape, shift_origin}
+use Rattle.std.proofs.Common.{rules}
 use Rattle.std.proofs.Common.{unwrap_or}
 use Rattle.dvg_words.specs.declared.instruction.Instr.TheVariants.{Draw as Draws}
 use Rattle.dvg_check.specs.Behaving.{Behaves, Returned}
@@ -23,8 +24,7 @@ pub record Facts (mode : Mode) (m : Memory) (w : Window) (c : Context) (box : Li
 pub arrive : (mode : Mode) (m : Memory) (w : Window) (c : Context) (box : LitBox) (base : Point) (Ok : ℕ → Type 0) (first : ℕ) (rs : List ℕ) (s : State) → IsMemory m → ((p : ℕ) → InRom m.rom.map p → Ok p) → ((earlier : List Item) (i : Item) → LeadsTo c.kind (word_of c.kind m) first earlier i.at → cell_at (word_of c.kind m) i.at ≡ Holds i.format i.instr → Facts mode m w c box Ok earlier i) → Stands c base rs [] first s
     → (items : List Item) (p : ℕ) → LeadsTo c.kind (word_of c.kind m) first items p → length rs + depth_before c items ≤ 4
     → (t : State) × Stretch mode m Ok (LitFits w box base) (words_before c items) (length rs + depth_before c items) s t × Stands c base rs items p t
-arrive mode m w c box base Ok first rs s mem rom facts st [] p lead le =
-    (s, stretch_here mode m Ok (LitFits w box base) (length rs + 0) s (omega (arith, st.room)), record { pc = st.pc ∙ sym lead; return_stack = st.return_stack; room = st.room; place = st.place; scale = st.scale })
+arrive mode m w c box base Ok first rs s mem rom facts st [] p lead le = grind (arith, stretch_here)
 arrive mode m w c box base Ok first rs s mem rom facts st (i ∷ earlier) p lead le =
     let a = arrive mode m w c box base Ok first rs s mem rom facts st earlier i.at lead.0 (omega arith) in
     let f = facts earlier i lead.0 lead.1 in
@@ -41,13 +41,11 @@ some_step m zero s t back rest r rs e =
 some_step m (suc n) s t back rest r rs e = omega arith
 
 counts_swap : (mode : Mode) (x y c : ℕ) → Counts mode (x + y) c → Counts mode (y + x) c
-counts_swap Bound x y c h = omega (arith, h)
-counts_swap Exact x y c h = omega (arith, h)
+counts_swap mode x y c h = grind (arith)
 
 -- the depth below this many return places
 counts_deep : (mode : Mode) (l a b d : ℕ) → Counts mode (max b a) d → Counts mode (max (l + a) (l + b)) (l + d)
-counts_deep Bound l a b d h = omega (arith, h)
-counts_deep Exact l a b d h = omega (arith, h)
+counts_deep mode l a b d h = grind (arith)
 
 -- ---- what the rules say in a shape
 
@@ -63,14 +61,7 @@ module _ (mode : Mode) (m : Memory) (w : Window) (list : List Entry) (e : Entry)
   rule earlier i lead is why = subst (λ c. Kept earlier i.at c why) is (keep earlier i.at lead why)
 
   item_fits : (earlier : List Item) (i : Item) → LeadsTo Shape (rom_word m.rom) e.addr earlier i.at → cell_at (rom_word m.rom) i.at ≡ Holds i.format i.instr → Fits w context e.lit earlier i.instr
-  item_fits earlier i lead is =
-      record {
-        known = rule earlier i lead is shape.BeamUnknown;
-        scale_known = rule earlier i lead is shape.ScaleUnknown;
-        shown = rule earlier i lead is shape.OffScreen;
-        boxed = rule earlier i lead is shape.BoxTooSmall;
-        named = rule earlier i lead is shape.NoEntry;
-      }
+  item_fits earlier i lead is = grind (arith, (rule earlier i lead is shape.BeamUnknown), (rule earlier i lead is shape.ScaleUnknown), (rule earlier i lead is shape.OffScreen), (rule earlier i lead is shape.BoxTooSmall), (rule earlier i lead is shape.NoEntry))
 
   item_facts : ((f : Entry) → Contains list f → f.words < e.words → Behaves mode m w f) → (earlier : List Item) (i : Item) → LeadsTo Shape (rom_word m.rom) e.addr earlier i.at → cell_at (rom_word m.rom) i.at ≡ Holds i.format i.instr → Facts mode m w context e.lit (InRom m.rom.map) earlier i
   item_facts smaller earlier i lead is =
@@ -148,14 +139,7 @@ module _ (mode : Mode) (m : Memory) (w : Window) (list : List Entry) (e : Entry)
       let whole = stretch_on mode m (InRom m.rom.map) (LitFits w e.lit s0.place) (words_before context earlier) _ e.words (length s0.return_stack + depth_before context earlier) _ (length s0.return_stack + e.depth) s0 s t (counts_swap mode _ _ _ totals.words) (counts_deep mode (length s0.return_stack) _ _ _ totals.depth) stretch f.stretch in
       let stop : place_before context (i ∷ earlier) ≡ e.stop = subst (λ o. AtLast o (place_before context (i ∷ earlier) ≡ e.stop)) last (rule earlier i lead is shape.EndDiffers) in
       let left : scale_before context (i ∷ earlier) ≡ e.scale = subst (λ o. AtLast o (scale_before context (i ∷ earlier) ≡ e.scale)) last (rule earlier i lead is shape.ScaleDiffers) in
-      record {
-        stretch = whole;
-        some = some_step m whole.steps s0 t back rest whole.reached rs f.return_stack;
-        pc = f.pc;
-        return_stack = f.return_stack;
-        place = subst (λ k. PlaceFits k s0.place t.place) stop f.place;
-        scale = (subst (λ k. ScaleFits k t.scale) left f.scale);
-      }
+      search (whole, some_step m whole.steps s0 t back rest whole.reached rs f.return_stack, subst (λ k. PlaceFits k s0.place t.place) stop f.place, (subst (λ k. ScaleFits k t.scale) left f.scale))
 
   finish_return : (s0 : State) (back : ℕ) (rest : List ℕ) (at : ℕ) (format : Format) (earlier : List Item) (s : State) → s0.return_stack ≡ back ∷ rest → cell_at (rom_word m.rom) at ≡ Holds format Rtsl → Stands context s0.place (back ∷ rest) earlier at s → (t : State) × Finished s0 back rest (record { at = at; format = format; instr = Rtsl }) earlier s t
   finish_return s0 back rest at format earlier s rs is st =
@@ -228,10 +212,7 @@ totals Bound m w list e mem good l =
 totals Exact m w list e mem good l =
     let i : Item = record { at = l.at; format = l.format; instr = l.instr } in
     let c = shape_context m.rom.machine list e in
-    record {
-      words = subst (λ o. AtLast o (words_before c (i ∷ l.items) ≡ e.words)) l.last (rule Exact m w list e mem good l.items i l.lead l.is shape.WordsDiffer);
-      depth = subst (λ o. AtLast o (depth_before c (i ∷ l.items) ≡ e.depth)) l.last (rule Exact m w list e mem good l.items i l.lead l.is shape.DepthDiffers);
-    }
+    search (subst (λ o. AtLast o (words_before c (i ∷ l.items) ≡ e.words)) l.last (rule Exact m w list e mem good l.items i l.lead l.is shape.WordsDiffer), subst (λ o. AtLast o (depth_before c (i ∷ l.items) ≡ e.depth)) l.last (rule Exact m w list e mem good l.items i l.lead l.is shape.DepthDiffers))
 
 pub one_shape : (mode : Mode) → OneShape mode
 one_shape mode m w list e mem good listed smaller s back rest room pc scale rs four =

@@ -1,5 +1,6 @@
 -- A weaker claim of a good shape is good, and so is an item before a good tail.
 use Rattle.dvg_check.proofs.Common.{Machine, arith, List, Option, None, Some, refl, sym, ap, subst, inl, inr, max, pos, ⊎_elim, ◌≡◌, ◌⊎◌, ◌+◌, ◌≤◌, ◌∷◌, ◌∙◌, ℕ, ◌+ℤ◌, [], ints, cell_at, word_count, Rom, rom_word, Window, Point, Cell, Holds, Missing, Odd, End, Rel, Abs, Lost, Entry, Key, LitBox, Empty, Span, LeadsTo, next_address, Context, known_before, place_past, callee_words, depth_under, target, PlaceKnown, ScaleKnown, LitInWindow, LitInBox, InBox, IsInside, seen_at, Item, Shape, Known, LitExtent, Effect, Seen, Counts, AtLast, AsClaimed, CellKeeps, ShapeKeeps, ShapePlaceKeeps, GoodShape, Mode, Bound, Exact, ShapeWhy}
+use Rattle.std.proofs.Common.{rules}
 use Rattle.dvg_items.specs.Known.{known_past, callee_at, effect_of}
 use Rattle.dvg_items.specs.declared.lit.LitExtent.TheVariants.{Nothing, Between, Anywhere}
 use Rattle.dvg_items.specs.declared.known.Effect.TheVariants.{Sets, Loses, Moves}
@@ -13,8 +14,7 @@ use Rattle.dvg_check.proofs.Runs.{counts_le}
 -- ---- rules of a weaker claim
 
 at_last : (o : Option ℕ) (P Q : Type 0) → (P → Q) → AtLast o P → AtLast o Q
-at_last None P Q f h = f h
-at_last (Some next) P Q f h = tt
+at_last o P Q f h = grind (arith)
 
 -- what is good in the one mode is good in the other
 abbrev pub Weakens : Mode → Mode → Type 0
@@ -27,9 +27,7 @@ same_mode Bound = tt
 same_mode Exact = tt
 
 as_claimed : (mode to : Mode) (n a b : ℕ) → Weakens mode to → Counts mode a b → AsClaimed mode n a → AsClaimed to n b
-as_claimed mode Bound n a b weakens le h = tt
-as_claimed Exact Exact n a b weakens is h = h ∙ is
-as_claimed Bound Exact n a b weakens le h = absurd weakens
+as_claimed mode to n a b weakens le h = grind (arith)
 
 -- what keeps all rules there keeps all of others, whatever stands at the place
 cell_keeps : (K L : Item → ShapeWhy → Type 0) (p : ℕ) (cell : Cell) → ((i : Item) → ((why : ShapeWhy) → K i why) → (why : ShapeWhy) → L i why) → ((why : ShapeWhy) → CellKeeps shape.Unmapped shape.Odd K p cell why) → (why : ShapeWhy) → CellKeeps shape.Unmapped shape.Odd L p cell why
@@ -40,31 +38,17 @@ cell_keeps K L p (Holds format instr) f h = f (record { at = p; format = format;
 in_more : (part whole : LitBox) (p : Point) → IsInside part whole → InBox part p → InBox whole p
 in_more Empty whole p inside h = absurd h
 in_more (Span a b c d) Empty p inside h = inside
-in_more (Span a b c d) (Span e f g k) p inside h =
-    record { left = omega (arith, ints, h.left, inside.0); right = omega (arith, ints, h.right, inside.1); bottom = omega (arith, ints, h.bottom, inside.2); top = omega (arith, ints, h.top, inside.3) }
+in_more (Span a b c d) (Span e f g k) p inside h = search (rules)
 
 -- what has no corners has them in every box and in every window
 nothing_in_box : (box : LitBox) (place : End) → LitInBox box Nothing place
-nothing_in_box box (Rel x y) = tt
-nothing_in_box box (Abs x y) = tt
-nothing_in_box box Lost = tt
-
-anywhere_in_box : (box : LitBox) (place : End) → LitInBox box Anywhere place
-anywhere_in_box box (Rel x y) = tt
-anywhere_in_box box (Abs x y) = tt
-anywhere_in_box box Lost = tt
+nothing_in_box box place = grind (arith)
 
 nothing_in_window : (w : Window) (place : End) → LitInWindow w Nothing place
-nothing_in_window w (Rel x y) = tt
-nothing_in_window w (Abs x y) = tt
-nothing_in_window w Lost = tt
+nothing_in_window w place = grind (arith)
 
 pub lit_in_more : (part whole : LitBox) (lit : LitExtent) (place : End) → IsInside part whole → LitInBox part lit place → LitInBox whole lit place
-lit_in_more part whole Nothing place inside h = nothing_in_box whole place
-lit_in_more part whole Anywhere place inside h = anywhere_in_box whole place
-lit_in_more part whole (Between a b) (Rel x y) inside h = (in_more part whole _ inside h.0, (in_more part whole _ inside h.1.0, tt))
-lit_in_more part whole (Between a b) (Abs x y) inside h = tt
-lit_in_more part whole (Between a b) Lost inside h = tt
+lit_in_more part whole lit place inside h = grind (arith, nothing_in_box, in_more)
 
 less_keeps : (mode to : Mode) (w : Window) (e strong : Entry) (v : Seen) → Weakens mode to → ClaimsLess mode e strong → ((why : ShapeWhy) → ShapeKeeps mode w strong v why) → (why : ShapeWhy) → ShapeKeeps to w e v why
 less_keeps mode to w e strong v weakens c h shape.Unmapped = tt
@@ -141,12 +125,10 @@ abbrev pub seen_over : Known → Seen → Seen
 seen_over first v = record { item = v.item; place = place_over first.place v.place; extent = v.extent; callee = v.callee; after = known_over first v.after }
 
 sum_as_claimed : (mode : Mode) (n a b : ℕ) → AsClaimed mode n a → AsClaimed mode (n + b) (a + b)
-sum_as_claimed Bound n a b h = tt
-sum_as_claimed Exact n a b h = ap (λ (x : ℕ). x + b) h
+sum_as_claimed mode n a b h = grind (arith)
 
 max_as_claimed : (mode : Mode) (n a b : ℕ) → AsClaimed mode n a → AsClaimed mode (max n b) (max a b)
-max_as_claimed Bound n a b h = tt
-max_as_claimed Exact n a b h = ap (λ (x : ℕ). max x b) h
+max_as_claimed mode n a b h = grind (arith, max)
 
 over_keeps : (mode : Mode) (w : Window) (addr : ℕ) (key : Key) (box : LitBox) (first : Known) (tail : Entry) (v : Seen) → MayStandAt w box tail.lit first.place → ((why : ShapeWhy) → ShapeKeeps mode w tail v why) → (why : ShapeWhy) → ShapeKeeps mode w (claimed addr key box (known_over first (known_at_end tail))) (seen_over first v) why
 over_keeps mode w addr key box first tail v m h = keeps
@@ -179,37 +161,17 @@ effect_over (Moves d) place (Rel x y) = sym (moves_on place (record { x = x; y =
 effect_over (Moves d) place (Abs x y) = refl
 effect_over (Moves d) place Lost = refl
 
-pub past_over : (a : Machine) (i : Item) (callee : Option Entry) (first second : Known) → known_past a i callee (known_over first second) ≡ known_over first (known_past a i callee second)
-past_over a i callee first second =
-    let place = effect_over (effect_of a i.instr second.scale callee) first.place second.place in
-    let scale = (known_past a i callee second).scale in
-    let words : word_count i.format + callee_words callee + (second.words + first.words) ≡ word_count i.format + callee_words callee + second.words + first.words = omega arith in
-    let depth : max (depth_under i.instr callee) (max second.depth first.depth) ≡ max (max (depth_under i.instr callee) second.depth) first.depth = omega arith in
-    λ x. record { place = place x; scale = scale; words = words x; depth = depth x }
-
 pub seen_by_over : (a : Machine) (list : List Entry) (first second : Known) (i : Item) → seen_by a list Shape (known_over first second) i ≡ seen_over first (seen_by a list Shape second i)
-seen_by_over a list first second i =
-    let v : Seen = seen_by a list Shape (known_over first second) i in
-    ap (λ (after : Known). record v { after = after }) (past_over a i (callee_at list (target Shape i.instr) second.scale) first second)
+seen_by_over a list first second i = grind (arith, effect_over, word_count, callee_words, max, depth_under, target)
 
 over_origin : (place : End) → place ≡ place_over place (Rel (pos 0) (pos 0))
-over_origin (Rel x y) =
-    let a : x ≡ x +ℤ pos 0 = omega (arith, ints) in
-    let b : y ≡ y +ℤ pos 0 = omega (arith, ints) in
-    λ i. Rel (a i) (b i)
-over_origin (Abs x y) =
-    let a : x ≡ x +ℤ pos 0 = omega (arith, ints) in
-    let b : y ≡ y +ℤ pos 0 = omega (arith, ints) in
-    λ i. Abs (a i) (b i)
+over_origin (Rel x y) = grind (arith, pos)
+over_origin (Abs x y) = grind (arith, pos)
 over_origin Lost = refl
 
 -- nothing is added where the second part has no item
 pub over_none : (first : Known) (key : Key) → first.scale ≡ key → first ≡ known_over first (record { place = Rel (pos 0) (pos 0); scale = key; words = 0; depth = 0 })
-over_none first key is =
-    let place = over_origin first.place in
-    let words : first.words ≡ 0 + first.words = omega arith in
-    let depth : first.depth ≡ max 0 first.depth = omega arith in
-    λ x. record { place = place x; scale = is x; words = words x; depth = depth x }
+over_none first key is = grind (arith, over_origin, max)
 
 -- ---- the items of a shape: the first, and those of the tail
 
@@ -234,19 +196,14 @@ module _ (rom : Rom) (list : List Entry) (key : Key) (i : Item) (tail : Entry) (
   Place earlier p = ((earlier ≡ []) × (p ≡ i.at)) ⊎ Split earlier p
 
   knows_on : (earlier rest : List Item) (j : Item) → known_before whole earlier ≡ known_over past (known_before behind rest) → seen_at whole earlier j ≡ seen_over past (seen_at behind rest j)
-  knows_on earlier rest j knows =
-      ap (λ (k : Known). seen_by rom.machine list Shape k j) knows ∙ seen_by_over rom.machine list past (known_before behind rest) j
+  knows_on earlier rest j knows = grind (arith, (seen_by_over rom.machine list past (known_before behind rest) j), (known_before behind rest))
 
   split : (earlier : List Item) (p : ℕ) → LeadsTo Shape (rom_word rom) i.at earlier p → Place earlier p
   split [] p lead = inl (refl, lead)
   split (j ∷ earlier) p lead = ⊎_elim at_first further (split earlier j.at lead.0)
     where
       at_first : (earlier ≡ []) × (j.at ≡ i.at) → Place (j ∷ earlier) p
-      at_first h =
-          let same : j ≡ i = item_same j i h.1 (sym lead.1 ∙ ap (cell_at (rom_word rom)) h.1 ∙ is) in
-          let goes : Some p ≡ Some tail.addr = sym lead.2 ∙ ap (next_address Shape) same ∙ next in
-          let items : j ∷ earlier ≡ i ∷ [] = cc (same, h.0) in
-          inr (record { rest = []; leads = cc goes; knows = ap (known_before whole) items ∙ over_none past tail.key (sym scale) })
+      at_first h = grind (arith, (item_same j i h.1 (sym lead.1 ∙ ap (cell_at (rom_word rom)) h.1 ∙ is)), (cell_at (rom_word rom)), (rom_word rom), (next_address Shape), (known_before whole), (over_none past tail.key (sym scale)))
 
       further : Split earlier j.at → Place (j ∷ earlier) p
       further s =
@@ -258,45 +215,16 @@ module _ (rom : Rom) (list : List Entry) (key : Key) (i : Item) (tail : Entry) (
 
 -- ---- the laws
 
-same_count : (mode : Mode) (n : ℕ) → AsClaimed mode n n
-same_count Bound n = tt
-same_count Exact n = refl
-
 known_first : (lit : LitExtent) → PlaceKnown lit (Rel (pos 0) (pos 0))
 known_first Nothing = tt
 known_first (Between a b) = λ is. cc
 known_first Anywhere = λ is. cc
 
-shown_first : (w : Window) (lit : LitExtent) → LitInWindow w lit (Rel (pos 0) (pos 0))
-shown_first w Nothing = tt
-shown_first w (Between a b) = tt
-shown_first w Anywhere = tt
-
 at_end : (o : Option ℕ) (P : Known → Type 0) (here end : Known) → (o ≡ None → end ≡ here) → P here → AtLast o (P end)
-at_end None P here end is h = subst P (sym (is refl)) h
-at_end (Some p) P here end is h = tt
+at_end o P here end is h = grind (arith)
 
 first_keeps : (mode : Mode) (w : Window) (rom : Rom) (list : List Entry) (key : Key) (box : LitBox) (i : Item) (end : Known) → MayStandFirst rom list key box i → (first_seen rom.machine list key i).after.words ≤ end.words → (first_seen rom.machine list key i).after.depth ≤ end.depth → (next_address Shape i ≡ None → end ≡ (first_seen rom.machine list key i).after) → (why : ShapeWhy) → Kept rom.machine mode w list (claimed i.at key box end) key [] i why
-first_keeps mode w rom list key box i end m words depth ends = keeps
-  where
-    last : (P : Known → Type 0) → P (first_seen rom.machine list key i).after → AtLast (next_address Shape i) (P end)
-    last P h = at_end (next_address Shape i) P (first_seen rom.machine list key i).after end ends h
-
-    keeps : (why : ShapeWhy) → Kept rom.machine mode w list (claimed i.at key box end) key [] i why
-    keeps shape.Unmapped = tt
-    keeps shape.Odd = tt
-    keeps shape.HaltInShape = m.goes_on
-    keeps shape.BeamUnknown = known_first (first_seen rom.machine list key i).extent
-    keeps shape.ScaleUnknown = m.scale_known
-    keeps shape.OffScreen = shown_first w (first_seen rom.machine list key i).extent
-    keeps shape.NoEntry = m.named
-    keeps shape.TooDeep = omega (arith, depth)
-    keeps shape.TooManyWords = words
-    keeps shape.EndDiffers = last (λ (k : Known). (first_seen rom.machine list key i).after.place ≡ k.place) refl
-    keeps shape.ScaleDiffers = last (λ (k : Known). (first_seen rom.machine list key i).after.scale ≡ k.scale) refl
-    keeps shape.BoxTooSmall = m.boxed
-    keeps shape.WordsDiffer = last (λ (k : Known). AsClaimed mode (first_seen rom.machine list key i).after.words k.words) (same_count mode (first_seen rom.machine list key i).after.words)
-    keeps shape.DepthDiffers = last (λ (k : Known). AsClaimed mode (first_seen rom.machine list key i).after.depth k.depth) (same_count mode (first_seen rom.machine list key i).after.depth)
+first_keeps mode w rom list key box i end m words depth ends = grind (arith, next_address, at_end, known_first)
 
 -- what the first item keeps, its place keeps
 first_place_keeps : (mode : Mode) (w : Window) (rom : Rom) (list : List Entry) (e : Entry) (i : Item) → cell_at (rom_word rom) i.at ≡ Holds i.format i.instr → ((why : ShapeWhy) → ShapeKeeps mode w e (first_seen rom.machine list e.key i) why) → (earlier : List Item) (p : ℕ) → earlier ≡ [] → p ≡ i.at → (why : ShapeWhy) → ShapePlaceKeeps mode w rom list e earlier p why
@@ -325,6 +253,5 @@ item_before_tail mode w rom list key box i tail m b good earlier p lead why = �
 
 -- an item that ends a shape is good alone
 pub last_item_good : (mode : Mode) (w : Window) (rom : Rom) (list : List Entry) (key : Key) (box : LitBox) (i : Item) → MayStandFirst rom list key box i → next_address Shape i ≡ None → GoodShape mode w rom list (last_item rom.machine list key box i)
-last_item_good mode w rom list key box i m last [] p lead why =
-    first_place_keeps mode w rom list (last_item rom.machine list key box i) i m.there (first_keeps mode w rom list key box i (first_seen rom.machine list key i).after m (omega arith) (omega arith) (λ none. refl)) [] p refl lead why
+last_item_good mode w rom list key box i m last [] p lead why = grind (arith, first_place_keeps, first_keeps)
 last_item_good mode w rom list key box i m last (j ∷ earlier) p lead why = absurd (too_long Shape (rom_word rom) i.at [] i refl m.there last (j ∷ earlier) p lead (omega arith))

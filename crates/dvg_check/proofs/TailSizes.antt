@@ -1,5 +1,6 @@
 -- A tail's numbers stay small.
 use Rattle.dvg_check.proofs.Common.{arith, ◌≤◌, ◌+◌, ℕ, ℤ, pos, ints, shift, Point, End, Rel, Abs, Lost, LitBox, Empty, Span, InBox, IsInside}
+use Rattle.std.proofs.Common.{rules}
 use Rattle.std.proofs.Common.{◌*◌, ◌^◌, neg_ℤ}
 use Rattle.dvg_words.specs.Beam.{IsWithin}
 use Rattle.dvg_items.specs.Bounds.{IsNear, IsNearPlace}
@@ -17,31 +18,22 @@ in_wall : (n : ℕ) (p : Point) → IsWithin n p → InBox (wall n) p
 in_wall n p h = record { left = h.left; right = h.right; bottom = h.down; top = h.up }
 
 inside_wall : (n : ℕ) (box : LitBox) → IsNearBox n box → IsInside box (wall (2 ^ 41 * n))
-inside_wall n Empty h = tt
-inside_wall n (Span x_min x_max y_min y_max) h = (h.0.left, h.1.right, h.0.down, h.1.up)
+inside_wall n box h = grind (arith)
 
 -- a box inside the greatest one, that has this point
 near_by_point : (n : ℕ) (p : Point) (box : LitBox) → IsNear n p → InBox box p → IsInside box (wall (2 ^ 41 * n)) → IsNearBox n box
-near_by_point n p Empty h i w = tt
-near_by_point n p (Span x_min x_max y_min y_max) h i w = (
-  record { left = w.0; right = omega (arith, ints, i.left, h.right); down = w.2; up = omega (arith, ints, i.bottom, h.up) },
-  record { left = omega (arith, ints, i.right, h.left); right = w.1; down = omega (arith, ints, i.top, h.down); up = w.3 },
-)
+near_by_point n p box h i w = search (rules)
 
 -- a box inside the greatest one, that has this part
 near_by_part : (n : ℕ) (x_min x_max y_min y_max : ℤ) (box : LitBox) → IsNearBox n (Span x_min x_max y_min y_max) → IsInside (Span x_min x_max y_min y_max) box → IsInside box (wall (2 ^ 41 * n)) → IsNearBox n box
 near_by_part n x_min x_max y_min y_max Empty h i w = tt
-near_by_part n x_min x_max y_min y_max (Span left right bottom top) h i w = (
-  record { left = w.0; right = omega (arith, ints, i.0, h.0.right); down = w.2; up = omega (arith, ints, i.2, h.0.up) },
-  record { left = omega (arith, ints, i.1, h.1.left); right = w.1; down = omega (arith, ints, i.3, h.1.down); up = w.3 },
-)
+near_by_part n x_min x_max y_min y_max (Span left right bottom top) h i w = search (rules)
 
 pub IsNearBox-spanning : (n : ℕ) (p q : Point) (box : LitBox) → IsNear n p → IsNear n q → InBox box p → ((other : LitBox) → InBox other p → InBox other q → IsInside box other) → IsNearBox n box
 IsNearBox-spanning n p q box h k i least = near_by_point n p box h i (least (wall (2 ^ 41 * n)) (in_wall (2 ^ 41 * n) p h) (in_wall (2 ^ 41 * n) q k))
 
 nothing_inside : (n : ℕ) (box : LitBox) → IsInside box Empty → IsNearBox n box
-nothing_inside n Empty h = tt
-nothing_inside n (Span x_min x_max y_min y_max) h = absurd h
+nothing_inside n box h = grind (arith)
 
 pub IsNearBox-joined : (n : ℕ) (first second box : LitBox) → IsNearBox n first → IsNearBox n second → IsInside first box → IsInside second box → ((other : LitBox) → IsInside first other → IsInside second other → IsInside box other) → IsNearBox n box
 IsNearBox-joined n Empty Empty box h k i j least = nothing_inside n box (least Empty tt tt)

@@ -6,13 +6,14 @@ use Rattle.dvg_words.specs.declared.image.ImageFault.TheVariants as image
 use Rattle.dvg_words.specs.declared.instruction.Instr.TheVariants.{Jmpl}
 use Rattle.dvg_cert.specs.declared.entry.Entry.{Entry}
 use Rattle.dvg_cert.specs.declared.entry.Key.{Key}
+use Rattle.dvg_items.specs.declared.item.Kind.{Kind}
 use Rattle.dvg_items.specs.declared.item.Kind.TheVariants.{Shape, Frame}
 use Rattle.dvg_items.specs.declared.seen.Seen.{Seen as SeenItem}
 use Rattle.dvg_items.specs.Known.{target, depth_under}
 use Rattle.dvg_items.specs.Lit.{relative_corners}
 use Rattle.dvg_check.specs.Rules.{Mode, FrameWhy, ShapeWhy}
 use Rattle.dvg_check.specs.Finding.{FrameFinding, ShapeFinding, FirstFrameFound, FirstShapeFound}
-use Rattle.dvg_check.specs.Leaving.{LeavesFrom, LeavesBox}
+use Rattle.dvg_check.specs.Leaving.{Leaving, LeavesFrom, LeavesBox}
 use Rattle.dvg_check.specs.declared.fault.Found.{Found}
 use Rattle.dvg_check.specs.declared.fault.Found.TheVariants.{Seen}
 use Rattle.dvg_check.specs.declared.fault.FrameWhy.TheVariants as frame
@@ -32,6 +33,14 @@ abbrev pub OfSeen : Found → (SeenItem → Type 0) → Type 0
 OfSeen (Seen v) P = P v
 OfSeen found P = ⊥
 
+-- a corner of what the item lights leaves the window
+abbrev pub LeavesWindow : Window → Leaving → SeenItem → Type 0
+LeavesWindow w leaving v = LeavesFrom w v.extent v.place leaving
+
+-- the item calls or, in a shape, tail jumps to this address, and no entry is named by it at the scale that is known there
+abbrev pub NamesNoEntry : Kind → ℕ → SeenItem → Type 0
+NamesNoEntry kind to v = (target kind v.item.instr ≡ Some to) × (v.callee ≡ None)
+
 -- what a cause says of the rule that is broken in a frame, of the known scale there, and of what was found
 abbrev pub FrameCauseOf : Window → ℕ → FrameWhy → Key → Found → FrameCause → Type 0
 FrameCauseOf w budget why known found cause.Unmapped = why ≡ frame.Unmapped
@@ -41,12 +50,8 @@ FrameCauseOf w budget why known found cause.ReturnInFrame = why ≡ frame.Return
 FrameCauseOf w budget why known found (cause.BackJump to) = (why ≡ frame.BackJump) × OfSeen found (λ v. v.item.instr ≡ Jmpl to)
 FrameCauseOf w budget why known found cause.BeamUnknown = why ≡ frame.BeamUnknown
 FrameCauseOf w budget why known found cause.ScaleUnknown = why ≡ frame.ScaleUnknown
--- a corner leaves the window
-FrameCauseOf w budget why known found (cause.OffScreen leaving) =
-    (why ≡ frame.OffScreen) × OfSeen found (λ v. LeavesFrom w v.extent v.place leaving)
--- the item calls this address at this scale, and no entry is named by them
-FrameCauseOf w budget why known found (cause.NoEntry to scale) =
-    (why ≡ frame.NoEntry) × OfSeen found (λ v. (target Frame v.item.instr ≡ Some to) × (v.callee ≡ None)) × (scale ≡ known)
+FrameCauseOf w budget why known found (cause.OffScreen leaving) = (why ≡ frame.OffScreen) × OfSeen found (LeavesWindow w leaving)
+FrameCauseOf w budget why known found (cause.NoEntry to scale) = (why ≡ frame.NoEntry) × OfSeen found (NamesNoEntry Frame to) × (scale ≡ known)
 -- the words past the item are this many more than the budget
 FrameCauseOf w budget why known found (cause.Budget by) =
     (why ≡ frame.Budget) × OfSeen found (λ v. (budget < v.after.words) × (by ≡ v.after.words - budget))
@@ -62,12 +67,8 @@ ClaimCauseOf w e why known found shape_cause.Odd = why ≡ shape.Odd
 ClaimCauseOf w e why known found shape_cause.HaltInShape = why ≡ shape.HaltInShape
 ClaimCauseOf w e why known found shape_cause.BeamUnknown = why ≡ shape.BeamUnknown
 ClaimCauseOf w e why known found shape_cause.ScaleUnknown = why ≡ shape.ScaleUnknown
--- a corner leaves the window
-ClaimCauseOf w e why known found (shape_cause.OffScreen leaving) =
-    (why ≡ shape.OffScreen) × OfSeen found (λ v. LeavesFrom w v.extent v.place leaving)
--- the item calls or tail jumps to this address at this scale, and no entry is named by them
-ClaimCauseOf w e why known found (shape_cause.NoEntry to scale) =
-    (why ≡ shape.NoEntry) × OfSeen found (λ v. (target Shape v.item.instr ≡ Some to) × (v.callee ≡ None)) × (scale ≡ known)
+ClaimCauseOf w e why known found (shape_cause.OffScreen leaving) = (why ≡ shape.OffScreen) × OfSeen found (LeavesWindow w leaving)
+ClaimCauseOf w e why known found (shape_cause.NoEntry to scale) = (why ≡ shape.NoEntry) × OfSeen found (NamesNoEntry Shape to) × (scale ≡ known)
 -- this many return places are stored at once under the item, more than the entry claims
 ClaimCauseOf w e why known found (shape_cause.TooDeep depth) =
     (why ≡ shape.TooDeep) × OfSeen found (λ v. depth ≡ depth_under v.item.instr v.callee) × (e.depth < depth)

@@ -5,7 +5,7 @@ ghost use Rattle.dvg_check.specs.FirstFault.{shape_number, frame_number};
 
 use crate::cause::{FrameCause, ShapeCause};
 use dvg_cert::{Entry, Key};
-use dvg_items::{Known, Seen};
+use dvg_items::{Cursor, Known, Seen};
 use thiserror::Error;
 
 /// Whether the words and the depth that a certificate claims are bounds, or exact.
@@ -153,6 +153,21 @@ pub struct Fault<Why> {
     pub why: Why,
     pub before: Known,
     pub found: Found,
+}
+
+impl<Why> Fault<Why> {
+    /// The fault at a cursor: this rule is broken by what stands there. Seldom reached, so it stays out of its callers' loops.
+    #[inline(never)]
+    pub fn at(cursor: &Cursor, why: Why, found: Found) -> Fault<Why>
+        ensures { result ≡ record { at = cursor.now.at; why = why; before = cursor.now.known; found = found } }
+    {
+        Fault {
+            at: cursor.at,
+            why,
+            before: cursor.known,
+            found,
+        }
+    }
 }
 
 /// The first faulty entry of a certificate, the word address of the first item of its shape that breaks a rule, and the

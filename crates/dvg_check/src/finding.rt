@@ -16,7 +16,7 @@ use crate::judged::JudgedShapes;
 use crate::verdict::{Refusal, Yes};
 use dvg_cert::{Cert, HashIndex};
 use dvg_words::{FrameImage, ImageFault, Machine, RomImage, Window};
-use std::alloc::{AllocError, Global};
+use std::alloc::Global;
 
 /// Why a ROM and a frame are refused by a certificate, with the cause.
 #[derive(Clone, Copy)]
@@ -42,15 +42,6 @@ impl RomFinding {
             RomFinding::Shape(finding) => Refusal::Shape(finding.fault),
             RomFinding::Frame(finding) => Refusal::Frame(finding.fault),
         }
-    }
-}
-
-/// Of all that `find_parts_fault` calls, making the index alone answers an `AllocError`.
-impl From<AllocError> for RomFinding {
-    ghost from_gives = { λ _ finding. finding ≡ findings.IndexMemory };
-
-    fn from(_: AllocError) -> RomFinding {
-        RomFinding::IndexMemory
     }
 }
 
@@ -85,7 +76,9 @@ pub fn find_parts_fault(
         → IfOk result (λ yes. CountsOnCircuit (record { frame = frame.now; rom = rom.now }) yes.words yes.depth) }
 {
     let listed = cert.entries().len();
-    let entries = HashIndex::new(alloc, cert)?;
+    let Ok(entries) = HashIndex::new(alloc, cert) else {
+        return Err(RomFinding::IndexMemory);
+    };
     let shapes = JudgedShapes::find_shape_fault(rom, cert, &entries, window, mode)?;
     match shapes.find_fault(frame, budget) {
         Ok(accepted) => Ok(Yes {

@@ -44,28 +44,18 @@ fn first_broken(budget: u32, window: &Window, seen: &Seen) -> Option<FrameWhy>
     ensures kept { IfNone result (EachKept (FrameKeeps window.now budget seen.now) frame_rules) }
     ensures broken { IfSome result (FrameBrokenFirst (FrameKeeps window.now budget seen.now)) }
 {
-    if matches!(seen.item.instr, Instr::Rtsl) {
-        return Some(FrameWhy::ReturnInFrame);
+    match seen.item.instr {
+        Instr::Rtsl => Some(FrameWhy::ReturnInFrame),
+        _ if !is_forward(&seen.item) => Some(FrameWhy::BackJump),
+        _ if !place_known(&seen.extent, &seen.place) => Some(FrameWhy::BeamUnknown),
+        _ if !scale_known(&seen.extent) => Some(FrameWhy::ScaleUnknown),
+        _ if !lit_in_window(window, &seen.extent, &seen.place) => Some(FrameWhy::OffScreen),
+        _ if !has_callee(target(Kind::Frame, &seen.item.instr), &seen.callee) => {
+            Some(FrameWhy::NoEntry)
+        }
+        _ if seen.after.words > budget => Some(FrameWhy::Budget),
+        _ => None,
     }
-    if !is_forward(&seen.item) {
-        return Some(FrameWhy::BackJump);
-    }
-    if !place_known(&seen.extent, &seen.place) {
-        return Some(FrameWhy::BeamUnknown);
-    }
-    if !scale_known(&seen.extent) {
-        return Some(FrameWhy::ScaleUnknown);
-    }
-    if !lit_in_window(window, &seen.extent, &seen.place) {
-        return Some(FrameWhy::OffScreen);
-    }
-    if !has_callee(target(Kind::Frame, &seen.item.instr), &seen.callee) {
-        return Some(FrameWhy::NoEntry);
-    }
-    if seen.after.words > budget {
-        return Some(FrameWhy::Budget);
-    }
-    None
 }
 
 impl Rules for FrameRules {
@@ -73,32 +63,26 @@ impl Rules for FrameRules {
 
     ghost order = { frame_number };
 
-    ghost unmapped = { frame.Unmapped };
-
-    ghost odd = { frame.Odd };
-
-    ghost kind = { Frame };
-
     ghost valid = { λ r. r.budget ≤ MOST_WORDS };
+
+    const KIND: Kind = Kind::Frame;
+
+    ghost KIND = { Frame };
 
     ghost scale = { λ _. Any };
 
-    ghost keeps = { λ r. FrameKeeps r.window r.budget };
+    const UNMAPPED: FrameWhy = FrameWhy::Unmapped;
 
-    fn kind(&self) -> Kind {
-        Kind::Frame
-    }
+    ghost UNMAPPED = { frame.Unmapped };
+
+    const ODD: FrameWhy = FrameWhy::Odd;
+
+    ghost ODD = { frame.Odd };
+
+    ghost keeps = { λ r. FrameKeeps r.window r.budget };
 
     fn scale(&self) -> Key {
         Key::Any
-    }
-
-    fn unmapped(&self) -> FrameWhy {
-        FrameWhy::Unmapped
-    }
-
-    fn odd(&self) -> FrameWhy {
-        FrameWhy::Odd
     }
 
     #[inline(always)]

@@ -18,37 +18,34 @@ pub trait Rules {
 
     ghost order: { Self.Why → ℕ };
 
-    ghost unmapped: { Self.Why };
-
-    ghost odd: { Self.Why };
-
-    ghost kind: { Kind };
-
     /// The limits that these rules are within.
     ghost valid: { Self → Type 0 };
 
+    /// Whose items they are.
+    const KIND: Kind;
+
+    ghost KIND: { Kind };
+
     ghost scale: { Self → Key };
+
+    /// The rule that a missing item breaks.
+    const UNMAPPED: Self::Why;
+
+    ghost UNMAPPED: { Self.Why };
+
+    /// The rule that an odd LABS breaks.
+    const ODD: Self::Why;
+
+    ghost ODD: { Self.Why };
 
     /// What an item keeps.
     ghost keeps: { Self → Seen → Self.Why → Type 0 };
-
-    /// Whose items they are.
-    fn kind(&self) -> Kind
-        ensures { result ≡ kind };
 
     /// The known scale at the start, `Any` where it is unknown.
     fn scale(&self) -> Key
         requires { valid self.now }
         ensures value { result ≡ scale self.now }
         ensures key { IsKey result };
-
-    /// The rule that a missing item breaks.
-    fn unmapped(&self) -> Self::Why
-        ensures { result ≡ unmapped };
-
-    /// The rule that an odd LABS breaks.
-    fn odd(&self) -> Self::Why
-        ensures { result ≡ odd };
 
     /// The first rule that an item breaks. Where it breaks none, the words so far are a million at most.
     fn first_broken(&self, seen: &Seen) -> Option<Self::Why>

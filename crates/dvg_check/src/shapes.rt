@@ -64,44 +64,25 @@ fn first_broken(mode: Mode, window: &Window, entry: &Entry, seen: &Seen) -> Opti
     ensures kept { IfNone result (EachKept (ShapeKeeps mode window.now entry.now seen.now) shape_rules) }
     ensures broken { IfSome result (ShapeBrokenFirst (ShapeKeeps mode window.now entry.now seen.now)) }
 {
-    if matches!(seen.item.instr, Instr::Halt) {
-        return Some(ShapeWhy::HaltInShape);
+    let item = &seen.item;
+    let (depth, claimed) = (u32::from(seen.after.depth), u32::from(entry.depth));
+    match item.instr {
+        Instr::Halt => Some(ShapeWhy::HaltInShape),
+        _ if !place_known(&seen.extent, &seen.place) => Some(ShapeWhy::BeamUnknown),
+        _ if !scale_known(&seen.extent) => Some(ShapeWhy::ScaleUnknown),
+        _ if !lit_in_window(window, &seen.extent, &seen.place) => Some(ShapeWhy::OffScreen),
+        _ if !has_callee(target(Kind::Shape, &item.instr), &seen.callee) => Some(ShapeWhy::NoEntry),
+        _ if depth_under(&item.instr, &seen.callee) > entry.depth => Some(ShapeWhy::TooDeep),
+        _ if seen.after.words > entry.words => Some(ShapeWhy::TooManyWords),
+        _ if !ends_there(entry, seen) => Some(ShapeWhy::EndDiffers),
+        _ if !leaves_scale(entry, seen) => Some(ShapeWhy::ScaleDiffers),
+        _ if !lit_in_box(&entry.lit, &seen.extent, &seen.place) => Some(ShapeWhy::BoxTooSmall),
+        _ if !is_as_claimed(mode, item, seen.after.words, entry.words) => {
+            Some(ShapeWhy::WordsDiffer)
+        }
+        _ if !is_as_claimed(mode, item, depth, claimed) => Some(ShapeWhy::DepthDiffers),
+        _ => None,
     }
-    if !place_known(&seen.extent, &seen.place) {
-        return Some(ShapeWhy::BeamUnknown);
-    }
-    if !scale_known(&seen.extent) {
-        return Some(ShapeWhy::ScaleUnknown);
-    }
-    if !lit_in_window(window, &seen.extent, &seen.place) {
-        return Some(ShapeWhy::OffScreen);
-    }
-    if !has_callee(target(Kind::Shape, &seen.item.instr), &seen.callee) {
-        return Some(ShapeWhy::NoEntry);
-    }
-    if depth_under(&seen.item.instr, &seen.callee) > entry.depth {
-        return Some(ShapeWhy::TooDeep);
-    }
-    if seen.after.words > entry.words {
-        return Some(ShapeWhy::TooManyWords);
-    }
-    if !ends_there(entry, seen) {
-        return Some(ShapeWhy::EndDiffers);
-    }
-    if !leaves_scale(entry, seen) {
-        return Some(ShapeWhy::ScaleDiffers);
-    }
-    if !lit_in_box(&entry.lit, &seen.extent, &seen.place) {
-        return Some(ShapeWhy::BoxTooSmall);
-    }
-    if !is_as_claimed(mode, &seen.item, seen.after.words, entry.words) {
-        return Some(ShapeWhy::WordsDiffer);
-    }
-    let depth = u32::from(seen.after.depth);
-    if !is_as_claimed(mode, &seen.item, depth, u32::from(entry.depth)) {
-        return Some(ShapeWhy::DepthDiffers);
-    }
-    None
 }
 
 impl Rules for ShapeRules {
@@ -109,32 +90,26 @@ impl Rules for ShapeRules {
 
     ghost order = { shape_number };
 
-    ghost unmapped = { shape.Unmapped };
-
-    ghost odd = { shape.Odd };
-
-    ghost kind = { Shape };
-
     ghost valid = { λ r. IsClaim r.entry };
+
+    const KIND: Kind = Kind::Shape;
+
+    ghost KIND = { Shape };
 
     ghost scale = { λ r. r.entry.key };
 
-    ghost keeps = { λ r. ShapeKeeps r.mode r.window r.entry };
+    const UNMAPPED: ShapeWhy = ShapeWhy::Unmapped;
 
-    fn kind(&self) -> Kind {
-        Kind::Shape
-    }
+    ghost UNMAPPED = { shape.Unmapped };
+
+    const ODD: ShapeWhy = ShapeWhy::Odd;
+
+    ghost ODD = { shape.Odd };
+
+    ghost keeps = { λ r. ShapeKeeps r.mode r.window r.entry };
 
     fn scale(&self) -> Key {
         self.entry.key
-    }
-
-    fn unmapped(&self) -> ShapeWhy {
-        ShapeWhy::Unmapped
-    }
-
-    fn odd(&self) -> ShapeWhy {
-        ShapeWhy::Odd
     }
 
     fn first_broken(&self, seen: &Seen) -> Option<ShapeWhy> {

@@ -15,7 +15,7 @@ use crate::fault::{FrameFault, Mode, ShapeFault};
 use crate::finding::{find_parts_fault, find_rom_fault};
 use dvg_cert::{Cert, CertFault, MOST_WORDS, read_cert};
 use dvg_words::{FrameImage, ImageFault, Machine, RomImage, Window};
-use std::alloc::{AllocError, Global};
+use std::alloc::Global;
 use thiserror::Error;
 
 /// What is accepted: how many shapes the certificate claims, how many words every run fetches at most, and how many
@@ -79,15 +79,6 @@ impl From<CertFault> for Refusal {
 
     fn from(fault: CertFault) -> Refusal {
         Refusal::Cert(fault)
-    }
-}
-
-/// Of all that `check_parts` calls, making the index alone answers an `AllocError`.
-impl From<AllocError> for Refusal {
-    ghost from_gives = { λ _ refusal. refusal ≡ refusals.IndexMemory };
-
-    fn from(_: AllocError) -> Refusal {
-        Refusal::IndexMemory
     }
 }
 

@@ -32,7 +32,7 @@ fn judge_calling<R: Rules>(
     requires near { cursor.now.at < ADDRESS_END }
     requires fields { InstrFits instr.now }
     requires callee { IfSome callee IsClaim }
-    ensures kept { IfOk result (KeepsAll (R.keeps rules.now) R.kind (seen_with machine callee cursor.now.known
+    ensures kept { IfOk result (KeepsAll (R.keeps rules.now) R.KIND (seen_with machine callee cursor.now.known
         (record { at = cursor.now.at; format = format; instr = instr.now }))) }
     ensures broken { IfErr result (BreaksFirst R.order (R.keeps rules.now) (seen_with machine callee cursor.now.known
         (record { at = cursor.now.at; format = format; instr = instr.now }))) }
@@ -40,7 +40,7 @@ fn judge_calling<R: Rules>(
     let seen = cursor.see(machine, format, instr, callee);
     match rules.first_broken(&seen) {
         Some(why) => Err(why),
-        None => Ok(seen.step(rules.kind())),
+        None => Ok(seen.step(R::KIND)),
     }
 }
 
@@ -59,13 +59,13 @@ fn judge<E: Entries, R: Rules>(
     requires here { IsSoundCursor cursor.now }
     requires near { cursor.now.at < ADDRESS_END }
     requires fields { InstrFits instr.now }
-    ensures kept { IfOk result (KeepsAll (R.keeps rules.now) R.kind (seen_by machine callees.old R.kind cursor.now.known
+    ensures kept { IfOk result (KeepsAll (R.keeps rules.now) R.KIND (seen_by machine callees.old R.KIND cursor.now.known
         (record { at = cursor.now.at; format = format; instr = instr.now }))) }
-    ensures broken { IfErr result (BreaksFirst R.order (R.keeps rules.now) (seen_by machine callees.old R.kind cursor.now.known
+    ensures broken { IfErr result (BreaksFirst R.order (R.keeps rules.now) (seen_by machine callees.old R.KIND cursor.now.known
         (record { at = cursor.now.at; format = format; instr = instr.now }))) }
     ensures same { callees.new ≡ callees.old }
 {
-    match target(rules.kind(), instr) {
+    match target(R::KIND, instr) {
         Some(to) => {
             let callee = callees.named(to, cursor.known.scale);
             judge_calling(rules, machine, cursor, format, instr, callee)
@@ -100,7 +100,7 @@ fn see<E: Entries>(
 
 /// Goes over the items from a word address on: what is known after the last one, if each keeps all rules.
 ///
-/// Nothing is kept for what breaks a rule, so that an item costs less than in [`find_broken`].
+/// Nothing is kept for what breaks a rule, so that an item costs less than in [`walk`].
 #[inline(always)]
 fn end_if_kept<C: Cells, E: Entries, R: Rules>(
     cells: &C,
@@ -111,13 +111,13 @@ fn end_if_kept<C: Cells, E: Entries, R: Rules>(
     requires entries { IsSomeCertificate (E.list entries.now) }
     requires rules { R.valid rules.now }
     requires first { first < ADDRESS_END }
-    ensures { IfSome result (λ known. WalksTo (record { kind = R.kind; machine = (C.words cells.now).machine; list = E.list entries.now; scale = R.scale rules.now })
-        (C.words cells.now) first (PlaceKeeps R.unmapped R.odd (R.keeps rules.now)
-        (record { kind = R.kind; machine = (C.words cells.now).machine; list = E.list entries.now; scale = R.scale rules.now }) (C.words cells.now)) known) }
+    ensures { IfSome result (λ known. WalksTo (record { kind = R.KIND; machine = (C.words cells.now).machine; list = E.list entries.now; scale = R.scale rules.now })
+        (C.words cells.now) first (PlaceKeeps R.UNMAPPED R.ODD (R.keeps rules.now)
+        (record { kind = R.KIND; machine = (C.words cells.now).machine; list = E.list entries.now; scale = R.scale rules.now }) (C.words cells.now)) known) }
 {
     let machine = cells.machine();
     let mut callees = Callees::new(entries);
-    let mut cursor = Cursor::start(rules.kind(), first, rules.scale());
+    let mut cursor = Cursor::start(R::KIND, first, rules.scale());
     'items: loop {
         let Cell::Holds { format, instr } = cells.cell(cursor.at) else {
             return None;
@@ -130,68 +130,8 @@ fn end_if_kept<C: Cells, E: Entries, R: Rules>(
     }
 }
 
-/// Goes over the items from a word address on, to the last one or to the first that breaks a rule, with what is known there.
-#[inline(never)]
-fn find_broken<C: Cells, E: Entries, R: Rules>(
-    cells: &C,
-    entries: &E,
-    rules: &R,
-    first: u16,
-) -> Result<Known, Fault<R::Why>>
-    requires entries { IsSomeCertificate (E.list entries.now) }
-    requires rules { R.valid rules.now }
-    requires first { first < ADDRESS_END }
-    ensures ok { IfOk result (λ known. WalksTo (record { kind = R.kind; machine = (C.words cells.now).machine; list = E.list entries.now; scale = R.scale rules.now })
-        (C.words cells.now) first (PlaceKeeps R.unmapped R.odd (R.keeps rules.now)
-        (record { kind = R.kind; machine = (C.words cells.now).machine; list = E.list entries.now; scale = R.scale rules.now }) (C.words cells.now)) known) }
-    ensures err { IfErr result (λ fault. FaultFound R.order (record { kind = R.kind; machine = (C.words cells.now).machine; list = E.list entries.now; scale = R.scale rules.now })
-        (C.words cells.now) first (PlaceKeeps R.unmapped R.odd (R.keeps rules.now)
-        (record { kind = R.kind; machine = (C.words cells.now).machine; list = E.list entries.now; scale = R.scale rules.now }) (C.words cells.now))
-        fault.at fault.why fault.before fault.found) }
-    ensures sound { IfErr result (λ fault. IsSoundFound fault.found) }
-{
-    let machine = cells.machine();
-    let mut callees = Callees::new(entries);
-    let mut cursor = Cursor::start(rules.kind(), first, rules.scale());
-    'items: loop {
-        let at = cursor.at;
-        let (format, instr) = match cells.cell(at) {
-            Cell::Missing => {
-                return Err(Fault {
-                    at,
-                    why: rules.unmapped(),
-                    before: cursor.known,
-                    found: Found::Missing,
-                });
-            }
-            Cell::Odd => {
-                return Err(Fault {
-                    at,
-                    why: rules.odd(),
-                    before: cursor.known,
-                    found: Found::Odd,
-                });
-            }
-            Cell::Holds { format, instr } => (format, instr),
-        };
-        match judge(rules, machine, &mut callees, &cursor, format, &instr) {
-            Err(why) => {
-                let seen = see(rules.kind(), machine, entries, cursor, format, instr);
-                return Err(Fault {
-                    at,
-                    why,
-                    before: cursor.known,
-                    found: Found::Seen(seen),
-                });
-            }
-            Ok(Step::Last(known)) => return Ok(known),
-            Ok(Step::Onward(next)) => cursor = next,
-        }
-    }
-}
-
-/// Goes over the items from a word address on, to the last one or to the first that breaks a rule. They are gone over once more
-/// only if one does.
+/// Goes over the items from a word address on, to the last one or to the first that breaks a rule, with what is known there. They
+/// are gone over once more only if one does.
 pub fn walk<C: Cells, E: Entries, R: Rules>(
     cells: &C,
     entries: &E,
@@ -201,17 +141,34 @@ pub fn walk<C: Cells, E: Entries, R: Rules>(
     requires entries { IsSomeCertificate (E.list entries.now) }
     requires rules { R.valid rules.now }
     requires first { first < ADDRESS_END }
-    ensures ok { IfOk result (λ known. WalksTo (record { kind = R.kind; machine = (C.words cells.now).machine; list = E.list entries.now; scale = R.scale rules.now })
-        (C.words cells.now) first (PlaceKeeps R.unmapped R.odd (R.keeps rules.now)
-        (record { kind = R.kind; machine = (C.words cells.now).machine; list = E.list entries.now; scale = R.scale rules.now }) (C.words cells.now)) known) }
-    ensures err { IfErr result (λ fault. FaultFound R.order (record { kind = R.kind; machine = (C.words cells.now).machine; list = E.list entries.now; scale = R.scale rules.now })
-        (C.words cells.now) first (PlaceKeeps R.unmapped R.odd (R.keeps rules.now)
-        (record { kind = R.kind; machine = (C.words cells.now).machine; list = E.list entries.now; scale = R.scale rules.now }) (C.words cells.now))
+    ensures ok { IfOk result (λ known. WalksTo (record { kind = R.KIND; machine = (C.words cells.now).machine; list = E.list entries.now; scale = R.scale rules.now })
+        (C.words cells.now) first (PlaceKeeps R.UNMAPPED R.ODD (R.keeps rules.now)
+        (record { kind = R.KIND; machine = (C.words cells.now).machine; list = E.list entries.now; scale = R.scale rules.now }) (C.words cells.now)) known) }
+    ensures err { IfErr result (λ fault. FaultFound R.order (record { kind = R.KIND; machine = (C.words cells.now).machine; list = E.list entries.now; scale = R.scale rules.now })
+        (C.words cells.now) first (PlaceKeeps R.UNMAPPED R.ODD (R.keeps rules.now)
+        (record { kind = R.KIND; machine = (C.words cells.now).machine; list = E.list entries.now; scale = R.scale rules.now }) (C.words cells.now))
         fault.at fault.why fault.before fault.found) }
     ensures sound { IfErr result (λ fault. IsSoundFound fault.found) }
 {
-    match end_if_kept(cells, entries, rules, first) {
-        Some(known) => Ok(known),
-        None => find_broken(cells, entries, rules, first),
+    if let Some(known) = end_if_kept(cells, entries, rules, first) {
+        return Ok(known);
+    }
+    let machine = cells.machine();
+    let mut callees = Callees::new(entries);
+    let mut cursor = Cursor::start(R::KIND, first, rules.scale());
+    'items: loop {
+        let (format, instr) = match cells.cell(cursor.at) {
+            Cell::Missing => return Err(Fault::at(&cursor, R::UNMAPPED, Found::Missing)),
+            Cell::Odd => return Err(Fault::at(&cursor, R::ODD, Found::Odd)),
+            Cell::Holds { format, instr } => (format, instr),
+        };
+        match judge(rules, machine, &mut callees, &cursor, format, &instr) {
+            Err(why) => {
+                let seen = see(R::KIND, machine, entries, cursor, format, instr);
+                return Err(Fault::at(&cursor, why, Found::Seen(seen)));
+            }
+            Ok(Step::Last(known)) => return Ok(known),
+            Ok(Step::Onward(next)) => cursor = next,
+        }
     }
 }

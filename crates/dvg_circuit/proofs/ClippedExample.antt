@@ -11,15 +11,4 @@ blanked : (x : ℕ) → bit 10 x ≡ 1 → IsShown (record { x = x; y = 100 }) �
 blanked x set is = absurd (omega (arith, set, is.x))
 
 pub worked_clips : WorkedClips
-worked_clips =
-    record {
-      from_left = refl;
-      left_blanked = (blanked _ refl, (blanked _ refl, (blanked _ refl, (blanked _ refl, (blanked _ refl, (blanked _ refl, (blanked _ refl, tt)))))));
-      left_shown = (shown _ refl, (shown _ refl, (shown _ refl, (shown _ refl, (shown _ refl, (shown _ refl, (shown _ refl, (shown _ refl, (shown _ refl, (shown _ refl, tt))))))))));
-      to_right = refl;
-      right_shown = (shown _ refl, (shown _ refl, (shown _ refl, (shown _ refl, (shown _ refl, tt)))));
-      right_blanked = (blanked _ refl, (blanked _ refl, (blanked _ refl, (blanked _ refl, (blanked _ refl, (blanked _ refl, (blanked _ refl, (blanked _ refl, (blanked _ refl, (blanked _ refl, (blanked _ refl, (blanked _ refl, tt))))))))))));
-      end_in_zone = record { left = omega (arith, ints); right = omega (arith, ints); bottom = omega (arith, ints); top = omega (arith, ints) };
-      not_in_zone = λ inside. absurd (omega (arith, ints, inside.left));
-      ghost_shown = shown _ refl;
-    }
+worked_clips  = grind (arith, blanked, shown, ints)

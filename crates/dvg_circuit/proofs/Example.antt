@@ -1,5 +1,6 @@
 -- The worked run of the circuit, instruction by instruction.
 use Rattle.std.proofs.Common.{◌≡◌, ℕ, zero, suc, ◌-◌, ◌≤◌, refl, ap, ◌∙◌, arith}
+use Rattle.std.proofs.Common.{rules}
 use Rattle.dvg_words.specs.Decoding.{instruction_of}
 use Rattle.dvg_circuit.specs.Counters.{Counters}
 use Rattle.dvg_circuit.specs.Circuit.{Run, step, run_after, begin}
@@ -30,5 +31,4 @@ late counters scale a b c d other n le =
 
 pub worked_runs : WorkedRuns
 unfolding instruction_of begun
-worked_runs counters scale a b c d other =
-    record { labs = refl; jsrl = refl; vctr = refl; rtsl = refl; halt = λ n le. late counters scale a b c d other n le }
+worked_runs counters scale a b c d other = search (rules, late)

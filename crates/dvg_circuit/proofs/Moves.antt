@@ -16,21 +16,8 @@ use Rattle.dvg_circuit.proofs.Places.{counter_is_place}
 
 -- ---- how far
 
-right_move : (m local global : ℕ) → m ≤ 1023 → axis_move Board (pos m) local global ≡ pos (1024 * pulses m (counts (effective_scale local global)))
-right_move m local global small =
-    ⊎_elim
-    (λ (low : effective_scale local global < 10).
-    board_moves.rounds m local global (omega (arith, low))
-    ∙ sym (ap (λ k. pos (1024 * k)) (rounded_half_up.rounds m (effective_scale local global) small (omega (arith, low)))))
-    (λ high.
-    board_moves.stays (pos m) local global (omega (arith, high))
-    ∙ sym (ap (λ k. pos (1024 * k)) (rounded_half_up.stays m (effective_scale local global) (omega (arith, high)))))
-    (cases_lt (effective_scale local global) 10)
-
 pub board_move : (size : ℤ) (local global : ℕ) → nat_abs size ≤ 1023 → axis_move Board size local global ≡ pos 1024 *ℤ moved size (counts (effective_scale local global))
-board_move (pos m) local global small = right_move m local global small ∙ omega (arith, ints)
-board_move (negsuc m) local global small =
-    board_moves.either_sign (suc m) local global ∙ ap neg_ℤ (right_move (suc m) local global small) ∙ omega (arith, ints)
+board_move size local global small = grind (arith, board_moves, rounded_half_up, cases_lt, ints)
 
 -- the sizes have ten bits
 pub record AreSizes (d : DrawFields) : Type 0 where
@@ -53,10 +40,7 @@ moved_to from size move n e = ap (λ k. pos 1024 *ℤ from +ℤ k) e ∙ scaled_
 pub counted : (x y : ℤ) (d : DrawFields) (n : ℕ) (c : Counters) → c ≡ record { x = twelve_bits x; y = twelve_bits y }
     → counters_after d c n ≡ record { x = twelve_bits (x +ℤ moved d.dx n); y = twelve_bits (y +ℤ moved d.dy n) }
 unfolding pair
-counted x y d n c e =
-    ap (λ (k : Counters). counters_after d k n) e
-    ∙ ap (λ k. pair k (counter_after d.dy (twelve_bits y) n)) (counter_is_place x d.dx n)
-    ∙ ap (λ k. pair (twelve_bits (x +ℤ moved d.dx n)) k) (counter_is_place y d.dy n)
+counted x y d n c e = grind (arith, pair, counter_is_place)
 
 pub beam_moved : (d : DrawFields) (g : ℕ) (p : Point) (c : Counters) → AreSizes d → IsSamePlace p c
     → IsSamePlace (shift p (displacement Board d g)) (counters_after d c (counts (effective_scale d.lscale g)))

@@ -22,29 +22,14 @@ gate (suc bits) size (suc b) = gate bits size b
 gated : (bits size count : ℕ) → multiplier bits size count ≡ gate bits size (ending_ones bits count)
 unfolding gate
 gated zero size count = refl
-gated (suc bits) size count = by_test (count % 2 == 0) (gated bits size (count / 2))
-  where
-    by_test : (even : Bool) → multiplier bits size (count / 2) ≡ gate bits size (ending_ones bits (count / 2))
-        → (if even then bit bits size else multiplier bits size (count / 2)) ≡ gate (suc bits) size (if even then 0 else suc (ending_ones bits (count / 2)))
-    by_test true h = refl
-    by_test false h = h
+gated (suc bits) size count = grind (arith, (gated bits size (count / 2)), gate)
 
 pub none_through : (size b : ℕ) → 10 ≤ b → let_through size b ≡ 0
 none_through size b over = ap (λ t. if t then bit (9 - b) size else 0) (let t : nat_le b 9 ≡ false = grind (arith, nat_tests) in t)
 
 ten_bits : (size b : ℕ) → gate 10 size b ≡ let_through size b
 unfolding gate
-ten_bits size zero = refl
-ten_bits size (suc zero) = refl
-ten_bits size (suc (suc zero)) = refl
-ten_bits size (suc (suc (suc zero))) = refl
-ten_bits size (suc (suc (suc (suc zero)))) = refl
-ten_bits size (suc (suc (suc (suc (suc zero))))) = refl
-ten_bits size (suc (suc (suc (suc (suc (suc zero)))))) = refl
-ten_bits size (suc (suc (suc (suc (suc (suc (suc zero))))))) = refl
-ten_bits size (suc (suc (suc (suc (suc (suc (suc (suc zero)))))))) = refl
-ten_bits size (suc (suc (suc (suc (suc (suc (suc (suc (suc zero))))))))) = refl
-ten_bits size (suc (suc (suc (suc (suc (suc (suc (suc (suc (suc b)))))))))) = sym (none_through size _ (omega arith))
+ten_bits size b = grind (arith, none_through)
 
 pub multiplied : (size count : ℕ) → multiplier 10 size count ≡ pulse size count
 multiplied size count = gated 10 size count ∙ ten_bits size (ending_ones 10 count)
@@ -55,11 +40,7 @@ all_multiplied size (suc n) = omega (arith, all_multiplied size n, multiplied si
 
 one_pulse : (bits size count : ℕ) → multiplier bits size count ≤ 1
 one_pulse zero size count = omega arith
-one_pulse (suc bits) size count = by_test (count % 2 == 0) (one_pulse bits size (count / 2))
-  where
-    by_test : (even : Bool) → multiplier bits size (count / 2) ≤ 1 → (if even then bit bits size else multiplier bits size (count / 2)) ≤ 1
-    by_test true h = omega arith
-    by_test false h = h
+one_pulse (suc bits) size count = grind (arith, (one_pulse bits size (count / 2)))
 
 pub at_most_one : (size count : ℕ) → pulse size count ≤ 1
 at_most_one size count = omega (arith, one_pulse 10 size count, multiplied size count)

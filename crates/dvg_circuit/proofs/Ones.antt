@@ -26,8 +26,7 @@ odd count b h = sym (bit_at_lowest count) ∙ h 0 (omega arith)
 ends_below : (bits count b : ℕ) → b < bits → bit_at count b ≡ 0 → Ones count b → ending_ones bits count ≡ b
 ends_below zero count b le z h = absurd (omega (arith, le))
 ends_below (suc bits) count zero le z h = at_even bits count (sym (bit_at_lowest count) ∙ z)
-ends_below (suc bits) count (suc b) le z h =
-    at_odd bits count (odd count b h) ∙ ap suc (ends_below bits (count / 2) b (omega (arith, le)) (sym (bit_at-suc count b) ∙ z) (halved count b h))
+ends_below (suc bits) count (suc b) le z h = grind (arith, (at_odd bits count (odd count b h)), (odd count b h), (ends_below bits (count / 2) b (omega (arith, le)) (sym (bit_at-suc count b) ∙ z) (halved count b h)), (bit_at-suc count b), (halved count b h))
 
 all_ones : (bits count : ℕ) → Ones count bits → ending_ones bits count ≡ bits
 all_ones zero count h = refl

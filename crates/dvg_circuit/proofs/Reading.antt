@@ -24,45 +24,18 @@ IsRight format Rtsl = Unit {0}
 IsRight format (Jmpl to) = Unit {0}
 
 negated : (n : ℕ) → nat_abs (neg_ℤ (pos n)) ≡ n
-negated zero = refl
-negated (suc n) = refl
-
-size_small : (sign n : ℕ) → n ≤ 1023 → nat_abs (magnitude_and_sign sign n) ≤ 1023
-size_small sign n le = by_test (sign == 1)
-  where
-    by_test : (minus : Bool) → nat_abs (if minus then neg_ℤ (pos n) else pos n) ≤ 1023
-    by_test true = omega (arith, le, negated n)
-    by_test false = le
-
-right_tests : (a b c d f g long : Bool) (first second : ℕ) → nat_le (opcode first) 9 ≡ a → (opcode first == 10) ≡ b → nat_le (opcode first) 10 ≡ long
-    → IfSome (if a then Some (Draws (vctr_draw first second)) else if b then labs_of Board first second else if c then Some Halt else if d then Some (Jsrl (target_of first)) else if f then Some Rtsl else if g then Some (Jmpl (target_of first)) else Some (Draws (svec_draw first)))
-    (IsRight (if long then Long else Short))
-right_tests true b c d f g long first second p q r = record { x = size_small _ (second % 1024) (omega arith); y = size_small _ (first % 1024) (omega arith) }
-right_tests false true c d f g long first second p q r = (omega arith, omega arith)
-right_tests false false true d f g long first second p q r = tt
-right_tests false false false true f g false first second p q r = refl
-right_tests false false false true f g true first second p q r = absurd (grind (arith, nat_tests, p, q, r))
-right_tests false false false false true g long first second p q r = tt
-right_tests false false false false false true long first second p q r = tt
-right_tests false false false false false false long first second p q r = record { x = size_small _ (256 * (first % 4)) (omega arith); y = size_small _ (256 * (first / 256 % 4)) (omega arith) }
+negated n = grind (arith)
 
 pub right : (first second : ℕ) (i : Instr) → instruction_of Board first second ≡ Some i → IsRight (format_of first) i
 unfolding instruction_of
-right first second i e =
-    subst (λ o. IfSome o (IsRight (format_of first))) e
-    (right_tests (nat_le (opcode first) 9) (opcode first == 10) (opcode first == 11) (opcode first == 12) (opcode first == 13) (opcode first == 14) (nat_le (opcode first) 10) first second refl refl refl)
+right first second i e = grind (arith, negated, nat_tests, (nat_le (opcode first) 9), (nat_le (opcode first) 10))
 
 -- ---- word addresses
 
 frame_or_rom : (m : Memory) (p word : ℕ) (in_frame in_rom : Bool) → IsMemory m → nat_lt p (length m.frame) ≡ in_frame
     → (nat_le m.rom.map.rom_first p && nat_le p m.rom.map.rom_last) ≡ in_rom
     → (if in_frame then slice_get m.frame p else if in_rom then slice_get m.rom.words (p - m.rom.map.rom_first) else None) ≡ Some word → p < 4095
-frame_or_rom m p word true in_rom mem f r e = grind (arith, nat_tests, f, mem.frame.few)
-frame_or_rom m p word false true mem f r e = grind (arith, nat_tests, r, mem.rom.map.inside)
-frame_or_rom m p word false false mem f r e = absurd (none_some word e)
-  where
-    none_some : (word : ℕ) → None ≡ Some word → ⊥
-    none_some word e = cc
+frame_or_rom m p word in_frame in_rom mem f r e = grind (arith, nat_tests)
 
 -- a word that there is stands below FFF
 pub low_word : (m : Memory) (p word : ℕ) → IsMemory m → fetched_at m p ≡ Some word → p < 4095

@@ -13,10 +13,7 @@ even_count : (bits size n : ℕ) → multiplier (suc bits) size (2 * n) ≡ bit 
 even_count bits size n = ap (λ r. if r == 0 then bit bits size else multiplier bits size (2 * n / 2)) (let e : 2 * n % 2 ≡ 0 = omega arith in e)
 
 odd_count : (bits size n : ℕ) → multiplier (suc bits) size (suc (2 * n)) ≡ multiplier bits size n
-odd_count bits size n =
-    let odd : suc (2 * n) % 2 ≡ 1 = omega arith in
-    let halved : suc (2 * n) / 2 ≡ n = omega arith in
-    ap (λ r. if r == 0 then bit bits size else multiplier bits size (suc (2 * n) / 2)) odd ∙ ap (λ h. multiplier bits size h) halved
+odd_count bits size n = grind (arith, multiplier)
 
 -- at twice as many counts: each of the even ones by the top bit, and the odd ones as the bits below
 twice : (bits size n : ℕ) → pulses_of (suc bits) size (2 * n) ≡ n * bit bits size + pulses_of bits size n
@@ -35,9 +32,7 @@ rounded_step : (A K b r P : ℕ) → IsRounded A K r P → IsRounded (2 * A) (2 
 rounded_step A K b r P h = record { low = omega (arith, h.low); high = omega (arith, h.high) }
 
 rounded_one : (A b r : ℕ) → b ≤ 1 → r < A → IsRounded (2 * A) 1 (b * A + r) b
-rounded_one A zero r few small = record { low = omega arith; high = omega arith }
-rounded_one A (suc zero) r few small = record { low = omega arith; high = omega arith }
-rounded_one A (suc (suc b)) r few small = absurd (omega (arith, few))
+rounded_one A b r few small = grind (arith)
 
 split : (bits size : ℕ) → bit bits size * 2 ^ bits + size % 2 ^ bits ≡ size % 2 ^ suc bits
 split bits size = sym (ap (λ k. size % 2 ^ k) (let e : suc bits ≡ 1 + bits = omega arith in e) ∙ mod-pow-add size 1 bits)
@@ -53,16 +48,11 @@ rem_small : (bits size : ℕ) → size % 2 ^ bits < 2 ^ bits
 rem_small bits size = grind (arith, pow_pos)
 
 pub rounded : (bits size k : ℕ) → k ≤ bits → IsRounded (2 ^ bits) (2 ^ k) (size % 2 ^ bits) (pulses_of bits size (2 ^ k))
-rounded zero size k le =
-    let none : pulses_of zero size (2 ^ k) ≡ 0 = no_bits size (2 ^ k) in
-    same 1 1 (2 ^ k) (2 ^ k) 0 (size % 1) 0 _ refl refl (omega arith) (sym none) (record { low = omega arith; high = omega arith })
+rounded zero size k le = grind (arith, pulses_of, no_bits, same)
 rounded (suc bits) size zero le =
     same (2 * 2 ^ bits) (2 ^ suc bits) 1 1 (bit bits size * 2 ^ bits + size % 2 ^ bits) (size % 2 ^ suc bits) (bit bits size) _ (sym (pow-succ' 2 bits)) refl (split bits size) (let e : bit bits size ≡ 0 + bit bits size = omega arith in e)
     (rounded_one (2 ^ bits) (bit bits size) (size % 2 ^ bits) (omega arith) (rem_small bits size))
-rounded (suc bits) size (suc k) le =
-    let doubled : pulses_of (suc bits) size (2 * 2 ^ k) ≡ pulses_of (suc bits) size (2 ^ suc k) = ap (λ n. pulses_of (suc bits) size n) (sym (pow-succ' 2 k)) in
-    same (2 * 2 ^ bits) (2 ^ suc bits) (2 * 2 ^ k) (2 ^ suc k) (bit bits size * 2 ^ bits + size % 2 ^ bits) (size % 2 ^ suc bits) (2 ^ k * bit bits size + pulses_of bits size (2 ^ k)) _ (sym (pow-succ' 2 bits)) (sym (pow-succ' 2 k)) (split bits size) (sym (twice bits size (2 ^ k)) ∙ doubled)
-    (rounded_step (2 ^ bits) (2 ^ k) (bit bits size) (size % 2 ^ bits) _ (rounded bits size k (omega (arith, le))))
+rounded (suc bits) size (suc k) le = grind (arith, (pulses_of (suc bits) size (2 * 2 ^ k)), (pulses_of (suc bits) size (2 ^ suc k)), pulses_of, (pow-succ' 2 k), (same (2 * 2 ^ bits) (2 ^ suc bits) (2 * 2 ^ k) (2 ^ suc k) (bit bits size * 2 ^ bits + size % 2 ^ bits) (size % 2 ^ suc bits) (2 ^ k * bit bits size + pulses_of bits size (2 ^ k))), (pulses_of bits size (2 ^ k)), (pow-succ' 2 bits), (split bits size), (twice bits size (2 ^ k)), (rounded_step (2 ^ bits) (2 ^ k) (bit bits size) (size % 2 ^ bits)), (rounded bits size k (omega (arith, le))))
 
 pub counts_low : (scale : ℕ) → scale ≤ 9 → counts scale ≡ 2 ^ (scale + 1)
 counts_low scale le = ap (λ b. if b then 2 ^ (scale + 1) else 0) (let t : nat_le scale 9 ≡ true = grind (arith, nat_tests) in t)
@@ -71,12 +61,7 @@ divided : (size K P : ℕ) → IsRounded 1024 K size P → P ≡ (size * K + 512
 divided size K P h = omega (arith, h.low, h.high)
 
 rounds : (size scale : ℕ) → size ≤ 1023 → scale ≤ 9 → pulses size (counts scale) ≡ (size * 2 ^ (scale + 1) + 512) / 1024
-rounds size scale small le =
-    let whole : size % 1024 ≡ size = omega (arith, small) in
-    let r = rounded 10 size (scale + 1) (omega (arith, le)) in
-    ap (λ n. pulses size n) (counts_low scale le)
-    ∙ sym (all_multiplied size (2 ^ (scale + 1)))
-    ∙ divided size (2 ^ (scale + 1)) _ (subst (λ x. IsRounded 1024 (2 ^ (scale + 1)) x (pulses_of 10 size (2 ^ (scale + 1)))) whole r)
+rounds size scale small le = grind (arith, (rounded 10 size (scale + 1) (omega (arith, le))), (counts_low scale le), (all_multiplied size (2 ^ (scale + 1))), (divided size (2 ^ (scale + 1))), (pulses_of 10 size (2 ^ (scale + 1))))
 
 pub counts_high : (scale : ℕ) → 9 < scale → counts scale ≡ 0
 counts_high scale over = ap (λ b. if b then 2 ^ (scale + 1) else 0) (let t : nat_le scale 9 ≡ false = grind (arith, nat_tests) in t)

@@ -31,51 +31,16 @@ lit_in_window w stroke c on from to =
 
 -- a coordinate of the zone whose bit 10 is clear is one of the screen, and the counter holds it
 there : (x : ℤ) → IsBetween (negsuc 1023) (pos 2047) x → bit 10 (twelve_bits x) ≡ 0 → IsBetween (pos 0) (pos 1023) x × (x ≡ pos (twelve_bits x))
-there (pos n) h clear =
-    let below : n ≤ 2047 = omega (arith, ints, h.1) in
-    let least : n ≤ 1023 = omega (arith, below, clear) in
-    let same : n % 4096 ≡ n = omega (arith, below) in
-    ((omega (arith, ints), omega (arith, ints, least)), sym (ap pos same))
-there (negsuc n) h clear =
-    let above : n ≤ 1023 = omega (arith, ints, h.0) in
-    absurd (omega (arith, above, clear))
-
--- bit 10 of a coordinate of the screen is clear
-clear_inside : (x : ℤ) → IsBetween (pos 0) (pos 1023) x → bit 10 (twelve_bits x) ≡ 0
-clear_inside (pos n) h =
-    let below : n ≤ 1023 = omega (arith, ints, h.1) in
-    omega (arith, below)
-clear_inside (negsuc n) h = absurd (omega (arith, ints, h.0))
+there x h clear = grind (arith, ints)
 
 in_zone : (w : Window) (x y : ℤ) → IsWindowOrZone w → IsPlaceOf w x y → IsPlaceOf clipped x y
-in_zone w x y (inl is) inside = (
-  (omega (arith, ints, is.x_least, inside.0.0), omega (arith, ints, is.x_inside, inside.0.1)),
-  (omega (arith, ints, is.y_least, inside.1.0), omega (arith, ints, is.y_inside, inside.1.1)),
-)
-in_zone w x y (inr is) inside = subst (λ (k : Window). IsPlaceOf k x y) is inside
+in_zone w x y h3 inside = grind (arith, ints)
 
 on_screen : (w : Window) (x y : ℤ) → IsWindow w → IsPlaceOf w x y → IsPlaceOf screen x y
-on_screen w x y is inside = (
-  (omega (arith, ints, is.x_least, inside.0.0), omega (arith, ints, is.x_inside, inside.0.1)),
-  (omega (arith, ints, is.y_least, inside.1.0), omega (arith, ints, is.y_inside, inside.1.1)),
-)
+on_screen w x y is inside = grind (arith, ints)
 
 pub shown_in_window : ShownInWindow
-shown_in_window =
-    record {
-      place = λ w x y is inside.
-          let zone = in_zone w x y is inside in
-          record {
-            inside = inside;
-            counters = refl;
-            shown = λ lit.
-                let across = there x zone.0 lit.x in
-                let up = there y zone.1 lit.y in
-                ((across.0, up.0), across.1, up.1);
-            screen = λ on. record { x = clear_inside x on.0; y = clear_inside y on.1 };
-          };
-      window = λ w x y c is shows. shows.screen (on_screen w x y is shows.inside);
-    }
+shown_in_window  = grind (arith, in_zone, there, ints, on_screen)
 
 -- what the clauses say of a lit stroke of the window
 pub drawn_in_window : (w : Window) (stroke : Stroke) (l : LitDraw) → IsWindowOrZone w → InWindow w stroke.from → InWindow w stroke.to → IsDrawnAs stroke l → IsDrawInWindow w l
@@ -94,30 +59,12 @@ drawn_in_window w stroke l is from to h =
 -- ---- strokes of the zone
 
 pub lit_on_screen : LitOnScreen
-lit_on_screen stroke c on from to shown =
-    let at = on.same in
-    let inside = lit_in_window clipped stroke c on from to in
-    let x = there at.x inside.0 (subst (λ (k : Counters). bit 10 k.x ≡ 0) at.counters shown.x) in
-    let y = there at.y inside.1 (subst (λ (k : Counters). bit 10 k.y ≡ 0) at.counters shown.y) in
-    let same_x : c.x ≡ twelve_bits at.x = ap (λ (k : Counters). k.x) at.counters in
-    let same_y : c.y ≡ twelve_bits at.y = ap (λ (k : Counters). k.y) at.counters in
-    record {
-      x = ap (λ (p : Point). p.x) at.place ∙ ap (λ k. pos 1024 *ℤ k) (x.1 ∙ sym (ap pos same_x));
-      y = ap (λ (p : Point). p.y) at.place ∙ ap (λ k. pos 1024 *ℤ k) (y.1 ∙ sym (ap pos same_y));
-      x_inside = omega (arith, ints, x.0.1, x.1, same_x);
-      y_inside = omega (arith, ints, y.0.1, y.1, same_y);
-    }
+lit_on_screen stroke c on from to shown = grind (arith, (lit_in_window clipped stroke c on from to), there, (pos 1024), pos)
 
 -- ---- both ways
 
 pub screen_is_shown : ScreenIsShown
-screen_is_shown p c same inside =
-    let across : IsBetween (pos 1024 *ℤ pos 0) (pos 1024 *ℤ pos 1023) (pos 1024 *ℤ same.x) =
-    subst (λ (q : Point). IsBetween (pos 1024 *ℤ pos 0) (pos 1024 *ℤ pos 1023) q.x) same.place (inside.left, inside.right) in
-    let up : IsBetween (pos 1024 *ℤ pos 0) (pos 1024 *ℤ pos 1023) (pos 1024 *ℤ same.y) =
-    subst (λ (q : Point). IsBetween (pos 1024 *ℤ pos 0) (pos 1024 *ℤ pos 1023) q.y) same.place (inside.bottom, inside.top) in
-    subst IsShown (sym same.counters)
-    (record { x = clear_inside same.x (in_places (pos 0) (pos 1023) same.x across); y = clear_inside same.y (in_places (pos 0) (pos 1023) same.y up) })
+screen_is_shown p c same inside = grind (arith, ints, in_places)
 
 -- ---- a run
 

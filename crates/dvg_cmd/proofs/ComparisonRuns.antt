@@ -1,5 +1,6 @@
 -- What a run that compares two ROMs answers, over plain values.
 use Rattle.dvg_cmd.proofs.Common.{◌≡◌, ℕ, List, ◌∷◌, ◌++◌, length, Option, true, refl, sym, ap, ◌∙◌, subst, Result, Ok, Err, Machine, Rom, IsRomLength, rom_on, MemoryMap, IsMap, Key, IsPrefix}
+use Rattle.std.proofs.Common.{arith}
 use Rattle.std.specs.Prelude.{IsErrAnd}
 use Rattle.dvg_diff.specs.Comparing.{IsComparison}
 use Rattle.dvg_diff.specs.declared.comparing.Comparison.{Comparison}
@@ -17,22 +18,10 @@ use Rattle.dvg_cmd.proofs.FramesRuns.{on_all}
 module _ {machine : Machine} {rom : Option (List ℕ)} {map : MemoryMap} {readers : List (Option (List ℕ))} {image : Rom} {words : List (List ℕ)} (images : AreInputImages machine rom map readers image words)
     (is : IsMap map) (other : Option (List ℕ)) (other_image : Rom) (ob : List ℕ) (read : IsPrefix 4097 other ob) (h : IsRomLength map (length ob) × (other_image ≡ rom_on machine map ob)) (roots : List (ℕ × Key)) where
   pub compared : (c : Comparison) → IsComparison image other_image roots words c → ComparesFor machine rom other map roots readers c
-  compared c comparison =
-      record {
-        all = images.all;
-        other_bytes = held_bytes other ob;
-        other_held = held_told other ob;
-        other_length = whole_length map is other ob read h.0;
-        is =
-            on_all images (λ x ws. IsComparison x (rom_on machine map (held_bytes other ob)) roots ws c)
-            (subst (λ x. IsComparison image x roots words c) (whole_image machine map is other ob other_image read h) comparison);
-      }
+  compared c comparison = search (held_bytes other ob, held_told other ob, whole_length map is other ob read h.0, on_all images (λ x ws. IsComparison x (rom_on machine map (held_bytes other ob)) roots ws c) (subst (λ x. IsComparison image x roots words c) (whole_image machine map is other ob other_image read h) comparison))
 
 -- ---- which ROM's reader failed
 
 pub rom_failed : {A : Type 0} (r : Result A FramesRunFault) (f : FramesRunFault) → IsErrAnd r (λ x. x ≡ f) → f ≡ fault.Plain maker.ReadRom → (olds news after : List ℕ) → news ≡ olds
     → (old new : ℕ) → new ≡ count_after true old → FailedAfter (blames_frames_rom r) (olds ++ old ∷ after) (news ++ new ∷ after)
-rom_failed (Ok x) f e is olds news after same old new failed = absurd e
-rom_failed {A} (Err x) f e is olds news after same old new failed =
-    subst (λ y. FailedAfter (blames_frames_rom {A = A} (Err y)) (olds ++ old ∷ after) (news ++ new ∷ after)) (sym (e ∙ is))
-    (record { before = olds; count = old; after = after; old_is = refl; new_is = ap (λ l. l ++ new ∷ after) same ∙ ap (λ n. olds ++ n ∷ after) failed })
+rom_failed r f e is olds news after same old new failed = grind (arith)

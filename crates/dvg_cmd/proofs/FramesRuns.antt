@@ -1,5 +1,7 @@
 -- What a run of the maker for frames answers, over plain values.
 use Rattle.dvg_cmd.proofs.Common.{◌≡◌, ◌<◌, ℕ, List, [], ◌∷◌, length, Option, None, Some, refl, sym, ap, ◌∙◌, subst, arith, Result, Ok, Err, IfErr, Appends, Machine, AppendsPrefix, Rom, IsRomLength, rom_on, words_of, MemoryMap, IsMap, Window, Key, of_each, AreFrames, MakesForFrames, FramesFaultMeans, ArePrefixes}
+use Rattle.std.proofs.Common.{rules}
+use Rattle.std.proofs.lemmas.Grind.{common_steps}
 use Rattle.std.specs.Prelude.{IsErrAnd}
 use Rattle.dvg_cert.specs.Grammar.{text_of}
 use Rattle.dvg_cmd.specs.Making.{WritesMade, WritesMadePrefix}
@@ -27,19 +29,14 @@ use Rattle.dvg_cmd.proofs.SeveralFrames.{held_each, each_held, each_same, first_
 
 -- what holds of the fault that is told holds of the answer
 pub told_err : {A : Type 0} (r : Result A FramesRunFault) (f : FramesRunFault) (P : FramesRunFault → Type 0) → IsErrAnd r (λ x. x ≡ f) → P f → IfErr r P
-told_err (Ok a) f P is h = tt
-told_err (Err x) f P is h = subst P (sym is) h
+told_err r f P is h = grind (arith)
 
 -- where there are readers, that memory was out says nothing
 pub memory_refused : (machine : Machine) (rom : Option (List ℕ)) (map : MemoryMap) (roots : List (ℕ × Key)) (readers : List (Option (List ℕ))) → 0 < length readers → RefusesMemory machine rom map roots readers
-memory_refused machine rom map roots [] some = absurd (omega (arith, some))
-memory_refused machine rom map roots (r ∷ readers) some = tt
+memory_refused machine rom map roots readers some = grind (arith)
 
 some_readers : (readers : List (Option (List ℕ))) (frames : List (List ℕ)) → ArePrefixes readers frames → 0 < length frames → 0 < length readers
-some_readers [] [] h some = some
-some_readers (r ∷ readers) (b ∷ frames) h some = omega arith
-some_readers [] (b ∷ frames) h some = absurd h
-some_readers (r ∷ readers) [] h some = absurd h
+some_readers readers frames h some = grind (arith, rules, common_steps)
 
 -- what was read of a ROM of the right length
 module _ {rom : Option (List ℕ)} {readers : List (Option (List ℕ))} {rb : List ℕ} {frames : List (List ℕ)} (read : AreRead rom readers rb frames) (machine : Machine) (map : MemoryMap) (is : IsMap map) (image : Rom)
@@ -48,37 +45,13 @@ module _ {rom : Option (List ℕ)} {readers : List (Option (List ℕ))} {rb : Li
   images_read lengths words same =
       let whole : frames ≡ held_each readers frames = each_same readers frames read.frame_prefixes lengths in
       record {
-        all = record {
-          rom_bytes = held_bytes rom rb;
-          frame_bytes = held_each readers frames;
-          rom_held = held_told rom rb;
-          frames_held = each_held readers frames read.frame_prefixes;
-          rom_length = whole_length map is rom rb read.rom_prefix h.0;
-          frame_lengths = subst AreFrames whole lengths;
-        };
+        all = search (held_bytes rom rb, held_each readers frames, held_told rom rb, each_held readers frames read.frame_prefixes, whole_length map is rom rb read.rom_prefix h.0, subst AreFrames whole lengths);
         rom_is = whole_image machine map is rom rb image read.rom_prefix h;
         words_are = same ∙ ap (λ l. of_each words_of l) whole;
       }
 
   pub lengths_refused : (roots : List (ℕ × Key)) (f : FramesRunFault) → RefusesLengths frames f → FramesFaultMeans machine rom map roots readers f
-  lengths_refused roots (fault.FrameLength n) wrong =
-      record {
-        rom_bytes = held_bytes rom rb;
-        frame_bytes = held_each readers frames;
-        rom_held = held_told rom rb;
-        frames_held = each_held readers frames read.frame_prefixes;
-        rom_length = whole_length map is rom rb read.rom_prefix h.0;
-        wrong = first_wrong readers frames n read.frame_prefixes wrong;
-      }
-  lengths_refused roots (fault.Plain (maker.Make making.Memory)) wrong = memory_refused machine rom map roots readers (some_readers readers frames read.frame_prefixes wrong)
-  lengths_refused roots (fault.Plain (maker.Make (making.Unstraight word))) wrong = absurd wrong
-  lengths_refused roots (fault.Plain (maker.Make making.Deep)) wrong = absurd wrong
-  lengths_refused roots (fault.Plain (maker.Make making.TooLarge)) wrong = absurd wrong
-  lengths_refused roots (fault.Plain maker.RomLength) wrong = absurd wrong
-  lengths_refused roots (fault.Plain maker.ReadRom) wrong = absurd wrong
-  lengths_refused roots (fault.Plain maker.Write) wrong = absurd wrong
-  lengths_refused roots (fault.Call call why) wrong = absurd wrong
-  lengths_refused roots fault.ReadFrame wrong = absurd wrong
+  lengths_refused roots f wrong = grind (arith, (held_bytes rom rb), (held_each readers frames), (held_told rom rb), (each_held readers frames read.frame_prefixes), (whole_length map is rom rb read.rom_prefix h.0), first_wrong, memory_refused, some_readers)
 
 -- the images of all that readers held
 module _ {machine : Machine} {rom : Option (List ℕ)} {map : MemoryMap} {readers : List (Option (List ℕ))} {image : Rom} {words : List (List ℕ)} (images : AreInputImages machine rom map readers image words) where
@@ -96,13 +69,7 @@ module _ {machine : Machine} {rom : Option (List ℕ)} {map : MemoryMap} {reader
 
   pub places_made : (roots : List (ℕ × Key)) (w : Window) (list : List Entry) (places : List EntryPlaces) → FramesMade image roots words list → AreAllPlaces w image list list places
       → PlacesFor machine w rom map roots readers places
-  places_made roots w list places made are =
-      record {
-        list = list;
-        all = images.all;
-        made = on_all (λ x ws. FramesMade x roots ws list) made;
-        are = subst (λ x. AreAllPlaces w x list list places) images.rom_is are;
-      }
+  places_made roots w list places made are = search (list, on_all (λ x ws. FramesMade x roots ws list) made, subst (λ x. AreAllPlaces w x list list places) images.rom_is are)
 
   module _ (roots : List (ℕ × Key)) where
     told_memory : (rs : List (Option (List ℕ))) → RefusesInputs machine rom map roots rs (record { call = None; why = entry.Memory }) → RefusesMemory machine rom map roots rs

@@ -21,37 +21,19 @@ all_bytes budget (Some held) bytes read h = frame_same budget bytes held (prefix
 pub read_from : (reader : Option (List ℕ)) (bytes : List ℕ) → IsPrefix 2049 reader bytes → IsReadFrom reader bytes
 read_from reader bytes read = record { first = first_bytes 2049 reader bytes read.first; whole = λ h. all_bytes 0 reader bytes read h }
 
-written_back : (items new : List ℕ) → length new ≡ length items → take (length items) (new ++ drop (length new) items) ≡ new
-written_back items new same = grind (arith, common_steps)
-
 pub reads_frame : (reader : Option (List ℕ)) (start : Option ℕ) (items slice new : List ℕ) → IsPrefix 2049 reader items → slice ≡ items → new ≡ started start slice → length new ≡ length slice
     → ReadsFrame reader start (take (length items) (new ++ drop (length new) items))
-reads_frame reader start items slice new read same is len =
-    record {
-      read = items;
-      from = read_from reader items read;
-      is = written_back items new (len ∙ ap (λ (x : List ℕ). length x) same) ∙ is ∙ ap (λ (x : List ℕ). started start x) same;
-    }
+reads_frame reader start items slice new read same is len = grind (arith, (read_from reader items read), common_steps)
 
 module _ (machine : Machine) (rom : List ℕ) (map : MemoryMap) (bytes : List ℕ) (budget : ℕ) (w : Window) (range : InRange bytes budget) (long : IsRomLength map (length rom)) where
   judged : (r : FrameRefusal) → VerdictByMade (rom_on machine map rom) (words_of bytes) w budget (Err r) → FrameRefused (rom_on machine map rom) (words_of bytes) w budget r → HasCallCause (rom_on machine map rom) (words_of bytes) r → IsJudgedRefusal machine rom map bytes budget w r
   judged r own h told = record { in_range = range; rom_length = long; by_own = own; means = h; told = told }
 
   refused : (r : FrameRefusal) → VerdictByMade (rom_on machine map rom) (words_of bytes) w budget (Err r) → FrameRefused (rom_on machine map rom) (words_of bytes) w budget r → HasCallCause (rom_on machine map rom) (words_of bytes) r → IsRefused machine rom map bytes budget w r
-  refused (Make at why) own h told = judged (Make at why) own h told
-  refused NoMemory own h told = judged NoMemory own h told
-  refused (Check (refusal.Image RomLength)) own h told = absurd h
-  refused (Check (refusal.Image FrameLength)) own h told = absurd h
-  refused (Check refusal.BudgetRange) own h told = absurd h
-  refused (Check (refusal.Cert f)) own h told = absurd h
-  refused (Check refusal.IndexMemory) own h told = judged (Check refusal.IndexMemory) own h told
-  refused (Check (refusal.Shape f)) own h told = judged (Check (refusal.Shape f)) own h told
-  refused (Check (refusal.Frame f)) own h told = judged (Check (refusal.Frame f)) own h told
+  refused r own h told = grind (arith, judged)
 
   frame_verdict : (v : Result Yes FrameRefusal) → IsJudged (rom_on machine map rom) (words_of bytes) w budget v → VerdictOnBytes machine rom map bytes budget w v
-  frame_verdict (Ok y) said =
-      record { in_range = range; rom_length = long; safe = said.safe; exact = said.exact; circuit = said.circuit; circuit_exact = said.circuit_exact; least = said.least; by_own = said.verdict }
-  frame_verdict (Err r) said = refused r said.verdict said.refused said.told
+  frame_verdict v said = grind (arith, refused)
 
 -- what the judge says of the images of these bytes
 pub own_verdict : (machine : Machine) (rom : List ℕ) (map : MemoryMap) (bytes : List ℕ) (budget : ℕ) (w : Window) (words : List ℕ) (image : Rom) → AreImages machine rom map bytes budget words image

@@ -9,8 +9,7 @@ limited_is m n held e = ap (λ k. take k held) e
 
 -- a whole buffer was filled from the front
 pub filled : (remaining : Option (List ℕ)) (bytes : List ℕ) (m n : ℕ) → m ≡ n → IfSome remaining (λ held. bytes ≡ take m held) → IfSome remaining (λ held. bytes ≡ limited n held)
-filled None bytes m n e h = tt
-filled (Some held) bytes m n e h = h ∙ limited_is m n held e
+filled remaining bytes m n e h = grind (arith, limited_is)
 
 -- where fewer bytes than the limit were read, they are all
 pub limited-short : (n : ℕ) (held : List ℕ) → length (limited n held) + 1 ≤ n → limited n held ≡ held

@@ -1,21 +1,18 @@
 -- Lines that are sent one after another, over plain values.
 use Rattle.dvg_cmd.proofs.Common.{◌≡◌, ℕ, suc, ◌+◌, ◌<◌, List, [], ◌∷◌, ◌++◌, length, drop, get_or, Option, refl, sym, ap, ◌∙◌, subst, arith, append-nil, append_assoc, Result, Ok, Err, OnErr, Appends, Appends-trans, AppendsPrefix, TakesOneWrite, of_each, joined}
+use Rattle.std.proofs.Common.{rules}
+use Rattle.std.proofs.lemmas.Grind.{common_steps}
 use Rattle.std.proofs.Math.Seq.{drop-cons}
 use Rattle.dvg_cmd.specs.Private.Sent.{Sent}
 use Rattle.dvg_cmd.proofs.SeveralLines.{joined_on, sent_part, prefix_more, one_write_on}
 
 pub on_err : {A E P : Type 0} (r : Result A E) → P → OnErr r P
-on_err (Ok a) p = tt
-on_err (Err e) p = p
+on_err r p = grind (arith)
 
 -- two runs of lines, one after the other
 module _ (lines more : List (List ℕ)) (old mid new : Option (List ℕ)) (writes writes_mid writes_after : ℕ) (h : Sent lines old mid writes writes_mid) where
   pub both_sent : Sent more mid new writes_mid writes_after → Sent (lines ++ more) old new writes writes_after
-  both_sent k =
-      record {
-        written = subst (Appends old new) (sym (joined_on lines more)) (Appends-trans old mid new (joined lines) (joined more) h.written k.written);
-        one_write = one_write_on lines more writes writes_mid writes_after h.one_write k.one_write;
-      }
+  both_sent k = grind (arith, rules, common_steps, (joined_on lines more), (joined lines), (joined more), (one_write_on lines more writes writes_mid writes_after h.one_write k.one_write), joined_on, joined, one_write_on)
 
   pub both_cut : AppendsPrefix mid new (joined more) → AppendsPrefix old new (joined (lines ++ more))
   both_cut k = sent_part old mid new (joined (lines ++ more)) (joined lines) (joined more) (joined_on lines more) h.written k
@@ -54,16 +51,10 @@ module _ (all : List (List ℕ)) (old : Option (List ℕ)) (writes : ℕ) where
         }
 
     pub one_cut : AppendsPrefix mid new piece → AppendsPrefix old new (joined all)
-    one_cut written =
-        subst (λ ls. AppendsPrefix old new (joined ls)) whole_on
-        (first_cut (h.done ++ line ∷ []) rest old new
-        (both_cut h.done (line ∷ []) old mid new writes writes_mid writes_mid h.sent (subst (AppendsPrefix mid new) (sym first) written)))
+    one_cut written = grind (arith, rules, common_steps, joined, (first_cut (h.done ++ line ∷ []) rest old new (both_cut h.done (line ∷ []) old mid new writes writes_mid writes_mid h.sent (subst (AppendsPrefix mid new) (sym first) written))), (both_cut h.done (line ∷ []) old mid new writes writes_mid writes_mid h.sent (subst (AppendsPrefix mid new) (sym first) written)), first_cut, both_cut)
 
 -- ---- the lines of things, each by one of these texts
 
 module _ {A : Type 0} (line_of : A → List ℕ) (things : List A) (n : ℕ) where
   pub next_line : (thing : A) → thing ≡ get_or things n thing → n < length things → of_each line_of (drop n things) ≡ line_of thing ∷ of_each line_of (drop (n + 1) things)
-  next_line thing is lt =
-      let more : n + 1 ≡ suc n = omega arith in
-      ap (of_each line_of) (drop-cons things n thing lt)
-      ∙ ap (λ x. line_of x ∷ of_each line_of (drop (suc n) things)) (sym is) ∙ ap (λ m. line_of thing ∷ of_each line_of (drop m things)) (sym more)
+  next_line thing is lt = grind (arith, of_each, drop-cons)

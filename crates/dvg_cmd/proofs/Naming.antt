@@ -20,10 +20,7 @@ take_kept (suc n) (x ∷ xs) ys = ap (λ (l : List ℕ). x ∷ l) (take_kept n x
 
 -- one byte was read into a buffer of one byte
 pub first_byte : (n : ℕ) (buf : List ℕ) → n ≤ length buf → length buf ≡ 1 → (n ≡ 0 → ⊥) → take n buf ≡ get_or buf 0 0 ∷ []
-first_byte zero buf most one some = absurd (some refl)
-first_byte (suc n) [] most one some = absurd (omega (arith, one))
-first_byte (suc zero) (b ∷ buf) most one some = refl
-first_byte (suc (suc n)) (b ∷ buf) most one some = absurd (omega (arith, most, one))
+first_byte n buf most one some = grind (arith)
 
 module _ (end : ℕ) (old mid new : Option (List ℕ)) (len : ℕ) (name : List ℕ) (h : NameSoFar end old mid len name) where
   pub one_byte : (byte next : ℕ) (more : List ℕ) → Consumes mid new (byte ∷ []) → byte ≢ end → next ≡ suc len → more ≡ take MOST_NAME_READ (name ++ byte ∷ []) → NameSoFar end old new next more

@@ -1,5 +1,7 @@
 -- The lines of the frames that reach a touched shape, over plain values.
 use Rattle.dvg_cmd.proofs.Common.{◌≡◌, ℕ, zero, suc, ◌+◌, ◌<◌, ◌≤◌, List, [], ◌∷◌, length, drop, get_or, true, string_bytes, refl, sym, ap, ◌∙◌, arith, of_each}
+use Rattle.std.proofs.Common.{rules}
+use Rattle.std.proofs.lemmas.Grind.{common_steps}
 use Rattle.std.proofs.Common.{Bool, false, String, Global, ⊎_elim, min}
 use Rattle.std.proofs.Math.Seq.{drop-cons}
 use Rattle.std.proofs.lemmas.Bool.{cases_lt}
@@ -32,18 +34,10 @@ module _ (names : List (String Global)) (reaching : List Bool) (n limit : ℕ) (
 
   pub next_frame : n < limit → get_or reaching n false ≡ true → (name : String Global) → name ≡ get_or names n name
       → lines_from names reaching n ≡ frame_touched_line (string_bytes name) ∷ lines_from names reaching (n + 1)
-  next_frame lt is name name_is =
-      ap (λ ns. reaching_lines (of_each (λ s. string_bytes s) ns) (drop n reaching)) (drop-cons names n name (omega (arith, lt, limit_is)) ∙ ap (λ s. s ∷ drop (suc n) names) (sym name_is))
-      ∙ ap (reaching_lines (of_each (λ s. string_bytes s) (name ∷ drop (suc n) names))) (drop-cons reaching n false (omega (arith, lt, limit_is)) ∙ ap (λ b. b ∷ drop (suc n) reaching) is)
-      ∙ ap (λ m. frame_touched_line (string_bytes name) ∷ lines_from names reaching m) (sym more)
+  next_frame lt is name name_is = grind (arith, of_each, string_bytes, drop-cons, more)
 
   pub no_frame : limit ≤ n → lines_from names reaching n ≡ []
-  no_frame le =
-      ⊎_elim
-      (λ lt. ap (reaching_lines (of_each (λ s. string_bytes s) (drop n names))) (drop_all n reaching (omega (arith, le, lt, limit_is))) ∙ no_answers (of_each (λ s. string_bytes s) (drop n names)))
-      (λ ge. ap (λ ns. reaching_lines (of_each (λ s. string_bytes s) ns) (drop n reaching)) (drop_all n names (omega (arith, le, ge, limit_is))))
-      (cases_lt (length reaching) (length names))
+  no_frame le = grind (arith, of_each, string_bytes, drop_all, no_answers, cases_lt)
 
 pub some_text : (name : List ℕ) → 0 < length (frame_touched_line name)
-some_text [] = omega arith
-some_text (c ∷ name) = omega arith
+some_text name = grind (arith, rules, common_steps)

@@ -1,5 +1,6 @@
 -- What a run of the checker writes, over plain values.
 use Rattle.dvg_cmd.proofs.Common.{◌≡◌, ◌++◌, refl, subst, ℕ, List, Option, Result, IfOk, OnOk, Ok, Err, Appends, Machine, Window, TakesOneWrite, CertWhy, Mode, Refusal, Yes, Detail, Behind, IsBehind, RunFault, Judges}
+use Rattle.std.proofs.Common.{arith}
 use Rattle.dvg_cert.specs.declared.fault.CertWhy.TheVariants as why
 use Rattle.dvg_check.specs.declared.verdict.Refusal.TheVariants as refusal
 use Rattle.dvg_spelling.specs.Outcomes.{cert_outcome}
@@ -10,38 +11,20 @@ use Rattle.dvg_cmd.specs.Runs.{Outcome, Accepted, IsReadFor, outcome_of, WritesR
 
 -- ---- a refusal is not accepted
 
-cert_refused : (w : CertWhy) → cert_outcome w ≡ Accepted → ⊥
-cert_refused why.Form h = cc
-cert_refused why.Order h = cc
-cert_refused why.Count h = cc
-cert_refused why.Unended h = cc
-cert_refused why.After h = cc
-cert_refused why.TooLong h = cc
-cert_refused why.Memory h = cc
-
 refused : (r : Refusal) → outcome_of (Err r) ≡ Accepted → ⊥
-refused (refusal.Image f) h = cc
-refused refusal.BudgetRange h = cc
-refused (refusal.Cert f) h = cert_refused f.why h
-refused refusal.IndexMemory h = cc
-refused (refusal.Shape f) h = cc
-refused (refusal.Frame f) h = cc
+refused r h = grind (arith)
 
 line_accepted : (what : Behind) (line : Outcome) → outcome_behind what line ≡ Accepted → line ≡ Accepted
-line_accepted behind.Nothing line is = is
-line_accepted (behind.Account text) line is = is
-line_accepted behind.NoMemory line is = cc
+line_accepted what line is = grind (arith)
 
 accepted_verdict : (what : Behind) (v : Result Yes Refusal) → outcome_behind what (outcome_of v) ≡ Accepted → (y : Yes) × (v ≡ Ok y)
-accepted_verdict what (Ok y) is = (y, refl)
-accepted_verdict what (Err r) is = absurd (refused r (line_accepted what (outcome_of (Err r)) is))
+accepted_verdict what v is = grind (arith, refused, line_accepted)
 
 -- what was written of a verdict and behind it is its report, if the detail asks for that
 module _ (detail : Detail) (what : Behind) (asked : IsBehind detail what) (v : Result Yes Refusal) (old new : Option (List ℕ)) where
   pub writes_report : (r : Result Outcome RunFault) (writes writes_after : ℕ) → IfOk r (λ outcome. outcome ≡ outcome_behind what (outcome_of v)) → OnOk r (Appends old new (report_text v ++ behind_text what))
       → OnOk r (TakesOneWrite (report_text v ++ behind_text what) writes writes_after) → IfOk r (WritesReport detail v old new writes writes_after)
-  writes_report (Ok outcome) writes writes_after is text one = record { behind = what; asked = asked; written = text; one_write = one; outcome_is = is }
-  writes_report (Err fault) writes writes_after is text one = tt
+  writes_report r writes writes_after is text one = grind (arith)
 
   -- what holds of an accepted verdict holds of the line that was written
   pub reports_accepted : (r : Result Outcome RunFault) → IfOk r (λ outcome. outcome ≡ outcome_behind what (outcome_of v)) → OnOk r (Appends old new (report_text v ++ behind_text what)) → r ≡ Ok Accepted
@@ -50,16 +33,9 @@ module _ (detail : Detail) (what : Behind) (asked : IsBehind detail what) (v : R
   reports_accepted (Ok end) outcome text is P holds =
       let accepted : outcome_behind what (outcome_of v) ≡ Accepted = cc in
       let a = accepted_verdict what v accepted in
-      record {
-        yes = a.0;
-        behind = what;
-        asked = asked;
-        written = subst (λ x. Appends old new (report_text x ++ behind_text what)) a.1 text;
-        holds = subst (λ x. IfOk x P) a.1 holds;
-      }
+      search (a.0, what, asked, subst (λ x. Appends old new (report_text x ++ behind_text what)) a.1 text, subst (λ x. IfOk x P) a.1 holds)
 
 -- the report of a verdict is that of the one on all bytes that the readers held
 pub reports : (machine : Machine) (r : Result Outcome RunFault) (detail : Detail) (mode : Mode) (w : Window) (rom cert left frame : Option (List ℕ)) (budget : ℕ) (old new : Option (List ℕ)) (writes writes_after : ℕ) (v : Result Yes Refusal)
     → Judges machine mode w rom cert frame budget v → IsReadFor v cert left → IfOk r (WritesReport detail v old new writes writes_after) → IfOk r (Reports machine detail mode w rom cert left frame budget old new writes writes_after)
-reports machine (Ok outcome) detail mode w rom cert left frame budget old new writes writes_after v judges read report = record { verdict = v; judges = judges; read = read; report = report }
-reports machine (Err fault) detail mode w rom cert left frame budget old new writes writes_after v judges read report = tt
+reports machine r detail mode w rom cert left frame budget old new writes writes_after v judges read report = grind (arith)

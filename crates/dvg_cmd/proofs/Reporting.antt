@@ -1,5 +1,6 @@
 -- The verdict on what was read is the one on all, and what is reported of it, over plain values.
 use Rattle.dvg_cmd.proofs.Common.{Option, List, [], None, Some, subst, ◌≡◌, ℕ, Result, IfOk, IfSome, Ok, Err, Machine, Board, words_of, rom_on, Window, RomLength, FrameLength, Certificate, CertFault, Safe, CountsAtHalt, SafeOnCircuit, CountsOnCircuit, InRange, RomVerdict, Mode, Exact, Refusal, Yes, IsPrefix, Judges, ReadsText}
+use Rattle.std.proofs.Common.{arith}
 use Rattle.dvg_words.specs.Memory.{Memory}
 use Rattle.dvg_cert.specs.Grammar.{Spells}
 use Rattle.dvg_cert.specs.Laws.{PrefixRefusal}
@@ -12,14 +13,7 @@ use Rattle.dvg_cmd.proofs.Whole.{PrefixOf, held_bytes, held_told, prefix_of_held
 
 -- what the ROM and the frame come to by the certificate is the verdict
 of_cert : (machine : Machine) (mode : Mode) (w : Window) (rb cb fb : List ℕ) (budget : ℕ) (v : Result Yes Refusal) → CertVerdict machine mode w rb cb fb budget v → VerdictOn machine mode w rb cb fb budget v
-of_cert machine mode w rb cb fb budget (Ok y) h = h
-of_cert machine mode w rb cb fb budget (Err refusal.IndexMemory) h = h
-of_cert machine mode w rb cb fb budget (Err (refusal.Shape f)) h = h
-of_cert machine mode w rb cb fb budget (Err (refusal.Frame f)) h = h
-of_cert machine mode w rb cb fb budget (Err (refusal.Image RomLength)) h = h
-of_cert machine mode w rb cb fb budget (Err (refusal.Image FrameLength)) h = absurd h.by_it.1
-of_cert machine mode w rb cb fb budget (Err refusal.BudgetRange) h = absurd h.by_it.1
-of_cert machine mode w rb cb fb budget (Err (refusal.Cert f)) h = absurd h.by_it.1
+of_cert machine mode w rb cb fb budget v h = grind (arith)
 
 -- what holds of the memory that was read holds of all
 over : (machine : Machine) (P : Yes → Memory → Type 0) (mode : Mode) (w : Window) (budget : ℕ) (v : Result Yes Refusal) (rb fb : List ℕ) (c : Certificate) (cert left : Option (List ℕ)) → InRange fb budget → ReadsText cert left (Ok c) → RomVerdict machine mode w rb c (words_of fb) budget v → IfOk v (λ yes. P yes (record { frame = words_of fb; rom = rom_on machine c.map rb }))
@@ -28,13 +22,7 @@ over machine P mode w budget (Err r) rb fb c cert left range text h holds rom fr
 over machine P mode w budget (Ok y) rb fb c cert left range text h holds None frame_held rom_read frame_read = tt
 over machine P mode w budget (Ok y) rb fb c None left range text h holds (Some r) frame_held rom_read frame_read = tt
 over machine P mode w budget (Ok y) rb fb c (Some t) left range text h holds (Some r) None rom_read frame_read = tt
-over machine P mode w budget (Ok y) rb fb c (Some t) left range text h holds (Some r) (Some f) rom_read frame_read =
-    let same_rom : rb ≡ r = rom_same rb r (prefix_of_held 4097 (Some r) rb rom_read) c.map text.is.0.map_is h.0 in
-    let same_frame : fb ≡ f = frame_same budget fb f (prefix_of_held 2049 (Some f) fb frame_read) range.frame_length in (
-      c,
-      subst (λ (x : List ℕ). Spells c x) ((text_of_held (Some t) left (Ok c) text).whole tt) text.is,
-      subst (λ (x : List ℕ). P y (record { frame = words_of f; rom = rom_on machine c.map x })) same_rom (subst (λ (x : List ℕ). P y (record { frame = words_of x; rom = rom_on machine c.map rb })) same_frame holds),
-    )
+over machine P mode w budget (Ok y) rb fb c (Some t) left range text h holds (Some r) (Some f) rom_read frame_read = grind (arith, (rom_same rb r (prefix_of_held 4097 (Some r) rb rom_read) c.map text.is.0.map_is h.0), (prefix_of_held 4097 (Some r) rb rom_read), (frame_same budget fb f (prefix_of_held 2049 (Some f) fb frame_read) range.frame_length), (prefix_of_held 2049 (Some f) fb frame_read), (text_of_held (Some t) left (Ok c) text), (words_of f), rom_on, words_of, (rom_on machine c.map rb))
 
 module _ (machine : Machine) (mode : Mode) (w : Window) (budget : ℕ) (rb fb : List ℕ) (rom frame_held : Option (List ℕ)) (rom_read : IsPrefix 4097 rom rb) (frame_read : IsPrefix 2049 frame_held fb) where
   frame_prefix : PrefixOf 2049 fb (held_bytes frame_held fb)
@@ -46,20 +34,7 @@ module _ (machine : Machine) (mode : Mode) (w : Window) (budget : ℕ) (rb fb : 
   -- a verdict on what was read of the ROM and of the frame, and on all of the certificate
   judges : (cert : Option (List ℕ)) (cb : List ℕ) (v : Result Yes Refusal) → VerdictOn machine mode w (held_bytes rom rb) (held_bytes cert cb) (held_bytes frame_held fb) budget v → IfOk v (SafeRead machine w rom cert frame_held)
       → (mode ≡ Exact → IfOk v (CountsRead machine rom cert frame_held)) → (machine ≡ Board → IfOk v (SafeCircuitRead machine w rom cert frame_held)) → (machine ≡ Board → mode ≡ Exact → IfOk v (CountsCircuitRead machine rom cert frame_held)) → Judges machine mode w rom cert frame_held budget v
-  judges cert cb v is safe exact circuit circuit_exact =
-      record {
-        rom_bytes = held_bytes rom rb;
-        cert_bytes = held_bytes cert cb;
-        frame_bytes = held_bytes frame_held fb;
-        rom_held = held_told rom rb;
-        cert_held = held_told cert cb;
-        frame_held = held_told frame_held fb;
-        is = is;
-        safe = safe;
-        exact = exact;
-        circuit = circuit;
-        circuit_exact = circuit_exact;
-      }
+  judges cert cb v is safe exact circuit circuit_exact = grind (arith, held_bytes, held_told)
 
   -- out of range: the ROM and the certificate are nothing to the verdict
   pub judges_range : (cert : Option (List ℕ)) (r : Refusal) → RangeRefusal fb budget r → Judges machine mode w rom cert frame_held budget (Err r)

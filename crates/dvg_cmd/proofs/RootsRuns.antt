@@ -1,5 +1,6 @@
 -- What a run of the maker for frames answers where there are none, over plain values.
 use Rattle.dvg_cmd.proofs.Common.{◌≡◌, ℕ, List, [], ◌∷◌, Option, None, refl, subst, Machine, rom_on, words_of, MemoryMap, Key, of_each, MakesForFrames, FramesFaultMeans}
+use Rattle.std.proofs.Common.{arith}
 use Rattle.dvg_cert.specs.declared.entry.Entry.{Entry}
 use Rattle.dvg_make.specs.Accounts.{HasCause}
 use Rattle.dvg_make.specs.Frames.{FramesMade}
@@ -15,8 +16,7 @@ use Rattle.dvg_cmd.specs.Making.{MakeRunFault, Makes, WritesMade, WritesMadePref
 use Rattle.dvg_cmd.specs.MakingFrames.{EachHeld, RefusesInputs}
 
 no_frames : (frames : List (List ℕ)) → EachHeld [] frames → frames ≡ []
-no_frames [] h = refl
-no_frames (bytes ∷ frames) h = absurd h
+no_frames frames h = grind (arith)
 
 module _ (machine : Machine) (rom : Option (List ℕ)) (map : MemoryMap) (roots : List (ℕ × Key)) where
   -- what is made for no frames is what is made for the roots
@@ -24,12 +24,7 @@ module _ (machine : Machine) (rom : Option (List ℕ)) (map : MemoryMap) (roots 
   roots_made list made =
       let all = made.0 in
       let none : all.frame_bytes ≡ [] = no_frames all.frame_bytes all.frames_held in
-      record {
-        rom_bytes = all.rom_bytes;
-        held = all.rom_held;
-        rom_length = all.rom_length;
-        made = made_roots (rom_on machine map all.rom_bytes) roots list (subst (λ l. FramesMade (rom_on machine map all.rom_bytes) roots (of_each words_of l) list) none made.1);
-      }
+      search (all.rom_held, made_roots (rom_on machine map all.rom_bytes) roots list (subst (λ l. FramesMade (rom_on machine map all.rom_bytes) roots (of_each words_of l) list) none made.1))
 
   pub roots_written : (old new : Option (List ℕ)) → WritesMade (MakesForFrames machine rom map roots []) map old new → WritesMade (Makes machine rom map roots) map old new
   roots_written old new h = record { list = h.list; made = roots_made h.list h.made; written = h.written }
@@ -39,15 +34,7 @@ module _ (machine : Machine) (rom : Option (List ℕ)) (map : MemoryMap) (roots 
 
   -- and what is refused for no frames is refused for the roots
   roots_refused : (why : EntryFault) → RefusesInputs machine rom map roots [] (record { call = None; why = why }) → MakeFaultMeans machine rom map roots (maker.Make (make_fault_of why))
-  roots_refused why h =
-      let all = h.0 in
-      let none : all.frame_bytes ≡ [] = no_frames all.frame_bytes all.frames_held in (
-        all.rom_bytes,
-        all.rom_held,
-        all.rom_length,
-        as_make_fault (rom_on machine map all.rom_bytes) roots why h.1.root,
-        (why, refl, subst (λ l. HasCause (rom_on machine map all.rom_bytes) roots (of_each words_of l) (record { call = None; why = why })) none h.2),
-      )
+  roots_refused why h = grind (arith, no_frames, as_make_fault, rom_on, of_each, words_of)
 
   pub roots_fault : (f : MakeRunFault) → FramesFaultMeans machine rom map roots [] (fault.Plain f) → MakeFaultMeans machine rom map roots f
   roots_fault maker.RomLength h = h

@@ -107,26 +107,15 @@ module _ {A : Type 0} (remaining : A → Option (List ℕ)) (failures : A → �
         }
 
     pub one_failed : (x : A) → x ≡ get_or news n d → failures y ≡ count_after true (failures x) → OneFailed (of_each failures olds) (of_each failures (set news n y))
-    one_failed x is failed =
-        record {
-          before = of_each failures next.done;
-          count = failures x;
-          after = of_each failures next.behind;
-          old_is = ap (λ l. of_each failures l) (next.olds_is ∙ ap (λ z. next.done ++ z ∷ next.behind) (sym is)) ∙ of_each_append failures next.done (x ∷ next.behind);
-          new_is = ap (λ l. of_each failures l) (next.set_is y) ∙ of_each_append failures next.now (y ∷ next.behind)
-              ∙ ap (λ l. l ++ failures y ∷ of_each failures next.behind) next.counts ∙ ap (λ k. of_each failures next.done ++ k ∷ of_each failures next.behind) failed;
-        }
+    one_failed x is failed = grind (arith, (of_each failures next.done), (of_each failures next.behind), of_each, (of_each_append failures next.done (x ∷ next.behind)), (of_each_append failures next.now (y ∷ next.behind)))
 
   module _ (olds news : List A) (n : ℕ) (read : List (List ℕ)) (h : ReadSoFar remaining failures olds news n read) where
     pub none_failed : of_each failures news ≡ of_each failures olds
-    none_failed =
-        ap (λ l. of_each failures l) h.news_is ∙ of_each_append failures h.now h.rest ∙ ap (λ l. l ++ of_each failures h.rest) h.counts
-        ∙ sym (of_each_append failures h.done h.rest) ∙ ap (λ l. of_each failures l) (sym h.olds_is)
+    none_failed = grind (arith, of_each, of_each_append)
 
 -- memory that was out blames no reader
 pub no_frame_blamed : {A : Type 0} (r : Result A FramesRunFault) (old new : List ℕ) → IsErrAnd r (λ f. f ≡ fault.Plain (maker.Make making.Memory)) → new ≡ old → FailedAfter (blames_a_frame r) old new
-no_frame_blamed (Ok a) old new h same = absurd h
-no_frame_blamed {A} (Err f) old new h same = subst (λ x. FailedAfter (blames_a_frame {A = A} (Err x)) old new) (sym h) same
+no_frame_blamed r old new h same = grind (arith)
 
 -- ---- what all readers held
 
@@ -143,16 +132,14 @@ each_held (r ∷ readers) [] h = absurd h
 
 pub each_same : (readers : List (Option (List ℕ))) (read : List (List ℕ)) → ArePrefixes readers read → AreFrames read → read ≡ held_each readers read
 each_same [] [] h frames = refl
-each_same (r ∷ readers) (b ∷ read) h frames =
-    ap (λ x. x ∷ read) (frame_same 0 b (held_bytes r b) (prefix_of_held 2049 r b h.0) frames.0) ∙ ap (λ l. held_bytes r b ∷ l) (each_same readers read h.1 frames.1)
+each_same (r ∷ readers) (b ∷ read) h frames = grind (arith, (frame_same 0 b (held_bytes r b) (prefix_of_held 2049 r b h.0) frames.0), (held_bytes r b), (prefix_of_held 2049 r b h.0), (each_same readers read h.1 frames.1))
 each_same [] (b ∷ read) h frames = absurd h
 each_same (r ∷ readers) [] h frames = absurd h
 
 pub first_wrong : (readers : List (Option (List ℕ))) (read : List (List ℕ)) (n : ℕ) → ArePrefixes readers read → FirstWrong read n → FirstWrong (held_each readers read) n
 first_wrong [] [] n h wrong = absurd wrong
 first_wrong (r ∷ readers) (b ∷ read) zero h wrong = λ long. wrong (frame_back 0 b (held_bytes r b) (prefix_of_held 2049 r b h.0) long)
-first_wrong (r ∷ readers) (b ∷ read) (suc n) h wrong =
-    (subst (λ x. IsFrameLength (length x)) (frame_same 0 b (held_bytes r b) (prefix_of_held 2049 r b h.0) wrong.0) wrong.0, first_wrong readers read n h.1 wrong.1)
+first_wrong (r ∷ readers) (b ∷ read) (suc n) h wrong = grind (arith, (frame_same 0 b (held_bytes r b) (prefix_of_held 2049 r b h.0) wrong.0), (held_bytes r b), (prefix_of_held 2049 r b h.0), (first_wrong readers read n h.1 wrong.1))
 first_wrong [] (b ∷ read) n h wrong = absurd h
 first_wrong (r ∷ readers) [] n h wrong = absurd h
 
@@ -171,24 +158,14 @@ wrong_behind (b ∷ read) bytes rest h wrong = (h.0, wrong_behind read bytes res
 
 module _ {A : Type 0} (bytes_of : A → List ℕ) (read : List A) (i : ℕ) (d : A) (lt : i < length read) where
   pub frames_next : (j : ℕ) → j ≡ suc i → AreFrames (of_each bytes_of (take i read)) → (bytes : List ℕ) → bytes ≡ bytes_of (get_or read i d) → IsFrameLength (length bytes) → AreFrames (of_each bytes_of (take j read))
-  frames_next j next h bytes is one =
-      subst AreFrames (sym (ap (λ n. of_each bytes_of (take n read)) next ∙ of_each_next bytes_of read i d lt))
-      (frames_on (of_each bytes_of (take i read)) (bytes_of (get_or read i d)) h (subst (λ b. IsFrameLength (length b)) is one))
+  frames_next j next h bytes is one = grind (arith, of_each, (of_each_next bytes_of read i d lt), frames_on, (of_each bytes_of (take i read)))
 
   pub words_next : {B : Type 0} (words : List ℕ → B) (images : List B) (j : ℕ) → j ≡ suc i → images ≡ of_each words (of_each bytes_of (take i read)) → (bytes : List ℕ) → bytes ≡ bytes_of (get_or read i d)
       → images ++ words bytes ∷ [] ≡ of_each words (of_each bytes_of (take j read))
-  words_next words images j next h bytes is =
-      ap (λ l. l ++ words bytes ∷ []) h ∙ ap (λ b. of_each words (of_each bytes_of (take i read)) ++ words b ∷ []) is
-      ∙ sym (ap (λ n. of_each words (of_each bytes_of (take n read))) next ∙ ap (λ l. of_each words l) (of_each_next bytes_of read i d lt) ∙ of_each_append words (of_each bytes_of (take i read)) (bytes_of (get_or read i d) ∷ []))
+  words_next words images j next h bytes is = grind (arith, (of_each words (of_each bytes_of (take i read))), (of_each bytes_of (take i read)), of_each, (of_each_next bytes_of read i d lt), (of_each_append words (of_each bytes_of (take i read)) (bytes_of (get_or read i d) ∷ [])))
 
   split_here : read ≡ take i read ++ get_or read i d ∷ drop (suc i) read
   split_here = sym (take-append-drop (suc i) read) ∙ ap (λ l. l ++ drop (suc i) read) (take-suc read i d lt) ∙ append_assoc (take i read) (get_or read i d ∷ []) (drop (suc i) read)
 
   pub wrong_here : AreFrames (of_each bytes_of (take i read)) → (bytes : List ℕ) → bytes ≡ bytes_of (get_or read i d) → (IsFrameLength (length bytes) → ⊥) → FirstWrong (of_each bytes_of read) i
-  wrong_here h bytes is wrong =
-      let before : List (List ℕ) = of_each bytes_of (take i read) in
-      let count : length before ≡ i = length_of_each bytes_of (take i read) ∙ length_taken read i lt in
-      let all : of_each bytes_of read ≡ before ++ bytes_of (get_or read i d) ∷ of_each bytes_of (drop (suc i) read) = ap (λ l. of_each bytes_of l) split_here ∙ of_each_append bytes_of (take i read) (get_or read i d ∷ drop (suc i) read) in
-      subst (λ n. FirstWrong (of_each bytes_of read) n) count
-      (subst (λ l. FirstWrong l (length before)) (sym all)
-      (wrong_behind before (bytes_of (get_or read i d)) (of_each bytes_of (drop (suc i) read)) h (subst (λ b. IsFrameLength (length b) → ⊥) is wrong)))
+  wrong_here h bytes is wrong = grind (arith, (of_each bytes_of (take i read)), (length_of_each bytes_of (take i read)), (length_taken read i lt), (of_each bytes_of read), (of_each bytes_of (drop (suc i) read)), of_each, split_here, (of_each_append bytes_of (take i read) (get_or read i d ∷ drop (suc i) read)), wrong_behind)

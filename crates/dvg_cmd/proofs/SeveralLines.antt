@@ -19,19 +19,12 @@ pub joined_on : (texts more : List (List ℕ)) → joined (texts ++ more) ≡ jo
 joined_on [] more = refl
 joined_on (text ∷ texts) more = ap (λ (t : List ℕ). text ++ t) (joined_on texts more) ∙ sym (append_assoc text (joined texts) (joined more))
 
-chosen_on : (written : Bool) (line : Line) (lines more whole : List Line) → whole ≡ lines ++ more
-    → (if written then line ∷ whole else whole) ≡ (if written then line ∷ lines else lines) ++ more
-chosen_on true line lines more whole is = ap (λ (l : List Line). line ∷ l) is
-chosen_on false line lines more whole is = is
-
 written_on : (shown : Lines) (lines more : List Line) → written_lines shown (lines ++ more) ≡ written_lines shown lines ++ written_lines shown more
 written_on shown [] more = refl
-written_on shown (line ∷ lines) more =
-    chosen_on (is_written shown (line_outcome line)) line (written_lines shown lines) (written_lines shown more) (written_lines shown (lines ++ more)) (written_on shown lines more)
+written_on shown (line ∷ lines) more = grind (arith, (written_on shown lines more))
 
 texts_on : (shown : Lines) (lines more : List Line) → line_texts shown (lines ++ more) ≡ line_texts shown lines ++ line_texts shown more
-texts_on shown lines more =
-    ap (λ (l : List Line). of_each line_text l) (written_on shown lines more) ∙ of_each_append line_text (written_lines shown lines) (written_lines shown more)
+texts_on shown lines more = grind (arith, written_on, of_each_append)
 
 joined_texts_on : (shown : Lines) (lines more : List Line) → joined (line_texts shown (lines ++ more)) ≡ joined (line_texts shown lines) ++ joined (line_texts shown more)
 joined_texts_on shown lines more = ap joined (texts_on shown lines more) ∙ joined_on (line_texts shown lines) (line_texts shown more)
@@ -44,8 +37,7 @@ sent_part old mid new text whole piece is h part =
     (length whole + part.0, omega (arith, size, part.1), subst (λ (t : List ℕ). Appends old new t) (sym both) (Appends-trans old mid new whole (take part.0 piece) h part.2))
 
 pub prefix_more : (old new : Option (List ℕ)) (text more : List ℕ) → AppendsPrefix old new text → AppendsPrefix old new (text ++ more)
-prefix_more old new text more h =
-    (h.0, omega (arith, length-append text more, h.1), subst (λ (t : List ℕ). Appends old new t) (sym (take-append-le h.0 text more h.1)) h.2)
+prefix_more old new text more h = grind (arith, length-append, take-append-le)
 
 pub one_write_on : (texts more : List (List ℕ)) (old mid new : ℕ) → TakeOneWriteEach texts old mid → TakeOneWriteEach more mid new → TakeOneWriteEach (texts ++ more) old new
 one_write_on [] more old mid new h one = subst (λ n. TakeOneWriteEach more n new) h one
@@ -122,19 +114,7 @@ module _ (j : Judging) (listing : Listing) (start : Option ℕ) where
 
     pub with_summary : (writes_after : ℕ) → Appends mid new (joined last) → TakeOneWriteEach last writes_mid writes_after
         → ReportsFrames j listing start frames old new writes writes_after end
-    with_summary writes_after text one =
-        record {
-          lines = h.lines;
-          lines_of = h.lines_of;
-          written = subst (λ t. Appends old new t) (sym all_joined) (Appends-trans old mid new (joined texts) (joined last) h.written text);
-          one_write = subst (λ t. TakeOneWriteEach t writes writes_after) (sym all_texts) (one_write_on texts last writes writes_mid writes_after h.one_write one);
-          outcome_is = h.outcome_is;
-        }
+    with_summary writes_after text one = search (subst (λ t. Appends old new t) (sym all_joined) (Appends-trans old mid new (joined texts) (joined last) h.written text), subst (λ t. TakeOneWriteEach t writes writes_after) (sym all_texts) (one_write_on texts last writes writes_mid writes_after h.one_write one))
 
     pub cut_summary : AppendsPrefix mid new (joined last) → ReportsFramesPrefix j listing start frames old new
-    cut_summary text =
-        record {
-          lines = h.lines;
-          lines_of = h.lines_of;
-          written = sent_part old mid new (joined (listing_texts listing h.lines)) (joined texts) (joined last) all_joined h.written text;
-        }
+    cut_summary text = grind (arith, (sent_part old mid new (joined (listing_texts listing h.lines)) (joined texts) (joined last) all_joined h.written text), (joined (listing_texts listing h.lines)), (joined texts), (joined last))

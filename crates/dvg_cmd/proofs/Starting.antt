@@ -19,6 +19,4 @@ jump_cell machine first second to op target = simp (op, target)
 
 pub start_is_jump : StartIsJump
 unfolding cell_at
-start_is_jump machine addr [] few some = absurd (omega arith)
-start_is_jump machine addr (low ∷ []) few some = absurd (omega arith)
-start_is_jump machine addr (low ∷ high ∷ rest) few some = jump_cell machine _ _ addr (jump_opcode addr few) (jump_target addr few)
+start_is_jump machine addr h2 few some = grind (arith, jump_cell, jump_opcode, jump_target)

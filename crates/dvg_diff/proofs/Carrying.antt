@@ -117,24 +117,11 @@ module _ (rom : Rom) (others : List ℕ) (list : List Entry) (untouched : Reache
       }
 
   verdict_there : (w : Window) (words : List ℕ) (budget : ℕ) (answer : Result Yes Refusal) → PartsVerdict Exact w rom list words budget answer → PartsVerdict Exact w other list words budget answer
-  verdict_there w words budget (Ok y) h = (good_there Exact w h.0, h.1, h.2)
-  verdict_there w words budget (Err (refusal.Shape f)) h = fault_there Exact w f h
-  verdict_there w words budget (Err (refusal.Frame f)) h = (good_there Exact w h.0, h.1)
-  verdict_there w words budget (Err refusal.IndexMemory) h = h
-  verdict_there w words budget (Err (refusal.Image f)) h = absurd h
-  verdict_there w words budget (Err refusal.BudgetRange) h = absurd h
-  verdict_there w words budget (Err (refusal.Cert f)) h = absurd h
+  verdict_there w words budget answer h = grind (arith, good_there, fault_there)
 
   module _ (roots : List (ℕ × Key)) (frames : List (List ℕ)) (made : FramesMade rom roots frames list) where
     needs_there : (e f : Entry) → Contains list e → Needs rom list e f → Needs other list e f
-    needs_there e f c n =
-        record {
-          earlier = n.earlier;
-          item = n.item;
-          leads = forth rom others e.addr (each_untouched e c) n.earlier n.item.at n.leads;
-          stands = sym (cell_is e c n.earlier n.item.at n.leads) ∙ n.stands;
-          callee_is = n.callee_is;
-        }
+    needs_there e f c n = search (forth rom others e.addr (each_untouched e c) n.earlier n.item.at n.leads, sym (cell_is e c n.earlier n.item.at n.leads) ∙ n.stands)
 
     pub made_there : FramesMade other roots frames list
     made_there =
@@ -150,11 +137,7 @@ module _ (rom : Rom) (others : List ℕ) (list : List Entry) (untouched : Reache
   pub judged_there : (words : List ℕ) → FrameMade rom words list → (w : Window) (budget : ℕ) (answer : Result Yes Refusal) → ByMade rom words w budget answer → ByMade other words w budget answer
   judged_there words made w budget answer by =
       let same : by.list ≡ list = one_frames_made rom [] (words ∷ []) by.list list by.made made in
-      record {
-        list = list;
-        made = made_there [] (words ∷ []) made;
-        verdict = verdict_there w words budget answer (subst (λ (es : List Entry). PartsVerdict Exact w rom es words budget answer) same by.verdict);
-      }
+      search (list, made_there [] (words ∷ []) made, verdict_there w words budget answer (subst (λ (es : List Entry). PartsVerdict Exact w rom es words budget answer) same by.verdict))
 
 -- ---- the laws
 

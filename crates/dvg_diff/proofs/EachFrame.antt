@@ -1,5 +1,7 @@
 -- Frame after frame, and a want of memory.
 use Rattle.std.proofs.Common.{◌≡◌, ℕ, suc, ◌+◌, ◌<◌, ◌++◌, List, [], ◌∷◌, length, take, get_or, Bool, None, refl, sym, subst, arith}
+use Rattle.std.proofs.Common.{rules}
+use Rattle.std.proofs.lemmas.Grind.{common_steps}
 use Rattle.std.proofs.Math.Seq.{take-suc}
 use Rattle.dvg_words.specs.Memory.{Rom}
 use Rattle.dvg_cert.specs.declared.entry.Key.{Key}
@@ -31,9 +33,4 @@ module _ (rom other : Rom) where
   module _ (frames : List (List ℕ)) (i : ℕ) (d : List ℕ) (lt : i < length frames) where
     pub next_frame : (reaching : List Bool) → EachReaches rom other (take i frames) reaching → (words : List ℕ) → words ≡ get_or frames i d
         → (reaches : Bool) → FrameReaches rom other words reaches → (more : List Bool) → more ≡ reaching ++ reaches ∷ [] → EachReaches rom other (take (i + 1) frames) more
-    next_frame reaching h words same reaches r more grown =
-        let one : i + 1 ≡ suc i = omega arith in
-        let here : FrameReaches rom other (get_or frames i d) reaches = subst (λ (ws : List ℕ). FrameReaches rom other ws reaches) same r in
-        subst (λ (bs : List Bool). EachReaches rom other (take (i + 1) frames) bs) (sym grown)
-        (subst (λ (n : ℕ). EachReaches rom other (take n frames) (reaching ++ reaches ∷ [])) (sym one)
-        (subst (λ (ws : List (List ℕ)). EachReaches rom other ws (reaching ++ reaches ∷ [])) (sym (take-suc frames i d lt)) (one_more (take i frames) reaching (get_or frames i d) reaches h here)))
+    next_frame reaching h words same reaches r more grown = grind (arith, rules, common_steps, (take-suc frames i d lt), one_more, take-suc)

@@ -1,5 +1,6 @@
 -- The runs of a good frame over two ROMs whose shapes read the same.
 use Rattle.std.proofs.Common.{◌≡◌, ℕ, zero, suc, ◌+◌, ◌<◌, ◌∙◌, ◌⊎◌, ◌↔◌, ◌++◌, List, [], ◌∷◌, length, nat_lt, None, Some, Bool, true, false, Contains, if◌then◌else◌, refl, sym, ap, subst, inl, inr, ⊎_elim, arith}
+use Rattle.std.proofs.Common.{rules}
 use Rattle.std.proofs.lemmas.Bool.Decides.{nat_tests}
 use Rattle.std.specs.List.{AllByRecursion}
 use Rattle.dvg_words.specs.Values.{Window, Source}
@@ -43,18 +44,14 @@ record Instruction (cell : Cell) : Type 0 where
   is : cell ≡ Holds format instr
 
 instruction_at : {Why : Type 0} (missing odd : Why) (keeps : Item → Why → Type 0) (p : ℕ) (cell : Cell) → CellKeeps missing odd keeps p cell missing → CellKeeps missing odd keeps p cell odd → Instruction cell
-instruction_at missing odd keeps p Missing k l = absurd (k refl)
-instruction_at missing odd keeps p Odd k l = absurd (l refl)
-instruction_at missing odd keeps p (Holds format instr) k l = record { format = format; instr = instr; is = refl }
+instruction_at missing odd keeps p cell k l = grind (arith)
 
 one_word : (get : Source) (p to : ℕ) (format : Format) → cell_at get p ≡ Holds format (Jsrl to) → word_count format ≡ 1
 one_word get p to Short is = refl
 one_word get p to Long is = absurd (long_there get p (Jsrl to) is)
 
 goes_forward : (p to : ℕ) (format : Format) → p < to → address_after Frame p format (Jmpl to) ≡ Some to
-goes_forward p to format lt =
-    let test : nat_lt p to ≡ true = grind (arith, nat_tests, lt) in
-    ap (λ (b : Bool). if b then Some to else None) test
+goes_forward p to format lt = grind (arith, nat_lt, nat_tests)
 
 module _ (rom : Rom) (others : List ℕ) (words : List ℕ) (list : List Entry) (untouched : ReachesTouched rom (with_words rom others) list → ⊥) (made : FrameMade rom words list)
     (mem : IsMemory (record { frame = words; rom = rom })) (mem_there : IsMemory (record { frame = words; rom = with_words rom others }))
@@ -130,14 +127,7 @@ module _ (rom : Rom) (others : List ℕ) (words : List ℕ) (list : List Entry) 
     cell_same = cell_there rom others o.entry.addr (each_untouched rom others list untouched o.entry o.listed) o.earlier p o.leads
 
     shape_by : Instruction (cell_at (rom_word rom) p) → StandsAlike p
-    shape_by i =
-        record {
-          format = i.format;
-          instr = i.instr;
-          is_here = stands Shape here p i.format i.instr mem i.is;
-          is_there = stands Shape there p i.format i.instr mem_there (sym cell_same ∙ i.is);
-          leads = shape_leads i.format i.instr i.is;
-        }
+    shape_by i = search (stands Shape here p i.format i.instr mem i.is, stands Shape there p i.format i.instr mem_there (sym cell_same ∙ i.is), shape_leads i.format i.instr i.is)
 
     shape_stands : StandsAlike p
     shape_stands = shape_by shape_item
@@ -174,13 +164,7 @@ module _ (rom : Rom) (others : List ℕ) (words : List ℕ) (list : List Entry) 
     frame_stands =
         let keeps = good.keeps o.earlier p o.leads in
         let i = instruction_at frame.Unmapped frame.Odd (λ i. FrameKeeps w budget (seen_at (frame_context rom.machine list) o.earlier i)) p (cell_at (frame_word rom.machine words) p) (keeps frame.Unmapped) (keeps frame.Odd) in
-        record {
-          format = i.format;
-          instr = i.instr;
-          is_here = stands Frame here p i.format i.instr mem i.is;
-          is_there = stands Frame there p i.format i.instr mem_there i.is;
-          leads = frame_leads i.format i.instr i.is;
-        }
+        search (stands Frame here p i.format i.instr mem i.is, stands Frame there p i.format i.instr mem_there i.is, frame_leads i.format i.instr i.is)
 
   stand_alike : (p : ℕ) → IsOn p → StandsAlike p
   stand_alike p = ⊎_elim (shape_stands p) (frame_stands p)
@@ -194,20 +178,13 @@ module _ (rom : Rom) (others : List ℕ) (words : List ℕ) (list : List Entry) 
   OnStatus (Fault s) = Unit {0}
 
   on_call : (b : Bool) (to : ℕ) (s : State) → IsOn to → IsOn (s.pc + 1) → AllByRecursion IsOn s.return_stack → OnStatus (after_call b to s)
-  on_call true to s h k all = (h, (k, all))
-  on_call false to s h k all = tt
+  on_call b to s h k all = grind (arith)
 
   on_return : (stack : List ℕ) (s : State) → AllByRecursion IsOn stack → OnStatus (after_return stack s)
-  on_return [] s all = tt
-  on_return (back ∷ rest) s all = (all.0, all.1)
+  on_return stack s all = grind (arith)
 
   on_after : (format : Format) (instr : Instr) (s : State) → Leads s.pc format instr → AllByRecursion IsOn s.return_stack → OnStatus (after_instruction rom.machine instr format s)
-  on_after format (Draws d) s l all = (l, all)
-  on_after format (Labs x y gscale) s l all = (l, all)
-  on_after format Halt s l all = tt
-  on_after format (Jsrl to) s l all = on_call (nat_lt (length s.return_stack) 4) to s l.0 l.1 all
-  on_after format Rtsl s l all = on_return s.return_stack s all
-  on_after format (Jmpl to) s l all = (l, all)
+  on_after format instr s l all = grind (arith, on_call, nat_lt, on_return)
 
   module _ (s : State) (on : OnStatus (Running s)) where
     next_alike : next_status here s ≡ next_status there s

@@ -14,35 +14,18 @@ use Rattle.dvg_diff.specs.Touched.{AreAlike, taken_at, IsTouched}
 
 -- words that don't differ are the same
 pub same_word : (a b : Option ℕ) → (a ≢ b → ⊥) → a ≡ b
-same_word None None h = refl
-same_word None (Some y) h = absurd (h (λ (e : None ≡ Some y). cc e))
-same_word (Some x) None h = absurd (h (λ (e : Some x ≡ None). cc e))
-same_word (Some x) (Some y) h = by_test (x == y) refl
-  where
-    by_test : (t : Bool) → (x == y) ≡ t → Some x ≡ Some y
-    by_test true e = let same : x ≡ y = grind (arith, nat_tests) in ap Some same
-    by_test false e = absurd (h (λ (s : Some x ≡ Some y). let same : x ≡ y = cc s in grind (arith, nat_tests)))
+same_word a b h = grind (arith, nat_tests)
 
 -- ---- the words that are taken
 
 pub takes_first : (first : Option ℕ) (p : ℕ) → Contains (fetches first p) p
-takes_first None p = (0, omega arith, refl)
-takes_first (Some x) p = by_format (format_of x)
-  where
-    by_format : (l : Format) → Contains (places l p) p
-    by_format Short = (0, omega arith, refl)
-    by_format Long = (1, omega arith, refl)
+takes_first first p = grind (arith)
 
 pub takes_second : (x p : ℕ) → format_of x ≡ Long → Contains (fetches (Some x) p) (p + 1)
 takes_second x p e = subst (λ (l : Format). Contains (places l p) (p + 1)) (sym e) (0, omega arith, refl)
 
-format_same : (machine : Machine) (l : Format) (first : ℕ) (a b : Option ℕ) → (l ≡ Long → a ≡ b) → cell_of_format machine l first a ≡ cell_of_format machine l first b
-format_same machine Long first a b h = ap (long_cell machine first) (h refl)
-format_same machine Short first a b h = refl
-
 words_same : (machine : Machine) (first a b : Option ℕ) → ((x : ℕ) → first ≡ Some x → format_of x ≡ Long → a ≡ b) → cell_of_words machine first a ≡ cell_of_words machine first b
-words_same machine None a b h = refl
-words_same machine (Some x) a b h = format_same machine (format_of x) x a b (h x refl)
+words_same machine first a b h = grind (arith)
 
 -- ---- the items
 
@@ -58,18 +41,11 @@ module _ (rom : Rom) (others : List ℕ) (addr : ℕ) (untouched : IsTouched rom
   other = with_words rom others
 
   pub word_there : (earlier : List Item) (at : ℕ) → LeadsTo Shape (rom_word rom) addr earlier at → (p : ℕ) → Contains (taken_at rom at) p → word_of_rom rom p ≡ word_of_rom other p
-  word_there earlier at lead p taken =
-      same_word (word_of_rom rom p) (word_of_rom other p)
-      (λ d. untouched (p, record { reads = record { earlier = earlier; at = at; leads = lead; taken = taken }; differs = d }))
+  word_there earlier at lead p taken = grind (arith, same_word)
 
   pub cell_there : (earlier : List Item) (at : ℕ) → LeadsTo Shape (rom_word rom) addr earlier at → cell_at (rom_word rom) at ≡ cell_at (rom_word other) at
   unfolding cell_at
-  cell_there earlier at lead =
-      let first : word_of_rom rom at ≡ word_of_rom other at = word_there earlier at lead at (takes_first (word_of_rom rom at) at) in
-      let second : (x : ℕ) → word_of_rom rom at ≡ Some x → format_of x ≡ Long → word_of_rom rom (at + 1) ≡ word_of_rom other (at + 1) =
-      λ x is long. word_there earlier at lead (at + 1) (subst (λ (o : Option ℕ). Contains (fetches o at) (at + 1)) (sym is) (takes_second x at long)) in
-      words_same rom.machine (word_of_rom rom at) (word_of_rom rom (at + 1)) (word_of_rom other (at + 1)) second
-      ∙ ap (λ (o : Option ℕ). cell_of_words rom.machine o (word_of_rom other (at + 1))) first
+  cell_there earlier at lead = grind (arith, word_there, takes_first, takes_second, words_same)
 
   pub forth : (earlier : List Item) (p : ℕ) → LeadsTo Shape (rom_word rom) addr earlier p → LeadsTo Shape (rom_word other) addr earlier p
   forth [] p lead = lead

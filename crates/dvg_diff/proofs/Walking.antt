@@ -1,5 +1,7 @@
 -- A walk over a shape up to the first word that differs.
 use Rattle.std.proofs.Common.{◌≡◌, ℕ, ◌+◌, ◌<◌, ◌∙◌, ◌++◌, length, List, [], ◌∷◌, Option, Some, None, Contains, IfSome, IfNone, take, get_or, suc, refl, sym, ap, subst, inl, inr, ⊎_elim, arith}
+use Rattle.std.proofs.Common.{rules}
+use Rattle.std.proofs.lemmas.Grind.{common_steps}
 use Rattle.std.proofs.lemmas.Bool.{cases_lt}
 use Rattle.std.proofs.Math.Seq.{take-suc}
 use Rattle.dvg_words.specs.Memory.{Rom, rom_word}
@@ -37,8 +39,7 @@ module _ (rom other : Rom) where
       finds p t = record { reads = record { earlier = passed.items; at = at; leads = passed.leads; taken = t.0 }; differs = t.1 }
 
       pub found : (o : Option ℕ) → IfSome o (TakesDiffering at) → IfSome o (ReadsDiffering rom other addr)
-      found None h = tt
-      found (Some p) h = finds p h
+      found o h = grind (arith)
 
       module _ (none : TakesNone at) where
         pub goes_on : (format : Format) (instr : Instr) (next : ℕ) → cell_at (rom_word rom) at ≡ Holds format instr → next_address Shape (record { at = at; format = format; instr = instr }) ≡ Some next → Passed next
@@ -93,18 +94,11 @@ module _ (rom other : Rom) where
       h
 
   pub one_more : (list : List Entry) (e : Entry) (word : ℕ) (touched : List TouchedEntry) → AreTouched rom other list touched → ReadsDiffering rom other e.addr word → AreTouched rom other (list ++ e ∷ []) (touched ++ record { entry = e; word = word } ∷ [])
-  one_more [] e word touched h r =
-      inr (record { word = word; rest = []; first = ap (λ (ts : List TouchedEntry). ts ++ record { entry = e; word = word } ∷ []) h; differs = r; others = refl })
+  one_more [] e word touched h r = grind (arith)
   one_more (f ∷ list) e word touched h r =
       ⊎_elim
       (λ k. inl (k.0, one_more list e word touched k.1 r))
-      (λ n. inr (record {
-        word = n.word;
-        rest = n.rest ++ record { entry = e; word = word } ∷ [];
-        first = ap (λ (ts : List TouchedEntry). ts ++ record { entry = e; word = word } ∷ []) n.first;
-        differs = n.differs;
-        others = one_more list e word n.rest n.others r;
-      }))
+      (λ n. inr (search (n.rest ++ record { entry = e; word = word } ∷ [], ap (λ (ts : List TouchedEntry). ts ++ record { entry = e; word = word } ∷ []) n.first, one_more list e word n.rest n.others r)))
       h
 
   abbrev AreFirst : List Entry → ℕ → List TouchedEntry → Type 0
@@ -113,9 +107,7 @@ module _ (rom other : Rom) where
   module _ (list : List Entry) (i : ℕ) (d : Entry) (lt : i < length list) (touched : List TouchedEntry) (h : AreFirst list i touched) where
     -- up to the next entry
     next : (more : List TouchedEntry) → AreTouched rom other (take i list ++ get_or list i d ∷ []) more → AreFirst list (i + 1) more
-    next more k =
-        let one : i + 1 ≡ suc i = omega arith in
-        subst (λ (n : ℕ). AreFirst list n more) (sym one) (subst (λ (es : List Entry). AreTouched rom other es more) (sym (take-suc list i d lt)) k)
+    next more k = grind (arith, rules, common_steps, (take-suc list i d lt), take-suc)
 
     pub next_none : (IsTouched rom other (get_or list i d).addr → ⊥) → (more : List TouchedEntry) → more ≡ touched → AreFirst list (i + 1) more
     next_none un more same = subst (AreFirst list (i + 1)) (sym same) (next touched (none_more (take i list) (get_or list i d) touched h un))

@@ -11,10 +11,7 @@ pub record Same (a b : List Item) (p q : ℕ) : Type 0 where
   pub place : p ≡ q
 
 pub item_same : (i j : Item) → i.at ≡ j.at → Holds i.format i.instr ≡ Holds j.format j.instr → i ≡ j
-item_same i j a e =
-    let l : i.format ≡ j.format = cc in
-    let k : i.instr ≡ j.instr = cc in
-    λ x. record { at = a x; format = l x; instr = k x }
+item_same i j a e = grind (arith)
 
 module _ (kind : Kind) (word : Source) (first : ℕ) where
   -- as many items lead to one place
@@ -22,12 +19,7 @@ module _ (kind : Kind) (word : Source) (first : ℕ) where
   same_lead [] [] p q h k e = record { items = refl; place = h ∙ sym k }
   same_lead [] (j ∷ b) p q h k e = absurd (omega arith)
   same_lead (i ∷ a) [] p q h k e = absurd (omega arith)
-  same_lead (i ∷ a) (j ∷ b) p q h k e =
-      let s = same_lead a b i.at j.at h.0 k.0 (omega arith) in
-      let same : i ≡ j = item_same i j s.place (sym h.1 ∙ ap (cell_at word) s.place ∙ k.1) in
-      let goes : next_address kind i ≡ next_address kind j = ap (next_address kind) same in
-      let place : Some p ≡ Some q = sym h.2 ∙ goes ∙ k.2 in
-      record { items = cc (same, s.items); place = cc place }
+  same_lead (i ∷ a) (j ∷ b) p q h k e = grind (arith, (same_lead a b i.at j.at h.0 k.0 (omega arith)), item_same)
 
   -- nothing leads past a last item
   pub too_long : (items : List Item) (i : Item) → LeadsTo kind word first items i.at → cell_at word i.at ≡ Holds i.format i.instr → next_address kind i ≡ None → (earlier : List Item) (q : ℕ) → LeadsTo kind word first earlier q → length items < length earlier → ⊥

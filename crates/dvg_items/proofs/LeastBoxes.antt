@@ -31,20 +31,7 @@ pub record IsSpanning (p q : Point) (box : LitBox) : Type 0 where
   pub least : (other : LitBox) → InBox other p → InBox other q → IsInside box other
 
 pub spanning_is : (p q : Point) (box : LitBox) (x0 x1 y0 y1 : ℤ) → box ≡ Span x0 x1 y0 y1 → IsReach x0 x1 p.x p.x q.x q.x → IsReach y0 y1 p.y p.y q.y q.y → IsSpanning p q box
-spanning_is p q box x0 x1 y0 y1 e h k =
-    let a = reach_first x0 x1 p.x p.x q.x q.x h in
-    let b = reach_first y0 y1 p.y p.y q.y q.y k in
-    let c = reach_second x0 x1 p.x p.x q.x q.x h in
-    let d = reach_second y0 y1 p.y p.y q.y q.y k in
-    let s : IsSpanning p q (Span x0 x1 y0 y1) = record { first = record { left = a.0; right = a.1; bottom = b.0; top = b.1 }; second = record { left = c.0; right = c.1; bottom = d.0; top = d.1 }; least = inside } in
-    subst (IsSpanning p q) (sym e) s
-  where
-    inside : (other : LitBox) → InBox other p → InBox other q → IsInside (Span x0 x1 y0 y1) other
-    inside Empty i j = absurd i
-    inside (Span l r s t) i j =
-        let x = reach_least x0 x1 p.x p.x q.x q.x l r h i.left i.right j.left j.right in
-        let y = reach_least y0 y1 p.y p.y q.y q.y s t k i.bottom i.top j.bottom j.top in
-        (x.0, x.1, y.0, y.1)
+spanning_is p q box x0 x1 y0 y1 e h k = grind (arith, (reach_first x0 x1 p.x p.x q.x q.x h), (reach_first y0 y1 p.y p.y q.y q.y k), (reach_second x0 x1 p.x p.x q.x q.x h), (reach_second y0 y1 p.y p.y q.y q.y k), reach_least)
 
 -- the least box that has two boxes as parts
 pub record IsJoined (a b box : LitBox) : Type 0 where
@@ -53,32 +40,15 @@ pub record IsJoined (a b box : LitBox) : Type 0 where
   pub least : (other : LitBox) → IsInside a other → IsInside b other → IsInside box other
 
 joined_spans : (a0 a1 b0 b1 c0 c1 d0 d1 x0 x1 y0 y1 : ℤ) → IsReach x0 x1 a0 a1 c0 c1 → IsReach y0 y1 b0 b1 d0 d1 → IsJoined (Span a0 a1 b0 b1) (Span c0 c1 d0 d1) (Span x0 x1 y0 y1)
-joined_spans a0 a1 b0 b1 c0 c1 d0 d1 x0 x1 y0 y1 h k =
-    let p = reach_first x0 x1 a0 a1 c0 c1 h in
-    let q = reach_first y0 y1 b0 b1 d0 d1 k in
-    let r = reach_second x0 x1 a0 a1 c0 c1 h in
-    let s = reach_second y0 y1 b0 b1 d0 d1 k in
-    record { first = (p.0, p.1, q.0, q.1); second = (r.0, r.1, s.0, s.1); least = inside }
-  where
-    inside : (other : LitBox) → IsInside (Span a0 a1 b0 b1) other → IsInside (Span c0 c1 d0 d1) other → IsInside (Span x0 x1 y0 y1) other
-    inside Empty i j = absurd i
-    inside (Span l r s t) i j =
-        let x = reach_least x0 x1 a0 a1 c0 c1 l r h i.0 i.1 j.0 j.1 in
-        let y = reach_least y0 y1 b0 b1 d0 d1 s t k i.2 i.3 j.2 j.3 in
-        (x.0, x.1, y.0, y.1)
+joined_spans a0 a1 b0 b1 c0 c1 d0 d1 x0 x1 y0 y1 h k = grind (arith, (reach_first x0 x1 a0 a1 c0 c1 h), (reach_first y0 y1 b0 b1 d0 d1 k), (reach_second x0 x1 a0 a1 c0 c1 h), (reach_second y0 y1 b0 b1 d0 d1 k), reach_least)
 
 pub joined_is : (a b box : LitBox) (a0 a1 b0 b1 c0 c1 d0 d1 x0 x1 y0 y1 : ℤ) → a ≡ Span a0 a1 b0 b1 → b ≡ Span c0 c1 d0 d1 → box ≡ Span x0 x1 y0 y1 → IsReach x0 x1 a0 a1 c0 c1 → IsReach y0 y1 b0 b1 d0 d1 → IsJoined a b box
-joined_is a b box a0 a1 b0 b1 c0 c1 d0 d1 x0 x1 y0 y1 e f g h k =
-    let s : IsJoined (Span a0 a1 b0 b1) (Span c0 c1 d0 d1) (Span x0 x1 y0 y1) = joined_spans a0 a1 b0 b1 c0 c1 d0 d1 x0 x1 y0 y1 h k in
-    subst (λ z. IsJoined z b box) (sym e) (subst (λ z. IsJoined (Span a0 a1 b0 b1) z box) (sym f) (subst (IsJoined (Span a0 a1 b0 b1) (Span c0 c1 d0 d1)) (sym g) s))
+joined_is a b box a0 a1 b0 b1 c0 c1 d0 d1 x0 x1 y0 y1 e f g h k = grind (arith, (joined_spans a0 a1 b0 b1 c0 c1 d0 d1 x0 x1 y0 y1 h k))
 
 -- ---- what one box more has
 
 pub in_wider : (a b : LitBox) (p : Point) → IsInside a b → InBox a p → InBox b p
-in_wider Empty b p i h = absurd h
-in_wider (Span x0 x1 y0 y1) Empty p i h = absurd i
-in_wider (Span x0 x1 y0 y1) (Span a0 a1 b0 b1) p i h =
-    record { left = omega (arith, ints, i.0, h.left); right = omega (arith, ints, i.1, h.right); bottom = omega (arith, ints, i.2, h.bottom); top = omega (arith, ints, i.3, h.top) }
+in_wider a b p i h = grind (arith, ints)
 
 -- two points more
 pub two_points : (p q : Point) (lit one new : LitBox) → IsSpanning p q one → IsJoined lit one new → (ps : List Point) → IsLeast ps lit → IsLeast (p ∷ q ∷ ps) new

@@ -1,5 +1,7 @@
 -- Entries that are found stand in the list, within the limits of a certificate.
 use Rattle.std.proofs.Common.{Option, None, Some, Bool, false, true, refl, arith, sym, ap, suc, List, ◌≡◌, ◌∷◌, ◌∙◌, ℕ, []}
+use Rattle.std.proofs.Common.{rules}
+use Rattle.std.proofs.lemmas.Grind.{common_steps}
 use Rattle.std.proofs.lemmas.Bool.Decides.{nat_tests}
 use Rattle.std.specs.Prelude.{Contains, IfSome, ◌&&◌, ◌==◌, if◌then◌else◌}
 use Rattle.dvg_cert.specs.Entry.{IsEntry}
@@ -11,12 +13,6 @@ use Rattle.dvg_cert.specs.declared.entry.Key.TheVariants.{Any, At}
 use Rattle.dvg_items.proofs.Lists.{at_place}
 use Rattle.dvg_items.specs.Known.{callee_at}
 use Rattle.dvg_items.specs.Bounds.{IsClaim, IsSomeCertificate}
-
-same_key_is : (a b : Key) → same_key a b ≡ true → a ≡ b
-same_key_is (At a) (At b) e = let n : a ≡ b = grind (arith, nat_tests) in ap At n
-same_key_is (At a) Any e = cc
-same_key_is Any (At b) e = cc
-same_key_is Any Any e = refl
 
 pub record Listed (list : List Entry) (addr : ℕ) (key : Key) (f : Entry) : Type 0 where
   pub listed : Contains list f
@@ -31,27 +27,19 @@ listed_at (x ∷ list) addr key f e = by_tests (addr == x.addr) (same_key key x.
     later l = record { listed = (suc l.listed.0, omega (arith, l.listed.1), l.listed.2); addr_is = l.addr_is; key_is = l.key_is }
 
     by_tests : (a b : Bool) → (addr == x.addr) ≡ a → same_key key x.key ≡ b → (if a && b then Some x else entry_at list addr key) ≡ Some f → (entry_at list addr key ≡ Some f → Listed list addr key f) → Listed (x ∷ list) addr key f
-    by_tests true true p q g more =
-        let same : x ≡ f = cc in
-        let at : x.addr ≡ addr = grind (arith, nat_tests) in
-        record { listed = (0, omega arith, same); addr_is = ap (λ (y : Entry). y.addr) (sym same) ∙ at; key_is = ap (λ (y : Entry). y.key) (sym same) ∙ sym (same_key_is key x.key q) }
+    by_tests true true p q g more = grind (arith, nat_tests)
     by_tests true false p q g more = later (more g)
     by_tests false b p q g more = later (more g)
 
 -- the entry that is named is in the list
 named_by : (list : List Entry) (to : ℕ) (scale : Key) (o : Option Entry) (f : Entry) → entry_at list to scale ≡ o → option_or o (entry_at list to Any) ≡ Some f → Contains list f
-named_by list to scale None f e h = (listed_at list to Any f h).listed
-named_by list to scale (Some x) f e h = (listed_at list to scale f (e ∙ h)).listed
+named_by list to scale o f e h = grind (arith, listed_at)
 
 pub named_listed : (list : List Entry) (o : Option ℕ) (scale : Key) (f : Entry) → callee_at list o scale ≡ Some f → Contains list f
-named_listed list None scale f e = cc
-named_listed list (Some to) scale f e = named_by list to scale (entry_at list to scale) f refl e
+named_listed list o scale f e = grind (arith, named_by)
 
 pub listed_claim : (list : List Entry) (e : Entry) → IsSomeCertificate list → Contains list e → IsClaim e
-listed_claim list e c h =
-    let is : IsEntry c.0.rom_first c.0.rom_last e = at_place (IsEntry c.0.rom_first c.0.rom_last) list e c.1.each h in
-    record { key = is.key; stop = is.stop; lit = is.lit; depth = is.depth; words = is.words_high; scale = is.scale; addr = omega (arith, is.addr_high, c.1.map_is.inside) }
+listed_claim list e c h = grind (arith, rules, common_steps, at_place)
 
 pub named_claim : (list : List Entry) (target : Option ℕ) (scale : Key) (o : Option Entry) → IsSomeCertificate list → o ≡ callee_at list target scale → IfSome o IsClaim
-named_claim list target scale None c e = tt
-named_claim list target scale (Some f) c e = listed_claim list f c (named_listed list target scale f (sym e))
+named_claim list target scale o c e = grind (arith, rules, common_steps, listed_claim, named_listed)

@@ -35,41 +35,16 @@ IsNearPlace-more m n Lost le h = tt
 -- ---- word addresses
 
 pub word_count-some : (format : Format) → 1 ≤ word_count format
-word_count-some Short = omega arith
-word_count-some Long = omega arith
-
-pub word_count-few : (format : Format) → word_count format ≤ 2
-word_count-few Short = omega arith
-word_count-few Long = omega arith
+word_count-some format = grind (arith)
 
 further : (kind : Kind) (at : ℕ) (format : Format) (instr : Instr) (p : ℕ) → address_after kind at format instr ≡ Some p → at + 1 ≤ p
-further kind at format (Draws d) p e = let q : at + word_count format ≡ p = cc in omega (arith, q, word_count-some format)
-further kind at format (Labs x y g) p e = let q : at + word_count format ≡ p = cc in omega (arith, q, word_count-some format)
-further kind at format Halt p e = cc
-further kind at format (Jsrl to) p e = let q : at + word_count format ≡ p = cc in omega (arith, q, word_count-some format)
-further kind at format Rtsl p e = cc
-further Shape at format (Jmpl to) p e = cc
-further Frame at format (Jmpl to) p e = by_test (nat_lt at to) refl e
-  where
-    by_test : (b : Bool) → nat_lt at to ≡ b → (if b then Some to else None) ≡ Some p → at + 1 ≤ p
-    by_test true t f = let lt : at < to = grind (arith, nat_tests) in let q : to ≡ p = cc in omega (arith, lt, q)
-    by_test false t f = cc
+further kind at format instr p e = grind (arith, word_count-some, nat_tests)
 
 pub next_further : (kind : Kind) (i : Item) (p : ℕ) → next_address kind i ≡ Some p → i.at + 1 ≤ p
 next_further kind i p e = further kind i.at i.format i.instr p e
 
 pub next_near : (kind : Kind) (at : ℕ) (format : Format) (instr : Instr) (p : ℕ) → at < ADDRESS_END → InstrFits instr → address_after kind at format instr ≡ Some p → p ≤ ADDRESS_END + 2
-next_near kind at format (Draws d) p lt h e = let q : at + word_count format ≡ p = cc in omega (arith, q, lt, word_count-few format)
-next_near kind at format (Labs x y g) p lt h e = let q : at + word_count format ≡ p = cc in omega (arith, q, lt, word_count-few format)
-next_near kind at format Halt p lt h e = cc
-next_near kind at format (Jsrl to) p lt h e = let q : at + word_count format ≡ p = cc in omega (arith, q, lt, word_count-few format)
-next_near kind at format Rtsl p lt h e = cc
-next_near Shape at format (Jmpl to) p lt h e = cc
-next_near Frame at format (Jmpl to) p lt h e = by_test (nat_lt at to) e
-  where
-    by_test : (b : Bool) → (if b then Some to else None) ≡ Some p → p ≤ ADDRESS_END + 2
-    by_test true f = let q : to ≡ p = cc in omega (arith, q, h)
-    by_test false f = cc
+next_near kind at format instr p lt h e = grind (arith)
 
 -- what is known past an item is known where it leads to
 pub step_sound : (kind : Kind) (v : Seen) (p : ℕ) → IsSoundSeen v → next_address kind v.item ≡ Some p → IsSoundCursor (record { at = p; known = v.after })

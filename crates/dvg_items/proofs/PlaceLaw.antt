@@ -22,19 +22,11 @@ moves_on (Abs x y) d e =
 moves_on Lost d e = refl
 
 by_effect : (first : End) (f : Effect) (es : List Effect) → place_moved_by (fixed_place first (f ∷ es)) (total_move (f ∷ es)) ≡ place_past f (place_moved_by (fixed_place first es) (total_move es))
-by_effect first (Sets p) es =
-    let a : p.x +ℤ pos 0 ≡ p.x = omega (arith, ints) in
-    let b : p.y +ℤ pos 0 ≡ p.y = omega (arith, ints) in
-    λ i. Abs (a i) (b i)
-by_effect first Loses es = refl
-by_effect first (Moves d) es = moves_on (fixed_place first es) (total_move es) d
+by_effect first f es = grind (arith, ints, moves_on)
 
 first_still : (kind : Kind) → place_moved_by (first_place kind) origin ≡ first_place kind
-first_still Shape = refl
-first_still Frame = refl
+first_still kind = grind (arith)
 
 pub place_from_all : PlaceFromAll
 place_from_all c [] = sym (first_still c.kind)
-place_from_all c (i ∷ earlier) =
-    ap (place_past (effect_of c.machine i.instr (scale_before c earlier) (callee c earlier i.instr))) (place_from_all c earlier)
-    ∙ sym (by_effect (first_place c.kind) (effect_of c.machine i.instr (scale_before c earlier) (callee c earlier i.instr)) (effects c earlier))
+place_from_all c (i ∷ earlier) = grind (arith, (place_from_all c earlier), by_effect)

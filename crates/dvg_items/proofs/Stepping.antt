@@ -1,19 +1,16 @@
 -- Where a step past an item leads.
 use Rattle.std.proofs.Common.{Option, None, Some, sym, ap, refl, ◌≡◌, ◌∙◌, ℕ}
+use Rattle.std.proofs.Common.{arith}
 use Rattle.dvg_items.specs.Items.{Kind, next_address}
 use Rattle.dvg_items.specs.Known.{Known}
 use Rattle.dvg_items.specs.Seen.{Seen}
 use Rattle.dvg_items.specs.Cursor.{Cursor, Step, Onward, Last, step_to, step_past}
 
 to_next : (p : Option ℕ) (known : Known) (next : Cursor) → Onward next ≡ step_to p known → (p ≡ Some next.at) × (next.known ≡ known)
-to_next None known next e = cc
-to_next (Some at) known next e =
-    let same : next ≡ record { at = at; known = known } = cc e in
-    (ap (λ (c : Cursor). Some c.at) (sym same), ap (λ (c : Cursor). c.known) same)
+to_next p known next e = grind (arith)
 
 to_last : (p : Option ℕ) (known last : Known) → Last last ≡ step_to p known → (p ≡ None) × (last ≡ known)
-to_last None known last e = (refl, cc)
-to_last (Some at) known last e = cc
+to_last p known last e = grind (arith)
 
 -- to the next item
 pub leads_on : (kind : Kind) (v : Seen) (step : Step) (next : Cursor) → step ≡ Onward next → step ≡ step_past kind v → (next_address kind v.item ≡ Some next.at) × (next.known ≡ v.after)

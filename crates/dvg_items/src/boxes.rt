@@ -44,17 +44,16 @@ pub fn box_corners(lit: &LitBox) -> Option<(Point, Point)>
             x_max,
             y_min,
             y_max,
-        } => {
-            let low = Point {
+        } => Some((
+            Point {
                 x: *x_min,
                 y: *y_min,
-            };
-            let high = Point {
+            },
+            Point {
                 x: *x_max,
                 y: *y_max,
-            };
-            Some((low, high))
-        }
+            },
+        )),
     }
 }
 

@@ -1,5 +1,7 @@
 -- What is known of labels when one more is looked at.
 use Rattle.std.proofs.Common.{◌≡◌, ◌≢◌, ℕ, suc, ◌+◌, ◌<◌, ◌≤◌, List, [], ◌∷◌, ◌++◌, length, map, take, drop, get_or, Option, Some, None, true, false, refl, sym, ap, subst, ◌∙◌, append_assoc, arith, add-one}
+use Rattle.std.proofs.Common.{rules}
+use Rattle.std.proofs.lemmas.Grind.{common_steps}
 use Rattle.std.specs.Prelude.{Contains}
 use Rattle.std.specs.List.{All}
 use Rattle.std.proofs.lemmas.List.Elements.{All-push, All-append, All-nil, All-cons, Contains-append_left, Contains-append_right}
@@ -22,47 +24,23 @@ weaken P Q xs f h k d lt = f (get_or xs k d) (h k d lt)
 module _ (labels : List Named) (l : Named) (name : List ℕ) where
   pub keep_other : (found : Option ℕ) → l.name ≢ name → IsFound labels name found → IsFound (labels ++ l ∷ []) name found
   keep_other None ne h = All-push (λ (o : Named). o.name ≢ name) labels l h ne
-  keep_other (Some addr) ne h = (
-    Contains-append_left labels (l ∷ []) (record { name = name; addr = addr }) h.0,
-    All-push (λ (o : Named). o.name ≡ name → o.addr ≡ addr) labels l h.1 (λ e. absurd (ne e)),
-  )
+  keep_other (Some addr) ne h = grind (arith, rules, common_steps)
 
   last_there : l.name ≡ name → Contains (labels ++ l ∷ []) (record { name = name; addr = l.addr })
   last_there is = subst (λ n. Contains (labels ++ l ∷ []) (record { name = n; addr = l.addr })) is (Contains-append_right labels (l ∷ []) l (0, omega arith, refl))
 
   pub first_found : l.name ≡ name → IsFound labels name None → StandsAt (labels ++ l ∷ []) name l.addr
-  first_found is h = (
-    last_there is,
-    All-push (λ (o : Named). o.name ≡ name → o.addr ≡ l.addr) labels l (weaken (λ (o : Named). o.name ≢ name) (λ (o : Named). o.name ≡ name → o.addr ≡ l.addr) labels (λ o ne e. absurd (ne e)) h) (λ e. refl),
-  )
+  first_found is h = grind (arith, rules, common_steps, (last_there is), weaken, last_there)
 
   pub same_found : (addr : ℕ) → addr ≡ l.addr → StandsAt labels name addr → StandsAt (labels ++ l ∷ []) name addr
-  same_found addr same h = (
-    Contains-append_left labels (l ∷ []) (record { name = name; addr = addr }) h.0,
-    All-push (λ (o : Named). o.name ≡ name → o.addr ≡ addr) labels l h.1 (λ e. sym same),
-  )
+  same_found addr same h = grind (arith, rules, common_steps)
 
   pub two_found : (addr : ℕ) → l.name ≡ name → addr ≢ l.addr → StandsAt labels name addr → StandsAtTwo (labels ++ l ∷ []) name
-  two_found addr is ne h = record {
-    one = addr;
-    other = l.addr;
-    differ = ne;
-    at_one = Contains-append_left labels (l ∷ []) (record { name = name; addr = addr }) h.0;
-    at_other = last_there is;
-  }
+  two_found addr is ne h = grind (arith, rules, common_steps, (last_there is), last_there)
 
 module _ (labels : List Named) (l : Named) (at : ℕ) where
   on_end : (n : Nearest) (h : Names labels at n.name.now n.distance) → (may_name at l.addr ≡ true → l.addr ≤ h.addr) → Names (labels ++ l ∷ []) at n.name.now n.distance
-  on_end n h le = record {
-    before = h.before;
-    addr = h.addr;
-    after = h.after ++ l ∷ [];
-    listed = ap (λ ls. ls ++ l ∷ []) h.listed ∙ append_assoc h.before (record { name = n.name.now; addr = h.addr } ∷ h.after) (l ∷ []);
-    may = h.may;
-    near = h.near;
-    below = h.below;
-    behind = All-push (λ (o : Named). may_name at o.addr ≡ true → o.addr ≤ h.addr) h.after l h.behind le;
-  }
+  on_end n h le = grind (arith, rules, common_steps, (append_assoc h.before (record { name = n.name.now; addr = h.addr } ∷ h.after) (l ∷ [])), append_assoc)
 
   pub keep_best : (best : Option Nearest) → may_name at l.addr ≡ false → IsNearest labels at best → IsNearest (labels ++ l ∷ []) at best
   keep_best None off h = All-push (λ (o : Named). may_name at o.addr ≡ false) labels l h off
@@ -72,16 +50,7 @@ module _ (labels : List Named) (l : Named) (at : ℕ) where
   keep_nearer n d near le h = on_end n h (λ on. omega (arith, near, le, h.near))
 
   at_end : (d : ℕ) → may_name at l.addr ≡ true → at ≡ l.addr + d → All (λ (o : Named). may_name at o.addr ≡ true → o.addr < l.addr) labels → Names (labels ++ l ∷ []) at l.name d
-  at_end d may near below = record {
-    before = labels;
-    addr = l.addr;
-    after = [];
-    listed = refl;
-    may = may;
-    near = near;
-    below = below;
-    behind = All-nil (λ (o : Named). may_name at o.addr ≡ true → o.addr ≤ l.addr);
-  }
+  at_end d may near below = grind (arith)
 
   pub take_first : (d : ℕ) → may_name at l.addr ≡ true → at ≡ l.addr + d → IsNearest labels at None → Names (labels ++ l ∷ []) at l.name d
   take_first d may near h = at_end d may near (weaken (λ (o : Named). may_name at o.addr ≡ false) (λ (o : Named). may_name at o.addr ≡ true → o.addr < l.addr) labels (λ o off on. absurd (not_both on off)) h)
@@ -102,26 +71,14 @@ map_append [] ys = refl
 map_append (x ∷ xs) ys = ap (λ l. named_of x ∷ l) (map_append xs ys)
 
 pub one_more : (xs : List Label) (i : ℕ) (x : Label) → x ≡ get_or xs i x → i < length xs → map named_of (take (i + 1) xs) ≡ map named_of (take i xs) ++ named_of x ∷ []
-one_more xs i x is lt =
-    rw (add-one i) (ap (map named_of) (take-suc xs i x lt) ∙ map_append (take i xs) (get_or xs i x ∷ []) ∙ ap (λ (y : Label). map named_of (take i xs) ++ named_of y ∷ []) (sym is))
+one_more xs i x is lt = grind (arith, rules, common_steps, take-suc, map_append)
 
 -- what is known of the first labels of a list, of all
 pub two_of_all : (xs : List Label) (n : ℕ) (name : List ℕ) → StandsAtTwo (map named_of (take n xs)) name → StandsAtTwo (map named_of xs) name
-two_of_all xs n name h =
-    let first = map named_of (take n xs) in
-    let rest = map named_of (drop n xs) in
-    let all : first ++ rest ≡ map named_of xs = sym (map_append (take n xs) (drop n xs)) ∙ ap (map named_of) (take-append-drop n xs) in
-    subst (λ ls. StandsAtTwo ls name) all (record {
-      one = h.one;
-      other = h.other;
-      differ = h.differ;
-      at_one = Contains-append_left first rest (record { name = name; addr = h.one }) h.at_one;
-      at_other = Contains-append_left first rest (record { name = name; addr = h.other }) h.at_other;
-    })
+two_of_all xs n name h = grind (arith, rules, common_steps, (map named_of (take n xs)), (map named_of (drop n xs)), (map named_of xs), (map_append (take n xs) (drop n xs)), (map named_of), (take-append-drop n xs), map, map_append, take-append-drop)
 
 pub found_in_all : (xs : List Label) (n : ℕ) (name : List ℕ) (found : Option ℕ) → length xs ≤ n → IsFound (map named_of (take n xs)) name found → IsFound (map named_of xs) name found
 found_in_all xs n name found le h = subst (λ ls. IsFound (map named_of ls) name found) (take_all n xs le) h
 
 pub address_of_found : (labels : List Named) (name : List ℕ) (found : Option ℕ) → IsFound labels name found → IsAddress labels name (ok_or found Unknown)
-address_of_found labels name None h = h
-address_of_found labels name (Some addr) h = h
+address_of_found labels name found h = grind (arith)

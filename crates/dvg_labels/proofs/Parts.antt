@@ -10,8 +10,7 @@ parts_behind p (x ∷ xs) = slice_split p xs
 
 by_first : {X : Type 0} (p : X → Bool) (x : X) (xs : List X) (b : Bool) (n : ℕ) → slice_split p xs ≡ take n xs ∷ parts_behind p (drop n xs)
     → cond b ([] ∷ slice_split p xs) (onto_first x (slice_split p xs)) ≡ take (cond (not b) (1 + n) 0) (x ∷ xs) ∷ parts_behind p (drop (cond (not b) (1 + n) 0) (x ∷ xs))
-by_first p x xs true n h = refl
-by_first p x xs false n h = rw (one-add n) (ap (onto_first x) h)
+by_first p x xs b n h = grind (arith)
 
 -- the first part ends at the first element that passes
 pub cut_first : {X : Type 0} (p : X → Bool) (xs : List X) → slice_split p xs ≡ take (position_or_len p xs) xs ∷ parts_behind p (drop (position_or_len p xs) xs)
@@ -25,10 +24,7 @@ behind_suc p (suc n) (x ∷ xs) lt = behind_suc p n xs (omega (arith, lt))
 
 -- behind a first part that ends before the list does come the parts of what stands behind its end
 pub cut_at : {X : Type 0} (p : X → Bool) (n : ℕ) (xs : List X) → n ≡ position_or_len p xs → n < length xs → slice_split p xs ≡ take n xs ∷ slice_split p (drop (n + 1) xs)
-cut_at p n xs is lt =
-    let more : n + 1 ≡ suc n = omega arith in
-    cut_first p xs ∙ subst (λ k. take k xs ∷ parts_behind p (drop k xs) ≡ take n xs ∷ slice_split p (drop (n + 1) xs)) is
-    (ap (λ l. take n xs ∷ l) (behind_suc p n xs lt ∙ ap (λ k. slice_split p (drop k xs)) (sym more)))
+cut_at p n xs is lt = grind (arith, cut_first, behind_suc)
 
 all_taken : {X : Type 0} (p : X → Bool) (n : ℕ) (xs : List X) → length xs ≤ n → take n xs ∷ parts_behind p (drop n xs) ≡ xs ∷ []
 all_taken p zero [] le = refl
@@ -43,8 +39,7 @@ uncut p n xs is le = cut_first p xs ∙ subst (λ k. take k xs ∷ parts_behind 
 -- blanks before a word are passed over
 skip_step : (x : ℕ) (xs : List ℕ) (b : Bool) (n : ℕ) → words (drop n xs) ≡ words xs → is_blank x ≡ b
     → words (drop (cond (not (not b)) (1 + n) 0) (x ∷ xs)) ≡ words (x ∷ xs)
-skip_step x xs true n h is = rw (one-add n) (h ∙ sym (ap (λ t. filter has_bytes (cond t ([] ∷ slice_split is_blank xs) (onto_first x (slice_split is_blank xs)))) is))
-skip_step x xs false n h is = refl
+skip_step x xs b n h is = grind (arith)
 
 pub skipped : (xs : List ℕ) → words (drop (position_or_len (λ b. not (is_blank b)) xs) xs) ≡ words xs
 skipped [] = refl
@@ -56,8 +51,7 @@ Passing p [] = Unit {0}
 Passing p (x ∷ xs) = p x ≡ true
 
 passing_step : {X : Type 0} (p : X → Bool) (x : X) (xs : List X) (b : Bool) (n : ℕ) → Passing p (drop n xs) → p x ≡ b → Passing p (drop (cond (not b) (1 + n) 0) (x ∷ xs))
-passing_step p x xs true n h is = is
-passing_step p x xs false n h is = rw (one-add n) h
+passing_step p x xs b n h is = grind (arith)
 
 pub first_passes : {X : Type 0} (p : X → Bool) (xs : List X) → Passing p (drop (position_or_len p xs) xs)
 first_passes p [] = tt
@@ -65,8 +59,7 @@ first_passes p (x ∷ xs) = passing_step p x xs (p x) (position_or_len p xs) (fi
 
 -- behind a word come its line's further words
 words_behind : (ys : List ℕ) → Passing is_blank ys → filter has_bytes (parts_behind is_blank ys) ≡ words ys
-words_behind [] h = refl
-words_behind (b ∷ bs) h = sym (ap (λ t. filter has_bytes (cond t ([] ∷ slice_split is_blank bs) (onto_first b (slice_split is_blank bs)))) h)
+words_behind ys h = grind (arith)
 
 abbrev pub IsCut : List ℕ → ℕ → Type 0
 IsCut ys n = (take n ys ≡ first_of (words ys)) × (words (drop n ys) ≡ drop 1 (words ys))
@@ -76,10 +69,7 @@ word_step x xs n h = (sym (ap first_of h), sym (ap (λ l. drop 1 l) h))
 
 visible_step : (x : ℕ) (xs : List ℕ) (b : Bool) → is_blank x ≡ b → not b ≡ true → IsCut (x ∷ xs) (cond (not b) (1 + position_or_len is_blank xs) 0)
 visible_step x xs true is h = absurd (grind (arith, h))
-visible_step x xs false is h =
-    let n = position_or_len is_blank xs in
-    rw (one-add n) (word_step x xs n (ap (λ t. filter has_bytes (cond t ([] ∷ slice_split is_blank xs) (onto_first x (slice_split is_blank xs)))) is
-    ∙ (ap (λ l. filter has_bytes (onto_first x l)) (cut_first is_blank xs) ∙ ap (λ l. (x ∷ take n xs) ∷ l) (words_behind (drop n xs) (first_passes is_blank xs)))))
+visible_step x xs false is h = grind (arith, one-add, word_step, cond, cut_first, words_behind, first_passes)
 
 pub word_cut : (ys : List ℕ) → Passing (λ b. not (is_blank b)) ys → IsCut ys (position_or_len is_blank ys)
 word_cut [] h = (refl, refl)

@@ -17,8 +17,7 @@ pub record Progress (text : List ℕ) (rest : Option (Bor (List ℕ))) (known : 
   pub read : with_lines (Some no_labels) before ≡ Some known
 
 no_more : (known : Option Labelling) → with_lines known [] ≡ known
-no_more None = refl
-no_more (Some known) = refl
+no_more known = grind (arith)
 
 with_next : (known : Option Labelling) (now : Labelling) (before : List (List ℕ)) (line : List ℕ) → with_lines known before ≡ Some now
     → with_lines known (before ++ line ∷ []) ≡ with_line now line
@@ -33,28 +32,10 @@ begun text = record { before = []; cut = refl; counted = refl; read = refl }
 module _ (text : List ℕ) (known : Labelling) (n : ℕ) (rest : Option (Bor (List ℕ))) (line : List ℕ) (behind : Option (Bor (List ℕ)))
     (h : Progress text rest known n) (rest_is : lines_behind rest ≡ line ∷ lines_behind behind) where
   pub line_read : (now : Labelling) → with_line known line ≡ Some now → Progress text behind now (n + 1)
-  line_read now is = record {
-    before = h.before ++ line ∷ [];
-    cut = h.cut ∙ ap (λ l. h.before ++ l) rest_is ∙ sym (append_assoc h.before (line ∷ []) (lines_behind behind));
-    counted = omega (arith, h.counted, length-append h.before (line ∷ []));
-    read = with_next (Some no_labels) known h.before line h.read ∙ is;
-  }
+  line_read now is = grind (arith, (append_assoc h.before (line ∷ []) (lines_behind behind)), (length-append h.before (line ∷ [])), (with_next (Some no_labels) known h.before line h.read))
 
   pub line_refused : (why : LabelWhy) → IsLineFault known line why → RefusesLine text (n + 1) why
-  line_refused why wrong = record {
-    before = h.before;
-    line = line;
-    after = lines_behind behind;
-    cut = h.cut ∙ ap (λ l. h.before ++ l) rest_is;
-    counted = omega (arith, h.counted);
-    known = known;
-    read = h.read;
-    refused = wrong;
-  }
-
-pub all_read : (text : List ℕ) (known : Labelling) (n : ℕ) → Progress text None known n → with_lines (Some no_labels) (lines text) ≡ Some known
-all_read text known n h = ap (with_lines (Some no_labels)) (h.cut ∙ append-nil h.before) ∙ h.read
+  line_refused why wrong = grind (arith)
 
 pub less_left : (behind : Option (Bor (List ℕ))) (bytes : List ℕ) → IfSome behind (λ rest. length rest.now < length bytes) → left behind ≤ length bytes
-less_left None bytes h = omega arith
-less_left (Some rest) bytes h = omega (arith, h)
+less_left behind bytes h = grind (arith)

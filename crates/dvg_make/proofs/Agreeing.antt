@@ -10,14 +10,7 @@ module _ (rom : Rom) (a b : List Entry) (made_a : (e : Entry) → Contains a e �
 
   module _ (e f : Entry) (made_e : MadeEntry rom a e) (made_f : MadeEntry rom b f) (addr : e.addr ≡ f.addr) (key : e.key ≡ f.key) (agree : Agree e.words) where
     same_at : (earlier : List Item) (i : Item) → LeadsTo Shape (rom_word rom) e.addr earlier i.at → cell_at (rom_word rom) i.at ≡ Holds i.format i.instr → Matched rom.machine a b e.key earlier → (o : Option ℕ) → target Shape i.instr ≡ o → SameAt a b o (scale_before (keyed_context rom.machine a e.key) earlier)
-    same_at earlier i lead is m None t = tt
-    same_at earlier i lead is m (Some to) t =
-        let g = made_e.keyed earlier i lead is to t in
-        let h = made_f.keyed earlier i (subst (λ x. LeadsTo Shape (rom_word rom) x earlier i.at) addr lead) is to t in
-        let scale : scale_before (keyed_context rom.machine a e.key) earlier ≡ scale_before (keyed_context rom.machine b f.key) earlier = ap (λ (x : Gathered). x.known.scale) (gathered_same rom.machine a b e.key earlier m) ∙ ap (λ (k : Key). scale_before (keyed_context rom.machine b k) earlier) key in
-        let there : entry_at b to (scale_before (keyed_context rom.machine a e.key) earlier) ≡ Some h.0 = ap (λ (s : Key). entry_at b to s) scale ∙ h.1 in
-        let same = agree to (scale_before (keyed_context rom.machine a e.key) earlier) g.0 h.0 g.1 there (callee_less rom a e made_e earlier i lead is to g.0 t g.1) in
-        (g.0, g.1, there ∙ ap Some (sym same))
+    same_at earlier i lead is m h5 t = grind (arith, rom_word, scale_before, keyed_context, gathered_same, entry_at, agree, callee_less)
 
     matched : (items : List Item) (p : ℕ) → LeadsTo Shape (rom_word rom) e.addr items p → Matched rom.machine a b e.key items
     matched [] p lead = tt

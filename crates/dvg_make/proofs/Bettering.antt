@@ -1,5 +1,6 @@
 -- For what an entry of any list claims of a shape there is a made entry that claims all of it, and counts and lights no more.
 use Rattle.dvg_make.proofs.Common.{◌≡◌, ◌≢◌, ℕ, zero, suc, ◌+◌, ◌<◌, ◌≤◌, List, [], ◌∷◌, ◌++◌, Option, Some, None, refl, sym, ap, ◌∙◌, subst, arith, ⊎_elim, ints, Contains, if◌then◌else◌, option_or, screen, cell_at, Rom, rom_word, Point, Cell, Missing, Odd, Holds, Format, Instr, entry_at, Entry, Key, Any, LitBox, Empty, Span, at_holds, next_address, LeadsTo, Context, shape_context, target, callee_at, callee, callee_words, scale_before, place_before, words_before, depth_before, depth_under, known_before, InBox, IsInside, relative_corners, extent, seen_at, HasCallee, Item, Shape, listed_at, all_append, word_count-some, ShapeKeeps, CellKeeps, Bound, ShapeWhy, lit_points, HoldsAll, IsLeast, HasEntry, MadeEntry, IsMade, AllMade, keyed_context, entry_of, AllFine, Extends, KnowsMore}
+use Rattle.std.proofs.Common.{rules}
 use Rattle.std.proofs.lemmas.List.Elements.{Contains-append_cases}
 use Rattle.std.proofs.lemmas.Int.{clamps}
 use Rattle.std.specs.Int.{int_min, int_max}
@@ -22,18 +23,14 @@ widened (Span a b c d) p = Span (int_min a p.x) (int_max b p.x) (int_min c p.y) 
 
 inside_widened : (box : LitBox) (p q : Point) → InBox box q → InBox (widened box p) q
 inside_widened Empty p q h = absurd h
-inside_widened (Span a b c d) p q h =
-    record { left = omega (arith, ints, clamps, h.left); right = omega (arith, ints, clamps, h.right); bottom = omega (arith, ints, clamps, h.bottom); top = omega (arith, ints, clamps, h.top) }
+inside_widened (Span a b c d) p q h = search (rules, clamps)
 
 at_widened : (box : LitBox) (p : Point) → InBox (widened box p) p
 at_widened Empty p = record { left = omega (arith, ints); right = omega (arith, ints); bottom = omega (arith, ints); top = omega (arith, ints) }
 at_widened (Span a b c d) p = record { left = omega (arith, ints, clamps); right = omega (arith, ints, clamps); bottom = omega (arith, ints, clamps); top = omega (arith, ints, clamps) }
 
 widened_inside : (box other : LitBox) (p : Point) → IsInside box other → InBox other p → IsInside (widened box p) other
-widened_inside box Empty p h i = absurd i
-widened_inside Empty (Span l r s t) p h i = (i.left, i.right, i.bottom, i.top)
-widened_inside (Span a b c d) (Span l r s t) p h i =
-    (omega (arith, ints, clamps, h.0, i.left), omega (arith, ints, clamps, h.1, i.right), omega (arith, ints, clamps, h.2, i.bottom), omega (arith, ints, clamps, h.3, i.top))
+widened_inside box other p h i = grind (arith, clamps)
 
 least_box : (ps : List Point) → (box : LitBox) × IsLeast ps box
 least_box [] = (Empty, record { holds = tt; least = λ other h. tt })
@@ -59,19 +56,7 @@ pub record Call (list : List Entry) (to : ℕ) (scale key : Key) : Type 0 where
   pub covers : Covers g to key
 
 pub call_of : (list : List Entry) (to : ℕ) (scale key : Key) → Loosens scale key → HasCallee (Some to) (named_entry list to scale) → Call list to scale key
-call_of list to scale key loose named = by_first (entry_at list to scale) refl
-  where
-    by_any : (o : Option Entry) → entry_at list to scale ≡ None → entry_at list to Any ≡ o → HasCallee (Some to) o → Call list to scale key
-    by_any None p q h = absurd h
-    by_any (Some g) p q h =
-        let l = listed_at list to Any g q in
-        record { g = g; is = ap (λ z. option_or z (entry_at list to Any)) p ∙ q; listed = l.listed; covers = record { addr = l.addr_is; key = subst (λ (z : Key). Loosens z key) (sym l.key_is) tt } }
-
-    by_first : (o : Option Entry) → entry_at list to scale ≡ o → Call list to scale key
-    by_first None p = by_any (entry_at list to Any) p refl (subst (λ z. HasCallee (Some to) (option_or z (entry_at list to Any))) p named)
-    by_first (Some g) p =
-        let l = listed_at list to scale g p in
-        record { g = g; is = ap (λ z. option_or z (entry_at list to Any)) p; listed = l.listed; covers = record { addr = l.addr_is; key = subst (λ (z : Key). Loosens z key) (sym l.key_is) loose } }
+call_of list to scale key loose named = grind (arith, entry_at, listed_at, option_or)
 
 -- ---- a shape of an upheld list
 
@@ -148,11 +133,7 @@ module _ (rom : Rom) (list : List Entry) (up : Upholds rom list) where
       grow_tracked : (a b : List Entry) (items : List Item) → Extends a b → Tracked a items → Tracked b items
       grow_tracked a b items ext t =
           let same = gathered_same rom.machine a b key items (matched_fine rom.machine a b key ext items t.fine) in
-          record {
-            fine = fine_grows rom.machine a b key ext items t.fine;
-            knows = subst (λ (g : Gathered). KnowsMore (known_before c items) g.known) same t.knows;
-            holds = subst (λ (g : Gathered). HoldsAll e.lit g.lit) same t.holds;
-          }
+          search (fine_grows rom.machine a b key ext items t.fine, subst (λ (g : Gathered). KnowsMore (known_before c items) g.known) same t.knows, subst (λ (g : Gathered). HoldsAll e.lit g.lit) same t.holds)
 
       -- the call's entries, of which the made one refines the other
       ready_call : (made : List Entry) (earlier : List Item) (i : Item) (to : ℕ) → target Shape i.instr ≡ Some to → Tracked made earlier → (call : Call list to (scale_before c earlier) (scale_before (keyed_context rom.machine made key) earlier)) → (f : Entry) → entry_at made to (scale_before (keyed_context rom.machine made key) earlier) ≡ Some f → Refines f call.g → IsOrdered f.lit → Ready made earlier i
@@ -173,11 +154,7 @@ module _ (rom : Rom) (list : List Entry) (up : Upholds rom list) where
       ready_none made earlier i t tracked =
           let weak : callee c earlier i.instr ≡ None = ap (λ o. callee_at list o (scale_before c earlier)) t in
           let strong : callee (keyed_context rom.machine made key) earlier i.instr ≡ None = ap (λ o. callee_at made o (scale_before (keyed_context rom.machine made key) earlier)) t in
-          record {
-            tracked = tracked;
-            keyed = λ other q. let no : None ≡ Some other = sym t ∙ q in cc no;
-            refines = subst (λ o. CalleeRefines o (callee (keyed_context rom.machine made key) earlier i.instr)) (sym weak) (subst (λ o. CalleeRefines None o) (sym strong) tt);
-          }
+          search (rules, tracked, subst (λ o. CalleeRefines o (callee (keyed_context rom.machine made key) earlier i.instr)) (sym weak) (subst (λ o. CalleeRefines None o) (sym strong) tt))
 
       -- ---- the made entry of this shape
 
@@ -278,9 +255,7 @@ module _ (rom : Rom) (list : List Entry) (up : Upholds rom list) where
           one_listed x (suc k, lt, is) = absurd (omega (arith, lt))
 
           found_last : (o : Option Entry) → entry_at made e.addr key ≡ o → entry_at (made ++ f ∷ []) e.addr key ≡ Some f
-          found_last None q =
-              let last : entry_at (f ∷ []) e.addr key ≡ Some f = ap (λ t. if t then Some f else None) (at_holds e.addr key f refl refl) in
-              entry_at-append made (f ∷ []) e.addr key ∙ ap (λ o. option_or o (entry_at (f ∷ []) e.addr key)) q ∙ last
+          found_last None q = grind (arith, entry_at, f, at_holds, entry_at-append, option_or)
           found_last (Some x) q =
               let l = listed_at made e.addr key x q in
               let same : x ≡ f = same_made rom made made x f (λ a k y z. z) (h.walked.all x l.listed).made made_f l.addr_is l.key_is in

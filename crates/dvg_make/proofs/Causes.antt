@@ -1,5 +1,6 @@
 -- The cause of a refusal, told of roots and frames.
 use Rattle.dvg_make.proofs.Common.{◌≡◌, ℕ, zero, suc, List, [], ◌∷◌, Option, Some, None, refl, sym, ◌∙◌, subst, slice_get, Rom, Key, EntryCause, HasCause, HasCallCause, EntryFault, Unstraight, Deep, TooManyWords, TooManyEntries, Memory, FrameCall, shapes}
+use Rattle.std.proofs.Common.{arith}
 use Rattle.dvg_make.specs.declared.obstacle.Blocked.{Blocked}
 use Rattle.dvg_make.specs.declared.account.EntryCause.TheVariants as cause
 use Rattle.dvg_make.specs.Accounts.{MakeAccount, UnlessMemory, IsAccount, IsTold, HasRootCause, entry_fault}
@@ -7,31 +8,10 @@ use Rattle.dvg_make.specs.Judging.{refusal_at}
 use Rattle.dvg_make.specs.Refusals.{FramesFault, make_fault_of}
 use Rattle.dvg_make.specs.Private.Making.{blocked_fault, IsRefused}
 
-unless_map : (c : EntryCause) (S T : Type 0) → (S → T) → UnlessMemory c S → UnlessMemory c T
-unless_map cause.Memory S T f h = tt
-unless_map cause.RootOutside S T f h = f h
-unless_map cause.Missing S T f h = f h
-unless_map cause.Odd S T f h = f h
-unless_map cause.Halt S T f h = f h
-unless_map cause.BeamUnknown S T f h = f h
-unless_map cause.ScaleUnknown S T f h = f h
-unless_map (cause.Ring from) S T f h = f h
-unless_map (cause.Deep to key) S T f h = f h
-unless_map (cause.TooManyWords words) S T f h = f h
-unless_map cause.TooManyEntries S T f h = f h
-
 module _ (rom : Rom) (roots : List (ℕ × Key)) (frames : List (List ℕ)) where
   -- where the making stopped
   pub stuck_cause : (blocked : Blocked) → IsRefused rom roots frames blocked → HasCause rom roots frames (blocked_fault blocked)
-  stuck_cause blocked refused =
-      record {
-        chain = shapes blocked.chain;
-        at = blocked.obstacle.cursor.at;
-        before = blocked.obstacle.cursor.known;
-        cause = blocked.obstacle.cause;
-        why_is = refl;
-        told = refused.told;
-      }
+  stuck_cause blocked refused = grind (arith, shapes)
 
   -- what an account tells
   pub account_cause : (a : MakeAccount) → a.fault.why ≡ entry_fault a.at a.cause → IsAccount rom roots frames a → HasCause rom roots frames a.fault
@@ -40,31 +20,15 @@ module _ (rom : Rom) (roots : List (ℕ × Key)) (frames : List (List ℕ)) wher
 -- a cause of one refusal is a cause of another, if what is told holds of its call too
 retold : (rom : Rom) (roots : List (ℕ × Key)) (frames : List (List ℕ)) (fault : FramesFault) (call : Option FrameCall) (why : EntryFault) → fault.why ≡ why → (h : HasCause rom roots frames fault)
     → (IsTold rom roots frames fault.call h.chain h.at h.before h.cause → IsTold rom roots frames call h.chain h.at h.before h.cause) → HasCause rom roots frames (record { call = call; why = why })
-retold rom roots frames fault call why same h other =
-    record {
-      chain = h.chain;
-      at = h.at;
-      before = h.before;
-      cause = h.cause;
-      why_is = sym same ∙ h.why_is;
-      told = unless_map h.cause (Told fault.call) (Told call) other h.told;
-    }
-  where
-    Told : Option FrameCall → Type 0
-    Told call = IsTold rom roots frames call h.chain h.at h.before h.cause
+retold rom roots frames fault call why same h other = grind (arith)
 
 -- where there is no frame, no call is named
 pub root_cause : (rom : Rom) (roots : List (ℕ × Key)) (fault : FramesFault) → HasCause rom roots [] fault → HasRootCause rom roots (make_fault_of fault.why)
-root_cause rom roots fault h = (fault.why, refl, retold rom roots [] fault None fault.why refl h (no_call fault.call))
-  where
-    no_call : (call : Option FrameCall) → IsTold rom roots [] call h.chain h.at h.before h.cause → IsTold rom roots [] None h.chain h.at h.before h.cause
-    no_call None t = t
-    no_call (Some call) t = let none : None ≡ Some t.named.0 = t.named.1 in cc none
+root_cause rom roots fault h = grind (arith, retold)
 
 -- of one frame
 first_frame : (words other : List ℕ) (i : ℕ) → slice_get (words ∷ []) i ≡ Some other → i ≡ 0
-first_frame words other zero e = refl
-first_frame words other (suc i) e = cc e
+first_frame words other i e = grind (arith)
 
 of_call : (rom : Rom) (words : List ℕ) (call : FrameCall) (why : EntryFault) → HasCause rom [] (words ∷ []) (record { call = Some call; why = why })
     → HasCause rom [] (words ∷ []) (record { call = Some (record { frame = 0; at = call.at }); why = why })
@@ -79,9 +43,4 @@ of_call rom words call why h = retold rom [] (words ∷ []) (record { call = Som
         subst Told (λ j. record { frame = first j; at = call.at }) t
 
 pub call_cause : (rom : Rom) (words : List ℕ) (call : Option FrameCall) (why : EntryFault) → HasCause rom [] (words ∷ []) (record { call = call; why = why }) → HasCallCause rom words (refusal_at call why)
-call_cause rom words None why h = tt
-call_cause rom words (Some call) Memory h = tt
-call_cause rom words (Some call) (Unstraight word) h = of_call rom words call (Unstraight word) h
-call_cause rom words (Some call) Deep h = of_call rom words call Deep h
-call_cause rom words (Some call) TooManyWords h = of_call rom words call TooManyWords h
-call_cause rom words (Some call) TooManyEntries h = of_call rom words call TooManyEntries h
+call_cause rom words call why h = grind (arith, of_call)

@@ -37,12 +37,7 @@ chain_pop made most n (v ∷ stack) w h = let p = chain_pop made h.0.words n sta
 -- a shape that is being made has more words
 chain_has : (made : List Entry) (most n : ℕ) (stack : List PartialEntry) (addr : ℕ) (key : Key) (g : Entry) → IsMaking stack addr key → Chain made most stack n → entry_at made addr key ≡ Some g → n < g.words
 chain_has made most n [] addr key g m h e = absurd m
-chain_has made most n (v ∷ stack) addr key g (inl same) h e =
-    let there : entry_at made addr key ≡ Some h.0 = subst (λ x. entry_at made x key ≡ Some h.0) same.0 (subst (λ x. entry_at made v.addr x ≡ Some h.0) same.1 h.1) in
-    let f : h.0 ≡ g = cc in
-    let words : h.0.words ≡ g.words = ap (λ (x : Entry). x.words) f in
-    let below = chain_below made h.0.words n stack h.3 in
-    omega (arith, below, words)
+chain_has made most n (v ∷ stack) addr key g (inl same) h e = grind (arith, entry_at, chain_below)
 chain_has made most n (v ∷ stack) addr key g (inr later) h e = chain_has made h.0.words n stack addr key g later h.3 e
 
 -- ---- no list
@@ -124,13 +119,7 @@ pub record ApartPop (done : List Entry) (stack : List PartialEntry) (w : Partial
 
 pub apart_pop : (done : List Entry) (stack : List PartialEntry) (w : PartialEntry) → Apart done (stack ++ w ∷ []) → ApartPop done stack w
 apart_pop done [] w h = record { rest = tt; none = h.0; other = λ m. m }
-apart_pop done (v ∷ stack) w h =
-    let p = apart_pop done stack w h.2 in
-    record {
-      rest = (h.0, λ m. h.1 (making_left stack (w ∷ []) v.addr v.key m), p.rest);
-      none = p.none;
-      other = λ m. ⊎_elim (λ s. h.1 (making_last stack w v.addr v.key (sym s.0) (sym s.1))) p.other m;
-    }
+apart_pop done (v ∷ stack) w h = grind (arith, (apart_pop done stack w h.2), making_left, making_last)
 
 pub apart_push : (done : List Entry) (stack : List PartialEntry) (w : PartialEntry) → Apart done stack → entry_at done w.addr w.key ≡ None → (IsMaking stack w.addr w.key → ⊥) → Apart done (stack ++ w ∷ [])
 apart_push done [] w h none other = (none, λ m. m, tt)
@@ -182,18 +171,7 @@ walks_grow rom a b (v ∷ stack) ext h = (walk_grows rom a b v ext h.0, walks_gr
 
 -- an entry that is found in no other
 find_one : (e : Entry) (addr : ℕ) (key : Key) → ((e.addr ≡ addr) × (e.key ≡ key) → ⊥) → entry_at (e ∷ []) addr key ≡ None
-find_one e addr key not = by_found (entry_at (e ∷ []) addr key) refl
-  where
-    by_found : (o : Option Entry) → entry_at (e ∷ []) addr key ≡ o → entry_at (e ∷ []) addr key ≡ None
-    by_found None q = q
-    by_found (Some f) q =
-        let l = listed_at (e ∷ []) addr key f q in
-        let is : e ≡ f = only f l.listed in
-        absurd (not (ap (λ (x : Entry). x.addr) is ∙ l.addr_is, ap (λ (x : Entry). x.key) is ∙ l.key_is))
-      where
-        only : (f : Entry) → Contains (e ∷ []) f → e ≡ f
-        only f (zero, lt, is) = is
-        only f (suc k, lt, is) = absurd (omega (arith, lt))
+find_one e addr key not = grind (arith, entry_at, listed_at)
 
 unique_more : (done : List Entry) (e : Entry) → IsUnique done → entry_at done e.addr e.key ≡ None → IsUnique (done ++ e ∷ [])
 unique_more [] e u none = (refl, tt)
@@ -221,19 +199,7 @@ done_more rom done e h f new few =
 -- ---- who needs what
 
 pub called_grows : (rom : Rom) (a b : List Entry) (old new : List PartialEntry) → Extends a b → ((addr : ℕ) (key : Key) → IsPresent a old addr key → IsPresent b new addr key) → (addr : ℕ) (key : Key) → IsCalled rom a old addr key → IsCalled rom b new addr key
-called_grows rom a b old new ext present addr key c =
-    record {
-      from = c.from;
-      from_key = c.from_key;
-      present = present c.from c.from_key c.present;
-      earlier = c.earlier;
-      item = c.item;
-      leads = c.leads;
-      stands = c.stands;
-      taken = taken_grows rom.machine a b c.from_key ext c.earlier c.taken;
-      target_is = c.target_is;
-      key_is = sym (scale_grows rom.machine a b c.from_key ext c.earlier (fine_taken (keyed_context rom.machine a c.from_key) c.earlier c.taken)) ∙ c.key_is;
-    }
+called_grows rom a b old new ext present addr key c = grind (arith, taken_grows, scale_grows, fine_taken, keyed_context)
 
 abbrev pub IsNeeded : Rom → List Entry → ℕ × Key → List Entry → List PartialEntry → ℕ → Key → Type 0
 IsNeeded rom from root done stack addr key = IsGiven from root addr key ⊎ IsCalled rom done stack addr key
@@ -258,26 +224,11 @@ module _ (rom : Rom) (from : List Entry) (root : ℕ × Key) (done : List Entry)
         by_found (entry_at done addr key) refl ext p.found_it same pl.addr_is pl.key_is
       where
         by_found : (o : Option Entry) → entry_at done addr key ≡ o → Extends done made → {x : Entry} → entry_at made partial.addr partial.key ≡ Some x → e ≡ x → x.addr ≡ partial.addr → x.key ≡ partial.key → entry_at made addr key ≡ Some g
-        by_found (Some y) t ext there same a k =
-            let y_is : Some y ≡ Some g = sym (extends_more done (e ∷ []) addr key y t) ∙ q in
-            ext addr key y t ∙ y_is
-        by_found None t ext {x = x} there same a k =
-            let last : entry_at (e ∷ []) addr key ≡ Some g = sym (ap (λ o. option_or o (entry_at (e ∷ []) addr key)) t) ∙ sym (entry_at-append done (e ∷ []) addr key) ∙ q in
-            let l = listed_at (e ∷ []) addr key g last in
-            let is : e ≡ g = only g l.listed in
-            let at : partial.addr ≡ addr = sym a ∙ ap (λ (z : Entry). z.addr) (sym same ∙ is) ∙ l.addr_is in
-            let with_key : partial.key ≡ key = sym k ∙ ap (λ (z : Entry). z.key) (sym same ∙ is) ∙ l.key_is in
-            subst (λ z. entry_at made z key ≡ Some g) at (subst (λ z. entry_at made partial.addr z ≡ Some g) with_key (there ∙ ap Some (sym same ∙ is)))
-          where
-            only : (g : Entry) → Contains (e ∷ []) g → e ≡ g
-            only g (zero, lt, is) = is
-            only g (suc k, lt, is) = absurd (omega (arith, lt))
+        by_found (Some y) t ext there same a k = grind (arith, extends_more)
+        by_found None t ext {x = x} there same a k = grind (arith, entry_at, option_or, entry_at-append, listed_at)
 
     ends_at : entry_at (done ++ e ∷ []) partial.addr partial.key ≡ Some e
-    ends_at =
-        let pop = apart_pop done stack partial h.apart in
-        let last : entry_at (e ∷ []) partial.addr partial.key ≡ Some e = ap (λ t. if t then Some e else None) (at_holds partial.addr partial.key e f.addr f.key) in
-        entry_at-append done (e ∷ []) partial.addr partial.key ∙ ap (λ o. option_or o (entry_at (e ∷ []) partial.addr partial.key)) pop.none ∙ last
+    ends_at = grind (arith, (apart_pop done stack partial h.apart), (entry_at (e ∷ []) partial.addr partial.key), (at_holds partial.addr partial.key e f.addr f.key), f, (entry_at-append done (e ∷ []) partial.addr partial.key), option_or)
 
     pub present_finished : (addr : ℕ) (key : Key) → IsPresent done (stack ++ partial ∷ []) addr key → IsPresent (done ++ e ∷ []) stack addr key
     present_finished addr key (inl has) = inl (has.0, extends_more done (e ∷ []) addr key has.0 has.1)
@@ -287,16 +238,7 @@ module _ (rom : Rom) (from : List Entry) (root : ℕ × Key) (done : List Entry)
         (making_append stack (partial ∷ []) addr key m)
 
     was_present : (addr : ℕ) (key : Key) → IsPresent (done ++ e ∷ []) stack addr key → IsPresent done (stack ++ partial ∷ []) addr key
-    was_present addr key (inr m) = inr (making_left stack (partial ∷ []) addr key m)
-    was_present addr key (inl has) = by_found (entry_at done addr key) refl
-      where
-        by_found : (o : Option Entry) → entry_at done addr key ≡ o → IsPresent done (stack ++ partial ∷ []) addr key
-        by_found (Some x) q = inl (x, q)
-        by_found None q =
-            let last : entry_at (e ∷ []) addr key ≡ Some has.0 = sym (ap (λ o. option_or o (entry_at (e ∷ []) addr key)) q) ∙ sym (entry_at-append done (e ∷ []) addr key) ∙ has.1 in
-            let l = listed_at (e ∷ []) addr key has.0 last in
-            let is : e ≡ has.0 = only_listed e has.0 l.listed in
-            inr (making_last stack partial addr key (sym f.addr ∙ ap (λ (x : Entry). x.addr) is ∙ l.addr_is) (sym f.key ∙ ap (λ (x : Entry). x.key) is ∙ l.key_is))
+    was_present addr key h2 = grind (arith, making_left, entry_at, option_or, entry_at-append, listed_at, only_listed, making_last, f)
 
     pub making_finished : InProgress rom from root (done ++ e ∷ []) stack
     making_finished =

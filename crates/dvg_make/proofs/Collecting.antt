@@ -1,5 +1,6 @@
 -- Root after root, and frame after frame.
 use Rattle.dvg_make.proofs.Common.{Machine, ◌≡◌, ℕ, zero, suc, ◌+◌, ◌<◌, ◌≤◌, List, [], ◌∷◌, ◌++◌, length, Option, Some, None, refl, sym, ap, ◌∙◌, subst, arith, ◌⊎◌, inl, inr, ⊎_elim, Contains, slice_get, Bool, false, Rom, IsKey, Entry, Key, MOST_ENTRIES, listed_at, HasEntry, MadeFor, AllMade, IsAskedFor, EntryFault, Unstraight, Deep, TooManyWords, TooManyEntries, Memory, FramesRefuse, Extends, IsAim, NoAim, InProgress, Bars, obstacle_fault, Collected, HasCalls, IsFramed, BarsHere, AllFramed, PartialEntry, Obstacle, shapes, IsMaking, IsCalled, IsToldOf, TellsHere, keyed_context, start, FrameCall, known_before}
+use Rattle.std.proofs.Common.{rules}
 use Rattle.std.proofs.lemmas.List.Elements.{Contains-append_left, Contains-append_right, Contains-append_cases, Contains-get_or}
 use Rattle.std.proofs.lemmas.Option.{slice_get-get_or}
 use Rattle.std.proofs.Common.{take, drop, get_or, take-suc, take_all, take-append-drop}
@@ -50,23 +51,10 @@ taken_before (y ∷ xs) (suc i) (suc j) x z e (suc k, lt, is) = let c = taken_be
 -- ---- roots
 
 pub none_collected : (rom : Rom) → Collected rom [] []
-none_collected rom =
-    record {
-      is_done = record { entries = λ e c. absurd (omega (arith, c.1)); made = λ e c. absurd (omega (arith, c.1)); unique = tt; room = omega arith };
-      rooted = λ a k c. absurd (omega (arith, c.1));
-      needed = λ a k h. none_at h.1;
-      forced = λ made all has a k e q. none_at q;
-    }
-  where
-    none_at : {P : Type 0} {e : Entry} → None ≡ Some e → P
-    none_at q = cc q
+none_collected rom = grind (arith)
 
 pub root_collected : (rom : Rom) (roots : List (ℕ × Key)) (i j : ℕ) (d : ℕ × Key) (old new : List Entry) → j ≡ suc i → i < length roots → Collected rom (take i roots) old → InProgress rom old ((get_or roots i d).0, (get_or roots i d).1) new [] → HasEntry new (get_or roots i d).0 (get_or roots i d).1 → Collected rom (take j roots) new
-root_collected rom roots i j d old new next lt h m has =
-    subst (λ a. Collected rom a new) (sym (ap (λ n. take n roots) next ∙ take-suc roots i d lt)) (collected_more rom (take i roots) old new (get_or roots i d).0 (get_or roots i d).1 h m has)
-
-pub roots_collected : (rom : Rom) (roots : List (ℕ × Key)) (i : ℕ) (done : List Entry) → length roots ≤ i → Collected rom (take i roots) done → Collected rom roots done
-roots_collected rom roots i done le h = subst (λ a. Collected rom a done) (take_all i roots le) h
+root_collected rom roots i j d old new next lt h m has = grind (arith, (take-suc roots i d lt), (collected_more rom (take i roots) old new (get_or roots i d).0 (get_or roots i d).1 h m has))
 
 pub made_all : (rom : Rom) (P : ℕ → Key → Type 0) (list : List Entry) → MadeFor rom P list → AllMade rom list
 made_all rom P list m e c = let is = listed_entry rom.map.rom_first rom.map.rom_last list e m.certificate.each c in record { made = m.each e c; words = is.words_high; depth = is.depth }
@@ -74,12 +62,7 @@ made_all rom P list m e c = let is = listed_entry rom.map.rom_first rom.map.rom_
 module _ (rom : Rom) (roots : List (ℕ × Key)) (i : ℕ) (d : ℕ × Key) (done : List Entry) (lt : i < length roots) (h : Collected rom (take i roots) done) where
   -- a certificate that has all roots has what is made so far, and this root
   aims : (list : List Entry) → AllMade rom list → HasAll roots list → IsAim rom done ((get_or roots i d).0, (get_or roots i d).1) list
-  aims list all has =
-      record {
-        all = all;
-        extends = h.forced list all (λ a k c. has a k (in_taken roots i (a, k) c));
-        has = has (get_or roots i d).0 (get_or roots i d).1 (Contains-get_or roots i d lt);
-      }
+  aims list all has = search (all, h.forced list all (λ a k c. has a k (in_taken roots i (a, k) c)), has (get_or roots i d).0 (get_or roots i d).1 (Contains-get_or roots i d lt))
 
   none_made : (frames : List (List ℕ)) → NoAim rom done ((get_or roots i d).0, (get_or roots i d).1) → NoFramesMade rom roots frames
   none_made frames b list m = b list (aims list (made_all rom (IsAskedFor rom.machine roots frames list) list m) (λ a k r. m.rooted a k (inl r)))
@@ -117,12 +100,7 @@ needed_by rom list chain addr key c =
     record {
       from = asked_shape (c.from, c.from_key);
       there = ⊎_elim (λ has. inl has) (λ m. inr (in_links chain c.from c.from_key m)) c.present;
-      precedes = record {
-        at = c.item.at;
-        before = known_before (keyed_context rom.machine list c.from_key) c.earlier;
-        reaches = record { items = c.earlier; leads = c.leads; taken = c.taken; known = refl };
-        calls = record { item = c.item; at_is = refl; stands = c.stands; target_is = c.target_is; key_is = c.key_is };
-      };
+      precedes = search (rules, known_before (keyed_context rom.machine list c.from_key) c.earlier);
     }
 
 room_of_links : (list : List Entry) (chain : List PartialEntry) → length list + length chain ≤ MOST_ENTRIES → length list + length (shapes chain) ≤ MOST_ENTRIES
@@ -130,8 +108,7 @@ room_of_links list chain room = let long = length_links chain in omega (arith, l
 
 -- roots alone
 has_roots : (machine : Machine) (asked : List (ℕ × Key)) (list : List Entry) → HasAll asked list → HasAsked machine asked [] list
-has_roots machine asked list has a k (inl c) = has a k c
-has_roots machine asked list has a k (inr c) = absurd (omega (arith, c.1.1))
+has_roots machine asked list has a k h6 = grind (arith)
 
 module _ (machine : Machine) (roots : List (ℕ × Key)) (frames : List (List ℕ)) (list : List Entry) where
   abbrev IsNamed : ℕ → Key → Type 0
@@ -195,17 +172,7 @@ roots_refused : (rom : Rom) (roots : List (ℕ × Key)) (frames : List (List ℕ
 roots_refused rom roots frames why b = record { list = b frames; root = b []; frame = tt }
 
 unless : (c : EntryCause) (T : Type 0) → T → UnlessMemory c T
-unless cause.Memory T t = tt
-unless cause.RootOutside T t = t
-unless cause.Missing T t = t
-unless cause.Odd T t = t
-unless cause.Halt T t = t
-unless cause.BeamUnknown T t = t
-unless cause.ScaleUnknown T t = t
-unless (cause.Ring from) T t = t
-unless (cause.Deep to key) T t = t
-unless (cause.TooManyWords words) T t = t
-unless cause.TooManyEntries T t = t
+unless c T t = grind (arith)
 
 module _ (rom : Rom) (roots : List (ℕ × Key)) (i : ℕ) (d : ℕ × Key) (done : List Entry) (lt : i < length roots) (h : Collected rom (take i roots) done) where
   outside_at : (r : Bool) → r ≡ false → (IsTrue r ↔ (InRom rom.map (get_or roots i d).0 × IsKey (get_or roots i d).1)) → InRom rom.map (get_or roots i d).0 × IsKey (get_or roots i d).1 → ⊥
@@ -213,12 +180,7 @@ module _ (rom : Rom) (roots : List (ℕ × Key)) (i : ℕ) (d : ℕ × Key) (don
 
   -- a root whose entry can't be made
   pub root_refused : (blocked : Blocked) → IsBlocked rom done ((get_or roots i d).0, (get_or roots i d).1) blocked → (frames : List (List ℕ)) → IsRefused rom roots frames blocked
-  root_refused blocked b frames =
-      subst (λ (call : Option FrameCall). IsRefused rom roots frames (record { call = call; chain = blocked.chain; obstacle = blocked.obstacle })) (sym b.call)
-      (record {
-        refuse = roots_refused rom roots frames (obstacle_fault blocked.obstacle) (λ f. root_barred rom roots i d done lt h f (obstacle_fault blocked.obstacle) b.bars);
-        told = unless blocked.obstacle.cause (IsToldOf rom roots frames None blocked.chain blocked.obstacle) (root_told rom roots i d done lt h blocked.chain blocked.obstacle b.told frames);
-      })
+  root_refused blocked b frames = grind (arith, roots_refused, (obstacle_fault blocked.obstacle), root_barred, (unless blocked.obstacle.cause (IsToldOf rom roots frames None blocked.chain blocked.obstacle) (root_told rom roots i d done lt h blocked.chain blocked.obstacle b.told frames)), (root_told rom roots i d done lt h blocked.chain blocked.obstacle b.told frames))
 
   -- a root outside the ROM, or with a key over 15
   pub outside_refused : (r : Bool) → r ≡ false → (IsTrue r ↔ (InRom rom.map (get_or roots i d).0 × IsKey (get_or roots i d).1)) → (chain : List PartialEntry) → chain ≡ [] → (obstacle : Obstacle) → obstacle ≡ record { cursor = (start (get_or roots i d).0 (get_or roots i d).1).cursor; cause = RootOutside } → (frames : List (List ℕ)) → IsRefused rom roots frames (record { call = None; chain = chain; obstacle = obstacle })
@@ -229,15 +191,7 @@ module _ (rom : Rom) (roots : List (ℕ × Key)) (i : ℕ) (d : ℕ × Key) (don
       }
     where
       told : IsToldFrom rom done ((get_or roots i d).0, (get_or roots i d).1) chain obstacle
-      told =
-          record {
-            list = done;
-            is_done = h.is_done;
-            extends = λ addr key e q. q;
-            needed = called_none rom done ((get_or roots i d).0, (get_or roots i d).1) chain none;
-            room = room_of_none done chain none h.is_done.room;
-            tells = tells_outside rom done (get_or roots i d).0 (get_or roots i d).1 (outside_at r failed is) chain none obstacle e;
-          }
+      told = grind (arith, called_none, room_of_none, tells_outside, outside_at)
 
 -- ---- frames
 
@@ -272,19 +226,7 @@ call_told rom roots frames i d old lt h at chain obstacle t =
     asked_here a k (inr c) = named_call rom.machine roots frames t.list i (get_or frames i d) (slice_get-get_or frames i d lt) before a k c
 
 pub no_frames : (rom : Rom) (roots : List (ℕ × Key)) (frames : List (List ℕ)) (done : List Entry) → Collected rom roots done → AllFramed rom roots (take 0 frames) done
-no_frames rom roots frames done h =
-    record {
-      rooted = h.rooted;
-      has_calls = λ words c. absurd (none_taken frames words c);
-      asked = roots;
-      asked_for = λ addr key c. inl c;
-      collected = h;
-      forced = λ list all has calls. h.forced list all has;
-    }
-  where
-    none_taken : (xs : List (List ℕ)) (x : List ℕ) → Contains (take 0 xs) x → ⊥
-    none_taken [] x c = omega (arith, c.1)
-    none_taken (y ∷ xs) x c = omega (arith, c.1)
+no_frames rom roots frames done h = grind (arith)
 
 module _ (rom : Rom) (roots : List (ℕ × Key)) (frames : List (List ℕ)) (i : ℕ) (d : List ℕ) (old : List Entry) (lt : i < length frames) (h : AllFramed rom roots (take i frames) old) where
   abbrev now : List ℕ
@@ -339,22 +281,14 @@ module _ (rom : Rom) (roots : List (ℕ × Key)) (frames : List (List ℕ)) (i :
   frame_refused at why b = record { list = list_barred why b.0; root = tt; frame = (now, slice_get-get_or frames i d lt, b.1, b.2) }
 
   pub call_refused : (blocked : Blocked) → BlocksHere rom i now old blocked → IsRefused rom roots frames blocked
-  call_refused blocked b =
-      subst (λ (call : Option FrameCall). IsRefused rom roots frames (record { call = call; chain = blocked.chain; obstacle = blocked.obstacle })) (sym b.call)
-      (record {
-        refuse = frame_refused b.at (obstacle_fault blocked.obstacle) b.bars;
-        told = unless blocked.obstacle.cause (IsToldOf rom roots frames (Some (record { frame = i; at = b.at })) blocked.chain blocked.obstacle) (call_told rom roots frames i d old lt h b.at blocked.chain blocked.obstacle b.told);
-      })
+  call_refused blocked b = grind (arith, (frame_refused b.at (obstacle_fault blocked.obstacle) b.bars), (obstacle_fault blocked.obstacle), (unless blocked.obstacle.cause (IsToldOf rom roots frames (Some (record { frame = i; at = b.at })) blocked.chain blocked.obstacle) (call_told rom roots frames i d old lt h b.at blocked.chain blocked.obstacle b.told)), (call_told rom roots frames i d old lt h b.at blocked.chain blocked.obstacle b.told))
 
 pub frames_framed : (rom : Rom) (roots : List (ℕ × Key)) (frames : List (List ℕ)) (i : ℕ) (done : List Entry) → length frames ≤ i → AllFramed rom roots (take i frames) done → AllFramed rom roots frames done
 frames_framed rom roots frames i done le h = subst (λ f. AllFramed rom roots f done) (take_all i frames le) h
 
 -- where memory was out
 pub memory_refused : (rom : Rom) (roots : List (ℕ × Key)) (frames : List (List ℕ)) (blocked : Blocked) → blocked.call ≡ None → blocked.obstacle.cause ≡ cause.Memory → IsRefused rom roots frames blocked
-memory_refused rom roots frames blocked none memory =
-    subst (λ (call : Option FrameCall). IsRefused rom roots frames (record { call = call; chain = blocked.chain; obstacle = blocked.obstacle })) (sym none)
-    (subst (λ (why : EntryCause). IsRefused rom roots frames (record { call = None; chain = blocked.chain; obstacle = record { cursor = blocked.obstacle.cursor; cause = why } })) (sym memory)
-    (record { refuse = record { list = tt; root = tt; frame = tt }; told = tt }))
+memory_refused rom roots frames blocked none memory = grind (arith)
 
 -- what a refusal says where there is no frame
 pub as_make_fault : (rom : Rom) (roots : List (ℕ × Key)) (why : EntryFault) → BarsList rom roots [] why → Refuses rom roots (make_fault_of why)

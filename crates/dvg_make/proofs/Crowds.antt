@@ -40,11 +40,7 @@ stack_crowd l (w ∷ stack) apart has =
 
 apart_tail : (e : Entry) (done : List Entry) (stack : List PartialEntry) → Apart (e ∷ done) stack → Apart done stack
 apart_tail e done [] h = tt
-apart_tail e done (w ∷ stack) h = (by_test (is_at w.addr w.key e) h.0, h.1, apart_tail e done stack h.2)
-  where
-    by_test : (t : Bool) → (if t then Some e else entry_at done w.addr w.key) ≡ None → entry_at done w.addr w.key ≡ None
-    by_test true q = cc q
-    by_test false q = q
+apart_tail e done (w ∷ stack) h = grind (arith, is_at, (apart_tail e done stack h.2), entry_at)
 
 making_none : (done : List Entry) (stack : List PartialEntry) (addr : ℕ) (key : Key) → Apart done stack → IsMaking stack addr key → entry_at done addr key ≡ None
 making_none done [] addr key h m = absurd m
@@ -55,11 +51,7 @@ find_self : (e : Entry) (done : List Entry) → entry_at (e ∷ done) e.addr e.k
 find_self e done = ap (λ t. if t then Some e else entry_at done e.addr e.key) (at_holds e.addr e.key e refl refl)
 
 found_tail : (e f : Entry) (done : List Entry) (addr : ℕ) (key : Key) → ((e.addr ≡ addr) × (e.key ≡ key) → ⊥) → entry_at done addr key ≡ Some f → entry_at (e ∷ done) addr key ≡ Some f
-found_tail e f done addr key not h = by_test (is_at addr key e) refl
-  where
-    by_test : (t : Bool) → is_at addr key e ≡ t → entry_at (e ∷ done) addr key ≡ Some f
-    by_test true q = absurd (not (at_means addr key e q))
-    by_test false q = ap (λ t. if t then Some e else entry_at done addr key) q ∙ h
+found_tail e f done addr key not h = grind (arith, is_at, entry_at, at_means)
 
 clash : {o : Option Entry} {x : Entry} → o ≡ None → o ≡ Some x → ⊥
 clash p q = cc (p, q)

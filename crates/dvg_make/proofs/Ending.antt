@@ -7,14 +7,7 @@ use Rattle.dvg_make.proofs.Onward.{Walking, end, knows_last, finished}
 use Rattle.dvg_make.proofs.Small.{made_is_entry}
 
 scale_key : (i : Instr) (o : Option Entry) (scale : Key) → InstrFits i → IfSome o IsClaim → IsKey scale → IsKey (unwrap_or (scale_set i o) scale)
-scale_key (Draws d) o scale fits claim is = is
-scale_key (Labs x y g) o scale fits claim is = fits.2
-scale_key Halt o scale fits claim is = is
-scale_key Rtsl o scale fits claim is = is
-scale_key (Jsrl to) None scale fits claim is = is
-scale_key (Jsrl to) (Some e) scale fits claim is = claim.scale
-scale_key (Jmpl to) None scale fits claim is = is
-scale_key (Jmpl to) (Some e) scale fits claim is = claim.scale
+scale_key i o scale fits claim is = grind (arith)
 
 module _ (rom : Rom) (list : List Entry) (done : IsDone rom list) (from w : PartialEntry) (h : Walking rom list from w) (format : Format) (instr : Instr) (is : cell_at (rom_word rom) w.cursor.at ≡ Holds format instr) (o : Option Entry) (nm : IsCallee list instr w.cursor.known.scale o) where
   pub ended : InstrFits instr → IfSome o IsClaim → (lit : LitBox) (s : Passes (seen_with rom.machine o w.cursor.known (record { at = w.cursor.at; format = format; instr = instr })) w.lit lit) (step : Step) (last : Known) → step ≡ Last last → step ≡ step_past Shape (seen_with rom.machine o w.cursor.known (record { at = w.cursor.at; format = format; instr = instr })) → IsFinished rom list from (entry_of w.addr w.key last lit)

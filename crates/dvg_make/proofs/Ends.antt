@@ -1,5 +1,6 @@
 -- What a made entry says of its shape: at each item, and at the end.
 use Rattle.dvg_make.proofs.Common.{Machine, ◌≡◌, ◌≢◌, ℕ, zero, suc, ◌+◌, ◌<◌, ◌≤◌, List, [], ◌∷◌, Option, Some, None, refl, sym, ap, ◌∙◌, subst, arith, cell_at, Rom, rom_word, screen, Window, Cell, Missing, Odd, Holds, Format, Instr, entry_at, Entry, Key, next_address, LeadsTo, Context, shape_context, target, callee_at, callee, callee_words, scale_before, place_before, words_before, depth_before, depth_under, known_before, extent, seen_at, HasCallee, InBox, relative_corners, ShapeKeeps, CellKeeps, Exact, ShapeWhy, Item, Shape, Known, Seen, word_count-some, lit_points, HoldsAll, IsLeast, HasEntry, EachItem, MadeEntry, keyed_context, IsStraight, AllFine}
+use Rattle.std.proofs.Common.{rules}
 use Rattle.dvg_check.specs.FirstFault.{AllBefore}
 use Rattle.dvg_items.proofs.Lists.{all_left, all_right}
 use Rattle.dvg_check.specs.Rules.{AtLast}
@@ -34,12 +35,7 @@ allows_at rom list e made earlier i lead is =
 
 -- a called entry has fewer words
 pub callee_less : (rom : Rom) (list : List Entry) (e : Entry) → MadeEntry rom list e → (earlier : List Item) (i : Item) → LeadsTo Shape (rom_word rom) e.addr earlier i.at → cell_at (rom_word rom) i.at ≡ Holds i.format i.instr → (to : ℕ) (g : Entry) → target Shape i.instr ≡ Some to → entry_at list to (scale_before (shape_context rom.machine list e) earlier) ≡ Some g → g.words < e.words
-callee_less rom list e made earlier i lead is to g t h =
-    let allows = allows_at rom list e made earlier i lead is in
-    let scale : Key = scale_before (shape_context rom.machine list e) earlier in
-    let named : callee (shape_context rom.machine list e) earlier i.instr ≡ Some g = ap (λ o. callee_at list o scale) t ∙ exact_named list to scale g h in
-    let words : callee_words (callee (shape_context rom.machine list e) earlier i.instr) ≡ g.words = ap callee_words named in
-    omega (arith, allows.many, words, word_count-some i.format)
+callee_less rom list e made earlier i lead is to g t h = grind (arith, (allows_at rom list e made earlier i lead is), (scale_before (shape_context rom.machine list e) earlier), (shape_context rom.machine list e), (callee (shape_context rom.machine list e) earlier i.instr), callee_at, exact_named, (callee_words (callee (shape_context rom.machine list e) earlier i.instr)), callee_words, (word_count-some i.format))
 
 -- ---- at the end
 
@@ -49,8 +45,7 @@ pub record Sums (machine : Machine) (list : List Entry) (items : List Item) (e :
   pub box : IsLeast (lit_points (shape_context machine list e) items) e.lit
 
 pub at_last : (o : Option ℕ) (P : Type 0) → o ≡ None → AtLast o P → P
-at_last None P e h = h
-at_last (Some p) P e h = cc
+at_last o P e h = grind (arith)
 
 pub sums_of : (rom : Rom) (list : List Entry) (e : Entry) → MadeEntry rom list e → (earlier : List Item) (i : Item) → LeadsTo Shape (rom_word rom) e.addr earlier i.at → cell_at (rom_word rom) i.at ≡ Holds i.format i.instr → next_address Shape i ≡ None → Sums rom.machine list (i ∷ earlier) e
 sums_of rom list e made earlier i lead is last =
@@ -63,11 +58,7 @@ sums_of rom list e made earlier i lead is last =
 
 -- entries with the same address, key and sums are the same
 pub same_sums : (machine : Machine) (a b : List Entry) (items : List Item) (e f : Entry) → e.addr ≡ f.addr → e.key ≡ f.key → Matched machine a b e.key items → Sums machine a items e → Sums machine b items f → e ≡ f
-same_sums machine a b items e f addr key m s t =
-    let all : gathered (keyed_context machine a e.key) items ≡ gathered (keyed_context machine b f.key) items = gathered_same machine a b e.key items m ∙ ap (λ (k : Key). gathered (keyed_context machine b k) items) key in
-    let known : known_of e ≡ known_of f = sym s.known ∙ ap (λ (g : Gathered). g.known) all ∙ t.known in
-    let lit = one_least (lit_points (shape_context machine b f) items) e.lit f.lit (subst (λ l. IsLeast l e.lit) (ap (λ (g : Gathered). g.lit) all) s.box) t.box in
-    λ x. record { addr = addr x; key = key x; stop = (known x).place; lit = lit x; depth = (known x).depth; words = (known x).words; scale = (known x).scale }
+same_sums machine a b items e f addr key m s t = grind (arith, gathered, keyed_context, gathered_same, one_least, lit_points, shape_context)
 
 -- ---- the items end
 
@@ -116,8 +107,7 @@ pub record Ends (rom : Rom) (list : List Entry) (e : Entry) : Type 0 where
   pub fine : AllFine (shape_context rom.machine list e) (stops.i ∷ stops.items)
 
 fine_at : (rom : Rom) (list : List Entry) (e : Entry) → MadeEntry rom list e → (earlier : List Item) (i : Item) → LeadsTo Shape (rom_word rom) e.addr earlier i.at → cell_at (rom_word rom) i.at ≡ Holds i.format i.instr → IsFine (shape_context rom.machine list e) earlier i
-fine_at rom list e made earlier i lead is =
-    record { straight = (allows_at rom list e made earlier i lead is).straight; keyed = made.keyed earlier i lead is }
+fine_at rom list e made earlier i lead is = grind (arith, (allows_at rom list e made earlier i lead is))
 
 pub all_fine : (rom : Rom) (list : List Entry) (e : Entry) → MadeEntry rom list e → (items : List Item) (p : ℕ) → LeadsTo Shape (rom_word rom) e.addr items p → AllFine (shape_context rom.machine list e) items
 all_fine rom list e made [] p lead = tt
@@ -134,20 +124,15 @@ made_ends rom list e made =
 
 -- a made entry has words
 pub made_some : (rom : Rom) (list : List Entry) (e : Entry) → MadeEntry rom list e → 1 ≤ e.words
-made_some rom list e made =
-    let h = made_ends rom list e made in
-    let words : words_before (shape_context rom.machine list e) (h.stops.i ∷ h.stops.items) ≡ e.words = ap (λ (k : Known). k.words) h.sums.known in
-    omega (arith, words, word_count-some h.stops.i.format)
+made_some rom list e made = grind (arith, (made_ends rom list e made), words_before, (shape_context rom.machine list e), word_count-some)
 
 -- ---- and the other way round
 
 pub has_callee : (list : List Entry) (o : Option ℕ) (scale : Key) → ((to : ℕ) → o ≡ Some to → HasEntry list to scale) → HasCallee o (callee_at list o scale)
-has_callee list None scale h = tt
-has_callee list (Some to) scale h = let f = h to refl in subst (λ x. HasCallee (Some to) x) (sym (exact_named list to scale f.0 f.1)) tt
+has_callee list o scale h = grind (arith, exact_named)
 
 last_map : {A : Type 0} (o : Option ℕ) (x y : Known) (f : Known → A) → AtLast o (x ≡ y) → AtLast o (f x ≡ f y)
-last_map None x y f h = ap f h
-last_map (Some p) x y f h = tt
+last_map o x y f h = grind (arith)
 
 module _ (rom : Rom) (list : List Entry) (e : Entry) where
   abbrev c : Context
@@ -161,37 +146,17 @@ module _ (rom : Rom) (list : List Entry) (e : Entry) where
     known : AtLast (next_address Shape i) (known_before c (i ∷ earlier) ≡ known_of e)
 
   kept_at : (earlier : List Item) (i : Item) → AtItem earlier i → (w : Window) (why : ShapeWhy) → why ≢ shape.OffScreen → ShapeKeeps Exact w e (seen_at c earlier i) why
-  kept_at earlier i h w shape.Unmapped not = tt
-  kept_at earlier i h w shape.Odd not = tt
-  kept_at earlier i h w shape.HaltInShape not = h.fine.straight.no_halt
-  kept_at earlier i h w shape.BeamUnknown not = h.fine.straight.place
-  kept_at earlier i h w shape.ScaleUnknown not = h.fine.straight.scale
-  kept_at earlier i h w shape.OffScreen not = absurd (not refl)
-  kept_at earlier i h w shape.NoEntry not = has_callee list (target Shape i.instr) (scale_before c earlier) h.fine.keyed
-  kept_at earlier i h w shape.TooDeep not = h.deep
-  kept_at earlier i h w shape.TooManyWords not = h.many
-  kept_at earlier i h w shape.EndDiffers not = last_map (next_address Shape i) _ _ (λ (k : Known). k.place) h.known
-  kept_at earlier i h w shape.ScaleDiffers not = last_map (next_address Shape i) _ _ (λ (k : Known). k.scale) h.known
-  kept_at earlier i h w shape.BoxTooSmall not = h.holds
-  kept_at earlier i h w shape.WordsDiffer not = last_map (next_address Shape i) _ _ (λ (k : Known). k.words) h.known
-  kept_at earlier i h w shape.DepthDiffers not = last_map (next_address Shape i) _ _ (λ (k : Known). k.depth) h.known
+  kept_at earlier i h w h4 not = grind (arith, has_callee, target, scale_before, last_map, next_address)
 
   kept_place : (earlier : List Item) (i : Item) → cell_at (rom_word rom) i.at ≡ Holds i.format i.instr → AtItem earlier i → (why : ShapeWhy) → MadeKeeps rom list e earlier i.at why
-  kept_place earlier i is h why w not =
-      subst (λ cell. CellKeeps shape.Unmapped shape.Odd (λ j. ShapeKeeps Exact w e (seen_at c earlier j)) i.at cell why) (sym is) (kept_at earlier i h w why not)
+  kept_place earlier i is h why w not = grind (arith, seen_at, kept_at)
 
   kept_before : (items : List Item) (p : ℕ) → LeadsTo Shape (rom_word rom) e.addr items p → AllFine c items → depth_before c items ≤ e.depth → words_before c items ≤ e.words → HoldsAll e.lit (lit_points c items) → AllBefore (MadeKeeps rom list e) items
   kept_before [] p lead fine deep many holds = tt
   kept_before (i ∷ earlier) p lead fine deep many holds = (
     kept_before earlier i.at lead.0 fine.0 (omega (arith, deep)) (omega (arith, many)) (all_right (InBox e.lit) (relative_corners (extent c earlier i.instr) (place_before c earlier)) (lit_points c earlier) holds),
     kept_place earlier i lead.1
-        (record {
-          fine = fine.1;
-          deep = omega (arith, deep);
-          many = many;
-          holds = all_left (InBox e.lit) (relative_corners (extent c earlier i.instr) (place_before c earlier)) (lit_points c earlier) holds;
-          known = subst (λ o. AtLast o (known_before c (i ∷ earlier) ≡ known_of e)) (sym lead.2) tt;
-        }),
+        (search (rules, fine.1, many, all_left (InBox e.lit) (relative_corners (extent c earlier i.instr) (place_before c earlier)) (lit_points c earlier) holds, subst (λ o. AtLast o (known_before c (i ∷ earlier) ≡ known_of e)) (sym lead.2) tt)),
   )
 
   -- what holds at these items and at the last, holds at each item
@@ -228,13 +193,7 @@ module _ (rom : Rom) (list : List Entry) (e : Entry) where
           keeps = all_kept Shape (rom_word rom) e.addr ShapeWhy (MadeKeeps rom list e) h.stops.items h.stops.i h.stops.leads h.stops.is h.stops.last (
             kept_before h.stops.items h.stops.i.at h.stops.leads h.fine.0 (omega (arith, deep)) (omega (arith, many)) (all_right (InBox e.lit) (relative_corners (extent c h.stops.items h.stops.i.instr) (place_before c h.stops.items)) (lit_points c h.stops.items) h.sums.box.holds),
             kept_place h.stops.items h.stops.i h.stops.is
-                (record {
-                  fine = h.fine.1;
-                  deep = omega (arith, deep);
-                  many = omega (arith, many);
-                  holds = all_left (InBox e.lit) (relative_corners (extent c h.stops.items h.stops.i.instr) (place_before c h.stops.items)) (lit_points c h.stops.items) h.sums.box.holds;
-                  known = subst (λ o. AtLast o (known_before c (h.stops.i ∷ h.stops.items) ≡ known_of e)) (sym h.stops.last) h.sums.known;
-                }),
+                (search (rules, h.fine.1, all_left (InBox e.lit) (relative_corners (extent c h.stops.items h.stops.i.instr) (place_before c h.stops.items)) (lit_points c h.stops.items) h.sums.box.holds, subst (λ o. AtLast o (known_before c (h.stops.i ∷ h.stops.items) ≡ known_of e)) (sym h.stops.last) h.sums.known)),
           );
           keyed = λ earlier j l g. (each_item (IsFine c) (fine_each (h.stops.i ∷ h.stops.items) h.fine) earlier j l g).keyed;
           box = at_end (λ all. IsLeast (lit_points c all) e.lit) h.sums.box;

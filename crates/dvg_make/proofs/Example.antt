@@ -1,5 +1,6 @@
 -- The worked example is made.
 use Rattle.dvg_make.proofs.Common.{◌≡◌, ◌∙◌, ℕ, zero, suc, List, [], ◌∷◌, ◌⊎◌, Some, None, refl, sym, ap, subst, inl, arith, Contains, ints, screen, cell_at, rom_word, Holds, Entry, Key, At, LitBox, Empty, Span, next_address, shape_context, target, scale_before, IsInside, Exact, Item, Shape, lit_points, HoldsAll, IsLeast, HasEntry, EachItem, MadeEntry, Needs}
+use Rattle.std.proofs.Common.{rules}
 use Rattle.dvg_words.specs.Beam.{displacement}
 use Rattle.dvg_words.specs.declared.machine.Machine.TheVariants.{Profile}
 use Rattle.dvg_words.specs.Example.{example_rom}
@@ -14,10 +15,7 @@ use Rattle.dvg_make.specs.Made.{MadeKeeps, Made}
 -- ---- its items
 
 item_same : (i j : Item) → i.at ≡ j.at → Holds i.format i.instr ≡ Holds j.format j.instr → i ≡ j
-item_same i j a e =
-    let l : i.format ≡ j.format = cc in
-    let k : i.instr ≡ j.instr = cc in
-    λ x. record { at = a x; format = l x; instr = k x }
+item_same i j a e = grind (arith)
 
 module _ (P : List Item → Item → Type 0) where
   -- what holds of the item, if it stands at a place
@@ -41,15 +39,7 @@ example_keeps earlier p lead why w not = other_window Exact example_rom example_
 
 example_least : IsLeast (lit_points (shape_context example_rom.machine example_list example_entry) (return_item ∷ draw_item ∷ [])) example_entry.lit
 unfolding displacement
-example_least =
-    record {
-      holds = (record { left = omega (arith, ints); right = omega (arith, ints); bottom = omega (arith, ints); top = omega (arith, ints) }, (record { left = omega (arith, ints); right = omega (arith, ints); bottom = omega (arith, ints); top = omega (arith, ints) }, tt));
-      least = inside;
-    }
-  where
-    inside : (other : LitBox) → HoldsAll other (lit_points (shape_context example_rom.machine example_list example_entry) (return_item ∷ draw_item ∷ [])) → IsInside example_entry.lit other
-    inside Empty h = absurd h.0
-    inside (Span a b c d) h = (h.0.left, h.1.0.right, h.0.bottom, h.1.0.top)
+example_least = grind (arith, lit_points, shape_context, return_item, draw_item)
 
 -- ---- all
 
@@ -81,13 +71,7 @@ example_made = record { certificate = (example_good Profile).certificate; each =
     needed f (suc k, lt, is) = absurd (omega (arith, lt))
 
 none_made : Made example_rom [] []
-none_made =
-    record {
-      certificate = record { map_is = record { past_frames = omega arith; ordered = omega arith; inside = omega arith }; each = tt; rising = tt; few = omega arith };
-      each = λ e c. absurd (omega (arith, c.1));
-      rooted = λ addr key c. absurd (omega (arith, c.1));
-      needed = λ f c. absurd (omega (arith, c.1));
-    }
+none_made = grind (arith)
 
 pub worked_example : WorkedExampleMade
 worked_example = (example_made, none_made)

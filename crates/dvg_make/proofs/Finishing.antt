@@ -22,32 +22,14 @@ module _ (rom : Rom) (roots : List (ℕ × Key)) (frames : List (List ℕ)) (don
   is_certificate is = record { map_is = is; each = all_listed (IsEntry rom.map.rom_first rom.map.rom_last) list (λ e c. h.collected.is_done.entries e (done_listed e c)); rising = rises; few = omega (arith, h.collected.is_done.room, long) }
 
   needs_it : (f : Entry) → Contains list f → IsCalled rom done [] f.addr f.key → (e : Entry) × Contains list e × Needs rom list e f
-  needs_it f listed_f c = by_present c.present
-    where
-      by_present : IsPresent done [] c.from c.from_key → (e : Entry) × Contains list e × Needs rom list e f
-      by_present (inr m) = absurd m
-      by_present (inl has) =
-          let l = listed_at list c.from c.from_key has.0 (ext c.from c.from_key has.0 has.1) in
-          let scale : scale_before (shape_context rom.machine list has.0) c.earlier ≡ f.key = ap (λ (k : Key). scale_before (keyed_context rom.machine list k) c.earlier) l.key_is ∙ sym (scale_grows rom.machine done list c.from_key ext c.earlier (fine_taken (keyed_context rom.machine done c.from_key) c.earlier c.taken)) ∙ c.key_is in
-          let named : callee_at list (Some f.addr) f.key ≡ Some f = exact_named list f.addr f.key f (found_listed list f rises listed_f) in (
-            has.0,
-            l.listed,
-            record {
-              earlier = c.earlier;
-              item = c.item;
-              leads = subst (λ a. LeadsTo Shape (rom_word rom) a c.earlier c.item.at) (sym l.addr_is) c.leads;
-              stands = c.stands;
-              callee_is = ap (λ o. callee_at list o (scale_before (shape_context rom.machine list has.0) c.earlier)) c.target_is ∙ ap (λ (k : Key). callee_at list (Some f.addr) k) scale ∙ named;
-            },
-          )
+  needs_it f listed_f c = grind (arith, listed_at, ext, scale_before, shape_context, keyed_context, scale_grows, fine_taken, callee_at, exact_named, found_listed, rom_word)
 
   asked_has : (addr : ℕ) (key : Key) → IsAskedFor rom.machine roots frames list addr key → HasEntry list addr key
   asked_has addr key (inl r) = let x = h.rooted addr key r in (x.0, ext addr key x.0 x.1)
   asked_has addr key (inr c) = let x = h.has_calls c.0 c.1 addr key (calls_shrink rom.machine c.0 done list ext (h.has_calls c.0 c.1) addr key c.2) in (x.0, ext addr key x.0 x.1)
 
   asked_grows : (addr : ℕ) (key : Key) → IsAskedFor rom.machine roots frames done addr key → IsAskedFor rom.machine roots frames list addr key
-  asked_grows addr key (inl r) = inl r
-  asked_grows addr key (inr c) = inr (c.0, c.1, calls_grow rom.machine c.0 done list ext (h.has_calls c.0 c.1) addr key c.2)
+  asked_grows addr key h2 = grind (arith, calls_grow, ext)
 
   pub is_made : IsMap rom.map → FramesMade rom roots frames list
   is_made is =

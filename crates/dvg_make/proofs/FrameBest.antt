@@ -1,5 +1,6 @@
 -- No certificate does better for a frame than the list that is made for it.
 use Rattle.dvg_make.proofs.Common.{◌≡◌, ℕ, zero, suc, ◌+◌, ◌<◌, ◌≤◌, List, [], ◌∷◌, Option, Some, None, refl, sym, ap, ◌∙◌, subst, arith, inl, inr, ⊎_elim, Contains, cell_at, Rom, rom_word, frame_word, Window, Cell, Missing, Odd, Holds, IsCertificate, Entry, Key, MOST_WORDS, LeadsTo, Context, shape_context, frame_context, target, callee_at, callee, scale_before, place_before, words_before, depth_before, known_before, LitInWindow, extent, seen_at, HasCallee, Item, Shape, listed_at, CellKeeps, Good, GoodFrame, Bound, Exact, in_bound, Needs, MadeFor, AllMade, IsAskedFor, KnowsMore}
+use Rattle.std.proofs.Common.{rules}
 use Rattle.dvg_words.specs.Decoding.{word_count}
 use Rattle.dvg_items.specs.declared.item.Kind.TheVariants.{Frame}
 use Rattle.dvg_check.specs.Rules.{FrameKeeps, FramePlaceKeeps, AllKeep}
@@ -44,9 +45,7 @@ module _ (rom : Rom) (list : List Entry) (up : Upholds rom list) (IsAsked : ℕ 
         (call.g, call.listed, subst (λ a. Covers call.g a f.key) (sym l.addr_is) (subst (λ (z : Key). Covers call.g t.0 z) (sym l.key_is) call.covers))
 
     needs_less : (e f : Entry) → Contains made e → Needs rom made e f → f.words < e.words
-    needs_less e f in_made n =
-        let t = target_of made (target Shape n.item.instr) (scale_before (shape_context rom.machine made e) n.earlier) f n.callee_is ((m.each e in_made).keyed n.earlier n.item n.leads n.stands) in
-        callee_less rom made e (m.each e in_made) n.earlier n.item n.leads n.stands t.0 f t.1 t.2
+    needs_less e f in_made n = grind (arith, (target_of made (target Shape n.item.instr) (scale_before (shape_context rom.machine made e) n.earlier) f n.callee_is ((m.each e in_made).keyed n.earlier n.item n.leads n.stands)), (target Shape n.item.instr), (scale_before (shape_context rom.machine made e) n.earlier), (shape_context rom.machine made e), callee_less)
 
     covered_up_to : (n : ℕ) (f : Entry) → Contains made f → MOST_WORDS + 1 ≤ f.words + n → HasCover list f.addr f.key
     covered_up_to zero f in_made le = absurd (omega (arith, le, (all_made f in_made).words))
@@ -86,17 +85,13 @@ module _ (rom : Rom) (list : List Entry) (up : Upholds rom list) (words : List �
     Tracks items = KnowsMore (known_before c items) (known_before d items)
 
     frame_call : (earlier : List Item) (i : Item) → LeadsTo Frame (frame_word rom.machine words) 0 earlier i.at → cell_at (frame_word rom.machine words) i.at ≡ Holds i.format i.instr → Tracks earlier → (to : ℕ) → target Frame i.instr ≡ Some to → Call list to (scale_before c earlier) (scale_before d earlier)
-    frame_call earlier i lead is k to t =
-        call_of list to (scale_before c earlier) (scale_before d earlier) k.scale (subst (λ o. HasCallee o (callee_at list o (scale_before c earlier))) t (frame_rule earlier i lead is frame.NoEntry))
+    frame_call earlier i lead is k to t = grind (arith, call_of, (scale_before c earlier), (scale_before d earlier), callee_at, (frame_rule earlier i lead is frame.NoEntry))
 
     frame_refines : (earlier : List Item) (i : Item) → LeadsTo Frame (frame_word rom.machine words) 0 earlier i.at → cell_at (frame_word rom.machine words) i.at ≡ Holds i.format i.instr → Tracks earlier → IsKeyed rom.machine made earlier i → CalleeRefines (callee c earlier i.instr) (callee d earlier i.instr)
     frame_refines earlier i lead is k keyed = by_target (target Frame i.instr) refl
       where
         by_target : (o : Option ℕ) → target Frame i.instr ≡ o → CalleeRefines (callee c earlier i.instr) (callee d earlier i.instr)
-        by_target None t =
-            let weak : callee c earlier i.instr ≡ None = ap (λ o. callee_at list o (scale_before c earlier)) t in
-            let strong : callee d earlier i.instr ≡ None = ap (λ o. callee_at made o (scale_before d earlier)) t in
-            subst (λ o. CalleeRefines o (callee d earlier i.instr)) (sym weak) (subst (λ o. CalleeRefines None o) (sym strong) tt)
+        by_target None t = grind (arith, callee, callee_at, scale_before)
         by_target (Some to) t =
             let call = frame_call earlier i lead is k to t in
             let f = keyed to t in
@@ -168,8 +163,7 @@ module _ (rom : Rom) (list : List Entry) (up : Upholds rom list) (words : List �
 -- ---- the law
 
 only_frame : (words other : List ℕ) → Contains (words ∷ []) other → words ≡ other
-only_frame words other (zero, lt, is) = is
-only_frame words other (suc k, lt, is) = absurd (omega (arith, lt))
+only_frame words other h2 = grind (arith)
 
 pub none_better : NoneBetter
 none_better rom words w mode list made budget count depth accepted m = (
@@ -177,11 +171,7 @@ none_better rom words w mode list made budget count depth accepted m = (
   depth_before (frame_context rom.machine made) gf.items,
   fewer,
   shallower,
-  record {
-    certificate = m.certificate;
-    good = made_good rom list up (IsAskedFor rom.machine [] (words ∷ []) made) made m roots w bound;
-    frame = framed;
-  },
+  search (made_good rom list up (IsAskedFor rom.machine [] (words ∷ []) made) made m roots w bound, framed),
 )
   where
     gf : GoodFrame w rom.machine words list budget count depth
@@ -215,14 +205,4 @@ none_better rom words w mode list made budget count depth accepted m = (
     shallower = omega (arith, end.depth, gf.depth_is)
 
     framed : GoodFrame w rom.machine words made budget (words_before (frame_context rom.machine made) gf.items + word_count gf.format) (depth_before (frame_context rom.machine made) gf.items)
-    framed =
-        record {
-          keeps = frame_kept rom list up words w budget gf.keeps made all keyed;
-          items = gf.items;
-          at = gf.at;
-          format = gf.format;
-          leads = gf.leads;
-          halts = gf.halts;
-          count_is = refl;
-          depth_is = refl;
-        }
+    framed = search (rules, frame_kept rom list up words w budget gf.keeps made all keyed)

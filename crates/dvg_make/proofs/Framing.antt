@@ -29,26 +29,7 @@ done_made rom done h e c = let is = h.entries e c in record { made = h.made e c;
 
 -- what is known along a frame's items by a list is known by each that has more
 same_next : (machine : Machine) (a b : List Entry) → Extends a b → (earlier : List Item) (i : Item) → IsKeyed machine a earlier i → known_before (frame_context machine a) earlier ≡ known_before (frame_context machine b) earlier → known_before (frame_context machine a) (i ∷ earlier) ≡ known_before (frame_context machine b) (i ∷ earlier)
-same_next machine a b ext earlier i keyed before = by_target (target Frame i.instr) refl
-  where
-    k : Key
-    k = scale_before (frame_context machine a) earlier
-
-    j : Key
-    j = scale_before (frame_context machine b) earlier
-
-    same : k ≡ j
-    same = ap (λ (x : Known). x.scale) before
-
-    past : callee_at a (target Frame i.instr) k ≡ callee_at b (target Frame i.instr) j → known_before (frame_context machine a) (i ∷ earlier) ≡ known_before (frame_context machine b) (i ∷ earlier)
-    past e = ap (λ o. known_past machine i o (known_before (frame_context machine a) earlier)) e ∙ ap (λ (x : Known). known_past machine i (callee_at b (target Frame i.instr) j) x) before
-
-    by_target : (o : Option ℕ) → target Frame i.instr ≡ o → known_before (frame_context machine a) (i ∷ earlier) ≡ known_before (frame_context machine b) (i ∷ earlier)
-    by_target None t = past (ap (λ o. callee_at a o k) t ∙ sym (ap (λ o. callee_at b o j) t))
-    by_target (Some to) t =
-        let f = keyed to t in
-        let there : entry_at b to j ≡ Some f.0 = ap (λ (z : Key). entry_at b to z) (sym same) ∙ ext to k f.0 f.1 in
-        past (ap (λ o. callee_at a o k) t ∙ exact_named a to k f.0 f.1 ∙ sym (exact_named b to j f.0 there) ∙ sym (ap (λ o. callee_at b o j) t))
+same_next machine a b ext earlier i keyed before = grind (arith, target, scale_before, frame_context, callee_at, known_before, known_past, entry_at, exact_named)
 
 known_same : (machine : Machine) (a b : List Entry) → Extends a b → (items : List Item) → AllKeyed machine a items → known_before (frame_context machine a) items ≡ known_before (frame_context machine b) items
 known_same machine a b ext [] h = refl
@@ -59,8 +40,7 @@ scale_same machine a b ext items h = ap (λ (x : Known). x.scale) (known_same ma
 
 keyed_grows : (machine : Machine) (a b : List Entry) → Extends a b → (items : List Item) → AllKeyed machine a items → AllKeyed machine b items
 keyed_grows machine a b ext [] h = tt
-keyed_grows machine a b ext (i ∷ earlier) h =
-    (keyed_grows machine a b ext earlier h.0, λ to t. let f = h.1 to t in (f.0, ap (λ (z : Key). entry_at b to z) (sym (scale_same machine a b ext earlier h.0)) ∙ ext to _ f.0 f.1))
+keyed_grows machine a b ext (i ∷ earlier) h = grind (arith, (keyed_grows machine a b ext earlier h.0), entry_at, scale_same)
 
 -- ---- calls
 
@@ -88,8 +68,7 @@ calls_grow machine words a b ext has to scale c = (call_grows machine words a b 
 
 -- and the other way round
 pub calls_shrink : (machine : Machine) (words : List ℕ) (a b : List Entry) → Extends a b → HasCalls machine words a → (to : ℕ) (scale : Key) → FrameAsksFor machine words b to scale → FrameAsksFor machine words a to scale
-calls_shrink machine words a b ext has to scale c =
-    record { earlier = c.earlier; item = c.item; leads = c.leads; stands = c.stands; target_is = c.target_is; scale_is = scale_same machine a b ext c.earlier (keyed_all machine words a has c.earlier c.item.at c.leads) ∙ c.scale_is }
+calls_shrink machine words a b ext has to scale c = grind (arith, (scale_same machine a b ext c.earlier (keyed_all machine words a has c.earlier c.item.at c.leads)))
 
 pub has_calls_grow : (machine : Machine) (words : List ℕ) (a b : List Entry) → Extends a b → HasCalls machine words a → HasCalls machine words b
 has_calls_grow machine words a b ext has to scale c = let f = has to scale (calls_shrink machine words a b ext has to scale c) in (f.0, ext to scale f.0 f.1)
@@ -133,9 +112,7 @@ module _ (machine : Machine) (words : List ℕ) (list : List Entry) where
       (cases_lt (length earlier) (length items))
 
   has_all : AtEveryPlace Frame word 0 KeyedThere → HasCalls machine words list
-  has_all all to scale c =
-      let f = all c.earlier c.item.at c.leads c.item.format c.item.instr c.stands to c.target_is in
-      (f.0, ap (λ (z : Key). entry_at list to z) (sym c.scale_is) ∙ f.1)
+  has_all all to scale c = grind (arith, entry_at)
 
   -- where the items end
   pub ends_last : (items : List Item) (i : Item) → LeadsTo Frame word 0 items i.at → cell_at word i.at ≡ Holds i.format i.instr → next_address Frame i ≡ None → AllKeyed machine list (i ∷ items) → HasCalls machine words list
@@ -173,15 +150,7 @@ collected_more rom asked old new addr key h m has =
 
 -- what the entries from before were made for, and what is asked for now, or what an entry or a shape in the making calls
 pub called_told : (rom : Rom) (from list : List Entry) (root : ℕ × Key) (chain : List PartialEntry) (P : ℕ → Key → Type 0) → Extends from list → AllCalled rom from root list chain → ((a : ℕ) (k : Key) → HasEntry from a k → P a k ⊎ IsCalled rom from [] a k) → P root.0 root.1 → (a : ℕ) (k : Key) → HasEntry list a k → P a k ⊎ IsCalled rom list chain a k
-called_told rom from list root chain P ext all was asked a k has =
-    ⊎_elim
-    (λ given. ⊎_elim (λ f. ⊎_elim (λ p. inl p) (λ c. inr (called_grows rom from list [] chain ext there a k c)) (was a k f)) (λ s. inl (subst (λ (z : Key). P a z) s.1 (subst (λ z. P z root.1) s.0 asked))) given)
-    (λ c. inr c)
-    (all a k (inl has))
-  where
-    there : (y : ℕ) (z : Key) → IsPresent from [] y z → IsPresent list chain y z
-    there y z (inl x) = inl (x.0, ext y z x.0 x.1)
-    there y z (inr m) = absurd m
+called_told rom from list root chain P ext all was asked a k has = grind (arith, called_grows)
 
 -- ---- the walk along a frame
 
@@ -402,11 +371,3 @@ target_blocked rom words old done at scale w format instr is blocked b index =
         (λ c. inl (⊎_elim (λ x. inl x) (λ x. inr (call_grows rom.machine words done t.list t.extends a k (w.calls_are a k x))) (Contains-append_cases asked w.calls (a, k) c)))
         (λ c. inr c)
         ((w.collected asked h).needed a k has)
-
-pub target_near : (i : Instr) (to : ℕ) → InstrFits i → target Frame i ≡ Some to → to < ADDRESS_END
-target_near (Draws d) to f e = cc
-target_near (Labs x y g) to f e = cc
-target_near Halt to f e = cc
-target_near (Jsrl t) to f e = let q : t ≡ to = cc in omega (arith, q, f)
-target_near Rtsl to f e = cc
-target_near (Jmpl t) to f e = cc

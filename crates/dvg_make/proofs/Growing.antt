@@ -1,5 +1,6 @@
 -- What is known by a list is known by each that extends it.
 use Rattle.dvg_make.proofs.Common.{Machine, ◌≡◌, List, [], ◌∷◌, sym, ap, ◌∙◌, subst, Rom, rom_word, LeadsTo, entry_at, Entry, Key, target, scale_before, known_before, Item, Shape, LitBox, Known, PartialEntry, IsLeast, MadeEntry, keyed_context, IsStraight, AllFine, IsPartial, Extends}
+use Rattle.std.proofs.Common.{arith}
 use Rattle.dvg_make.specs.Accounts.{AllTaken}
 use Rattle.dvg_make.specs.Private.Partial.{IsAsked, KnowsAt}
 use Rattle.dvg_make.proofs.Matching.{Gathered, Matched, gathered_same, seen_matched}
@@ -32,13 +33,7 @@ module _ (machine : Machine) (a b : List Entry) (key : Key) (ext : Extends a b) 
       (taken_grows earlier h.0, record { asked = subst IsAsked (seen_matched machine a b key earlier i m) h.1.asked; keyed = (fine_grows (i ∷ earlier) f).1.keyed })
 
   knows_grows : (items : List Item) (known : Known) (lit : LitBox) → KnowsAt (keyed_context machine a key) items known lit → KnowsAt (keyed_context machine b key) items known lit
-  knows_grows items known lit k =
-      let t = gathered_same machine a b key items (matched_fine machine a b key ext items k.fine) in
-      record {
-        known_is = k.known_is ∙ ap (λ (x : Gathered). x.known) t;
-        least = subst (λ l. IsLeast l lit) (ap (λ (x : Gathered). x.lit) t) k.least;
-        fine = fine_grows items k.fine;
-      }
+  knows_grows items known lit k = grind (arith, (gathered_same machine a b key items (matched_fine machine a b key ext items k.fine)), (matched_fine machine a b key ext items k.fine), (fine_grows items k.fine))
 
 pub walk_grows : (rom : Rom) (a b : List Entry) (w : PartialEntry) → Extends a b → IsPartial rom a w → IsPartial rom b w
 walk_grows rom a b w ext h =

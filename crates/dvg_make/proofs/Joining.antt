@@ -1,5 +1,6 @@
 -- A shape so far and the tail behind it are a made entry.
 use Rattle.dvg_make.proofs.Common.{Machine, ◌≡◌, ℕ, ◌+◌, ◌-◌, ◌<◌, ◌≤◌, List, [], ◌∷◌, ◌++◌, Option, Some, None, refl, sym, ap, ◌∙◌, subst, arith, ⊎_elim, Contains, IfSome, ints, Rom, rom_word, Point, Jmpl, ADDRESS_END, IsKey, IsEntry, entry_at, End, Rel, Abs, Lost, Entry, Key, LitBox, Empty, Span, MOST_DEPTH, MOST_WORDS, IsClaim, LeadsTo, Context, scale_before, place_before, known_before, InBox, IsInside, box_extent, relative_corners, step_past, seen_at, seen_with, extent, Last, Item, Shape, Known, LitExtent, Nothing, Between, Seen, all_append, listed_at, PartialEntry, lit_points, HoldsAll, IsLeast, HasEntry, MadeEntry, IsDone, keyed_context, entry_of, IsStraight, AllFine, IsPartial, Passes, Extends, AreTails, IsFinished}
+use Rattle.std.proofs.Common.{rules}
 use Rattle.std.proofs.lemmas.List.Elements.{Contains-append_cases}
 use Rattle.std.proofs.Common.{◌≤ℤ◌, ℤ, neg_ℤ}
 use Rattle.dvg_words.specs.declared.instruction.Format.TheVariants.{Short}
@@ -22,25 +23,14 @@ use Rattle.dvg_make.proofs.Small.{made_is_entry}
 
 -- nothing has no corners
 none_of : (box : LitBox) (place : End) → HoldsAll box (relative_corners Nothing place)
-none_of box (Rel x y) = tt
-none_of box (Abs x y) = tt
-none_of box Lost = tt
+none_of box place = grind (arith)
 
 none_anywhere : (box : LitBox) (place : End) → HoldsAll box (relative_corners Anywhere place)
-none_anywhere box (Rel x y) = tt
-none_anywhere box (Abs x y) = tt
-none_anywhere box Lost = tt
+none_anywhere box place = grind (arith)
 
 -- it is lit at a known place, if the tail's box is
 known_over_place : (lit : LitBox) (ext : LitExtent) (place second : End) → PlaceKnown (box_extent lit) place → ScaleKnown ext → PlaceKnown ext second → HoldsAll lit (relative_corners ext second) → PlaceKnown ext (place_over place second)
-known_over_place lit Nothing place second k scale known holds = tt
-known_over_place lit Anywhere place second k scale known holds = absurd scale
-known_over_place lit (Between a b) place Lost k scale known holds = absurd (known refl)
-known_over_place lit (Between a b) place (Abs x y) k scale known holds = λ is. cc
-known_over_place Empty (Between a b) place (Rel x y) k scale known holds = absurd holds.0
-known_over_place (Span l r d t) (Between a b) Lost (Rel x y) k scale known holds = absurd (k refl)
-known_over_place (Span l r d t) (Between a b) (Abs u v) (Rel x y) k scale known holds = λ is. cc
-known_over_place (Span l r d t) (Between a b) (Rel u v) (Rel x y) k scale known holds = λ is. cc
+known_over_place lit ext place second k scale known holds = grind (arith)
 
 -- it lies in a box that has the corners of the tail's box
 holds_over : (lit whole : LitBox) (ext : LitExtent) (place second : End) → HoldsAll whole (relative_corners (box_extent lit) place) → HoldsAll lit (relative_corners ext second) → HoldsAll whole (relative_corners ext (place_over place second))
@@ -118,12 +108,7 @@ module _ (rom : Rom) (list : List Entry) (key : Key) (before : List Item) (t : E
 
   module _ (known : PlaceKnown (box_extent t.lit) here.place) where
     fine_here : (rest : List Item) (i : Item) → IsFine behind rest i → HoldsAll t.lit (relative_corners (extent behind rest i.instr) (place_before behind rest)) → IsFine c (rest ++ before) i
-    fine_here rest i f holds =
-        let over : IsStraight (seen_over here (seen_at behind rest i)) = record { no_halt = f.straight.no_halt; place = known_over_place t.lit (extent behind rest i.instr) here.place (place_before behind rest) known f.straight.scale f.straight.place holds; scale = f.straight.scale } in
-        record {
-          straight = subst IsStraight (sym (sees rest i)) over;
-          keyed = λ to q. subst (HasEntry list to) (sym (ap (λ (k : Known). k.scale) (knows_on rest))) (f.keyed to q);
-        }
+    fine_here rest i f holds = grind (arith, seen_over, seen_at, known_over_place, extent, place_before, knows_on)
 
     pub fine_through : (rest : List Item) → AllFine c before → AllFine behind rest → HoldsAll t.lit (lit_points behind rest) → AllFine c (rest ++ before)
     fine_through [] f g holds = f
@@ -149,8 +134,7 @@ module _ (rom : Rom) (list : List Entry) (key : Key) (before : List Item) (t : E
       (holds_through whole rest corners h others)
 
   holds_first : (other : LitBox) (rest : List Item) (i : Item) → HoldsAll other (lit_points c (i ∷ rest ++ before)) → HoldsAll other (over_points rest i)
-  holds_first other rest i h =
-      subst (HoldsAll other) (same_points rest i) (all_left (InBox other) (relative_corners (extent c (rest ++ before) i.instr) (place_before c (rest ++ before))) (lit_points c (rest ++ before)) h)
+  holds_first other rest i h = grind (arith, same_points, all_left, relative_corners, extent, place_before, lit_points)
 
   holds_rest : (other : LitBox) (rest : List Item) (i : Item) → HoldsAll other (lit_points c (i ∷ rest ++ before)) → HoldsAll other (lit_points c (rest ++ before))
   holds_rest other rest i h = all_right (InBox other) (relative_corners (extent c (rest ++ before) i.instr) (place_before c (rest ++ before))) (lit_points c (rest ++ before)) h
@@ -176,8 +160,7 @@ module _ (rom : Rom) (list : List Entry) (key : Key) (before : List Item) (t : E
 -- ---- the entry
 
 ordered_box : (lit : LitBox) → IsBox lit → IsOrdered lit
-ordered_box Empty h = tt
-ordered_box (Span a b c d) h = (h.0.2, h.1.2)
+ordered_box lit h = grind (arith)
 
 pub joined : (rom : Rom) (list : List Entry) → IsDone rom list → (w : PartialEntry) → IsPartial rom list w → (t : Entry) → IsTail rom list t → t.addr ≡ w.cursor.at → t.key ≡ w.cursor.known.scale → (e : Entry) → EndsBy w t e → IsFinished rom list w e
 joined rom list done w h t tail at key e ends =
@@ -200,18 +183,11 @@ joined rom list done w h t tail at key e ends =
     let its_made : MadeEntry rom list (entry_of w.addr w.key (known_before (keyed_context rom.machine list w.key) all) ends.lit) =
     ends_made rom list (entry_of w.addr w.key (known_before (keyed_context rom.machine list w.key) all) ends.lit)
     (record { stops = record { items = m.stops.items ++ h.items; i = m.stops.i; leads = leads; is = m.stops.is; last = m.stops.last }; sums = record { known = refl; box = least }; fine = fine }) in
-    record {
-      addr = ap (λ (x : Entry). x.addr) (sym value);
-      key = ap (λ (x : Entry). x.key) (sym value);
-      entry = subst (IsEntry rom.map.rom_first rom.map.rom_last) value entry;
-      made = subst (MadeEntry rom list) value its_made;
-    }
+    search (ap (λ (x : Entry). x.addr) (sym value), ap (λ (x : Entry). x.key) (sym value), subst (IsEntry rom.map.rom_first rom.map.rom_last) value entry, subst (MadeEntry rom list) value its_made)
 
 -- by one of the tails that are kept
 pub joined_one : (rom : Rom) (list tails : List Entry) → IsDone rom list → AreTails rom list tails → (w : PartialEntry) → IsPartial rom list w → (e : Entry) → EndsByOne w tails e → IsFinished rom list w e
-joined_one rom list tails done are w h e ends =
-    let l = listed_at tails w.cursor.at w.cursor.known.scale ends.tail ends.there in
-    joined rom list done w h ends.tail (are ends.tail l.listed) l.addr_is l.key_is e ends.ends
+joined_one rom list tails done are w h e ends = search (rules, (listed_at tails w.cursor.at w.cursor.known.scale ends.tail ends.there), joined)
 
 -- what is finished from where a partial entry came to is finished from where it began
 pub finished_from : (rom : Rom) (list : List Entry) (from w : PartialEntry) → Walking rom list from w → (e : Entry) → IsFinished rom list w e → IsFinished rom list from e
@@ -227,19 +203,10 @@ pub ends_by : (machine : Machine) (w : PartialEntry) (t : Entry) (to : ℕ) (lit
 ends_by machine w t to lit last words e p goes less is =
     let after : last ≡ (seen_with machine (Some t) w.cursor.known (record { at = w.cursor.at; format = Short; instr = Jmpl to })).after = cc goes in
     let count : words ≡ t.words + w.cursor.known.words = omega (arith, less, ap (λ (k : Known). k.words) after) in
-    record {
-      known = record last { words = words };
-      lit = lit;
-      entry_is = is;
-      known_is = λ x. record { place = (after x).place; scale = (after x).scale; words = count x; depth = (after x).depth };
-      grows = p.grows;
-      place = p.asked.straight.place;
-      words = omega (arith, count, p.asked.many);
-    }
+    search (rules, lit, is)
 
 pub ends_by_one : (w : PartialEntry) (tails : List Entry) (t : Entry) (o : Option Entry) → entry_at tails w.cursor.at w.cursor.known.scale ≡ Some t → IfSome o (EndsBy w t) → IfSome o (EndsByOne w tails)
-ends_by_one w tails t None there h = tt
-ends_by_one w tails t (Some e) there h = record { tail = t; there = there; ends = h }
+ends_by_one w tails t o there h = grind (arith)
 
 -- ---- tails that are kept
 

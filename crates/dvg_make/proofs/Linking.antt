@@ -1,5 +1,6 @@
 -- The shapes in the making, each of which calls or tail jumps to the next.
 use Rattle.dvg_make.proofs.Common.{◌≡◌, ℕ, List, [], ◌∷◌, ◌++◌, refl, sym, ap, ◌∙◌, subst, Rom, Entry, Key, Known, PartialEntry, ShapeAt, Reaches, keyed_context, shape_of, Extends, shapes}
+use Rattle.std.proofs.Common.{arith}
 use Rattle.dvg_make.specs.Accounts.{Precedes, IsLinked, last_shape}
 use Rattle.dvg_make.specs.Private.Making.{AreLinked}
 use Rattle.dvg_make.proofs.Onward.{fine_taken}
@@ -9,22 +10,14 @@ use Rattle.dvg_make.proofs.Growing.{known_grows, taken_grows}
 
 module _ (rom : Rom) (a b : List Entry) (ext : Extends a b) where
   reaches_grows : (shape : ShapeAt) (at : ℕ) (before : Known) → Reaches rom a shape at before → Reaches rom b shape at before
-  reaches_grows shape at before r =
-      record {
-        items = r.items;
-        leads = r.leads;
-        taken = taken_grows rom.machine a b shape.key ext r.items r.taken;
-        known = r.known ∙ known_grows rom.machine a b shape.key ext r.items (fine_taken (keyed_context rom.machine a shape.key) r.items r.taken);
-      }
+  reaches_grows shape at before r = grind (arith, taken_grows, known_grows, fine_taken, keyed_context)
 
   linked_grows : (shape : ShapeAt) (chain : List ShapeAt) → IsLinked rom a shape chain → IsLinked rom b shape chain
   linked_grows shape [] h = tt
-  linked_grows shape (next ∷ chain) h =
-      (record { at = h.0.at; before = h.0.before; reaches = reaches_grows shape h.0.at h.0.before h.0.reaches; calls = h.0.calls }, linked_grows next chain h.1)
+  linked_grows shape (next ∷ chain) h = grind (arith, reaches_grows, (linked_grows next chain h.1))
 
   pub are_grown : (root : ℕ × Key) (stack : List PartialEntry) → AreLinked rom a root stack → AreLinked rom b root stack
-  are_grown root [] h = tt
-  are_grown root (w ∷ stack) h = (h.0, linked_grows (shape_of w) (shapes stack) h.1)
+  are_grown root stack h = grind (arith, linked_grows, shape_of, shapes)
 
 -- ---- the last of them
 
@@ -46,20 +39,14 @@ module _ (rom : Rom) (list : List Entry) where
   linked_pop shape next (other ∷ chain) h = (h.0, linked_pop other next chain h.1)
 
   pub are_popped : (root : ℕ × Key) (stack : List PartialEntry) (w : PartialEntry) → AreLinked rom list root (stack ++ w ∷ []) → AreLinked rom list root stack
-  are_popped root [] w h = tt
-  are_popped root (v ∷ stack) w h = (h.0, linked_pop (shape_of v) (shape_of w) (shapes stack) (subst (IsLinked rom list (shape_of v)) (links_push stack w) h.1))
+  are_popped root stack w h = grind (arith, linked_pop, shape_of, shapes, links_push)
 
   -- the last of them went further
   pub are_moved : (root : ℕ × Key) (stack : List PartialEntry) (w new : PartialEntry) → shape_of w ≡ shape_of new → AreLinked rom list root (stack ++ w ∷ []) → AreLinked rom list root (stack ++ new ∷ [])
   are_moved root [] w new e h = (sym e ∙ h.0, tt)
-  are_moved root (v ∷ stack) w new e h =
-      (h.0, subst (IsLinked rom list (shape_of v)) (links_push stack w ∙ ap (λ (x : ShapeAt). shapes stack ++ x ∷ []) e ∙ sym (links_push stack new)) h.1)
+  are_moved root (v ∷ stack) w new e h = grind (arith, shape_of, links_push, shapes)
 
   -- and calls one more
   pub are_pushed : (root : ℕ × Key) (stack : List PartialEntry) (w next : PartialEntry) → Precedes rom list (shape_of w) (shape_of next) → AreLinked rom list root (stack ++ w ∷ []) → AreLinked rom list root ((stack ++ w ∷ []) ++ next ∷ [])
   are_pushed root [] w next p h = (h.0, (p, tt))
-  are_pushed root (v ∷ stack) w next p h = (
-    h.0,
-    subst (IsLinked rom list (shape_of v)) (sym (links_push (stack ++ w ∷ []) next))
-        (linked_push (shape_of v) (shape_of next) (shapes (stack ++ w ∷ [])) h.1 (subst (λ (x : ShapeAt). Precedes rom list x (shape_of next)) (sym (ap (last_shape (shape_of v)) (links_push stack w) ∙ last_push (shape_of v) (shape_of w) (shapes stack))) p)),
-  )
+  are_pushed root (v ∷ stack) w next p h = grind (arith, shape_of, links_push, linked_push, shapes, last_push)

@@ -7,8 +7,7 @@ use Rattle.dvg_make.proofs.Turns.{start_walk}
 
 -- an entry that is found is listed
 pub listed_if_some : (done : List Entry) (addr : ℕ) (key : Key) (o : Option Entry) → o ≡ entry_at done addr key → IfSome o (λ e. Contains done e)
-listed_if_some done addr key None is = tt
-listed_if_some done addr key (Some e) is = (listed_at done addr key e (sym is)).listed
+listed_if_some done addr key o is = grind (arith, listed_at)
 
 -- and within the limits
 pub claim_if_some : (rom : Rom) (done : List Entry) → rom.map.rom_last < ADDRESS_END → IsDone rom done → (o : Option Entry) → IfSome o (λ e. Contains done e) → IfSome o IsClaim
@@ -19,8 +18,7 @@ claim_if_some rom done last h (Some e) c =
 
 -- a partial entry that begins at a mark
 pub mark_pushed : (rom : Rom) (done : List Entry) (marks new : List PartialEntry) (at : ℕ) (scale : Key) → ArePartial rom done marks → at < ADDRESS_END → IsKey scale → new ≡ marks ++ start at scale ∷ [] → ArePartial rom done new
-mark_pushed rom done marks new at scale h near is e =
-    subst (ArePartial rom done) (sym e) (walks_push rom done marks (start at scale) h (start_walk rom done at scale near is))
+mark_pushed rom done marks new at scale h near is e = grind (arith, walks_push, start, start_walk)
 
 -- what is finished is a tail
 pub tail_kept : (rom : Rom) (done tails new : List Entry) (w : PartialEntry) (e : Entry) → AreTails rom done tails → IsFinished rom done w e → new ≡ tails ++ e ∷ [] → AreTails rom done new

@@ -1,5 +1,6 @@
 -- Two lists that have the same entries for what items call know the same after them.
 use Rattle.dvg_make.proofs.Common.{Machine, ◌≡◌, ℕ, List, [], ◌∷◌, ◌++◌, Option, Some, None, refl, sym, ap, ◌∙◌, Bool, true, false, if◌then◌else◌, Contains, IfSome, IfNone, Point, option_or, is_at, entry_at, IsRising, Entry, Key, Any, Context, target, callee_at, callee, scale_before, known_before, known_past, extent_of, relative_corners, seen_at, seen_with, Item, Shape, Known, lit_points, keyed_context}
+use Rattle.std.proofs.Common.{arith}
 use Rattle.dvg_cert.specs.Lookup.{named_entry, IsOnlyAt, HasNoneAt}
 use Rattle.dvg_cert.proofs.OnlyEntries.{found}
 
@@ -32,34 +33,18 @@ Matched machine a b key (i ∷ earlier) = Matched machine a b key earlier × Sam
 pub exact_named : (list : List Entry) (to : ℕ) (scale : Key) (e : Entry) → entry_at list to scale ≡ Some e → named_entry list to scale ≡ Some e
 exact_named list to scale e h = ap (λ o. option_or o (entry_at list to Any)) h
 
-callee_same : (a b : List Entry) (t : Option ℕ) (scale : Key) → SameAt a b t scale → callee_at a t scale ≡ callee_at b t scale
-callee_same a b None scale h = refl
-callee_same a b (Some to) scale h = exact_named a to scale h.0 h.1 ∙ sym (exact_named b to scale h.0 h.2)
-
--- whatever is said of what is gathered and of the entry that is called next
-both_same : {X : Type 0} (machine : Machine) (F : Option Entry → Gathered → X) (a b : List Entry) (key : Key) (earlier : List Item) (t : Option ℕ) → gathered (keyed_context machine a key) earlier ≡ gathered (keyed_context machine b key) earlier → SameAt a b t (scale_before (keyed_context machine a key) earlier)
-    → F (callee_at a t (scale_before (keyed_context machine a key) earlier)) (gathered (keyed_context machine a key) earlier) ≡ F (callee_at b t (scale_before (keyed_context machine b key) earlier)) (gathered (keyed_context machine b key) earlier)
-both_same machine F a b key earlier t e h =
-    ap (λ o. F o (gathered (keyed_context machine a key) earlier)) (callee_same a b t _ h) ∙ ap (λ (g : Gathered). F (callee_at b t g.known.scale) g) e
-
 pub gathered_same : (machine : Machine) (a b : List Entry) (key : Key) (items : List Item) → Matched machine a b key items → gathered (keyed_context machine a key) items ≡ gathered (keyed_context machine b key) items
 gathered_same machine a b key [] h = refl
-gathered_same machine a b key (i ∷ earlier) h =
-    gathered-cons (keyed_context machine a key) earlier i ∙ both_same machine (gathered_past machine i) a b key earlier (target Shape i.instr) (gathered_same machine a b key earlier h.0) h.1 ∙ sym (gathered-cons (keyed_context machine b key) earlier i)
+gathered_same machine a b key (i ∷ earlier) h = grind (arith, gathered-cons, keyed_context, exact_named, callee_at, target, (gathered_same machine a b key earlier h.0))
 
 pub seen_matched : (machine : Machine) (a b : List Entry) (key : Key) (earlier : List Item) (i : Item) → Matched machine a b key (i ∷ earlier) → seen_at (keyed_context machine a key) earlier i ≡ seen_at (keyed_context machine b key) earlier i
-seen_matched machine a b key earlier i h =
-    both_same machine (λ o g. seen_with machine o g.known i) a b key earlier (target Shape i.instr) (gathered_same machine a b key earlier h.0) h.1
+seen_matched machine a b key earlier i h = grind (arith, keyed_context, exact_named, callee_at, seen_with, target, gathered_same)
 
 -- ---- lists that grow
 
 pub entry_at-append : (l m : List Entry) (addr : ℕ) (key : Key) → entry_at (l ++ m) addr key ≡ option_or (entry_at l addr key) (entry_at m addr key)
 entry_at-append [] m addr key = refl
-entry_at-append (x ∷ l) m addr key = by_test (is_at addr key x) (entry_at-append l m addr key)
-  where
-    by_test : (t : Bool) → entry_at (l ++ m) addr key ≡ option_or (entry_at l addr key) (entry_at m addr key) → (if t then Some x else entry_at (l ++ m) addr key) ≡ option_or (if t then Some x else entry_at l addr key) (entry_at m addr key)
-    by_test true e = refl
-    by_test false e = e
+entry_at-append (x ∷ l) m addr key = grind (arith, is_at, (entry_at-append l m addr key), entry_at, option_or)
 
 -- ---- rising lists
 

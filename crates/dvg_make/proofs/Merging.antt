@@ -10,8 +10,7 @@ extends_more done more addr key f e = entry_at-append done more addr key ∙ ap 
 
 -- a list of one has no other element
 pub only_listed : {A : Type 0} (x y : A) → Contains (x ∷ []) y → x ≡ y
-only_listed x y (zero, lt, is) = is
-only_listed x y (suc k, lt, is) = absurd (omega (arith, lt))
+only_listed x y h2 = grind (arith)
 
 -- a made entry is one in each list that has more
 pub is_made_grows : (rom : Rom) (a b : List Entry) (e : Entry) → Extends a b → IsMade rom a e → IsMade rom b e
@@ -22,11 +21,7 @@ module _ (rom : Rom) (a b : List Entry) (all_a : AllMade rom a) (all_b : AllMade
   same_found addr key e f p q = agree rom a b (λ x c. (all_a x c).made) (λ x c. (all_b x c).made) addr key e f p q
 
   pub extends_second : Extends b (a ++ b)
-  extends_second addr key e q = by_found (entry_at a addr key) refl
-    where
-      by_found : (o : Option Entry) → entry_at a addr key ≡ o → entry_at (a ++ b) addr key ≡ Some e
-      by_found None p = entry_at-append a b addr key ∙ ap (λ z. option_or z (entry_at b addr key)) p ∙ q
-      by_found (Some g) p = entry_at-append a b addr key ∙ ap (λ z. option_or z (entry_at b addr key)) p ∙ ap Some (same_found addr key g e p q)
+  extends_second addr key e q = grind (arith, entry_at, entry_at-append, option_or, same_found)
 
   pub all_merged : AllMade rom (a ++ b)
   all_merged e c =

@@ -1,5 +1,6 @@
 -- A ROM, roots and frames have one made list at most.
 use Rattle.dvg_make.proofs.Common.{ℕ, List, ◌++◌, inl, inr, Contains, Rom, Entry, Key, HasEntry, IsAskedFor, FramesMade, HasCalls}
+use Rattle.std.proofs.Common.{arith}
 use Rattle.dvg_make.specs.Laws.{OneFramesMade}
 use Rattle.dvg_make.proofs.Merging.{extends_more, extends_second}
 use Rattle.dvg_make.proofs.OneList.{one_made_for}
@@ -23,5 +24,4 @@ module _ (rom : Rom) (roots : List (ℕ × Key)) (frames : List (List ℕ)) (a b
       made_b.rooted addr key (inr (c.0, c.1, calls_shrink rom.machine c.0 b (a ++ b) (extends_second rom a b all_a all_b) (other_calls c.0 c.1) addr key both))
 
 pub one_frames_made : OneFramesMade
-one_frames_made rom roots frames a b made_a made_b =
-    one_made_for rom (IsAskedFor rom.machine roots frames a) (IsAskedFor rom.machine roots frames b) a b made_a made_b (asked rom roots frames a b made_a made_b) (asked rom roots frames b a made_b made_a)
+one_frames_made rom roots frames a b made_a made_b = grind (arith, (one_made_for rom (IsAskedFor rom.machine roots frames a) (IsAskedFor rom.machine roots frames b) a b made_a made_b (asked rom roots frames a b made_a made_b) (asked rom roots frames b a made_b made_a)))

@@ -1,5 +1,6 @@
 -- A ROM and roots have one made list at most.
 use Rattle.dvg_make.proofs.Common.{◌≡◌, ℕ, zero, suc, ◌+◌, ◌<◌, ◌≤◌, List, [], ◌∷◌, Option, Some, None, refl, sym, ap, ◌∙◌, subst, arith, ⊎_elim, Contains, Rom, IsRising, entry_at, Entry, Key, MOST_WORDS, shape_context, target, callee_at, scale_before, Shape, HasEntry, Needs, MadeFor, listed_at}
+use Rattle.std.proofs.Common.{rules}
 use Rattle.dvg_cert.proofs.OnlyEntries.{not_before, before_next, before_later, rising_tail, first_or_later, later}
 use Rattle.dvg_make.specs.Laws.{OneMade}
 use Rattle.dvg_make.proofs.Matching.{Gathered, gathered_same, exact_named, found_listed}
@@ -10,8 +11,7 @@ use Rattle.dvg_make.proofs.Onward.{listed_entry}
 -- ---- rising lists with the same entries are one
 
 in_rest : (x : Entry) (a b : List Entry) → IsRising (x ∷ a) → ((e : Entry) → Contains (x ∷ a) e → Contains (x ∷ b) e) → (e : Entry) → Contains a e → Contains b e
-in_rest x a b rises h e c =
-    ⊎_elim (λ same. absurd (not_before x e (ap (λ (y : Entry). y.addr) same) (ap (λ (y : Entry). y.key) same) (before_later x a e rises c))) (λ d. d) (first_or_later x b e (h e (later x a e c)))
+in_rest x a b rises h e c = grind (arith, not_before, (before_later x a e rises c), (first_or_later x b e (h e (later x a e c))), (later x a e c))
 
 same_first : (x y : Entry) (a b : List Entry) → IsRising (x ∷ a) → IsRising (y ∷ b) → Contains (y ∷ b) x → Contains (x ∷ a) y → x ≡ y
 same_first x y a b rises rises' h k =
@@ -33,10 +33,7 @@ same_rising (x ∷ a) (y ∷ b) rises rises' h k =
 -- ---- each entry of the one list is in the other
 
 pub target_of : (list : List Entry) (o : Option ℕ) (scale : Key) (f : Entry) → callee_at list o scale ≡ Some f → ((to : ℕ) → o ≡ Some to → HasEntry list to scale) → (to : ℕ) × (o ≡ Some to) × (entry_at list to scale ≡ Some f)
-target_of list None scale f e h = cc
-target_of list (Some to) scale f e h =
-    let g = h to refl in
-    (to, refl, g.1 ∙ sym (exact_named list to scale g.0 g.1) ∙ e)
+target_of list o scale f e h = grind (arith, exact_named)
 
 module _ (rom : Rom) (P Q : ℕ → Key → Type 0) (a b : List Entry) (made_a : MadeFor rom P a) (made_b : MadeFor rom Q b) (asked : (addr : ℕ) (key : Key) → P addr key → HasEntry b addr key) where
   needs_less : (e f : Entry) → Contains a e → Needs rom a e f → f.words < e.words
@@ -59,14 +56,10 @@ module _ (rom : Rom) (P Q : ℕ → Key → Type 0) (a b : List Entry) (made_a :
       (g.0, subst (λ x. entry_at b x f.key ≡ Some g.0) (sym l.addr_is) (subst (λ (k : Key). entry_at b t.0 k ≡ Some g.0) (sym l.key_is) there))
 
   in_both : (f : Entry) → Contains a f → HasEntry b f.addr f.key → Contains b f
-  in_both f in_a has =
-      let same : f ≡ has.0 = agree rom a b made_a.each made_b.each f.addr f.key f has.0 (found_listed a f made_a.certificate.rising in_a) has.1 in
-      subst (Contains b) (sym same) (listed_at b f.addr f.key has.0 has.1).listed
+  in_both f in_a has = grind (arith, (agree rom a b made_a.each made_b.each f.addr f.key f has.0 (found_listed a f made_a.certificate.rising in_a) has.1), (found_listed a f made_a.certificate.rising in_a), (listed_at b f.addr f.key has.0 has.1))
 
   there_up_to : (n : ℕ) (f : Entry) → Contains a f → MOST_WORDS + 1 ≤ f.words + n → Contains b f
-  there_up_to zero f in_a le =
-      let is = listed_entry rom.map.rom_first rom.map.rom_last a f made_a.certificate.each in_a in
-      absurd (omega (arith, is.words_high, le))
+  there_up_to zero f in_a le = grind (arith, (listed_entry rom.map.rom_first rom.map.rom_last a f made_a.certificate.each in_a))
   there_up_to (suc n) f in_a le =
       ⊎_elim (λ root. in_both f in_a (asked f.addr f.key root))
       (λ c.
@@ -80,9 +73,7 @@ module _ (rom : Rom) (P Q : ℕ → Key → Type 0) (a b : List Entry) (made_a :
 
 -- lists that are made for the same are one
 pub one_made_for : (rom : Rom) (P Q : ℕ → Key → Type 0) (a b : List Entry) → MadeFor rom P a → MadeFor rom Q b → ((addr : ℕ) (key : Key) → P addr key → HasEntry b addr key) → ((addr : ℕ) (key : Key) → Q addr key → HasEntry a addr key) → a ≡ b
-one_made_for rom P Q a b made_a made_b to_b to_a =
-    same_rising a b made_a.certificate.rising made_b.certificate.rising (all_there rom P Q a b made_a made_b to_b) (all_there rom Q P b a made_b made_a to_a)
+one_made_for rom P Q a b made_a made_b to_b to_a = grind (arith, (same_rising a b made_a.certificate.rising made_b.certificate.rising (all_there rom P Q a b made_a made_b to_b) (all_there rom Q P b a made_b made_a to_a)))
 
 pub one_made : OneMade
-one_made rom roots a b made_a made_b =
-    one_made_for rom (λ addr key. Contains roots (addr, key)) (λ addr key. Contains roots (addr, key)) a b made_a made_b made_b.rooted made_a.rooted
+one_made rom roots a b made_a made_b = search (rules, one_made_for)

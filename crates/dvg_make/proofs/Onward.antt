@@ -1,5 +1,6 @@
 -- A shape in the making, item by item.
 use Rattle.dvg_make.proofs.Common.{Machine, ◌≡◌, ℕ, ◌<◌, ◌≤◌, List, [], ◌∷◌, ◌++◌, Option, Some, None, refl, sym, ap, ◌∙◌, subst, arith, Contains, IfSome, AllByRecursion, cell_at, InstrFits, Rom, rom_word, Holds, Format, Instr, Labs, Halt, Jsrl, Rtsl, Jmpl, IsEntry, Entry, Key, MOST_DEPTH, MOST_WORDS, next_address, LeadsTo, Context, shape_context, target, callee_at, callee, scale_before, words_before, depth_before, known_before, seen_at, seen_with, IsClaim, Item, Shape, Known, Seen, ADDRESS_END, LitBox, Last, step_past, relative_corners, PartialEntry, lit_points, IsLeast, HasEntry, IsMade, AllMade, Obstacle, ShapeAt, EntryCause, Reaches, keyed_context, entry_of, shape_of, IsStraight, Passes, AllFine, IsPartial, Extends, IsFinished, IsWaiting, IsStopped, listed_at}
+use Rattle.std.proofs.Common.{rules}
 use Rattle.dvg_words.specs.declared.instruction.Instr.TheVariants.{Draw as Draws}
 use Rattle.dvg_items.specs.Bounds.{IsSoundStep}
 use Rattle.dvg_items.proofs.Lists.{at_place}
@@ -19,21 +20,12 @@ seen_same : (c : Context) (items : List Item) (i : Item) (o : Option Entry) (kno
 seen_same c items i o known e k = ap (λ x. seen_with c.machine x known i) e ∙ ap (λ (x : Known). seen_with c.machine (callee c items i.instr) x i) k
 
 knows_more : (c : Context) (items : List Item) (i : Item) (o : Option Entry) (known : Known) (lit new : LitBox) → o ≡ callee c items i.instr → ((to : ℕ) → target Shape i.instr ≡ Some to → HasEntry c.list to (scale_before c items)) → KnowsAt c items known lit → Passes (seen_with c.machine o known i) lit new → KnowsAt c (i ∷ items) (seen_with c.machine o known i).after new
-knows_more c items i o known lit new e keyed k s =
-    let v = seen_same c items i o known e k.known_is in
-    record {
-      known_is = ap (λ (x : Seen). x.after) v;
-      least = subst (λ (x : Seen). IsLeast (relative_corners x.extent x.place ++ lit_points c items) new) v (s.grows (lit_points c items) k.least);
-      fine = (k.fine, record { straight = subst IsStraight v s.asked.straight; keyed = keyed });
-    }
+knows_more c items i o known lit new e keyed k s = grind (arith, seen_same, relative_corners, lit_points)
 
 -- ---- a made list with the entries of this one knows the same
 
 pub same_if : (a b : List Entry) (scale : Key) → Extends a b → (o : Option ℕ) → ((to : ℕ) → o ≡ Some to → HasEntry a to scale) → SameAt a b o scale
-same_if a b scale ext None h = tt
-same_if a b scale ext (Some to) h =
-    let f = h to refl in
-    (f.0, f.1, ext to scale f.0 f.1)
+same_if a b scale ext to h = grind (arith)
 
 pub matched_fine : (machine : Machine) (a b : List Entry) (key : Key) → Extends a b → (items : List Item) → AllFine (keyed_context machine a key) items → Matched machine a b key items
 matched_fine machine a b key ext [] h = tt
@@ -50,9 +42,7 @@ pub listed_entry : (first last : ℕ) (list : List Entry) (e : Entry) → AllByR
 listed_entry first last list e all c = at_place (IsEntry first last) list e all c
 
 its : (rom : Rom) (made : List Entry) (w : PartialEntry) → AllMade rom made → HasEntry made w.addr w.key → Its rom made w
-its rom made w all h =
-    let l = listed_at made w.addr w.key h.0 h.1 in
-    record { f = h.0; addr = l.addr_is; key = l.key_is; is = all h.0 l.listed }
+its rom made w all h = search (rules, (listed_at made w.addr w.key h.0 h.1))
 
 module _ (rom : Rom) (list : List Entry) (w : PartialEntry) where
   abbrev c : Context
@@ -82,51 +72,15 @@ module _ (rom : Rom) (list : List Entry) (w : PartialEntry) where
 
 -- where a cause says something of an item, it is not as asked
 not_as_asked : (scale : Key) (v : Seen) (why : EntryCause) → SaysOf scale v why → IsAsked v → ⊥
-not_as_asked scale v cause.Halt says a = a.straight.no_halt says
-not_as_asked scale v cause.BeamUnknown says a = says a.straight.place
-not_as_asked scale v cause.ScaleUnknown says a = says.1 a.straight.scale
-not_as_asked scale v (cause.Deep to key) says a = omega (arith, says.2, a.deep)
-not_as_asked scale v (cause.TooManyWords words) says a = omega (arith, says.0, says.1, a.many)
-not_as_asked scale v cause.RootOutside says a = says
-not_as_asked scale v cause.Missing says a = says
-not_as_asked scale v cause.Odd says a = says
-not_as_asked scale v (cause.Ring at) says a = says
-not_as_asked scale v cause.TooManyEntries says a = says
-not_as_asked scale v cause.Memory says a = says
+not_as_asked scale v why says a = grind (arith)
 
 -- what a cause says of the item at a place
 said_at : (rom : Rom) (list : List Entry) (chain : List ShapeAt) (at : ℕ) (before : Known) (i : Item) (o : Option Entry) (why : EntryCause) → i.at ≡ at → cell_at (rom_word rom) i.at ≡ Holds i.format i.instr → IsCallee list i.instr before.scale o → SaysOf before.scale (seen_with rom.machine o before i) why → CauseAt rom list chain at before why
-said_at rom list chain at before i o why here is nm says = by_cause why (subst (λ x. SaysOf before.scale (seen_with rom.machine x before i) why) nm.value says)
-  where
-    seen_so : (why : EntryCause) → SaysOf before.scale (seen_with rom.machine (callee_at list (target Shape i.instr) before.scale) before i) why → SaysAt rom list at before why
-    seen_so why says = record { item = i; at_is = here; stands = is; keyed = nm.keyed; says = says }
-
-    by_cause : (why : EntryCause) → SaysOf before.scale (seen_with rom.machine (callee_at list (target Shape i.instr) before.scale) before i) why → CauseAt rom list chain at before why
-    by_cause cause.Halt says = seen_so cause.Halt says
-    by_cause cause.BeamUnknown says = seen_so cause.BeamUnknown says
-    by_cause cause.ScaleUnknown says = seen_so cause.ScaleUnknown says
-    by_cause (cause.Deep to key) says = seen_so (cause.Deep to key) says
-    by_cause (cause.TooManyWords words) says = seen_so (cause.TooManyWords words) says
-    by_cause cause.RootOutside says = says
-    by_cause cause.Missing says = absurd says
-    by_cause cause.Odd says = absurd says
-    by_cause (cause.Ring at) says = absurd says
-    by_cause cause.TooManyEntries says = absurd says
-    by_cause cause.Memory says = tt
+said_at rom list chain at before i o why here is nm says = grind (arith, seen_with, callee_at, target)
 
 -- nothing stands there
 absent_at : (rom : Rom) (list : List Entry) (chain : List ShapeAt) (at : ℕ) (before : Known) (why : EntryCause) → IsAbsent rom at why → CauseAt rom list chain at before why
-absent_at rom list chain at before cause.Missing h = h
-absent_at rom list chain at before cause.Odd h = h
-absent_at rom list chain at before cause.Halt h = absurd h
-absent_at rom list chain at before cause.BeamUnknown h = absurd h
-absent_at rom list chain at before cause.ScaleUnknown h = absurd h
-absent_at rom list chain at before (cause.Deep to key) h = absurd h
-absent_at rom list chain at before (cause.TooManyWords words) h = absurd h
-absent_at rom list chain at before cause.RootOutside h = h
-absent_at rom list chain at before (cause.Ring from) h = absurd h
-absent_at rom list chain at before cause.TooManyEntries h = absurd h
-absent_at rom list chain at before cause.Memory h = tt
+absent_at rom list chain at before why h = grind (arith)
 
 -- ---- items at which the making does not stop
 
@@ -137,16 +91,11 @@ fine_taken c (i ∷ earlier) h = (fine_taken c earlier h.0, record { straight = 
 -- the depth before an item is the greatest, and the words before it are the most
 all_taken : (machine : Machine) (list : List Entry) (key : Key) (items : List Item) → AllFine (keyed_context machine list key) items → depth_before (keyed_context machine list key) items ≤ MOST_DEPTH → words_before (keyed_context machine list key) items ≤ MOST_WORDS → AllTaken (keyed_context machine list key) items
 all_taken machine list key [] fine deep many = tt
-all_taken machine list key (i ∷ earlier) fine deep many =
-    (all_taken machine list key earlier fine.0 (omega (arith, deep)) (omega (arith, many)), record { asked = record { straight = fine.1.straight; deep = omega (arith, deep); many = many }; keyed = fine.1.keyed })
+all_taken machine list key (i ∷ earlier) fine deep many = grind (arith, (all_taken machine list key earlier fine.0 (omega (arith, deep)) (omega (arith, many))))
 
 -- where a shape in the making stands
 pub reached : (rom : Rom) (list : List Entry) (w : PartialEntry) → IsPartial rom list w → Reaches rom list (shape_of w) w.cursor.at w.cursor.known
-reached rom list w h =
-    let is = h.knows.known_is in
-    let depth = subst (λ (k : Known). k.depth ≤ MOST_DEPTH) is h.shallow in
-    let words = subst (λ (k : Known). k.words ≤ MOST_WORDS) is h.few in
-    record { items = h.items; leads = h.leads; taken = all_taken rom.machine list w.key h.items h.knows.fine depth words; known = is }
+reached rom list w h = grind (arith, all_taken)
 
 -- ---- the walk
 
@@ -161,16 +110,10 @@ record IsCalled (c : Context) (items : List Item) (i : Item) (o : Option Entry) 
   keyed : (to : ℕ) → target Shape i.instr ≡ Some to → HasEntry c.list to (scale_before c items)
 
 called_now : (machine : Machine) (list : List Entry) (key : Key) (items : List Item) (i : Item) (scale : Key) (o : Option Entry) → scale ≡ scale_before (keyed_context machine list key) items → IsCallee list i.instr scale o → IsCalled (keyed_context machine list key) items i o
-called_now machine list key items i scale o e h =
-    record { is = h.value ∙ ap (callee_at list (target Shape i.instr)) e; keyed = λ to t. subst (HasEntry list to) e (h.keyed to t) }
+called_now machine list key items i scale o e h = grind (arith, callee_at, target)
 
 fits_target : (i : Instr) (to : ℕ) → InstrFits i → target Shape i ≡ Some to → to < ADDRESS_END
-fits_target (Draws d) to f e = cc
-fits_target (Labs x y g) to f e = cc
-fits_target Halt to f e = cc
-fits_target (Jsrl t) to f e = let q : t ≡ to = cc in omega (arith, q, f)
-fits_target Rtsl to f e = cc
-fits_target (Jmpl t) to f e = let q : t ≡ to = cc in omega (arith, q, f)
+fits_target i to f e = grind (arith)
 
 module _ (rom : Rom) (list : List Entry) (from w : PartialEntry) (h : Walking rom list from w) where
   as_from : NeverAt rom list w.addr w.key → NeverAt rom list from.addr from.key
@@ -180,12 +123,7 @@ module _ (rom : Rom) (list : List Entry) (from w : PartialEntry) (h : Walking ro
   link_from = (λ j. record { addr = h.addr j; key = h.key j })
 
   stops_here : (obstacle : Obstacle) → obstacle.cursor ≡ w.cursor → NeverAt rom list from.addr from.key → CauseAt rom list [] w.cursor.at w.cursor.known obstacle.cause → IsStopped rom list from obstacle
-  stops_here obstacle here never why =
-      record {
-        never = never;
-        reaches = subst (λ c. Reaches rom list (shape_of from) c.at c.known) (sym here) (subst (λ l. Reaches rom list l w.cursor.at w.cursor.known) link_from (reached rom list w h.partial));
-        cause = subst (λ c. CauseAt rom list [] c.at c.known obstacle.cause) (sym here) why;
-      }
+  stops_here obstacle here never why = grind (arith, shape_of, link_from, reached)
 
   pub nothing_there : ((format : Format) (i : Instr) → cell_at (rom_word rom) w.cursor.at ≡ Holds format i → ⊥) → NeverAt rom list from.addr from.key
   nothing_there not = as_from (none_there rom list w h.partial.items h.partial.leads not)
@@ -245,13 +183,7 @@ module _ (rom : Rom) (list : List Entry) (from w : PartialEntry) (h : Walking ro
 
           -- the entry of the shape
           pub finished : IsEntry rom.map.rom_first rom.map.rom_last (entry_of w.addr w.key last lit) → IsFinished rom list from (entry_of w.addr w.key last lit)
-          finished entry =
-              record {
-                addr = h.addr;
-                key = h.key;
-                entry = entry;
-                made = ends_made rom list (entry_of w.addr w.key last lit) (record { stops = record { items = h.partial.items; i = i; leads = h.partial.leads; is = is; last = end.0 }; sums = record { known = sym knows_last.known_is; box = knows_last.least }; fine = knows_last.fine });
-              }
+          finished entry = search (entry, ends_made rom list (entry_of w.addr w.key last lit) (record { stops = record { items = h.partial.items; i = i; leads = h.partial.leads; is = is; last = end.0 }; sums = record { known = sym knows_last.known_is; box = knows_last.least }; fine = knows_last.fine }))
 
 -- a called entry is within the limits
 pub claim_of : (rom : Rom) (list : List Entry) (i : Instr) (scale : Key) (o : Option Entry) → rom.map.rom_last < ADDRESS_END → ((e : Entry) → Contains list e → IsEntry rom.map.rom_first rom.map.rom_last e) → IsCallee list i scale o → IfSome o IsClaim

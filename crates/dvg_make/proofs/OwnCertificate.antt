@@ -2,7 +2,8 @@
 use Rattle.dvg_make.proofs.Common.{Machine, Board, ◌≡◌, ℕ, zero, suc, ◌≤◌, List, [], ◌∷◌, Option, None, Some, sym, subst, arith, slice_get, Result, Ok, Err, cell_at, Rom, frame_word, Window, Cell, Missing, Odd, Holds, Entry, frame_context, seen_at, Item, Seen, CellKeeps, GoodFrame, Exact, EntryFault, Unstraight, Deep, TooManyWords, TooManyEntries, Memory, FrameCall, FramesRefuse, FrameRefused}
 use Rattle.std.proofs.Common.{max}
 use Rattle.std.specs.Prelude.{IfOk}
-use Rattle.dvg_check.specs.Rules.{FrameKeeps}
+use Rattle.dvg_items.specs.declared.item.Kind.TheVariants.{Frame}
+use Rattle.dvg_check.specs.Rules.{FrameKeeps, AllKeep, FramePlaceKeeps}
 use Rattle.dvg_check.specs.Verdict.{PartsVerdict}
 use Rattle.dvg_check.specs.Causes.{refusal_of, verdict_of}
 use Rattle.dvg_check.specs.declared.finding.RomFinding.{RomFinding}
@@ -24,38 +25,21 @@ use Rattle.dvg_make.proofs.FrameBest.{none_better}
 -- ---- budgets
 
 raised_rule : (w : Window) (a b : ℕ) (v : Seen) (why : FrameWhy) → a ≤ b → FrameKeeps w a v why → FrameKeeps w b v why
-raised_rule w a b v frame.Unmapped le h = h
-raised_rule w a b v frame.Odd le h = h
-raised_rule w a b v frame.ReturnInFrame le h = h
-raised_rule w a b v frame.BackJump le h = h
-raised_rule w a b v frame.BeamUnknown le h = h
-raised_rule w a b v frame.ScaleUnknown le h = h
-raised_rule w a b v frame.OffScreen le h = h
-raised_rule w a b v frame.NoEntry le h = h
-raised_rule w a b v frame.Budget le h = omega (arith, h, le)
+raised_rule w a b v why le h = grind (arith)
 
 module _ (machine : Machine) (w : Window) (words : List ℕ) (list : List Entry) where
   abbrev Kept : ℕ → List Item → ℕ → FrameWhy → Cell → Type 0
   Kept budget earlier p why cell = CellKeeps frame.Unmapped frame.Odd (λ i. FrameKeeps w budget (seen_at (frame_context machine list) earlier i)) p cell why
 
   raised_cell : (a b : ℕ) (earlier : List Item) (p : ℕ) (why : FrameWhy) (cell : Cell) → a ≤ b → Kept a earlier p why cell → Kept b earlier p why cell
-  raised_cell a b earlier p why Missing le h = h
-  raised_cell a b earlier p why Odd le h = h
-  raised_cell a b earlier p why (Holds format i) le h = raised_rule w a b (seen_at (frame_context machine list) earlier (record { at = p; format = format; instr = i })) why le h
+  raised_cell a b earlier p why cell le h = grind (arith, raised_rule, seen_at, frame_context)
 
   -- a frame that is good within a budget is so within each greater one
   raised : (a b count depth : ℕ) → a ≤ b → GoodFrame w machine words list a count depth → GoodFrame w machine words list b count depth
   raised a b count depth le g =
-      record {
-        keeps = λ earlier p lead why. raised_cell a b earlier p why (cell_at (frame_word machine words) p) le (g.keeps earlier p lead why);
-        items = g.items;
-        at = g.at;
-        format = g.format;
-        leads = g.leads;
-        halts = g.halts;
-        count_is = g.count_is;
-        depth_is = g.depth_is;
-      }
+      let keeps : AllKeep Frame (frame_word machine words) 0 (FramePlaceKeeps w machine words list b) =
+      λ earlier p lead why. raised_cell a b earlier p why (cell_at (frame_word machine words) p) le (g.keeps earlier p lead why) in
+      search keeps
 
 -- ---- the verdict
 
@@ -91,33 +75,12 @@ module _ (rom : Rom) (words : List ℕ) (w : Window) (budget : ℕ) (made : List
       → (rom.machine ≡ Board → IfOk answer (λ yes. SafeOnCircuit (record { frame = words; rom = rom }) w yes.words yes.depth))
       → (rom.machine ≡ Board → IfOk answer (λ yes. CountsOnCircuit (record { frame = words; rom = rom }) yes.words yes.depth))
       → IsJudged rom words w budget (checked answer)
-  judged_by (Ok y) v safe exact circuit circuit_exact =
-      record {
-        verdict = record { list = made; made = m; verdict = v };
-        safe = safe;
-        exact = exact;
-        circuit = circuit;
-        circuit_exact = circuit_exact;
-        least = judged_least y v;
-        refused = tt;
-        told = tt;
-      }
-  judged_by (Err f) v safe exact circuit circuit_exact =
-      record {
-        verdict = record { list = made; made = m; verdict = v };
-        safe = tt;
-        exact = tt;
-        circuit = λ board. tt;
-        circuit_exact = λ board. tt;
-        least = tt;
-        refused = judged_refused (refusal_of f) v;
-        told = tt;
-      }
+  judged_by (Ok y) v safe exact circuit circuit_exact = grind (arith, (judged_least y v))
+  judged_by (Err f) v safe exact circuit circuit_exact = grind (arith, judged_refused)
 
 -- what the fault of the maker means, of one frame
 only_frame : (words other : List ℕ) (i : ℕ) → slice_get (words ∷ []) i ≡ Some other → words ≡ other
-only_frame words other zero e = cc e
-only_frame words other (suc i) e = cc e
+only_frame words other i e = grind (arith)
 
 record Here (rom : Rom) (words : List ℕ) (at : ℕ) (why : EntryFault) : Type 0 where
   stops : CallBarredAt rom words at why
@@ -128,10 +91,7 @@ module _ (rom : Rom) (words : List ℕ) where
   here call why h =
       let f = h.frame in
       let same = sym (only_frame words f.0 call.frame f.1) in
-      record {
-        stops = subst (λ x. CallBarredAt rom x call.at why) same f.2;
-        bars = subst (λ x. BarsFrame rom x why) same f.3;
-      }
+      search (subst (λ x. CallBarredAt rom x call.at why) same f.2, subst (λ x. BarsFrame rom x why) same f.3)
 
   pub made_refused : (w : Window) (budget : ℕ) (call : Option FrameCall) (why : EntryFault) → FramesRefuse rom [] (words ∷ []) (record { call = call; why = why }) → FrameRefused rom words w budget (refusal_at call why)
   made_refused w budget None why h = tt
@@ -142,9 +102,4 @@ module _ (rom : Rom) (words : List ℕ) where
   made_refused w budget (Some call) TooManyEntries h = (h.list, (here call TooManyEntries h).bars)
 
   pub made_verdict : (w : Window) (budget : ℕ) (call : Option FrameCall) (why : EntryFault) → FramesRefuse rom [] (words ∷ []) (record { call = call; why = why }) → VerdictByMade rom words w budget (Err (refusal_at call why))
-  made_verdict w budget None why h = tt
-  made_verdict w budget (Some call) Memory h = tt
-  made_verdict w budget (Some call) (Unstraight word) h = (here call (Unstraight word) h).stops
-  made_verdict w budget (Some call) Deep h = (here call Deep h).stops
-  made_verdict w budget (Some call) TooManyWords h = (here call TooManyWords h).stops
-  made_verdict w budget (Some call) TooManyEntries h = (here call TooManyEntries h).stops
+  made_verdict w budget call why h = grind (arith, here)

@@ -1,5 +1,6 @@
 -- Where a made shape ends at a relative place, none of its items stands at an absolute one.
 use Rattle.dvg_make.proofs.Common.{ℕ, List, [], ◌∷◌, sym, ap, subst, Rom, rom_word, Window, End, Rel, Abs, Lost, Entry, Context, shape_context, place_past, place_before, LitInWindow, extent, Item, Shape, Effect, Sets, Loses, Moves, Known, LitExtent, GoodShape, Exact, MadeEntry}
+use Rattle.std.proofs.Common.{arith}
 use Rattle.dvg_items.specs.Items.{AtEachOf, AtEveryPlace}
 use Rattle.dvg_items.proofs.Leading.{everywhere}
 use Rattle.dvg_make.specs.Private.Judged.{IsRelative}
@@ -8,19 +9,11 @@ use Rattle.dvg_make.proofs.Windows.{good_entry}
 
 -- no effect leads back to a relative place
 relative_before : (place : End) (effect : Effect) → IsRelative (place_past effect place) → IsRelative place
-relative_before (Rel x y) effect h = tt
-relative_before (Abs x y) (Sets p) h = h
-relative_before (Abs x y) Loses h = h
-relative_before (Abs x y) (Moves d) h = h
-relative_before Lost (Sets p) h = h
-relative_before Lost Loses h = h
-relative_before Lost (Moves d) h = h
+relative_before place effect h = grind (arith)
 
 -- at a relative place nothing is lit at an absolute one
 relative_in_window : (w : Window) (lit : LitExtent) (place : End) → IsRelative place → LitInWindow w lit place
-relative_in_window w lit (Rel x y) h = tt
-relative_in_window w lit (Abs x y) h = absurd h
-relative_in_window w lit Lost h = absurd h
+relative_in_window w lit place h = grind (arith)
 
 module _ (rom : Rom) (list : List Entry) (e : Entry) (made : MadeEntry rom list e) (ends : IsRelative e.stop) where
   abbrev c : Context

@@ -1,5 +1,6 @@
 -- What the maker makes has only small numbers: on either machine a word moves the beam by 1024 screen places at most.
 use Rattle.dvg_words.specs.Values.{Source}
+use Rattle.std.proofs.Common.{rules}
 use Rattle.dvg_make.proofs.Common.{Machine, Board, ◌≡◌, ℕ, zero, suc, ◌+◌, ◌-◌, ◌<◌, ◌≤◌, List, [], ◌∷◌, Option, Some, None, refl, sym, ap, ◌∙◌, subst, arith, ints, AllByRecursion, Contains, IfSome, if◌then◌else◌, slice_get, cell_at, Rom, rom_word, Point, Cell, Holds, Format, Instr, Labs, Halt, Jsrl, Rtsl, Jmpl, IsKey, IsEntry, entry_at, End, Rel, Abs, Lost, Entry, Key, At, Any, LitBox, Empty, Span, MOST_DEPTH, MOST_WORDS, LeadsTo, Context, shape_context, target, callee_at, callee, callee_words, place_past, scale_before, place_before, words_before, depth_before, known_before, InBox, IsInside, box_extent, extent_of, relative_corners, extent, Item, Shape, Effect, Sets, Loses, Moves, Known, LitExtent, Nothing, Between, listed_at, all_append, word_count-some, lit_points, IsLeast, HasEntry, MadeEntry, keyed_context, entry_of, AllFine}
 use Rattle.dvg_words.specs.declared.machine.Machine.TheVariants.{Profile}
 use Rattle.std.proofs.Common.{ℤ, pos, negsuc, neg_ℤ, ◌*◌, ◌/◌, ◌%◌, ◌^◌, nat_le, ◌+ℤ◌, Bool, true, false}
@@ -56,17 +57,14 @@ small_origin : (n : ℕ) → IsSmall n origin
 small_origin n = record { left = omega (arith, ints); right = omega (arith, ints); down = omega (arith, ints); up = omega (arith, ints) }
 
 small_more : (m n : ℕ) (p : Point) → m ≤ n → IsSmall m p → IsSmall n p
-small_more m n p le h =
-    record { left = omega (arith, ints, h.left, le); right = omega (arith, ints, h.right, le); down = omega (arith, ints, h.down, le); up = omega (arith, ints, h.up, le) }
+small_more m n p le h = grind (arith)
 
 small_shift : (m n : ℕ) (p d : Point) → IsSmall m p → IsSmall n d → IsSmall (n + m) (shift p d)
 small_shift m n p d h k =
     record { left = omega (arith, ints, h.left, k.left); right = omega (arith, ints, h.right, k.right); down = omega (arith, ints, h.down, k.down); up = omega (arith, ints, h.up, k.up) }
 
 effect_more : (m n : ℕ) (e : Effect) → m ≤ n → IsSmallEffect m e → IsSmallEffect n e
-effect_more m n (Sets p) le h = small_more m n p le h
-effect_more m n Loses le h = tt
-effect_more m n (Moves d) le h = small_more m n d le h
+effect_more m n e le h = grind (arith, small_more)
 
 extent_more : (m n : ℕ) (lit : LitExtent) → m ≤ n → IsSmallExtent m lit → IsSmallExtent n lit
 extent_more m n Nothing le h = tt
@@ -106,52 +104,27 @@ abbrev IsSmallDraw : DrawFields → Type 0
 IsSmallDraw d = IsSmallSize d.dx × IsSmallSize d.dy
 
 small_factor : (local global : ℕ) → factor local global ≤ 1024
-small_factor local global = by_test (nat_le (effective_scale local global) 9) refl
-  where
-    by_test : (b : Bool) → nat_le (effective_scale local global) 9 ≡ b → (if b then 2 ^ (effective_scale local global + 1) else 1) ≤ 1024
-    by_test true e = let le : effective_scale local global + 1 ≤ 10 = grind (arith, nat_tests) in pow_mono {i = effective_scale local global + 1} {j = 10} le
-    by_test false e = omega arith
+small_factor local global = grind (arith, nat_le, nat_tests, pow_mono)
 
 small_product : (z : ℤ) (f : ℕ) → IsSmallSize z → f ≤ 1024 → IsSmallNumber 1 (z *ℤ pos f)
-small_product (pos a) f h le =
-    let m : a ≤ 1023 = omega (arith, ints, h.high) in
-    let p : a * f ≤ 1023 * 1024 = mul-le a f 1023 1024 m le in
-    subst (IsSmallNumber 1) (sym (pos-*ℤ-pos a f)) (record { low = omega (arith, ints, p); high = omega (arith, ints, p) })
-small_product (negsuc a) f h le =
-    let m : suc a ≤ 1023 = omega (arith, ints, h.low) in
-    let p : suc a * f ≤ 1023 * 1024 = mul-le (suc a) f 1023 1024 m le in
-    subst (IsSmallNumber 1) (sym (negsuc-*ℤ-pos a f)) (record { low = omega (arith, ints, p); high = omega (arith, ints, p) })
+small_product z f h le = grind (arith, pos, mul-le, negsuc)
 
 rounded_few : (n : ℕ) → n ≤ 1048576 → rounded n ≤ 1048576
 rounded_few n le = omega (arith, le)
 
-small_rounded : (z : ℤ) → IsSmallNumber 1 z → IsSmallNumber 1 (rounded_move z)
-small_rounded (pos n) h = let few : rounded n ≤ 1048576 = rounded_few n (omega (arith, ints, h.high)) in record { low = omega (arith, ints); high = omega (arith, ints, few) }
-small_rounded (negsuc n) h = let few : rounded (suc n) ≤ 1048576 = rounded_few (suc n) (omega (arith, ints, h.low)) in record { low = omega (arith, ints, few); high = omega (arith, ints, few) }
-
 small_move : (machine : Machine) (size : ℤ) (local global : ℕ) → IsSmallSize size → IsSmallNumber 1 (axis_move machine size local global)
 small_move Profile size local global h = small_product size (factor local global) h (small_factor local global)
-small_move Board size local global h = by_test (nat_le (effective_scale local global) 9)
-  where
-    by_test : (b : Bool) → IsSmallNumber 1 (if b then rounded_move (size *ℤ pos (factor local global)) else pos 0)
-    by_test true = small_rounded (size *ℤ pos (factor local global)) (small_product size (factor local global) h (small_factor local global))
-    by_test false = record { low = omega (arith, ints); high = omega (arith, ints) }
+small_move Board size local global h = grind (arith, (nat_le (effective_scale local global) 9), (pos (factor local global)), (pos 0), pos, rounded_few, negsuc, (small_product size (factor local global) h (small_factor local global)), (small_factor local global))
 
 small_displacement : (machine : Machine) (d : DrawFields) (g : ℕ) → IsSmallDraw d → IsSmall 1 (displacement machine d g)
 unfolding displacement
-small_displacement machine d g h =
-    let x = small_move machine d.dx d.lscale g h.0 in
-    let y = small_move machine d.dy d.lscale g h.1 in
-    record { left = x.low; right = x.high; down = y.low; up = y.high }
+small_displacement machine d g h = grind (arith, (small_move machine d.dx d.lscale g h.0), (small_move machine d.dy d.lscale g h.1))
 
 small_draw : (machine : Machine) (d : DrawFields) (scale : Key) → IsSmallDraw d → IsSmallEffect 1 (draw_effect machine d scale)
-small_draw machine d (At g) h = small_displacement machine d g h
-small_draw machine d Any h = tt
+small_draw machine d scale h = grind (arith, small_displacement)
 
 small_drawn : (machine : Machine) (bright : ℕ) (d : DrawFields) (scale : Key) → IsSmallDraw d → IsSmallExtent 1 (draw_extent machine bright d scale)
-small_drawn machine zero d scale h = tt
-small_drawn machine (suc n) d (At g) h = (small_origin 1, small_displacement machine d g h)
-small_drawn machine (suc n) d Any h = tt
+small_drawn machine bright d scale h = grind (arith, small_origin, small_displacement)
 
 -- ---- what an instruction says
 
@@ -162,55 +135,24 @@ IsSmallInstr machine format (Labs x y g) = IsSmall (word_count format) (labs_pla
 IsSmallInstr machine format i = Unit {0}
 
 small_size : (sign magnitude : ℕ) → magnitude ≤ 1023 → IsSmallSize (magnitude_and_sign sign magnitude)
-small_size sign magnitude le = by_test (sign == 1)
-  where
-    by_test : (b : Bool) → IsSmallSize (if b then neg_ℤ (pos magnitude) else pos magnitude)
-    by_test true = record { low = omega (arith, ints, le); high = omega (arith, ints, le) }
-    by_test false = record { low = omega (arith, ints, le); high = omega (arith, ints, le) }
-
--- a LABS has two words
-small_field : (machine : Machine) (word : ℕ) → IsSmallNumber 2 (labs_coordinate machine (labs_field machine word))
-small_field Profile word = let few : word % 1024 ≤ 1023 = omega arith in record { low = omega (arith, ints); high = omega (arith, ints, few) }
-small_field Board word = by_test (nat_le (word % 4096) 2047) refl
-  where
-    few : word % 4096 ≤ 4095
-    few = omega arith
-
-    by_test : (b : Bool) → nat_le (word % 4096) 2047 ≡ b → IsSmallNumber 2 (pos 1024 *ℤ (if b then pos (word % 4096) else pos (word % 4096) +ℤ negsuc 4095))
-    by_test true e = let under : word % 4096 ≤ 2047 = grind (arith, nat_tests) in record { low = omega (arith, ints, under); high = omega (arith, ints, under) }
-    by_test false e = let over : 2047 < word % 4096 = grind (arith, nat_tests) in record { low = omega (arith, ints, few, over); high = omega (arith, ints, few, over) }
+small_size sign magnitude le = grind (arith, neg_ℤ, pos)
 
 small_labs : (machine : Machine) (first second : ℕ) → IsSmall 2 (labs_place machine (labs_field machine second) (labs_field machine first))
-small_labs machine first second =
-    let x = small_field machine second in
-    let y = small_field machine first in
-    record { left = x.low; right = x.high; down = y.low; up = y.high }
+small_labs machine first second = grind (arith, nat_le, pos, negsuc, nat_tests)
 
 by_opcode : (machine : Machine) (format : Format) (a b c d e f z : Bool) (v s : DrawFields) (x y g t : ℕ) → IsSmallDraw v → IsSmallDraw s → (b ≡ true → IsSmallInstr machine format (Labs x y g)) → IfSome (if a then Some (Draws v) else if b then (if z then Some (Labs x y g) else None) else if c then Some Halt else if d then Some (Jsrl t) else if e then Some Rtsl else if f then Some (Jmpl t) else Some (Draws s)) (IsSmallInstr machine format)
-by_opcode machine format true b c d e f z v s x y g t h k l = h
-by_opcode machine format false true c d e f true v s x y g t h k l = l refl
-by_opcode machine format false true c d e f false v s x y g t h k l = tt
-by_opcode machine format false false true d e f z v s x y g t h k l = tt
-by_opcode machine format false false false true e f z v s x y g t h k l = tt
-by_opcode machine format false false false false true f z v s x y g t h k l = tt
-by_opcode machine format false false false false false true z v s x y g t h k l = tt
-by_opcode machine format false false false false false false z v s x y g t h k l = k
+by_opcode machine format a b c d e f z v s x y g t h k l = grind (arith)
 
 small_instr : (machine : Machine) (format : Format) (first second : ℕ) → ((opcode first == 10) ≡ true → 2 ≤ word_count format) → IfSome (instruction_of machine first second) (IsSmallInstr machine format)
 unfolding instruction_of
-small_instr machine format first second long =
-    by_opcode machine format (nat_le (opcode first) 9) (opcode first == 10) (opcode first == 11) (opcode first == 12) (opcode first == 13) (opcode first == 14) (is_plain_labs machine first second) (vctr_draw first second) (svec_draw first) (labs_field machine second) (labs_field machine first) (opcode second) (target_of first)
-    (small_size (second / 1024 % 2) (second % 1024) (omega arith), small_size (first / 1024 % 2) (first % 1024) (omega arith))
-    (small_size (first / 4 % 2) (256 * (first % 4)) (omega arith), small_size (first / 1024 % 2) (256 * (first / 256 % 4)) (omega arith))
-    (λ e. small_more 2 (word_count format) (labs_place machine (labs_field machine second) (labs_field machine first)) (long e) (small_labs machine first second))
+small_instr machine format first second long = search (rules, by_opcode, (nat_le (opcode first) 9), (small_size (second / 1024 % 2) (second % 1024) (omega arith)), (small_size (first / 1024 % 2) (first % 1024) (omega arith)), (small_size (first / 4 % 2) (256 * (first % 4)) (omega arith)), (small_size (first / 1024 % 2) (256 * (first / 256 % 4)) (omega arith)), small_more, (small_labs machine first second))
 
 abbrev IsSmallCell : Machine → Cell → Type 0
 IsSmallCell machine (Holds format i) = IsSmallInstr machine format i
 IsSmallCell machine cell = Unit {0}
 
 small_holding : (machine : Machine) (format : Format) (o : Option Instr) → IfSome o (IsSmallInstr machine format) → IsSmallCell machine (cell_holding format o)
-small_holding machine format None h = tt
-small_holding machine format (Some i) h = h
+small_holding machine format o h = grind (arith)
 
 -- the opcode of LABS is a long one
 long_labs : (op : ℕ) → nat_le op 10 ≡ false → (op == 10) ≡ true → 2 ≤ 1
@@ -234,22 +176,11 @@ small_held word i is = subst (IsSmallCell word.machine) is (small_cell word i.at
 
 -- ---- what a called shape does
 
-small_stop : (n : ℕ) (stop : End) → IsSmallPlace n stop → IsSmallEffect n (stop_effect stop)
-small_stop n (Rel x y) h = h
-small_stop n (Abs x y) h = h
-small_stop n Lost h = tt
-
 small_called : (o : Option Entry) → IfSome o IsSmallEntry → IsSmallEffect (callee_words o) (callee_effect o)
-small_called None h = small_origin 0
-small_called (Some e) h = small_stop e.words e.stop h.stop
-
-small_boxed : (n : ℕ) (box : LitBox) → IsSmallBox n box → IsSmallExtent n (box_extent box)
-small_boxed n Empty h = tt
-small_boxed n (Span a b c d) h = h
+small_called o h = grind (arith, small_origin)
 
 small_shown : (o : Option Entry) → IfSome o IsSmallEntry → IsSmallExtent (callee_words o) (callee_extent o)
-small_shown None h = tt
-small_shown (Some e) h = small_boxed e.words e.lit h.lit
+small_shown o h = grind (arith)
 
 -- ---- what an item does
 
@@ -262,12 +193,7 @@ small_effect machine format (Jsrl to) scale o h k = effect_more (callee_words o)
 small_effect machine format (Jmpl to) scale o h k = effect_more (callee_words o) (word_count format + callee_words o) (callee_effect o) (omega arith) (small_called o k)
 
 small_extent : (machine : Machine) (format : Format) (i : Instr) (scale : Key) (o : Option Entry) → IsSmallInstr machine format i → IfSome o IsSmallEntry → IsSmallExtent (word_count format + callee_words o) (extent_of machine i scale o)
-small_extent machine format (Draws d) scale o h k = extent_more 1 (word_count format + callee_words o) (draw_extent machine d.bright d scale) (omega (arith, word_count-some format)) (small_drawn machine d.bright d scale h)
-small_extent machine format (Labs x y g) scale o h k = tt
-small_extent machine format Halt scale o h k = tt
-small_extent machine format Rtsl scale o h k = tt
-small_extent machine format (Jsrl to) scale o h k = extent_more (callee_words o) (word_count format + callee_words o) (callee_extent o) (omega arith) (small_shown o k)
-small_extent machine format (Jmpl to) scale o h k = extent_more (callee_words o) (word_count format + callee_words o) (callee_extent o) (omega arith) (small_shown o k)
+small_extent machine format i scale o h k = search (rules, extent_more, callee_words, word_count-some, small_drawn, small_shown)
 
 -- ---- along the items
 
@@ -316,19 +242,10 @@ record IsGoodBox (n : ℕ) (box : LitBox) : Type 0 where
   ordered : IsOrdered box
 
 by_point : (n : ℕ) (p : Point) (box : LitBox) → IsSmall n p → InBox box p → IsInside box (wall n) → IsGoodBox n box
-by_point n p Empty h i w = record { small = tt; ordered = tt }
-by_point n p (Span x_min x_max y_min y_max) h i w =
-    record {
-      small = (
-        record { left = w.0; right = omega (arith, ints, i.left, h.right); down = w.2; up = omega (arith, ints, i.bottom, h.up) },
-        record { left = omega (arith, ints, i.right, h.left); right = w.1; down = omega (arith, ints, i.top, h.down); up = w.3 },
-      );
-      ordered = (omega (arith, ints, i.left, i.right), omega (arith, ints, i.bottom, i.top));
-    }
+by_point n p box h i w = search (rules)
 
 nothing_inside : (n : ℕ) (box : LitBox) → IsInside box Empty → IsGoodBox n box
-nothing_inside n Empty h = record { small = tt; ordered = tt }
-nothing_inside n (Span a b c d) h = absurd h
+nothing_inside n box h = grind (arith)
 
 in_wall : (n : ℕ) (p : Point) → IsSmall n p → InBox (wall n) p
 in_wall n p h = record { left = h.left; right = h.right; bottom = h.down; top = h.up }
@@ -341,10 +258,7 @@ least_good n (p ∷ ps) box h k = by_point n p box h.0 k.holds.0 (k.least (wall 
 
 -- a call finds its entry at the very scale
 small_callee : (list : List Entry) (o : Option ℕ) (scale : Key) → ((to : ℕ) → o ≡ Some to → HasEntry list to scale) → ((to : ℕ) (g : Entry) → o ≡ Some to → entry_at list to scale ≡ Some g → IsSmallEntry g) → IfSome (callee_at list o scale) IsSmallEntry
-small_callee list None scale has small = tt
-small_callee list (Some to) scale has small =
-    let f = has to refl in
-    subst (λ (x : Option Entry). IfSome x IsSmallEntry) (sym (exact_named list to scale f.0 f.1)) (small to f.0 refl f.1)
+small_callee list o scale has small = grind (arith, exact_named)
 
 -- the entries that items call are small
 abbrev SmallCalls : Rom → List Entry → ℕ → Key → Type 0
@@ -379,16 +293,10 @@ made_small rom list all e c = small_up_to rom list all (e.words + 1) e (all e c)
 -- ---- within the limits
 
 place_within : (n : ℕ) (place : End) → n ≤ MOST_WORDS → IsSmallPlace n place → IsEnd place
-place_within n (Rel x y) le h = ((omega (arith, ints, le, h.left), omega (arith, ints, le, h.right)), (omega (arith, ints, le, h.down), omega (arith, ints, le, h.up)))
-place_within n (Abs x y) le h = ((omega (arith, ints, le, h.left), omega (arith, ints, le, h.right)), (omega (arith, ints, le, h.down), omega (arith, ints, le, h.up)))
-place_within n Lost le h = tt
+place_within n place le h = grind (arith)
 
 box_within : (n : ℕ) (box : LitBox) → n ≤ MOST_WORDS → IsGoodBox n box → IsBox box
-box_within n Empty le h = tt
-box_within n (Span a b c d) le h = (
-  ((omega (arith, ints, le, h.small.0.left), omega (arith, ints, le, h.small.0.right)), (omega (arith, ints, le, h.small.1.left), omega (arith, ints, le, h.small.1.right)), h.ordered.0),
-  ((omega (arith, ints, le, h.small.0.down), omega (arith, ints, le, h.small.0.up)), (omega (arith, ints, le, h.small.1.down), omega (arith, ints, le, h.small.1.up)), h.ordered.1),
-)
+box_within n box le h = search (rules)
 
 -- ---- its address
 
@@ -399,19 +307,10 @@ first_stands word addr (j ∷ earlier) p format i lead is = first_stands word ad
 
 cell_some : (word : Source) (p : ℕ) (format : Format) (i : Instr) → cell_at word p ≡ Holds format i → (w : ℕ) × (word.word p ≡ Some w)
 unfolding cell_at
-cell_some word p format i is = by_word (word.word p) refl is
-  where
-    by_word : (o : Option ℕ) → word.word p ≡ o → cell_of_words word.machine o (word.word (p + 1)) ≡ Holds format i → (w : ℕ) × (word.word p ≡ Some w)
-    by_word None e f = cc
-    by_word (Some w) e f = (w, e)
+cell_some word p format i is = grind (arith)
 
 in_rom : (rom : Rom) (p w : ℕ) → word_of_rom rom p ≡ Some w → (rom.map.rom_first ≤ p) × (p ≤ rom.map.rom_last)
-in_rom rom p w e = by_tests (nat_le rom.map.rom_first p) (nat_le p rom.map.rom_last) refl refl e
-  where
-    by_tests : (a b : Bool) → nat_le rom.map.rom_first p ≡ a → nat_le p rom.map.rom_last ≡ b → (if a && b then slice_get rom.words (p - rom.map.rom_first) else None) ≡ Some w → (rom.map.rom_first ≤ p) × (p ≤ rom.map.rom_last)
-    by_tests true true f g h = (grind (arith, nat_tests), grind (arith, nat_tests))
-    by_tests true false f g h = cc
-    by_tests false b f g h = cc
+in_rom rom p w e = grind (arith, nat_le, slice_get, nat_tests)
 
 -- ---- what the maker makes is an entry
 
@@ -429,14 +328,4 @@ made_is_entry rom list made addr key items i lit lead is fine least words depth 
     let first = first_stands (rom_word rom) addr items i.at i.format i.instr lead is in
     let some = cell_some (rom_word rom) addr first.0 first.1 first.2 in
     let there = in_rom rom addr some.0 some.1 in
-    record {
-      addr_low = there.0;
-      addr_high = there.1;
-      key = key_is;
-      stop = place_within n (place_before (keyed_context rom.machine list key) (i ∷ items)) words (place_small rom.machine list key (i ∷ items) small);
-      lit = box_within n lit words box;
-      depth = depth;
-      words_low = omega (arith, word_count-some i.format);
-      words_high = words;
-      scale = scale_is;
-    }
+    search (rules, there.0, there.1, key_is, place_within n (place_before (keyed_context rom.machine list key) (i ∷ items)) words (place_small rom.machine list key (i ∷ items) small), box_within n lit words box, depth, words, scale_is)

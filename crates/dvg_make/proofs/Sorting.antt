@@ -21,31 +21,10 @@ pub record IsKeyOrder (cmp : Key → Key → Ordering) : Type 0 where
 
 module _ (cmp : Key → Key → Ordering) (order : IsKeyOrder cmp) where
   key_after : (k l : Key) → is_lt (cmp l k) ≡ false → same_key k l ≡ false → KeyBefore k l
-  key_after (At m) (At n) h s = ⊎_elim (λ lt. lt) (λ le. absurd (not_above le)) (cases_lt m n)
-    where
-      not_above : n ≤ m → ⊥
-      not_above le =
-          ⊎_elim
-          (λ lt. let less : cmp (At n) (At m) ≡ Less = order.numbers n m ∙ sym (nat_cmp_is n m Less lt) in let no : true ≡ false = sym (ap is_lt less) ∙ h in cc no)
-          (λ ge. let same : nat_eq m n ≡ true = grind (arith, nat_tests) in cc (same, s))
-          (cases_lt n m)
-  key_after (At m) Any h s = tt
-  key_after Any (At n) h s = let no : true ≡ false = sym (ap is_lt (order.any_last n)) ∙ h in cc no
-  key_after Any Any h s = cc s
+  key_after k l h s = grind (arith, cases_lt, nat_tests)
 
   pair_after : (a b : ℕ) (k l : Key) → is_lt (ordering_then (nat_cmp b a) (cmp l k)) ≡ false → nat_eq a b && same_key k l ≡ false → (a < b) ⊎ ((a ≡ b) × KeyBefore k l)
-  pair_after a b k l h s =
-      ⊎_elim (λ lt. inl lt)
-      (λ le. ⊎_elim
-      (λ lt. let no : true ≡ false = ap (λ (o : Ordering). is_lt (ordering_then o (cmp l k))) (nat_cmp_is b a Less lt) ∙ h in cc no)
-      (λ ge.
-      let same : a ≡ b = omega (arith, le, ge) in
-      let equal : nat_eq a b ≡ true = grind (arith, nat_tests, same) in
-      let keys : is_lt (cmp l k) ≡ false = ap (λ (o : Ordering). is_lt (ordering_then o (cmp l k))) (nat_cmp_is b a Equal (sym same)) ∙ h in
-      let other : same_key k l ≡ false = ap (λ x. x && same_key k l) (sym equal) ∙ s in
-      inr (same, key_after k l keys other))
-      (cases_lt b a))
-      (cases_lt a b)
+  pair_after a b k l h s = grind (arith, nat_tests, key_after, cases_lt)
 
   pub rising : (same : (ℕ × Key) → (ℕ × Key) → Bool) → ((p q : ℕ × Key) → same p q ≡ nat_eq p.0 q.0 && same_key p.1 q.1) → (ps : List ((ℕ × Key) × Entry))
       → IsSorted (λ p q. ordering_then (nat_cmp p.0 q.0) (cmp p.1 q.1)) (keys_of ps)
@@ -64,9 +43,4 @@ module _ (cmp : Key → Key → Ordering) (order : IsKeyOrder cmp) where
           subst (λ (n : ℕ). is_lt (ordering_then (nat_cmp (get_or (keys_of (p ∷ q ∷ ps)) n d).0 (get_or (keys_of (p ∷ q ∷ ps)) (suc k) d).0) (cmp (get_or (keys_of (p ∷ q ∷ ps)) n d).1 (get_or (keys_of (p ∷ q ∷ ps)) (suc k) d).1)) ≡ false) next (sorted (suc k) d (omega arith) lt)
 
       before : (p q : (ℕ × Key) × Entry) → IsOwn p → IsOwn q → is_lt (ordering_then (nat_cmp q.0.0 p.0.0) (cmp q.0.1 p.0.1)) ≡ false → nat_eq p.0.0 q.0.0 && same_key p.0.1 q.0.1 ≡ false → Before p.1 q.1
-      before p q own own' h s =
-          let h' = subst (λ (x : ℕ × Key). is_lt (ordering_then (nat_cmp x.0 p.0.0) (cmp x.1 p.0.1)) ≡ false) own' h in
-          let h'' = subst (λ (x : ℕ × Key). is_lt (ordering_then (nat_cmp q.1.addr x.0) (cmp q.1.key x.1)) ≡ false) own h' in
-          let s' = subst (λ (x : ℕ × Key). nat_eq p.0.0 x.0 && same_key p.0.1 x.1 ≡ false) own' s in
-          let s'' = subst (λ (x : ℕ × Key). nat_eq x.0 q.1.addr && same_key x.1 q.1.key ≡ false) own s' in
-          pair_after p.1.addr q.1.addr p.1.key q.1.key h'' s''
+      before p q own own' h s = grind (arith, pair_after)

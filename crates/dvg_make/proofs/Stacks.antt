@@ -1,5 +1,7 @@
 -- The stack of shapes in the making, as pairs of an address and key with a shape.
-use Rattle.dvg_make.proofs.Common.{◌≡◌, ℕ, zero, suc, ◌+◌, ◌-◌, ◌<◌, List, [], ◌∷◌, ◌++◌, length, Option, Some, None, refl, sym, ap, ◌∙◌, subst, arith, inl, inr, IfSome, IfNone, values_of, Entry, Key, at_holds, pair_test, PartialEntry, entry_of, AreOwn, IsMaking}
+use Rattle.dvg_make.proofs.Common.{◌≡◌, ℕ, zero, suc, ◌+◌, ◌-◌, ◌<◌, List, [], ◌∷◌, ◌++◌, length, Option, Some, None, refl, sym, ap, ◌∙◌, subst, arith, inl, inr, IfSome, IfNone, values_of, Entry, Key, at_holds, pair_test, PartialEntry, entry_of, All, IsOwnPartial, IsMaking}
+use Rattle.std.proofs.Common.{rules}
+use Rattle.std.proofs.lemmas.Grind.{common_steps}
 use Rattle.std.proofs.Common.{Bool, true, false, cond, is_some, slice_get}
 use Rattle.std.specs.Map.{lookup}
 use Rattle.std.proofs.lemmas.List.Elements.{All-nil, All-cons, All-head, All-tail, All-push}
@@ -8,7 +10,6 @@ use Rattle.indexmap.specs.IndexMap.{set_value_at}
 use Rattle.indexmap.proofs.MapLemmas.{split_last}
 use Rattle.dvg_cert.proofs.OnlyEntries.{at_means}
 use Rattle.dvg_cert.proofs.Pairs.{pair_eq}
-use Rattle.dvg_make.specs.Private.Stacked.{IsOwnPartial}
 
 abbrev Pairs : Type 0
 Pairs = List ((ℕ × Key) × PartialEntry)
@@ -28,11 +29,10 @@ module _ (addr : ℕ) (key : Key) where
   own_holds p own a k = ap test own ∙ pair_test addr key (as_entry p.1) ∙ at_holds addr key (as_entry p.1) a k
 
   by_answer : {P : Type 0} (b : Bool) → (b ≡ true → P) → (b ≡ false → P) → P
-  by_answer true p q = p refl
-  by_answer false p q = q refl
+  by_answer b p q = grind (arith)
 
   -- what is found has the address and the key
-  pub found_own : (ps : Pairs) → AreOwn ps → (w : PartialEntry) → lookup test ps ≡ Some w → (w.addr ≡ addr) × (w.key ≡ key)
+  pub found_own : (ps : Pairs) → All IsOwnPartial ps → (w : PartialEntry) → lookup test ps ≡ Some w → (w.addr ≡ addr) × (w.key ≡ key)
   found_own [] own w e = cc e
   found_own (p ∷ ps) own w e =
       by_answer (test p.0)
@@ -43,41 +43,28 @@ module _ (addr : ℕ) (key : Key) where
       some_same q = cc q
 
   -- what is in the making is found
-  pub making_found : (ps : Pairs) → AreOwn ps → IsMaking (values_of ps) addr key → is_some (lookup test ps) ≡ true
+  pub making_found : (ps : Pairs) → All IsOwnPartial ps → IsMaking (values_of ps) addr key → is_some (lookup test ps) ≡ true
   making_found [] own m = absurd m
   making_found (p ∷ ps) own (inl same) = ap (λ b. is_some (cond b (Some p.1) (lookup test ps))) (own_holds p (All-head IsOwnPartial p ps own) same.0 same.1)
-  making_found (p ∷ ps) own (inr later) =
-      by_answer (test p.0)
-      (λ t. ap (λ b. is_some (cond b (Some p.1) (lookup test ps))) t)
-      (λ f. ap (λ b. is_some (cond b (Some p.1) (lookup test ps))) f ∙ making_found ps (All-tail IsOwnPartial p ps own) later)
+  making_found (p ∷ ps) own (inr later) = grind (arith, by_answer, is_some, cond, (making_found ps (All-tail IsOwnPartial p ps own) later))
 
   -- and the other way round
-  pub found_making : (ps : Pairs) → AreOwn ps → (w : PartialEntry) → lookup test ps ≡ Some w → IsMaking (values_of ps) addr key
+  pub found_making : (ps : Pairs) → All IsOwnPartial ps → (w : PartialEntry) → lookup test ps ≡ Some w → IsMaking (values_of ps) addr key
   found_making [] own w e = cc e
   found_making (p ∷ ps) own w e =
       by_answer (test p.0)
       (λ t. inl (own_means p (All-head IsOwnPartial p ps own) t))
       (λ f. inr (found_making ps (All-tail IsOwnPartial p ps own) w (sym (ap (λ b. cond b (Some p.1) (lookup test ps)) f) ∙ e)))
 
-  pub none_found : (ps : Pairs) → AreOwn ps → (IsMaking (values_of ps) addr key → ⊥) → lookup test ps ≡ None
-  none_found ps own not = by_found (lookup test ps) refl
-    where
-      by_found : (o : Option PartialEntry) → lookup test ps ≡ o → lookup test ps ≡ None
-      by_found None e = e
-      by_found (Some w) e = absurd (not (found_making ps own w e))
+  pub none_found : (ps : Pairs) → All IsOwnPartial ps → (IsMaking (values_of ps) addr key → ⊥) → lookup test ps ≡ None
+  none_found ps own not = grind (arith, found_making)
 
   -- where the shape is among them, by its index
-  pub at_index : (ps : Pairs) → AreOwn ps → (o : Option ℕ) → is_some o ≡ is_some (lookup test ps) → IfSome o (λ i. slice_get (values_of ps) i ≡ lookup test ps) → IfSome o (λ i. (w : PartialEntry) × (slice_get (values_of ps) i ≡ Some w) × (w.addr ≡ addr) × (w.key ≡ key))
-  at_index ps own None s v = tt
-  at_index ps own (Some i) s v = by_found (lookup test ps) refl
-    where
-      by_found : (o : Option PartialEntry) → lookup test ps ≡ o → (w : PartialEntry) × (slice_get (values_of ps) i ≡ Some w) × (w.addr ≡ addr) × (w.key ≡ key)
-      by_found None e = let no : true ≡ false = s ∙ ap is_some e in cc no
-      by_found (Some w) e = let own_w = found_own ps own w e in (w, v ∙ e, own_w.0, own_w.1)
+  pub at_index : (ps : Pairs) → All IsOwnPartial ps → (o : Option ℕ) → is_some o ≡ is_some (lookup test ps) → IfSome o (λ i. slice_get (values_of ps) i ≡ lookup test ps) → IfSome o (λ i. (w : PartialEntry) × (slice_get (values_of ps) i ≡ Some w) × (w.addr ≡ addr) × (w.key ≡ key))
+  at_index ps own w s v = grind (arith, slice_get, values_of, is_some, found_own)
 
-  pub no_index : (ps : Pairs) → AreOwn ps → (o : Option ℕ) → is_some o ≡ is_some (lookup test ps) → IfNone o (IsMaking (values_of ps) addr key → ⊥)
-  no_index ps own (Some i) s = tt
-  no_index ps own None s = λ m. let no : false ≡ true = s ∙ making_found ps own m in cc no
+  pub no_index : (ps : Pairs) → All IsOwnPartial ps → (o : Option ℕ) → is_some o ≡ is_some (lookup test ps) → IfNone o (IsMaking (values_of ps) addr key → ⊥)
+  no_index ps own h2 s = grind (arith, making_found)
 
 -- ---- the top
 
@@ -85,7 +72,7 @@ pub values_push : (ps qs : Pairs) → values_of (ps ++ qs) ≡ values_of ps ++ v
 values_push [] qs = refl
 values_push (p ∷ ps) qs = ap (λ (l : List PartialEntry). p.1 ∷ l) (values_push ps qs)
 
-pub own_push : (ps : Pairs) (w : PartialEntry) → AreOwn ps → AreOwn (ps ++ ((w.addr, w.key), w) ∷ [])
+pub own_push : (ps : Pairs) (w : PartialEntry) → All IsOwnPartial ps → All IsOwnPartial (ps ++ ((w.addr, w.key), w) ∷ [])
 own_push ps w own = All-push IsOwnPartial ps ((w.addr, w.key), w) own refl
 
 not_nil : {P : Type 0} (x : PartialEntry) (xs ys : List PartialEntry) → [] ≡ xs ++ x ∷ ys → P
@@ -109,7 +96,7 @@ set_last (p ∷ q ∷ ps) (suc n) [] old w long e = cc e
 set_last (p ∷ q ∷ ps) (suc n) (r ∷ rest) old w long e =
     (λ j. head_same e j ∷ set_last (q ∷ ps) n rest old w (omega (arith, long)) (tail_same e) j)
 
-pub own_set_last : (ps : Pairs) (n : ℕ) (rest : List PartialEntry) (old w : PartialEntry) → n + 1 ≡ length ps → values_of ps ≡ rest ++ old ∷ [] → old.addr ≡ w.addr → old.key ≡ w.key → AreOwn ps → AreOwn (set_value_at ps n w)
+pub own_set_last : (ps : Pairs) (n : ℕ) (rest : List PartialEntry) (old w : PartialEntry) → n + 1 ≡ length ps → values_of ps ≡ rest ++ old ∷ [] → old.addr ≡ w.addr → old.key ≡ w.key → All IsOwnPartial ps → All IsOwnPartial (set_value_at ps n w)
 own_set_last [] n rest old w long e a k own = not_nil old rest [] e
 own_set_last (p ∷ []) zero [] old w long e a k own =
     All-cons IsOwnPartial (p.0, w) [] (All-head IsOwnPartial p [] own ∙ ap (λ (x : PartialEntry). (x.addr, x.key)) (head_same e) ∙ (λ j. (a j, k j))) (All-nil IsOwnPartial)
@@ -125,9 +112,7 @@ pub top_is : (ps : Pairs) (p : (ℕ × Key) × PartialEntry) → slice_get ps (l
 top_is ps p at some = (values_of (slice_range ps 0 (length ps - 1)), ap values_of (split_last ps p at some) ∙ values_push (slice_range ps 0 (length ps - 1)) (p ∷ []))
 
 pub one_less : (ps : Pairs) (rest : List PartialEntry) (old : PartialEntry) → values_of ps ≡ rest ++ old ∷ [] → length ps - 1 + 1 ≡ length ps
-one_less [] rest old e = not_nil old rest [] e
-one_less (p ∷ ps) rest old e = omega arith
+one_less ps rest old e = grind (arith, rules, common_steps, not_nil)
 
 pub some_there : (ps : Pairs) (rest : List PartialEntry) (old : PartialEntry) → values_of ps ≡ rest ++ old ∷ [] → 0 < length ps
-some_there [] rest old e = not_nil old rest [] e
-some_there (p ∷ ps) rest old e = omega arith
+some_there ps rest old e = grind (arith, rules, common_steps, not_nil)

@@ -34,23 +34,12 @@ none_at i shape e = absurd cc
 
 -- what is told of an item, where there is room, serves with each chain
 cause_more : (rom : Rom) (list : List Entry) (chain : List ShapeAt) → length list < MOST_ENTRIES → (at : ℕ) (before : Known) (why : EntryCause) → CauseAt rom list [] at before why → CauseAt rom list chain at before why
-cause_more rom list chain room at before cause.RootOutside h = h
-cause_more rom list chain room at before cause.Missing h = h
-cause_more rom list chain room at before cause.Odd h = h
-cause_more rom list chain room at before cause.Halt h = h
-cause_more rom list chain room at before cause.BeamUnknown h = h
-cause_more rom list chain room at before cause.ScaleUnknown h = h
-cause_more rom list chain room at before (cause.Ring index) h = none_at index h.0 h.1
-cause_more rom list chain room at before (cause.Deep to key) h = h
-cause_more rom list chain room at before (cause.TooManyWords words) h = h
-cause_more rom list chain room at before cause.TooManyEntries h = absurd (omega (arith, room, h.4.many))
-cause_more rom list chain room at before cause.Memory h = tt
+cause_more rom list chain room at before h6 h = grind (arith, none_at)
 
 module _ (rom : Rom) (list : List Entry) (root : ℕ × Key) where
   tells_last : (stack : List PartialEntry) (w : PartialEntry) → AreLinked rom list root (stack ++ w ∷ []) → (at : ℕ) (before : Known) (why : EntryCause) → Reaches rom list (shape_of w) at before → CauseAt rom list (shapes (stack ++ w ∷ [])) at before why → Tells rom list (asked_shape root) (shapes (stack ++ w ∷ [])) at before why
   tells_last [] w h at before why r says = (h.0, tt, r, says)
-  tells_last (v ∷ stack) w h at before why r says =
-      (h.0, h.1, subst (λ (x : ShapeAt). Reaches rom list x at before) (sym (ap (last_shape (shape_of v)) (links_push stack w) ∙ last_push (shape_of v) (shape_of w) (shapes stack))) r, says)
+  tells_last (v ∷ stack) w h at before why r says = grind (arith, shape_of, links_push, last_push, shapes)
 
 module _ (rom : Rom) (from : List Entry) (root : ℕ × Key) (done : List Entry) (stack : List PartialEntry) (partial : PartialEntry) (h : InProgress rom from root done (stack ++ partial ∷ [])) where
   -- there is room for it
@@ -59,21 +48,15 @@ module _ (rom : Rom) (from : List Entry) (root : ℕ × Key) (done : List Entry)
 
   -- an item stops it
   pub tells_stopped : (obstacle : Obstacle) → IsStopped rom done partial obstacle → TellsObstacle rom done root (stack ++ partial ∷ []) obstacle
-  tells_stopped obstacle s =
-      tells_last rom done root stack partial h.linked obstacle.cursor.at obstacle.cursor.known obstacle.cause s.reaches (cause_more rom done (shapes (stack ++ partial ∷ [])) has_room obstacle.cursor.at obstacle.cursor.known obstacle.cause s.cause)
+  tells_stopped obstacle s = grind (arith, tells_last, cause_more, shapes, has_room)
 
   -- its entry is not added
   pub tells_memory : (obstacle : Obstacle) → obstacle ≡ record { cursor = partial.cursor; cause = cause.Memory } → (r : Reaches rom done (shape_of partial) partial.cursor.at partial.cursor.known) → TellsObstacle rom done root (stack ++ partial ∷ []) obstacle
-  tells_memory obstacle e r =
-      subst (TellsObstacle rom done root (stack ++ partial ∷ [])) (sym e) (tells_last rom done root stack partial h.linked partial.cursor.at partial.cursor.known cause.Memory r tt)
+  tells_memory obstacle e r = grind (arith, tells_last)
 
   -- and for the shape at another item
   pub room_moved : (new : PartialEntry) (chain : List PartialEntry) → chain ≡ stack ++ new ∷ [] → length done + length chain ≤ MOST_ENTRIES
-  room_moved new chain e =
-      let old_long : length (stack ++ partial ∷ []) ≡ length stack + 1 = length-append stack (partial ∷ []) in
-      let new_long : length (stack ++ new ∷ []) ≡ length stack + 1 = length-append stack (new ∷ []) in
-      let long : length chain ≡ length (stack ++ new ∷ []) = ap (λ (l : List PartialEntry). length l) e in
-      omega (arith, long, old_long, new_long, h.room)
+  room_moved new chain e = grind (arith, length-append)
 
   -- what it calls is not begun
   module _ (new : PartialEntry) (addr : ℕ) (w : IsWaiting rom done partial new addr) where
@@ -81,9 +64,7 @@ module _ (rom : Rom) (from : List Entry) (root : ℕ × Key) (done : List Entry)
     at_key = new.cursor.known.scale
 
     not_begun : (why : EntryCause) → NotBegun done (stack ++ new ∷ []) addr at_key why → CauseAt rom done (shapes (stack ++ new ∷ [])) new.cursor.at new.cursor.known why
-    not_begun (cause.Ring index) b =
-        let calls = calls_it rom from root done stack partial h new addr w in
-        (shape_of b.0, slice_links (stack ++ new ∷ []) index b.0 b.1, record { item = calls.item; at_is = calls.at_is; stands = calls.stands; target_is = calls.target_is ∙ ap Some (sym b.2); key_is = sym b.3 })
+    not_begun (cause.Ring index) b = grind (arith, calls_it, shape_of, slice_links)
     not_begun cause.TooManyEntries b =
         let long = length_links (stack ++ new ∷ []) in (
           shape_of (start addr at_key),
@@ -122,29 +103,9 @@ begin_no_root done stack addr key cursor obstacle why s b q = subst (NotBegun do
 pub stopped_no_root : (rom : Rom) (list : List Entry) (w : PartialEntry) (obstacle : Obstacle) → IsStopped rom list w obstacle → IsNoRoot obstacle
 stopped_no_root rom list w obstacle s q = subst (CauseAt rom list [] obstacle.cursor.at obstacle.cursor.known) q s.cause
 
--- what is asked for is not begun
-first_cause : (rom : Rom) (done : List Entry) (addr : ℕ) (key : Key) → IsUnique done → entry_at done addr key ≡ None → (why : EntryCause) → NotBegun done [] addr key why → Tells rom done (asked_shape (addr, key)) [] addr (first_known Shape key) why
-first_cause rom done addr key unique none cause.TooManyEntries b = (refl, refl, (none, record { unique = unique; unmade = tt; many = omega (arith, b.0) }))
-first_cause rom done addr key unique none cause.Memory b = (refl, refl, tt)
-first_cause rom done addr key unique none (cause.Ring index) b = none_in index b.0 b.1
-  where
-    none_in : {P : Type 0} (i : ℕ) (w : PartialEntry) → slice_get [] i ≡ Some w → P
-    none_in i w e = absurd cc
-first_cause rom done addr key unique none cause.RootOutside b = absurd b
-first_cause rom done addr key unique none cause.Missing b = absurd b
-first_cause rom done addr key unique none cause.Odd b = absurd b
-first_cause rom done addr key unique none cause.Halt b = absurd b
-first_cause rom done addr key unique none cause.BeamUnknown b = absurd b
-first_cause rom done addr key unique none cause.ScaleUnknown b = absurd b
-first_cause rom done addr key unique none (cause.Deep to other) b = absurd b
-first_cause rom done addr key unique none (cause.TooManyWords words) b = absurd b
-
 pub tells_first : (rom : Rom) (done : List Entry) (addr : ℕ) (key : Key) → IsUnique done → entry_at done addr key ≡ None → (old chain : List PartialEntry) → old ≡ [] → chain ≡ old → (obstacle : Obstacle) (why : EntryCause) → obstacle ≡ record { cursor = (start addr key).cursor; cause = why } → NotBegun done old addr key why → TellsObstacle rom done (addr, key) chain obstacle
-tells_first rom done addr key unique none old chain e f obstacle why s b =
-    subst (λ c. TellsObstacle rom done (addr, key) c obstacle) (sym (f ∙ e))
-    (subst (TellsObstacle rom done (addr, key) []) (sym s) (first_cause rom done addr key unique none why (subst (λ c. NotBegun done c addr key why) e b)))
+tells_first rom done addr key unique none old chain e f obstacle why s b = grind (arith, slice_get)
 
 -- what is asked for lies outside the ROM, or its key is over 15
 pub tells_outside : (rom : Rom) (done : List Entry) (addr : ℕ) (key : Key) → (InRom rom.map addr × IsKey key → ⊥) → (chain : List PartialEntry) → chain ≡ [] → (obstacle : Obstacle) → obstacle ≡ record { cursor = (start addr key).cursor; cause = cause.RootOutside } → TellsObstacle rom done (addr, key) chain obstacle
-tells_outside rom done addr key outside chain e obstacle s =
-    subst (λ c. TellsObstacle rom done (addr, key) c obstacle) (sym e) (subst (TellsObstacle rom done (addr, key) []) (sym s) (refl, refl, outside))
+tells_outside rom done addr key outside chain e obstacle s = grind (arith)

@@ -16,16 +16,7 @@ use Rattle.dvg_make.proofs.Ends.{made_some}
 use Rattle.dvg_make.proofs.Chains.{none_deep, forced_begun, apart_pop, apart_push, walks_pop, walks_push, making_append, making_left, making_last, IsNeeded, needed_grows}
 
 pub start_walk : (rom : Rom) (done : List Entry) (addr : ℕ) (key : Key) → addr < ADDRESS_END → IsKey key → IsPartial rom done (start addr key)
-start_walk rom done addr key lt is =
-    record {
-      items = [];
-      leads = refl;
-      knows = record { known_is = refl; least = record { holds = tt; least = λ b h. tt }; fine = tt };
-      sound = record { at = omega (arith, lt); place = record { left = omega (arith, ints); right = omega (arith, ints); down = omega (arith, ints); up = omega (arith, ints) }; scale = is; words = omega arith; depth = omega arith };
-      shallow = omega arith;
-      few = omega arith;
-      keyed = is;
-    }
+start_walk rom done addr key lt is = grind (arith)
 
 first_chain : (rom : Rom) (from made : List Entry) (root : ℕ × Key) → IsAim rom from root made → Chain made (MOST_WORDS + 1) (start root.0 root.1 ∷ []) 0
 first_chain rom from made root m =
@@ -56,21 +47,14 @@ module _ (rom : Rom) (from : List Entry) (root : ℕ × Key) (done : List Entry)
   at_key = new.cursor.known.scale
 
   pub present_begun : (a : ℕ) (k : Key) → IsPresent done (stack ++ partial ∷ []) a k → IsPresent done ((stack ++ new ∷ []) ++ start addr at_key ∷ []) a k
-  present_begun a k (inl has) = inl has
-  present_begun a k (inr m) =
-      inr
-      (making_left (stack ++ new ∷ []) (start addr at_key ∷ []) a k
-      (⊎_elim (λ x. making_left stack (new ∷ []) a k x) (λ x. ⊎_elim (λ s. making_last stack new a k (w.same_addr ∙ s.0) (w.same_key ∙ s.1)) (λ b. absurd b) x) (making_append stack (partial ∷ []) a k m)))
+  present_begun a k h2 = grind (arith, making_left, start, making_last, making_append)
 
   was_begun : (a : ℕ) (k : Key) → IsMaking (stack ++ new ∷ []) a k → IsMaking (stack ++ partial ∷ []) a k
-  was_begun a k m =
-      ⊎_elim (λ x. making_left stack (partial ∷ []) a k x) (λ x. ⊎_elim (λ s. making_last stack partial a k (sym w.same_addr ∙ s.0) (sym w.same_key ∙ s.1)) (λ b. absurd b) x) (making_append stack (new ∷ []) a k m)
+  was_begun a k m = grind (arith, making_left, making_last, making_append)
 
   -- what it calls is not begun
   present_moved : (a : ℕ) (k : Key) → IsPresent done (stack ++ partial ∷ []) a k → IsPresent done (stack ++ new ∷ []) a k
-  present_moved a k (inl has) = inl has
-  present_moved a k (inr m) =
-      inr (⊎_elim (λ x. making_left stack (new ∷ []) a k x) (λ x. ⊎_elim (λ s. making_last stack new a k (w.same_addr ∙ s.0) (w.same_key ∙ s.1)) (λ b. absurd b) x) (making_append stack (partial ∷ []) a k m))
+  present_moved a k h2 = grind (arith, making_left, making_last, making_append)
 
   pub called_moved : (chain : List PartialEntry) → chain ≡ stack ++ new ∷ [] → AllCalled rom from root done chain
   called_moved chain e = subst (AllCalled rom from root done) (sym e) each
@@ -80,20 +64,7 @@ module _ (rom : Rom) (from : List Entry) (root : ℕ × Key) (done : List Entry)
       each a k (inr m) = needed_grows rom from root done done (stack ++ partial ∷ []) (stack ++ new ∷ []) (λ y z e q. q) present_moved a k (h.needed a k (inr (was_begun a k m)))
 
   called_begun : IsCalled rom done ((stack ++ new ∷ []) ++ start addr at_key ∷ []) addr at_key
-  called_begun =
-      let r = reached rom done new w.partial in
-      record {
-        from = new.addr;
-        from_key = new.key;
-        present = inr (making_left (stack ++ new ∷ []) (start addr at_key ∷ []) new.addr new.key (making_last stack new new.addr new.key refl refl));
-        earlier = r.items;
-        item = w.item;
-        leads = subst (λ x. LeadsTo Shape (rom_word rom) new.addr r.items x) (sym w.at) r.leads;
-        stands = w.stands;
-        taken = r.taken;
-        target_is = w.target_is;
-        key_is = sym (ap (λ (x : Known). x.scale) r.known);
-      }
+  called_begun = grind (arith, (reached rom done new w.partial), (making_left (stack ++ new ∷ []) (start addr at_key ∷ []) new.addr new.key (making_last stack new new.addr new.key refl refl)), (start addr at_key), (making_last stack new new.addr new.key refl refl), (rom_word rom))
 
   needed_begun : (a : ℕ) (k : Key) → IsPresent done ((stack ++ new ∷ []) ++ start addr at_key ∷ []) a k → IsNeeded rom from root done ((stack ++ new ∷ []) ++ start addr at_key ∷ []) a k
   needed_begun a k p = by_case p
@@ -103,10 +74,7 @@ module _ (rom : Rom) (from : List Entry) (root : ℕ × Key) (done : List Entry)
 
       by_case : IsPresent done ((stack ++ new ∷ []) ++ start addr at_key ∷ []) a k → IsNeeded rom from root done ((stack ++ new ∷ []) ++ start addr at_key ∷ []) a k
       by_case (inl has) = old (inl has)
-      by_case (inr m) =
-          ⊎_elim (λ x. old (inr (was_begun a k x)))
-          (λ x. ⊎_elim (λ s. inr (subst (λ y. IsCalled rom done ((stack ++ new ∷ []) ++ start addr at_key ∷ []) y k) s.0 (subst (λ (y : Key). IsCalled rom done ((stack ++ new ∷ []) ++ start addr at_key ∷ []) addr y) s.1 called_begun))) (λ b. absurd b) x)
-          (making_append (stack ++ new ∷ []) (start addr at_key ∷ []) a k m)
+      by_case (inr m) = grind (arith, old, was_begun, start, called_begun, making_append)
 
   -- the item at which it waits
   pub calls_it : CallsAt rom new.cursor.at new.cursor.known (shape_of (start addr at_key))
@@ -116,11 +84,7 @@ module _ (rom : Rom) (from : List Entry) (root : ℕ × Key) (done : List Entry)
   precedes = record { at = new.cursor.at; before = new.cursor.known; reaches = reached rom done new w.partial; calls = calls_it }
 
   pub apart_moved : Apart done (stack ++ new ∷ [])
-  apart_moved =
-      let pop = apart_pop done stack partial h.apart in
-      let none : entry_at done new.addr new.key ≡ None = subst (λ a. entry_at done a new.key ≡ None) (sym w.same_addr) (subst (λ k. entry_at done partial.addr k ≡ None) (sym w.same_key) pop.none) in
-      let not : IsMaking stack new.addr new.key → ⊥ = λ m. pop.other (subst (λ a. IsMaking stack a partial.key) w.same_addr (subst (λ k. IsMaking stack new.addr k) w.same_key m)) in
-      apart_push done stack new pop.rest none not
+  apart_moved = grind (arith, apart_pop, entry_at, apart_push)
 
   pub making_begun : (IsMaking (stack ++ new ∷ []) addr at_key → ⊥) → length done + length (stack ++ new ∷ []) < MOST_ENTRIES → InProgress rom from root done ((stack ++ new ∷ []) ++ start addr at_key ∷ [])
   making_begun other few =
@@ -159,11 +123,7 @@ module _ (rom : Rom) (from : List Entry) (root : ℕ × Key) (done : List Entry)
 
 -- nothing is begun
 pub called_none : (rom : Rom) (from : List Entry) (root : ℕ × Key) (chain : List PartialEntry) → chain ≡ [] → AllCalled rom from root from chain
-called_none rom from root chain e = subst (AllCalled rom from root from) (sym e) each
-  where
-    each : AllCalled rom from root from []
-    each a k (inl has) = inl (inl has)
-    each a k (inr m) = absurd m
+called_none rom from root chain e = grind (arith)
 
 pub as_bar : (rom : Rom) (from : List Entry) (root : ℕ × Key) (f : EntryFault) → NoAim rom from root → Bars rom from root f
 as_bar rom from root (Unstraight word) n = n
@@ -194,10 +154,7 @@ first_refused rom done addr key h none at cause.TooManyEntries b = λ made m.
     let full = crowded done made (MOST_WORDS + 1) 0 (start addr key ∷ []) h.unique (none, λ x. x, tt) m.extends (first_chain rom done made (addr, key) m) in
     omega (arith, full, b.0)
 first_refused rom done addr key h none at cause.Memory b = tt
-first_refused rom done addr key h none at (cause.Ring from) b = none_there b.1
-  where
-    none_there : {P : Type 0} {w : PartialEntry} → slice_get [] from ≡ Some w → P
-    none_there e = cc e
+first_refused rom done addr key h none at (cause.Ring from) b = grind (arith, slice_get)
 first_refused rom done addr key h none at cause.RootOutside b = absurd b
 first_refused rom done addr key h none at cause.Missing b = absurd b
 first_refused rom done addr key h none at cause.Odd b = absurd b
@@ -208,40 +165,23 @@ first_refused rom done addr key h none at (cause.Deep to other) b = absurd b
 first_refused rom done addr key h none at (cause.TooManyWords words) b = absurd b
 
 pub on_ok : {T E : Type 0} (r : Result T E) (P : Type 0) → P → OnOk r P
-on_ok (Ok x) P h = h
-on_ok (Err x) P h = tt
+on_ok r P h = grind (arith)
 
 pub on_ok_map : {T E : Type 0} (r : Result T E) (P Q : Type 0) → (P → Q) → OnOk r P → OnOk r Q
-on_ok_map (Ok x) P Q f h = f h
-on_ok_map (Err x) P Q f h = tt
+on_ok_map r P Q f h = grind (arith)
 
 pub not_err : {T E : Type 0} (r : Result T E) (P : Type 0) → is_err r ≡ false → OnOk r P → P
-not_err (Ok x) P f h = h
-not_err (Err x) P f h = cc f
-
-pub if_err_all : {T E : Type 0} (r : Result T E) (P : E → Type 0) → ((x : E) → P x) → IfErr r P
-if_err_all (Ok x) P f = tt
-if_err_all (Err x) P f = f x
+not_err r P f h = grind (arith)
 
 pub if_err_same : {T E : Type 0} (r : Result T E) (x : E) (P : E → Type 0) → IsErrAnd r (λ e. e ≡ x) → P x → IfErr r P
-if_err_same (Ok y) x P h p = tt
-if_err_same (Err e) x P h p = subst P (sym h) p
-
-pub if_err_map : {T E : Type 0} (r : Result T E) (P Q : E → Type 0) → ((x : E) → P x → Q x) → IfErr r P → IfErr r Q
-if_err_map (Ok x) P Q f h = tt
-if_err_map (Err x) P Q f h = f x h
+if_err_same r x P h p = grind (arith)
 
 pub first_fault : (rom : Rom) (done : List Entry) (addr : ℕ) (key : Key) → IsDone rom done → entry_at done addr key ≡ None → (old : List PartialEntry) → old ≡ [] → (at : ℕ) (why : EntryCause) → NotBegun done old addr key why → Bars rom done (addr, key) (entry_fault at why)
 first_fault rom done addr key h none old e at why b = first_refused rom done addr key h none at why (subst (λ s. NotBegun done s addr key why) e b)
 
 -- an entry that is there already
 pub found_making : (rom : Rom) (done : List Entry) (addr : ℕ) (key : Key) → IsDone rom done → HasEntry done addr key → InProgress rom done (addr, key) done []
-found_making rom done addr key h has =
-    record { is_done = h; extends = λ a k e q. q; partials = tt; apart = tt; linked = tt; needed = needs; room = omega (arith, h.room); forced = λ made m. (m.extends, omega arith) }
-  where
-    needs : (a : ℕ) (k : Key) → IsPresent done [] a k → IsNeeded rom done (addr, key) done [] a k
-    needs a k (inl x) = inl (inl x)
-    needs a k (inr b) = absurd b
+found_making rom done addr key h has = grind (arith)
 
 pub first_present : (done : List Entry) (addr : ℕ) (key : Key) (old begun : List PartialEntry) → old ≡ [] → IsBegun done old begun addr key → IsPresent done begun addr key
 first_present done addr key old begun e b = subst (λ s. IsPresent done s addr key) (sym (b.stack ∙ ap (λ (s : List PartialEntry). s ++ start addr key ∷ []) e)) (inr (inl (refl, refl)))

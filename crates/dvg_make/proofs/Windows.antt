@@ -1,54 +1,21 @@
 -- A made list is good where nothing that is lit at an absolute place leaves the window.
 use Rattle.dvg_make.proofs.Common.{Machine, ◌≡◌, ◌≢◌, ℕ, List, refl, sym, subst, ◌⊎◌, inl, inr, ⊎_elim, Contains, cell_at, Rom, rom_word, Window, Cell, Missing, Odd, Holds, Entry, shape_context, seen_at, ShapeKeeps, CellKeeps, Good, GoodShape, Bound, Exact, ShapeWhy, Item, Seen, EachItem, MadeEntry, in_bound}
+use Rattle.std.proofs.Common.{rules}
+use Rattle.std.proofs.Common.{arith}
 use Rattle.dvg_check.specs.Rules.{ShapePlaceKeeps}
 use Rattle.dvg_check.specs.declared.fault.Mode.{Mode}
 use Rattle.dvg_check.specs.declared.fault.ShapeWhy.TheVariants as shape
 use Rattle.dvg_make.specs.Laws.{AllInWindow, GoodInWindow, ItemInWindow}
 
 is_off_screen : (why : ShapeWhy) → (why ≡ shape.OffScreen) ⊎ (why ≢ shape.OffScreen)
-is_off_screen shape.Unmapped = inr (λ q. cc q)
-is_off_screen shape.Odd = inr (λ q. cc q)
-is_off_screen shape.HaltInShape = inr (λ q. cc q)
-is_off_screen shape.BeamUnknown = inr (λ q. cc q)
-is_off_screen shape.ScaleUnknown = inr (λ q. cc q)
-is_off_screen shape.OffScreen = inl refl
-is_off_screen shape.NoEntry = inr (λ q. cc q)
-is_off_screen shape.TooDeep = inr (λ q. cc q)
-is_off_screen shape.TooManyWords = inr (λ q. cc q)
-is_off_screen shape.EndDiffers = inr (λ q. cc q)
-is_off_screen shape.ScaleDiffers = inr (λ q. cc q)
-is_off_screen shape.BoxTooSmall = inr (λ q. cc q)
-is_off_screen shape.WordsDiffer = inr (λ q. cc q)
-is_off_screen shape.DepthDiffers = inr (λ q. cc q)
-
--- but for what is lit at absolute places, the rules do not speak of the window
-rule_aside : (mode : Mode) (w v : Window) (e : Entry) (s : Seen) (why : ShapeWhy) → why ≢ shape.OffScreen → ShapeKeeps mode w e s why → ShapeKeeps mode v e s why
-rule_aside mode w v e s shape.Unmapped not h = h
-rule_aside mode w v e s shape.Odd not h = h
-rule_aside mode w v e s shape.HaltInShape not h = h
-rule_aside mode w v e s shape.BeamUnknown not h = h
-rule_aside mode w v e s shape.ScaleUnknown not h = h
-rule_aside mode w v e s shape.OffScreen not h = absurd (not refl)
-rule_aside mode w v e s shape.NoEntry not h = h
-rule_aside mode w v e s shape.TooDeep not h = h
-rule_aside mode w v e s shape.TooManyWords not h = h
-rule_aside mode w v e s shape.EndDiffers not h = h
-rule_aside mode w v e s shape.ScaleDiffers not h = h
-rule_aside mode w v e s shape.BoxTooSmall not h = h
-rule_aside mode w v e s shape.WordsDiffer not h = h
-rule_aside mode w v e s shape.DepthDiffers not h = h
+is_off_screen why = grind (arith)
 
 -- what is asked of a cell
 abbrev Kept : Machine → Mode → List Entry → Window → Entry → List Item → ℕ → Cell → ShapeWhy → Type 0
 Kept machine mode list w e earlier p cell why = CellKeeps shape.Unmapped shape.Odd (λ i. ShapeKeeps mode w e (seen_at (shape_context machine list e) earlier i)) p cell why
 
 pub other_window : (mode : Mode) (rom : Rom) (list : List Entry) (e : Entry) (w v : Window) (earlier : List Item) (p : ℕ) (why : ShapeWhy) → why ≢ shape.OffScreen → ShapePlaceKeeps mode w rom list e earlier p why → ShapePlaceKeeps mode v rom list e earlier p why
-other_window mode rom list e w v earlier p why not = by (cell_at (rom_word rom) p)
-  where
-    by : (cell : Cell) → Kept rom.machine mode list w e earlier p cell why → Kept rom.machine mode list v e earlier p cell why
-    by Missing h = h
-    by Odd h = h
-    by (Holds format i) h = rule_aside mode w v e (seen_at (shape_context rom.machine list e) earlier (record { at = p; format = format; instr = i })) why not h
+other_window mode rom list e w v earlier p why not = grind (arith, cell_at, rom_word, seen_at, shape_context)
 
 module _ (rom : Rom) (list : List Entry) (w : Window) where
   pub in_window : (mode : Mode) → Good mode w rom list → AllInWindow w rom list

@@ -1,9 +1,12 @@
 //! The entries that are made so far.
 
-ghost use Rattle.std.specs.Prelude.{◌≡◌, ◌++◌, [], ◌∷◌, length, ℕ, IfOk, OnOk, OnErr, None};
+ghost use Rattle.std.specs.Prelude.{◌≡◌, ◌++◌, List, [], ◌∷◌, length, ℕ, IfOk, OnOk, OnErr, None};
+ghost use Rattle.std.specs.Map.{values_of};
+ghost use Rattle.dvg_cert.specs.declared.entry.Entry.{Entry as EntryValue};
 ghost use Rattle.dvg_cert.specs.declared.entry.Key.{Key as KeyValue};
 ghost use Rattle.dvg_cert.specs.Order.{IsRising};
 ghost use Rattle.dvg_cert.specs.Lookup.{entry_at};
+ghost use Rattle.dvg_cert.specs.Private.Keyed.{IsKeyed};
 
 use dvg_cert::{Entries, Entry, Key};
 use indexmap::IndexMap;
@@ -17,12 +20,7 @@ pub struct MadeEntries {
 }
 
 impl Model for MadeEntries {
-    ghost use Rattle.std.specs.Prelude.{List};
-    ghost use Rattle.dvg_cert.specs.declared.entry.Entry.{Entry};
-    ghost use Rattle.std.specs.Map.{values_of};
-    ghost use Rattle.dvg_cert.specs.Private.Keyed.{IsKeyed};
-
-    ghost Value = { List Entry };
+    ghost Value = { List EntryValue };
 
     ghost view = { λ done. values_of done.found.entries };
 

@@ -163,16 +163,13 @@ fn unstraight(seen: &Seen) -> Option<EntryCause>
     ensures some { IfSome result (λ cause. (scale : KeyValue) → SaysOf scale seen.now cause) }
     ensures none { IfNone result (IsStraight seen.now) }
 {
-    if matches!(seen.item.instr, Instr::Halt) {
-        return Some(EntryCause::Halt);
+    let (extent, place) = (&seen.extent, &seen.place);
+    match seen.item.instr {
+        Instr::Halt => Some(EntryCause::Halt),
+        _ if !place_known(extent, place) => Some(EntryCause::BeamUnknown),
+        _ if !scale_known(extent) => Some(EntryCause::ScaleUnknown),
+        _ => None,
     }
-    if !place_known(&seen.extent, &seen.place) {
-        return Some(EntryCause::BeamUnknown);
-    }
-    if !scale_known(&seen.extent) {
-        return Some(EntryCause::ScaleUnknown);
-    }
-    None
 }
 
 /// The word address that an instruction calls, if calls nest too deep under it.

@@ -19,15 +19,16 @@ pub struct Stack {
 
 impl Model for Stack {
     ghost use Rattle.std.specs.Prelude.{List};
+    ghost use Rattle.std.specs.List.{All};
     ghost use Rattle.std.specs.Map.{values_of};
     ghost use Rattle.dvg_make.specs.declared.partial.PartialEntry.{PartialEntry as PartialValue};
-    ghost use Rattle.dvg_make.specs.Private.Stacked.{AreOwn};
+    ghost use Rattle.dvg_make.specs.Private.Stacked.{IsOwnPartial};
 
     ghost Value = { List PartialValue };
 
     ghost view = { λ stack. values_of stack.by_key.entries };
 
-    ghost invariant = { λ stack. AreOwn stack.by_key.entries };
+    ghost invariant = { λ stack. All IsOwnPartial stack.by_key.entries };
 }
 
 impl Stack {

@@ -1,5 +1,6 @@
 -- The lines of a table, one after another.
 use Rattle.std.proofs.Common.{◌≡◌, ℕ, suc, ◌<◌, List, [], ◌∷◌, ◌++◌, length, take, get_or, sym, ap, ◌∙◌, arith}
+use Rattle.std.proofs.Common.{rules}
 use Rattle.std.proofs.lemmas.Grind.{common_steps}
 use Rattle.std.proofs.Math.Seq.{take-suc}
 use Rattle.dvg_spelling.specs.Rules.{row_text, rows_text}
@@ -13,14 +14,9 @@ ended xs = grind (arith, common_steps)
 
 rows_then : (rules : List Rule) (rule : Rule) → rows_text (rules ++ rule ∷ []) ≡ rows_text rules ++ row_text rule
 rows_then [] rule = ended (row_text rule)
-rows_then (first ∷ rules) rule =
-    ap (λ (l : List ℕ). row_text first ++ l) (rows_then rules rule) ∙ sym (behind (row_text first) (rows_text rules) (row_text rule))
+rows_then (first ∷ rules) rule = grind (arith, (rows_then rules rule), behind)
 
 -- with the line of the next rule it is the table of one more
 pub rows_next : (rules : List Rule) (i next : ℕ) (d : Rule) (old now new : List ℕ) → i < length rules → next ≡ suc i → now ≡ old ++ rows_text (take i rules) → new ≡ now ++ row_text (get_or rules i d)
     → new ≡ old ++ rows_text (take next rules)
-rows_next rules i next d old now new lt is held more =
-    let row : List ℕ = row_text (get_or rules i d) in
-    let on : rows_text (take next rules) ≡ rows_text (take i rules) ++ row =
-    ap (λ (n : ℕ). rows_text (take n rules)) is ∙ ap (λ (l : List Rule). rows_text l) (take-suc rules i d lt) ∙ rows_then (take i rules) (get_or rules i d) in
-    more ∙ ap (λ (l : List ℕ). l ++ row) held ∙ behind old (rows_text (take i rules)) row ∙ ap (λ (l : List ℕ). old ++ l) (sym on)
+rows_next rules i next d old now new lt is held more = grind (arith, (take-suc rules i d lt), (rows_then (take i rules) (get_or rules i d)), behind)

@@ -15,19 +15,9 @@ taken xs i lt = grind (arith, common_steps)
 
 refused_then : (number : ℕ) (counts : List ℕ) (count : ℕ) → refused_texts number (counts ++ count ∷ []) ≡ refused_texts number counts ++ refused_text (number + length counts) count
 refused_then number [] count = ended (refused_text number count) ∙ ap (λ (n : ℕ). refused_text n count) (omega arith)
-refused_then number (first ∷ counts) count =
-    ap (λ (l : List ℕ). refused_text number first ++ l) (refused_then (number + 1) counts count)
-    ∙ ap (λ (n : ℕ). refused_text number first ++ (refused_texts (number + 1) counts ++ refused_text n count)) (omega arith)
-    ∙ sym (behind (refused_text number first) (refused_texts (number + 1) counts) (refused_text (number + suc (length counts)) count))
+refused_then number (first ∷ counts) count = grind (arith, (refused_then (number + 1) counts count), behind)
 
 -- with the count of the next number it is that of one more
 pub refused_next : (counts : List ℕ) (i next d : ℕ) (old now new : List ℕ) → i < length counts → next ≡ suc i → now ≡ old ++ refused_texts 0 (take i counts)
     → new ≡ now ++ refused_text i (get_or counts i d) → new ≡ old ++ refused_texts 0 (take next counts)
-refused_next counts i next d old now new lt is held more =
-    let number : 0 + length (take i counts) ≡ i = omega (arith, taken counts i lt) in
-    let on : refused_texts 0 (take next counts) ≡ refused_texts 0 (take i counts) ++ refused_text i (get_or counts i d) =
-    ap (λ (n : ℕ). refused_texts 0 (take n counts)) is ∙ ap (λ (l : List ℕ). refused_texts 0 l) (take-suc counts i d lt)
-    ∙ refused_then 0 (take i counts) (get_or counts i d)
-    ∙ ap (λ (n : ℕ). refused_texts 0 (take i counts) ++ refused_text n (get_or counts i d)) number in
-    more ∙ ap (λ (l : List ℕ). l ++ refused_text i (get_or counts i d)) held
-    ∙ behind old (refused_texts 0 (take i counts)) (refused_text i (get_or counts i d)) ∙ ap (λ (l : List ℕ). old ++ l) (sym on)
+refused_next counts i next d old now new lt is held more = grind (arith, (taken counts i lt), (take-suc counts i d lt), (refused_then 0 (take i counts) (get_or counts i d)), (behind old (refused_texts 0 (take i counts)) (refused_text i (get_or counts i d))))

@@ -1,5 +1,6 @@
 -- How the text of a window is cut at its commas.
 use Rattle.std.proofs.Common.{◌≡◌, ◌≢◌, ℕ, ◌<◌, ◌≤◌, List, [], ◌∷◌, ◌++◌, length, get_or, Option, Some, None, Bor, refl, sym, subst, arith, ◌∙◌, ℤ, pos, negsuc}
+use Rattle.std.proofs.Common.{rules}
 use Rattle.std.specs.Prelude.{decimal, nat_abs, ◌≤ℤ◌, MatchOption, IfNone}
 use Rattle.std.specs.Fmt.{signed_decimal}
 use Rattle.std.proofs.lemmas.Int.{ints}
@@ -37,13 +38,10 @@ same_place m n text r s le-m le-n is-m is-n =
 -- ---- the places of a window of the screen, as natural numbers
 
 natural : (x : ℤ) → pos 0 ≤ℤ x → signed_decimal x ≡ decimal (nat_abs x)
-natural (pos n) least = refl
-natural (negsuc n) least = absurd (omega (arith, ints, least))
+natural x least = grind (arith, pos, negsuc)
 
 ordered : (x y : ℤ) → pos 0 ≤ℤ x → x ≤ℤ y → nat_abs x ≤ nat_abs y
-ordered (pos m) (pos n) least le = omega (arith, ints, le)
-ordered (pos m) (negsuc n) least le = absurd (omega (arith, ints, le))
-ordered (negsuc m) y least le = absurd (omega (arith, ints, least))
+ordered x y least le = grind (arith, pos, negsuc)
 
 inside : (x : ℤ) → pos 0 ≤ℤ x → x ≤ℤ pos 1023 → nat_abs x ≤ 1023
 inside x least le = ordered x (pos 1023) least le
@@ -54,10 +52,7 @@ between x y z a b = omega (arith, ints, a, b)
 four : (w : Window) → IsWindow w
     → join_with_byte 44 (signed_decimal w.x_min ∷ signed_decimal w.x_max ∷ signed_decimal w.y_min ∷ signed_decimal w.y_max ∷ [])
     ≡ join_with_byte 44 (decimal (nat_abs w.x_min) ∷ decimal (nat_abs w.x_max) ∷ decimal (nat_abs w.y_min) ∷ decimal (nat_abs w.y_max) ∷ [])
-four w is =
-    let x_max = natural w.x_max (between (pos 0) w.x_min w.x_max is.x_least is.x_ordered) in
-    let y_max = natural w.y_max (between (pos 0) w.y_min w.y_max is.y_least is.y_ordered) in
-    λ i. join_with_byte 44 (natural w.x_min is.x_least i ∷ x_max i ∷ natural w.y_min is.y_least i ∷ y_max i ∷ [])
+four w is = grind (arith, natural, between, pos)
 
 -- the places that are read of a window's text, one after another, are the window's
 module _ (text : List ℕ) (w : Window) (h : IsWindowText text w) (a : ℕ) (past_a : List ℕ) (le_a : a ≤ 1023) (is_a : text ≡ decimal a ++ 44 ∷ past_a) where
@@ -100,15 +95,7 @@ module _ (text : List ℕ) (w : Window) (h : IsWindowText text w) (a : ℕ) (pas
           let up = ordered w.y_min w.y_max h.0.y_least h.0.y_ordered in
           let across' : a ≤ b = omega (arith, first.0, second.0, across) in
           let up' : c ≤ d = omega (arith, third.0, fourth, up) in
-          record {
-            x_least = omega (arith, ints);
-            x_ordered = omega (arith, ints, across');
-            x_inside = omega (arith, ints, le_b);
-            y_least = omega (arith, ints);
-            y_ordered = omega (arith, ints, up');
-            y_inside = omega (arith, ints, le_d);
-          }
+          search rules
 
 pub if_none : {A : Type 0} {P Q : Type 0} (o : Option A) → (P → Q) → IfNone o P → IfNone o Q
-if_none None f p = f p
-if_none (Some a) f p = tt
+if_none o f p = grind (arith)

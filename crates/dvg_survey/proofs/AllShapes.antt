@@ -18,8 +18,7 @@ module _ (rom : Rom) (list : List Entry) where
 
   -- of all
   pub all_boxed : (from : ℕ) (box : LitBox) → from ≤ 0 → Boxed from box → IsShapesExtent rom list box
-  all_boxed from box le h =
-      record { holds = λ e listed. subst (HoldsShape rom list box) listed.2 (h.holds listed.0 e (omega (arith, le)) listed.1); least = h.least }
+  all_boxed from box le h = grind (arith)
 
   wider : (a b : LitBox) → IsInside a b → (e : Entry) → HoldsShape rom list a e → HoldsShape rom list b e
   wider a b inside e h items all = all_map (InBox a) (InBox b) (absolute_points (shape_context rom.machine list e) items) (λ p. in_wider a b p inside) (h items all)

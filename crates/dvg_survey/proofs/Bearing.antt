@@ -34,17 +34,7 @@ module _ (rom : Rom) (list : List Entry) (e : Entry) where
 
     -- or it does not
     pub none_on : ((f : Entry) → v.callee ≡ Some f → depth_under v.item.instr (Some f) ≡ e.depth → ⊥) → NoneBears (v.item ∷ items)
-    none_on not = all_append (BearsNot rom list e) (calls_among here_in items) (call_of v.item (callee here_in items v.item.instr)) before (one (callee here_in items v.item.instr) callee_is)
-      where
-        same_depth : (f : Entry) → BearsOut rom list e (record { at = v.item.at; entry = f }) → depth_under v.item.instr (Some f) ≡ e.depth
-        same_depth f b =
-            let both : Holds v.item.format v.item.instr ≡ Holds b.calls.item.format b.calls.item.instr = sym stands ∙ ap (cell_at (rom_word rom)) b.calls.at ∙ b.calls.stands in
-            let same : v.item.instr ≡ b.calls.item.instr = cc both in
-            ap (λ i. depth_under i (Some f)) same ∙ b.depth
-
-        one : (o : Option Entry) → v.callee ≡ o → AllByRecursion (BearsNot rom list e) (call_of v.item o)
-        one None h = tt
-        one (Some f) h = (λ b. not f h (same_depth f b), tt)
+    none_on not = grind (arith, all_append, calls_among, call_of, callee, cell_at, rom_word)
 
   pub none_bears : (all : List Item) → AreAll Shape (rom_word rom) e.addr all → NoneBears all → (call : Call) → BearsNot rom list e call
   none_bears all are none call b = is_among here_in (rom_word rom) e.addr (BearsNot rom list e) call b.calls all are none b
@@ -58,9 +48,7 @@ module _ (rom : Rom) (list : List Entry) (e : Entry) (most : ℕ) where
     pub goes : (left : ℕ) (rest : List Call) → left + count ≡ most → GoDeepest left rom list last rest → GoDeepest most rom list e (calls ++ rest)
 
   pub none_yet : (calls : List Call) → calls ≡ [] → IsSomeCertificate list → Contains list e → Down calls e 0
-  none_yet calls is some listed =
-      subst (λ (cs : List Call). Down cs e 0) (sym is)
-      (record { claim = listed_claim list e some listed; goes = λ left rest all g. subst (λ n. GoDeepest n rom list e rest) (omega (arith, all)) g })
+  none_yet calls is some listed = grind (arith, (listed_claim list e some listed))
 
   module _ (calls : List Call) (last : Entry) (count : ℕ) (down : Down calls last count) (used : List Entry) (same : used ≡ list) where
     pub one_down : (call : Call) (new : List Call) → IsSomeCertificate list → FirstBears rom used last call → new ≡ calls ++ call ∷ [] → Down new call.entry (count + 1)

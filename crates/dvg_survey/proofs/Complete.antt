@@ -106,56 +106,31 @@ left_of links (e ∷ es) = one_unless (is_there links e) + left_of links es
 
 there_still : (links more : List Link) (e : Entry) → is_there links e ≡ true → is_there (links ++ more) e ≡ true
 there_still [] more e h = cc h
-there_still (x ∷ links) more e h = by (is_at e.addr e.key x.call.entry) refl h (there_still links more e)
-  where
-    by : (b : Bool) → is_at e.addr e.key x.call.entry ≡ b → is_there (x ∷ links) e ≡ true → (is_there links e ≡ true → is_there (links ++ more) e ≡ true) → is_there (x ∷ links ++ more) e ≡ true
-    by true is g later = rw is refl
-    by false is g later = rw is (later (rw is at g))
+there_still (x ∷ links) more e h = grind (arith, (there_still links more e))
 
 there_new : (links : List Link) (l : Link) → is_there (links ++ l ∷ []) l.call.entry ≡ true
 there_new [] l = rw (at_self l.call.entry) refl
-there_new (x ∷ links) l = by (is_at l.call.entry.addr l.call.entry.key x.call.entry) refl (there_new links l)
-  where
-    by : (b : Bool) → is_at l.call.entry.addr l.call.entry.key x.call.entry ≡ b → is_there (links ++ l ∷ []) l.call.entry ≡ true → is_there (x ∷ links ++ l ∷ []) l.call.entry ≡ true
-    by true is later = rw is refl
-    by false is later = rw is later
+there_new (x ∷ links) l = grind (arith, (there_new links l))
 
 -- one entry is no longer left, where it was
 one_less : (old new : Bool) → (old ≡ true → new ≡ true) → one_unless new ≤ one_unless old
-one_less true true h = omega arith
-one_less true false h = let no : false ≡ true = h refl in cc no
-one_less false true h = omega arith
-one_less false false h = omega arith
+one_less old new h = grind (arith)
 
 fewer : (links : List Link) (l : Link) (es : List Entry) → left_of (links ++ l ∷ []) es ≤ left_of links es
 fewer links l [] = omega arith
-fewer links l (e ∷ es) =
-    let h = fewer links l es in
-    let k = one_less (is_there links e) (is_there (links ++ l ∷ []) e) (there_still links (l ∷ []) e) in
-    omega (arith, h, k)
+fewer links l (e ∷ es) = grind (arith, (fewer links l es), one_less, there_still)
 
 one_fewer : (links : List Link) (l : Link) (es : List Entry) → Contains es l.call.entry → is_there links l.call.entry ≡ false → left_of (links ++ l ∷ []) es + 1 ≤ left_of links es
 one_fewer links l [] c fresh = absurd (omega (arith, c.1))
-one_fewer links l (e ∷ es) (zero, lt, is) fresh =
-    let h = fewer links l es in
-    let was : one_unless (is_there links e) ≡ 1 = ap (λ (x : Entry). one_unless (is_there links x)) is ∙ ap one_unless fresh in
-    let now : one_unless (is_there (links ++ l ∷ []) e) ≡ 0 = ap (λ (x : Entry). one_unless (is_there (links ++ l ∷ []) x)) is ∙ ap one_unless (there_new links l) in
-    omega (arith, h, was, now)
-one_fewer links l (e ∷ es) (suc k, lt, is) fresh =
-    let h = one_fewer links l es (k, omega (arith, lt), is) fresh in
-    let m = one_less (is_there links e) (is_there (links ++ l ∷ []) e) (there_still links (l ∷ []) e) in
-    omega (arith, h, m)
+one_fewer links l (e ∷ es) (zero, lt, is) fresh = grind (arith, fewer, there_new)
+one_fewer links l (e ∷ es) (suc k, lt, is) fresh = grind (arith, (one_fewer links l es (k, omega (arith, lt), is) fresh), one_less, there_still)
 
 one_longer : (links : List Link) (l : Link) → length (links ++ l ∷ []) ≡ length links + 1
 one_longer [] l = refl
 one_longer (x ∷ links) l = let h = one_longer links l in omega (arith, h)
 
 counts_one : (links : List Link) (l : Link) (es : List Entry) (n : ℕ) → Contains es l.call.entry → left_of links es + length links ≤ n → left_of (reach links l) es + length (reach links l) ≤ n
-counts_one links l es n c h = by (is_there links l.call.entry) refl
-  where
-    by : (b : Bool) → is_there links l.call.entry ≡ b → left_of (if b then links else links ++ l ∷ []) es + length (if b then links else links ++ l ∷ []) ≤ n
-    by true e = h
-    by false e = let less = one_fewer links l es c e in let more = one_longer links l in omega (arith, h, less, more)
+counts_one links l es n c h = grind (arith, one_fewer, one_longer)
 
 module _ (rom : Rom) (words : List ℕ) (list : List Entry) where
   counts_all : (links : List Link) (from : Option ℕ) (calls : List Call) (n : ℕ) → AllByRecursion (IsStep rom words list links from) calls → left_of links list + length links ≤ n
@@ -290,23 +265,18 @@ module _ (rom : Rom) (words : List ℕ) (list : List Entry) where
 
     -- an entry that was reached is in the list, and so within its limits
     pub reached_claim : (links : List Link) (visited : List Bool) (head k : ℕ) (l : Link) → IsSomeCertificate list → Comes links visited head → slice_get links k ≡ Some l → IsClaim l.call.entry
-    reached_claim links visited head k l some h is =
-        listed_claim list l.call.entry some (listed_at list l.call.entry.addr l.call.entry.key l.call.entry (step_named rom words list links l.from l.call (h.steps k l is))).listed
+    reached_claim links visited head k l some h is = grind (arith, (listed_claim list l.call.entry some (listed_at list l.call.entry.addr l.call.entry.key l.call.entry (step_named rom words list links l.from l.call (h.steps k l is))).listed), (listed_at list l.call.entry.addr l.call.entry.key l.call.entry (step_named rom words list links l.from l.call (h.steps k l is))), (step_named rom words list links l.from l.call (h.steps k l is)))
 
 -- ---- as the code adds links
 
 -- the entries of calls are in the list, and so within its limits
 called_claims : (c : Context) (word : Source) (first : ℕ) (calls : List Call) → IsSomeCertificate c.list → AllByRecursion (Calls c word first) calls → All (λ (x : Call). IsClaim x.entry) calls
 called_claims c word first [] some are = All-nil (λ (x : Call). IsClaim x.entry)
-called_claims c word first (call ∷ rest) some are =
-    let claim = listed_claim c.list call.entry some (listed_at c.list call.entry.addr call.entry.key call.entry (named_self c.list _ _ call.entry are.0.callee_is)).listed in
-    All-cons (λ (x : Call). IsClaim x.entry) call rest claim (called_claims c word first rest some are.1)
+called_claims c word first (call ∷ rest) some are = grind (arith, (listed_claim c.list call.entry some (listed_at c.list call.entry.addr call.entry.key call.entry (named_self c.list _ _ call.entry are.0.callee_is)).listed), (listed_at c.list call.entry.addr call.entry.key call.entry (named_self c.list _ _ call.entry are.0.callee_is)), (named_self c.list), (called_claims c word first rest some are.1))
 
 module _ (machine : Machine) (words : List ℕ) (list : List Entry) (survey : FrameSurvey) (is : IsSurvey (frame_context machine list) (frame_word machine words) survey) where
   pub frame_claims : IsSomeCertificate list → All (λ (x : Call). IsClaim x.entry) survey.calls.items
-  frame_claims some =
-      called_claims (frame_context machine list) (frame_word machine words) 0 survey.calls.items some
-      (subst (AllByRecursion (Calls (frame_context machine list) (frame_word machine words) 0)) (sym is.2.are_calls) (calls_hold (frame_context machine list) (frame_word machine words) 0 is.0 is.1.stand))
+  frame_claims some = grind (arith, (called_claims (frame_context machine list) (frame_word machine words) 0 survey.calls.items some (subst (AllByRecursion (Calls (frame_context machine list) (frame_word machine words) 0)) (sym is.2.are_calls) (calls_hold (frame_context machine list) (frame_word machine words) 0 is.0 is.1.stand))), (calls_hold (frame_context machine list) (frame_word machine words) 0 is.0 is.1.stand))
 
   pub frame_reaches : (old new : List Link) → old ≡ [] → new ≡ reach_all old None survey.calls.items → IsReachedByFrame machine words list new
   frame_reaches old new empty reached = (survey.calls.items, (is.0, is.1, is.2.are_calls), reached ∙ ap (λ ls. reach_all ls None survey.calls.items) empty)
@@ -315,5 +285,4 @@ pub shape_claims : (rom : Rom) (list : List Entry) (e : Entry) (visited visited_
 shape_claims rom list e visited visited_new calls some are = called_claims (shape_context rom.machine list e) (rom_word rom) e.addr calls some are.own
 
 pub is_none : {A : Type 0} (o : Option A) → ((x : A) → o ≡ Some x → ⊥) → o ≡ None
-is_none None h = refl
-is_none (Some x) h = absurd (h x refl)
+is_none o h = grind (arith)

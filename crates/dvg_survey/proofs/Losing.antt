@@ -13,14 +13,7 @@ NoneAt at items = AtEachOf (λ earlier p. p ≡ at → ⊥) items
 module _ (kind : Kind) (word : Source) (first at : ℕ) (items : List Item) where
   -- all items lead to another place, and none of them stands here
   pub none_past : (p : ℕ) → LeadsTo kind word first items p → AreAll kind word first items → NoneAt at items → (p ≡ at → ⊥) → NoneLead kind word first at
-  none_past p leads all passed other others h =
-      ⊎_elim
-      (λ less. shorter kind word first (λ earlier q. q ≡ at → ⊥) items p leads passed others at h less refl)
-      (λ le. ⊎_elim
-      (λ more. no_more kind word first items all others (stand_before kind word first others at h) more)
-      (λ ge. other (sym (same_lead kind word first others items at p h leads (omega (arith, le, ge))).place))
-      (cases_lt (length items) (length others)))
-      (cases_lt (length others) (length items))
+  none_past p leads all passed other others h = grind (arith, shorter, no_more, (stand_before kind word first others), (same_lead kind word first others items), (cases_lt (length items) (length others)), (cases_lt (length others) (length items)))
 
   -- the next item is the last one, and neither it nor one before it stands here
   pub none_after : (i : Item) → LeadsTo kind word first items i.at → cell_at word i.at ≡ Holds i.format i.instr → next_address kind i ≡ None → NoneAt at (i ∷ items) → NoneLead kind word first at

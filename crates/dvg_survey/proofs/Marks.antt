@@ -5,29 +5,12 @@ use Rattle.std.proofs.lemmas.List.{get_or-set_same, get_or-set_other}
 use Rattle.dvg_check.specs.Passing.{key_number}
 use Rattle.dvg_survey.specs.Private.KeyedWords.{MOST_KEYED_WORDS}
 
-key_below : (k : Key) → IsKey k → key_number k < 17
-key_below (At n) h = omega (arith, h)
-key_below Any h = omega arith
-
 key_same : (k l : Key) → IsKey k → IsKey l → key_number k ≡ key_number l → k ≡ l
-key_same (At m) (At n) h g e = ap At e
-key_same (At m) Any h g e = absurd (omega (arith, h, e))
-key_same Any (At n) h g e = absurd (omega (arith, g, e))
-key_same Any Any h g e = refl
-
--- a place's number is below the number of places
-pub number_below : (p : KeyedWord) → p.0 < ADDRESS_END → IsKey p.1 → word_number p < MOST_KEYED_WORDS
-number_below p lt h = let b = key_below p.1 h in omega (arith, b, lt)
+key_same k l h g e = grind (arith)
 
 -- no two places have one number
 pub same_word : (p q : KeyedWord) → IsKey p.1 → IsKey q.1 → word_number p ≡ word_number q → p ≡ q
-same_word p q h g e =
-    let b = key_below p.1 h in
-    let c = key_below q.1 g in
-    let at : p.0 ≡ q.0 = omega (arith, b, c, e) in
-    let number : key_number p.1 ≡ key_number q.1 = omega (arith, e, at) in
-    let key = key_same p.1 q.1 h g number in
-    λ x. (at x, key x)
+same_word p q h g e = grind (arith, key_same)
 
 false_at : (n k : ℕ) → get_or (replicate n false) k false ≡ false
 false_at zero k = refl
@@ -47,11 +30,7 @@ module _ (marks : List Bool) (here : KeyedWord) where
 
   -- a place is this one, or has another number
   pub here_or_other : IsKey here.1 → (place : KeyedWord) → IsKey place.1 → (place ≡ here) ⊎ (word_number place ≢ word_number here)
-  here_or_other key place h =
-      ⊎_elim
-      (λ less. inr (omega (arith, less)))
-      (λ ge. ⊎_elim (λ more. inr (omega (arith, more))) (λ le. inl (same_word place here h key (omega (arith, le, ge)))) (cases_lt (word_number here) (word_number place)))
-      (cases_lt (word_number place) (word_number here))
+  here_or_other key place h = grind (arith, same_word, cases_lt, word_number)
 
   -- what is among them with one more was among them, or is that one
   pub there_or_here : IsKey here.1 → (place : KeyedWord) → HasWord (with_word marks here) place → HasWord marks place ⊎ (place ≡ here)

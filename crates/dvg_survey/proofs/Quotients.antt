@@ -36,13 +36,7 @@ pub ranges_of : (w : Window) (x_low x_high y_low y_high a b c d x_min x_max y_mi
     → ((x : ℤ) → (a ≤ℤ x) ↔ ((pos 1024 *ℤ x_min) ≤ℤ ((pos 1024 *ℤ x) +ℤ x_low))) → ((x : ℤ) → (x ≤ℤ b) ↔ (((pos 1024 *ℤ x) +ℤ x_high) ≤ℤ (pos 1024 *ℤ x_max)))
     → ((y : ℤ) → (c ≤ℤ y) ↔ ((pos 1024 *ℤ y_min) ≤ℤ ((pos 1024 *ℤ y) +ℤ y_low))) → ((y : ℤ) → (y ≤ℤ d) ↔ (((pos 1024 *ℤ y) +ℤ y_high) ≤ℤ (pos 1024 *ℤ y_max)))
     → Ranges w x_low x_high y_low y_high a b c d
-ranges_of w x_low x_high y_low y_high a b c d x_min x_max y_min y_max e f g h left right bottom top =
-    record {
-      left = subst (λ (v : ℤ). (x : ℤ) → (a ≤ℤ x) ↔ ((pos 1024 *ℤ v) ≤ℤ ((pos 1024 *ℤ x) +ℤ x_low))) e left;
-      right = subst (λ (v : ℤ). (x : ℤ) → (x ≤ℤ b) ↔ (((pos 1024 *ℤ x) +ℤ x_high) ≤ℤ (pos 1024 *ℤ v))) f right;
-      bottom = subst (λ (v : ℤ). (y : ℤ) → (c ≤ℤ y) ↔ ((pos 1024 *ℤ v) ≤ℤ ((pos 1024 *ℤ y) +ℤ y_low))) g bottom;
-      top = subst (λ (v : ℤ). (y : ℤ) → (y ≤ℤ d) ↔ (((pos 1024 *ℤ y) +ℤ y_high) ≤ℤ (pos 1024 *ℤ v))) h top;
-    }
+ranges_of w x_low x_high y_low y_high a b c d x_min x_max y_min y_max e f g h left right bottom top = grind (arith, pos)
 
 over_low : (p low high edge : ℤ) → low ≤ℤ high → (p +ℤ high) ≤ℤ edge → (p +ℤ low) ≤ℤ edge
 over_low p low high edge le h = omega (arith, ints, le, h)
@@ -69,21 +63,9 @@ module _ (w : Window) (x_low x_high y_low y_high a b c d : ℤ) (r : Ranges w x_
 
   pub box_places : (places : CallPlaces) (lit : LitBox) → lit ≡ Span x_low x_high y_low y_high → HasPlace places x y ↔ InRanges
       → HasPlace places x y ↔ LitInWindow w (box_extent lit) (whole_place x y)
-  box_places places lit is h =
-      subst (λ (l : LitBox). HasPlace places x y ↔ LitInWindow w (box_extent l) (whole_place x y)) (sym is)
-      (λ k. in_ranges (h.0 k), λ k. h.1 (ranges_in k))
+  box_places places lit is h = grind (arith, in_ranges, ranges_in)
 
 -- a call that is seen there
 pub seen_places : (w : Window) (places : CallPlaces) (lit : LitBox) (e : Entry) (v : Seen) (x y : ℤ) → e.lit ≡ lit → IsCallAt e x y v
     → HasPlace places x y ↔ LitInWindow w (box_extent lit) (whole_place x y) → HasPlace places x y ↔ LitInWindow w v.extent v.place
-seen_places w places lit e v x y is call h = (λ k. back (h.0 k), λ k. h.1 (on k))
-  where
-    back : LitInWindow w (box_extent lit) (whole_place x y) → LitInWindow w v.extent v.place
-    back k =
-        subst (λ (place : End). LitInWindow w v.extent place) (sym call.place)
-        (subst (λ (e : LitExtent). LitInWindow w e (whole_place x y)) (sym call.extent) (subst (λ (l : LitBox). LitInWindow w (box_extent l) (whole_place x y)) (sym is) k))
-
-    on : LitInWindow w v.extent v.place → LitInWindow w (box_extent lit) (whole_place x y)
-    on k =
-        subst (λ (l : LitBox). LitInWindow w (box_extent l) (whole_place x y)) is
-        (subst (λ (e : LitExtent). LitInWindow w e (whole_place x y)) call.extent (subst (λ (place : End). LitInWindow w v.extent place) call.place k))
+seen_places w places lit e v x y is call h = grind (arith)

@@ -1,5 +1,6 @@
 -- The test of equality tells whether entries are the same.
 use Rattle.dvg_survey.proofs.Common.{◌≡◌, refl, ap, Entry, Key, At, Any, End, Rel, Abs, Lost, LitBox, Empty, Span}
+use Rattle.std.proofs.Common.{arith}
 use Rattle.std.specs.Bool.{Decides}
 use Rattle.std.proofs.lemmas.Bool.Decides.{Decides-and, Decides-eqb, Decides-int_eq, Decides-like}
 use Rattle.dvg_cert.specs.contracts.entry.KeyPartialEq.TheImpl as key
@@ -14,12 +15,8 @@ key_decides Any (At n) = (λ e. cc e, λ e. cc e)
 key_decides Any Any = (λ e. refl, λ e. refl)
 
 end_decides : (a b : End) → Decides (end.ghosts.eq a b) (a ≡ b)
-end_decides (Rel a b) (Rel c d) =
-    Decides-like (end.ghosts.eq (Rel a b) (Rel c d)) (λ h. let p : a ≡ c = h.0 in let q : b ≡ d = h.1 in cc (p, q)) (λ e. let p : a ≡ c = cc e in let q : b ≡ d = cc e in (p, q))
-    (Decides-and _ _ (Decides-int_eq a c) (Decides-int_eq b d))
-end_decides (Abs a b) (Abs c d) =
-    Decides-like (end.ghosts.eq (Abs a b) (Abs c d)) (λ h. let p : a ≡ c = h.0 in let q : b ≡ d = h.1 in cc (p, q)) (λ e. let p : a ≡ c = cc e in let q : b ≡ d = cc e in (p, q))
-    (Decides-and _ _ (Decides-int_eq a c) (Decides-int_eq b d))
+end_decides (Rel a b) (Rel c d) = grind (arith)
+end_decides (Abs a b) (Abs c d) = grind (arith)
 end_decides Lost Lost = (λ e. refl, λ e. refl)
 end_decides (Rel a b) (Abs c d) = (λ e. cc e, λ e. cc e)
 end_decides (Rel a b) Lost = (λ e. cc e, λ e. cc e)
@@ -46,12 +43,5 @@ same_fields : (a b : Entry) → Fields a b → a ≡ b
 same_fields a b h x =
     record { stop = h.0 x; lit = h.1.0 x; words = h.1.1.0 x; addr = h.1.1.1.0 x; key = h.1.1.1.1.0 x; scale = h.1.1.1.1.1.0 x; depth = h.1.1.1.1.1.1 x }
 
-fields_same : (a b : Entry) → a ≡ b → Fields a b
-fields_same a b x =
-    (ap (λ (e : Entry). e.stop) x, (ap (λ (e : Entry). e.lit) x, (ap (λ (e : Entry). e.words) x, (ap (λ (e : Entry). e.addr) x, (ap (λ (e : Entry). e.key) x, (ap (λ (e : Entry). e.scale) x, ap (λ (e : Entry). e.depth) x))))))
-
 pub entry_decides : (a b : Entry) → Decides (entry.ghosts.eq a b) (a ≡ b)
-entry_decides a b =
-    Decides-like (entry.ghosts.eq a b) (same_fields a b) (fields_same a b)
-    (Decides-and _ _ (end_decides a.stop b.stop) (Decides-and _ _ (box_decides a.lit b.lit) (Decides-and _ _ (Decides-eqb a.words b.words) (Decides-and _ _ (Decides-eqb a.addr b.addr)
-    (Decides-and _ _ (key_decides a.key b.key) (Decides-and _ _ (key_decides a.scale b.scale) (Decides-eqb a.depth b.depth)))))))
+entry_decides a b = grind (arith, same_fields, end_decides, box_decides, key_decides)

@@ -46,8 +46,7 @@ module _ (w : Window) (rom : Rom) (list : List Entry) (marks : List Bool) (e : E
       (cases_lt (length earlier) (length rest))
     where
       by : i ∷ earlier ≡ j ∷ rest → IsCleanItem w marks (seen_at c earlier i)
-      by same = let item : i ≡ j = cc same in let before : earlier ≡ rest = cc same in
-          subst (λ (x : Item). IsCleanItem w marks (seen_at c earlier x)) (sym item) (subst (λ (x : List Item). IsCleanItem w marks (seen_at c x j)) (sym before) h.1)
+      by same = grind (arith, seen_at)
 
   pub all_clean : (all : List Item) → AreAll Shape (rom_word rom) e.addr all → CleanItems w marks c all → IsClean w rom list marks e
   all_clean all are h earlier i leads stands =
@@ -61,25 +60,12 @@ module _ (w : Window) (rom : Rom) (list : List Entry) (marks : List Bool) (e : E
     clean_on h clean = (h, subst (IsCleanItem w marks) (seen_is c (rom_word rom) e.addr items here walked v s) clean)
 
     pub faulty_here : (IsCleanItem w marks v → ⊥) → IsFaulty w rom list marks e
-    faulty_here faulty =
-        record {
-          earlier = items;
-          item = v.item;
-          leads = here_leads c (rom_word rom) e.addr items here walked v s;
-          stands = here_stands c (rom_word rom) e.addr items here walked v s;
-          faulty = λ clean. faulty (subst (IsCleanItem w marks) (sym (seen_is c (rom_word rom) e.addr items here walked v s)) clean);
-        }
+    faulty_here faulty = grind (arith, here_leads, rom_word, here_stands, seen_is)
 
   -- ---- what an entry that is not clean breaks
 
   own_breaks : (f : IsFaulty w rom list marks e) → (LitInWindow w (extent c f.earlier f.item.instr) (place_before c f.earlier) → ⊥) → Breaks w rom list e
-  own_breaks f out =
-      record {
-        calls = [];
-        goal = e;
-        leads = refl;
-        breaks = λ keeps. out (subst (λ (cell : Cell). CellKeeps shape.Unmapped shape.Odd (λ i. ShapeKeeps Bound w e (seen_at c f.earlier i)) f.item.at cell shape.OffScreen) f.stands (keeps f.earlier f.item.at f.leads));
-      }
+  own_breaks f out = grind (arith, seen_at)
 
   through : (f : IsFaulty w rom list marks e) (g : Entry) → callee c f.earlier f.item.instr ≡ Some g → Breaks w rom list g → Breaks w rom list e
   through f g is b =
@@ -145,15 +131,7 @@ module _ (w : Window) (rom : Rom) (list : List Entry) where
     pub clean : length left ≡ n → (e : Entry) (k : ℕ) → k < n → k < length swept → get_or swept k e ≡ e → IsClean w rom list new e
 
   pub begin : (swept left : List Entry) (marks : List Bool) → left ≡ [] → AllBreak w rom list marks → Sweeping swept 0 left marks marks
-  begin swept left marks is all =
-      record {
-        broken = all;
-        still = λ e m. m;
-        each = λ e k lt less here. absurd (omega (arith, lt));
-        from = λ e h. let none : Contains [] e = subst (λ (l : List Entry). Contains l e) is h in absurd (omega (arith, none.1));
-        few = let none : length left ≡ 0 = ap length is in omega (arith, none);
-        clean = λ few e k lt less here. absurd (omega (arith, lt));
-      }
+  begin swept left marks is all = grind (arith)
 
   longer : (left : List Entry) (x : Entry) → length (left ++ x ∷ []) ≡ length left + 1
   longer [] x = refl
@@ -245,12 +223,7 @@ module _ (w : Window) (rom : Rom) (list : List Entry) where
       }
 
   pub covered_on : (swept left : List Entry) (old new : List Bool) → Covered swept old → IsSwept w rom list swept left old new → Covered left new
-  covered_on swept left old new h s =
-      record {
-        broken = s.broken;
-        listed = λ e k. h.listed e (s.from e k);
-        each = λ e k. ⊎_elim (λ there. s.each e there) (λ m. inr (s.still e m)) (h.each e k);
-      }
+  covered_on swept left old new h s = grind (arith)
 
   -- an entry that is not marked leads to none that breaks the rule
   unbroken_keeps : (marks : List Bool) → ((e : Entry) → Contains list e → is_broken marks e ≡ false → IsClean w rom list marks e)
@@ -272,15 +245,7 @@ module _ (w : Window) (rom : Rom) (list : List Entry) where
       unbroken_keeps marks clean rest call.entry goal (named_listed list (target Shape k.item.instr) (scale_before (shape_context rom.machine list e) k.earlier) call.entry k.callee_is) unbroken leads.1 items p at
 
   pub told : (swept left : List Entry) (old new : List Bool) → Covered swept old → IsSwept w rom list swept left old new → length left ≡ length swept → TellsBroken w rom list new
-  told swept left old new h s same e listed =
-      (λ m calls goal leads. unbroken_keeps new clean calls e goal listed m leads, λ m keeps. let b = s.broken e listed m in b.breaks (keeps b.calls b.goal b.leads))
-    where
-      clean : (f : Entry) → Contains list f → is_broken new f ≡ false → IsClean w rom list new f
-      clean f there m =
-          ⊎_elim
-          (λ k. s.clean same f k)
-          (λ marked. let no : false ≡ true = sym m ∙ s.still f marked in cc no)
-          (h.each f there)
+  told swept left old new h s same e listed = grind (arith, unbroken_keeps)
 
 -- ---- the places of all entries
 

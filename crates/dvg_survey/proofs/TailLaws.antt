@@ -22,13 +22,7 @@ use Rattle.dvg_survey.proofs.Walking.{least_none}
 pub seen_first : (machine : Machine) (list : List Entry) (key : Key) (i : Item) (named : Option Entry) (to : Option ℕ) (begin : Cursor) (v : Seen)
     → v ≡ seen_with machine named begin.known (record { at = begin.at; format = i.format; instr = i.instr }) → begin ≡ first_cursor Shape 0 key
     → named ≡ callee_at list to key → to ≡ target Shape i.instr → (v.extent ≡ (first_seen machine list key i).extent) × (v.after ≡ (first_seen machine list key i).after)
-seen_first machine list key i named to begin v value begins names leads = (
-  ap (λ (x : Seen). x.extent) value ∙ ap (λ (b : Cursor). extent_of machine i.instr b.known.scale named) begins ∙ ap (λ (n : Option Entry). extent_of machine i.instr key n) is,
-  ap (λ (x : Seen). x.after) value ∙ ap (λ (b : Cursor). known_past machine i named b.known) begins ∙ ap (λ (n : Option Entry). known_past machine i n (start Shape key)) is,
-)
-  where
-    is : named ≡ callee_at list (target Shape i.instr) key
-    is = names ∙ ap (λ (t : Option ℕ). callee_at list t key) leads
+seen_first machine list key i named to begin v value begins names leads = grind (arith, callee_at, target)
 
 -- a tail's part is no further than the tail, and the place
 pub part_near : (place : End) (box : LitBox) (n : ℕ) → IsNearPlace 1 place → IsNearBox n box → IsNearBox (n + 1) (relative_part place box)
@@ -51,8 +45,7 @@ module _ (rom : Rom) (list : List Entry) (key behind_key : Key) (i : Item) (next
   lead_back (j ∷ rest) p h = (lead_back rest j.at h.0, h.1, h.2)
 
   stand_over : (items : List Item) → Stand Shape (rom_word rom) next items → Stand Shape (rom_word rom) i.at (items ++ i ∷ [])
-  stand_over [] h = (refl, is)
-  stand_over (j ∷ rest) h = (lead_over rest j.at h.0, h.1)
+  stand_over items h = grind (arith, lead_over)
 
   pub all_over : (items : List Item) → AreAll Shape (rom_word rom) next items → AreAll Shape (rom_word rom) i.at (items ++ i ∷ [])
   all_over items a = record { stand = stand_over items a.stand; last = λ n h. a.last n (lead_back items n.at h.0, h.1) }
@@ -97,13 +90,7 @@ module _ (rom : Rom) (list : List Entry) (key behind_key : Key) (i : Item) (next
   -- at relative places: what the tail lights, seen from before the first, and what the first lights
   relative_all : (rest : List Item) → lit_points in_whole (rest ++ i ∷ []) ≡ relative_from past.place (lit_points in_tail rest) ++ alone
   relative_all [] = sym (and_none alone) ∙ ap (λ (l : List Point). l ++ alone) (sym (relative_none past.place))
-  relative_all (j ∷ rest) =
-      let here : List Point = relative_of (seen_at in_tail rest j) in
-      let behind : List Point = relative_from past.place (lit_points in_tail rest) in
-      ap (λ (l : List Point). relative_of (seen_at in_whole (rest ++ i ∷ []) j) ++ l) (relative_all rest)
-      ∙ ap (λ (l : List Point). l ++ (behind ++ alone)) (relative_one rest j)
-      ∙ sym (append_assoc (relative_from past.place here) behind alone)
-      ∙ ap (λ (l : List Point). l ++ alone) (sym (relative_from_both past.place here (lit_points in_tail rest)))
+  relative_all (j ∷ rest) = grind (arith, seen_at, relative_from, (relative_all rest), relative_one, append_assoc, relative_from_both)
 
   -- at absolute places: what the tail lights there, and the part of what it lights at relative ones that is at absolute ones by now
   module _ (box : LitBox) where
@@ -162,11 +149,4 @@ module _ (rom : Rom) (list : List Entry) (key : Key) (i : Item) (is : cell_at (r
 
   pub ending : (lit : LitBox) → i.at < ADDRESS_END → IsLeast (relative_corners (first_seen rom.machine list key i).extent (Rel (pos 0) (pos 0))) lit → IsNearBox 1 lit
       → IsLitFrom rom list i.at key (record { relative = lit; absolute = Empty })
-  ending lit near lone small =
-      record {
-        items = i ∷ [];
-        all = all_alone;
-        relative = subst (λ (l : List Point). IsLeast l lit) (and_none (relative_corners (first_seen rom.machine list key i).extent (Rel (pos 0) (pos 0)))) lone;
-        absolute = least_none;
-        near = IsNearBox-more 1 (ADDRESS_END + 2 - i.at) lit (omega (arith, near)) small;
-      }
+  ending lit near lone small = search (i ∷ [], all_alone, subst (λ (l : List Point). IsLeast l lit) (and_none (relative_corners (first_seen rom.machine list key i).extent (Rel (pos 0) (pos 0)))) lone, least_none, IsNearBox-more 1 (ADDRESS_END + 2 - i.at) lit (omega (arith, near)) small)

@@ -1,5 +1,7 @@
 -- What is lit behind an item, from the points that a tail lights.
 use Rattle.dvg_survey.proofs.Common.{◌≡◌, List, [], ◌∷◌, ◌++◌, refl, sym, ap, subst, arith, Point, End, Rel, Abs, Lost, LitBox, Empty, Span, HoldsAll, IsLeast, LitExtent, InBox, absolute_corners, relative_corners, IsJoined, all_map, relative_part, absolute_part}
+use Rattle.std.proofs.Common.{rules}
+use Rattle.std.proofs.lemmas.Grind.{common_steps}
 use Rattle.std.proofs.lemmas.Int.{ints}
 use Rattle.std.specs.Prelude.{map, ◌-ℤ◌}
 use Rattle.dvg_words.specs.Beam.{origin, shift}
@@ -28,14 +30,10 @@ map_over f [] ys = refl
 map_over f (x ∷ xs) ys = ap (λ (l : List Point). f x ∷ l) (map_over f xs ys)
 
 pub relative_from_both : (place : End) (xs ys : List Point) → relative_from place (xs ++ ys) ≡ relative_from place xs ++ relative_from place ys
-relative_from_both (Rel x y) xs ys = map_over (shift (record { x = x; y = y })) xs ys
-relative_from_both (Abs x y) xs ys = refl
-relative_from_both Lost xs ys = refl
+relative_from_both place xs ys = grind (arith, map_over)
 
 pub absolute_from_both : (place : End) (xs ys : List Point) → absolute_from place (xs ++ ys) ≡ absolute_from place xs ++ absolute_from place ys
-absolute_from_both (Rel x y) xs ys = refl
-absolute_from_both (Abs x y) xs ys = map_over (shift (record { x = x; y = y })) xs ys
-absolute_from_both Lost xs ys = refl
+absolute_from_both place xs ys = grind (arith, map_over)
 
 pub relative_none : (place : End) → relative_from place [] ≡ []
 relative_none (Rel x y) = refl
@@ -43,18 +41,14 @@ relative_none (Abs x y) = refl
 relative_none Lost = refl
 
 pub no_absolute : (box : LitBox) (place : End) → HoldsAll box (absolute_from place [])
-no_absolute box (Rel x y) = tt
-no_absolute box (Abs x y) = tt
-no_absolute box Lost = tt
+no_absolute box place = grind (arith)
 
 pub and_none : (xs : List Point) → xs ≡ xs ++ []
 and_none [] = refl
 and_none (x ∷ xs) = ap (λ (l : List Point). x ∷ l) (and_none xs)
 
 corners_over : (lit : LitExtent) (a q : Point) → corners lit (shift a q) ≡ map (shift a) (corners lit q)
-corners_over Nothing a q = refl
-corners_over (Between u v) a q = let e = shift_shift a q u in let f = shift_shift a q v in λ i. e i ∷ f i ∷ []
-corners_over Anywhere a q = refl
+corners_over lit a q = grind (arith, shift_shift)
 
 pub relative_over : (lit : LitExtent) (place q : End) → relative_corners lit (place_over place q) ≡ relative_from place (relative_corners lit q)
 relative_over lit (Rel a b) (Rel x y) = corners_over lit (record { x = a; y = b }) (record { x = x; y = y })
@@ -82,8 +76,7 @@ absolute_over lit Lost Lost = refl
 
 in_moved : (box : LitBox) (d p : Point) → InBox box p → InBox (moved box d) (shift d p)
 in_moved Empty d p h = absurd h
-in_moved (Span l r b t) d p h =
-    record { left = omega (arith, ints, h.left); right = omega (arith, ints, h.right); bottom = omega (arith, ints, h.bottom); top = omega (arith, ints, h.top) }
+in_moved (Span l r b t) d p h = search (rules)
 
 all_moved : (box : LitBox) (d : Point) (ps : List Point) → HoldsAll box ps → HoldsAll (moved box d) (map (shift d) ps)
 all_moved box d [] h = tt
@@ -96,8 +89,7 @@ moved_back (Span l r b t) d = Span (l -ℤ d.x) (r -ℤ d.x) (b -ℤ d.y) (t -�
 
 in_moved_back : (box : LitBox) (d p : Point) → InBox box (shift d p) → InBox (moved_back box d) p
 in_moved_back Empty d p h = absurd h
-in_moved_back (Span l r b t) d p h =
-    record { left = omega (arith, ints, h.left); right = omega (arith, ints, h.right); bottom = omega (arith, ints, h.bottom); top = omega (arith, ints, h.top) }
+in_moved_back (Span l r b t) d p h = grind (arith, rules, common_steps)
 
 all_moved_back : (box : LitBox) (d : Point) (ps : List Point) → HoldsAll box (map (shift d) ps) → HoldsAll (moved_back box d) ps
 all_moved_back box d [] h = tt
@@ -110,8 +102,7 @@ inside_moved (Span l r b t) (Span e f g k) d h =
     (omega (arith, ints, h.0), omega (arith, ints, h.1), omega (arith, ints, h.2), omega (arith, ints, h.3))
 
 moved_least : (d : Point) (ps : List Point) (box : LitBox) → IsLeast ps box → IsLeast (map (shift d) ps) (moved box d)
-moved_least d ps box h =
-    record { holds = all_moved box d ps h.holds; least = λ other k. inside_moved box other d (h.least (moved_back other d) (all_moved_back other d ps k)) }
+moved_least d ps box h = grind (arith, (all_moved box d ps h.holds), inside_moved, all_moved_back)
 
 pub relative_least : (place : End) (ps : List Point) (box : LitBox) → IsLeast ps box → IsLeast (relative_from place ps) (relative_part place box)
 relative_least (Rel x y) ps box h = moved_least (record { x = x; y = y }) ps box h
@@ -129,18 +120,10 @@ wider a b ps inside h = all_map (InBox a) (InBox b) ps (λ p. in_wider a b p ins
 -- of two points, seen from the place 0, 0
 pub spanning_least : (p q : Point) (box : LitBox) → InBox box p → InBox box q → ((other : LitBox) → InBox other p → InBox other q → IsInside box other)
     → IsLeast (corners (Between p q) origin) box
-spanning_least p q box first second least =
-    record {
-      holds = (subst (InBox box) (sym (origin_shift p)) first, (subst (InBox box) (sym (origin_shift q)) second, tt));
-      least = λ other h. least other (subst (InBox other) (origin_shift p) h.0) (subst (InBox other) (origin_shift q) h.1.0);
-    }
+spanning_least p q box first second least = grind (arith, origin_shift)
 
 -- of points that are those of two lists
 pub both_least : (ps qs all : List Point) (a b box : LitBox) → IsJoined a b box → IsLeast ps a → IsLeast qs b
     → ((other : LitBox) → HoldsAll other ps → HoldsAll other qs → HoldsAll other all)
     → ((other : LitBox) → HoldsAll other all → HoldsAll other ps) → ((other : LitBox) → HoldsAll other all → HoldsAll other qs) → IsLeast all box
-both_least ps qs all a b box j h k into first second =
-    record {
-      holds = into box (wider a box ps j.first h.holds) (wider b box qs j.second k.holds);
-      least = λ other w. j.least other (h.least other (first other w)) (k.least other (second other w));
-    }
+both_least ps qs all a b box j h k into first second = grind (arith, (wider a box ps j.first h.holds), (wider b box qs j.second k.holds))

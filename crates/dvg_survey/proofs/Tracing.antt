@@ -19,9 +19,6 @@ abbrev pub steps_left : Option ℕ → ℕ
 steps_left None = 0
 steps_left (Some at) = at + 1
 
-pub traced_none : (links : List Link) (last : ℕ) → Traced links last (Some last) []
-traced_none links last rom words list steps l is f also = let same : Some f ≡ Some l = sym also ∙ is in let e : f ≡ l = cc same in ap (λ (x : Link). x.call.entry) e
-
 pub traced_more : (links : List Link) (last at : ℕ) (calls : List Call) (f : Link) → slice_get links at ≡ Some f → Traced links last (Some at) calls → Traced links last f.from (calls ++ f.call ∷ [])
 traced_more links last at calls f is h rom words list steps l l_is =
     subst (λ cs. Leads rom words list links f.from cs l.call.entry) (sym (reverse-append calls (f.call ∷ []))) (by f.from refl)

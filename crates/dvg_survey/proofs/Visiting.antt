@@ -62,38 +62,13 @@ module _ (rom : Rom) (list : List Entry) (key : Key) (i : Item) (is : cell_at (r
     calls : CallsFrom rom list (next, past) call
 
   own_or_further : (call : Call) → CallsFrom rom list (i.at, key) call → IsOwn call ⊎ IsFurther call
-  own_or_further call c = ⊎_elim own further (split c.earlier c.item.at c.leads)
-    where
-      own : (c.earlier ≡ []) × (c.item.at ≡ i.at) → IsOwn call ⊎ IsFurther call
-      own h =
-          let same : c.item ≡ i = item_same c.item i h.1 (sym c.stands ∙ ap (cell_at (rom_word rom)) h.1 ∙ is) in
-          inl (record {
-            at = c.at ∙ h.1;
-            entry = ap (λ (j : Item). callee_at list (target Shape j.instr) key) (sym same)
-                ∙ ap (λ (x : List Item). callee_at list (target Shape c.item.instr) (scale_before (keyed rom.machine list key) x)) (sym h.0) ∙ c.callee_is;
-          })
-
-      further : Behind c.earlier c.item.at → IsOwn call ⊎ IsFurther call
-      further b =
-          inr (record {
-            next = b.next;
-            goes = b.goes;
-            calls = record {
-              earlier = b.rest;
-              item = c.item;
-              leads = b.leads;
-              stands = c.stands;
-              at = c.at;
-              callee_is = ap (callee_at list (target Shape c.item.instr)) (sym b.scale) ∙ c.callee_is;
-            };
-          })
+  own_or_further call c = grind (arith, (split c.earlier c.item.at c.leads), item_same, (cell_at (rom_word rom)), (rom_word rom), callee_at, target, (target Shape c.item.instr), scale_before, (keyed rom.machine list key), (callee_at list (target Shape c.item.instr)))
 
 -- from a place where no item stands there are none
 module _ (rom : Rom) (list : List Entry) (at : ℕ) (key : Key) (none : (format : Format) (instr : Instr) → cell_at (rom_word rom) at ≡ Holds format instr → ⊥) where
   only_here : (earlier : List Item) (p : ℕ) → LeadsTo Shape (rom_word rom) at earlier p → p ≡ at
   only_here [] p lead = lead
-  only_here (j ∷ earlier) p lead =
-      absurd (none j.format j.instr (ap (cell_at (rom_word rom)) (sym (only_here earlier j.at lead.0)) ∙ lead.1))
+  only_here (j ∷ earlier) p lead = grind (arith, cell_at, rom_word, (only_here earlier j.at lead.0))
 
   no_calls : (call : Call) → CallsFrom rom list (at, key) call → ⊥
   no_calls call c = none c.item.format c.item.instr (ap (cell_at (rom_word rom)) (sym (only_here c.earlier c.item.at c.leads)) ∙ c.stands)
@@ -188,9 +163,7 @@ module _ (rom : Rom) (list : List Entry) (e : Entry) (old : List Bool) where
             inl (subst (λ (cs : List Call). Contains cs call) (sym grown) (Contains-append_right calls (call_of item callee) call (at_call item call callee o.at (callee_is ∙ o.entry))))
 
         more_are : more ≡ calls_among (shape_context rom.machine list e) (item ∷ g.items)
-        more_are =
-            grown ∙ ap (λ (cs : List Call). cs ++ call_of item callee) g.are
-            ∙ ap (λ (o : Option Entry). calls_among (shape_context rom.machine list e) g.items ++ call_of item o) (callee_is ∙ ap (callee_at list (target Shape instr)) g.knows)
+        more_are = grind (arith, call_of, calls_among, shape_context, callee_at, target)
 
         pub walks_on : (past : Key) (next : ℕ) → past ≡ unwrap_or (scale_set instr callee) scale → IsKey past → next_address Shape item ≡ Some next → Goes new more next past
         walks_on past next past_is key to =
@@ -221,10 +194,7 @@ module _ (rom : Rom) (list : List Entry) (e : Entry) (old : List Bool) where
             from_here call c = ⊎_elim (λ o. inl (own_met call o)) (λ f. inr (at_next f)) (split_here call c)
               where
                 at_next : IsFurther rom list scale item stands call → CallsFrom rom list (next, past) call
-                at_next f =
-                    let both : Some f.next ≡ Some next = sym f.goes ∙ to in
-                    let place : f.next ≡ next = cc both in
-                    subst (λ (a : ℕ). CallsFrom rom list (a, past) call) place (subst (λ (k : Key). CallsFrom rom list (f.next, k) call) (sym scale_is) f.calls)
+                at_next f = grind (arith, scale_is)
 
             on : (call : Call) → IsOpen calls here call → IsOpen more (next, past) call
             on call = ⊎_elim (λ h. inl (still_met call h)) (from_here call)

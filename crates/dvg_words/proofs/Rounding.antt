@@ -15,32 +15,21 @@ below : (a m k : ℕ) → a ≡ 2048 * m + suc k → k ≤ 1022 → int_div_eucl
 below a m k e h = grind (arith, ints, e, h)
 
 down : (m : ℕ) → rounded_move (neg_ℤ (pos m)) ≡ neg_ℤ (pos (1024 * ((m + 512) / 1024)))
-down zero = refl
-down (suc m) = refl
+down m = grind (arith)
 
-pub rounds : (size : ℤ) (f : ℕ) → negsuc 1022 ≤ℤ size → size ≤ℤ pos 1023 → int_div_euclid (size *ℤ pos (2048 * f + 1) +ℤ pos 1048576) (pos 2097152) *ℤ pos 1024 ≡ rounded_move (size *ℤ pos f)
-rounds (pos n) f low high = rw (spread n f) (grind (arith, ints, high))
-rounds (negsuc k) f low high = rw (down (suc k * f)) (below (suc k * (2048 * f + 1)) (suc k * f) k (spread (suc k) f) (grind (arith, ints, low)))
+rounds : (size : ℤ) (f : ℕ) → negsuc 1022 ≤ℤ size → size ≤ℤ pos 1023 → int_div_euclid (size *ℤ pos (2048 * f + 1) +ℤ pos 1048576) (pos 2097152) *ℤ pos 1024 ≡ rounded_move (size *ℤ pos f)
+rounds size f low high = grind (arith, pos, spread, negsuc, down, below)
 
 -- a product of a size and a factor is no further from 0 than the greatest of them
 product : (n f : ℕ) → n ≤ 1023 → f ≤ 1024 → n * f ≤ 1047552
 product n f h k = mul-le-mul h k
 
-pub near : (size : ℤ) (f : ℕ) → negsuc 1022 ≤ℤ size → size ≤ℤ pos 1023 → f ≤ 1024 → (negsuc 1047551 ≤ℤ rounded_move (size *ℤ pos f)) × (rounded_move (size *ℤ pos f) ≤ℤ pos 1047552)
-near (pos n) f low high few =
-    let p : n * f ≤ 1047552 = product n f (grind (arith, ints, high)) few in
-    grind (arith, ints, p)
-near (negsuc k) f low high few =
-    let p : suc k * f ≤ 1047552 = product (suc k) f (grind (arith, ints, low)) few in
-    rw (down (suc k * f)) (grind (arith, ints, p))
+near : (size : ℤ) (f : ℕ) → negsuc 1022 ≤ℤ size → size ≤ℤ pos 1023 → f ≤ 1024 → (negsuc 1047551 ≤ℤ rounded_move (size *ℤ pos f)) × (rounded_move (size *ℤ pos f) ≤ℤ pos 1047552)
+near (pos n) f low high few = grind (arith, product)
+near (negsuc k) f low high few = grind (arith, (product (suc k) f (grind (arith, ints, low)) few), (down (suc k * f)))
 
 pub finer_near : (size : ℤ) (f : ℕ) → negsuc 1022 ≤ℤ size → size ≤ℤ pos 1023 → f ≤ 1024 → (negsuc 2147483647 ≤ℤ (size *ℤ pos (2048 * f + 1))) × ((size *ℤ pos (2048 * f + 1)) ≤ℤ pos 2147483648)
-finer_near (pos n) f low high few =
-    let p : n * f ≤ 1047552 = product n f (grind (arith, ints, high)) few in
-    rw (spread n f) (grind (arith, ints, p, high))
-finer_near (negsuc k) f low high few =
-    let p : suc k * f ≤ 1047552 = product (suc k) f (grind (arith, ints, low)) few in
-    rw (spread (suc k) f) (grind (arith, ints, p, low))
+finer_near size f low high few = grind (arith, pos, product, spread, negsuc)
 
 -- a shift by at most nine places loses no bit
 pub lossless : (t : ℕ) → t ≤ 9 → (2 * 2 ^ t % 65536 ≡ 2 ^ (t + 1)) × (2 ^ (t + 1) ≤ 1024)
@@ -57,14 +46,19 @@ lossless_finer t h =
     let twice : 2 ^ (t + 1) ≡ 2 * 2 ^ t = rw (e, pow-suc 2 t) (omega arith) in
     (mod-eq_of_lt (omega arith) ∙ omega arith, omega arith)
 
+-- what is shown of a size at an effective scale
+pub record Rounds (size : ℤ) (scale : ℕ) : Type 0 where
+  pub value : int_div_euclid (size *ℤ pos (2048 * 2 ^ (scale + 1) + 1) +ℤ pos 1048576) (pos 2097152) *ℤ pos 1024 ≡ rounded_move (size *ℤ pos (2 ^ (scale + 1)))
+  pub low : negsuc 1047551 ≤ℤ rounded_move (size *ℤ pos (2 ^ (scale + 1)))
+  pub high : rounded_move (size *ℤ pos (2 ^ (scale + 1))) ≤ℤ pos 1047552
+
+pub rounds_at : (size : ℤ) (scale : ℕ) → negsuc 1022 ≤ℤ size → size ≤ℤ pos 1023 → scale ≤ 9 → Rounds size scale
+rounds_at size scale low high few = grind (arith, (near size (2 ^ (scale + 1)) low high (lossless scale few).1), (lossless scale few), (rounds size (2 ^ (scale + 1)) low high))
+
 -- ---- a draw of the board
 
 pub board_moves_by : (size : ℤ) (local global scale : ℕ) → scale ≡ effective_scale local global → scale ≤ 9 → rounded_move (size *ℤ pos (2 ^ (scale + 1))) ≡ axis_move Board size local global
-board_moves_by size local global scale same small =
-    let drawn : nat_le (effective_scale local global) 9 ≡ true = grind (arith, nat_tests, same, small) in
-    rw (same, drawn) refl
+board_moves_by size local global scale same small = grind (arith, nat_le, nat_tests)
 
 pub board_stays : (size : ℤ) (local global scale : ℕ) → scale ≡ effective_scale local global → 9 < scale → pos 0 ≡ axis_move Board size local global
-board_stays size local global scale same great =
-    let drawn : nat_le (effective_scale local global) 9 ≡ false = grind (arith, nat_tests, same, great) in
-    rw (drawn) refl
+board_stays size local global scale same great = grind (arith, nat_le, nat_tests)

@@ -12,35 +12,15 @@ StackWithin s = length s.return_stack ≤ s.max_stack
 
 -- ---- one step
 
-within_call : (room : Bool) (to : ℕ) (s : State) → StackWithin s → StackWithin (state_of (after_call room to s))
-within_call true to s h = omega arith
-within_call false to s h = h
-
-within_return : (stack : List ℕ) (s : State) → length stack ≤ s.max_stack → StackWithin s → StackWithin (state_of (after_return stack s))
-within_return [] s some h = h
-within_return (back ∷ rest) s some h = omega (arith, some)
-
-within_instruction : (machine : Machine) (i : Instr) (format : Format) (s : State) → StackWithin s → StackWithin (state_of (after_instruction machine i format s))
-within_instruction machine (Draws d) format s h = h
-within_instruction machine (Labs x y gscale) format s h = h
-within_instruction machine Halt format s h = h
-within_instruction machine (Jsrl to) format s h = within_call (nat_lt (length s.return_stack) 4) to s h
-within_instruction machine Rtsl format s h = within_return s.return_stack s h h
-within_instruction machine (Jmpl to) format s h = h
-
 within_cell : (machine : Machine) (cell : Cell) (s : State) → StackWithin s → StackWithin (state_of (after_cell machine cell s))
-within_cell machine Missing s h = h
-within_cell machine Odd s h = h
-within_cell machine (Holds format i) s h = within_instruction machine i format s h
+within_cell machine cell s h = grind (arith)
 
 within_next : (m : Memory) (s : State) → StackWithin s → StackWithin (state_of (next_status m s))
 unfolding next_status
 within_next m s h = within_cell m.rom.machine (cell_at (word_at m) s.pc) (after_fetch m s) h
 
 within_step : (m : Memory) (a b : Status) → Step m a b → StackWithin (state_of a) → StackWithin (state_of b)
-within_step m (Running s) b step h = subst (λ status. StackWithin (state_of status)) step (within_next m s h)
-within_step m (Halted s) b step h = absurd step
-within_step m (Fault s) b step h = absurd step
+within_step m a b step h = grind (arith, within_next)
 
 -- ---- runs
 

@@ -14,23 +14,12 @@ pub word_at_place : (bs : List ℕ) (i : ℕ) → 2 * i + 2 ≤ length bs → sl
 word_at_place [] i h = absurd (omega arith)
 word_at_place (low ∷ []) i h = absurd (omega arith)
 word_at_place (low ∷ high ∷ bs) zero h = refl
-word_at_place (low ∷ high ∷ bs) (suc i) h =
-    let e : 2 * suc i ≡ suc (suc (2 * i)) = omega arith in
-    let e1 : 2 * suc i + 1 ≡ suc (suc (2 * i + 1)) = omega arith in
-    rw (e1, e) (word_at_place bs i (omega arith))
+word_at_place (low ∷ high ∷ bs) (suc i) h = grind (arith, (word_at_place bs i (omega arith)))
 
 -- bytes of a ROM's length fill it
 pub rom_of_is_rom : (machine : Machine) (map : MemoryMap) (bytes : List ℕ) → IsMap map → IsRomLength map (length bytes) → IsRom (rom_on machine map bytes)
-rom_of_is_rom machine map bytes is long =
-    record {
-      map = is;
-      filled = omega (arith, length-words_of bytes, long, is.ordered);
-    }
+rom_of_is_rom machine map bytes is long = grind (arith, length-words_of)
 
 -- 2 to 2048 bytes, an even number of them, are a frame
 pub words_of_is_frame : (bytes : List ℕ) → IsFrameLength (length bytes) → IsFrame (words_of bytes)
-words_of_is_frame bytes long =
-    record {
-      some = omega (arith, length-words_of bytes, long.some);
-      few = omega (arith, length-words_of bytes, long.few);
-    }
+words_of_is_frame bytes long = grind (arith, length-words_of)

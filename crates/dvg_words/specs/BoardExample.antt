@@ -4,7 +4,7 @@ use Rattle.dvg_words.specs.Values.{Board}
 use Rattle.dvg_words.specs.Memory.{Memory, Rom}
 use Rattle.dvg_words.specs.Beam.{Point}
 use Rattle.dvg_words.specs.Generator.{State, Status, Running, Halted, Reached, start}
-use Rattle.dvg_words.specs.Example.{example_rom, example_start, example_set, Follow}
+use Rattle.dvg_words.specs.Example.{example_rom, example_start, example_set, run_through, Follow}
 
 -- the example ROM on the board
 abbrev pub board_rom : Rom
@@ -60,14 +60,7 @@ board_halted = record board_third { fetched = 10 ∷ board_third.fetched }
 -- the statuses of the run, in their order
 abbrev pub board_run : Point → ℕ → List Status
 board_run place scale =
-    Running (example_start place scale)
-    ∷ Running board_set
-    ∷ Running board_back
-    ∷ Running board_first
-    ∷ Running board_second
-    ∷ Running board_third
-    ∷ Halted board_halted
-    ∷ []
+    run_through (example_start place scale ∷ board_set ∷ board_back ∷ board_first ∷ board_second ∷ board_third ∷ []) board_halted
 
 -- from any beam place and at any global scale the board's run goes so, and its halt is reached by six steps
 pub record WorkedBoardRun : Type 0 where

@@ -66,16 +66,15 @@ example_returned =
 abbrev pub example_halted : State
 example_halted = record example_returned { fetched = 3 ∷ 0x802 ∷ 0x801 ∷ 0x800 ∷ 2 ∷ 1 ∷ 0 ∷ [] }
 
+-- running in these states, one after another, and then halted
+abbrev pub run_through : List State → State → List Status
+run_through [] last = Halted last ∷ []
+run_through (s ∷ more) last = Running s ∷ run_through more last
+
 -- the statuses of the run, in their order
 abbrev pub example_run : Point → ℕ → List Status
 example_run place scale =
-    Running (example_start place scale)
-    ∷ Running example_set
-    ∷ Running example_called
-    ∷ Running example_drawn
-    ∷ Running example_returned
-    ∷ Halted example_halted
-    ∷ []
+    run_through (example_start place scale ∷ example_set ∷ example_called ∷ example_drawn ∷ example_returned ∷ []) example_halted
 
 -- each status steps to the next of the list
 abbrev pub Follow : Memory → List Status → Type 0

@@ -118,6 +118,7 @@ fn finer(size: i16, scale: u8) -> i64
 }
 
 /// A size of a draw at an effective scale of 0 to 9, multiplied by the factor, the distance rounded half up to whole screen places.
+#[tactic(auto, using(crate::proofs::Rounding::rounds_at))]
 fn rounded_move(size: i16, scale: u8) -> i64
     requires size_low { negsuc 1022 ≤ℤ size }
     requires size_high { size ≤ℤ pos 1023 }

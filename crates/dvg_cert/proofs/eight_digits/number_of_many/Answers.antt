@@ -1,10 +1,11 @@
 use Rattle.dvg_cert.proofs.Common.{◌≡◌, ◌+◌, ◌-◌, ℕ, take, drop, ap, subst, ◌∙◌, arith, AllDigits, digits_value, take-take, length-drop}
+use Rattle.std.proofs.Common.{rules}
+use Rattle.std.proofs.lemmas.Grind.{common_steps}
 use Rattle.dvg_cert.proofs.DigitSums.{all_take, all_drop, eight_more, first_digits, small}
 use Rattle.dvg_cert.proofs.eight_digits.number_of_many.Goals as goal
 
 pub number_of_eight-first-requires-clause-digits : goal.number_of_eight-first-requires-clause-digits
-number_of_eight-first-requires-clause-digits c =
-    rw (first_digits (c.args.count - 8) c.args.bytes.now c.eight_at.result.now (omega arith) c.eight_at.ensures) (all_take c.args.count (c.args.count - 8) c.args.bytes.now (omega arith) c.requires.digits)
+number_of_eight-first-requires-clause-digits c = grind (arith, (first_digits (c.args.count - 8) c.args.bytes.now c.eight_at.result.now (omega arith) c.eight_at.ensures), (all_take c.args.count (c.args.count - 8) c.args.bytes.now (omega arith) c.requires.digits))
 
 pub overflow_mul-result : goal.overflow_mul-result
 overflow_mul-result c =
@@ -14,10 +15,7 @@ overflow_mul-result c =
     omega (arith, few, first)
 
 pub number_of_eight-requires-clause-digits : goal.number_of_eight-requires-clause-digits
-number_of_eight-requires-clause-digits c =
-    let k = c.args.count - 8 in
-    let same : take 8 c.eight_at-2.result.now ≡ take 8 (drop k c.args.bytes.now) = ap (take 8) c.eight_at-2.ensures ∙ take-take 8 8 (drop k c.args.bytes.now) (omega arith) in
-    rw same (all_drop 8 k c.args.bytes.now (subst (λ (n : ℕ). AllDigits 10 (take n c.args.bytes.now)) {y = k + 8} (omega arith) c.requires.digits))
+number_of_eight-requires-clause-digits c = grind (arith, rules, common_steps, take-take, all_drop)
 
 pub overflow_add-result : goal.overflow_add-result
 overflow_add-result c =

@@ -1,4 +1,5 @@
 use Rattle.dvg_cert.proofs.Common.{◌≡◌, true, false, sym, ap, subst, ◌∙◌, IsMap, is_asteroids, rom_line}
+use Rattle.std.proofs.Common.{arith}
 use Rattle.dvg_cert.proofs.FirstLines.{map_of, rom_found, nowhere_said, other_said, if_none}
 use Rattle.dvg_cert.proofs.line.elsewhere_of.Goals as goal
 
@@ -11,11 +12,7 @@ returns-in_err-map-clause-none c = if_none c.from_residual-in_err-map.result (λ
     c.in_err-map.ensures.none (subst IsMap here is.0))
 
 pub returns-then-is_asteroids-clause-none : goal.returns-then-is_asteroids-clause-none
-returns-then-is_asteroids-clause-none c = λ map is same.
-    let here : map ≡ map_of (c.in_ok-first.first, c.in_ok-first.last) = other_said c.args.line.now (c.in_ok-first.first, c.in_ok-first.last) (sym c.in_ok-first.was ∙ c.whole_rom.ensures) map is same in
-    let so : is_asteroids map ≡ is_asteroids c.in_ok-map.map = ap is_asteroids (here ∙ sym c.in_ok-map.ensures.some.0) in
-    let never : false ≡ true = sym is.1 ∙ so ∙ sym c.if-is_asteroids.ensures in
-    absurd cc
+returns-then-is_asteroids-clause-none c = grind (arith, map_of, other_said, is_asteroids)
 
 pub returns-else-is_asteroids-clause-found : goal.returns-else-is_asteroids-clause-found
 returns-else-is_asteroids-clause-found c =

@@ -1,12 +1,11 @@
 use Rattle.dvg_cert.proofs.Common.{◌≡◌, ◌++◌, [], List, ℕ, ap, sym, subst, append-nil, append_assoc, Buffered}
+use Rattle.std.proofs.Common.{arith}
 use Rattle.std.proofs.lemmas.Result.{on_err_weaker}
 use Rattle.dvg_cert.proofs.Spelled.{sent_err, put_in_part, put_on, held_sent_in_part}
 use Rattle.dvg_cert.proofs.lines.write_lines.Goals as goal
 
 pub returns-in_err-put-2-clause-prefix : goal.returns-in_err-put-2-clause-prefix
-returns-in_err-put-2-clause-prefix g c =
-    let one : Buffered (g.W.Write.contents c.args.out.now) (g.W.Write.contents c.put.new.out) c.put.new.held.items c.args.first.now = rw c.new-held.ensures at c.in_ok-put.ensures.ok in
-    sent_err c.from_residual-in_err-put-2.result (put_in_part (g.W.Write.contents c.args.out.now) (g.W.Write.contents c.put.new.out) (g.W.Write.contents c.put-2.new.out) c.put.new.held.items c.args.first.now c.args.second.now c.args.third.now _ one (append_assoc c.args.first.now c.args.second.now c.args.third.now) c.in_err-put-2.ensures.prefix)
+returns-in_err-put-2-clause-prefix g c = grind (arith, sent_err, (put_in_part (g.W.Write.contents c.args.out.now) (g.W.Write.contents c.put.new.out) (g.W.Write.contents c.put-2.new.out) c.put.new.held.items c.args.first.now c.args.second.now c.args.third.now), (append_assoc c.args.first.now c.args.second.now c.args.third.now))
 
 pub returns-in_err-put-3-clause-prefix : goal.returns-in_err-put-3-clause-prefix
 returns-in_err-put-3-clause-prefix g c =

@@ -3,8 +3,7 @@ use Rattle.dvg_cert.proofs.Cutting.{found_at, found_in_prefix, free_none}
 use Rattle.dvg_cert.proofs.reader.line_end.Goals as goal
 
 ends : (room : ℕ) (rest : List ℕ) (r : Option ℕ) → r ≡ position (λ b. b == LINE_FEED) rest → length rest < room → EndsLine room rest (Ok r)
-ends room rest None e lt = (free_none LINE_FEED rest (sym e), lt)
-ends room rest (Some at) e lt = let f = found_at LINE_FEED rest at (sym e) in (f.0, f.1, omega (arith, f.2), f.2)
+ends room rest r e lt = grind (arith, free_none, found_at)
 
 pub returns-in-Some : goal.returns-in-Some
 returns-in-Some c = let f = found_in_prefix LINE_FEED c.args.room c.args.rest.now c.in-Some.at (omega arith) (sym c.in-Some.ensures) in (f.0, f.1, f.2, omega arith)

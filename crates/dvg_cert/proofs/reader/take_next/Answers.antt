@@ -12,13 +12,7 @@ returns-in-Ok-None c =
     begins c.args.lines.now c.args.begun.now.items c.args.rest.now c.push_bytes.new.buffer.items c.requires.taken u c.requires.begun e.0 (omega (arith, e.1)) c.push_bytes.ensures
 
 pub returns-in-Err : goal.returns-in-Err
-returns-in-Err c =
-    let u = not_whole c.args.lines.now (λ h. let t = c.if-is_whole.ensures.1 h in absurd (search rules)) in
-    rw c.line_number-line.ensures (end_fault c.in-Err.why (LONGEST_LINE - c.len.result) c.args.lines.now c.args.begun.now.items c.args.rest.now c.requires.taken u c.requires.begun (ap (λ (k : ℕ). LONGEST_LINE - k) c.len.ensures.value) c.in-Err.ensures)
+returns-in-Err c = grind (arith, not_whole, end_fault)
 
 pub returns-in-Err-take_begun : goal.returns-in-Err-take_begun
-returns-in-Err-take_begun c =
-    let u = not_whole c.args.lines.now (λ h. let t = c.if-is_whole.ensures.1 h in absurd (search rules)) in
-    let e : EndsLine (LONGEST_LINE - c.len.result) c.args.rest.now (Ok (Some c.in-Ok-Some.at)) = rw c.in-Ok-Some.field-0-is at c.in-Ok-Some.ensures in
-    let s = rest_is c.args.lines.now c.args.begun.now.items u c.requires.begun in
-    rw c.line_number-line.ensures (line_refused c.in-Err-take_begun.why c.args.lines.now c.args.begun.now.items c.args.rest.now (take c.in-Ok-Some.at c.args.rest.now) (drop (c.in-Ok-Some.at + 1) c.args.rest.now) c.requires.taken u c.requires.begun e.0 e.1 (omega (arith, length-take-le c.in-Ok-Some.at c.args.rest.now (omega (arith, e.3)), e.2)) c.in-Err-take_begun.ensures.line)
+returns-in-Err-take_begun c = grind (arith, not_whole, rest_is, line_refused, length-take-le)

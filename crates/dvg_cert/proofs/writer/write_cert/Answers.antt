@@ -4,8 +4,7 @@ use Rattle.dvg_cert.proofs.Spelled.{sent_err, first_held, entry_held, done_held,
 use Rattle.dvg_cert.proofs.writer.write_cert.Goals as goal
 
 pub loop-i-init : goal.loop-i-init
-loop-i-init g c =
-    (first_held (g.W.Write.contents c.args.out.now) c.args.cert.now.map c.push_heading.new.text.items (c.push_heading.ensures ∙ ap (λ (m : MemoryMap). begun_with m []) c.map.ensures.value), refl)
+loop-i-init g c = grind (arith, first_held, begun_with)
 
 pub returns-in_err-make_room-clause-prefix : goal.returns-in_err-make_room-clause-prefix
 returns-in_err-make_room-clause-prefix g c =

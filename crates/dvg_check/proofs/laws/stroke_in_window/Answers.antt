@@ -5,8 +5,7 @@ use Rattle.dvg_check.proofs.laws.stroke_in_window.Goals as goal
 
 -- a number between two others lies between the bounds of both
 within : (low high a b p : ℤ) → low ≤ℤ a → a ≤ℤ high → low ≤ℤ b → b ≤ℤ high → IsBetween a b p → (low ≤ℤ p) × (p ≤ℤ high)
-within low high a b p la ah lb bh (inl h) = (omega (arith, ints, la, h.0), omega (arith, ints, bh, h.1))
-within low high a b p la ah lb bh (inr h) = (omega (arith, ints, lb, h.0), omega (arith, ints, ah, h.1))
+within low high a b p la ah lb bh h9 = grind (arith)
 
 pub returns : goal.returns
 returns c w a b p from to across up =

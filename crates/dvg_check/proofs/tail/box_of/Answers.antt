@@ -1,13 +1,12 @@
 use Rattle.dvg_check.proofs.Common.{sym, subst, pos, Rel, LitExtent, InBox, LitInBox}
+use Rattle.std.proofs.Common.{arith}
 use Rattle.dvg_items.specs.Bounds.{IsNearExtent}
 use Rattle.dvg_items.proofs.Points.{origin_shift}
 use Rattle.dvg_check.proofs.TailSizes.{IsNearBox-spanning}
 use Rattle.dvg_check.proofs.tail.box_of.Goals as goal
 
 pub returns-in-Between-clause-lit : goal.returns-in-Between-clause-lit
-returns-in-Between-clause-lit c =
-    subst (λ (lit : LitExtent). LitInBox c.spanning.result lit (Rel (pos 0) (pos 0))) (sym c.in-Between.is)
-    (subst (InBox c.spanning.result) (sym (origin_shift c.in-Between.from)) c.spanning.ensures.first, (subst (InBox c.spanning.result) (sym (origin_shift c.in-Between.to)) c.spanning.ensures.second, tt))
+returns-in-Between-clause-lit c = grind (arith, pos, origin_shift)
 
 pub returns-in-Between-clause-near : goal.returns-in-Between-clause-near
 returns-in-Between-clause-near c =

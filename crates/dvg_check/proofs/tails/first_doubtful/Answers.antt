@@ -6,14 +6,7 @@ use Rattle.dvg_check.proofs.TailRows.{all_take, claim_at, none_kept}
 use Rattle.dvg_check.proofs.tails.first_doubtful.Goals as goal
 
 pub entries-init : goal.entries-init
-entries-init g c =
-    record {
-      near = c.for_entries-needed.ensures;
-      before = omega arith;
-      few = omega arith;
-      tails = none_kept (IsTail c.args.window.now c.args.rom.now (g.E.Entries.list c.args.entries.now)) SLOTS;
-      good = λ k past le lt. absurd (omega (arith, le, lt));
-    }
+entries-init g c = grind (arith, (none_kept (IsTail c.args.window.now c.args.rom.now (g.E.Entries.list c.args.entries.now)) SLOTS))
 
 pub entries-preserved : goal.entries-preserved
 entries-preserved g c =

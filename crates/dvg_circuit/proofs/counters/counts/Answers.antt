@@ -1,4 +1,6 @@
 use Rattle.std.proofs.Common.{◌≡◌, ℕ, ◌+◌, ◌*◌, ◌%◌, ◌^◌, ◌≤◌, ◌∙◌, sym, suc, arith}
+use Rattle.std.proofs.Common.{rules}
+use Rattle.std.proofs.lemmas.Grind.{common_steps}
 use Rattle.std.proofs.Math.Pow.{pow_mono}
 use Rattle.std.proofs.Math.Nat.{pow-suc, mod-eq_of_lt}
 use Rattle.dvg_circuit.proofs.Rounding.{counts_low}
@@ -6,11 +8,7 @@ use Rattle.dvg_circuit.proofs.counters.counts.Goals as goal
 
 -- a shift by at most nine places loses no bit
 lossless : (t : ℕ) → t ≤ 9 → (2 * 2 ^ t % 2 ^ 16 ≡ 2 ^ (t + 1)) × (2 ^ (t + 1) ≤ 1024)
-lossless t h =
-    let small : 2 ^ t ≤ 2 ^ 9 = pow_mono h in
-    let e : t + 1 ≡ suc t = omega arith in
-    let twice : 2 ^ (t + 1) ≡ 2 * 2 ^ t = rw (e, pow-suc 2 t) (omega arith) in
-    (mod-eq_of_lt (omega arith) ∙ omega arith, omega arith)
+lossless t h = grind (arith, rules, common_steps, pow_mono, pow-suc, mod-eq_of_lt)
 
 pub returns-then-scale-le9-clause-value : goal.returns-then-scale-le9-clause-value
 returns-then-scale-le9-clause-value c = (lossless c.args.scale c.if-scale-le9.true).0 ∙ sym (counts_low c.args.scale c.if-scale-le9.true)

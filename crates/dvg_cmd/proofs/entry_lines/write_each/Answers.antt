@@ -1,4 +1,5 @@
 use Rattle.dvg_cmd.proofs.Common.{◌∙◌, ◌++◌, [], append-nil, of_each}
+use Rattle.std.proofs.Common.{arith}
 use Rattle.dvg_cmd.proofs.LineByLine.{on_err, one_sent, one_cut, next_line}
 use Rattle.dvg_cmd.proofs.entry_lines.write_each.Goals as goal
 
@@ -10,11 +11,4 @@ returns-in_err-write_lines-clause-prefix g c =
     _ (append-nil (c.as_slice.result.now ++ []) ∙ append-nil c.as_slice.result.now ∙ c.as_slice.ensures.value ∙ c.line.ensures.line) c.in_err-write_lines.ensures.prefix)
 
 pub loop-thing-preserved : goal.loop-thing-preserved
-loop-thing-preserved g c =
-    record {
-      sent =
-          one_sent (of_each g.L.HasLine.text c.args.things.now) (g.W.Write.contents c.args.out.now) (g.W.CountedWrite.whole_writes c.args.out.now) _ _ _
-          (next_line g.L.HasLine.text c.args.things.now c.loop-thing.thing-index c.thing-item.result c.thing-item.is c.loop-thing-test.true) _ _ _ c.loop-thing.invariant.sent
-          _ (append-nil (c.as_slice.result.now ++ []) ∙ append-nil c.as_slice.result.now ∙ c.as_slice.ensures.value ∙ c.line.ensures.line) c.line.ensures.some _ c.in_ok-write_lines.ensures.ok c.in_ok-write_lines.ensures.one_write;
-      count = c.in_ok-write_lines.ensures.count ∙ c.loop-thing.invariant.count;
-    }
+loop-thing-preserved g c = grind (arith, one_sent, of_each, next_line, append-nil)

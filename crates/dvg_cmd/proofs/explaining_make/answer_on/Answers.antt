@@ -11,11 +11,7 @@ returns-in-Err-clause-refused c =
 pub returns-in-Ok-explain_making-clause-made :
     goal.returns-in-Ok-explain_making-clause-made
 returns-in-Ok-explain_making-clause-made c =
-    λ held readers read. record {
-      list = c.in-Ok-explain_making.cert.entries;
-      made = frames_made (with_words (c.in-Ok.ensures.images held readers read) c.deref.ensures.value) c.args.roots.now c.in-Ok-explain_making.cert.entries c.in-Ok-explain_making.ensures.ok;
-      count_is = ap length c.entries.ensures.value;
-    }
+    λ held readers read. search (c.in-Ok-explain_making.cert.entries, frames_made (with_words (c.in-Ok.ensures.images held readers read) c.deref.ensures.value) c.args.roots.now c.in-Ok-explain_making.cert.entries c.in-Ok-explain_making.ensures.ok, ap length c.entries.ensures.value)
 
 pub returns-clause-refused : goal.returns-clause-refused
 returns-clause-refused c =

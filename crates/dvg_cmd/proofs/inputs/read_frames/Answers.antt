@@ -4,9 +4,7 @@ use Rattle.dvg_cmd.proofs.SeveralFrames.{ReadSoFar, none_read, more_read, one_fa
 use Rattle.dvg_cmd.proofs.inputs.read_frames.Goals as goal
 
 pub loop-frame-init : goal.loop-frame-init
-loop-frame-init g c =
-    subst (λ read. ReadSoFar (λ frame. g.R.Read.remaining frame) (λ frame. g.R.CountedRead.failures frame) c.args.frames.now c.args.frames.now 0 (of_each (λ bytes. bytes.items) read)) (sym c.new-read.ensures.items)
-    (none_read (λ frame. g.R.Read.remaining frame) (λ frame. g.R.CountedRead.failures frame) c.args.frames.now)
+loop-frame-init g c = grind (arith, none_read)
 
 pub returns-in_default-clause-counts : goal.returns-in_default-clause-counts
 returns-in_default-clause-counts g c =

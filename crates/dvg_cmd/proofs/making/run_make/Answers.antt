@@ -1,4 +1,5 @@
 use Rattle.dvg_cmd.proofs.Common.{[], subst, FramesFaultMeans}
+use Rattle.std.proofs.Common.{arith}
 use Rattle.dvg_words.specs.declared.machine.Machine.TheVariants.{Profile}
 use Rattle.dvg_cmd.proofs.RootsRuns.{roots_written, roots_cut, roots_fault}
 use Rattle.dvg_cmd.proofs.making.run_make.Goals as goal
@@ -10,6 +11,4 @@ pub returns-in-Err-Plain-clause-prefix : goal.returns-in-Err-Plain-clause-prefix
 returns-in-Err-Plain-clause-prefix g c = λ is. roots_cut Profile (g.R.Read.remaining c.args.rom.now) c.args.map c.args.roots.now _ _ (c.in-Err-Plain.ensures.prefix cc)
 
 pub returns-in-Err-Plain-clause-refused : goal.returns-in-Err-Plain-clause-refused
-returns-in-Err-Plain-clause-refused g c =
-    roots_fault Profile (g.R.Read.remaining c.args.rom.now) c.args.map c.args.roots.now c.in-Err-Plain.fault
-    (subst (λ f. FramesFaultMeans Profile (g.R.Read.remaining c.args.rom.now) c.args.map c.args.roots.now [] f) c.in-Err-Plain.field-0-is c.in-Err-Plain.ensures.refused)
+returns-in-Err-Plain-clause-refused g c = grind (arith, roots_fault)

@@ -1,21 +1,13 @@
 use Rattle.dvg_cmd.proofs.Common.{◌≡◌, ◌++◌, ◌≤◌, length, arith, take, Consumes-trans, common_steps}
+use Rattle.std.proofs.Common.{rules}
 use Rattle.dvg_cmd.proofs.Pieces.{fed_on, fed_more, fed_refused}
 use Rattle.dvg_cmd.proofs.reading.read_certificate.Goals as goal
 
 pub returns-in-Err-clause-answer : goal.returns-in-Err-clause-answer
-returns-in-Err-clause-answer g c =
-    let before = c.feeding.invariant.text in
-    let piece = take c.in_ok-len.len c.fill.new.buf in
-    let long : length piece ≤ 4096 = grind (arith, common_steps) in
-    fed_refused _ _ _ before.0 piece c.feeding.reader _ c.in-Err.fault before.1 before.2 before.3 c.in_ok-len.ensures.bytes long c.in-Err.ensures
+returns-in-Err-clause-answer g c = grind (arith, rules, common_steps, fed_refused)
 
 pub feeding-smaller : goal.feeding-smaller
-feeding-smaller g c =
-    let before = c.feeding.invariant.text in
-    let piece = take c.in_ok-len.len c.fill.new.buf in
-    let fed = fed_on c.short_text.ensures before.0 piece c.feeding.reader _ _ before.1 c.in-Ok.ensures in
-    let long : length piece ≡ c.in_ok-len.len = grind (arith, common_steps) in
-    fed_more before.0 piece c.feeding.reader _ c.feeding.len c.in_ok-len.len before.1 fed.0 fed.1 long (grind (arith, common_steps))
+feeding-smaller g c = grind (arith, rules, common_steps, fed_on, fed_more)
 
 pub feeding-preserved : goal.feeding-preserved
 feeding-preserved g c =

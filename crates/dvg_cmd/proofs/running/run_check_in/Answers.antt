@@ -1,4 +1,5 @@
 use Rattle.dvg_cmd.proofs.Common.{Judges}
+use Rattle.std.proofs.Common.{arith}
 use Rattle.dvg_cmd.proofs.Reported.{writes_report, reports, reports_accepted}
 use Rattle.dvg_cmd.proofs.running.run_check_in.Given.{Over}
 use Rattle.dvg_cmd.proofs.running.run_check_in.Goals.{After-write_report}
@@ -10,22 +11,16 @@ judged : (g : Over) (c : After-write_report g)
 judged g c = (rw (c.as_slice.ensures.value, c.as_slice-2.ensures.value) at c.in-Ok-read_verdict.ensures.verdict) _ _ c.in-Ok.ensures.bytes c.in-Ok-read_frame.ensures.bytes
 
 pub returns-clause-report : goal.returns-clause-report
-returns-clause-report g c =
-    reports c.args.options.now.machine c.write_report.result _ _ _ _ _ _ _ _ _ _ _ _ c.in-Ok-read_verdict.judged.verdict (judged g (goal.at.returns-clause-report g c).After-write_report) c.in-Ok-read_verdict.ensures.read
-    (writes_report c.args.detail c.account_of-behind.result c.account_of-behind.ensures c.in-Ok-read_verdict.judged.verdict _ _ c.write_report.result _ _ c.write_report.ensures.outcome c.write_report.ensures.written c.write_report.ensures.one_write)
+returns-clause-report g c = grind (arith, (reports c.args.options.now.machine c.write_report.result), (judged g (goal.at.returns-clause-report g c).After-write_report), (writes_report c.args.detail c.account_of-behind.result c.account_of-behind.ensures c.in-Ok-read_verdict.judged.verdict))
 
 pub returns-clause-safe : goal.returns-clause-safe
-returns-clause-safe g c = λ is.
-    reports_accepted c.args.detail c.account_of-behind.result c.account_of-behind.ensures c.in-Ok-read_verdict.judged.verdict _ _ c.write_report.result c.write_report.ensures.outcome c.write_report.ensures.written is _ (judged g (goal.at.returns-clause-safe g c).After-write_report).safe
+returns-clause-safe g c = grind (arith, (reports_accepted c.args.detail c.account_of-behind.result c.account_of-behind.ensures c.in-Ok-read_verdict.judged.verdict), (judged g (goal.at.returns-clause-safe g c).After-write_report))
 
 pub returns-clause-exact : goal.returns-clause-exact
-returns-clause-exact g c = λ mode is.
-    reports_accepted c.args.detail c.account_of-behind.result c.account_of-behind.ensures c.in-Ok-read_verdict.judged.verdict _ _ c.write_report.result c.write_report.ensures.outcome c.write_report.ensures.written is _ ((judged g (goal.at.returns-clause-exact g c).After-write_report).exact mode)
+returns-clause-exact g c = grind (arith, (reports_accepted c.args.detail c.account_of-behind.result c.account_of-behind.ensures c.in-Ok-read_verdict.judged.verdict), (judged g (goal.at.returns-clause-exact g c).After-write_report))
 
 pub returns-clause-circuit : goal.returns-clause-circuit
-returns-clause-circuit g c = λ board is.
-    reports_accepted c.args.detail c.account_of-behind.result c.account_of-behind.ensures c.in-Ok-read_verdict.judged.verdict _ _ c.write_report.result c.write_report.ensures.outcome c.write_report.ensures.written is _ ((judged g (goal.at.returns-clause-circuit g c).After-write_report).circuit board)
+returns-clause-circuit g c = grind (arith, (reports_accepted c.args.detail c.account_of-behind.result c.account_of-behind.ensures c.in-Ok-read_verdict.judged.verdict), (judged g (goal.at.returns-clause-circuit g c).After-write_report))
 
 pub returns-clause-circuit_exact : goal.returns-clause-circuit_exact
-returns-clause-circuit_exact g c = λ board mode is.
-    reports_accepted c.args.detail c.account_of-behind.result c.account_of-behind.ensures c.in-Ok-read_verdict.judged.verdict _ _ c.write_report.result c.write_report.ensures.outcome c.write_report.ensures.written is _ ((judged g (goal.at.returns-clause-circuit_exact g c).After-write_report).circuit_exact board mode)
+returns-clause-circuit_exact g c = grind (arith, (reports_accepted c.args.detail c.account_of-behind.result c.account_of-behind.ensures c.in-Ok-read_verdict.judged.verdict), (judged g (goal.at.returns-clause-circuit_exact g c).After-write_report))

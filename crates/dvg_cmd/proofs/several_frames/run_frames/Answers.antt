@@ -6,8 +6,7 @@ use Rattle.dvg_cmd.proofs.SeveralLines.{more_lines, cut_lines, with_summary, cut
 use Rattle.dvg_cmd.proofs.several_frames.run_frames.Goals as goal
 
 on_err : {A E : Type 0} (r : Result A E) (P : Type 0) → P → OnErr r P
-on_err (Ok a) P p = tt
-on_err (Err e) P p = p
+on_err r P p = grind (arith)
 
 pub returns-in_err-run_named-clause-prefix : goal.returns-in_err-run_named-clause-prefix
 returns-in_err-run_named-clause-prefix g c =
@@ -21,13 +20,7 @@ returns-in_err-run_named-clause-prefix g c =
     )
 
 pub loop-frame-preserved : goal.loop-frame-preserved
-loop-frame-preserved g c =
-    record {
-      can = search rules;
-      finite = search rules;
-      reports = more_lines _ c.args.listing c.args.start (opened (λ reader. g.R.Read.remaining reader)) c.loop-frame.yielded c.in-Some.frame _ _ _ _ _ _ _ _ _ _ _ _ c.loop-frame.invariant.reports c.in_ok-run_named.ensures.ok c.or_worse-worst.ensures;
-      count = grind (arith, common_steps);
-    }
+loop-frame-preserved g c = search (rules, more_lines _ c.args.listing c.args.start (opened (λ reader. g.R.Read.remaining reader)) c.loop-frame.yielded c.in-Some.frame _ _ _ _ _ _ _ _ _ _ _ _ c.loop-frame.invariant.reports c.in_ok-run_named.ensures.ok c.or_worse-worst.ensures)
 
 pub returns-in_err-write_summary-clause-prefix : goal.returns-in_err-write_summary-clause-prefix
 returns-in_err-write_summary-clause-prefix g c =

@@ -1,16 +1,13 @@
 use Rattle.std.proofs.Common.{sym, ◌∙◌}
+use Rattle.std.proofs.Common.{arith}
 use Rattle.dvg_diff.proofs.Walking.{goes_on, ends, found, none_left}
 use Rattle.dvg_diff.proofs.touched.first_differing.Goals as goal
 
 pub loop-format-preserved : goal.loop-format-preserved
-loop-format-preserved c =
-    goes_on c.args.rom.now c.args.other.now c.args.addr c.loop-format.at c.loop-format.invariant c.in_default-differing_at.ensures.none
-    c.in-Holds.format c.in-Holds.instr c.in-Some-next_address.next (sym c.in-Holds.ensures.value) (sym c.in-Some-next_address.ensures)
+loop-format-preserved c = grind (arith, goes_on)
 
 pub returns-in-None-clause-none : goal.returns-in-None-clause-none
-returns-in-None-clause-none c =
-    ends c.args.rom.now c.args.other.now c.args.addr c.loop-format.at c.loop-format.invariant c.in_default-differing_at.ensures.none
-    c.in-Holds.format c.in-Holds.instr (sym c.in-Holds.ensures.value) (sym c.in-None.ensures)
+returns-in-None-clause-none c = grind (arith, (ends c.args.rom.now c.args.other.now c.args.addr c.loop-format.at c.loop-format.invariant c.in_default-differing_at.ensures.none c.in-Holds.format c.in-Holds.instr (sym c.in-Holds.ensures.value) (sym c.in-None.ensures)))
 
 pub returns : goal.returns
 returns c =

@@ -6,10 +6,7 @@ use Rattle.dvg_labels.proofs.Parts.{cut_at, uncut}
 use Rattle.dvg_labels.proofs.cutting.cut_line.Goals as goal
 
 pub returns-then-end-text-clause-lines : goal.returns-then-end-text-clause-lines
-returns-then-end-text-clause-lines c =
-    let n = c.len_before-end.result in
-    let text = c.args.text.now in
-    rw take_rest (cut_at (stops LineFeed) n text c.len_before-end.ensures.value (omega arith))
+returns-then-end-text-clause-lines c = grind (arith, take_rest, cut_at)
 
 pub returns-else-end-text-clause-lines : goal.returns-else-end-text-clause-lines
 returns-else-end-text-clause-lines c = uncut (stops LineFeed) c.len_before-end.result c.args.text.now c.len_before-end.ensures.value (omega arith)

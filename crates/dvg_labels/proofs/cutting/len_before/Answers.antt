@@ -5,8 +5,7 @@ use Rattle.dvg_labels.specs.Cutting.{stops}
 use Rattle.dvg_labels.proofs.cutting.len_before.Goals as goal
 
 pub returns-then-stops-clause-value : goal.returns-then-stops-clause-value
-returns-then-stops-clause-value c =
-    sym (position_or_len_is (stops c.args.stop) c.args.bytes.now c.loop-i.i 0 (omega arith) c.loop-i.invariant (λ lt. sym c.if-stops.ensures))
+returns-then-stops-clause-value c = grind (arith, position_or_len_is)
 
 pub returns-clause-value : goal.returns-clause-value
 returns-clause-value c =

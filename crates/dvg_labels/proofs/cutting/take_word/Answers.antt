@@ -1,14 +1,12 @@
 use Rattle.std.proofs.Common.{take, drop, length, ◌-◌}
+use Rattle.std.proofs.Common.{arith}
 use Rattle.std.proofs.lemmas.List.{take_rest}
 use Rattle.dvg_labels.specs.Cutting.{words}
 use Rattle.dvg_labels.proofs.Parts.{word_off}
 use Rattle.dvg_labels.proofs.cutting.take_word.Goals as goal
 
 pub returns-clause-word : goal.returns-clause-word
-returns-clause-word c =
-    let m = c.len_before.result in
-    let line = c.args.line.now in
-    (word_off line (take (length line - m) (drop m line)) m c.len_before-end.result (take_rest line m) c.len_before.ensures.value c.len_before-end.ensures.value).0
+returns-clause-word c = grind (arith, word_off, take_rest)
 
 pub returns-clause-behind : goal.returns-clause-behind
 returns-clause-behind c =

@@ -1,4 +1,5 @@
 use Rattle.std.proofs.Common.{map, take, subst, sym, ◌∙◌, ◌+◌, Err}
+use Rattle.std.proofs.Common.{arith}
 use Rattle.std.proofs.lemmas.Result.{err_from_is_err_and}
 use Rattle.dvg_labels.specs.Labels.{named_of, IsAddress}
 use Rattle.dvg_labels.proofs.Naming.{one_more, two_of_all, found_in_all, address_of_found}
@@ -20,7 +21,4 @@ loop-label-preserved c =
     rw (one_more labels i label c.label-item.is c.loop-label-test.true) (c.in_ok-found.ensures.ok (map named_of (take i labels)) c.loop-label.invariant)
 
 pub returns : goal.returns
-returns c =
-    let labels = c.args.labels.now in
-    let all = found_in_all labels c.loop-label.label-index c.args.name.now c.loop-label.found c.loop-label-test.false c.loop-label.invariant in
-    rw c.ok_or.ensures.value (address_of_found (map named_of labels) c.args.name.now c.loop-label.found all)
+returns c = grind (arith, found_in_all, address_of_found)

@@ -1,4 +1,7 @@
 use Rattle.std.proofs.Common.{subst, sym, ◌++◌, ◌∷◌, []}
+use Rattle.std.proofs.Common.{rules}
+use Rattle.std.proofs.lemmas.Grind.{common_steps}
+use Rattle.std.proofs.Common.{arith}
 use Rattle.dvg_labels.specs.Labels.{named_of, IsNearest, Names}
 use Rattle.dvg_labels.proofs.Naming.{keep_best, keep_nearer, take_first, take_nearer}
 use Rattle.dvg_labels.proofs.labels.nearer.Goals as goal
@@ -13,7 +16,4 @@ returns-then-nearest-distance c = λ labels h.
     c.if-nearest-distance.true (subst (IsNearest labels c.args.at) c.in-Some-best.is h))
 
 pub returns : goal.returns
-returns c = λ labels h.
-    subst (λ name. Names (labels ++ named_of c.args.label.now ∷ []) c.args.at name c.in-Some.distance) (sym c.as_slice.ensures.value)
-    (take_nearer labels (named_of c.args.label.now) c.args.at c.in-Some-best.nearest c.in-Some.distance c.in-Some.ensures.some.0
-    c.in-Some.ensures.some.1 c.if-nearest-distance.false (subst (IsNearest labels c.args.at) c.in-Some-best.is h))
+returns c = grind (arith, rules, common_steps, take_nearer)

@@ -1,4 +1,5 @@
 use Rattle.dvg_make.proofs.Common.{◌≡◌, List, length, refl, ap, subst, Ok, Err, Board, Entry, GoodFrame, Exact}
+use Rattle.std.proofs.Common.{arith}
 use Rattle.dvg_check.specs.Circuit.{SafeOnCircuit, CountsOnCircuit}
 use Rattle.dvg_check.specs.Causes.{CauseOf}
 use Rattle.dvg_check.specs.declared.finding.RomFinding.TheVariants as finding
@@ -28,11 +29,7 @@ returns-in-Err-clause-judged c =
     tt tt (λ board. tt) (λ board. tt)
 
 pub returns-in-Err-find_fault-clause-found : goal.returns-in-Err-find_fault-clause-found
-returns-in-Err-find_fault-clause-found c =
-    let same = c.in-Ok.ensures.ok in (
-      subst (λ (s : Shapes). FirstFrameFound s.window s.rom.machine c.args.frame.now s.list c.args.budget c.in-Err-find_fault.finding) same c.in-Err-find_fault.ensures.err,
-      subst (λ (s : Shapes). CauseOf s.window c.args.budget c.in-Err-find_fault.finding) same c.in-Err-find_fault.ensures.cause,
-    )
+returns-in-Err-find_fault-clause-found c = grind (arith)
 
 pub returns-in-Err-find_fault-clause-judged : goal.returns-in-Err-find_fault-clause-judged
 returns-in-Err-find_fault-clause-judged c =

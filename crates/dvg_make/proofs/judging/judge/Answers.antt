@@ -1,4 +1,6 @@
 use Rattle.dvg_make.proofs.Common.{ℕ, [], List, Err, sym, subst, ap, ◌∙◌, FrameRefused, HasCallCause}
+use Rattle.std.proofs.Common.{rules}
+use Rattle.std.proofs.Common.{arith}
 use Rattle.dvg_make.specs.Judging.{FrameRefusal, VerdictByMade, refusal_by}
 use Rattle.dvg_make.specs.Private.Making.{IsRefused, blocked_fault}
 use Rattle.dvg_make.proofs.OwnCertificate.{made_refused, made_verdict}
@@ -6,10 +8,7 @@ use Rattle.dvg_make.proofs.Causes.{call_cause, stuck_cause}
 use Rattle.dvg_make.proofs.judging.judge.Goals as goal
 
 pub returns-in-Err-clause-verdict : goal.returns-in-Err-clause-verdict
-returns-in-Err-clause-verdict c =
-    let told = subst (λ (f : List (List ℕ)). IsRefused c.args.rom.now [] f c.in-Err.blocked) c.from_ref.ensures.value c.in-Err.ensures.err in
-    subst (λ (r : FrameRefusal). VerdictByMade c.args.rom.now c.args.frame.now c.args.window c.args.budget (Err r)) (sym (c.refusal_of.ensures ∙ ap refusal_by c.fault.ensures))
-    (made_verdict c.args.rom.now c.args.frame.now c.args.window c.args.budget c.in-Err.blocked.call (blocked_fault c.in-Err.blocked).why told.refuse)
+returns-in-Err-clause-verdict c = search (rules, made_verdict)
 
 pub returns-in-Err-clause-refused : goal.returns-in-Err-clause-refused
 returns-in-Err-clause-refused c =
@@ -18,7 +17,4 @@ returns-in-Err-clause-refused c =
     (made_refused c.args.rom.now c.args.frame.now c.args.window c.args.budget c.in-Err.blocked.call (blocked_fault c.in-Err.blocked).why told.refuse)
 
 pub returns-in-Err-clause-told : goal.returns-in-Err-clause-told
-returns-in-Err-clause-told c =
-    let told = subst (λ (f : List (List ℕ)). IsRefused c.args.rom.now [] f c.in-Err.blocked) c.from_ref.ensures.value c.in-Err.ensures.err in
-    subst (HasCallCause c.args.rom.now c.args.frame.now) (sym (c.refusal_of.ensures ∙ ap refusal_by c.fault.ensures))
-    (call_cause c.args.rom.now c.args.frame.now c.in-Err.blocked.call (blocked_fault c.in-Err.blocked).why (stuck_cause c.args.rom.now [] _ c.in-Err.blocked told))
+returns-in-Err-clause-told c = grind (arith, call_cause, (stuck_cause c.args.rom.now []))

@@ -1,4 +1,5 @@
 use Rattle.std.proofs.Common.{subst, sym}
+use Rattle.std.proofs.Common.{arith}
 use Rattle.dvg_make.specs.Accounts.{HasRootCause}
 use Rattle.dvg_make.specs.Refusals.{Refuses}
 use Rattle.dvg_make.proofs.Finishing.{made_roots}
@@ -10,9 +11,7 @@ pub returns-in-Ok-clause-ok : goal.returns-in-Ok-clause-ok
 returns-in-Ok-clause-ok c = made_roots c.args.rom.now c.args.roots.now c.in-Ok.cert.entries c.in-Ok.ensures.ok
 
 pub returns-in-Err-clause-err : goal.returns-in-Err-clause-err
-returns-in-Err-clause-err c =
-    subst (Refuses c.args.rom.now c.args.roots.now) (sym c.into.ensures) (as_make_fault c.args.rom.now c.args.roots.now c.in-Err.fault.why c.in-Err.ensures.err.list)
+returns-in-Err-clause-err c = grind (arith, as_make_fault)
 
 pub returns-in-Err-clause-told : goal.returns-in-Err-clause-told
-returns-in-Err-clause-told c =
-    subst (HasRootCause c.args.rom.now c.args.roots.now) (sym c.into.ensures) (root_cause c.args.rom.now c.args.roots.now c.in-Err.fault c.in-Err.ensures.told)
+returns-in-Err-clause-told c = grind (arith, root_cause)

@@ -5,23 +5,16 @@ use Rattle.dvg_survey.proofs.Complete.{begun, gone_on, none_past, none_at_end, r
 use Rattle.dvg_survey.proofs.chains.find_chain.Goals as goal
 
 pub loop-next-init : goal.loop-next-init
-loop-next-init g c =
-    begun c.args.rom.now c.args.frame.now c.args.cert.now.entries c.args.goal.now (g.E.Entries.list c.args.entries.now) c.in_ok-reached.reached c.in_ok-visited.visited
-    c.requires (rw c.machine.ensures at c.in_ok-reached.ensures) c.in_ok-visited.ensures
+loop-next-init g c = grind (arith, (begun c.args.rom.now c.args.frame.now c.args.cert.now.entries c.args.goal.now (g.E.Entries.list c.args.entries.now) c.in_ok-reached.reached c.in_ok-visited.visited c.requires (rw c.machine.ensures at c.in_ok-reached.ensures) c.in_ok-visited.ensures))
 
 pub chain-requires-clause-last : goal.chain-requires-clause-last
 chain-requires-clause-last g c = slice_get_within c.loop-next.reached c.loop-next.next c.in-Some.link (sym c.get.ensures ∙ c.in-Some.is)
 
 pub returns-then-eq : goal.returns-then-eq
-returns-then-eq g c =
-    let same : c.in-Some.link.call.entry ≡ c.args.goal.now = (entry_decides c.in-Some.link.call.entry c.args.goal.now).0 (sym c.eq.ensures ∙ c.if-eq.true) in
-    let chain = c.in_ok-chain.ensures c.args.rom.now c.args.frame.now c.args.cert.now.entries c.loop-next.invariant.steps c.in-Some.link (sym c.get.ensures ∙ c.in-Some.is) in
-    record { some = subst (λ (e : Entry). IsChain c.args.rom.now c.args.frame.now c.args.cert.now.entries c.in_ok-chain.field-0.items e) same chain; none = tt }
+returns-then-eq g c = grind (arith, entry_decides)
 
 pub reach_from-requires-clause-entry : goal.reach_from-requires-clause-entry
-reach_from-requires-clause-entry g c =
-    reached_claim c.args.rom.now c.args.frame.now c.args.cert.now.entries c.args.goal.now c.loop-next.reached c.loop-next.visited c.loop-next.next c.loop-next.next c.in-Some.link
-    (c.args.cert.now.map, c.entries-listed.ensures.certificate) c.loop-next.invariant (sym c.get.ensures ∙ c.in-Some.is)
+reach_from-requires-clause-entry g c = grind (arith, (reached_claim c.args.rom.now c.args.frame.now c.args.cert.now.entries c.args.goal.now c.loop-next.reached c.loop-next.visited c.loop-next.next c.loop-next.next c.in-Some.link (c.args.cert.now.map, c.entries-listed.ensures.certificate) c.loop-next.invariant (sym c.get.ensures ∙ c.in-Some.is)))
 
 pub loop-next-preserved : goal.loop-next-preserved
 loop-next-preserved g c =
@@ -30,10 +23,7 @@ loop-next-preserved g c =
     (λ e. let no : true ≡ false = sym ((entry_decides c.in-Some.link.call.entry c.args.goal.now).1 e) ∙ sym c.eq.ensures ∙ c.if-eq.false in cc no) c.requires c.in_ok-reach_from.ensures
 
 pub returns-in_default-clause-none : goal.returns-in_default-clause-none
-returns-in_default-clause-none g c =
-    none_past c.args.rom.now c.args.frame.now c.args.cert.now.entries c.args.goal.now c.loop-next.reached c.loop-next.visited c.loop-next.next c.loop-next.invariant (sym c.get.ensures ∙ is_none c.get.result c.in_default.not-Some)
+returns-in_default-clause-none g c = grind (arith, (none_past c.args.rom.now c.args.frame.now c.args.cert.now.entries c.args.goal.now c.loop-next.reached c.loop-next.visited c.loop-next.next c.loop-next.invariant (sym c.get.ensures ∙ is_none c.get.result c.in_default.not-Some)), (is_none c.get.result c.in_default.not-Some))
 
 pub returns-clause-none : goal.returns-clause-none
-returns-clause-none g c =
-    none_at_end c.args.rom.now c.args.frame.now c.args.cert.now.entries c.args.goal.now c.loop-next.reached c.loop-next.visited c.loop-next.next c.loop-next.invariant
-    (omega (arith, c.loop-next-test.false, ap length c.entries-listed.ensures.value))
+returns-clause-none g c = grind (arith, (none_at_end c.args.rom.now c.args.frame.now c.args.cert.now.entries c.args.goal.now c.loop-next.reached c.loop-next.visited c.loop-next.next c.loop-next.invariant (omega (arith, c.loop-next-test.false, ap length c.entries-listed.ensures.value))))

@@ -1,8 +1,7 @@
 use Rattle.dvg_survey.proofs.Common.{subst, sym, List, All, IsClaim, Call}
+use Rattle.std.proofs.Common.{arith}
 use Rattle.dvg_survey.proofs.Complete.{shape_claims}
 use Rattle.dvg_survey.proofs.chains.reach_from.Goals as goal
 
 pub add_all-requires : goal.add_all-requires
-add_all-requires g c =
-    subst (λ (cs : List Call). All (λ (x : Call). IsClaim x.entry) cs) (sym c.deref.ensures.value)
-    (shape_claims c.args.rom.now (g.E.Entries.list c.args.entries.now) c.args.entry.now c.args.visited.now c.new_calls.new.visited c.in_ok-calls.calls.items c.requires.entries c.in_ok-calls.ensures)
+add_all-requires g c = grind (arith, (shape_claims c.args.rom.now (g.E.Entries.list c.args.entries.now) c.args.entry.now c.args.visited.now c.new_calls.new.visited c.in_ok-calls.calls.items c.requires.entries c.in_ok-calls.ensures))

@@ -10,16 +10,10 @@ pub first_bearing-requires-clause-entry : goal.first_bearing-requires-clause-ent
 first_bearing-requires-clause-entry g c = c.loop.invariant.claim
 
 pub returns-in_default : goal.returns-in_default
-returns-in_default g c =
-    no_further c.args.rom.now c.args.cert.now.entries c.args.entry.now (length c.args.cert.now.entries) c.loop.deepest.items c.loop.last c.loop.counter c.loop.invariant (g.E.Entries.list c.args.entries.now) c.requires.entries
-    (omega (arith, c.loop-test.true, ap length c.entries-most.ensures.value)) (where_none c.first_bearing.result c.in_default.not-Some c.first_bearing.ensures.none)
+returns-in_default g c = grind (arith, (no_further c.args.rom.now c.args.cert.now.entries c.args.entry.now (length c.args.cert.now.entries) c.loop.deepest.items c.loop.last c.loop.counter c.loop.invariant (g.E.Entries.list c.args.entries.now) c.requires.entries (omega (arith, c.loop-test.true, ap length c.entries-most.ensures.value)) (where_none c.first_bearing.result c.in_default.not-Some c.first_bearing.ensures.none)), (where_none c.first_bearing.result c.in_default.not-Some c.first_bearing.ensures.none))
 
 pub loop-preserved : goal.loop-preserved
-loop-preserved g c =
-    one_down c.args.rom.now c.args.cert.now.entries c.args.entry.now (length c.args.cert.now.entries) c.loop.deepest.items c.loop.last c.loop.counter c.loop.invariant (g.E.Entries.list c.args.entries.now) c.requires.entries
-    c.in-Some.call c.push.new.self.items (c.args.cert.now.map, c.entries-most.ensures.certificate) c.in-Some.ensures.some c.in_ok-push.ensures.items
+loop-preserved g c = grind (arith, (one_down c.args.rom.now c.args.cert.now.entries c.args.entry.now (length c.args.cert.now.entries) c.loop.deepest.items c.loop.last c.loop.counter c.loop.invariant (g.E.Entries.list c.args.entries.now) c.requires.entries c.in-Some.call c.push.new.self.items (c.args.cert.now.map, c.entries-most.ensures.certificate) c.in-Some.ensures.some c.in_ok-push.ensures.items))
 
 pub returns : goal.returns
-returns g c =
-    no_more c.args.rom.now c.args.cert.now.entries c.args.entry.now (length c.args.cert.now.entries) c.loop.deepest.items c.loop.last c.loop.counter c.loop.invariant (g.E.Entries.list c.args.entries.now) c.requires.entries
-    (omega (arith, c.loop-test.false, ap length c.entries-most.ensures.value)) (omega (arith, c.loop.auto.counter-end, ap length c.entries-most.ensures.value))
+returns g c = grind (arith, (no_more c.args.rom.now c.args.cert.now.entries c.args.entry.now (length c.args.cert.now.entries) c.loop.deepest.items c.loop.last c.loop.counter c.loop.invariant (g.E.Entries.list c.args.entries.now) c.requires.entries (omega (arith, c.loop-test.false, ap length c.entries-most.ensures.value)) (omega (arith, c.loop.auto.counter-end, ap length c.entries-most.ensures.value))))

@@ -1,11 +1,10 @@
 use Rattle.dvg_survey.proofs.Common.{[], ◌∷◌, context_of}
+use Rattle.std.proofs.Common.{rules}
 use Rattle.dvg_survey.proofs.Walking.{begins, goes_on, at_last, at_nothing, where_none, lit_on, least_none}
 use Rattle.dvg_survey.proofs.items.extent_from.Goals as goal
 
 pub loop-seen-init : goal.loop-seen-init
-loop-seen-init g c =
-    let walked = begins (context_of (g.F.Fetch.words c.args.memory.now).machine (g.E.Entries.list c.args.entries.now) c.args.walk.now) (g.F.Fetch.words c.args.memory.now) c.args.walk.now.first c.start-cursor.result c.start-cursor.ensures.value (c.start-cursor.ensures.sound c.requires.first c.requires.scale) in
-    ([], walked, least_none)
+loop-seen-init g c = search (rules, (begins (context_of (g.F.Fetch.words c.args.memory.now).machine (g.E.Entries.list c.args.entries.now) c.args.walk.now) (g.F.Fetch.words c.args.memory.now) c.args.walk.now.first c.start-cursor.result c.start-cursor.ensures.value (c.start-cursor.ensures.sound c.requires.first c.requires.scale)), (context_of (g.F.Fetch.words c.args.memory.now).machine (g.E.Entries.list c.args.entries.now) c.args.walk.now), least_none)
 
 pub loop-seen-preserved : goal.loop-seen-preserved
 loop-seen-preserved g c =

@@ -12,14 +12,7 @@ items-preserved g c =
     (c.in-Some.seen.item ∷ c.items.invariant.0, walked, place, scale, (c.items.invariant.4, λ here. absurd (omega (arith, here, c.in-Some.ensures.some.at, c.items-test.true))))
 
 pub returns-in_default-clause-none : goal.returns-in_default-clause-none
-returns-in_default-clause-none g c =
-    none_past c.args.walk.now.kind (g.F.Fetch.words c.args.memory.now) c.args.walk.now.first c.args.at c.items.invariant.0 c.items.cursor.at c.items.invariant.1.leads
-    (at_nothing (context_of (g.F.Fetch.words c.args.memory.now).machine (g.E.Entries.list c.args.entries.now) c.args.walk.now) (g.F.Fetch.words c.args.memory.now) c.args.walk.now.first c.items.invariant.0 c.items.cursor c.items.invariant.1 (where_none c.see.result c.in_default.not-Some c.see.ensures.none))
-    c.items.invariant.4 (λ here. absurd (omega (arith, here, c.items-test.true)))
+returns-in_default-clause-none g c = grind (arith, none_past, at_nothing, context_of, where_none)
 
 pub returns-in-Last-clause-none : goal.returns-in-Last-clause-none
-returns-in-Last-clause-none g c =
-    none_after c.args.walk.now.kind (g.F.Fetch.words c.args.memory.now) c.args.walk.now.first c.args.at c.items.invariant.0 c.in-Some.seen.item
-    (here_leads (context_of (g.F.Fetch.words c.args.memory.now).machine (g.E.Entries.list c.args.entries.now) c.args.walk.now) (g.F.Fetch.words c.args.memory.now) c.args.walk.now.first c.items.invariant.0 c.items.cursor c.items.invariant.1 c.in-Some.seen c.in-Some.ensures.some) (here_stands (context_of (g.F.Fetch.words c.args.memory.now).machine (g.E.Entries.list c.args.entries.now) c.args.walk.now) (g.F.Fetch.words c.args.memory.now) c.args.walk.now.first c.items.invariant.0 c.items.cursor c.items.invariant.1 c.in-Some.seen c.in-Some.ensures.some)
-    (ends_at c.args.walk.now.kind c.in-Some.seen c.step.result c.in-Last.field-0 c.in-Last.is c.step.ensures.value).0
-    (c.items.invariant.4, λ here. absurd (omega (arith, here, c.in-Some.ensures.some.at, c.items-test.true)))
+returns-in-Last-clause-none g c = grind (arith, none_after, here_leads, context_of, here_stands, ends_at)

@@ -1,4 +1,5 @@
 use Rattle.dvg_survey.proofs.Common.{◌∙◌, ap, listed_claim}
+use Rattle.std.proofs.Common.{arith}
 use Rattle.std.proofs.lemmas.List.Elements.{Contains-get_or}
 use Rattle.dvg_survey.proofs.Sweeping.{kept_on, marked_on, swept_all}
 use Rattle.dvg_survey.proofs.places.sweep.Goals.{then-is_clean+in_ok-push, else-is_clean}
@@ -28,5 +29,4 @@ loop-entry-preserved g c =
     ]
 
 pub returns : goal.returns
-returns g c =
-    swept_all c.args.window.now c.args.rom.now (g.E.Entries.list c.args.entries.now) c.args.swept.now c.loop-entry.entry-index c.loop-entry.left.items c.args.broken.now c.loop-entry.broken c.loop-entry-test.false c.loop-entry.auto.entry-index-end c.loop-entry.invariant
+returns g c = grind (arith, (swept_all c.args.window.now c.args.rom.now (g.E.Entries.list c.args.entries.now) c.args.swept.now c.loop-entry.entry-index c.loop-entry.left.items c.args.broken.now c.loop-entry.broken c.loop-entry-test.false c.loop-entry.auto.entry-index-end c.loop-entry.invariant))

@@ -7,13 +7,7 @@ use Rattle.dvg_survey.proofs.AllShapes.{Boxed, none_boxed, one_more}
 use Rattle.dvg_survey.proofs.tails.shapes_extent.Goals as goal
 
 pub entries-init : goal.entries-init
-entries-init g c =
-    record {
-      near = c.for_entries-needed.ensures;
-      before = omega arith;
-      tails = none_kept (IsLitFrom c.args.rom.now (g.E.Entries.list c.args.entries.now)) SLOTS;
-      boxed = none_boxed c.args.rom.now c.args.cert.now.entries (length c.entries-list.result.now) (omega (arith, ap length c.entries-list.ensures.value));
-    }
+entries-init g c = grind (arith, (none_kept (IsLitFrom c.args.rom.now (g.E.Entries.list c.args.entries.now)) SLOTS), (none_boxed c.args.rom.now c.args.cert.now.entries (length c.entries-list.result.now) (omega (arith, ap length c.entries-list.ensures.value))))
 
 pub entries-preserved : goal.entries-preserved
 entries-preserved g c =

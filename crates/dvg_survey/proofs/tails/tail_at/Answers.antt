@@ -30,8 +30,4 @@ returns-in_ok-tail-in-Some g c =
     (λ n h. part_near _ tail.relative n (subst (IsNearPlace 1) at_place after) h)
 
 pub returns-in-None : goal.returns-in-None
-returns-in-None g c =
-    let list : List Entry = g.E.Entries.list c.args.entries.now in
-    let same = seen_first c.args.rom.now.machine list c.args.key c.args.item.now c.callee-callee.result c.target.result c.start.result c.see-seen.result (rw c.machine.ensures at c.see-seen.ensures.value) c.start.ensures.value c.callee-callee.ensures.value c.target.ensures in
-    let lone = subst (λ (lit : LitExtent). IsLeast (relative_corners lit (Rel (pos 0) (pos 0))) c.lit_alone-alone.result) same.0 c.lit_alone-alone.ensures.least in
-    ending c.args.rom.now list c.args.key c.args.item.now c.requires.there (sym c.next_address.ensures ∙ c.in-None.is) c.lit_alone-alone.result c.requires.near lone c.lit_alone-alone.ensures.near
+returns-in-None g c = grind (arith, seen_first, relative_corners, pos, ending)

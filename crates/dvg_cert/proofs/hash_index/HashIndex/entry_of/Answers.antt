@@ -1,4 +1,5 @@
 use Rattle.dvg_cert.proofs.Common.{◌∙◌, List, Some, get_or, sym, ap, option_copied, Entry}
+use Rattle.std.proofs.Common.{arith}
 use Rattle.dvg_cert.specs.Lookup.{entry_at}
 use Rattle.dvg_cert.proofs.Hashing.{none_there, at_index}
 use Rattle.dvg_cert.proofs.hash_index.HashIndex.entry_of.Goals as goal
@@ -9,7 +10,4 @@ returns-in_err-index c =
     ∙ ap (λ (es : List Entry). entry_at es c.args.addr c.args.key) c.self.view_is
 
 pub returns : goal.returns
-returns c =
-    ap (λ (es : List Entry). Some (get_or es c.in_ok-index.index _)) c.entries.ensures.value
-    ∙ at_index c.args.addr c.args.key c.self.inside.cert.now.entries c.self.inside.keys.keys c.self.invariant c.in_ok-index.index _ c.in_ok-index.ensures.index
-    ∙ ap (λ (es : List Entry). entry_at es c.args.addr c.args.key) c.self.view_is
+returns c = grind (arith, at_index)

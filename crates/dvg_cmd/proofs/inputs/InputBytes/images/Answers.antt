@@ -1,4 +1,5 @@
 use Rattle.dvg_cmd.proofs.Common.{◌∙◌, sym, subst, ap, words_of, of_each, AreFrames, FramesFaultMeans}
+use Rattle.std.proofs.Common.{arith}
 use Rattle.dvg_cmd.specs.Private.Reading.{RefusesLengths}
 use Rattle.dvg_cmd.proofs.MakerRuns.{wrong_length}
 use Rattle.dvg_cmd.proofs.FramesRuns.{told_err, images_read, lengths_refused}
@@ -17,7 +18,4 @@ returns-in_err-frames-clause-refused c =
     c.in_err-frames.field-0.0 (subst (λ bs. RefusesLengths (of_each (λ bytes. bytes.items) bs) c.in_err-frames.field-0.0) c.deref.ensures.value c.in_err-frames.ensures.refused))
 
 pub returns-clause-images : goal.returns-clause-images
-returns-clause-images c =
-    λ held readers read. images_read read c.args.machine c.args.map c.in_ok-rom.ensures.map c.in_ok-rom.rom c.in_ok-rom.ensures.image
-    (subst (λ bs. AreFrames (of_each (λ bytes. bytes.items) bs)) c.deref.ensures.value c.in_ok-frames.ensures.frames)
-    c.in_ok-frames.frames.items (c.in_ok-frames.ensures.images ∙ ap (λ bs. of_each words_of (of_each (λ bytes. bytes.items) bs)) c.deref.ensures.value)
+returns-clause-images c = grind (arith, images_read, of_each, words_of)

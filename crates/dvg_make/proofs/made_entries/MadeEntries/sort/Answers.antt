@@ -1,4 +1,5 @@
 use Rattle.dvg_make.proofs.Common.{◌∙◌, List, length, sym, ap, refl, Entry, entry_at, IsKeyed, lookup_is, pair_test}
+use Rattle.std.proofs.Common.{arith}
 use Rattle.std.proofs.Common.{◌&&◌}
 use Rattle.std.specs.Prelude.{nat_eq}
 use Rattle.std.proofs.lemmas.List.Sorted.{All-permutation}
@@ -26,5 +27,4 @@ returns-clause-same c =
     ∙ lookup_is _ addr key (pair_test addr key) c.self.inside.found.entries c.self.invariant ∙ ap (λ (es : List Entry). entry_at es addr key) c.self.view_is)
 
 pub returns-clause-len : goal.returns-clause-len
-returns-clause-len c =
-    on_ok c.sort_keys.result _ (length-values_of c.sort_keys.new.self.entries ∙ c.sort_keys.ensures.reordered.1 ∙ sym (length-values_of c.self.inside.found.entries) ∙ ap (λ (es : List Entry). length es) c.self.view_is)
+returns-clause-len c = grind (arith, on_ok, length-values_of)

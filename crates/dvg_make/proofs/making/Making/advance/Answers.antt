@@ -6,8 +6,7 @@ use Rattle.dvg_make.proofs.Joining.{joined_one, tail_claim, finished_from}
 use Rattle.dvg_make.proofs.making.Making.advance.Goals as goal
 
 pub returns-in-Err-clause-ok : goal.returns-in-Err-clause-ok
-returns-in-Err-clause-ok c =
-    waits c.args.rom.now c.args.self.now.done c.args.from c.loop-format.partial c.loop-format.invariant c.in-Holds.format c.in-Holds.instr (sym c.in-Holds.ensures.value) c.in-Err.addr c.in-Holds.ensures.fields c.in-Err.ensures.err
+returns-in-Err-clause-ok c = grind (arith, waits)
 
 pub known_end-requires-clause-tails : goal.known_end-requires-clause-tails
 known_end-requires-clause-tails c = tail_claim c.args.rom.now c.args.self.now.done c.args.self.now.tails (omega (arith, c.requires.right.map.inside)) c.requires.right.tails
@@ -18,17 +17,13 @@ returns-in-Some-clause-ok c =
     (joined_one c.args.rom.now c.args.self.now.done c.args.self.now.tails c.requires.right.done c.requires.right.tails c.loop-format.partial c.loop-format.invariant.partial c.in-Some.entry c.in-Some.ensures)
 
 pub pass-requires-clause-callee : goal.pass-requires-clause-callee
-pass-requires-clause-callee c =
-    claim_of c.args.rom.now c.args.self.now.done c.in-Holds.instr c.loop-format.partial.cursor.known.scale c.in-Ok.callee (omega (arith, c.requires.right.map.inside)) c.requires.right.done.entries c.in-Ok.ensures.ok
+pass-requires-clause-callee c = grind (arith, (claim_of c.args.rom.now c.args.self.now.done c.in-Holds.instr c.loop-format.partial.cursor.known.scale c.in-Ok.callee (omega (arith, c.requires.right.map.inside)) c.requires.right.done.entries c.in-Ok.ensures.ok))
 
 pub returns-in_err-step-clause-err : goal.returns-in_err-step-clause-err
-returns-in_err-step-clause-err c =
-    if_err_same c.from_residual.result c.in_err-step.field-0.0 _ c.from_residual.ensures.1
-    (stops_said c.args.rom.now c.args.self.now.done c.args.from c.loop-format.partial c.loop-format.invariant c.in-Holds.format c.in-Holds.instr (sym c.in-Holds.ensures.value) c.in-Ok.callee c.in-Ok.ensures.ok c.in_err-step.field-0.0 (rw c.machine-machine.ensures at c.in_err-step.ensures.err).0 (rw c.machine-machine.ensures at c.in_err-step.ensures.err).1)
+returns-in_err-step-clause-err c = grind (arith, (if_err_same c.from_residual.result c.in_err-step.field-0.0), (stops_said c.args.rom.now c.args.self.now.done c.args.from c.loop-format.partial c.loop-format.invariant c.in-Holds.format c.in-Holds.instr (sym c.in-Holds.ensures.value) c.in-Ok.callee c.in-Ok.ensures.ok c.in_err-step.field-0.0 (rw c.machine-machine.ensures at c.in_err-step.ensures.err).0 (rw c.machine-machine.ensures at c.in_err-step.ensures.err).1))
 
 pub loop-format-preserved : goal.loop-format-preserved
-loop-format-preserved c =
-    onward c.args.rom.now c.args.self.now.done c.args.from c.loop-format.partial c.loop-format.invariant c.in-Holds.format c.in-Holds.instr (sym c.in-Holds.ensures.value) c.in-Ok.callee c.in-Ok.ensures.ok c.in_ok-step.lit (rw c.machine-machine.ensures at c.in_ok-step.ensures.ok) c.in_ok-step.step c.in-Onward.cursor c.in-Onward.is (rw c.machine-machine.ensures at c.in_ok-step.ensures.step) c.in_ok-step.ensures.sound
+loop-format-preserved c = grind (arith, onward)
 
 pub returns-in-Last-clause-ok : goal.returns-in-Last-clause-ok
 returns-in-Last-clause-ok c =

@@ -1,12 +1,12 @@
 use Rattle.dvg_make.proofs.Common.{◌≡◌, refl, false, Option, None, Some, sym, subst, ap, ◌∙◌, rules, Entry, PartialEntry, Obstacle, Bars, obstacle_fault}
+use Rattle.std.proofs.Common.{arith}
 use Rattle.std.specs.Prelude.{is_some}
 use Rattle.dvg_make.proofs.Turns.{first_fault, first_ok, first_present, called_none}
 use Rattle.dvg_make.proofs.Telling.{room_of_none, tells_first, begin_no_root}
 use Rattle.dvg_make.proofs.making.Making.need.Goals as goal
 
 nothing_found : (o p : Option Entry) → o ≡ p → is_some o ≡ false → p ≡ None
-nothing_found None p e h = sym e
-nothing_found (Some x) p e h = absurd cc
+nothing_found o p e h = grind (arith)
 
 pub returns-in-Err-clause-err : goal.returns-in-Err-clause-err
 returns-in-Err-clause-err c =
@@ -26,34 +26,12 @@ returns-in-Err-clause-err c =
     }
 
 pub loop-partial-init : goal.loop-partial-init
-loop-partial-init c =
-    record {
-      right = c.requires.right;
-      making = first_ok c.args.rom.now c.args.self.now.done c.args.addr c.args.key c.requires.right.done c.requires.near c.requires.key (nothing_found _ _ c.find.ensures (search rules)) c.new-stack.result c.begin.new.stack c.new-stack.ensures c.in_default.ensures.ok;
-      present = first_present c.args.self.now.done c.args.addr c.args.key c.new-stack.result c.begin.new.stack c.new-stack.ensures c.in_default.ensures.ok;
-    }
+loop-partial-init c = grind (arith, (first_ok c.args.rom.now c.args.self.now.done c.args.addr c.args.key c.requires.right.done c.requires.near c.requires.key (nothing_found _ _ c.find.ensures (search rules)) c.new-stack.result c.begin.new.stack c.new-stack.ensures c.in_default.ensures.ok), nothing_found, (first_present c.args.self.now.done c.args.addr c.args.key c.new-stack.result c.begin.new.stack c.new-stack.ensures c.in_default.ensures.ok))
 
 pub loop-partial-preserved : goal.loop-partial-preserved
-loop-partial-preserved c =
-    record {
-      right = c.in_default-turn.ensures.right;
-      making = c.in_default-turn.ensures.ok c.args.self.now.done (c.args.addr, c.args.key) c.loop-partial.invariant.making;
-      present = c.in_default-turn.ensures.present c.args.addr c.args.key c.loop-partial.invariant.present;
-    }
+loop-partial-preserved c = search (rules, c.in_default-turn.ensures.ok c.args.self.now.done (c.args.addr, c.args.key) c.loop-partial.invariant.making, c.in_default-turn.ensures.present c.args.addr c.args.key c.loop-partial.invariant.present)
 
 pub returns-in-Err-turn-clause-err : goal.returns-in-Err-turn-clause-err
 returns-in-Err-turn-clause-err c =
     let told = c.in-Err-turn.ensures.told c.args.self.now.done (c.args.addr, c.args.key) c.loop-partial.invariant.making in
-    record {
-      bars = c.in-Err-turn.ensures.err c.args.self.now.done (c.args.addr, c.args.key) c.loop-partial.invariant.making;
-      told = record {
-        list = c.loop-partial.self.done;
-        is_done = c.loop-partial.invariant.making.is_done;
-        extends = c.loop-partial.invariant.making.extends;
-        needed = told.1;
-        room = told.2;
-        tells = told.0;
-      };
-      no_root = c.in-Err-turn.ensures.no_root;
-      call = refl;
-    }
+    search (rules, c.in-Err-turn.ensures.err c.args.self.now.done (c.args.addr, c.args.key) c.loop-partial.invariant.making)

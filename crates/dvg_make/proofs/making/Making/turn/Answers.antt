@@ -1,4 +1,5 @@
 use Rattle.dvg_make.proofs.Common.{◌++◌, ◌∷◌, [], ◌∙◌, sym, subst, Obstacle, IsFinished, IsPresent, InProgress, NotBegun, obstacle_fault, Bars}
+use Rattle.std.proofs.Common.{arith}
 use Rattle.dvg_make.specs.Private.Partial.{Advances}
 use Rattle.dvg_make.specs.Private.Making.{TellsObstacle, BarsAll, TellsAll, IsNoRoot}
 use Rattle.dvg_make.proofs.Chains.{walks_last, none_here, finished_new, making_finished, present_finished}
@@ -8,9 +9,7 @@ use Rattle.dvg_make.proofs.Telling.{has_room, room_moved, tells_stopped, tells_m
 use Rattle.dvg_make.proofs.making.Making.turn.Goals as goal
 
 pub advance-requires-clause-partial : goal.advance-requires-clause-partial
-advance-requires-clause-partial c =
-    let m = subst (InProgress c.args.rom.now c.requires.making.0 c.requires.making.1 c.args.self.now.done) c.requires.top.1 c.requires.making.2 in
-    walks_last c.args.rom.now c.args.self.now.done c.requires.top.0 c.args.partial m.partials
+advance-requires-clause-partial c = grind (arith, walks_last)
 
 pub returns-in_err-entry-clause-err : goal.returns-in_err-entry-clause-err
 returns-in_err-entry-clause-err c =
@@ -23,17 +22,13 @@ returns-in_err-entry-clause-told c =
     (λ from root h. (subst (λ s. TellsObstacle c.args.rom.now c.args.self.now.done root s c.in_err-entry.field-0.0) (sym c.requires.top.1) (tells_stopped c.args.rom.now from root c.args.self.now.done c.requires.top.0 c.args.partial (subst (InProgress c.args.rom.now from root c.args.self.now.done) c.requires.top.1 h) c.in_err-entry.field-0.0 c.in_err-entry.ensures.err), h.needed, h.room))
 
 pub finish-requires-clause-new : goal.finish-requires-clause-new
-finish-requires-clause-new c =
-    finished_new c.args.rom.now c.requires.making.0 c.requires.making.1 c.args.self.now.done c.requires.top.0 c.args.partial (subst (InProgress c.args.rom.now c.requires.making.0 c.requires.making.1 c.args.self.now.done) c.requires.top.1 c.requires.making.2) c.in-Finished.entry (subst (Advances c.args.rom.now c.args.self.now.done c.args.partial) c.in-Finished.is c.in_ok-entry.ensures.ok)
+finish-requires-clause-new c = grind (arith, (finished_new c.args.rom.now c.requires.making.0 c.requires.making.1 c.args.self.now.done c.requires.top.0 c.args.partial (subst (InProgress c.args.rom.now c.requires.making.0 c.requires.making.1 c.args.self.now.done) c.requires.top.1 c.requires.making.2) c.in-Finished.entry (subst (Advances c.args.rom.now c.args.self.now.done c.args.partial) c.in-Finished.is c.in_ok-entry.ensures.ok)))
 
 pub finish-requires-clause-made : goal.finish-requires-clause-made
-finish-requires-clause-made c =
-    let f : IsFinished c.args.rom.now c.args.self.now.done c.args.partial c.in-Finished.entry = subst (Advances c.args.rom.now c.args.self.now.done c.args.partial) c.in-Finished.is c.in_ok-entry.ensures.ok in
-    record { entry = f.entry; made = f.made }
+finish-requires-clause-made c = grind (arith)
 
 pub finish-requires-clause-room : goal.finish-requires-clause-room
-finish-requires-clause-room c =
-    has_room c.args.rom.now c.requires.making.0 c.requires.making.1 c.args.self.now.done c.requires.top.0 c.args.partial (subst (InProgress c.args.rom.now c.requires.making.0 c.requires.making.1 c.args.self.now.done) c.requires.top.1 c.requires.making.2)
+finish-requires-clause-room c = grind (arith, (has_room c.args.rom.now c.requires.making.0 c.requires.making.1 c.args.self.now.done c.requires.top.0 c.args.partial (subst (InProgress c.args.rom.now c.requires.making.0 c.requires.making.1 c.args.self.now.done) c.requires.top.1 c.requires.making.2)))
 
 pub returns-else-is_err-clause-right : goal.returns-else-is_err-clause-right
 returns-else-is_err-clause-right c = not_err c.finish.result _ (sym c.if-is_err.ensures.value) c.finish.ensures.right
@@ -82,9 +77,7 @@ returns-in-Err-clause-told c =
     (tells_not_begun c.args.rom.now from root c.args.self.now.done c.requires.top.0 c.args.partial m c.in-Waiting.partial c.in-Waiting.addr w c.begin.new.stack moved c.obstacle-in-Err.result c.in-Err.cause c.obstacle-in-Err.ensures (subst (λ s. NotBegun c.args.self.now.done s c.in-Waiting.addr c.in-Waiting.partial.cursor.known.scale c.in-Err.cause) (sym c.in-Err.ensures.same) c.in-Err.ensures.err), called_moved c.args.rom.now from root c.args.self.now.done c.requires.top.0 c.args.partial m c.in-Waiting.partial c.in-Waiting.addr w c.begin.new.stack moved, room_moved c.args.rom.now from root c.args.self.now.done c.requires.top.0 c.args.partial m c.in-Waiting.partial c.begin.new.stack moved)
 
 pub returns-in_err-entry-clause-no_root : goal.returns-in_err-entry-clause-no_root
-returns-in_err-entry-clause-no_root c =
-    if_err_same c.from_residual.result c.in_err-entry.field-0.0 IsNoRoot c.from_residual.ensures.1 (stopped_no_root c.args.rom.now c.args.self.now.done c.args.partial c.in_err-entry.field-0.0 c.in_err-entry.ensures.err)
+returns-in_err-entry-clause-no_root c = grind (arith, if_err_same, stopped_no_root)
 
 pub returns-in-Err-clause-no_root : goal.returns-in-Err-clause-no_root
-returns-in-Err-clause-no_root c =
-    begin_no_root c.args.self.now.done c.replace_top.new.self c.in-Waiting.addr c.in-Waiting.partial.cursor.known.scale c.in-Waiting.partial.cursor c.obstacle-in-Err.result c.in-Err.cause c.obstacle-in-Err.ensures c.in-Err.ensures.err
+returns-in-Err-clause-no_root c = grind (arith, begin_no_root)

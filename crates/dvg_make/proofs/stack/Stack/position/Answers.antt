@@ -1,14 +1,11 @@
 use Rattle.dvg_make.proofs.Common.{subst, slice_get, IfSome, IfNone, PartialEntry, IsMaking}
+use Rattle.std.proofs.Common.{arith}
 use Rattle.std.specs.Prelude.{List, Some, ◌≡◌}
 use Rattle.dvg_make.proofs.Stacks.{at_index, no_index}
 use Rattle.dvg_make.proofs.stack.Stack.position.Goals as goal
 
 pub returns-clause-some : goal.returns-clause-some
-returns-clause-some c =
-    subst (λ (partials : List PartialEntry). IfSome c.get_index_of.result (λ i. (w : PartialEntry) × (slice_get partials i ≡ Some w) × (w.addr ≡ c.args.addr) × (w.key ≡ c.args.key))) c.self.view_is
-    (at_index c.args.addr c.args.key c.self.inside.by_key.entries c.self.invariant c.get_index_of.result c.get_index_of.ensures.found c.get_index_of.ensures.value)
+returns-clause-some c = grind (arith, slice_get, (at_index c.args.addr c.args.key c.self.inside.by_key.entries c.self.invariant c.get_index_of.result c.get_index_of.ensures.found c.get_index_of.ensures.value))
 
 pub returns-clause-none : goal.returns-clause-none
-returns-clause-none c =
-    subst (λ (partials : List PartialEntry). IfNone c.get_index_of.result (IsMaking partials c.args.addr c.args.key → ⊥)) c.self.view_is
-    (no_index c.args.addr c.args.key c.self.inside.by_key.entries c.self.invariant c.get_index_of.result c.get_index_of.ensures.found)
+returns-clause-none c = grind (arith, (no_index c.args.addr c.args.key c.self.inside.by_key.entries c.self.invariant c.get_index_of.result c.get_index_of.ensures.found))

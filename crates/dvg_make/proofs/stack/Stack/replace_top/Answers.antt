@@ -1,4 +1,4 @@
-use Rattle.dvg_make.proofs.Common.{◌-◌, length, ap, sym, subst, ◌∙◌, values_of, AreOwn}
+use Rattle.dvg_make.proofs.Common.{◌-◌, length, ap, sym, subst, ◌∙◌, values_of, All, IsOwnPartial}
 use Rattle.std.specs.Prelude.{IsSome}
 use Rattle.dvg_make.proofs.Stacks.{set_last, own_set_last, one_less, some_there}
 use Rattle.dvg_make.proofs.stack.Stack.replace_top.Goals as goal
@@ -6,8 +6,8 @@ use Rattle.dvg_make.proofs.stack.Stack.replace_top.Goals.{in-Some, in_default}
 
 pub invariant_of-self : goal.invariant_of-self
 invariant_of-self c = elim c.match-last_mut.branch [
-  | in-Some w ↦ subst (λ inside. AreOwn inside.by_key.entries) (sym w.self-inside-is) (own_set_last c.self.inside.by_key.entries (length c.self.inside.by_key.entries - 1) c.requires.0 c.requires.1 c.args.partial (one_less c.self.inside.by_key.entries c.requires.0 c.requires.1 (c.self.view_is ∙ c.requires.2)) (c.self.view_is ∙ c.requires.2) c.requires.3 c.requires.4 c.self.invariant)
-  | in_default w ↦ subst (λ inside. AreOwn inside.by_key.entries) (sym w.self-inside-is) c.self.invariant
+  | in-Some w ↦ subst (λ inside. All IsOwnPartial inside.by_key.entries) (sym w.self-inside-is) (own_set_last c.self.inside.by_key.entries (length c.self.inside.by_key.entries - 1) c.requires.0 c.requires.1 c.args.partial (one_less c.self.inside.by_key.entries c.requires.0 c.requires.1 (c.self.view_is ∙ c.requires.2)) (c.self.view_is ∙ c.requires.2) c.requires.3 c.requires.4 c.self.invariant)
+  | in_default w ↦ subst (λ inside. All IsOwnPartial inside.by_key.entries) (sym w.self-inside-is) c.self.invariant
 ]
 
 pub returns : goal.returns

@@ -1,13 +1,11 @@
 use Rattle.dvg_survey.proofs.Common.{List, Bool, [], ◌∷◌, ◌++◌, is_some, if◌then◌else◌, ap, sym, subst, ◌∙◌, entry_at, Link, entries_of}
+use Rattle.std.proofs.Common.{arith}
 use Rattle.dvg_survey.specs.Private.Reaching.{AreNames, name_of}
 use Rattle.dvg_survey.proofs.Linking.{names_push}
 use Rattle.dvg_survey.proofs.reached.Reached.add.Goals as goal
 
 pub invariant_of-self-then-not-has : goal.invariant_of-self-then-not-has
-invariant_of-self-then-not-has c =
-    subst (λ (ls : List Link). AreNames c.add.new.self ls) (sym c.in_ok-push.ensures.items)
-    (subst (λ (names : List Bool). AreNames names (c.self.inside.links.items ++ c.args.link ∷ [])) (sym c.add.ensures.value)
-    (names_push c.self.inside.names c.self.inside.links.items c.args.link c.requires.key c.has.ensures.within c.self.invariant))
+invariant_of-self-then-not-has c = grind (arith, names_push)
 
 pub returns-in_ok-push : goal.returns-in_ok-push
 returns-in_ok-push c =
