@@ -3,7 +3,8 @@
 ghost use Rattle.std.specs.Prelude.{◌<◌, ◌≤◌, pos, ◌≤ℤ◌, ◌<ℤ◌};
 
 use anyhow::{Result, bail};
-use dvg_cert::{Cert, Counted, End, Entry, Key, LitBox, MOST_ENTRIES, read_cert, write_cert};
+use dvg_cert::{Cert, End, Entry, Key, LitBox, MOST_ENTRIES};
+use dvg_text::{Counted, read_cert, write_cert};
 use dvg_words::{ROM_FIRST, ROM_LAST};
 use std::alloc::{AllocError, Global};
 

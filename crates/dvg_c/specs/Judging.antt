@@ -7,8 +7,8 @@ use Rattle.dvg_words.specs.Values.{Window, IsFor}
 use Rattle.dvg_words.specs.Memory.{words_of, rom_on, IsRomLength}
 use Rattle.dvg_words.specs.declared.image.ImageFault.TheVariants.{RomLength}
 use Rattle.dvg_cert.specs.Order.{Certificate}
-use Rattle.dvg_cert.specs.Grammar.{Spells}
-use Rattle.dvg_cert.specs.Reading.{ReadAnswer}
+use Rattle.dvg_text.specs.Grammar.{Spells}
+use Rattle.dvg_text.specs.Reading.{ReadAnswer}
 use Rattle.dvg_check.specs.declared.fault.Mode.{Mode}
 use Rattle.dvg_check.specs.declared.fault.Mode.TheVariants.{Exact}
 use Rattle.dvg_check.specs.declared.verdict.Yes.{Yes}
@@ -19,7 +19,8 @@ use Rattle.dvg_check.specs.FirstFault.{FirstShapeFault, FirstFrameFault}
 use Rattle.dvg_check.specs.Safety.{Safe, CountsAtHalt}
 use Rattle.dvg_check.specs.Circuit.{SafeOnCircuit, CountsOnCircuit}
 use Rattle.dvg_check.specs.Judged.{Shapes}
-use Rattle.dvg_check.specs.Verdict.{InRange, RangeRefusal, VerdictOn, SafeOn, CountsOn, SafeCircuitOn, CountsCircuitOn}
+use Rattle.dvg_check.specs.Verdict.{InRange, RangeRefusal}
+use Rattle.dvg_verdict.specs.Verdict.{VerdictOn, SafeOn, CountsOn, SafeCircuitOn, CountsCircuitOn}
 use Rattle.dvg_c.specs.declared.answer.Answer.{Answer}
 use Rattle.dvg_c.specs.declared.answer.TheConstants.{BAD_MACHINE, BAD_WINDOW}
 use Rattle.dvg_c.specs.declared.machine.TheConstants.{BOARD}

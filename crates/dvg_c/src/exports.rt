@@ -25,9 +25,10 @@ use crate::shapes::KeptShapes;
 use crate::stage::NOT_JUDGED;
 use crate::text::{TextAnswer, no_text, put_text};
 use crate::window::{WindowEnds, window_for};
+use dvg_check::Mode;
 use dvg_check::Mode::{Bound, Exact};
-use dvg_check::{Mode, check_on};
 use dvg_cmd::{Detail, FrameJudge};
+use dvg_verdict::check_on;
 use std::alloc::Global;
 
 /// The version of the program and of this library, 1.0.0: its first number times 10,000, its second times 100, and its third.

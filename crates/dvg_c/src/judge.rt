@@ -13,8 +13,9 @@ use crate::machine::{kept_machine, machine_numbered};
 use crate::shapes::{KeptShapes, MOST_ROM_BYTES};
 use crate::stage::{NOT_JUDGED, kept_mode};
 use crate::window::{WindowEnds, window_for};
-use dvg_cert::{Cert, Entry, ListIndex, read_cert};
+use dvg_cert::{Cert, Entry, ListIndex};
 use dvg_check::{JudgedShapes, Mode, Refusal};
+use dvg_text::read_cert;
 use dvg_words::{Machine, RomImage};
 use std::alloc::Global;
 

@@ -3,7 +3,17 @@ use Rattle.dvg_cert.proofs.Common.{◌≡◌, ℕ, zero, suc, ◌+◌, ◌<◌, 
 use Rattle.std.proofs.Common.{rules}
 use Rattle.std.proofs.lemmas.Grind.{common_steps}
 use Rattle.dvg_cert.proofs.Rising.{certificate_push}
-use Rattle.dvg_cert.proofs.LinesOfTexts.{each_mid, rising_mid}
+
+-- a list within a list
+pub each_mid : {X : Type 0} (P : X → Type 0) (xs : List X) (y : X) (ys : List X) → AllByRecursion P (xs ++ y ∷ ys) → P y
+each_mid P [] y ys h = h.0
+each_mid P (x ∷ xs) y ys h = each_mid P xs y ys h.1
+
+pub rising_mid : (es : List Entry) (e : Entry) (gs : List Entry) → IsRising (es ++ e ∷ gs) → StandsAfter es e
+rising_mid [] e gs h = tt
+rising_mid (x ∷ []) e [] h = h.0
+rising_mid (x ∷ []) e (g ∷ gs) h = h.0
+rising_mid (x ∷ y ∷ es) e gs h = rising_mid (y ∷ es) e gs h.1
 
 pub cut_at : (es : List Entry) (i : ℕ) (d : Entry) → i < length es → (es ≡ take i es ++ get_or es i d ∷ drop (suc i) es) × (take (suc i) es ≡ take i es ++ get_or es i d ∷ [])
 cut_at [] i d lt = absurd (omega arith)

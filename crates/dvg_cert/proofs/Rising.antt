@@ -1,6 +1,5 @@
 -- Lists of entries that rise, and one more at the end.
-use Rattle.dvg_cert.proofs.Common.{◌≡◌, ℕ, zero, suc, ◌-◌, ◌<◌, List, [], ◌∷◌, ◌++◌, length, Some, refl, sym, ap, subst, ◌∙◌, append_assoc, arith, slice_get, AllByRecursion, flat_map, append-nil, length_push, MemoryMap, IsMap, MOST_ENTRIES, ADDRESS_END, Entry, IsEntry, Before, StandsAfter, IsRising, IsCertificate, entry_line, ended, heading, begun_with}
-use Rattle.std.proofs.lemmas.List.Concat.{flat_map-append}
+use Rattle.dvg_cert.proofs.Common.{◌≡◌, ℕ, zero, suc, ◌-◌, ◌<◌, List, [], ◌∷◌, ◌++◌, length, Some, refl, sym, ap, subst, ◌∙◌, arith, slice_get, AllByRecursion, length_push, MemoryMap, IsMap, MOST_ENTRIES, ADDRESS_END, Entry, IsEntry, Before, StandsAfter, IsRising, IsCertificate}
 
 last_at : (es : List Entry) (k : ℕ) (f e : Entry) → length es ≡ suc k → slice_get es k ≡ Some f → ((Before f e → StandsAfter es e) × (StandsAfter es e → Before f e))
 last_at [] k f e n h = absurd (omega arith)
@@ -34,8 +33,3 @@ no_entry_yet map is = record { map_is = is; each = tt; rising = tt; few = omega 
 -- the addresses of a map have three digits
 pub small_map : (map : MemoryMap) → IsMap map → map.rom_last < ADDRESS_END
 small_map map is = omega (arith, is.inside)
-
--- one more line
-pub begun_push : (map : MemoryMap) (es : List Entry) (e : Entry) → begun_with map (es ++ e ∷ []) ≡ begun_with map es ++ ended (entry_line e)
-unfolding begun_with
-begun_push map es e = grind (arith, ended, entry_line, flat_map, heading, flat_map-append, append-nil, append_assoc)

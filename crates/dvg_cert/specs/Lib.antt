@@ -1,11 +1,7 @@
 pub mod Limits
 pub mod Entry
 pub mod Order
-pub mod Grammar
-pub mod Reading
 pub mod Numbers
-pub mod Stream
 pub mod Laws
 pub mod Lookup
-pub mod Devices
 pub mod Private

@@ -1,9 +1,7 @@
--- The numbers of the refusals.
+-- The numbers of the refusals of a certificate.
 use Rattle.std.specs.Prelude.{ℕ}
 use Rattle.dvg_cert.specs.declared.fault.CertWhy.{CertWhy}
 use Rattle.dvg_cert.specs.declared.fault.CertWhy.TheVariants.{Form, Order, Count, Unended, After, TooLong, Memory}
-use Rattle.dvg_cert.specs.declared.fault.WriteFault.{WriteFault}
-use Rattle.dvg_cert.specs.declared.fault.WriteFault.TheVariants.{Device}
 
 -- why a certificate is refused (profile)
 abbrev pub cert_number : CertWhy → ℕ
@@ -14,7 +12,3 @@ cert_number Unended = 13
 cert_number After = 14
 cert_number TooLong = 15
 cert_number Memory = 16
-
--- why a text was not written (profile)
-abbrev pub write_number : WriteFault → ℕ
-write_number Device = 17

@@ -1,7 +1,7 @@
-//! Why a certificate was refused, and why a text was not written.
+//! Why a certificate was refused.
 
 ghost use Rattle.std.specs.Prelude.{◌≡◌};
-ghost use Rattle.dvg_cert.specs.Numbers.{cert_number, write_number};
+ghost use Rattle.dvg_cert.specs.Numbers.{cert_number};
 
 use thiserror::Error;
 
@@ -62,24 +62,5 @@ impl CertFault {
         ensures { result ≡ cert_number self.why }
     {
         self.why.number()
-    }
-}
-
-/// Why a text was not written.
-#[derive(Clone, Copy, Debug, PartialEq, Eq, Error)]
-pub enum WriteFault {
-    /// Refusal 17: the writer failed, or took no byte.
-    #[error("the writer failed")]
-    Device,
-}
-
-impl WriteFault {
-    /// The number of the refusal, 17.
-    pub fn number(self) -> u8
-        ensures { result ≡ write_number self }
-    {
-        match self {
-            WriteFault::Device => 17,
-        }
     }
 }

@@ -1,7 +1,7 @@
 -- The laws, over the definitions alone. They are for every map, window and mode, but ExactIsExact is for the mode Exact.
 use Rattle.dvg_words.specs.Values.{Source}
 use Rattle.dvg_words.specs.declared.machine.Machine.{Machine}
-use Rattle.std.specs.Prelude.{◌≡◌, ℕ, ℤ, ◌+◌, ◌<◌, ◌≤◌, ◌⊎◌, ◌+ℤ◌, ◌≤ℤ◌, length, List, [], ◌∷◌, ◌++◌, Contains, Result}
+use Rattle.std.specs.Prelude.{◌≡◌, ℕ, ℤ, ◌+◌, ◌<◌, ◌≤◌, ◌⊎◌, ◌+ℤ◌, ◌≤ℤ◌, length, List, [], ◌∷◌, ◌++◌, Contains}
 use Rattle.dvg_words.specs.Values.{Window, IsWindowOrZone}
 use Rattle.dvg_words.specs.declared.machine.Machine.TheVariants.{Board}
 use Rattle.dvg_words.specs.declared.instruction.Instr.TheVariants.{Draw as Draws, Labs}
@@ -24,7 +24,6 @@ use Rattle.dvg_items.specs.Items.{LeadsTo}
 use Rattle.dvg_items.specs.Known.{Context, scale_before, place_before}
 use Rattle.dvg_check.specs.Rules.{Mode, Exact, Good, GoodFrame}
 use Rattle.dvg_check.specs.FirstFault.{ShapeFault, FirstShapeFault, FrameFault, FirstFrameFault}
-use Rattle.dvg_check.specs.Verdict.{Yes, Refusal, VerdictOn, NotMemory}
 use Rattle.dvg_check.specs.Behaving.{ScaleFits, PlaceFits, Behaves}
 use Rattle.dvg_check.specs.Safety.{Safe}
 use Rattle.dvg_circuit.specs.Counters.{counters_after}
@@ -153,12 +152,6 @@ abbrev pub OneCount : Type 0
 OneCount =
     (w : Window) (machine : Machine) (words : List ℕ) (list : List Entry) (budget count depth count' depth' : ℕ)
     → GoodFrame w machine words list budget count depth → GoodFrame w machine words list budget count' depth' → SameCounts count depth count' depth'
-
--- there is at most one verdict, running out of memory aside
-abbrev pub OneVerdict : Type 0
-OneVerdict =
-    (machine : Machine) (mode : Mode) (w : Window) (rom cert words : List ℕ) (budget : ℕ) (a b : Result Yes Refusal)
-    → VerdictOn machine mode w rom cert words budget a → VerdictOn machine mode w rom cert words budget b → NotMemory a → NotMemory b → a ≡ b
 
 -- ---- strokes
 

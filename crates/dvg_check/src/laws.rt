@@ -3,14 +3,13 @@
 
 ghost use Rattle.dvg_words.specs.declared.machine.Machine.{Machine};
 ghost use Rattle.dvg_check.specs.Rules.{Mode};
-ghost use Rattle.dvg_check.specs.Laws.{OneItem, OneShape, AllShapes, GoodIsSafe, ExactIsExact, OneFault, NoFault, OneShapeFault, NoShapeFault, OneCount, OneVerdict, StrokeInWindow, SafeStrokes, SafeStack, SafeIsWithinOnCircuit, SafeIsSafeOnCircuit, CountsAreOnCircuit};
+ghost use Rattle.dvg_check.specs.Laws.{OneItem, OneShape, AllShapes, GoodIsSafe, ExactIsExact, OneFault, NoFault, OneShapeFault, NoShapeFault, OneCount, StrokeInWindow, SafeStrokes, SafeStack, SafeIsWithinOnCircuit, SafeIsSafeOnCircuit, CountsAreOnCircuit};
 ghost use Rattle.dvg_check.specs.Drift.{PlaceIsSum, HalfPlaceEach, InsetIsSafe};
 ghost use Rattle.dvg_check.specs.Example.{WorkedExample};
 ghost use Rattle.dvg_check.specs.MachinesExample.{WorkedMachines};
 ghost use Rattle.dvg_check.specs.CourseExample.{WorkedCourse};
 ghost use Rattle.dvg_check.specs.CircuitExample.{WorkedCircuit};
 
-use dvg_cert::laws::{one_answer, one_certificate};
 use dvg_words::laws::{half_place, stack_within_max};
 
 /// A draw or a LABS leads from a state that agrees with what is known before it to one that agrees with what is known
@@ -63,14 +62,6 @@ pub fn no_shape_fault()
 pub fn one_count()
     ensures { OneCount }
 {}
-
-/// There is one verdict at most, running out of memory aside.
-pub fn one_verdict()
-    ensures { OneVerdict }
-{
-    one_certificate();
-    one_answer();
-}
 
 /// A straight stroke lies in the window where both its ends do.
 pub fn stroke_in_window()

@@ -1,7 +1,8 @@
 //! The checker: it decides whether a vector ROM's shapes and a frame keep the rules, and a yes means that every run of the
 //! generator is safe.
 //!
-//! [`check`] takes bytes, and its contract has both halves: the exact verdict, and the safety of every run.
+//! [`check_rom`] takes a certificate that was read, and its contract has both halves: the exact verdict, and the safety of every
+//! run. `check` of `dvg_verdict` takes the text.
 #![tactic(auto)]
 
 mod callees;
@@ -36,6 +37,4 @@ pub use needed::Needed;
 pub use shapes::{check_shapes, check_shapes_exact, find_entry_fault, find_shape_fault};
 pub use slots::{Kept, SLOTS, keep, kept_at};
 pub use tail::moved;
-pub use verdict::{
-    Refusal, Yes, check, check_exact, check_on, check_parts, check_parts_exact, check_rom, frame_of,
-};
+pub use verdict::{Refusal, Yes, check_parts, check_parts_exact, check_rom, frame_of};

@@ -1,10 +1,10 @@
-//! The verdict on bytes.
+//! The verdict on a ROM and a frame by a certificate, and why they are refused.
 
 ghost use Rattle.std.specs.Prelude.{◌≡◌, ◌≤◌, OnOk, IfOk, IfErr};
 ghost use Rattle.dvg_words.specs.Memory.{words_of};
 ghost use Rattle.dvg_words.specs.declared.machine.Machine.TheVariants.{Board};
 ghost use Rattle.dvg_check.specs.Rules.{Bound, Exact};
-ghost use Rattle.dvg_check.specs.Verdict.{InRange, RangeRefusal, memory_on, PartsVerdict, RomVerdict, VerdictOn, Verdict, SafeOn, SafeOver, CountsOn, CountsOver, SafeCircuitOn, CountsCircuitOn};
+ghost use Rattle.dvg_check.specs.Verdict.{InRange, RangeRefusal, memory_on, PartsVerdict, RomVerdict};
 ghost use Rattle.dvg_check.specs.Numbers.{refusal_number};
 ghost use Rattle.dvg_check.specs.Safety.{Safe};
 ghost use Rattle.dvg_check.specs.Circuit.{SafeOnCircuit, CountsOnCircuit};
@@ -13,7 +13,7 @@ ghost use Rattle.dvg_check.specs.declared.verdict.Refusal.TheVariants as refusal
 
 use crate::fault::{FrameFault, Mode, ShapeFault};
 use crate::finding::{find_parts_fault, find_rom_fault};
-use dvg_cert::{Cert, CertFault, MOST_WORDS, read_cert};
+use dvg_cert::{Cert, CertFault, MOST_WORDS};
 use dvg_words::{FrameImage, ImageFault, Machine, RomImage, Window};
 use std::alloc::Global;
 use thiserror::Error;
@@ -114,35 +114,8 @@ pub fn frame_of(frame: &[u8], budget: u32) -> Result<FrameImage<'_>, Refusal>
     Ok(frame)
 }
 
-/// Judges a frame over the bytes of a vector ROM and of its certificate on a machine in a mode, as [`check`] and [`check_exact`] do
-/// on the profile's machine.
-///
-/// On the board a yes is about every run of its circuit, too: whatever its registers hold at the start, and whatever is written to
-/// memory while it runs, so long as each word that it fetches reads, when it is fetched, as the frame and the ROM have it.
-pub fn check_on(
-    machine: Machine,
-    alloc: Global,
-    rom: &[u8],
-    cert: &[u8],
-    frame: &[u8],
-    budget: u32,
-    window: Window,
-    mode: Mode,
-) -> Result<Yes, Refusal>
-    ensures verdict { VerdictOn machine mode window rom.now cert.now frame.now budget result }
-    ensures safe { IfOk result (λ yes. SafeOn machine window rom.now cert.now frame.now yes.words yes.depth) }
-    ensures exact { mode ≡ Exact → IfOk result (λ yes. CountsOn machine rom.now cert.now frame.now yes.words yes.depth) }
-    ensures circuit { machine ≡ Board → IfOk result (λ yes. SafeCircuitOn machine window rom.now cert.now frame.now yes.words yes.depth) }
-    ensures circuit_exact { machine ≡ Board → mode ≡ Exact
-        → IfOk result (λ yes. CountsCircuitOn machine rom.now cert.now frame.now yes.words yes.depth) }
-{
-    let frame = frame_of(frame, budget)?;
-    let cert = read_cert(alloc, cert)?;
-    check_rom(machine, alloc, rom, &frame, &cert, budget, window, mode)
-}
-
-/// Judges a frame over the bytes of a vector ROM and the entries of its certificate in a mode, as [`check`] and [`check_exact`] do
-/// from the ROM's length on.
+/// Judges a frame over the bytes of a vector ROM and the entries of its certificate in a mode, as `check` and `check_exact` of
+/// `dvg_verdict` do from the ROM's length on.
 ///
 /// `budget` is how many words the frame may take at most, up to 1,000,000. The answer is exact: 1 where the bytes are not exactly
 /// two for each address of the certificate's map, else that of [`check_parts`] or [`check_parts_exact`]. It takes the memory that
@@ -171,44 +144,7 @@ pub fn check_rom(
     }
 }
 
-/// Judges a frame over a vector ROM and its certificate: a yes means that every run of the generator from the frame's
-/// first word is safe.
-///
-/// `budget` is how many words the frame may take at most, 1 to 1,000,000. The verdict is exact: the first that
-/// applies of 2, 49, the certificate's refusal (10 to 16), 1, 50, the first fault of its shapes (20 to 31), the frame's
-/// first fault (40 to 48), and the yes. The ROM lies where the certificate says. `window` is the part of the screen that may be
-/// lit, `SCREEN` of `dvg_words` for all of it. Where it accepts, every run from the frame's first word, at any beam place and
-/// any global scale, reaches HALT within the answered count of words, stores at most four return places at once, fetches only
-/// words of the ROM and the frame, and draws no lit stroke that leaves the window on either axis.
-///
-/// Nothing is run: what a shape does from a word on is worked out once for each scale at which it is needed. Takes memory
-/// for the certificate's entries and for their index alone, and none before 2 and 49 are ruled out; 16 comes only where there
-/// was none for an entry that could be taken, and 50 only where the certificate was taken, the ROM has the length of its map,
-/// and there was none for its index.
-pub fn check(
-    alloc: Global,
-    rom: &[u8],
-    cert: &[u8],
-    frame: &[u8],
-    budget: u32,
-    window: Window,
-) -> Result<Yes, Refusal>
-    ensures verdict { Verdict Bound window rom.now cert.now frame.now budget result }
-    ensures safe { IfOk result (λ yes. SafeOver window rom.now cert.now frame.now yes.words yes.depth) }
-{
-    check_on(
-        Machine::Profile,
-        alloc,
-        rom,
-        cert,
-        frame,
-        budget,
-        window,
-        Mode::Bound,
-    )
-}
-
-/// Judges a frame over a vector ROM and the entries of its certificate, as [`check`] does from the shapes on.
+/// Judges a frame over a vector ROM and the entries of its certificate, as `check` of `dvg_verdict` does from the shapes on.
 ///
 /// The ROM lies where the certificate says. `budget` is how many words the frame may take at most, up to 1,000,000, `window` the
 /// part of the screen that may be lit. The answer is exact: the first that applies of 50, the first fault of the shapes (20 to
@@ -234,38 +170,8 @@ pub fn check_parts(
     }
 }
 
-/// Judges a frame over a vector ROM and its certificate as [`check`] does, the claimed counts being exact: 32 and 33 come after
-/// the other rules of shapes.
-///
-/// What it accepts is safe, and every run of the generator from the frame's first word has fetched just the answered count of
-/// words at its HALT, and has stored just the answered number of return places at once. The budget stays a bound, and so do
-/// boxes.
-pub fn check_exact(
-    alloc: Global,
-    rom: &[u8],
-    cert: &[u8],
-    frame: &[u8],
-    budget: u32,
-    window: Window,
-) -> Result<Yes, Refusal>
-    ensures verdict { Verdict Exact window rom.now cert.now frame.now budget result }
-    ensures safe { IfOk result (λ yes. SafeOver window rom.now cert.now frame.now yes.words yes.depth) }
-    ensures exact { IfOk result (λ yes. CountsOver rom.now cert.now frame.now yes.words yes.depth) }
-{
-    check_on(
-        Machine::Profile,
-        alloc,
-        rom,
-        cert,
-        frame,
-        budget,
-        window,
-        Mode::Exact,
-    )
-}
-
-/// Judges a frame over a vector ROM and the entries of its certificate, as [`check_exact`] does from the shapes on, for a ROM on the
-/// board also about its circuit.
+/// Judges a frame over a vector ROM and the entries of its certificate, as `check_exact` of `dvg_verdict` does from the shapes on,
+/// for a ROM on the board also about its circuit.
 pub fn check_parts_exact(
     alloc: Global,
     rom: &RomImage,

@@ -6,7 +6,7 @@ pub use Rattle.std.proofs.lemmas.Grind.{common_steps}
 pub use Rattle.std.proofs.lemmas.List.{take_all, take-append-le}
 pub use Rattle.std.specs.Io.KnownBytes.{Appends, Consumes}
 pub use Rattle.std.specs.Prelude.{Result, Ok, Err, OnErr, IfOk, OnOk, IfErr, IfSome}
-pub use Rattle.dvg_cert.specs.Devices.{AppendsPrefix, TakesOneWrite}
+pub use Rattle.dvg_text.specs.Devices.{AppendsPrefix, TakesOneWrite}
 pub use Rattle.dvg_cert.specs.Order.{Certificate}
 pub use Rattle.dvg_cert.specs.declared.entry.Key.{Key}
 pub use Rattle.dvg_cert.specs.declared.fault.CertFault.{CertFault}

@@ -4,7 +4,7 @@ use Rattle.std.proofs.Common.{arith}
 use Rattle.std.specs.Prelude.{IsErrAnd}
 use Rattle.dvg_diff.specs.Comparing.{IsComparison}
 use Rattle.dvg_diff.specs.declared.comparing.Comparison.{Comparison}
-use Rattle.dvg_cert.specs.Devices.{count_after}
+use Rattle.dvg_text.specs.Devices.{count_after}
 use Rattle.dvg_spelling.specs.declared.fault.MakeRunFault.TheVariants as maker
 use Rattle.dvg_spelling.specs.declared.fault.FramesRunFault.{FramesRunFault}
 use Rattle.dvg_spelling.specs.declared.fault.FramesRunFault.TheVariants as fault

@@ -6,9 +6,9 @@ use Rattle.std.proofs.Math.Seq.{take-append-add}
 use Rattle.std.specs.Io.KnownBytes.{IsAtEnd}
 use borrow.Rule.Slice.PartMut.{put_mid, post_of}
 use Rattle.dvg_cert.specs.declared.fault.CertWhy.TheVariants.{Unended, Memory}
-use Rattle.dvg_cert.specs.Laws.{ShortText}
-use Rattle.dvg_cert.specs.Reading.{MayStand, ReadAnswer, IsRefusal, EndsOpen}
-use Rattle.dvg_cert.specs.Stream.{Stream, Open, FeedsTo}
+use Rattle.dvg_text.specs.Laws.{ShortText}
+use Rattle.dvg_text.specs.Reading.{MayStand, ReadAnswer, IsRefusal, EndsOpen}
+use Rattle.dvg_text.specs.Stream.{Stream, Open, FeedsTo}
 use Rattle.dvg_cmd.specs.Private.Reading.{taken_length}
 
 pub take_filled : (filled n k : ℕ) (buf sub : List ℕ) → filled ≤ length buf → n ≤ length sub → take (filled + n) (put_mid filled k buf sub) ≡ take filled buf ++ take n sub

@@ -2,10 +2,11 @@
 use Rattle.dvg_cmd.proofs.Common.{Option, List, [], None, Some, subst, ◌≡◌, ℕ, Result, IfOk, IfSome, Ok, Err, Machine, Board, words_of, rom_on, Window, RomLength, FrameLength, Certificate, CertFault, Safe, CountsAtHalt, SafeOnCircuit, CountsOnCircuit, InRange, RomVerdict, Mode, Exact, Refusal, Yes, IsPrefix, Judges, ReadsText}
 use Rattle.std.proofs.Common.{arith}
 use Rattle.dvg_words.specs.Memory.{Memory}
-use Rattle.dvg_cert.specs.Grammar.{Spells}
-use Rattle.dvg_cert.specs.Laws.{PrefixRefusal}
-use Rattle.dvg_check.proofs.Accepting.{out_of_range}
-use Rattle.dvg_check.specs.Verdict.{RangeRefusal, CertVerdict, VerdictOn}
+use Rattle.dvg_text.specs.Grammar.{Spells}
+use Rattle.dvg_text.specs.Laws.{PrefixRefusal}
+use Rattle.dvg_verdict.proofs.OneVerdict.{out_of_range}
+use Rattle.dvg_check.specs.Verdict.{RangeRefusal}
+use Rattle.dvg_verdict.specs.Verdict.{CertVerdict, VerdictOn}
 use Rattle.dvg_check.specs.declared.verdict.Refusal.TheVariants as refusal
 use Rattle.dvg_cmd.specs.Private.Judging.{JudgesRom}
 use Rattle.dvg_cmd.specs.Runs.{SafeRead, CountsRead, SafeCircuitRead, CountsCircuitRead}

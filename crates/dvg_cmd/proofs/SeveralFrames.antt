@@ -3,7 +3,7 @@ use Rattle.dvg_cmd.proofs.Common.{true, ◌≡◌, ℕ, suc, zero, ◌+◌, ◌<
 use Rattle.std.proofs.Common.{set}
 use Rattle.std.proofs.lemmas.List.{take-append-drop}
 use Rattle.std.proofs.Math.Seq.{set-append_seam, get_or-append_seam}
-use Rattle.dvg_cert.specs.Devices.{count_after}
+use Rattle.dvg_text.specs.Devices.{count_after}
 use Rattle.dvg_cmd.specs.Runs.{MOST_FRAME_READ}
 use Rattle.dvg_cmd.specs.MakingFrames.{EachRead, EachHeld, FirstWrong, OneFailed, FailedAfter, blames_a_frame, FramesRunFault}
 use Rattle.dvg_spelling.specs.declared.fault.FramesRunFault.TheVariants as fault

@@ -2,8 +2,8 @@
 use Rattle.dvg_cmd.proofs.Common.{append-nil, List, length, Option, None, Some, refl, arith, ap, subst, sym, ◌≡◌, ◌+◌, ◌≤◌, ◌++◌, ◌∙◌, ℕ, [], IfSome, Result, Ok, Err, Machine, IsRomLength, IsFrameLength, rom_on, MemoryMap, IsMap, Window, RomLength, FrameLength, Certificate, CertFault, CertWhy, InRange, RomVerdict, Mode, Refusal, Yes, IsPrefix, ReadsText}
 use Rattle.std.proofs.Common.{rules}
 use Rattle.std.proofs.lemmas.Grind.{common_steps}
-use Rattle.dvg_cert.specs.Laws.{PrefixRefusal}
-use Rattle.dvg_cert.specs.Reading.{IsRefusal, ReadAnswer}
+use Rattle.dvg_text.specs.Laws.{PrefixRefusal}
+use Rattle.dvg_text.specs.Reading.{IsRefusal, ReadAnswer}
 use Rattle.dvg_cert.specs.declared.fault.CertWhy.TheVariants.{Form, Order, Count, Unended, After, TooLong, Memory}
 use Rattle.dvg_check.specs.Verdict.{RangeRefusal, PartsVerdict}
 use Rattle.dvg_check.specs.declared.verdict.Refusal.TheVariants as refusal

@@ -4,7 +4,7 @@ use Rattle.std.specs.Io.KnownBytes.{Appends}
 use Rattle.dvg_words.specs.declared.machine.Machine.{Machine}
 use Rattle.dvg_words.specs.Values.{MemoryMap}
 use Rattle.dvg_words.specs.Memory.{rom_on, words_of, IsRomLength}
-use Rattle.dvg_cert.specs.Devices.{AppendsPrefix}
+use Rattle.dvg_text.specs.Devices.{AppendsPrefix}
 use Rattle.dvg_cert.specs.declared.entry.Key.{Key}
 use Rattle.dvg_diff.specs.Comparing.{IsComparison}
 use Rattle.dvg_diff.specs.declared.comparing.Comparison.{Comparison}

@@ -5,7 +5,7 @@ use Rattle.dvg_words.specs.declared.machine.Machine.{Machine}
 use Rattle.dvg_words.specs.Values.{MemoryMap}
 use Rattle.dvg_cert.specs.declared.entry.Entry.{Entry}
 use Rattle.dvg_cert.specs.declared.entry.Key.{Key}
-use Rattle.dvg_cert.specs.Devices.{AppendsPrefix, TakesOneWrite}
+use Rattle.dvg_text.specs.Devices.{AppendsPrefix, TakesOneWrite}
 use Rattle.dvg_spelling.specs.Messages.{make_line_text}
 use Rattle.dvg_spelling.specs.Faults.{frame_blamed}
 use Rattle.dvg_cmd.specs.Detail.{no_account}

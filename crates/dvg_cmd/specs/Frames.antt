@@ -6,7 +6,7 @@ use Rattle.dvg_words.specs.declared.machine.Machine.TheVariants.{Board}
 use Rattle.dvg_words.specs.Values.{MemoryMap, Window}
 use Rattle.dvg_words.specs.Memory.{Rom, words_of, rom_on, IsRomLength, IsFrameLength}
 use Rattle.dvg_words.specs.declared.image.ImageFault.TheVariants.{RomLength, FrameLength}
-use Rattle.dvg_cert.specs.Devices.{AppendsPrefix, TakesOneWrite}
+use Rattle.dvg_text.specs.Devices.{AppendsPrefix, TakesOneWrite}
 use Rattle.dvg_cert.specs.Order.{Certificate}
 use Rattle.dvg_check.specs.Safety.{Safe, CountsAtHalt}
 use Rattle.dvg_check.specs.Circuit.{SafeOnCircuit, CountsOnCircuit}

@@ -6,8 +6,8 @@ use Rattle.dvg_words.specs.Values.{MemoryMap}
 use Rattle.dvg_words.specs.Memory.{rom_on, IsRomLength}
 use Rattle.dvg_cert.specs.declared.entry.Entry.{Entry}
 use Rattle.dvg_cert.specs.declared.entry.Key.{Key}
-use Rattle.dvg_cert.specs.Grammar.{text_of}
-use Rattle.dvg_cert.specs.Devices.{AppendsPrefix}
+use Rattle.dvg_text.specs.Grammar.{text_of}
+use Rattle.dvg_text.specs.Devices.{AppendsPrefix}
 use Rattle.dvg_make.specs.Made.{Made}
 use Rattle.dvg_make.specs.Refusals.{Refuses}
 use Rattle.dvg_make.specs.Accounts.{HasRootCause}

@@ -3,7 +3,7 @@ use Rattle.std.specs.Prelude.{◌≡◌, ℕ, zero, suc, Bool, true, false, List
 use Rattle.dvg_words.specs.declared.machine.Machine.{Machine}
 use Rattle.dvg_words.specs.Values.{MemoryMap}
 use Rattle.dvg_words.specs.Memory.{words_of, rom_on, IsRomLength, IsFrameLength}
-use Rattle.dvg_cert.specs.Devices.{count_after}
+use Rattle.dvg_text.specs.Devices.{count_after}
 use Rattle.dvg_cert.specs.declared.entry.Entry.{Entry}
 use Rattle.dvg_cert.specs.declared.entry.Key.{Key}
 use Rattle.dvg_make.specs.declared.fault.EntryFault.{EntryFault}

@@ -3,7 +3,7 @@ use Rattle.std.specs.Prelude.{◌≡◌, ℕ, List, ◌∷◌, ◌++◌, ◌⊎�
 use Rattle.std.specs.Borrow.{Bor}
 use Rattle.dvg_cert.specs.declared.entry.Key.{Key}
 use Rattle.dvg_cert.specs.Entry.{IsKey}
-use Rattle.dvg_cert.specs.Grammar.{key_token}
+use Rattle.dvg_text.specs.Grammar.{key_token}
 use Rattle.dvg_labels.specs.Labels.{Labelling, StandsAt, IsAddress}
 use Rattle.dvg_labels.specs.declared.fault.Unnamed.{Unnamed}
 use Rattle.dvg_spelling.specs.Arguments.{IsRoot}

@@ -4,17 +4,17 @@ use Rattle.std.specs.Io.KnownBytes.{Appends, Consumes, IsAtEnd}
 use Rattle.dvg_words.specs.declared.machine.Machine.{Machine}
 use Rattle.dvg_words.specs.declared.machine.Machine.TheVariants.{Board}
 use Rattle.dvg_words.specs.Values.{Window}
-use Rattle.dvg_cert.specs.Devices.{AppendsPrefix, TakesOneWrite, count_after}
+use Rattle.dvg_text.specs.Devices.{AppendsPrefix, TakesOneWrite, count_after}
 use Rattle.dvg_cert.specs.declared.fault.CertWhy.TheVariants.{Unended}
 use Rattle.dvg_cert.specs.declared.fault.CertFault.{CertFault}
 use Rattle.dvg_cert.specs.Order.{Certificate}
-use Rattle.dvg_cert.specs.Reading.{ReadAnswer}
+use Rattle.dvg_text.specs.Reading.{ReadAnswer}
 use Rattle.dvg_check.specs.declared.verdict.Yes.{Yes}
 use Rattle.dvg_check.specs.declared.verdict.Refusal.{Refusal}
 use Rattle.dvg_check.specs.declared.verdict.Refusal.TheVariants as refusal
 use Rattle.dvg_check.specs.declared.fault.Mode.{Mode}
 use Rattle.dvg_check.specs.declared.fault.Mode.TheVariants.{Exact}
-use Rattle.dvg_check.specs.Verdict.{VerdictOn, SafeOn, CountsOn, SafeCircuitOn, CountsCircuitOn}
+use Rattle.dvg_verdict.specs.Verdict.{VerdictOn, SafeOn, CountsOn, SafeCircuitOn, CountsCircuitOn}
 use Rattle.dvg_spelling.specs.Report.{report_text}
 pub use Rattle.dvg_spelling.specs.declared.outcome.Outcome.{Outcome}
 pub use Rattle.dvg_spelling.specs.declared.outcome.Outcome.TheVariants.{Accepted, Refused, NoMemory}

@@ -6,7 +6,7 @@ use Rattle.dvg_words.specs.declared.machine.Machine.{Machine}
 use Rattle.dvg_words.specs.Memory.{rom_on, IsRomLength}
 use Rattle.dvg_words.specs.Values.{Window}
 use Rattle.dvg_words.specs.declared.image.ImageFault.TheVariants.{RomLength}
-use Rattle.dvg_cert.specs.Devices.{AppendsPrefix, TakesOneWrite}
+use Rattle.dvg_text.specs.Devices.{AppendsPrefix, TakesOneWrite}
 use Rattle.dvg_cert.specs.Order.{Certificate}
 use Rattle.dvg_cert.specs.declared.fault.CertFault.{CertFault}
 use Rattle.dvg_check.specs.FirstFault.{FirstShapeFault}

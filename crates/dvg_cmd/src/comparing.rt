@@ -2,7 +2,7 @@
 
 ghost use Rattle.std.specs.Prelude.{◌≡◌, ◌≢◌, ◌↔◌, ◌<◌, [], ◌∷◌, Err, IfOk, IfErr, IsTrue, OnOk, OnErr, is_err, length, string_bytes};
 ghost use Rattle.std.specs.Io.KnownBytes.{Appends};
-ghost use Rattle.dvg_cert.specs.Devices.{AppendsPrefix, count_after};
+ghost use Rattle.dvg_text.specs.Devices.{AppendsPrefix, count_after};
 ghost use Rattle.dvg_spelling.specs.Faults.{frames_run_number};
 ghost use Rattle.dvg_cmd.specs.Comparing.{ComparesFor, ComparisonFaultMeans, comparison_lines, WritesComparison, WritesComparisonPrefix};
 ghost use Rattle.dvg_cmd.specs.MakingFrames.{blames_frames_rom, blames_a_frame, blames_frames_writer, of_each, FailedAfter, EachRead};
@@ -13,10 +13,11 @@ ghost use Rattle.dvg_spelling.specs.declared.fault.MakeRunFault.TheVariants as m
 
 use crate::entry_lines::write_each;
 use crate::inputs::{InputBytes, read_frames, read_maker_rom, rom_image};
-use dvg_cert::{CountedRead, CountedWrite, Key, WriteFault, write_lines};
+use dvg_cert::Key;
 use dvg_diff::{Comparison, TouchedEntry, compare};
 use dvg_make::FramesFault;
 use dvg_spelling::FramesRunFault;
+use dvg_text::{CountedRead, CountedWrite, WriteFault, write_lines};
 use dvg_words::{Machine, RomMap};
 use std::alloc::Global;
 

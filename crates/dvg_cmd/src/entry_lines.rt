@@ -1,17 +1,17 @@
 //! Writing the lines of entries, one after another.
 
 ghost use Rattle.std.specs.Prelude.{◌≡◌, ◌<◌, ℕ, List, length, OnOk, OnErr, is_err};
-ghost use Rattle.dvg_cert.specs.Devices.{AppendsPrefix, count_after};
+ghost use Rattle.dvg_text.specs.Devices.{AppendsPrefix, count_after};
 ghost use Rattle.dvg_spelling.specs.Places.{place_line};
 ghost use Rattle.dvg_spelling.specs.Touched.{touched_line};
 ghost use Rattle.dvg_cmd.specs.MakingFrames.{of_each};
 ghost use Rattle.dvg_cmd.specs.SeveralFrames.{joined};
 ghost use Rattle.dvg_cmd.specs.Private.Sent.{Sent};
 
-use dvg_cert::{CountedWrite, WriteFault, write_lines};
 use dvg_diff::TouchedEntry;
 use dvg_spelling::{EntryLine, place_line_of, touched_line_of};
 use dvg_survey::EntryPlaces;
+use dvg_text::{CountedWrite, WriteFault, write_lines};
 
 /// What has a line of its own.
 pub trait HasLine {

@@ -2,7 +2,7 @@
 
 ghost use Rattle.std.specs.Prelude.{◌≡◌, ◌≢◌, ◌⊎◌, ◌++◌, Option, List, ℕ, Err, false, IfOk, IfErr, OnOk, OnErr, is_err, string_bytes};
 ghost use Rattle.std.specs.Io.KnownBytes.{Appends};
-ghost use Rattle.dvg_cert.specs.Devices.{AppendsPrefix, TakesOneWrite, count_after};
+ghost use Rattle.dvg_text.specs.Devices.{AppendsPrefix, TakesOneWrite, count_after};
 ghost use Rattle.dvg_cmd.specs.Explaining.{MakesEntries, MakeExplained, MakeExplainedPrefix, frame_to_blame, make_line, make_outcome_of};
 ghost use Rattle.dvg_cmd.specs.MakingFrames.{blames_frames_rom, blames_a_frame, blames_frames_writer, of_each, FailedAfter, EachRead, FramesFaultMeans};
 ghost use Rattle.dvg_spelling.specs.Faults.{frames_run_number};
@@ -13,10 +13,11 @@ ghost use Rattle.dvg_spelling.specs.declared.fault.MakeRunFault.TheVariants as m
 use crate::detail::NO_ACCOUNT;
 use crate::inputs::InputBytes;
 use dvg_account::{PlainWhy, made_text, plain_text, unmade_text};
-use dvg_cert::{CountedRead, CountedWrite, Key, write_lines};
+use dvg_cert::Key;
 use dvg_labels::Labels;
 use dvg_make::explain_making;
 use dvg_spelling::{FramesRunFault, MakeRunFault, Outcome, RunFault, make_line_of};
+use dvg_text::{CountedRead, CountedWrite, write_lines};
 use dvg_words::{Machine, RomMap};
 use std::alloc::{AllocError, Global};
 

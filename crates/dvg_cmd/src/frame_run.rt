@@ -3,7 +3,7 @@
 ghost use Rattle.std.specs.Prelude.{◌≡◌, ◌++◌, Bool, IfOk, IfErr, OnOk, OnErr, Ok, Err, is_err};
 ghost use Rattle.std.specs.Io.KnownBytes.{Appends};
 ghost use Rattle.dvg_words.specs.declared.machine.Machine.TheVariants.{Board};
-ghost use Rattle.dvg_cert.specs.Devices.{AppendsPrefix, TakesOneWrite, count_after};
+ghost use Rattle.dvg_text.specs.Devices.{AppendsPrefix, TakesOneWrite, count_after};
 ghost use Rattle.dvg_cmd.specs.Detail.{IsBehind, behind_text, frame_outcome_behind};
 ghost use Rattle.dvg_cmd.specs.Runs.{MOST_FRAME_READ, IsReadTo};
 ghost use Rattle.dvg_cmd.specs.Frames.{ReadsFrame, AnswersFrame, ReportsFrame, ReportsFramePrefix, WritesAnswer, WritesAnswerPrefix, frame_line, frame_outcome_of, is_unread, is_unread_outcome};
@@ -15,8 +15,8 @@ use crate::reading::read_frame;
 use crate::start::start_at;
 use arrayvec::ArrayVec;
 use dvg_account::{PlainWhy, plain_text};
-use dvg_cert::{CountedRead, CountedWrite, write_lines};
 use dvg_spelling::{FrameAnswer, FrameOutcome, RunFault, frame_outcome_of, frame_report_of};
+use dvg_text::{CountedRead, CountedWrite, write_lines};
 use dvg_words::Machine;
 use std::alloc::Global;
 use std::io;

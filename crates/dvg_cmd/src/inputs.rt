@@ -3,7 +3,7 @@
 ghost use Rattle.std.specs.Prelude.{◌≡◌, ◌≢◌, ◌⊎◌, ◌<◌, length, List, ℕ, Option, Err, IfOk, IfErr, OnOk, OnErr, MatchResult, is_err};
 ghost use Rattle.dvg_words.specs.Values.{IsMap, MemoryMap};
 ghost use Rattle.dvg_words.specs.Memory.{IsRomLength, rom_on, words_of};
-ghost use Rattle.dvg_cert.specs.Devices.{count_after};
+ghost use Rattle.dvg_text.specs.Devices.{count_after};
 ghost use Rattle.dvg_cert.specs.declared.entry.Key.{Key};
 ghost use Rattle.dvg_cmd.specs.MakingFrames.{blames_frames_rom, blames_a_frame, of_each, FailedAfter, EachRead, AreFrames, FramesFaultMeans};
 ghost use Rattle.dvg_cmd.specs.Private.Inputs.{AreRead, AreInputImages};
@@ -14,8 +14,8 @@ ghost use Rattle.dvg_make.specs.declared.fault.MakeFault.TheVariants as making;
 
 use crate::reading::{read_frame, read_rom};
 use arrayvec::ArrayVec;
-use dvg_cert::CountedRead;
 use dvg_spelling::{FramesRunFault, MakeRunFault};
+use dvg_text::CountedRead;
 use dvg_words::{FrameImage, Machine, RomImage, RomMap};
 use std::alloc::Global;
 

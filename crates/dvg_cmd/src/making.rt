@@ -3,13 +3,14 @@
 ghost use Rattle.std.specs.Prelude.{◌≡◌, ◌≢◌, [], Err, IfErr, OnOk};
 ghost use Rattle.std.specs.Io.KnownBytes.{Appends};
 ghost use Rattle.dvg_words.specs.declared.machine.Machine.TheVariants.{Profile};
-ghost use Rattle.dvg_cert.specs.Devices.{count_after};
+ghost use Rattle.dvg_text.specs.Devices.{count_after};
 ghost use Rattle.dvg_cmd.specs.Making.{blames_maker_rom, blames_maker_writer, Makes, WritesMade, WritesMadePrefix, MakeFaultMeans};
 ghost use Rattle.dvg_cmd.specs.Runs.{MOST_ROM_READ, IsReadTo};
 
 use crate::making_frames::run_make_frames;
-use dvg_cert::{CountedRead, CountedWrite, Key};
+use dvg_cert::Key;
 use dvg_spelling::{FramesRunFault, MakeRunFault};
+use dvg_text::{CountedRead, CountedWrite};
 use dvg_words::{Machine, RomMap};
 use std::alloc::Global;
 

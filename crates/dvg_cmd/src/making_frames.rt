@@ -2,7 +2,7 @@
 
 ghost use Rattle.std.specs.Prelude.{◌≡◌, ◌≢◌, [], Err, IfErr, OnOk};
 ghost use Rattle.std.specs.Io.KnownBytes.{Appends};
-ghost use Rattle.dvg_cert.specs.Devices.{count_after};
+ghost use Rattle.dvg_text.specs.Devices.{count_after};
 ghost use Rattle.dvg_spelling.specs.Faults.{frames_run_number};
 ghost use Rattle.dvg_cmd.specs.Making.{WritesMade, WritesMadePrefix};
 ghost use Rattle.dvg_cmd.specs.MakingFrames.{blames_frames_rom, blames_a_frame, blames_frames_writer, of_each, FailedAfter, EachRead, MakesForFrames, FramesFaultMeans};
@@ -10,9 +10,10 @@ ghost use Rattle.dvg_cmd.specs.Runs.{MOST_ROM_READ, IsReadTo};
 ghost use Rattle.dvg_spelling.specs.declared.fault.MakeRunFault.TheVariants as maker;
 
 use crate::inputs::InputBytes;
-use dvg_cert::{CountedRead, CountedWrite, Key, WriteFault, write_cert};
+use dvg_cert::Key;
 use dvg_make::{FramesFault, make_for_frames};
 use dvg_spelling::FramesRunFault;
+use dvg_text::{CountedRead, CountedWrite, WriteFault, write_cert};
 use dvg_words::{Machine, RomMap};
 use std::alloc::Global;
 

@@ -2,11 +2,11 @@
 
 ghost use Rattle.std.specs.Prelude.{◌≡◌, ◌<◌, ◌++◌, codes, length, Err, IfErr, OnOk, OnErr, is_err};
 ghost use Rattle.std.specs.Io.KnownBytes.{Appends};
-ghost use Rattle.dvg_cert.specs.Devices.{AppendsPrefix, TakesOneWrite, count_after};
+ghost use Rattle.dvg_text.specs.Devices.{AppendsPrefix, TakesOneWrite, count_after};
 ghost use Rattle.dvg_spelling.specs.Messages.{frames_message};
 
-use dvg_cert::{CountedWrite, write_lines};
 use dvg_spelling::{FramesRunFault, RunFault, make_frames_report_of};
+use dvg_text::{CountedWrite, write_lines};
 
 /// Writes a text of lines, or a prefix of it if the writer fails, which is 73.
 pub fn write_text<W: CountedWrite>(text: &str, out: &mut W) -> Result<(), RunFault>

@@ -4,7 +4,7 @@ ghost use Rattle.std.specs.Prelude.{◌≡◌, ◌++◌, [], ◌∷◌, take, op
 ghost use Rattle.dvg_cmd.specs.Names.{MOST_NAME_READ, ReadsNext, end_byte};
 
 use arrayvec::ArrayVec;
-use dvg_cert::CountedRead;
+use dvg_text::CountedRead;
 use std::io;
 
 /// What stands behind each name of a list.

@@ -2,7 +2,7 @@
 
 ghost use Rattle.std.specs.Prelude.{◌≡◌, ◌≢◌, [], Err, IfErr, OnOk};
 ghost use Rattle.std.specs.Io.KnownBytes.{Appends};
-ghost use Rattle.dvg_cert.specs.Devices.{count_after};
+ghost use Rattle.dvg_text.specs.Devices.{count_after};
 ghost use Rattle.dvg_spelling.specs.Faults.{frames_run_number};
 ghost use Rattle.dvg_cmd.specs.MakingFrames.{blames_frames_rom, blames_a_frame, blames_frames_writer, of_each, FailedAfter, EachRead, FramesFaultMeans};
 ghost use Rattle.dvg_cmd.specs.Placing.{PlacesFor, WritesPlaces, WritesPlacesPrefix};
@@ -11,10 +11,11 @@ ghost use Rattle.dvg_spelling.specs.declared.fault.MakeRunFault.TheVariants as m
 
 use crate::entry_lines::write_each;
 use crate::inputs::InputBytes;
-use dvg_cert::{CountedRead, CountedWrite, HashIndex, Key, WriteFault};
+use dvg_cert::{HashIndex, Key};
 use dvg_make::{FramesFault, make_for_frames};
 use dvg_spelling::FramesRunFault;
 use dvg_survey::entry_places;
+use dvg_text::{CountedRead, CountedWrite, WriteFault};
 use dvg_words::{Machine, RomMap, Window};
 use std::alloc::{AllocError, Global};
 

@@ -2,15 +2,16 @@
 
 ghost use Rattle.std.specs.Prelude.{◌≡◌, ◌≤◌, ◌<◌, length, take, IfOk, IfErr, OnOk, IfSome, is_err};
 ghost use Rattle.std.specs.Io.KnownBytes.{Consumes, IsAtEnd};
-ghost use Rattle.dvg_cert.specs.Devices.{count_after};
+ghost use Rattle.dvg_text.specs.Devices.{count_after};
 ghost use Rattle.dvg_cmd.specs.Runs.{MOST_ROM_READ, MOST_FRAME_READ, IsReadTo, ReadsText};
 ghost use Rattle.dvg_cmd.specs.Private.Reading.{IsPrefix};
 
 use arrayvec::ArrayVec;
-use dvg_cert::laws::short_text;
-use dvg_cert::{Cert, CertFault, CertReader, CountedRead};
+use dvg_cert::{Cert, CertFault};
 use dvg_form::TextWatch;
 use dvg_spelling::RunFault;
+use dvg_text::laws::short_text;
+use dvg_text::{CertReader, CountedRead};
 use std::alloc::Global;
 use std::io;
 

@@ -3,9 +3,10 @@
 ghost use Rattle.std.specs.Prelude.{IfOk, IfErr, IfSome};
 ghost use Rattle.dvg_cmd.specs.Roots.{NamesRoot, IsRootBy, IsRootFault};
 
-use dvg_cert::{Key, read_key};
+use dvg_cert::Key;
 use dvg_labels::{Labels, Unnamed};
 use dvg_spelling::root_of;
+use dvg_text::read_key;
 
 /// What stands between a label's name and a scale.
 const SLASH: char = '/';

@@ -2,13 +2,13 @@
 
 ghost use Rattle.std.specs.Prelude.{◌≡◌, ◌⊎◌, ◌<◌, length, Err, IfErr, OnOk, OnErr};
 ghost use Rattle.std.specs.Io.KnownBytes.{Appends};
-ghost use Rattle.dvg_cert.specs.Devices.{AppendsPrefix, TakesOneWrite, count_after};
+ghost use Rattle.dvg_text.specs.Devices.{AppendsPrefix, TakesOneWrite, count_after};
 ghost use Rattle.dvg_spelling.specs.Rules.{rows_text, rule_text};
 ghost use Rattle.dvg_cmd.specs.Runs.{blames_writer};
 
 use crate::messages::write_text;
-use dvg_cert::CountedWrite;
 use dvg_spelling::{Rule, RunFault, text_of_rule, text_of_rules};
+use dvg_text::CountedWrite;
 use std::alloc::Global;
 
 /// Writes a table: a line for each of these, its number and what it means.

@@ -4,7 +4,7 @@ ghost use Rattle.std.specs.Prelude.{◌≡◌, ◌⊎◌, [], ◌∷◌, length,
 ghost use Rattle.std.specs.Io.KnownBytes.{Appends};
 ghost use Rattle.std.specs.Iterator.{IsFinite};
 ghost use Rattle.dvg_words.specs.Memory.{IsRomLength};
-ghost use Rattle.dvg_cert.specs.Devices.{AppendsPrefix, count_after};
+ghost use Rattle.dvg_text.specs.Devices.{AppendsPrefix, count_after};
 ghost use Rattle.dvg_check.specs.Causes.{refusal_of};
 ghost use Rattle.dvg_spelling.specs.Outcomes.{plain_outcome};
 ghost use Rattle.dvg_spelling.specs.declared.outcome.Outcome.{Outcome as Plain};
@@ -19,10 +19,11 @@ use crate::frame_run::{answer_of, outcome_of, unread_account, write_answer};
 use crate::listing::Listing;
 use crate::running::{text_account, write_report};
 use dvg_account::{Inputs, verdict_text};
-use dvg_cert::{Cert, CertFault, CountedRead, CountedWrite, HashIndex, write_lines};
+use dvg_cert::{Cert, CertFault, HashIndex};
 use dvg_check::{JudgedShapes, Mode, Refusal, RomFinding};
 use dvg_form::TextWatch;
 use dvg_spelling::{FrameAnswer, FrameOutcome, RunFault, Tally, summary_of};
+use dvg_text::{CountedRead, CountedWrite, write_lines};
 use dvg_words::{Machine, RomImage, Window};
 use std::alloc::Global;
 

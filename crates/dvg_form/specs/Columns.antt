@@ -1,8 +1,8 @@
 -- Which lines the form allows at a place of a certificate's text, and where a line leaves the form.
 use Rattle.std.specs.Prelude.{◌≡◌, ℕ, ◌+◌, ◌≤◌, ◌⊎◌, List, ◌++◌, take, length}
 use Rattle.dvg_words.specs.Values.{MemoryMap}
-use Rattle.dvg_cert.specs.Grammar.{first_version_line, second_version_line, rom_line, ended}
-use Rattle.dvg_cert.specs.Reading.{Line, IsLine, IsElsewhere}
+use Rattle.dvg_text.specs.Grammar.{first_version_line, second_version_line, rom_line, ended}
+use Rattle.dvg_text.specs.Reading.{Line, IsLine, IsElsewhere}
 
 -- the first lines that the form allows, without their end (profile)
 abbrev pub IsFirstLine : List ℕ → Type 0

@@ -2,9 +2,10 @@
 
 ghost use Rattle.std.specs.Prelude.{◌≡◌, ◌≤◌, ◌-◌, ℕ, IfNone, IfSome};
 ghost use Rattle.dvg_cert.specs.declared.limits.TheConstants.{MOST_ENTRIES};
-ghost use Rattle.dvg_cert.specs.Grammar.{done_line};
+ghost use Rattle.dvg_text.specs.Grammar.{done_line};
 
-use dvg_cert::{MOST_ENTRIES, read_decimal};
+use dvg_cert::MOST_ENTRIES;
+use dvg_text::read_decimal;
 
 /// How many entries the last line says, and how many stand before it.
 #[derive(Clone, Copy, Debug, PartialEq, Eq)]

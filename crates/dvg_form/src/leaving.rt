@@ -5,13 +5,14 @@ ghost use Rattle.dvg_cert.specs.declared.limits.TheConstants.{MOST_ENTRIES};
 ghost use Rattle.dvg_words.specs.Values.{IsMap};
 ghost use Rattle.dvg_cert.specs.Entry.{IsEntry};
 ghost use Rattle.dvg_cert.specs.Order.{IsCertificate};
-ghost use Rattle.dvg_cert.specs.Grammar.{text_of, ended, entry_line, rom_line, done_line};
+ghost use Rattle.dvg_text.specs.Grammar.{text_of, ended, entry_line, rom_line, done_line};
 ghost use Rattle.dvg_form.specs.Columns.{IsFirstLine, IsRomLine, IsLaterLine, IsAllowedBefore};
 
 use crate::expected::Expected;
 use crate::nearest::{nearest_count, nearest_entry, nearest_map};
 use arrayvec::ArrayVec;
-use dvg_cert::{Cert, Counted, Entry, certificate_unchecked, push_bytes, write_cert};
+use dvg_cert::{Cert, Entry, certificate_unchecked};
+use dvg_text::{Counted, push_bytes, write_cert};
 use dvg_words::RomMap;
 use itoa::Buffer;
 use std::alloc::{AllocError, Global};

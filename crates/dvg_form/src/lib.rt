@@ -1,6 +1,6 @@
 //! Where a refused line of a certificate leaves the form, and what was expected there.
 //!
-//! A [`TextWatch`] sees the pieces of a text beside the reader of `dvg_cert`, and keeps of them no more than the first lines and the line
+//! A [`TextWatch`] sees the pieces of a text beside the reader of `dvg_text`, and keeps of them no more than the first lines and the line
 //! begun. If a line is refused because of its form or its count, it tells why ([`LineWhy`]). [`first_leaving`],
 //! [`rom_leaving`] and [`later_leaving`] tell of a line where it leaves the form.
 #![tactic(auto)]

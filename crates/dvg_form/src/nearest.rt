@@ -5,14 +5,13 @@ ghost use Rattle.dvg_words.specs.declared.map.TheConstants.{ADDRESS_END};
 ghost use Rattle.dvg_cert.specs.declared.limits.TheConstants.{MOST_ENTRIES};
 ghost use Rattle.dvg_cert.specs.declared.entry.LitBox.TheVariants.{Span};
 ghost use Rattle.dvg_cert.specs.Entry.{IsNumber, IsKey, IsEnd, IsBox, IsEntry};
-ghost use Rattle.dvg_cert.specs.Reading.{IsElsewhere};
+ghost use Rattle.dvg_text.specs.Reading.{IsElsewhere};
 
 use crate::expected::Expected;
 use crate::number::{nearest_address, nearest_number};
 use crate::words::Words;
-use dvg_cert::{
-    End, Entry, Key, LitBox, MOST_DEPTH, MOST_ENTRIES, MOST_NUMBER, MOST_WORDS, address_digits,
-};
+use dvg_cert::{End, Entry, Key, LitBox, MOST_DEPTH, MOST_ENTRIES, MOST_NUMBER, MOST_WORDS};
+use dvg_text::address_digits;
 use dvg_words::{ASTEROIDS, MEMORY_LAST, RAM_WORDS, ROM_FIRST, ROM_LAST, RomMap};
 
 /// The map whose line begins with as many bytes of a line as that of any, and what is expected where the line leaves the form.

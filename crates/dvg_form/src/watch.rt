@@ -5,7 +5,8 @@ ghost use Rattle.std.specs.Prelude.{◌≤◌, length, IfSome};
 use crate::counts::{EntryCounts, counts_of};
 use crate::leaving::{FormLeaving, first_leaving, later_leaving, rom_leaving};
 use arrayvec::ArrayVec;
-use dvg_cert::{CertFault, CertWhy, read_cert};
+use dvg_cert::{CertFault, CertWhy};
+use dvg_text::read_cert;
 use memchr::memchr;
 use std::alloc::{AllocError, Global};
 

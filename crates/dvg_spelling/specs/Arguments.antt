@@ -6,7 +6,7 @@ use Rattle.dvg_words.specs.Values.{MemoryMap, IsMap, Window, IsWindow}
 use Rattle.dvg_words.specs.declared.map.TheConstants.{ADDRESS_END}
 use Rattle.dvg_cert.specs.declared.entry.Key.{Key}
 use Rattle.dvg_cert.specs.Entry.{IsKey}
-use Rattle.dvg_cert.specs.Grammar.{address_token, key_token}
+use Rattle.dvg_text.specs.Grammar.{address_token, key_token}
 use Rattle.dvg_spelling.specs.declared.window.TheConstants.{COMMA}
 
 -- the text is this root's: its address, a slash and its key

@@ -11,7 +11,7 @@ use Rattle.dvg_check.specs.FirstFault.{shape_number, frame_number}
 use Rattle.dvg_cert.specs.declared.entry.Key.{Key}
 use Rattle.dvg_cert.specs.declared.fault.CertFault.{CertFault}
 use Rattle.dvg_cert.specs.Numbers.{cert_number}
-use Rattle.dvg_cert.specs.Grammar.{address_token, key_token}
+use Rattle.dvg_text.specs.Grammar.{address_token, key_token}
 use Rattle.dvg_make.specs.declared.judging.FrameRefusal.{FrameRefusal}
 use Rattle.dvg_make.specs.declared.judging.FrameRefusal.TheVariants.{Make, NoMemory, Check}
 use Rattle.dvg_make.specs.declared.fault.EntryFault.{EntryFault}

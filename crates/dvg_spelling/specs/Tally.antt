@@ -1,7 +1,6 @@
 -- How many lines say what of frames, and the line that tells it. All of it is this project's own.
-use Rattle.std.specs.Prelude.{ℕ, zero, suc, ◌+◌, List, [], ◌∷◌, ◌++◌, codes, decimal, replicate, slice_index, slice_set, Result, Ok, Err}
-use Rattle.dvg_cert.specs.Devices.{count_after}
-use Rattle.std.specs.Prelude.{true}
+use Rattle.std.specs.Prelude.{ℕ, zero, suc, ◌+◌, List, [], ◌∷◌, ◌++◌, codes, decimal, replicate, slice_index, slice_set, Result, Ok, Err, true}
+use Rattle.dvg_text.specs.Devices.{count_after}
 use Rattle.dvg_check.specs.Numbers.{refusal_number}
 use Rattle.dvg_make.specs.Refusals.{fault_number, make_fault_of}
 use Rattle.dvg_make.specs.declared.judging.FrameRefusal.TheVariants.{Make, Check}

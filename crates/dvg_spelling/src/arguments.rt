@@ -5,7 +5,8 @@ ghost use Rattle.dvg_words.specs.Values.{MemoryMap};
 ghost use Rattle.dvg_cert.specs.declared.entry.Key.{Key as KeyValue};
 ghost use Rattle.dvg_spelling.specs.Arguments.{IsRoot, IsMapText, IsStart};
 
-use dvg_cert::{Key, read_address, read_key};
+use dvg_cert::Key;
+use dvg_text::{read_address, read_key};
 use dvg_words::RomMap;
 
 /// The root that a word of the command line spells, as reports name entries: three hexadecimal digits in capitals, a slash,

@@ -6,7 +6,8 @@ ghost use Rattle.dvg_spelling.specs.Report.{entry_text};
 
 use crate::report::entry_name;
 use arrayvec::ArrayVec;
-use dvg_cert::{Entry, push_bytes};
+use dvg_cert::Entry;
+use dvg_text::push_bytes;
 
 /// A line of at most 256 bytes, its LF included.
 pub type EntryLine = ArrayVec<u8, 256>;

@@ -7,8 +7,8 @@ ghost use Rattle.dvg_spelling.specs.declared.fault.FramesRunFault.TheVariants as
 ghost use Rattle.dvg_make.specs.declared.fault.MakeFault.TheVariants as making;
 
 use crate::status::text_of;
-use dvg_cert::WriteFault;
 use dvg_make::{EntryFault, FrameCall, FramesFault, MakeFault};
+use dvg_text::WriteFault;
 use std::alloc::{AllocError, AllocFailed};
 use thiserror::Error;
 

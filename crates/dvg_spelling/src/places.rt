@@ -6,8 +6,8 @@ ghost use Rattle.arrayvec.specs.ArrayVec.{array_vec_len};
 ghost use Rattle.dvg_spelling.specs.Places.{place_line, places_text};
 
 use crate::entry_line::{EntryLine, head_of};
-use dvg_cert::push_bytes;
 use dvg_survey::{CallPlaces, EntryPlaces};
+use dvg_text::push_bytes;
 use itoa::Buffer;
 
 /// The line of the places of an entry's calls, with its LF. Takes no memory.

@@ -1,13 +1,13 @@
 //! How many lines say what of frames, and the line that tells it.
 
 ghost use Rattle.std.specs.Prelude.{◌≡◌, ◌+◌, ◌≤◌, ◌<◌, ◌++◌, true, length, codes, decimal};
-ghost use Rattle.dvg_cert.specs.Devices.{count_after};
+ghost use Rattle.dvg_text.specs.Devices.{count_after};
 ghost use Rattle.dvg_spelling.specs.Tally.{answer_number, no_lines, with_answer, refused_text, refused_texts, summary_text};
 
 use crate::outcome::{FrameAnswer, FrameOutcome, frame_outcome_of};
 use arrayvec::ArrayVec;
-use dvg_cert::push_bytes;
 use dvg_make::{FrameRefusal, MakeFault};
+use dvg_text::push_bytes;
 use itoa::Buffer;
 
 /// A summary, with its LF: 30 bytes at most for each number's count, and 80 for the other three.

@@ -5,8 +5,8 @@ ghost use Rattle.dvg_spelling.specs.Touched.{touched_line};
 
 use crate::entry_line::{EntryLine, head_of};
 use crate::report::hex_address;
-use dvg_cert::push_bytes;
 use dvg_diff::TouchedEntry;
+use dvg_text::push_bytes;
 
 /// The line of an entry whose shape reads a word in which two ROMs differ, with its LF. Takes no memory.
 pub fn touched_line_of(entry: &TouchedEntry) -> EntryLine

@@ -4,7 +4,7 @@ ghost use Rattle.std.specs.Prelude.{◌≤◌, ◌≡◌, ◌∷◌, ◌++◌, �
 ghost use Rattle.dvg_words.specs.Values.{Window as Places};
 ghost use Rattle.dvg_spelling.specs.Arguments.{IsWindowText};
 
-use dvg_cert::read_decimal;
+use dvg_text::read_decimal;
 use dvg_words::Window;
 
 /// What stands between the places of a window.

@@ -5,10 +5,10 @@
 use crate::expecting::{expect, expect_same};
 use crate::rows::judge_rows;
 use crate::table::{Inputs, MADE, Row, ZEROS, read_rows};
-use dvg_cert::read_cert;
 use dvg_check::{Refusal, Yes, frame_of};
 use dvg_cmd::report_of;
 use dvg_make::{FrameRefusal, judge, make_for_frames};
+use dvg_text::read_cert;
 use dvg_words::{
     Draw, Instr, Machine, Point, RomImage, decode, decode_on, displacement, displacement_on,
     draw_move, labs_place,

@@ -5,6 +5,7 @@ mod devices;
 use crate::expecting::{expect, expect_same, expect_shown};
 use crate::inputs::{EMPTY, STROKE_AT_400, STROKE_CERT, STROKE_TWICE};
 use dvg_cert::*;
+use dvg_text::*;
 use std::alloc::Global;
 use std::process::Abort;
 

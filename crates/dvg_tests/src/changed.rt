@@ -10,8 +10,10 @@ use crate::expecting::{expect, expect_same};
 use crate::inputs::{STROKE_CERT, stroke_rom};
 use crate::rows::Case;
 use crate::table::USUAL;
-use dvg_cert::{Cert, CertFault, CertReader, read_cert};
-use dvg_check::{Refusal, Yes, check};
+use dvg_cert::{Cert, CertFault};
+use dvg_check::{Refusal, Yes};
+use dvg_text::{CertReader, read_cert};
+use dvg_verdict::check;
 use dvg_words::SCREEN;
 use std::alloc::Global;
 

@@ -3,11 +3,12 @@
 
 use crate::expecting::{expect_same, expect_shown};
 use crate::inputs::{EMPTY, STROKE_CERT, STROKE_FRAME, stroke_rom};
-use dvg_cert::{CertFault, CertWhy, Entries, HashIndex, Key, ListIndex, read_cert};
+use dvg_cert::{CertFault, CertWhy, Entries, HashIndex, Key, ListIndex};
 use dvg_check::{
     Accepted, FrameFault, FrameWhy, JudgedShapes, Mode, Refusal, ShapeFault, ShapeWhy, Yes,
     check_frame, check_rom, check_shapes, frame_of,
 };
+use dvg_text::read_cert;
 use dvg_words::{FrameImage, ImageFault, Machine, RomImage, SCREEN, Window};
 use std::alloc::Global;
 use std::fmt::Display;

@@ -1,11 +1,11 @@
 //! Where refused lines of certificates leave the form, worked by hand; that no column is too small; and lines that are cut into pieces.
 
 use crate::expecting::{expect, expect_same};
-use dvg_cert::CertReader;
 use dvg_form::{
     EntryCounts, Expected, FormLeaving, LineWhy, TextWatch, first_leaving, later_leaving,
     rom_leaving,
 };
+use dvg_text::CertReader;
 use dvg_words::ASTEROIDS;
 use std::alloc::Global;
 use std::process::Abort;

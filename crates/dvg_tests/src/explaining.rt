@@ -3,13 +3,14 @@
 
 use crate::expecting::{expect, expect_same};
 use crate::inputs::{EMPTY, rom_bytes};
-use dvg_cert::{End, HashIndex, Key, ListIndex, read_cert};
+use dvg_cert::{End, HashIndex, Key, ListIndex};
 use dvg_check::{
-    BoxLeaving, Edge, FrameCause, JudgedShapes, Leaving, Mode, ShapeCause, check_on,
-    find_shape_fault,
+    BoxLeaving, Edge, FrameCause, JudgedShapes, Leaving, Mode, ShapeCause, find_shape_fault,
 };
 use dvg_cmd::report_of;
 use dvg_survey::{CallPlaces, Rectangle, entry_places, survey_frame};
+use dvg_text::read_cert;
+use dvg_verdict::check_on;
 use dvg_words::{CLIPPED, FrameImage, Machine, Point, RomImage, SCREEN};
 use std::alloc::Global;
 use std::process::Abort;

@@ -3,10 +3,11 @@
 
 use crate::expecting::{FaultRow, expect_faults, expect_same};
 use crate::inputs::{Part, STROKE, rom_bytes};
-use dvg_cert::{End, Key, ListIndex, read_cert};
+use dvg_cert::{End, Key, ListIndex};
 use dvg_check::{ShapeWhy, check_shapes_exact};
 use dvg_items::Known;
 use dvg_make::{EntryCause, MakeFault, explain_making, make};
+use dvg_text::read_cert;
 use dvg_words::{ASTEROIDS, RomImage, SCREEN};
 use std::alloc::Global;
 use std::process::Abort;

@@ -3,12 +3,11 @@
 use crate::expecting::expect;
 use crate::running::devices::SlowReader;
 use crate::table::{Asked, CALLED_STROKE, Row, STROKE, ZEROS, read_rows};
-use dvg_cert::{Counted, ListIndex, read_cert};
-use dvg_check::{
-    JudgedShapes, Mode, Refusal, Yes, check, check_exact, check_on, check_parts, check_parts_exact,
-    frame_of,
-};
+use dvg_cert::ListIndex;
+use dvg_check::{JudgedShapes, Mode, Refusal, Yes, check_parts, check_parts_exact, frame_of};
 use dvg_cmd::{report_of, run_check};
+use dvg_text::{Counted, read_cert};
+use dvg_verdict::{check, check_exact, check_on};
 use dvg_words::{Machine, RomImage};
 use std::alloc::Global;
 use std::process::Abort;

@@ -2,7 +2,7 @@
 #![tactic(auto)]
 
 use anyhow::Result;
-use dvg_check::check;
+use dvg_verdict::check;
 use dvg_words::SCREEN;
 use std::fs;
 

@@ -1,7 +1,7 @@
 -- What is written of frames before the summary: of one, and of several so far.
 use Rattle.std.specs.Prelude.{◌≡◌, ℕ, List, [], ◌∷◌, Option}
 use Rattle.std.specs.Io.KnownBytes.{Appends}
-use Rattle.dvg_cert.specs.Devices.{AppendsPrefix}
+use Rattle.dvg_text.specs.Devices.{AppendsPrefix}
 use Rattle.dvg_spelling.specs.declared.tally.Tally.{Tally}
 use Rattle.dvg_spelling.specs.Tally.{with_answer}
 use Rattle.dvg_spelling.specs.declared.outcome.FrameOutcome.TheVariants as outcome

@@ -5,7 +5,7 @@ use Rattle.dvg_cmd.specs.Runs.{MOST_FRAME_READ}
 use Rattle.dvg_spelling.specs.declared.fault.MakeRunFault.TheVariants as maker
 use Rattle.dvg_cmd.specs.MakingFrames.{FramesRunFault, FirstWrong}
 use Rattle.dvg_spelling.specs.declared.fault.FramesRunFault.TheVariants as fault
-use Rattle.dvg_cert.specs.Stream.{Stream, Open, Refused}
+use Rattle.dvg_text.specs.Stream.{Stream, Open, Refused}
 
 -- the first of the bytes, up to a limit
 unfoldable pub limited : ℕ → List ℕ → List ℕ

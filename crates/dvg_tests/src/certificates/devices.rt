@@ -3,6 +3,7 @@
 use crate::expecting::{expect, expect_same};
 use crate::inputs::{EMPTY, STROKE_CERT};
 use dvg_cert::*;
+use dvg_text::*;
 use std::alloc::Global;
 use std::io;
 use std::io::{Read, Write};

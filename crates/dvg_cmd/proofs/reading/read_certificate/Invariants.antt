@@ -1,6 +1,6 @@
 use Rattle.std.proofs.Common.{◌≡◌, ◌+◌, ◌-◌, ◌≤◌, ◌<◌, List, length, ℕ}
 use Rattle.std.specs.Io.KnownBytes.{Consumes, IsAtEnd}
-use Rattle.dvg_cert.specs.Stream.{Open}
+use Rattle.dvg_text.specs.Stream.{Open}
 use Rattle.dvg_cmd.specs.Private.Reading.{taken_length}
 use Rattle.dvg_cmd.proofs.reading.read_certificate.Given as goal
 

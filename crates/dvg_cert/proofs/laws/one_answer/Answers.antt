@@ -1,5 +1,0 @@
-use Rattle.dvg_cert.proofs.TextLaws as laws
-use Rattle.dvg_cert.proofs.laws.one_answer.Goals as goal
-
-pub returns : goal.returns
-returns c = laws.one_answer

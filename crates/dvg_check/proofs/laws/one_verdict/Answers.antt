@@ -1,5 +1,0 @@
-use Rattle.dvg_check.proofs.Accepting.{one_verdict as law}
-use Rattle.dvg_check.proofs.laws.one_verdict.Goals as goal
-
-pub returns : goal.returns
-returns c = law c.one_certificate.ensures c.one_answer.ensures

@@ -1,0 +1,52 @@
+-- How long a line is.
+use Rattle.dvg_text.proofs.Common.{◌≡◌, ℕ, suc, ◌+◌, ◌≤◌, List, [], ◌∷◌, ◌++◌, length, arith, w64, MOST_ENTRIES, SPACE, codes, decimal, ℤ, pos, negsuc, signed_decimal, join_with_byte, length-append, length-decimal-le, ints, Key, At, Any, End, Rel, Abs, Lost, LitBox, Empty, Span, Entry, IsNumber, IsKey, IsEnd, IsBox, IsEntry, key_token, end_tokens, box_tokens, entry_tokens, entry_line, done_line}
+use mir.Val.{SFits}
+
+-- the bytes of tokens, each with one more
+abbrev pub weight : List (List ℕ) → ℕ
+weight [] = 0
+weight (w ∷ ws) = length w + 1 + weight ws
+
+join_le : (ws : List (List ℕ)) → length (join_with_byte SPACE ws) ≤ weight ws
+join_le [] = omega arith
+join_le (w ∷ []) = omega arith
+join_le (w ∷ v ∷ vs) = omega (arith, join_le (v ∷ vs), length-append w (SPACE ∷ join_with_byte SPACE (v ∷ vs)))
+
+weight-append : (ws vs : List (List ℕ)) → weight (ws ++ vs) ≡ weight ws + weight vs
+weight-append [] vs = omega arith
+weight-append (w ∷ ws) vs = omega (arith, weight-append ws vs)
+
+pub number_le : (z : ℤ) → IsNumber z → length (signed_decimal z) ≤ 14
+number_le (pos n) h = omega (arith, length-decimal-le 13 n (omega arith) (omega (arith, ints)) (omega (arith, ints)))
+number_le (negsuc n) h = omega (arith, length-decimal-le 13 (suc n) (omega arith) (omega (arith, ints)) (omega (arith, ints)))
+
+pub number_fits : (z : ℤ) → IsNumber z → SFits w64 z
+number_fits z h = grind (arith, pos, negsuc)
+
+key_le : (k : Key) → IsKey k → length (key_token k) ≤ 3
+key_le k h = grind (arith, length-decimal-le)
+
+end_le : (e : End) → IsEnd e → weight (end_tokens e) ≤ 34
+end_le e h = grind (arith, number_le)
+
+box_le : (b : LitBox) → IsBox b → weight (box_tokens b) ≤ 60
+box_le b h = grind (arith, number_le)
+
+pub length_entry : (first last : ℕ) (e : Entry) → IsEntry first last e → length (entry_line e) ≤ 148
+length_entry first last e h =
+    let back : List (List ℕ) = codes "depth" ∷ decimal e.depth ∷ codes "words" ∷ decimal e.words ∷ codes "scale" ∷ key_token e.scale ∷ [] in
+    let k = key_le e.key h.key in
+    let s = key_le e.scale h.scale in
+    let d = length-decimal-le 1 e.depth (omega arith) (omega (arith, h.depth)) (omega (arith, h.depth)) in
+    let w = length-decimal-le 7 e.words (omega arith) (omega (arith, h.words_high)) (omega (arith, h.words_high)) in
+    let b : weight back ≤ 37 = omega arith in
+    let m : weight (end_tokens e.stop ++ codes "box" ∷ box_tokens e.lit) ≤ 98 = omega (arith, weight-append (end_tokens e.stop) (codes "box" ∷ box_tokens e.lit), end_le e.stop h.stop, box_le e.lit h.lit) in
+    let all = weight-append (end_tokens e.stop ++ codes "box" ∷ box_tokens e.lit) back in
+    let t : weight (entry_tokens e) ≤ 148 = omega arith in
+    at_most (length (entry_line e)) (weight (entry_tokens e)) (join_le (entry_tokens e)) t
+  where
+    at_most : (a b : ℕ) → a ≤ b → b ≤ 148 → a ≤ 148
+    at_most a b h k = omega arith
+
+pub length_done : (n : ℕ) → n ≤ MOST_ENTRIES → length (done_line n) ≤ 10
+length_done n h = omega (arith, length-decimal-le 4 n (omega arith) (omega arith) (omega arith), join_le (codes "done" ∷ decimal n ∷ []))

@@ -1,0 +1,108 @@
+-- What refuses a text, from what the reader holds.
+use Rattle.dvg_text.proofs.Common.{◌≡◌, ◌≢◌, ℕ, zero, suc, ◌+◌, ◌-◌, ◌<◌, List, [], ◌∷◌, ◌++◌, length, get_or, take, drop, Ok, Err, refl, sym, ap, subst, ◌∙◌, append_assoc, arith, inl, inr, append-nil, length-append, length-take-le, nat_tests, MemoryMap, asteroids, LONGEST_LINE, LINE_FEED, Entry, IsCertificate, entry_line, rom_line, begun_with, text_of, ended, IsRefusal, HasEntryAt, IsElsewhere, Nothing, Begun, Whole, Taken, Without, text_taken, line_number, IsTaken, IsUnended, IsRest, Holds, Meets, IsLineRefused, EndsLine, StartsWith, taken_of, IsStaged, CertFault, CertWhy, Unended, After, TooLong, Memory}
+use Rattle.dvg_text.specs.declared.taken.Stage.{Stage}
+use Rattle.dvg_text.specs.declared.taken.Stage.TheVariants.{First, Rom, Later}
+use Rattle.dvg_text.proofs.Graphics.{Without-append}
+use Rattle.dvg_text.proofs.FirstLines.{begun_push, first_taken, rom_taken}
+use Rattle.dvg_cert.proofs.Rising.{no_entry_yet}
+
+pub not_whole : (taken : Taken) → ((IsUnended taken → ⊥) → ⊥) → IsUnended taken
+not_whole taken h = grind (arith)
+
+pub rest_of : (taken : Taken) (rest : List ℕ) → IsUnended taken → Without LINE_FEED rest → length rest < LONGEST_LINE → IsRest taken rest
+rest_of taken rest u free short = grind (arith)
+
+pub rest_is : (taken : Taken) (rest : List ℕ) → IsUnended taken → IsRest taken rest → Without LINE_FEED rest × (length rest < LONGEST_LINE)
+rest_is taken rest u h = grind (arith)
+
+regroup : (a b c : List ℕ) → a ++ (b ++ LINE_FEED ∷ c) ≡ (a ++ (b ++ LINE_FEED ∷ [])) ++ c
+regroup a b c = simp append_assoc
+
+-- one more entry line
+pub entry_taken : (map : MemoryMap) (es : List Entry) (line : List ℕ) (e : Entry) → line ≡ entry_line e → begun_with map (es ++ e ∷ []) ≡ begun_with map es ++ ended line
+entry_taken map es line e l = begun_push map es e ∙ ap (λ (t : List ℕ). begun_with map es ++ ended t) (sym l)
+
+no_memory : (taken : Taken) (line after : List ℕ) → IsTaken taken → IsLineRefused taken line Memory → IsRefusal (text_taken taken ++ (line ++ LINE_FEED ∷ after)) (line_number taken) Memory
+no_memory (Begun map es) line after h w = grind (arith, (length-append es (w.0 ∷ [])), (regroup (begun_with map es) line after), (begun_with map es), (entry_taken map es line w.0 w.1.1))
+no_memory taken line after h w = absurd w
+
+never_unended : (taken : Taken) (line : List ℕ) → IsLineRefused taken line Unended → ⊥
+never_unended taken line w = grind (arith)
+
+never_after : (taken : Taken) (line : List ℕ) → IsLineRefused taken line After → ⊥
+never_after taken line w = grind (arith)
+
+-- a whole line that is refused
+pub line_fault : (why : CertWhy) (taken : Taken) (line after : List ℕ) → IsTaken taken → IsUnended taken → Without LINE_FEED line → length line < LONGEST_LINE → IsLineRefused taken line why → IsRefusal (text_taken taken ++ (line ++ LINE_FEED ∷ after)) (line_number taken) why × (why ≢ Unended)
+line_fault Memory taken line after h u free short w = (no_memory taken line after h w, λ e. absurd cc)
+line_fault Unended taken line after h u free short w = absurd (never_unended taken line w)
+line_fault After taken line after h u free short w = absurd (never_after taken line w)
+line_fault why taken line after h u free short w = grind (arith, (text_taken taken), (append_assoc (text_taken taken) line (LINE_FEED ∷ after)), (rest_of taken line u free short))
+
+-- a prefix of what is free, and the element after it
+next_free : (n : ℕ) (xs : List ℕ) → n < length xs → Without LINE_FEED (take (suc n) xs) → (xs ≡ take n xs ++ get_or xs n 0 ∷ drop (suc n) xs) × Without LINE_FEED (take n xs) × (get_or xs n 0 ≢ LINE_FEED)
+next_free n [] lt h = absurd (omega arith)
+next_free zero (x ∷ xs) lt h = (refl, tt, λ e. absurd (grind (arith, nat_tests)))
+next_free (suc n) (x ∷ xs) lt h = let r = next_free n xs (omega arith) h.1 in (ap (λ (ys : List ℕ). x ∷ ys) r.0, (h.0, r.1), r.2)
+
+pub meets_long : (taken : Taken) (rest : List ℕ) (b : ℕ) → IsUnended taken → b ≢ LINE_FEED → length rest ≡ LONGEST_LINE - 1 → Meets taken rest b TooLong
+meets_long taken rest b u h n = grind (arith)
+
+long_at : (k : ℕ) (taken : Taken) (begun rest : List ℕ) → IsTaken taken → IsUnended taken → Without LINE_FEED begun → length begun + k ≡ LONGEST_LINE - 1 → k < length rest → Without LINE_FEED (take (suc k) rest) → IsRefusal (text_taken taken ++ (begun ++ rest)) (line_number taken) TooLong
+long_at k taken begun rest h u clear n lt free =
+    let r = next_free k rest lt free in
+    let b : ℕ = get_or rest k 0 in
+    let line : List ℕ = begun ++ take k rest in
+    let m : length line ≡ LONGEST_LINE - 1 = omega (arith, length-append begun (take k rest), length-take-le k rest (omega arith)) in
+    let parts : text_taken taken ++ (begun ++ rest) ≡ (text_taken taken ++ line) ++ b ∷ drop (suc k) rest =
+    ap (λ (t : List ℕ). text_taken taken ++ (begun ++ t)) r.0 ∙ again (text_taken taken) begun (take k rest) (b ∷ drop (suc k) rest) in
+    (text_taken taken ++ line, b, drop (suc k) rest, taken, line, parts, record { parts = refl; lines = h; begun = rest_of taken line u (Without-append LINE_FEED begun (take k rest) clear r.1) (omega arith) }, meets_long taken line b u r.2 m, refl)
+  where
+    again : (a b c d : List ℕ) → a ++ (b ++ (c ++ d)) ≡ (a ++ (b ++ c)) ++ d
+    again a b c d = simp append_assoc
+
+-- no line end where a line must have one
+pub end_fault : (why : CertWhy) (room : ℕ) (taken : Taken) (begun rest : List ℕ) → IsTaken taken → IsUnended taken → IsRest taken begun → room ≡ LONGEST_LINE - length begun → EndsLine room rest (Err why) → IsRefusal (text_taken taken ++ (begun ++ rest)) (line_number taken) why × (why ≢ Unended)
+end_fault why room taken begun rest h u r n e = grind (arith, rest_is, long_at, text_taken, line_number)
+
+-- a line begun
+pub begins : (taken : Taken) (begun rest new : List ℕ) → IsTaken taken → IsUnended taken → IsRest taken begun → Without LINE_FEED rest → length rest < LONGEST_LINE - length begun → new ≡ begun ++ rest → Holds (text_taken taken ++ (begun ++ rest)) taken new
+begins taken begun rest new h u r free short e =
+    let s = rest_is taken begun u r in
+    subst (λ (t : List ℕ). Holds (text_taken taken ++ (begun ++ rest)) taken t) (sym e) (record { parts = refl; lines = h; begun = rest_of taken (begun ++ rest) u (Without-append LINE_FEED begun rest s.0 free) (omega (arith, length-append begun rest)) })
+
+-- bytes after the last line
+after_fault : (taken : Taken) (begun rest : List ℕ) → IsTaken taken → IsRest taken begun → (IsUnended taken → ⊥) → 0 < length rest → IsRefusal (text_taken taken ++ (begun ++ rest)) (line_number taken) After × (After ≢ Unended)
+after_fault (Whole map es) begun [] h r u some = absurd (omega arith)
+after_fault (Whole map es) begun (b ∷ more) h r u some =
+    ((text_of map es, b, more, Whole map es, [], ap (λ (t : List ℕ). text_of map es ++ (t ++ b ∷ more)) r, record { parts = sym (append-nil (text_of map es)); lines = h; begun = refl }, refl, refl), λ e. absurd cc)
+after_fault taken begun rest h r u some = absurd (u tt)
+
+pub after_refused : (line : ℕ) (f : CertFault) (taken : Taken) (begun rest : List ℕ) → IsTaken taken → IsRest taken begun → (IsUnended taken → ⊥) → line ≡ line_number taken → 0 < length rest → f ≡ record { line = line; why = After }
+    → IsRefusal (text_taken taken ++ (begun ++ rest)) f.line f.why × (f.why ≢ Unended)
+after_refused line f taken begun rest h r u n some e = grind (arith, text_taken, after_fault)
+
+-- the first line of all
+pub first_at : (stage after : Stage) (map : MemoryMap) (es : List Entry) (taken : Taken) (line : List ℕ) → stage ≡ First → taken_of map es stage ≡ taken → IsStaged map es stage → StartsWith line (Ok after) → IsTaken (taken_of map es after) × (text_taken (taken_of map es after) ≡ text_taken taken ++ ended line) × IsStaged map es after
+first_at stage after map es taken line s v h l = grind (arith, ended, text_taken, asteroids, no_entry_yet, begun_with, first_taken)
+
+-- the line of the ROM
+pub rom_at_line : (stage : Stage) (old map : MemoryMap) (es : List Entry) (taken : Taken) (line : List ℕ) → stage ≡ Rom → taken_of old es stage ≡ taken → IsStaged old es stage → IsElsewhere map → line ≡ rom_line map → IsCertificate map es × (begun_with map es ≡ text_taken taken ++ ended line)
+rom_at_line stage old map es taken line s v h is l = grind (arith, no_entry_yet, begun_with, rom_taken, text_taken, ended)
+
+-- a line whose end has come, and that is refused
+pub line_refused : (why : CertWhy) (taken : Taken) (begun rest prefix after : List ℕ) → IsTaken taken → IsUnended taken → IsRest taken begun → rest ≡ prefix ++ LINE_FEED ∷ after → Without LINE_FEED prefix → length prefix < LONGEST_LINE - length begun → IsLineRefused taken (begun ++ prefix) why
+    → IsRefusal (text_taken taken ++ (begun ++ rest)) (line_number taken) why × (why ≢ Unended)
+line_refused why taken begun rest prefix after h u r e free short w =
+    let s = rest_is taken begun u r in
+    let f = line_fault why taken (begun ++ prefix) after h u (Without-append LINE_FEED begun prefix s.0 free) (omega (arith, length-append begun prefix)) w in
+    let parts : text_taken taken ++ (begun ++ rest) ≡ text_taken taken ++ ((begun ++ prefix) ++ LINE_FEED ∷ after) = ap (λ (t : List ℕ). text_taken taken ++ t) (ap (λ (t : List ℕ). begun ++ t) e ∙ sym (append_assoc begun prefix (LINE_FEED ∷ after))) in
+    subst (λ (t : List ℕ). IsRefusal t (line_number taken) why × (why ≢ Unended)) (sym parts) f
+
+-- ---- entries whose lines stand first
+
+pub ended_taken : (map : MemoryMap) (old es new : List Entry) (e : Entry) (bytes rest after : List ℕ) → begun_with map old ++ bytes ≡ begun_with map es ++ rest → rest ≡ ended (entry_line e) ++ after → new ≡ es ++ e ∷ [] → (begun_with map old ++ bytes ≡ begun_with map new ++ after) × (length after < length rest)
+ended_taken map old es new e bytes rest after so_far is grown = grind (arith, begun_with, append_assoc, ended, entry_line, entry_taken, length-append)
+
+pub ended_refused : (map : MemoryMap) (old es : List Entry) (e : Entry) (bytes rest after : List ℕ) → begun_with map old ++ bytes ≡ begun_with map es ++ rest → rest ≡ ended (entry_line e) ++ after → IsCertificate map (es ++ e ∷ []) → HasEntryAt (begun_with map old ++ bytes) (line_number (Begun map es))
+ended_refused map old es e bytes rest after so_far is fits = grind (arith, (length-append es (e ∷ [])), (ended_taken map old es (es ++ e ∷ []) e bytes rest after so_far is refl))

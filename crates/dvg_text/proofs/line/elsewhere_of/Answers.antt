@@ -1,0 +1,20 @@
+use Rattle.dvg_text.proofs.Common.{◌≡◌, true, false, sym, ap, subst, ◌∙◌, IsMap, is_asteroids, rom_line}
+use Rattle.std.proofs.Common.{arith}
+use Rattle.dvg_text.proofs.FirstLines.{map_of, rom_found, nowhere_said, other_said, if_none}
+use Rattle.dvg_text.proofs.line.elsewhere_of.Goals as goal
+
+pub returns-in_err-first-clause-none : goal.returns-in_err-first-clause-none
+returns-in_err-first-clause-none c = if_none c.from_residual.result (nowhere_said c.args.line.now (sym c.in_err-first.was ∙ c.whole_rom.ensures))
+
+pub returns-in_err-map-clause-none : goal.returns-in_err-map-clause-none
+returns-in_err-map-clause-none c = if_none c.from_residual-in_err-map.result (λ map is same.
+    let here : map ≡ map_of (c.in_ok-first.first, c.in_ok-first.last) = other_said c.args.line.now (c.in_ok-first.first, c.in_ok-first.last) (sym c.in_ok-first.was ∙ c.whole_rom.ensures) map is same in
+    c.in_err-map.ensures.none (subst IsMap here is.0))
+
+pub returns-then-is_asteroids-clause-none : goal.returns-then-is_asteroids-clause-none
+returns-then-is_asteroids-clause-none c = grind (arith, map_of, other_said, is_asteroids)
+
+pub returns-else-is_asteroids-clause-found : goal.returns-else-is_asteroids-clause-found
+returns-else-is_asteroids-clause-found c =
+    let line = rom_found c.args.line.now (c.in_ok-first.first, c.in_ok-first.last) (sym c.whole_rom.ensures ∙ c.in_ok-first.was) in
+    ((c.in_ok-map.ensures.some.1, sym c.if-is_asteroids.ensures), line ∙ ap rom_line (sym c.in_ok-map.ensures.some.0))

@@ -1,0 +1,10 @@
+use Rattle.dvg_text.proofs.Common.{◌≡◌, ◌∙◌, sym, arith, None, Some, natural_in}
+use Rattle.dvg_text.proofs.FieldValues.{natural_takes}
+use Rattle.dvg_text.proofs.NaturalNumbers.{natural_some}
+use Rattle.dvg_text.proofs.numerals.read_decimal.Goals as goal
+
+pub returns-in_err-number-clause-none : goal.returns-in_err-number-clause-none
+returns-in_err-number-clause-none c = grind (arith, natural_in, natural_some)
+
+pub returns-clause-some : goal.returns-clause-some
+returns-clause-some c = grind (arith, natural_takes)

@@ -1,0 +1,7 @@
+use Rattle.std.proofs.Common.{arith}
+use Rattle.std.proofs.lemmas.Grind.{common_steps}
+use Rattle.dvg_verdict.proofs.OneVerdict.{out_of_range}
+use Rattle.dvg_verdict.proofs.verdict.check_on.Goals as goal
+
+pub returns-in_err-frame-clause-verdict : goal.returns-in_err-frame-clause-verdict
+returns-in_err-frame-clause-verdict c = grind (arith, out_of_range)
